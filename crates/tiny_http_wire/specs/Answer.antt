@@ -1,0 +1,228 @@
+-- Answers, and the text that is sent for one.
+use Rattle.std.specs.Prelude.{◌≡◌, ℕ, ◌<◌, ◌≤◌, Bool, true, false, ◌&&◌, ◌||◌, not, List, [], ◌∷◌, ◌++◌, length, take, Option, Some, None, Result, Ok, Err, codes, decimal, nat_lt, nat_le, ◌==◌, if◌then◌else◌, ◌⊎◌, is_none, IfSome}
+use Rattle.std.specs.List.{flat_map, list_any, list_all}
+use Rattle.std.specs.Prelude.{◌^◌}
+use Rattle.std.specs.Str.Parse.{without_leading_plus, digits_value}
+use Rattle.std.specs.Str.{all_ascii_digits}
+use Rattle.std.specs.IoError.{error_kind}
+use Rattle.std.specs.declared.io.Error.{Error}
+use Rattle.std.specs.declared.io.ErrorKind.{ErrorKind}
+use Rattle.std.specs.declared.io.ErrorKind.TheVariants.{InvalidInput, OutOfMemory}
+use Rattle.httpdate.specs.Date.{date_text}
+use Rattle.httpdate.specs.declared.date.HttpDate.{HttpDate}
+use Rattle.tiny_http_wire.specs.declared.common.HTTPVersion.{HTTPVersion}
+use Rattle.tiny_http_wire.specs.declared.common.Header.{Header}
+use Rattle.tiny_http_wire.specs.declared.coding.Coding.{Coding}
+use Rattle.tiny_http_wire.specs.declared.coding.Coding.TheVariants.{Identity, Chunked}
+use Rattle.tiny_http_wire.specs.declared.coding.FramingHeader.{FramingHeader}
+use Rattle.tiny_http_wire.specs.declared.coding.FramingHeader.TheVariants.{Neither, TransferEncoding, ContentLength}
+use Rattle.tiny_http_wire.specs.Common.{version_text, header_text, same_name, reason_phrase}
+use Rattle.tiny_http_wire.specs.Device.{Feed, fault_of, Sink, Took, Failed}
+use Rattle.tiny_http_wire.specs.declared.device.Stop.{Stop}
+use Rattle.tiny_http_wire.specs.declared.device.Stop.TheVariants.{End, Fault}
+use Rattle.tiny_http_wire.specs.Chunked.{full_chunks, chunked}
+
+-- an answer without its data
+pub record Answer : Type 0 where
+  pub status : ℕ
+  pub headers : List Header
+  pub length : Option ℕ
+  pub threshold : ℕ
+
+-- how a text ends: whole, or broken off by a fault
+pub data Ending : Type 0 where
+  Whole : Ending
+  Broken : ErrorKind → Ending
+
+-- bytes to send, and how they end
+pub record Text : Type 0 where
+  pub bytes : List ℕ
+  pub ending : Ending
+
+-- some header of the list has this name
+abbrev pub has_header : List Header → List ℕ → Bool
+has_header headers name = list_any (λ h. same_name h.field name) headers
+
+-- HTTP/, the version, the code, its phrase
+unfoldable pub status_line : HTTPVersion → ℕ → List ℕ
+status_line version status = codes "HTTP/" ++ version_text version ++ codes " " ++ decimal status ++ codes " " ++ reason_phrase status ++ codes "\r\n"
+
+-- a header's line
+unfoldable pub field_line : List ℕ → List ℕ → List ℕ
+field_line field value = field ++ codes ": " ++ value ++ codes "\r\n"
+
+abbrev pub header_line : Header → List ℕ
+header_line h = field_line h.field h.value
+
+abbrev pub protocol_lines : List ℕ → List ℕ
+protocol_lines protocol = field_line (codes "Connection") (codes "upgrade") ++ field_line (codes "Upgrade") protocol
+
+-- what an upgrade puts in front
+unfoldable pub upgrade_lines : Option (List ℕ) → List ℕ
+upgrade_lines None = []
+upgrade_lines (Some protocol) = protocol_lines protocol
+
+-- the server's name and the date, each only where the list has none
+unfoldable pub server_line : List Header → List ℕ
+server_line headers = if has_header headers (codes "Server") then [] else field_line (codes "Server") (codes "tiny-http (Rust)")
+
+unfoldable pub date_line : List Header → HttpDate → List ℕ
+date_line headers date = if has_header headers (codes "Date") then [] else field_line (codes "Date") (date_text date)
+
+abbrev pub length_line : ℕ → List ℕ
+length_line n = field_line (codes "Content-Length") (decimal n)
+
+-- how the head tells the body's length, if it does
+unfoldable pub framing_line : FramingHeader → List ℕ
+framing_line Neither = []
+framing_line TransferEncoding = field_line (codes "Transfer-Encoding") (codes "chunked")
+framing_line (ContentLength n) = length_line n
+
+-- the head: the status line, the headers in their order, an empty line
+unfoldable pub head : HTTPVersion → ℕ → Option (List ℕ) → List Header → HttpDate → FramingHeader → List ℕ
+head version status upgrade headers date framing =
+    status_line version status ++ upgrade_lines upgrade ++ server_line headers ++ date_line headers date ++ flat_map header_line headers ++ framing_line framing ++ codes "\r\n"
+
+-- versions up to 1.0
+abbrev pub is_up_to_1_0 : HTTPVersion → Bool
+is_up_to_1_0 v = nat_lt v.0 1 || ((v.0 == 1) && (v.1 == 0))
+
+-- the coding where the version and the status leave a choice: the one asked for, else by the length
+abbrev pub coding_by : Option Coding → Option ℕ → ℕ → Coding
+coding_by (Some coding) length threshold = coding
+coding_by None None threshold = Chunked
+coding_by None (Some n) threshold = if nat_le threshold n then Chunked else Identity
+
+-- the transfer coding, where `asked` is the supported one that the request asks for most, if it asks for any
+abbrev pub coding_of : HTTPVersion → ℕ → Option ℕ → ℕ → Option Coding → Coding
+coding_of version status length threshold asked =
+    if is_up_to_1_0 version || (nat_lt status 200 || (status == 204)) then Identity else coding_by asked length threshold
+
+-- whether the body is not sent
+abbrev pub is_withheld : Bool → ℕ → Bool
+is_withheld asked status = asked || ((nat_le 100 status && nat_lt status 200) || ((status == 204) || (status == 304)))
+
+-- a text behind another
+abbrev pub behind : List ℕ → Text → Text
+behind front text = record { bytes = front ++ text.bytes; ending = text.ending }
+
+abbrev pub whole : List ℕ → Text
+whole bytes = record { bytes = bytes; ending = Whole }
+
+-- a body that is sent as it is, cut at its length: whole if there are so many bytes
+abbrev pub identity_body : ℕ → Feed → Text
+identity_body n feed = record { bytes = take n feed.bytes; ending = if nat_le n (length feed.bytes) then Whole else Broken (fault_of feed.stop) }
+
+-- a body that is sent in chunks, up to its last full one where its data fails
+abbrev pub chunked_until : Stop → List ℕ → Text
+chunked_until End bytes = whole (chunked bytes)
+chunked_until (Fault kind) bytes = record { bytes = full_chunks bytes; ending = Broken kind }
+
+abbrev pub chunked_body : Feed → Text
+chunked_body feed = chunked_until feed.stop feed.bytes
+
+-- no byte is sent, and this fault told
+abbrev pub nothing : ErrorKind → Text
+nothing kind = record { bytes = []; ending = Broken kind }
+
+-- how an answer is asked for
+pub record Printing : Type 0 where
+  pub version : HTTPVersion
+  pub request_headers : List Header
+  pub no_body : Bool
+  pub upgrade : Option (List ℕ)
+  pub date : HttpDate
+
+-- the body, unless it is withheld
+abbrev pub unless : Bool → Text → Text
+unless withheld body = if withheld then whole [] else body
+
+-- a body that was read whole before its head: nothing is sent where the data fails
+abbrev pub gathered_body : Stop → List ℕ → Bool → List ℕ → Text
+gathered_body End front withheld bytes = whole (front ++ (if withheld then [] else bytes))
+gathered_body (Fault kind) front withheld bytes = nothing kind
+
+-- Head and body by the coding and the known length, where `top` is the head with what it tells of the
+-- body's length.
+abbrev pub as_it_is : Option ℕ → (FramingHeader → List ℕ) → Bool → Feed → Text
+as_it_is (Some n) top withheld feed = behind (top (ContentLength n)) (unless withheld (identity_body n feed))
+as_it_is None top withheld feed = gathered_body feed.stop (top (ContentLength (length feed.bytes))) withheld feed.bytes
+
+abbrev pub with_coding : Coding → Option ℕ → (FramingHeader → List ℕ) → Bool → Feed → Text
+with_coding Identity length top withheld feed = as_it_is length top withheld feed
+with_coding Chunked length top withheld feed = behind (top TransferEncoding) (unless withheld (chunked_body feed))
+
+abbrev pub is_ascii : List ℕ → Bool
+is_ascii text = list_all (λ b. nat_lt b 128) text
+
+-- the head of an answer
+abbrev pub top_of : Answer → Printing → FramingHeader → List ℕ
+top_of a p framing = head p.version a.status p.upgrade a.headers p.date framing
+
+-- How the body of an answer is sent. UNTIL THE CHOICE OF A CODING IS BUILT it is sent as it is; then it is `coding_of`
+-- with what the request's TE asks for most.
+abbrev pub coding_for : Answer → Printing → Coding
+coding_for a p = Identity
+
+-- an upgrade is a head alone, and its protocol is ASCII
+abbrev pub with_upgrade : Option (List ℕ) → Answer → Feed → Printing → Text
+with_upgrade (Some protocol) a feed p = if is_ascii protocol then whole (top_of a p Neither) else nothing InvalidInput
+with_upgrade None a feed p = with_coding (coding_for a p) a.length (top_of a p) (is_withheld p.no_body a.status) feed
+
+-- the text of an answer with this data
+unfoldable pub text_of : Answer → Feed → Printing → Text
+text_of a feed p = with_upgrade p.upgrade a feed p
+
+-- What a call that prints a text comes to: all of it is written, or all up to where it breaks off, with
+-- its fault as the answer, or the writer failed within it.
+abbrev pub Prints : {T : Type 0} → Sink → Sink → Result T Error → Text → Type 0
+Prints old new (Ok x) text = (text.ending ≡ Whole) × Took old new text.bytes
+Prints old new (Err e) text = ((text.ending ≡ Broken (error_kind e)) × Took old new text.bytes) ⊎ Failed old new text.bytes (error_kind e)
+
+-- A call that prints an answer without a coding prints its text; or finds no memory to gather data of unknown length:
+-- then nothing is sent.
+abbrev pub PrintsUncoded : {T : Type 0} → Sink → Sink → Result T Error → Option ℕ → Text → Type 0
+PrintsUncoded old new r length text = Prints old new r text ⊎ ((length ≡ None) × Prints old new r (nothing OutOfMemory))
+
+-- a call that prints an answer
+abbrev pub PrintsAnswer : {T : Type 0} → Sink → Sink → Result T Error → Answer → Feed → Printing → Type 0
+PrintsAnswer old new r a feed p = Prints old new r (text_of a feed p) ⊎ ((p.upgrade ≡ None) × (coding_for a p ≡ Identity) × (a.length ≡ None) × Prints old new r (nothing OutOfMemory))
+
+-- an answer whose data was gathered
+abbrev pub PrintsGathered : {T : Type 0} → Sink → Sink → Result T Error → List ℕ → Bool → Feed → Type 0
+PrintsGathered old new r front withheld feed = Prints old new r (gathered_body feed.stop front withheld feed.bytes) ⊎ Prints old new r (nothing OutOfMemory)
+
+-- what a contract sees of a response: the answer, and its data
+pub record Reply (R : Type 0) : Type 0 where
+  pub answer : Answer
+  pub data_reader : R
+
+-- names that a list of headers never holds
+abbrev pub is_reserved : List ℕ → Bool
+is_reserved name = same_name name (codes "Connection") || (same_name name (codes "Trailer") || (same_name name (codes "Transfer-Encoding") || same_name name (codes "Upgrade")))
+
+-- the value of the first header of a name is replaced
+abbrev pub with_value : List ℕ → List ℕ → List Header → List Header
+with_value name value [] = []
+with_value name value (h ∷ hs) = if same_name h.field name then (record h { value = value }) ∷ hs else h ∷ with_value name value hs
+
+-- the headers with one more, which is not reserved and no length
+abbrev pub with_header : Header → List Header → List Header
+with_header h hs = if same_name h.field (codes "Content-Type") && has_header hs (codes "Content-Type") then with_value (codes "Content-Type") h.value hs else hs ++ h ∷ []
+
+-- the length that a value says: an optional plus, one digit or more, below 2^64
+abbrev pub length_of : List ℕ → Option ℕ
+length_of ds = if nat_lt 0 (length ds) && (all_ascii_digits ds && nat_lt (digits_value 10 ds) (2 ^ 64)) then Some (digits_value 10 ds) else None
+
+unfoldable pub length_in : List ℕ → Option ℕ
+length_in value = length_of (without_leading_plus value)
+
+-- a value, or else another
+abbrev pub first_some : Option ℕ → Option ℕ → Option ℕ
+first_some None b = b
+first_some (Some n) b = Some n
+
+-- the answer with a header added
+abbrev pub add : Header → Answer → Answer
+add h a =
+    if is_reserved h.field then a else (if same_name h.field (codes "Content-Length") then record a { length = first_some (length_in h.value) a.length } else record a { headers = with_header h a.headers })

@@ -1,0 +1,152 @@
+//! The head of an answer.
+ghost use Rattle.std.specs.Prelude.{◌≡◌, ℕ, ◌≤◌, ◌++◌, length, List, [], codes, decimal};
+ghost use Rattle.std.specs.List.{flat_map};
+ghost use Rattle.std.specs.Option.{option_copied};
+ghost use Rattle.httpdate.specs.Date.{date_text};
+ghost use Rattle.tiny_http_wire.specs.Device.{Puts};
+ghost use Rattle.tiny_http_wire.specs.Answer.{has_header, status_line, field_line, header_line, protocol_lines, upgrade_lines, server_line, date_line, length_line, framing_line, head};
+
+use crate::coding::FramingHeader;
+use crate::common::{HTTPVersion, Header, StatusCode};
+use crate::device::{WriteDevice, put, put_all};
+use httpdate::HttpDate;
+use itoa::Buffer;
+use std::io;
+
+// Whether some header has this name.
+pub fn has_header(headers: &[Header], name: &str) -> bool
+    ensures { result ≡ has_header headers.now name.now }
+{
+    headers.iter().any(|h| h.field.equiv(name))
+}
+
+#[tactic(auto, unfolding(crate::specs::Answer::status_line))]
+fn put_status_line<W: WriteDevice>(
+    writer: &mut W,
+    version: HTTPVersion,
+    status: StatusCode,
+) -> Result<(), io::Error>
+    ensures { Puts (W.sink writer.old) (W.sink writer.new) result (status_line version status.0) }
+{
+    let (mut major, mut minor, mut code) = (Buffer::new(), Buffer::new(), Buffer::new());
+    let major = major.format(version.0).as_bytes();
+    let minor = minor.format(version.1).as_bytes();
+    let code = code.format(status.0).as_bytes();
+    let phrase = status.default_reason_phrase().as_bytes();
+    put_all(
+        writer,
+        &[
+            b"HTTP/", major, b".", minor, b" ", code, b" ", phrase, b"\r\n",
+        ],
+    )
+}
+
+#[tactic(auto, unfolding(crate::specs::Answer::field_line))]
+fn put_field<W: WriteDevice>(writer: &mut W, field: &[u8], value: &[u8]) -> Result<(), io::Error>
+    ensures { Puts (W.sink writer.old) (W.sink writer.new) result (field_line field.now value.now) }
+{
+    put_all(writer, &[field, b": ", value, b"\r\n"])
+}
+
+fn put_header<W: WriteDevice>(writer: &mut W, header: &Header) -> Result<(), io::Error>
+    ensures { Puts (W.sink writer.old) (W.sink writer.new) result (header_line header.now) }
+{
+    let field = header.field.as_str();
+    put_field(
+        writer,
+        field.as_str().as_bytes(),
+        header.value.as_str().as_bytes(),
+    )
+}
+
+fn put_headers<W: WriteDevice>(writer: &mut W, headers: &[Header]) -> Result<(), io::Error>
+    ensures { Puts (W.sink writer.old) (W.sink writer.new) result (flat_map header_line headers.now) }
+{
+    for header in headers {
+        put_header(writer, header)?;
+    }
+    Ok(())
+}
+
+fn put_protocol<W: WriteDevice>(writer: &mut W, protocol: &str) -> Result<(), io::Error>
+    ensures { Puts (W.sink writer.old) (W.sink writer.new) result (protocol_lines protocol.now) }
+{
+    put_field(writer, b"Connection", b"upgrade")?;
+    put_field(writer, b"Upgrade", protocol.as_bytes())
+}
+
+#[tactic(auto, unfolding(crate::specs::Answer::upgrade_lines))]
+fn put_upgrade<W: WriteDevice>(writer: &mut W, upgrade: Option<&str>) -> Result<(), io::Error>
+    ensures { Puts (W.sink writer.old) (W.sink writer.new) result (upgrade_lines (option_copied upgrade.entry)) }
+{
+    let Some(protocol) = upgrade else {
+        return Ok(());
+    };
+    put_protocol(writer, protocol)
+}
+
+#[tactic(auto, unfolding(crate::specs::Answer::server_line))]
+fn put_server<W: WriteDevice>(writer: &mut W, headers: &[Header]) -> Result<(), io::Error>
+    ensures { Puts (W.sink writer.old) (W.sink writer.new) result (server_line headers.now) }
+{
+    if has_header(headers, "Server") {
+        return Ok(());
+    }
+    put_field(writer, b"Server", b"tiny-http (Rust)")
+}
+
+#[tactic(auto, unfolding(crate::specs::Answer::date_line))]
+fn put_date<W: WriteDevice>(
+    writer: &mut W,
+    headers: &[Header],
+    now: HttpDate,
+) -> Result<(), io::Error>
+    ensures { Puts (W.sink writer.old) (W.sink writer.new) result (date_line headers.now now) }
+{
+    if has_header(headers, "Date") {
+        return Ok(());
+    }
+    let date = now.to_bytes();
+    put_field(writer, b"Date", &date)
+}
+
+fn put_length<W: WriteDevice>(writer: &mut W, n: usize) -> Result<(), io::Error>
+    ensures { Puts (W.sink writer.old) (W.sink writer.new) result (length_line n) }
+{
+    let mut digits = Buffer::new();
+    let digits = digits.format(n).as_bytes();
+    put_field(writer, b"Content-Length", digits)
+}
+
+#[tactic(auto, unfolding(crate::specs::Answer::framing_line))]
+fn put_framing<W: WriteDevice>(writer: &mut W, framing: FramingHeader) -> Result<(), io::Error>
+    ensures { Puts (W.sink writer.old) (W.sink writer.new) result (framing_line framing) }
+{
+    match framing {
+        FramingHeader::Neither => Ok(()),
+        FramingHeader::TransferEncoding => put_field(writer, b"Transfer-Encoding", b"chunked"),
+        FramingHeader::ContentLength(n) => put_length(writer, n),
+    }
+}
+
+/// Writes the head of an answer.
+pub fn put_head<W: WriteDevice>(
+    writer: &mut W,
+    version: HTTPVersion,
+    status: StatusCode,
+    upgrade: Option<&str>,
+    headers: &[Header],
+    now: HttpDate,
+    framing: FramingHeader,
+) -> Result<(), io::Error>
+    ensures { Puts (W.sink writer.old) (W.sink writer.new) result
+        (head version status.0 (option_copied upgrade.entry) headers.now now framing) }
+{
+    put_status_line(writer, version, status)?;
+    put_upgrade(writer, upgrade)?;
+    put_server(writer, headers)?;
+    put_date(writer, headers, now)?;
+    put_headers(writer, headers)?;
+    put_framing(writer, framing)?;
+    put(writer, b"\r\n")
+}
