@@ -9,4 +9,5 @@ pub mod common;
 pub mod device;
 pub mod grammar;
 pub mod head;
+pub mod laws;
 pub mod response;

@@ -1,0 +1,476 @@
+-- A chunked body, computed, is that of the definitions, and there is one.
+use Rattle.std.proofs.Common.{◌≡◌, refl, sym, ap, ◌∙◌, subst, ℕ, zero, suc, ◌+◌, ◌-◌, ◌<◌, ◌≤◌, Bool, true, false, cond, not, ◌&&◌, ◌⊎◌, inl, inr, List, [], ◌∷◌, ◌++◌, length, take, drop, Option, Some, None, Ok, Err, append_assoc, append-nil, eq-eqb, eqb-true, arith, length-append, ⊎_elim}
+use Rattle.std.specs.Prelude.{◌==◌, MatchOption, MatchResult, IsTrue, Result, nat_lt, nat_le, flat_map, if◌then◌else◌}
+use Rattle.std.specs.List.{list_all, AllByRecursion}
+use Rattle.std.specs.Str.Parse.{digits_value}
+use Rattle.std.proofs.lemmas.Grind.{common_steps}
+use Rattle.std.proofs.Math.Seq.{take-append-add}
+use Rattle.std.proofs.lemmas.List.{take-append-drop, length-take}
+use Rattle.std.proofs.lemmas.Bool.{and_parts, ltb-true, ltb-false, leb-true, leb-false, lt-ltb, le-ltb, le-leb, lt-leb}
+use Rattle.std.specs.declared.io.ErrorKind.{ErrorKind}
+use Rattle.std.specs.declared.io.ErrorKind.TheVariants.{InvalidData}
+use Rattle.tiny_http_wire.specs.declared.device.Stop.{Stop}
+use Rattle.tiny_http_wire.specs.declared.device.Stop.TheVariants.{End}
+use Rattle.tiny_http_wire.specs.Bytes.{HasNo, IsEmptyOrBegins, semicolon, crlf}
+use Rattle.tiny_http_wire.specs.Lines.{Line}
+use Rattle.tiny_http_wire.specs.Chunks.{longest_line, most_trailers, is_bws, is_hex, SizeText, IsShortLine, Chunk, chunk_text, IsChunk, IsLastLine, IsTrailerLine, lines_text, data_of, WholeChunks, HasNoShortLine, LineFault, CloseFault, Remainder, NoSizeLine, BadSize, CutData, NoClose, CutTrailer, LongTrailer, Breaks, CutChunks}
+use Rattle.tiny_http_wire.specs.Device.{fault_of}
+use Rattle.tiny_http_wire.specs.Reading.{line, front_while}
+use Rattle.tiny_http_wire.specs.ChunkReading.{digits_of, size_said, size_of, Decoded, broken, LineRead, short_in, short_line, trailer_at, trailer_in, trailer_part, after_data, with_data, closed, data_at, sized, chunk_in, decoded}
+use Rattle.tiny_http_wire.proofs.LineLemmas.{line-is, line-front, line-none}
+use Rattle.tiny_http_wire.proofs.TextLemmas.{trims-is, trims-one}
+
+abbrev before_semicolon : ℕ → Bool
+before_semicolon b = not (b == semicolon)
+
+front-part : (part extension : List ℕ) → HasNo semicolon part → IsEmptyOrBegins semicolon extension → front_while before_semicolon (part ++ extension) ≡ part
+front-part [] [] h b = refl
+front-part [] (c ∷ cs) h b = rw b refl
+front-part (x ∷ xs) extension h b =
+    let k = and_parts (not (x == semicolon)) (list_all (λ y. not (y == semicolon)) xs) h in
+    rw k.0 (ap (λ y. x ∷ y) (front-part xs extension k.1 b))
+
+record Part (text part : List ℕ) : Type 0 where
+  extension : List ℕ
+  joins : text ≡ part ++ extension
+  clear : HasNo semicolon part
+  extends : IsEmptyOrBegins semicolon extension
+
+part-step : (b : ℕ) (bs : List ℕ) (t : Bool) → (b == semicolon) ≡ t → Part bs (front_while before_semicolon bs) → Part (b ∷ bs) (cond (not t) (b ∷ front_while before_semicolon bs) [])
+part-step b bs true e p = record { extension = b ∷ bs; joins = refl; clear = refl; extends = eqb-true b semicolon e }
+part-step b bs false e p = record { extension = p.extension; joins = ap (λ x. b ∷ x) p.joins; clear = rw e p.clear; extends = p.extends }
+
+part-is : (text : List ℕ) → Part text (front_while before_semicolon text)
+part-is [] = record { extension = []; joins = refl; clear = refl; extends = tt }
+part-is (b ∷ bs) = part-step b bs (b == semicolon) refl (part-is bs)
+
+said-one : (digits : List ℕ) → 0 < length digits → length digits ≤ 16 → IsTrue (list_all is_hex digits) → size_said digits ≡ Some (digits_value 16 digits)
+said-one digits a b c = rw (lt-ltb 0 (length digits) a, le-leb (length digits) 16 b, c) refl
+
+said-step : (digits : List ℕ) (n : ℕ) (a b c : Bool) → cond (a && (b && c)) (Some (digits_value 16 digits)) None ≡ Some n → (a ≡ true) × (b ≡ true) × (c ≡ true) × (n ≡ digits_value 16 digits)
+said-step digits n true true true h = (refl, refl, refl, cc)
+said-step digits n false b c h = cc
+said-step digits n true false c h = cc
+said-step digits n true true false h = cc
+
+-- a text says one size
+pub size-one : (text : List ℕ) (n : ℕ) → SizeText text n → size_of text ≡ Some n
+size-one text n s =
+    rw (s.joins, front-part s.part s.extension s.no_semicolon s.extends, trims-one is_bws s.part s.digits s.trims)
+      (said-one s.digits s.some_digit s.few_digits s.hexadecimal ∙ ap Some (sym s.value))
+
+pub size-is : (text : List ℕ) (n : ℕ) → size_of text ≡ Some n → SizeText text n
+size-is text n e =
+    let d = digits_of text in
+    let k = said-step d n (nat_lt 0 (length d)) (nat_le (length d) 16) (list_all is_hex d) e in
+    let p = part-is text in
+    record {
+      part = front_while before_semicolon text; extension = p.extension; digits = d;
+      joins = p.joins; no_semicolon = p.clear; extends = p.extends; trims = trims-is is_bws (front_while before_semicolon text);
+      some_digit = ltb-true 0 (length d) k.0; few_digits = leb-true (length d) 16 k.1; hexadecimal = k.2; value = k.3 }
+
+-- a size text with a number below 2 is one of the two: sizes are one
+pub size-same : (text : List ℕ) (n m : ℕ) → SizeText text n → SizeText text m → n ≡ m
+size-same text n m s t = let e = size-one text n s in let f = size-one text m t in some-same n m (sym e ∙ f)
+  where
+    some-same : (n m : ℕ) → Some n ≡ Some m → n ≡ m
+    some-same n m e = cc
+
+take-seam : (most : ℕ) (text rest : List ℕ) → length text ≤ most → take (most + 2) (text ++ crlf ++ rest) ≡ text ++ crlf ++ take (most - length text) rest
+take-seam most text rest h =
+    let e : most + 2 ≡ length (text ++ crlf) + (most - length text) = simp length-append (omega arith) in
+    rw e (take-append-add (text ++ crlf) rest (most - length text))
+
+drop-seam : (text rest : List ℕ) → drop (length text + 2) (text ++ crlf ++ rest) ≡ rest
+drop-seam text rest = grind (arith, common_steps)
+
+-- a short line is read
+pub short-one : (stop : Stop) (text rest : List ℕ) → IsShortLine text → short_line stop (text ++ crlf ++ rest) ≡ Ok (text, rest)
+short-one stop text rest h =
+    rw (take-seam longest_line text rest h.0, line-front text (take (longest_line - length text) rest) h.1, drop-seam text rest) refl
+
+-- what a short line reads
+abbrev pub IsLineRead : Stop → List ℕ → LineRead → Type 0
+IsLineRead stop bytes r = MatchResult r (λ l. (bytes ≡ l.0 ++ crlf ++ l.1) × IsShortLine l.0) (λ kind. LineFault bytes stop kind)
+
+fault-step : (stop : Stop) (bytes : List ℕ) (t : Bool) → nat_le (longest_line + 2) (length bytes) ≡ t → HasNoShortLine bytes → LineFault bytes stop (if t then InvalidData else fault_of stop)
+fault-step stop bytes true e h = (h, inl (leb-true (longest_line + 2) (length bytes) e, refl))
+fault-step stop bytes false e h = (h, inr (leb-false (longest_line + 2) (length bytes) e, refl))
+
+short-is-some : (most : ℕ) (bytes text rest : List ℕ) → Line (take (most + 2) bytes) text rest → (bytes ≡ text ++ crlf ++ drop (length text + 2) bytes) × (length text ≤ most)
+short-is-some most bytes text rest l =
+    let whole : bytes ≡ text ++ crlf ++ (rest ++ drop (most + 2) bytes) = sym (take-append-drop (most + 2) bytes) ∙ (ap (λ x. x ++ drop (most + 2) bytes) l.joins ∙ append_assoc (text ++ crlf) rest (drop (most + 2) bytes)) in
+    let cut : drop (length text + 2) bytes ≡ rest ++ drop (most + 2) bytes = ap (λ x. drop (length text + 2) x) whole ∙ drop-seam text (rest ++ drop (most + 2) bytes) in
+    let few : length (take (most + 2) bytes) ≤ most + 2 = simp length-take (omega arith) in
+    let long : length (take (most + 2) bytes) ≡ length text + 2 + length rest = ap length l.joins ∙ simp length-append refl in
+    (rw cut whole, omega arith)
+
+short-in-is : (stop : Stop) (bytes : List ℕ) (o : Option (List ℕ × List ℕ)) → MatchOption o (HasNoShortLine bytes) (λ l. Line (take (longest_line + 2) bytes) l.0 l.1) → IsLineRead stop bytes (short_in stop bytes o)
+short-in-is stop bytes None h = fault-step stop bytes (nat_le (longest_line + 2) (length bytes)) refl h
+short-in-is stop bytes (Some l) h = let k = short-is-some longest_line bytes l.0 l.1 h in (k.0, (k.1, h.first))
+
+pub short-is : (stop : Stop) (bytes : List ℕ) → IsLineRead stop bytes (short_line stop bytes)
+short-is stop bytes = short-in-is stop bytes (line (take (longest_line + 2) bytes)) (line-is (take (longest_line + 2) bytes))
+
+pub short-fault : (stop : Stop) (bytes : List ℕ) (kind : ErrorKind) → LineFault bytes stop kind → short_line stop bytes ≡ Err kind
+short-fault stop bytes kind h =
+    rw (line-none (take (longest_line + 2) bytes) h.0)
+      (⊎_elim (λ k. rw (le-leb (longest_line + 2) (length bytes) k.0) (ap Err (sym k.1))) (λ k. rw (lt-leb (longest_line + 2) (length bytes) k.0) (ap Err (sym k.1))) h.1)
+
+-- the trailer part
+abbrev whole_part : List ℕ → Decoded
+whole_part rest = record { body = []; ends = Ok rest }
+
+trailer-end : (m : ℕ) (stop : Stop) (rest : List ℕ) → trailer_part m stop (crlf ++ rest) ≡ whole_part rest
+trailer-end zero stop rest = refl
+trailer-end (suc m) stop rest = refl
+
+at-cons : (go : List ℕ → Decoded) (text rest : List ℕ) → 0 < length text → trailer_at go text rest ≡ go rest
+at-cons go [] rest h = absurd (omega arith)
+at-cons go (b ∷ bs) rest h = refl
+
+trailer-more : (m : ℕ) (stop : Stop) (text rest : List ℕ) → IsTrailerLine text → trailer_part (suc m) stop (text ++ crlf ++ rest) ≡ trailer_part m stop rest
+trailer-more m stop text rest h = rw (short-one stop text rest h.0) (at-cons (trailer_part m stop) text rest h.1)
+
+regroup : (text : List ℕ) (lines : List (List ℕ)) (rest : List ℕ) → lines_text (text ∷ lines) ++ rest ≡ text ++ crlf ++ (lines_text lines ++ rest)
+regroup text lines rest = append_assoc (text ++ crlf) (lines_text lines) rest
+
+trailer-whole : (m : ℕ) (stop : Stop) (lines : List (List ℕ)) (rest : List ℕ) → AllByRecursion IsTrailerLine lines → length lines ≤ m → trailer_part m stop (lines_text lines ++ (crlf ++ rest)) ≡ whole_part rest
+trailer-whole m stop [] rest h le = trailer-end m stop rest
+trailer-whole zero stop (x ∷ xs) rest h le = absurd (omega arith)
+trailer-whole (suc m) stop (x ∷ xs) rest h le = rw (regroup x xs (crlf ++ rest)) (trailer-more m stop x (lines_text xs ++ (crlf ++ rest)) h.0 ∙ trailer-whole m stop xs rest h.1 (omega arith))
+
+trailer-faulty : (m : ℕ) (stop : Stop) (bytes : List ℕ) (kind : ErrorKind) → LineFault bytes stop kind → trailer_part m stop bytes ≡ broken [] kind
+trailer-faulty zero stop bytes kind h = rw (short-fault stop bytes kind h) refl
+trailer-faulty (suc m) stop bytes kind h = rw (short-fault stop bytes kind h) refl
+
+trailer-cut : (m : ℕ) (stop : Stop) (lines : List (List ℕ)) (next : List ℕ) (kind : ErrorKind) → AllByRecursion IsTrailerLine lines → length lines ≤ m → LineFault next stop kind → trailer_part m stop (lines_text lines ++ next) ≡ broken [] kind
+trailer-cut m stop [] next kind h le f = trailer-faulty m stop next kind f
+trailer-cut zero stop (x ∷ xs) next kind h le f = absurd (omega arith)
+trailer-cut (suc m) stop (x ∷ xs) next kind h le f = rw (regroup x xs next) (trailer-more m stop x (lines_text xs ++ next) h.0 ∙ trailer-cut m stop xs next kind h.1 (omega arith) f)
+
+trailer-long : (m : ℕ) (stop : Stop) (lines : List (List ℕ)) (next : List ℕ) → AllByRecursion IsTrailerLine lines → length lines ≡ m + 1 → trailer_part m stop (lines_text lines ++ next) ≡ broken [] InvalidData
+trailer-long m stop [] next h le = absurd (omega arith)
+trailer-long zero stop (x ∷ xs) next h le = rw (regroup x xs next, short-one stop x (lines_text xs ++ next) h.0.0) (at-cons (λ rest. broken [] InvalidData) x (lines_text xs ++ next) h.0.1)
+trailer-long (suc m) stop (x ∷ xs) next h le = rw (regroup x xs next) (trailer-more m stop x (lines_text xs ++ next) h.0 ∙ trailer-long m stop xs next h.1 (omega arith))
+
+-- what follows a chunk's data
+close-one : (stop : Stop) (rest : List ℕ) → after_data stop (crlf ++ rest) ≡ Ok rest
+close-one stop rest = refl
+
+not_both : (a b : Bool) → ((a ≡ true) × (b ≡ true) → ⊥) → (a && b) ≡ false
+not_both true true h = absurd (h (refl, refl))
+not_both true false h = refl
+not_both false b h = refl
+
+ne-test : (a n : ℕ) (t : Bool) → (a == n) ≡ t → (a ≡ n → ⊥) → t ≡ false
+ne-test a n true e h = absurd (h (eqb-true a n e))
+ne-test a n false e h = refl
+
+pair-crlf : (a b : ℕ) → (a ≡ 13) × (b ≡ 10) → a ∷ b ∷ [] ≡ crlf
+pair-crlf a b h = rw (h.0, h.1) refl
+
+close-fault : (stop : Stop) (close : List ℕ) (kind : ErrorKind) → CloseFault close stop kind → after_data stop close ≡ Err kind
+close-fault stop [] kind h = ap Err (sym h)
+close-fault stop (a ∷ []) kind h =
+    ⊎_elim (λ k. rw (k.0) (ap Err (sym k.1))) (λ k. rw (ne-test a 13 (a == 13) refl k.0) (ap Err (sym k.1))) h
+close-fault stop (a ∷ b ∷ bs) kind h =
+    rw (not_both (a == 13) (b == 10) (λ k. h.0 (pair-crlf a b (eqb-true a 13 k.0, eqb-true b 10 k.1)))) (ap Err (sym h.1))
+
+head_of : (a b : ℕ) → a ∷ b ∷ [] ≡ crlf → a ≡ 13
+head_of a b e = cc
+
+next_of : (a b : ℕ) → a ∷ b ∷ [] ≡ crlf → b ≡ 10
+next_of a b e = cc
+
+not_same : (a : ℕ) → a ≡ 13 → (a == 13) ≡ false → ⊥
+not_same a e f = let g : (a == 13) ≡ true = eq-eqb a 13 e in let h : true ≡ false = sym g ∙ f in cc
+
+not_same2 : (a : ℕ) → a ≡ 10 → (a == 10) ≡ false → ⊥
+not_same2 a e f = let g : (a == 10) ≡ true = eq-eqb a 10 e in let h : true ≡ false = sym g ∙ f in cc
+
+one-step : (stop : Stop) (a : ℕ) (t : Bool) → (a == 13) ≡ t → ((a ≡ 13) × ((if t then fault_of stop else InvalidData) ≡ fault_of stop)) ⊎ ((a ≡ 13 → ⊥) × ((if t then fault_of stop else InvalidData) ≡ InvalidData))
+one-step stop a true e = inl (eqb-true a 13 e, refl)
+one-step stop a false e = inr ((λ k. not_same a k e), refl)
+
+close-step : (stop : Stop) (a b : ℕ) (bs : List ℕ) (s t : Bool) → (a == 13) ≡ s → (b == 10) ≡ t
+    → MatchResult (if (s && t) then Ok bs else Err InvalidData) (λ rest. a ∷ b ∷ bs ≡ crlf ++ rest) (λ kind. CloseFault (a ∷ b ∷ bs) stop kind)
+close-step stop a b bs true true e f = let p = eqb-true a 13 e in let q = eqb-true b 10 f in rw (p, q) refl
+close-step stop a b bs false t e f = ((λ k. not_same a (head_of a b k) e), refl)
+close-step stop a b bs true false e f = ((λ k. not_same2 b (next_of a b k) f), refl)
+
+close-is : (stop : Stop) (bytes : List ℕ) → MatchResult (after_data stop bytes) (λ rest. bytes ≡ crlf ++ rest) (λ kind. CloseFault bytes stop kind)
+close-is stop [] = refl
+close-is stop (a ∷ []) = one-step stop a (a == 13) refl
+close-is stop (a ∷ b ∷ bs) = close-step stop a b bs (a == 13) (b == 10) refl refl
+
+abbrev Go : Type 0
+Go = List ℕ → Decoded
+
+sized-at : (go : Go) (stop : Stop) (rest : List ℕ) (n : ℕ) → 0 < n → sized go stop rest (Some n) ≡ data_at go stop n rest (nat_lt (length rest) n)
+sized-at go stop rest zero h = absurd (omega arith)
+sized-at go stop rest (suc m) h = refl
+
+take_at : (xs ys : List ℕ) → take (length xs) (xs ++ ys) ≡ xs
+take_at xs ys = grind (arith, common_steps)
+
+drop_at : (xs ys : List ℕ) → drop (length xs) (xs ++ ys) ≡ ys
+drop_at xs ys = grind (arith, common_steps)
+
+not-shorter : (xs ys : List ℕ) → nat_lt (length (xs ++ ys)) (length xs) ≡ false
+not-shorter xs ys = le-ltb (length (xs ++ ys)) (length xs) (simp length-append (omega arith))
+
+-- a size line of a size above 0
+sized-line : (fuel : ℕ) (stop : Stop) (text rest : List ℕ) (n : ℕ) → IsShortLine text → SizeText text n → 0 < n
+    → decoded (suc fuel) stop (text ++ crlf ++ rest) ≡ data_at (decoded fuel stop) stop n rest (nat_lt (length rest) n)
+sized-line fuel stop text rest n s z p = rw (short-one stop text rest s, size-one text n z) (sized-at (decoded fuel stop) stop rest n p)
+
+-- and of size 0
+last-line : (fuel : ℕ) (stop : Stop) (text rest : List ℕ) → IsLastLine text → decoded (suc fuel) stop (text ++ crlf ++ rest) ≡ trailer_part most_trailers stop rest
+last-line fuel stop text rest h = rw (short-one stop text rest h.0, size-one text 0 h.1) refl
+
+data-closed : (go : Go) (stop : Stop) (bytes close : List ℕ) → data_at go stop (length bytes) (bytes ++ close) (nat_lt (length (bytes ++ close)) (length bytes)) ≡ closed go bytes (after_data stop close)
+data-closed go stop bytes close = rw (not-shorter bytes close, take_at bytes close, drop_at bytes close) refl
+
+chunk-group : (c : Chunk) (rest : List ℕ) → chunk_text c ++ rest ≡ c.size_line ++ crlf ++ (c.bytes ++ (crlf ++ rest))
+chunk-group c rest = append_assoc (c.size_line ++ crlf ++ c.bytes) crlf rest ∙ append_assoc (c.size_line ++ crlf) c.bytes (crlf ++ rest)
+
+chunk-one : (fuel : ℕ) (stop : Stop) (c : Chunk) (rest : List ℕ) → IsChunk c → decoded (suc fuel) stop (chunk_text c ++ rest) ≡ with_data c.bytes (decoded fuel stop rest)
+chunk-one fuel stop c rest h =
+    rw (chunk-group c rest)
+      (sized-line fuel stop c.size_line (c.bytes ++ (crlf ++ rest)) (length c.bytes) h.short h.sized h.not_last
+        ∙ (data-closed (decoded fuel stop) stop c.bytes (crlf ++ rest) ∙ ap (closed (decoded fuel stop) c.bytes) (close-one stop rest)))
+
+abbrev joined_chunks : List Chunk → List ℕ
+joined_chunks chunks = flat_map chunk_text chunks
+
+abbrev made : List ℕ → Result (List ℕ) ErrorKind → Decoded
+made body ends = record { body = body; ends = ends }
+
+chunks-front : (fuel : ℕ) (stop : Stop) (chunks : List Chunk) (rest part : List ℕ) (ends : Result (List ℕ) ErrorKind) → AllByRecursion IsChunk chunks → length chunks < fuel
+    → ((n : ℕ) → decoded (suc n) stop rest ≡ made part ends) → decoded fuel stop (joined_chunks chunks ++ rest) ≡ made (data_of chunks ++ part) ends
+chunks-front zero stop chunks rest part ends h lt go = absurd (omega arith)
+chunks-front (suc fuel) stop [] rest part ends h lt go = go fuel
+chunks-front (suc fuel) stop (c ∷ cs) rest part ends h lt go =
+    rw (append_assoc (chunk_text c) (joined_chunks cs) rest)
+      (chunk-one fuel stop c (joined_chunks cs ++ rest) h.0
+        ∙ (ap (with_data c.bytes) (chunks-front fuel stop cs rest part ends h.1 (omega arith) go)
+        ∙ ap (λ x. made x ends) (sym (append_assoc c.bytes (data_of cs) part))))
+
+chunk-long : (c : Chunk) → 0 < length (chunk_text c)
+chunk-long c = simp length-append (omega arith)
+
+chunks-fewer : (chunks : List Chunk) (rest : List ℕ) → length chunks < length (joined_chunks chunks ++ rest) + 1
+chunks-fewer [] rest = omega arith
+chunks-fewer (c ∷ cs) rest =
+    let k = chunks-fewer cs rest in
+    let l = chunk-long c in
+    let e : length (joined_chunks (c ∷ cs) ++ rest) ≡ length (chunk_text c) + length (joined_chunks cs ++ rest) = ap length (append_assoc (chunk_text c) (joined_chunks cs) rest) ∙ length-append (chunk_text c) (joined_chunks cs ++ rest) in
+    omega arith
+
+-- chunks, a last chunk and a trailer part are read as they stand
+pub decoded-one : (bytes body rest : List ℕ) (stop : Stop) → WholeChunks bytes body rest → decoded (length bytes + 1) stop bytes ≡ made body (Ok rest)
+decoded-one bytes body rest stop c =
+    let tail = lines_text (c.last ∷ c.trailers) ++ (crlf ++ rest) in
+    let few : length c.chunks < length bytes + 1 = rw c.joins (chunks-fewer c.chunks tail) in
+    let last : (n : ℕ) → decoded (suc n) stop tail ≡ made [] (Ok rest) =
+      λ n. rw (regroup c.last c.trailers (crlf ++ rest)) (last-line n stop c.last (lines_text c.trailers ++ (crlf ++ rest)) c.is_last ∙ trailer-whole most_trailers stop c.trailers rest c.are_trailers c.few_trailers) in
+    let go = chunks-front (length bytes + 1) stop c.chunks tail [] (Ok rest) c.are_chunks few last in
+    let P : List ℕ → Type 0 = λ x. decoded (length bytes + 1) stop x ≡ made body (Ok rest) in
+    subst P (sym c.joins) (go ∙ ap (λ x. made x (Ok rest)) (append-nil (data_of c.chunks) ∙ sym c.body_is))
+
+no-size : (text : List ℕ) (o : Option ℕ) → size_of text ≡ o → ((n : ℕ) → SizeText text n → ⊥) → o ≡ None
+no-size text None e h = refl
+no-size text (Some n) e h = absurd (h n (size-is text n e))
+
+breaks-one : (way : Remainder) (rest : List ℕ) (stop : Stop) (part : List ℕ) (kind : ErrorKind) → Breaks way rest stop part kind → (n : ℕ) → decoded (suc n) stop rest ≡ made part (Err kind)
+breaks-one NoSizeLine rest stop part kind h n = rw (short-fault stop rest kind h.1, h.0) refl
+breaks-one (BadSize text more) rest stop part kind h n = rw (h.0, short-one stop text more h.1, no-size text (size_of text) refl h.2, h.3, h.4) refl
+breaks-one (CutData text size) rest stop part kind h n =
+    rw (h.0) (sized-line n stop text part size h.1 h.2 (omega arith) ∙ rw (lt-ltb (length part) size h.3, h.4) refl)
+breaks-one (NoClose text close) rest stop part kind h n =
+    rw (h.0, append_assoc (text ++ crlf) part close)
+      (sized-line n stop text (part ++ close) (length part) h.1 h.2 h.3
+        ∙ (data-closed (decoded n stop) stop part close ∙ ap (closed (decoded n stop) part) (close-fault stop close kind h.4)))
+breaks-one (CutTrailer last trailers next) rest stop part kind h n =
+    rw (h.0, regroup last trailers next, h.5)
+      (last-line n stop last (lines_text trailers ++ next) h.1 ∙ trailer-cut most_trailers stop trailers next kind h.2 h.3 h.4)
+breaks-one (LongTrailer last trailers next) rest stop part kind h n =
+    rw (h.0, regroup last trailers next, h.4, h.5)
+      (last-line n stop last (lines_text trailers ++ next) h.1 ∙ trailer-long most_trailers stop trailers next h.2 h.3)
+
+-- and so is a front of such a body
+pub decoded-front : (bytes body : List ℕ) (stop : Stop) (kind : ErrorKind) → CutChunks bytes stop body kind → decoded (length bytes + 1) stop bytes ≡ made body (Err kind)
+decoded-front bytes body stop kind c =
+    let few : length c.chunks < length bytes + 1 = rw c.joins (chunks-fewer c.chunks c.rest) in
+    let go = chunks-front (length bytes + 1) stop c.chunks c.rest c.part (Err kind) c.are_chunks few (breaks-one c.way c.rest stop c.part kind c.breaks) in
+    let P : List ℕ → Type 0 = λ x. decoded (length bytes + 1) stop x ≡ made body (Err kind) in
+    subst P (sym c.joins) (go ∙ ap (λ x. made x (Err kind)) (sym c.body_is))
+
+more_lines : (n m : ℕ) → n ≤ m → suc n ≤ suc m
+more_lines n m h = omega arith
+
+more_equal : (n m : ℕ) → n ≡ m + 1 → suc n ≡ suc m + 1
+more_equal n m h = omega arith
+
+positive : (b : ℕ) (bs : List ℕ) → 0 < length (b ∷ bs)
+positive b bs = omega arith
+
+none-size : {G : Type 0} (n : ℕ) → Some n ≡ None → G
+none-size n e = cc
+
+less_rest : (bytes front rest : List ℕ) (fuel : ℕ) → bytes ≡ front ++ rest → 0 < length front → length bytes < suc fuel → length rest < fuel
+less_rest bytes front rest fuel j p lt =
+    let e : length bytes ≡ length front + length rest = ap length j ∙ length-append front rest in omega arith
+
+-- what is read of a trailer part
+abbrev TrailerWhole : ℕ → List ℕ → List ℕ → Type 0
+TrailerWhole m bytes rest = (lines : List (List ℕ)) × (bytes ≡ lines_text lines ++ (crlf ++ rest)) × AllByRecursion IsTrailerLine lines × (length lines ≤ m)
+
+abbrev TrailerBroken : ℕ → List ℕ → Stop → ErrorKind → Type 0
+TrailerBroken m bytes stop kind =
+    ((lines : List (List ℕ)) × (next : List ℕ) × (bytes ≡ lines_text lines ++ next) × AllByRecursion IsTrailerLine lines × (length lines ≤ m) × LineFault next stop kind)
+    ⊎ ((lines : List (List ℕ)) × (next : List ℕ) × (bytes ≡ lines_text lines ++ next) × AllByRecursion IsTrailerLine lines × (length lines ≡ m + 1) × (kind ≡ InvalidData))
+
+abbrev TrailerIs : ℕ → Stop → List ℕ → Decoded → Type 0
+TrailerIs m stop bytes d = (d.body ≡ []) × MatchResult d.ends (TrailerWhole m bytes) (TrailerBroken m bytes stop)
+
+all-cons : (text : List ℕ) (lines : List (List ℕ)) (bytes rest next : List ℕ) → bytes ≡ text ++ crlf ++ rest → rest ≡ lines_text lines ++ next → bytes ≡ lines_text (text ∷ lines) ++ next
+all-cons text lines bytes rest next e f = e ∙ (ap (λ x. text ++ crlf ++ x) f ∙ sym (regroup text lines next))
+
+longer : (m : ℕ) (stop : Stop) (text bytes rest : List ℕ) → bytes ≡ text ++ crlf ++ rest → IsTrailerLine text → (e : Result (List ℕ) ErrorKind)
+    → MatchResult e (TrailerWhole m rest) (TrailerBroken m rest stop) → MatchResult e (TrailerWhole (suc m) bytes) (TrailerBroken (suc m) bytes stop)
+longer m stop text bytes rest j h (Ok r) k = (text ∷ k.0, all-cons text k.0 bytes rest (crlf ++ r) j k.1, (h, k.2), omega arith)
+longer m stop text bytes rest j h (Err kind) k =
+    ⊎_elim
+      (λ b. inl (text ∷ b.0, b.1, all-cons text b.0 bytes rest b.1 j b.2, (h, b.3), more_lines (length b.0) m b.4, b.5))
+      (λ b. inr (text ∷ b.0, b.1, all-cons text b.0 bytes rest b.1 j b.2, (h, b.3), more_equal (length b.0) m b.4, b.5))
+      k
+
+trailer-at-is : (m : ℕ) (stop : Stop) (bytes text rest : List ℕ) → bytes ≡ text ++ crlf ++ rest → IsShortLine text → TrailerIs m stop rest (trailer_part m stop rest) → TrailerIs (suc m) stop bytes (trailer_at (trailer_part m stop) text rest)
+trailer-at-is m stop bytes [] rest j s k = (refl, ([], j, tt, omega arith))
+trailer-at-is m stop bytes (b ∷ bs) rest j s k = (k.0, longer m stop (b ∷ bs) bytes rest j (s, positive b bs) (trailer_part m stop rest).ends k.1)
+
+last-at-is : (stop : Stop) (bytes text rest : List ℕ) → bytes ≡ text ++ crlf ++ rest → IsShortLine text → TrailerIs zero stop bytes (trailer_at (λ x. broken [] InvalidData) text rest)
+last-at-is stop bytes [] rest j s = (refl, ([], j, tt, omega arith))
+last-at-is stop bytes (b ∷ bs) rest j s = (refl, inr ((b ∷ bs) ∷ [], rest, all-cons (b ∷ bs) [] bytes rest rest j refl, ((s, positive b bs), tt), omega arith, refl))
+
+last-in-is : (stop : Stop) (bytes : List ℕ) (r : LineRead) → IsLineRead stop bytes r → TrailerIs zero stop bytes (trailer_in (λ x. broken [] InvalidData) r)
+last-in-is stop bytes (Ok l) h = last-at-is stop bytes l.0 l.1 h.0 h.1
+last-in-is stop bytes (Err kind) h = (refl, inl ([], bytes, refl, tt, omega arith, h))
+
+trailer-in-is : (m : ℕ) (stop : Stop) (bytes : List ℕ) (r : LineRead) → IsLineRead stop bytes r → ((rest : List ℕ) → TrailerIs m stop rest (trailer_part m stop rest)) → TrailerIs (suc m) stop bytes (trailer_in (trailer_part m stop) r)
+trailer-in-is m stop bytes (Ok l) h go = trailer-at-is m stop bytes l.0 l.1 h.0 h.1 (go l.1)
+trailer-in-is m stop bytes (Err kind) h go = (refl, inl ([], bytes, refl, tt, omega arith, h))
+
+trailer-is : (m : ℕ) (stop : Stop) (bytes : List ℕ) → TrailerIs m stop bytes (trailer_part m stop bytes)
+trailer-is zero stop bytes = last-in-is stop bytes (short_line stop bytes) (short-is stop bytes)
+trailer-is (suc m) stop bytes = trailer-in-is m stop bytes (short_line stop bytes) (short-is stop bytes) (trailer-is m stop)
+
+-- what a reading of a chunked body has to be
+abbrev pub IsDecoded : List ℕ → Stop → Decoded → Type 0
+IsDecoded bytes stop d = MatchResult d.ends (λ rest. WholeChunks bytes d.body rest) (λ kind. CutChunks bytes stop d.body kind)
+
+no-chunks : (bytes : List ℕ) (stop : Stop) (part : List ℕ) (kind : ErrorKind) (way : Remainder) → Breaks way bytes stop part kind → CutChunks bytes stop part kind
+no-chunks bytes stop part kind way h = record { chunks = []; rest = bytes; part = part; way = way; joins = refl; body_is = refl; are_chunks = tt; breaks = h }
+
+after-last : (bytes text rest : List ℕ) (stop : Stop) (body : List ℕ) (e : Result (List ℕ) ErrorKind) → bytes ≡ text ++ crlf ++ rest → IsLastLine text → body ≡ [] → MatchResult e (TrailerWhole most_trailers rest) (TrailerBroken most_trailers rest stop) → IsDecoded bytes stop (made body e)
+after-last bytes text rest stop body (Ok r) j h b k =
+    record { chunks = []; last = text; trailers = k.0; joins = all-cons text k.0 bytes rest (crlf ++ r) j k.1; body_is = b; are_chunks = tt; is_last = h; are_trailers = k.2; few_trailers = k.3 }
+after-last bytes text rest stop body (Err kind) j h b k =
+    ⊎_elim
+      (λ t. no-chunks bytes stop body kind (CutTrailer text t.0 t.1) (all-cons text t.0 bytes rest t.1 j t.2, h, t.3, t.4, t.5, b))
+      (λ t. no-chunks bytes stop body kind (LongTrailer text t.0 t.1) (all-cons text t.0 bytes rest t.1 j t.2, h, t.3, t.4, b, t.5))
+      k
+
+-- one chunk more in front
+chunk-more : (bytes : List ℕ) (c : Chunk) (rest : List ℕ) (stop : Stop) (body : List ℕ) (e : Result (List ℕ) ErrorKind) → bytes ≡ chunk_text c ++ rest → IsChunk c → IsDecoded rest stop (made body e) → IsDecoded bytes stop (made (c.bytes ++ body) e)
+chunk-more bytes c rest stop body (Ok r) j h d =
+    let tail = lines_text (d.last ∷ d.trailers) ++ (crlf ++ r) in
+    record { chunks = c ∷ d.chunks; last = d.last; trailers = d.trailers; joins = j ∙ (ap (λ x. chunk_text c ++ x) d.joins ∙ sym (append_assoc (chunk_text c) (joined_chunks d.chunks) tail)); body_is = ap (λ x. c.bytes ++ x) d.body_is; are_chunks = (h, d.are_chunks); is_last = d.is_last; are_trailers = d.are_trailers; few_trailers = d.few_trailers }
+chunk-more bytes c rest stop body (Err kind) j h d =
+    record { chunks = c ∷ d.chunks; rest = d.rest; part = d.part; way = d.way; joins = j ∙ (ap (λ x. chunk_text c ++ x) d.joins ∙ sym (append_assoc (chunk_text c) (joined_chunks d.chunks) d.rest));
+      body_is = ap (λ x. c.bytes ++ x) d.body_is ∙ sym (append_assoc c.bytes (data_of d.chunks) d.part); are_chunks = (h, d.are_chunks); breaks = d.breaks }
+
+abbrev all_shorter : ℕ → Stop → Type 0
+all_shorter fuel stop = (rest : List ℕ) → length rest < fuel → IsDecoded rest stop (decoded fuel stop rest)
+
+closed-is : (fuel : ℕ) (stop : Stop) (bytes text front close : List ℕ) → bytes ≡ text ++ crlf ++ (front ++ close) → IsShortLine text → SizeText text (length front) → 0 < length front → length bytes < suc fuel → all_shorter fuel stop
+    → (r : Result (List ℕ) ErrorKind) → MatchResult r (λ rest. close ≡ crlf ++ rest) (λ kind. CloseFault close stop kind) → IsDecoded bytes stop (closed (decoded fuel stop) front r)
+closed-is fuel stop bytes text front close j s z p lt go (Err kind) h =
+    no-chunks bytes stop front kind (NoClose text close) (j ∙ sym (append_assoc (text ++ crlf) front close), s, z, p, h)
+closed-is fuel stop bytes text front close j s z p lt go (Ok rest) h =
+    let c : Chunk = record { size_line = text; bytes = front } in
+    let joins : bytes ≡ chunk_text c ++ rest = j ∙ (ap (λ x. text ++ crlf ++ (front ++ x)) h ∙ sym (chunk-group c rest)) in
+    let shorter : length rest < fuel = less_rest bytes (chunk_text c) rest fuel joins (chunk-long c) lt in
+    let d = decoded fuel stop rest in
+    chunk-more bytes c rest stop d.body d.ends joins (record { short = s; sized = z; not_last = p }) (go rest shorter)
+
+data-is : (fuel : ℕ) (stop : Stop) (bytes text rest : List ℕ) (n : ℕ) → bytes ≡ text ++ crlf ++ rest → IsShortLine text → SizeText text n → 0 < n → length bytes < suc fuel → all_shorter fuel stop
+    → (t : Bool) → nat_lt (length rest) n ≡ t → IsDecoded bytes stop (data_at (decoded fuel stop) stop n rest t)
+data-is fuel stop bytes text rest n j s z p lt go true e = no-chunks bytes stop rest (fault_of stop) (CutData text n) (j, s, z, ltb-true (length rest) n e, refl)
+data-is fuel stop bytes text rest n j s z p lt go false e =
+    let enough : n ≤ length rest = ltb-false (length rest) n e in
+    let len : length (take n rest) ≡ n = simp length-take (omega arith) in
+    let whole : bytes ≡ text ++ crlf ++ (take n rest ++ drop n rest) = j ∙ ap (λ x. text ++ crlf ++ x) (sym (take-append-drop n rest)) in
+    closed-is fuel stop bytes text (take n rest) (drop n rest) whole s (rw len z) (rw len p) lt go (after_data stop (drop n rest)) (close-is stop (drop n rest))
+
+sized-is : (fuel : ℕ) (stop : Stop) (bytes text rest : List ℕ) → bytes ≡ text ++ crlf ++ rest → IsShortLine text → length bytes < suc fuel → all_shorter fuel stop
+    → (o : Option ℕ) → size_of text ≡ o → IsDecoded bytes stop (sized (decoded fuel stop) stop rest o)
+sized-is fuel stop bytes text rest j s lt go None e =
+    no-chunks bytes stop [] InvalidData (BadSize text rest) (j, s, (λ n z. none-size n (sym (size-one text n z) ∙ e)), refl, refl)
+sized-is fuel stop bytes text rest j s lt go (Some zero) e =
+    let t = trailer-is most_trailers stop rest in
+    let d = trailer_part most_trailers stop rest in
+    after-last bytes text rest stop d.body d.ends j (s, size-is text 0 e) t.0 t.1
+sized-is fuel stop bytes text rest j s lt go (Some (suc m)) e =
+    data-is fuel stop bytes text rest (suc m) j s (size-is text (suc m) e) (omega arith) lt go (nat_lt (length rest) (suc m)) refl
+
+chunk-in-is : (fuel : ℕ) (stop : Stop) (bytes : List ℕ) → length bytes < suc fuel → all_shorter fuel stop → (r : LineRead) → IsLineRead stop bytes r → IsDecoded bytes stop (chunk_in (decoded fuel stop) stop r)
+chunk-in-is fuel stop bytes lt go (Err kind) h = no-chunks bytes stop [] kind NoSizeLine (refl, h)
+chunk-in-is fuel stop bytes lt go (Ok l) h = sized-is fuel stop bytes l.0 l.1 h.0 h.1 lt go (size_of l.0) refl
+
+-- each bytes are such a body or such a front
+pub decoded-is : (fuel : ℕ) (bytes : List ℕ) (stop : Stop) → length bytes < fuel → IsDecoded bytes stop (decoded fuel stop bytes)
+decoded-is zero bytes stop lt = absurd (omega arith)
+decoded-is (suc fuel) bytes stop lt = chunk-in-is fuel stop bytes lt (λ rest less. decoded-is fuel rest stop less) (short_line stop bytes) (short-is stop bytes)
+
+some-body : (bytes : List ℕ) (stop : Stop) (body : List ℕ) (e : Result (List ℕ) ErrorKind) → IsDecoded bytes stop (made body e)
+    → ((body : List ℕ) × (rest : List ℕ) × WholeChunks bytes body rest) ⊎ ((body : List ℕ) × (kind : ErrorKind) × CutChunks bytes stop body kind)
+some-body bytes stop body (Ok rest) h = inl (body, rest, h)
+some-body bytes stop body (Err kind) h = inr (body, kind, h)
+
+pub chunked-some : (bytes : List ℕ) (stop : Stop) → ((body : List ℕ) × (rest : List ℕ) × WholeChunks bytes body rest) ⊎ ((body : List ℕ) × (kind : ErrorKind) × CutChunks bytes stop body kind)
+chunked-some bytes stop =
+    let d = decoded (length bytes + 1) stop bytes in
+    some-body bytes stop d.body d.ends (decoded-is (length bytes + 1) bytes stop (omega arith))
+
+made-same : (a b : List ℕ) (x y : Result (List ℕ) ErrorKind) (d : Decoded) → d ≡ made a x → d ≡ made b y → (a ≡ b) × (x ≡ y)
+made-same a b x y d e f =
+    let body : Decoded → List ℕ = λ v. v.body in
+    let ends : Decoded → Result (List ℕ) ErrorKind = λ v. v.ends in
+    (sym (ap body e) ∙ ap body f, sym (ap ends e) ∙ ap ends f)
+
+ok-same : (x y : List ℕ) → ◌≡◌ {A = Result (List ℕ) ErrorKind} (Ok x) (Ok y) → x ≡ y
+ok-same x y e = cc
+
+err-same : (x y : ErrorKind) → ◌≡◌ {A = Result (List ℕ) ErrorKind} (Err x) (Err y) → x ≡ y
+err-same x y e = cc
+
+ok-err : (x : List ℕ) (y : ErrorKind) → ◌≡◌ {A = Result (List ℕ) ErrorKind} (Ok x) (Err y) → ⊥
+ok-err x y e = cc
+
+pub chunked-one : (bytes body rest other remainder : List ℕ) → WholeChunks bytes body rest → WholeChunks bytes other remainder → (body ≡ other) × (rest ≡ remainder)
+chunked-one bytes body rest other remainder h k =
+    let s = made-same body other (Ok rest) (Ok remainder) (decoded (length bytes + 1) End bytes) (decoded-one bytes body rest End h) (decoded-one bytes other remainder End k) in
+    (s.0, ok-same rest remainder s.1)
+
+pub front-one : (bytes body other : List ℕ) (stop : Stop) (kind sort : ErrorKind) → CutChunks bytes stop body kind → CutChunks bytes stop other sort → (body ≡ other) × (kind ≡ sort)
+front-one bytes body other stop kind sort h k =
+    let s = made-same body other (Err kind) (Err sort) (decoded (length bytes + 1) stop bytes) (decoded-front bytes body stop kind h) (decoded-front bytes other stop sort k) in
+    (s.0, err-same kind sort s.1)
+
+pub chunked-not_both : (bytes body rest other : List ℕ) (stop : Stop) (kind : ErrorKind) → WholeChunks bytes body rest → CutChunks bytes stop other kind → ⊥
+chunked-not_both bytes body rest other stop kind h k =
+    let s = made-same body other (Ok rest) (Err kind) (decoded (length bytes + 1) stop bytes) (decoded-one bytes body rest stop h) (decoded-front bytes other stop kind k) in
+    ok-err rest kind s.1

@@ -1,0 +1,14 @@
+//! Laws of the definitions, each the contract of a function that does nothing.
+ghost use Rattle.std.specs.Prelude.{◌≡◌, ◌⊎◌, ℕ, List};
+ghost use Rattle.std.specs.declared.io.ErrorKind.{ErrorKind};
+ghost use Rattle.tiny_http_wire.specs.declared.device.Stop.{Stop};
+ghost use Rattle.tiny_http_wire.specs.Chunks.{WholeChunks, CutChunks};
+
+/// Each bytes with their stop are a chunked body and a rest, or a cut one: one of the two, in one way (RFC 9112, section 7.1).
+pub fn one_chunked_body()
+    ensures some { (bytes : List ℕ) (stop : Stop) → ((body : List ℕ) × (rest : List ℕ) × WholeChunks bytes body rest) ⊎ ((body : List ℕ) × (kind : ErrorKind) × CutChunks bytes stop body kind) }
+    ensures one_whole { (bytes body rest other remainder : List ℕ) → WholeChunks bytes body rest → WholeChunks bytes other remainder → (body ≡ other) × (rest ≡ remainder) }
+    ensures one_front { (bytes body other : List ℕ) (stop : Stop) (kind sort : ErrorKind) → CutChunks bytes stop body kind → CutChunks bytes stop other sort → (body ≡ other) × (kind ≡ sort) }
+    ensures not_both { (bytes body rest other : List ℕ) (stop : Stop) (kind : ErrorKind) → WholeChunks bytes body rest → CutChunks bytes stop other kind → ⊥ }
+{
+}
