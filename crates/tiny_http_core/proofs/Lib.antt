@@ -1,0 +1,9 @@
+pub mod Windows
+pub mod Inputs
+pub mod Lines
+pub mod LineReads
+pub mod HeadReading
+pub mod HeadServing
+pub mod Words
+pub mod Holding
+pub mod GoingOn

@@ -1,0 +1,196 @@
+//! One head after another.
+ghost use Rattle.std.specs.Prelude.{◌≡◌, Ok, Err, IfOk, OnOk, IsSome};
+ghost use Rattle.tiny_http_core.specs.Source.{GoesOn};
+ghost use Rattle.tiny_http_core.specs.HeadReads.{ReadsText, ReadsStart, ReadsField, ReadsFields, ReadsMessage, ReadsHead, head_fault, refusal, held_length, message_of, head_message, head_framing};
+
+use crate::exchange::{Form, Head, HeadRead, Refusal};
+use crate::framing::{Framing, framing_of, is_built};
+use crate::source::{LineFault, Source};
+use std::alloc::Global;
+use tiny_http_wire::ascii::AsciiString;
+use tiny_http_wire::common::{HTTPVersion, Header, Method};
+use tiny_http_wire::device::ReadDevice;
+use tiny_http_wire::grammar::{parse_header_line, parse_request_line};
+
+/// The method, target, version and headers of a head.
+#[derive(Drop)]
+pub(crate) struct Message {
+    pub method: Method,
+    pub path: AsciiString,
+    pub version: HTTPVersion,
+    pub headers: Vec<Header>,
+}
+
+/// What is wrong with the next line of a head.
+#[derive(Clone, Copy, Debug, PartialEq, Eq)]
+pub(crate) enum HeadFault {
+    Cut,
+    NotAscii,
+    Malformed,
+    Memory,
+}
+
+fn head_fault(fault: LineFault) -> HeadFault
+    ensures { result ≡ head_fault fault }
+{
+    match fault {
+        LineFault::NotAscii => HeadFault::NotAscii,
+        LineFault::Memory => HeadFault::Memory,
+        _ => HeadFault::Cut,
+    }
+}
+
+// The next line.
+fn read_text<R: ReadDevice>(alloc: Global, source: &mut Source<R>) -> Result<AsciiString, HeadFault>
+    ensures reads { ReadsText source.old.feed source.new.feed result }
+    ensures goes_on { GoesOn source.old.feed source.new.feed }
+{
+    match source.read_line(alloc) {
+        Ok(text) => Ok(text),
+        Err(fault) => Err(head_fault(fault)),
+    }
+}
+
+// The request line.
+fn read_start<R: ReadDevice>(
+    alloc: Global,
+    source: &mut Source<R>,
+) -> Result<(Method, AsciiString, HTTPVersion), HeadFault>
+    ensures reads { ReadsStart source.old.feed source.new.feed result }
+    ensures goes_on { GoesOn source.old.feed source.new.feed }
+{
+    let text = read_text(alloc, source)?;
+    match parse_request_line(alloc, text.as_str().as_bytes()) {
+        Ok(Some(start)) => Ok(start),
+        Ok(None) => Err(HeadFault::Malformed),
+        Err(_) => Err(HeadFault::Memory),
+    }
+}
+
+// The next header, or None at the empty line.
+fn read_field<R: ReadDevice>(
+    alloc: Global,
+    source: &mut Source<R>,
+) -> Result<Option<Header>, HeadFault>
+    ensures reads { ReadsField source.old.feed source.new.feed result }
+    ensures goes_on { GoesOn source.old.feed source.new.feed }
+{
+    let text = read_text(alloc, source)?;
+    if text.is_empty() {
+        return Ok(None);
+    }
+    match parse_header_line(alloc, text.as_str().as_bytes()) {
+        Ok(Some(header)) => Ok(Some(header)),
+        Ok(None) => Err(HeadFault::Malformed),
+        Err(_) => Err(HeadFault::Memory),
+    }
+}
+
+// The headers, up to the empty line.
+fn read_fields<R: ReadDevice>(
+    alloc: Global,
+    source: &mut Source<R>,
+) -> Result<Vec<Header>, HeadFault>
+    ensures reads { ReadsFields (λ hs. hs.items) source.old.feed source.new.feed result }
+    ensures goes_on { GoesOn source.old.feed source.new.feed }
+{
+    let mut headers = Vec::new(alloc);
+    loop {
+        match read_field(alloc, source) {
+            Ok(Some(header)) => {
+                if headers.push(header).is_err() {
+                    return Err(HeadFault::Memory);
+                }
+            }
+            Ok(None) => return Ok(headers),
+            Err(fault) => return Err(fault),
+        }
+    }
+}
+
+// A whole head; or its fault, under its version if that was read.
+fn read_message<R: ReadDevice>(
+    alloc: Global,
+    source: &mut Source<R>,
+) -> Result<Message, (Option<HTTPVersion>, HeadFault)>
+    ensures reads { ReadsMessage source.old.feed source.new.feed result }
+    ensures goes_on { GoesOn source.old.feed source.new.feed }
+{
+    let (method, path, version) = match read_start(alloc, source) {
+        Ok(start) => start,
+        Err(fault) => return Err((None, fault)),
+    };
+    match read_fields(alloc, source) {
+        Ok(headers) => Ok(Message {
+            method,
+            path,
+            version,
+            headers,
+        }),
+        Err(fault) => Err((Some(version), fault)),
+    }
+}
+
+// What a faulty head is answered.
+fn refusal(version: Option<HTTPVersion>, fault: HeadFault) -> HeadRead
+    ensures { result ≡ refusal version fault }
+{
+    match fault {
+        HeadFault::Malformed => HeadRead::Refused(Refusal {
+            status: 400,
+            version: version.unwrap_or(HTTPVersion(1, 1)),
+            withheld: false,
+        }),
+        HeadFault::Memory => HeadRead::Memory,
+        HeadFault::Cut | HeadFault::NotAscii => HeadRead::Ended,
+    }
+}
+
+// How many bytes are read with a head.
+fn held_length(framing: Framing) -> usize
+    ensures { result ≡ held_length framing }
+{
+    match framing.form {
+        Form::Held => framing.body_length.unwrap_or(0),
+        _ => 0,
+    }
+}
+
+// The head that a message and its framing make.
+fn head_of(message: Message, framing: Framing) -> Head
+    ensures message { head_message result ≡ message_of message }
+    ensures framing { head_framing result ≡ framing }
+{
+    Head {
+        method: message.method,
+        path: message.path,
+        version: message.version,
+        headers: message.headers,
+        body_length: framing.body_length,
+        form: framing.form,
+        owes_continue: framing.owes_continue,
+        is_last: framing.is_last,
+    }
+}
+
+/// Reads one head, and with it a body of up to 1024 bytes.
+pub(crate) fn read_head<R: ReadDevice>(alloc: Global, source: &mut Source<R>) -> HeadRead
+    ensures reads { ReadsHead source.old.feed source.new.feed result }
+    ensures goes_on { GoesOn source.old.feed source.new.feed }
+{
+    let message = match read_message(alloc, source) {
+        Ok(message) => message,
+        Err((version, fault)) => return refusal(version, fault),
+    };
+    let Some(framing) = framing_of(message.version, message.headers.as_slice()) else {
+        return HeadRead::Ended;
+    };
+    if !is_built(message.version, framing) {
+        return HeadRead::Ended;
+    }
+    match source.take_exactly(alloc, held_length(framing)) {
+        Ok(Some(body)) => HeadRead::Request(head_of(message, framing), body),
+        Ok(None) => HeadRead::Ended,
+        Err(_) => HeadRead::Memory,
+    }
+}

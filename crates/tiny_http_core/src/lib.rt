@@ -1,0 +1,10 @@
+//! One connection of a small HTTP server, without threads.
+#![tactic(auto)]
+
+mod buffer;
+pub mod exchange;
+mod framing;
+mod heads;
+mod input;
+pub mod outlet;
+pub mod source;
