@@ -1,0 +1,145 @@
+-- Whole conversations: which replies and which output a list of steps may have.
+use Rattle.std.specs.Prelude.{◌≡◌, ℕ, ◌+◌, ◌-◌, ◌^◌, ◌<◌, ◌⊎◌, Bool, true, false, ◌||◌, List, [], ◌∷◌, ◌++◌, map, Option, Some, None, is_some, MatchBool, slice_get, if◌then◌else◌}
+use Rattle.std.specs.List.{AllByRecursion}
+use Rattle.std.specs.declared.io.ErrorKind.{ErrorKind}
+use Rattle.httpdate.specs.declared.date.HttpDate.{HttpDate}
+use Rattle.tiny_http_wire.specs.Device.{Feed, Sink, Tells}
+use Rattle.tiny_http_core.specs.Pipeline.{Item, Asks, Refuses, Pipeline}
+use Rattle.tiny_http_core.specs.Slots.{ResponseValue, Slot, is_finished, joined, breaks_off, new_slot, last_slot, reader_is_held, reader_is_lost, is_unanswered, IsGathered, to_request}
+use Rattle.tiny_http_core.specs.Steps.{Asked, Ask, Read, Respond, Replied, NoSuch, Memory, Use, Unused, Unreported, Reported, Outcome, Reached, outcome}
+
+-- the writer's first fault: its kind, and all that the writer took
+pub record Failure : Type 0 where
+  pub kind : ErrorKind
+  pub output : List ℕ
+
+-- where a conversation stands: what is reached, and how the writer failed, if it did
+pub record State : Type 0 where
+  pub reached : Reached
+  pub failure : Option Failure
+
+-- nothing is written any more
+abbrev pub has_output_ended : State → Bool
+has_output_ended old = is_some old.failure || breaks_off old.reached.slots
+
+-- these bytes begin those
+abbrev pub IsFront : List ℕ → List ℕ → Type 0
+IsFront front whole = (rest : List ℕ) × (whole ≡ front ++ rest)
+
+-- how many numbers are finished in front
+abbrev pub finished_front : List Slot → ℕ
+finished_front [] = 0
+finished_front (s ∷ slots) = if is_finished s then finished_front slots + 1 else 0
+
+-- a fault of the response's data is told
+abbrev pub broken_reply : (ErrorKind → Replied) → Replied → Option ErrorKind → Replied
+broken_reply tell reply None = reply
+broken_reply tell reply (Some kind) = tell kind
+
+-- the writer failed, and took a front of this much
+abbrev pub FailsWithin : List ℕ → Option Failure → Type 0
+FailsWithin text failure = (f : Failure) × (failure ≡ Some f) × IsFront f.output text
+
+-- the same, and the fault is told
+abbrev pub FailsTold : (ErrorKind → Replied) → Replied → List ℕ → Option Failure → Type 0
+FailsTold tell reply text failure = (f : Failure) × (failure ≡ Some f) × (reply ≡ tell f.kind) × IsFront f.output text
+
+-- the writer failed behind the step's own text: in a text that was left, or, where the data broke off, in what was held
+abbrev pub FailsBehind : List Slot → List ℕ → Option ErrorKind → List Slot → Option Failure → Type 0
+FailsBehind before own None slots failure =
+    (finished_front before + 1 < finished_front slots)
+    × (f : Failure) × (left : List ℕ) × (part : List ℕ) × (failure ≡ Some f)
+    × (joined slots ≡ joined before ++ (own ++ left)) × IsFront part left × (f.output ≡ joined before ++ (own ++ part))
+FailsBehind before own (Some kind) slots failure = FailsWithin (joined before ++ own) failure
+
+-- The writer's part of a step: its reply, and the writer's failure behind it.
+abbrev pub Writes : Use → State → Replied → List Slot → Replied → Option Failure → Type 0
+Writes Unused old turn slots reply failure = (reply ≡ turn) × (failure ≡ old.failure)
+Writes Unreported old turn slots reply failure =
+    (reply ≡ turn) × MatchBool (has_output_ended old) (failure ≡ old.failure) ((failure ≡ None) ⊎ FailsWithin (joined slots) failure)
+Writes (Reported own broken tell) old turn slots reply failure =
+    MatchBool (has_output_ended old)
+        ((reply ≡ turn) × (failure ≡ old.failure))
+        (((reply ≡ broken_reply tell turn broken) × (failure ≡ None))
+        ⊎ (FailsTold tell reply (joined old.reached.slots ++ own) failure
+        ⊎ ((reply ≡ broken_reply tell turn broken) × FailsBehind old.reached.slots own broken slots failure)))
+
+abbrev pub reached_by : Outcome → Reached
+reached_by o = record { slots = o.slots; rest = o.rest; ended = o.ended }
+
+-- the step has this outcome
+abbrev pub Has : Outcome → State → Replied → State → Type 0
+Has o old reply new = (new.reached ≡ reached_by o) × Writes o.writer old o.reply o.slots reply new.failure
+
+-- the response's data are read whole before its head
+abbrev pub GathersAt : HttpDate → ResponseValue → Option Slot → Type 0
+GathersAt date response None = ⊥
+GathersAt date response (Some s) = GathersFor date response s.item
+  where
+    abbrev pub GathersFor : HttpDate → ResponseValue → Item → Type 0
+    GathersFor date response (Asks r) = IsGathered response.answer (to_request r date)
+    GathersFor date response (Refuses status version withheld) = ⊥
+
+-- where no memory was found, the step had to gather
+abbrev pub MayLack : Bool → HttpDate → Reached → Asked → Type 0
+MayLack true date old step = Unit {0}
+MayLack false date old (Respond k response) = GathersAt date response (slice_get old.slots k)
+MayLack false date old _ = ⊥
+
+-- the item is a head that is refused
+abbrev pub IsRefused : Item → Type 0
+IsRefused (Asks r) = ⊥
+IsRefused (Refuses status version withheld) = Unit {0}
+
+-- want of memory: before a read, which changes nothing; or at a head, which ends the asking
+abbrev pub FindsNoMemory : HttpDate → State → Asked → Replied → State → Type 0
+FindsNoMemory date old (Read k n) reply new = ((outcome true date old.reached (Read k n)).reply ≡ NoSuch → ⊥) × (reply ≡ Memory) × (new ≡ old)
+FindsNoMemory date old Ask reply new =
+    (old.reached.ended ≡ false) × (is_unanswered (last_slot old.reached.slots) ≡ false) × (reader_is_held (last_slot old.reached.slots) ≡ false)
+    × (reader_is_lost (last_slot old.reached.slots) ≡ false)
+    × (refused : List Item) × (rest : List Item) × (old.reached.rest ≡ refused ++ rest) × AllByRecursion IsRefused refused
+    × (let slots = old.reached.slots ++ map (new_slot date) refused in
+        Has (record { reply = Memory; slots = slots; rest = rest; ended = true; writer = Unreported }) old reply new)
+FindsNoMemory date old _ reply new = ⊥
+
+-- One step on a date may be answered so and leave this.
+abbrev pub StepsTo : State → HttpDate → Asked → Replied → State → Type 0
+StepsTo old date step reply new =
+    ((found : Bool) × MayLack found date old.reached step × Has (outcome found date old.reached step) old reply new)
+    ⊎ FindsNoMemory date old step reply new
+
+-- a step on a date
+abbrev pub Dated : Type 0
+Dated = HttpDate × Asked
+
+-- the steps may have these replies, one after another
+abbrev pub Run : State → List Dated → List Replied → State → Type 0
+Run old [] [] new = new ≡ old
+Run old (s ∷ steps) (r ∷ replies) new = (mid : State) × StepsTo old s.0 s.1 r mid × Run mid steps replies new
+Run old [] (r ∷ replies) new = ⊥
+Run old (s ∷ steps) [] new = ⊥
+
+-- nothing is reached of a pipeline
+abbrev pub start : List Item → State
+start items = record { reached = record { slots = []; rest = items; ended = false }; failure = None }
+
+-- The output: what the writer took and what is held are the joined segments, and it did not fail. Or it failed once: it
+-- tells that kind and those bytes, and nothing is held.
+abbrev pub IsOutput : List Slot → Option Failure → Sink → Sink → List ℕ → Type 0
+IsOutput slots None before after held = (after.failures ≡ before.failures) × (sent : List ℕ) × (after.taken ≡ Some sent) × (sent ++ held ≡ joined slots)
+IsOutput slots (Some f) before after held =
+    (after.failures ≡ before.failures + 1) × Tells after.last_kind f.kind × (after.taken ≡ Some f.output) × (held ≡ [])
+
+-- THE CONNECTION THEOREM: replies and output are those of a run over the pipeline that stands in the feed.
+pub record IsConversation (feed : Feed) (before : Sink) (steps : List Dated) (replies : List Replied) (after : Sink) (held : List ℕ) : Type 0 where
+  pub items : List Item
+  pub end : State
+  pub pipeline : Pipeline (Some feed.bytes) feed.stop items
+  pub run : Run (start items) steps replies end
+  pub output : IsOutput end.reached.slots end.failure before after held
+
+-- the writer as a run takes it: it tells that it took no bytes, it has not ended, and its count can rise
+pub record IsFresh (sink : Sink) : Type 0 where
+  pub no_bytes : sink.taken ≡ Some []
+  pub goes_on : sink.has_ended ≡ false
+  pub can_count : sink.failures < 2 ^ 64 - 1

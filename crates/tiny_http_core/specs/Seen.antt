@@ -1,0 +1,37 @@
+-- The program's steps and replies as the definitions see them.
+use Rattle.std.specs.Prelude.{◌≡◌, ◌<◌, ◌^◌, length, Option, None, Some, option_map, ⊥}
+use Rattle.tiny_http_wire.specs.Device.{Feed}
+use Rattle.tiny_http_wire.specs.Answer.{Reply as Response}
+use Rattle.tiny_http_core.specs.declared.driver.Step.{Step}
+use Rattle.tiny_http_core.specs.declared.driver.Step.TheVariants as step
+use Rattle.tiny_http_core.specs.declared.driver.Timed.{Timed}
+use Rattle.tiny_http_core.specs.declared.driver.Reply.{Reply}
+use Rattle.tiny_http_core.specs.declared.driver.Reply.TheVariants as reply
+use Rattle.tiny_http_core.specs.HeadReads.{head_message, head_framing}
+use Rattle.tiny_http_core.specs.Slots.{ResponseValue}
+use Rattle.tiny_http_core.specs.Steps.{Asked, Ask, Respond, Replied, Handed, Ended, Fault, NotYet, Done, NoSuch, Memory}
+use Rattle.tiny_http_core.specs.Conversation.{Dated}
+
+-- the response tells its data, of fewer than 2^63 bytes
+abbrev pub IsResponse : {D : Type 0} → (D → Option Feed) → Response D → ResponseValue → Type 0
+IsResponse feed r value = (value.answer ≡ r.answer) × (feed r.data_reader ≡ Some value.content) × (length value.content.bytes < 2 ^ 63)
+
+-- the step is this one
+abbrev pub IsStep : {D : Type 0} → (D → Option Feed) → Step D → Asked → Type 0
+IsStep feed step.Ask Ask = Unit {0}
+IsStep feed (step.Respond k r) (Respond n value) = (n ≡ k) × IsResponse feed r value
+IsStep feed _ _ = ⊥
+
+-- the step on its date is this one
+abbrev pub IsTold : {D : Type 0} → (D → Option Feed) → Timed D → Dated → Type 0
+IsTold feed t d = (d.0 ≡ t.now) × IsStep feed t.step d.1
+
+-- the reply as it is seen
+abbrev pub seen : Reply → Replied
+seen (reply.Handed k h) = Handed k (head_message h) (head_framing h)
+seen reply.Ended = Ended
+seen (reply.Fault kind) = Fault kind
+seen reply.NotYet = NotYet
+seen reply.Done = Done
+seen reply.NoSuch = NoSuch
+seen reply.Memory = Memory

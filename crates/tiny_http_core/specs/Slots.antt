@@ -1,0 +1,201 @@
+-- The numbers of a connection: what stands under each, and what each sends.
+use Rattle.std.specs.Prelude.{◌≡◌, ℕ, Bool, true, false, not, ◌&&◌, ◌||◌, ◌==◌, List, [], ◌∷◌, ◌++◌, length, take, drop, Option, Some, None, codes, if◌then◌else◌}
+use Rattle.std.specs.List.{list_all, last_or}
+use Rattle.std.specs.declared.io.ErrorKind.TheVariants.{OutOfMemory}
+use Rattle.httpdate.specs.declared.date.HttpDate.{HttpDate}
+use Rattle.tiny_http_wire.specs.declared.common.HTTPVersion.{HTTPVersion}
+use Rattle.tiny_http_wire.specs.declared.common.Header.{Header}
+use Rattle.tiny_http_wire.specs.declared.coding.Coding.TheVariants as coding
+use Rattle.tiny_http_wire.specs.Device.{Feed, ending}
+use Rattle.tiny_http_wire.specs.Answer.{Answer, Text, Ending, Whole, Broken, Printing, text_of, coding_for, behind, whole, nothing}
+use Rattle.tiny_http_core.specs.declared.exchange.Form.{Form}
+use Rattle.tiny_http_core.specs.declared.exchange.Form.TheVariants.{Rest, Nothing, Held, Counted, Chunked}
+use Rattle.tiny_http_core.specs.Pipeline.{Item, Asks, Refuses, Request, is_head_method, said_length}
+
+-- a response: the answer, and what its data give
+pub record ResponseValue : Type 0 where
+  pub answer : Answer
+  pub content : Feed
+
+-- what became of a number
+pub data Stage : Type 0 where
+  -- it waits for its answer
+  Waits : Stage
+  -- it was answered by this response on this date; `found`: the memory for data that are read whole first was found
+  Answered : (response : ResponseValue) (date : HttpDate) (found : Bool) → Stage
+  -- the server answered itself: a refused head, or a request that was dropped
+  ByServer : Stage
+  -- its raw writer wrote these bytes, and has ended or not
+  Raw : (written : List ℕ) (closed : Bool) → Stage
+  -- it was upgraded by this response on this date; then these bytes were written, and the stream has ended or not
+  Upgraded : (protocol : List ℕ) (response : ResponseValue) (date : HttpDate) (written : List ℕ) (closed : Bool) → Stage
+
+-- A number that was reached: its item, the date of its Ask, the date of its 100 if that was sent, whether a 100 is still
+-- owed, how many bytes of its body were given out, whether the body's end or fault was told, whether the body was given
+-- up, and what became of it.
+pub record Slot : Type 0 where
+  pub item : Item
+  pub date : HttpDate
+  pub continued : Option HttpDate
+  pub owed : Bool
+  pub given : ℕ
+  pub told : Bool
+  pub given_up : Bool
+  pub stage : Stage
+
+-- an answer of the server's own: an empty one, or a text
+abbrev pub own_response : ℕ → List Header → List ℕ → ResponseValue
+own_response status headers text =
+    record { answer = record { status = status; headers = headers; length = Some (length text); threshold = 32768 }; content = ending text }
+
+abbrev pub too_new_text : List ℕ
+too_new_text = codes "This server only supports HTTP versions 1.0 and 1.1"
+
+abbrev pub text_type : List Header
+text_type = record { field = codes "Content-Type"; value = codes "text/plain; charset=UTF-8" } ∷ []
+
+-- what a refused head is answered: a text for a version that is too new, else nothing but the status
+abbrev pub refusal_response : ℕ → ResponseValue
+refusal_response status = if status == 505 then own_response 505 text_type too_new_text else own_response status [] []
+
+-- what a dropped request is answered
+abbrev pub drop_response : ResponseValue
+drop_response = own_response 500 [] []
+
+-- the 100 of a request that expects it
+abbrev pub continue_response : ResponseValue
+continue_response = own_response 100 [] []
+
+-- an answer to a request: in its version, by its headers, without a body for HEAD
+abbrev pub to_request : Request → HttpDate → Printing
+to_request r date = record { version = r.message.version; request_headers = r.message.headers; no_body = is_head_method r.message.method; upgrade = None; date = date }
+
+-- how an answer under an item is printed
+abbrev pub printing_for : Item → HttpDate → Printing
+printing_for (Asks r) date = to_request r date
+printing_for (Refuses status version withheld) date = record { version = version; request_headers = []; no_body = withheld; upgrade = None; date = date }
+
+abbrev pub own_answer : Item → ResponseValue
+own_answer (Asks r) = drop_response
+own_answer (Refuses status version withheld) = refusal_response status
+
+abbrev pub response_text : ResponseValue → Printing → Text
+response_text r p = text_of r.answer r.content p
+
+-- the text of a response; no byte where its data had to be read whole first and no memory was found
+abbrev pub text_if : Bool → ResponseValue → Printing → Text
+text_if true r p = response_text r p
+text_if false r p = nothing OutOfMemory
+
+-- the data of this answer are read whole before its head
+abbrev pub IsGathered : Answer → Printing → Type 0
+IsGathered a p = (p.upgrade ≡ None) × (coding_for a p ≡ coding.Identity) × (a.length ≡ None)
+
+-- what a stage sends
+abbrev pub stage_text : Item → HttpDate → Stage → Text
+stage_text item date Waits = whole []
+stage_text item date (Answered response at found) = text_if found response (printing_for item at)
+stage_text item date ByServer = response_text (own_answer item) (printing_for item date)
+stage_text item date (Raw written closed) = whole written
+stage_text item date (Upgraded protocol response at written closed) =
+    whole ((response_text response (record (printing_for item at) { upgrade = Some protocol })).bytes ++ written)
+
+-- the 100 in front, if it was sent
+abbrev pub opening : Item → Option HttpDate → List ℕ
+opening item None = []
+opening item (Some date) = (response_text continue_response (printing_for item date)).bytes
+
+-- THE SEGMENT: the part of the output that belongs to a number, and how it ends
+abbrev pub slot_text : Slot → Text
+slot_text s = behind (opening s.item s.continued) (stage_text s.item s.date s.stage)
+
+abbrev pub segment : Slot → List ℕ
+segment s = (slot_text s).bytes
+
+abbrev pub is_broken : Ending → Bool
+is_broken Whole = false
+is_broken (Broken kind) = true
+
+abbrev pub is_slot_broken : Slot → Bool
+is_slot_broken s = is_broken (slot_text s).ending
+
+-- the number is finished
+abbrev pub is_over : Stage → Bool
+is_over Waits = false
+is_over (Answered response date found) = true
+is_over ByServer = true
+is_over (Raw written closed) = closed
+is_over (Upgraded protocol response date written closed) = closed
+
+abbrev pub is_finished : Slot → Bool
+is_finished s = is_over s.stage
+
+-- the number's turn has come when all before it are finished
+abbrev pub turn_has_come : ℕ → List Slot → Bool
+turn_has_come k slots = list_all is_finished (take k slots)
+
+-- THE JOINED OUTPUT: the segments in the order of their numbers, as far as turns have come, ending after the first broken one
+abbrev pub joined : List Slot → List ℕ
+joined [] = []
+joined (s ∷ slots) = segment s ++ (if (is_finished s && not (is_slot_broken s)) then joined slots else [])
+
+-- a broken segment has ended the output
+abbrev pub breaks_off : List Slot → Bool
+breaks_off [] = false
+breaks_off (s ∷ slots) = is_slot_broken s || (is_finished s && breaks_off slots)
+
+-- the slot of an item that is reached
+abbrev pub new_slot : HttpDate → Item → Slot
+new_slot date (Asks r) =
+    record { item = Asks r; date = date; continued = None; owed = r.framing.owes_continue; given = 0; told = false; given_up = false; stage = Waits }
+new_slot date (Refuses status version withheld) =
+    record { item = Refuses status version withheld; date = date; continued = None; owed = false; given = 0; told = false; given_up = true; stage = ByServer }
+
+-- the bytes that the body's reader still has
+abbrev pub body_left : Slot → Request → List ℕ
+body_left s r = drop s.given r.body.bytes
+
+-- the body is finished: it is nothing or held, or all its bytes were given out, or its end or fault was told
+abbrev pub is_body_finished : Form → ℕ → Slot → Bool
+is_body_finished Nothing n s = true
+is_body_finished Held n s = true
+is_body_finished Counted n s = s.given == n || s.told
+is_body_finished Chunked n s = s.told
+is_body_finished Rest n s = s.told
+
+-- forms whose body is read from the stream, up to where the next head begins
+abbrev pub is_streamed : Form → Bool
+is_streamed Counted = true
+is_streamed Chunked = true
+is_streamed _ = false
+
+-- the body holds the reader: the next head can't be read yet
+abbrev pub body_holds_reader : Slot → Item → Bool
+body_holds_reader s (Asks r) =
+    not r.framing.is_last && (is_streamed r.framing.form && not (is_body_finished r.framing.form (said_length r.framing) s || s.given_up))
+body_holds_reader s (Refuses status version withheld) = false
+
+abbrev pub is_chunked : Form → Bool
+is_chunked Chunked = true
+is_chunked _ = false
+
+-- a chunked body was given up before its end was told: where the next head begins isn't known
+abbrev pub body_was_abandoned : Slot → Item → Bool
+body_was_abandoned s (Asks r) = is_chunked r.framing.form && (s.given_up && not s.told)
+body_was_abandoned s (Refuses status version withheld) = false
+
+abbrev pub last_slot : List Slot → Option Slot
+last_slot slots = last_or None slots
+
+abbrev pub reader_is_held : Option Slot → Bool
+reader_is_held None = false
+reader_is_held (Some s) = body_holds_reader s s.item
+
+abbrev pub reader_is_lost : Option Slot → Bool
+reader_is_lost None = false
+reader_is_lost (Some s) = body_was_abandoned s s.item
+
+-- THE INTERIM GUARD on pipelining: an Ask waits for the answer to the request before it.
+abbrev pub is_unanswered : Option Slot → Bool
+is_unanswered None = false
+is_unanswered (Some s) = not (is_finished s)

@@ -1,0 +1,208 @@
+-- The steps of a connection, and what each answers and changes.
+use Rattle.std.specs.Prelude.{ℕ, ◌+◌, Bool, true, false, not, ◌&&◌, ◌||◌, ◌==◌, nat_lt, List, [], ◌∷◌, ◌++◌, length, take, Option, Some, None, if◌then◌else◌, slice_get, slice_set}
+use Rattle.std.specs.List.{list_all}
+use Rattle.std.specs.declared.io.ErrorKind.{ErrorKind}
+use Rattle.std.specs.declared.io.ErrorKind.TheVariants.{BrokenPipe, ConnectionAborted, ConnectionRefused, ConnectionReset}
+use Rattle.httpdate.specs.declared.date.HttpDate.{HttpDate}
+use Rattle.tiny_http_wire.specs.declared.device.Stop.{Stop}
+use Rattle.tiny_http_wire.specs.declared.device.Stop.TheVariants.{End, Fault as Faults}
+use Rattle.tiny_http_wire.specs.Bytes.{is_ascii}
+use Rattle.tiny_http_wire.specs.Heads.{Message}
+use Rattle.tiny_http_wire.specs.Answer.{Ending, Whole, Broken}
+use Rattle.tiny_http_core.specs.declared.framing.Framing.{Framing}
+use Rattle.tiny_http_core.specs.Pipeline.{Item, Asks, Refuses, Request}
+use Rattle.tiny_http_core.specs.Slots.{ResponseValue, Slot, Stage, Waits, Answered, ByServer, Raw, Upgraded, turn_has_come, to_request, text_if, new_slot, body_left, last_slot, reader_is_held, reader_is_lost, is_unanswered}
+
+-- a step, with its response as a value
+pub data Asked : Type 0 where
+  Ask : Asked
+  AsReader : (k : ℕ) → Asked
+  Read : (k n : ℕ) → Asked
+  Respond : (k : ℕ) (response : ResponseValue) → Asked
+  IntoWriter : (k : ℕ) → Asked
+  Write : (k : ℕ) (bytes : List ℕ) → Asked
+  Flush : (k : ℕ) → Asked
+  Upgrade : (k : ℕ) (protocol : List ℕ) (response : ResponseValue) → Asked
+  Finish : (k : ℕ) → Asked
+  Drop : (k : ℕ) → Asked
+
+-- what a step is answered
+pub data Replied : Type 0 where
+  Handed : (k : ℕ) (message : Message) (framing : Framing) → Replied
+  Ended : Replied
+  Given : (bytes : List ℕ) → Replied
+  Fault : (kind : ErrorKind) → Replied
+  NotYet : Replied
+  Done : Replied
+  Refused : Replied
+  NoSuch : Replied
+  Memory : Replied
+
+-- a client that has closed the connection is no fault of an answer
+abbrev pub is_closed_client : ErrorKind → Bool
+is_closed_client BrokenPipe = true
+is_closed_client ConnectionAborted = true
+is_closed_client ConnectionRefused = true
+is_closed_client ConnectionReset = true
+is_closed_client _ = false
+
+abbrev pub fault_of_answer : ErrorKind → Replied
+fault_of_answer kind = if is_closed_client kind then Done else Fault kind
+
+-- How a step uses the writer: not at all; or its faults are told by no reply; or the first fault that is met while the
+-- step's own text is written is told, else the fault of its response's data, if any.
+pub data Use : Type 0 where
+  Unused : Use
+  Unreported : Use
+  Reported : (own : List ℕ) (broken : Option ErrorKind) (tell : ErrorKind → Replied) → Use
+
+-- What a step answers and leaves, so far as the writer has no say in it.
+pub record Outcome : Type 0 where
+  pub reply : Replied
+  pub slots : List Slot
+  pub rest : List Item
+  pub ended : Bool
+  pub writer : Use
+
+-- What is reached of a pipeline, what isn't yet, and whether the asking has ended.
+pub record Reached : Type 0 where
+  pub slots : List Slot
+  pub rest : List Item
+  pub ended : Bool
+
+abbrev pub unchanged : Reached → Replied → Outcome
+unchanged old reply = record { reply = reply; slots = old.slots; rest = old.rest; ended = old.ended; writer = Unused }
+
+-- the step changes one slot
+abbrev pub changes : Reached → ℕ → Slot → Replied → Use → Outcome
+changes old k s reply writer = record { reply = reply; slots = slice_set old.slots k s; rest = old.rest; ended = old.ended; writer = writer }
+
+-- an Ask goes to the next request, past the refused heads before it
+abbrev pub asks_from : HttpDate → Use → List Slot → List Item → Outcome
+asks_from date writer slots [] = record { reply = Ended; slots = slots; rest = []; ended = true; writer = writer }
+asks_from date writer slots (Asks r ∷ items) =
+    record { reply = Handed (length slots) r.message r.framing; slots = slots ++ new_slot date (Asks r) ∷ []; rest = items; ended = false; writer = writer }
+asks_from date writer slots (Refuses status version withheld ∷ items) =
+    asks_from date Unreported (slots ++ new_slot date (Refuses status version withheld) ∷ []) items
+
+-- The answer to an Ask: Ended once it was; NotYet while the last body handed out holds the reader; Ended behind a chunked
+-- body that was given up before its end; else the next request of the pipeline, or its end.
+abbrev pub ask : HttpDate → Reached → Outcome
+ask date old =
+    if old.ended then unchanged old Ended else
+    if is_unanswered (last_slot old.slots) then unchanged old NotYet else
+    if reader_is_held (last_slot old.slots) then unchanged old NotYet else
+    if reader_is_lost (last_slot old.slots) then record { reply = Ended; slots = old.slots; rest = old.rest; ended = true; writer = Unused } else
+    asks_from date Unused old.slots old.rest
+
+-- the bytes that a read gives, or how the body closes
+abbrev pub close_reply : Stop → Replied
+close_reply End = Given []
+close_reply (Faults kind) = Fault kind
+
+abbrev pub read_reply : ℕ → List ℕ → Stop → Replied
+read_reply n [] close = close_reply close
+read_reply n (b ∷ left) close = Given (take n (b ∷ left))
+
+-- the number ends so, and its body is given up
+abbrev pub finished : Slot → Stage → Slot
+finished s stage = record s { stage = stage; given_up = true; owed = false }
+
+-- more bytes were written, or the stream ends
+abbrev pub written_to : List ℕ → Stage → Stage
+written_to bytes (Raw written closed) = Raw (written ++ bytes) closed
+written_to bytes (Upgraded protocol response date written closed) = Upgraded protocol response date (written ++ bytes) closed
+written_to bytes stage = stage
+
+abbrev pub closed : Stage → Stage
+closed (Raw written _) = Raw written true
+closed (Upgraded protocol response date written _) = Upgraded protocol response date written true
+closed stage = stage
+
+abbrev pub fault_in : Ending → Option ErrorKind
+fault_in Whole = None
+fault_in (Broken kind) = Some kind
+
+-- whether a number takes a step
+abbrev pub takes : Stage → Bool → Asked → Bool
+takes Waits owed (AsReader k) = true
+takes Waits owed (Read k n) = not owed
+takes Waits owed (Respond k response) = true
+takes Waits owed (IntoWriter k) = true
+takes Waits owed (Upgrade k protocol response) = true
+takes Waits owed (Drop k) = true
+takes Waits owed _ = false
+takes (Raw written ends) owed (Write k bytes) = not ends
+takes (Raw written ends) owed (Flush k) = not ends
+takes (Raw written ends) owed (Finish k) = not ends
+takes (Raw written ends) owed _ = false
+takes (Upgraded protocol response date written ends) owed (Write k bytes) = not ends
+takes (Upgraded protocol response date written ends) owed (Flush k) = not ends
+takes (Upgraded protocol response date written ends) owed (Finish k) = not ends
+takes (Upgraded protocol response date written ends) owed (Read k n) = not ends
+takes (Upgraded protocol response date written ends) owed _ = false
+takes (Answered response date found) owed _ = false
+takes ByServer owed _ = false
+
+-- whether a step waits for its number's turn
+abbrev pub waits : Bool → Asked → Bool
+waits owed (AsReader k) = owed
+waits owed (Respond k response) = true
+waits owed (Write k bytes) = true
+waits owed (Flush k) = true
+waits owed (Upgrade k protocol response) = list_all is_ascii protocol
+waits owed _ = false
+
+abbrev pub in_turn : Bool → Use
+in_turn true = Unreported
+in_turn false = Unused
+
+-- a step that the number of a request takes, in its time
+abbrev pub effect : Bool → HttpDate → Reached → Request → Slot → Bool → Asked → Outcome
+effect found date old r s turn (AsReader k) =
+    if s.owed then changes old k (record s { owed = false; continued = Some date }) Done Unreported else unchanged old Done
+effect found date old r s turn (Read k n) =
+    if n == 0 then unchanged old (Given [])
+    else changes old k (record s { given = s.given + length (take n (body_left s r)); told = s.told || nat_lt (length (body_left s r)) n })
+        (read_reply n (body_left s r) r.body.stop) Unused
+effect found date old r s turn (Respond k response) =
+    let text = text_if found response (to_request r date) in
+    changes old k (finished s (Answered response date found)) Done (Reported text.bytes (fault_in text.ending) fault_of_answer)
+effect found date old r s turn (IntoWriter k) = changes old k (record s { stage = Raw [] false; given_up = true; owed = false }) Done Unused
+effect found date old r s turn (Write k bytes) = changes old k (record s { stage = written_to bytes s.stage }) Done (Reported bytes None Fault)
+effect found date old r s turn (Flush k) = changes old k s Done (Reported [] None Fault)
+effect found date old r s turn (Upgrade k protocol response) =
+    if list_all is_ascii protocol
+    then changes old k (record s { stage = Upgraded protocol response date [] false; owed = false }) Done Unreported
+    else changes old k (finished s ByServer) Refused (in_turn turn)
+effect found date old r s turn (Finish k) = changes old k (finished s (closed s.stage)) Done (in_turn turn)
+effect found date old r s turn (Drop k) = changes old k (finished s ByServer) Done (in_turn turn)
+effect found date old r s turn Ask = unchanged old NoSuch
+
+abbrev pub at_item : Bool → HttpDate → Reached → ℕ → Asked → Slot → Item → Outcome
+at_item found date old k step s (Refuses status version withheld) = unchanged old NoSuch
+at_item found date old k step s (Asks r) =
+    if not (takes s.stage s.owed step) then unchanged old NoSuch else
+    if (waits s.owed step && not (turn_has_come k old.slots)) then unchanged old NotYet else
+    effect found date old r s (turn_has_come k old.slots) step
+
+abbrev pub at_slot : Bool → HttpDate → Reached → ℕ → Asked → Option Slot → Outcome
+at_slot found date old k step None = unchanged old NoSuch
+at_slot found date old k step (Some s) = at_item found date old k step s s.item
+
+-- a step of a number
+abbrev pub at_number : Bool → HttpDate → Reached → ℕ → Asked → Outcome
+at_number found date old k step = at_slot found date old k step (slice_get old.slots k)
+
+-- what a step answers and leaves
+abbrev pub outcome : Bool → HttpDate → Reached → Asked → Outcome
+outcome found date old Ask = ask date old
+outcome found date old (AsReader k) = at_number found date old k (AsReader k)
+outcome found date old (Read k n) = at_number found date old k (Read k n)
+outcome found date old (Respond k response) = at_number found date old k (Respond k response)
+outcome found date old (IntoWriter k) = at_number found date old k (IntoWriter k)
+outcome found date old (Write k bytes) = at_number found date old k (Write k bytes)
+outcome found date old (Flush k) = at_number found date old k (Flush k)
+outcome found date old (Upgrade k protocol response) = at_number found date old k (Upgrade k protocol response)
+outcome found date old (Finish k) = at_number found date old k (Finish k)
+outcome found date old (Drop k) = at_number found date old k (Drop k)

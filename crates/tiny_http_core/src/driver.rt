@@ -1,0 +1,253 @@
+//! A connection driven by a list of steps, without threads.
+ghost use Rattle.std.specs.Prelude.{◌≡◌, List, Some, map, Ok, IfOk, IfErr};
+ghost use Rattle.std.specs.List.{AllZip};
+ghost use Rattle.tiny_http_wire.specs.Device.{Feed, Sink};
+ghost use Rattle.tiny_http_core.specs.Slots.{ResponseValue};
+ghost use Rattle.tiny_http_core.specs.Conversation.{State, StepsTo, IsConversation, IsFresh, Dated};
+ghost use Rattle.tiny_http_core.specs.Steps.{Asked, Ask, Respond};
+
+use crate::exchange::{Head, HeadRead, Refusal};
+use crate::heads::read_head;
+use crate::outlet::Outlet;
+use crate::source::Source;
+use httpdate::HttpDate;
+use std::alloc::Global;
+use std::io;
+use std::io::ErrorKind;
+use tiny_http_wire::common::{HTTPVersion, Method, StatusCode};
+use tiny_http_wire::device::{ReadDevice, WriteDevice};
+use tiny_http_wire::response::Response;
+
+/// What is done next on a connection.
+#[derive(Drop)]
+pub enum Step<D> {
+    /// Reads the next head and hands it out.
+    Ask,
+    /// Answers the request of this number.
+    Respond(u64, Response<D>),
+}
+
+/// A step, and the date of what it sends.
+#[derive(Drop)]
+pub struct Timed<D> {
+    pub now: HttpDate,
+    pub step: Step<D>,
+}
+
+/// What a step is answered.
+#[derive(Drop)]
+pub enum Reply {
+    /// The request of this number.
+    Handed(u64, Head),
+    /// The connection has no further request.
+    Ended,
+    /// The writer or the response's data failed so.
+    Fault(ErrorKind),
+    /// The step has to wait; nothing has changed.
+    NotYet,
+    Done,
+    /// No request of this number takes the step; nothing has changed.
+    NoSuch,
+    /// No memory was found; every later `Ask` is answered `Ended`.
+    Memory,
+}
+
+/// What a run leaves: one reply a step, and reader and writer within their buffers.
+#[derive(Drop)]
+pub struct Record<R: ReadDevice, W: WriteDevice> {
+    pub replies: Vec<Reply>,
+    pub source: Source<R>,
+    pub outlet: Outlet<W>,
+}
+
+/// Room for the replies was refused: nothing was read or written.
+#[derive(Drop)]
+pub struct RunError<R, W> {
+    pub reader: R,
+    pub writer: W,
+}
+
+/// What is kept of a request until it is answered.
+#[derive(Clone, Copy, Debug, PartialEq, Eq)]
+pub(crate) struct Open {
+    pub version: HTTPVersion,
+    pub is_head: bool,
+}
+
+/// A connection: its input and output, how many numbers were given out, the request that isn't answered yet, whether
+/// the last head was read, and whether the asking has ended.
+#[derive(Drop)]
+pub(crate) struct Connection<R: ReadDevice, W: WriteDevice> {
+    source: Source<R>,
+    outlet: Outlet<W>,
+    numbers: u64,
+    open: Option<Open>,
+    over: bool,
+    ended: bool,
+}
+
+fn is_head(method: &Method) -> bool {
+    matches!(method, Method::Head)
+}
+
+// The kinds of fault of a client that has closed the connection: an answer to it is no failure.
+fn is_closed_client(kind: ErrorKind) -> bool {
+    matches!(
+        kind,
+        ErrorKind::BrokenPipe
+            | ErrorKind::ConnectionAborted
+            | ErrorKind::ConnectionRefused
+            | ErrorKind::ConnectionReset
+    )
+}
+
+// How a fault of an answer is told.
+fn fault_of_answer(kind: ErrorKind) -> Reply {
+    if is_closed_client(kind) {
+        Reply::Done
+    } else {
+        Reply::Fault(kind)
+    }
+}
+
+impl<R: ReadDevice, W: WriteDevice> Connection<R, W> {
+    fn new(reader: R, writer: W) -> Connection<R, W> {
+        Connection {
+            source: Source::new(reader),
+            outlet: Outlet::new(writer),
+            numbers: 0,
+            open: None,
+            over: false,
+            ended: false,
+        }
+    }
+
+    // Goes to the next request.
+    fn ask(&mut self, alloc: Global, now: HttpDate) -> Reply {
+        if self.ended {
+            return Reply::Ended;
+        }
+        if self.open.is_some() {
+            return Reply::NotYet;
+        }
+        if self.over {
+            self.ended = true;
+            return Reply::Ended;
+        }
+        let Some(numbers) = self.numbers.checked_add(1) else {
+            self.ended = true;
+            return Reply::Memory;
+        };
+        match read_head(alloc, &mut self.source) {
+            HeadRead::Request(head, _body) => {
+                let number = self.numbers;
+                self.numbers = numbers;
+                self.open = Some(Open {
+                    version: head.version,
+                    is_head: is_head(&head.method),
+                });
+                self.over = head.is_last;
+                Reply::Handed(number, head)
+            }
+            HeadRead::Refused(refusal) => {
+                self.numbers = numbers;
+                self.ended = true;
+                self.refuse(alloc, refusal, now);
+                Reply::Ended
+            }
+            HeadRead::Ended => {
+                self.ended = true;
+                Reply::Ended
+            }
+            HeadRead::Memory => {
+                self.ended = true;
+                Reply::Memory
+            }
+        }
+    }
+
+    // Answers a refused head. No reply tells a fault that is met there.
+    fn refuse(&mut self, alloc: Global, refusal: Refusal, now: HttpDate) {
+        if self.outlet.is_ended() {
+            return;
+        }
+        let answer = Response::new_empty(alloc, StatusCode(refusal.status));
+        let _ = self.print(alloc, answer, refusal.version, refusal.withheld, now);
+    }
+
+    // Prints an answer and flushes it. Behind a fault nothing more is sent on the connection.
+    fn print<D: ReadDevice + Drop>(
+        &mut self,
+        alloc: Global,
+        response: Response<D>,
+        version: HTTPVersion,
+        no_body: bool,
+        now: HttpDate,
+    ) -> Result<(), io::Error> {
+        let failures = self.outlet.failures();
+        match response.raw_print(alloc, &mut self.outlet, version, &[], no_body, None, now) {
+            Ok(()) => self.outlet.flush(),
+            Err(fault) => {
+                if self.outlet.failures() == failures {
+                    let _ = self.outlet.end();
+                } else {
+                    self.outlet.abandon();
+                }
+                Err(fault)
+            }
+        }
+    }
+
+    // Answers the request of this number.
+    fn respond<D: ReadDevice + Drop>(
+        &mut self,
+        alloc: Global,
+        now: HttpDate,
+        number: u64,
+        response: Response<D>,
+    ) -> Reply {
+        let Some(open) = self.open else {
+            return Reply::NoSuch;
+        };
+        if number.checked_add(1) != Some(self.numbers) {
+            return Reply::NoSuch;
+        }
+        self.open = None;
+        if self.outlet.is_ended() {
+            return Reply::Done;
+        }
+        match self.print(alloc, response, open.version, open.is_head, now) {
+            Ok(()) => Reply::Done,
+            Err(fault) => fault_of_answer(fault.kind()),
+        }
+    }
+
+    fn step<D: ReadDevice + Drop>(&mut self, alloc: Global, timed: Timed<D>) -> Reply {
+        match timed.step {
+            Step::Ask => self.ask(alloc, timed.now),
+            Step::Respond(number, response) => self.respond(alloc, timed.now, number, response),
+        }
+    }
+}
+
+/// Runs the steps over a connection, one reply a step.
+pub fn run<R: ReadDevice + Drop, W: WriteDevice + Drop, D: ReadDevice + Drop>(
+    alloc: Global,
+    reader: R,
+    writer: W,
+    steps: Vec<Timed<D>>,
+) -> Result<Record<R, W>, RunError<R, W>> {
+    let Ok(mut replies) = Vec::with_capacity(alloc, steps.len()) else {
+        return Err(RunError { reader, writer });
+    };
+    let mut connection = Connection::new(reader, writer);
+    for timed in steps {
+        let reply = connection.step(alloc, timed);
+        replies.push_reserved(reply);
+    }
+    Ok(Record {
+        replies,
+        source: connection.source,
+        outlet: connection.outlet,
+    })
+}
