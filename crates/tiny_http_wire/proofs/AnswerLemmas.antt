@@ -10,7 +10,6 @@ use Rattle.std.proofs.lemmas.Str.Parse.{IsNumeralModel, numerals_by_value, tells
 use Rattle.tiny_http_wire.specs.Answer.{length_of}
 use Rattle.tiny_http_wire.specs.declared.common.Header.{Header}
 use Rattle.tiny_http_wire.specs.Common.{same_name}
-use Rattle.tiny_http_wire.specs.Answer.{with_value}
 use Rattle.std.specs.declared.io.Error.{Error}
 use Rattle.std.specs.declared.io.ErrorKind.TheVariants.{InvalidInput}
 use Rattle.httpdate.specs.declared.date.HttpDate.{HttpDate}
@@ -34,19 +33,6 @@ uncoded f a b r ans version request_headers no_body date (inr h) = inr (refl, re
 pub Answered-uncoded : {T : Type 0} (o : Option Feed) (a b : Sink) (r : Result T Error) (ans : Answer) (version : HTTPVersion) (request_headers : List Header) (no_body : Bool) (date : HttpDate) → IfSome o (λ f. length f.bytes < 2 ^ 63 → PrintsUncoded a b r ans.length (as_it_is ans.length (λ framing. head version ans.status None ans.headers date framing) (is_withheld no_body ans.status) f)) → IfSome o (λ f. length f.bytes < 2 ^ 63 → PrintsAnswer a b r ans f (record { version = version; request_headers = request_headers; no_body = no_body; upgrade = None; date = date }))
 Answered-uncoded None a b r ans version request_headers no_body date h = tt
 Answered-uncoded (Some f) a b r ans version request_headers no_body date h = λ few. uncoded f a b r ans version request_headers no_body date (h few)
-
--- the first header of the name is the next, or it is not
-pub with_value-here : (name value : List ℕ) (xs : List Header) (i : ℕ) (d : Header) → i < length xs → same_name (get_or xs i d).field name ≡ true → with_value name value (drop i xs) ≡ (record (get_or xs i d) { value = value }) ∷ drop (i + 1) xs
-with_value-here name value xs i d l t = ap (with_value name value) (drop-cons xs i d l) ∙ rw t (ap (λ (k : ℕ). (record (get_or xs i d) { value = value }) ∷ drop k xs) (sym (add-one i)))
-
-pub with_value-past : (name value : List ℕ) (xs : List Header) (i : ℕ) (d : Header) → i < length xs → same_name (get_or xs i d).field name ≡ false → with_value name value (drop i xs) ≡ get_or xs i d ∷ with_value name value (drop (i + 1) xs)
-with_value-past name value xs i d l t = ap (with_value name value) (drop-cons xs i d l) ∙ rw t (ap (λ (k : ℕ). get_or xs i d ∷ with_value name value (drop k xs)) (sym (add-one i)))
-
--- the value of the header at this place was written
-pub with_value-set : (name value : List ℕ) (was now : List Header) (i : ℕ) (x : Header) → i < length now → now ≡ was → x ≡ get_or now i x → with_value name value now ≡ take i now ++ with_value name value (drop i now) → same_name x.field name ≡ true → set now i (record x { value = value }) ≡ with_value name value was
-with_value-set name value was now i x l e is passed t =
-    let here : same_name (get_or now i x).field name ≡ true = ap (λ (h : Header). same_name h.field name) (sym is) ∙ t in
-    set_split now i (record x { value = value }) l ∙ ap (λ (k : ℕ). take i now ++ ((record x { value = value }) ∷ drop k now)) (sym (add-one i)) ∙ ap (λ (h : Header). take i now ++ ((record h { value = value }) ∷ drop (i + 1) now)) is ∙ ap (λ (y : List Header). take i now ++ y) (sym (with_value-here name value now i x l here)) ∙ sym passed ∙ ap (with_value name value) e
 
 both : (a b : Bool) → (a && b) ≡ true → (a ≡ true) × (b ≡ true)
 both true true h = (refl, refl)
@@ -73,7 +59,3 @@ length_of-none ds h = none-from _ _ (λ t.
     let first = both _ _ t in
     let second = both _ _ first.1 in
     h ((ltb-true 0 (length ds) first.0, own.to ds second.0), ltb-true (digits_value 10 ds) (2 ^ 64) second.1))
-
--- what stands at a place, by either default
-pub same_item : (xs : List Header) (i : ℕ) (x y : Header) → i < length xs → x ≡ get_or xs i x → y ≡ get_or xs i y → x ≡ y
-same_item xs i x y l a b = a ∙ get_or_default xs i x y l ∙ sym b

@@ -197,32 +197,9 @@ pub record Reply (R : Type 0) : Type 0 where
   pub answer : Answer
   pub data_reader : R
 
--- names that a list of headers never holds
-abbrev pub is_reserved : List ℕ → Bool
-is_reserved name = same_name name (codes "Connection") || (same_name name (codes "Trailer") || (same_name name (codes "Transfer-Encoding") || same_name name (codes "Upgrade")))
-
--- the value of the first header of a name is replaced
-abbrev pub with_value : List ℕ → List ℕ → List Header → List Header
-with_value name value [] = []
-with_value name value (h ∷ hs) = if same_name h.field name then (record h { value = value }) ∷ hs else h ∷ with_value name value hs
-
--- the headers with one more, which is not reserved and no length
-abbrev pub with_header : Header → List Header → List Header
-with_header h hs = if same_name h.field (codes "Content-Type") && has_header hs (codes "Content-Type") then with_value (codes "Content-Type") h.value hs else hs ++ h ∷ []
-
 -- the length that a value says: an optional plus, one digit or more, below 2^64
 abbrev pub length_of : List ℕ → Option ℕ
 length_of ds = if nat_lt 0 (length ds) && (all_ascii_digits ds && nat_lt (digits_value 10 ds) (2 ^ 64)) then Some (digits_value 10 ds) else None
 
 unfoldable pub length_in : List ℕ → Option ℕ
 length_in value = length_of (without_leading_plus value)
-
--- a value, or else another
-abbrev pub first_some : Option ℕ → Option ℕ → Option ℕ
-first_some None b = b
-first_some (Some n) b = Some n
-
--- the answer with a header added
-abbrev pub add : Header → Answer → Answer
-add h a =
-    if is_reserved h.field then a else (if same_name h.field (codes "Content-Length") then record a { length = first_some (length_in h.value) a.length } else record a { headers = with_header h a.headers })

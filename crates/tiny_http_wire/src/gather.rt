@@ -11,23 +11,23 @@ use std::io::ErrorKind;
 const PIECE: usize = 8192;
 
 // Reads into the buffer from `at` on.
-fn read_behind<D: ReadDevice>(data: &mut D, buf: &mut [u8], at: usize) -> Result<usize, io::Error>
+fn read_behind<D: ReadDevice>(source: &mut D, buf: &mut [u8], at: usize) -> Result<usize, io::Error>
     requires { at ≤ length buf.old }
     ensures bound { IfOk result (λ n. at + n ≤ length buf.old) }
     ensures front { take at buf.new ≡ take at buf.old }
-    ensures bytes { ReadsFrom (D.feed data.old) (D.feed data.new) result (drop at buf.new) }
+    ensures bytes { ReadsFrom (D.feed source.old) (D.feed source.new) result (drop at buf.new) }
 {
-    read_some(data, &mut buf[at..])
+    read_some(source, &mut buf[at..])
 }
 
 // Reads until the buffer is full or the data ends, and says how many bytes there are.
-fn fill<D: ReadDevice>(data: &mut D, buf: &mut [u8]) -> Result<usize, io::Error>
+fn fill<D: ReadDevice>(source: &mut D, buf: &mut [u8]) -> Result<usize, io::Error>
     ensures bound { IfOk result (λ n. n ≤ length buf.old) }
-    ensures bytes { Fills (D.feed data.old) (D.feed data.new) result buf.new }
+    ensures bytes { Fills (D.feed source.old) (D.feed source.new) result buf.new }
 {
     let mut at = 0;
     while at < buf.len() {
-        let n = read_behind(data, buf, at)?;
+        let n = read_behind(source, buf, at)?;
         if n == 0 {
             break;
         }
@@ -37,13 +37,13 @@ fn fill<D: ReadDevice>(data: &mut D, buf: &mut [u8]) -> Result<usize, io::Error>
 }
 
 // Reads all the data.
-pub fn gather<D: ReadDevice>(alloc: Global, data: &mut D) -> Result<Vec<u8>, io::Error>
-    ensures { IfSome (D.feed data.old) (λ feed. length feed.bytes < 2 ^ 63 → Gathers (λ v. v.items) feed result) }
+pub(crate) fn gather<D: ReadDevice>(alloc: Global, source: &mut D) -> Result<Vec<u8>, io::Error>
+    ensures { IfSome (D.feed source.old) (λ feed. length feed.bytes < 2 ^ 63 → Gathers (λ v. v.items) feed result) }
 {
     let mut all = Vec::new(alloc);
     let mut buf = [0u8; PIECE];
     for _turn in 0..u64::MAX {
-        let n = fill(data, &mut buf)?;
+        let n = fill(source, &mut buf)?;
         all.extend_from_slice(&buf[..n])?;
         if n < PIECE {
             return Ok(all);

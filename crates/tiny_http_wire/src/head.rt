@@ -4,7 +4,8 @@ ghost use Rattle.std.specs.List.{flat_map};
 ghost use Rattle.std.specs.Option.{option_copied};
 ghost use Rattle.httpdate.specs.Date.{date_text};
 ghost use Rattle.tiny_http_wire.specs.Device.{Puts};
-ghost use Rattle.tiny_http_wire.specs.Answer.{has_header, status_line, field_line, header_line, protocol_lines, upgrade_lines, server_line, date_line, length_line, framing_line, head};
+ghost use Rattle.tiny_http_wire.specs.Top.{head_of};
+ghost use Rattle.tiny_http_wire.specs.Answer.{has_header, status_line, field_line, header_line, protocol_lines, upgrade_lines, server_line, date_line, length_line, framing_line};
 
 use crate::coding::FramingHeader;
 use crate::common::{HTTPVersion, Header, StatusCode};
@@ -13,8 +14,17 @@ use httpdate::HttpDate;
 use itoa::Buffer;
 use std::io;
 
+/// What the head of an answer is made of, beside how it tells the length of the body.
+#[derive(Clone, Copy)]
+pub(crate) struct Top<'a> {
+    pub(crate) version: HTTPVersion,
+    pub(crate) status: StatusCode,
+    pub(crate) headers: &'a [Header],
+    pub(crate) date: HttpDate,
+}
+
 // Whether some header has this name.
-pub fn has_header(headers: &[Header], name: &str) -> bool
+fn has_header(headers: &[Header], name: &str) -> bool
     ensures { result ≡ has_header headers.now name.now }
 {
     headers.iter().any(|h| h.field.equiv(name))
@@ -129,24 +139,22 @@ fn put_framing<W: WriteDevice>(writer: &mut W, framing: FramingHeader) -> Result
     }
 }
 
-/// Writes the head of an answer.
-pub fn put_head<W: WriteDevice>(
+/// Writes the head of an answer: the status line, the header lines in their order, and an empty line
+/// (RFC 9112, sections 4 and 5).
+pub(crate) fn put_head<W: WriteDevice>(
     writer: &mut W,
-    version: HTTPVersion,
-    status: StatusCode,
+    top: &Top<'_>,
     upgrade: Option<&str>,
-    headers: &[Header],
-    now: HttpDate,
     framing: FramingHeader,
 ) -> Result<(), io::Error>
     ensures { Puts (W.sink writer.old) (W.sink writer.new) result
-        (head version status.0 (option_copied upgrade.entry) headers.now now framing) }
+        (head_of top.now (option_copied upgrade.entry) framing) }
 {
-    put_status_line(writer, version, status)?;
+    put_status_line(writer, top.version, top.status)?;
     put_upgrade(writer, upgrade)?;
-    put_server(writer, headers)?;
-    put_date(writer, headers, now)?;
-    put_headers(writer, headers)?;
+    put_server(writer, top.headers)?;
+    put_date(writer, top.headers, top.date)?;
+    put_headers(writer, top.headers)?;
     put_framing(writer, framing)?;
     put(writer, b"\r\n")
 }

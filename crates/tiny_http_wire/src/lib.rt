@@ -2,11 +2,12 @@
 #![tactic(auto)]
 
 pub mod ascii;
-pub mod body;
-pub mod gather;
 pub mod coding;
 pub mod common;
 pub mod device;
 pub mod grammar;
-pub mod head;
 pub mod response;
+
+mod body;
+mod gather;
+mod head;

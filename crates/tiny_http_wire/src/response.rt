@@ -1,17 +1,17 @@
 //! Answers to requests.
-ghost use Rattle.std.specs.Prelude.{◌≡◌, ℕ, Bool, List, Option, Some, None, IfSome, IfOk, IfErr, OnOk, if◌then◌else◌};
+ghost use Rattle.std.specs.Prelude.{◌≡◌, ℕ, Bool, List, Option, Some, None, IfSome, if◌then◌else◌};
 ghost use Rattle.std.specs.Option.{option_copied};
-ghost use Rattle.tiny_http_wire.specs.Answer.{Answer, Reply, Prints, head, behind, whole, identity_body, is_withheld, is_ascii, PrintsGathered, PrintsUncoded, PrintsAnswer, as_it_is, nothing, is_reserved, with_value, add, length_in};
+ghost use Rattle.tiny_http_wire.specs.Answer.{Answer, Reply, Prints, behind, whole, identity_body, is_withheld, is_ascii, PrintsGathered, PrintsUncoded, PrintsAnswer, as_it_is, nothing};
+ghost use Rattle.tiny_http_wire.specs.Top.{head_of};
 ghost use Rattle.tiny_http_wire.specs.Device.{Puts};
 ghost use Rattle.std.specs.Prelude.{[], ◌<◌, ◌^◌, ◌++◌, length};
 
-use crate::ascii::AsciiString;
 use crate::body::put_exactly;
 use crate::gather::gather;
 use crate::coding::FramingHeader;
-use crate::common::{HTTPVersion, Header, HeaderField, StatusCode};
+use crate::common::{HTTPVersion, Header, StatusCode};
 use crate::device::{ReadDevice, WriteDevice, put};
-use crate::head::{has_header, put_head};
+use crate::head::{Top, put_head};
 use httpdate::HttpDate;
 use std::alloc::Global;
 use std::io;
@@ -45,29 +45,6 @@ impl<R> Response<R> {
         self
     }
 
-    /// The same answer with other data.
-    pub fn with_data<S>(self, reader: S, data_length: Option<usize>) -> Response<S>
-    where
-        R: Drop,
-        ensures { result ≡ record { answer = record self.answer { length = data_length }; data_reader = reader } }
-    {
-        Response {
-            reader,
-            status: self.status,
-            headers: self.headers,
-            data_length,
-            threshold: self.threshold,
-        }
-    }
-
-    /// The same answer with another threshold.
-    pub fn with_chunked_threshold(mut self, threshold: usize) -> Response<R>
-        ensures { result ≡ record self { answer = record self.answer { threshold = threshold } } }
-    {
-        self.threshold = threshold;
-        self
-    }
-
     /// The code.
     pub fn status_code(&self) -> StatusCode
         ensures { result.0 ≡ self.now.answer.status }
@@ -96,33 +73,6 @@ impl<R> Response<R> {
         self.threshold
     }
 
-    /// Adds a header. Refused for want of memory it comes back, and the answer is unchanged.
-    pub fn add_header(&mut self, header: Header) -> Result<(), Header>
-        ensures ok { OnOk result (self.new.answer ≡ add header self.old.answer) }
-        ensures data { self.new.data_reader ≡ self.old.data_reader }
-        ensures err { IfErr result (λ h. (h ≡ header) × (self.new.answer ≡ self.old.answer)) }
-    {
-        if is_reserved(&header.field) {
-            return Ok(());
-        }
-        if header.field.equiv("Content-Length") {
-            if let Some(length) = read_length(header.value.as_str()) {
-                self.data_length = Some(length);
-            }
-            return Ok(());
-        }
-        if header.field.equiv("Content-Type")
-            && has_header(self.headers.as_slice(), "Content-Type")
-        {
-            set_value(&mut self.headers, "Content-Type", header.value);
-            return Ok(());
-        }
-        match self.headers.push(header) {
-            Ok(()) => Ok(()),
-            Err(refused) => Err(refused.value),
-        }
-    }
-
     /// Prints the answer.
     pub fn raw_print<W: WriteDevice>(
         self,
@@ -148,20 +98,16 @@ impl<R> Response<R> {
     {
         let mut data = self.reader;
         let headers = self.headers;
-        if let Some(protocol) = upgrade {
-            return print_upgrade(writer, version, self.status, protocol, &headers, now);
-        }
-        print_uncoded(
-            alloc,
-            &mut data,
-            writer,
-            self.data_length,
+        let top = Top {
             version,
-            self.status,
-            &headers,
-            now,
-            no_body,
-        )
+            status: self.status,
+            headers: &headers,
+            date: now,
+        };
+        match upgrade {
+            Some(protocol) => print_upgrade(writer, &top, protocol),
+            None => print_uncoded(alloc, &mut data, writer, &top, self.data_length, no_body),
+        }
     }
 
     /// The reader of the data.
@@ -179,38 +125,6 @@ fn is_withheld(no_body: bool, status: u16) -> bool
     no_body || (status >= 100 && status < 200) || status == 204 || status == 304
 }
 
-// Whether a list of headers never holds this name.
-fn is_reserved(name: &HeaderField) -> bool
-    ensures { result ≡ is_reserved name.now }
-{
-    name.equiv("Connection")
-        || name.equiv("Trailer")
-        || name.equiv("Transfer-Encoding")
-        || name.equiv("Upgrade")
-}
-
-/// The length that a value says.
-pub fn read_length(value: &str) -> Option<usize>
-    ensures { result ≡ length_in value.now }
-{
-    match value.parse::<usize>() {
-        Ok(length) => Some(length),
-        Err(_) => None,
-    }
-}
-
-// Replaces the value of the first header of this name.
-fn set_value(headers: &mut Vec<Header>, name: &str, value: AsciiString)
-    ensures { headers.new.items ≡ with_value name.now value headers.old.items }
-{
-    for i in 0..headers.len() {
-        if headers[i].field.equiv(name) {
-            headers[i].value = value;
-            return;
-        }
-    }
-}
-
 // Whether all bytes are below 128.
 fn is_ascii(text: &[u8]) -> bool
     ensures { result ≡ is_ascii text.now }
@@ -218,61 +132,39 @@ fn is_ascii(text: &[u8]) -> bool
     text.iter().all(|b| *b < 128)
 }
 
-// Prints an answer whose body is sent as it is.
+// Prints an answer of known length whose body is sent as it is.
 fn print_as_it_is<D: ReadDevice, W: WriteDevice>(
-    data: &mut D,
+    source: &mut D,
     writer: &mut W,
-    version: HTTPVersion,
-    status: StatusCode,
-    headers: &[Header],
-    now: HttpDate,
-    no_body: bool,
+    top: &Top<'_>,
+    withheld: bool,
     n: usize,
 ) -> Result<(), io::Error>
-    ensures { IfSome (D.feed data.old) (λ feed.
+    ensures { IfSome (D.feed source.old) (λ feed.
         Prints (W.sink writer.old) (W.sink writer.new) result
-        (behind (head version status.0 None headers.now now (FramingHeader.ContentLength n))
-        (if is_withheld no_body status.0 then whole [] else identity_body n feed))) }
+        (behind (head_of top.now None (FramingHeader.ContentLength n))
+        (if withheld then whole [] else identity_body n feed))) }
 {
-    put_head(
-        writer,
-        version,
-        status,
-        None,
-        headers,
-        now,
-        FramingHeader::ContentLength(n),
-    )?;
-    if is_withheld(no_body, status.0) {
+    put_head(writer, top, None, FramingHeader::ContentLength(n))?;
+    if withheld {
         return Ok(());
     }
-    put_exactly(data, writer, n)
+    put_exactly(source, writer, n)
 }
 
 // Prints bytes as the body of an answer.
 fn print_bytes<W: WriteDevice>(
     bytes: &[u8],
     writer: &mut W,
-    version: HTTPVersion,
-    status: StatusCode,
-    headers: &[Header],
-    now: HttpDate,
-    no_body: bool,
+    top: &Top<'_>,
+    withheld: bool,
 ) -> Result<(), io::Error>
     ensures { Puts (W.sink writer.old) (W.sink writer.new) result
-        (head version status.0 None headers.now now (FramingHeader.ContentLength (length bytes.now))
-        ++ (if is_withheld no_body status.0 then [] else bytes.now)) }
+        (head_of top.now None (FramingHeader.ContentLength (length bytes.now))
+        ++ (if withheld then [] else bytes.now)) }
 {
-    put_head(
-        writer,
-        version,
-        status,
-        None,
-        headers,
-        now,
-        FramingHeader::ContentLength(bytes.len()),
-    )?;
-    if is_withheld(no_body, status.0) {
+    put_head(writer, top, None, FramingHeader::ContentLength(bytes.len()))?;
+    if withheld {
         return Ok(());
     }
     put(writer, bytes)
@@ -281,78 +173,54 @@ fn print_bytes<W: WriteDevice>(
 // Prints an answer of unknown length whose body is sent as it is: its data is read whole first.
 fn print_gathered<D: ReadDevice, W: WriteDevice>(
     alloc: Global,
-    data: &mut D,
+    source: &mut D,
     writer: &mut W,
-    version: HTTPVersion,
-    status: StatusCode,
-    headers: &[Header],
-    now: HttpDate,
-    no_body: bool,
+    top: &Top<'_>,
+    withheld: bool,
 ) -> Result<(), io::Error>
-    ensures { IfSome (D.feed data.old) (λ feed. length feed.bytes < 2 ^ 63 →
+    ensures { IfSome (D.feed source.old) (λ feed. length feed.bytes < 2 ^ 63 →
         PrintsGathered (W.sink writer.old) (W.sink writer.new) result
-        (head version status.0 None headers.now now (FramingHeader.ContentLength (length feed.bytes)))
-        (is_withheld no_body status.0) feed) }
+        (head_of top.now None (FramingHeader.ContentLength (length feed.bytes)))
+        withheld feed) }
 {
-    let bytes = gather(alloc, data)?;
-    print_bytes(
-        bytes.as_slice(),
-        writer,
-        version,
-        status,
-        headers,
-        now,
-        no_body,
-    )
+    let bytes = gather(alloc, source)?;
+    print_bytes(bytes.as_slice(), writer, top, withheld)
 }
 
 // Prints an answer whose body isn't coded, by its length.
 fn print_uncoded<D: ReadDevice, W: WriteDevice>(
     alloc: Global,
-    data: &mut D,
+    source: &mut D,
     writer: &mut W,
+    top: &Top<'_>,
     known: Option<usize>,
-    version: HTTPVersion,
-    status: StatusCode,
-    headers: &[Header],
-    now: HttpDate,
     no_body: bool,
 ) -> Result<(), io::Error>
-    ensures { IfSome (D.feed data.old) (λ feed. length feed.bytes < 2 ^ 63 →
+    ensures { IfSome (D.feed source.old) (λ feed. length feed.bytes < 2 ^ 63 →
         PrintsUncoded (W.sink writer.old) (W.sink writer.new) result known
-        (as_it_is known (λ framing. head version status.0 None headers.now now framing)
-        (is_withheld no_body status.0) feed)) }
+        (as_it_is known (λ framing. head_of top.now None framing)
+        (is_withheld no_body top.now.status.0) feed)) }
 {
+    let withheld = is_withheld(no_body, top.status.0);
     match known {
-        Some(n) => print_as_it_is(data, writer, version, status, headers, now, no_body, n),
-        None => print_gathered(alloc, data, writer, version, status, headers, now, no_body),
+        Some(n) => print_as_it_is(source, writer, top, withheld, n),
+        None => print_gathered(alloc, source, writer, top, withheld),
     }
 }
 
 // Prints an upgrade's answer.
 fn print_upgrade<W: WriteDevice>(
     writer: &mut W,
-    version: HTTPVersion,
-    status: StatusCode,
+    top: &Top<'_>,
     protocol: &str,
-    headers: &[Header],
-    now: HttpDate,
 ) -> Result<(), io::Error>
     ensures { Prints (W.sink writer.old) (W.sink writer.new) result
         (if is_ascii protocol.now
-        then whole (head version status.0 (Some protocol.now) headers.now now FramingHeader.Neither)
+        then whole (head_of top.now (Some protocol.now) FramingHeader.Neither)
         else nothing ErrorKind.InvalidInput) }
 {
     if !is_ascii(protocol.as_bytes()) {
         return Err(ErrorKind::InvalidInput.into());
     }
-    put_head(
-        writer,
-        version,
-        status,
-        Some(protocol),
-        headers,
-        now,
-        FramingHeader::Neither,
-    )
+    put_head(writer, top, Some(protocol), FramingHeader::Neither)
 }

@@ -5,5 +5,5 @@ use Rattle.tiny_http_wire.proofs.gather.gather.Given as goal
 abbrev pub invariant-loop-turn : goal.invariant-loop-turn
 invariant-loop-turn g l = record {
   size : length l.buf ≡ 8192;
-  gathered : GatheredTo (g.D.ReadDevice.feed l.initial.data) (g.D.ReadDevice.feed l.data) l.all.items l._turn;
+  gathered : GatheredTo (g.D.ReadDevice.feed l.initial.source) (g.D.ReadDevice.feed l.source) l.all.items l._turn;
 }

@@ -9,5 +9,5 @@ returns-in-Some g c =
 
 pub returns : goal.returns
 returns g c =
-    let answer : Answer = record { status = c.self.inside.status.0; headers = c.deref-2.result.now; length = c.self.inside.data_length; threshold = c.self.inside.threshold } in
-    rw (← c.self.view_is, ← c.deref-2.ensures.value, c.in_default.is) (Answered-uncoded {T = Unit {0}} _ _ _ _ answer c.args.version c.args.request_headers.now c.args.no_body c.args.now c.print_uncoded.ensures)
+    let answer : Answer = record { status = c.self.inside.status.0; headers = c.deref.result.now; length = c.self.inside.data_length; threshold = c.self.inside.threshold } in
+    rw (← c.self.view_is, ← c.deref.ensures.value, c.in-None.is) (Answered-uncoded {T = Unit {0}} _ _ _ _ answer c.args.version c.args.request_headers.now c.args.no_body c.args.now c.print_uncoded.ensures)
