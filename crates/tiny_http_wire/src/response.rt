@@ -3,7 +3,7 @@ ghost use Rattle.std.specs.Prelude.{◌≡◌, ℕ, Bool, List, Option, Some, No
 ghost use Rattle.std.specs.Option.{option_copied};
 ghost use Rattle.tiny_http_wire.specs.Answer.{Answer, Reply, Prints, behind, whole, identity_body, is_withheld, is_ascii, PrintsGathered, PrintsUncoded, PrintsAnswer, as_it_is, nothing};
 ghost use Rattle.tiny_http_wire.specs.Top.{head_of};
-ghost use Rattle.tiny_http_wire.specs.Device.{Puts};
+ghost use Rattle.tiny_http_wire.specs.Device.{Puts, Uses};
 ghost use Rattle.std.specs.Prelude.{[], ◌<◌, ◌^◌, ◌++◌, length};
 
 use crate::body::put_exactly;
@@ -86,7 +86,7 @@ impl<R> Response<R> {
     ) -> Result<(), io::Error>
     where
         R: ReadDevice + Drop,
-        ensures { IfSome (R.feed self.data_reader) (λ feed. length feed.bytes < 2 ^ 63 →
+        ensures text { IfSome (R.feed self.data_reader) (λ feed. length feed.bytes < 2 ^ 63 →
             PrintsAnswer (W.sink writer.old) (W.sink writer.new) result self.answer feed
             (record {
               version = version;
@@ -95,6 +95,8 @@ impl<R> Response<R> {
               upgrade = option_copied upgrade.entry;
               date = now;
             })) }
+        // Of data and writers that tell nothing too: a fault of the writer's is told by its count.
+        ensures uses { Uses (W.sink writer.old) (W.sink writer.new) result }
     {
         let mut data = self.reader;
         let headers = self.headers;
@@ -140,10 +142,11 @@ fn print_as_it_is<D: ReadDevice, W: WriteDevice>(
     withheld: bool,
     n: usize,
 ) -> Result<(), io::Error>
-    ensures { IfSome (D.feed source.old) (λ feed.
+    ensures text { IfSome (D.feed source.old) (λ feed.
         Prints (W.sink writer.old) (W.sink writer.new) result
         (behind (head_of top.now None (FramingHeader.ContentLength n))
         (if withheld then whole [] else identity_body n feed))) }
+    ensures uses { Uses (W.sink writer.old) (W.sink writer.new) result }
 {
     put_head(writer, top, None, FramingHeader::ContentLength(n))?;
     if withheld {
@@ -178,10 +181,11 @@ fn print_gathered<D: ReadDevice, W: WriteDevice>(
     top: &Top<'_>,
     withheld: bool,
 ) -> Result<(), io::Error>
-    ensures { IfSome (D.feed source.old) (λ feed. length feed.bytes < 2 ^ 63 →
+    ensures text { IfSome (D.feed source.old) (λ feed. length feed.bytes < 2 ^ 63 →
         PrintsGathered (W.sink writer.old) (W.sink writer.new) result
         (head_of top.now None (FramingHeader.ContentLength (length feed.bytes)))
         withheld feed) }
+    ensures uses { Uses (W.sink writer.old) (W.sink writer.new) result }
 {
     let bytes = gather(alloc, source)?;
     print_bytes(bytes.as_slice(), writer, top, withheld)
@@ -196,10 +200,11 @@ fn print_uncoded<D: ReadDevice, W: WriteDevice>(
     known: Option<usize>,
     no_body: bool,
 ) -> Result<(), io::Error>
-    ensures { IfSome (D.feed source.old) (λ feed. length feed.bytes < 2 ^ 63 →
+    ensures text { IfSome (D.feed source.old) (λ feed. length feed.bytes < 2 ^ 63 →
         PrintsUncoded (W.sink writer.old) (W.sink writer.new) result known
         (as_it_is known (λ framing. head_of top.now None framing)
         (is_withheld no_body top.now.status.0) feed)) }
+    ensures uses { Uses (W.sink writer.old) (W.sink writer.new) result }
 {
     let withheld = is_withheld(no_body, top.status.0);
     match known {
