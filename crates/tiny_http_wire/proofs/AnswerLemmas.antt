@@ -1,7 +1,6 @@
 -- From the parts of an answer to its text.
-use Rattle.std.proofs.Common.{◌≡◌, ℕ, ◌<◌, ◌^◌, Bool, List, length, Option, Some, None, Result, IfSome, refl, sym, ap, ◌∙◌, subst, inl, inr, if◌then◌else◌}
-use Rattle.std.proofs.Common.{true, false, ◌∷◌, ◌+◌, drop, get_or, drop-cons, add-one, take, set, ◌++◌}
-use Rattle.std.proofs.lemmas.List.{set_split, get_or_default}
+use Rattle.std.proofs.Common.{◌≡◌, ℕ, ◌<◌, ◌^◌, Bool, List, length, Option, Some, None, Result, IfSome, refl, ap, inl, inr, if◌then◌else◌}
+use Rattle.std.proofs.Common.{true, false}
 use Rattle.std.proofs.Common.{◌&&◌, ltb, lt-ltb, ltb-true}
 use Rattle.std.proofs.lemmas.Bool.{false≢true}
 use Rattle.std.specs.Str.{all_ascii_digits}
@@ -9,14 +8,13 @@ use Rattle.std.specs.Str.Parse.{IsNumeral, digits_value}
 use Rattle.std.proofs.lemmas.Str.Parse.{IsNumeralModel, numerals_by_value, tells_all_ascii_digits}
 use Rattle.tiny_http_wire.specs.Answer.{length_of}
 use Rattle.tiny_http_wire.specs.declared.common.Header.{Header}
-use Rattle.tiny_http_wire.specs.Common.{same_name}
 use Rattle.std.specs.declared.io.Error.{Error}
 use Rattle.std.specs.declared.io.ErrorKind.TheVariants.{InvalidInput}
 use Rattle.httpdate.specs.declared.date.HttpDate.{HttpDate}
 use Rattle.tiny_http_wire.specs.declared.common.HTTPVersion.{HTTPVersion}
 use Rattle.tiny_http_wire.specs.declared.coding.FramingHeader.TheVariants.{Neither}
 use Rattle.tiny_http_wire.specs.Device.{Feed, Sink}
-use Rattle.tiny_http_wire.specs.Answer.{Answer, Text, Printing, Prints, PrintsUncoded, PrintsAnswer, whole, nothing, head, is_ascii, is_withheld, as_it_is, text_of}
+use Rattle.tiny_http_wire.specs.Answer.{Answer, Prints, PrintsUncoded, PrintsAnswer, whole, nothing, head, is_ascii, is_withheld, as_it_is, text_of}
 
 -- an upgrade
 pub Answered-upgrade : {T : Type 0} (o : Option Feed) (a b : Sink) (r : Result T Error) (ans : Answer) (version : HTTPVersion) (request_headers : List Header) (no_body : Bool) (protocol : List ℕ) (date : HttpDate) → Prints a b r (if is_ascii protocol then whole (head version ans.status (Some protocol) ans.headers date Neither) else nothing InvalidInput) → IfSome o (λ f. length f.bytes < 2 ^ 63 → PrintsAnswer a b r ans f (record { version = version; request_headers = request_headers; no_body = no_body; upgrade = Some protocol; date = date }))

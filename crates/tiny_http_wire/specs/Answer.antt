@@ -1,5 +1,5 @@
 -- Answers, and the text that is sent for one.
-use Rattle.std.specs.Prelude.{◌≡◌, ℕ, ◌<◌, ◌≤◌, Bool, true, false, ◌&&◌, ◌||◌, not, List, [], ◌∷◌, ◌++◌, length, take, Option, Some, None, Result, Ok, Err, codes, decimal, nat_lt, nat_le, ◌==◌, if◌then◌else◌, ◌⊎◌, is_none, IfSome}
+use Rattle.std.specs.Prelude.{◌≡◌, ℕ, Bool, ◌&&◌, ◌||◌, List, [], ◌++◌, length, take, Option, Some, None, Result, Ok, Err, codes, decimal, nat_lt, nat_le, ◌==◌, if◌then◌else◌, ◌⊎◌}
 use Rattle.std.specs.List.{flat_map, list_any, list_all}
 use Rattle.std.specs.Prelude.{◌^◌}
 use Rattle.std.specs.Str.Parse.{without_leading_plus, digits_value}
@@ -16,7 +16,7 @@ use Rattle.tiny_http_wire.specs.declared.coding.Coding.{Coding}
 use Rattle.tiny_http_wire.specs.declared.coding.Coding.TheVariants.{Identity, Chunked}
 use Rattle.tiny_http_wire.specs.declared.coding.FramingHeader.{FramingHeader}
 use Rattle.tiny_http_wire.specs.declared.coding.FramingHeader.TheVariants.{Neither, TransferEncoding, ContentLength}
-use Rattle.tiny_http_wire.specs.Common.{version_text, header_text, same_name, reason_phrase}
+use Rattle.tiny_http_wire.specs.Common.{version_text, same_name, reason_phrase}
 use Rattle.tiny_http_wire.specs.Device.{Feed, fault_of, Sink, Took, Failed}
 use Rattle.tiny_http_wire.specs.declared.device.Stop.{Stop}
 use Rattle.tiny_http_wire.specs.declared.device.Stop.TheVariants.{End, Fault}
@@ -28,6 +28,14 @@ pub record Answer : Type 0 where
   pub headers : List Header
   pub length : Option ℕ
   pub threshold : ℕ
+
+-- an answer whose data has so many bytes, with the threshold that holds until another is set
+abbrev pub answer_with : ℕ → List Header → ℕ → Answer
+answer_with status headers length = record { status = status; headers = headers; length = Some length; threshold = 32768 }
+
+-- the header of a plain text
+unfoldable pub text_plain : Header
+text_plain = record { field = codes "Content-Type"; value = codes "text/plain; charset=UTF-8" }
 
 -- how a text ends: whole, or broken off by a fault
 pub data Ending : Type 0 where

@@ -2,12 +2,11 @@
 #![tactic(auto)]
 
 pub mod ascii;
+mod body;
 pub mod coding;
 pub mod common;
 pub mod device;
-pub mod grammar;
-pub mod response;
-
-mod body;
 mod gather;
+pub mod grammar;
 mod head;
+pub mod response;

@@ -1,24 +1,29 @@
-//! Answers to requests.
+//! Answers to requests, and how they are printed.
 ghost use Rattle.std.specs.Prelude.{◌≡◌, ℕ, Bool, List, Option, Some, None, IfSome, if◌then◌else◌};
 ghost use Rattle.std.specs.Option.{option_copied};
 ghost use Rattle.tiny_http_wire.specs.Answer.{Answer, Reply, Prints, behind, whole, identity_body, is_withheld, is_ascii, PrintsGathered, PrintsUncoded, PrintsAnswer, as_it_is, nothing};
+ghost use Rattle.tiny_http_wire.specs.Answer.{text_plain, answer_with};
+ghost use Rattle.tiny_http_wire.specs.Cursor.{cursor_bytes};
+ghost use Rattle.std.specs.Prelude.{◌∷◌, IfOk, vec_len, string_len, string_bytes};
 ghost use Rattle.tiny_http_wire.specs.Top.{head_of};
 ghost use Rattle.tiny_http_wire.specs.Device.{Puts, Uses};
 ghost use Rattle.std.specs.Prelude.{[], ◌<◌, ◌^◌, ◌++◌, length};
 
 use crate::body::put_exactly;
-use crate::gather::gather;
 use crate::coding::FramingHeader;
-use crate::common::{HTTPVersion, Header, StatusCode};
+use crate::common::{HTTPVersion, Header, HeaderField, StatusCode};
 use crate::device::{ReadDevice, WriteDevice, put};
+use crate::gather::gather;
+use crate::grammar::owned;
 use crate::head::{Top, put_head};
 use httpdate::HttpDate;
-use std::alloc::Global;
+use std::alloc::{AllocError, Global};
 use std::io;
-use std::io::ErrorKind;
+use std::io::{Cursor, ErrorKind};
 use std::marker::Model;
 
-/// An answer to a request. A contract sees it as the answer and the reader of its data.
+/// An answer to a request: a status code, headers, and a reader of the data with its length, where that is known. A
+/// contract sees it as the answer and the reader.
 #[derive(Drop)]
 pub struct Response<R> {
     reader: R,
@@ -36,6 +41,69 @@ impl<R> Model for Response<R> {
     ghost view = { λ r. record { answer = record { status = r.status.0; headers = r.headers.items; length = r.data_length; threshold = r.threshold }; data_reader = r.reader } };
 }
 
+// The length in bytes from which data is sent in chunks, until another is set.
+const THRESHOLD: usize = 32768;
+
+// The header of a plain text.
+#[tactic(auto, unfolding(crate::specs::Answer::text_plain))]
+fn text_plain(alloc: Global) -> Result<Header, AllocError>
+    ensures { IfOk result (λ h. h ≡ text_plain) }
+{
+    let field = HeaderField::from_text(owned(alloc, b"Content-Type")?);
+    let value = owned(alloc, b"text/plain; charset=UTF-8")?;
+    Ok(Header { field, value })
+}
+
+impl Response<Cursor<Vec<u8>>> {
+    /// An answer 200 with a text as its data, of known length, under `Content-Type: text/plain; charset=UTF-8` (as
+    /// tiny_http). An error where there is no memory for that header.
+    pub fn from_string(alloc: Global, text: String) -> Result<Response<Cursor<Vec<u8>>>, AllocError>
+        ensures answer { IfOk result (λ r. r.answer ≡ answer_with 200 (text_plain ∷ []) (string_len text)) }
+        ensures bytes { IfOk result (λ r. cursor_bytes r.data_reader ≡ string_bytes text) }
+    {
+        let mut response = Response::from_data(alloc, text.into_bytes());
+        response.headers.push(text_plain(alloc)?)?;
+        Ok(response)
+    }
+
+    /// An answer 200 with these bytes as its data, of known length, and no headers. It takes no memory.
+    pub fn from_data(alloc: Global, bytes: Vec<u8>) -> Response<Cursor<Vec<u8>>>
+        ensures answer { result.answer ≡ answer_with 200 [] (vec_len bytes) }
+        ensures bytes { cursor_bytes result.data_reader ≡ bytes.items }
+    {
+        let length = bytes.len();
+        Response {
+            reader: Cursor::new(bytes),
+            status: StatusCode(200),
+            headers: Vec::new(alloc),
+            data_length: Some(length),
+            threshold: THRESHOLD,
+        }
+    }
+}
+
+impl Response<io::Empty> {
+    /// An answer with this code, no headers and no data, of length 0. It takes no memory.
+    pub fn empty(alloc: Global, status: StatusCode) -> Response<io::Empty>
+        ensures { result.answer ≡ answer_with status.0 [] 0 }
+    {
+        Response {
+            reader: io::empty(),
+            status,
+            headers: Vec::new(alloc),
+            data_length: Some(0),
+            threshold: THRESHOLD,
+        }
+    }
+
+    /// The same as `empty`.
+    pub fn new_empty(alloc: Global, status: StatusCode) -> Response<io::Empty>
+        ensures { result.answer ≡ answer_with status.0 [] 0 }
+    {
+        Response::empty(alloc, status)
+    }
+}
+
 impl<R> Response<R> {
     /// The same answer with another code.
     pub fn with_status_code(mut self, code: StatusCode) -> Response<R>
@@ -45,35 +113,41 @@ impl<R> Response<R> {
         self
     }
 
-    /// The code.
+    /// The status code.
     pub fn status_code(&self) -> StatusCode
         ensures { result.0 ≡ self.now.answer.status }
     {
         self.status
     }
 
-    /// The length of the data, if it is known.
+    /// The length of the data in bytes, if it is known.
     pub fn data_length(&self) -> Option<usize>
         ensures { result ≡ self.now.answer.length }
     {
         self.data_length
     }
 
-    /// The headers.
+    /// The headers, in the order in which they are sent.
     pub fn headers(&self) -> &[Header]
         ensures { result.now ≡ self.now.answer.headers }
     {
         self.headers.as_slice()
     }
 
-    /// The length from which data is sent in chunks.
+    /// The length in bytes from which data is sent in chunks: 32768.
     pub fn chunked_threshold(&self) -> usize
         ensures { result ≡ self.now.answer.threshold }
     {
         self.threshold
     }
 
-    /// Prints the answer.
+    /// Prints the answer for a request of this version with these headers, dated `now`: head and body (RFC 9112, sections
+    /// 2.1, 4 and 6). The body is withheld for `no_body` (HEAD) and for the codes 100 to 199, 204 and 304. For an upgrade to
+    /// a protocol the head alone is printed. It doesn't flush.
+    ///
+    /// The first fault of the writer or of the data is the answer, and nothing is written behind it. Data that ends before
+    /// its length is a fault of kind UnexpectedEof. Data of unknown length is read whole before the head: a fault of it, or
+    /// OutOfMemory, leaves nothing written. A protocol that isn't ASCII is InvalidInput, with nothing written.
     pub fn raw_print<W: WriteDevice>(
         self,
         alloc: Global,
@@ -112,7 +186,7 @@ impl<R> Response<R> {
         }
     }
 
-    /// The reader of the data.
+    /// Gives the reader of the data.
     pub fn into_reader(self) -> R
         ensures { result ≡ self.data_reader }
     {

@@ -1,4 +1,4 @@
-use Rattle.std.proofs.Common.{◌≡◌, ℕ, ◌-◌, ◌≤◌, length, take}
+use Rattle.std.proofs.Common.{◌-◌, ◌≤◌, length}
 use Rattle.tiny_http_wire.specs.Device.{FilledTo}
 use Rattle.tiny_http_wire.proofs.gather.fill.Given as goal
 

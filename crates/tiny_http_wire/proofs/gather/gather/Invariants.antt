@@ -1,4 +1,4 @@
-use Rattle.std.proofs.Common.{◌≡◌, ℕ, length}
+use Rattle.std.proofs.Common.{◌≡◌, length}
 use Rattle.tiny_http_wire.specs.Device.{GatheredTo}
 use Rattle.tiny_http_wire.proofs.gather.gather.Given as goal
 

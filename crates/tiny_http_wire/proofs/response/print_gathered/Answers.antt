@@ -1,4 +1,4 @@
-use Rattle.std.proofs.Common.{None, ℕ, length, inl}
+use Rattle.std.proofs.Common.{None, length, inl}
 use Rattle.std.proofs.lemmas.Result.{err_from_is_err_and}
 use Rattle.tiny_http_wire.specs.Top.{head_of}
 use Rattle.tiny_http_wire.specs.declared.coding.FramingHeader.TheVariants.{ContentLength}
