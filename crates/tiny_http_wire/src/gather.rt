@@ -1,4 +1,4 @@
-//! The whole data of an answer.
+//! The data of an answer, read whole.
 ghost use Rattle.std.specs.Prelude.{◌≡◌, ℕ, ◌<◌, ◌≤◌, ◌+◌, ◌^◌, length, drop, take, IfOk, IfSome};
 ghost use Rattle.tiny_http_wire.specs.Device.{Fills, ReadsFrom, Gathers};
 
@@ -7,8 +7,8 @@ use std::alloc::Global;
 use std::io;
 use std::io::ErrorKind;
 
-// How many bytes of an answer's data are read at a time.
-const PIECE: usize = 8192;
+/// How many bytes of an answer's data are read at a time, at most.
+pub(crate) const PIECE: usize = 8192;
 
 // Reads into the buffer from `at` on.
 fn read_behind<D: ReadDevice>(source: &mut D, buf: &mut [u8], at: usize) -> Result<usize, io::Error>
@@ -36,7 +36,7 @@ fn fill<D: ReadDevice>(source: &mut D, buf: &mut [u8]) -> Result<usize, io::Erro
     Ok(at)
 }
 
-// Reads all the data.
+/// Reads all the data. Its fault is told, and want of memory as OutOfMemory.
 pub(crate) fn gather<D: ReadDevice>(alloc: Global, source: &mut D) -> Result<Vec<u8>, io::Error>
     ensures { IfSome (D.feed source.old) (λ feed. length feed.bytes < 2 ^ 63 → Gathers (λ v. v.items) feed result) }
 {

@@ -1,4 +1,4 @@
-//! The head of an answer.
+//! The head of an answer, line by line (RFC 9112, sections 4 and 5).
 ghost use Rattle.std.specs.Prelude.{◌≡◌, ℕ, ◌≤◌, ◌++◌, length, List, [], codes, decimal};
 ghost use Rattle.std.specs.List.{flat_map};
 ghost use Rattle.std.specs.Option.{option_copied};
@@ -30,6 +30,7 @@ fn has_header(headers: &[Header], name: &str) -> bool
     headers.iter().any(|h| h.field.equiv(name))
 }
 
+// `HTTP/`, version, code and phrase.
 #[tactic(auto, unfolding(crate::specs::Answer::status_line))]
 fn put_status_line<W: WriteDevice>(
     writer: &mut W,
@@ -51,6 +52,7 @@ fn put_status_line<W: WriteDevice>(
     )
 }
 
+// One header line.
 #[tactic(auto, unfolding(crate::specs::Answer::field_line))]
 fn put_field<W: WriteDevice>(writer: &mut W, field: &[u8], value: &[u8]) -> Result<(), io::Error>
     ensures { Puts (W.sink writer.old) (W.sink writer.new) result (field_line field.now value.now) }
@@ -58,6 +60,7 @@ fn put_field<W: WriteDevice>(writer: &mut W, field: &[u8], value: &[u8]) -> Resu
     put_all(writer, &[field, b": ", value, b"\r\n"])
 }
 
+// The line of a header.
 fn put_header<W: WriteDevice>(writer: &mut W, header: &Header) -> Result<(), io::Error>
     ensures { Puts (W.sink writer.old) (W.sink writer.new) result (header_line header.now) }
 {
@@ -69,6 +72,7 @@ fn put_header<W: WriteDevice>(writer: &mut W, header: &Header) -> Result<(), io:
     )
 }
 
+// The lines of a list of headers.
 fn put_headers<W: WriteDevice>(writer: &mut W, headers: &[Header]) -> Result<(), io::Error>
     ensures { Puts (W.sink writer.old) (W.sink writer.new) result (flat_map header_line headers.now) }
 {
@@ -78,6 +82,7 @@ fn put_headers<W: WriteDevice>(writer: &mut W, headers: &[Header]) -> Result<(),
     Ok(())
 }
 
+// The two lines of an upgrade to a protocol (RFC 9110, section 7.8).
 fn put_protocol<W: WriteDevice>(writer: &mut W, protocol: &str) -> Result<(), io::Error>
     ensures { Puts (W.sink writer.old) (W.sink writer.new) result (protocol_lines protocol.now) }
 {
@@ -85,6 +90,7 @@ fn put_protocol<W: WriteDevice>(writer: &mut W, protocol: &str) -> Result<(), io
     put_field(writer, b"Upgrade", protocol.as_bytes())
 }
 
+// These lines, if there is an upgrade.
 #[tactic(auto, unfolding(crate::specs::Answer::upgrade_lines))]
 fn put_upgrade<W: WriteDevice>(writer: &mut W, upgrade: Option<&str>) -> Result<(), io::Error>
     ensures { Puts (W.sink writer.old) (W.sink writer.new) result (upgrade_lines (option_copied upgrade.entry)) }
@@ -95,6 +101,7 @@ fn put_upgrade<W: WriteDevice>(writer: &mut W, upgrade: Option<&str>) -> Result<
     put_protocol(writer, protocol)
 }
 
+// The server's name, unless the list has one.
 #[tactic(auto, unfolding(crate::specs::Answer::server_line))]
 fn put_server<W: WriteDevice>(writer: &mut W, headers: &[Header]) -> Result<(), io::Error>
     ensures { Puts (W.sink writer.old) (W.sink writer.new) result (server_line headers.now) }
@@ -105,6 +112,7 @@ fn put_server<W: WriteDevice>(writer: &mut W, headers: &[Header]) -> Result<(), 
     put_field(writer, b"Server", b"tiny-http (Rust)")
 }
 
+// The date, unless the list has one.
 #[tactic(auto, unfolding(crate::specs::Answer::date_line))]
 fn put_date<W: WriteDevice>(
     writer: &mut W,
@@ -120,6 +128,7 @@ fn put_date<W: WriteDevice>(
     put_field(writer, b"Date", &date)
 }
 
+// The number of bytes of the body.
 fn put_length<W: WriteDevice>(writer: &mut W, n: usize) -> Result<(), io::Error>
     ensures { Puts (W.sink writer.old) (W.sink writer.new) result (length_line n) }
 {
@@ -128,6 +137,7 @@ fn put_length<W: WriteDevice>(writer: &mut W, n: usize) -> Result<(), io::Error>
     put_field(writer, b"Content-Length", digits)
 }
 
+// The line that frames the body, if there is one.
 #[tactic(auto, unfolding(crate::specs::Answer::framing_line))]
 fn put_framing<W: WriteDevice>(writer: &mut W, framing: FramingHeader) -> Result<(), io::Error>
     ensures { Puts (W.sink writer.old) (W.sink writer.new) result (framing_line framing) }
