@@ -1,7 +1,6 @@
 -- From the parts of an answer to its text.
-use Rattle.std.proofs.Common.{◌≡◌, ℕ, ◌<◌, ◌^◌, Bool, List, length, Option, Some, None, Result, IfSome, refl, sym, ap, ◌∙◌, subst, inl, inr, if◌then◌else◌}
-use Rattle.std.proofs.Common.{true, false, ◌∷◌, ◌+◌, drop, get_or, drop-cons, add-one, take, set, ◌++◌}
-use Rattle.std.proofs.lemmas.List.{set_split, get_or_default}
+use Rattle.std.proofs.Common.{◌≡◌, ℕ, ◌<◌, ◌^◌, Bool, List, length, Option, Some, None, Result, IfSome, refl, ap, inl, inr, if◌then◌else◌}
+use Rattle.std.proofs.Common.{true, false}
 use Rattle.std.proofs.Common.{◌&&◌, ltb, lt-ltb, ltb-true}
 use Rattle.std.proofs.lemmas.Bool.{false≢true}
 use Rattle.std.specs.Str.{all_ascii_digits}
@@ -9,15 +8,13 @@ use Rattle.std.specs.Str.Parse.{IsNumeral, digits_value}
 use Rattle.std.proofs.lemmas.Str.Parse.{IsNumeralModel, numerals_by_value, tells_all_ascii_digits}
 use Rattle.tiny_http_wire.specs.Answer.{length_of}
 use Rattle.tiny_http_wire.specs.declared.common.Header.{Header}
-use Rattle.tiny_http_wire.specs.Common.{same_name}
-use Rattle.tiny_http_wire.specs.Answer.{with_value}
 use Rattle.std.specs.declared.io.Error.{Error}
 use Rattle.std.specs.declared.io.ErrorKind.TheVariants.{InvalidInput}
 use Rattle.httpdate.specs.declared.date.HttpDate.{HttpDate}
 use Rattle.tiny_http_wire.specs.declared.common.HTTPVersion.{HTTPVersion}
 use Rattle.tiny_http_wire.specs.declared.coding.FramingHeader.TheVariants.{Neither}
 use Rattle.tiny_http_wire.specs.Device.{Feed, Sink}
-use Rattle.tiny_http_wire.specs.Answer.{Answer, Text, Printing, Prints, PrintsUncoded, PrintsAnswer, whole, nothing, head, is_ascii, is_withheld, as_it_is, text_of}
+use Rattle.tiny_http_wire.specs.Answer.{Answer, Prints, PrintsUncoded, PrintsAnswer, whole, nothing, head, is_ascii, is_withheld, as_it_is, text_of}
 
 -- an upgrade
 pub Answered-upgrade : {T : Type 0} (o : Option Feed) (a b : Sink) (r : Result T Error) (ans : Answer) (version : HTTPVersion) (request_headers : List Header) (no_body : Bool) (protocol : List ℕ) (date : HttpDate) → Prints a b r (if is_ascii protocol then whole (head version ans.status (Some protocol) ans.headers date Neither) else nothing InvalidInput) → IfSome o (λ f. length f.bytes < 2 ^ 63 → PrintsAnswer a b r ans f (record { version = version; request_headers = request_headers; no_body = no_body; upgrade = Some protocol; date = date }))
@@ -34,19 +31,6 @@ uncoded f a b r ans version request_headers no_body date (inr h) = inr (refl, re
 pub Answered-uncoded : {T : Type 0} (o : Option Feed) (a b : Sink) (r : Result T Error) (ans : Answer) (version : HTTPVersion) (request_headers : List Header) (no_body : Bool) (date : HttpDate) → IfSome o (λ f. length f.bytes < 2 ^ 63 → PrintsUncoded a b r ans.length (as_it_is ans.length (λ framing. head version ans.status None ans.headers date framing) (is_withheld no_body ans.status) f)) → IfSome o (λ f. length f.bytes < 2 ^ 63 → PrintsAnswer a b r ans f (record { version = version; request_headers = request_headers; no_body = no_body; upgrade = None; date = date }))
 Answered-uncoded None a b r ans version request_headers no_body date h = tt
 Answered-uncoded (Some f) a b r ans version request_headers no_body date h = λ few. uncoded f a b r ans version request_headers no_body date (h few)
-
--- the first header of the name is the next, or it is not
-pub with_value-here : (name value : List ℕ) (xs : List Header) (i : ℕ) (d : Header) → i < length xs → same_name (get_or xs i d).field name ≡ true → with_value name value (drop i xs) ≡ (record (get_or xs i d) { value = value }) ∷ drop (i + 1) xs
-with_value-here name value xs i d l t = ap (with_value name value) (drop-cons xs i d l) ∙ rw t (ap (λ (k : ℕ). (record (get_or xs i d) { value = value }) ∷ drop k xs) (sym (add-one i)))
-
-pub with_value-past : (name value : List ℕ) (xs : List Header) (i : ℕ) (d : Header) → i < length xs → same_name (get_or xs i d).field name ≡ false → with_value name value (drop i xs) ≡ get_or xs i d ∷ with_value name value (drop (i + 1) xs)
-with_value-past name value xs i d l t = ap (with_value name value) (drop-cons xs i d l) ∙ rw t (ap (λ (k : ℕ). get_or xs i d ∷ with_value name value (drop k xs)) (sym (add-one i)))
-
--- the value of the header at this place was written
-pub with_value-set : (name value : List ℕ) (was now : List Header) (i : ℕ) (x : Header) → i < length now → now ≡ was → x ≡ get_or now i x → with_value name value now ≡ take i now ++ with_value name value (drop i now) → same_name x.field name ≡ true → set now i (record x { value = value }) ≡ with_value name value was
-with_value-set name value was now i x l e is passed t =
-    let here : same_name (get_or now i x).field name ≡ true = ap (λ (h : Header). same_name h.field name) (sym is) ∙ t in
-    set_split now i (record x { value = value }) l ∙ ap (λ (k : ℕ). take i now ++ ((record x { value = value }) ∷ drop k now)) (sym (add-one i)) ∙ ap (λ (h : Header). take i now ++ ((record h { value = value }) ∷ drop (i + 1) now)) is ∙ ap (λ (y : List Header). take i now ++ y) (sym (with_value-here name value now i x l here)) ∙ sym passed ∙ ap (with_value name value) e
 
 both : (a b : Bool) → (a && b) ≡ true → (a ≡ true) × (b ≡ true)
 both true true h = (refl, refl)
@@ -73,7 +57,3 @@ length_of-none ds h = none-from _ _ (λ t.
     let first = both _ _ t in
     let second = both _ _ first.1 in
     h ((ltb-true 0 (length ds) first.0, own.to ds second.0), ltb-true (digits_value 10 ds) (2 ^ 64) second.1))
-
--- what stands at a place, by either default
-pub same_item : (xs : List Header) (i : ℕ) (x y : Header) → i < length xs → x ≡ get_or xs i x → y ≡ get_or xs i y → x ≡ y
-same_item xs i x y l a b = a ∙ get_or_default xs i x y l ∙ sym b

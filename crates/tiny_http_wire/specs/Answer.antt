@@ -1,5 +1,5 @@
--- Answers, and the text that is sent for one.
-use Rattle.std.specs.Prelude.{◌≡◌, ℕ, ◌<◌, ◌≤◌, Bool, true, false, ◌&&◌, ◌||◌, not, List, [], ◌∷◌, ◌++◌, length, take, Option, Some, None, Result, Ok, Err, codes, decimal, nat_lt, nat_le, ◌==◌, if◌then◌else◌, ◌⊎◌, is_none, IfSome}
+-- Answers, and the text that is sent for one (RFC 9112, sections 4, 5 and 6).
+use Rattle.std.specs.Prelude.{◌≡◌, ℕ, Bool, ◌&&◌, ◌||◌, List, [], ◌++◌, length, take, Option, Some, None, Result, Ok, Err, codes, decimal, nat_lt, nat_le, ◌==◌, if◌then◌else◌, ◌⊎◌}
 use Rattle.std.specs.List.{flat_map, list_any, list_all}
 use Rattle.std.specs.Prelude.{◌^◌}
 use Rattle.std.specs.Str.Parse.{without_leading_plus, digits_value}
@@ -16,7 +16,7 @@ use Rattle.tiny_http_wire.specs.declared.coding.Coding.{Coding}
 use Rattle.tiny_http_wire.specs.declared.coding.Coding.TheVariants.{Identity, Chunked}
 use Rattle.tiny_http_wire.specs.declared.coding.FramingHeader.{FramingHeader}
 use Rattle.tiny_http_wire.specs.declared.coding.FramingHeader.TheVariants.{Neither, TransferEncoding, ContentLength}
-use Rattle.tiny_http_wire.specs.Common.{version_text, header_text, same_name, reason_phrase}
+use Rattle.tiny_http_wire.specs.Common.{version_text, same_name, reason_phrase}
 use Rattle.tiny_http_wire.specs.Device.{Feed, fault_of, Sink, Took, Failed}
 use Rattle.tiny_http_wire.specs.declared.device.Stop.{Stop}
 use Rattle.tiny_http_wire.specs.declared.device.Stop.TheVariants.{End, Fault}
@@ -28,6 +28,14 @@ pub record Answer : Type 0 where
   pub headers : List Header
   pub length : Option ℕ
   pub threshold : ℕ
+
+-- an answer whose data has so many bytes, with the threshold that holds until another is set
+abbrev pub answer_with : ℕ → List Header → ℕ → Answer
+answer_with status headers length = record { status = status; headers = headers; length = Some length; threshold = 32768 }
+
+-- the header of a plain text
+unfoldable pub text_plain : Header
+text_plain = record { field = codes "Content-Type"; value = codes "text/plain; charset=UTF-8" }
 
 -- how a text ends: whole, or broken off by a fault
 pub data Ending : Type 0 where
@@ -43,11 +51,11 @@ pub record Text : Type 0 where
 abbrev pub has_header : List Header → List ℕ → Bool
 has_header headers name = list_any (λ h. same_name h.field name) headers
 
--- HTTP/, the version, the code, its phrase
+-- HTTP/, the version, the code, its phrase (RFC 9112, section 4)
 unfoldable pub status_line : HTTPVersion → ℕ → List ℕ
 status_line version status = codes "HTTP/" ++ version_text version ++ codes " " ++ decimal status ++ codes " " ++ reason_phrase status ++ codes "\r\n"
 
--- a header's line
+-- a header's line (RFC 9112, section 5)
 unfoldable pub field_line : List ℕ → List ℕ → List ℕ
 field_line field value = field ++ codes ": " ++ value ++ codes "\r\n"
 
@@ -57,12 +65,12 @@ header_line h = field_line h.field h.value
 abbrev pub protocol_lines : List ℕ → List ℕ
 protocol_lines protocol = field_line (codes "Connection") (codes "upgrade") ++ field_line (codes "Upgrade") protocol
 
--- what an upgrade puts in front
+-- what an upgrade puts in front (RFC 9110, section 7.8)
 unfoldable pub upgrade_lines : Option (List ℕ) → List ℕ
 upgrade_lines None = []
 upgrade_lines (Some protocol) = protocol_lines protocol
 
--- the server's name and the date, each only where the list has none
+-- the server's name and the date, each only where the list has none (RFC 9110, sections 10.2.4 and 6.6.1)
 unfoldable pub server_line : List Header → List ℕ
 server_line headers = if has_header headers (codes "Server") then [] else field_line (codes "Server") (codes "tiny-http (Rust)")
 
@@ -83,22 +91,8 @@ unfoldable pub head : HTTPVersion → ℕ → Option (List ℕ) → List Header 
 head version status upgrade headers date framing =
     status_line version status ++ upgrade_lines upgrade ++ server_line headers ++ date_line headers date ++ flat_map header_line headers ++ framing_line framing ++ codes "\r\n"
 
--- versions up to 1.0
-abbrev pub is_up_to_1_0 : HTTPVersion → Bool
-is_up_to_1_0 v = nat_lt v.0 1 || ((v.0 == 1) && (v.1 == 0))
-
--- the coding where the version and the status leave a choice: the one asked for, else by the length
-abbrev pub coding_by : Option Coding → Option ℕ → ℕ → Coding
-coding_by (Some coding) length threshold = coding
-coding_by None None threshold = Chunked
-coding_by None (Some n) threshold = if nat_le threshold n then Chunked else Identity
-
--- the transfer coding, where `asked` is the supported one that the request asks for most, if it asks for any
-abbrev pub coding_of : HTTPVersion → ℕ → Option ℕ → ℕ → Option Coding → Coding
-coding_of version status length threshold asked =
-    if is_up_to_1_0 version || (nat_lt status 200 || (status == 204)) then Identity else coding_by asked length threshold
-
--- whether the body is not sent
+-- whether the body is not sent: where the caller says so, and for the codes 100 to 199, 204 and 304 (RFC 9112, section
+-- 6.3)
 abbrev pub is_withheld : Bool → ℕ → Bool
 is_withheld asked status = asked || ((nat_le 100 status && nat_lt status 200) || ((status == 204) || (status == 304)))
 
@@ -109,7 +103,7 @@ behind front text = record { bytes = front ++ text.bytes; ending = text.ending }
 abbrev pub whole : List ℕ → Text
 whole bytes = record { bytes = bytes; ending = Whole }
 
--- a body that is sent as it is, cut at its length: whole if there are so many bytes
+-- a body that is sent as it is, cut at its length (RFC 9112, section 6.2): whole if there are so many bytes
 abbrev pub identity_body : ℕ → Feed → Text
 identity_body n feed = record { bytes = take n feed.bytes; ending = if nat_le n (length feed.bytes) then Whole else Broken (fault_of feed.stop) }
 
@@ -159,8 +153,8 @@ is_ascii text = list_all (λ b. nat_lt b 128) text
 abbrev pub top_of : Answer → Printing → FramingHeader → List ℕ
 top_of a p framing = head p.version a.status p.upgrade a.headers p.date framing
 
--- How the body of an answer is sent. UNTIL THE CHOICE OF A CODING IS BUILT it is sent as it is; then it is `coding_of`
--- with what the request's TE asks for most.
+-- How the body of an answer is sent: as it is. The choice of chunks, by the length and by what the request's TE asks for
+-- (RFC 9112, sections 6.1 and 7.4), is not built yet.
 abbrev pub coding_for : Answer → Printing → Coding
 coding_for a p = Identity
 
@@ -197,32 +191,9 @@ pub record Reply (R : Type 0) : Type 0 where
   pub answer : Answer
   pub data_reader : R
 
--- names that a list of headers never holds
-abbrev pub is_reserved : List ℕ → Bool
-is_reserved name = same_name name (codes "Connection") || (same_name name (codes "Trailer") || (same_name name (codes "Transfer-Encoding") || same_name name (codes "Upgrade")))
-
--- the value of the first header of a name is replaced
-abbrev pub with_value : List ℕ → List ℕ → List Header → List Header
-with_value name value [] = []
-with_value name value (h ∷ hs) = if same_name h.field name then (record h { value = value }) ∷ hs else h ∷ with_value name value hs
-
--- the headers with one more, which is not reserved and no length
-abbrev pub with_header : Header → List Header → List Header
-with_header h hs = if same_name h.field (codes "Content-Type") && has_header hs (codes "Content-Type") then with_value (codes "Content-Type") h.value hs else hs ++ h ∷ []
-
--- the length that a value says: an optional plus, one digit or more, below 2^64
+-- the length that a Content-Length value says (RFC 9110, section 8.6): an optional plus, one digit or more, below 2^64
 abbrev pub length_of : List ℕ → Option ℕ
 length_of ds = if nat_lt 0 (length ds) && (all_ascii_digits ds && nat_lt (digits_value 10 ds) (2 ^ 64)) then Some (digits_value 10 ds) else None
 
 unfoldable pub length_in : List ℕ → Option ℕ
 length_in value = length_of (without_leading_plus value)
-
--- a value, or else another
-abbrev pub first_some : Option ℕ → Option ℕ → Option ℕ
-first_some None b = b
-first_some (Some n) b = Some n
-
--- the answer with a header added
-abbrev pub add : Header → Answer → Answer
-add h a =
-    if is_reserved h.field then a else (if same_name h.field (codes "Content-Length") then record a { length = first_some (length_in h.value) a.length } else record a { headers = with_header h a.headers })

@@ -1,4 +1,4 @@
-//! The whole data of an answer.
+//! The data of an answer, read whole.
 ghost use Rattle.std.specs.Prelude.{◌≡◌, ℕ, ◌<◌, ◌≤◌, ◌+◌, ◌^◌, length, drop, take, IfOk, IfSome};
 ghost use Rattle.tiny_http_wire.specs.Device.{Fills, ReadsFrom, Gathers};
 
@@ -7,27 +7,27 @@ use std::alloc::Global;
 use std::io;
 use std::io::ErrorKind;
 
-// How many bytes of an answer's data are read at a time.
-const PIECE: usize = 8192;
+/// How many bytes of an answer's data are read at a time, at most.
+pub(crate) const PIECE: usize = 8192;
 
 // Reads into the buffer from `at` on.
-fn read_behind<D: ReadDevice>(data: &mut D, buf: &mut [u8], at: usize) -> Result<usize, io::Error>
+fn read_behind<D: ReadDevice>(source: &mut D, buf: &mut [u8], at: usize) -> Result<usize, io::Error>
     requires { at ≤ length buf.old }
     ensures bound { IfOk result (λ n. at + n ≤ length buf.old) }
     ensures front { take at buf.new ≡ take at buf.old }
-    ensures bytes { ReadsFrom (D.feed data.old) (D.feed data.new) result (drop at buf.new) }
+    ensures bytes { ReadsFrom (D.feed source.old) (D.feed source.new) result (drop at buf.new) }
 {
-    read_some(data, &mut buf[at..])
+    read_some(source, &mut buf[at..])
 }
 
 // Reads until the buffer is full or the data ends, and says how many bytes there are.
-fn fill<D: ReadDevice>(data: &mut D, buf: &mut [u8]) -> Result<usize, io::Error>
+fn fill<D: ReadDevice>(source: &mut D, buf: &mut [u8]) -> Result<usize, io::Error>
     ensures bound { IfOk result (λ n. n ≤ length buf.old) }
-    ensures bytes { Fills (D.feed data.old) (D.feed data.new) result buf.new }
+    ensures bytes { Fills (D.feed source.old) (D.feed source.new) result buf.new }
 {
     let mut at = 0;
     while at < buf.len() {
-        let n = read_behind(data, buf, at)?;
+        let n = read_behind(source, buf, at)?;
         if n == 0 {
             break;
         }
@@ -36,14 +36,14 @@ fn fill<D: ReadDevice>(data: &mut D, buf: &mut [u8]) -> Result<usize, io::Error>
     Ok(at)
 }
 
-// Reads all the data.
-pub fn gather<D: ReadDevice>(alloc: Global, data: &mut D) -> Result<Vec<u8>, io::Error>
-    ensures { IfSome (D.feed data.old) (λ feed. length feed.bytes < 2 ^ 63 → Gathers (λ v. v.items) feed result) }
+/// Reads all the data. Its fault is told, and want of memory as OutOfMemory.
+pub(crate) fn gather<D: ReadDevice>(alloc: Global, source: &mut D) -> Result<Vec<u8>, io::Error>
+    ensures { IfSome (D.feed source.old) (λ feed. length feed.bytes < 2 ^ 63 → Gathers (λ v. v.items) feed result) }
 {
     let mut all = Vec::new(alloc);
     let mut buf = [0u8; PIECE];
     for _turn in 0..u64::MAX {
-        let n = fill(data, &mut buf)?;
+        let n = fill(source, &mut buf)?;
         all.extend_from_slice(&buf[..n])?;
         if n < PIECE {
             return Ok(all);

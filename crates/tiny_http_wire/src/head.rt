@@ -1,10 +1,11 @@
-//! The head of an answer.
+//! The head of an answer, line by line (RFC 9112, sections 4 and 5).
 ghost use Rattle.std.specs.Prelude.{◌≡◌, ℕ, ◌≤◌, ◌++◌, length, List, [], codes, decimal};
 ghost use Rattle.std.specs.List.{flat_map};
 ghost use Rattle.std.specs.Option.{option_copied};
 ghost use Rattle.httpdate.specs.Date.{date_text};
 ghost use Rattle.tiny_http_wire.specs.Device.{Puts};
-ghost use Rattle.tiny_http_wire.specs.Answer.{has_header, status_line, field_line, header_line, protocol_lines, upgrade_lines, server_line, date_line, length_line, framing_line, head};
+ghost use Rattle.tiny_http_wire.specs.Top.{head_of};
+ghost use Rattle.tiny_http_wire.specs.Answer.{has_header, status_line, field_line, header_line, protocol_lines, upgrade_lines, server_line, date_line, length_line, framing_line};
 
 use crate::coding::FramingHeader;
 use crate::common::{HTTPVersion, Header, StatusCode};
@@ -13,13 +14,23 @@ use httpdate::HttpDate;
 use itoa::Buffer;
 use std::io;
 
+/// What the head of an answer is made of, beside how it tells the length of the body.
+#[derive(Clone, Copy)]
+pub(crate) struct Top<'a> {
+    pub(crate) version: HTTPVersion,
+    pub(crate) status: StatusCode,
+    pub(crate) headers: &'a [Header],
+    pub(crate) date: HttpDate,
+}
+
 // Whether some header has this name.
-pub fn has_header(headers: &[Header], name: &str) -> bool
+fn has_header(headers: &[Header], name: &str) -> bool
     ensures { result ≡ has_header headers.now name.now }
 {
     headers.iter().any(|h| h.field.equiv(name))
 }
 
+// `HTTP/`, version, code and phrase.
 #[tactic(auto, unfolding(crate::specs::Answer::status_line))]
 fn put_status_line<W: WriteDevice>(
     writer: &mut W,
@@ -41,6 +52,7 @@ fn put_status_line<W: WriteDevice>(
     )
 }
 
+// One header line.
 #[tactic(auto, unfolding(crate::specs::Answer::field_line))]
 fn put_field<W: WriteDevice>(writer: &mut W, field: &[u8], value: &[u8]) -> Result<(), io::Error>
     ensures { Puts (W.sink writer.old) (W.sink writer.new) result (field_line field.now value.now) }
@@ -48,6 +60,7 @@ fn put_field<W: WriteDevice>(writer: &mut W, field: &[u8], value: &[u8]) -> Resu
     put_all(writer, &[field, b": ", value, b"\r\n"])
 }
 
+// The line of a header.
 fn put_header<W: WriteDevice>(writer: &mut W, header: &Header) -> Result<(), io::Error>
     ensures { Puts (W.sink writer.old) (W.sink writer.new) result (header_line header.now) }
 {
@@ -59,6 +72,7 @@ fn put_header<W: WriteDevice>(writer: &mut W, header: &Header) -> Result<(), io:
     )
 }
 
+// The lines of a list of headers.
 fn put_headers<W: WriteDevice>(writer: &mut W, headers: &[Header]) -> Result<(), io::Error>
     ensures { Puts (W.sink writer.old) (W.sink writer.new) result (flat_map header_line headers.now) }
 {
@@ -68,6 +82,7 @@ fn put_headers<W: WriteDevice>(writer: &mut W, headers: &[Header]) -> Result<(),
     Ok(())
 }
 
+// The two lines of an upgrade to a protocol (RFC 9110, section 7.8).
 fn put_protocol<W: WriteDevice>(writer: &mut W, protocol: &str) -> Result<(), io::Error>
     ensures { Puts (W.sink writer.old) (W.sink writer.new) result (protocol_lines protocol.now) }
 {
@@ -75,6 +90,7 @@ fn put_protocol<W: WriteDevice>(writer: &mut W, protocol: &str) -> Result<(), io
     put_field(writer, b"Upgrade", protocol.as_bytes())
 }
 
+// These lines, if there is an upgrade.
 #[tactic(auto, unfolding(crate::specs::Answer::upgrade_lines))]
 fn put_upgrade<W: WriteDevice>(writer: &mut W, upgrade: Option<&str>) -> Result<(), io::Error>
     ensures { Puts (W.sink writer.old) (W.sink writer.new) result (upgrade_lines (option_copied upgrade.entry)) }
@@ -85,6 +101,7 @@ fn put_upgrade<W: WriteDevice>(writer: &mut W, upgrade: Option<&str>) -> Result<
     put_protocol(writer, protocol)
 }
 
+// The server's name, unless the list has one.
 #[tactic(auto, unfolding(crate::specs::Answer::server_line))]
 fn put_server<W: WriteDevice>(writer: &mut W, headers: &[Header]) -> Result<(), io::Error>
     ensures { Puts (W.sink writer.old) (W.sink writer.new) result (server_line headers.now) }
@@ -95,6 +112,7 @@ fn put_server<W: WriteDevice>(writer: &mut W, headers: &[Header]) -> Result<(), 
     put_field(writer, b"Server", b"tiny-http (Rust)")
 }
 
+// The date, unless the list has one.
 #[tactic(auto, unfolding(crate::specs::Answer::date_line))]
 fn put_date<W: WriteDevice>(
     writer: &mut W,
@@ -110,6 +128,7 @@ fn put_date<W: WriteDevice>(
     put_field(writer, b"Date", &date)
 }
 
+// The number of bytes of the body.
 fn put_length<W: WriteDevice>(writer: &mut W, n: usize) -> Result<(), io::Error>
     ensures { Puts (W.sink writer.old) (W.sink writer.new) result (length_line n) }
 {
@@ -118,6 +137,7 @@ fn put_length<W: WriteDevice>(writer: &mut W, n: usize) -> Result<(), io::Error>
     put_field(writer, b"Content-Length", digits)
 }
 
+// The line that frames the body, if there is one.
 #[tactic(auto, unfolding(crate::specs::Answer::framing_line))]
 fn put_framing<W: WriteDevice>(writer: &mut W, framing: FramingHeader) -> Result<(), io::Error>
     ensures { Puts (W.sink writer.old) (W.sink writer.new) result (framing_line framing) }
@@ -129,24 +149,22 @@ fn put_framing<W: WriteDevice>(writer: &mut W, framing: FramingHeader) -> Result
     }
 }
 
-/// Writes the head of an answer.
-pub fn put_head<W: WriteDevice>(
+/// Writes the head of an answer: the status line, the header lines in their order, and an empty line
+/// (RFC 9112, sections 4 and 5).
+pub(crate) fn put_head<W: WriteDevice>(
     writer: &mut W,
-    version: HTTPVersion,
-    status: StatusCode,
+    top: &Top<'_>,
     upgrade: Option<&str>,
-    headers: &[Header],
-    now: HttpDate,
     framing: FramingHeader,
 ) -> Result<(), io::Error>
     ensures { Puts (W.sink writer.old) (W.sink writer.new) result
-        (head version status.0 (option_copied upgrade.entry) headers.now now framing) }
+        (head_of top.now (option_copied upgrade.entry) framing) }
 {
-    put_status_line(writer, version, status)?;
+    put_status_line(writer, top.version, top.status)?;
     put_upgrade(writer, upgrade)?;
-    put_server(writer, headers)?;
-    put_date(writer, headers, now)?;
-    put_headers(writer, headers)?;
+    put_server(writer, top.headers)?;
+    put_date(writer, top.headers, top.date)?;
+    put_headers(writer, top.headers)?;
     put_framing(writer, framing)?;
     put(writer, b"\r\n")
 }

@@ -2,12 +2,12 @@
 #![tactic(auto)]
 
 pub mod ascii;
-pub mod body;
-pub mod gather;
+mod body;
 pub mod coding;
 pub mod common;
 pub mod device;
+mod gather;
 pub mod grammar;
-pub mod head;
+mod head;
 pub mod laws;
 pub mod response;

@@ -1,24 +1,29 @@
-//! Answers to requests.
-ghost use Rattle.std.specs.Prelude.{◌≡◌, ℕ, Bool, List, Option, Some, None, IfSome, IfOk, IfErr, OnOk, if◌then◌else◌};
+//! Answers to requests, and how they are printed.
+ghost use Rattle.std.specs.Prelude.{◌≡◌, ℕ, Bool, List, Option, Some, None, IfSome, if◌then◌else◌};
 ghost use Rattle.std.specs.Option.{option_copied};
-ghost use Rattle.tiny_http_wire.specs.Answer.{Answer, Reply, Prints, head, behind, whole, identity_body, is_withheld, is_ascii, PrintsGathered, PrintsUncoded, PrintsAnswer, as_it_is, nothing, is_reserved, with_value, add, length_in};
-ghost use Rattle.tiny_http_wire.specs.Device.{Puts};
+ghost use Rattle.tiny_http_wire.specs.Answer.{Answer, Reply, Prints, behind, whole, identity_body, is_withheld, is_ascii, PrintsGathered, PrintsUncoded, PrintsAnswer, as_it_is, nothing};
+ghost use Rattle.tiny_http_wire.specs.Answer.{text_plain, answer_with};
+ghost use Rattle.tiny_http_wire.specs.Cursor.{cursor_bytes};
+ghost use Rattle.std.specs.Prelude.{◌∷◌, IfOk, vec_len, string_len, string_bytes};
+ghost use Rattle.tiny_http_wire.specs.Top.{head_of};
+ghost use Rattle.tiny_http_wire.specs.Device.{Puts, Uses};
 ghost use Rattle.std.specs.Prelude.{[], ◌<◌, ◌^◌, ◌++◌, length};
 
-use crate::ascii::AsciiString;
 use crate::body::put_exactly;
-use crate::gather::gather;
 use crate::coding::FramingHeader;
 use crate::common::{HTTPVersion, Header, HeaderField, StatusCode};
 use crate::device::{ReadDevice, WriteDevice, put};
-use crate::head::{has_header, put_head};
+use crate::gather::gather;
+use crate::grammar::owned;
+use crate::head::{Top, put_head};
 use httpdate::HttpDate;
-use std::alloc::Global;
+use std::alloc::{AllocError, Global};
 use std::io;
-use std::io::ErrorKind;
+use std::io::{Cursor, ErrorKind};
 use std::marker::Model;
 
-/// An answer to a request. A contract sees it as the answer and the reader of its data.
+/// An answer to a request: a status code, headers, and a reader of the data with its length, where that is known. A
+/// contract sees it as the answer and the reader.
 #[derive(Drop)]
 pub struct Response<R> {
     reader: R,
@@ -36,6 +41,69 @@ impl<R> Model for Response<R> {
     ghost view = { λ r. record { answer = record { status = r.status.0; headers = r.headers.items; length = r.data_length; threshold = r.threshold }; data_reader = r.reader } };
 }
 
+// The length in bytes from which data is sent in chunks, until another is set.
+const THRESHOLD: usize = 32768;
+
+// The header of a plain text.
+#[tactic(auto, unfolding(crate::specs::Answer::text_plain))]
+fn text_plain(alloc: Global) -> Result<Header, AllocError>
+    ensures { IfOk result (λ h. h ≡ text_plain) }
+{
+    let field = HeaderField::from_text(owned(alloc, b"Content-Type")?);
+    let value = owned(alloc, b"text/plain; charset=UTF-8")?;
+    Ok(Header { field, value })
+}
+
+impl Response<Cursor<Vec<u8>>> {
+    /// An answer 200 with a text as its data, of known length, under `Content-Type: text/plain; charset=UTF-8` (as
+    /// tiny_http). An error where there is no memory for that header.
+    pub fn from_string(alloc: Global, text: String) -> Result<Response<Cursor<Vec<u8>>>, AllocError>
+        ensures answer { IfOk result (λ r. r.answer ≡ answer_with 200 (text_plain ∷ []) (string_len text)) }
+        ensures bytes { IfOk result (λ r. cursor_bytes r.data_reader ≡ string_bytes text) }
+    {
+        let mut response = Response::from_data(alloc, text.into_bytes());
+        response.headers.push(text_plain(alloc)?)?;
+        Ok(response)
+    }
+
+    /// An answer 200 with these bytes as its data, of known length, and no headers. It takes no memory.
+    pub fn from_data(alloc: Global, bytes: Vec<u8>) -> Response<Cursor<Vec<u8>>>
+        ensures answer { result.answer ≡ answer_with 200 [] (vec_len bytes) }
+        ensures bytes { cursor_bytes result.data_reader ≡ bytes.items }
+    {
+        let length = bytes.len();
+        Response {
+            reader: Cursor::new(bytes),
+            status: StatusCode(200),
+            headers: Vec::new(alloc),
+            data_length: Some(length),
+            threshold: THRESHOLD,
+        }
+    }
+}
+
+impl Response<io::Empty> {
+    /// An answer with this code, no headers and no data, of length 0. It takes no memory.
+    pub fn empty(alloc: Global, status: StatusCode) -> Response<io::Empty>
+        ensures { result.answer ≡ answer_with status.0 [] 0 }
+    {
+        Response {
+            reader: io::empty(),
+            status,
+            headers: Vec::new(alloc),
+            data_length: Some(0),
+            threshold: THRESHOLD,
+        }
+    }
+
+    /// The same as `empty`.
+    pub fn new_empty(alloc: Global, status: StatusCode) -> Response<io::Empty>
+        ensures { result.answer ≡ answer_with status.0 [] 0 }
+    {
+        Response::empty(alloc, status)
+    }
+}
+
 impl<R> Response<R> {
     /// The same answer with another code.
     pub fn with_status_code(mut self, code: StatusCode) -> Response<R>
@@ -45,85 +113,41 @@ impl<R> Response<R> {
         self
     }
 
-    /// The same answer with other data.
-    pub fn with_data<S>(self, reader: S, data_length: Option<usize>) -> Response<S>
-    where
-        R: Drop,
-        ensures { result ≡ record { answer = record self.answer { length = data_length }; data_reader = reader } }
-    {
-        Response {
-            reader,
-            status: self.status,
-            headers: self.headers,
-            data_length,
-            threshold: self.threshold,
-        }
-    }
-
-    /// The same answer with another threshold.
-    pub fn with_chunked_threshold(mut self, threshold: usize) -> Response<R>
-        ensures { result ≡ record self { answer = record self.answer { threshold = threshold } } }
-    {
-        self.threshold = threshold;
-        self
-    }
-
-    /// The code.
+    /// The status code.
     pub fn status_code(&self) -> StatusCode
         ensures { result.0 ≡ self.now.answer.status }
     {
         self.status
     }
 
-    /// The length of the data, if it is known.
+    /// The length of the data in bytes, if it is known.
     pub fn data_length(&self) -> Option<usize>
         ensures { result ≡ self.now.answer.length }
     {
         self.data_length
     }
 
-    /// The headers.
+    /// The headers, in the order in which they are sent.
     pub fn headers(&self) -> &[Header]
         ensures { result.now ≡ self.now.answer.headers }
     {
         self.headers.as_slice()
     }
 
-    /// The length from which data is sent in chunks.
+    /// The length in bytes from which data is sent in chunks: 32768.
     pub fn chunked_threshold(&self) -> usize
         ensures { result ≡ self.now.answer.threshold }
     {
         self.threshold
     }
 
-    /// Adds a header. Refused for want of memory it comes back, and the answer is unchanged.
-    pub fn add_header(&mut self, header: Header) -> Result<(), Header>
-        ensures ok { OnOk result (self.new.answer ≡ add header self.old.answer) }
-        ensures data { self.new.data_reader ≡ self.old.data_reader }
-        ensures err { IfErr result (λ h. (h ≡ header) × (self.new.answer ≡ self.old.answer)) }
-    {
-        if is_reserved(&header.field) {
-            return Ok(());
-        }
-        if header.field.equiv("Content-Length") {
-            if let Some(length) = read_length(header.value.as_str()) {
-                self.data_length = Some(length);
-            }
-            return Ok(());
-        }
-        if header.field.equiv("Content-Type")
-            && has_header(self.headers.as_slice(), "Content-Type")
-        {
-            set_value(&mut self.headers, "Content-Type", header.value);
-            return Ok(());
-        }
-        match self.headers.push(header) {
-            Ok(()) => Ok(()),
-            Err(refused) => Err(refused.value),
-        }
-    }
-
-    /// Prints the answer.
+    /// Prints the answer for a request of this version with these headers, dated `now`: head and body (RFC 9112, sections
+    /// 2.1, 4 and 6). The body is withheld for `no_body` (HEAD) and for the codes 100 to 199, 204 and 304. For an upgrade to
+    /// a protocol the head alone is printed. It doesn't flush.
+    ///
+    /// The first fault of the writer or of the data is the answer, and nothing is written behind it. Data that ends before
+    /// its length is a fault of kind UnexpectedEof. Data of unknown length is read whole before the head: a fault of it, or
+    /// OutOfMemory, leaves nothing written. A protocol that isn't ASCII is InvalidInput, with nothing written.
     pub fn raw_print<W: WriteDevice>(
         self,
         alloc: Global,
@@ -136,7 +160,7 @@ impl<R> Response<R> {
     ) -> Result<(), io::Error>
     where
         R: ReadDevice + Drop,
-        ensures { IfSome (R.feed self.data_reader) (λ feed. length feed.bytes < 2 ^ 63 →
+        ensures text { IfSome (R.feed self.data_reader) (λ feed. length feed.bytes < 2 ^ 63 →
             PrintsAnswer (W.sink writer.old) (W.sink writer.new) result self.answer feed
             (record {
               version = version;
@@ -145,26 +169,24 @@ impl<R> Response<R> {
               upgrade = option_copied upgrade.entry;
               date = now;
             })) }
+        // Of data and writers that tell nothing too: a fault of the writer's is told by its count.
+        ensures uses { Uses (W.sink writer.old) (W.sink writer.new) result }
     {
         let mut data = self.reader;
         let headers = self.headers;
-        if let Some(protocol) = upgrade {
-            return print_upgrade(writer, version, self.status, protocol, &headers, now);
-        }
-        print_uncoded(
-            alloc,
-            &mut data,
-            writer,
-            self.data_length,
+        let top = Top {
             version,
-            self.status,
-            &headers,
-            now,
-            no_body,
-        )
+            status: self.status,
+            headers: &headers,
+            date: now,
+        };
+        match upgrade {
+            Some(protocol) => print_upgrade(writer, &top, protocol),
+            None => print_uncoded(alloc, &mut data, writer, &top, self.data_length, no_body),
+        }
     }
 
-    /// The reader of the data.
+    /// Gives the reader of the data.
     pub fn into_reader(self) -> R
         ensures { result ≡ self.data_reader }
     {
@@ -179,38 +201,6 @@ fn is_withheld(no_body: bool, status: u16) -> bool
     no_body || (status >= 100 && status < 200) || status == 204 || status == 304
 }
 
-// Whether a list of headers never holds this name.
-fn is_reserved(name: &HeaderField) -> bool
-    ensures { result ≡ is_reserved name.now }
-{
-    name.equiv("Connection")
-        || name.equiv("Trailer")
-        || name.equiv("Transfer-Encoding")
-        || name.equiv("Upgrade")
-}
-
-/// The length that a value says.
-pub fn read_length(value: &str) -> Option<usize>
-    ensures { result ≡ length_in value.now }
-{
-    match value.parse::<usize>() {
-        Ok(length) => Some(length),
-        Err(_) => None,
-    }
-}
-
-// Replaces the value of the first header of this name.
-fn set_value(headers: &mut Vec<Header>, name: &str, value: AsciiString)
-    ensures { headers.new.items ≡ with_value name.now value headers.old.items }
-{
-    for i in 0..headers.len() {
-        if headers[i].field.equiv(name) {
-            headers[i].value = value;
-            return;
-        }
-    }
-}
-
 // Whether all bytes are below 128.
 fn is_ascii(text: &[u8]) -> bool
     ensures { result ≡ is_ascii text.now }
@@ -218,61 +208,40 @@ fn is_ascii(text: &[u8]) -> bool
     text.iter().all(|b| *b < 128)
 }
 
-// Prints an answer whose body is sent as it is.
+// Prints an answer of known length whose body is sent as it is.
 fn print_as_it_is<D: ReadDevice, W: WriteDevice>(
-    data: &mut D,
+    source: &mut D,
     writer: &mut W,
-    version: HTTPVersion,
-    status: StatusCode,
-    headers: &[Header],
-    now: HttpDate,
-    no_body: bool,
+    top: &Top<'_>,
+    withheld: bool,
     n: usize,
 ) -> Result<(), io::Error>
-    ensures { IfSome (D.feed data.old) (λ feed.
+    ensures text { IfSome (D.feed source.old) (λ feed.
         Prints (W.sink writer.old) (W.sink writer.new) result
-        (behind (head version status.0 None headers.now now (FramingHeader.ContentLength n))
-        (if is_withheld no_body status.0 then whole [] else identity_body n feed))) }
+        (behind (head_of top.now None (FramingHeader.ContentLength n))
+        (if withheld then whole [] else identity_body n feed))) }
+    ensures uses { Uses (W.sink writer.old) (W.sink writer.new) result }
 {
-    put_head(
-        writer,
-        version,
-        status,
-        None,
-        headers,
-        now,
-        FramingHeader::ContentLength(n),
-    )?;
-    if is_withheld(no_body, status.0) {
+    put_head(writer, top, None, FramingHeader::ContentLength(n))?;
+    if withheld {
         return Ok(());
     }
-    put_exactly(data, writer, n)
+    put_exactly(source, writer, n)
 }
 
 // Prints bytes as the body of an answer.
 fn print_bytes<W: WriteDevice>(
     bytes: &[u8],
     writer: &mut W,
-    version: HTTPVersion,
-    status: StatusCode,
-    headers: &[Header],
-    now: HttpDate,
-    no_body: bool,
+    top: &Top<'_>,
+    withheld: bool,
 ) -> Result<(), io::Error>
     ensures { Puts (W.sink writer.old) (W.sink writer.new) result
-        (head version status.0 None headers.now now (FramingHeader.ContentLength (length bytes.now))
-        ++ (if is_withheld no_body status.0 then [] else bytes.now)) }
+        (head_of top.now None (FramingHeader.ContentLength (length bytes.now))
+        ++ (if withheld then [] else bytes.now)) }
 {
-    put_head(
-        writer,
-        version,
-        status,
-        None,
-        headers,
-        now,
-        FramingHeader::ContentLength(bytes.len()),
-    )?;
-    if is_withheld(no_body, status.0) {
+    put_head(writer, top, None, FramingHeader::ContentLength(bytes.len()))?;
+    if withheld {
         return Ok(());
     }
     put(writer, bytes)
@@ -281,78 +250,56 @@ fn print_bytes<W: WriteDevice>(
 // Prints an answer of unknown length whose body is sent as it is: its data is read whole first.
 fn print_gathered<D: ReadDevice, W: WriteDevice>(
     alloc: Global,
-    data: &mut D,
+    source: &mut D,
     writer: &mut W,
-    version: HTTPVersion,
-    status: StatusCode,
-    headers: &[Header],
-    now: HttpDate,
-    no_body: bool,
+    top: &Top<'_>,
+    withheld: bool,
 ) -> Result<(), io::Error>
-    ensures { IfSome (D.feed data.old) (λ feed. length feed.bytes < 2 ^ 63 →
+    ensures text { IfSome (D.feed source.old) (λ feed. length feed.bytes < 2 ^ 63 →
         PrintsGathered (W.sink writer.old) (W.sink writer.new) result
-        (head version status.0 None headers.now now (FramingHeader.ContentLength (length feed.bytes)))
-        (is_withheld no_body status.0) feed) }
+        (head_of top.now None (FramingHeader.ContentLength (length feed.bytes)))
+        withheld feed) }
+    ensures uses { Uses (W.sink writer.old) (W.sink writer.new) result }
 {
-    let bytes = gather(alloc, data)?;
-    print_bytes(
-        bytes.as_slice(),
-        writer,
-        version,
-        status,
-        headers,
-        now,
-        no_body,
-    )
+    let bytes = gather(alloc, source)?;
+    print_bytes(bytes.as_slice(), writer, top, withheld)
 }
 
 // Prints an answer whose body isn't coded, by its length.
 fn print_uncoded<D: ReadDevice, W: WriteDevice>(
     alloc: Global,
-    data: &mut D,
+    source: &mut D,
     writer: &mut W,
+    top: &Top<'_>,
     known: Option<usize>,
-    version: HTTPVersion,
-    status: StatusCode,
-    headers: &[Header],
-    now: HttpDate,
     no_body: bool,
 ) -> Result<(), io::Error>
-    ensures { IfSome (D.feed data.old) (λ feed. length feed.bytes < 2 ^ 63 →
+    ensures text { IfSome (D.feed source.old) (λ feed. length feed.bytes < 2 ^ 63 →
         PrintsUncoded (W.sink writer.old) (W.sink writer.new) result known
-        (as_it_is known (λ framing. head version status.0 None headers.now now framing)
-        (is_withheld no_body status.0) feed)) }
+        (as_it_is known (λ framing. head_of top.now None framing)
+        (is_withheld no_body top.now.status.0) feed)) }
+    ensures uses { Uses (W.sink writer.old) (W.sink writer.new) result }
 {
+    let withheld = is_withheld(no_body, top.status.0);
     match known {
-        Some(n) => print_as_it_is(data, writer, version, status, headers, now, no_body, n),
-        None => print_gathered(alloc, data, writer, version, status, headers, now, no_body),
+        Some(n) => print_as_it_is(source, writer, top, withheld, n),
+        None => print_gathered(alloc, source, writer, top, withheld),
     }
 }
 
 // Prints an upgrade's answer.
 fn print_upgrade<W: WriteDevice>(
     writer: &mut W,
-    version: HTTPVersion,
-    status: StatusCode,
+    top: &Top<'_>,
     protocol: &str,
-    headers: &[Header],
-    now: HttpDate,
 ) -> Result<(), io::Error>
     ensures { Prints (W.sink writer.old) (W.sink writer.new) result
         (if is_ascii protocol.now
-        then whole (head version status.0 (Some protocol.now) headers.now now FramingHeader.Neither)
+        then whole (head_of top.now (Some protocol.now) FramingHeader.Neither)
         else nothing ErrorKind.InvalidInput) }
 {
     if !is_ascii(protocol.as_bytes()) {
         return Err(ErrorKind::InvalidInput.into());
     }
-    put_head(
-        writer,
-        version,
-        status,
-        Some(protocol),
-        headers,
-        now,
-        FramingHeader::Neither,
-    )
+    put_head(writer, top, Some(protocol), FramingHeader::Neither)
 }

@@ -1,11 +1,11 @@
-use Rattle.std.proofs.Common.{◌≡◌, ℕ, ◌-◌, ◌≤◌, length, take}
+use Rattle.std.proofs.Common.{◌-◌, ◌≤◌, length}
 use Rattle.tiny_http_wire.specs.Device.{FilledTo}
 use Rattle.tiny_http_wire.proofs.gather.fill.Given as goal
 
 abbrev pub invariant-loop-at : goal.invariant-loop-at
 invariant-loop-at g l = record {
   within : l.at ≤ length l.buf;
-  filled : FilledTo (g.D.ReadDevice.feed l.initial.data) (g.D.ReadDevice.feed l.data) l.at l.buf;
+  filled : FilledTo (g.D.ReadDevice.feed l.initial.source) (g.D.ReadDevice.feed l.source) l.at l.buf;
 }
 
 abbrev pub decreases-loop-at : goal.decreases-loop-at

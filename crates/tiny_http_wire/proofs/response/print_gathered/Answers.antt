@@ -1,14 +1,23 @@
-use Rattle.std.proofs.Common.{None, ℕ, length}
+use Rattle.std.proofs.Common.{None, length, inl}
 use Rattle.std.proofs.lemmas.Result.{err_from_is_err_and}
-use Rattle.tiny_http_wire.specs.Answer.{head, is_withheld}
+use Rattle.tiny_http_wire.specs.Top.{head_of}
 use Rattle.tiny_http_wire.specs.declared.coding.FramingHeader.TheVariants.{ContentLength}
+use Rattle.tiny_http_wire.proofs.FaultLemmas.{SameFaults-none, Puts-uses}
 use Rattle.tiny_http_wire.proofs.BodyLemmas.{Gathered-fault, Gathered-printed}
 use Rattle.tiny_http_wire.proofs.response.print_gathered.Goals as goal
 
-pub returns-in_err-bytes : goal.returns-in_err-bytes
-returns-in_err-bytes g c =
+pub returns-in_err-bytes-clause-text : goal.returns-in_err-bytes-clause-text
+returns-in_err-bytes-clause-text g c =
     let p = err_from_is_err_and c.from_residual.result c.from_residual.ensures.1 in
-    rw (p.1, p.2) (Gathered-fault _ _ c.in_err-bytes.field-0.0 (λ f. head c.args.version c.args.status.0 None c.args.headers.now c.args.now (ContentLength (length f.bytes))) (is_withheld c.args.no_body c.args.status.0) c.in_err-bytes.ensures)
+    rw (p.1, p.2) (Gathered-fault _ _ c.in_err-bytes.field-0.0 (λ f. head_of c.args.top.now None (ContentLength (length f.bytes))) c.args.withheld c.in_err-bytes.ensures)
 
-pub returns : goal.returns
-returns g c = Gathered-printed _ _ _ _ _ _ (λ n. head c.args.version c.args.status.0 None c.args.headers.now c.args.now (ContentLength n)) (is_withheld c.args.no_body c.args.status.0) c.as_slice.ensures.value c.in_ok-bytes.ensures c.print_bytes.ensures
+pub returns-clause-text : goal.returns-clause-text
+returns-clause-text g c = Gathered-printed _ _ _ _ _ _ (λ n. head_of c.args.top.now None (ContentLength n)) c.args.withheld c.as_slice.ensures.value c.in_ok-bytes.ensures c.print_bytes.ensures
+
+pub returns-in_err-bytes-clause-uses : goal.returns-in_err-bytes-clause-uses
+returns-in_err-bytes-clause-uses g c =
+    let p = err_from_is_err_and c.from_residual.result c.from_residual.ensures.1 in
+    rw (p.1, p.2) (inl (SameFaults-none _))
+
+pub returns-clause-uses : goal.returns-clause-uses
+returns-clause-uses g c = Puts-uses _ _ _ _ c.print_bytes.ensures
