@@ -72,13 +72,13 @@ abbrev pub Has : Outcome → State → Replied → State → Type 0
 Has o old reply new = (new.reached ≡ reached_by o) × Writes o.writer old o.reply o.slots reply new.failure
 
 -- the response's data are read whole before its head
+abbrev pub GathersFor : HttpDate → ResponseValue → Item → Type 0
+GathersFor date response (Asks r) = IsGathered response.answer (to_request r date)
+GathersFor date response (Refuses status version withheld) = ⊥
+
 abbrev pub GathersAt : HttpDate → ResponseValue → Option Slot → Type 0
 GathersAt date response None = ⊥
 GathersAt date response (Some s) = GathersFor date response s.item
-  where
-    abbrev pub GathersFor : HttpDate → ResponseValue → Item → Type 0
-    GathersFor date response (Asks r) = IsGathered response.answer (to_request r date)
-    GathersFor date response (Refuses status version withheld) = ⊥
 
 -- where no memory was found, the step had to gather
 abbrev pub MayLack : Bool → HttpDate → Reached → Asked → Type 0

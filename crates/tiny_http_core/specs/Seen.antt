@@ -1,5 +1,5 @@
 -- The program's steps and replies as the definitions see them.
-use Rattle.std.specs.Prelude.{◌≡◌, ◌<◌, ◌^◌, length, Option, None, Some, option_map, ⊥}
+use Rattle.std.specs.Prelude.{◌≡◌, ◌<◌, ◌^◌, length, Option, Some}
 use Rattle.tiny_http_wire.specs.Device.{Feed}
 use Rattle.tiny_http_wire.specs.Answer.{Reply as Response}
 use Rattle.tiny_http_core.specs.declared.driver.Step.{Step}

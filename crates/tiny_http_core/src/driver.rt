@@ -223,9 +223,10 @@ impl<R: ReadDevice, W: WriteDevice> Connection<R, W> {
     }
 
     fn step<D: ReadDevice + Drop>(&mut self, alloc: Global, timed: Timed<D>) -> Reply {
-        match timed.step {
-            Step::Ask => self.ask(alloc, timed.now),
-            Step::Respond(number, response) => self.respond(alloc, timed.now, number, response),
+        let Timed { now, step } = timed;
+        match step {
+            Step::Ask => self.ask(alloc, now),
+            Step::Respond(number, response) => self.respond(alloc, now, number, response),
         }
     }
 }

@@ -10,7 +10,7 @@ ghost use Rattle.tiny_http_core.specs.Framing.{value_of, mentions, body_length, 
 use crate::exchange::Form;
 use tiny_http_wire::ascii::AsciiString;
 use tiny_http_wire::common::{HTTPVersion, Header};
-use tiny_http_wire::response::read_length;
+use tiny_http_wire::grammar::parse_content_length;
 
 /// How a message is framed: its body's form, whether a 100 is owed, the length that it says, and whether the connection
 /// ends behind it.
@@ -79,7 +79,7 @@ fn body_length(headers: &[Header]) -> Option<usize>
         return None;
     }
     match value_of(headers, "Content-Length") {
-        Some(value) => read_length(value.as_str()),
+        Some(value) => parse_content_length(value.as_str()),
         None => None,
     }
 }

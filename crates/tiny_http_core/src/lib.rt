@@ -2,6 +2,7 @@
 #![tactic(auto)]
 
 mod buffer;
+pub mod driver;
 pub mod exchange;
 mod framing;
 mod heads;
