@@ -7,3 +7,4 @@ pub mod HeadServing
 pub mod Words
 pub mod Holding
 pub mod GoingOn
+pub mod PipelineLemmas

@@ -10,3 +10,4 @@ pub mod Slots
 pub mod Steps
 pub mod Conversation
 pub mod Seen
+pub mod Reading

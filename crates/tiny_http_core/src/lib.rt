@@ -7,5 +7,6 @@ pub mod exchange;
 mod framing;
 mod heads;
 mod input;
+pub mod laws;
 pub mod outlet;
 pub mod source;
