@@ -8,3 +8,4 @@ pub mod Words
 pub mod Holding
 pub mod GoingOn
 pub mod PipelineLemmas
+pub mod SendLemmas

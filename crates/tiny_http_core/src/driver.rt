@@ -1,10 +1,13 @@
 //! A connection driven by a list of steps, without threads.
-ghost use Rattle.std.specs.Prelude.{◌≡◌, List, Some, map, Ok, IfOk, IfErr};
+ghost use Rattle.std.specs.Prelude.{◌≡◌, ℕ, ◌-◌, ◌<◌, ◌^◌, ◌==◌, true, false, List, [], length, Some, None, map, Ok, IfOk, IfErr, MatchBool};
 ghost use Rattle.std.specs.List.{AllZip};
 ghost use Rattle.tiny_http_wire.specs.Device.{Feed, Sink};
-ghost use Rattle.tiny_http_core.specs.Slots.{ResponseValue};
+ghost use Rattle.tiny_http_core.specs.Slots.{ResponseValue, segment, new_slot};
+ghost use Rattle.tiny_http_core.specs.HeadReads.{refused};
 ghost use Rattle.tiny_http_core.specs.Conversation.{State, StepsTo, IsConversation, IsFresh, Dated};
 ghost use Rattle.tiny_http_core.specs.Steps.{Asked, Ask, Respond};
+ghost use Rattle.tiny_http_core.specs.Outlet.{outlet_sink, outlet_ended};
+ghost use Rattle.tiny_http_core.specs.Sending.{Sends, SendsUnlessEnded, EndsQuietly, Abandons, FailsOnce};
 
 use crate::exchange::{Head, HeadRead, Refusal};
 use crate::heads::read_head;
@@ -69,7 +72,7 @@ pub struct RunError<R, W> {
 
 /// What is kept of a request until it is answered.
 #[derive(Clone, Copy, Debug, PartialEq, Eq)]
-pub(crate) struct Open {
+pub(crate) struct Waiting {
     pub version: HTTPVersion,
     pub is_head: bool,
 }
@@ -81,7 +84,7 @@ pub(crate) struct Connection<R: ReadDevice, W: WriteDevice> {
     source: Source<R>,
     outlet: Outlet<W>,
     numbers: u64,
-    open: Option<Open>,
+    waiting: Option<Waiting>,
     over: bool,
     ended: bool,
 }
@@ -110,13 +113,68 @@ fn fault_of_answer(kind: ErrorKind) -> Reply {
     }
 }
 
+// Ends an outlet on which printing met a fault. Where the writer's count is still this one the fault was not the
+// writer's, and what is held is sent.
+fn end_behind_fault<W: WriteDevice>(outlet: &mut Outlet<W>, failures: u64)
+    ensures ends { MatchBool ((outlet_sink W.sink outlet.old).failures == failures)
+        (EndsQuietly (outlet_sink W.sink outlet.old) (outlet_sink W.sink outlet.new))
+        (Abandons (outlet_sink W.sink outlet.old) (outlet_sink W.sink outlet.new)) }
+    ensures ended { outlet_ended outlet.new ≡ true }
+    ensures takes_none { (outlet_sink W.sink outlet.new).has_ended ≡ true }
+{
+    if outlet.failures() == failures {
+        let _ = outlet.end();
+    } else {
+        outlet.abandon();
+    }
+}
+
+// Prints an answer and flushes it. Behind a fault nothing more is sent on the connection.
+fn print<W: WriteDevice, D: ReadDevice + Drop>(
+    alloc: Global,
+    outlet: &mut Outlet<W>,
+    response: Response<D>,
+    version: HTTPVersion,
+    no_body: bool,
+    now: HttpDate,
+) -> Result<(), io::Error>
+    ensures sends { (content : Feed) → D.feed response.data_reader ≡ Some content → length content.bytes < 2 ^ 63
+        → (outlet_sink W.sink outlet.old).has_ended ≡ false → (outlet_sink W.sink outlet.old).failures < 2 ^ 64 - 1
+        → Sends (outlet_sink W.sink outlet.old) (outlet_sink W.sink outlet.new) (outlet_ended outlet.new) result response.answer content
+            (record { version = version; request_headers = []; no_body = no_body; upgrade = None; date = now }) }
+    ensures fails_once { FailsOnce (outlet_sink W.sink outlet.old) (outlet_sink W.sink outlet.new) (outlet_ended outlet.new) }
+{
+    let failures = outlet.failures();
+    let printed = response.raw_print(alloc, outlet, version, &[], no_body, None, now);
+    if let Err(fault) = printed {
+        end_behind_fault(outlet, failures);
+        return Err(fault);
+    }
+    outlet.flush()
+}
+
+// Answers a refused head. No reply tells a fault that is met there.
+fn refuse<W: WriteDevice>(alloc: Global, outlet: &mut Outlet<W>, refusal: Refusal, now: HttpDate)
+    ensures sends { (outlet_sink W.sink outlet.old).has_ended ≡ outlet_ended outlet.old → (outlet_sink W.sink outlet.old).failures < 2 ^ 64 - 1
+        → SendsUnlessEnded (outlet_ended outlet.old) (outlet_sink W.sink outlet.old) (outlet_sink W.sink outlet.new) (outlet_ended outlet.new)
+            (segment (new_slot now (refused refusal))) }
+    ensures fails_once { FailsOnce (outlet_sink W.sink outlet.old) (outlet_sink W.sink outlet.new) (outlet_ended outlet.new) }
+    ensures stays { outlet_ended outlet.old ≡ true → (outlet_sink W.sink outlet.new).failures ≡ (outlet_sink W.sink outlet.old).failures }
+{
+    if outlet.is_ended() {
+        return;
+    }
+    let answer = Response::empty(alloc, StatusCode(400));
+    let _ = print(alloc, outlet, answer, refusal.version, false, now);
+}
+
 impl<R: ReadDevice, W: WriteDevice> Connection<R, W> {
     fn new(reader: R, writer: W) -> Connection<R, W> {
         Connection {
             source: Source::new(reader),
             outlet: Outlet::new(writer),
             numbers: 0,
-            open: None,
+            waiting: None,
             over: false,
             ended: false,
         }
@@ -127,7 +185,7 @@ impl<R: ReadDevice, W: WriteDevice> Connection<R, W> {
         if self.ended {
             return Reply::Ended;
         }
-        if self.open.is_some() {
+        if self.waiting.is_some() {
             return Reply::NotYet;
         }
         if self.over {
@@ -142,7 +200,7 @@ impl<R: ReadDevice, W: WriteDevice> Connection<R, W> {
             HeadRead::Request(head, _body) => {
                 let number = self.numbers;
                 self.numbers = numbers;
-                self.open = Some(Open {
+                self.waiting = Some(Waiting {
                     version: head.version,
                     is_head: is_head(&head.method),
                 });
@@ -152,7 +210,7 @@ impl<R: ReadDevice, W: WriteDevice> Connection<R, W> {
             HeadRead::Refused(refusal) => {
                 self.numbers = numbers;
                 self.ended = true;
-                self.refuse(alloc, refusal, now);
+                refuse(alloc, &mut self.outlet, refusal, now);
                 Reply::Ended
             }
             HeadRead::Ended => {
@@ -166,38 +224,6 @@ impl<R: ReadDevice, W: WriteDevice> Connection<R, W> {
         }
     }
 
-    // Answers a refused head. No reply tells a fault that is met there.
-    fn refuse(&mut self, alloc: Global, refusal: Refusal, now: HttpDate) {
-        if self.outlet.is_ended() {
-            return;
-        }
-        let answer = Response::new_empty(alloc, StatusCode(refusal.status));
-        let _ = self.print(alloc, answer, refusal.version, refusal.withheld, now);
-    }
-
-    // Prints an answer and flushes it. Behind a fault nothing more is sent on the connection.
-    fn print<D: ReadDevice + Drop>(
-        &mut self,
-        alloc: Global,
-        response: Response<D>,
-        version: HTTPVersion,
-        no_body: bool,
-        now: HttpDate,
-    ) -> Result<(), io::Error> {
-        let failures = self.outlet.failures();
-        match response.raw_print(alloc, &mut self.outlet, version, &[], no_body, None, now) {
-            Ok(()) => self.outlet.flush(),
-            Err(fault) => {
-                if self.outlet.failures() == failures {
-                    let _ = self.outlet.end();
-                } else {
-                    self.outlet.abandon();
-                }
-                Err(fault)
-            }
-        }
-    }
-
     // Answers the request of this number.
     fn respond<D: ReadDevice + Drop>(
         &mut self,
@@ -206,17 +232,17 @@ impl<R: ReadDevice, W: WriteDevice> Connection<R, W> {
         number: u64,
         response: Response<D>,
     ) -> Reply {
-        let Some(open) = self.open else {
+        let Some(waiting) = self.waiting else {
             return Reply::NoSuch;
         };
         if number.checked_add(1) != Some(self.numbers) {
             return Reply::NoSuch;
         }
-        self.open = None;
+        self.waiting = None;
         if self.outlet.is_ended() {
             return Reply::Done;
         }
-        match self.print(alloc, response, open.version, open.is_head, now) {
+        match print(alloc, &mut self.outlet, response, waiting.version, waiting.is_head, now) {
             Ok(()) => Reply::Done,
             Err(fault) => fault_of_answer(fault.kind()),
         }
