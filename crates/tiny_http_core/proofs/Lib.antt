@@ -9,3 +9,5 @@ pub mod Holding
 pub mod GoingOn
 pub mod PipelineLemmas
 pub mod SendLemmas
+pub mod SlotLemmas
+pub mod AskLemmas

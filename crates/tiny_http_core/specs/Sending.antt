@@ -1,5 +1,5 @@
 -- What sending an answer makes of an outlet.
-use Rattle.std.specs.Prelude.{◌≡◌, ℕ, ◌⊎◌, Bool, true, false, List, [], Option, Result, Ok, Err, MatchBool}
+use Rattle.std.specs.Prelude.{◌≡◌, ℕ, ◌-◌, ◌^◌, ◌<◌, ◌⊎◌, Bool, true, false, List, [], Option, Result, Ok, Err, MatchBool}
 use Rattle.std.specs.IoError.{error_kind}
 use Rattle.std.specs.declared.io.Error.{Error}
 use Rattle.std.specs.declared.io.ErrorKind.{ErrorKind}
@@ -9,6 +9,11 @@ use Rattle.httpdate.specs.declared.date.HttpDate.{HttpDate}
 use Rattle.tiny_http_wire.specs.Device.{Feed, Sink, IsFrontOf, Tells, next_count}
 use Rattle.tiny_http_wire.specs.Answer.{Answer, Text, Whole, Broken, Printing, text_of, nothing}
 use Rattle.tiny_http_core.specs.Slots.{IsGathered}
+
+-- the writer takes bytes, and its count can rise
+pub record CanSend (sink : Sink) : Type 0 where
+  pub unended : sink.has_ended ≡ false
+  pub can_count : sink.failures < 2 ^ 64 - 1
 
 -- the writer took these bytes, and did not fail
 pub record Sent (old new : Sink) (text : List ℕ) : Type 0 where

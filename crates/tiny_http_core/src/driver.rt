@@ -4,10 +4,11 @@ ghost use Rattle.std.specs.List.{AllZip};
 ghost use Rattle.tiny_http_wire.specs.Device.{Feed, Sink};
 ghost use Rattle.tiny_http_core.specs.Slots.{ResponseValue, segment, new_slot};
 ghost use Rattle.tiny_http_core.specs.HeadReads.{refused};
+ghost use Rattle.tiny_http_core.specs.Pipeline.{is_head_method};
 ghost use Rattle.tiny_http_core.specs.Conversation.{State, StepsTo, IsConversation, IsFresh, Dated};
 ghost use Rattle.tiny_http_core.specs.Steps.{Asked, Ask, Respond};
 ghost use Rattle.tiny_http_core.specs.Outlet.{outlet_sink, outlet_ended};
-ghost use Rattle.tiny_http_core.specs.Sending.{Sends, SendsUnlessEnded, EndsQuietly, Abandons, FailsOnce};
+ghost use Rattle.tiny_http_core.specs.Sending.{Sends, SendsUnlessEnded, EndsQuietly, Abandons, CanSend, FailsOnce};
 
 use crate::exchange::{Head, HeadRead, Refusal};
 use crate::heads::read_head;
@@ -89,7 +90,9 @@ pub(crate) struct Connection<R: ReadDevice, W: WriteDevice> {
     ended: bool,
 }
 
-fn is_head(method: &Method) -> bool {
+fn is_head(method: &Method) -> bool
+    ensures { result ≡ is_head_method method.now }
+{
     matches!(method, Method::Head)
 }
 
@@ -139,7 +142,7 @@ fn print<W: WriteDevice, D: ReadDevice + Drop>(
     now: HttpDate,
 ) -> Result<(), io::Error>
     ensures sends { (content : Feed) → D.feed response.data_reader ≡ Some content → length content.bytes < 2 ^ 63
-        → (outlet_sink W.sink outlet.old).has_ended ≡ false → (outlet_sink W.sink outlet.old).failures < 2 ^ 64 - 1
+        → CanSend (outlet_sink W.sink outlet.old)
         → Sends (outlet_sink W.sink outlet.old) (outlet_sink W.sink outlet.new) (outlet_ended outlet.new) result response.answer content
             (record { version = version; request_headers = []; no_body = no_body; upgrade = None; date = now }) }
     ensures fails_once { FailsOnce (outlet_sink W.sink outlet.old) (outlet_sink W.sink outlet.new) (outlet_ended outlet.new) }
@@ -155,7 +158,7 @@ fn print<W: WriteDevice, D: ReadDevice + Drop>(
 
 // Answers a refused head. No reply tells a fault that is met there.
 fn refuse<W: WriteDevice>(alloc: Global, outlet: &mut Outlet<W>, refusal: Refusal, now: HttpDate)
-    ensures sends { (outlet_sink W.sink outlet.old).has_ended ≡ outlet_ended outlet.old → (outlet_sink W.sink outlet.old).failures < 2 ^ 64 - 1
+    ensures sends { (outlet_ended outlet.old ≡ false → CanSend (outlet_sink W.sink outlet.old))
         → SendsUnlessEnded (outlet_ended outlet.old) (outlet_sink W.sink outlet.old) (outlet_sink W.sink outlet.new) (outlet_ended outlet.new)
             (segment (new_slot now (refused refusal))) }
     ensures fails_once { FailsOnce (outlet_sink W.sink outlet.old) (outlet_sink W.sink outlet.new) (outlet_ended outlet.new) }
@@ -169,6 +172,9 @@ fn refuse<W: WriteDevice>(alloc: Global, outlet: &mut Outlet<W>, refusal: Refusa
 }
 
 impl<R: ReadDevice, W: WriteDevice> Connection<R, W> {
+    ghost use Rattle.tiny_http_core.specs.Connection.{kept, Stands};
+    ghost use Rattle.tiny_http_core.specs.Seen.{seen};
+
     fn new(reader: R, writer: W) -> Connection<R, W> {
         Connection {
             source: Source::new(reader),
@@ -181,7 +187,10 @@ impl<R: ReadDevice, W: WriteDevice> Connection<R, W> {
     }
 
     // Goes to the next request.
-    fn ask(&mut self, alloc: Global, now: HttpDate) -> Reply {
+    fn ask(&mut self, alloc: Global, now: HttpDate) -> Reply
+        ensures { (client : Feed) (before : Sink) (s : State) → before.failures < 2 ^ 64 - 1 → Stands client before (kept W.sink self.old) s
+            → (new : State) × Stands client before (kept W.sink self.new) new × StepsTo s now Ask (seen result) new }
+    {
         if self.ended {
             return Reply::Ended;
         }
