@@ -120,7 +120,7 @@ told-feed : (client : Feed) (o : Option Feed) → GoesOn (Some client) o → (f 
 told-feed client None h = absurd h
 told-feed client (Some f) h = (f, refl)
 
-all-finished : (k : Kept) (s : State) → k.waiting ≡ None → WaitsFor k.waiting s.reached.slots → list_all is_finished s.reached.slots ≡ true
+pub all-finished : (k : Kept) (s : State) → k.waiting ≡ None → WaitsFor k.waiting s.reached.slots → list_all is_finished s.reached.slots ≡ true
 all-finished k s e h = let P : Option Waiting → Type 0 = λ w. WaitsFor w s.reached.slots in subst P e h
 
 going : (client : Feed) (before : Sink) (k : Kept) (s : State) → Stands client before k s → k.ended ≡ false → k.waiting ≡ None → k.over ≡ false → Going k s

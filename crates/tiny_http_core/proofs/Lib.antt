@@ -11,3 +11,4 @@ pub mod PipelineLemmas
 pub mod SendLemmas
 pub mod SlotLemmas
 pub mod AskLemmas
+pub mod RespondLemmas

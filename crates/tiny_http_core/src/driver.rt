@@ -6,7 +6,7 @@ ghost use Rattle.tiny_http_core.specs.Slots.{ResponseValue, segment, new_slot};
 ghost use Rattle.tiny_http_core.specs.HeadReads.{refused};
 ghost use Rattle.tiny_http_core.specs.Pipeline.{is_head_method};
 ghost use Rattle.tiny_http_core.specs.Conversation.{State, StepsTo, IsConversation, IsFresh, Dated};
-ghost use Rattle.tiny_http_core.specs.Steps.{Asked, Ask, Respond};
+ghost use Rattle.tiny_http_core.specs.Steps.{Asked, Ask, Respond, is_closed_client, fault_of_answer};
 ghost use Rattle.tiny_http_core.specs.Outlet.{outlet_sink, outlet_ended};
 ghost use Rattle.tiny_http_core.specs.Sending.{Sends, SendsUnlessEnded, EndsQuietly, Abandons, CanSend, FailsOnce};
 
@@ -97,7 +97,9 @@ fn is_head(method: &Method) -> bool
 }
 
 // The kinds of fault of a client that has closed the connection: an answer to it is no failure.
-fn is_closed_client(kind: ErrorKind) -> bool {
+fn is_closed_client(kind: ErrorKind) -> bool
+    ensures { result ≡ is_closed_client kind }
+{
     matches!(
         kind,
         ErrorKind::BrokenPipe
@@ -105,15 +107,6 @@ fn is_closed_client(kind: ErrorKind) -> bool {
             | ErrorKind::ConnectionRefused
             | ErrorKind::ConnectionReset
     )
-}
-
-// How a fault of an answer is told.
-fn fault_of_answer(kind: ErrorKind) -> Reply {
-    if is_closed_client(kind) {
-        Reply::Done
-    } else {
-        Reply::Fault(kind)
-    }
 }
 
 // Ends an outlet on which printing met a fault. Where the writer's count is still this one the fault was not the
@@ -171,9 +164,23 @@ fn refuse<W: WriteDevice>(alloc: Global, outlet: &mut Outlet<W>, refusal: Refusa
     let _ = print(alloc, outlet, answer, refusal.version, false, now);
 }
 
+impl Reply {
+    ghost use Rattle.tiny_http_core.specs.Seen.{seen};
+
+    // How a fault of an answer is told.
+    fn fault_of_answer(kind: ErrorKind) -> Reply
+        ensures { seen result ≡ fault_of_answer kind }
+    {
+        if is_closed_client(kind) {
+            return Reply::Done;
+        }
+        Reply::Fault(kind)
+    }
+}
+
 impl<R: ReadDevice, W: WriteDevice> Connection<R, W> {
     ghost use Rattle.tiny_http_core.specs.Connection.{kept, Stands};
-    ghost use Rattle.tiny_http_core.specs.Seen.{seen};
+    ghost use Rattle.tiny_http_core.specs.Seen.{seen, IsResponse, IsTold};
 
     fn new(reader: R, writer: W) -> Connection<R, W> {
         Connection {
@@ -240,11 +247,14 @@ impl<R: ReadDevice, W: WriteDevice> Connection<R, W> {
         now: HttpDate,
         number: u64,
         response: Response<D>,
-    ) -> Reply {
+    ) -> Reply
+        ensures { (client : Feed) (before : Sink) (s : State) (value : ResponseValue) → before.failures < 2 ^ 64 - 1 → IsResponse D.feed response value → Stands client before (kept W.sink self.old) s
+            → (new : State) × Stands client before (kept W.sink self.new) new × StepsTo s now (Respond number value) (seen result) new }
+    {
         let Some(waiting) = self.waiting else {
             return Reply::NoSuch;
         };
-        if number.checked_add(1) != Some(self.numbers) {
+        if number >= self.numbers || number != self.numbers - 1 {
             return Reply::NoSuch;
         }
         self.waiting = None;
@@ -253,7 +263,7 @@ impl<R: ReadDevice, W: WriteDevice> Connection<R, W> {
         }
         match print(alloc, &mut self.outlet, response, waiting.version, waiting.is_head, now) {
             Ok(()) => Reply::Done,
-            Err(fault) => fault_of_answer(fault.kind()),
+            Err(fault) => Reply::fault_of_answer(fault.kind()),
         }
     }
 
