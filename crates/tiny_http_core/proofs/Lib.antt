@@ -12,3 +12,5 @@ pub mod SendLemmas
 pub mod SlotLemmas
 pub mod AskLemmas
 pub mod RespondLemmas
+pub mod StepLemmas
+pub mod RunLemmas

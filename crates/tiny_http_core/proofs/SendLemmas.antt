@@ -22,7 +22,7 @@ pub or-false : (a b : Bool) → (a || b) ≡ false → (a ≡ false) × (b ≡ f
 or-false true b h = cc
 or-false false b h = (refl, h)
 
-append-none : (known : Option (List ℕ)) → append_known known [] ≡ known
+pub append-none : (known : Option (List ℕ)) → append_known known [] ≡ known
 append-none None = refl
 append-none (Some xs) = ap Some (append-nil xs)
 
@@ -73,7 +73,7 @@ grown-front : (ended : Bool) (known : Option (List ℕ)) (held : List ℕ) → I
 grown-front true known held = ([], sym (append-none known))
 grown-front false known held = (held, refl)
 
-grown-none : (ended : Bool) (known : Option (List ℕ)) → grown ended known [] ≡ known
+pub grown-none : (ended : Bool) (known : Option (List ℕ)) → grown ended known [] ≡ known
 grown-none true known = refl
 grown-none false known = append-none known
 

@@ -61,3 +61,10 @@ SendsUnlessEnded was old new ended text = MatchBool was ((new ≡ old) × (ended
 -- whatever reader and writer tell: the writer's count is as it was, or it failed once, and the outlet has ended
 abbrev pub FailsOnce : Sink → Sink → Bool → Type 0
 FailsOnce old new ended = (new.failures ≡ old.failures) ⊎ ((new.failures ≡ next_count old.failures) × (ended ≡ true))
+
+-- the writer failed at most once since it told this count
+abbrev pub FailedOnce : ℕ → Sink → Bool → Type 0
+FailedOnce n sink ended = (sink.failures ≡ n) ⊎ ((sink.failures ≡ next_count n) × (ended ≡ true))
+
+abbrev pub FailsAtMostOnce : Sink → Sink → Type 0
+FailsAtMostOnce old new = (new.failures ≡ old.failures) ⊎ (new.failures ≡ next_count old.failures)

@@ -1,14 +1,17 @@
 //! A connection driven by a list of steps, without threads.
-ghost use Rattle.std.specs.Prelude.{◌≡◌, ℕ, ◌-◌, ◌<◌, ◌^◌, ◌==◌, true, false, List, [], length, Some, None, map, Ok, IfOk, IfErr, MatchBool};
+ghost use Rattle.std.specs.Prelude.{◌≡◌, ℕ, ◌-◌, ◌<◌, ◌^◌, ◌==◌, true, false, List, [], length, Some, None, map, Ok, IfOk, IfErr, MatchBool, vec_len};
 ghost use Rattle.std.specs.List.{AllZip};
 ghost use Rattle.tiny_http_wire.specs.Device.{Feed, Sink};
 ghost use Rattle.tiny_http_core.specs.Slots.{ResponseValue, segment, new_slot};
 ghost use Rattle.tiny_http_core.specs.HeadReads.{refused};
-ghost use Rattle.tiny_http_core.specs.Pipeline.{is_head_method};
-ghost use Rattle.tiny_http_core.specs.Conversation.{State, StepsTo, IsConversation, IsFresh, Dated};
+ghost use Rattle.tiny_http_core.specs.Pipeline.{Item, Pipeline, is_head_method};
+ghost use Rattle.tiny_http_core.specs.Conversation.{State, StepsTo, IsConversation, IsFresh, Dated, start};
 ghost use Rattle.tiny_http_core.specs.Steps.{Asked, Ask, Respond, is_closed_client, fault_of_answer};
-ghost use Rattle.tiny_http_core.specs.Outlet.{outlet_sink, outlet_ended};
-ghost use Rattle.tiny_http_core.specs.Sending.{Sends, SendsUnlessEnded, EndsQuietly, Abandons, CanSend, FailsOnce};
+ghost use Rattle.tiny_http_core.specs.Source.{GoesOn};
+ghost use Rattle.tiny_http_core.specs.Connection.{kept, Stands};
+ghost use Rattle.tiny_http_core.specs.Seen.{seen, IsResponse, IsTold};
+ghost use Rattle.tiny_http_core.specs.Outlet.{outlet_sink, outlet_ended, outlet_held, outlet_writer};
+ghost use Rattle.tiny_http_core.specs.Sending.{Sends, SendsUnlessEnded, EndsQuietly, Abandons, CanSend, FailsOnce, FailedOnce, FailsAtMostOnce};
 
 use crate::exchange::{Head, HeadRead, Refusal};
 use crate::heads::read_head;
@@ -155,7 +158,7 @@ fn refuse<W: WriteDevice>(alloc: Global, outlet: &mut Outlet<W>, refusal: Refusa
         → SendsUnlessEnded (outlet_ended outlet.old) (outlet_sink W.sink outlet.old) (outlet_sink W.sink outlet.new) (outlet_ended outlet.new)
             (segment (new_slot now (refused refusal))) }
     ensures fails_once { FailsOnce (outlet_sink W.sink outlet.old) (outlet_sink W.sink outlet.new) (outlet_ended outlet.new) }
-    ensures stays { outlet_ended outlet.old ≡ true → (outlet_sink W.sink outlet.new).failures ≡ (outlet_sink W.sink outlet.old).failures }
+    ensures stays { outlet_ended outlet.old ≡ true → outlet.new ≡ outlet.old }
 {
     if outlet.is_ended() {
         return;
@@ -165,8 +168,6 @@ fn refuse<W: WriteDevice>(alloc: Global, outlet: &mut Outlet<W>, refusal: Refusa
 }
 
 impl Reply {
-    ghost use Rattle.tiny_http_core.specs.Seen.{seen};
-
     // How a fault of an answer is told.
     fn fault_of_answer(kind: ErrorKind) -> Reply
         ensures { seen result ≡ fault_of_answer kind }
@@ -179,10 +180,13 @@ impl Reply {
 }
 
 impl<R: ReadDevice, W: WriteDevice> Connection<R, W> {
-    ghost use Rattle.tiny_http_core.specs.Connection.{kept, Stands};
-    ghost use Rattle.tiny_http_core.specs.Seen.{seen, IsResponse, IsTold};
-
-    fn new(reader: R, writer: W) -> Connection<R, W> {
+    // A connection at its begin.
+    fn new(reader: R, writer: W) -> Connection<R, W>
+        ensures stands { (client : Feed) (items : List Item) → R.feed reader ≡ Some client → IsFresh (W.sink writer) → Pipeline (Some client.bytes) client.stop items
+            → Stands client (W.sink writer) (kept W.sink result) (start items) }
+        ensures feed { result.source.feed ≡ R.feed reader }
+        ensures failures { (outlet_sink W.sink result.outlet).failures ≡ (W.sink writer).failures }
+    {
         Connection {
             source: Source::new(reader),
             outlet: Outlet::new(writer),
@@ -195,8 +199,10 @@ impl<R: ReadDevice, W: WriteDevice> Connection<R, W> {
 
     // Goes to the next request.
     fn ask(&mut self, alloc: Global, now: HttpDate) -> Reply
-        ensures { (client : Feed) (before : Sink) (s : State) → before.failures < 2 ^ 64 - 1 → Stands client before (kept W.sink self.old) s
+        ensures stands { (client : Feed) (before : Sink) (s : State) → before.failures < 2 ^ 64 - 1 → Stands client before (kept W.sink self.old) s
             → (new : State) × Stands client before (kept W.sink self.new) new × StepsTo s now Ask (seen result) new }
+        ensures goes_on { GoesOn self.old.source.feed self.new.source.feed }
+        ensures once { (n : ℕ) → FailedOnce n (outlet_sink W.sink self.old.outlet) (outlet_ended self.old.outlet) → FailedOnce n (outlet_sink W.sink self.new.outlet) (outlet_ended self.new.outlet) }
     {
         if self.ended {
             return Reply::Ended;
@@ -248,8 +254,10 @@ impl<R: ReadDevice, W: WriteDevice> Connection<R, W> {
         number: u64,
         response: Response<D>,
     ) -> Reply
-        ensures { (client : Feed) (before : Sink) (s : State) (value : ResponseValue) → before.failures < 2 ^ 64 - 1 → IsResponse D.feed response value → Stands client before (kept W.sink self.old) s
+        ensures stands { (client : Feed) (before : Sink) (s : State) (value : ResponseValue) → before.failures < 2 ^ 64 - 1 → IsResponse D.feed response value → Stands client before (kept W.sink self.old) s
             → (new : State) × Stands client before (kept W.sink self.new) new × StepsTo s now (Respond number value) (seen result) new }
+        ensures goes_on { self.new.source ≡ self.old.source }
+        ensures once { (n : ℕ) → FailedOnce n (outlet_sink W.sink self.old.outlet) (outlet_ended self.old.outlet) → FailedOnce n (outlet_sink W.sink self.new.outlet) (outlet_ended self.new.outlet) }
     {
         let Some(waiting) = self.waiting else {
             return Reply::NoSuch;
@@ -267,7 +275,12 @@ impl<R: ReadDevice, W: WriteDevice> Connection<R, W> {
         }
     }
 
-    fn step<D: ReadDevice + Drop>(&mut self, alloc: Global, timed: Timed<D>) -> Reply {
+    fn step<D: ReadDevice + Drop>(&mut self, alloc: Global, timed: Timed<D>) -> Reply
+        ensures stands { (client : Feed) (before : Sink) (s : State) (d : Dated) → before.failures < 2 ^ 64 - 1 → IsTold D.feed timed d → Stands client before (kept W.sink self.old) s
+            → (new : State) × Stands client before (kept W.sink self.new) new × StepsTo s d.0 d.1 (seen result) new }
+        ensures goes_on { GoesOn self.old.source.feed self.new.source.feed }
+        ensures once { (n : ℕ) → FailedOnce n (outlet_sink W.sink self.old.outlet) (outlet_ended self.old.outlet) → FailedOnce n (outlet_sink W.sink self.new.outlet) (outlet_ended self.new.outlet) }
+    {
         let Timed { now, step } = timed;
         match step {
             Step::Ask => self.ask(alloc, now),
@@ -276,13 +289,26 @@ impl<R: ReadDevice, W: WriteDevice> Connection<R, W> {
     }
 }
 
-/// Runs the steps over a connection, one reply a step.
+/// Runs the steps over a connection, one reply a step. It hands out exactly the requests that the grammar finds in the
+/// client's bytes, and the output is one segment a request or refused head, in order, whole up to the first fault.
 pub fn run<R: ReadDevice + Drop, W: WriteDevice + Drop, D: ReadDevice + Drop>(
     alloc: Global,
     reader: R,
     writer: W,
     steps: Vec<Timed<D>>,
-) -> Result<Record<R, W>, RunError<R, W>> {
+) -> Result<Record<R, W>, RunError<R, W>>
+    // THE CONNECTION THEOREM: the reader tells its feed; the writer tells that it took nothing, has not ended, and its count
+    // can rise; the responses' data tell their feeds of fewer than 2^63 bytes.
+    ensures conversation { IfOk result (λ done. (feed : Feed) (dated : List Dated) → R.feed reader ≡ Some feed → IsFresh (W.sink writer) → AllZip (IsTold D.feed) steps.items dated
+        → IsConversation feed (W.sink writer) dated (map seen done.replies.items) (W.sink (outlet_writer done.outlet)) (outlet_held done.outlet)) }
+    // What the source still gives is the client's bytes from some place on.
+    ensures source { IfOk result (λ done. GoesOn (R.feed reader) done.source.feed) }
+
+    // Whatever reader, writer and data tell.
+    ensures replies { IfOk result (λ done. vec_len done.replies ≡ vec_len steps) }
+    ensures once { IfOk result (λ done. FailsAtMostOnce (W.sink writer) (W.sink (outlet_writer done.outlet))) }
+    ensures err { IfErr result (λ e. (e.reader ≡ reader) × (e.writer ≡ writer)) }
+{
     let Ok(mut replies) = Vec::with_capacity(alloc, steps.len()) else {
         return Err(RunError { reader, writer });
     };
@@ -291,9 +317,10 @@ pub fn run<R: ReadDevice + Drop, W: WriteDevice + Drop, D: ReadDevice + Drop>(
         let reply = connection.step(alloc, timed);
         replies.push_reserved(reply);
     }
+    let Connection { source, outlet, .. } = connection;
     Ok(Record {
         replies,
-        source: connection.source,
-        outlet: connection.outlet,
+        source,
+        outlet,
     })
 }

@@ -8,35 +8,35 @@ use Rattle.tiny_http_core.specs.HeadReads.{head_message, head_framing}
 use Rattle.tiny_http_core.proofs.AskLemmas.{Answered, none-of, ask-ended, ask-not_yet, ask-over, ask-none, ask-memory, ask-handed, ask-refused, same-feed, refused-whole, can-send}
 use Rattle.tiny_http_core.proofs.driver.Connection.ask.Goals as goal
 
-pub returns-then-self : goal.returns-then-self
-returns-then-self g c client before s low st = ask-ended client before (kept g.W.WriteDevice.sink c.args.self.now) s c.args.now st (search rules)
+pub returns-then-self-clause-stands : goal.returns-then-self-clause-stands
+returns-then-self-clause-stands g c client before s low st = ask-ended client before (kept g.W.WriteDevice.sink c.args.self.now) s c.args.now st (search rules)
 
-pub returns-then-is_some : goal.returns-then-is_some
-returns-then-is_some g c client before s low st =
+pub returns-then-is_some-clause-stands : goal.returns-then-is_some-clause-stands
+returns-then-is_some-clause-stands g c client before s low st =
     ask-not_yet client before (kept g.W.WriteDevice.sink c.args.self.now) s c.args.now st (search rules) (search rules)
 
-pub returns-then-self-2 : goal.returns-then-self-2
-returns-then-self-2 g c client before s low st =
+pub returns-then-self-2-clause-stands : goal.returns-then-self-2-clause-stands
+returns-then-self-2-clause-stands g c client before s low st =
     let q = c.args.self.now in
     ask-over client before (kept g.W.WriteDevice.sink q) s c.args.now st (search rules) (none-of q.waiting (search rules)) (search rules)
 
-pub returns-in_default : goal.returns-in_default
-returns-in_default g c client before s low st =
+pub returns-in_default-clause-stands : goal.returns-in_default-clause-stands
+returns-in_default-clause-stands g c client before s low st =
     let q = c.args.self.now in
     ask-memory client before (kept g.W.WriteDevice.sink q) s c.args.now q.source.feed st (search rules) (none-of q.waiting (search rules)) (same-feed q.source.feed)
 
-pub returns-in-Ended : goal.returns-in-Ended
-returns-in-Ended g c client before s low st =
+pub returns-in-Ended-clause-stands : goal.returns-in-Ended-clause-stands
+returns-in-Ended-clause-stands g c client before s low st =
     let q = c.args.self.now in
     ask-none client before (kept g.W.WriteDevice.sink q) s c.args.now c.read_head.new.source.feed st (search rules) (none-of q.waiting (search rules)) (search rules) c.in-Ended.ensures.reads c.in-Ended.ensures.goes_on
 
-pub returns-in-Memory : goal.returns-in-Memory
-returns-in-Memory g c client before s low st =
+pub returns-in-Memory-clause-stands : goal.returns-in-Memory-clause-stands
+returns-in-Memory-clause-stands g c client before s low st =
     let q = c.args.self.now in
     ask-memory client before (kept g.W.WriteDevice.sink q) s c.args.now c.read_head.new.source.feed st (search rules) (none-of q.waiting (search rules)) c.in-Memory.ensures.goes_on
 
-pub returns-in-Request : goal.returns-in-Request
-returns-in-Request g c client before s low st =
+pub returns-in-Request-clause-stands : goal.returns-in-Request-clause-stands
+returns-in-Request-clause-stands g c client before s low st =
     let q = c.args.self.now in
     let h = c.in-Request.head in
     let k : Kept = kept g.W.WriteDevice.sink q in
@@ -46,8 +46,8 @@ returns-in-Request g c client before s low st =
     let done = ask-handed client before k s c.args.now h c.in-Request._body c.read_head.new.source.feed st (search rules) (none-of q.waiting (search rules)) (search rules) c.in-Request.ensures.reads c.in-Request.ensures.goes_on in
     subst (λ n. P n c.is_head.result) (sym numbers) (subst (λ b. P (q.numbers + 1) b) (sym c.is_head.ensures) done)
 
-pub returns-in-Refused : goal.returns-in-Refused
-returns-in-Refused g c client before s low st =
+pub returns-in-Refused-clause-stands : goal.returns-in-Refused-clause-stands
+returns-in-Refused-clause-stands g c client before s low st =
     let q = c.args.self.now in
     let k : Kept = kept g.W.WriteDevice.sink q in
     let sink : Sink = outlet_sink g.W.WriteDevice.sink c.refuse.new.outlet in

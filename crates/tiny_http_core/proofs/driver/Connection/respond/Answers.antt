@@ -13,11 +13,11 @@ use Rattle.tiny_http_core.proofs.RespondLemmas.{respond-none, respond-other, res
 use Rattle.tiny_http_core.proofs.driver.Connection.respond.Goals.{then-number-self-via-then-number-self, then-number-self-via-else-number-self+then-number-self-2}
 use Rattle.tiny_http_core.proofs.driver.Connection.respond.Goals as goal
 
-pub returns-in_default : goal.returns-in_default
-returns-in_default g c client before s value low is st = respond-none client before (kept g.W.WriteDevice.sink c.args.self.now) s c.args.now c.args.number value st (search rules)
+pub returns-in_default-clause-stands : goal.returns-in_default-clause-stands
+returns-in_default-clause-stands g c client before s value low is st = respond-none client before (kept g.W.WriteDevice.sink c.args.self.now) s c.args.now c.args.number value st (search rules)
 
-pub returns-then-number-self : goal.returns-then-number-self
-returns-then-number-self g c client before s value low is st =
+pub returns-then-number-self-clause-stands : goal.returns-then-number-self-clause-stands
+returns-then-number-self-clause-stands g c client before s value low is st =
     let q = c.args.self.now in
     let other : c.args.number + 1 ≡ q.numbers → ⊥ = λ e. elim c.then-number-self.branch [
       | then-number-self-via-then-number-self w ↦ absurd (omega arith)
@@ -25,13 +25,13 @@ returns-then-number-self g c client before s value low is st =
       ] in
     respond-other client before (kept g.W.WriteDevice.sink q) s c.args.now c.args.number value c.in-Some.waiting st c.in-Some.is other
 
-pub returns-then-is_ended : goal.returns-then-is_ended
-returns-then-is_ended g c client before s value low is st =
+pub returns-then-is_ended-clause-stands : goal.returns-then-is_ended-clause-stands
+returns-then-is_ended-clause-stands g c client before s value low is st =
     let q = c.args.self.now in
     respond-past client before (kept g.W.WriteDevice.sink q) s c.args.now c.args.number value c.in-Some.waiting st c.in-Some.is (omega arith) (search rules)
 
-pub returns-in-Ok : goal.returns-in-Ok
-returns-in-Ok g c client before s value low is st =
+pub returns-in-Ok-clause-stands : goal.returns-in-Ok-clause-stands
+returns-in-Ok-clause-stands g c client before s value low is st =
     let q = c.args.self.now in
     let k : Kept = kept g.W.WriteDevice.sink q in
     let w = c.in-Some.waiting in
@@ -41,8 +41,8 @@ returns-in-Ok g c client before s value low is st =
     let sends = subst P (sym is.0) (c.in-Ok.ensures.sends value.content is.1 is.2 (can-send client before k s st low unended)) in
     respond-sent client before k s c.args.now c.args.number value w (outlet_sink g.W.WriteDevice.sink new) (outlet_ended new) (Ok c.in-Ok.field-0) Done st low c.in-Some.is (omega arith) unended sends refl
 
-pub returns-in-Err : goal.returns-in-Err
-returns-in-Err g c client before s value low is st =
+pub returns-in-Err-clause-stands : goal.returns-in-Err-clause-stands
+returns-in-Err-clause-stands g c client before s value low is st =
     let q = c.args.self.now in
     let k : Kept = kept g.W.WriteDevice.sink q in
     let w = c.in-Some.waiting in
