@@ -303,3 +303,6 @@ fn print_upgrade<W: WriteDevice>(
     }
     put_head(writer, top, Some(protocol), FramingHeader::Neither)
 }
+
+#[cfg(test)]
+mod tests;
