@@ -1,13 +1,10 @@
 //! Answers to requests, and how they are printed.
-ghost use Rattle.std.specs.Prelude.{◌≡◌, ℕ, Bool, List, Option, Some, None, IfSome, if◌then◌else◌};
+ghost use Rattle.std.specs.Prelude.{◌≡◌, ℕ, Bool, List, Option, Some, None, IfSome, if◌then◌else◌, ◌∷◌, IfOk, vec_len, string_len, string_bytes, [], ◌<◌, ◌^◌, ◌++◌, length};
 ghost use Rattle.std.specs.Option.{option_copied};
-ghost use Rattle.tiny_http_wire.specs.Answer.{Answer, Reply, Prints, behind, whole, identity_body, is_withheld, is_ascii, PrintsGathered, PrintsUncoded, PrintsAnswer, as_it_is, nothing};
-ghost use Rattle.tiny_http_wire.specs.Answer.{text_plain, answer_with};
+ghost use Rattle.tiny_http_wire.specs.Answer.{Answer, Reply, Prints, behind, whole, identity_body, is_withheld, is_ascii, PrintsGathered, PrintsUncoded, PrintsAnswer, as_it_is, nothing, text_plain, answer_with};
 ghost use Rattle.tiny_http_wire.specs.Cursor.{cursor_bytes};
-ghost use Rattle.std.specs.Prelude.{◌∷◌, IfOk, vec_len, string_len, string_bytes};
 ghost use Rattle.tiny_http_wire.specs.Top.{head_of};
 ghost use Rattle.tiny_http_wire.specs.Device.{Puts, Uses};
-ghost use Rattle.std.specs.Prelude.{[], ◌<◌, ◌^◌, ◌++◌, length};
 
 use crate::body::put_exactly;
 use crate::coding::FramingHeader;
