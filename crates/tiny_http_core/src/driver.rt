@@ -133,6 +133,7 @@ impl<R: ReadDevice, W: WriteDevice> Connection<R, W> {
             → Stands client (W.sink writer) (kept W.sink result) (start items) }
         ensures feed { result.source.feed ≡ R.feed reader }
         ensures failures { (outlet_sink W.sink result.outlet).failures ≡ (W.sink writer).failures }
+        ensures flushed { outlet_held result.outlet ≡ [] }
     {
         Connection {
             source: Source::new(reader),
@@ -150,6 +151,7 @@ impl<R: ReadDevice, W: WriteDevice> Connection<R, W> {
             → (new : State) × Stands client before (kept W.sink self.new) new × StepsTo s now Ask (seen result) new }
         ensures goes_on { GoesOn self.old.source.feed self.new.source.feed }
         ensures fails_once { FailsOnceUnlessEnded (outlet_ended self.old.outlet) (outlet_sink W.sink self.old.outlet) (outlet_sink W.sink self.new.outlet) (outlet_ended self.new.outlet) }
+        ensures flushed { outlet_held self.old.outlet ≡ [] → outlet_held self.new.outlet ≡ [] }
         ensures honest { (kind : ErrorKind) → seen result ≡ Fault kind → ⊥ }
     {
         if self.ended {
@@ -206,6 +208,7 @@ impl<R: ReadDevice, W: WriteDevice> Connection<R, W> {
             → (new : State) × Stands client before (kept W.sink self.new) new × StepsTo s now (Respond number value) (seen result) new }
         ensures goes_on { self.new.source ≡ self.old.source }
         ensures fails_once { FailsOnceUnlessEnded (outlet_ended self.old.outlet) (outlet_sink W.sink self.old.outlet) (outlet_sink W.sink self.new.outlet) (outlet_ended self.new.outlet) }
+        ensures flushed { outlet_held self.old.outlet ≡ [] → outlet_held self.new.outlet ≡ [] }
         ensures honest { (kind : ErrorKind) → seen result ≡ Fault kind → IsHonest (outlet_sink W.sink self.old.outlet) (outlet_sink W.sink self.new.outlet) (D.feed response.data_reader) kind }
     {
         let Some(waiting) = self.waiting else {
@@ -229,6 +232,7 @@ impl<R: ReadDevice, W: WriteDevice> Connection<R, W> {
             → (new : State) × Stands client before (kept W.sink self.new) new × StepsTo s d.0 d.1 (seen result) new }
         ensures goes_on { GoesOn self.old.source.feed self.new.source.feed }
         ensures fails_once { FailsOnceUnlessEnded (outlet_ended self.old.outlet) (outlet_sink W.sink self.old.outlet) (outlet_sink W.sink self.new.outlet) (outlet_ended self.new.outlet) }
+        ensures flushed { outlet_held self.old.outlet ≡ [] → outlet_held self.new.outlet ≡ [] }
         ensures honest { TellsHonestly D.feed (outlet_sink W.sink self.old.outlet) (outlet_sink W.sink self.new.outlet) timed result }
     {
         let Timed { now, step } = timed;
@@ -258,6 +262,8 @@ pub fn run<R: ReadDevice + Drop, W: WriteDevice + Drop, D: ReadDevice + Drop>(
     ensures replies { IfOk result (λ done. vec_len done.replies ≡ vec_len steps) }
     ensures fails_once { IfOk result (λ done. FailsAtMostOnce (W.sink writer) (W.sink (outlet_writer done.outlet))) }
     ensures honest { IfOk result (λ done. AllZip (TellsHonestly D.feed (W.sink writer) (W.sink (outlet_writer done.outlet))) steps.items done.replies.items) }
+    // So far each step that writes flushes.
+    ensures flushed { IfOk result (λ done. outlet_held done.outlet ≡ []) }
     ensures err { IfErr result (λ e. (e.reader ≡ reader) × (e.writer ≡ writer)) }
 {
     let Ok(mut replies) = Vec::with_capacity(alloc, steps.len()) else {
