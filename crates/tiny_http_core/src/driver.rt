@@ -12,7 +12,7 @@ ghost use Rattle.std.specs.declared.io.ErrorKind.{ErrorKind};
 ghost use Rattle.tiny_http_core.specs.Source.{GoesOn};
 ghost use Rattle.tiny_http_core.specs.Connection.{kept, Stands};
 ghost use Rattle.tiny_http_core.specs.Seen.{seen, IsResponse, IsTold, TellsHonestly};
-ghost use Rattle.tiny_http_core.specs.Outlet.{outlet_sink, outlet_ended, outlet_held, outlet_writer};
+ghost use Rattle.tiny_http_core.specs.Outlet.{outlet_sink, outlet_ended, outlet_held, outlet_writer, SentOn};
 ghost use Rattle.tiny_http_core.specs.Sending.{Sends, SendsUnlessEnded, EndsQuietly, Abandons, CanSend, FailsOnce, FailsOnceUnlessEnded, FailsAtMostOnce, IsHonest};
 
 use crate::exchange::{Head, HeadRead};
@@ -134,6 +134,7 @@ impl<R: ReadDevice, W: WriteDevice> Connection<R, W> {
         ensures feed { result.source.feed ≡ R.feed reader }
         ensures failures { (outlet_sink W.sink result.outlet).failures ≡ (W.sink writer).failures }
         ensures flushed { outlet_held result.outlet ≡ [] }
+        ensures sent_on { W.held writer ≡ [] → SentOn W.sink W.held result.outlet }
     {
         Connection {
             source: Source::new(reader),
@@ -152,6 +153,7 @@ impl<R: ReadDevice, W: WriteDevice> Connection<R, W> {
         ensures goes_on { GoesOn self.old.source.feed self.new.source.feed }
         ensures fails_once { FailsOnceUnlessEnded (outlet_ended self.old.outlet) (outlet_sink W.sink self.old.outlet) (outlet_sink W.sink self.new.outlet) (outlet_ended self.new.outlet) }
         ensures flushed { outlet_held self.old.outlet ≡ [] → outlet_held self.new.outlet ≡ [] }
+        ensures sent_on { SentOn W.sink W.held self.old.outlet → SentOn W.sink W.held self.new.outlet }
         ensures honest { (kind : ErrorKind) → seen result ≡ Fault kind → ⊥ }
     {
         if self.ended {
@@ -209,6 +211,7 @@ impl<R: ReadDevice, W: WriteDevice> Connection<R, W> {
         ensures goes_on { self.new.source ≡ self.old.source }
         ensures fails_once { FailsOnceUnlessEnded (outlet_ended self.old.outlet) (outlet_sink W.sink self.old.outlet) (outlet_sink W.sink self.new.outlet) (outlet_ended self.new.outlet) }
         ensures flushed { outlet_held self.old.outlet ≡ [] → outlet_held self.new.outlet ≡ [] }
+        ensures sent_on { SentOn W.sink W.held self.old.outlet → SentOn W.sink W.held self.new.outlet }
         ensures honest { (kind : ErrorKind) → seen result ≡ Fault kind → IsHonest (outlet_sink W.sink self.old.outlet) (outlet_sink W.sink self.new.outlet) (D.feed response.data_reader) kind }
     {
         let Some(waiting) = self.waiting else {
@@ -240,6 +243,7 @@ impl<R: ReadDevice, W: WriteDevice> Connection<R, W> {
         ensures goes_on { GoesOn self.old.source.feed self.new.source.feed }
         ensures fails_once { FailsOnceUnlessEnded (outlet_ended self.old.outlet) (outlet_sink W.sink self.old.outlet) (outlet_sink W.sink self.new.outlet) (outlet_ended self.new.outlet) }
         ensures flushed { outlet_held self.old.outlet ≡ [] → outlet_held self.new.outlet ≡ [] }
+        ensures sent_on { SentOn W.sink W.held self.old.outlet → SentOn W.sink W.held self.new.outlet }
         ensures honest { TellsHonestly D.feed (outlet_sink W.sink self.old.outlet) (outlet_sink W.sink self.new.outlet) timed result }
     {
         let Timed { now, step } = timed;
@@ -269,8 +273,9 @@ pub fn run<R: ReadDevice + Drop, W: WriteDevice + Drop, D: ReadDevice + Drop>(
     ensures replies { IfOk result (λ done. vec_len done.replies ≡ vec_len steps) }
     ensures fails_once { IfOk result (λ done. FailsAtMostOnce (W.sink writer) (W.sink (outlet_writer done.outlet))) }
     ensures honest { IfOk result (λ done. AllZip (TellsHonestly D.feed (W.sink writer) (W.sink (outlet_writer done.outlet))) steps.items done.replies.items) }
-    // So far each step that writes flushes.
+    // So far each step that writes flushes, and so does the writer.
     ensures flushed { IfOk result (λ done. outlet_held done.outlet ≡ []) }
+    ensures sent_on { IfOk result (λ done. W.held writer ≡ [] → SentOn W.sink W.held done.outlet) }
     ensures err { IfErr result (λ e. (e.reader ≡ reader) × (e.writer ≡ writer)) }
 {
     let Ok(mut replies) = Vec::with_capacity(alloc, steps.len()) else {

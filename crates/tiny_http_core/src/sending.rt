@@ -4,7 +4,7 @@ ghost use Rattle.std.specs.IoError.{error_kind};
 ghost use Rattle.tiny_http_wire.specs.Device.{Feed};
 ghost use Rattle.tiny_http_core.specs.Slots.{segment, new_slot};
 ghost use Rattle.tiny_http_core.specs.HeadReads.{refused};
-ghost use Rattle.tiny_http_core.specs.Outlet.{outlet_sink, outlet_ended, outlet_held};
+ghost use Rattle.tiny_http_core.specs.Outlet.{outlet_sink, outlet_ended, outlet_held, SentOn};
 ghost use Rattle.tiny_http_core.specs.Sending.{Sends, SendsUnlessEnded, EndsQuietly, Abandons, CanSend, FailsOnce, FailsOnceUnlessEnded, IsHonest};
 
 use crate::exchange::Refusal;
@@ -50,6 +50,7 @@ pub(crate) fn send<W: WriteDevice, D: ReadDevice + Drop>(
     ensures fails_once { FailsOnce (outlet_sink W.sink outlet.old) (outlet_sink W.sink outlet.new) (outlet_ended outlet.new) }
     ensures honest { IfErr result (λ e. IsHonest (outlet_sink W.sink outlet.old) (outlet_sink W.sink outlet.new) (D.feed response.data_reader) (error_kind e)) }
     ensures flushed { outlet_held outlet.new ≡ [] }
+    ensures sent_on { SentOn W.sink W.held outlet.new }
 {
     let failures = outlet.failures();
     let printed = response.raw_print(alloc, outlet, version, &[], no_body, None, now);
@@ -72,6 +73,7 @@ pub(crate) fn refuse<W: WriteDevice>(
         (segment (new_slot now (refused refusal))) }
     ensures fails_once { FailsOnceUnlessEnded (outlet_ended outlet.old) (outlet_sink W.sink outlet.old) (outlet_sink W.sink outlet.new) (outlet_ended outlet.new) }
     ensures flushed { outlet_held outlet.new ≡ [] }
+    ensures sent_on { SentOn W.sink W.held outlet.new }
 {
     if outlet.is_ended() {
         return;

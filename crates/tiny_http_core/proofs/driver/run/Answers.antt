@@ -29,6 +29,7 @@ loop-timed-init g c =
       source = subst P (sym c.new-connection.ensures.feed) (goes-on_same reader);
       fails_once = inl c.new-connection.ensures.failures;
       flushed = c.new-connection.ensures.flushed;
+      sent_on = c.new-connection.ensures.sent_on;
       honest = rw c.in-Ok.ensures.items tt;
     }
 
@@ -50,6 +51,7 @@ loop-timed-preserved g c =
       source = goes-on_more _ _ _ inv.source c.step-reply.ensures.goes_on;
       fails_once = fails-step writer old.sink new.sink old.output_ended new.output_ended inv.fails_once c.step-reply.ensures.fails_once;
       flushed = c.step-reply.ensures.flushed inv.flushed;
+      sent_on = λ none. c.step-reply.ensures.sent_on (inv.sent_on none);
       honest = rw c.push_reserved.ensures.items
           (honest-step g.D.ReadDevice.feed writer old.sink new.sink old.output_ended new.output_ended c.loop-timed.yielded c.loop-timed.replies.items c.in-Some.timed c.step-reply.result inv.fails_once c.step-reply.ensures.fails_once inv.honest c.step-reply.ensures.honest);
     }
