@@ -1,0 +1,2 @@
+//! Tests of a whole connection: client bytes and steps in, replies and output out.
+#![tactic(auto)]
