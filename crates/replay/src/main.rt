@@ -2,6 +2,7 @@
 #![tactic(auto)]
 
 mod fault;
+mod line;
 mod reply;
 mod script;
 #[cfg(test)]
