@@ -1,0 +1,155 @@
+//! Runs the steps of a script over a client's bytes: `replay BYTES SCRIPT`.
+#![tactic(auto)]
+
+mod fault;
+mod line;
+mod reply;
+mod script;
+#[cfg(test)]
+mod tests;
+
+use crate::fault::Fault;
+use crate::reply::ReplyLine;
+use crate::script::{Data, ScriptFault, read_script};
+use std::alloc::Global;
+use std::io::{ErrorKind, Write};
+use std::process::ExitCode;
+use std::rt::{Env, Files};
+use std::{env, fs, io};
+use tiny_http_core::driver::{Record, Reply, Timed, run};
+use tiny_http_wire::device::{Canned, Metered, WriteDevice};
+
+/// What a run wrote, and what its steps were answered.
+#[derive(Drop)]
+struct Outcome {
+    output: Vec<u8>,
+    replies: Vec<Reply>,
+}
+
+// Runs the steps over the bytes and their end. The writer is in memory, so only want of memory makes it fail.
+fn run_steps(
+    alloc: Global,
+    bytes: Vec<u8>,
+    steps: Vec<Timed<Data>>,
+) -> Result<Outcome, Fault<'static>> {
+    let reader = Canned::new(bytes, None);
+    let writer = Metered::new(Vec::new(alloc));
+    let Ok(record) = run(alloc, reader, writer, steps) else {
+        return Err(Fault::OutOfMemory);
+    };
+    let replies = record.replies;
+    let mut outlet = record.outlet;
+    let flushed = outlet.flush();
+    if flushed.is_err() || outlet.failures() > 0 {
+        return Err(Fault::OutOfMemory);
+    }
+    let output = outlet.into_inner().into_inner();
+    Ok(Outcome { output, replies })
+}
+
+// Writes the output to the one, and a line for each reply to the other.
+fn write_outcome<O: Write, E: Write>(
+    outcome: &Outcome,
+    out: &mut O,
+    err: &mut E,
+) -> Result<(), io::Error> {
+    out.write_all(outcome.output.as_slice())?;
+    out.flush()?;
+    for reply in &outcome.replies {
+        writeln!(err, "{}", ReplyLine(reply))?;
+    }
+    err.flush()
+}
+
+// Runs a script and writes what came of it.
+fn replay<O: Write, E: Write>(
+    alloc: Global,
+    bytes: Vec<u8>,
+    script: &[u8],
+    out: &mut O,
+    err: &mut E,
+) -> Result<(), Fault<'static>> {
+    let steps = match read_script(alloc, script) {
+        Ok(steps) => steps,
+        Err(ScriptFault::BadLine(number)) => return Err(Fault::BadLine(number)),
+        Err(ScriptFault::OutOfMemory) => return Err(Fault::OutOfMemory),
+    };
+    let outcome = run_steps(alloc, bytes, steps)?;
+    match write_outcome(&outcome, out, err) {
+        Ok(()) => Ok(()),
+        Err(_) => Err(Fault::CannotWrite),
+    }
+}
+
+// Tells a fault by a line, and gives the exit status that tells it.
+fn tell<E: Write>(fault: &Fault<'_>, err: &mut E) -> u8 {
+    match writeln!(err, "replay: {fault}") {
+        Ok(()) => fault.status(),
+        Err(_) => Fault::CannotWrite.status(),
+    }
+}
+
+/// Runs the steps of a script over a client's bytes. Writes the output to `out`, then a line for each reply to `err`, and
+/// gives the exit status: 0, or that of a fault, which is told by a line on `err`. Behind a bad line of the script nothing
+/// is run.
+pub fn replay_on<O: Write, E: Write>(
+    alloc: Global,
+    bytes: Vec<u8>,
+    script: &[u8],
+    out: &mut O,
+    err: &mut E,
+) -> u8 {
+    match replay(alloc, bytes, script, out, err) {
+        Ok(()) => 0,
+        Err(fault) => tell(&fault, err),
+    }
+}
+
+// All bytes of a file.
+fn read_file<'a, R: Files + AllocGlobal>(rt: &R, name: &'a str) -> Result<Vec<u8>, Fault<'a>> {
+    match fs::read(rt, name) {
+        Ok(bytes) => Ok(bytes),
+        Err(fault) if fault.kind() == ErrorKind::OutOfMemory => Err(Fault::OutOfMemory),
+        Err(_) => Err(Fault::CannotRead(name)),
+    }
+}
+
+// The bytes of the two files that the words name.
+fn read_files<'a, R: Files + AllocGlobal>(
+    rt: &R,
+    words: &'a [String],
+) -> Result<(Vec<u8>, Vec<u8>), Fault<'a>> {
+    let [_, bytes, script] = words else {
+        return Err(Fault::Usage);
+    };
+    let bytes = read_file(rt, bytes.as_str())?;
+    let script = read_file(rt, script.as_str())?;
+    Ok((bytes, script))
+}
+
+// The words of the command line. One that isn't UTF-8 names no file that could be opened here.
+fn words<R: Env + AllocGlobal>(rt: &R) -> Result<Vec<String>, Fault<'static>> {
+    match env::args(rt) {
+        Ok(words) => match words.collect(rt.alloc()) {
+            Ok(words) => Ok(words),
+            Err(_) => Err(Fault::OutOfMemory),
+        },
+        Err(fault) if fault.kind() == ErrorKind::OutOfMemory => Err(Fault::OutOfMemory),
+        Err(_) => Err(Fault::Usage),
+    }
+}
+
+fn main(rt: HostRuntime) -> ExitCode {
+    let mut out = rt.stdout();
+    let mut err = rt.stderr();
+    let words = match words(&rt) {
+        Ok(words) => words,
+        Err(fault) => return ExitCode::from(tell(&fault, &mut err)),
+    };
+    let (bytes, script) = match read_files(&rt, words.as_slice()) {
+        Ok(files) => files,
+        Err(fault) => return ExitCode::from(tell(&fault, &mut err)),
+    };
+    let status = replay_on(rt.alloc(), bytes, script.as_slice(), &mut out, &mut err);
+    ExitCode::from(status)
+}
