@@ -6,12 +6,14 @@ ghost use Rattle.tiny_http_core.specs.Slots.{ResponseValue, segment, new_slot};
 ghost use Rattle.tiny_http_core.specs.HeadReads.{refused};
 ghost use Rattle.tiny_http_core.specs.Pipeline.{Item, Pipeline, is_head_method};
 ghost use Rattle.tiny_http_core.specs.Conversation.{State, StepsTo, IsConversation, IsFresh, Dated, start};
-ghost use Rattle.tiny_http_core.specs.Steps.{Asked, Ask, Respond, is_closed_client, fault_of_answer};
+ghost use Rattle.tiny_http_core.specs.Steps.{Asked, Ask, Respond, Fault, is_closed_client, fault_of_answer};
+ghost use Rattle.std.specs.IoError.{error_kind};
+ghost use Rattle.std.specs.declared.io.ErrorKind.{ErrorKind};
 ghost use Rattle.tiny_http_core.specs.Source.{GoesOn};
 ghost use Rattle.tiny_http_core.specs.Connection.{kept, Stands};
-ghost use Rattle.tiny_http_core.specs.Seen.{seen, IsResponse, IsTold};
+ghost use Rattle.tiny_http_core.specs.Seen.{seen, IsResponse, IsTold, TellsHonestly};
 ghost use Rattle.tiny_http_core.specs.Outlet.{outlet_sink, outlet_ended, outlet_held, outlet_writer};
-ghost use Rattle.tiny_http_core.specs.Sending.{Sends, SendsUnlessEnded, EndsQuietly, Abandons, CanSend, FailsOnce, FailedOnce, FailsAtMostOnce};
+ghost use Rattle.tiny_http_core.specs.Sending.{Sends, SendsUnlessEnded, EndsQuietly, Abandons, CanSend, FailsOnce, FailsOnceUnlessEnded, FailsAtMostOnce, IsHonest};
 
 use crate::exchange::{Head, HeadRead, Refusal};
 use crate::heads::read_head;
@@ -142,6 +144,7 @@ fn print<W: WriteDevice, D: ReadDevice + Drop>(
         → Sends (outlet_sink W.sink outlet.old) (outlet_sink W.sink outlet.new) (outlet_ended outlet.new) result response.answer content
             (record { version = version; request_headers = []; no_body = no_body; upgrade = None; date = now }) }
     ensures fails_once { FailsOnce (outlet_sink W.sink outlet.old) (outlet_sink W.sink outlet.new) (outlet_ended outlet.new) }
+    ensures honest { IfErr result (λ e. IsHonest (outlet_sink W.sink outlet.old) (outlet_sink W.sink outlet.new) (D.feed response.data_reader) (error_kind e)) }
 {
     let failures = outlet.failures();
     let printed = response.raw_print(alloc, outlet, version, &[], no_body, None, now);
@@ -157,8 +160,7 @@ fn refuse<W: WriteDevice>(alloc: Global, outlet: &mut Outlet<W>, refusal: Refusa
     ensures sends { (outlet_ended outlet.old ≡ false → CanSend (outlet_sink W.sink outlet.old))
         → SendsUnlessEnded (outlet_ended outlet.old) (outlet_sink W.sink outlet.old) (outlet_sink W.sink outlet.new) (outlet_ended outlet.new)
             (segment (new_slot now (refused refusal))) }
-    ensures fails_once { FailsOnce (outlet_sink W.sink outlet.old) (outlet_sink W.sink outlet.new) (outlet_ended outlet.new) }
-    ensures stays { outlet_ended outlet.old ≡ true → outlet.new ≡ outlet.old }
+    ensures fails_once { FailsOnceUnlessEnded (outlet_ended outlet.old) (outlet_sink W.sink outlet.old) (outlet_sink W.sink outlet.new) (outlet_ended outlet.new) }
 {
     if outlet.is_ended() {
         return;
@@ -202,7 +204,8 @@ impl<R: ReadDevice, W: WriteDevice> Connection<R, W> {
         ensures stands { (client : Feed) (before : Sink) (s : State) → before.failures < 2 ^ 64 - 1 → Stands client before (kept W.sink self.old) s
             → (new : State) × Stands client before (kept W.sink self.new) new × StepsTo s now Ask (seen result) new }
         ensures goes_on { GoesOn self.old.source.feed self.new.source.feed }
-        ensures once { (n : ℕ) → FailedOnce n (outlet_sink W.sink self.old.outlet) (outlet_ended self.old.outlet) → FailedOnce n (outlet_sink W.sink self.new.outlet) (outlet_ended self.new.outlet) }
+        ensures fails_once { FailsOnceUnlessEnded (outlet_ended self.old.outlet) (outlet_sink W.sink self.old.outlet) (outlet_sink W.sink self.new.outlet) (outlet_ended self.new.outlet) }
+        ensures honest { (kind : ErrorKind) → seen result ≡ Fault kind → ⊥ }
     {
         if self.ended {
             return Reply::Ended;
@@ -257,7 +260,8 @@ impl<R: ReadDevice, W: WriteDevice> Connection<R, W> {
         ensures stands { (client : Feed) (before : Sink) (s : State) (value : ResponseValue) → before.failures < 2 ^ 64 - 1 → IsResponse D.feed response value → Stands client before (kept W.sink self.old) s
             → (new : State) × Stands client before (kept W.sink self.new) new × StepsTo s now (Respond number value) (seen result) new }
         ensures goes_on { self.new.source ≡ self.old.source }
-        ensures once { (n : ℕ) → FailedOnce n (outlet_sink W.sink self.old.outlet) (outlet_ended self.old.outlet) → FailedOnce n (outlet_sink W.sink self.new.outlet) (outlet_ended self.new.outlet) }
+        ensures fails_once { FailsOnceUnlessEnded (outlet_ended self.old.outlet) (outlet_sink W.sink self.old.outlet) (outlet_sink W.sink self.new.outlet) (outlet_ended self.new.outlet) }
+        ensures honest { (kind : ErrorKind) → seen result ≡ Fault kind → IsHonest (outlet_sink W.sink self.old.outlet) (outlet_sink W.sink self.new.outlet) (D.feed response.data_reader) kind }
     {
         let Some(waiting) = self.waiting else {
             return Reply::NoSuch;
@@ -279,7 +283,8 @@ impl<R: ReadDevice, W: WriteDevice> Connection<R, W> {
         ensures stands { (client : Feed) (before : Sink) (s : State) (d : Dated) → before.failures < 2 ^ 64 - 1 → IsTold D.feed timed d → Stands client before (kept W.sink self.old) s
             → (new : State) × Stands client before (kept W.sink self.new) new × StepsTo s d.0 d.1 (seen result) new }
         ensures goes_on { GoesOn self.old.source.feed self.new.source.feed }
-        ensures once { (n : ℕ) → FailedOnce n (outlet_sink W.sink self.old.outlet) (outlet_ended self.old.outlet) → FailedOnce n (outlet_sink W.sink self.new.outlet) (outlet_ended self.new.outlet) }
+        ensures fails_once { FailsOnceUnlessEnded (outlet_ended self.old.outlet) (outlet_sink W.sink self.old.outlet) (outlet_sink W.sink self.new.outlet) (outlet_ended self.new.outlet) }
+        ensures honest { TellsHonestly D.feed (outlet_sink W.sink self.old.outlet) (outlet_sink W.sink self.new.outlet) timed result }
     {
         let Timed { now, step } = timed;
         match step {
@@ -306,7 +311,8 @@ pub fn run<R: ReadDevice + Drop, W: WriteDevice + Drop, D: ReadDevice + Drop>(
 
     // Whatever reader, writer and data tell.
     ensures replies { IfOk result (λ done. vec_len done.replies ≡ vec_len steps) }
-    ensures once { IfOk result (λ done. FailsAtMostOnce (W.sink writer) (W.sink (outlet_writer done.outlet))) }
+    ensures fails_once { IfOk result (λ done. FailsAtMostOnce (W.sink writer) (W.sink (outlet_writer done.outlet))) }
+    ensures honest { IfOk result (λ done. AllZip (TellsHonestly D.feed (W.sink writer) (W.sink (outlet_writer done.outlet))) steps.items done.replies.items) }
     ensures err { IfErr result (λ e. (e.reader ≡ reader) × (e.writer ≡ writer)) }
 {
     let Ok(mut replies) = Vec::with_capacity(alloc, steps.len()) else {

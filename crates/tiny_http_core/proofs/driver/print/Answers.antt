@@ -1,6 +1,6 @@
 use Rattle.std.proofs.Common.{rules, ◌≡◌, ap, ◌∙◌, Bool, true, false}
 use Rattle.std.specs.Prelude.{◌||◌}
-use Rattle.tiny_http_core.proofs.SendLemmas.{printed-flushed, printed-ended, ended-once, flushed-once, or-false}
+use Rattle.tiny_http_core.proofs.SendLemmas.{printed-flushed, printed-ended, ended-once, flushed-once, printed-honest, or-false}
 use Rattle.tiny_http_core.proofs.driver.print.Goals as goal
 
 pub returns-in-Err-clause-sends : goal.returns-in-Err-clause-sends
@@ -22,3 +22,7 @@ returns-in-Err-clause-fails_once g c = ended-once (Unit {0}) _ _ _ c.failures-fa
 
 pub returns-clause-fails_once : goal.returns-clause-fails_once
 returns-clause-fails_once g c = flushed-once _ _ _ c.in_default.field-0 c.flush.result _ c.in_default.ensures.uses c.flush.ensures.puts c.flush.ensures.ended
+
+pub returns-in-Err-clause-honest : goal.returns-in-Err-clause-honest
+returns-in-Err-clause-honest g c =
+    printed-honest (Unit {0}) _ _ _ _ c.failures-failures.result c.in-Err.fault _ c.args.version c.args.no_body c.args.now c.in-Err.ensures.text c.in-Err.ensures.uses c.failures-failures.ensures c.end_behind_fault.ensures.ends
