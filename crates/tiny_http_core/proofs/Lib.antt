@@ -8,3 +8,9 @@ pub mod Words
 pub mod Holding
 pub mod GoingOn
 pub mod PipelineLemmas
+pub mod SendLemmas
+pub mod SlotLemmas
+pub mod AskLemmas
+pub mod RespondLemmas
+pub mod StepLemmas
+pub mod RunLemmas

@@ -13,6 +13,7 @@ use Rattle.tiny_http_core.specs.declared.exchange.Form.{Form}
 use Rattle.tiny_http_core.specs.declared.exchange.Form.TheVariants.{Held}
 use Rattle.tiny_http_core.specs.declared.framing.Framing.{Framing}
 use Rattle.tiny_http_core.specs.declared.exchange.Head.{Head}
+use Rattle.tiny_http_core.specs.declared.exchange.Refusal.{Refusal}
 use Rattle.tiny_http_core.specs.declared.exchange.HeadRead.{HeadRead}
 use Rattle.tiny_http_core.specs.declared.exchange.HeadRead.TheVariants as read
 use Rattle.tiny_http_core.specs.declared.source.LineFault.{LineFault}
@@ -20,7 +21,7 @@ use Rattle.tiny_http_core.specs.declared.source.LineFault.TheVariants as linefau
 use Rattle.tiny_http_core.specs.declared.heads.HeadFault.{HeadFault}
 use Rattle.tiny_http_core.specs.declared.heads.HeadFault.TheVariants as fault
 use Rattle.tiny_http_core.specs.Source.{from}
-use Rattle.tiny_http_core.specs.Pipeline.{Request, Asks, Refuses, Place, OneHead, said_length}
+use Rattle.tiny_http_core.specs.Pipeline.{Request, Item, Asks, Refuses, Place, OneHead, said_length}
 
 -- what is wrong with a head whose next line isn't read
 abbrev pub head_fault : LineFault → HeadFault
@@ -95,9 +96,13 @@ ReadsMessage None new r = ⊤
 ReadsMessage (Some f) new (Ok m) = (rest : List ℕ) × HeadText f.bytes (message_of m) rest × (new ≡ from f rest)
 ReadsMessage (Some f) new (Err e) = IsFaultyHead f.bytes e.0 e.1
 
+-- the item of a refused head
+abbrev pub refused : Refusal → Item
+refused r = Refuses 400 r.version false
+
 -- what a faulty head is answered so far
 abbrev pub refusal : Option HTTPVersion → HeadFault → HeadRead
-refusal v fault.Malformed = read.Refused (record { status = 400; version = unwrap_or v (version 1 1); withheld = false })
+refusal v fault.Malformed = read.Refused (record { version = unwrap_or v (version 1 1) })
 refusal v fault.Memory = read.Memory
 refusal v fault.Cut = read.Ended
 refusal v fault.NotAscii = read.Ended
@@ -126,6 +131,6 @@ ReadsHead None new r = ⊤
 ReadsHead (Some f) new (read.Request h body) =
     (rest : List ℕ) × OneHead f.bytes f.stop (Some (Asks (request_of h body.items))) (place_after h.is_last rest)
         × StandsAt (place_after h.is_last rest) f.stop new
-ReadsHead (Some f) new (read.Refused r) = OneHead f.bytes f.stop (Some (Refuses r.status r.version r.withheld)) None
+ReadsHead (Some f) new (read.Refused r) = OneHead f.bytes f.stop (Some (refused r)) None
 ReadsHead (Some f) new read.Ended = OneHead f.bytes f.stop None None
 ReadsHead (Some f) new read.Memory = ⊤

@@ -10,4 +10,6 @@ pub mod Slots
 pub mod Steps
 pub mod Conversation
 pub mod Seen
+pub mod Sending
+pub mod Connection
 pub mod Reading

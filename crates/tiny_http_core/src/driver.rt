@@ -1,10 +1,17 @@
 //! A connection driven by a list of steps, without threads.
-ghost use Rattle.std.specs.Prelude.{◌≡◌, List, Some, map, Ok, IfOk, IfErr};
+ghost use Rattle.std.specs.Prelude.{◌≡◌, ℕ, ◌-◌, ◌<◌, ◌^◌, ◌==◌, true, false, List, [], length, Some, None, map, Ok, IfOk, IfErr, MatchBool, vec_len};
 ghost use Rattle.std.specs.List.{AllZip};
 ghost use Rattle.tiny_http_wire.specs.Device.{Feed, Sink};
-ghost use Rattle.tiny_http_core.specs.Slots.{ResponseValue};
-ghost use Rattle.tiny_http_core.specs.Conversation.{State, StepsTo, IsConversation, IsFresh, Dated};
-ghost use Rattle.tiny_http_core.specs.Steps.{Asked, Ask, Respond};
+ghost use Rattle.tiny_http_core.specs.Slots.{ResponseValue, segment, new_slot};
+ghost use Rattle.tiny_http_core.specs.HeadReads.{refused};
+ghost use Rattle.tiny_http_core.specs.Pipeline.{Item, Pipeline, is_head_method};
+ghost use Rattle.tiny_http_core.specs.Conversation.{State, StepsTo, IsConversation, IsFresh, Dated, start};
+ghost use Rattle.tiny_http_core.specs.Steps.{Asked, Ask, Respond, is_closed_client, fault_of_answer};
+ghost use Rattle.tiny_http_core.specs.Source.{GoesOn};
+ghost use Rattle.tiny_http_core.specs.Connection.{kept, Stands};
+ghost use Rattle.tiny_http_core.specs.Seen.{seen, IsResponse, IsTold};
+ghost use Rattle.tiny_http_core.specs.Outlet.{outlet_sink, outlet_ended, outlet_held, outlet_writer};
+ghost use Rattle.tiny_http_core.specs.Sending.{Sends, SendsUnlessEnded, EndsQuietly, Abandons, CanSend, FailsOnce, FailedOnce, FailsAtMostOnce};
 
 use crate::exchange::{Head, HeadRead, Refusal};
 use crate::heads::read_head;
@@ -69,7 +76,7 @@ pub struct RunError<R, W> {
 
 /// What is kept of a request until it is answered.
 #[derive(Clone, Copy, Debug, PartialEq, Eq)]
-pub(crate) struct Open {
+pub(crate) struct Waiting {
     pub version: HTTPVersion,
     pub is_head: bool,
 }
@@ -81,17 +88,21 @@ pub(crate) struct Connection<R: ReadDevice, W: WriteDevice> {
     source: Source<R>,
     outlet: Outlet<W>,
     numbers: u64,
-    open: Option<Open>,
+    waiting: Option<Waiting>,
     over: bool,
     ended: bool,
 }
 
-fn is_head(method: &Method) -> bool {
+fn is_head(method: &Method) -> bool
+    ensures { result ≡ is_head_method method.now }
+{
     matches!(method, Method::Head)
 }
 
 // The kinds of fault of a client that has closed the connection: an answer to it is no failure.
-fn is_closed_client(kind: ErrorKind) -> bool {
+fn is_closed_client(kind: ErrorKind) -> bool
+    ensures { result ≡ is_closed_client kind }
+{
     matches!(
         kind,
         ErrorKind::BrokenPipe
@@ -101,33 +112,102 @@ fn is_closed_client(kind: ErrorKind) -> bool {
     )
 }
 
-// How a fault of an answer is told.
-fn fault_of_answer(kind: ErrorKind) -> Reply {
-    if is_closed_client(kind) {
-        Reply::Done
+// Ends an outlet on which printing met a fault. Where the writer's count is still this one the fault was not the
+// writer's, and what is held is sent.
+fn end_behind_fault<W: WriteDevice>(outlet: &mut Outlet<W>, failures: u64)
+    ensures ends { MatchBool ((outlet_sink W.sink outlet.old).failures == failures)
+        (EndsQuietly (outlet_sink W.sink outlet.old) (outlet_sink W.sink outlet.new))
+        (Abandons (outlet_sink W.sink outlet.old) (outlet_sink W.sink outlet.new)) }
+    ensures ended { outlet_ended outlet.new ≡ true }
+    ensures takes_none { (outlet_sink W.sink outlet.new).has_ended ≡ true }
+{
+    if outlet.failures() == failures {
+        let _ = outlet.end();
     } else {
+        outlet.abandon();
+    }
+}
+
+// Prints an answer and flushes it. Behind a fault nothing more is sent on the connection.
+fn print<W: WriteDevice, D: ReadDevice + Drop>(
+    alloc: Global,
+    outlet: &mut Outlet<W>,
+    response: Response<D>,
+    version: HTTPVersion,
+    no_body: bool,
+    now: HttpDate,
+) -> Result<(), io::Error>
+    ensures sends { (content : Feed) → D.feed response.data_reader ≡ Some content → length content.bytes < 2 ^ 63
+        → CanSend (outlet_sink W.sink outlet.old)
+        → Sends (outlet_sink W.sink outlet.old) (outlet_sink W.sink outlet.new) (outlet_ended outlet.new) result response.answer content
+            (record { version = version; request_headers = []; no_body = no_body; upgrade = None; date = now }) }
+    ensures fails_once { FailsOnce (outlet_sink W.sink outlet.old) (outlet_sink W.sink outlet.new) (outlet_ended outlet.new) }
+{
+    let failures = outlet.failures();
+    let printed = response.raw_print(alloc, outlet, version, &[], no_body, None, now);
+    if let Err(fault) = printed {
+        end_behind_fault(outlet, failures);
+        return Err(fault);
+    }
+    outlet.flush()
+}
+
+// Answers a refused head. No reply tells a fault that is met there.
+fn refuse<W: WriteDevice>(alloc: Global, outlet: &mut Outlet<W>, refusal: Refusal, now: HttpDate)
+    ensures sends { (outlet_ended outlet.old ≡ false → CanSend (outlet_sink W.sink outlet.old))
+        → SendsUnlessEnded (outlet_ended outlet.old) (outlet_sink W.sink outlet.old) (outlet_sink W.sink outlet.new) (outlet_ended outlet.new)
+            (segment (new_slot now (refused refusal))) }
+    ensures fails_once { FailsOnce (outlet_sink W.sink outlet.old) (outlet_sink W.sink outlet.new) (outlet_ended outlet.new) }
+    ensures stays { outlet_ended outlet.old ≡ true → outlet.new ≡ outlet.old }
+{
+    if outlet.is_ended() {
+        return;
+    }
+    let answer = Response::empty(alloc, StatusCode(400));
+    let _ = print(alloc, outlet, answer, refusal.version, false, now);
+}
+
+impl Reply {
+    // How a fault of an answer is told.
+    fn fault_of_answer(kind: ErrorKind) -> Reply
+        ensures { seen result ≡ fault_of_answer kind }
+    {
+        if is_closed_client(kind) {
+            return Reply::Done;
+        }
         Reply::Fault(kind)
     }
 }
 
 impl<R: ReadDevice, W: WriteDevice> Connection<R, W> {
-    fn new(reader: R, writer: W) -> Connection<R, W> {
+    // A connection at its begin.
+    fn new(reader: R, writer: W) -> Connection<R, W>
+        ensures stands { (client : Feed) (items : List Item) → R.feed reader ≡ Some client → IsFresh (W.sink writer) → Pipeline (Some client.bytes) client.stop items
+            → Stands client (W.sink writer) (kept W.sink result) (start items) }
+        ensures feed { result.source.feed ≡ R.feed reader }
+        ensures failures { (outlet_sink W.sink result.outlet).failures ≡ (W.sink writer).failures }
+    {
         Connection {
             source: Source::new(reader),
             outlet: Outlet::new(writer),
             numbers: 0,
-            open: None,
+            waiting: None,
             over: false,
             ended: false,
         }
     }
 
     // Goes to the next request.
-    fn ask(&mut self, alloc: Global, now: HttpDate) -> Reply {
+    fn ask(&mut self, alloc: Global, now: HttpDate) -> Reply
+        ensures stands { (client : Feed) (before : Sink) (s : State) → before.failures < 2 ^ 64 - 1 → Stands client before (kept W.sink self.old) s
+            → (new : State) × Stands client before (kept W.sink self.new) new × StepsTo s now Ask (seen result) new }
+        ensures goes_on { GoesOn self.old.source.feed self.new.source.feed }
+        ensures once { (n : ℕ) → FailedOnce n (outlet_sink W.sink self.old.outlet) (outlet_ended self.old.outlet) → FailedOnce n (outlet_sink W.sink self.new.outlet) (outlet_ended self.new.outlet) }
+    {
         if self.ended {
             return Reply::Ended;
         }
-        if self.open.is_some() {
+        if self.waiting.is_some() {
             return Reply::NotYet;
         }
         if self.over {
@@ -142,7 +222,7 @@ impl<R: ReadDevice, W: WriteDevice> Connection<R, W> {
             HeadRead::Request(head, _body) => {
                 let number = self.numbers;
                 self.numbers = numbers;
-                self.open = Some(Open {
+                self.waiting = Some(Waiting {
                     version: head.version,
                     is_head: is_head(&head.method),
                 });
@@ -152,7 +232,7 @@ impl<R: ReadDevice, W: WriteDevice> Connection<R, W> {
             HeadRead::Refused(refusal) => {
                 self.numbers = numbers;
                 self.ended = true;
-                self.refuse(alloc, refusal, now);
+                refuse(alloc, &mut self.outlet, refusal, now);
                 Reply::Ended
             }
             HeadRead::Ended => {
@@ -166,38 +246,6 @@ impl<R: ReadDevice, W: WriteDevice> Connection<R, W> {
         }
     }
 
-    // Answers a refused head. No reply tells a fault that is met there.
-    fn refuse(&mut self, alloc: Global, refusal: Refusal, now: HttpDate) {
-        if self.outlet.is_ended() {
-            return;
-        }
-        let answer = Response::new_empty(alloc, StatusCode(refusal.status));
-        let _ = self.print(alloc, answer, refusal.version, refusal.withheld, now);
-    }
-
-    // Prints an answer and flushes it. Behind a fault nothing more is sent on the connection.
-    fn print<D: ReadDevice + Drop>(
-        &mut self,
-        alloc: Global,
-        response: Response<D>,
-        version: HTTPVersion,
-        no_body: bool,
-        now: HttpDate,
-    ) -> Result<(), io::Error> {
-        let failures = self.outlet.failures();
-        match response.raw_print(alloc, &mut self.outlet, version, &[], no_body, None, now) {
-            Ok(()) => self.outlet.flush(),
-            Err(fault) => {
-                if self.outlet.failures() == failures {
-                    let _ = self.outlet.end();
-                } else {
-                    self.outlet.abandon();
-                }
-                Err(fault)
-            }
-        }
-    }
-
     // Answers the request of this number.
     fn respond<D: ReadDevice + Drop>(
         &mut self,
@@ -205,24 +253,34 @@ impl<R: ReadDevice, W: WriteDevice> Connection<R, W> {
         now: HttpDate,
         number: u64,
         response: Response<D>,
-    ) -> Reply {
-        let Some(open) = self.open else {
+    ) -> Reply
+        ensures stands { (client : Feed) (before : Sink) (s : State) (value : ResponseValue) → before.failures < 2 ^ 64 - 1 → IsResponse D.feed response value → Stands client before (kept W.sink self.old) s
+            → (new : State) × Stands client before (kept W.sink self.new) new × StepsTo s now (Respond number value) (seen result) new }
+        ensures goes_on { self.new.source ≡ self.old.source }
+        ensures once { (n : ℕ) → FailedOnce n (outlet_sink W.sink self.old.outlet) (outlet_ended self.old.outlet) → FailedOnce n (outlet_sink W.sink self.new.outlet) (outlet_ended self.new.outlet) }
+    {
+        let Some(waiting) = self.waiting else {
             return Reply::NoSuch;
         };
-        if number.checked_add(1) != Some(self.numbers) {
+        if number >= self.numbers || number != self.numbers - 1 {
             return Reply::NoSuch;
         }
-        self.open = None;
+        self.waiting = None;
         if self.outlet.is_ended() {
             return Reply::Done;
         }
-        match self.print(alloc, response, open.version, open.is_head, now) {
+        match print(alloc, &mut self.outlet, response, waiting.version, waiting.is_head, now) {
             Ok(()) => Reply::Done,
-            Err(fault) => fault_of_answer(fault.kind()),
+            Err(fault) => Reply::fault_of_answer(fault.kind()),
         }
     }
 
-    fn step<D: ReadDevice + Drop>(&mut self, alloc: Global, timed: Timed<D>) -> Reply {
+    fn step<D: ReadDevice + Drop>(&mut self, alloc: Global, timed: Timed<D>) -> Reply
+        ensures stands { (client : Feed) (before : Sink) (s : State) (d : Dated) → before.failures < 2 ^ 64 - 1 → IsTold D.feed timed d → Stands client before (kept W.sink self.old) s
+            → (new : State) × Stands client before (kept W.sink self.new) new × StepsTo s d.0 d.1 (seen result) new }
+        ensures goes_on { GoesOn self.old.source.feed self.new.source.feed }
+        ensures once { (n : ℕ) → FailedOnce n (outlet_sink W.sink self.old.outlet) (outlet_ended self.old.outlet) → FailedOnce n (outlet_sink W.sink self.new.outlet) (outlet_ended self.new.outlet) }
+    {
         let Timed { now, step } = timed;
         match step {
             Step::Ask => self.ask(alloc, now),
@@ -231,13 +289,26 @@ impl<R: ReadDevice, W: WriteDevice> Connection<R, W> {
     }
 }
 
-/// Runs the steps over a connection, one reply a step.
+/// Runs the steps over a connection, one reply a step. It hands out exactly the requests that the grammar finds in the
+/// client's bytes, and the output is one segment a request or refused head, in order, whole up to the first fault.
 pub fn run<R: ReadDevice + Drop, W: WriteDevice + Drop, D: ReadDevice + Drop>(
     alloc: Global,
     reader: R,
     writer: W,
     steps: Vec<Timed<D>>,
-) -> Result<Record<R, W>, RunError<R, W>> {
+) -> Result<Record<R, W>, RunError<R, W>>
+    // THE CONNECTION THEOREM: the reader tells its feed; the writer tells that it took nothing, has not ended, and its count
+    // can rise; the responses' data tell their feeds of fewer than 2^63 bytes.
+    ensures conversation { IfOk result (λ done. (feed : Feed) (dated : List Dated) → R.feed reader ≡ Some feed → IsFresh (W.sink writer) → AllZip (IsTold D.feed) steps.items dated
+        → IsConversation feed (W.sink writer) dated (map seen done.replies.items) (W.sink (outlet_writer done.outlet)) (outlet_held done.outlet)) }
+    // What the source still gives is the client's bytes from some place on.
+    ensures source { IfOk result (λ done. GoesOn (R.feed reader) done.source.feed) }
+
+    // Whatever reader, writer and data tell.
+    ensures replies { IfOk result (λ done. vec_len done.replies ≡ vec_len steps) }
+    ensures once { IfOk result (λ done. FailsAtMostOnce (W.sink writer) (W.sink (outlet_writer done.outlet))) }
+    ensures err { IfErr result (λ e. (e.reader ≡ reader) × (e.writer ≡ writer)) }
+{
     let Ok(mut replies) = Vec::with_capacity(alloc, steps.len()) else {
         return Err(RunError { reader, writer });
     };
@@ -246,9 +317,10 @@ pub fn run<R: ReadDevice + Drop, W: WriteDevice + Drop, D: ReadDevice + Drop>(
         let reply = connection.step(alloc, timed);
         replies.push_reserved(reply);
     }
+    let Connection { source, outlet, .. } = connection;
     Ok(Record {
         replies,
-        source: connection.source,
-        outlet: connection.outlet,
+        source,
+        outlet,
     })
 }

@@ -35,12 +35,10 @@ pub struct Head {
     pub is_last: bool,
 }
 
-/// A head that is refused: how it is answered.
+/// A head with a line that can't be read: 400 in this version.
 #[derive(Clone, Copy, Debug, PartialEq, Eq)]
 pub(crate) struct Refusal {
-    pub status: u16,
     pub version: HTTPVersion,
-    pub withheld: bool,
 }
 
 /// What stands at the place of a head.

@@ -137,9 +137,7 @@ fn refusal(version: Option<HTTPVersion>, fault: HeadFault) -> HeadRead
 {
     match fault {
         HeadFault::Malformed => HeadRead::Refused(Refusal {
-            status: 400,
             version: version.unwrap_or(HTTPVersion(1, 1)),
-            withheld: false,
         }),
         HeadFault::Memory => HeadRead::Memory,
         HeadFault::Cut | HeadFault::NotAscii => HeadRead::Ended,

@@ -1,6 +1,6 @@
 //! How the body of an answer is sent (RFC 9112, sections 6 and 7).
 
-/// The transfer coding of a body.
+/// The transfer coding of a body (RFC 9112, section 7).
 #[derive(Clone, Copy, Debug, PartialEq, Eq)]
 pub enum Coding {
     /// The bytes as they are.
@@ -9,10 +9,13 @@ pub enum Coding {
     Chunked,
 }
 
-/// The header that frames a body: none, `Transfer-Encoding: chunked`, or `Content-Length` with a number of bytes.
+/// The header that frames a body (RFC 9112, section 6).
 #[derive(Clone, Copy, Debug, PartialEq, Eq)]
 pub enum FramingHeader {
+    /// None.
     Neither,
+    /// `Transfer-Encoding: chunked`
     TransferEncoding,
+    /// `Content-Length`, in bytes.
     ContentLength(usize),
 }

@@ -1,4 +1,4 @@
-//! The wire layer of a small HTTP server: devices, texts, heads and answers.
+//! The wire layer of a small HTTP server (HTTP/1.x, RFC 9110 and RFC 9112): devices, texts, heads and answers.
 #![tactic(auto)]
 
 pub mod ascii;

@@ -1,13 +1,10 @@
 //! Answers to requests, and how they are printed.
-ghost use Rattle.std.specs.Prelude.{◌≡◌, ℕ, Bool, List, Option, Some, None, IfSome, if◌then◌else◌};
+ghost use Rattle.std.specs.Prelude.{◌≡◌, ℕ, Bool, List, Option, Some, None, IfSome, if◌then◌else◌, ◌∷◌, IfOk, vec_len, string_len, string_bytes, [], ◌<◌, ◌^◌, ◌++◌, length};
 ghost use Rattle.std.specs.Option.{option_copied};
-ghost use Rattle.tiny_http_wire.specs.Answer.{Answer, Reply, Prints, behind, whole, identity_body, is_withheld, is_ascii, PrintsGathered, PrintsUncoded, PrintsAnswer, as_it_is, nothing};
-ghost use Rattle.tiny_http_wire.specs.Answer.{text_plain, answer_with};
+ghost use Rattle.tiny_http_wire.specs.Answer.{Answer, Reply, Prints, behind, whole, identity_body, is_withheld, is_ascii, PrintsGathered, PrintsUncoded, PrintsAnswer, as_it_is, nothing, text_plain, answer_with};
 ghost use Rattle.tiny_http_wire.specs.Cursor.{cursor_bytes};
-ghost use Rattle.std.specs.Prelude.{◌∷◌, IfOk, vec_len, string_len, string_bytes};
 ghost use Rattle.tiny_http_wire.specs.Top.{head_of};
 ghost use Rattle.tiny_http_wire.specs.Device.{Puts, Uses};
-ghost use Rattle.std.specs.Prelude.{[], ◌<◌, ◌^◌, ◌++◌, length};
 
 use crate::body::put_exactly;
 use crate::coding::FramingHeader;
@@ -141,13 +138,12 @@ impl<R> Response<R> {
         self.threshold
     }
 
-    /// Prints the answer for a request of this version with these headers, dated `now`: head and body (RFC 9112, sections
-    /// 2.1, 4 and 6). The body is withheld for `no_body` (HEAD) and for the codes 100 to 199, 204 and 304. For an upgrade to
-    /// a protocol the head alone is printed. It doesn't flush.
+    /// Prints head and body for a request of this version, dated `now` (RFC 9112, sections 4 to 6); for an upgrade to a
+    /// protocol the head alone. The body is withheld for `no_body` (HEAD) and the codes 100 to 199, 204 and 304.
     ///
-    /// The first fault of the writer or of the data is the answer, and nothing is written behind it. Data that ends before
-    /// its length is a fault of kind UnexpectedEof. Data of unknown length is read whole before the head: a fault of it, or
-    /// OutOfMemory, leaves nothing written. A protocol that isn't ASCII is InvalidInput, with nothing written.
+    /// The first fault, of the writer or of the data, is the answer, and nothing is written behind it. Data that ends before
+    /// its length is UnexpectedEof. Data of unknown length is read whole first: a fault of it, or OutOfMemory, leaves nothing
+    /// written, as InvalidInput does for a protocol that isn't ASCII. It doesn't flush.
     pub fn raw_print<W: WriteDevice>(
         self,
         alloc: Global,
@@ -169,7 +165,7 @@ impl<R> Response<R> {
               upgrade = option_copied upgrade.entry;
               date = now;
             })) }
-        // Of data and writers that tell nothing too: a fault of the writer's is told by its count.
+        // Whatever the data and the writer tell: a fault of the writer's is one that its count has.
         ensures uses { Uses (W.sink writer.old) (W.sink writer.new) result }
     {
         let mut data = self.reader;
@@ -303,3 +299,6 @@ fn print_upgrade<W: WriteDevice>(
     }
     put_head(writer, top, Some(protocol), FramingHeader::Neither)
 }
+
+#[cfg(test)]
+mod tests;

@@ -1,0 +1,121 @@
+-- A run goes on by one step.
+use Rattle.std.proofs.Common.{◌≡◌, refl, sym, ap, ◌∙◌, subst, ℕ, ◌+◌, ◌-◌, ◌<◌, ◌≤◌, ◌^◌, Bool, true, false, List, [], ◌∷◌, ◌++◌, length, Option, Some, None, arith, append-nil, inl, inr}
+use Rattle.std.specs.Prelude.{is_some, ◌||◌}
+use Rattle.std.specs.List.{AllZip}
+use Rattle.std.specs.Io.KnownBytes.{append_known}
+use Rattle.std.proofs.lemmas.Grind.{common_steps}
+use Rattle.tiny_http_wire.specs.Device.{Feed, Sink, grown}
+use Rattle.tiny_http_core.specs.Outlet.{holding}
+use Rattle.tiny_http_core.specs.Source.{GoesOn}
+use Rattle.tiny_http_core.specs.Pipeline.{Item, Pipeline}
+use Rattle.tiny_http_core.specs.Slots.{joined, breaks_off}
+use Rattle.tiny_http_core.specs.Steps.{Replied}
+use Rattle.tiny_http_core.specs.Conversation.{State, Failure, StepsTo, Run, Dated, start, IsFresh, IsOutput, IsConversation}
+use Rattle.tiny_http_core.specs.Connection.{Kept, RestAt, OutputAt, Stands}
+use Rattle.tiny_http_core.specs.Sending.{FailedOnce}
+use Rattle.tiny_http_core.specs.Reading.{items_of}
+use Rattle.tiny_http_core.proofs.PipelineLemmas.{feed-pipeline}
+use Rattle.tiny_http_core.proofs.SendLemmas.{or-false, append-none, grown-none}
+use Rattle.tiny_http_core.proofs.AskLemmas.{same-feed}
+
+run-more : (a mid new : State) (xs : List Dated) (rs : List Replied) (d : Dated) (r : Replied) → Run a xs rs mid → StepsTo mid d.0 d.1 r new → Run a (xs ++ d ∷ []) (rs ++ r ∷ []) new
+run-more a mid new [] [] d r run step = (new, (let P : State → Type 0 = λ s. StepsTo s d.0 d.1 r new in subst P run step), refl)
+run-more a mid new (x ∷ xs) (y ∷ ys) d r run step = (run.0, run.1, run-more run.0 mid new xs ys d r run.2 step)
+run-more a mid new [] (y ∷ ys) d r run step = elim run [ ]
+run-more a mid new (x ∷ xs) [] d r run step = elim run [ ]
+
+-- the last of a list, where each is told by one
+record Split {X : Type 0} (told : X → Dated → Type 0) (xs : List X) (x : X) (ds : List Dated) : Type 0 where
+  front : List Dated
+  last : Dated
+  joins : ds ≡ front ++ last ∷ []
+  all : AllZip told xs front
+  one : told x last
+
+split : {X : Type 0} (told : X → Dated → Type 0) (xs : List X) (x : X) (ds : List Dated) → AllZip told (xs ++ x ∷ []) ds → Split told xs x ds
+split told [] x [] h = elim h [ ]
+split told [] x (d ∷ []) h = record { front = []; last = d; joins = refl; all = tt; one = h.0 }
+split told [] x (d ∷ e ∷ ds) h = elim h.1 [ ]
+split told (y ∷ ys) x [] h = elim h [ ]
+split told (y ∷ ys) x (d ∷ ds) h =
+    let s = split told ys x ds h.1 in
+    record { front = d ∷ s.front; last = s.last; joins = ap (λ t. d ∷ t) s.joins; all = (h.0, s.all); one = s.one }
+
+-- the replies so far are those of a run, and the connection stands where it leads
+abbrev pub Follows : {X : Type 0} → (X → Dated → Type 0) → Feed → Sink → List X → List Replied → Kept → Type 0
+Follows told client before done replies k =
+    (ds : List Dated) → AllZip told done ds → (s : State) × Stands client before k s × Run (start (items_of client)) ds replies s
+
+pub follows-start : {X : Type 0} (told : X → Dated → Type 0) (client : Feed) (before : Sink) (k : Kept) → Stands client before k (start (items_of client)) → Follows told client before [] [] k
+follows-start told client before k st [] h = (start (items_of client), st, refl)
+follows-start told client before k st (d ∷ ds) h = elim h [ ]
+
+pub follows-step : {X : Type 0} (told : X → Dated → Type 0) (client : Feed) (before : Sink) (done : List X) (x : X) (replies : List Replied) (r : Replied) (k next : Kept) → Follows told client before done replies k
+    → ((s : State) (d : Dated) → told x d → Stands client before k s → (new : State) × Stands client before next new × StepsTo s d.0 d.1 r new)
+    → Follows told client before (done ++ x ∷ []) (replies ++ r ∷ []) next
+follows-step told client before done x replies r k next f step ds h =
+    let p = split told done x ds h in
+    let m = f p.front p.all in
+    let n = step m.0 p.last p.one m.1 in
+    let P : List Dated → Type 0 = λ t. Run (start (items_of client)) t (replies ++ r ∷ []) n.0 in
+    (n.0, n.1, subst P (sym p.joins) (run-more (start (items_of client)) m.0 n.0 p.front replies p.last r m.2 n.2))
+
+pub has_room : {X : Type 0} (all done rest more : List X) (x : X) (count room : ℕ) → all ≡ done ++ rest → rest ≡ x ∷ more → count ≡ length done → length all ≤ room → count < room
+has_room all done rest more x count room joins next counted fits = grind (arith, common_steps)
+
+pub joins-more : {X : Type 0} (all done rest more : List X) (x : X) → all ≡ done ++ rest → rest ≡ x ∷ more → all ≡ (done ++ x ∷ []) ++ more
+joins-more all done rest more x joins next = grind (arith, common_steps)
+
+pub joins-end : {X : Type 0} (all done rest : List X) → all ≡ done ++ rest → length rest ≡ 0 → done ≡ all
+joins-end all done [] joins len = grind (arith, common_steps)
+joins-end all done (x ∷ rest) joins len = absurd (omega arith)
+
+-- the connection at its begin
+abbrev pub begun : Option Feed → Sink → Kept
+begun feed sink = record { numbers = 0; waiting = None; over = false; ended = false; feed = feed; sink = holding sink [] false; output_ended = false }
+
+begun-rest : (feed : Option Feed) (client : Feed) (items : List Item) → feed ≡ Some client → Pipeline (Some client.bytes) client.stop items → RestAt false false feed items
+begun-rest feed client items e h = let P : Option Feed → Type 0 = λ x. RestAt false false x items in subst P (sym e) h
+
+pub stands-begun : (client : Feed) (feed : Option Feed) (sink : Sink) (items : List Item) → feed ≡ Some client → IsFresh sink → Pipeline (Some client.bytes) client.stop items → Stands client sink (begun feed sink) (start items)
+stands-begun client feed sink items e fresh h =
+    let G : Option Feed → Type 0 = λ x. GoesOn (Some client) x in
+    record {
+      numbers = refl;
+      ended = refl;
+      waits = refl;
+      plain = refl;
+      rest = begun-rest feed client items e h;
+      source = subst G (sym e) (same-feed (Some client));
+      output = (grown-none sink.has_ended sink.taken ∙ fresh.no_bytes, refl, fresh.goes_on, refl) }
+
+-- what the writer took and what is held
+sent-held : (held : List ℕ) (taken : Option (List ℕ)) (whole : List ℕ) → append_known taken held ≡ Some whole → (sent : List ℕ) × (taken ≡ Some sent) × (sent ++ held ≡ whole)
+sent-held held None whole e = let no : None ≡ Some whole = e in cc
+sent-held held (Some xs) whole e = (xs, refl, (let same : Some (xs ++ held) ≡ Some whole = e in cc))
+
+-- the output at the end: an outlet that has ended holds nothing
+pub output-end : (before sink : Sink) (held : List ℕ) (ended : Bool) (s : State) → (ended ≡ true → held ≡ []) → OutputAt before (holding sink held ended) ended s.reached.slots s.failure → IsOutput s.reached.slots s.failure before sink held
+output-end before sink held ended s empty h = by-failure s.failure h
+  where
+    whole : (e : Bool) (slots : _) → (e ≡ true → held ≡ []) → OutputAt before (holding sink held e) e slots None → IsOutput slots None before sink held
+    whole true slots empty h =
+      let none = empty refl in
+      let bare : sink.taken ≡ Some (joined slots) = sym (grown-none sink.has_ended sink.taken) ∙ ap (grown sink.has_ended sink.taken) (sym none) ∙ h.0 in
+      (h.1, joined slots, bare, ap (λ x. joined slots ++ x) none ∙ append-nil (joined slots))
+    whole false slots empty h =
+      let z = sent-held held sink.taken (joined slots) (ap (λ x. grown x sink.taken held) (sym h.2) ∙ h.0) in
+      (h.1, z.0, z.1, z.2)
+    by-failure : (failure : Option Failure) → OutputAt before (holding sink held ended) ended s.reached.slots failure → IsOutput s.reached.slots failure before sink held
+    by-failure None h = whole ended s.reached.slots empty h
+    by-failure (Some f) h =
+      let none = empty h.3 in
+      (h.1, h.2, sym (grown-none sink.has_ended sink.taken) ∙ ap (grown sink.has_ended sink.taken) (sym none) ∙ h.0, none)
+
+pub conversation : {X : Type 0} (told : X → Dated → Type 0) (client : Feed) (before sink : Sink) (held : List ℕ) (k : Kept) (ended : Bool) (all : List X) (replies : List Replied) (dated : List Dated) → k.sink ≡ holding sink held ended → k.output_ended ≡ ended → (ended ≡ true → held ≡ [])
+    → Follows told client before all replies k → AllZip told all dated → IsConversation client before dated replies sink held
+conversation told client before sink held k ended all replies dated same same_end empty f h =
+    let m = f dated h in
+    let P : Sink → Bool → Type 0 = λ x y. OutputAt before x y m.0.reached.slots m.0.failure in
+    let out : P (holding sink held ended) ended = subst (λ y. P (holding sink held ended) y) same_end (subst (λ x. P x k.output_ended) same m.1.output) in
+    record { items = items_of client; end = m.0; pipeline = feed-pipeline client; run = m.2; output = output-end before sink held ended m.0 empty out }

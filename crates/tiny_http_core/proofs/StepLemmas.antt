@@ -1,0 +1,60 @@
+-- The steps of the program, as the definitions see them.
+use Rattle.std.proofs.Common.{◌≡◌, refl, sym, ap, ◌∙◌, subst, ℕ, Option, Some, None}
+use Rattle.tiny_http_wire.specs.Device.{Feed, Sink}
+use Rattle.tiny_http_wire.specs.Answer.{Reply as Response}
+use Rattle.httpdate.specs.declared.date.HttpDate.{HttpDate}
+use Rattle.tiny_http_core.specs.declared.driver.Step.{Step}
+use Rattle.tiny_http_core.specs.declared.driver.Step.TheVariants as step
+use Rattle.tiny_http_core.specs.Slots.{ResponseValue}
+use Rattle.tiny_http_core.specs.Steps.{Asked, Ask, AsReader, Read, Respond, IntoWriter, Write, Flush, Upgrade, Finish, Drop, Replied}
+use Rattle.tiny_http_core.specs.Conversation.{State, Dated}
+use Rattle.tiny_http_core.specs.Seen.{IsResponse, IsStep}
+use Rattle.tiny_http_core.specs.Connection.{Kept}
+use Rattle.tiny_http_core.proofs.AskLemmas.{Answered}
+
+is-ask : {D : Type 0} (feed : D → Option Feed) (x : Asked) → (let a : Step D = step.Ask in IsStep feed a x) → x ≡ Ask
+is-ask feed Ask h = refl
+is-ask feed (AsReader k) h = elim h [ ]
+is-ask feed (Read k n) h = elim h [ ]
+is-ask feed (Respond k v) h = elim h [ ]
+is-ask feed (IntoWriter k) h = elim h [ ]
+is-ask feed (Write k b) h = elim h [ ]
+is-ask feed (Flush k) h = elim h [ ]
+is-ask feed (Upgrade k p v) h = elim h [ ]
+is-ask feed (Finish k) h = elim h [ ]
+is-ask feed (Drop k) h = elim h [ ]
+
+record Responds {D : Type 0} (feed : D → Option Feed) (n : ℕ) (r : Response D) (x : Asked) : Type 0 where
+  value : ResponseValue
+  is : x ≡ Respond n value
+  response : IsResponse feed r value
+
+is-respond : {D : Type 0} (feed : D → Option Feed) (n : ℕ) (r : Response D) (x : Asked) → IsStep feed (step.Respond n r) x → Responds feed n r x
+is-respond feed n r Ask h = elim h [ ]
+is-respond feed n r (AsReader k) h = elim h [ ]
+is-respond feed n r (Read k m) h = elim h [ ]
+is-respond feed n r (Respond k v) h = record { value = v; is = ap (λ m. Respond m v) h.0; response = h.1 }
+is-respond feed n r (IntoWriter k) h = elim h [ ]
+is-respond feed n r (Write k b) h = elim h [ ]
+is-respond feed n r (Flush k) h = elim h [ ]
+is-respond feed n r (Upgrade k p v) h = elim h [ ]
+is-respond feed n r (Finish k) h = elim h [ ]
+is-respond feed n r (Drop k) h = elim h [ ]
+
+pub step-ask : {D : Type 0} (feed : D → Option Feed) (client : Feed) (before : Sink) (k : Kept) (s : State) (now : HttpDate) (d : Dated) (x : Step D) (reply : Replied) → x ≡ step.Ask → d.0 ≡ now → IsStep feed x d.1
+    → Answered client before k s now Ask reply → Answered client before k s d.0 d.1 reply
+step-ask feed client before k s now d x reply e date told h =
+    let P : Step _ → Type 0 = λ y. IsStep feed y d.1 in
+    let is = is-ask feed d.1 (subst P e told) in
+    let Q : Asked → Type 0 = λ y. Answered client before k s now y reply in
+    let R : HttpDate → Type 0 = λ y. Answered client before k s y d.1 reply in
+    subst R (sym date) (subst Q (sym is) h)
+
+pub step-respond : {D : Type 0} (feed : D → Option Feed) (client : Feed) (before : Sink) (k : Kept) (s : State) (now : HttpDate) (d : Dated) (x : Step D) (n : ℕ) (r : Response D) (reply : Replied) → x ≡ step.Respond n r → d.0 ≡ now → IsStep feed x d.1
+    → ((v : ResponseValue) → IsResponse feed r v → Answered client before k s now (Respond n v) reply) → Answered client before k s d.0 d.1 reply
+step-respond feed client before k s now d x n r reply e date told h =
+    let P : Step _ → Type 0 = λ y. IsStep feed y d.1 in
+    let is = is-respond feed n r d.1 (subst P e told) in
+    let Q : Asked → Type 0 = λ y. Answered client before k s now y reply in
+    let R : HttpDate → Type 0 = λ y. Answered client before k s y d.1 reply in
+    subst R (sym date) (subst Q (sym is.is) (h is.value is.response))

@@ -1,0 +1,70 @@
+-- What sending an answer makes of an outlet.
+use Rattle.std.specs.Prelude.{◌≡◌, ℕ, ◌-◌, ◌^◌, ◌<◌, ◌⊎◌, Bool, true, false, List, [], Option, Result, Ok, Err, MatchBool}
+use Rattle.std.specs.IoError.{error_kind}
+use Rattle.std.specs.declared.io.Error.{Error}
+use Rattle.std.specs.declared.io.ErrorKind.{ErrorKind}
+use Rattle.std.specs.declared.io.ErrorKind.TheVariants.{OutOfMemory}
+use Rattle.std.specs.Io.KnownBytes.{append_known}
+use Rattle.httpdate.specs.declared.date.HttpDate.{HttpDate}
+use Rattle.tiny_http_wire.specs.Device.{Feed, Sink, IsFrontOf, Tells, next_count}
+use Rattle.tiny_http_wire.specs.Answer.{Answer, Text, Whole, Broken, Printing, text_of, nothing}
+use Rattle.tiny_http_core.specs.Slots.{IsGathered}
+
+-- the writer takes bytes, and its count can rise
+pub record CanSend (sink : Sink) : Type 0 where
+  pub unended : sink.has_ended ≡ false
+  pub can_count : sink.failures < 2 ^ 64 - 1
+
+-- the writer took these bytes, and did not fail
+pub record Sent (old new : Sink) (text : List ℕ) : Type 0 where
+  pub bytes : new.taken ≡ append_known old.taken text
+  pub failures : new.failures ≡ old.failures
+
+-- the writer failed once, with this kind, and took a front of its bytes before and these
+pub record Lost (old new : Sink) (text : List ℕ) (kind : ErrorKind) : Type 0 where
+  pub bytes : IsFrontOf new.taken (append_known old.taken text)
+  pub failures : new.failures ≡ next_count old.failures
+  pub last_kind : Tells new.last_kind kind
+
+-- what was held was sent, or the writer failed in it
+abbrev pub EndsQuietly : Sink → Sink → Type 0
+EndsQuietly old new = Sent old new [] ⊎ ((kind : ErrorKind) × Lost old new [] kind)
+
+-- what was held was dropped
+pub record Abandons (old new : Sink) : Type 0 where
+  pub bytes : IsFrontOf new.taken old.taken
+  pub failures : new.failures ≡ old.failures
+  pub last_kind : new.last_kind ≡ old.last_kind
+
+-- A call that sends a text and flushes it: all was sent; or the text broke off, with its fault as the answer, and what there
+-- is was sent, or lost; or the writer failed. Behind a fault the outlet has ended.
+abbrev pub SendsText : {T : Type 0} → Sink → Sink → Bool → Result T Error → Text → Type 0
+SendsText old new ended (Ok x) text = (text.ending ≡ Whole) × Sent old new text.bytes × (ended ≡ false) × (new.has_ended ≡ false)
+SendsText old new ended (Err e) text =
+    (ended ≡ true) × (new.has_ended ≡ true)
+    × (((text.ending ≡ Broken (error_kind e)) × (Sent old new text.bytes ⊎ ((kind : ErrorKind) × Lost old new text.bytes kind)))
+    ⊎ Lost old new text.bytes (error_kind e))
+
+-- a call that sends an answer with this data
+abbrev pub Sends : {T : Type 0} → Sink → Sink → Bool → Result T Error → Answer → Feed → Printing → Type 0
+Sends old new ended r a feed p = SendsText old new ended r (text_of a feed p) ⊎ (IsGathered a p × SendsText old new ended r (nothing OutOfMemory))
+
+-- a call that sends a text, and tells no fault
+abbrev pub SendsQuietly : Sink → Sink → Bool → List ℕ → Type 0
+SendsQuietly old new ended text =
+    ((ended ≡ false) × (new.has_ended ≡ false) × Sent old new text) ⊎ ((ended ≡ true) × (new.has_ended ≡ true) × (kind : ErrorKind) × Lost old new text kind)
+
+-- the same, where an outlet that has ended sends nothing
+abbrev pub SendsUnlessEnded : Bool → Sink → Sink → Bool → List ℕ → Type 0
+SendsUnlessEnded was old new ended text = MatchBool was ((new ≡ old) × (ended ≡ true)) (SendsQuietly old new ended text)
+
+-- whatever reader and writer tell: the writer's count is as it was, or it failed once, and the outlet has ended
+abbrev pub FailsOnce : Sink → Sink → Bool → Type 0
+FailsOnce old new ended = (new.failures ≡ old.failures) ⊎ ((new.failures ≡ next_count old.failures) × (ended ≡ true))
+
+-- the writer failed at most once since it told this count
+abbrev pub FailedOnce : ℕ → Sink → Bool → Type 0
+FailedOnce n sink ended = (sink.failures ≡ n) ⊎ ((sink.failures ≡ next_count n) × (ended ≡ true))
+
+abbrev pub FailsAtMostOnce : Sink → Sink → Type 0
+FailsAtMostOnce old new = (new.failures ≡ old.failures) ⊎ (new.failures ≡ next_count old.failures)
