@@ -1,11 +1,11 @@
 -- Lines read one after another.
-use Rattle.std.proofs.Common.{◌≡◌, refl, sym, ap, ◌∙◌, rules, arith, ℕ, suc, ◌+◌, ◌<◌, List, [], ◌∷◌, ◌++◌, length, take, drop, drop-cons, get_or, map, Bor}
+use Rattle.std.proofs.Common.{◌≡◌, refl, sym, ap, subst, ◌∙◌, rules, arith, ℕ, suc, ◌+◌, ◌<◌, List, [], ◌∷◌, ◌++◌, length, take, drop, drop-cons, get_or, map, Bor}
 use Rattle.std.proofs.lemmas.List.{take-append-drop, take_more, map_more, map-append, length-map, length-take-le}
 use Rattle.std.specs.List.{AllZip, AllByRecursion}
 use Rattle.httpdate.specs.declared.date.HttpDate.{HttpDate}
 use Rattle.tiny_http_core.specs.Conversation.{Dated}
 use Rattle.replay.specs.Line.{IsLine, IsGood}
-use Rattle.replay.specs.Script.{IsFirstBad, said_step, date_behind, on_date, steps_from}
+use Rattle.replay.specs.Script.{IsFirstBad, IsScript, script_lines, said_step, date_behind, on_date, steps_from}
 use Rattle.replay.specs.declared.line.Line.{Line}
 
 -- the date behind lines
@@ -63,3 +63,13 @@ step_on first lines i line now date before after l item were was moves adds =
     (adds ∙ ap (λ steps. steps ++ on_date date (said_step line)) were ∙ ap (λ d. steps_from first front ++ on_date d (said_step line)) to
         ∙ sym (steps_from-push first front line) ∙ ap (steps_from first) (sym more),
     to ∙ sym (date_after-push first front line) ∙ ap (date_after first) (sym more))
+
+good_at : (front : List (List ℕ)) (bytes : List ℕ) (rest : List (List ℕ)) → AllByRecursion IsGood (front ++ bytes ∷ rest) → IsGood bytes
+good_at [] bytes rest h = h.0
+good_at (l ∷ front) bytes rest h = good_at front bytes rest h.1
+
+-- a script that names steps has no bad line
+pub no_bad : (script : List ℕ) (steps : List Dated) (n : ℕ) → IsScript script steps → IsFirstBad (script_lines script) n → ⊥
+no_bad script steps n s b =
+    let good : AllByRecursion IsGood (b.0 ++ b.1 ∷ b.2) = subst (AllByRecursion IsGood) b.3 (all_good (script_lines script) s.0 s.2) in
+    b.6 (good_at b.0 b.1 b.2 good)
