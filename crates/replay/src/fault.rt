@@ -1,5 +1,5 @@
 //! Why a run is not made or not told, as one line and an exit status.
-ghost use Rattle.std.specs.Prelude.{◌≡◌};
+ghost use Rattle.std.specs.Prelude.{◌≡◌, ◌<◌};
 
 use std::fmt;
 
@@ -20,7 +20,8 @@ impl Fault<'_> {
 
     /// The exit status that tells it: 2 for what was asked wrongly, and 1 for what the system refused.
     pub(crate) fn status(&self) -> u8
-        ensures { result ≡ exit_status self.now }
+        ensures value { result ≡ exit_status self.now }
+        ensures some { 0 < result }
     {
         match self {
             Fault::Usage | Fault::CannotRead(_) | Fault::BadLine(_) => 2,

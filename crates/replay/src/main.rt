@@ -1,6 +1,10 @@
 //! Runs the steps of a script over a client's bytes: `replay BYTES SCRIPT`.
 #![tactic(auto)]
 
+ghost use Rattle.std.specs.Prelude.{◌≡◌, ◌<◌, ℕ, Err, IsErr, IfErr};
+ghost use Rattle.replay.specs.Fault.{exit_status};
+ghost use Rattle.replay.specs.Script.{script_lines, IsFirstBad};
+
 mod fault;
 mod line;
 mod reply;
@@ -31,7 +35,9 @@ fn run_steps(
     alloc: Global,
     bytes: Vec<u8>,
     steps: Vec<Timed<Data>>,
-) -> Result<Outcome, Fault<'static>> {
+) -> Result<Outcome, Fault<'static>>
+    ensures { IfErr result (λ fault. fault ≡ Fault.OutOfMemory) }
+{
     let reader = Canned::new(bytes, None);
     let writer = Metered::new(Vec::new(alloc));
     let Ok(record) = run(alloc, reader, writer, steps) else {
@@ -68,7 +74,12 @@ fn replay<O: Write, E: Write>(
     script: &[u8],
     out: &mut O,
     err: &mut E,
-) -> Result<(), Fault<'static>> {
+) -> Result<(), Fault<'static>>
+    // Behind a bad line nothing is run.
+    ensures refused { (n : ℕ) → IsFirstBad (script_lines script.now) n → IsErr result × (out.new ≡ out.old) }
+    ensures bad { (n : ℕ) → result ≡ Err (Fault.BadLine n) → IsFirstBad (script_lines script.now) n }
+    ensures kinds { IfErr result (λ fault. exit_status fault ≡ 2 → (n : ℕ) × (fault ≡ Fault.BadLine n)) }
+{
     let steps = match read_script(alloc, script) {
         Ok(steps) => steps,
         Err(ScriptFault::BadLine(number)) => return Err(Fault::BadLine(number)),
@@ -82,7 +93,10 @@ fn replay<O: Write, E: Write>(
 }
 
 // Tells a fault by a line, and gives the exit status that tells it.
-fn tell<E: Write>(fault: &Fault<'_>, err: &mut E) -> u8 {
+fn tell<E: Write>(fault: &Fault<'_>, err: &mut E) -> u8
+    ensures some { 0 < result }
+    ensures two { result ≡ 2 → exit_status fault.now ≡ 2 }
+{
     match writeln!(err, "replay: {fault}") {
         Ok(()) => fault.status(),
         Err(_) => Fault::CannotWrite.status(),
@@ -98,7 +112,10 @@ pub fn replay_on<O: Write, E: Write>(
     script: &[u8],
     out: &mut O,
     err: &mut E,
-) -> u8 {
+) -> u8
+    ensures refused { (n : ℕ) → IsFirstBad (script_lines script.now) n → (0 < result) × (out.new ≡ out.old) }
+    ensures two { result ≡ 2 → (n : ℕ) × IsFirstBad (script_lines script.now) n }
+{
     match replay(alloc, bytes, script, out, err) {
         Ok(()) => 0,
         Err(fault) => tell(&fault, err),
