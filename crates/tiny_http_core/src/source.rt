@@ -83,7 +83,7 @@ impl<R: ReadDevice> Source<R> {
     }
 
     /// Takes n bytes, or none where fewer are left: then the source is over.
-    pub fn take_exactly(&mut self, alloc: Global, n: usize) -> Result<Option<Vec<u8>>, AllocError>
+    pub(crate) fn take_exactly(&mut self, alloc: Global, n: usize) -> Result<Option<Vec<u8>>, AllocError>
         ensures takes { IfOk result (λ body. TakesExactly (λ v. v.items) n self.old.feed self.new.feed body) }
         ensures goes_on { GoesOn self.old.feed self.new.feed }
     {

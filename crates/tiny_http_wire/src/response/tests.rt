@@ -45,7 +45,8 @@ fn text(alloc: Global, text: &str) -> Result<Response<Cursor<Vec<u8>>>, Fail> {
     Ok(Response::from_string(alloc, String::from_str(alloc, text)?)?)
 }
 
-// An answer 200 with data of this length, if it is told, whose reader ends or fails behind its bytes.
+// An answer 200 with data of this length, if it is told, whose reader ends or fails behind its
+// bytes.
 fn canned(
     alloc: Global,
     bytes: &[u8],

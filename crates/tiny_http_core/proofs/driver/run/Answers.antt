@@ -28,6 +28,7 @@ loop-timed-init g c =
         (follows-start told client writer k (c.new-connection.ensures.stands client (items_of client) tells fresh (feed-pipeline client)));
       source = subst P (sym c.new-connection.ensures.feed) (goes-on_same reader);
       fails_once = inl c.new-connection.ensures.failures;
+      flushed = c.new-connection.ensures.flushed;
       honest = rw c.in-Ok.ensures.items tt;
     }
 
@@ -48,6 +49,7 @@ loop-timed-preserved g c =
           (λ s d is st. c.step-reply.ensures.stands client writer s d fresh.can_count is st));
       source = goes-on_more _ _ _ inv.source c.step-reply.ensures.goes_on;
       fails_once = fails-step writer old.sink new.sink old.output_ended new.output_ended inv.fails_once c.step-reply.ensures.fails_once;
+      flushed = c.step-reply.ensures.flushed inv.flushed;
       honest = rw c.push_reserved.ensures.items
         (honest-step g.D.ReadDevice.feed writer old.sink new.sink old.output_ended new.output_ended c.loop-timed.yielded c.loop-timed.replies.items c.in-Some.timed c.step-reply.result inv.fails_once c.step-reply.ensures.fails_once inv.honest c.step-reply.ensures.honest);
     }

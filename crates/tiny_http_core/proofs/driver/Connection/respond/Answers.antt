@@ -35,7 +35,7 @@ returns-in-Ok-clause-stands g c client before s value low is st =
     let q = c.args.self.now in
     let k : Kept = kept g.W.WriteDevice.sink q in
     let w = c.in-Some.waiting in
-    let new = c.print.new.outlet in
+    let new = c.send.new.outlet in
     let unended : outlet_ended q.outlet ≡ false = search rules in
     let P : Answer → Type 0 = λ a. Sends {T = Unit {0}} k.sink (outlet_sink g.W.WriteDevice.sink new) (outlet_ended new) (Ok c.in-Ok.field-0) a value.content (printed_as w c.args.now) in
     let sends = subst P (sym is.0) (c.in-Ok.ensures.sends value.content is.1 is.2 (can-send client before k s st low unended)) in
@@ -46,7 +46,7 @@ returns-in-Err-clause-stands g c client before s value low is st =
     let q = c.args.self.now in
     let k : Kept = kept g.W.WriteDevice.sink q in
     let w = c.in-Some.waiting in
-    let new = c.print.new.outlet in
+    let new = c.send.new.outlet in
     let unended : outlet_ended q.outlet ≡ false = search rules in
     let r : Result (Unit {0}) Error = Err c.in-Err.fault in
     let P : Answer → Type 0 = λ a. Sends {T = Unit {0}} k.sink (outlet_sink g.W.WriteDevice.sink new) (outlet_ended new) r a value.content (printed_as w c.args.now) in

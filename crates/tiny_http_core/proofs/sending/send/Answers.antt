@@ -1,7 +1,7 @@
 use Rattle.std.proofs.Common.{rules, ◌≡◌, ap, ◌∙◌, Bool, true, false}
 use Rattle.std.specs.Prelude.{◌||◌}
 use Rattle.tiny_http_core.proofs.SendLemmas.{printed-flushed, printed-ended, ended-once, flushed-once, printed-honest, or-false}
-use Rattle.tiny_http_core.proofs.driver.print.Goals as goal
+use Rattle.tiny_http_core.proofs.sending.send.Goals as goal
 
 pub returns-in-Err-clause-sends : goal.returns-in-Err-clause-sends
 returns-in-Err-clause-sends g c content told few can =
