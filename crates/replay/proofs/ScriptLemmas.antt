@@ -1,11 +1,19 @@
 -- Lines read one after another.
-use Rattle.std.proofs.Common.{◌≡◌, refl, sym, ap, subst, ◌∙◌, rules, arith, ℕ, suc, ◌+◌, ◌<◌, List, [], ◌∷◌, ◌++◌, length, take, drop, drop-cons, get_or, map, Bor}
-use Rattle.std.proofs.lemmas.List.{take-append-drop, take_more, map_more, map-append, length-map, length-take-le}
+use Rattle.std.proofs.Common.{◌≡◌, refl, sym, ap, subst, ◌∙◌, rules, arith, ℕ, suc, ◌+◌, ◌<◌, ◌^◌, List, [], ◌∷◌, ◌++◌, length, take, drop, drop-cons, get_or, map, Bor, Some, Vec}
+use Rattle.std.proofs.lemmas.List.{take-append-drop, take_more, map_more, map-append, length-map, length-take-le, length-drop}
 use Rattle.std.specs.List.{AllZip, AllByRecursion}
 use Rattle.httpdate.specs.declared.date.HttpDate.{HttpDate}
 use Rattle.tiny_http_core.specs.Conversation.{Dated}
+use Rattle.tiny_http_core.specs.Seen.{IsTold, IsStep}
+use Rattle.tiny_http_core.specs.declared.driver.Step.{Step}
+use Rattle.tiny_http_core.specs.declared.driver.Step.TheVariants.{Ask as AskStep, Respond as RespondStep}
+use Rattle.tiny_http_core.specs.declared.driver.Timed.{Timed}
+use Rattle.tiny_http_wire.specs.Device.{ending}
+use Rattle.tiny_http_wire.specs.Cursor.{cursor_bytes}
+use Rattle.std.specs.declared.io.Cursor.{Cursor}
+use Rattle.std.specs.Io.Cursor.{cursor_position, cursor_inner}
 use Rattle.replay.specs.Line.{IsLine, IsGood}
-use Rattle.replay.specs.Script.{IsFirstBad, IsScript, script_lines, said_step, date_behind, on_date, steps_from}
+use Rattle.replay.specs.Script.{IsFirstBad, IsScript, script_lines, said_step, date_behind, on_date, steps_from, timed_value, step_value}
 use Rattle.replay.specs.declared.line.Line.{Line}
 
 -- the date behind lines
@@ -59,10 +67,11 @@ pub step_on : (first : HttpDate) (lines : List Line) (i : ℕ) (line : Line) (no
 step_on first lines i line now date before after l item were was moves adds =
     let front = take i lines in
     let more : take (i + 1) lines ≡ front ++ line ∷ [] = take_more lines i line l ∙ ap (λ x. front ++ x ∷ []) (sym item) in
-    let to : date ≡ date_behind (date_after first front) line = moves ∙ ap (λ d. date_behind d line) was in
-    (adds ∙ ap (λ steps. steps ++ on_date date (said_step line)) were ∙ ap (λ d. steps_from first front ++ on_date d (said_step line)) to
-        ∙ sym (steps_from-push first front line) ∙ ap (steps_from first) (sym more),
-    to ∙ sym (date_after-push first front line) ∙ ap (date_after first) (sym more))
+    let to : date ≡ date_behind (date_after first front) line = moves ∙ ap (λ d. date_behind d line) was in (
+      adds ∙ ap (λ steps. steps ++ on_date date (said_step line)) were ∙ ap (λ d. steps_from first front ++ on_date d (said_step line)) to
+          ∙ sym (steps_from-push first front line) ∙ ap (steps_from first) (sym more),
+      to ∙ sym (date_after-push first front line) ∙ ap (date_after first) (sym more),
+    )
 
 good_at : (front : List (List ℕ)) (bytes : List ℕ) (rest : List (List ℕ)) → AllByRecursion IsGood (front ++ bytes ∷ rest) → IsGood bytes
 good_at [] bytes rest h = h.0
@@ -73,3 +82,16 @@ pub no_bad : (script : List ℕ) (steps : List Dated) (n : ℕ) → IsScript scr
 no_bad script steps n s b =
     let good : AllByRecursion IsGood (b.0 ++ b.1 ∷ b.2) = subst (AllByRecursion IsGood) b.3 (all_good (script_lines script) s.0 s.2) in
     b.6 (good_at b.0 b.1 b.2 good)
+
+-- data in memory are few enough to be told
+few : {A : Type 0} (v : Vec ℕ A) (n : ℕ) → length (drop n v.items) < 2 ^ 63
+few v n = let dropped = length-drop n v.items in omega (arith, v.ok.0, v.ok.1, v.small, dropped)
+
+-- a step over data in memory tells what it is
+step_told : {A : Type 0} (step : Step (Cursor (Vec ℕ A))) → IsStep (λ c. Some (ending (cursor_bytes c))) step (step_value step)
+step_told AskStep = tt
+step_told (RespondStep number response) = (refl, (refl, refl, few (cursor_inner response.data_reader) (cursor_position response.data_reader)))
+
+pub told : {A : Type 0} (steps : List (Timed (Cursor (Vec ℕ A)))) → AllZip (IsTold (λ c. Some (ending (cursor_bytes c)))) steps (map timed_value steps)
+told [] = tt
+told (t ∷ steps) = ((refl, step_told t.step), told steps)

@@ -6,10 +6,10 @@ use Rattle.httpdate.specs.declared.date.HttpDate.{HttpDate}
 use Rattle.httpdate.specs.Date.{unix_secs}
 use Rattle.tiny_http_wire.specs.Answer.{answer_with, text_plain}
 use Rattle.tiny_http_wire.specs.Cursor.{cursor_bytes}
-use Rattle.tiny_http_wire.specs.Device.{ending}
+use Rattle.tiny_http_wire.specs.Device.{Sink, ending}
 use Rattle.tiny_http_core.specs.Slots.{ResponseValue}
-use Rattle.tiny_http_core.specs.Steps.{Asked, Ask, Respond}
-use Rattle.tiny_http_core.specs.Conversation.{Dated}
+use Rattle.tiny_http_core.specs.Steps.{Asked, Ask, Respond, Replied}
+use Rattle.tiny_http_core.specs.Conversation.{Dated, IsFresh, IsConversation}
 use Rattle.tiny_http_core.specs.declared.driver.Step.{Step}
 use Rattle.tiny_http_core.specs.declared.driver.Step.TheVariants.{Ask as AskStep, Respond as RespondStep}
 use Rattle.tiny_http_core.specs.declared.driver.Timed.{Timed}
@@ -72,3 +72,19 @@ step_value (RespondStep number response) = Respond number (record { answer = res
 
 abbrev pub timed_value : {A : Type 0} → Timed (Cursor (Vec ℕ A)) → Dated
 timed_value timed = (timed.now, step_value timed.step)
+
+-- The client sends these bytes and ends: the steps have these replies, and this is the output, all of it taken or held.
+pub record HasRun (client : List ℕ) (steps : List Dated) (replies : List Replied) (output : List ℕ) : Type 0 where
+  pub before : Sink
+  pub after : Sink
+  pub taken : List ℕ
+  pub held : List ℕ
+  pub fresh : IsFresh before
+  pub conversation : IsConversation (ending client) before steps replies after held
+  pub no_fault : after.failures ≡ before.failures
+  pub took : after.taken ≡ Some taken
+  pub output_is : output ≡ taken ++ held
+
+-- a replay of a script over a client's bytes has this output
+abbrev pub IsReplay : List ℕ → List ℕ → List ℕ → Type 0
+IsReplay client script output = (steps : List Dated) × (replies : List Replied) × IsScript script steps × HasRun client steps replies output

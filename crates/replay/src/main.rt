@@ -1,9 +1,12 @@
 //! Runs the steps of a script over a client's bytes: `replay BYTES SCRIPT`.
 #![tactic(auto)]
 
-ghost use Rattle.std.specs.Prelude.{◌≡◌, ◌<◌, ℕ, Err, IsErr, IfErr};
+ghost use Rattle.std.specs.Prelude.{◌≡◌, ◌<◌, ℕ, List, ◌++◌, map, Err, IsErr, IfOk, IfErr, OnOk};
 ghost use Rattle.replay.specs.Fault.{exit_status};
-ghost use Rattle.replay.specs.Script.{script_lines, IsFirstBad};
+ghost use Rattle.replay.specs.Script.{script_lines, IsFirstBad, timed_value, HasRun, IsReplay};
+ghost use Rattle.std.specs.Io.KnownBytes.{Appends};
+ghost use Rattle.tiny_http_wire.specs.Budget.{budget_bytes};
+ghost use Rattle.tiny_http_core.specs.Seen.{seen};
 
 mod fault;
 mod line;
@@ -21,12 +24,13 @@ use std::process::ExitCode;
 use std::rt::{Env, Files};
 use std::{env, fs, io};
 use tiny_http_core::driver::{Record, Reply, Timed, run};
-use tiny_http_wire::device::{Canned, Metered, WriteDevice};
+use tiny_http_wire::device::{Budget, Canned, WriteDevice};
 
-/// What a run wrote, and what its steps were answered.
+/// What a run left: the writer with what it took, what was held back, and what the steps were answered.
 #[derive(Drop)]
 struct Outcome {
-    output: Vec<u8>,
+    writer: Budget,
+    held: Vec<u8>,
     replies: Vec<Reply>,
 }
 
@@ -36,21 +40,26 @@ fn run_steps(
     bytes: Vec<u8>,
     steps: Vec<Timed<Data>>,
 ) -> Result<Outcome, Fault<'static>>
-    ensures { IfErr result (λ fault. fault ≡ Fault.OutOfMemory) }
+    ensures runs { IfOk result (λ o. HasRun bytes.items (map timed_value steps.items) (map seen o.replies.items) (budget_bytes o.writer ++ o.held.items)) }
+    ensures memory { IfErr result (λ fault. fault ≡ Fault.OutOfMemory) }
 {
     let reader = Canned::new(bytes, None);
-    let writer = Metered::new(Vec::new(alloc));
+    let writer = Budget::new(alloc, usize::MAX, ErrorKind::OutOfMemory);
     let Ok(record) = run(alloc, reader, writer, steps) else {
         return Err(Fault::OutOfMemory);
     };
-    let replies = record.replies;
-    let mut outlet = record.outlet;
-    let flushed = outlet.flush();
-    if flushed.is_err() || outlet.failures() > 0 {
+    let outlet = record.outlet;
+    if outlet.failures() > 0 {
         return Err(Fault::OutOfMemory);
     }
-    let output = outlet.into_inner().into_inner();
-    Ok(Outcome { output, replies })
+    let Ok(held) = outlet.held().to_vec(alloc) else {
+        return Err(Fault::OutOfMemory);
+    };
+    Ok(Outcome {
+        writer: outlet.into_inner(),
+        held,
+        replies: record.replies,
+    })
 }
 
 // Writes the output to the one, and a line for each reply to the other.
@@ -58,8 +67,11 @@ fn write_outcome<O: Write, E: Write>(
     outcome: &Outcome,
     out: &mut O,
     err: &mut E,
-) -> Result<(), io::Error> {
-    out.write_all(outcome.output.as_slice())?;
+) -> Result<(), io::Error>
+    ensures { OnOk result (Appends (O.contents out.old) (O.contents out.new) (budget_bytes outcome.now.writer ++ outcome.now.held.items)) }
+{
+    out.write_all(outcome.writer.bytes())?;
+    out.write_all(outcome.held.as_slice())?;
     out.flush()?;
     for reply in &outcome.replies {
         writeln!(err, "{}", ReplyLine(reply))?;
@@ -75,6 +87,7 @@ fn replay<O: Write, E: Write>(
     out: &mut O,
     err: &mut E,
 ) -> Result<(), Fault<'static>>
+    ensures runs { OnOk result ((output : List ℕ) × IsReplay bytes.items script.now output × Appends (O.contents out.old) (O.contents out.new) output) }
     // Behind a bad line nothing is run.
     ensures refused { (n : ℕ) → IsFirstBad (script_lines script.now) n → IsErr result × (out.new ≡ out.old) }
     ensures bad { (n : ℕ) → result ≡ Err (Fault.BadLine n) → IsFirstBad (script_lines script.now) n }
@@ -113,6 +126,8 @@ pub fn replay_on<O: Write, E: Write>(
     out: &mut O,
     err: &mut E,
 ) -> u8
+    ensures runs { result ≡ 0 → (output : List ℕ) × IsReplay bytes.items script.now output × Appends (O.contents out.old) (O.contents out.new) output }
+    // Behind a bad line nothing is run.
     ensures refused { (n : ℕ) → IsFirstBad (script_lines script.now) n → (0 < result) × (out.new ≡ out.old) }
     ensures two { result ≡ 2 → (n : ℕ) × IsFirstBad (script_lines script.now) n }
 {

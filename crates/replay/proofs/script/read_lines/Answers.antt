@@ -11,7 +11,7 @@ returns-in_default-clause-bad c = λ n e.
     let is_n : c.loop-i.i + 1 ≡ n = cc e in
     let good = all_good (texts (take c.loop-i.i c.args.lines.now)) c.loop-i.said.items c.loop-i.invariant in
     subst (IsFirstBad (texts c.args.lines.now)) is_n
-        (first_bad c.args.lines.now c.loop-i.i _ c.loop-i-test.true good (λ g. let found = c.in_default.ensures.good.1 g in cc found))
+    (first_bad c.args.lines.now c.loop-i.i _ c.loop-i-test.true good (λ g. let found = c.in_default.ensures.good.1 g in cc found))
 
 pub loop-i-preserved : goal.loop-i-preserved
 loop-i-preserved c =
