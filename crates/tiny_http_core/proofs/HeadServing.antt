@@ -139,7 +139,7 @@ head-whole items x p q m f n body z h e b t =
     let item : Some (Asks (record { message = text; framing = f; body = ending (items body) })) ≡ Some (item_of text f (ending (items body))) = rw parts.0 refl in
     let place : place_after f.is_last k.0 ≡ goes_on text f (Some k.0) = rw parts.0 (place-is f.is_last k.0) in
     let found : FoundAt x.stop (Heads text f h.0) (Some (Asks (record { message = text; framing = f; body = ending (items body) }))) (place_after f.is_last k.0)
-        = (ending (items body), Some k.0, there.0, item, place) in
+    = (ending (items body), Some k.0, there.0, item, place) in
     let Q : Heading → Type 0 = λ y. FoundAt x.stop y (Some (Asks (record { message = text; framing = f; body = ending (items body) }))) (place_after f.is_last k.0) in
     let same : Heads text f h.0 ≡ served (Heads text f h.0) = rw b refl in
     (k.0, (Heads text f h.0, (h.1, e, there.1), subst Q same found), stands f.is_last k.0 x.stop q k.3)

@@ -105,4 +105,3 @@ drop date = refl
 withheld_for_head : (date : HttpDate) → conversed (ending (codes "HEAD / HTTP/1.1\r\n\r\n")) (on_date date (Ask ∷ Respond 0 (hello (codes "a")) ∷ [])) ≡ gives (Handed 0 (message Head (codes "/") 1 1 []) plain ∷ Done ∷ []) (output (text_of_length date (codes "1") [] ∷ []))
 unfolding digits text_of status_line field_line upgrade_lines server_line date_line framing_line head reason_phrase framing length_in
 withheld_for_head date = refl
-

@@ -93,7 +93,8 @@ stands-begun client feed sink items e fresh h =
       plain = refl;
       rest = begun-rest feed client items e h;
       source = subst G (sym e) (same-feed (Some client));
-      output = (grown-none sink.has_ended sink.taken ∙ fresh.no_bytes, refl, fresh.goes_on, refl) }
+      output = (grown-none sink.has_ended sink.taken ∙ fresh.no_bytes, refl, fresh.goes_on, refl);
+    }
 
 -- what the writer took and what is held
 sent-held : (held : List ℕ) (taken : Option (List ℕ)) (whole : List ℕ) → append_known taken held ≡ Some whole → (sent : List ℕ) × (taken ≡ Some sent) × (sent ++ held ≡ whole)
@@ -106,17 +107,18 @@ output-end before sink held ended s empty h = by-failure s.failure h
   where
     whole : (e : Bool) (slots : _) → (e ≡ true → held ≡ []) → OutputAt before (holding sink held e) e slots None → IsOutput slots None before sink held
     whole true slots empty h =
-      let none = empty refl in
-      let bare : sink.taken ≡ Some (joined slots) = sym (grown-none sink.has_ended sink.taken) ∙ ap (grown sink.has_ended sink.taken) (sym none) ∙ h.0 in
-      (h.1, joined slots, bare, ap (λ x. joined slots ++ x) none ∙ append-nil (joined slots))
+        let none = empty refl in
+        let bare : sink.taken ≡ Some (joined slots) = sym (grown-none sink.has_ended sink.taken) ∙ ap (grown sink.has_ended sink.taken) (sym none) ∙ h.0 in
+        (h.1, joined slots, bare, ap (λ x. joined slots ++ x) none ∙ append-nil (joined slots))
     whole false slots empty h =
-      let z = sent-held held sink.taken (joined slots) (ap (λ x. grown x sink.taken held) (sym h.2) ∙ h.0) in
-      (h.1, z.0, z.1, z.2)
+        let z = sent-held held sink.taken (joined slots) (ap (λ x. grown x sink.taken held) (sym h.2) ∙ h.0) in
+        (h.1, z.0, z.1, z.2)
+
     by-failure : (failure : Option Failure) → OutputAt before (holding sink held ended) ended s.reached.slots failure → IsOutput s.reached.slots failure before sink held
     by-failure None h = whole ended s.reached.slots empty h
     by-failure (Some f) h =
-      let none = empty h.3 in
-      (h.1, h.2, sym (grown-none sink.has_ended sink.taken) ∙ ap (grown sink.has_ended sink.taken) (sym none) ∙ h.0, none)
+        let none = empty h.3 in
+        (h.1, h.2, sym (grown-none sink.has_ended sink.taken) ∙ ap (grown sink.has_ended sink.taken) (sym none) ∙ h.0, none)
 
 pub conversation : {X : Type 0} (told : X → Dated → Type 0) (client : Feed) (before sink : Sink) (held : List ℕ) (k : Kept) (ended : Bool) (all : List X) (replies : List Replied) (dated : List Dated) → k.sink ≡ holding sink held ended → k.output_ended ≡ ended → (ended ≡ true → held ≡ [])
     → Follows told client before all replies k → AllZip told all dated → IsConversation client before dated replies sink held
@@ -156,8 +158,8 @@ pub honest-step : {D : Type 0} (feed : D → Option Feed) (writer old new : Sink
     → AllZip (TellsHonestly feed writer old) done replies → TellsHonestly feed old new t reply → AllZip (TellsHonestly feed writer new) (done ++ t ∷ []) (replies ++ reply ∷ [])
 honest-step feed writer old new was ended done replies t reply once step h k =
     all-zip-snoc (TellsHonestly feed writer old) (TellsHonestly feed writer new) done replies t reply
-      (λ x y m kind told. kept (λ r. rose-stays writer old new was ended once r step) (m kind told)) h
-      (λ kind told. kept (λ r. rises writer old new was ended once r step) (k kind told))
+    (λ x y m kind told. kept (λ r. rose-stays writer old new was ended once r step) (m kind told)) h
+    (λ kind told. kept (λ r. rises writer old new was ended once r step) (k kind told))
   where
     kept : {A B C : Type 0} → (A → B) → A ⊎ C → B ⊎ C
     kept f (inl a) = inl (f a)

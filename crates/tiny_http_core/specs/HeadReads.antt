@@ -130,7 +130,7 @@ abbrev pub ReadsHead : Option Feed → Option Feed → HeadRead → Type 0
 ReadsHead None new r = ⊤
 ReadsHead (Some f) new (read.Request h body) =
     (rest : List ℕ) × OneHead f.bytes f.stop (Some (Asks (request_of h body.items))) (place_after h.is_last rest)
-        × StandsAt (place_after h.is_last rest) f.stop new
+    × StandsAt (place_after h.is_last rest) f.stop new
 ReadsHead (Some f) new (read.Refused r) = OneHead f.bytes f.stop (Some (refused r)) None
 ReadsHead (Some f) new read.Ended = OneHead f.bytes f.stop None None
 ReadsHead (Some f) new read.Memory = ⊤

@@ -221,7 +221,14 @@ impl<R: ReadDevice, W: WriteDevice> Connection<R, W> {
         if self.outlet.is_ended() {
             return Reply::Done;
         }
-        match send(alloc, &mut self.outlet, response, waiting.version, waiting.is_head, now) {
+        match send(
+            alloc,
+            &mut self.outlet,
+            response,
+            waiting.version,
+            waiting.is_head,
+            now,
+        ) {
             Ok(()) => Reply::Done,
             Err(fault) => Reply::fault_of_answer(fault.kind()),
         }

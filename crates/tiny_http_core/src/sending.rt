@@ -46,7 +46,7 @@ pub(crate) fn send<W: WriteDevice, D: ReadDevice + Drop>(
     ensures sends { (content : Feed) → D.feed response.data_reader ≡ Some content → length content.bytes < 2 ^ 63
         → CanSend (outlet_sink W.sink outlet.old)
         → Sends (outlet_sink W.sink outlet.old) (outlet_sink W.sink outlet.new) (outlet_ended outlet.new) result response.answer content
-            (record { version = version; request_headers = []; no_body = no_body; upgrade = None; date = now }) }
+        (record { version = version; request_headers = []; no_body = no_body; upgrade = None; date = now }) }
     ensures fails_once { FailsOnce (outlet_sink W.sink outlet.old) (outlet_sink W.sink outlet.new) (outlet_ended outlet.new) }
     ensures honest { IfErr result (λ e. IsHonest (outlet_sink W.sink outlet.old) (outlet_sink W.sink outlet.new) (D.feed response.data_reader) (error_kind e)) }
     ensures flushed { outlet_held outlet.new ≡ [] }
@@ -61,10 +61,15 @@ pub(crate) fn send<W: WriteDevice, D: ReadDevice + Drop>(
 }
 
 /// Answers a refused head. No reply tells a fault that is met there.
-pub(crate) fn refuse<W: WriteDevice>(alloc: Global, outlet: &mut Outlet<W>, refusal: Refusal, now: HttpDate)
+pub(crate) fn refuse<W: WriteDevice>(
+    alloc: Global,
+    outlet: &mut Outlet<W>,
+    refusal: Refusal,
+    now: HttpDate,
+)
     ensures sends { (outlet_ended outlet.old ≡ false → CanSend (outlet_sink W.sink outlet.old))
         → SendsUnlessEnded (outlet_ended outlet.old) (outlet_sink W.sink outlet.old) (outlet_sink W.sink outlet.new) (outlet_ended outlet.new)
-            (segment (new_slot now (refused refusal))) }
+        (segment (new_slot now (refused refusal))) }
     ensures fails_once { FailsOnceUnlessEnded (outlet_ended outlet.old) (outlet_sink W.sink outlet.old) (outlet_sink W.sink outlet.new) (outlet_ended outlet.new) }
     ensures flushed { outlet_held outlet.new ≡ [] }
 {

@@ -25,7 +25,7 @@ loop-timed-init g c =
       counted = grind (arith, common_steps);
       fits = grind (arith, common_steps);
       follows = λ client tells fresh. rw c.in-Ok.ensures.items
-        (follows-start told client writer k (c.new-connection.ensures.stands client (items_of client) tells fresh (feed-pipeline client)));
+          (follows-start told client writer k (c.new-connection.ensures.stands client (items_of client) tells fresh (feed-pipeline client)));
       source = subst P (sym c.new-connection.ensures.feed) (goes-on_same reader);
       fails_once = inl c.new-connection.ensures.failures;
       flushed = c.new-connection.ensures.flushed;
@@ -44,14 +44,14 @@ loop-timed-preserved g c =
       counted = grind (arith, common_steps);
       fits = grind (arith, common_steps);
       follows = λ client tells fresh. rw (c.push_reserved.ensures.items, map-append)
-        (follows-step told client writer c.loop-timed.yielded c.in-Some.timed (map seen c.loop-timed.replies.items) (seen c.step-reply.result)
+          (follows-step told client writer c.loop-timed.yielded c.in-Some.timed (map seen c.loop-timed.replies.items) (seen c.step-reply.result)
           (kept g.W.WriteDevice.sink c.loop-timed.connection) (kept g.W.WriteDevice.sink c.step-reply.new.self) (inv.follows client tells fresh)
           (λ s d is st. c.step-reply.ensures.stands client writer s d fresh.can_count is st));
       source = goes-on_more _ _ _ inv.source c.step-reply.ensures.goes_on;
       fails_once = fails-step writer old.sink new.sink old.output_ended new.output_ended inv.fails_once c.step-reply.ensures.fails_once;
       flushed = c.step-reply.ensures.flushed inv.flushed;
       honest = rw c.push_reserved.ensures.items
-        (honest-step g.D.ReadDevice.feed writer old.sink new.sink old.output_ended new.output_ended c.loop-timed.yielded c.loop-timed.replies.items c.in-Some.timed c.step-reply.result inv.fails_once c.step-reply.ensures.fails_once inv.honest c.step-reply.ensures.honest);
+          (honest-step g.D.ReadDevice.feed writer old.sink new.sink old.output_ended new.output_ended c.loop-timed.yielded c.loop-timed.replies.items c.in-Some.timed c.step-reply.result inv.fails_once c.step-reply.ensures.fails_once inv.honest c.step-reply.ensures.honest);
     }
 
 pub returns-clause-conversation : goal.returns-clause-conversation
@@ -59,10 +59,10 @@ returns-clause-conversation g c feed dated tells fresh told =
     let writer = g.W.WriteDevice.sink c.args.writer in
     let connection = c.loop-timed.connection in
     let whole : c.loop-timed.yielded ≡ c.args.steps.items =
-      joins-end _ _ _ c.loop-timed.invariant.joins (sym c.loop-timed.timed-iterator.rest.ok.0 ∙ c.in-None.ensures.steps.0) in
+    joins-end _ _ _ c.loop-timed.invariant.joins (sym c.loop-timed.timed-iterator.rest.ok.0 ∙ c.in-None.ensures.steps.0) in
     let told_all : AllZip (IsTold g.D.ReadDevice.feed) c.loop-timed.yielded dated = rw whole told in
     conversation (IsTold g.D.ReadDevice.feed) feed writer (g.W.WriteDevice.sink (outlet_writer connection.outlet)) (outlet_held connection.outlet) (kept g.W.WriteDevice.sink connection) (outlet_ended connection.outlet)
-      c.loop-timed.yielded (map seen c.loop-timed.replies.items) dated refl refl connection.outlet.none_held (c.loop-timed.invariant.follows feed tells fresh) told_all
+    c.loop-timed.yielded (map seen c.loop-timed.replies.items) dated refl refl connection.outlet.none_held (c.loop-timed.invariant.follows feed tells fresh) told_all
 
 pub returns-clause-fails_once : goal.returns-clause-fails_once
 returns-clause-fails_once g c = ⊎_elim (λ h. inl h) (λ h. inr h.0) c.loop-timed.invariant.fails_once
@@ -70,5 +70,5 @@ returns-clause-fails_once g c = ⊎_elim (λ h. inl h) (λ h. inr h.0) c.loop-ti
 pub returns-clause-honest : goal.returns-clause-honest
 returns-clause-honest g c =
     let whole : c.loop-timed.yielded ≡ c.args.steps.items =
-      joins-end _ _ _ c.loop-timed.invariant.joins (sym c.loop-timed.timed-iterator.rest.ok.0 ∙ c.in-None.ensures.steps.0) in
+    joins-end _ _ _ c.loop-timed.invariant.joins (sym c.loop-timed.timed-iterator.rest.ok.0 ∙ c.in-None.ensures.steps.0) in
     rw (← whole) c.loop-timed.invariant.honest

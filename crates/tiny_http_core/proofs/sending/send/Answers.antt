@@ -6,7 +6,7 @@ use Rattle.tiny_http_core.proofs.sending.send.Goals as goal
 pub returns-in-Err-clause-sends : goal.returns-in-Err-clause-sends
 returns-in-Err-clause-sends g c content told few can =
     printed-ended (Unit {0}) _ _ _ _ c.failures-failures.result _ c.in-Err.fault _ _ content told few c.in-Err.ensures.text c.failures-failures.ensures c.end_behind_fault.ensures.ends can.unended can.can_count
-      c.end_behind_fault.ensures.ended c.end_behind_fault.ensures.takes_none
+    c.end_behind_fault.ensures.ended c.end_behind_fault.ensures.takes_none
 
 pub returns-clause-sends : goal.returns-clause-sends
 returns-clause-sends g c content told few can =
@@ -15,7 +15,7 @@ returns-clause-sends g c content told few can =
     let new = c.flush.new.self in
     let ends : new.ended ≡ true → (new.ended || (sink new.inner).has_ended) ≡ true = λ e. ap (λ x. x || (sink new.inner).has_ended) e in
     printed-flushed _ _ _ _ mid.ended new.ended c.in_default.field-0 c.flush.result _ _ content told few c.in_default.ensures.text c.flush.ensures.puts can.unended
-      (λ h. (or-false mid.ended (sink mid.inner).has_ended h).0) ends c.flush.ensures.ended c.flush.ensures.stays
+    (λ h. (or-false mid.ended (sink mid.inner).has_ended h).0) ends c.flush.ensures.ended c.flush.ensures.stays
 
 pub returns-in-Err-clause-fails_once : goal.returns-in-Err-clause-fails_once
 returns-in-Err-clause-fails_once g c = ended-once (Unit {0}) _ _ _ c.failures-failures.result c.in-Err.fault _ c.in-Err.ensures.uses c.failures-failures.ensures c.end_behind_fault.ensures.ends c.end_behind_fault.ensures.ended

@@ -22,7 +22,7 @@ returns-then-number-self-clause-stands g c client before s value low is st =
     let other : c.args.number + 1 ≡ q.numbers → ⊥ = λ e. elim c.then-number-self.branch [
       | then-number-self-via-then-number-self w ↦ absurd (omega arith)
       | then-number-self-via-else-number-self+then-number-self-2 w ↦ absurd (omega arith)
-      ] in
+    ] in
     respond-other client before (kept g.W.WriteDevice.sink q) s c.args.now c.args.number value c.in-Some.waiting st c.in-Some.is other
 
 pub returns-then-is_ended-clause-stands : goal.returns-then-is_ended-clause-stands
