@@ -1,0 +1,156 @@
+//! Answers: which request they go to, what is withheld, and what a writer's fault leaves of them.
+use crate::runs::Deed::{Ask, Coded, Text};
+use crate::runs::{AMPLE, Case, EMPTY, TEXT, Trouble, assert_case, assert_troubled};
+use std::io::ErrorKind;
+use std::test::Fail;
+
+#[test]
+fn an_answer_to_head_has_no_body(rt: HostRuntime) -> Result<(), Fail> {
+    for (client, replies) in [
+        (
+            b"HEAD /hello HTTP/1.1\r\n\r\n".as_slice(),
+            "0: HEAD /hello 1.1; done; ended",
+        ),
+        (
+            b"HEAD / HTTP/1.1\n\r\n\r\n".as_slice(),
+            "0: HEAD / 1.1; done; ended",
+        ),
+        (
+            b"HEAD / HTTP/1.1\r\nHost: a\nX: b\r\n\r\n".as_slice(),
+            "0: HEAD / 1.1 [Host: a\nX: b]; done; ended",
+        ),
+    ] {
+        let case = Case {
+            client,
+            deeds: &[Ask, Text(0, "hello world"), Ask],
+            replies,
+            output: &["HTTP/1.1 200 OK\r\n", TEXT, "Content-Length: 11\r\n\r\n"],
+        };
+        assert_case(&rt, rt.alloc(), &case)?;
+    }
+    Ok(())
+}
+
+#[test]
+fn an_answer_not_modified_has_no_body(rt: HostRuntime) -> Result<(), Fail> {
+    let case = Case {
+        client: b"GET /hello HTTP/1.1\r\n\r\n",
+        deeds: &[Ask, Coded(0, 304, "hello"), Ask],
+        replies: "0: GET /hello 1.1; done; ended",
+        output: &[
+            "HTTP/1.1 304 Not Modified\r\n",
+            TEXT,
+            "Content-Length: 5\r\n\r\n",
+        ],
+    };
+    assert_case(&rt, rt.alloc(), &case)
+}
+
+#[test]
+fn a_request_is_answered_once(rt: HostRuntime) -> Result<(), Fail> {
+    let case = Case {
+        client: b"GET / HTTP/1.1\r\n\r\n",
+        deeds: &[
+            Text(0, "early"),
+            Ask,
+            Text(1, "other"),
+            Text(u64::MAX, "none"),
+            Text(0, "a"),
+            Text(0, "late"),
+            Ask,
+            Text(0, "late"),
+            Text(1, "other"),
+        ],
+        replies: "no such; 0: GET / 1.1; no such; no such; done; no such; ended; no such; no such",
+        output: &["HTTP/1.1 200 OK\r\n", TEXT, "Content-Length: 1\r\n\r\na"],
+    };
+    assert_case(&rt, rt.alloc(), &case)
+}
+
+#[test]
+fn a_refused_request_takes_no_answer(rt: HostRuntime) -> Result<(), Fail> {
+    let case = Case {
+        client: b"GET / HTTP/1.1\r\n\r\nqsd qsd qsd\r\n",
+        deeds: &[Ask, Text(0, "a"), Ask, Text(1, "b"), Text(0, "b"), Ask],
+        replies: "0: GET / 1.1; done; ended; no such; no such; ended",
+        output: &[
+            "HTTP/1.1 200 OK\r\n",
+            TEXT,
+            "Content-Length: 1\r\n\r\na",
+            "HTTP/1.1 400 Bad Request\r\n",
+            EMPTY,
+        ],
+    };
+    assert_case(&rt, rt.alloc(), &case)
+}
+
+// The reader ends, and the writer takes so many bytes and then fails so.
+fn takes(room: usize, writer: ErrorKind) -> Trouble {
+    Trouble {
+        reader: None,
+        room,
+        writer,
+    }
+}
+
+#[test]
+fn a_fault_of_the_writer_is_told_once(rt: HostRuntime) -> Result<(), Fail> {
+    let case = Case {
+        client: b"GET / HTTP/1.1\r\n\r\nGET / HTTP/1.1\r\n\r\n",
+        deeds: &[Ask, Text(0, "a"), Ask, Text(1, "b")],
+        replies: "0: GET / 1.1; fault Other; 1: GET / 1.1; done",
+        output: &["HTTP/1.1 2"],
+    };
+    assert_troubled(&rt, rt.alloc(), &case, takes(10, ErrorKind::Other))
+}
+
+#[test]
+fn a_client_that_went_away_is_no_fault(rt: HostRuntime) -> Result<(), Fail> {
+    let case = Case {
+        client: b"GET / HTTP/1.1\r\n\r\nGET / HTTP/1.1\r\n\r\n",
+        deeds: &[Ask, Text(0, "a"), Ask, Text(1, "b")],
+        replies: "0: GET / 1.1; done; 1: GET / 1.1; done",
+        output: &["HTTP/1.1 2"],
+    };
+    for kind in [
+        ErrorKind::BrokenPipe,
+        ErrorKind::ConnectionAborted,
+        ErrorKind::ConnectionRefused,
+        ErrorKind::ConnectionReset,
+    ] {
+        assert_troubled(&rt, rt.alloc(), &case, takes(10, kind))?;
+    }
+    Ok(())
+}
+
+#[test]
+fn no_reply_tells_a_fault_of_a_refusal(rt: HostRuntime) -> Result<(), Fail> {
+    let case = Case {
+        client: b"qsd qsd qsd\r\n",
+        deeds: &[Ask, Ask],
+        replies: "ended; ended",
+        output: &["HTTP/1.1 4"],
+    };
+    assert_troubled(&rt, rt.alloc(), &case, takes(10, ErrorKind::Other))?;
+    let nothing = Case {
+        output: &[],
+        ..case
+    };
+    assert_troubled(&rt, rt.alloc(), &nothing, takes(0, ErrorKind::Other))
+}
+
+#[test]
+fn an_answer_is_whole_before_a_readers_fault(rt: HostRuntime) -> Result<(), Fail> {
+    let case = Case {
+        client: b"GET / HTTP/1.1\r\n\r\n",
+        deeds: &[Ask, Text(0, "a"), Ask],
+        replies: "0: GET / 1.1; done; ended",
+        output: &["HTTP/1.1 200 OK\r\n", TEXT, "Content-Length: 1\r\n\r\na"],
+    };
+    let trouble = Trouble {
+        reader: Some(ErrorKind::Other),
+        room: AMPLE,
+        writer: ErrorKind::Other,
+    };
+    assert_troubled(&rt, rt.alloc(), &case, trouble)
+}

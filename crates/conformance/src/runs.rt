@@ -1,0 +1,209 @@
+//! Runs of a connection in memory, and what has to come of them.
+use httpdate::HttpDate;
+use std::alloc::{AllocError, Global};
+use std::fmt::Write;
+use std::io;
+use std::io::{Cursor, ErrorKind};
+use std::process::Abort;
+use std::test::Fail;
+use tiny_http_core::driver::{Reply, Step, Timed, run};
+use tiny_http_core::exchange::Head;
+use tiny_http_wire::common::StatusCode;
+use tiny_http_wire::device::{Budget, Canned, ReadDevice};
+use tiny_http_wire::response::Response;
+
+/// The headers of each answer: the server, and the date of `SECONDS`.
+pub(crate) const EMPTY: &str =
+    "Server: tiny-http (Rust)\r\nDate: Wed, 04 May 1983 11:17:00 GMT\r\nContent-Length: 0\r\n\r\n";
+
+/// The headers of each answer that has a text, but for the length.
+pub(crate) const TEXT: &str =
+    "Server: tiny-http (Rust)\r\nDate: Wed, 04 May 1983 11:17:00 GMT\r\nContent-Type: text/plain; charset=UTF-8\r\n";
+
+const SECONDS: u64 = 420_895_020;
+
+/// More bytes than any run writes.
+pub(crate) const AMPLE: usize = 1_000_000;
+
+/// A step of a run.
+#[derive(Clone, Copy, Debug)]
+pub(crate) enum Deed<'a> {
+    Ask,
+    /// Answers the request of this number by 200 and a text.
+    Text(u64, &'a str),
+    /// Answers the request of this number by a code and a text.
+    Coded(u64, u16, &'a str),
+}
+
+/// A run, and what has to come of it.
+#[derive(Clone, Copy)]
+pub(crate) struct Case<'a> {
+    /// What the client sends before it ends.
+    pub client: &'a [u8],
+    pub deeds: &'a [Deed<'a>],
+    /// What the steps are answered, with `; ` between two.
+    pub replies: &'a str,
+    /// The output, in pieces.
+    pub output: &'a [&'a str],
+}
+
+/// How reader and writer of a run fail.
+#[derive(Clone, Copy, Debug)]
+pub(crate) struct Trouble {
+    /// The reader's fault behind the last byte, in place of an end.
+    pub reader: Option<ErrorKind>,
+    /// How many bytes the writer takes.
+    pub room: usize,
+    /// The writer's fault behind them.
+    pub writer: ErrorKind,
+}
+
+/// The reader ends, and the writer takes all.
+const NO_TROUBLE: Trouble = Trouble {
+    reader: None,
+    room: AMPLE,
+    writer: ErrorKind::Other,
+};
+
+/// What came of a run.
+#[derive(Drop)]
+struct Outcome {
+    replies: String,
+    output: Vec<u8>,
+}
+
+/// A reader that gives another's bytes one at a time.
+#[derive(Drop)]
+struct Dripping(Canned);
+
+impl ReadDevice for Dripping {
+    /// Reads one byte.
+    fn read_in(&mut self, buf: &mut [u8]) -> Result<usize, io::Error> {
+        if buf.is_empty() {
+            return Ok(0);
+        }
+        self.0.read_in(&mut buf[..1])
+    }
+}
+
+// The answer 200 with this text.
+fn text(alloc: Global, text: &str) -> Result<Response<Cursor<Vec<u8>>>, AllocError> {
+    Response::from_string(alloc, String::from_str(alloc, text)?)
+}
+
+fn step_of(alloc: Global, deed: Deed<'_>) -> Result<Step<Cursor<Vec<u8>>>, AllocError> {
+    Ok(match deed {
+        Deed::Ask => Step::Ask,
+        Deed::Text(number, words) => Step::Respond(number, text(alloc, words)?),
+        Deed::Coded(number, code, words) => {
+            let answer = text(alloc, words)?;
+            Step::Respond(number, answer.with_status_code(StatusCode(code)))
+        }
+    })
+}
+
+fn steps_of(alloc: Global, deeds: &[Deed<'_>]) -> Result<Vec<Timed<Cursor<Vec<u8>>>>, Fail> {
+    let now = HttpDate::from_unix_secs(SECONDS)?;
+    let mut steps = Vec::new(alloc);
+    for deed in deeds {
+        let step = step_of(alloc, *deed)?;
+        steps.push(Timed { now, step })?;
+    }
+    Ok(steps)
+}
+
+// Writes method, target, version, each header in brackets, and the length that the head says.
+fn describe_head(summary: &mut String, head: &Head) -> Result<(), AllocError> {
+    let method = &head.method;
+    let path = head.path.as_str();
+    let version = head.version;
+    write!(summary, "{method} {path} {version}")?;
+    for header in &head.headers {
+        write!(summary, " [{header}]")?;
+    }
+    if let Some(length) = head.body_length {
+        write!(summary, " length {length}")?;
+    }
+    Ok(())
+}
+
+fn describe_reply(summary: &mut String, reply: &Reply) -> Result<(), AllocError> {
+    match reply {
+        Reply::Handed(number, head) => {
+            write!(summary, "{number}: ")?;
+            describe_head(summary, head)
+        }
+        Reply::Fault(kind) => write!(summary, "fault {kind:?}"),
+        Reply::Ended => summary.push_str("ended"),
+        Reply::NotYet => summary.push_str("not yet"),
+        Reply::Done => summary.push_str("done"),
+        Reply::NoSuch => summary.push_str("no such"),
+        Reply::Memory => summary.push_str("memory"),
+    }
+}
+
+fn describe(alloc: Global, replies: &[Reply]) -> Result<String, AllocError> {
+    let mut summary = String::new(alloc);
+    for reply in replies {
+        if !summary.is_empty() {
+            summary.push_str("; ")?;
+        }
+        describe_reply(&mut summary, reply)?;
+    }
+    Ok(summary)
+}
+
+// The output is what the writer took, and what is held back behind it.
+fn run_through<R: ReadDevice + Drop>(
+    alloc: Global,
+    reader: R,
+    deeds: &[Deed<'_>],
+    trouble: Trouble,
+) -> Result<Outcome, Fail> {
+    let writer = Budget::new(alloc, trouble.room, trouble.writer);
+    let Ok(record) = run(alloc, reader, writer, steps_of(alloc, deeds)?) else {
+        return Err("no room for the replies".into());
+    };
+    let replies = describe(alloc, record.replies.as_slice())?;
+    let held = record.outlet.held().to_vec(alloc)?;
+    let mut output = record.outlet.into_inner().bytes().to_vec(alloc)?;
+    output.extend_from_slice(held.as_slice())?;
+    Ok(Outcome { replies, output })
+}
+
+fn assert_outcome(
+    rt: &impl Abort,
+    alloc: Global,
+    case: &Case<'_>,
+    outcome: &Outcome,
+) -> Result<(), Fail> {
+    let mut output = String::new(alloc);
+    for piece in case.output {
+        output.push_str(piece)?;
+    }
+    let client = String::from_utf8_lossy(alloc, case.client)?;
+    assert_eq!(rt; outcome.replies.as_str(), case.replies, "{client:?}");
+    let written = String::from_utf8_lossy(alloc, outcome.output.as_slice())?;
+    assert_eq!(rt; written.as_str(), output.as_str(), "{client:?}");
+    Ok(())
+}
+
+/// The run comes out so where reader and writer fail so, whether the bytes come together or one at a time.
+pub(crate) fn assert_troubled(
+    rt: &impl Abort,
+    alloc: Global,
+    case: &Case<'_>,
+    trouble: Trouble,
+) -> Result<(), Fail> {
+    let reader = Canned::new(case.client.to_vec(alloc)?, trouble.reader);
+    let together = run_through(alloc, reader, case.deeds, trouble)?;
+    assert_outcome(rt, alloc, case, &together)?;
+    let reader = Dripping(Canned::new(case.client.to_vec(alloc)?, trouble.reader));
+    let apart = run_through(alloc, reader, case.deeds, trouble)?;
+    assert_outcome(rt, alloc, case, &apart)
+}
+
+/// The run comes out so where the client ends and the writer takes all.
+pub(crate) fn assert_case(rt: &impl Abort, alloc: Global, case: &Case<'_>) -> Result<(), Fail> {
+    assert_troubled(rt, alloc, case, NO_TROUBLE)
+}

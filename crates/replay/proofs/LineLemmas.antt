@@ -1,0 +1,61 @@
+-- What the grammar of a line says of its parts.
+use Rattle.std.proofs.Common.{◌≡◌, ◌≢◌, refl, sym, ap, ◌∙◌, subst, rules, arith, lit<, ℕ, ◌+◌, ◌<◌, ◌≤◌, ◌^◌, List, [], ◌∷◌, ◌++◌, length, get_or, codes, drop, Bool, true, false, Option, Some, None, Result, Ok, Err, inl, inr, ◌⊎◌, Bor}
+use Rattle.std.specs.Option.{MatchOption}
+use Rattle.std.specs.Result.{OkIff, MatchResult, is_ok}
+use Rattle.std.specs.Str.Parse.{IsNumeral, AllDigits, digits_value}
+use Rattle.std.proofs.lemmas.Str.Parse.{IsNumeralModel, numerals_by_value, tells_digits, not_in_digits}
+use Rattle.std.proofs.lemmas.Str.Pattern.{IsSplitOnceResult, split_after}
+use Rattle.std.specs.Str.{bytes_eq}
+use Rattle.std.specs.Str.Pattern.{LacksTextAt}
+use Rattle.replay.specs.Line.{WritesNumber, BeginsByNumber, BeginsByNumbers, WritesAnswer, IsAnswer, SaysSome, IsDate, WritesDate}
+use Rattle.replay.specs.declared.line.Line.{Line}
+use Rattle.replay.specs.declared.line.Line.TheVariants.{Blank, Now, Ask, Text, Empty}
+
+own : IsNumeralModel (AllDigits 10) (digits_value 10)
+own = numerals_by_value (AllDigits 10) tells_digits
+
+no_space : (ds : List ℕ) → AllDigits 10 ds → (i : ℕ) → i < length ds → get_or ds i 0 ≢ 32
+no_space ds h = not_in_digits own ds 32 h (λ r. let low : 48 ≤ 32 = r.0 in omega arith)
+
+-- a text that begins by a number is cut behind the digits
+pub number_cut : (text rest : List ℕ) (n : ℕ) (r : Option (Bor (List ℕ) × Bor (List ℕ))) → IsSplitOnceResult 32 text r → (b : BeginsByNumber text n rest) → MatchOption r ⊥ (λ x. (x.0.now ≡ b.0) × (x.1.now ≡ rest))
+number_cut text rest n r h b = split_after 32 text b.0 rest r h (lit< tt) b.1 (no_space b.0 b.2.0.1)
+
+-- the cut digits are read
+pub number_read : (ds es : List ℕ) (n : ℕ) → es ≡ ds → WritesNumber ds n → n < 2 ^ 64 → IsNumeral 10 es × (digits_value 10 es < 2 ^ 64) × (digits_value 10 es ≡ n)
+number_read ds es n e w l = rw e (w.0, rw w.1 l, w.1)
+
+-- what an answer consists of
+pub answer_parts : (words : List ℕ) → IsAnswer words → (number : ℕ) × (status : ℕ) × (content : List ℕ) × BeginsByNumbers words number status content × (((text : List ℕ) × (content ≡ codes "text " ++ text)) ⊎ (content ≡ codes "empty"))
+answer_parts words (Text number status text, w) = (number, status, codes "text " ++ text.now, w, inl (text.now, refl))
+answer_parts words (Empty number status, w) = (number, status, codes "empty", w, inr refl)
+answer_parts words (Blank, w) = absurd w
+answer_parts words (Now date, w) = absurd w
+answer_parts words (Ask, w) = absurd w
+
+-- a text that begins by `now` doesn't begin by `respond`
+no_respond : (text rest words : List ℕ) → text ≡ codes "now " ++ rest → text ≡ codes "respond " ++ words → ⊥
+no_respond text rest words e h = let first : ◌≡◌ {A = ℕ} 110 114 = ap (λ bs. get_or bs 0 0) (sym e ∙ h) in omega arith
+
+-- a line that begins by `now` says a date, if it says anything
+pub only_now : (text rest : List ℕ) → text ≡ codes "now " ++ rest → SaysSome text → IsDate rest
+only_now text rest e (Blank, inl h) = absurd (let first : ◌≡◌ {A = ℕ} 110 0 = ap (λ bs. get_or bs 0 0) (sym e ∙ h) in omega arith)
+only_now text rest e (Blank, inr h) = absurd (let first : ◌≡◌ {A = ℕ} 110 35 = ap (λ bs. get_or bs 0 0) (sym e ∙ h.1) in omega arith)
+only_now text rest e (Now date, d) = let same : rest ≡ d.0 = ap (drop 4) (sym e ∙ d.1) in (date, rw same d.2)
+only_now text rest e (Ask, h) = absurd (let first : ◌≡◌ {A = ℕ} 110 97 = ap (λ bs. get_or bs 0 0) (sym e ∙ h) in omega arith)
+only_now text rest e (Text number status words, h) = absurd (no_respond text rest h.0 e h.1)
+only_now text rest e (Empty number status, h) = absurd (no_respond text rest h.0 e h.1)
+
+-- what is refused doesn't hold
+pub none_fits : {T E : Type 0} (r : Result T E) (P : Type 0) (v : T) → OkIff r P v → false ≡ is_ok r → P → ⊥
+none_fits (Ok x) P v h was p = absurd (cc was)
+none_fits (Err e) P v h was p = h p
+
+pub told_error : {T E : Type 0} (r : Result T E) (P : T → Type 0) (Q : E → Type 0) → MatchResult r P Q → false ≡ is_ok r → (e : E) × Q e
+told_error (Ok x) P Q h was = absurd (cc was)
+told_error (Err e) P Q h was = (e, h)
+
+-- no third form of an answer
+pub no_answer : (content other : List ℕ) (b : Bool) → LacksTextAt (codes "text ") content 0 → b ≡ bytes_eq content (codes "empty") → b ≡ false → ((text : List ℕ) × (other ≡ codes "text " ++ text)) ⊎ (other ≡ codes "empty") → content ≡ other → ⊥
+no_answer content other b lacks is differs (inl t) e = lacks t.0 (e ∙ t.1)
+no_answer content other b lacks is differs (inr h) e = let yes : bytes_eq content (codes "empty") ≡ true = rw (e, h) refl in absurd (cc (sym differs ∙ is ∙ yes))

@@ -1,0 +1,28 @@
+use Rattle.std.proofs.Common.{rules, arith, lit<, ◌≡◌, refl, sym, ap, ◌∙◌, ◌++◌, ℕ, ◌<◌, ◌-◌, ◌^◌, Some, map}
+use Rattle.tiny_http_wire.specs.Device.{Sink, ending}
+use Rattle.tiny_http_wire.specs.Budget.{budget_sink, budget_bytes}
+use Rattle.tiny_http_core.specs.Conversation.{IsFresh}
+use Rattle.tiny_http_core.specs.Outlet.{outlet_held}
+use Rattle.replay.specs.Script.{timed_value, HasRun}
+use Rattle.replay.proofs.ScriptLemmas.{told}
+use Rattle.replay.proofs.run_steps.Goals as goal
+
+pub returns-clause-runs : goal.returns-clause-runs
+returns-clause-runs c =
+    let writer = c.in-Ok.record.outlet.inner in
+    let before = budget_sink c.new-writer.result in
+    let none : c.new-writer.result.failures ≡ 0 = ap (λ (s : Sink). s.failures) c.new-writer.ensures.sink in
+    let fresh : IsFresh before = record { no_bytes = ap (λ (s : Sink). s.taken) c.new-writer.ensures.sink; goes_on = refl; can_count = rw none (lit< tt) } in
+    let held : c.in-Ok-to_vec.held.items ≡ outlet_held c.in-Ok.record.outlet = search rules in
+    let zero : writer.failures ≡ 0 = omega (arith, c.failures.ensures, c.if-failures-gt0.false) in
+    record {
+      before = before;
+      after = budget_sink writer;
+      taken = budget_bytes writer;
+      held = outlet_held c.in-Ok.record.outlet;
+      fresh = fresh;
+      conversation = c.in-Ok.ensures.conversation (ending c.args.bytes.items) (map timed_value c.args.steps.items) (ap Some c.new-reader.ensures) fresh (told c.args.steps.items);
+      no_fault = zero ∙ sym none;
+      took = refl;
+      output_is = ap (λ b. budget_bytes b ++ c.in-Ok-to_vec.held.items) c.into_inner.ensures ∙ ap (λ bs. budget_bytes writer ++ bs) held;
+    }

@@ -1,0 +1,62 @@
+-- What the lines of a script say.
+use Rattle.std.specs.Prelude.{◌≡◌, ◌⊎◌, ◌<◌, ◌^◌, ℕ, List, [], ◌∷◌, ◌++◌, codes, IsAscii}
+use Rattle.std.specs.Str.Parse.{IsNumeral, digits_value}
+use Rattle.httpdate.specs.Date.{unix_secs}
+use Rattle.httpdate.specs.declared.date.HttpDate.{HttpDate}
+use Rattle.replay.specs.declared.line.Line.{Line}
+use Rattle.replay.specs.declared.line.Line.TheVariants.{Blank, Now, Ask, Text, Empty}
+
+-- the text is one decimal digit or more, and they write this number
+abbrev pub WritesNumber : List ℕ → ℕ → Type 0
+WritesNumber digits n = IsNumeral 10 digits × (digits_value 10 digits ≡ n)
+
+-- the text is such a number, a space, and the rest
+abbrev pub BeginsByNumber : List ℕ → ℕ → List ℕ → Type 0
+BeginsByNumber text n rest = (digits : List ℕ) × (text ≡ digits ++ 32 ∷ rest) × WritesNumber digits n
+
+-- the text is a number of 64 bits, a space, a code of 16 bits, a space, and the rest
+abbrev pub BeginsByNumbers : List ℕ → ℕ → ℕ → List ℕ → Type 0
+BeginsByNumbers text number status rest =
+    (behind : List ℕ) × BeginsByNumber text number behind × BeginsByNumber behind status rest × (number < 2 ^ 64) × (status < 2 ^ 16)
+
+-- the text is the seconds of a date, up to the end of the year 9999
+abbrev pub WritesDate : List ℕ → HttpDate → Type 0
+WritesDate text date = WritesNumber text (unix_secs date) × (unix_secs date < 253_402_300_800)
+
+abbrev pub IsDate : List ℕ → Type 0
+IsDate text = (date : HttpDate) × WritesDate text date
+
+-- the grammar of what stands behind `respond`
+abbrev pub WritesAnswer : List ℕ → Line → Type 0
+WritesAnswer words (Text number status text) = BeginsByNumbers words number status (codes "text " ++ text.now)
+WritesAnswer words (Empty number status) = BeginsByNumbers words number status (codes "empty")
+WritesAnswer words Blank = ⊥
+WritesAnswer words (Now date) = ⊥
+WritesAnswer words Ask = ⊥
+
+abbrev pub IsAnswer : List ℕ → Type 0
+IsAnswer words = (line : Line) × WritesAnswer words line
+
+-- the line is an answer, behind its first word
+abbrev pub WritesRespond : List ℕ → Line → Type 0
+WritesRespond text line = (words : List ℕ) × (text ≡ codes "respond " ++ words) × WritesAnswer words line
+
+-- the grammar of a line: which text says what
+abbrev pub Writes : List ℕ → Line → Type 0
+Writes text Blank = (text ≡ []) ⊎ ((comment : List ℕ) × (text ≡ codes "#" ++ comment))
+Writes text (Now date) = (digits : List ℕ) × (text ≡ codes "now " ++ digits) × WritesDate digits date
+Writes text Ask = text ≡ codes "ask"
+Writes text (Text number status words) = WritesRespond text (Text number status words)
+Writes text (Empty number status) = WritesRespond text (Empty number status)
+
+-- the text says something
+abbrev pub SaysSome : List ℕ → Type 0
+SaysSome text = (line : Line) × Writes text line
+
+-- the line is ASCII and says this
+abbrev pub IsLine : List ℕ → Line → Type 0
+IsLine bytes line = IsAscii bytes × Writes bytes line
+
+-- the line is ASCII and says something
+abbrev pub IsGood : List ℕ → Type 0
+IsGood bytes = IsAscii bytes × SaysSome bytes

@@ -1,0 +1,90 @@
+-- The steps that a script names, and its first bad line.
+use Rattle.std.specs.Prelude.{◌≡◌, ◌==◌, ◌+◌, ℕ, Option, Some, None, List, [], ◌∷◌, ◌++◌, length, Vec}
+use Rattle.std.specs.List.{AllZip, AllByRecursion, slice_split}
+use Rattle.std.specs.declared.io.Cursor.{Cursor}
+use Rattle.httpdate.specs.declared.date.HttpDate.{HttpDate}
+use Rattle.httpdate.specs.Date.{unix_secs}
+use Rattle.tiny_http_wire.specs.Answer.{answer_with, text_plain}
+use Rattle.tiny_http_wire.specs.Cursor.{cursor_bytes}
+use Rattle.tiny_http_wire.specs.Device.{Sink, ending}
+use Rattle.tiny_http_core.specs.Slots.{ResponseValue}
+use Rattle.tiny_http_core.specs.Steps.{Asked, Ask, Respond, Replied}
+use Rattle.tiny_http_core.specs.Conversation.{Dated, IsFresh, IsConversation}
+use Rattle.tiny_http_core.specs.declared.driver.Step.{Step}
+use Rattle.tiny_http_core.specs.declared.driver.Step.TheVariants.{Ask as AskStep, Respond as RespondStep}
+use Rattle.tiny_http_core.specs.declared.driver.Timed.{Timed}
+use Rattle.replay.specs.Line.{IsLine, IsGood}
+use Rattle.replay.specs.declared.line.Line.{Line}
+use Rattle.replay.specs.declared.line.Line.TheVariants.{Blank, Now, Ask as AskLine, Text, Empty}
+
+-- a LF ends a line, and so does the end
+abbrev pub script_lines : List ℕ → List (List ℕ)
+script_lines script = slice_split (λ b. b == 10) script
+
+-- the n-th line, counted from 1, is the first that says nothing
+abbrev pub IsFirstBad : List (List ℕ) → ℕ → Type 0
+IsFirstBad lines n =
+    (front : List (List ℕ)) × (bad : List ℕ) × (rest : List (List ℕ))
+    × (lines ≡ front ++ bad ∷ rest) × (length front + 1 ≡ n) × AllByRecursion IsGood front × ¬ (IsGood bad)
+
+-- an answer of a text, or of no data
+abbrev pub text_response : ℕ → List ℕ → ResponseValue
+text_response status text = record { answer = answer_with status (text_plain ∷ []) (length text); content = ending text }
+
+abbrev pub empty_response : ℕ → ResponseValue
+empty_response status = record { answer = answer_with status [] 0; content = ending [] }
+
+-- the step that a line names, if it names one
+abbrev pub said_step : Line → Option Asked
+said_step Blank = None
+said_step (Now date) = None
+said_step AskLine = Some Ask
+said_step (Text number status text) = Some (Respond number (text_response status text.now))
+said_step (Empty number status) = Some (Respond number (empty_response status))
+
+-- the date of the steps from a line on
+abbrev pub date_behind : HttpDate → Line → HttpDate
+date_behind now Blank = now
+date_behind now (Now date) = date
+date_behind now AskLine = now
+date_behind now (Text number status text) = now
+date_behind now (Empty number status) = now
+
+abbrev pub on_date : HttpDate → Option Asked → List Dated
+on_date now None = []
+on_date now (Some step) = (now, step) ∷ []
+
+-- the steps of lines, from a date on
+abbrev pub steps_from : HttpDate → List Line → List Dated
+steps_from now [] = []
+steps_from now (line ∷ lines) = on_date (date_behind now line) (said_step line) ++ steps_from (date_behind now line) lines
+
+-- these are the steps of a script; until a date is set it is second 420895020
+abbrev pub IsScript : List ℕ → List Dated → Type 0
+IsScript script steps =
+    (lines : List Line) × (first : HttpDate)
+    × AllZip IsLine (script_lines script) lines × (unix_secs first ≡ 420_895_020) × (steps ≡ steps_from first lines)
+
+-- a step over data in memory, as a value
+abbrev pub step_value : {A : Type 0} → Step (Cursor (Vec ℕ A)) → Asked
+step_value AskStep = Ask
+step_value (RespondStep number response) = Respond number (record { answer = response.answer; content = ending (cursor_bytes response.data_reader) })
+
+abbrev pub timed_value : {A : Type 0} → Timed (Cursor (Vec ℕ A)) → Dated
+timed_value timed = (timed.now, step_value timed.step)
+
+-- The client sends these bytes and ends: the steps have these replies, and this is the output, all of it taken or held.
+pub record HasRun (client : List ℕ) (steps : List Dated) (replies : List Replied) (output : List ℕ) : Type 0 where
+  pub before : Sink
+  pub after : Sink
+  pub taken : List ℕ
+  pub held : List ℕ
+  pub fresh : IsFresh before
+  pub conversation : IsConversation (ending client) before steps replies after held
+  pub no_fault : after.failures ≡ before.failures
+  pub took : after.taken ≡ Some taken
+  pub output_is : output ≡ taken ++ held
+
+-- a replay of a script over a client's bytes has this output
+abbrev pub IsReplay : List ℕ → List ℕ → List ℕ → Type 0
+IsReplay client script output = (steps : List Dated) × (replies : List Replied) × IsScript script steps × HasRun client steps replies output

@@ -1,0 +1,92 @@
+//! What a line of a script says.
+ghost use Rattle.std.specs.Prelude.{◌≡◌, ◌<◌, ◌^◌, ℕ, List, ◌↔◌, IfSome, IsSomeAnd, IsSome};
+ghost use Rattle.std.specs.Option.{SomeIff};
+ghost use Rattle.std.specs.Str.Parse.{IsNumeral, digits_value};
+ghost use Rattle.replay.specs.Line.{BeginsByNumber, WritesDate, IsDate, WritesAnswer, IsAnswer, Writes, SaysSome, IsLine, IsGood};
+
+use httpdate::HttpDate;
+
+/// What a line says.
+#[derive(Clone, Copy, Debug)]
+pub(crate) enum Line<'a> {
+    /// Nothing: it is empty, or a comment.
+    Blank,
+    /// The date of all the steps behind it.
+    Now(HttpDate),
+    /// Asks for the next request.
+    Ask,
+    /// Answers the request of this number by this code and text.
+    Text(u64, u16, &'a str),
+    /// Answers the request of this number by this code, without data.
+    Empty(u64, u16),
+}
+
+// The number that decimal digits write, if it is below 2^64. `parse` takes a plus before them; a script doesn't.
+fn number_in(digits: &str) -> Option<u64>
+    ensures { SomeIff result (IsNumeral 10 digits.now × (digits_value 10 digits.now < 2 ^ 64)) (digits_value 10 digits.now) }
+{
+    if digits.starts_with('+') {
+        return None;
+    }
+    digits.parse::<u64>().ok()
+}
+
+// The number that stands before the first space, and what stands behind it.
+fn number_before(text: &str) -> Option<(u64, &str)>
+    ensures some { IfSome result (λ r. BeginsByNumber text.now r.0 r.1.now) }
+    ensures found { (n : ℕ) → (rest : List ℕ) → n < 2 ^ 64 → BeginsByNumber text.now n rest → IsSomeAnd result (λ r. (r.0 ≡ n) × (r.1.now ≡ rest)) }
+{
+    let (digits, rest) = text.split_once(' ')?;
+    Some((number_in(digits)?, rest))
+}
+
+// The date so many seconds after the beginning of 1970, up to the end of the year 9999.
+fn date_in(seconds: &str) -> Option<HttpDate>
+    ensures some { IfSome result (λ date. WritesDate seconds.now date) }
+    ensures found { IsDate seconds.now → IsSome result }
+{
+    HttpDate::from_unix_secs(number_in(seconds)?).ok()
+}
+
+// What stands behind `respond`: a number, a code, and `empty`, or `text` and the text.
+fn answer_in(words: &str) -> Option<Line<'_>>
+    ensures some { IfSome result (λ line. WritesAnswer words.now line) }
+    ensures found { IsAnswer words.now → IsSome result }
+{
+    let (number, behind) = number_before(words)?;
+    let (status, content) = number_before(behind)?;
+    let status = u16::try_from(status).ok()?;
+    match content.strip_prefix("text ") {
+        Some(text) => Some(Line::Text(number, status, text)),
+        None if content == "empty" => Some(Line::Empty(number, status)),
+        None => None,
+    }
+}
+
+// What a text says; None where it says nothing known.
+fn text_in(text: &str) -> Option<Line<'_>>
+    ensures some { IfSome result (λ line. Writes text.now line) }
+    ensures found { SaysSome text.now → IsSome result }
+{
+    if text.is_empty() || text.starts_with('#') {
+        return Some(Line::Blank);
+    }
+    if text == "ask" {
+        return Some(Line::Ask);
+    }
+    if let Some(seconds) = text.strip_prefix("now ") {
+        return Some(Line::Now(date_in(seconds)?));
+    }
+    answer_in(text.strip_prefix("respond ")?)
+}
+
+/// What a line says; None for a line that says nothing known, or that has a byte from 128 on.
+pub(crate) fn line_in(bytes: &[u8]) -> Option<Line<'_>>
+    ensures says { IfSome result (λ line. IsLine bytes.now line) }
+    ensures good { IsSome result ↔ IsGood bytes.now }
+{
+    if !bytes.is_ascii() {
+        return None;
+    }
+    text_in(str::from_utf8(bytes).ok()?)
+}

@@ -1,0 +1,187 @@
+//! Runs the steps of a script over a client's bytes: `replay BYTES SCRIPT`.
+#![tactic(auto)]
+
+ghost use Rattle.std.specs.Prelude.{◌≡◌, ◌<◌, ℕ, List, ◌++◌, map, Err, IsErr, IfOk, IfErr, OnOk};
+ghost use Rattle.replay.specs.Fault.{exit_status};
+ghost use Rattle.replay.specs.Script.{script_lines, IsFirstBad, timed_value, HasRun, IsReplay};
+ghost use Rattle.std.specs.Io.KnownBytes.{Appends};
+ghost use Rattle.tiny_http_wire.specs.Budget.{budget_bytes};
+ghost use Rattle.tiny_http_core.specs.Seen.{seen};
+
+mod fault;
+mod line;
+mod reply;
+mod script;
+#[cfg(test)]
+mod tests;
+
+use crate::fault::Fault;
+use crate::reply::ReplyLine;
+use crate::script::{Data, ScriptFault, read_script};
+use std::alloc::Global;
+use std::io::{ErrorKind, Write};
+use std::process::ExitCode;
+use std::rt::{Env, Files};
+use std::{env, fs, io};
+use tiny_http_core::driver::{Record, Reply, Timed, run};
+use tiny_http_wire::device::{Budget, Canned, WriteDevice};
+
+/// What a run left: the writer with what it took, what was held back, and what the steps were answered.
+#[derive(Drop)]
+struct Outcome {
+    writer: Budget,
+    held: Vec<u8>,
+    replies: Vec<Reply>,
+}
+
+// Runs the steps over the bytes and their end. The writer is in memory, so only want of memory makes it fail.
+fn run_steps(
+    alloc: Global,
+    bytes: Vec<u8>,
+    steps: Vec<Timed<Data>>,
+) -> Result<Outcome, Fault<'static>>
+    ensures runs { IfOk result (λ o. HasRun bytes.items (map timed_value steps.items) (map seen o.replies.items) (budget_bytes o.writer ++ o.held.items)) }
+    ensures memory { IfErr result (λ fault. fault ≡ Fault.OutOfMemory) }
+{
+    let reader = Canned::new(bytes, None);
+    let writer = Budget::new(alloc, usize::MAX, ErrorKind::OutOfMemory);
+    let Ok(record) = run(alloc, reader, writer, steps) else {
+        return Err(Fault::OutOfMemory);
+    };
+    let outlet = record.outlet;
+    if outlet.failures() > 0 {
+        return Err(Fault::OutOfMemory);
+    }
+    let Ok(held) = outlet.held().to_vec(alloc) else {
+        return Err(Fault::OutOfMemory);
+    };
+    Ok(Outcome {
+        writer: outlet.into_inner(),
+        held,
+        replies: record.replies,
+    })
+}
+
+// Writes the output to the one, and a line for each reply to the other.
+fn write_outcome<O: Write, E: Write>(
+    outcome: &Outcome,
+    out: &mut O,
+    err: &mut E,
+) -> Result<(), io::Error>
+    ensures { OnOk result (Appends (O.contents out.old) (O.contents out.new) (budget_bytes outcome.now.writer ++ outcome.now.held.items)) }
+{
+    out.write_all(outcome.writer.bytes())?;
+    out.write_all(outcome.held.as_slice())?;
+    out.flush()?;
+    for reply in &outcome.replies {
+        writeln!(err, "{}", ReplyLine(reply))?;
+    }
+    err.flush()
+}
+
+// Runs a script and writes what came of it.
+fn replay<O: Write, E: Write>(
+    alloc: Global,
+    bytes: Vec<u8>,
+    script: &[u8],
+    out: &mut O,
+    err: &mut E,
+) -> Result<(), Fault<'static>>
+    ensures runs { OnOk result ((output : List ℕ) × IsReplay bytes.items script.now output × Appends (O.contents out.old) (O.contents out.new) output) }
+    // Behind a bad line nothing is run.
+    ensures refused { (n : ℕ) → IsFirstBad (script_lines script.now) n → IsErr result × (out.new ≡ out.old) }
+    ensures bad { (n : ℕ) → result ≡ Err (Fault.BadLine n) → IsFirstBad (script_lines script.now) n }
+    ensures kinds { IfErr result (λ fault. exit_status fault ≡ 2 → (n : ℕ) × (fault ≡ Fault.BadLine n)) }
+{
+    let steps = match read_script(alloc, script) {
+        Ok(steps) => steps,
+        Err(ScriptFault::BadLine(number)) => return Err(Fault::BadLine(number)),
+        Err(ScriptFault::OutOfMemory) => return Err(Fault::OutOfMemory),
+    };
+    let outcome = run_steps(alloc, bytes, steps)?;
+    match write_outcome(&outcome, out, err) {
+        Ok(()) => Ok(()),
+        Err(_) => Err(Fault::CannotWrite),
+    }
+}
+
+// Tells a fault by a line, and gives the exit status that tells it.
+fn tell<E: Write>(fault: &Fault<'_>, err: &mut E) -> u8
+    ensures some { 0 < result }
+    ensures two { result ≡ 2 → exit_status fault.now ≡ 2 }
+{
+    match writeln!(err, "replay: {fault}") {
+        Ok(()) => fault.status(),
+        Err(_) => Fault::CannotWrite.status(),
+    }
+}
+
+/// Runs the steps of a script over a client's bytes. Writes the output to `out`, then a line for each reply to `err`, and
+/// gives the exit status: 0, or that of a fault, which is told by a line on `err`. Behind a bad line of the script nothing
+/// is run.
+pub fn replay_on<O: Write, E: Write>(
+    alloc: Global,
+    bytes: Vec<u8>,
+    script: &[u8],
+    out: &mut O,
+    err: &mut E,
+) -> u8
+    ensures runs { result ≡ 0 → (output : List ℕ) × IsReplay bytes.items script.now output × Appends (O.contents out.old) (O.contents out.new) output }
+    // Behind a bad line nothing is run.
+    ensures refused { (n : ℕ) → IsFirstBad (script_lines script.now) n → (0 < result) × (out.new ≡ out.old) }
+    ensures two { result ≡ 2 → (n : ℕ) × IsFirstBad (script_lines script.now) n }
+{
+    match replay(alloc, bytes, script, out, err) {
+        Ok(()) => 0,
+        Err(fault) => tell(&fault, err),
+    }
+}
+
+// All bytes of a file.
+fn read_file<'a, R: Files + AllocGlobal>(rt: &R, name: &'a str) -> Result<Vec<u8>, Fault<'a>> {
+    match fs::read(rt, name) {
+        Ok(bytes) => Ok(bytes),
+        Err(fault) if fault.kind() == ErrorKind::OutOfMemory => Err(Fault::OutOfMemory),
+        Err(_) => Err(Fault::CannotRead(name)),
+    }
+}
+
+// The bytes of the two files that the words name.
+fn read_files<'a, R: Files + AllocGlobal>(
+    rt: &R,
+    words: &'a [String],
+) -> Result<(Vec<u8>, Vec<u8>), Fault<'a>> {
+    let [_, bytes, script] = words else {
+        return Err(Fault::Usage);
+    };
+    let bytes = read_file(rt, bytes.as_str())?;
+    let script = read_file(rt, script.as_str())?;
+    Ok((bytes, script))
+}
+
+// The words of the command line. One that isn't UTF-8 names no file that could be opened here.
+fn words<R: Env + AllocGlobal>(rt: &R) -> Result<Vec<String>, Fault<'static>> {
+    match env::args(rt) {
+        Ok(words) => match words.collect(rt.alloc()) {
+            Ok(words) => Ok(words),
+            Err(_) => Err(Fault::OutOfMemory),
+        },
+        Err(fault) if fault.kind() == ErrorKind::OutOfMemory => Err(Fault::OutOfMemory),
+        Err(_) => Err(Fault::Usage),
+    }
+}
+
+fn main(rt: HostRuntime) -> ExitCode {
+    let mut out = rt.stdout();
+    let mut err = rt.stderr();
+    let words = match words(&rt) {
+        Ok(words) => words,
+        Err(fault) => return ExitCode::from(tell(&fault, &mut err)),
+    };
+    let (bytes, script) = match read_files(&rt, words.as_slice()) {
+        Ok(files) => files,
+        Err(fault) => return ExitCode::from(tell(&fault, &mut err)),
+    };
+    let status = replay_on(rt.alloc(), bytes, script.as_slice(), &mut out, &mut err);
+    ExitCode::from(status)
+}

@@ -1,0 +1,259 @@
+//! Scripts as a whole: what is written, and the exit status.
+use crate::replay_on;
+use crate::reply::ReplyLine;
+use std::alloc::{AllocError, Global};
+use std::io::ErrorKind;
+use std::process::Abort;
+use std::test::Fail;
+use tiny_http_core::driver::Reply;
+
+/// What a replay wrote, and its exit status.
+#[derive(Drop)]
+struct Trial {
+    status: u8,
+    out: Vec<u8>,
+    err: Vec<u8>,
+}
+
+fn replayed(alloc: Global, bytes: &str, script: &[u8]) -> Result<Trial, AllocError> {
+    let bytes = bytes.as_bytes().to_vec(alloc)?;
+    let mut out = Vec::new(alloc);
+    let mut err = Vec::new(alloc);
+    let status = replay_on(alloc, bytes, script, &mut out, &mut err);
+    Ok(Trial { status, out, err })
+}
+
+// The script is refused at this line, and nothing is run.
+fn assert_bad(
+    rt: &impl Abort,
+    alloc: Global,
+    script: &[u8],
+    number: usize,
+) -> Result<(), AllocError> {
+    let run = replayed(alloc, "GET / HTTP/1.1\r\n\r\n", script)?;
+    let line = format!(in alloc; "replay: bad line {number}\n")?;
+    assert_eq!(rt; run.status, 2, "{script:?}");
+    assert_eq!(rt; run.err.as_slice(), line.as_bytes(), "{script:?}");
+    assert!(rt; run.out.is_empty(), "{script:?}");
+    Ok(())
+}
+
+// The script is run: this is its output and the lines of its replies.
+fn assert_good(
+    rt: &impl Abort,
+    alloc: Global,
+    (bytes, script): (&str, &str),
+    out: &str,
+    err: &str,
+) -> Result<(), AllocError> {
+    let run = replayed(alloc, bytes, script.as_bytes())?;
+    assert_eq!(rt; run.err.as_slice(), err.as_bytes(), "{script:?}");
+    assert_eq!(rt; run.out.as_slice(), out.as_bytes(), "{script:?}");
+    assert_eq!(rt; run.status, 0, "{script:?}");
+    Ok(())
+}
+
+const HELLO: (&str, &str) = (
+    "GET /hello HTTP/1.1\r\n\r\n",
+    "ask\nrespond 0 200 text hello world\n",
+);
+
+#[test]
+fn the_stored_run(rt: HostRuntime) -> Result<(), Fail> {
+    let answer =
+        "HTTP/1.1 200 OK\r\nServer: tiny-http (Rust)\r\nDate: Wed, 04 May 1983 11:17:00 GMT\r\n\
+        Content-Type: text/plain; charset=UTF-8\r\nContent-Length: 11\r\n\r\nhello world";
+    let replies = "handed 0 GET /hello 1.1 0 -\ndone\n";
+    assert_good(&rt, rt.alloc(), HELLO, answer, replies)?;
+    Ok(())
+}
+
+#[test]
+fn answers_at_their_dates(rt: HostRuntime) -> Result<(), Fail> {
+    let request = "GET / HTTP/1.1\r\n\r\n";
+    let replies = "handed 0 GET / 1.1 0 -\ndone\n";
+    for (script, out) in [
+        (
+            "ask\nrespond 0 404 empty",
+            "HTTP/1.1 404 Not Found\r\nServer: tiny-http (Rust)\r\nDate: Wed, 04 May 1983 11:17:00 GMT\r\n\
+            Content-Length: 0\r\n\r\n",
+        ),
+        (
+            "# a date\n\nnow 000784111777\nask\nrespond 00 0200 text \n",
+            "HTTP/1.1 200 OK\r\nServer: tiny-http (Rust)\r\nDate: Sun, 06 Nov 1994 08:49:37 GMT\r\n\
+            Content-Type: text/plain; charset=UTF-8\r\nContent-Length: 0\r\n\r\n",
+        ),
+        (
+            "ask\nnow 0\nrespond 0 200 text  a  b\r\nnow 253402300799\n",
+            "HTTP/1.1 200 OK\r\nServer: tiny-http (Rust)\r\nDate: Thu, 01 Jan 1970 00:00:00 GMT\r\n\
+            Content-Type: text/plain; charset=UTF-8\r\nContent-Length: 6\r\n\r\n a  b\r",
+        ),
+    ] {
+        assert_good(&rt, rt.alloc(), (request, script), out, replies)?;
+    }
+    Ok(())
+}
+
+#[test]
+fn replies_without_output(rt: HostRuntime) -> Result<(), Fail> {
+    let post = "POST /f HTTP/1.0\r\nHost: a\r\nContent-Length: 2\r\n\r\nhi";
+    for (bytes, script, err) in [
+        ("", "", ""),
+        ("", "#ask", ""),
+        (
+            "",
+            "ask\nrespond 18446744073709551615 65535 text x\nask\n",
+            "ended\nnosuch\nended\n",
+        ),
+        (
+            post,
+            "ask\nask\nrespond 1 200 empty\n",
+            "handed 0 POST /f 1.0 2 2\nnotyet\nnosuch\n",
+        ),
+    ] {
+        assert_good(&rt, rt.alloc(), (bytes, script), "", err)?;
+    }
+    Ok(())
+}
+
+#[test]
+fn no_line_but_the_grammars(rt: HostRuntime) -> Result<(), Fail> {
+    for line in [
+        " ",
+        "Ask",
+        "asks",
+        " ask",
+        "ask ",
+        "ask\r",
+        "\task",
+        "ask #",
+        "now",
+        "now ",
+        "now x",
+        "now +1",
+        "now -1",
+        "now  1",
+        "now 1 ",
+        "now 1\r",
+        "now 253402300800",
+        "now 18446744073709551616",
+    ] {
+        assert_bad(&rt, rt.alloc(), line.as_bytes(), 1)?;
+    }
+    Ok(())
+}
+
+#[test]
+fn no_answer_but_the_grammars(rt: HostRuntime) -> Result<(), Fail> {
+    for line in [
+        "respond",
+        "respond ",
+        "respond 0",
+        "respond 0 200",
+        "respond 0 200 ",
+        "respond 0 200 text",
+        "respond 0 200 Text x",
+        "respond 0 200 empty ",
+        "respond 0 200 empty x",
+        "respond 0 200 empty\r",
+        "respond  0 200 empty",
+        "respond 0  200 empty",
+        "respond 0 200  empty",
+        "respond 0 200  text x",
+        "respond +0 200 empty",
+        "respond 0 -1 empty",
+        "respond a 200 empty",
+        "respond 0 65536 empty",
+        "respond 18446744073709551616 200 empty",
+        "respond 0 18446744073709551616 empty",
+    ] {
+        assert_bad(&rt, rt.alloc(), line.as_bytes(), 1)?;
+    }
+    Ok(())
+}
+
+#[test]
+fn no_step_of_a_later_stage(rt: HostRuntime) -> Result<(), Fail> {
+    for line in [
+        "asreader 0",
+        "read 0 5",
+        "writer 0",
+        "write 0 x",
+        "flush 0",
+        "upgrade 0 101 websocket",
+        "finish 0",
+        "drop 0",
+        "respond 0 200 stream 5",
+        "respond 0 200 broken 5",
+    ] {
+        assert_bad(&rt, rt.alloc(), line.as_bytes(), 1)?;
+    }
+    Ok(())
+}
+
+#[test]
+fn the_first_bad_line_is_told(rt: HostRuntime) -> Result<(), Fail> {
+    for (script, number) in [
+        ("ask\nrespond 0 200 text x\nbad\nworse\n", 3),
+        ("\n# one\n\nask \nask", 4),
+        ("ask\nask\r\nask", 2),
+        ("# caf\u{e9}\nask", 1),
+        ("ask\nrespond 0 200 text caf\u{e9}", 2),
+        ("\n\n\n\n\n\n\n\n\nten", 10),
+    ] {
+        assert_bad(&rt, rt.alloc(), script.as_bytes(), number)?;
+    }
+    assert_bad(&rt, rt.alloc(), b"ask\n#\x80\n", 2)?;
+    Ok(())
+}
+
+#[test]
+fn a_writer_that_refuses(rt: HostRuntime) -> Result<(), Fail> {
+    let alloc = rt.alloc();
+    let (bytes, script) = HELLO;
+    let mut room = [0u8; 5];
+    let mut full = room.as_mut_slice();
+    let mut err = Vec::new(alloc);
+    let request = bytes.as_bytes().to_vec(alloc)?;
+    assert_eq!(rt;
+        replay_on(alloc, request, script.as_bytes(), &mut full, &mut err),
+        1
+    );
+    assert_eq!(rt; err.as_slice(), b"replay: cannot write\n".as_slice());
+    Ok(())
+}
+
+#[test]
+fn a_teller_that_refuses(rt: HostRuntime) -> Result<(), Fail> {
+    let alloc = rt.alloc();
+    let (bytes, script) = HELLO;
+    for script in [script, "bad"] {
+        let mut room = [0u8; 5];
+        let mut full = room.as_mut_slice();
+        let mut out = Vec::new(alloc);
+        let request = bytes.as_bytes().to_vec(alloc)?;
+        assert_eq!(rt;
+            replay_on(alloc, request, script.as_bytes(), &mut out, &mut full),
+            1
+        );
+    }
+    Ok(())
+}
+
+#[test]
+fn kinds_of_fault(rt: HostRuntime) -> Result<(), Fail> {
+    for (kind, want) in [
+        (ErrorKind::InvalidData, "fault InvalidData"),
+        (ErrorKind::UnexpectedEof, "fault UnexpectedEof"),
+        (ErrorKind::OutOfMemory, "fault OutOfMemory"),
+        (ErrorKind::Other, "fault Other"),
+        (ErrorKind::TimedOut, "fault Other"),
+    ] {
+        let reply = Reply::Fault(kind);
+        let line = format!(in rt.alloc(); "{}", ReplyLine(&reply))?;
+        assert_eq!(rt; line.as_str(), want);
+    }
+    let line = format!(in rt.alloc(); "{}", ReplyLine(&Reply::Memory))?;
+    assert_eq!(rt; line.as_str(), "memory");
+    Ok(())
+}
