@@ -1,14 +1,12 @@
 -- An Ask: from where the connection stands to where it stands behind it.
-use Rattle.std.proofs.Common.{◌≡◌, refl, sym, ap, ◌∙◌, subst, ℕ, ◌+◌, ◌-◌, ◌<◌, ◌^◌, ◌⊎◌, inl, inr, Bool, true, false, not, ◌&&◌, ◌||◌, List, [], ◌∷◌, ◌++◌, length, Option, Some, None, arith, append-nil, length-append, ⊎_elim}
+use Rattle.std.proofs.Common.{◌≡◌, refl, sym, ap, ◌∙◌, subst, ℕ, ◌+◌, ◌-◌, ◌<◌, ◌^◌, ◌⊎◌, inl, inr, Bool, true, false, not, ◌&&◌, ◌||◌, List, [], ◌∷◌, ◌++◌, Option, Some, None, arith, append-nil, length-append, ⊎_elim}
 use Rattle.std.specs.Prelude.{MatchOption, MatchBool, is_some, ⊤, ◌==◌, if◌then◌else◌}
 use Rattle.std.specs.Global.{Vec}
 use Rattle.std.specs.List.{list_all}
 use Rattle.std.specs.Io.KnownBytes.{append_known}
-use Rattle.std.specs.declared.io.ErrorKind.{ErrorKind}
 use Rattle.httpdate.specs.declared.date.HttpDate.{HttpDate}
 use Rattle.tiny_http_wire.specs.declared.device.Stop.{Stop}
-use Rattle.tiny_http_wire.specs.Device.{Feed, Sink, IsFrontOf, Tells, next_count}
-use Rattle.tiny_http_wire.specs.Heads.{is_too_new}
+use Rattle.tiny_http_wire.specs.Device.{Feed, Sink, IsFrontOf, next_count}
 use Rattle.tiny_http_wire.specs.Answer.{text_of}
 use Rattle.tiny_http_core.specs.declared.exchange.Form.{Form}
 use Rattle.tiny_http_core.specs.declared.exchange.Form.TheVariants.{Rest, Nothing, Held, Counted, Chunked}
@@ -18,17 +16,17 @@ use Rattle.tiny_http_core.specs.declared.exchange.HeadRead.TheVariants as read
 use Rattle.tiny_http_core.specs.declared.driver.Waiting.{Waiting}
 use Rattle.tiny_http_core.specs.Framing.{is_built, is_plain}
 use Rattle.tiny_http_core.specs.Source.{GoesOn}
-use Rattle.tiny_http_core.specs.Pipeline.{Item, Asks, Refuses, Request, Place, Heading, Ends, Heads, OneHead, FoundAt, served, served_answer, item_of, Pipeline}
+use Rattle.tiny_http_core.specs.Pipeline.{Item, Asks, Refuses, Request, Place, Heading, Ends, Heads, OneHead, FoundAt, served, served_answer, Pipeline}
 use Rattle.tiny_http_core.specs.HeadReads.{ReadsHead, StandsAt, place_after, request_of, refused, head_message, head_framing}
-use Rattle.tiny_http_core.specs.Slots.{Slot, Waits, is_finished, is_slot_broken, segment, joined, breaks_off, new_slot, is_streamed, is_chunked, is_body_finished, body_holds_reader, body_was_abandoned, last_slot, reader_is_held, reader_is_lost, is_unanswered}
-use Rattle.tiny_http_core.specs.Steps.{Asked, Ask, Replied, Handed, Ended, NotYet, Memory, Use, Unused, Unreported, Outcome, Reached, unchanged, ask, asks_from, outcome}
-use Rattle.tiny_http_core.specs.Conversation.{Failure, State, has_output_ended, IsFront, FailsWithin, Writes, Has, reached_by, StepsTo, IsRefused}
-use Rattle.tiny_http_core.specs.Sending.{CanSend, Sent, Lost, SendsQuietly, SendsUnlessEnded}
+use Rattle.tiny_http_core.specs.Slots.{Slot, is_finished, is_slot_broken, segment, joined, breaks_off, new_slot, is_streamed, is_chunked, body_holds_reader, body_was_abandoned, last_slot, reader_is_held, reader_is_lost, is_unanswered}
+use Rattle.tiny_http_core.specs.Steps.{Asked, Ask, Replied, Handed, Ended, NotYet, Memory, Unused, Unreported, Outcome, Reached, unchanged, ask, asks_from, outcome}
+use Rattle.tiny_http_core.specs.Conversation.{Failure, State, IsFront, FailsWithin, Writes, Has, StepsTo}
+use Rattle.tiny_http_core.specs.Sending.{CanSend, SendsUnlessEnded}
 use Rattle.tiny_http_core.specs.Connection.{Kept, kept_of, WaitsLast, WaitsFor, RestAt, is_plain_item, OutputAt, Stands}
 use Rattle.tiny_http_core.proofs.HeadServing.{built-parts}
 use Rattle.tiny_http_core.proofs.GoingOn.{goes-on_more}
-use Rattle.tiny_http_core.proofs.PipelineLemmas.{pipeline-first, pipeline-none, one-head}
-use Rattle.tiny_http_core.proofs.SlotLemmas.{all-snoc, all-front, last-all, last-snoc, joined-snoc, joined-broken, joined-waiting, breaks-snoc, breaks-waiting}
+use Rattle.tiny_http_core.proofs.PipelineLemmas.{pipeline-first, pipeline-none}
+use Rattle.tiny_http_core.proofs.SlotLemmas.{all-snoc, last-all, last-snoc, joined-snoc, joined-broken, joined-waiting, breaks-snoc, breaks-waiting}
 
 -- the step was answered so
 abbrev pub Answered : Feed → Sink → Kept → State → HttpDate → Asked → Replied → Type 0

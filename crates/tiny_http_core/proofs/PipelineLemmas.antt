@@ -10,14 +10,14 @@ use Rattle.tiny_http_wire.specs.Device.{Feed, ending}
 use Rattle.tiny_http_wire.specs.Heads.{Message, HeadText, is_too_new}
 use Rattle.tiny_http_wire.specs.Chunks.{WholeChunks, CutChunks}
 use Rattle.tiny_http_wire.specs.Reading.{head, HeadRead, Whole, Faulty}
-use Rattle.tiny_http_wire.specs.ChunkReading.{decoded, Decoded}
+use Rattle.tiny_http_wire.specs.ChunkReading.{decoded}
 use Rattle.tiny_http_wire.proofs.HeadLemmas.{head-is, HeadIs, head-one, head-fault, line-shorter, fields-fewer}
 use Rattle.tiny_http_wire.proofs.ChunkLemmas.{decoded-is, decoded-one, decoded-front}
 use Rattle.tiny_http_core.specs.declared.exchange.Form.{Form}
 use Rattle.tiny_http_core.specs.declared.exchange.Form.TheVariants.{Rest, Nothing, Held, Counted, Chunked}
 use Rattle.tiny_http_core.specs.declared.framing.Framing.{Framing}
 use Rattle.tiny_http_core.specs.Framing.{framing, is_built}
-use Rattle.tiny_http_core.specs.Pipeline.{Item, Refuses, Place, Heading, Ends, Heads, HeadAt, IsCutHeld, cut_answer, said_length, served, served_answer, BodyAt, SizedBody, FoundAt, OneHead, item_of, goes_on, ends_too_new, Pipeline}
+use Rattle.tiny_http_core.specs.Pipeline.{Item, Place, Heading, Ends, Heads, HeadAt, IsCutHeld, cut_answer, said_length, served, served_answer, BodyAt, SizedBody, FoundAt, OneHead, item_of, goes_on, ends_too_new, Pipeline}
 use Rattle.tiny_http_core.specs.Reading.{BodyRead, chunked_read, sized_read, body_read, is_cut_held, framed, heading, heading_of, items_at, items_from, items_of}
 
 cut-held : (form : Form) (n : ℕ) (after : List ℕ) → is_cut_held form n after ≡ true → IsCutHeld form n after

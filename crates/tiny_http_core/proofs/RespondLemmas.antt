@@ -1,21 +1,19 @@
 -- A Respond: from where the connection stands to where it stands behind it.
-use Rattle.std.proofs.Common.{◌≡◌, refl, sym, ap, ◌∙◌, subst, ℕ, ◌+◌, ◌-◌, ◌<◌, ◌^◌, ◌⊎◌, inl, inr, Bool, true, false, not, ◌&&◌, ◌||◌, List, [], ◌∷◌, ◌++◌, length, take, Option, Some, None, Result, Ok, Err, arith, length-append, ⊎_elim}
-use Rattle.std.specs.Prelude.{MatchBool, is_some, slice_get, slice_set, if◌then◌else◌}
+use Rattle.std.proofs.Common.{◌≡◌, refl, sym, ap, ◌∙◌, subst, ℕ, ◌+◌, ◌-◌, ◌<◌, ◌^◌, ◌⊎◌, inl, inr, Bool, true, false, ◌||◌, List, [], ◌∷◌, ◌++◌, length, Option, Some, None, Result, Ok, Err, arith, length-append, ⊎_elim}
+use Rattle.std.specs.Prelude.{MatchBool, is_some, slice_get, slice_set}
 use Rattle.std.specs.List.{list_all}
 use Rattle.std.specs.Io.KnownBytes.{append_known}
 use Rattle.std.specs.IoError.{error_kind}
 use Rattle.std.specs.declared.io.Error.{Error}
 use Rattle.std.specs.declared.io.ErrorKind.{ErrorKind}
-use Rattle.std.specs.declared.io.ErrorKind.TheVariants.{OutOfMemory}
 use Rattle.httpdate.specs.declared.date.HttpDate.{HttpDate}
-use Rattle.tiny_http_wire.specs.declared.common.HTTPVersion.{HTTPVersion}
 use Rattle.tiny_http_wire.specs.Device.{Feed, Sink, IsFrontOf, Tells, next_count}
-use Rattle.tiny_http_wire.specs.Answer.{Answer, Text, Ending, Whole, Broken, Printing, text_of, nothing}
+use Rattle.tiny_http_wire.specs.Answer.{Text, Ending, Broken, Printing, text_of}
 use Rattle.tiny_http_core.specs.declared.driver.Waiting.{Waiting}
 use Rattle.tiny_http_core.specs.Pipeline.{Item, Asks, Refuses, Request}
 use Rattle.tiny_http_core.specs.Slots.{ResponseValue, Slot, Stage, Waits, Answered as AnsweredBy, ByServer, Raw, Upgraded, is_over, is_finished, is_broken, is_slot_broken, segment, joined, breaks_off, new_slot, turn_has_come, to_request, text_if, IsGathered}
-use Rattle.tiny_http_core.specs.Steps.{Asked, Respond, Replied, Done, NoSuch, Use, Reported, Outcome, Reached, unchanged, changes, finished, takes, fault_in, fault_of_answer, at_item, at_slot, at_number, outcome}
-use Rattle.tiny_http_core.specs.Conversation.{Failure, State, has_output_ended, IsFront, FailsWithin, FailsTold, FailsBehind, broken_reply, Writes, Has, reached_by, GathersFor, GathersAt, MayLack, StepsTo}
+use Rattle.tiny_http_core.specs.Steps.{Respond, Replied, Done, NoSuch, Use, Reported, Outcome, Reached, unchanged, changes, finished, takes, fault_in, fault_of_answer, at_item, at_slot, at_number}
+use Rattle.tiny_http_core.specs.Conversation.{Failure, State, has_output_ended, IsFront, FailsWithin, FailsTold, FailsBehind, broken_reply, Writes, Has, GathersAt, MayLack}
 use Rattle.tiny_http_core.specs.Sending.{Sent, Lost, SendsText, Sends}
 use Rattle.tiny_http_core.specs.Connection.{Kept, kept_of, WaitsLast, WaitsFor, is_plain_item, OutputAt, Stands}
 use Rattle.tiny_http_core.proofs.AskLemmas.{Answered, step-unchanged, all-finished, lost-front, count-next}

@@ -1,16 +1,14 @@
 -- The definitions tried out: replies and output of whole conversations, computed for a writer that takes all.
-use Rattle.std.proofs.Common.{◌≡◌, refl, ℕ, List, [], ◌∷◌, ◌++◌, Option, Some, None, Bool, true, false, map, length}
-use Rattle.std.specs.Prelude.{codes, decimal}
+use Rattle.std.proofs.Common.{◌≡◌, refl, ℕ, List, [], ◌∷◌, ◌++◌, Option, Some, None, Bool, false, map, length}
+use Rattle.std.specs.Prelude.{codes}
 use Rattle.std.specs.Fmt.{digits}
-use Rattle.std.specs.declared.io.ErrorKind.TheVariants.{UnexpectedEof, TimedOut}
 use Rattle.httpdate.specs.Date.{date_text}
 use Rattle.httpdate.specs.declared.date.HttpDate.{HttpDate}
-use Rattle.tiny_http_wire.specs.declared.device.Stop.TheVariants.{End, Fault as Faults}
 use Rattle.tiny_http_wire.specs.declared.common.Method.{Method}
-use Rattle.tiny_http_wire.specs.declared.common.Method.TheVariants.{Get, Head, Post}
+use Rattle.tiny_http_wire.specs.declared.common.Method.TheVariants.{Get, Head}
 use Rattle.tiny_http_wire.specs.declared.common.Header.{Header}
 use Rattle.tiny_http_wire.specs.Heads.{version, Message}
-use Rattle.tiny_http_wire.specs.Device.{Feed, ending}
+use Rattle.tiny_http_wire.specs.Device.{ending}
 use Rattle.tiny_http_wire.specs.Answer.{text_of, status_line, field_line, upgrade_lines, server_line, date_line, framing_line, head, length_in}
 use Rattle.tiny_http_wire.specs.Common.{reason_phrase}
 use Rattle.tiny_http_core.specs.declared.exchange.Form.{Form}
@@ -18,7 +16,7 @@ use Rattle.tiny_http_core.specs.declared.exchange.Form.TheVariants.{Nothing, Hel
 use Rattle.tiny_http_core.specs.declared.framing.Framing.{Framing}
 use Rattle.tiny_http_core.specs.Framing.{framing}
 use Rattle.tiny_http_core.specs.Slots.{ResponseValue, own_response, text_type}
-use Rattle.tiny_http_core.specs.Steps.{Asked, Ask, Respond, Drop, Replied, Handed, Ended, Fault, NotYet, Done, NoSuch}
+use Rattle.tiny_http_core.specs.Steps.{Asked, Ask, Respond, Drop, Replied, Handed, Ended, NotYet, Done, NoSuch}
 use Rattle.tiny_http_core.specs.Conversation.{Dated}
 use Rattle.tiny_http_core.specs.Reading.{conversed, Conversed}
 

@@ -1,6 +1,5 @@
 -- A run goes on by one step.
-use Rattle.std.proofs.Common.{◌≡◌, refl, sym, ap, ◌∙◌, subst, ℕ, ◌+◌, ◌-◌, ◌<◌, ◌≤◌, ◌^◌, Bool, true, false, List, [], ◌∷◌, ◌++◌, length, Option, Some, None, arith, append-nil, inl, inr, ◌⊎◌}
-use Rattle.std.specs.Prelude.{is_some, ◌||◌}
+use Rattle.std.proofs.Common.{◌≡◌, refl, sym, ap, ◌∙◌, subst, ℕ, ◌<◌, ◌≤◌, Bool, true, false, List, [], ◌∷◌, ◌++◌, length, Option, Some, None, arith, append-nil, inl, inr, ◌⊎◌}
 use Rattle.std.specs.List.{AllZip}
 use Rattle.std.specs.Io.KnownBytes.{append_known}
 use Rattle.std.proofs.lemmas.Grind.{common_steps}
@@ -8,20 +7,17 @@ use Rattle.tiny_http_wire.specs.Device.{Feed, Sink, grown, next_count}
 use Rattle.tiny_http_core.specs.Outlet.{holding}
 use Rattle.tiny_http_core.specs.Source.{GoesOn}
 use Rattle.tiny_http_core.specs.Pipeline.{Item, Pipeline}
-use Rattle.tiny_http_core.specs.Slots.{joined, breaks_off}
+use Rattle.tiny_http_core.specs.Slots.{joined}
 use Rattle.tiny_http_core.specs.Steps.{Replied}
 use Rattle.tiny_http_core.specs.Conversation.{State, Failure, StepsTo, Run, Dated, start, IsFresh, IsOutput, IsConversation}
 use Rattle.tiny_http_core.specs.Connection.{Kept, RestAt, OutputAt, Stands}
-use Rattle.std.specs.Prelude.{MatchBool}
-use Rattle.std.specs.declared.io.ErrorKind.{ErrorKind}
 use Rattle.tiny_http_core.specs.declared.driver.Timed.{Timed}
 use Rattle.tiny_http_core.specs.declared.driver.Reply.{Reply}
-use Rattle.tiny_http_core.specs.Steps.{Fault}
-use Rattle.tiny_http_core.specs.Seen.{seen, StepBreaks, TellsHonestly}
+use Rattle.tiny_http_core.specs.Seen.{TellsHonestly}
 use Rattle.tiny_http_core.specs.Sending.{FailsOnce, FailsOnceUnlessEnded}
 use Rattle.tiny_http_core.specs.Reading.{items_of}
 use Rattle.tiny_http_core.proofs.PipelineLemmas.{feed-pipeline}
-use Rattle.tiny_http_core.proofs.SendLemmas.{or-false, append-none, grown-none}
+use Rattle.tiny_http_core.proofs.SendLemmas.{grown-none}
 use Rattle.tiny_http_core.proofs.AskLemmas.{same-feed}
 
 run-more : (a mid new : State) (xs : List Dated) (rs : List Replied) (d : Dated) (r : Replied) → Run a xs rs mid → StepsTo mid d.0 d.1 r new → Run a (xs ++ d ∷ []) (rs ++ r ∷ []) new

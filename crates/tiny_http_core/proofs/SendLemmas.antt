@@ -9,7 +9,6 @@ use Rattle.std.specs.Io.KnownBytes.{append_known}
 use Rattle.std.proofs.lemmas.Bool.{ne_eqb}
 use Rattle.tiny_http_wire.specs.Device.{Feed, ending, Sink, IsFrontOf, grown, Tells, Took, Failed, Puts, next_count, fault_of, Uses}
 use Rattle.tiny_http_wire.specs.Answer.{Answer, answer_with, Text, Whole, Broken, Printing, Prints, PrintsAnswer, text_of, nothing, gathered_body, unless, identity_body, as_it_is, is_withheld}
-use Rattle.tiny_http_wire.proofs.DeviceLemmas.{Took-append, Failed-append}
 use Rattle.tiny_http_core.specs.Outlet.{holding, EndsWith}
 use Rattle.httpdate.specs.declared.date.HttpDate.{HttpDate}
 use Rattle.tiny_http_wire.specs.declared.common.HTTPVersion.{HTTPVersion}
@@ -19,7 +18,7 @@ use Rattle.tiny_http_wire.specs.declared.device.Stop.{Stop}
 use Rattle.tiny_http_wire.specs.declared.device.Stop.TheVariants.{End, Fault}
 use Rattle.tiny_http_core.specs.declared.exchange.Refusal.{Refusal}
 use Rattle.tiny_http_core.specs.HeadReads.{refused}
-use Rattle.tiny_http_core.specs.Slots.{IsGathered, segment, new_slot}
+use Rattle.tiny_http_core.specs.Slots.{segment, new_slot}
 use Rattle.tiny_http_core.specs.Sending.{Sent, Lost, EndsQuietly, Abandons, SendsText, Sends, SendsQuietly, SendsUnlessEnded, FailsOnce, IsHonest}
 
 pub or-false : (a b : Bool) → (a || b) ≡ false → (a ≡ false) × (b ≡ false)

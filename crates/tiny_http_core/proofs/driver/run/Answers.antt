@@ -1,4 +1,4 @@
-use Rattle.std.proofs.Common.{rules, ◌≡◌, refl, sym, ap, ◌∙◌, subst, map, arith, inl, inr, ⊎_elim, Option, Some, List}
+use Rattle.std.proofs.Common.{◌≡◌, refl, sym, ◌∙◌, subst, map, arith, inl, inr, ⊎_elim, Option}
 use Rattle.std.specs.List.{AllZip}
 use Rattle.std.proofs.lemmas.List.{map-append}
 use Rattle.std.proofs.lemmas.Grind.{common_steps}

@@ -1,4 +1,4 @@
-use Rattle.std.proofs.Common.{rules, sym, ◌∙◌}
+use Rattle.std.proofs.Common.{rules}
 use Rattle.tiny_http_core.proofs.HeadServing.{head-refused, head-unframed, head-unbuilt, head-cut, head-handed}
 use Rattle.tiny_http_core.proofs.GoingOn.{goes-on_more}
 use Rattle.tiny_http_core.proofs.heads.read_head.Goals as goal

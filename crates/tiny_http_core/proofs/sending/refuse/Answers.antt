@@ -1,9 +1,9 @@
-use Rattle.std.proofs.Common.{rules, refl, arith, sym, ◌∙◌, subst, ◌≡◌, []}
+use Rattle.std.proofs.Common.{refl, arith, sym, subst, []}
 use Rattle.tiny_http_wire.specs.Device.{ending}
 use Rattle.tiny_http_wire.specs.Answer.{Answer}
 use Rattle.tiny_http_core.specs.Outlet.{outlet_sink, outlet_ended}
 use Rattle.tiny_http_core.specs.Sending.{Sends}
-use Rattle.tiny_http_core.proofs.SendLemmas.{bad_request, bad-request-sent, not-sent}
+use Rattle.tiny_http_core.proofs.SendLemmas.{bad_request, bad-request-sent}
 use Rattle.tiny_http_core.proofs.sending.refuse.Goals as goal
 
 pub returns-clause-sends : goal.returns-clause-sends

@@ -1,4 +1,4 @@
-use Rattle.std.proofs.Common.{rules, ◌≡◌, ap, ◌∙◌, Bool, true, false}
+use Rattle.std.proofs.Common.{◌≡◌, ap, true}
 use Rattle.std.specs.Prelude.{◌||◌}
 use Rattle.tiny_http_core.proofs.SendLemmas.{printed-flushed, printed-ended, ended-once, flushed-once, printed-honest, or-false}
 use Rattle.tiny_http_core.proofs.sending.send.Goals as goal

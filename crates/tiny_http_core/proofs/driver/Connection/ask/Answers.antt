@@ -1,6 +1,5 @@
-use Rattle.std.proofs.Common.{rules, refl, sym, ap, ◌∙◌, subst, ◌≡◌, ◌+◌, ◌<◌, arith, ℕ, Bool, true, false, Option, Some, None}
+use Rattle.std.proofs.Common.{rules, sym, subst, ◌≡◌, ◌+◌, ℕ, Bool, true, Some}
 use Rattle.tiny_http_wire.specs.Device.{Sink}
-use Rattle.tiny_http_core.specs.declared.driver.Waiting.{Waiting}
 use Rattle.tiny_http_core.specs.Outlet.{outlet_sink, outlet_ended}
 use Rattle.tiny_http_core.specs.Connection.{Kept, kept}
 use Rattle.tiny_http_core.specs.Steps.{Ask, Handed, Ended}

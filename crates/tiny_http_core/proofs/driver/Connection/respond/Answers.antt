@@ -1,14 +1,13 @@
-use Rattle.std.proofs.Common.{rules, refl, sym, ap, ◌∙◌, subst, ◌≡◌, ◌+◌, ◌<◌, arith, ℕ, Bool, true, false, Option, Some, None, Result, Ok, Err}
+use Rattle.std.proofs.Common.{rules, refl, sym, subst, ◌≡◌, ◌+◌, arith, false, Result, Ok, Err}
 use Rattle.std.specs.IoError.{error_kind}
 use Rattle.std.specs.declared.io.Error.{Error}
 use Rattle.tiny_http_core.specs.Steps.{Done, fault_of_answer}
 use Rattle.tiny_http_core.specs.Seen.{seen}
-use Rattle.tiny_http_wire.specs.Device.{Sink}
 use Rattle.tiny_http_wire.specs.Answer.{Answer}
 use Rattle.tiny_http_core.specs.Outlet.{outlet_sink, outlet_ended}
 use Rattle.tiny_http_core.specs.Sending.{Sends}
 use Rattle.tiny_http_core.specs.Connection.{Kept, kept}
-use Rattle.tiny_http_core.proofs.AskLemmas.{Answered, can-send}
+use Rattle.tiny_http_core.proofs.AskLemmas.{can-send}
 use Rattle.tiny_http_core.proofs.RespondLemmas.{respond-none, respond-other, respond-past, respond-sent, printed_as}
 use Rattle.tiny_http_core.proofs.driver.Connection.respond.Goals.{then-number-self-via-then-number-self, then-number-self-via-else-number-self+then-number-self-2}
 use Rattle.tiny_http_core.proofs.driver.Connection.respond.Goals as goal
