@@ -1,50 +1,8 @@
-//! Answers: which request they go to, what is withheld, and what a writer's fault leaves of them.
-use crate::runs::Deed::{Ask, Coded, Text};
+//! Answers: which request they go to, and what a writer's fault leaves of them.
+use crate::runs::Deed::{Ask, Text};
 use crate::runs::{AMPLE, Case, EMPTY, TEXT, Trouble, assert_case, assert_troubled};
 use std::io::ErrorKind;
 use std::test::Fail;
-
-#[test]
-fn an_answer_to_head_has_no_body(rt: HostRuntime) -> Result<(), Fail> {
-    for (client, replies) in [
-        (
-            b"HEAD /hello HTTP/1.1\r\n\r\n".as_slice(),
-            "0: HEAD /hello 1.1; done; ended",
-        ),
-        (
-            b"HEAD / HTTP/1.1\n\r\n\r\n".as_slice(),
-            "0: HEAD / 1.1; done; ended",
-        ),
-        (
-            b"HEAD / HTTP/1.1\r\nHost: a\nX: b\r\n\r\n".as_slice(),
-            "0: HEAD / 1.1 [Host: a\nX: b]; done; ended",
-        ),
-    ] {
-        let case = Case {
-            client,
-            deeds: &[Ask, Text(0, "hello world"), Ask],
-            replies,
-            output: &["HTTP/1.1 200 OK\r\n", TEXT, "Content-Length: 11\r\n\r\n"],
-        };
-        assert_case(&rt, rt.alloc(), &case)?;
-    }
-    Ok(())
-}
-
-#[test]
-fn an_answer_not_modified_has_no_body(rt: HostRuntime) -> Result<(), Fail> {
-    let case = Case {
-        client: b"GET /hello HTTP/1.1\r\n\r\n",
-        deeds: &[Ask, Coded(0, 304, "hello"), Ask],
-        replies: "0: GET /hello 1.1; done; ended",
-        output: &[
-            "HTTP/1.1 304 Not Modified\r\n",
-            TEXT,
-            "Content-Length: 5\r\n\r\n",
-        ],
-    };
-    assert_case(&rt, rt.alloc(), &case)
-}
 
 #[test]
 fn a_request_is_answered_once(rt: HostRuntime) -> Result<(), Fail> {

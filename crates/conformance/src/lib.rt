@@ -11,3 +11,5 @@ mod heads;
 mod persistence;
 #[cfg(test)]
 mod runs;
+#[cfg(test)]
+mod withheld;
