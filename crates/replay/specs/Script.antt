@@ -1,6 +1,7 @@
 -- The steps that a script names, and its first bad line.
 use Rattle.std.specs.Prelude.{◌≡◌, ◌==◌, ◌+◌, ℕ, Option, Some, None, List, [], ◌∷◌, ◌++◌, length, Vec}
 use Rattle.std.specs.List.{AllZip, AllByRecursion, slice_split}
+use Rattle.std.specs.Io.KnownBytes.{Appends}
 use Rattle.std.specs.declared.io.Cursor.{Cursor}
 use Rattle.httpdate.specs.declared.date.HttpDate.{HttpDate}
 use Rattle.httpdate.specs.Date.{unix_secs}
@@ -88,3 +89,7 @@ pub record HasRun (client : List ℕ) (steps : List Dated) (replies : List Repli
 -- a replay of a script over a client's bytes has this output
 abbrev pub IsReplay : List ℕ → List ℕ → List ℕ → Type 0
 IsReplay client script output = (steps : List Dated) × (replies : List Replied) × IsScript script steps × HasRun client steps replies output
+
+-- a writer's known bytes grow by the output of such a replay
+abbrev pub WritesReplay : Option (List ℕ) → Option (List ℕ) → List ℕ → List ℕ → Type 0
+WritesReplay old new client script = (output : List ℕ) × IsReplay client script output × Appends old new output
