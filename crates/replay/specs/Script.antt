@@ -28,10 +28,11 @@ IsFirstBad lines n =
     (front : List (List ℕ)) × (bad : List ℕ) × (rest : List (List ℕ))
     × (lines ≡ front ++ bad ∷ rest) × (length front + 1 ≡ n) × AllByRecursion IsGood front × ¬ (IsGood bad)
 
--- an answer of a text, or of no data
+-- the answer of a text under a code
 abbrev pub text_response : ℕ → List ℕ → ResponseValue
 text_response status text = record { answer = answer_with status (text_plain ∷ []) (length text); content = ending text }
 
+-- the answer without data under a code
 abbrev pub empty_response : ℕ → ResponseValue
 empty_response status = record { answer = answer_with status [] 0; content = ending [] }
 
@@ -51,6 +52,7 @@ date_behind now AskLine = now
 date_behind now (Text number status text) = now
 date_behind now (Empty number status) = now
 
+-- at most one step, on its date
 abbrev pub on_date : HttpDate → Option Asked → List Dated
 on_date now None = []
 on_date now (Some step) = (now, step) ∷ []
@@ -71,6 +73,7 @@ abbrev pub step_value : {A : Type 0} → Step (Cursor (Vec ℕ A)) → Asked
 step_value AskStep = Ask
 step_value (RespondStep number response) = Respond number (record { answer = response.answer; content = ending (cursor_bytes response.data_reader) })
 
+-- the same on its date
 abbrev pub timed_value : {A : Type 0} → Timed (Cursor (Vec ℕ A)) → Dated
 timed_value timed = (timed.now, step_value timed.step)
 
