@@ -1,14 +1,12 @@
 -- An Ask: from where the connection stands to where it stands behind it.
-use Rattle.std.proofs.Common.{◌≡◌, refl, sym, ap, ◌∙◌, subst, ℕ, ◌+◌, ◌-◌, ◌<◌, ◌^◌, ◌⊎◌, inl, inr, Bool, true, false, not, ◌&&◌, ◌||◌, List, [], ◌∷◌, ◌++◌, length, Option, Some, None, arith, append-nil, length-append, ⊎_elim}
+use Rattle.std.proofs.Common.{◌≡◌, refl, sym, ap, ◌∙◌, subst, ℕ, ◌+◌, ◌-◌, ◌<◌, ◌^◌, ◌⊎◌, inl, inr, Bool, true, false, not, ◌&&◌, ◌||◌, List, [], ◌∷◌, ◌++◌, Option, Some, None, arith, append-nil, length-append, ⊎_elim}
 use Rattle.std.specs.Prelude.{MatchOption, MatchBool, is_some, ⊤, ◌==◌, if◌then◌else◌}
 use Rattle.std.specs.Global.{Vec}
 use Rattle.std.specs.List.{list_all}
 use Rattle.std.specs.Io.KnownBytes.{append_known}
-use Rattle.std.specs.declared.io.ErrorKind.{ErrorKind}
 use Rattle.httpdate.specs.declared.date.HttpDate.{HttpDate}
 use Rattle.tiny_http_wire.specs.declared.device.Stop.{Stop}
-use Rattle.tiny_http_wire.specs.Device.{Feed, Sink, IsFrontOf, Tells, next_count}
-use Rattle.tiny_http_wire.specs.Heads.{is_too_new}
+use Rattle.tiny_http_wire.specs.Device.{Feed, Sink, IsFrontOf, next_count}
 use Rattle.tiny_http_wire.specs.Answer.{text_of}
 use Rattle.tiny_http_core.specs.declared.exchange.Form.{Form}
 use Rattle.tiny_http_core.specs.declared.exchange.Form.TheVariants.{Rest, Nothing, Held, Counted, Chunked}
@@ -18,17 +16,17 @@ use Rattle.tiny_http_core.specs.declared.exchange.HeadRead.TheVariants as read
 use Rattle.tiny_http_core.specs.declared.driver.Waiting.{Waiting}
 use Rattle.tiny_http_core.specs.Framing.{is_built, is_plain}
 use Rattle.tiny_http_core.specs.Source.{GoesOn}
-use Rattle.tiny_http_core.specs.Pipeline.{Item, Asks, Refuses, Request, Place, Heading, Ends, Heads, OneHead, FoundAt, served, served_answer, item_of, Pipeline}
+use Rattle.tiny_http_core.specs.Pipeline.{Item, Asks, Refuses, Request, Place, Heading, Ends, Heads, OneHead, FoundAt, served, served_answer, Pipeline}
 use Rattle.tiny_http_core.specs.HeadReads.{ReadsHead, StandsAt, place_after, request_of, refused, head_message, head_framing}
-use Rattle.tiny_http_core.specs.Slots.{Slot, Waits, is_finished, is_slot_broken, segment, joined, breaks_off, new_slot, is_streamed, is_chunked, is_body_finished, body_holds_reader, body_was_abandoned, last_slot, reader_is_held, reader_is_lost, is_unanswered}
-use Rattle.tiny_http_core.specs.Steps.{Asked, Ask, Replied, Handed, Ended, NotYet, Memory, Use, Unused, Unreported, Outcome, Reached, unchanged, ask, asks_from, outcome}
-use Rattle.tiny_http_core.specs.Conversation.{Failure, State, has_output_ended, IsFront, FailsWithin, Writes, Has, reached_by, StepsTo, IsRefused}
-use Rattle.tiny_http_core.specs.Sending.{CanSend, Sent, Lost, SendsQuietly, SendsUnlessEnded}
+use Rattle.tiny_http_core.specs.Slots.{Slot, is_finished, is_slot_broken, segment, joined, breaks_off, new_slot, is_streamed, is_chunked, body_holds_reader, body_was_abandoned, last_slot, reader_is_held, reader_is_lost, is_unanswered}
+use Rattle.tiny_http_core.specs.Steps.{Asked, Ask, Replied, Handed, Ended, NotYet, Memory, Unused, Unreported, Outcome, Reached, unchanged, ask, asks_from, outcome}
+use Rattle.tiny_http_core.specs.Conversation.{Failure, State, IsFront, FailsWithin, Writes, Has, StepsTo}
+use Rattle.tiny_http_core.specs.Sending.{CanSend, SendsUnlessEnded}
 use Rattle.tiny_http_core.specs.Connection.{Kept, kept_of, WaitsLast, WaitsFor, RestAt, is_plain_item, OutputAt, Stands}
 use Rattle.tiny_http_core.proofs.HeadServing.{built-parts}
 use Rattle.tiny_http_core.proofs.GoingOn.{goes-on_more}
-use Rattle.tiny_http_core.proofs.PipelineLemmas.{pipeline-first, pipeline-none, one-head}
-use Rattle.tiny_http_core.proofs.SlotLemmas.{all-snoc, all-front, last-all, last-snoc, joined-snoc, joined-broken, joined-waiting, breaks-snoc, breaks-waiting}
+use Rattle.tiny_http_core.proofs.PipelineLemmas.{pipeline-first, pipeline-none}
+use Rattle.tiny_http_core.proofs.SlotLemmas.{all-snoc, last-all, last-snoc, joined-snoc, joined-broken, joined-waiting, breaks-snoc, breaks-waiting}
 
 -- the step was answered so
 abbrev pub Answered : Feed → Sink → Kept → State → HttpDate → Asked → Replied → Type 0
@@ -168,17 +166,19 @@ ask-handed client before k s date h body p st e w o reads goes =
     let F : List Item → Outcome = λ x. asks_from date Unused s.reached.slots x in
     let is : ask date s.reached ≡ asks_from date Unused s.reached.slots (Asks r ∷ first.0) = ask-goes date s.reached ends last.answered last.unheld last.kept ∙ ap F first.1 in
     let new : State = record { reached = record { slots = slots; rest = first.0; ended = false }; failure = s.failure } in
-    let G : Outcome → Type 0 = λ x. Has x s (Handed k.numbers (head_message h) (head_framing h)) new in
-    (new,
-     record {
-       numbers = length-append s.reached.slots (n ∷ []) ∙ ap (λ x. x + 1) st.numbers;
-       ended = sym e;
-       waits = record { before = s.reached.slots; request = r; date = date; last = refl; finished = g.finished; same = refl };
-       plain = all-snoc (λ (x : Slot). is_plain_item x.item) s.reached.slots n st.plain (one-head-plain g.feed.bytes g.feed.stop r (place_after h.is_last found.0) found.1);
-       rest = subst Q (sym e) (rest-at h.is_last found.0 g.feed p first.0 found.2 first.2);
-       source = goes-on_more (Some client) k.feed p st.source goes;
-       output = output-waiting before k.sink k.output_ended s.reached.slots date r s.failure st.output },
-     inl (true, tt, subst G (sym is) (refl, (ap (λ x. Handed x (head_message h) (head_framing h)) (sym st.numbers), refl))))
+    let G : Outcome → Type 0 = λ x. Has x s (Handed k.numbers (head_message h) (head_framing h)) new in (
+      new,
+      record {
+        numbers = length-append s.reached.slots (n ∷ []) ∙ ap (λ x. x + 1) st.numbers;
+        ended = sym e;
+        waits = record { before = s.reached.slots; request = r; date = date; last = refl; finished = g.finished; same = refl };
+        plain = all-snoc (λ (x : Slot). is_plain_item x.item) s.reached.slots n st.plain (one-head-plain g.feed.bytes g.feed.stop r (place_after h.is_last found.0) found.1);
+        rest = subst Q (sym e) (rest-at h.is_last found.0 g.feed p first.0 found.2 first.2);
+        source = goes-on_more (Some client) k.feed p st.source goes;
+        output = output-waiting before k.sink k.output_ended s.reached.slots date r s.failure st.output;
+      },
+      inl (true, tt, subst G (sym is) (refl, (ap (λ x. Handed x (head_message h) (head_framing h)) (sym st.numbers), refl))),
+    )
 
 -- the pipeline has ended
 abbrev ends_with : Reached → Outcome
@@ -195,10 +195,11 @@ ask-nothing client before k s date p st e w none goes =
     let F : List Item → Outcome = λ x. asks_from date Unused s.reached.slots x in
     let is : ask date s.reached ≡ ends_with s.reached = ask-goes date s.reached (st.ended ∙ e) last.answered last.unheld last.kept ∙ ap F none in
     let new : State = record { reached = record { slots = s.reached.slots; rest = []; ended = true }; failure = s.failure } in
-    let G : Outcome → Type 0 = λ x. Has x s Ended new in
-    (new,
-     record { numbers = st.numbers; ended = refl; waits = st.waits; plain = st.plain; rest = tt; source = goes-on_more (Some client) k.feed p st.source goes; output = st.output },
-     inl (true, tt, subst G (sym is) (refl, (refl, refl))))
+    let G : Outcome → Type 0 = λ x. Has x s Ended new in (
+      new,
+      record { numbers = st.numbers; ended = refl; waits = st.waits; plain = st.plain; rest = tt; source = goes-on_more (Some client) k.feed p st.source goes; output = st.output },
+      inl (true, tt, subst G (sym is) (refl, (refl, refl))),
+    )
 
 pub same-feed : (x : Option Feed) → GoesOn x x
 same-feed None = tt
@@ -232,11 +233,21 @@ ask-memory client before k s date p st e w goes =
     let last = last-quiet s.reached.slots fin st.plain in
     let new : State = record { reached = record { slots = s.reached.slots; rest = s.reached.rest; ended = true }; failure = s.failure } in
     let R : List Slot → Reached = λ x. record { slots = x; rest = s.reached.rest; ended = true } in
-    let P : List Slot → Type 0 = λ x. Writes Unreported s Memory x Memory s.failure in
-    (new,
-     record { numbers = st.numbers; ended = refl; waits = st.waits; plain = st.plain; rest = tt; source = goes-on_more (Some client) k.feed p st.source goes; output = st.output },
-     inr (st.ended ∙ e, last.answered, last.unheld, last.kept, [], s.reached.rest, refl, tt,
-       (ap R (sym (append-nil s.reached.slots)), (refl, unreported s.failure (breaks_off s.reached.slots) _))))
+    let P : List Slot → Type 0 = λ x. Writes Unreported s Memory x Memory s.failure in (
+      new,
+      record { numbers = st.numbers; ended = refl; waits = st.waits; plain = st.plain; rest = tt; source = goes-on_more (Some client) k.feed p st.source goes; output = st.output },
+      inr (
+        st.ended ∙ e,
+        last.answered,
+        last.unheld,
+        last.kept,
+        [],
+        s.reached.rest,
+        refl,
+        tt,
+        (ap R (sym (append-nil s.reached.slots)), (refl, unreported s.failure (breaks_off s.reached.slots) _)),
+      ),
+    )
 
 -- what a lost text leaves
 pub lost-front : (known text : List ℕ) (taken : Option (List ℕ)) → IsFrontOf taken (append_known (Some known) text) → (z : List ℕ) × (taken ≡ Some z) × IsFront z (known ++ text)
@@ -270,28 +281,31 @@ output-unless before sink new true ended slots n None h fin ok low sends =
     record {
       failure = None;
       output = subst Q (sym sends.0) (h.0 ∙ ap Some (sym (joined-broken slots (n ∷ []) breaks)), h.1, h.2 ∙ sym sends.1, sends.1 ∙ sym (breaks-snoc slots n fin ∙ ap (λ x. x || is_slot_broken n) breaks));
-      writes = subst R (sym breaks) refl }
+      writes = subst R (sym breaks) refl;
+    }
 output-unless before sink new false ended slots n None h fin ok low sends =
     let whole : breaks_off slots ≡ false = sym h.3 in
     let R : Bool → Option Failure → Type 0 = λ t x. MatchBool t (x ≡ None) ((x ≡ None) ⊎ FailsWithin (joined (slots ++ n ∷ [])) x) in
     let longer : joined slots ++ segment n ≡ joined (slots ++ n ∷ []) = sym (joined-snoc slots n fin whole) in
     let breaks : breaks_off (slots ++ n ∷ []) ≡ false = breaks-snoc slots n fin ∙ ap (λ x. x || is_slot_broken n) whole ∙ ok in
     ⊎_elim
-      (λ k. record {
-        failure = None;
-        output = (k.2.bytes ∙ ap (λ x. append_known x (segment n)) h.0 ∙ ap Some longer, k.2.failures ∙ h.1, k.1 ∙ sym k.0, k.0 ∙ sym breaks);
-        writes = subst (λ t. R t None) (sym whole) (inl refl) })
-      (λ k.
-        let P : Option (List ℕ) → Type 0 = λ x. IsFrontOf new.taken (append_known x (segment n)) in
-        let z = lost-front (joined slots) (segment n) new.taken (subst P h.0 k.3.bytes) in
-        let f : Failure = record { kind = k.2; output = z.0 } in
-        let S : List ℕ → Type 0 = λ x. IsFront z.0 x in
-        let C : ℕ → Type 0 = λ x. new.failures ≡ next_count x in
-        record {
-          failure = Some f;
-          output = (z.1, count-next before.failures new.failures low (subst C h.1 k.3.failures), k.3.last_kind, k.0);
-          writes = subst (λ t. R t (Some f)) (sym whole) (inr (f, refl, subst S longer z.2)) })
-      sends
+    (λ k. record {
+      failure = None;
+      output = (k.2.bytes ∙ ap (λ x. append_known x (segment n)) h.0 ∙ ap Some longer, k.2.failures ∙ h.1, k.1 ∙ sym k.0, k.0 ∙ sym breaks);
+      writes = subst (λ t. R t None) (sym whole) (inl refl);
+    })
+    (λ k.
+    let P : Option (List ℕ) → Type 0 = λ x. IsFrontOf new.taken (append_known x (segment n)) in
+    let z = lost-front (joined slots) (segment n) new.taken (subst P h.0 k.3.bytes) in
+    let f : Failure = record { kind = k.2; output = z.0 } in
+    let S : List ℕ → Type 0 = λ x. IsFront z.0 x in
+    let C : ℕ → Type 0 = λ x. new.failures ≡ next_count x in
+    record {
+      failure = Some f;
+      output = (z.1, count-next before.failures new.failures low (subst C h.1 k.3.failures), k.3.last_kind, k.0);
+      writes = subst (λ t. R t (Some f)) (sym whole) (inr (f, refl, subst S longer z.2));
+    })
+    sends
 
 abbrev pub after_refused : Kept → Option Feed → Sink → Bool → Kept
 after_refused k p sink ended = record k { numbers = k.numbers + 1; ended = true; feed = p; sink = sink; output_ended = ended }
@@ -310,21 +324,23 @@ ask-refused client before k s date x p sink ended st low e w o reads goes whole 
     let last = last-quiet s.reached.slots g.finished st.plain in
     let F : List Item → Outcome = λ y. asks_from date Unused s.reached.slots y in
     let is : ask date s.reached ≡ asks_from date Unused s.reached.slots (refused x ∷ []) =
-        ask-goes date s.reached (st.ended ∙ e) last.answered last.unheld last.kept ∙ ap F (first.1 ∙ ap (λ y. refused x ∷ y) none) in
+    ask-goes date s.reached (st.ended ∙ e) last.answered last.unheld last.kept ∙ ap F (first.1 ∙ ap (λ y. refused x ∷ y) none) in
     let out = output-unless before k.sink sink k.output_ended ended s.reached.slots n s.failure st.output g.finished whole low sends in
     let new : State = record { reached = record { slots = slots; rest = []; ended = true }; failure = out.failure } in
     let G : Outcome → Type 0 = λ y. Has y s Ended new in
-    let W : Option Waiting → Type 0 = λ y. WaitsFor y slots in
-    (new,
-     record {
-       numbers = length-append s.reached.slots (n ∷ []) ∙ ap (λ y. y + 1) st.numbers;
-       ended = refl;
-       waits = subst W (sym w) (all-snoc is_finished s.reached.slots n g.finished refl);
-       plain = all-snoc (λ (y : Slot). is_plain_item y.item) s.reached.slots n st.plain refl;
-       rest = tt;
-       source = goes-on_more (Some client) k.feed p st.source goes;
-       output = out.output },
-     inl (true, tt, subst G (sym is) (refl, (refl, out.writes))))
+    let W : Option Waiting → Type 0 = λ y. WaitsFor y slots in (
+      new,
+      record {
+        numbers = length-append s.reached.slots (n ∷ []) ∙ ap (λ y. y + 1) st.numbers;
+        ended = refl;
+        waits = subst W (sym w) (all-snoc is_finished s.reached.slots n g.finished refl);
+        plain = all-snoc (λ (y : Slot). is_plain_item y.item) s.reached.slots n st.plain refl;
+        rest = tt;
+        source = goes-on_more (Some client) k.feed p st.source goes;
+        output = out.output;
+      },
+      inl (true, tt, subst G (sym is) (refl, (refl, out.writes))),
+    )
 
 pub none-of : (w : Option Waiting) → is_some w ≡ false → w ≡ None
 none-of None e = refl
@@ -359,6 +375,6 @@ can-send client before k s st low e = by-failure s.failure st.output
   where
     by-failure : (failure : Option Failure) → OutputAt before k.sink k.output_ended s.reached.slots failure → CanSend k.sink
     by-failure None h =
-      let P : ℕ → Type 0 = λ x. x < 2 ^ 64 - 1 in
-      record { unended = h.2 ∙ e; can_count = subst P (sym h.1) low }
+        let P : ℕ → Type 0 = λ x. x < 2 ^ 64 - 1 in
+        record { unended = h.2 ∙ e; can_count = subst P (sym h.1) low }
     by-failure (Some f) h = let no : false ≡ true = sym e ∙ h.3 in cc

@@ -1,11 +1,11 @@
 -- What was read stood at the front of what was to come.
-use Rattle.std.proofs.Common.{◌≡◌, refl, sym, ap, ◌∙◌, subst, ℕ, List, [], ◌∷◌, ◌++◌, Option, None, Some, Result, Ok, Err, append_assoc, append-nil}
+use Rattle.std.proofs.Common.{◌≡◌, refl, sym, ap, ◌∙◌, subst, ℕ, List, [], ◌++◌, Option, None, Some, Result, Ok, Err, append_assoc, append-nil}
 use Rattle.tiny_http_wire.specs.Device.{Feed, given}
 use Rattle.tiny_http_wire.specs.Bytes.{crlf}
 use Rattle.tiny_http_core.specs.declared.source.LineFault.{LineFault}
 use Rattle.tiny_http_core.specs.declared.source.LineFault.TheVariants as fault
 use Rattle.tiny_http_core.specs.Line as lines
-use Rattle.tiny_http_core.specs.Source.{ReadsLine, IsRestOf, GoesOn}
+use Rattle.tiny_http_core.specs.Source.{ReadsLine, GoesOn}
 use Rattle.tiny_http_core.proofs.HeadReading.{line-found}
 
 pub goes-on_same : (o : Option Feed) → GoesOn o o

@@ -1,14 +1,14 @@
 -- From lines read to heads read.
-use Rattle.std.proofs.Common.{◌≡◌, refl, sym, ap, ◌∙◌, subst, ℕ, zero, suc, ◌+◌, ◌<◌, ◌≤◌, Bool, true, false, cond, ◌&&◌, List, [], ◌∷◌, ◌++◌, length, Option, Some, None, Result, Ok, Err, inl, inr, arith, append_assoc, append-nil, eqb-true}
+use Rattle.std.proofs.Common.{◌≡◌, refl, sym, ap, ◌∙◌, subst, ℕ, zero, suc, ◌<◌, Bool, true, false, cond, ◌&&◌, List, [], ◌∷◌, ◌++◌, length, Option, Some, None, Ok, Err, inl, inr, arith}
 use Rattle.std.specs.Prelude.{◌==◌, option_map, MatchOption, slice_index}
 use Rattle.std.specs.Str.{IsAscii, IsNotAscii}
 use Rattle.std.specs.List.{list_all}
 use Rattle.std.proofs.lemmas.Bool.{lt-ltb, ltb-true, and_parts}
 use Rattle.tiny_http_wire.specs.declared.common.Header.{Header}
 use Rattle.tiny_http_wire.specs.Device.{Feed}
-use Rattle.tiny_http_wire.specs.Bytes.{is_ascii, AreAscii, crlf}
+use Rattle.tiny_http_wire.specs.Bytes.{is_ascii, AreAscii}
 use Rattle.tiny_http_wire.specs.Lines.{Line, IsUnfinished, has_crlf}
-use Rattle.tiny_http_wire.specs.Heads.{Fields, HeaderLine, FaultyLine, IsRequestLine, IsFieldOrEnd}
+use Rattle.tiny_http_wire.specs.Heads.{Fields, HeaderLine, IsRequestLine, IsFieldOrEnd}
 use Rattle.tiny_http_wire.specs.Reading as reading
 use Rattle.tiny_http_wire.proofs.LineLemmas.{line-is}
 use Rattle.tiny_http_wire.proofs.HeadLemmas.{request-line-is, request-line-one, header-line-is, header-line-one}
@@ -21,7 +21,7 @@ use Rattle.tiny_http_core.specs.declared.source.LineFault.TheVariants as linefau
 use Rattle.tiny_http_core.specs.declared.heads.HeadFault.{HeadFault}
 use Rattle.tiny_http_core.specs.declared.heads.HeadFault.TheVariants as fault
 use Rattle.tiny_http_core.specs.Source.{ReadsLine, from}
-use Rattle.tiny_http_core.specs.HeadReads.{ReadsText, ReadsStart, ReadFields, ReadsField, ReadsFields, ReadsMessage, IsFaulty, IsFaultyHead, head_fault, message_of}
+use Rattle.tiny_http_core.specs.HeadReads.{ReadsText, ReadsStart, ReadFields, ReadsField, ReadsFields, ReadsMessage, IsFaulty, IsFaultyHead, head_fault}
 
 abbrev pub as_line : List ℕ × List ℕ → lines.Line
 as_line l = record { text = l.0; rest = l.1 }

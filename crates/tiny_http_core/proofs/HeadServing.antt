@@ -1,10 +1,9 @@
 -- From a head read to the item that stands there.
 use Rattle.std.proofs.Common.{◌≡◌, refl, sym, ap, ◌∙◌, subst, ℕ, ◌<◌, Bool, true, false, not, ◌&&◌, List, [], ◌∷◌, ◌++◌, ◌+◌, length, length-append, Option, Some, None, Ok, Err, inl, inr, arith}
-use Rattle.std.specs.Prelude.{◌==◌, nat_lt, unwrap_or, if◌then◌else◌}
+use Rattle.std.specs.Prelude.{nat_lt, unwrap_or, if◌then◌else◌}
 use Rattle.std.proofs.lemmas.Bool.{and_parts, not-true, ltb-true, lt-ltb}
 use Rattle.std.specs.Global.{Vec}
 use Rattle.tiny_http_wire.specs.declared.device.Stop.{Stop}
-use Rattle.tiny_http_wire.specs.declared.device.Stop.TheVariants.{End}
 use Rattle.tiny_http_wire.specs.declared.common.HTTPVersion.{HTTPVersion}
 use Rattle.tiny_http_wire.specs.Device.{Feed, ending}
 use Rattle.tiny_http_wire.specs.Heads.{Message as Texted, HeadText, Cut, NotAscii, Malformed, version, is_too_new}
@@ -13,13 +12,12 @@ use Rattle.tiny_http_core.specs.declared.exchange.Form.{Form}
 use Rattle.tiny_http_core.specs.declared.exchange.Form.TheVariants.{Rest, Nothing, Held, Counted, Chunked}
 use Rattle.tiny_http_core.specs.declared.framing.Framing.{Framing}
 use Rattle.tiny_http_core.specs.declared.exchange.Head.{Head}
-use Rattle.tiny_http_core.specs.declared.exchange.HeadRead.{HeadRead}
 use Rattle.tiny_http_core.specs.declared.exchange.HeadRead.TheVariants as read
 use Rattle.tiny_http_core.specs.declared.heads.HeadFault.{HeadFault}
 use Rattle.tiny_http_core.specs.declared.heads.HeadFault.TheVariants as fault
 use Rattle.tiny_http_core.specs.Framing.{framing, is_built, is_plain}
-use Rattle.tiny_http_core.specs.Source.{from, TakesExactly}
-use Rattle.tiny_http_core.specs.Pipeline.{Item, Asks, Refuses, Place, Heading, Ends, Heads, HeadAt, IsCutHeld, cut_answer, is_timed_out, said_length, served, served_answer, BodyAt, FoundAt, OneHead, item_of, goes_on}
+use Rattle.tiny_http_core.specs.Source.{TakesExactly}
+use Rattle.tiny_http_core.specs.Pipeline.{Item, Asks, Refuses, Heading, Ends, Heads, IsCutHeld, cut_answer, is_timed_out, said_length, served, served_answer, BodyAt, FoundAt, OneHead, item_of, goes_on}
 use Rattle.tiny_http_core.specs.HeadReads.{ReadsMessage, ReadsHead, StandsAt, place_after, message_of, head_message, head_framing, refusal, held_by, held_length}
 
 not_served : (t : Bool) → ◌≡◌ {A = Option Item} None (served_answer (if t then Some (Refuses 408 (version 1 1) false) else None))
@@ -139,7 +137,7 @@ head-whole items x p q m f n body z h e b t =
     let item : Some (Asks (record { message = text; framing = f; body = ending (items body) })) ≡ Some (item_of text f (ending (items body))) = rw parts.0 refl in
     let place : place_after f.is_last k.0 ≡ goes_on text f (Some k.0) = rw parts.0 (place-is f.is_last k.0) in
     let found : FoundAt x.stop (Heads text f h.0) (Some (Asks (record { message = text; framing = f; body = ending (items body) }))) (place_after f.is_last k.0)
-        = (ending (items body), Some k.0, there.0, item, place) in
+    = (ending (items body), Some k.0, there.0, item, place) in
     let Q : Heading → Type 0 = λ y. FoundAt x.stop y (Some (Asks (record { message = text; framing = f; body = ending (items body) }))) (place_after f.is_last k.0) in
     let same : Heads text f h.0 ≡ served (Heads text f h.0) = rw b refl in
     (k.0, (Heads text f h.0, (h.1, e, there.1), subst Q same found), stands f.is_last k.0 x.stop q k.3)

@@ -1,14 +1,11 @@
 -- Lemmas on what is still to come of an input.
-use Rattle.std.proofs.Common.{◌≡◌, ℕ, ◌+◌, ◌-◌, ◌<◌, ◌≤◌, min, ◌⊎◌, inl, inr, List, [], ◌∷◌, ◌++◌, length, take, drop, Option, None, Some, refl, sym, ap, ◌∙◌, arith, length-drop, length-append}
+use Rattle.std.proofs.Common.{◌≡◌, ℕ, ◌+◌, ◌-◌, ◌<◌, ◌≤◌, ◌⊎◌, inl, inr, List, length, drop, Option, None, Some, refl, sym, ap, ◌∙◌, arith, length-drop, length-append}
 use Rattle.std.proofs.Math.Seq.{drop-nil}
-use Rattle.std.proofs.Math.ListN.{drop_of_length-le}
 use Rattle.std.proofs.lemmas.Bool.{le-leb, lt-leb, cases_lt, cond-true, cond-false}
 use Rattle.std.proofs.lemmas.List.{drop-drop, drop-append-le}
-use Rattle.std.specs.Option.{option_map}
-use Rattle.tiny_http_wire.specs.Device.{Feed, given, prepend}
-use Rattle.tiny_http_wire.specs.declared.device.Stop.{Stop}
+use Rattle.tiny_http_wire.specs.Device.{Feed, prepend}
 use Rattle.tiny_http_wire.specs.declared.device.Stop.TheVariants.{End}
-use Rattle.tiny_http_core.specs.ToCome.{behind, to_come, stopped, skipped}
+use Rattle.tiny_http_core.specs.ToCome.{to_come, stopped, skipped}
 
 -- the feed from its nth byte on
 abbrev pub later : ℕ → Feed → Feed

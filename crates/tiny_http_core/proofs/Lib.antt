@@ -14,3 +14,4 @@ pub mod AskLemmas
 pub mod RespondLemmas
 pub mod StepLemmas
 pub mod RunLemmas
+pub mod Rows

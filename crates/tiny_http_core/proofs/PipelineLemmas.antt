@@ -10,14 +10,14 @@ use Rattle.tiny_http_wire.specs.Device.{Feed, ending}
 use Rattle.tiny_http_wire.specs.Heads.{Message, HeadText, is_too_new}
 use Rattle.tiny_http_wire.specs.Chunks.{WholeChunks, CutChunks}
 use Rattle.tiny_http_wire.specs.Reading.{head, HeadRead, Whole, Faulty}
-use Rattle.tiny_http_wire.specs.ChunkReading.{decoded, Decoded}
+use Rattle.tiny_http_wire.specs.ChunkReading.{decoded}
 use Rattle.tiny_http_wire.proofs.HeadLemmas.{head-is, HeadIs, head-one, head-fault, line-shorter, fields-fewer}
 use Rattle.tiny_http_wire.proofs.ChunkLemmas.{decoded-is, decoded-one, decoded-front}
 use Rattle.tiny_http_core.specs.declared.exchange.Form.{Form}
 use Rattle.tiny_http_core.specs.declared.exchange.Form.TheVariants.{Rest, Nothing, Held, Counted, Chunked}
 use Rattle.tiny_http_core.specs.declared.framing.Framing.{Framing}
 use Rattle.tiny_http_core.specs.Framing.{framing, is_built}
-use Rattle.tiny_http_core.specs.Pipeline.{Item, Refuses, Place, Heading, Ends, Heads, HeadAt, IsCutHeld, cut_answer, said_length, served, served_answer, BodyAt, SizedBody, FoundAt, OneHead, item_of, goes_on, ends_too_new, Pipeline}
+use Rattle.tiny_http_core.specs.Pipeline.{Item, Place, Heading, Ends, Heads, HeadAt, IsCutHeld, cut_answer, said_length, served, served_answer, BodyAt, SizedBody, FoundAt, OneHead, item_of, goes_on, ends_too_new, Pipeline}
 use Rattle.tiny_http_core.specs.Reading.{BodyRead, chunked_read, sized_read, body_read, is_cut_held, framed, heading, heading_of, items_at, items_from, items_of}
 
 cut-held : (form : Form) (n : ℕ) (after : List ℕ) → is_cut_held form n after ≡ true → IsCutHeld form n after
@@ -62,10 +62,10 @@ heading-is bytes stop = read-is bytes stop (head bytes) (head-is bytes)
 pub heading-one : (bytes : List ℕ) (stop : Stop) (h : Heading) → HeadAt bytes stop h → heading_of stop bytes ≡ h
 heading-one bytes stop (Ends answer) h =
     ⊎_elim (λ k. rw (head-fault bytes k.0 k.1 k.2) (ap Ends (sym k.3)))
-      (⊎_elim
-        (λ k. rw (head-one bytes k.0 k.1 k.2, k.3) (ap Ends (sym k.4)))
-        (λ k. rw (head-one bytes k.0 k.1 k.3, k.4, held-cut k.2.form (said_length k.2) k.1 k.5) (ap Ends (sym k.6))))
-      h
+    (⊎_elim
+    (λ k. rw (head-one bytes k.0 k.1 k.2, k.3) (ap Ends (sym k.4)))
+    (λ k. rw (head-one bytes k.0 k.1 k.3, k.4, held-cut k.2.form (said_length k.2) k.1 k.5) (ap Ends (sym k.6))))
+    h
 heading-one bytes stop (Heads m f after) h =
     rw (head-one bytes m after h.0, h.1, cut-not f.form (said_length f) after (is_cut_held f.form (said_length f) after) refl h.2) refl
 
@@ -76,13 +76,13 @@ chunked-is n after stop body (Err kind) h = inr (kind, h, refl, refl)
 
 sized-is : (n : ℕ) (after : List ℕ) (stop : Stop) (t : Bool) → nat_lt (length after) n ≡ t
     → (let r : BodyRead = (if t then record { body = record { bytes = after; stop = stop }; next = None } else record { body = ending (take n after); next = Some (drop n after) }) in
-        BodyAt Counted n after stop r.body r.next)
+    BodyAt Counted n after stop r.body r.next)
 sized-is n after stop true e = inr (ltb-true (length after) n e, refl, refl)
 sized-is n after stop false e = let k = ltb-false (length after) n e in inl (drop n after, grind (arith, common_steps), grind (arith, common_steps), refl, refl)
 
 held-is : (n : ℕ) (after : List ℕ) (stop : Stop) (t : Bool) → nat_lt (length after) n ≡ t → (length after < n → ⊥)
     → (let r : BodyRead = (if t then record { body = record { bytes = after; stop = stop }; next = None } else record { body = ending (take n after); next = Some (drop n after) }) in
-        BodyAt Held n after stop r.body r.next)
+    BodyAt Held n after stop r.body r.next)
 held-is n after stop true e h = absurd (h (ltb-true (length after) n e))
 held-is n after stop false e h = let k = ltb-false (length after) n e in (drop n after, grind (arith, common_steps), grind (arith, common_steps), refl, refl)
 
@@ -109,7 +109,7 @@ sized-one : (n : ℕ) (after : List ℕ) (stop : Stop) (body : Feed) (next : Pla
 sized-one n after stop body next h =
     let long : n ≤ length after = rw h.1 (simp length-append (omega (arith, h.2))) in
     rw (le-ltb (length after) n long)
-      (read-eq body next _ _ (feed-eq body (take n after) End (rw h.1 (take_front body.bytes h.0 n h.2)) (sym h.3)) (rw h.1 (ap Some (drop_front body.bytes h.0 n h.2)) ∙ sym h.4))
+    (read-eq body next _ _ (feed-eq body (take n after) End (rw h.1 (take_front body.bytes h.0 n h.2)) (sym h.3)) (rw h.1 (ap Some (drop_front body.bytes h.0 n h.2)) ∙ sym h.4))
 
 body-one : (form : Form) (n : ℕ) (after : List ℕ) (stop : Stop) (body : Feed) (next : Place) → BodyAt form n after stop body next → body_read form n after stop ≡ record { body = body; next = next }
 body-one Nothing n after stop body next h = read-eq body next _ _ (sym h.0) (sym h.1)
@@ -119,9 +119,9 @@ body-one Counted n after stop body next h =
 body-one Rest n after stop body next h = read-eq body next _ _ (sym h.0) (sym h.1)
 body-one Chunked n after stop body next h =
     ⊎_elim
-      (λ k. rw (decoded-one after body.bytes k.0 stop k.1) (read-eq body next _ _ (feed-eq body body.bytes End refl (sym k.2)) (sym k.3)))
-      (λ k. rw (decoded-front after body.bytes stop k.0 k.1) (read-eq body next _ _ (feed-eq body body.bytes (Faults k.0) refl (sym k.2)) (sym k.3)))
-      h
+    (λ k. rw (decoded-one after body.bytes k.0 stop k.1) (read-eq body next _ _ (feed-eq body body.bytes End refl (sym k.2)) (sym k.3)))
+    (λ k. rw (decoded-front after body.bytes stop k.0 k.1) (read-eq body next _ _ (feed-eq body body.bytes (Faults k.0) refl (sym k.2)) (sym k.3)))
+    h
 
 -- the item at a place, and where the next one begins
 abbrev Found : Type 0

@@ -1,21 +1,19 @@
 -- A Respond: from where the connection stands to where it stands behind it.
-use Rattle.std.proofs.Common.{◌≡◌, refl, sym, ap, ◌∙◌, subst, ℕ, ◌+◌, ◌-◌, ◌<◌, ◌^◌, ◌⊎◌, inl, inr, Bool, true, false, not, ◌&&◌, ◌||◌, List, [], ◌∷◌, ◌++◌, length, take, Option, Some, None, Result, Ok, Err, arith, length-append, ⊎_elim}
-use Rattle.std.specs.Prelude.{MatchBool, is_some, slice_get, slice_set, if◌then◌else◌}
+use Rattle.std.proofs.Common.{◌≡◌, refl, sym, ap, ◌∙◌, subst, ℕ, ◌+◌, ◌-◌, ◌<◌, ◌^◌, ◌⊎◌, inl, inr, Bool, true, false, ◌||◌, List, [], ◌∷◌, ◌++◌, length, Option, Some, None, Result, Ok, Err, arith, length-append, ⊎_elim}
+use Rattle.std.specs.Prelude.{MatchBool, is_some, slice_get, slice_set}
 use Rattle.std.specs.List.{list_all}
 use Rattle.std.specs.Io.KnownBytes.{append_known}
 use Rattle.std.specs.IoError.{error_kind}
 use Rattle.std.specs.declared.io.Error.{Error}
 use Rattle.std.specs.declared.io.ErrorKind.{ErrorKind}
-use Rattle.std.specs.declared.io.ErrorKind.TheVariants.{OutOfMemory}
 use Rattle.httpdate.specs.declared.date.HttpDate.{HttpDate}
-use Rattle.tiny_http_wire.specs.declared.common.HTTPVersion.{HTTPVersion}
 use Rattle.tiny_http_wire.specs.Device.{Feed, Sink, IsFrontOf, Tells, next_count}
-use Rattle.tiny_http_wire.specs.Answer.{Answer, Text, Ending, Whole, Broken, Printing, text_of, nothing}
+use Rattle.tiny_http_wire.specs.Answer.{Text, Ending, Broken, Printing, text_of}
 use Rattle.tiny_http_core.specs.declared.driver.Waiting.{Waiting}
 use Rattle.tiny_http_core.specs.Pipeline.{Item, Asks, Refuses, Request}
 use Rattle.tiny_http_core.specs.Slots.{ResponseValue, Slot, Stage, Waits, Answered as AnsweredBy, ByServer, Raw, Upgraded, is_over, is_finished, is_broken, is_slot_broken, segment, joined, breaks_off, new_slot, turn_has_come, to_request, text_if, IsGathered}
-use Rattle.tiny_http_core.specs.Steps.{Asked, Respond, Replied, Done, NoSuch, Use, Reported, Outcome, Reached, unchanged, changes, finished, takes, fault_in, fault_of_answer, at_item, at_slot, at_number, outcome}
-use Rattle.tiny_http_core.specs.Conversation.{Failure, State, has_output_ended, IsFront, FailsWithin, FailsTold, FailsBehind, broken_reply, Writes, Has, reached_by, GathersFor, GathersAt, MayLack, StepsTo}
+use Rattle.tiny_http_core.specs.Steps.{Respond, Replied, Done, NoSuch, Use, Reported, Outcome, Reached, unchanged, changes, finished, takes, fault_in, fault_of_answer, at_item, at_slot, at_number}
+use Rattle.tiny_http_core.specs.Conversation.{Failure, State, has_output_ended, IsFront, FailsWithin, FailsTold, FailsBehind, broken_reply, Writes, Has, GathersAt, MayLack}
 use Rattle.tiny_http_core.specs.Sending.{Sent, Lost, SendsText, Sends}
 use Rattle.tiny_http_core.specs.Connection.{Kept, kept_of, WaitsLast, WaitsFor, is_plain_item, OutputAt, Stands}
 use Rattle.tiny_http_core.proofs.AskLemmas.{Answered, step-unchanged, all-finished, lost-front, count-next}
@@ -35,6 +33,7 @@ nothing-at date old n v h = at (slice_get old.slots n) refl
     of : (x : Slot) (item : Item) → is_finished x ≡ true → at_item true date old n (Respond n v) x item ≡ unchanged old NoSuch
     of x (Refuses a b c) f = refl
     of x (Asks r) f = rw (not-taken x.stage x.owed n v f) refl
+
     at : (o : Option Slot) → slice_get old.slots n ≡ o → at_slot true date old n (Respond n v) o ≡ unchanged old NoSuch
     at None e = refl
     at (Some x) e = of x x.item (h x e)
@@ -97,7 +96,7 @@ respond-said client before k s date n v w found sink ended reply st num h lack s
     let get : slice_get s.reached.slots n ≡ Some s0 = ap (λ l. slice_get l n) h.last ∙ ap (λ x. slice_get (h.before ++ s0 ∷ []) x) place ∙ get-last h.before s0 in
     let set : slice_set s.reached.slots n s1 ≡ h.before ++ s1 ∷ [] = ap (λ l. slice_set l n s1) h.last ∙ ap (λ x. slice_set (h.before ++ s0 ∷ []) x s1) place ∙ set-last h.before s0 s1 in
     let turn : turn_has_come n s.reached.slots ≡ true =
-      ap (λ l. turn_has_come n l) h.last ∙ ap (λ x. turn_has_come x (h.before ++ s0 ∷ [])) place ∙ ap (list_all is_finished) (take-front h.before s0) ∙ h.finished in
+    ap (λ l. turn_has_come n l) h.last ∙ ap (λ x. turn_has_come x (h.before ++ s0 ∷ [])) place ∙ ap (list_all is_finished) (take-front h.before s0) ∙ h.finished in
     let is = at-last date h.date s.reached n v h.request found get turn in
     let slots = h.before ++ s1 ∷ [] in
     let plain : list_all (λ (x : Slot). is_plain_item x.item) s.reached.slots ≡ true = st.plain in
@@ -107,17 +106,19 @@ respond-said client before k s date n v w found sink ended reply st num h lack s
     let R : List Slot → Reached = λ l. record { slots = l; rest = s.reached.rest; ended = s.reached.ended } in
     let W : List Slot → Type 0 = λ l. Writes (used (own_text found v h.request date)) s Done l reply said.failure in
     let G : Outcome → Type 0 = λ x. Has x s reply new in
-    let has = subst G (sym is) (ap R (sym set), subst W (sym set) said.writes) in
-    (new,
-     record {
-       numbers = length-append h.before (s1 ∷ []) ∙ sym size ∙ st.numbers;
-       ended = st.ended;
-       waits = all-snoc is_finished h.before s1 h.finished refl;
-       plain = all-snoc (λ (x : Slot). is_plain_item x.item) h.before s1 front.0 front.1;
-       rest = st.rest;
-       source = st.source;
-       output = said.output },
-     inl (found, lacks found lack get, has))
+    let has = subst G (sym is) (ap R (sym set), subst W (sym set) said.writes) in (
+      new,
+      record {
+        numbers = length-append h.before (s1 ∷ []) ∙ sym size ∙ st.numbers;
+        ended = st.ended;
+        waits = all-snoc is_finished h.before s1 h.finished refl;
+        plain = all-snoc (λ (x : Slot). is_plain_item x.item) h.before s1 front.0 front.1;
+        rest = st.rest;
+        source = st.source;
+        output = said.output;
+      },
+      inl (found, lacks found lack get, has),
+    )
   where
     lacks : (t : Bool) → (t ≡ true) ⊎ IsGathered v.answer (to_request h.request date) → slice_get s.reached.slots n ≡ Some (new_slot h.date (Asks h.request)) → MayLack t date s.reached (Respond n v)
     lacks true l g = tt
@@ -146,14 +147,15 @@ respond-past client before k s date n v w st e num z =
     let P : List Slot → Type 0 = λ l. OutputAt before k.sink k.output_ended l s.failure in
     let over : has_output_ended s ≡ true = ended-is before k.sink k.output_ended s.reached.slots s.failure st.output ∙ z in
     let M : Bool → Type 0 = λ t. MatchBool t ((Done ≡ Done) × (s.failure ≡ s.failure))
-          (((Done ≡ broken_reply fault_of_answer Done (fault_in (own_text true v h.request date).ending)) × (s.failure ≡ None))
-          ⊎ (FailsTold fault_of_answer Done (joined s.reached.slots ++ (own_text true v h.request date).bytes) s.failure
-          ⊎ ((Done ≡ broken_reply fault_of_answer Done (fault_in (own_text true v h.request date).ending)) × FailsBehind s.reached.slots (own_text true v h.request date).bytes (fault_in (own_text true v h.request date).ending) (h.before ++ s1 ∷ []) s.failure))) in
+    (((Done ≡ broken_reply fault_of_answer Done (fault_in (own_text true v h.request date).ending)) × (s.failure ≡ None))
+    ⊎ (FailsTold fault_of_answer Done (joined s.reached.slots ++ (own_text true v h.request date).bytes) s.failure
+    ⊎ ((Done ≡ broken_reply fault_of_answer Done (fault_in (own_text true v h.request date).ending)) × FailsBehind s.reached.slots (own_text true v h.request date).bytes (fault_in (own_text true v h.request date).ending) (h.before ++ s1 ∷ []) s.failure))) in
     respond-said client before k s date n v w true k.sink k.output_ended Done st num h (inl refl)
-      (record {
-        failure = s.failure;
-        output = output-past before k.sink k.output_ended h.before s0 s1 s.failure (subst P h.last st.output) z h.finished refl refl;
-        writes = subst M (sym over) (refl, refl) })
+    (record {
+      failure = s.failure;
+      output = output-past before k.sink k.output_ended h.before s0 s1 s.failure (subst P h.last st.output) z h.finished refl refl;
+      writes = subst M (sym over) (refl, refl);
+    })
 
 -- what a call that sends a text is answered
 abbrev pub reply_to : {T : Type 0} → Result T Error → Replied
@@ -202,17 +204,20 @@ said-by : {T : Type 0} (before sink new : Sink) (ended : Bool) (slots : List Slo
     → before.failures < 2 ^ 64 - 1 → joined was.reached.slots ++ text.bytes ≡ joined slots → breaks_off slots ≡ is_broken text.ending → has_output_ended was ≡ false
     → SendsText sink new ended r text → reply ≡ reply_to r → Said before new ended slots was text reply
 said-by before sink new ended slots was text (Ok x) reply front fails low longer breaks unended d t = record {
-    failure = None;
-    output = (d.1.bytes ∙ ap (λ y. append_known y text.bytes) front ∙ ap Some longer, d.1.failures ∙ fails, d.3 ∙ sym d.2, d.2 ∙ sym (breaks ∙ ap is_broken d.0));
-    writes = by-unended was text slots reply None unended (inl (t ∙ ap (λ y. broken_reply fault_of_answer Done (fault_in y)) (sym d.0), refl)) }
+  failure = None;
+  output = (d.1.bytes ∙ ap (λ y. append_known y text.bytes) front ∙ ap Some longer, d.1.failures ∙ fails, d.3 ∙ sym d.2, d.2 ∙ sym (breaks ∙ ap is_broken d.0));
+  writes = by-unended was text slots reply None unended (inl (t ∙ ap (λ y. broken_reply fault_of_answer Done (fault_in y)) (sym d.0), refl));
+}
 said-by before sink new ended slots was text (Err e) reply front fails low longer breaks unended d t =
     ⊎_elim (λ k. ⊎_elim (λ x. broken-sent k.0 x) (λ x. broken-lost k.0 x.0 x.1) k.1) (λ l. lost l) d.2
   where
     broken-sent : text.ending ≡ Broken (error_kind e) → Sent sink new text.bytes → Said before new ended slots was text reply
     broken-sent b x = record {
-        failure = None;
-        output = (x.bytes ∙ ap (λ y. append_known y text.bytes) front ∙ ap Some longer, x.failures ∙ fails, d.1 ∙ sym d.0, d.0 ∙ sym (breaks ∙ ap is_broken b));
-        writes = by-unended was text slots reply None unended (inl (told-broken text (error_kind e) reply b t, refl)) }
+      failure = None;
+      output = (x.bytes ∙ ap (λ y. append_known y text.bytes) front ∙ ap Some longer, x.failures ∙ fails, d.1 ∙ sym d.0, d.0 ∙ sym (breaks ∙ ap is_broken b));
+      writes = by-unended was text slots reply None unended (inl (told-broken text (error_kind e) reply b t, refl));
+    }
+
     broken-lost : text.ending ≡ Broken (error_kind e) → (kind : ErrorKind) → Lost sink new text.bytes kind → Said before new ended slots was text reply
     broken-lost b kind l =
         let z = lost-output before sink new ended (joined was.reached.slots) text.bytes kind front fails low l in
@@ -220,7 +225,9 @@ said-by before sink new ended slots was text (Err e) reply front fails low longe
         record {
           failure = Some f;
           output = (z.taken, z.failures, z.told, d.0);
-          writes = by-unended was text slots reply (Some f) unended (inr (inr (told-broken text (error_kind e) reply b t, behind-broken was text slots (error_kind e) (Some f) b (f, refl, z.front)))) }
+          writes = by-unended was text slots reply (Some f) unended (inr (inr (told-broken text (error_kind e) reply b t, behind-broken was text slots (error_kind e) (Some f) b (f, refl, z.front))));
+        }
+
     lost : Lost sink new text.bytes (error_kind e) → Said before new ended slots was text reply
     lost l =
         let z = lost-output before sink new ended (joined was.reached.slots) text.bytes (error_kind e) front fails low l in
@@ -228,7 +235,8 @@ said-by before sink new ended slots was text (Err e) reply front fails low longe
         record {
           failure = Some f;
           output = (z.taken, z.failures, z.told, d.0);
-          writes = by-unended was text slots reply (Some f) unended (inr (inl (f, refl, t, z.front))) }
+          writes = by-unended was text slots reply (Some f) unended (inr (inl (f, refl, t, z.front)));
+        }
 
 said-sent : {T : Type 0} (before sink new : Sink) (e ended : Bool) (bs : List Slot) (s0 s1 : Slot) (was : State) (text : Text) (r : Result T Error) (reply : Replied) → (failure : Option Failure) → was.failure ≡ failure
     → was.reached.slots ≡ bs ++ s0 ∷ [] → OutputAt before sink e (bs ++ s0 ∷ []) failure
@@ -239,7 +247,7 @@ said-sent before sink new e ended bs s0 s1 was text r reply None same slots h fi
     let whole : breaks_off bs ≡ false = sym (breaks-waiting bs s0 ok) ∙ sym h.3 ∙ z in
     let front : sink.taken ≡ Some (joined was.reached.slots) = h.0 ∙ ap (λ l. Some (joined l)) (sym slots) in
     let longer : joined was.reached.slots ++ text.bytes ≡ joined (bs ++ s1 ∷ []) =
-      ap (λ l. joined l ++ text.bytes) slots ∙ ap (λ x. x ++ text.bytes) (joined-waiting bs s0 none) ∙ ap (λ x. joined bs ++ x) (sym own) ∙ sym (joined-snoc bs s1 fin whole) in
+    ap (λ l. joined l ++ text.bytes) slots ∙ ap (λ x. x ++ text.bytes) (joined-waiting bs s0 none) ∙ ap (λ x. joined bs ++ x) (sym own) ∙ sym (joined-snoc bs s1 fin whole) in
     let breaks : breaks_off (bs ++ s1 ∷ []) ≡ is_broken text.ending = breaks-snoc bs s1 fin ∙ ap (λ x. x || is_slot_broken s1) whole ∙ broken in
     let unended : has_output_ended was ≡ false = ap (λ x. is_some x || breaks_off was.reached.slots) same ∙ ap breaks_off slots ∙ sym h.3 ∙ z in
     said-by before sink new ended (bs ++ s1 ∷ []) was text r reply front h.1 low longer breaks unended sends told
@@ -262,9 +270,9 @@ respond-sent {T = T} client before k s date n v w new ended r reply st low e num
     let out = subst P h.last st.output in
     let Q : Text → Type 0 = λ t. SendsText {T = T} k.sink new ended r t in
     ⊎_elim
-      (λ x. respond-said client before k s date n v w true new ended reply st num h (inl refl)
-        (said-sent {T = T} before k.sink new k.output_ended ended h.before s0 (answered_slot h.date h.request v date true) s (own_text true v h.request date) r reply s.failure refl h.last out h.finished refl refl refl refl low z
-          (subst Q (same-text v h.request w date h.same) x) told))
-      (λ x. respond-said client before k s date n v w false new ended reply st num h (inr (refl, refl, x.0.2))
-        (said-sent {T = T} before k.sink new k.output_ended ended h.before s0 (answered_slot h.date h.request v date false) s (own_text false v h.request date) r reply s.failure refl h.last out h.finished refl refl refl refl low z x.1 told))
-      sends
+    (λ x. respond-said client before k s date n v w true new ended reply st num h (inl refl)
+    (said-sent {T = T} before k.sink new k.output_ended ended h.before s0 (answered_slot h.date h.request v date true) s (own_text true v h.request date) r reply s.failure refl h.last out h.finished refl refl refl refl low z
+    (subst Q (same-text v h.request w date h.same) x) told))
+    (λ x. respond-said client before k s date n v w false new ended reply st num h (inr (refl, refl, x.0.2))
+    (said-sent {T = T} before k.sink new k.output_ended ended h.before s0 (answered_slot h.date h.request v date false) s (own_text false v h.request date) r reply s.failure refl h.last out h.finished refl refl refl refl low z x.1 told))
+    sends

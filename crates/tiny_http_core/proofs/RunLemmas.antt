@@ -1,21 +1,23 @@
 -- A run goes on by one step.
-use Rattle.std.proofs.Common.{◌≡◌, refl, sym, ap, ◌∙◌, subst, ℕ, ◌+◌, ◌-◌, ◌<◌, ◌≤◌, ◌^◌, Bool, true, false, List, [], ◌∷◌, ◌++◌, length, Option, Some, None, arith, append-nil, inl, inr}
-use Rattle.std.specs.Prelude.{is_some, ◌||◌}
+use Rattle.std.proofs.Common.{◌≡◌, refl, sym, ap, ◌∙◌, subst, ℕ, ◌<◌, ◌≤◌, Bool, true, false, List, [], ◌∷◌, ◌++◌, length, Option, Some, None, arith, append-nil, inl, inr, ◌⊎◌}
 use Rattle.std.specs.List.{AllZip}
 use Rattle.std.specs.Io.KnownBytes.{append_known}
 use Rattle.std.proofs.lemmas.Grind.{common_steps}
-use Rattle.tiny_http_wire.specs.Device.{Feed, Sink, grown}
+use Rattle.tiny_http_wire.specs.Device.{Feed, Sink, grown, next_count}
 use Rattle.tiny_http_core.specs.Outlet.{holding}
 use Rattle.tiny_http_core.specs.Source.{GoesOn}
 use Rattle.tiny_http_core.specs.Pipeline.{Item, Pipeline}
-use Rattle.tiny_http_core.specs.Slots.{joined, breaks_off}
+use Rattle.tiny_http_core.specs.Slots.{joined}
 use Rattle.tiny_http_core.specs.Steps.{Replied}
 use Rattle.tiny_http_core.specs.Conversation.{State, Failure, StepsTo, Run, Dated, start, IsFresh, IsOutput, IsConversation}
 use Rattle.tiny_http_core.specs.Connection.{Kept, RestAt, OutputAt, Stands}
-use Rattle.tiny_http_core.specs.Sending.{FailedOnce}
+use Rattle.tiny_http_core.specs.declared.driver.Timed.{Timed}
+use Rattle.tiny_http_core.specs.declared.driver.Reply.{Reply}
+use Rattle.tiny_http_core.specs.Seen.{TellsHonestly}
+use Rattle.tiny_http_core.specs.Sending.{FailsOnce, FailsOnceUnlessEnded}
 use Rattle.tiny_http_core.specs.Reading.{items_of}
 use Rattle.tiny_http_core.proofs.PipelineLemmas.{feed-pipeline}
-use Rattle.tiny_http_core.proofs.SendLemmas.{or-false, append-none, grown-none}
+use Rattle.tiny_http_core.proofs.SendLemmas.{grown-none}
 use Rattle.tiny_http_core.proofs.AskLemmas.{same-feed}
 
 run-more : (a mid new : State) (xs : List Dated) (rs : List Replied) (d : Dated) (r : Replied) → Run a xs rs mid → StepsTo mid d.0 d.1 r new → Run a (xs ++ d ∷ []) (rs ++ r ∷ []) new
@@ -87,7 +89,8 @@ stands-begun client feed sink items e fresh h =
       plain = refl;
       rest = begun-rest feed client items e h;
       source = subst G (sym e) (same-feed (Some client));
-      output = (grown-none sink.has_ended sink.taken ∙ fresh.no_bytes, refl, fresh.goes_on, refl) }
+      output = (grown-none sink.has_ended sink.taken ∙ fresh.no_bytes, refl, fresh.goes_on, refl);
+    }
 
 -- what the writer took and what is held
 sent-held : (held : List ℕ) (taken : Option (List ℕ)) (whole : List ℕ) → append_known taken held ≡ Some whole → (sent : List ℕ) × (taken ≡ Some sent) × (sent ++ held ≡ whole)
@@ -100,17 +103,18 @@ output-end before sink held ended s empty h = by-failure s.failure h
   where
     whole : (e : Bool) (slots : _) → (e ≡ true → held ≡ []) → OutputAt before (holding sink held e) e slots None → IsOutput slots None before sink held
     whole true slots empty h =
-      let none = empty refl in
-      let bare : sink.taken ≡ Some (joined slots) = sym (grown-none sink.has_ended sink.taken) ∙ ap (grown sink.has_ended sink.taken) (sym none) ∙ h.0 in
-      (h.1, joined slots, bare, ap (λ x. joined slots ++ x) none ∙ append-nil (joined slots))
+        let none = empty refl in
+        let bare : sink.taken ≡ Some (joined slots) = sym (grown-none sink.has_ended sink.taken) ∙ ap (grown sink.has_ended sink.taken) (sym none) ∙ h.0 in
+        (h.1, joined slots, bare, ap (λ x. joined slots ++ x) none ∙ append-nil (joined slots))
     whole false slots empty h =
-      let z = sent-held held sink.taken (joined slots) (ap (λ x. grown x sink.taken held) (sym h.2) ∙ h.0) in
-      (h.1, z.0, z.1, z.2)
+        let z = sent-held held sink.taken (joined slots) (ap (λ x. grown x sink.taken held) (sym h.2) ∙ h.0) in
+        (h.1, z.0, z.1, z.2)
+
     by-failure : (failure : Option Failure) → OutputAt before (holding sink held ended) ended s.reached.slots failure → IsOutput s.reached.slots failure before sink held
     by-failure None h = whole ended s.reached.slots empty h
     by-failure (Some f) h =
-      let none = empty h.3 in
-      (h.1, h.2, sym (grown-none sink.has_ended sink.taken) ∙ ap (grown sink.has_ended sink.taken) (sym none) ∙ h.0, none)
+        let none = empty h.3 in
+        (h.1, h.2, sym (grown-none sink.has_ended sink.taken) ∙ ap (grown sink.has_ended sink.taken) (sym none) ∙ h.0, none)
 
 pub conversation : {X : Type 0} (told : X → Dated → Type 0) (client : Feed) (before sink : Sink) (held : List ℕ) (k : Kept) (ended : Bool) (all : List X) (replies : List Replied) (dated : List Dated) → k.sink ≡ holding sink held ended → k.output_ended ≡ ended → (ended ≡ true → held ≡ [])
     → Follows told client before all replies k → AllZip told all dated → IsConversation client before dated replies sink held
@@ -119,3 +123,40 @@ conversation told client before sink held k ended all replies dated same same_en
     let P : Sink → Bool → Type 0 = λ x y. OutputAt before x y m.0.reached.slots m.0.failure in
     let out : P (holding sink held ended) ended = subst (λ y. P (holding sink held ended) y) same_end (subst (λ x. P x k.output_ended) same m.1.output) in
     record { items = items_of client; end = m.0; pipeline = feed-pipeline client; run = m.2; output = output-end before sink held ended m.0 empty out }
+
+-- the writer's count over the steps
+pub fails-step : (writer old new : Sink) (was ended : Bool) → FailsOnce writer old was → FailsOnceUnlessEnded was old new ended → FailsOnce writer new ended
+fails-step writer old new true ended (inl e) s = inl (s.0 ∙ e)
+fails-step writer old new true ended (inr h) s = inr (s.0 ∙ h.0, s.1)
+fails-step writer old new false ended (inl e) (inl s) = inl (s ∙ e)
+fails-step writer old new false ended (inl e) (inr s) = inr (s.0 ∙ ap next_count e, s.1)
+fails-step writer old new false ended (inr h) s = let no : false ≡ true = h.1 in cc
+
+-- once it has risen it stays
+rose-stays : (writer old new : Sink) (was ended : Bool) → FailsOnce writer old was → old.failures ≡ next_count writer.failures → FailsOnceUnlessEnded was old new ended → new.failures ≡ next_count writer.failures
+rose-stays writer old new true ended h r s = s.0 ∙ r
+rose-stays writer old new false ended (inl e) r (inl s) = s ∙ r
+rose-stays writer old new false ended (inl e) r (inr s) = s.0 ∙ ap next_count e
+rose-stays writer old new false ended (inr h) r s = let no : false ≡ true = h.1 in cc
+
+rises : (writer old new : Sink) (was ended : Bool) → FailsOnce writer old was → new.failures ≡ next_count old.failures → FailsOnceUnlessEnded was old new ended → new.failures ≡ next_count writer.failures
+rises writer old new was ended (inl e) r s = r ∙ ap next_count e
+rises writer old new true ended (inr h) r s = s.0 ∙ h.0
+rises writer old new false ended (inr h) r s = let no : false ≡ true = h.1 in cc
+
+all-zip-snoc : {X Y : Type 0} (R S : X → Y → Type 0) (xs : List X) (ys : List Y) (x : X) (y : Y) → ((x : X) (y : Y) → R x y → S x y) → AllZip R xs ys → S x y → AllZip S (xs ++ x ∷ []) (ys ++ y ∷ [])
+all-zip-snoc R S [] [] x y keep h k = (k, tt)
+all-zip-snoc R S [] (b ∷ ys) x y keep h k = elim h [ ]
+all-zip-snoc R S (a ∷ xs) [] x y keep h k = elim h [ ]
+all-zip-snoc R S (a ∷ xs) (b ∷ ys) x y keep h k = (keep a b h.0, all-zip-snoc R S xs ys x y keep h.1 k)
+
+pub honest-step : {D : Type 0} (feed : D → Option Feed) (writer old new : Sink) (was ended : Bool) (done : List (Timed D)) (replies : List Reply) (t : Timed D) (reply : Reply) → FailsOnce writer old was → FailsOnceUnlessEnded was old new ended
+    → AllZip (TellsHonestly feed writer old) done replies → TellsHonestly feed old new t reply → AllZip (TellsHonestly feed writer new) (done ++ t ∷ []) (replies ++ reply ∷ [])
+honest-step feed writer old new was ended done replies t reply once step h k =
+    all-zip-snoc (TellsHonestly feed writer old) (TellsHonestly feed writer new) done replies t reply
+    (λ x y m kind told. kept (λ r. rose-stays writer old new was ended once r step) (m kind told)) h
+    (λ kind told. kept (λ r. rises writer old new was ended once r step) (k kind told))
+  where
+    kept : {A B C : Type 0} → (A → B) → A ⊎ C → B ⊎ C
+    kept f (inl a) = inl (f a)
+    kept f (inr c) = inr c

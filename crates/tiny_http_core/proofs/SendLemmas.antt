@@ -1,22 +1,25 @@
 -- From an answer that is printed to one that is sent.
 use Rattle.std.proofs.Common.{◌≡◌, refl, sym, ap, ◌∙◌, subst, ℕ, ◌-◌, ◌<◌, ◌^◌, ◌⊎◌, inl, inr, Bool, true, false, ◌||◌, List, [], ◌++◌, length, Option, Some, None, Result, Ok, Err, append_assoc, append-nil, arith, eq-eqb, eqb-true, ⊎_elim}
-use Rattle.std.specs.Prelude.{◌==◌, MatchBool, OnOk, OnErr, IfSome}
+use Rattle.std.specs.Prelude.{◌==◌, nat_le, if◌then◌else◌, MatchBool, OnOk, OnErr, IfSome}
 use Rattle.std.specs.IoError.{error_kind}
 use Rattle.std.specs.declared.io.Error.{Error}
 use Rattle.std.specs.declared.io.ErrorKind.{ErrorKind}
 use Rattle.std.specs.declared.io.ErrorKind.TheVariants.{OutOfMemory}
 use Rattle.std.specs.Io.KnownBytes.{append_known}
 use Rattle.std.proofs.lemmas.Bool.{ne_eqb}
-use Rattle.tiny_http_wire.specs.Device.{Feed, ending, Sink, IsFrontOf, grown, Tells, Took, Failed, Puts, next_count, Uses}
-use Rattle.tiny_http_wire.specs.Answer.{Answer, answer_with, Text, Whole, Broken, Printing, Prints, PrintsAnswer, text_of, nothing}
-use Rattle.tiny_http_wire.proofs.DeviceLemmas.{Took-append, Failed-append}
+use Rattle.tiny_http_wire.specs.Device.{Feed, ending, Sink, IsFrontOf, grown, Tells, Took, Failed, Puts, next_count, fault_of, Uses}
+use Rattle.tiny_http_wire.specs.Answer.{Answer, answer_with, Text, Whole, Broken, Printing, Prints, PrintsAnswer, text_of, nothing, gathered_body, unless, identity_body, as_it_is, is_withheld}
 use Rattle.tiny_http_core.specs.Outlet.{holding, EndsWith}
 use Rattle.httpdate.specs.declared.date.HttpDate.{HttpDate}
 use Rattle.tiny_http_wire.specs.declared.common.HTTPVersion.{HTTPVersion}
+use Rattle.tiny_http_wire.specs.declared.coding.FramingHeader.{FramingHeader}
+use Rattle.tiny_http_wire.specs.declared.coding.FramingHeader.TheVariants.{ContentLength}
+use Rattle.tiny_http_wire.specs.declared.device.Stop.{Stop}
+use Rattle.tiny_http_wire.specs.declared.device.Stop.TheVariants.{End, Fault}
 use Rattle.tiny_http_core.specs.declared.exchange.Refusal.{Refusal}
 use Rattle.tiny_http_core.specs.HeadReads.{refused}
-use Rattle.tiny_http_core.specs.Slots.{IsGathered, segment, new_slot}
-use Rattle.tiny_http_core.specs.Sending.{Sent, Lost, EndsQuietly, Abandons, SendsText, Sends, SendsQuietly, SendsUnlessEnded, FailsOnce}
+use Rattle.tiny_http_core.specs.Slots.{segment, new_slot}
+use Rattle.tiny_http_core.specs.Sending.{Sent, Lost, EndsQuietly, Abandons, SendsText, Sends, SendsQuietly, SendsUnlessEnded, FailsOnce, IsHonest}
 
 pub or-false : (a b : Bool) → (a || b) ≡ false → (a ≡ false) × (b ≡ false)
 or-false true b h = cc
@@ -182,3 +185,55 @@ bad-request-sent x date a b was ended r open_is h =
 
 pub not-sent : (was : Bool) (a b : Sink) (ended : Bool) (text : List ℕ) → was ≡ true → b ≡ a → ended ≡ true → SendsUnlessEnded was a b ended text
 not-sent was a b ended text e same z = let P : Bool → Type 0 = λ t. SendsUnlessEnded t a b ended text in subst P (sym e) (same, z)
+
+-- whose a fault is
+gathered-breaks : (stop : Stop) (front : List ℕ) (withheld : Bool) (bytes : List ℕ) (kind : ErrorKind) → (gathered_body stop front withheld bytes).ending ≡ Broken kind → kind ≡ fault_of stop
+gathered-breaks End front withheld bytes kind e = cc
+gathered-breaks (Fault k) front withheld bytes kind e = cc
+
+identity-breaks : (t : Bool) (k kind : ErrorKind) → (if t then Whole else Broken k) ≡ Broken kind → kind ≡ k
+identity-breaks true k kind e = cc
+identity-breaks false k kind e = cc
+
+sized-breaks : (withheld : Bool) (n : ℕ) (f : Feed) (kind : ErrorKind) → (unless withheld (identity_body n f)).ending ≡ Broken kind → kind ≡ fault_of f.stop
+sized-breaks true n f kind e = cc
+sized-breaks false n f kind e = identity-breaks (nat_le n (length f.bytes)) (fault_of f.stop) kind e
+
+uncoded-breaks : (len : Option ℕ) (top : FramingHeader → List ℕ) (withheld : Bool) (f : Feed) (kind : ErrorKind) → (as_it_is len top withheld f).ending ≡ Broken kind → kind ≡ fault_of f.stop
+uncoded-breaks (Some n) top withheld f kind e = sized-breaks withheld n f kind e
+uncoded-breaks None top withheld f kind e = gathered-breaks f.stop (top (ContentLength (length f.bytes))) withheld f.bytes kind e
+
+abbrev pub plainly : HTTPVersion → Bool → HttpDate → Printing
+plainly v no_body date = record { version = v; request_headers = []; no_body = no_body; upgrade = None; date = date }
+
+text-breaks : (a : Answer) (f : Feed) (v : HTTPVersion) (no_body : Bool) (date : HttpDate) (kind : ErrorKind) → (text_of a f (plainly v no_body date)).ending ≡ Broken kind → kind ≡ fault_of f.stop
+unfolding text_of
+text-breaks a f v no_body date kind e = uncoded-breaks a.length _ (is_withheld no_body a.status) f kind e
+
+nothing-breaks : (kind sort : ErrorKind) → (nothing sort).ending ≡ Broken kind → kind ≡ sort
+nothing-breaks kind sort e = cc
+
+data-breaks : (T : Type 0) (a b : Sink) (e : Error) (ans : Answer) (f : Feed) (v : HTTPVersion) (no_body : Bool) (date : HttpDate) → (b.failures ≡ next_count a.failures → ⊥) → PrintsAnswer {T = T} a b (Err e) ans f (plainly v no_body date)
+    → (error_kind e ≡ fault_of f.stop) ⊎ (error_kind e ≡ OutOfMemory)
+data-breaks T a b e ans f v no_body date same (inl (inl h)) = inl (text-breaks ans f v no_body date (error_kind e) h.0)
+data-breaks T a b e ans f v no_body date same (inl (inr h)) = absurd (same h.failures)
+data-breaks T a b e ans f v no_body date same (inr k) = ⊎_elim (λ h. inr (nothing-breaks (error_kind e) OutOfMemory h.0)) (λ h. absurd (same h.failures)) k.3
+
+-- the count behind the outlet's end, where printing raised it, or where it stands at its greatest
+rose : (a b c : Sink) (n : ℕ) (t : Bool) → (b.failures == n) ≡ t → n ≡ a.failures → b.failures ≡ next_count a.failures → MatchBool t (EndsQuietly b c) (Abandons b c) → c.failures ≡ next_count a.failures
+rose a b c n true e same u (inl s) = s.failures ∙ u
+rose a b c n true e same u (inr l) = l.1.failures ∙ ap next_count (eqb-true b.failures n e ∙ same)
+rose a b c n false e same u m = m.failures ∙ u
+
+honest-by : (T : Type 0) (o : Option Feed) (a b c : Sink) (n : ℕ) (e : Error) (ans : Answer) (v : HTTPVersion) (no_body : Bool) (date : HttpDate) (t : Bool) → (next_count a.failures == a.failures) ≡ t → b.failures ≡ a.failures
+    → IfSome o (λ feed. length feed.bytes < 2 ^ 63 → PrintsAnswer {T = T} a b (Err e) ans feed (plainly v no_body date)) → n ≡ a.failures → MatchBool (b.failures == n) (EndsQuietly b c) (Abandons b c) → IsHonest a c o (error_kind e)
+honest-by T o a b c n e ans v no_body date true top u h same m = inl (rose a b c n (b.failures == n) refl same (u ∙ sym (eqb-true (next_count a.failures) a.failures top)) m)
+honest-by T None a b c n e ans v no_body date false top u h same m = inr tt
+honest-by T (Some f) a b c n e ans v no_body date false top u h same m =
+    let low : b.failures ≡ next_count a.failures → ⊥ = λ q. (let z : true ≡ false = sym (eq-eqb (next_count a.failures) a.failures (sym q ∙ u)) ∙ top in cc) in
+    inr (λ few. data-breaks T a b e ans f v no_body date low (h few))
+
+pub printed-honest : (T : Type 0) (o : Option Feed) (a b c : Sink) (n : ℕ) (e : Error) (ans : Answer) (v : HTTPVersion) (no_body : Bool) (date : HttpDate) → IfSome o (λ feed. length feed.bytes < 2 ^ 63 → PrintsAnswer {T = T} a b (Err e) ans feed (plainly v no_body date))
+    → Uses {T = T} a b (Err e) → n ≡ a.failures → MatchBool (b.failures == n) (EndsQuietly b c) (Abandons b c) → IsHonest a c o (error_kind e)
+printed-honest T o a b c n e ans v no_body date h (inl u) same m = honest-by T o a b c n e ans v no_body date (next_count a.failures == a.failures) refl u.failures h same m
+printed-honest T o a b c n e ans v no_body date h (inr u) same m = inl (rose a b c n (b.failures == n) refl same u.failures m)

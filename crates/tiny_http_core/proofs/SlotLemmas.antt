@@ -1,5 +1,5 @@
 -- How the joined output goes with one slot more.
-use Rattle.std.proofs.Common.{◌≡◌, refl, sym, ap, ◌∙◌, subst, ℕ, zero, suc, ◌+◌, ◌<◌, Bool, true, false, not, ◌&&◌, ◌||◌, List, [], ◌∷◌, ◌++◌, length, take, Option, Some, None, append_assoc, append-nil, arith, inl, inr, ◌⊎◌}
+use Rattle.std.proofs.Common.{◌≡◌, refl, sym, ap, ◌∙◌, ℕ, zero, suc, Bool, true, false, not, ◌&&◌, ◌||◌, List, [], ◌∷◌, ◌++◌, length, take, Option, Some, append_assoc, append-nil, inl, inr, ◌⊎◌}
 use Rattle.std.specs.Prelude.{slice_get, slice_set, if◌then◌else◌, MatchOption, ⊤}
 use Rattle.std.specs.List.{list_all, last_or}
 use Rattle.std.proofs.lemmas.Bool.{and_parts}

@@ -1,5 +1,5 @@
 -- The steps of the program, as the definitions see them.
-use Rattle.std.proofs.Common.{◌≡◌, refl, sym, ap, ◌∙◌, subst, ℕ, Option, Some, None}
+use Rattle.std.proofs.Common.{◌≡◌, refl, sym, ap, subst, ℕ, Option}
 use Rattle.tiny_http_wire.specs.Device.{Feed, Sink}
 use Rattle.tiny_http_wire.specs.Answer.{Reply as Response}
 use Rattle.httpdate.specs.declared.date.HttpDate.{HttpDate}

@@ -59,10 +59,10 @@ Writes Unreported old turn slots reply failure =
     (reply ≡ turn) × MatchBool (has_output_ended old) (failure ≡ old.failure) ((failure ≡ None) ⊎ FailsWithin (joined slots) failure)
 Writes (Reported own broken tell) old turn slots reply failure =
     MatchBool (has_output_ended old)
-        ((reply ≡ turn) × (failure ≡ old.failure))
-        (((reply ≡ broken_reply tell turn broken) × (failure ≡ None))
-        ⊎ (FailsTold tell reply (joined old.reached.slots ++ own) failure
-        ⊎ ((reply ≡ broken_reply tell turn broken) × FailsBehind old.reached.slots own broken slots failure)))
+    ((reply ≡ turn) × (failure ≡ old.failure))
+    (((reply ≡ broken_reply tell turn broken) × (failure ≡ None))
+    ⊎ (FailsTold tell reply (joined old.reached.slots ++ own) failure
+    ⊎ ((reply ≡ broken_reply tell turn broken) × FailsBehind old.reached.slots own broken slots failure)))
 
 abbrev pub reached_by : Outcome → Reached
 reached_by o = record { slots = o.slots; rest = o.rest; ended = o.ended }
@@ -99,7 +99,7 @@ FindsNoMemory date old Ask reply new =
     × (reader_is_lost (last_slot old.reached.slots) ≡ false)
     × (refused : List Item) × (rest : List Item) × (old.reached.rest ≡ refused ++ rest) × AllByRecursion IsRefused refused
     × (let slots = old.reached.slots ++ map (new_slot date) refused in
-        Has (record { reply = Memory; slots = slots; rest = rest; ended = true; writer = Unreported }) old reply new)
+    Has (record { reply = Memory; slots = slots; rest = rest; ended = true; writer = Unreported }) old reply new)
 FindsNoMemory date old _ reply new = ⊥
 
 -- One step on a date may be answered so and leave this.

@@ -1,10 +1,10 @@
 -- What the calls that read a head make of the input.
-use Rattle.std.specs.Prelude.{◌≡◌, ℕ, ◌<◌, ⊤, List, [], ◌∷◌, ◌++◌, length, Option, Some, None, Result, Ok, Err, unwrap_or, Bool, true, false}
+use Rattle.std.specs.Prelude.{◌≡◌, ℕ, ⊤, List, [], Option, Some, None, Result, Ok, Err, unwrap_or, Bool, true, false}
 use Rattle.tiny_http_wire.specs.declared.common.Method.{Method}
 use Rattle.tiny_http_wire.specs.declared.common.HTTPVersion.{HTTPVersion}
 use Rattle.tiny_http_wire.specs.declared.common.Header.{Header}
 use Rattle.tiny_http_wire.specs.declared.device.Stop.{Stop}
-use Rattle.tiny_http_wire.specs.Device.{Feed, ending, given}
+use Rattle.tiny_http_wire.specs.Device.{Feed, ending}
 use Rattle.tiny_http_wire.specs.Bytes.{AreAscii}
 use Rattle.tiny_http_wire.specs.Lines.{Line, IsUnfinished}
 use Rattle.tiny_http_wire.specs.Heads.{Message as Texted, Starts, Fields, HeaderLine, FaultyLine, FaultyHead, HeadText, IsRequestLine, IsFieldOrEnd, Cut, NotAscii, Malformed, version}
@@ -130,7 +130,7 @@ abbrev pub ReadsHead : Option Feed → Option Feed → HeadRead → Type 0
 ReadsHead None new r = ⊤
 ReadsHead (Some f) new (read.Request h body) =
     (rest : List ℕ) × OneHead f.bytes f.stop (Some (Asks (request_of h body.items))) (place_after h.is_last rest)
-        × StandsAt (place_after h.is_last rest) f.stop new
+    × StandsAt (place_after h.is_last rest) f.stop new
 ReadsHead (Some f) new (read.Refused r) = OneHead f.bytes f.stop (Some (refused r)) None
 ReadsHead (Some f) new read.Ended = OneHead f.bytes f.stop None None
 ReadsHead (Some f) new read.Memory = ⊤

@@ -7,7 +7,7 @@ use Rattle.tiny_http_wire.specs.declared.common.Method.TheVariants.{Head}
 use Rattle.tiny_http_wire.specs.declared.common.HTTPVersion.{HTTPVersion}
 use Rattle.tiny_http_wire.specs.declared.device.Stop.{Stop}
 use Rattle.tiny_http_wire.specs.declared.device.Stop.TheVariants.{End, Fault as Faults}
-use Rattle.tiny_http_wire.specs.Device.{Feed, ending}
+use Rattle.tiny_http_wire.specs.Device.{Feed}
 use Rattle.tiny_http_wire.specs.Chunks.{WholeChunks, CutChunks}
 use Rattle.tiny_http_wire.specs.Heads.{Message, HeadText, FaultyHead, Fault, Cut, NotAscii, Malformed, version, is_too_new}
 use Rattle.tiny_http_core.specs.declared.exchange.Form.{Form}

@@ -1,12 +1,11 @@
 -- What sending an answer makes of an outlet.
-use Rattle.std.specs.Prelude.{◌≡◌, ℕ, ◌-◌, ◌^◌, ◌<◌, ◌⊎◌, Bool, true, false, List, [], Option, Result, Ok, Err, MatchBool}
+use Rattle.std.specs.Prelude.{◌≡◌, ℕ, ◌-◌, ◌^◌, ◌<◌, ◌⊎◌, Bool, true, false, List, [], length, Option, None, Some, Result, Ok, Err, MatchBool}
 use Rattle.std.specs.IoError.{error_kind}
 use Rattle.std.specs.declared.io.Error.{Error}
 use Rattle.std.specs.declared.io.ErrorKind.{ErrorKind}
 use Rattle.std.specs.declared.io.ErrorKind.TheVariants.{OutOfMemory}
 use Rattle.std.specs.Io.KnownBytes.{append_known}
-use Rattle.httpdate.specs.declared.date.HttpDate.{HttpDate}
-use Rattle.tiny_http_wire.specs.Device.{Feed, Sink, IsFrontOf, Tells, next_count}
+use Rattle.tiny_http_wire.specs.Device.{Feed, Sink, IsFrontOf, Tells, next_count, fault_of}
 use Rattle.tiny_http_wire.specs.Answer.{Answer, Text, Whole, Broken, Printing, text_of, nothing}
 use Rattle.tiny_http_core.specs.Slots.{IsGathered}
 
@@ -62,9 +61,20 @@ SendsUnlessEnded was old new ended text = MatchBool was ((new ≡ old) × (ended
 abbrev pub FailsOnce : Sink → Sink → Bool → Type 0
 FailsOnce old new ended = (new.failures ≡ old.failures) ⊎ ((new.failures ≡ next_count old.failures) × (ended ≡ true))
 
--- the writer failed at most once since it told this count
-abbrev pub FailedOnce : ℕ → Sink → Bool → Type 0
-FailedOnce n sink ended = (sink.failures ≡ n) ⊎ ((sink.failures ≡ next_count n) × (ended ≡ true))
+-- the same for an outlet that may have ended: then the writer isn't used
+abbrev pub FailsOnceUnlessEnded : Bool → Sink → Sink → Bool → Type 0
+FailsOnceUnlessEnded was old new ended = MatchBool was ((new.failures ≡ old.failures) × (ended ≡ true)) (FailsOnce old new ended)
 
+-- the writer failed at most once
 abbrev pub FailsAtMostOnce : Sink → Sink → Type 0
 FailsAtMostOnce old new = (new.failures ≡ old.failures) ⊎ (new.failures ≡ next_count old.failures)
+
+-- Data break by a fault of this kind: they close by it, or end short, or no memory to gather them was found. Nothing is
+-- said of data that tell nothing.
+abbrev pub BreakBy : Option Feed → ErrorKind → Type 0
+BreakBy None kind = Unit {0}
+BreakBy (Some f) kind = length f.bytes < 2 ^ 63 → (kind ≡ fault_of f.stop) ⊎ (kind ≡ OutOfMemory)
+
+-- a fault is the writer's, whose count rose, or the data's
+abbrev pub IsHonest : Sink → Sink → Option Feed → ErrorKind → Type 0
+IsHonest old new feed kind = (new.failures ≡ next_count old.failures) ⊎ BreakBy feed kind

@@ -3,7 +3,6 @@ use Rattle.std.specs.Prelude.{◌≡◌, ℕ, Bool, true, false, not, ◌&&◌, 
 use Rattle.std.specs.List.{list_all, last_or}
 use Rattle.std.specs.declared.io.ErrorKind.TheVariants.{OutOfMemory}
 use Rattle.httpdate.specs.declared.date.HttpDate.{HttpDate}
-use Rattle.tiny_http_wire.specs.declared.common.HTTPVersion.{HTTPVersion}
 use Rattle.tiny_http_wire.specs.declared.common.Header.{Header}
 use Rattle.tiny_http_wire.specs.declared.coding.Coding.TheVariants as coding
 use Rattle.tiny_http_wire.specs.Device.{Feed, ending}

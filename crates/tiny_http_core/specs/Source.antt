@@ -1,5 +1,5 @@
 -- What a `Source` still gives, and what its calls make of it.
-use Rattle.std.specs.Prelude.{ℕ, ◌≡◌, ◌<◌, ◌++◌, length, Bool, List, [], ⊤, Option, None, Some, Result, Ok, Err}
+use Rattle.std.specs.Prelude.{ℕ, ◌≡◌, ◌<◌, ◌++◌, length, Bool, List, ⊤, Option, None, Some, Result, Ok, Err}
 use Rattle.std.specs.Str.{IsAscii, IsNotAscii}
 use Rattle.std.specs.declared.io.ErrorKind.TheVariants.{TimedOut}
 use Rattle.tiny_http_wire.specs.Device.{Feed}

@@ -164,7 +164,7 @@ effect found date old r s turn (AsReader k) =
 effect found date old r s turn (Read k n) =
     if n == 0 then unchanged old (Given [])
     else changes old k (record s { given = s.given + length (take n (body_left s r)); told = s.told || nat_lt (length (body_left s r)) n })
-        (read_reply n (body_left s r) r.body.stop) Unused
+    (read_reply n (body_left s r) r.body.stop) Unused
 effect found date old r s turn (Respond k response) =
     let text = text_if found response (to_request r date) in
     changes old k (finished s (Answered response date found)) Done (Reported text.bytes (fault_in text.ending) fault_of_answer)

@@ -6,22 +6,24 @@ ghost use Rattle.tiny_http_core.specs.Slots.{ResponseValue, segment, new_slot};
 ghost use Rattle.tiny_http_core.specs.HeadReads.{refused};
 ghost use Rattle.tiny_http_core.specs.Pipeline.{Item, Pipeline, is_head_method};
 ghost use Rattle.tiny_http_core.specs.Conversation.{State, StepsTo, IsConversation, IsFresh, Dated, start};
-ghost use Rattle.tiny_http_core.specs.Steps.{Asked, Ask, Respond, is_closed_client, fault_of_answer};
+ghost use Rattle.tiny_http_core.specs.Steps.{Asked, Ask, Respond, Fault, is_closed_client, fault_of_answer};
+ghost use Rattle.std.specs.IoError.{error_kind};
+ghost use Rattle.std.specs.declared.io.ErrorKind.{ErrorKind};
 ghost use Rattle.tiny_http_core.specs.Source.{GoesOn};
 ghost use Rattle.tiny_http_core.specs.Connection.{kept, Stands};
-ghost use Rattle.tiny_http_core.specs.Seen.{seen, IsResponse, IsTold};
-ghost use Rattle.tiny_http_core.specs.Outlet.{outlet_sink, outlet_ended, outlet_held, outlet_writer};
-ghost use Rattle.tiny_http_core.specs.Sending.{Sends, SendsUnlessEnded, EndsQuietly, Abandons, CanSend, FailsOnce, FailedOnce, FailsAtMostOnce};
+ghost use Rattle.tiny_http_core.specs.Seen.{seen, IsResponse, IsTold, TellsHonestly};
+ghost use Rattle.tiny_http_core.specs.Outlet.{outlet_sink, outlet_ended, outlet_held, outlet_writer, SentOn};
+ghost use Rattle.tiny_http_core.specs.Sending.{Sends, SendsUnlessEnded, EndsQuietly, Abandons, CanSend, FailsOnce, FailsOnceUnlessEnded, FailsAtMostOnce, IsHonest};
 
-use crate::exchange::{Head, HeadRead, Refusal};
+use crate::exchange::{Head, HeadRead};
 use crate::heads::read_head;
 use crate::outlet::Outlet;
+use crate::sending::{refuse, send};
 use crate::source::Source;
 use httpdate::HttpDate;
 use std::alloc::Global;
-use std::io;
 use std::io::ErrorKind;
-use tiny_http_wire::common::{HTTPVersion, Method, StatusCode};
+use tiny_http_wire::common::{HTTPVersion, Method};
 use tiny_http_wire::device::{ReadDevice, WriteDevice};
 use tiny_http_wire::response::Response;
 
@@ -112,61 +114,6 @@ fn is_closed_client(kind: ErrorKind) -> bool
     )
 }
 
-// Ends an outlet on which printing met a fault. Where the writer's count is still this one the fault was not the
-// writer's, and what is held is sent.
-fn end_behind_fault<W: WriteDevice>(outlet: &mut Outlet<W>, failures: u64)
-    ensures ends { MatchBool ((outlet_sink W.sink outlet.old).failures == failures)
-        (EndsQuietly (outlet_sink W.sink outlet.old) (outlet_sink W.sink outlet.new))
-        (Abandons (outlet_sink W.sink outlet.old) (outlet_sink W.sink outlet.new)) }
-    ensures ended { outlet_ended outlet.new ≡ true }
-    ensures takes_none { (outlet_sink W.sink outlet.new).has_ended ≡ true }
-{
-    if outlet.failures() == failures {
-        let _ = outlet.end();
-    } else {
-        outlet.abandon();
-    }
-}
-
-// Prints an answer and flushes it. Behind a fault nothing more is sent on the connection.
-fn print<W: WriteDevice, D: ReadDevice + Drop>(
-    alloc: Global,
-    outlet: &mut Outlet<W>,
-    response: Response<D>,
-    version: HTTPVersion,
-    no_body: bool,
-    now: HttpDate,
-) -> Result<(), io::Error>
-    ensures sends { (content : Feed) → D.feed response.data_reader ≡ Some content → length content.bytes < 2 ^ 63
-        → CanSend (outlet_sink W.sink outlet.old)
-        → Sends (outlet_sink W.sink outlet.old) (outlet_sink W.sink outlet.new) (outlet_ended outlet.new) result response.answer content
-            (record { version = version; request_headers = []; no_body = no_body; upgrade = None; date = now }) }
-    ensures fails_once { FailsOnce (outlet_sink W.sink outlet.old) (outlet_sink W.sink outlet.new) (outlet_ended outlet.new) }
-{
-    let failures = outlet.failures();
-    let printed = response.raw_print(alloc, outlet, version, &[], no_body, None, now);
-    if let Err(fault) = printed {
-        end_behind_fault(outlet, failures);
-        return Err(fault);
-    }
-    outlet.flush()
-}
-
-// Answers a refused head. No reply tells a fault that is met there.
-fn refuse<W: WriteDevice>(alloc: Global, outlet: &mut Outlet<W>, refusal: Refusal, now: HttpDate)
-    ensures sends { (outlet_ended outlet.old ≡ false → CanSend (outlet_sink W.sink outlet.old))
-        → SendsUnlessEnded (outlet_ended outlet.old) (outlet_sink W.sink outlet.old) (outlet_sink W.sink outlet.new) (outlet_ended outlet.new)
-            (segment (new_slot now (refused refusal))) }
-    ensures fails_once { FailsOnce (outlet_sink W.sink outlet.old) (outlet_sink W.sink outlet.new) (outlet_ended outlet.new) }
-    ensures stays { outlet_ended outlet.old ≡ true → outlet.new ≡ outlet.old }
-{
-    if outlet.is_ended() {
-        return;
-    }
-    let answer = Response::empty(alloc, StatusCode(400));
-    let _ = print(alloc, outlet, answer, refusal.version, false, now);
-}
-
 impl Reply {
     // How a fault of an answer is told.
     fn fault_of_answer(kind: ErrorKind) -> Reply
@@ -186,6 +133,8 @@ impl<R: ReadDevice, W: WriteDevice> Connection<R, W> {
             → Stands client (W.sink writer) (kept W.sink result) (start items) }
         ensures feed { result.source.feed ≡ R.feed reader }
         ensures failures { (outlet_sink W.sink result.outlet).failures ≡ (W.sink writer).failures }
+        ensures flushed { outlet_held result.outlet ≡ [] }
+        ensures sent_on { W.held writer ≡ [] → SentOn W.sink W.held result.outlet }
     {
         Connection {
             source: Source::new(reader),
@@ -202,7 +151,10 @@ impl<R: ReadDevice, W: WriteDevice> Connection<R, W> {
         ensures stands { (client : Feed) (before : Sink) (s : State) → before.failures < 2 ^ 64 - 1 → Stands client before (kept W.sink self.old) s
             → (new : State) × Stands client before (kept W.sink self.new) new × StepsTo s now Ask (seen result) new }
         ensures goes_on { GoesOn self.old.source.feed self.new.source.feed }
-        ensures once { (n : ℕ) → FailedOnce n (outlet_sink W.sink self.old.outlet) (outlet_ended self.old.outlet) → FailedOnce n (outlet_sink W.sink self.new.outlet) (outlet_ended self.new.outlet) }
+        ensures fails_once { FailsOnceUnlessEnded (outlet_ended self.old.outlet) (outlet_sink W.sink self.old.outlet) (outlet_sink W.sink self.new.outlet) (outlet_ended self.new.outlet) }
+        ensures flushed { outlet_held self.old.outlet ≡ [] → outlet_held self.new.outlet ≡ [] }
+        ensures sent_on { SentOn W.sink W.held self.old.outlet → SentOn W.sink W.held self.new.outlet }
+        ensures honest { (kind : ErrorKind) → seen result ≡ Fault kind → ⊥ }
     {
         if self.ended {
             return Reply::Ended;
@@ -257,7 +209,10 @@ impl<R: ReadDevice, W: WriteDevice> Connection<R, W> {
         ensures stands { (client : Feed) (before : Sink) (s : State) (value : ResponseValue) → before.failures < 2 ^ 64 - 1 → IsResponse D.feed response value → Stands client before (kept W.sink self.old) s
             → (new : State) × Stands client before (kept W.sink self.new) new × StepsTo s now (Respond number value) (seen result) new }
         ensures goes_on { self.new.source ≡ self.old.source }
-        ensures once { (n : ℕ) → FailedOnce n (outlet_sink W.sink self.old.outlet) (outlet_ended self.old.outlet) → FailedOnce n (outlet_sink W.sink self.new.outlet) (outlet_ended self.new.outlet) }
+        ensures fails_once { FailsOnceUnlessEnded (outlet_ended self.old.outlet) (outlet_sink W.sink self.old.outlet) (outlet_sink W.sink self.new.outlet) (outlet_ended self.new.outlet) }
+        ensures flushed { outlet_held self.old.outlet ≡ [] → outlet_held self.new.outlet ≡ [] }
+        ensures sent_on { SentOn W.sink W.held self.old.outlet → SentOn W.sink W.held self.new.outlet }
+        ensures honest { (kind : ErrorKind) → seen result ≡ Fault kind → IsHonest (outlet_sink W.sink self.old.outlet) (outlet_sink W.sink self.new.outlet) (D.feed response.data_reader) kind }
     {
         let Some(waiting) = self.waiting else {
             return Reply::NoSuch;
@@ -269,7 +224,14 @@ impl<R: ReadDevice, W: WriteDevice> Connection<R, W> {
         if self.outlet.is_ended() {
             return Reply::Done;
         }
-        match print(alloc, &mut self.outlet, response, waiting.version, waiting.is_head, now) {
+        match send(
+            alloc,
+            &mut self.outlet,
+            response,
+            waiting.version,
+            waiting.is_head,
+            now,
+        ) {
             Ok(()) => Reply::Done,
             Err(fault) => Reply::fault_of_answer(fault.kind()),
         }
@@ -279,7 +241,10 @@ impl<R: ReadDevice, W: WriteDevice> Connection<R, W> {
         ensures stands { (client : Feed) (before : Sink) (s : State) (d : Dated) → before.failures < 2 ^ 64 - 1 → IsTold D.feed timed d → Stands client before (kept W.sink self.old) s
             → (new : State) × Stands client before (kept W.sink self.new) new × StepsTo s d.0 d.1 (seen result) new }
         ensures goes_on { GoesOn self.old.source.feed self.new.source.feed }
-        ensures once { (n : ℕ) → FailedOnce n (outlet_sink W.sink self.old.outlet) (outlet_ended self.old.outlet) → FailedOnce n (outlet_sink W.sink self.new.outlet) (outlet_ended self.new.outlet) }
+        ensures fails_once { FailsOnceUnlessEnded (outlet_ended self.old.outlet) (outlet_sink W.sink self.old.outlet) (outlet_sink W.sink self.new.outlet) (outlet_ended self.new.outlet) }
+        ensures flushed { outlet_held self.old.outlet ≡ [] → outlet_held self.new.outlet ≡ [] }
+        ensures sent_on { SentOn W.sink W.held self.old.outlet → SentOn W.sink W.held self.new.outlet }
+        ensures honest { TellsHonestly D.feed (outlet_sink W.sink self.old.outlet) (outlet_sink W.sink self.new.outlet) timed result }
     {
         let Timed { now, step } = timed;
         match step {
@@ -306,7 +271,11 @@ pub fn run<R: ReadDevice + Drop, W: WriteDevice + Drop, D: ReadDevice + Drop>(
 
     // Whatever reader, writer and data tell.
     ensures replies { IfOk result (λ done. vec_len done.replies ≡ vec_len steps) }
-    ensures once { IfOk result (λ done. FailsAtMostOnce (W.sink writer) (W.sink (outlet_writer done.outlet))) }
+    ensures fails_once { IfOk result (λ done. FailsAtMostOnce (W.sink writer) (W.sink (outlet_writer done.outlet))) }
+    ensures honest { IfOk result (λ done. AllZip (TellsHonestly D.feed (W.sink writer) (W.sink (outlet_writer done.outlet))) steps.items done.replies.items) }
+    // So far each step that writes flushes, and so does the writer.
+    ensures flushed { IfOk result (λ done. outlet_held done.outlet ≡ []) }
+    ensures sent_on { IfOk result (λ done. W.held writer ≡ [] → SentOn W.sink W.held done.outlet) }
     ensures err { IfErr result (λ e. (e.reader ≡ reader) × (e.writer ≡ writer)) }
 {
     let Ok(mut replies) = Vec::with_capacity(alloc, steps.len()) else {

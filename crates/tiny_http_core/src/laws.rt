@@ -7,5 +7,4 @@ ghost use Rattle.tiny_http_core.specs.Pipeline.{Item, Pipeline};
 pub fn one_pipeline()
     ensures some { (feed : Feed) → (items : List Item) × Pipeline (Some feed.bytes) feed.stop items }
     ensures one { (feed : Feed) (items others : List Item) → Pipeline (Some feed.bytes) feed.stop items → Pipeline (Some feed.bytes) feed.stop others → items ≡ others }
-{
-}
+{}

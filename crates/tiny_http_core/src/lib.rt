@@ -9,4 +9,5 @@ mod heads;
 mod input;
 pub mod laws;
 pub mod outlet;
+mod sending;
 pub mod source;

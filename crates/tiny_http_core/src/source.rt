@@ -82,8 +82,29 @@ impl<R: ReadDevice> Source<R> {
         self.input.read_line(alloc)
     }
 
+    /// Reads some bytes. Behind them each call answers how the reader stopped.
+    pub fn read(&mut self, buf: &mut [u8]) -> Result<usize, io::Error>
+        ensures bound { IfOk result (λ n. n ≤ length buf.new) }
+        ensures bytes { IfOk result (λ n. self.old.feed ≡ given (take n buf.new) self.new.feed) }
+        ensures end { IfOk result (λ n. n ≡ 0 → 0 < length buf.new → StopsBy Stop.End self.old.feed) }
+        ensures fault { IfErr result (λ e. StopsBy (Stop.Fault (error_kind e)) self.old.feed) }
+        ensures again { OnErr result (self.new.feed ≡ self.old.feed) }
+        ensures empty { length buf.new ≡ 0 → (result ≡ Ok 0) × (self.new ≡ self.old) }
+
+        // After an end or a fault the reader isn't called again.
+        ensures once { IsSome self.old.stop → IsSome self.new.stop × (self.new.reader ≡ self.old.reader) }
+        ensures over { IfErr result (λ e. (self.new.is_over ≡ true) × (self.new.stop ≡ Some (Stop.Fault (error_kind e)))) }
+        ensures stays { self.old.is_over ≡ true → self.new ≡ self.old }
+    {
+        self.input.read(buf)
+    }
+
     /// Takes n bytes, or none where fewer are left: then the source is over.
-    pub fn take_exactly(&mut self, alloc: Global, n: usize) -> Result<Option<Vec<u8>>, AllocError>
+    pub(crate) fn take_exactly(
+        &mut self,
+        alloc: Global,
+        n: usize,
+    ) -> Result<Option<Vec<u8>>, AllocError>
         ensures takes { IfOk result (λ body. TakesExactly (λ v. v.items) n self.old.feed self.new.feed body) }
         ensures goes_on { GoesOn self.old.feed self.new.feed }
     {
@@ -104,3 +125,6 @@ impl<R: ReadDevice> Read for Source<R> {
         self.read_in(buf)
     }
 }
+
+#[cfg(test)]
+mod tests;

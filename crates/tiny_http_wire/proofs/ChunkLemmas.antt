@@ -57,7 +57,7 @@ said-step digits n true true false h = cc
 pub size-one : (text : List ℕ) (n : ℕ) → SizeText text n → size_of text ≡ Some n
 size-one text n s =
     rw (s.joins, front-part s.part s.extension s.no_semicolon s.extends, trims-one is_bws s.part s.digits s.trims)
-      (said-one s.digits s.some_digit s.few_digits s.hexadecimal ∙ ap Some (sym s.value))
+    (said-one s.digits s.some_digit s.few_digits s.hexadecimal ∙ ap Some (sym s.value))
 
 pub size-is : (text : List ℕ) (n : ℕ) → size_of text ≡ Some n → SizeText text n
 size-is text n e =
@@ -65,9 +65,18 @@ size-is text n e =
     let k = said-step d n (nat_lt 0 (length d)) (nat_le (length d) 16) (list_all is_hex d) e in
     let p = part-is text in
     record {
-      part = front_while before_semicolon text; extension = p.extension; digits = d;
-      joins = p.joins; no_semicolon = p.clear; extends = p.extends; trims = trims-is is_bws (front_while before_semicolon text);
-      some_digit = ltb-true 0 (length d) k.0; few_digits = leb-true (length d) 16 k.1; hexadecimal = k.2; value = k.3 }
+      part = front_while before_semicolon text;
+      extension = p.extension;
+      digits = d;
+      joins = p.joins;
+      no_semicolon = p.clear;
+      extends = p.extends;
+      trims = trims-is is_bws (front_while before_semicolon text);
+      some_digit = ltb-true 0 (length d) k.0;
+      few_digits = leb-true (length d) 16 k.1;
+      hexadecimal = k.2;
+      value = k.3;
+    }
 
 -- a size text with a number below 2 is one of the two: sizes are one
 pub size-same : (text : List ℕ) (n m : ℕ) → SizeText text n → SizeText text m → n ≡ m
@@ -115,7 +124,7 @@ short-is stop bytes = short-in-is stop bytes (line (take (longest_line + 2) byte
 pub short-fault : (stop : Stop) (bytes : List ℕ) (kind : ErrorKind) → LineFault bytes stop kind → short_line stop bytes ≡ Err kind
 short-fault stop bytes kind h =
     rw (line-none (take (longest_line + 2) bytes) h.0)
-      (⊎_elim (λ k. rw (le-leb (longest_line + 2) (length bytes) k.0) (ap Err (sym k.1))) (λ k. rw (lt-leb (longest_line + 2) (length bytes) k.0) (ap Err (sym k.1))) h.1)
+    (⊎_elim (λ k. rw (le-leb (longest_line + 2) (length bytes) k.0) (ap Err (sym k.1))) (λ k. rw (lt-leb (longest_line + 2) (length bytes) k.0) (ap Err (sym k.1))) h.1)
 
 -- the trailer part
 abbrev whole_part : List ℕ → Decoded
@@ -238,8 +247,8 @@ chunk-group c rest = append_assoc (c.size_line ++ crlf ++ c.bytes) crlf rest ∙
 chunk-one : (fuel : ℕ) (stop : Stop) (c : Chunk) (rest : List ℕ) → IsChunk c → decoded (suc fuel) stop (chunk_text c ++ rest) ≡ with_data c.bytes (decoded fuel stop rest)
 chunk-one fuel stop c rest h =
     rw (chunk-group c rest)
-      (sized-line fuel stop c.size_line (c.bytes ++ (crlf ++ rest)) (length c.bytes) h.short h.sized h.not_last
-        ∙ (data-closed (decoded fuel stop) stop c.bytes (crlf ++ rest) ∙ ap (closed (decoded fuel stop) c.bytes) (close-one stop rest)))
+    (sized-line fuel stop c.size_line (c.bytes ++ (crlf ++ rest)) (length c.bytes) h.short h.sized h.not_last
+    ∙ (data-closed (decoded fuel stop) stop c.bytes (crlf ++ rest) ∙ ap (closed (decoded fuel stop) c.bytes) (close-one stop rest)))
 
 abbrev joined_chunks : List Chunk → List ℕ
 joined_chunks chunks = flat_map chunk_text chunks
@@ -253,9 +262,9 @@ chunks-front zero stop chunks rest part ends h lt go = absurd (omega arith)
 chunks-front (suc fuel) stop [] rest part ends h lt go = go fuel
 chunks-front (suc fuel) stop (c ∷ cs) rest part ends h lt go =
     rw (append_assoc (chunk_text c) (joined_chunks cs) rest)
-      (chunk-one fuel stop c (joined_chunks cs ++ rest) h.0
-        ∙ (ap (with_data c.bytes) (chunks-front fuel stop cs rest part ends h.1 (omega arith) go)
-        ∙ ap (λ x. made x ends) (sym (append_assoc c.bytes (data_of cs) part))))
+    (chunk-one fuel stop c (joined_chunks cs ++ rest) h.0
+    ∙ (ap (with_data c.bytes) (chunks-front fuel stop cs rest part ends h.1 (omega arith) go)
+    ∙ ap (λ x. made x ends) (sym (append_assoc c.bytes (data_of cs) part))))
 
 chunk-long : (c : Chunk) → 0 < length (chunk_text c)
 chunk-long c = simp length-append (omega arith)
@@ -274,7 +283,7 @@ decoded-one bytes body rest stop c =
     let tail = lines_text (c.last ∷ c.trailers) ++ (crlf ++ rest) in
     let few : length c.chunks < length bytes + 1 = rw c.joins (chunks-fewer c.chunks tail) in
     let last : (n : ℕ) → decoded (suc n) stop tail ≡ made [] (Ok rest) =
-      λ n. rw (regroup c.last c.trailers (crlf ++ rest)) (last-line n stop c.last (lines_text c.trailers ++ (crlf ++ rest)) c.is_last ∙ trailer-whole most_trailers stop c.trailers rest c.are_trailers c.few_trailers) in
+    λ n. rw (regroup c.last c.trailers (crlf ++ rest)) (last-line n stop c.last (lines_text c.trailers ++ (crlf ++ rest)) c.is_last ∙ trailer-whole most_trailers stop c.trailers rest c.are_trailers c.few_trailers) in
     let go = chunks-front (length bytes + 1) stop c.chunks tail [] (Ok rest) c.are_chunks few last in
     let P : List ℕ → Type 0 = λ x. decoded (length bytes + 1) stop x ≡ made body (Ok rest) in
     subst P (sym c.joins) (go ∙ ap (λ x. made x (Ok rest)) (append-nil (data_of c.chunks) ∙ sym c.body_is))
@@ -290,14 +299,14 @@ breaks-one (CutData text size) rest stop part kind h n =
     rw (h.0) (sized-line n stop text part size h.1 h.2 (omega arith) ∙ rw (lt-ltb (length part) size h.3, h.4) refl)
 breaks-one (NoClose text close) rest stop part kind h n =
     rw (h.0, append_assoc (text ++ crlf) part close)
-      (sized-line n stop text (part ++ close) (length part) h.1 h.2 h.3
-        ∙ (data-closed (decoded n stop) stop part close ∙ ap (closed (decoded n stop) part) (close-fault stop close kind h.4)))
+    (sized-line n stop text (part ++ close) (length part) h.1 h.2 h.3
+    ∙ (data-closed (decoded n stop) stop part close ∙ ap (closed (decoded n stop) part) (close-fault stop close kind h.4)))
 breaks-one (CutTrailer last trailers next) rest stop part kind h n =
     rw (h.0, regroup last trailers next, h.5)
-      (last-line n stop last (lines_text trailers ++ next) h.1 ∙ trailer-cut most_trailers stop trailers next kind h.2 h.3 h.4)
+    (last-line n stop last (lines_text trailers ++ next) h.1 ∙ trailer-cut most_trailers stop trailers next kind h.2 h.3 h.4)
 breaks-one (LongTrailer last trailers next) rest stop part kind h n =
     rw (h.0, regroup last trailers next, h.4, h.5)
-      (last-line n stop last (lines_text trailers ++ next) h.1 ∙ trailer-long most_trailers stop trailers next h.2 h.3)
+    (last-line n stop last (lines_text trailers ++ next) h.1 ∙ trailer-long most_trailers stop trailers next h.2 h.3)
 
 -- and so is a front of such a body
 pub decoded-front : (bytes body : List ℕ) (stop : Stop) (kind : ErrorKind) → CutChunks bytes stop body kind → decoded (length bytes + 1) stop bytes ≡ made body (Err kind)
@@ -343,9 +352,9 @@ longer : (m : ℕ) (stop : Stop) (text bytes rest : List ℕ) → bytes ≡ text
 longer m stop text bytes rest j h (Ok r) k = (text ∷ k.0, all-cons text k.0 bytes rest (crlf ++ r) j k.1, (h, k.2), omega arith)
 longer m stop text bytes rest j h (Err kind) k =
     ⊎_elim
-      (λ b. inl (text ∷ b.0, b.1, all-cons text b.0 bytes rest b.1 j b.2, (h, b.3), more_lines (length b.0) m b.4, b.5))
-      (λ b. inr (text ∷ b.0, b.1, all-cons text b.0 bytes rest b.1 j b.2, (h, b.3), more_equal (length b.0) m b.4, b.5))
-      k
+    (λ b. inl (text ∷ b.0, b.1, all-cons text b.0 bytes rest b.1 j b.2, (h, b.3), more_lines (length b.0) m b.4, b.5))
+    (λ b. inr (text ∷ b.0, b.1, all-cons text b.0 bytes rest b.1 j b.2, (h, b.3), more_equal (length b.0) m b.4, b.5))
+    k
 
 trailer-at-is : (m : ℕ) (stop : Stop) (bytes text rest : List ℕ) → bytes ≡ text ++ crlf ++ rest → IsShortLine text → TrailerIs m stop rest (trailer_part m stop rest) → TrailerIs (suc m) stop bytes (trailer_at (trailer_part m stop) text rest)
 trailer-at-is m stop bytes [] rest j s k = (refl, ([], j, tt, omega arith))
@@ -379,9 +388,9 @@ after-last bytes text rest stop body (Ok r) j h b k =
     record { chunks = []; last = text; trailers = k.0; joins = all-cons text k.0 bytes rest (crlf ++ r) j k.1; body_is = b; are_chunks = tt; is_last = h; are_trailers = k.2; few_trailers = k.3 }
 after-last bytes text rest stop body (Err kind) j h b k =
     ⊎_elim
-      (λ t. no-chunks bytes stop body kind (CutTrailer text t.0 t.1) (all-cons text t.0 bytes rest t.1 j t.2, h, t.3, t.4, t.5, b))
-      (λ t. no-chunks bytes stop body kind (LongTrailer text t.0 t.1) (all-cons text t.0 bytes rest t.1 j t.2, h, t.3, t.4, b, t.5))
-      k
+    (λ t. no-chunks bytes stop body kind (CutTrailer text t.0 t.1) (all-cons text t.0 bytes rest t.1 j t.2, h, t.3, t.4, t.5, b))
+    (λ t. no-chunks bytes stop body kind (LongTrailer text t.0 t.1) (all-cons text t.0 bytes rest t.1 j t.2, h, t.3, t.4, b, t.5))
+    k
 
 -- one chunk more in front
 chunk-more : (bytes : List ℕ) (c : Chunk) (rest : List ℕ) (stop : Stop) (body : List ℕ) (e : Result (List ℕ) ErrorKind) → bytes ≡ chunk_text c ++ rest → IsChunk c → IsDecoded rest stop (made body e) → IsDecoded bytes stop (made (c.bytes ++ body) e)
@@ -389,8 +398,16 @@ chunk-more bytes c rest stop body (Ok r) j h d =
     let tail = lines_text (d.last ∷ d.trailers) ++ (crlf ++ r) in
     record { chunks = c ∷ d.chunks; last = d.last; trailers = d.trailers; joins = j ∙ (ap (λ x. chunk_text c ++ x) d.joins ∙ sym (append_assoc (chunk_text c) (joined_chunks d.chunks) tail)); body_is = ap (λ x. c.bytes ++ x) d.body_is; are_chunks = (h, d.are_chunks); is_last = d.is_last; are_trailers = d.are_trailers; few_trailers = d.few_trailers }
 chunk-more bytes c rest stop body (Err kind) j h d =
-    record { chunks = c ∷ d.chunks; rest = d.rest; part = d.part; way = d.way; joins = j ∙ (ap (λ x. chunk_text c ++ x) d.joins ∙ sym (append_assoc (chunk_text c) (joined_chunks d.chunks) d.rest));
-      body_is = ap (λ x. c.bytes ++ x) d.body_is ∙ sym (append_assoc c.bytes (data_of d.chunks) d.part); are_chunks = (h, d.are_chunks); breaks = d.breaks }
+    record {
+      chunks = c ∷ d.chunks;
+      rest = d.rest;
+      part = d.part;
+      way = d.way;
+      joins = j ∙ (ap (λ x. chunk_text c ++ x) d.joins ∙ sym (append_assoc (chunk_text c) (joined_chunks d.chunks) d.rest));
+      body_is = ap (λ x. c.bytes ++ x) d.body_is ∙ sym (append_assoc c.bytes (data_of d.chunks) d.part);
+      are_chunks = (h, d.are_chunks);
+      breaks = d.breaks;
+    }
 
 abbrev all_shorter : ℕ → Stop → Type 0
 all_shorter fuel stop = (rest : List ℕ) → length rest < fuel → IsDecoded rest stop (decoded fuel stop rest)

@@ -149,8 +149,8 @@ fn put_framing<W: WriteDevice>(writer: &mut W, framing: FramingHeader) -> Result
     }
 }
 
-/// Writes the head of an answer: the status line, the header lines in their order, and an empty line
-/// (RFC 9112, sections 4 and 5).
+/// Writes the head of an answer: the status line, the header lines in their order, and an empty
+/// line (RFC 9112, sections 4 and 5).
 pub(crate) fn put_head<W: WriteDevice>(
     writer: &mut W,
     top: &Top<'_>,

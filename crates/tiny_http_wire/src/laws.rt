@@ -10,5 +10,4 @@ pub fn one_chunked_body()
     ensures one_whole { (bytes body rest other remainder : List ℕ) → WholeChunks bytes body rest → WholeChunks bytes other remainder → (body ≡ other) × (rest ≡ remainder) }
     ensures one_front { (bytes body other : List ℕ) (stop : Stop) (kind sort : ErrorKind) → CutChunks bytes stop body kind → CutChunks bytes stop other sort → (body ≡ other) × (kind ≡ sort) }
     ensures not_both { (bytes body rest other : List ℕ) (stop : Stop) (kind : ErrorKind) → WholeChunks bytes body rest → CutChunks bytes stop other kind → ⊥ }
-{
-}
+{}

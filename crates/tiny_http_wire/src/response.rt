@@ -19,8 +19,8 @@ use std::io;
 use std::io::{Cursor, ErrorKind};
 use std::marker::Model;
 
-/// An answer to a request: a status code, headers, and a reader of the data with its length, where that is known. A
-/// contract sees it as the answer and the reader.
+/// An answer to a request: a status code, headers, and a reader of the data with its length, where
+/// that is known. A contract sees it as the answer and the reader.
 #[derive(Drop)]
 pub struct Response<R> {
     reader: R,
@@ -52,8 +52,8 @@ fn text_plain(alloc: Global) -> Result<Header, AllocError>
 }
 
 impl Response<Cursor<Vec<u8>>> {
-    /// An answer 200 with a text as its data, of known length, under `Content-Type: text/plain; charset=UTF-8` (as
-    /// tiny_http). An error where there is no memory for that header.
+    /// An answer 200 with a text as its data, of known length, under `Content-Type: text/plain;
+    /// charset=UTF-8` (as tiny_http). An error where there is no memory for that header.
     pub fn from_string(alloc: Global, text: String) -> Result<Response<Cursor<Vec<u8>>>, AllocError>
         ensures answer { IfOk result (λ r. r.answer ≡ answer_with 200 (text_plain ∷ []) (string_len text)) }
         ensures bytes { IfOk result (λ r. cursor_bytes r.data_reader ≡ string_bytes text) }
@@ -63,7 +63,8 @@ impl Response<Cursor<Vec<u8>>> {
         Ok(response)
     }
 
-    /// An answer 200 with these bytes as its data, of known length, and no headers. It takes no memory.
+    /// An answer 200 with these bytes as its data, of known length, and no headers. It takes no
+    /// memory.
     pub fn from_data(alloc: Global, bytes: Vec<u8>) -> Response<Cursor<Vec<u8>>>
         ensures answer { result.answer ≡ answer_with 200 [] (vec_len bytes) }
         ensures bytes { cursor_bytes result.data_reader ≡ bytes.items }
@@ -138,12 +139,14 @@ impl<R> Response<R> {
         self.threshold
     }
 
-    /// Prints head and body for a request of this version, dated `now` (RFC 9112, sections 4 to 6); for an upgrade to a
-    /// protocol the head alone. The body is withheld for `no_body` (HEAD) and the codes 100 to 199, 204 and 304.
+    /// Prints head and body for a request of this version, dated `now` (RFC 9112, sections 4 to 6);
+    /// for an upgrade to a protocol the head alone. The body is withheld for `no_body` (HEAD) and
+    /// the codes 100 to 199, 204 and 304.
     ///
-    /// The first fault, of the writer or of the data, is the answer, and nothing is written behind it. Data that ends before
-    /// its length is UnexpectedEof. Data of unknown length is read whole first: a fault of it, or OutOfMemory, leaves nothing
-    /// written, as InvalidInput does for a protocol that isn't ASCII. It doesn't flush.
+    /// The first fault, of the writer or of the data, is the answer, and nothing is written behind
+    /// it. Data that ends before its length is UnexpectedEof. Data of unknown length is read whole
+    /// first: a fault of it, or OutOfMemory, leaves nothing written, as InvalidInput does for a
+    /// protocol that isn't ASCII. It doesn't flush.
     pub fn raw_print<W: WriteDevice>(
         self,
         alloc: Global,

@@ -45,7 +45,8 @@ fn text(alloc: Global, text: &str) -> Result<Response<Cursor<Vec<u8>>>, Fail> {
     Ok(Response::from_string(alloc, String::from_str(alloc, text)?)?)
 }
 
-// An answer 200 with data of this length, if it is told, whose reader ends or fails behind its bytes.
+// An answer 200 with data of this length, if it is told, whose reader ends or fails behind its
+// bytes.
 fn canned(
     alloc: Global,
     bytes: &[u8],
@@ -160,7 +161,10 @@ fn codes_without_a_body(rt: HostRuntime) -> Result<(), Fail> {
         )?;
         prints(&rt, alloc, answer, V1_1, false, whole.as_str(), None)?;
     }
-    Ok(())
+    // Data that are withheld aren't read: these would fail.
+    let answer = canned(alloc, b"", Some(ErrorKind::Other), Some(5))?;
+    let whole = format!(in alloc; "HTTP/1.1 200 OK\r\n{stand}Content-Length: 5\r\n\r\n")?;
+    prints(&rt, alloc, answer, V1_1, true, whole.as_str(), None)
 }
 
 #[test]

@@ -1,5 +1,5 @@
-use Rattle.std.proofs.Common.{rules, arith, ap, ◌∙◌, sym, length, ◌≡◌, ℕ}
-use Rattle.tiny_http_core.proofs.HeadReading.{are-ascii, field-read, field-malformed, field-err, field-end}
+use Rattle.std.proofs.Common.{rules}
+use Rattle.tiny_http_core.proofs.HeadReading.{are-ascii, field-read, field-malformed}
 use Rattle.tiny_http_core.proofs.heads.read_field.Goals as goal
 
 pub parse_header_line-requires : goal.parse_header_line-requires

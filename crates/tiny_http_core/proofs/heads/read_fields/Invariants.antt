@@ -1,4 +1,4 @@
-use Rattle.std.proofs.Common.{ℕ, ◌-◌, ◌^◌, vec_len}
+use Rattle.std.proofs.Common.{◌-◌, ◌^◌, vec_len}
 use Rattle.tiny_http_core.specs.HeadReads.{ReadFields}
 use Rattle.tiny_http_core.specs.Source.{GoesOn}
 use Rattle.tiny_http_core.proofs.heads.read_fields.Given as goal

@@ -1,4 +1,4 @@
-use Rattle.std.proofs.Common.{rules, sym, ◌∙◌}
+use Rattle.std.proofs.Common.{rules}
 use Rattle.tiny_http_core.proofs.HeadServing.{head-refused, head-unframed, head-unbuilt, head-cut, head-handed}
 use Rattle.tiny_http_core.proofs.GoingOn.{goes-on_more}
 use Rattle.tiny_http_core.proofs.heads.read_head.Goals as goal
@@ -17,13 +17,13 @@ pub returns-in-Ok-Some-clause-reads : goal.returns-in-Ok-Some-clause-reads
 returns-in-Ok-Some-clause-reads g c =
     let taken = rw c.in-Ok-Some.field-0-is at c.in-Ok-Some.ensures in
     head-handed _ _ _ c.in-Ok.message c.in-Some.framing c.head_of.result c.held_length.result c.in-Ok-Some.body c.head_of.ensures.message c.head_of.ensures.framing c.held_length.ensures c.in-Ok.ensures.reads
-      (search (rules, c.as_slice.ensures.value, c.in-Some.ensures)) (search (rules, c.if-not-is_built.ensures)) taken.takes
+    (search (rules, c.as_slice.ensures.value, c.in-Some.ensures)) (search (rules, c.if-not-is_built.ensures)) taken.takes
 
 pub returns-in-Ok-None-clause-reads : goal.returns-in-Ok-None-clause-reads
 returns-in-Ok-None-clause-reads g c =
     let taken = rw c.in-Ok-None.field-0-is at c.in-Ok-None.ensures in
     head-cut (λ v. v.items) _ _ _ c.in-Ok.message c.in-Some.framing c.held_length.result c.held_length.ensures c.in-Ok.ensures.reads
-      (search (rules, c.as_slice.ensures.value, c.in-Some.ensures)) (search (rules, c.if-not-is_built.ensures)) taken.takes
+    (search (rules, c.as_slice.ensures.value, c.in-Some.ensures)) (search (rules, c.if-not-is_built.ensures)) taken.takes
 
 pub returns-in-Ok-Some-clause-goes_on : goal.returns-in-Ok-Some-clause-goes_on
 returns-in-Ok-Some-clause-goes_on g c =

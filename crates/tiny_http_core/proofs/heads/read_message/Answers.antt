@@ -1,4 +1,3 @@
-use Rattle.std.proofs.Common.{List}
 use Rattle.tiny_http_core.proofs.HeadReading.{message-fields_err}
 use Rattle.tiny_http_core.proofs.GoingOn.{goes-on_more}
 use Rattle.tiny_http_core.proofs.heads.read_message.Goals as goal

@@ -1,4 +1,3 @@
-use Rattle.std.proofs.Common.{rules}
 use Rattle.tiny_http_core.proofs.HeadReading.{text-read, text-not-read}
 use Rattle.tiny_http_core.proofs.heads.read_text.Goals as goal
 

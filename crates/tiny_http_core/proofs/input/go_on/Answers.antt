@@ -1,4 +1,4 @@
-use Rattle.std.proofs.Common.{rules, ◌≡◌, ◌≢◌}
+use Rattle.std.proofs.Common.{rules, ◌≢◌}
 use Rattle.std.proofs.lemmas.Result.{on_ok_weaker}
 use Rattle.tiny_http_core.proofs.Lines.{return_flagged, two_returns_flagged, plain_flagged, lone_return_flagged}
 use Rattle.tiny_http_core.proofs.input.go_on.Goals as goal

@@ -1,14 +1,13 @@
-use Rattle.std.proofs.Common.{rules, refl, sym, ap, ◌∙◌, subst, ◌≡◌, ◌+◌, ◌<◌, arith, ℕ, Bool, true, false, Option, Some, None, Result, Ok, Err}
+use Rattle.std.proofs.Common.{rules, refl, sym, subst, ◌≡◌, ◌+◌, arith, false, Result, Ok, Err}
 use Rattle.std.specs.IoError.{error_kind}
 use Rattle.std.specs.declared.io.Error.{Error}
 use Rattle.tiny_http_core.specs.Steps.{Done, fault_of_answer}
 use Rattle.tiny_http_core.specs.Seen.{seen}
-use Rattle.tiny_http_wire.specs.Device.{Sink}
 use Rattle.tiny_http_wire.specs.Answer.{Answer}
 use Rattle.tiny_http_core.specs.Outlet.{outlet_sink, outlet_ended}
 use Rattle.tiny_http_core.specs.Sending.{Sends}
 use Rattle.tiny_http_core.specs.Connection.{Kept, kept}
-use Rattle.tiny_http_core.proofs.AskLemmas.{Answered, can-send}
+use Rattle.tiny_http_core.proofs.AskLemmas.{can-send}
 use Rattle.tiny_http_core.proofs.RespondLemmas.{respond-none, respond-other, respond-past, respond-sent, printed_as}
 use Rattle.tiny_http_core.proofs.driver.Connection.respond.Goals.{then-number-self-via-then-number-self, then-number-self-via-else-number-self+then-number-self-2}
 use Rattle.tiny_http_core.proofs.driver.Connection.respond.Goals as goal
@@ -22,7 +21,7 @@ returns-then-number-self-clause-stands g c client before s value low is st =
     let other : c.args.number + 1 ≡ q.numbers → ⊥ = λ e. elim c.then-number-self.branch [
       | then-number-self-via-then-number-self w ↦ absurd (omega arith)
       | then-number-self-via-else-number-self+then-number-self-2 w ↦ absurd (omega arith)
-      ] in
+    ] in
     respond-other client before (kept g.W.WriteDevice.sink q) s c.args.now c.args.number value c.in-Some.waiting st c.in-Some.is other
 
 pub returns-then-is_ended-clause-stands : goal.returns-then-is_ended-clause-stands
@@ -35,7 +34,7 @@ returns-in-Ok-clause-stands g c client before s value low is st =
     let q = c.args.self.now in
     let k : Kept = kept g.W.WriteDevice.sink q in
     let w = c.in-Some.waiting in
-    let new = c.print.new.outlet in
+    let new = c.send.new.outlet in
     let unended : outlet_ended q.outlet ≡ false = search rules in
     let P : Answer → Type 0 = λ a. Sends {T = Unit {0}} k.sink (outlet_sink g.W.WriteDevice.sink new) (outlet_ended new) (Ok c.in-Ok.field-0) a value.content (printed_as w c.args.now) in
     let sends = subst P (sym is.0) (c.in-Ok.ensures.sends value.content is.1 is.2 (can-send client before k s st low unended)) in
@@ -46,7 +45,7 @@ returns-in-Err-clause-stands g c client before s value low is st =
     let q = c.args.self.now in
     let k : Kept = kept g.W.WriteDevice.sink q in
     let w = c.in-Some.waiting in
-    let new = c.print.new.outlet in
+    let new = c.send.new.outlet in
     let unended : outlet_ended q.outlet ≡ false = search rules in
     let r : Result (Unit {0}) Error = Err c.in-Err.fault in
     let P : Answer → Type 0 = λ a. Sends {T = Unit {0}} k.sink (outlet_sink g.W.WriteDevice.sink new) (outlet_ended new) r a value.content (printed_as w c.args.now) in

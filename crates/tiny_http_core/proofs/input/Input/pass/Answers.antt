@@ -1,4 +1,4 @@
-use Rattle.std.proofs.Common.{◌≡◌, ℕ, ◌-◌, List, drop, ap, ◌∙◌, arith}
+use Rattle.std.proofs.Common.{◌-◌, ap, ◌∙◌, arith}
 use Rattle.tiny_http_core.specs.ToCome.{behind, to_come}
 use Rattle.tiny_http_core.proofs.Inputs.{to_come-passed}
 use Rattle.tiny_http_core.proofs.input.Input.pass.Goals as goal

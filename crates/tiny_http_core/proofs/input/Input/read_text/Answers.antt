@@ -1,7 +1,7 @@
-use Rattle.std.proofs.Common.{rules, ◌≡◌, ◌≢◌, ◌++◌, ◌∷◌, [], true, ap, sym, ◌∙◌}
+use Rattle.std.proofs.Common.{rules, ◌≡◌, ◌++◌, ◌∷◌, [], ap, sym, ◌∙◌}
 use Rattle.tiny_http_wire.specs.Device.{given}
 use Rattle.tiny_http_wire.proofs.Feeds.{given-along}
-use Rattle.tiny_http_core.specs.Line.{Passed, pending}
+use Rattle.tiny_http_core.specs.Line.{pending}
 use Rattle.tiny_http_core.specs.Input.{input_feed}
 use Rattle.tiny_http_core.proofs.Lines.{line-none}
 use Rattle.tiny_http_core.proofs.input.Input.read_text.Goals as goal

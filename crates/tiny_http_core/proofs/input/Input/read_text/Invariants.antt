@@ -1,4 +1,4 @@
-use Rattle.std.proofs.Common.{◌≡◌, ℕ, ◌+◌, ◌-◌, ◌*◌, ◌^◌, List, ◌++◌, length, vec_len}
+use Rattle.std.proofs.Common.{◌≡◌, ◌+◌, ◌-◌, ◌*◌, ◌^◌, ◌++◌, length, vec_len}
 use Rattle.std.specs.Prelude.{IsSome}
 use Rattle.tiny_http_wire.specs.Device.{given}
 use Rattle.tiny_http_core.specs.Line.{Passed, pending}

@@ -1,4 +1,4 @@
-use Rattle.std.proofs.Common.{◌≡◌, ℕ, ◌-◌, ◌≤◌, length, vec_len}
+use Rattle.std.proofs.Common.{◌≡◌, ◌-◌, ◌≤◌, vec_len}
 use Rattle.tiny_http_wire.specs.Device.{given}
 use Rattle.tiny_http_core.specs.Input.{input_feed}
 use Rattle.tiny_http_core.proofs.input.Input.take_exactly.Given as goal

@@ -1,12 +1,12 @@
-use Rattle.std.proofs.Common.{rules, ◌≡◌, ap, ◌∙◌, Bool, true, false}
+use Rattle.std.proofs.Common.{◌≡◌, ap, true}
 use Rattle.std.specs.Prelude.{◌||◌}
-use Rattle.tiny_http_core.proofs.SendLemmas.{printed-flushed, printed-ended, ended-once, flushed-once, or-false}
-use Rattle.tiny_http_core.proofs.driver.print.Goals as goal
+use Rattle.tiny_http_core.proofs.SendLemmas.{printed-flushed, printed-ended, ended-once, flushed-once, printed-honest, or-false}
+use Rattle.tiny_http_core.proofs.sending.send.Goals as goal
 
 pub returns-in-Err-clause-sends : goal.returns-in-Err-clause-sends
 returns-in-Err-clause-sends g c content told few can =
     printed-ended (Unit {0}) _ _ _ _ c.failures-failures.result _ c.in-Err.fault _ _ content told few c.in-Err.ensures.text c.failures-failures.ensures c.end_behind_fault.ensures.ends can.unended can.can_count
-      c.end_behind_fault.ensures.ended c.end_behind_fault.ensures.takes_none
+    c.end_behind_fault.ensures.ended c.end_behind_fault.ensures.takes_none
 
 pub returns-clause-sends : goal.returns-clause-sends
 returns-clause-sends g c content told few can =
@@ -15,10 +15,14 @@ returns-clause-sends g c content told few can =
     let new = c.flush.new.self in
     let ends : new.ended ≡ true → (new.ended || (sink new.inner).has_ended) ≡ true = λ e. ap (λ x. x || (sink new.inner).has_ended) e in
     printed-flushed _ _ _ _ mid.ended new.ended c.in_default.field-0 c.flush.result _ _ content told few c.in_default.ensures.text c.flush.ensures.puts can.unended
-      (λ h. (or-false mid.ended (sink mid.inner).has_ended h).0) ends c.flush.ensures.ended c.flush.ensures.stays
+    (λ h. (or-false mid.ended (sink mid.inner).has_ended h).0) ends c.flush.ensures.ended c.flush.ensures.stays
 
 pub returns-in-Err-clause-fails_once : goal.returns-in-Err-clause-fails_once
 returns-in-Err-clause-fails_once g c = ended-once (Unit {0}) _ _ _ c.failures-failures.result c.in-Err.fault _ c.in-Err.ensures.uses c.failures-failures.ensures c.end_behind_fault.ensures.ends c.end_behind_fault.ensures.ended
 
 pub returns-clause-fails_once : goal.returns-clause-fails_once
 returns-clause-fails_once g c = flushed-once _ _ _ c.in_default.field-0 c.flush.result _ c.in_default.ensures.uses c.flush.ensures.puts c.flush.ensures.ended
+
+pub returns-in-Err-clause-honest : goal.returns-in-Err-clause-honest
+returns-in-Err-clause-honest g c =
+    printed-honest (Unit {0}) _ _ _ _ c.failures-failures.result c.in-Err.fault _ c.args.version c.args.no_body c.args.now c.in-Err.ensures.text c.in-Err.ensures.uses c.failures-failures.ensures c.end_behind_fault.ensures.ends

@@ -1,0 +1,105 @@
+-- The definitions tried out: replies and output of whole conversations, computed for a writer that takes all.
+use Rattle.std.proofs.Common.{◌≡◌, refl, ℕ, List, [], ◌∷◌, ◌++◌, Option, Some, None, Bool, false, map, length}
+use Rattle.std.specs.Prelude.{codes}
+use Rattle.std.specs.Fmt.{digits}
+use Rattle.httpdate.specs.Date.{date_text}
+use Rattle.httpdate.specs.declared.date.HttpDate.{HttpDate}
+use Rattle.tiny_http_wire.specs.declared.common.Method.{Method}
+use Rattle.tiny_http_wire.specs.declared.common.Method.TheVariants.{Get, Head}
+use Rattle.tiny_http_wire.specs.declared.common.Header.{Header}
+use Rattle.tiny_http_wire.specs.Heads.{version, Message}
+use Rattle.tiny_http_wire.specs.Device.{ending}
+use Rattle.tiny_http_wire.specs.Answer.{text_of, status_line, field_line, upgrade_lines, server_line, date_line, framing_line, head, length_in}
+use Rattle.tiny_http_wire.specs.Common.{reason_phrase}
+use Rattle.tiny_http_core.specs.declared.exchange.Form.{Form}
+use Rattle.tiny_http_core.specs.declared.exchange.Form.TheVariants.{Nothing, Held}
+use Rattle.tiny_http_core.specs.declared.framing.Framing.{Framing}
+use Rattle.tiny_http_core.specs.Framing.{framing}
+use Rattle.tiny_http_core.specs.Slots.{ResponseValue, own_response, text_type}
+use Rattle.tiny_http_core.specs.Steps.{Asked, Ask, Respond, Drop, Replied, Handed, Ended, NotYet, Done, NoSuch}
+use Rattle.tiny_http_core.specs.Conversation.{Dated}
+use Rattle.tiny_http_core.specs.Reading.{conversed, Conversed}
+
+abbrev on_date : HttpDate → List Asked → List Dated
+on_date date steps = map (λ s. (date, s)) steps
+
+abbrev hello : List ℕ → ResponseValue
+hello text = own_response 200 text_type text
+
+-- an answer: its status line, the server's name, the date, the headers, what frames the body, and the body
+abbrev answer : List ℕ → HttpDate → List ℕ → List ℕ → List ℕ → List ℕ
+answer status date headers framing body =
+    codes "HTTP/" ++ status ++ codes "\r\nServer: tiny-http (Rust)\r\nDate: " ++ (date_text date ++ codes "\r\n" ++ headers ++ framing ++ codes "\r\n") ++ body
+
+abbrev empty : List ℕ → HttpDate → List ℕ
+empty status date = answer status date [] (codes "Content-Length: 0\r\n") []
+
+abbrev text_of_length : HttpDate → List ℕ → List ℕ → List ℕ
+text_of_length date n text = answer (codes "1.1 200 OK") date (codes "Content-Type: text/plain; charset=UTF-8\r\n") (codes "Content-Length: " ++ n ++ codes "\r\n") text
+
+abbrev output : List (List ℕ) → List ℕ
+output [] = []
+output (x ∷ xs) = x ++ output xs
+
+abbrev message : Method → List ℕ → ℕ → ℕ → List Header → Message
+message m path major minor headers = record { method = m; path = path; version = version major minor; headers = headers }
+
+abbrev framed : Form → Option ℕ → Bool → Framing
+framed form length last = record { form = form; owes_continue = false; body_length = length; is_last = last }
+
+abbrev plain : Framing
+plain = framed Nothing None false
+
+abbrev header : List ℕ → List ℕ → Header
+header f v = record { field = f; value = v }
+
+abbrev gives : List Replied → List ℕ → Conversed
+gives replies output = record { replies = replies; output = output }
+
+no_bytes : (date : HttpDate) → conversed (ending []) (on_date date (Ask ∷ Ask ∷ [])) ≡ gives (Ended ∷ Ended ∷ []) ([])
+unfolding digits text_of status_line field_line upgrade_lines server_line date_line framing_line head reason_phrase framing length_in
+no_bytes date = refl
+
+plain_request : (date : HttpDate) → conversed (ending (codes "GET /hello HTTP/1.1\r\n\r\n")) (on_date date (Ask ∷ Respond 0 (hello (codes "hello world")) ∷ Ask ∷ [])) ≡ gives (Handed 0 (message Get (codes "/hello") 1 1 []) plain ∷ Done ∷ Ended ∷ []) (output (text_of_length date (codes "11") (codes "hello world") ∷ []))
+unfolding digits text_of status_line field_line upgrade_lines server_line date_line framing_line head reason_phrase framing length_in
+plain_request date = refl
+
+empty_first_line : (date : HttpDate) → conversed (ending (codes "\r\n")) (on_date date (Ask ∷ [])) ≡ gives (Ended ∷ []) (output (empty (codes "1.1 400 Bad Request") date ∷ []))
+unfolding digits text_of status_line field_line upgrade_lines server_line date_line framing_line head reason_phrase framing length_in
+empty_first_line date = refl
+
+no_version : (date : HttpDate) → conversed (ending (codes "GET /hello\r\n")) (on_date date (Ask ∷ [])) ≡ gives (Ended ∷ []) (output (empty (codes "1.1 400 Bad Request") date ∷ []))
+unfolding digits text_of status_line field_line upgrade_lines server_line date_line framing_line head reason_phrase framing length_in
+no_version date = refl
+
+lone_newline : (date : HttpDate) → conversed (ending (codes "GET / HTTP/1.1\r\nHost: a\nX: b\r\n\r\n")) (on_date date (Ask ∷ [])) ≡ gives (Handed 0 (message Get (codes "/") 1 1 (header (codes "Host") (codes "a\nX: b") ∷ [])) plain ∷ []) ([])
+unfolding digits text_of status_line field_line upgrade_lines server_line date_line framing_line head reason_phrase framing length_in
+lone_newline date = refl
+
+blank_before_colon : (date : HttpDate) → conversed (ending (codes "GET / HTTP/1.0\r\nContent-Length : 5\r\n\r\nhello")) (on_date date (Ask ∷ [])) ≡ gives (Ended ∷ []) (output (empty (codes "1.0 400 Bad Request") date ∷ []))
+unfolding digits text_of status_line field_line upgrade_lines server_line date_line framing_line head reason_phrase framing length_in
+blank_before_colon date = refl
+
+unfinished_head : (date : HttpDate) → conversed (ending (codes "GET / HTTP/1.1\r\nHost: a")) (on_date date (Ask ∷ [])) ≡ gives (Ended ∷ []) ([])
+unfolding digits text_of status_line field_line upgrade_lines server_line date_line framing_line head reason_phrase framing length_in
+unfinished_head date = refl
+
+byte_past_ascii : (date : HttpDate) → conversed (ending (codes "GET / HTTP/1.1\r\nHost: " ++ 233 ∷ codes "\r\n")) (on_date date (Ask ∷ [])) ≡ gives (Ended ∷ []) ([])
+unfolding digits text_of status_line field_line upgrade_lines server_line date_line framing_line head reason_phrase framing length_in
+byte_past_ascii date = refl
+
+held_body : (date : HttpDate) → conversed (ending (codes "GET / HTTP/1.1\r\nContent-Length: 3\r\n\r\nhello")) (on_date date (Ask ∷ Respond 0 (hello (codes "a")) ∷ Ask ∷ [])) ≡ gives (Handed 0 (message Get (codes "/") 1 1 (header (codes "Content-Length") (codes "3") ∷ [])) (framed Held (Some 3) false) ∷ Done ∷ Ended ∷ []) (output (text_of_length date (codes "1") (codes "a") ∷ []))
+unfolding digits text_of status_line field_line upgrade_lines server_line date_line framing_line head reason_phrase framing length_in
+held_body date = refl
+
+one_after_another : (date : HttpDate) → conversed (ending (codes "GET /a HTTP/1.1\r\n\r\nGET /b HTTP/1.1\r\n\r\nbad\r\n")) (on_date date (Ask ∷ Ask ∷ Respond 1 (hello (codes "x")) ∷ Respond 0 (hello (codes "a")) ∷ Ask ∷ Respond 1 (hello (codes "b")) ∷ Ask ∷ [])) ≡ gives (Handed 0 (message Get (codes "/a") 1 1 []) plain ∷ NotYet ∷ NoSuch ∷ Done ∷ Handed 1 (message Get (codes "/b") 1 1 []) plain ∷ Done ∷ Ended ∷ []) (output (text_of_length date (codes "1") (codes "a") ∷ text_of_length date (codes "1") (codes "b") ∷ empty (codes "1.1 400 Bad Request") date ∷ []))
+unfolding digits text_of status_line field_line upgrade_lines server_line date_line framing_line head reason_phrase framing length_in
+one_after_another date = refl
+
+drop : (date : HttpDate) → conversed (ending (codes "GET / HTTP/1.1\r\n\r\n")) (on_date date (Ask ∷ Drop 0 ∷ [])) ≡ gives (Handed 0 (message Get (codes "/") 1 1 []) plain ∷ Done ∷ []) (output (empty (codes "1.1 500 Internal Server Error") date ∷ []))
+unfolding digits text_of status_line field_line upgrade_lines server_line date_line framing_line head reason_phrase framing length_in
+drop date = refl
+
+withheld_for_head : (date : HttpDate) → conversed (ending (codes "HEAD / HTTP/1.1\r\n\r\n")) (on_date date (Ask ∷ Respond 0 (hello (codes "a")) ∷ [])) ≡ gives (Handed 0 (message Head (codes "/") 1 1 []) plain ∷ Done ∷ []) (output (text_of_length date (codes "1") [] ∷ []))
+unfolding digits text_of status_line field_line upgrade_lines server_line date_line framing_line head reason_phrase framing length_in
+withheld_for_head date = refl
