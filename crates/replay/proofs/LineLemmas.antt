@@ -1,5 +1,5 @@
 -- What the grammar of a line says of its parts.
-use Rattle.std.proofs.Common.{◌≡◌, ◌≢◌, refl, sym, ap, ◌∙◌, subst, rules, arith, lit<, ℕ, ◌+◌, ◌<◌, ◌≤◌, ◌^◌, List, [], ◌∷◌, ◌++◌, length, get_or, codes, drop, Bool, true, false, Option, Some, None, Result, Ok, Err, inl, inr, ◌⊎◌, Bor}
+use Rattle.std.proofs.Common.{◌≡◌, ◌≢◌, refl, sym, ap, ◌∙◌, arith, lit<, ℕ, ◌<◌, ◌≤◌, ◌^◌, List, ◌++◌, length, get_or, codes, drop, Bool, true, false, Option, Result, Ok, Err, inl, inr, ◌⊎◌, Bor}
 use Rattle.std.specs.Option.{MatchOption}
 use Rattle.std.specs.Result.{OkIff, MatchResult, is_ok}
 use Rattle.std.specs.Str.Parse.{IsNumeral, AllDigits, digits_value}
@@ -7,8 +7,7 @@ use Rattle.std.proofs.lemmas.Str.Parse.{IsNumeralModel, numerals_by_value, tells
 use Rattle.std.proofs.lemmas.Str.Pattern.{IsSplitOnceResult, split_after}
 use Rattle.std.specs.Str.{bytes_eq}
 use Rattle.std.specs.Str.Pattern.{LacksTextAt}
-use Rattle.replay.specs.Line.{WritesNumber, BeginsByNumber, BeginsByNumbers, WritesAnswer, IsAnswer, SaysSome, IsDate, WritesDate}
-use Rattle.replay.specs.declared.line.Line.{Line}
+use Rattle.replay.specs.Line.{WritesNumber, BeginsByNumber, BeginsByNumbers, IsAnswer, SaysSome, IsDate}
 use Rattle.replay.specs.declared.line.Line.TheVariants.{Blank, Now, Ask, Text, Empty}
 
 own : IsNumeralModel (AllDigits 10) (digits_value 10)

@@ -23,6 +23,7 @@ BeginsByNumbers text number status rest =
 abbrev pub WritesDate : List ℕ → HttpDate → Type 0
 WritesDate text date = WritesNumber text (unix_secs date) × (unix_secs date < 253_402_300_800)
 
+-- the text is the seconds of some date
 abbrev pub IsDate : List ℕ → Type 0
 IsDate text = (date : HttpDate) × WritesDate text date
 
@@ -34,6 +35,7 @@ WritesAnswer words Blank = ⊥
 WritesAnswer words (Now date) = ⊥
 WritesAnswer words Ask = ⊥
 
+-- the words are some answer
 abbrev pub IsAnswer : List ℕ → Type 0
 IsAnswer words = (line : Line) × WritesAnswer words line
 

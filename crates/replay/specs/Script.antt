@@ -1,6 +1,7 @@
 -- The steps that a script names, and its first bad line.
 use Rattle.std.specs.Prelude.{◌≡◌, ◌==◌, ◌+◌, ℕ, Option, Some, None, List, [], ◌∷◌, ◌++◌, length, Vec}
 use Rattle.std.specs.List.{AllZip, AllByRecursion, slice_split}
+use Rattle.std.specs.Io.KnownBytes.{Appends}
 use Rattle.std.specs.declared.io.Cursor.{Cursor}
 use Rattle.httpdate.specs.declared.date.HttpDate.{HttpDate}
 use Rattle.httpdate.specs.Date.{unix_secs}
@@ -27,10 +28,11 @@ IsFirstBad lines n =
     (front : List (List ℕ)) × (bad : List ℕ) × (rest : List (List ℕ))
     × (lines ≡ front ++ bad ∷ rest) × (length front + 1 ≡ n) × AllByRecursion IsGood front × ¬ (IsGood bad)
 
--- an answer of a text, or of no data
+-- the answer of a text under a code
 abbrev pub text_response : ℕ → List ℕ → ResponseValue
 text_response status text = record { answer = answer_with status (text_plain ∷ []) (length text); content = ending text }
 
+-- the answer without data under a code
 abbrev pub empty_response : ℕ → ResponseValue
 empty_response status = record { answer = answer_with status [] 0; content = ending [] }
 
@@ -50,6 +52,7 @@ date_behind now AskLine = now
 date_behind now (Text number status text) = now
 date_behind now (Empty number status) = now
 
+-- at most one step, on its date
 abbrev pub on_date : HttpDate → Option Asked → List Dated
 on_date now None = []
 on_date now (Some step) = (now, step) ∷ []
@@ -70,6 +73,7 @@ abbrev pub step_value : {A : Type 0} → Step (Cursor (Vec ℕ A)) → Asked
 step_value AskStep = Ask
 step_value (RespondStep number response) = Respond number (record { answer = response.answer; content = ending (cursor_bytes response.data_reader) })
 
+-- the same on its date
 abbrev pub timed_value : {A : Type 0} → Timed (Cursor (Vec ℕ A)) → Dated
 timed_value timed = (timed.now, step_value timed.step)
 
@@ -88,3 +92,7 @@ pub record HasRun (client : List ℕ) (steps : List Dated) (replies : List Repli
 -- a replay of a script over a client's bytes has this output
 abbrev pub IsReplay : List ℕ → List ℕ → List ℕ → Type 0
 IsReplay client script output = (steps : List Dated) × (replies : List Replied) × IsScript script steps × HasRun client steps replies output
+
+-- a writer's known bytes grow by the output of such a replay
+abbrev pub WritesReplay : Option (List ℕ) → Option (List ℕ) → List ℕ → List ℕ → Type 0
+WritesReplay old new client script = (output : List ℕ) × IsReplay client script output × Appends old new output

@@ -23,7 +23,8 @@ pub(crate) enum Line<'a> {
 
 // The number that decimal digits write, if it is below 2^64. `parse` takes a plus before them; a script doesn't.
 fn number_in(digits: &str) -> Option<u64>
-    ensures { SomeIff result (IsNumeral 10 digits.now × (digits_value 10 digits.now < 2 ^ 64)) (digits_value 10 digits.now) }
+    ensures { SomeIff result (IsNumeral 10 digits.now × (digits_value 10 digits.now < 2 ^ 64))
+        (digits_value 10 digits.now) }
 {
     if digits.starts_with('+') {
         return None;
@@ -34,7 +35,8 @@ fn number_in(digits: &str) -> Option<u64>
 // The number that stands before the first space, and what stands behind it.
 fn number_before(text: &str) -> Option<(u64, &str)>
     ensures some { IfSome result (λ r. BeginsByNumber text.now r.0 r.1.now) }
-    ensures found { (n : ℕ) → (rest : List ℕ) → n < 2 ^ 64 → BeginsByNumber text.now n rest → IsSomeAnd result (λ r. (r.0 ≡ n) × (r.1.now ≡ rest)) }
+    ensures found { (n : ℕ) → (rest : List ℕ) → n < 2 ^ 64 → BeginsByNumber text.now n rest
+        → IsSomeAnd result (λ r. (r.0 ≡ n) × (r.1.now ≡ rest)) }
 {
     let (digits, rest) = text.split_once(' ')?;
     Some((number_in(digits)?, rest))

@@ -1,9 +1,9 @@
 //! Runs the steps of a script over a client's bytes: `replay BYTES SCRIPT`.
 #![tactic(auto)]
 
-ghost use Rattle.std.specs.Prelude.{◌≡◌, ◌<◌, ℕ, List, ◌++◌, map, Err, IsErr, IfOk, IfErr, OnOk};
+ghost use Rattle.std.specs.Prelude.{◌≡◌, ◌<◌, ◌⊎◌, ℕ, ◌++◌, map, Err, IsErrAnd, IfOk, IfErr, OnOk};
 ghost use Rattle.replay.specs.Fault.{exit_status};
-ghost use Rattle.replay.specs.Script.{script_lines, IsFirstBad, timed_value, HasRun, IsReplay};
+ghost use Rattle.replay.specs.Script.{script_lines, IsFirstBad, timed_value, HasRun, WritesReplay};
 ghost use Rattle.std.specs.Io.KnownBytes.{Appends};
 ghost use Rattle.tiny_http_wire.specs.Budget.{budget_bytes};
 ghost use Rattle.tiny_http_core.specs.Seen.{seen};
@@ -23,7 +23,7 @@ use std::io::{ErrorKind, Write};
 use std::process::ExitCode;
 use std::rt::{Env, Files};
 use std::{env, fs, io};
-use tiny_http_core::driver::{Record, Reply, Timed, run};
+use tiny_http_core::driver::{Reply, Timed, run};
 use tiny_http_wire::device::{Budget, Canned, WriteDevice};
 
 /// What a run left: the writer with what it took, what was held back, and what the steps were answered.
@@ -34,13 +34,14 @@ struct Outcome {
     replies: Vec<Reply>,
 }
 
-// Runs the steps over the bytes and their end. The writer is in memory, so only want of memory makes it fail.
+// Runs the steps over the client's bytes, which then end. The writer is in memory, so only want of memory makes it fail.
 fn run_steps(
     alloc: Global,
     bytes: Vec<u8>,
     steps: Vec<Timed<Data>>,
 ) -> Result<Outcome, Fault<'static>>
-    ensures runs { IfOk result (λ o. HasRun bytes.items (map timed_value steps.items) (map seen o.replies.items) (budget_bytes o.writer ++ o.held.items)) }
+    ensures runs { IfOk result (λ o. HasRun bytes.items (map timed_value steps.items) (map seen o.replies.items)
+        (budget_bytes o.writer ++ o.held.items)) }
     ensures memory { IfErr result (λ fault. fault ≡ Fault.OutOfMemory) }
 {
     let reader = Canned::new(bytes, None);
@@ -68,7 +69,8 @@ fn write_outcome<O: Write, E: Write>(
     out: &mut O,
     err: &mut E,
 ) -> Result<(), io::Error>
-    ensures { OnOk result (Appends (O.contents out.old) (O.contents out.new) (budget_bytes outcome.now.writer ++ outcome.now.held.items)) }
+    ensures { OnOk result (Appends (O.contents out.old) (O.contents out.new)
+        (budget_bytes outcome.now.writer ++ outcome.now.held.items)) }
 {
     out.write_all(outcome.writer.bytes())?;
     out.write_all(outcome.held.as_slice())?;
@@ -87,9 +89,10 @@ fn replay<O: Write, E: Write>(
     out: &mut O,
     err: &mut E,
 ) -> Result<(), Fault<'static>>
-    ensures runs { OnOk result ((output : List ℕ) × IsReplay bytes.items script.now output × Appends (O.contents out.old) (O.contents out.new) output) }
+    ensures runs { OnOk result (WritesReplay (O.contents out.old) (O.contents out.new) bytes.items script.now) }
     // Behind a bad line nothing is run.
-    ensures refused { (n : ℕ) → IsFirstBad (script_lines script.now) n → IsErr result × (out.new ≡ out.old) }
+    ensures refused { (n : ℕ) → IsFirstBad (script_lines script.now) n
+        → IsErrAnd result (λ fault. (exit_status fault ≡ 2) ⊎ (fault ≡ Fault.OutOfMemory)) × (out.new ≡ out.old) }
     ensures bad { (n : ℕ) → result ≡ Err (Fault.BadLine n) → IsFirstBad (script_lines script.now) n }
     ensures kinds { IfErr result (λ fault. exit_status fault ≡ 2 → (n : ℕ) × (fault ≡ Fault.BadLine n)) }
 {
@@ -126,7 +129,7 @@ pub fn replay_on<O: Write, E: Write>(
     out: &mut O,
     err: &mut E,
 ) -> u8
-    ensures runs { result ≡ 0 → (output : List ℕ) × IsReplay bytes.items script.now output × Appends (O.contents out.old) (O.contents out.new) output }
+    ensures runs { result ≡ 0 → WritesReplay (O.contents out.old) (O.contents out.new) bytes.items script.now }
     // Behind a bad line nothing is run.
     ensures refused { (n : ℕ) → IsFirstBad (script_lines script.now) n → (0 < result) × (out.new ≡ out.old) }
     ensures two { result ≡ 2 → (n : ℕ) × IsFirstBad (script_lines script.now) n }
@@ -159,7 +162,7 @@ fn read_files<'a, R: Files + AllocGlobal>(
     Ok((bytes, script))
 }
 
-// The words of the command line. One that isn't UTF-8 names no file that could be opened here.
+// The words of the command line, the program's name first. One that isn't UTF-8 can't name a file here.
 fn words<R: Env + AllocGlobal>(rt: &R) -> Result<Vec<String>, Fault<'static>> {
     match env::args(rt) {
         Ok(words) => match words.collect(rt.alloc()) {

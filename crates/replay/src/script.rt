@@ -45,7 +45,8 @@ fn split_lines(alloc: Global, script: &[u8]) -> Result<Vec<&[u8]>, AllocError>
 // What the lines say; or the first one that says nothing.
 fn read_lines<'a>(alloc: Global, lines: &[&'a [u8]]) -> Result<Vec<Line<'a>>, ScriptFault>
     ensures says { IfOk result (λ said. AllZip IsLine (map (λ line. line.now) lines.now) said.items) }
-    ensures bad { (n : ℕ) → result ≡ Err (ScriptFault.BadLine n) → IsFirstBad (map (λ line. line.now) lines.now) n }
+    ensures bad { (n : ℕ) → result ≡ Err (ScriptFault.BadLine n)
+        → IsFirstBad (map (λ line. line.now) lines.now) n }
 {
     let mut said = Vec::new(alloc);
     for (i, bytes) in lines.iter().enumerate() {
@@ -97,7 +98,8 @@ fn add_step(
     now: HttpDate,
     line: &Line<'_>,
 ) -> Result<(), AllocError>
-    ensures { IfOk result (λ _. map timed_value steps.new.items ≡ map timed_value steps.old.items ++ on_date now (said_step line.now)) }
+    ensures { IfOk result (λ _. map timed_value steps.new.items
+        ≡ map timed_value steps.old.items ++ on_date now (said_step line.now)) }
 {
     if let Some(step) = step_in(alloc, line)? {
         steps.push(Timed { now, step })?;

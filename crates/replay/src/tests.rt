@@ -1,6 +1,7 @@
 //! Scripts as a whole: what is written, and the exit status.
-use crate::replay_on;
+use crate::fault::Fault;
 use crate::reply::ReplyLine;
+use crate::{read_files, replay_on, tell};
 use std::alloc::{AllocError, Global};
 use std::io::ErrorKind;
 use std::process::Abort;
@@ -237,6 +238,36 @@ fn a_teller_that_refuses(rt: HostRuntime) -> Result<(), Fail> {
             1
         );
     }
+    Ok(())
+}
+
+#[test]
+fn faults_are_told(rt: HostRuntime) -> Result<(), Fail> {
+    let alloc = rt.alloc();
+    for (fault, line, status) in [
+        (Fault::Usage, "replay: usage: replay BYTES SCRIPT\n", 2),
+        (Fault::CannotRead("a b"), "replay: cannot read a b\n", 2),
+        (Fault::BadLine(12), "replay: bad line 12\n", 2),
+        (Fault::OutOfMemory, "replay: out of memory\n", 1),
+        (Fault::CannotWrite, "replay: cannot write\n", 1),
+    ] {
+        let mut err = Vec::new(alloc);
+        assert_eq!(rt; tell(&fault, &mut err), status);
+        assert_eq!(rt; err.as_slice(), line.as_bytes());
+    }
+    Ok(())
+}
+
+#[test]
+fn the_bytes_are_read_first(rt: HostRuntime) -> Result<(), Fail> {
+    let alloc = rt.alloc();
+    let mut words = Vec::new(alloc);
+    for word in ["replay", "missing.request", "missing.script"] {
+        assert_eq!(rt; read_files(&rt, words.as_slice()).err(), Some(Fault::Usage));
+        words.push(String::from_str(alloc, word)?)?;
+    }
+    let fault = read_files(&rt, words.as_slice()).err();
+    assert_eq!(rt; fault, Some(Fault::CannotRead("missing.request")));
     Ok(())
 }
 

@@ -1,8 +1,8 @@
-use Rattle.std.proofs.Common.{◌≡◌, ap, arith, Err}
+use Rattle.std.proofs.Common.{ap, arith, Err}
 use Rattle.replay.proofs.replay_on.Goals as goal
 
 pub returns-in-Ok-clause-refused : goal.returns-in-Ok-clause-refused
-returns-in-Ok-clause-refused g c = λ n bad. let err = (c.in-Ok.ensures.refused n bad).0 in absurd (cc err)
+returns-in-Ok-clause-refused g c = λ n bad. absurd (c.in-Ok.ensures.refused n bad).0
 
 pub returns-in-Err-clause-refused : goal.returns-in-Err-clause-refused
 returns-in-Err-clause-refused g c = λ n bad. (c.tell.ensures.some, (c.in-Err.ensures.refused n bad).1)

@@ -1,9 +1,9 @@
-use Rattle.std.proofs.Common.{rules, arith, lit<, ◌≡◌, refl, sym, ap, ◌∙◌, ◌++◌, ℕ, ◌<◌, ◌-◌, ◌^◌, Some, map}
+use Rattle.std.proofs.Common.{rules, arith, lit<, ◌≡◌, refl, sym, ap, ◌∙◌, ◌++◌, Some, map}
 use Rattle.tiny_http_wire.specs.Device.{Sink, ending}
 use Rattle.tiny_http_wire.specs.Budget.{budget_sink, budget_bytes}
 use Rattle.tiny_http_core.specs.Conversation.{IsFresh}
 use Rattle.tiny_http_core.specs.Outlet.{outlet_held}
-use Rattle.replay.specs.Script.{timed_value, HasRun}
+use Rattle.replay.specs.Script.{timed_value}
 use Rattle.replay.proofs.ScriptLemmas.{told}
 use Rattle.replay.proofs.run_steps.Goals as goal
 

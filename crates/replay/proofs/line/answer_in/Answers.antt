@@ -1,4 +1,4 @@
-use Rattle.std.proofs.Common.{◌≡◌, sym, arith, ◌<◌, ◌^◌}
+use Rattle.std.proofs.Common.{arith, ◌<◌, ◌^◌}
 use Rattle.replay.specs.Line.{BeginsByNumber}
 use Rattle.replay.proofs.LineLemmas.{answer_parts, none_fits, no_answer}
 use Rattle.replay.proofs.line.answer_in.Goals as goal

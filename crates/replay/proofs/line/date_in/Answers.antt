@@ -1,4 +1,4 @@
-use Rattle.std.proofs.Common.{arith, ◌≡◌, ◌∙◌, ◌<◌}
+use Rattle.std.proofs.Common.{arith, ◌∙◌, ◌<◌}
 use Rattle.replay.proofs.line.date_in.Goals as goal
 
 pub returns-in_err-number_in-clause-found : goal.returns-in_err-number_in-clause-found

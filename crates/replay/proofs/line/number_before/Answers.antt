@@ -1,4 +1,4 @@
-use Rattle.std.proofs.Common.{◌≡◌, sym, ◌∙◌, Some, None}
+use Rattle.std.proofs.Common.{◌∙◌, Some, None}
 use Rattle.replay.proofs.LineLemmas.{number_cut, number_read}
 use Rattle.replay.proofs.line.number_before.Goals as goal
 

@@ -1,4 +1,4 @@
-use Rattle.std.proofs.Common.{◌≡◌, sym, ap, ◌++◌, codes}
+use Rattle.std.proofs.Common.{◌≡◌, ◌++◌, codes}
 use Rattle.replay.proofs.LineLemmas.{only_now}
 use Rattle.replay.proofs.line.text_in.Goals as goal
 

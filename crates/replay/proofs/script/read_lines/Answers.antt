@@ -1,4 +1,4 @@
-use Rattle.std.proofs.Common.{rules, ◌≡◌, sym, subst, ◌+◌, ◌++◌, ◌∷◌, [], List, ℕ, take, Bor}
+use Rattle.std.proofs.Common.{rules, ◌≡◌, sym, subst, ◌+◌, ◌++◌, ◌∷◌, [], List, take}
 use Rattle.std.specs.List.{AllZip}
 use Rattle.replay.specs.Line.{IsLine}
 use Rattle.replay.specs.Script.{IsFirstBad}

@@ -1,4 +1,4 @@
-use Rattle.std.proofs.Common.{◌≡◌, ap, ◌∙◌, subst, List, ℕ}
+use Rattle.std.proofs.Common.{ap, ◌∙◌, subst, List, ℕ}
 use Rattle.std.specs.List.{AllZip}
 use Rattle.replay.specs.Line.{IsLine}
 use Rattle.replay.specs.Script.{steps_from}
