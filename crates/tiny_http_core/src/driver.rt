@@ -1,19 +1,17 @@
 //! A connection driven by a list of steps, without threads.
-ghost use Rattle.std.specs.Prelude.{◌≡◌, ℕ, ◌-◌, ◌<◌, ◌^◌, ◌==◌, true, false, List, [], length, Some, None, map, Ok, IfOk, IfErr, MatchBool, vec_len};
+ghost use Rattle.std.specs.Prelude.{◌≡◌, ◌-◌, ◌<◌, ◌^◌, true, false, List, [], Some, None, map, Ok, IfOk, IfErr, vec_len};
 ghost use Rattle.std.specs.List.{AllZip};
 ghost use Rattle.tiny_http_wire.specs.Device.{Feed, Sink};
-ghost use Rattle.tiny_http_core.specs.Slots.{ResponseValue, segment, new_slot};
-ghost use Rattle.tiny_http_core.specs.HeadReads.{refused};
+ghost use Rattle.tiny_http_core.specs.Slots.{ResponseValue};
 ghost use Rattle.tiny_http_core.specs.Pipeline.{Item, Pipeline, is_head_method};
 ghost use Rattle.tiny_http_core.specs.Conversation.{State, StepsTo, IsConversation, IsFresh, Dated, start};
-ghost use Rattle.tiny_http_core.specs.Steps.{Asked, Ask, Respond, Fault, is_closed_client, fault_of_answer};
-ghost use Rattle.std.specs.IoError.{error_kind};
+ghost use Rattle.tiny_http_core.specs.Steps.{Ask, Respond, Fault, is_closed_client, fault_of_answer};
 ghost use Rattle.std.specs.declared.io.ErrorKind.{ErrorKind};
 ghost use Rattle.tiny_http_core.specs.Source.{GoesOn};
 ghost use Rattle.tiny_http_core.specs.Connection.{kept, Stands};
 ghost use Rattle.tiny_http_core.specs.Seen.{seen, IsResponse, IsTold, TellsHonestly};
 ghost use Rattle.tiny_http_core.specs.Outlet.{outlet_sink, outlet_ended, outlet_held, outlet_writer, SentOn};
-ghost use Rattle.tiny_http_core.specs.Sending.{Sends, SendsUnlessEnded, EndsQuietly, Abandons, CanSend, FailsOnce, FailsOnceUnlessEnded, FailsAtMostOnce, IsHonest};
+ghost use Rattle.tiny_http_core.specs.Sending.{FailsOnceUnlessEnded, FailsAtMostOnce, IsHonest};
 
 use crate::exchange::{Head, HeadRead};
 use crate::heads::read_head;

@@ -5,7 +5,7 @@ ghost use Rattle.std.specs.List.{starts_with};
 ghost use Rattle.tiny_http_wire.specs.Bytes.{contains_word};
 ghost use Rattle.tiny_http_wire.specs.Common.{lowercase};
 ghost use Rattle.tiny_http_wire.specs.Heads.{is_too_new};
-ghost use Rattle.tiny_http_core.specs.Framing.{value_of, mentions, body_length, expectation, sized_form, form_by, form_of, is_last, framing, is_plain, is_built};
+ghost use Rattle.tiny_http_core.specs.Framing.{value_of, mentions, body_length, expectation, sized_form, form_of, is_last, framing, is_plain, is_built};
 
 use crate::exchange::Form;
 use tiny_http_wire::ascii::AsciiString;

@@ -1,10 +1,10 @@
 //! A connection's input: lines and bytes through a buffer, with its fields in the open.
-ghost use Rattle.std.specs.Prelude.{◌≡◌, ◌≢◌, ℕ, Bool, true, false, vec_len, ◌*◌, ◌+◌, ◌-◌, ◌<◌, ◌≤◌, min, List, [], ◌∷◌, ◌++◌, length, take, drop, Option, None, Some, Ok, Err, IfOk, IfErr, OnOk, OnErr, IsSome, IfSome, IfNone, OnSome};
+ghost use Rattle.std.specs.Prelude.{◌≡◌, ◌≢◌, ℕ, true, false, vec_len, ◌*◌, ◌+◌, ◌-◌, ◌<◌, ◌≤◌, min, List, [], ◌∷◌, ◌++◌, length, take, drop, Option, None, Some, Ok, Err, IfOk, IfErr, OnOk, OnErr, IsSome, IfSome, IfNone};
 ghost use Rattle.std.specs.Option.{option_map};
 ghost use Rattle.std.specs.IoError.{error_kind};
 ghost use Rattle.tiny_http_core.specs.ToCome.{skipped, stopped};
 ghost use Rattle.tiny_http_core.specs.Line.{line, pending, Passed};
-ghost use Rattle.tiny_http_wire.specs.Device.{Feed, given, StopsBy};
+ghost use Rattle.tiny_http_wire.specs.Device.{given, StopsBy};
 
 use crate::buffer::Buffer;
 use crate::source::LineFault;

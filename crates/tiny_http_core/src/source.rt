@@ -1,8 +1,8 @@
 //! A connection's input, seen as what is still to come of it.
-ghost use Rattle.std.specs.Prelude.{◌≡◌, ◌≢◌, ℕ, true, ◌<◌, ◌≤◌, length, take, drop, Option, None, Some, Ok, Err, IsSome, IfOk, IfErr, IfSome, OnErr};
+ghost use Rattle.std.specs.Prelude.{◌≡◌, ◌≢◌, true, ◌<◌, ◌≤◌, length, take, Option, None, Some, Ok, Err, IsSome, IfOk, IfErr, IfSome, OnErr};
 ghost use Rattle.std.specs.Option.{option_map};
 ghost use Rattle.std.specs.IoError.{error_kind};
-ghost use Rattle.tiny_http_wire.specs.Device.{Feed, given, StopsBy};
+ghost use Rattle.tiny_http_wire.specs.Device.{given, StopsBy};
 ghost use Rattle.tiny_http_core.specs.ToCome.{skipped};
 
 use crate::input::Input;

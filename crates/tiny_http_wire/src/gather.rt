@@ -1,5 +1,5 @@
 //! The data of an answer, read whole.
-ghost use Rattle.std.specs.Prelude.{◌≡◌, ℕ, ◌<◌, ◌≤◌, ◌+◌, ◌^◌, length, drop, take, IfOk, IfSome};
+ghost use Rattle.std.specs.Prelude.{◌≡◌, ◌<◌, ◌≤◌, ◌+◌, ◌^◌, length, drop, take, IfOk, IfSome};
 ghost use Rattle.tiny_http_wire.specs.Device.{Fills, ReadsFrom, Gathers};
 
 use crate::device::{ReadDevice, read_some};

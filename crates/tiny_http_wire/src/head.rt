@@ -1,8 +1,7 @@
 //! The head of an answer, line by line (RFC 9112, sections 4 and 5).
-ghost use Rattle.std.specs.Prelude.{◌≡◌, ℕ, ◌≤◌, ◌++◌, length, List, [], codes, decimal};
+ghost use Rattle.std.specs.Prelude.{◌≡◌};
 ghost use Rattle.std.specs.List.{flat_map};
 ghost use Rattle.std.specs.Option.{option_copied};
-ghost use Rattle.httpdate.specs.Date.{date_text};
 ghost use Rattle.tiny_http_wire.specs.Device.{Puts};
 ghost use Rattle.tiny_http_wire.specs.Top.{head_of};
 ghost use Rattle.tiny_http_wire.specs.Answer.{has_header, status_line, field_line, header_line, protocol_lines, upgrade_lines, server_line, date_line, length_line, framing_line};
