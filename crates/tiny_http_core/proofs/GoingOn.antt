@@ -4,9 +4,8 @@ use Rattle.tiny_http_wire.specs.Device.{Feed, given}
 use Rattle.tiny_http_wire.specs.Bytes.{crlf}
 use Rattle.tiny_http_core.specs.declared.source.LineFault.{LineFault}
 use Rattle.tiny_http_core.specs.declared.source.LineFault.TheVariants as fault
-use Rattle.tiny_http_core.specs.Line as lines
+use Rattle.tiny_http_wire.specs.Lines.{Line}
 use Rattle.tiny_http_core.specs.Source.{ReadsLine, GoesOn}
-use Rattle.tiny_http_core.proofs.HeadReading.{line-found}
 
 pub goes-on_same : (o : Option Feed) → GoesOn o o
 goes-on_same None = tt
@@ -23,11 +22,10 @@ goes-on_given a None bs e = let P : Option Feed → Type 0 = λ x. GoesOn x None
 goes-on_given a (Some g) bs e = let P : Option Feed → Type 0 = λ x. GoesOn x (Some g) in subst P (sym e) (record { gone = bs; joins = refl })
 
 -- behind a first line
-past-line : (f : Feed) (new : Option Feed) (text rest : List ℕ) → lines.line f.bytes ≡ Some (record { text = text; rest = rest }) → new ≡ Some (record { bytes = rest; stop = f.stop }) → GoesOn (Some f) new
+past-line : (f : Feed) (new : Option Feed) (text rest : List ℕ) → Line f.bytes text rest → new ≡ Some (record { bytes = rest; stop = f.stop }) → GoesOn (Some f) new
 past-line f new text rest l e =
-    let h = line-found f.bytes (record { text = text; rest = rest }) l in
     let P : Option Feed → Type 0 = λ x. GoesOn (Some f) x in
-    subst P (sym e) (record { gone = text ++ crlf; joins = h.joins })
+    subst P (sym e) (record { gone = text ++ crlf; joins = l.joins })
 
 -- at an end, whatever was left
 at-end : (f : Feed) (new : Option Feed) (g : Feed) → g.bytes ≡ [] → new ≡ Some g → GoesOn (Some f) new
@@ -38,7 +36,7 @@ at-end f new g none e =
 pub reads-goes_on : (old new : Option Feed) (r : Result (List ℕ) LineFault) → ReadsLine old new r → GoesOn old new
 reads-goes_on None new r h = tt
 reads-goes_on (Some f) new (Ok text) h = past-line f new text h.0 h.1 h.3
-reads-goes_on (Some f) new (Err fault.NotAscii) h = past-line f new h.0.text h.0.rest h.1 h.3
+reads-goes_on (Some f) new (Err fault.NotAscii) h = past-line f new h.0 h.1 h.2 h.4
 reads-goes_on (Some f) new (Err fault.Memory) h = at-end f new _ refl h
 reads-goes_on (Some f) new (Err fault.End) h = at-end f new _ refl h.2
 reads-goes_on (Some f) new (Err fault.TimedOut) h = at-end f new _ refl h.2

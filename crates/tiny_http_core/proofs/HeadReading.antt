@@ -1,63 +1,25 @@
 -- From lines read to heads read.
-use Rattle.std.proofs.Common.{◌≡◌, refl, sym, ap, ◌∙◌, subst, ℕ, zero, suc, ◌<◌, Bool, true, false, cond, ◌&&◌, List, [], ◌∷◌, ◌++◌, length, Option, Some, None, Ok, Err, inl, inr, arith}
-use Rattle.std.specs.Prelude.{◌==◌, option_map, MatchOption, slice_index}
+use Rattle.std.proofs.Common.{◌≡◌, refl, sym, ap, ◌∙◌, subst, ℕ, zero, suc, ◌<◌, List, [], ◌∷◌, ◌++◌, length, Option, Some, None, Ok, Err, inl, inr, arith}
+use Rattle.std.specs.Prelude.{slice_index}
 use Rattle.std.specs.Str.{IsAscii, IsNotAscii}
 use Rattle.std.specs.List.{list_all}
 use Rattle.std.proofs.lemmas.Bool.{lt-ltb, ltb-true, and_parts}
 use Rattle.tiny_http_wire.specs.declared.common.Header.{Header}
 use Rattle.tiny_http_wire.specs.Device.{Feed}
 use Rattle.tiny_http_wire.specs.Bytes.{is_ascii, AreAscii}
-use Rattle.tiny_http_wire.specs.Lines.{Line, IsUnfinished, has_crlf}
+use Rattle.tiny_http_wire.specs.Lines.{Line}
 use Rattle.tiny_http_wire.specs.Heads.{Fields, HeaderLine, IsRequestLine, IsFieldOrEnd}
 use Rattle.tiny_http_wire.specs.Reading as reading
-use Rattle.tiny_http_wire.proofs.LineLemmas.{line-is}
 use Rattle.tiny_http_wire.proofs.HeadLemmas.{request-line-is, request-line-one, header-line-is, header-line-one}
 use Rattle.tiny_http_wire.specs.declared.common.Method.{Method}
 use Rattle.tiny_http_wire.specs.declared.common.HTTPVersion.{HTTPVersion}
 use Rattle.tiny_http_core.specs.declared.heads.Message.{Message}
-use Rattle.tiny_http_core.specs.Line as lines
 use Rattle.tiny_http_core.specs.declared.source.LineFault.{LineFault}
 use Rattle.tiny_http_core.specs.declared.source.LineFault.TheVariants as linefault
 use Rattle.tiny_http_core.specs.declared.heads.HeadFault.{HeadFault}
 use Rattle.tiny_http_core.specs.declared.heads.HeadFault.TheVariants as fault
 use Rattle.tiny_http_core.specs.Source.{ReadsLine, from}
 use Rattle.tiny_http_core.specs.HeadReads.{ReadsText, ReadsStart, ReadFields, ReadsField, ReadsFields, ReadsMessage, IsFaulty, IsFaultyHead, head_fault}
-
-abbrev pub as_line : List ℕ × List ℕ → lines.Line
-as_line l = record { text = l.0; rest = l.1 }
-
-one-byte : (a : ℕ) (t : Bool) → lines.line (a ∷ []) ≡ None
-one-byte a t = elim (a == 13) as (λ v. cond (v && false) (Some (record { text = []; rest = [] })) (option_map (lines.longer a) None) ≡ None) [ true ↦ refl | false ↦ refl ]
-
-two-bytes : (a : ℕ) (bs : List ℕ) (t : Bool) (o : Option (List ℕ × List ℕ)) (p : Option lines.Line) → p ≡ option_map as_line o
-    → cond t (Some (record { text = []; rest = bs })) (option_map (lines.longer a) p) ≡ option_map as_line (cond t (Some ([], bs)) (option_map (λ l. (a ∷ l.0, l.1)) o))
-two-bytes a bs true o p e = refl
-two-bytes a bs false None p e = ap (option_map (lines.longer a)) e
-two-bytes a bs false (Some l) p e = ap (option_map (lines.longer a)) e
-
--- the two functions that give the first line agree
-pub same-line : (bytes : List ℕ) → lines.line bytes ≡ option_map as_line (reading.line bytes)
-same-line [] = refl
-same-line (a ∷ []) = one-byte a true
-same-line (a ∷ b ∷ bs) = two-bytes a bs (a == 13 && b == 10) (reading.line (b ∷ bs)) (lines.line (b ∷ bs)) (same-line (b ∷ bs))
-
-first-is : (bytes : List ℕ) (o : Option (List ℕ × List ℕ)) (l : lines.Line) → MatchOption o (has_crlf bytes ≡ false) (λ k. Line bytes k.0 k.1) → option_map as_line o ≡ Some l → Line bytes l.text l.rest
-first-is bytes None l h e = cc
-first-is bytes (Some k) l h e =
-    let same : as_line k ≡ l = cc in
-    let P : lines.Line → Type 0 = λ x. Line bytes x.text x.rest in
-    subst P same h
-
-first-none : (bytes : List ℕ) (o : Option (List ℕ × List ℕ)) → MatchOption o (has_crlf bytes ≡ false) (λ k. Line bytes k.0 k.1) → option_map as_line o ≡ None → has_crlf bytes ≡ false
-first-none bytes None h e = h
-first-none bytes (Some k) h e = cc
-
--- what the first line is, and that there is none, in the words of the grammar
-pub line-found : (bytes : List ℕ) (l : lines.Line) → lines.line bytes ≡ Some l → Line bytes l.text l.rest
-line-found bytes l e = first-is bytes (reading.line bytes) l (line-is bytes) (sym (same-line bytes) ∙ e)
-
-pub line-missing : (bytes : List ℕ) → lines.line bytes ≡ None → IsUnfinished bytes
-line-missing bytes e = first-none bytes (reading.line bytes) (line-is bytes) (sym (same-line bytes) ∙ e)
 
 -- both words for ASCII
 pub are-ascii : (text : List ℕ) → IsAscii text → AreAscii text
@@ -74,15 +36,15 @@ not-ascii text bad h = let low = ascii-at text bad.0 h in omega arith
 
 pub text-read : (o p : Option Feed) (text : List ℕ) → ReadsLine o p (Ok text) → ReadsText o p (Ok text)
 text-read None p text h = tt
-text-read (Some f) p text h = (h.0, line-found f.bytes (record { text = text; rest = h.0 }) h.1, are-ascii text h.2, h.3)
+text-read (Some f) p text h = (h.0, h.1, are-ascii text h.2, h.3)
 
 pub text-not-read : (o p : Option Feed) (e : LineFault) → ReadsLine o p (Err e) → ReadsText o p (Err (head_fault e))
 text-not-read None p e h = tt
-text-not-read (Some f) p linefault.NotAscii h = (h.0.text, h.0.rest, line-found f.bytes h.0 h.1, not-ascii h.0.text h.2)
+text-not-read (Some f) p linefault.NotAscii h = (h.0, h.1, h.2, not-ascii h.0 h.3)
 text-not-read (Some f) p linefault.Memory h = tt
-text-not-read (Some f) p linefault.End h = line-missing f.bytes h.0
-text-not-read (Some f) p linefault.TimedOut h = line-missing f.bytes h.0
-text-not-read (Some f) p (linefault.Broken kind) h = line-missing f.bytes h.0
+text-not-read (Some f) p linefault.End h = h.0
+text-not-read (Some f) p linefault.TimedOut h = h.0
+text-not-read (Some f) p (linefault.Broken kind) h = h.0
 
 -- a line that isn't read is a fault of each line that had to stand there
 pub text-faulty : (IsGood : List ℕ → Type 0) (f : Feed) (p : Option Feed) (e : HeadFault) → ReadsText (Some f) p (Err e) → IsFaulty IsGood f.bytes e

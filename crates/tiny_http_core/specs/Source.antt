@@ -5,7 +5,7 @@ use Rattle.std.specs.declared.io.ErrorKind.TheVariants.{TimedOut}
 use Rattle.tiny_http_wire.specs.Device.{Feed}
 use Rattle.tiny_http_wire.specs.declared.device.Stop.{Stop}
 use Rattle.tiny_http_wire.specs.declared.device.Stop.TheVariants.{End, Fault}
-use Rattle.tiny_http_core.specs.Line.{Line, line}
+use Rattle.tiny_http_wire.specs.Lines.{Line, IsUnfinished}
 use Rattle.tiny_http_core.specs.ToCome.{stopped}
 use Rattle.tiny_http_core.specs.declared.source.LineFault.{LineFault}
 use Rattle.tiny_http_core.specs.declared.source.LineFault.TheVariants.{NotAscii, Broken, Memory, End as EndOfLines, TimedOut as LineTimedOut}
@@ -28,11 +28,11 @@ fault_of (Fault kind) = Broken kind
 abbrev pub ReadsLine : Option Feed → Option Feed → Result (List ℕ) LineFault → Type 0
 ReadsLine None new result = ⊤
 ReadsLine (Some old) new (Ok text) =
-    (rest : List ℕ) × (line old.bytes ≡ Some (record { text = text; rest = rest })) × IsAscii text × (new ≡ Some (record { bytes = rest; stop = old.stop }))
+    (rest : List ℕ) × Line old.bytes text rest × IsAscii text × (new ≡ Some (record { bytes = rest; stop = old.stop }))
 ReadsLine (Some old) new (Err NotAscii) =
-    (l : Line) × (line old.bytes ≡ Some l) × IsNotAscii l.text × (new ≡ Some (record { bytes = l.rest; stop = old.stop }))
+    (text : List ℕ) × (rest : List ℕ) × Line old.bytes text rest × IsNotAscii text × (new ≡ Some (record { bytes = rest; stop = old.stop }))
 ReadsLine (Some old) new (Err Memory) = new ≡ Some (stopped End)
-ReadsLine (Some old) new (Err fault) = (line old.bytes ≡ None) × (fault ≡ fault_of old.stop) × (new ≡ Some (stopped old.stop))
+ReadsLine (Some old) new (Err fault) = IsUnfinished old.bytes × (fault ≡ fault_of old.stop) × (new ≡ Some (stopped old.stop))
 
 -- the feed goes on behind this much
 abbrev pub from : Feed → List ℕ → Option Feed

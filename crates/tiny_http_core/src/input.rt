@@ -3,7 +3,8 @@ ghost use Rattle.std.specs.Prelude.{◌≡◌, ◌≢◌, ℕ, true, false, vec_
 ghost use Rattle.std.specs.Option.{option_map};
 ghost use Rattle.std.specs.IoError.{error_kind};
 ghost use Rattle.tiny_http_core.specs.ToCome.{skipped, stopped};
-ghost use Rattle.tiny_http_core.specs.Line.{line, pending, Passed};
+ghost use Rattle.tiny_http_core.specs.Line.{pending, Passed};
+ghost use Rattle.tiny_http_wire.specs.Lines.{IsUnfinished};
 ghost use Rattle.tiny_http_wire.specs.Device.{given, StopsBy};
 
 use crate::buffer::Buffer;
@@ -128,7 +129,7 @@ impl<R: ReadDevice> Input<R> {
         ensures text { IfOk result (λ text. input_feed R.feed self.old ≡ given (text.items ++ (13 ∷ (10 ∷ []))) (input_feed R.feed self.new)) }
         ensures first { IfOk result (λ text. Passed text.items (13 ∷ [])) }
         ensures told { OnErr result (IsSome (input_feed R.feed self.old) → IsSome (input_feed R.feed self.new)) }
-        ensures none { IfErr result (λ fault. fault ≢ LineFault.Memory → (gone : List ℕ) × (line gone ≡ None)
+        ensures none { IfErr result (λ fault. fault ≢ LineFault.Memory → (gone : List ℕ) × IsUnfinished gone
             × (input_feed R.feed self.old ≡ given gone (input_feed R.feed self.new))) }
         ensures fault { IfErr result (λ fault. fault ≢ LineFault.Memory → IsOver self.new
             × IfSome (input_stop self.new) (λ stop. (fault ≡ fault_of stop) × StopsBy stop (input_feed R.feed self.new))) }
