@@ -221,19 +221,13 @@ ask-none client before k s date p st e w o reads goes =
     ask-nothing client before k s date p st e w (pipeline-none g.feed.bytes g.feed.stop s.reached.rest (subst P g.told reads) g.pipeline) goes
 
 -- no memory was found
-unreported : (o : Option Failure) (breaks : Bool) (X : Type 0) → MatchBool (is_some o || breaks) (o ≡ o) ((o ≡ None) ⊎ X)
-unreported None true X = refl
-unreported None false X = inl refl
-unreported (Some f) breaks X = refl
-
 pub ask-memory : (client : Feed) (before : Sink) (k : Kept) (s : State) (date : HttpDate) (p : Option Feed) → Stands client before k s → k.ended ≡ false → k.waiting ≡ None → GoesOn k.feed p
     → Answered client before (after_end k p) s date Ask Memory
 ask-memory client before k s date p st e w goes =
     let fin = all-finished k s w st.waits in
     let last = last-quiet s.reached.slots fin st.plain in
     let new : State = record { reached = record { slots = s.reached.slots; rest = s.reached.rest; ended = true }; failure = s.failure } in
-    let R : List Slot → Reached = λ x. record { slots = x; rest = s.reached.rest; ended = true } in
-    let P : List Slot → Type 0 = λ x. Writes Unreported s Memory x Memory s.failure in (
+    let R : List Slot → Reached = λ x. record { slots = x; rest = s.reached.rest; ended = true } in (
       new,
       record { numbers = st.numbers; ended = refl; waits = st.waits; plain = st.plain; rest = tt; source = goes-on_more (Some client) k.feed p st.source goes; output = st.output },
       inr (
@@ -245,7 +239,7 @@ ask-memory client before k s date p st e w goes =
         s.reached.rest,
         refl,
         tt,
-        (ap R (sym (append-nil s.reached.slots)), (refl, unreported s.failure (breaks_off s.reached.slots) _)),
+        (ap R (sym (append-nil s.reached.slots)), (refl, refl)),
       ),
     )
 

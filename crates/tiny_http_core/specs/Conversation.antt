@@ -91,6 +91,11 @@ abbrev pub IsRefused : Item → Type 0
 IsRefused (Asks r) = ⊥
 IsRefused (Refuses status version withheld) = Unit {0}
 
+-- the heads that were refused on the way are answered
+abbrev pub answers_to : List Item → Use
+answers_to [] = Unused
+answers_to (item ∷ refused) = Unreported
+
 -- want of memory: before a read, which changes nothing; or at a head, which ends the asking
 abbrev pub FindsNoMemory : HttpDate → State → Asked → Replied → State → Type 0
 FindsNoMemory date old (Read k n) reply new = ((outcome true date old.reached (Read k n)).reply ≡ NoSuch → ⊥) × (reply ≡ Memory) × (new ≡ old)
@@ -99,7 +104,7 @@ FindsNoMemory date old Ask reply new =
     × (reader_is_lost (last_slot old.reached.slots) ≡ false)
     × (refused : List Item) × (rest : List Item) × (old.reached.rest ≡ refused ++ rest) × AllByRecursion IsRefused refused
     × (let slots = old.reached.slots ++ map (new_slot date) refused in
-    Has (record { reply = Memory; slots = slots; rest = rest; ended = true; writer = Unreported }) old reply new)
+    Has (record { reply = Memory; slots = slots; rest = rest; ended = true; writer = answers_to refused }) old reply new)
 FindsNoMemory date old _ reply new = ⊥
 
 -- One step on a date may be answered so and leave this.

@@ -210,7 +210,9 @@ impl<R: ReadDevice> Input<R> {
 
     /// Skips n bytes more, before the next line or read. Where fewer are left the input ends.
     pub fn skip(&mut self, n: usize)
-        ensures { input_feed R.feed self.new ≡ option_map (skipped n) (input_feed R.feed self.old) }
+        ensures feed { input_feed R.feed self.new ≡ option_map (skipped n) (input_feed R.feed self.old) }
+        // After an end or a fault the reader isn't called again.
+        ensures once { IsSome (input_stop self.old) → IsSome (input_stop self.new) × (input_reader self.new ≡ input_reader self.old) }
     {
         match self.skip.checked_add(n) {
             Some(sum) => self.skip = sum,
@@ -245,6 +247,7 @@ impl<R: ReadDevice> Input<R> {
         // After an end or a fault the reader isn't called again.
         ensures once { IsSome (input_stop self.old) → IsSome (input_stop self.new) × (input_reader self.new ≡ input_reader self.old) }
         ensures over { OnErr result (IsOver self.new) }
+        ensures none { IfOk result (λ n. n ≡ 0 → 0 < length buf.new → IsOver self.new × (input_stop self.new ≡ Some Stop.End)) }
         ensures kind { IfErr result (λ e. input_stop self.new ≡ Some (Stop.Fault (error_kind e))) }
         ensures stays { IsOver self.old → self.new ≡ self.old }
     {

@@ -61,7 +61,9 @@ impl<R: ReadDevice> Source<R> {
 
     /// Skips n bytes more, before the next line or read. Where fewer are left the input ends.
     pub fn skip(&mut self, n: usize)
-        ensures { self.new.feed ≡ option_map (skipped n) self.old.feed }
+        ensures feed { self.new.feed ≡ option_map (skipped n) self.old.feed }
+        // After an end or a fault the reader isn't called again.
+        ensures once { IsSome self.old.stop → IsSome self.new.stop × (self.new.reader ≡ self.old.reader) }
     {
         self.input.skip(n)
     }
@@ -94,6 +96,7 @@ impl<R: ReadDevice> Source<R> {
         // After an end or a fault the reader isn't called again.
         ensures once { IsSome self.old.stop → IsSome self.new.stop × (self.new.reader ≡ self.old.reader) }
         ensures over { IfErr result (λ e. (self.new.is_over ≡ true) × (self.new.stop ≡ Some (Stop.Fault (error_kind e)))) }
+        ensures none { IfOk result (λ n. n ≡ 0 → 0 < length buf.new → (self.new.is_over ≡ true) × (self.new.stop ≡ Some Stop.End)) }
         ensures stays { self.old.is_over ≡ true → self.new ≡ self.old }
     {
         self.input.read(buf)
