@@ -19,8 +19,8 @@ use Rattle.tiny_http_core.specs.Source.{GoesOn}
 use Rattle.tiny_http_core.specs.Pipeline.{Item, Asks, Refuses, Request, Place, Heading, Ends, Heads, OneHead, FoundAt, served, served_answer, Pipeline}
 use Rattle.tiny_http_core.specs.HeadReads.{ReadsHead, StandsAt, place_after, request_of, refused, head_message, head_framing}
 use Rattle.tiny_http_core.specs.Slots.{Slot, is_finished, is_slot_broken, segment, joined, breaks_off, new_slot, is_streamed, is_chunked, body_holds_reader, body_was_abandoned, last_slot, reader_is_held, reader_is_lost, is_unanswered}
-use Rattle.tiny_http_core.specs.Steps.{Asked, Ask, Replied, Handed, Ended, NotYet, Memory, Unused, Unreported, Outcome, Reached, unchanged, ask, asks_from, outcome}
-use Rattle.tiny_http_core.specs.Conversation.{Failure, State, IsFront, FailsWithin, Writes, Has, StepsTo}
+use Rattle.tiny_http_core.specs.Steps.{Asked, Ask, Replied, Handed, Ended, NotYet, Memory, Unused, Outcome, Reached, unchanged, ask, asks_from, outcome}
+use Rattle.tiny_http_core.specs.Conversation.{Failure, State, IsFront, FailsWithin, Has, StepsTo}
 use Rattle.tiny_http_core.specs.Sending.{CanSend, SendsUnlessEnded}
 use Rattle.tiny_http_core.specs.Connection.{Kept, kept_of, WaitsLast, WaitsFor, RestAt, is_plain_item, OutputAt, Stands}
 use Rattle.tiny_http_core.proofs.HeadServing.{built-parts}

@@ -13,7 +13,10 @@ use Rattle.tiny_http_core.specs.Conversation.{State, Failure, StepsTo, Run, Date
 use Rattle.tiny_http_core.specs.Connection.{Kept, RestAt, OutputAt, Stands}
 use Rattle.tiny_http_core.specs.declared.driver.Timed.{Timed}
 use Rattle.tiny_http_core.specs.declared.driver.Reply.{Reply}
-use Rattle.tiny_http_core.specs.Seen.{TellsHonestly}
+use Rattle.std.specs.declared.io.ErrorKind.{ErrorKind}
+use Rattle.tiny_http_core.specs.declared.driver.Step.{Step}
+use Rattle.tiny_http_core.specs.declared.driver.Step.TheVariants as step
+use Rattle.tiny_http_core.specs.Seen.{TellsHonestly, MayFail}
 use Rattle.tiny_http_core.specs.Sending.{FailsOnce, FailsOnceUnlessEnded}
 use Rattle.tiny_http_core.specs.Reading.{items_of}
 use Rattle.tiny_http_core.proofs.PipelineLemmas.{feed-pipeline}
@@ -152,11 +155,15 @@ all-zip-snoc R S (a ∷ xs) (b ∷ ys) x y keep h k = (keep a b h.0, all-zip-sno
 
 pub honest-step : {D : Type 0} (feed : D → Option Feed) (writer old new : Sink) (was ended : Bool) (done : List (Timed D)) (replies : List Reply) (t : Timed D) (reply : Reply) → FailsOnce writer old was → FailsOnceUnlessEnded was old new ended
     → AllZip (TellsHonestly feed writer old) done replies → TellsHonestly feed old new t reply → AllZip (TellsHonestly feed writer new) (done ++ t ∷ []) (replies ++ reply ∷ [])
-honest-step feed writer old new was ended done replies t reply once step h k =
+honest-step {D = D} feed writer old new was ended done replies t reply once goes h k =
     all-zip-snoc (TellsHonestly feed writer old) (TellsHonestly feed writer new) done replies t reply
-    (λ x y m kind told. kept (λ r. rose-stays writer old new was ended once r step) (m kind told)) h
-    (λ kind told. kept (λ r. rises writer old new was ended once r step) (k kind told))
+    (λ x y m kind told. still writer old writer new x.step kind (λ r. rose-stays writer old new was ended once r goes) (m kind told)) h
+    (λ kind told. still old new writer new t.step kind (λ r. rises writer old new was ended once r goes) (k kind told))
   where
     kept : {A B C : Type 0} → (A → B) → A ⊎ C → B ⊎ C
     kept f (inl a) = inl (f a)
     kept f (inr c) = inr c
+
+    still : (a b c d : Sink) (s : Step D) (kind : ErrorKind) → (b.failures ≡ next_count a.failures → d.failures ≡ next_count c.failures) → MayFail feed a b s kind → MayFail feed c d s kind
+    still a b c d step.Ask kind f h = h
+    still a b c d (step.Respond n r) kind f h = kept f h

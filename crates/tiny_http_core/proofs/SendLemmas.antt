@@ -6,7 +6,7 @@ use Rattle.std.specs.declared.io.Error.{Error}
 use Rattle.std.specs.declared.io.ErrorKind.{ErrorKind}
 use Rattle.std.specs.declared.io.ErrorKind.TheVariants.{OutOfMemory}
 use Rattle.std.specs.Io.KnownBytes.{append_known}
-use Rattle.std.proofs.lemmas.Bool.{ne_eqb}
+use Rattle.std.proofs.lemmas.Bool.{ne_eqb, leb-false}
 use Rattle.tiny_http_wire.specs.Device.{Feed, ending, Sink, IsFrontOf, grown, Tells, Took, Failed, Puts, next_count, fault_of, Uses}
 use Rattle.tiny_http_wire.specs.Answer.{Answer, answer_with, Text, Whole, Broken, Printing, Prints, PrintsAnswer, text_of, nothing, gathered_body, unless, identity_body, as_it_is, is_withheld}
 use Rattle.tiny_http_core.specs.Outlet.{holding, EndsWith}
@@ -19,7 +19,7 @@ use Rattle.tiny_http_wire.specs.declared.device.Stop.TheVariants.{End, Fault}
 use Rattle.tiny_http_core.specs.declared.exchange.Refusal.{Refusal}
 use Rattle.tiny_http_core.specs.HeadReads.{refused}
 use Rattle.tiny_http_core.specs.Slots.{segment, new_slot}
-use Rattle.tiny_http_core.specs.Sending.{Sent, Lost, EndsQuietly, Abandons, SendsText, Sends, SendsQuietly, SendsUnlessEnded, FailsOnce, IsHonest}
+use Rattle.tiny_http_core.specs.Sending.{Sent, Lost, EndsQuietly, Abandons, SendsText, Sends, SendsQuietly, SendsUnlessEnded, FailsOnce, BreakOff, IsHonest}
 
 pub or-false : (a b : Bool) → (a || b) ≡ false → (a ≡ false) × (b ≡ false)
 or-false true b h = cc
@@ -187,26 +187,26 @@ pub not-sent : (was : Bool) (a b : Sink) (ended : Bool) (text : List ℕ) → wa
 not-sent was a b ended text e same z = let P : Bool → Type 0 = λ t. SendsUnlessEnded t a b ended text in subst P (sym e) (same, z)
 
 -- whose a fault is
-gathered-breaks : (stop : Stop) (front : List ℕ) (withheld : Bool) (bytes : List ℕ) (kind : ErrorKind) → (gathered_body stop front withheld bytes).ending ≡ Broken kind → kind ≡ fault_of stop
+gathered-breaks : (stop : Stop) (front : List ℕ) (withheld : Bool) (bytes : List ℕ) (kind : ErrorKind) → (gathered_body stop front withheld bytes).ending ≡ Broken kind → stop ≡ Fault kind
 gathered-breaks End front withheld bytes kind e = cc
 gathered-breaks (Fault k) front withheld bytes kind e = cc
 
-identity-breaks : (t : Bool) (k kind : ErrorKind) → (if t then Whole else Broken k) ≡ Broken kind → kind ≡ k
-identity-breaks true k kind e = cc
-identity-breaks false k kind e = cc
+identity-breaks : (n m : ℕ) (t : Bool) (k kind : ErrorKind) → nat_le n m ≡ t → (if t then Whole else Broken k) ≡ Broken kind → (m < n) × (kind ≡ k)
+identity-breaks n m true k kind le e = cc
+identity-breaks n m false k kind le e = (leb-false n m le, cc)
 
-sized-breaks : (withheld : Bool) (n : ℕ) (f : Feed) (kind : ErrorKind) → (unless withheld (identity_body n f)).ending ≡ Broken kind → kind ≡ fault_of f.stop
+sized-breaks : (withheld : Bool) (n : ℕ) (f : Feed) (kind : ErrorKind) → (unless withheld (identity_body n f)).ending ≡ Broken kind → BreakOff (Some n) f kind
 sized-breaks true n f kind e = cc
-sized-breaks false n f kind e = identity-breaks (nat_le n (length f.bytes)) (fault_of f.stop) kind e
+sized-breaks false n f kind e = identity-breaks n (length f.bytes) (nat_le n (length f.bytes)) (fault_of f.stop) kind refl e
 
-uncoded-breaks : (len : Option ℕ) (top : FramingHeader → List ℕ) (withheld : Bool) (f : Feed) (kind : ErrorKind) → (as_it_is len top withheld f).ending ≡ Broken kind → kind ≡ fault_of f.stop
+uncoded-breaks : (len : Option ℕ) (top : FramingHeader → List ℕ) (withheld : Bool) (f : Feed) (kind : ErrorKind) → (as_it_is len top withheld f).ending ≡ Broken kind → BreakOff len f kind
 uncoded-breaks (Some n) top withheld f kind e = sized-breaks withheld n f kind e
-uncoded-breaks None top withheld f kind e = gathered-breaks f.stop (top (ContentLength (length f.bytes))) withheld f.bytes kind e
+uncoded-breaks None top withheld f kind e = inl (gathered-breaks f.stop (top (ContentLength (length f.bytes))) withheld f.bytes kind e)
 
 abbrev pub plainly : HTTPVersion → Bool → HttpDate → Printing
 plainly v no_body date = record { version = v; request_headers = []; no_body = no_body; upgrade = None; date = date }
 
-text-breaks : (a : Answer) (f : Feed) (v : HTTPVersion) (no_body : Bool) (date : HttpDate) (kind : ErrorKind) → (text_of a f (plainly v no_body date)).ending ≡ Broken kind → kind ≡ fault_of f.stop
+text-breaks : (a : Answer) (f : Feed) (v : HTTPVersion) (no_body : Bool) (date : HttpDate) (kind : ErrorKind) → (text_of a f (plainly v no_body date)).ending ≡ Broken kind → BreakOff a.length f kind
 unfolding text_of
 text-breaks a f v no_body date kind e = uncoded-breaks a.length _ (is_withheld no_body a.status) f kind e
 
@@ -214,10 +214,12 @@ nothing-breaks : (kind sort : ErrorKind) → (nothing sort).ending ≡ Broken ki
 nothing-breaks kind sort e = cc
 
 data-breaks : (T : Type 0) (a b : Sink) (e : Error) (ans : Answer) (f : Feed) (v : HTTPVersion) (no_body : Bool) (date : HttpDate) → (b.failures ≡ next_count a.failures → ⊥) → PrintsAnswer {T = T} a b (Err e) ans f (plainly v no_body date)
-    → (error_kind e ≡ fault_of f.stop) ⊎ (error_kind e ≡ OutOfMemory)
-data-breaks T a b e ans f v no_body date same (inl (inl h)) = inl (text-breaks ans f v no_body date (error_kind e) h.0)
+    → BreakOff ans.length f (error_kind e)
+data-breaks T a b e ans f v no_body date same (inl (inl h)) = text-breaks ans f v no_body date (error_kind e) h.0
 data-breaks T a b e ans f v no_body date same (inl (inr h)) = absurd (same h.failures)
-data-breaks T a b e ans f v no_body date same (inr k) = ⊎_elim (λ h. inr (nothing-breaks (error_kind e) OutOfMemory h.0)) (λ h. absurd (same h.failures)) k.3
+data-breaks T a b e ans f v no_body date same (inr k) =
+    let P : Option ℕ → Type 0 = λ known. BreakOff known f (error_kind e) in
+    subst P (sym k.2) (⊎_elim (λ h. inr (nothing-breaks (error_kind e) OutOfMemory h.0)) (λ h. absurd (same h.failures)) k.3)
 
 -- the count behind the outlet's end, where printing raised it, or where it stands at its greatest
 rose : (a b c : Sink) (n : ℕ) (t : Bool) → (b.failures == n) ≡ t → n ≡ a.failures → b.failures ≡ next_count a.failures → MatchBool t (EndsQuietly b c) (Abandons b c) → c.failures ≡ next_count a.failures
@@ -226,7 +228,7 @@ rose a b c n true e same u (inr l) = l.1.failures ∙ ap next_count (eqb-true b.
 rose a b c n false e same u m = m.failures ∙ u
 
 honest-by : (T : Type 0) (o : Option Feed) (a b c : Sink) (n : ℕ) (e : Error) (ans : Answer) (v : HTTPVersion) (no_body : Bool) (date : HttpDate) (t : Bool) → (next_count a.failures == a.failures) ≡ t → b.failures ≡ a.failures
-    → IfSome o (λ feed. length feed.bytes < 2 ^ 63 → PrintsAnswer {T = T} a b (Err e) ans feed (plainly v no_body date)) → n ≡ a.failures → MatchBool (b.failures == n) (EndsQuietly b c) (Abandons b c) → IsHonest a c o (error_kind e)
+    → IfSome o (λ feed. length feed.bytes < 2 ^ 63 → PrintsAnswer {T = T} a b (Err e) ans feed (plainly v no_body date)) → n ≡ a.failures → MatchBool (b.failures == n) (EndsQuietly b c) (Abandons b c) → IsHonest a c ans.length o (error_kind e)
 honest-by T o a b c n e ans v no_body date true top u h same m = inl (rose a b c n (b.failures == n) refl same (u ∙ sym (eqb-true (next_count a.failures) a.failures top)) m)
 honest-by T None a b c n e ans v no_body date false top u h same m = inr tt
 honest-by T (Some f) a b c n e ans v no_body date false top u h same m =
@@ -234,6 +236,6 @@ honest-by T (Some f) a b c n e ans v no_body date false top u h same m =
     inr (λ few. data-breaks T a b e ans f v no_body date low (h few))
 
 pub printed-honest : (T : Type 0) (o : Option Feed) (a b c : Sink) (n : ℕ) (e : Error) (ans : Answer) (v : HTTPVersion) (no_body : Bool) (date : HttpDate) → IfSome o (λ feed. length feed.bytes < 2 ^ 63 → PrintsAnswer {T = T} a b (Err e) ans feed (plainly v no_body date))
-    → Uses {T = T} a b (Err e) → n ≡ a.failures → MatchBool (b.failures == n) (EndsQuietly b c) (Abandons b c) → IsHonest a c o (error_kind e)
+    → Uses {T = T} a b (Err e) → n ≡ a.failures → MatchBool (b.failures == n) (EndsQuietly b c) (Abandons b c) → IsHonest a c ans.length o (error_kind e)
 printed-honest T o a b c n e ans v no_body date h (inl u) same m = honest-by T o a b c n e ans v no_body date (next_count a.failures == a.failures) refl u.failures h same m
 printed-honest T o a b c n e ans v no_body date h (inr u) same m = inl (rose a b c n (b.failures == n) refl same u.failures m)

@@ -1,7 +1,7 @@
 -- The program's steps and replies as the definitions see them.
-use Rattle.std.specs.Prelude.{◌≡◌, ◌⊎◌, ◌<◌, ◌^◌, length, Option, Some}
+use Rattle.std.specs.Prelude.{◌≡◌, ◌<◌, ◌^◌, length, Option, Some}
 use Rattle.std.specs.declared.io.ErrorKind.{ErrorKind}
-use Rattle.tiny_http_wire.specs.Device.{Feed, Sink, next_count}
+use Rattle.tiny_http_wire.specs.Device.{Feed, Sink}
 use Rattle.tiny_http_wire.specs.Answer.{Reply as Response}
 use Rattle.tiny_http_core.specs.declared.driver.Step.{Step}
 use Rattle.tiny_http_core.specs.declared.driver.Step.TheVariants as step
@@ -12,7 +12,7 @@ use Rattle.tiny_http_core.specs.HeadReads.{head_message, head_framing}
 use Rattle.tiny_http_core.specs.Slots.{ResponseValue}
 use Rattle.tiny_http_core.specs.Steps.{Asked, Ask, Respond, Replied, Handed, Ended, Fault, NotYet, Done, NoSuch, Memory}
 use Rattle.tiny_http_core.specs.Conversation.{Dated}
-use Rattle.tiny_http_core.specs.Sending.{BreakBy}
+use Rattle.tiny_http_core.specs.Sending.{IsHonest}
 
 -- the response tells its data, of fewer than 2^63 bytes
 abbrev pub IsResponse : {D : Type 0} → (D → Option Feed) → Response D → ResponseValue → Type 0
@@ -38,11 +38,11 @@ seen reply.Done = Done
 seen reply.NoSuch = NoSuch
 seen reply.Memory = Memory
 
--- the response's data break by a fault of this kind
-abbrev pub StepBreaks : {D : Type 0} → (D → Option Feed) → Step D → ErrorKind → Type 0
-StepBreaks feed step.Ask kind = ⊥
-StepBreaks feed (step.Respond k r) kind = BreakBy (feed r.data_reader) kind
+-- the step may fail by this kind, by the writer or by its own data; an Ask tells no fault
+abbrev pub MayFail : {D : Type 0} → (D → Option Feed) → Sink → Sink → Step D → ErrorKind → Type 0
+MayFail feed old new step.Ask kind = ⊥
+MayFail feed old new (step.Respond k r) kind = IsHonest old new r.answer.length (feed r.data_reader) kind
 
 -- a fault that is told is the writer's, whose count rose, or that of the step's own data
 abbrev pub TellsHonestly : {D : Type 0} → (D → Option Feed) → Sink → Sink → Timed D → Reply → Type 0
-TellsHonestly feed old new t reply = (kind : ErrorKind) → seen reply ≡ Fault kind → (new.failures ≡ next_count old.failures) ⊎ StepBreaks feed t.step kind
+TellsHonestly feed old new t reply = (kind : ErrorKind) → seen reply ≡ Fault kind → MayFail feed old new t.step kind

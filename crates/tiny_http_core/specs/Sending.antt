@@ -5,6 +5,7 @@ use Rattle.std.specs.declared.io.Error.{Error}
 use Rattle.std.specs.declared.io.ErrorKind.{ErrorKind}
 use Rattle.std.specs.declared.io.ErrorKind.TheVariants.{OutOfMemory}
 use Rattle.std.specs.Io.KnownBytes.{append_known}
+use Rattle.tiny_http_wire.specs.declared.device.Stop.TheVariants.{Fault}
 use Rattle.tiny_http_wire.specs.Device.{Feed, Sink, IsFrontOf, Tells, next_count, fault_of}
 use Rattle.tiny_http_wire.specs.Answer.{Answer, Text, Whole, Broken, Printing, text_of, nothing}
 use Rattle.tiny_http_core.specs.Slots.{IsGathered}
@@ -69,12 +70,17 @@ FailsOnceUnlessEnded was old new ended = MatchBool was ((new.failures ≡ old.fa
 abbrev pub FailsAtMostOnce : Sink → Sink → Type 0
 FailsAtMostOnce old new = (new.failures ≡ old.failures) ⊎ (new.failures ≡ next_count old.failures)
 
--- Data break by a fault of this kind: they close by it, or end short, or no memory to gather them was found. Nothing is
--- said of data that tell nothing.
-abbrev pub BreakBy : Option Feed → ErrorKind → Type 0
-BreakBy None kind = Unit {0}
-BreakBy (Some f) kind = length f.bytes < 2 ^ 63 → (kind ≡ fault_of f.stop) ⊎ (kind ≡ OutOfMemory)
+-- data break off by this kind: they close short of their length; or, where it isn't known, by a fault, or no memory to
+-- gather them was found
+abbrev pub BreakOff : Option ℕ → Feed → ErrorKind → Type 0
+BreakOff (Some n) f kind = (length f.bytes < n) × (kind ≡ fault_of f.stop)
+BreakOff None f kind = (f.stop ≡ Fault kind) ⊎ (kind ≡ OutOfMemory)
 
--- a fault is the writer's, whose count rose, or the data's
-abbrev pub IsHonest : Sink → Sink → Option Feed → ErrorKind → Type 0
-IsHonest old new feed kind = (new.failures ≡ next_count old.failures) ⊎ BreakBy feed kind
+-- the same; nothing is said of data that tell nothing
+abbrev pub MayBreakOff : Option ℕ → Option Feed → ErrorKind → Type 0
+MayBreakOff known None kind = Unit {0}
+MayBreakOff known (Some f) kind = length f.bytes < 2 ^ 63 → BreakOff known f kind
+
+-- a fault is the writer's, whose count rose, or the data's, of which so many are to be sent
+abbrev pub IsHonest : Sink → Sink → Option ℕ → Option Feed → ErrorKind → Type 0
+IsHonest old new known feed kind = (new.failures ≡ next_count old.failures) ⊎ MayBreakOff known feed kind

@@ -210,7 +210,7 @@ impl<R: ReadDevice, W: WriteDevice> Connection<R, W> {
         ensures fails_once { FailsOnceUnlessEnded (outlet_ended self.old.outlet) (outlet_sink W.sink self.old.outlet) (outlet_sink W.sink self.new.outlet) (outlet_ended self.new.outlet) }
         ensures flushed { outlet_held self.old.outlet ≡ [] → outlet_held self.new.outlet ≡ [] }
         ensures sent_on { SentOn W.sink W.held self.old.outlet → SentOn W.sink W.held self.new.outlet }
-        ensures honest { (kind : ErrorKind) → seen result ≡ Fault kind → IsHonest (outlet_sink W.sink self.old.outlet) (outlet_sink W.sink self.new.outlet) (D.feed response.data_reader) kind }
+        ensures honest { (kind : ErrorKind) → seen result ≡ Fault kind → IsHonest (outlet_sink W.sink self.old.outlet) (outlet_sink W.sink self.new.outlet) response.answer.length (D.feed response.data_reader) kind }
     {
         let Some(waiting) = self.waiting else {
             return Reply::NoSuch;

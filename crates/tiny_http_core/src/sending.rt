@@ -48,7 +48,7 @@ pub(crate) fn send<W: WriteDevice, D: ReadDevice + Drop>(
         → Sends (outlet_sink W.sink outlet.old) (outlet_sink W.sink outlet.new) (outlet_ended outlet.new) result response.answer content
         (record { version = version; request_headers = []; no_body = no_body; upgrade = None; date = now }) }
     ensures fails_once { FailsOnce (outlet_sink W.sink outlet.old) (outlet_sink W.sink outlet.new) (outlet_ended outlet.new) }
-    ensures honest { IfErr result (λ e. IsHonest (outlet_sink W.sink outlet.old) (outlet_sink W.sink outlet.new) (D.feed response.data_reader) (error_kind e)) }
+    ensures honest { IfErr result (λ e. IsHonest (outlet_sink W.sink outlet.old) (outlet_sink W.sink outlet.new) response.answer.length (D.feed response.data_reader) (error_kind e)) }
     ensures flushed { outlet_held outlet.new ≡ [] }
     ensures sent_on { SentOn W.sink W.held outlet.new }
 {
