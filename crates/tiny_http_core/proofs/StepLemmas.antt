@@ -1,7 +1,7 @@
 -- The steps of the program, as the definitions see them.
 use Rattle.std.proofs.Common.{◌≡◌, refl, sym, ap, subst, ℕ, Option}
 use Rattle.tiny_http_wire.specs.Device.{Feed, Sink}
-use Rattle.tiny_http_wire.specs.Answer.{Reply as Response}
+use Rattle.tiny_http_wire.specs.Answer.{ResponseState}
 use Rattle.httpdate.specs.declared.date.HttpDate.{HttpDate}
 use Rattle.tiny_http_core.specs.declared.driver.Step.{Step}
 use Rattle.tiny_http_core.specs.declared.driver.Step.TheVariants as step
@@ -24,12 +24,12 @@ is-ask feed (Upgrade k p v) h = elim h [ ]
 is-ask feed (Finish k) h = elim h [ ]
 is-ask feed (Drop k) h = elim h [ ]
 
-record Responds {D : Type 0} (feed : D → Option Feed) (n : ℕ) (r : Response D) (x : Asked) : Type 0 where
+record Responds {D : Type 0} (feed : D → Option Feed) (n : ℕ) (r : ResponseState D) (x : Asked) : Type 0 where
   value : ResponseValue
   is : x ≡ Respond n value
   response : IsResponse feed r value
 
-is-respond : {D : Type 0} (feed : D → Option Feed) (n : ℕ) (r : Response D) (x : Asked) → IsStep feed (step.Respond n r) x → Responds feed n r x
+is-respond : {D : Type 0} (feed : D → Option Feed) (n : ℕ) (r : ResponseState D) (x : Asked) → IsStep feed (step.Respond n r) x → Responds feed n r x
 is-respond feed n r Ask h = elim h [ ]
 is-respond feed n r (AsReader k) h = elim h [ ]
 is-respond feed n r (Read k m) h = elim h [ ]
@@ -50,7 +50,7 @@ step-ask feed client before k s now d x reply e date told h =
     let R : HttpDate → Type 0 = λ y. Answered client before k s y d.1 reply in
     subst R (sym date) (subst Q (sym is) h)
 
-pub step-respond : {D : Type 0} (feed : D → Option Feed) (client : Feed) (before : Sink) (k : Kept) (s : State) (now : HttpDate) (d : Dated) (x : Step D) (n : ℕ) (r : Response D) (reply : Replied) → x ≡ step.Respond n r → d.0 ≡ now → IsStep feed x d.1
+pub step-respond : {D : Type 0} (feed : D → Option Feed) (client : Feed) (before : Sink) (k : Kept) (s : State) (now : HttpDate) (d : Dated) (x : Step D) (n : ℕ) (r : ResponseState D) (reply : Replied) → x ≡ step.Respond n r → d.0 ≡ now → IsStep feed x d.1
     → ((v : ResponseValue) → IsResponse feed r v → Answered client before k s now (Respond n v) reply) → Answered client before k s d.0 d.1 reply
 step-respond feed client before k s now d x n r reply e date told h =
     let P : Step _ → Type 0 = λ y. IsStep feed y d.1 in

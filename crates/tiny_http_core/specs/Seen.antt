@@ -2,7 +2,7 @@
 use Rattle.std.specs.Prelude.{◌≡◌, ◌<◌, ◌^◌, length, Option, Some}
 use Rattle.std.specs.declared.io.ErrorKind.{ErrorKind}
 use Rattle.tiny_http_wire.specs.Device.{Feed, Sink}
-use Rattle.tiny_http_wire.specs.Answer.{Reply as Response}
+use Rattle.tiny_http_wire.specs.Answer.{ResponseState}
 use Rattle.tiny_http_core.specs.declared.driver.Step.{Step}
 use Rattle.tiny_http_core.specs.declared.driver.Step.TheVariants as step
 use Rattle.tiny_http_core.specs.declared.driver.Timed.{Timed}
@@ -15,7 +15,7 @@ use Rattle.tiny_http_core.specs.Conversation.{Dated}
 use Rattle.tiny_http_core.specs.Sending.{IsHonest}
 
 -- the response tells its data, of fewer than 2^63 bytes
-abbrev pub IsResponse : {D : Type 0} → (D → Option Feed) → Response D → ResponseValue → Type 0
+abbrev pub IsResponse : {D : Type 0} → (D → Option Feed) → ResponseState D → ResponseValue → Type 0
 IsResponse feed r value = (value.answer ≡ r.answer) × (feed r.data_reader ≡ Some value.content) × (length value.content.bytes < 2 ^ 63)
 
 -- the step is this one

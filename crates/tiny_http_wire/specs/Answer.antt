@@ -187,7 +187,7 @@ abbrev pub PrintsGathered : {T : Type 0} → Sink → Sink → Result T Error �
 PrintsGathered old new r front withheld feed = Prints old new r (gathered_body feed.stop front withheld feed.bytes) ⊎ Prints old new r (nothing OutOfMemory)
 
 -- what a contract sees of a response: the answer, and its data
-pub record Reply (R : Type 0) : Type 0 where
+pub record ResponseState (R : Type 0) : Type 0 where
   pub answer : Answer
   pub data_reader : R
 

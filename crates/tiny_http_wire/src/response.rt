@@ -1,7 +1,7 @@
 //! Answers to requests, and how they are printed.
 ghost use Rattle.std.specs.Prelude.{◌≡◌, ℕ, Bool, List, Option, Some, None, IfSome, if◌then◌else◌, ◌∷◌, IfOk, vec_len, string_len, string_bytes, [], ◌<◌, ◌^◌, ◌++◌, length};
 ghost use Rattle.std.specs.Option.{option_copied};
-ghost use Rattle.tiny_http_wire.specs.Answer.{Answer, Reply, Prints, behind, whole, identity_body, is_withheld, is_ascii, PrintsGathered, PrintsUncoded, PrintsAnswer, as_it_is, nothing, text_plain, answer_with};
+ghost use Rattle.tiny_http_wire.specs.Answer.{Answer, ResponseState, Prints, behind, whole, identity_body, is_withheld, is_ascii, PrintsGathered, PrintsUncoded, PrintsAnswer, as_it_is, nothing, text_plain, answer_with};
 ghost use Rattle.tiny_http_wire.specs.Cursor.{cursor_bytes};
 ghost use Rattle.tiny_http_wire.specs.Top.{head_of};
 ghost use Rattle.tiny_http_wire.specs.Device.{Puts, Uses};
@@ -31,9 +31,9 @@ pub struct Response<R> {
 }
 
 impl<R> Model for Response<R> {
-    ghost use Rattle.tiny_http_wire.specs.Answer.{Reply};
+    ghost use Rattle.tiny_http_wire.specs.Answer.{ResponseState};
 
-    ghost Value = { Reply R };
+    ghost Value = { ResponseState R };
 
     ghost view = { λ r. record { answer = record { status = r.status.0; headers = r.headers.items; length = r.data_length; threshold = r.threshold }; data_reader = r.reader } };
 }
