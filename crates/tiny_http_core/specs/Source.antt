@@ -18,6 +18,11 @@ pub record SourceState (R : Type 0) : Type 0 where
   pub is_over : Bool
   pub reader : R
 
+-- the bytes of a feed
+abbrev pub bytes_of : Option Feed → Option (List ℕ)
+bytes_of None = None
+bytes_of (Some f) = Some f.bytes
+
 -- what is told in a line's place where the input stops
 abbrev pub fault_of : Stop → LineFault
 fault_of End = EndOfLines

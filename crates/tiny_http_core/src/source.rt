@@ -124,6 +124,10 @@ impl<R: ReadDevice> ReadDevice for Source<R> {
 }
 
 impl<R: ReadDevice> Read for Source<R> {
+    ghost use Rattle.tiny_http_core.specs.Source.{bytes_of};
+
+    ghost remaining = { λ s. bytes_of s.feed };
+
     fn read(&mut self, buf: &mut [u8]) -> io::Result<usize> {
         self.read_in(buf)
     }
