@@ -37,7 +37,9 @@ pub enum Step<D> {
 /// A step, and the date of what it sends.
 #[derive(Drop)]
 pub struct Timed<D> {
+    /// The `Date` of what is sent.
     pub now: HttpDate,
+    /// What is done.
     pub step: Step<D>,
 }
 
@@ -52,6 +54,7 @@ pub enum Reply {
     Fault(ErrorKind),
     /// The step has to wait; nothing has changed.
     NotYet,
+    /// The step was done, and met no fault that is told.
     Done,
     /// No request of this number takes the step; nothing has changed.
     NoSuch,
@@ -62,15 +65,20 @@ pub enum Reply {
 /// What a run leaves: one reply a step, and reader and writer within their buffers.
 #[derive(Drop)]
 pub struct Record<R: ReadDevice, W: WriteDevice> {
+    /// What each step was answered.
     pub replies: Vec<Reply>,
+    /// The reader, with what was read ahead.
     pub source: Source<R>,
+    /// The writer, with what is held back. Its bytes and then those held are the output.
     pub outlet: Outlet<W>,
 }
 
 /// Room for the replies was refused: nothing was read or written.
 #[derive(Drop)]
 pub struct RunError<R, W> {
+    /// The reader, as it was.
     pub reader: R,
+    /// The writer, as it was.
     pub writer: W,
 }
 
