@@ -1,2 +1,3 @@
 mod LineLemmas
+pub mod ReplyLemmas
 pub mod ScriptLemmas

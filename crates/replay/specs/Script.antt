@@ -1,6 +1,6 @@
 -- The steps that a script names, and its first bad line.
 use Rattle.std.specs.Prelude.{◌≡◌, ◌==◌, ◌+◌, ℕ, Option, Some, None, List, [], ◌∷◌, ◌++◌, length, Vec}
-use Rattle.std.specs.List.{AllZip, AllByRecursion, slice_split}
+use Rattle.std.specs.List.{AllZip, AllByRecursion, slice_split, flat_map}
 use Rattle.std.specs.Io.KnownBytes.{Appends}
 use Rattle.std.specs.declared.io.Cursor.{Cursor}
 use Rattle.httpdate.specs.declared.date.HttpDate.{HttpDate}
@@ -14,6 +14,7 @@ use Rattle.tiny_http_core.specs.Conversation.{Dated, IsFresh, IsConversation}
 use Rattle.tiny_http_core.specs.declared.driver.Step.{Step}
 use Rattle.tiny_http_core.specs.declared.driver.Step.TheVariants.{Ask as AskStep, Respond as RespondStep}
 use Rattle.tiny_http_core.specs.declared.driver.Timed.{Timed}
+use Rattle.replay.specs.Reply.{reply_line}
 use Rattle.replay.specs.Line.{IsLine, IsGood}
 use Rattle.replay.specs.declared.line.Line.{Line}
 use Rattle.replay.specs.declared.line.Line.TheVariants.{Blank, Now, Ask as AskLine, Text, Empty}
@@ -89,10 +90,14 @@ pub record HasRun (client : List ℕ) (steps : List Dated) (replies : List Repli
   pub took : after.taken ≡ Some taken
   pub output_is : output ≡ taken ++ held
 
--- a replay of a script over a client's bytes has this output
-abbrev pub IsReplay : List ℕ → List ℕ → List ℕ → Type 0
-IsReplay client script output = (steps : List Dated) × (replies : List Replied) × IsScript script steps × HasRun client steps replies output
+-- a replay of a script over a client's bytes has these replies and this output
+abbrev pub IsReplay : List ℕ → List ℕ → List Replied → List ℕ → Type 0
+IsReplay client script replies output = (steps : List Dated) × IsScript script steps × HasRun client steps replies output
 
--- a writer's known bytes grow by the output of such a replay
-abbrev pub WritesReplay : Option (List ℕ) → Option (List ℕ) → List ℕ → List ℕ → Type 0
-WritesReplay old new client script = (output : List ℕ) × IsReplay client script output × Appends old new output
+-- Of such a replay one writer's known bytes grow by the output, and the other's by the lines of the replies.
+pub record WritesReplay (client script : List ℕ) (out_old out_new err_old err_new : Option (List ℕ)) : Type 0 where
+  pub replies : List Replied
+  pub output : List ℕ
+  pub replay : IsReplay client script replies output
+  pub out : Appends out_old out_new output
+  pub err : Appends err_old err_new (flat_map reply_line replies)

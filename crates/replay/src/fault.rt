@@ -1,5 +1,5 @@
 //! Why a run is not made or not told, as one line and an exit status.
-ghost use Rattle.std.specs.Prelude.{◌≡◌, ◌<◌};
+ghost use Rattle.std.specs.Prelude.{◌≡◌, ◌<◌, ◌≤◌};
 
 use std::fmt;
 
@@ -22,6 +22,7 @@ impl Fault<'_> {
     pub(crate) fn status(&self) -> u8
         ensures value { result ≡ exit_status self.now }
         ensures some { 0 < result }
+        ensures bound { result ≤ 2 }
     {
         match self {
             Fault::Usage | Fault::CannotRead(_) | Fault::BadLine(_) => 2,

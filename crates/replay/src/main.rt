@@ -1,10 +1,12 @@
 //! Runs the steps of a script over a client's bytes: `replay BYTES SCRIPT`.
 #![tactic(auto)]
 
-ghost use Rattle.std.specs.Prelude.{◌≡◌, ◌<◌, ◌⊎◌, ℕ, ◌++◌, map, Err, IsErrAnd, IfOk, IfErr, OnOk};
+ghost use Rattle.std.specs.Prelude.{◌≡◌, ◌<◌, ◌≤◌, ◌⊎◌, ℕ, ◌++◌, map, Err, IsErrAnd, IfOk, IfErr, OnOk};
 ghost use Rattle.replay.specs.Fault.{exit_status};
 ghost use Rattle.replay.specs.Script.{script_lines, IsFirstBad, timed_value, HasRun, WritesReplay};
 ghost use Rattle.std.specs.Io.KnownBytes.{Appends};
+ghost use Rattle.std.specs.List.{flat_map};
+ghost use Rattle.replay.specs.Reply.{reply_line};
 ghost use Rattle.tiny_http_wire.specs.Budget.{budget_bytes};
 ghost use Rattle.tiny_http_core.specs.Seen.{seen};
 
@@ -69,8 +71,10 @@ fn write_outcome<O: Write, E: Write>(
     out: &mut O,
     err: &mut E,
 ) -> Result<(), io::Error>
-    ensures { OnOk result (Appends (O.contents out.old) (O.contents out.new)
+    ensures output { OnOk result (Appends (O.contents out.old) (O.contents out.new)
         (budget_bytes outcome.now.writer ++ outcome.now.held.items)) }
+    ensures replies { OnOk result (Appends (E.contents err.old) (E.contents err.new)
+        (flat_map reply_line (map seen outcome.now.replies.items))) }
 {
     out.write_all(outcome.writer.bytes())?;
     out.write_all(outcome.held.as_slice())?;
@@ -89,7 +93,8 @@ fn replay<O: Write, E: Write>(
     out: &mut O,
     err: &mut E,
 ) -> Result<(), Fault<'static>>
-    ensures runs { OnOk result (WritesReplay (O.contents out.old) (O.contents out.new) bytes.items script.now) }
+    ensures runs { OnOk result (WritesReplay bytes.items script.now (O.contents out.old) (O.contents out.new)
+        (E.contents err.old) (E.contents err.new)) }
     // Behind a bad line nothing is run.
     ensures refused { (n : ℕ) → IsFirstBad (script_lines script.now) n
         → IsErrAnd result (λ fault. (exit_status fault ≡ 2) ⊎ (fault ≡ Fault.OutOfMemory)) × (out.new ≡ out.old) }
@@ -111,6 +116,7 @@ fn replay<O: Write, E: Write>(
 // Tells a fault by a line, and gives the exit status that tells it.
 fn tell<E: Write>(fault: &Fault<'_>, err: &mut E) -> u8
     ensures some { 0 < result }
+    ensures bound { result ≤ 2 }
     ensures two { result ≡ 2 → exit_status fault.now ≡ 2 }
 {
     match writeln!(err, "replay: {fault}") {
@@ -129,7 +135,9 @@ pub fn replay_on<O: Write, E: Write>(
     out: &mut O,
     err: &mut E,
 ) -> u8
-    ensures runs { result ≡ 0 → WritesReplay (O.contents out.old) (O.contents out.new) bytes.items script.now }
+    ensures runs { result ≡ 0 → WritesReplay bytes.items script.now (O.contents out.old) (O.contents out.new)
+        (E.contents err.old) (E.contents err.new) }
+    ensures bound { result ≤ 2 }
     // Behind a bad line nothing is run.
     ensures refused { (n : ℕ) → IsFirstBad (script_lines script.now) n → (0 < result) × (out.new ≡ out.old) }
     ensures two { result ≡ 2 → (n : ℕ) × IsFirstBad (script_lines script.now) n }

@@ -1,4 +1,9 @@
 //! The lines that tell what the steps were answered.
+ghost use Rattle.std.specs.Prelude.{◌≡◌, Some};
+ghost use Rattle.replay.specs.Reply.{kind_name, length_text, handed_text, reply_text};
+ghost use Rattle.tiny_http_core.specs.HeadReads.{head_message};
+ghost use Rattle.tiny_http_core.specs.Seen.{seen};
+
 use std::fmt;
 use std::io::ErrorKind;
 use tiny_http_core::driver::Reply;
@@ -13,6 +18,8 @@ pub(crate) struct ReplyLine<'a>(pub &'a Reply);
 struct Length(Option<usize>);
 
 impl fmt::Display for Length {
+    ghost output = { λ l. Some (length_text l.0) };
+
     fn fmt<W: fmt::Write>(&self, f: &mut fmt::Formatter<W>) -> fmt::Result {
         match self.0 {
             Some(length) => write!(f, "{length}"),
@@ -26,6 +33,8 @@ impl fmt::Display for Length {
 struct Handed<'a>(u64, &'a Head);
 
 impl fmt::Display for Handed<'_> {
+    ghost output = { λ h. Some (handed_text h.0 (head_message h.1.now) h.1.now.body_length) };
+
     fn fmt<W: fmt::Write>(&self, f: &mut fmt::Formatter<W>) -> fmt::Result {
         let number = self.0;
         let head = self.1;
@@ -42,7 +51,9 @@ impl fmt::Display for Handed<'_> {
 }
 
 // The kinds of fault that the replies tell apart.
-fn name_of(kind: ErrorKind) -> &'static str {
+fn name_of(kind: ErrorKind) -> &'static str
+    ensures { result.now ≡ kind_name kind }
+{
     match kind {
         ErrorKind::InvalidData => "InvalidData",
         ErrorKind::UnexpectedEof => "UnexpectedEof",
@@ -52,6 +63,8 @@ fn name_of(kind: ErrorKind) -> &'static str {
 }
 
 impl fmt::Display for ReplyLine<'_> {
+    ghost output = { λ r. Some (reply_text (seen r.0.now)) };
+
     fn fmt<W: fmt::Write>(&self, f: &mut fmt::Formatter<W>) -> fmt::Result {
         match self.0 {
             Reply::Handed(number, head) => write!(f, "{}", Handed(*number, head)),

@@ -12,4 +12,10 @@ returns-clause-refused g c = λ n bad. absurd (no_bad c.args.script.now _ n c.in
 
 pub returns-in-Ok-write_outcome-clause-runs : goal.returns-in-Ok-write_outcome-clause-runs
 returns-in-Ok-write_outcome-clause-runs g c =
-    (_, (map timed_value c.in-Ok.steps.items, map seen c.in_ok-outcome.outcome.replies.items, c.in-Ok.ensures.steps, c.in_ok-outcome.ensures.runs), c.in-Ok-write_outcome.ensures)
+    record {
+      replies = map seen c.in_ok-outcome.outcome.replies.items;
+      output = _;
+      replay = (map timed_value c.in-Ok.steps.items, c.in-Ok.ensures.steps, c.in_ok-outcome.ensures.runs);
+      out = c.in-Ok-write_outcome.ensures.output;
+      err = c.in-Ok-write_outcome.ensures.replies;
+    }

@@ -1,0 +1,41 @@
+-- The lines that tell what the steps were answered.
+use Rattle.std.specs.Prelude.{ℕ, List, [], ◌++◌, length, Option, Some, None, codes, decimal}
+use Rattle.std.specs.declared.io.ErrorKind.{ErrorKind}
+use Rattle.std.specs.declared.io.ErrorKind.TheVariants.{InvalidData, UnexpectedEof, OutOfMemory}
+use Rattle.tiny_http_wire.specs.Common.{version_text, method_text}
+use Rattle.tiny_http_wire.specs.Heads.{Message}
+use Rattle.tiny_http_core.specs.Steps.{Replied, Handed, Ended, Given, Fault, NotYet, Done, Refused, NoSuch, Memory}
+
+-- the name of a kind of fault
+abbrev pub kind_name : ErrorKind → List ℕ
+kind_name InvalidData = codes "InvalidData"
+kind_name UnexpectedEof = codes "UnexpectedEof"
+kind_name OutOfMemory = codes "OutOfMemory"
+kind_name _ = codes "Other"
+
+-- what Content-Length says, or -
+abbrev pub length_text : Option ℕ → List ℕ
+length_text None = codes "-"
+length_text (Some n) = decimal n
+
+-- a request's number, method, target, version, number of headers, and length
+abbrev pub handed_text : ℕ → Message → Option ℕ → List ℕ
+handed_text k m said =
+    codes "handed " ++ decimal k ++ codes " " ++ method_text m.method ++ codes " " ++ m.path ++ codes " " ++ version_text m.version
+    ++ codes " " ++ decimal (length m.headers) ++ codes " " ++ length_text said
+
+-- a reply without the end of its line; nothing for the two that no step of a script has
+abbrev pub reply_text : Replied → List ℕ
+reply_text (Handed k message framing) = handed_text k message framing.body_length
+reply_text (Fault kind) = codes "fault " ++ kind_name kind
+reply_text NotYet = codes "notyet"
+reply_text Ended = codes "ended"
+reply_text Done = codes "done"
+reply_text NoSuch = codes "nosuch"
+reply_text Memory = codes "memory"
+reply_text (Given bytes) = []
+reply_text Refused = []
+
+-- a reply's line, with the LF that ends it
+abbrev pub reply_line : Replied → List ℕ
+reply_line reply = reply_text reply ++ codes "\n"
