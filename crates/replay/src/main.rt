@@ -66,6 +66,7 @@ fn run_steps(
 }
 
 // Writes the output to the one, and a line for each reply to the other.
+#[tactic(auto, using(crate::proofs::ReplyLemmas::line_more))]
 fn write_outcome<O: Write, E: Write>(
     outcome: &Outcome,
     out: &mut O,
