@@ -1,5 +1,5 @@
 -- A run goes on by one step.
-use Rattle.std.proofs.Common.{◌≡◌, refl, sym, ap, ◌∙◌, subst, ℕ, ◌<◌, ◌≤◌, Bool, true, false, List, [], ◌∷◌, ◌++◌, length, Option, Some, None, arith, append-nil, inl, inr, ◌⊎◌}
+use Rattle.std.proofs.Common.{◌≡◌, refl, sym, ap, ◌∙◌, subst, ℕ, ◌<◌, ◌≤◌, Bool, true, false, List, [], ◌∷◌, ◌++◌, length, Option, Some, None, arith, append-nil, inl, inr}
 use Rattle.std.specs.List.{AllZip}
 use Rattle.std.specs.Io.KnownBytes.{append_known}
 use Rattle.std.proofs.lemmas.Grind.{common_steps}
@@ -16,8 +16,8 @@ use Rattle.tiny_http_core.specs.declared.driver.Reply.{Reply}
 use Rattle.std.specs.declared.io.ErrorKind.{ErrorKind}
 use Rattle.tiny_http_core.specs.declared.driver.Step.{Step}
 use Rattle.tiny_http_core.specs.declared.driver.Step.TheVariants as step
-use Rattle.tiny_http_core.specs.Seen.{TellsHonestly, MayFail}
-use Rattle.tiny_http_core.specs.Sending.{FailsOnce, FailsOnceUnlessEnded}
+use Rattle.tiny_http_core.specs.Seen.{TellsHonestly, TellHonestly, MayFail}
+use Rattle.tiny_http_core.specs.Sending.{FailsOnce, FailsOnceUnlessEnded, FailsAtMostOnce}
 use Rattle.tiny_http_core.specs.Reading.{items_of}
 use Rattle.tiny_http_core.proofs.PipelineLemmas.{feed-pipeline}
 use Rattle.tiny_http_core.proofs.SendLemmas.{grown-none}
@@ -135,35 +135,37 @@ fails-step writer old new false ended (inl e) (inl s) = inl (s ∙ e)
 fails-step writer old new false ended (inl e) (inr s) = inr (s.0 ∙ ap next_count e, s.1)
 fails-step writer old new false ended (inr h) s = let no : false ≡ true = h.1 in cc
 
--- once it has risen it stays
-rose-stays : (writer old new : Sink) (was ended : Bool) → FailsOnce writer old was → old.failures ≡ next_count writer.failures → FailsOnceUnlessEnded was old new ended → new.failures ≡ next_count writer.failures
-rose-stays writer old new true ended h r s = s.0 ∙ r
-rose-stays writer old new false ended (inl e) r (inl s) = s ∙ r
-rose-stays writer old new false ended (inl e) r (inr s) = s.0 ∙ ap next_count e
-rose-stays writer old new false ended (inr h) r s = let no : false ≡ true = h.1 in cc
+-- where two sinks count alike, so do the steps before them and behind
+rise-along : (a b c : Sink) → b.failures ≡ a.failures → FailsAtMostOnce b c → FailsAtMostOnce a c
+rise-along a b c e (inl h) = inl (h ∙ e)
+rise-along a b c e (inr h) = inr (h ∙ ap next_count e)
 
-rises : (writer old new : Sink) (was ended : Bool) → FailsOnce writer old was → new.failures ≡ next_count old.failures → FailsOnceUnlessEnded was old new ended → new.failures ≡ next_count writer.failures
-rises writer old new was ended (inl e) r s = r ∙ ap next_count e
-rises writer old new true ended (inr h) r s = s.0 ∙ h.0
-rises writer old new false ended (inr h) r s = let no : false ≡ true = h.1 in cc
+fail-along : {D : Type 0} (feed : D → Option Feed) (a b c : Sink) (s : Step D) (kind : ErrorKind) → b.failures ≡ a.failures → MayFail feed b c s kind → MayFail feed a c s kind
+fail-along feed a b c step.Ask kind e h = h
+fail-along feed a b c (step.Respond n r) kind e (inl h) = inl (h ∙ ap next_count e)
+fail-along feed a b c (step.Respond n r) kind e (inr h) = inr h
 
-all-zip-snoc : {X Y : Type 0} (R S : X → Y → Type 0) (xs : List X) (ys : List Y) (x : X) (y : Y) → ((x : X) (y : Y) → R x y → S x y) → AllZip R xs ys → S x y → AllZip S (xs ++ x ∷ []) (ys ++ y ∷ [])
-all-zip-snoc R S [] [] x y keep h k = (k, tt)
-all-zip-snoc R S [] (b ∷ ys) x y keep h k = elim h [ ]
-all-zip-snoc R S (a ∷ xs) [] x y keep h k = elim h [ ]
-all-zip-snoc R S (a ∷ xs) (b ∷ ys) x y keep h k = (keep a b h.0, all-zip-snoc R S xs ys x y keep h.1 k)
+-- one step more
+pub honest-snoc : {D : Type 0} (feed : D → Option Feed) (a b c : Sink) (steps : List (Timed D)) (replies : List Reply) (t : Timed D) (r : Reply) → TellHonestly feed a steps replies b → FailsAtMostOnce b c → TellsHonestly feed b c t r
+    → TellHonestly feed a (steps ++ t ∷ []) (replies ++ r ∷ []) c
+honest-snoc feed a b c [] [] t r h once k = (c, rise-along a b c h once, (λ kind told. fail-along feed a b c t.step kind h (k kind told)), refl)
+honest-snoc feed a b c [] (x ∷ replies) t r h once k = absurd h
+honest-snoc feed a b c (x ∷ steps) [] t r h once k = absurd h
+honest-snoc feed a b c (x ∷ steps) (y ∷ replies) t r h once k = (h.0, h.1, h.2, honest-snoc feed h.0 b c steps replies t r h.3 once k)
 
-pub honest-step : {D : Type 0} (feed : D → Option Feed) (writer old new : Sink) (was ended : Bool) (done : List (Timed D)) (replies : List Reply) (t : Timed D) (reply : Reply) → FailsOnce writer old was → FailsOnceUnlessEnded was old new ended
-    → AllZip (TellsHonestly feed writer old) done replies → TellsHonestly feed old new t reply → AllZip (TellsHonestly feed writer new) (done ++ t ∷ []) (replies ++ reply ∷ [])
-honest-step {D = D} feed writer old new was ended done replies t reply once goes h k =
-    all-zip-snoc (TellsHonestly feed writer old) (TellsHonestly feed writer new) done replies t reply
-    (λ x y m kind told. still writer old writer new x.step kind (λ r. rose-stays writer old new was ended once r goes) (m kind told)) h
-    (λ kind told. still old new writer new t.step kind (λ r. rises writer old new was ended once r goes) (k kind told))
-  where
-    kept : {A B C : Type 0} → (A → B) → A ⊎ C → B ⊎ C
-    kept f (inl a) = inl (f a)
-    kept f (inr c) = inr c
+-- a step of an outlet that may have ended
+at-most-once : (old new : Sink) (was ended : Bool) → FailsOnceUnlessEnded was old new ended → FailsAtMostOnce old new
+at-most-once old new true ended s = inl s.0
+at-most-once old new false ended (inl h) = inl h
+at-most-once old new false ended (inr h) = inr h.0
 
-    still : (a b c d : Sink) (s : Step D) (kind : ErrorKind) → (b.failures ≡ next_count a.failures → d.failures ≡ next_count c.failures) → MayFail feed a b s kind → MayFail feed c d s kind
-    still a b c d step.Ask kind f h = h
-    still a b c d (step.Respond n r) kind f h = kept f h
+pub honest-step : {D : Type 0} (feed : D → Option Feed) (writer old new : Sink) (was ended : Bool) (done : List (Timed D)) (replies : List Reply) (t : Timed D) (reply : Reply) → FailsOnceUnlessEnded was old new ended
+    → TellHonestly feed writer done replies old → TellsHonestly feed old new t reply → TellHonestly feed writer (done ++ t ∷ []) (replies ++ reply ∷ []) new
+honest-step feed writer old new was ended done replies t reply once h k = honest-snoc feed writer old new done replies t reply h (at-most-once old new was ended once) k
+
+-- the end counts as another sink does
+pub honest-end : {D : Type 0} (feed : D → Option Feed) (a b c : Sink) (steps : List (Timed D)) (replies : List Reply) → c.failures ≡ b.failures → TellHonestly feed a steps replies b → TellHonestly feed a steps replies c
+honest-end feed a b c [] [] e h = e ∙ h
+honest-end feed a b c [] (x ∷ replies) e h = absurd h
+honest-end feed a b c (x ∷ steps) [] e h = absurd h
+honest-end feed a b c (x ∷ steps) (y ∷ replies) e h = (h.0, h.1, h.2, honest-end feed h.0 b c steps replies e h.3)

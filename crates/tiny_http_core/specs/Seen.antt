@@ -1,5 +1,5 @@
 -- The program's steps and replies as the definitions see them.
-use Rattle.std.specs.Prelude.{◌≡◌, ◌<◌, ◌^◌, length, Option, Some}
+use Rattle.std.specs.Prelude.{◌≡◌, ◌<◌, ◌^◌, List, [], ◌∷◌, length, Option, Some}
 use Rattle.std.specs.declared.io.ErrorKind.{ErrorKind}
 use Rattle.tiny_http_wire.specs.Device.{Feed, Sink}
 use Rattle.tiny_http_wire.specs.Answer.{ResponseState}
@@ -12,7 +12,7 @@ use Rattle.tiny_http_core.specs.HeadReads.{head_message, head_framing}
 use Rattle.tiny_http_core.specs.Slots.{ResponseValue}
 use Rattle.tiny_http_core.specs.Steps.{Asked, Ask, Respond, Replied, Handed, Ended, Fault, NotYet, Done, NoSuch, Memory}
 use Rattle.tiny_http_core.specs.Conversation.{Dated}
-use Rattle.tiny_http_core.specs.Sending.{IsHonest}
+use Rattle.tiny_http_core.specs.Sending.{IsHonest, FailsAtMostOnce}
 
 -- the response tells its data, of fewer than 2^63 bytes
 abbrev pub IsResponse : {D : Type 0} → (D → Option Feed) → ResponseState D → ResponseValue → Type 0
@@ -46,3 +46,11 @@ MayFail feed old new (step.Respond k r) kind = IsHonest old new r.answer.length 
 -- a fault that is told is the writer's, whose count rose, or that of the step's own data
 abbrev pub TellsHonestly : {D : Type 0} → (D → Option Feed) → Sink → Sink → Timed D → Reply → Type 0
 TellsHonestly feed old new t reply = (kind : ErrorKind) → seen reply ≡ Fault kind → MayFail feed old new t.step kind
+
+-- Steps that tell their faults so, while the writer's count goes from one number to another: a step raises it at most once.
+abbrev pub TellHonestly : {D : Type 0} → (D → Option Feed) → Sink → List (Timed D) → List Reply → Sink → Type 0
+TellHonestly feed old [] [] new = new.failures ≡ old.failures
+TellHonestly feed old (t ∷ steps) (r ∷ replies) new =
+    (mid : Sink) × FailsAtMostOnce old mid × TellsHonestly feed old mid t r × TellHonestly feed mid steps replies new
+TellHonestly feed old [] (r ∷ replies) new = ⊥
+TellHonestly feed old (t ∷ steps) [] new = ⊥

@@ -9,7 +9,7 @@ ghost use Rattle.tiny_http_core.specs.Steps.{Ask, Respond, Fault, is_closed_clie
 ghost use Rattle.std.specs.declared.io.ErrorKind.{ErrorKind};
 ghost use Rattle.tiny_http_core.specs.Source.{GoesOn};
 ghost use Rattle.tiny_http_core.specs.Connection.{kept, Stands};
-ghost use Rattle.tiny_http_core.specs.Seen.{seen, IsResponse, IsTold, TellsHonestly};
+ghost use Rattle.tiny_http_core.specs.Seen.{seen, IsResponse, IsTold, TellsHonestly, TellHonestly};
 ghost use Rattle.tiny_http_core.specs.Outlet.{outlet_sink, outlet_ended, outlet_held, outlet_writer, SentOn};
 ghost use Rattle.tiny_http_core.specs.Sending.{FailsOnceUnlessEnded, FailsAtMostOnce, IsHonest};
 
@@ -278,7 +278,7 @@ pub fn run<R: ReadDevice + Drop, W: WriteDevice + Drop, D: ReadDevice + Drop>(
     // Whatever reader, writer and data tell.
     ensures replies { IfOk result (λ done. vec_len done.replies ≡ vec_len steps) }
     ensures fails_once { IfOk result (λ done. FailsAtMostOnce (W.sink writer) (W.sink (outlet_writer done.outlet))) }
-    ensures honest { IfOk result (λ done. AllZip (TellsHonestly D.feed (W.sink writer) (W.sink (outlet_writer done.outlet))) steps.items done.replies.items) }
+    ensures honest { IfOk result (λ done. TellHonestly D.feed (W.sink writer) steps.items done.replies.items (W.sink (outlet_writer done.outlet))) }
     // So far each step that writes flushes, and so does the writer.
     ensures flushed { IfOk result (λ done. outlet_held done.outlet ≡ []) }
     ensures sent_on { IfOk result (λ done. W.held writer ≡ [] → SentOn W.sink W.held done.outlet) }

@@ -10,7 +10,7 @@ use Rattle.tiny_http_core.specs.Connection.{Kept, kept}
 use Rattle.tiny_http_core.specs.Reading.{items_of}
 use Rattle.tiny_http_core.proofs.PipelineLemmas.{feed-pipeline}
 use Rattle.tiny_http_core.proofs.GoingOn.{goes-on_same, goes-on_more}
-use Rattle.tiny_http_core.proofs.RunLemmas.{follows-start, follows-step, joins-more, joins-end, conversation, fails-step, honest-step}
+use Rattle.tiny_http_core.proofs.RunLemmas.{follows-start, follows-step, joins-more, joins-end, conversation, fails-step, honest-step, honest-end}
 use Rattle.tiny_http_core.proofs.driver.run.Goals as goal
 
 pub loop-timed-init : goal.loop-timed-init
@@ -30,7 +30,7 @@ loop-timed-init g c =
       fails_once = inl c.new-connection.ensures.failures;
       flushed = c.new-connection.ensures.flushed;
       sent_on = c.new-connection.ensures.sent_on;
-      honest = rw c.in-Ok.ensures.items tt;
+      honest = rw c.in-Ok.ensures.items c.new-connection.ensures.failures;
     }
 
 pub loop-timed-preserved : goal.loop-timed-preserved
@@ -53,7 +53,7 @@ loop-timed-preserved g c =
       flushed = c.step-reply.ensures.flushed inv.flushed;
       sent_on = λ none. c.step-reply.ensures.sent_on (inv.sent_on none);
       honest = rw c.push_reserved.ensures.items
-          (honest-step g.D.ReadDevice.feed writer old.sink new.sink old.output_ended new.output_ended c.loop-timed.yielded c.loop-timed.replies.items c.in-Some.timed c.step-reply.result inv.fails_once c.step-reply.ensures.fails_once inv.honest c.step-reply.ensures.honest);
+          (honest-step g.D.ReadDevice.feed writer old.sink new.sink old.output_ended new.output_ended c.loop-timed.yielded c.loop-timed.replies.items c.in-Some.timed c.step-reply.result c.step-reply.ensures.fails_once inv.honest c.step-reply.ensures.honest);
     }
 
 pub returns-clause-conversation : goal.returns-clause-conversation
@@ -73,4 +73,4 @@ pub returns-clause-honest : goal.returns-clause-honest
 returns-clause-honest g c =
     let whole : c.loop-timed.yielded ≡ c.args.steps.items =
     joins-end _ _ _ c.loop-timed.invariant.joins (sym c.loop-timed.timed-iterator.rest.ok.0 ∙ c.in-None.ensures.steps.0) in
-    rw (← whole) c.loop-timed.invariant.honest
+    rw (← whole) (honest-end g.D.ReadDevice.feed (g.W.WriteDevice.sink c.args.writer) _ (g.W.WriteDevice.sink (outlet_writer c.loop-timed.connection.outlet)) c.loop-timed.yielded c.loop-timed.replies.items refl c.loop-timed.invariant.honest)

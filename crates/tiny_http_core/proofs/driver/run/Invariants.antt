@@ -4,11 +4,10 @@ use Rattle.std.specs.Vec.Iter.{into_iter_items}
 use Rattle.tiny_http_wire.specs.Device.{Feed, Sink}
 use Rattle.tiny_http_core.specs.Conversation.{IsFresh}
 use Rattle.tiny_http_core.specs.Source.{GoesOn}
-use Rattle.tiny_http_core.specs.Seen.{IsTold, seen, TellsHonestly}
+use Rattle.tiny_http_core.specs.Seen.{IsTold, seen, TellHonestly}
 use Rattle.tiny_http_core.specs.Sending.{FailsOnce}
 use Rattle.tiny_http_core.specs.declared.driver.Timed.{Timed}
 use Rattle.tiny_http_core.specs.declared.driver.Reply.{Reply}
-use Rattle.std.specs.List.{AllZip}
 use Rattle.tiny_http_core.specs.Connection.{Kept, kept}
 use Rattle.tiny_http_core.proofs.RunLemmas.{Follows}
 use Rattle.tiny_http_core.proofs.driver.run.Given as goal
@@ -23,7 +22,7 @@ pub record Goes {D : Type 0} (feed : D → Option Feed) (reader : Option Feed) (
   pub fails_once : FailsOnce writer k.sink k.output_ended
   pub flushed : held ≡ []
   pub sent_on : SentOnward
-  pub honest : AllZip (TellsHonestly feed writer k.sink) done replies
+  pub honest : TellHonestly feed writer done replies k.sink
 
 abbrev pub invariant-loop-timed : goal.invariant-loop-timed
 invariant-loop-timed g l =
