@@ -167,6 +167,7 @@ impl<R: ReadDevice> Input<R> {
         // Whatever the reader tells, an input that is over stays so, and a line's place has its stop.
         ensures over { IfErr result (λ fault. fault ≢ LineFault.NotAscii → IsOver self.new) }
         ensures memory { IfErr result (λ fault. fault ≡ LineFault.Memory → input_stop self.new ≡ Some Stop.End) }
+        ensures stop { IfErr result (λ fault. fault ≢ LineFault.NotAscii → fault ≢ LineFault.Memory → IfSome (input_stop self.new) (λ stop. fault ≡ fault_of stop)) }
         ensures stays { IsOver self.old → (self.new ≡ self.old) × IfSome (input_stop self.old) (λ stop. result ≡ Err (fault_of stop)) }
     {
         match self.read_text(alloc) {
@@ -185,6 +186,7 @@ impl<R: ReadDevice> Input<R> {
     /// Takes n bytes, or none where fewer are left: then the input is over.
     pub fn take_exactly(&mut self, alloc: Global, n: usize) -> Result<Option<Vec<u8>>, AllocError>
         ensures takes { IfOk result (λ body. TakesExactly (λ v. v.items) n (input_feed R.feed self.old) (input_feed R.feed self.new) body) }
+        ensures over { IfOk result (λ body. body ≡ None → IsOver self.new) }
         ensures goes_on { GoesOn (input_feed R.feed self.old) (input_feed R.feed self.new) }
     {
         let mut body = Vec::new(alloc);

@@ -78,6 +78,7 @@ impl<R: ReadDevice> Source<R> {
         // Whatever the reader tells: behind any fault but a line that isn't ASCII the source is over.
         ensures over { IfErr result (λ fault. fault ≢ LineFault.NotAscii → self.new.is_over ≡ true) }
         ensures memory { IfErr result (λ fault. fault ≡ LineFault.Memory → self.new.stop ≡ Some Stop.End) }
+        ensures stop { IfErr result (λ fault. fault ≢ LineFault.NotAscii → fault ≢ LineFault.Memory → IfSome self.new.stop (λ stop. fault ≡ fault_of stop)) }
         // A source that is over stays so, and each line is its stop.
         ensures stays { self.old.is_over ≡ true → (self.new ≡ self.old) × IfSome self.old.stop (λ stop. result ≡ Err (fault_of stop)) }
     {
@@ -109,6 +110,7 @@ impl<R: ReadDevice> Source<R> {
         n: usize,
     ) -> Result<Option<Vec<u8>>, AllocError>
         ensures takes { IfOk result (λ body. TakesExactly (λ v. v.items) n self.old.feed self.new.feed body) }
+        ensures over { IfOk result (λ body. body ≡ None → self.new.is_over ≡ true) }
         ensures goes_on { GoesOn self.old.feed self.new.feed }
     {
         self.input.take_exactly(alloc, n)
