@@ -37,7 +37,7 @@ both true true h = (refl, refl)
 both true false h = (refl, h)
 both false b h = absurd (false≢true h)
 
-none-from : (b : Bool) (n : ℕ) → (b ≡ true → ⊥) → None ≡ (if b then Some n else None)
+pub none-from : (b : Bool) (n : ℕ) → (b ≡ true → ⊥) → None ≡ (if b then Some n else None)
 none-from true n h = absurd (h refl)
 none-from false n h = refl
 

@@ -9,5 +9,6 @@ pub mod device;
 mod gather;
 pub mod grammar;
 mod head;
+pub mod header_value;
 pub mod laws;
 pub mod response;

@@ -1,0 +1,182 @@
+-- Texts cut at ASCII bytes, and the steps that make up the reading of a list of qualities.
+use Rattle.std.proofs.Common.{◌≡◌, refl, sym, ap, ◌∙◌, subst, ℕ, zero, suc, ◌+◌, ◌-◌, ◌*◌, ◌^◌, ◌<◌, ◌≤◌, Bool, true, false, cond, not, ◌&&◌, inl, inr, List, [], ◌∷◌, ◌++◌, length, take, drop, get_or, Option, Some, None, IfSome, Bor, arith, eq-eqb, eqb-true, ◌⊎◌, length-append, append-nil, rules, ltb, lt-ltb, ltb-true}
+use Rattle.std.specs.Prelude.{◌==◌, ◌≢◌, nat_le, option_map, unwrap_or, slice_index, slice_range, IfNone, if◌then◌else◌}
+use Rattle.std.specs.List.{list_all}
+use Rattle.std.specs.Str.{IsUtf8, IsCharBoundary, all_ascii_digits}
+use Rattle.std.specs.Str.Parse.{IsNumeral, digits_value}
+use Rattle.std.specs.Option.{SomeIff}
+use Rattle.std.proofs.Math.Seq.{drop-append_seam, take-append_seam, get_or-append_seam}
+use Rattle.std.proofs.lemmas.Bool.{and_parts, not-true, false≢true}
+use Rattle.std.proofs.lemmas.Bool.Decides.{nat_tests}
+use Rattle.std.proofs.lemmas.Str.{IsUtf8-drop, IsCharBoundary-after_ascii, IsCharBoundary-before_ascii, IsCharBoundary-at_seam, IsCharBoundary-end}
+use Rattle.std.proofs.lemmas.Str.Pattern.{IsSplitOnceResult, split_parts}
+use Rattle.std.proofs.lemmas.Str.Parse.{IsNumeralModel, numerals_by_value, tells_all_ascii_digits, digits_value_short}
+use Rattle.std.proofs.lemmas.Int.Digits.{digits_value-lt}
+use Rattle.tiny_http_wire.specs.Bytes.{is_blank, HasNo, point}
+use Rattle.tiny_http_wire.specs.QualityReading.{cut, units, thousandths, both, quality}
+use Rattle.tiny_http_wire.proofs.AnswerLemmas.{none-from}
+use Rattle.tiny_http_wire.specs.Reading.{skip_while, skip_end_while, trimmed}
+use Rattle.tiny_http_wire.proofs.TextLemmas.{front, back}
+use Rattle.tiny_http_wire.proofs.HeadLemmas.{not_true}
+
+blank-ascii : (b : ℕ) → is_blank b ≡ true → b < 128
+blank-ascii b h = grind (arith, nat_tests)
+
+-- behind white space a text is a text
+utf8-behind : (before core : List ℕ) → list_all is_blank before ≡ true → IsUtf8 (before ++ core) → IsUtf8 core
+utf8-behind [] core h u = u
+utf8-behind (b ∷ bs) core h u =
+    let k = and_parts (is_blank b) (list_all is_blank bs) h in
+    let cut : IsCharBoundary (b ∷ (bs ++ core)) 1 = IsCharBoundary-after_ascii (b ∷ (bs ++ core)) 0 u (omega arith) (blank-ascii b k.0) in
+    utf8-behind bs core k.1 (IsUtf8-drop (b ∷ (bs ++ core)) 1 u cut)
+
+-- the text behind the white space at its front
+pub record Behind (text core : List ℕ) : Type 0 where
+  pub shorter : length core ≤ length text
+  pub cut : IsCharBoundary text (length text - length core)
+  pub is : drop (length text - length core) text ≡ core
+
+pub behind-blanks : (text core : List ℕ) → IsUtf8 text → core ≡ skip_while is_blank text → Behind text core
+behind-blanks text core u e =
+    let f = front is_blank text in
+    let joins : text ≡ f.before ++ core = f.joins ∙ ap (λ x. f.before ++ x) (sym e) in
+    let long : length text ≡ length f.before + length core = ap length joins ∙ length-append f.before core in
+    let at : length text - length core ≡ length f.before = omega (arith, long) in
+    record {
+      shorter = omega (arith, long);
+      cut = rw at (IsCharBoundary-at_seam text f.before core joins (utf8-behind f.before core f.blank (subst IsUtf8 joins u)));
+      is = rw at (ap (drop (length f.before)) joins ∙ drop-append_seam f.before core);
+    }
+
+cut-before : (core after : List ℕ) → list_all is_blank after ≡ true → IsCharBoundary (core ++ after) (length core)
+cut-before core [] h = rw (append-nil core) (IsCharBoundary-end core)
+cut-before core (a ∷ rest) h =
+    let k = and_parts (is_blank a) (list_all is_blank rest) h in
+    let long : length (core ++ a ∷ rest) ≡ length core + length (a ∷ rest) = length-append core (a ∷ rest) in
+    let low : get_or (core ++ a ∷ rest) (length core) 0 < 128 = rw (get_or-append_seam core a rest 0) (blank-ascii a k.0) in
+    IsCharBoundary-before_ascii (core ++ a ∷ rest) (length core) (omega (arith, long)) low
+
+-- the text before the white space at its end
+pub record Before (text core : List ℕ) : Type 0 where
+  pub shorter : length core ≤ length text
+  pub cut : IsCharBoundary text (length core)
+  pub is : take (length core) text ≡ core
+
+pub before-blanks : (text core : List ℕ) → core ≡ skip_end_while is_blank text → Before text core
+before-blanks text core e =
+    let b = back is_blank text in
+    let joins : text ≡ core ++ b.after = b.joins ∙ ap (λ x. x ++ b.after) (sym e) in
+    let long : length text ≡ length core + length b.after = ap length joins ∙ length-append core b.after in
+    record {
+      shorter = omega (arith, long);
+      cut = rw joins (cut-before core b.after b.blank);
+      is = ap (take (length core)) joins ∙ take-append_seam core b.after;
+    }
+
+pub range-front : (xs : List ℕ) (n : ℕ) → slice_range xs 0 n ≡ take n xs
+range-front xs n = grind arith
+
+has-no : (c : ℕ) (xs : List ℕ) → ((i : ℕ) → i < length xs → get_or xs i 0 ≢ c) → HasNo c xs
+has-no c [] h = refl
+has-no c (b ∷ bs) h =
+    let first : (b == c) ≡ false = not_true (b == c) (λ e. h 0 (omega arith) (eqb-true b c e)) in
+    let later : HasNo c bs = has-no c bs (λ i l. h (suc i) (omega (arith, l))) in
+    rw (first, later) refl
+
+abbrev Cut : Type 0
+Cut = Option (Bor (List ℕ) × Bor (List ℕ))
+
+-- where `split_once` cuts
+pub cut-some : (c : ℕ) (bs : List ℕ) (r : Cut) → c < 128 → IsSplitOnceResult c bs r → IfSome r (λ x. (bs ≡ x.0.now ++ c ∷ x.1.now) × HasNo c x.0.now)
+cut-some c bs None l h = tt
+cut-some c bs (Some x) l h = let p = split_parts c bs (Some x) h l in (p.0, has-no c x.0.now p.1)
+
+pub cut-none : (c : ℕ) (bs : List ℕ) (r : Cut) → c < 128 → IsSplitOnceResult c bs r → IfNone r (HasNo c bs)
+cut-none c bs None l h = has-no c bs (split_parts c bs None h l)
+cut-none c bs (Some x) l h = tt
+
+own : IsNumeralModel (λ ds. all_ascii_digits ds ≡ true) (digits_value 10)
+own = numerals_by_value _ tells_all_ascii_digits
+
+-- one to six digits
+pub units-long : (ds : List ℕ) → 6 < length ds → None ≡ units ds
+unfolding units
+units-long ds l =
+    let long : nat_le (length ds) 6 ≡ false = grind (arith, nat_tests) in
+    rw long (elim (ltb 0 (length ds)) as (λ v. None ≡ (if v && false then Some (digits_value 10 ds) else None)) [ true ↦ refl | false ↦ refl ])
+
+pub units-short : (ds : List ℕ) (r : Option ℕ) → length ds ≤ 6 → SomeIff r (IsNumeral 10 ds × (digits_value 10 ds < 2 ^ 32)) (digits_value 10 ds) → r ≡ units ds
+unfolding units
+units-short ds (Some n) l h =
+    let some : ltb 0 (length ds) ≡ true = lt-ltb 0 (length ds) h.0.0.0 in
+    let short : nat_le (length ds) 6 ≡ true = grind (arith, nat_tests) in
+    let digits : all_ascii_digits ds ≡ true = own.from ds h.0.0.1 in
+    rw (some, short, digits) (ap Some h.1)
+units-short ds None l h = none-from _ _ (λ t.
+    let first = and_parts _ _ t in
+    let digits = (and_parts _ _ first.1).1 in
+    let small = digits_value_short own ds 6 digits l in
+    h ((ltb-true 0 (length ds) first.0, own.to ds digits), omega (arith, small)))
+
+pub units-bound : (ds : List ℕ) (r : Option ℕ) → length ds ≤ 6 → SomeIff r (IsNumeral 10 ds × (digits_value 10 ds < 2 ^ 32)) (digits_value 10 ds) → IfSome r (λ n. (n < 10 ^ length ds) × (n < 1000000))
+units-bound ds None l h = tt
+units-bound ds (Some n) l h =
+    let first : digits_value 10 ds < 10 ^ length ds = digits_value-lt 10 ds h.0.0.1 in
+    let second : digits_value 10 ds < 10 ^ 6 = digits_value_short own ds 6 (own.from ds h.0.0.1) l in
+    (subst (λ k. k < 10 ^ length ds) (sym h.1) first, subst (λ k. k < 1000000) (sym h.1) second)
+
+-- up to three digits behind a point
+pub no-thousandths : (ds : List ℕ) → length ds ≡ 0 → Some 0 ≡ thousandths ds
+unfolding thousandths
+no-thousandths [] h = refl
+no-thousandths (d ∷ ds) h = absurd (omega (arith, h))
+
+pub thousandths-long : (ds : List ℕ) → 3 < length ds → None ≡ thousandths ds
+unfolding thousandths
+thousandths-long ds l =
+    let long : nat_le (length ds) 3 ≡ false = grind (arith, nat_tests) in
+    rw long refl
+
+pub scaled : (ds : List ℕ) (o : Option ℕ) → o ≡ units ds → 0 < length ds → length ds ≤ 3 → option_map (λ n. n * 10 ^ (3 - length ds)) o ≡ thousandths ds
+unfolding units thousandths
+scaled ds o e some l =
+    let first : ltb 0 (length ds) ≡ true = lt-ltb 0 (length ds) some in
+    let six : nat_le (length ds) 6 ≡ true = grind (arith, nat_tests) in
+    let three : nat_le (length ds) 3 ≡ true = grind (arith, nat_tests) in
+    let f : Option ℕ → Option ℕ = λ x. option_map (λ n. n * 10 ^ (3 - length ds)) x in
+    ap f e ∙ rw (first, six, three) (elim (all_ascii_digits ds) as (λ v. f (if v then Some (digits_value 10 ds) else None) ≡ (if v then Some (digits_value 10 ds * 10 ^ (3 - length ds)) else None)) [ true ↦ refl | false ↦ refl ])
+
+one-to-three : (n : ℕ) → 1 ≤ n → n ≤ 3 → (n ≡ 1) ⊎ (n ≡ 2) ⊎ (n ≡ 3)
+one-to-three zero s l = absurd (omega arith)
+one-to-three (suc zero) s l = inl refl
+one-to-three (suc (suc zero)) s l = inr (inl refl)
+one-to-three (suc (suc (suc zero))) s l = inr (inr refl)
+one-to-three (suc (suc (suc (suc n)))) s l = absurd (omega arith)
+
+pub scaled-bound : (n k : ℕ) → 1 ≤ k → k ≤ 3 → n < 10 ^ k → n * 10 ^ (3 - k) < 1000
+scaled-bound n k s l h = elim (one-to-three k s l) [
+  | inl e ↦ rw e (let g : n < 10 = rw e at h in omega (arith, g))
+  | inr (inl e) ↦ rw e (let g : n < 100 = rw e at h in omega (arith, g))
+  | inr (inr e) ↦ rw e (let g : n < 1000 = rw e at h in omega (arith, g))
+]
+
+-- a quality's text, cut at its point
+cut-without : (c : ℕ) (xs : List ℕ) → HasNo c xs → cut c xs ≡ None
+cut-without c [] h = refl
+cut-without c (b ∷ bs) h =
+    let k = and_parts (not (b == c)) (list_all (λ x. not (x == c)) bs) h in
+    rw (not-true (b == c) k.0, cut-without c bs k.1) refl
+
+cut-with : (c : ℕ) (xs w f : List ℕ) → xs ≡ w ++ c ∷ f → HasNo c w → cut c xs ≡ Some (w, f)
+cut-with c xs [] f e h = rw (e, eq-eqb c c refl) refl
+cut-with c xs (b ∷ bs) f e h =
+    let k = and_parts (not (b == c)) (list_all (λ x. not (x == c)) bs) h in
+    rw (e, not-true (b == c) k.0, cut-with c (bs ++ c ∷ f) bs f refl k.1) refl
+
+pub quality-whole : (text : List ℕ) → HasNo point text → quality text ≡ both (units text) (Some 0)
+unfolding quality
+quality-whole text h = rw (cut-without point text h) refl
+
+pub quality-parted : (text w f : List ℕ) → text ≡ w ++ point ∷ f → HasNo point w → quality text ≡ both (units w) (thousandths f)
+unfolding quality
+quality-parted text w f e h = rw (cut-with point text w f e h) refl
