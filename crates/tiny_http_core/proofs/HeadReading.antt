@@ -10,6 +10,7 @@ use Rattle.tiny_http_wire.specs.Bytes.{is_ascii, AreAscii}
 use Rattle.tiny_http_wire.specs.Lines.{Line}
 use Rattle.tiny_http_wire.specs.Heads.{Fields, HeaderLine, IsRequestLine, IsFieldOrEnd}
 use Rattle.tiny_http_wire.specs.Reading as reading
+use Rattle.tiny_http_wire.proofs.TextLemmas.{are-ascii, not-ascii}
 use Rattle.tiny_http_wire.proofs.HeadLemmas.{request-line-is, request-line-one, header-line-is, header-line-one}
 use Rattle.tiny_http_wire.specs.declared.common.Method.{Method}
 use Rattle.tiny_http_wire.specs.declared.common.HTTPVersion.{HTTPVersion}
@@ -20,19 +21,6 @@ use Rattle.tiny_http_core.specs.declared.heads.HeadFault.{HeadFault}
 use Rattle.tiny_http_core.specs.declared.heads.HeadFault.TheVariants as fault
 use Rattle.tiny_http_core.specs.Source.{ReadsLine, from}
 use Rattle.tiny_http_core.specs.HeadReads.{ReadsText, ReadsStart, ReadFields, ReadsField, ReadsFields, ReadsMessage, IsFaulty, IsFaultyHead, head_fault}
-
--- both words for ASCII
-pub are-ascii : (text : List ℕ) → IsAscii text → AreAscii text
-are-ascii [] h = refl
-are-ascii (b ∷ bs) h = rw (lt-ltb b 128 (h zero)) (are-ascii bs (λ i. h (suc i)))
-
-ascii-at : (text : List ℕ) (i : ℕ) → AreAscii text → slice_index text i < 128
-ascii-at [] i h = omega arith
-ascii-at (b ∷ bs) zero h = ltb-true b 128 (and_parts (is_ascii b) (list_all is_ascii bs) h).0
-ascii-at (b ∷ bs) (suc i) h = ascii-at bs i (and_parts (is_ascii b) (list_all is_ascii bs) h).1
-
-pub not-ascii : (text : List ℕ) → IsNotAscii text → AreAscii text → ⊥
-not-ascii text bad h = let low = ascii-at text bad.0 h in omega arith
 
 pub text-read : (o p : Option Feed) (text : List ℕ) → ReadsLine o p (Ok text) → ReadsText o p (Ok text)
 text-read None p text h = tt

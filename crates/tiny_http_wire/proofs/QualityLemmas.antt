@@ -1,22 +1,22 @@
 -- Texts cut at ASCII bytes, and the steps that make up the reading of a list of qualities.
 use Rattle.std.proofs.Common.{◌≡◌, refl, sym, ap, ◌∙◌, subst, ℕ, zero, suc, ◌+◌, ◌-◌, ◌*◌, ◌^◌, ◌<◌, ◌≤◌, Bool, true, false, cond, not, ◌&&◌, inl, inr, List, [], ◌∷◌, ◌++◌, length, take, drop, get_or, Option, Some, None, IfSome, Bor, arith, eq-eqb, eqb-true, ◌⊎◌, length-append, append-nil, rules, ltb, lt-ltb, ltb-true}
-use Rattle.std.specs.Prelude.{◌==◌, ◌≢◌, nat_le, option_map, unwrap_or, slice_index, slice_range, IfNone, if◌then◌else◌}
+use Rattle.std.specs.Prelude.{◌==◌, ◌≢◌, nat_le, option_map, unwrap_or, slice_index, slice_range, codes, IfNone, if◌then◌else◌}
 use Rattle.std.specs.List.{list_all}
 use Rattle.std.specs.Str.{IsUtf8, IsCharBoundary, all_ascii_digits}
 use Rattle.std.specs.Str.Parse.{IsNumeral, digits_value}
 use Rattle.std.specs.Option.{SomeIff}
-use Rattle.std.proofs.Math.Seq.{drop-append_seam, take-append_seam, get_or-append_seam}
+use Rattle.std.proofs.Math.Seq.{drop-append_seam, drop-append-add, take-append_seam, get_or-append_seam}
 use Rattle.std.proofs.lemmas.Bool.{and_parts, not-true, false≢true}
 use Rattle.std.proofs.lemmas.Bool.Decides.{nat_tests}
 use Rattle.std.proofs.lemmas.Str.{IsUtf8-drop, IsCharBoundary-after_ascii, IsCharBoundary-before_ascii, IsCharBoundary-at_seam, IsCharBoundary-end}
 use Rattle.std.proofs.lemmas.Str.Pattern.{IsSplitOnceResult, split_parts}
 use Rattle.std.proofs.lemmas.Str.Parse.{IsNumeralModel, numerals_by_value, tells_all_ascii_digits, digits_value_short}
 use Rattle.std.proofs.lemmas.Int.Digits.{digits_value-lt}
-use Rattle.tiny_http_wire.specs.Bytes.{is_blank, HasNo, point}
-use Rattle.tiny_http_wire.specs.QualityReading.{cut, units, thousandths, both, quality}
+use Rattle.tiny_http_wire.specs.Bytes.{is_blank, HasNo, parts, point, semicolon}
+use Rattle.tiny_http_wire.specs.QualityReading.{cut, units, thousandths, both, quality, behind_q, parameter_quality, first_quality, element}
 use Rattle.tiny_http_wire.proofs.AnswerLemmas.{none-from}
 use Rattle.tiny_http_wire.specs.Reading.{skip_while, skip_end_while, trimmed}
-use Rattle.tiny_http_wire.proofs.TextLemmas.{front, back}
+use Rattle.tiny_http_wire.proofs.TextLemmas.{front, back, parts-word, parts-last}
 use Rattle.tiny_http_wire.proofs.HeadLemmas.{not_true}
 
 blank-ascii : (b : ℕ) → is_blank b ≡ true → b < 128
@@ -76,7 +76,7 @@ before-blanks text core e =
 pub range-front : (xs : List ℕ) (n : ℕ) → slice_range xs 0 n ≡ take n xs
 range-front xs n = grind arith
 
-has-no : (c : ℕ) (xs : List ℕ) → ((i : ℕ) → i < length xs → get_or xs i 0 ≢ c) → HasNo c xs
+pub has-no : (c : ℕ) (xs : List ℕ) → ((i : ℕ) → i < length xs → get_or xs i 0 ≢ c) → HasNo c xs
 has-no c [] h = refl
 has-no c (b ∷ bs) h =
     let first : (b == c) ≡ false = not_true (b == c) (λ e. h 0 (omega arith) (eqb-true b c e)) in
@@ -180,3 +180,48 @@ quality-whole text h = rw (cut-without point text h) refl
 pub quality-parted : (text w f : List ℕ) → text ≡ w ++ point ∷ f → HasNo point w → quality text ≡ both (units w) (thousandths f)
 unfolding quality
 quality-parted text w f e h = rw (cut-with point text w f e h) refl
+
+-- what follows q=
+pub not-q : (core : List ℕ) → ((rest : List ℕ) → core ≢ codes "q=" ++ rest) → None ≡ behind_q core
+not-q [] h = refl
+not-q (a ∷ []) h = refl
+not-q (a ∷ b ∷ rest) h =
+    let e : (a == 113 && b == 61) ≡ false = not_true (a == 113 && b == 61) (λ t.
+      let k = and_parts (a == 113) (b == 61) t in
+      h rest (ap (λ (x : ℕ). x ∷ b ∷ rest) (eqb-true a 113 k.0) ∙ ap (λ (x : ℕ). 113 ∷ x ∷ rest) (eqb-true b 61 k.1)))
+    in
+    rw e refl
+
+pub is-q : (core rest : List ℕ) → core ≡ codes "q=" ++ rest → behind_q core ≡ quality (trimmed is_blank rest)
+is-q core rest e = rw e refl
+
+-- the first parameter that gives a quality
+pub first-found : (text w rest : List ℕ) (q : ℕ) → text ≡ w ++ semicolon ∷ rest → HasNo semicolon w → Some q ≡ parameter_quality w → q ≡ first_quality (parts semicolon text)
+unfolding first_quality
+first-found text w rest q e h p = rw (e, parts-word semicolon w rest h, sym p) refl
+
+pub first-later : (text w rest : List ℕ) → text ≡ w ++ semicolon ∷ rest → HasNo semicolon w → None ≡ parameter_quality w → first_quality (parts semicolon rest) ≡ first_quality (parts semicolon text)
+unfolding first_quality
+first-later text w rest e h p = rw (e, parts-word semicolon w rest h, sym p) refl
+
+pub first-last : (text : List ℕ) → HasNo semicolon text → unwrap_or (parameter_quality text) 1000 ≡ first_quality (parts semicolon text)
+unfolding first_quality
+first-last text h = rw (parts-last semicolon text h) refl
+
+-- an element without parameters, and with some
+pub element-bare : (text : List ℕ) → HasNo semicolon text → ◌≡◌ {A = List ℕ × ℕ} (trimmed is_blank text, 1000) (element text)
+unfolding element first_quality
+element-bare text h = rw (parts-last semicolon text h) refl
+
+pub element-parted : (text w rest : List ℕ) → text ≡ w ++ semicolon ∷ rest → HasNo semicolon w → ◌≡◌ {A = List ℕ × ℕ} (trimmed is_blank w, first_quality (parts semicolon rest)) (element text)
+unfolding element
+element-parted text w rest e h = rw (e, parts-word semicolon w rest h) refl
+
+-- behind an ASCII byte a text is a text
+pub utf8-after : (c : ℕ) (text w rest : List ℕ) → c < 128 → text ≡ w ++ c ∷ rest → IsUtf8 text → IsUtf8 rest
+utf8-after c text w rest l e u =
+    let long : length text ≡ length w + length (c ∷ rest) = ap length e ∙ length-append w (c ∷ rest) in
+    let low : get_or text (length w) 0 < 128 = rw (e, get_or-append_seam w c rest 0) l in
+    let cut : IsCharBoundary text (length w + 1) = IsCharBoundary-after_ascii text (length w) u (omega (arith, long)) low in
+    let is : drop (length w + 1) text ≡ rest = ap (drop (length w + 1)) e ∙ drop-append-add w (c ∷ rest) 1 in
+    subst IsUtf8 is (IsUtf8-drop text (length w + 1) u cut)

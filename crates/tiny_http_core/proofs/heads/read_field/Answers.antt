@@ -1,5 +1,6 @@
 use Rattle.std.proofs.Common.{rules}
-use Rattle.tiny_http_core.proofs.HeadReading.{are-ascii, field-read, field-malformed}
+use Rattle.tiny_http_core.proofs.HeadReading.{field-read, field-malformed}
+use Rattle.tiny_http_wire.proofs.TextLemmas.{are-ascii}
 use Rattle.tiny_http_core.proofs.heads.read_field.Goals as goal
 
 pub parse_header_line-requires : goal.parse_header_line-requires

@@ -1,5 +1,6 @@
 use Rattle.std.proofs.Common.{rules}
-use Rattle.tiny_http_core.proofs.HeadReading.{are-ascii, start-read, start-malformed}
+use Rattle.tiny_http_core.proofs.HeadReading.{start-read, start-malformed}
+use Rattle.tiny_http_wire.proofs.TextLemmas.{are-ascii}
 use Rattle.tiny_http_core.proofs.heads.read_start.Goals as goal
 
 pub parse_request_line-requires : goal.parse_request_line-requires
