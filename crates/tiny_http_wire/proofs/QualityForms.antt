@@ -1,14 +1,12 @@
 -- Lists of qualities, computed, are those of the definitions, and there is one of each value.
-use Rattle.std.proofs.Common.{◌≡◌, refl, sym, ap, ◌∙◌, subst, ℕ, ◌+◌, ◌-◌, ◌*◌, ◌^◌, ◌<◌, ◌≤◌, Bool, true, false, not, ◌&&◌, inl, inr, ◌⊎◌, List, [], ◌∷◌, ◌++◌, length, map, Option, Some, None, arith, append_assoc, add-zero, eqb-true, ltb, lt-ltb, ltb-true, codes}
+use Rattle.std.proofs.Common.{◌≡◌, refl, sym, ap, ◌∙◌, subst, ℕ, ◌+◌, ◌-◌, ◌*◌, ◌^◌, ◌≤◌, Bool, true, false, ◌&&◌, inl, inr, List, [], ◌∷◌, ◌++◌, length, map, Option, Some, None, arith, append_assoc, eqb-true, ltb, lt-ltb, ltb-true, codes}
 use Rattle.std.specs.Prelude.{◌==◌, nat_le, option_map, unwrap_or, if◌then◌else◌}
-use Rattle.std.specs.List.{list_all}
-use Rattle.std.specs.Int.{IsInRange}
 use Rattle.std.specs.Str.{all_ascii_digits}
 use Rattle.std.specs.Str.Parse.{AllDigits, digits_value}
-use Rattle.std.proofs.lemmas.Bool.{and_parts, false≢true}
+use Rattle.std.proofs.lemmas.Bool.{and_parts}
 use Rattle.std.proofs.lemmas.Bool.Decides.{nat_tests}
 use Rattle.std.proofs.lemmas.Str.Parse.{IsNumeralModel, numerals_by_value, tells_digits, tells_all_ascii_digits, not_in_digits}
-use Rattle.tiny_http_wire.specs.Bytes.{is_blank, HasNo, Trims, parts, comma, point, semicolon}
+use Rattle.tiny_http_wire.specs.Bytes.{is_blank, HasNo, parts, comma, point, semicolon}
 use Rattle.tiny_http_wire.specs.Reading.{skip_while, trimmed}
 use Rattle.tiny_http_wire.specs.Qualities.{IsQuality, GivesQuality, FirstQuality, Element, Elements, ListsQualities}
 use Rattle.tiny_http_wire.specs.QualityReading.{cut, units, thousandths, both, quality_cut, quality, behind_q, parameter_quality, first_quality, element_parts, element, qualities}

@@ -1,12 +1,12 @@
 -- Texts cut at ASCII bytes, and the steps that make up the reading of a list of qualities.
-use Rattle.std.proofs.Common.{◌≡◌, refl, sym, ap, ◌∙◌, subst, ℕ, zero, suc, ◌+◌, ◌-◌, ◌*◌, ◌^◌, ◌<◌, ◌≤◌, Bool, true, false, cond, not, ◌&&◌, inl, inr, List, [], ◌∷◌, ◌++◌, length, take, drop, get_or, Option, Some, None, IfSome, Bor, arith, eq-eqb, eqb-true, ◌⊎◌, length-append, append-nil, rules, ltb, lt-ltb, ltb-true}
-use Rattle.std.specs.Prelude.{◌==◌, ◌≢◌, nat_le, option_map, unwrap_or, slice_index, slice_range, codes, IfNone, if◌then◌else◌}
+use Rattle.std.proofs.Common.{◌≡◌, refl, sym, ap, ◌∙◌, subst, ℕ, zero, suc, ◌+◌, ◌-◌, ◌*◌, ◌^◌, ◌<◌, ◌≤◌, true, false, not, ◌&&◌, inl, inr, List, [], ◌∷◌, ◌++◌, length, take, drop, get_or, Option, Some, None, IfSome, Bor, arith, eq-eqb, eqb-true, ◌⊎◌, length-append, append-nil, ltb, lt-ltb, ltb-true}
+use Rattle.std.specs.Prelude.{◌==◌, ◌≢◌, nat_le, option_map, unwrap_or, slice_range, codes, IfNone, if◌then◌else◌}
 use Rattle.std.specs.List.{list_all}
 use Rattle.std.specs.Str.{IsUtf8, IsCharBoundary, all_ascii_digits}
 use Rattle.std.specs.Str.Parse.{IsNumeral, digits_value}
 use Rattle.std.specs.Option.{SomeIff}
 use Rattle.std.proofs.Math.Seq.{drop-append_seam, drop-append-add, take-append_seam, get_or-append_seam}
-use Rattle.std.proofs.lemmas.Bool.{and_parts, not-true, false≢true}
+use Rattle.std.proofs.lemmas.Bool.{and_parts, not-true}
 use Rattle.std.proofs.lemmas.Bool.Decides.{nat_tests}
 use Rattle.std.proofs.lemmas.Str.{IsUtf8-drop, IsCharBoundary-after_ascii, IsCharBoundary-before_ascii, IsCharBoundary-at_seam, IsCharBoundary-end}
 use Rattle.std.proofs.lemmas.Str.Pattern.{IsSplitOnceResult, split_parts}
@@ -187,8 +187,8 @@ not-q [] h = refl
 not-q (a ∷ []) h = refl
 not-q (a ∷ b ∷ rest) h =
     let e : (a == 113 && b == 61) ≡ false = not_true (a == 113 && b == 61) (λ t.
-      let k = and_parts (a == 113) (b == 61) t in
-      h rest (ap (λ (x : ℕ). x ∷ b ∷ rest) (eqb-true a 113 k.0) ∙ ap (λ (x : ℕ). 113 ∷ x ∷ rest) (eqb-true b 61 k.1)))
+    let k = and_parts (a == 113) (b == 61) t in
+    h rest (ap (λ (x : ℕ). x ∷ b ∷ rest) (eqb-true a 113 k.0) ∙ ap (λ (x : ℕ). 113 ∷ x ∷ rest) (eqb-true b 61 k.1)))
     in
     rw e refl
 

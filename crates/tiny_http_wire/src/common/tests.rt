@@ -49,9 +49,7 @@ fn codes_from_numbers(rt: HostRuntime) {
     assert_eq!(rt; code(-65536i32), 0);
     assert_eq!(rt; code(200i32), 200);
     assert_eq!(rt; code(65736u32), 200);
-    assert!(rt;
-        StatusCode(199) < StatusCode(200) && StatusCode(204) == StatusCode::from(204u8)
-    );
+    assert!(rt; StatusCode(199) < StatusCode(200) && StatusCode(204) == StatusCode::from(204u8));
 }
 
 #[test]
@@ -61,9 +59,7 @@ fn versions(rt: HostRuntime) -> Result<(), Fail> {
         assert_eq!(rt; shown.as_str(), text);
     }
     assert!(rt; HTTPVersion(0, 9) < HTTPVersion(1, 0) && HTTPVersion(1, 1) < HTTPVersion(2, 0));
-    assert!(rt;
-        HTTPVersion(1, 0) < HTTPVersion(1, 1) && HTTPVersion(1, 1) != HTTPVersion(1, 0)
-    );
+    assert!(rt; HTTPVersion(1, 0) < HTTPVersion(1, 1) && HTTPVersion(1, 1) != HTTPVersion(1, 0));
     Ok(())
 }
 
@@ -89,9 +85,7 @@ fn headers(rt: HostRuntime) -> Result<(), Fail> {
 fn methods(rt: HostRuntime) -> Result<(), Fail> {
     let own = AsciiString::from_ascii(b"get".to_vec(rt.alloc())?)?;
     let own = Method::NonStandard(own);
-    assert!(rt;
-        own != Method::Get && Method::Get == Method::Get && Method::Head != Method::Put
-    );
+    assert!(rt; own != Method::Get && Method::Get == Method::Get && Method::Head != Method::Put);
     for (method, name) in [
         (&Method::Get, "GET"),
         (&Method::Head, "HEAD"),

@@ -1,6 +1,4 @@
-use Rattle.std.proofs.Common.{rules, ap, ◌∙◌, ℕ, List}
-use Rattle.tiny_http_wire.specs.Bytes.{parts, semicolon}
-use Rattle.tiny_http_wire.specs.QualityReading.{first_quality}
+use Rattle.std.proofs.Common.{ap, ◌∙◌, ℕ, List}
 use Rattle.tiny_http_wire.proofs.QualityLemmas.{element-bare, element-parted}
 use Rattle.tiny_http_wire.proofs.header_value.element.Goals as goal
 

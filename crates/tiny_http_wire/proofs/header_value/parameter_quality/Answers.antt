@@ -1,6 +1,4 @@
 use Rattle.std.proofs.Common.{sym, ap, ◌∙◌, ◌++◌, ℕ, List, codes}
-use Rattle.tiny_http_wire.specs.Bytes.{is_blank}
-use Rattle.tiny_http_wire.specs.Reading.{trimmed}
 use Rattle.tiny_http_wire.specs.QualityReading.{quality, behind_q, parameter_quality}
 use Rattle.tiny_http_wire.proofs.QualityLemmas.{not-q, is-q}
 use Rattle.tiny_http_wire.proofs.header_value.parameter_quality.Goals as goal

@@ -1,4 +1,4 @@
-use Rattle.std.proofs.Common.{rules, ℕ, List, Bor, sym, subst, lit<, map}
+use Rattle.std.proofs.Common.{rules, ℕ, List, Bor, sym, subst, lit<}
 use Rattle.std.proofs.lemmas.Iterator.{YieldsList-from_map_by}
 use Rattle.std.proofs.lemmas.Iterator.Consumers.{map_from_collect, YieldsList-at}
 use Rattle.std.proofs.lemmas.Iterator.Splits.{YieldsList-from_str_split}
@@ -15,8 +15,8 @@ pub returns : goal.returns
 unfolding qualities
 returns c =
     let road = map_from_collect c.collect.result c.collect.ensures.ran
-      (YieldsList-from_map_by _ seen element
-      (YieldsList-at c.map.ensures.source (YieldsList-from_str_split 44 c.args.value.now (lit< tt) c.split.ensures.text c.split.ensures.has_more c.split.ensures.pattern))
-      c.map.ensures.closure (λ x r q k. search rules))
+    (YieldsList-from_map_by _ seen element
+    (YieldsList-at c.map.ensures.source (YieldsList-from_str_split 44 c.args.value.now (lit< tt) c.split.ensures.text c.split.ensures.has_more c.split.ensures.pattern))
+    c.map.ensures.closure (λ x r q k. search rules))
     in
     IfOk-weaker c.collect.result _ _ (λ items e. subst (ListsQualities c.args.value.now) (sym e) (lists-is c.args.value.now)) road

@@ -1,4 +1,4 @@
-use Rattle.std.proofs.Common.{sym, ap, ◌∙◌, ◌+◌, ◌*◌, ℕ, Option, Some, None, add-zero}
+use Rattle.std.proofs.Common.{sym, ap, ◌∙◌, ◌*◌, ℕ, Option, Some, None, add-zero}
 use Rattle.tiny_http_wire.specs.QualityReading.{both, units, thousandths}
 use Rattle.tiny_http_wire.proofs.QualityLemmas.{quality-whole, quality-parted}
 use Rattle.tiny_http_wire.proofs.header_value.quality.Goals as goal

@@ -1,5 +1,4 @@
-use Rattle.std.proofs.Common.{rules, ap, ◌∙◌, ◌*◌, ◌<◌, ℕ, Some, None, sym, subst, length, ◌^◌, ◌-◌, arith}
-use Rattle.std.proofs.lemmas.Bool.Decides.{nat_tests}
+use Rattle.std.proofs.Common.{rules, ap, ◌∙◌, ◌*◌, ◌<◌, ℕ, Some, None, sym, subst, length}
 use Rattle.tiny_http_wire.proofs.QualityLemmas.{no-thousandths, thousandths-long, scaled, scaled-bound}
 use Rattle.tiny_http_wire.proofs.header_value.thousandths.Goals as goal
 
