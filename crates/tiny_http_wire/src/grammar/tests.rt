@@ -16,6 +16,10 @@ fn is_ascii(text: &[u8]) -> bool
 fn request_lines(rt: HostRuntime) -> Result<(), Fail> {
     for (line, wanted) in [
         ("GET / HTTP/1.1", Some(("GET", "/", HTTPVersion(1, 1)))),
+        (
+            "GET /hello HTTP/1.1",
+            Some(("GET", "/hello", HTTPVersion(1, 1))),
+        ),
         ("GET / HTTP/1.1 more", Some(("GET", "/", HTTPVersion(1, 1)))),
         (
             "\t PATCH /a?b=c HTTP/3.0\r",
