@@ -15,3 +15,8 @@ pub mod RespondLemmas
 pub mod StepLemmas
 pub mod RunLemmas
 pub mod Rows
+pub mod TurnsLemmas
+pub mod TurnsOutcomes
+pub mod TurnsKept
+pub mod TurnsOrder
+pub mod TurnsTexts

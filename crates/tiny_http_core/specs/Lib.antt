@@ -13,3 +13,6 @@ pub mod Seen
 pub mod Sending
 pub mod Connection
 pub mod Reading
+pub mod Turns
+pub mod TurnsCalls
+pub mod TurnsLaw

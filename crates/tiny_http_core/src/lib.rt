@@ -11,3 +11,4 @@ pub mod laws;
 pub mod outlet;
 mod sending;
 pub mod source;
+pub mod turns;

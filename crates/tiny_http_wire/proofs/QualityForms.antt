@@ -9,7 +9,7 @@ use Rattle.std.proofs.lemmas.Str.Parse.{IsNumeralModel, numerals_by_value, tells
 use Rattle.tiny_http_wire.specs.Bytes.{is_blank, HasNo, parts, comma, point, semicolon}
 use Rattle.tiny_http_wire.specs.Reading.{skip_while, trimmed}
 use Rattle.tiny_http_wire.specs.Qualities.{IsQuality, GivesQuality, FirstQuality, Element, Elements, ListsQualities}
-use Rattle.tiny_http_wire.specs.QualityReading.{cut, units, thousandths, both, quality_cut, quality, behind_q, parameter_quality, first_quality, element_parts, element, qualities}
+use Rattle.tiny_http_wire.specs.QualityReading.{cut, short_number, thousandths, both, quality_cut, quality, behind_q, parameter_quality, first_quality, element_parts, element, qualities}
 use Rattle.tiny_http_wire.proofs.TextLemmas.{front, trims-is, trims-one, skip-blanks, ArePartsOf, parts-are}
 use Rattle.tiny_http_wire.proofs.QualityLemmas.{has-no, quality-whole, quality-parted}
 
@@ -29,9 +29,9 @@ both-some (Some x) None q h = cc
 both-some (Some x) (Some y) q h = (x, y, refl, refl, cc)
 
 -- the digits before the point
-units-is : (ds : List ℕ) (n : ℕ) → units ds ≡ Some n → (1 ≤ length ds) × (length ds ≤ 6) × AllDigits 10 ds × (n ≡ digits_value 10 ds)
-unfolding units
-units-is ds n h =
+short_number-is : (ds : List ℕ) (n : ℕ) → short_number ds ≡ Some n → (1 ≤ length ds) × (length ds ≤ 6) × AllDigits 10 ds × (n ≡ digits_value 10 ds)
+unfolding short_number
+short_number-is ds n h =
     let k = if-some _ _ n h in
     let a = and_parts _ _ k.0 in
     let b = and_parts _ _ a.1 in
@@ -39,9 +39,9 @@ units-is ds n h =
     let few : nat_le (length ds) 6 ≡ true = b.0 in
     (omega (arith, some), grind (arith, nat_tests), own.to ds b.1, k.1)
 
-units-one : (ds : List ℕ) → 1 ≤ length ds → length ds ≤ 6 → AllDigits 10 ds → units ds ≡ Some (digits_value 10 ds)
-unfolding units
-units-one ds some l d =
+short_number-one : (ds : List ℕ) → 1 ≤ length ds → length ds ≤ 6 → AllDigits 10 ds → short_number ds ≡ Some (digits_value 10 ds)
+unfolding short_number
+short_number-one ds some l d =
     let first : ltb 0 (length ds) ≡ true = lt-ltb 0 (length ds) some in
     let six : nat_le (length ds) 6 ≡ true = grind (arith, nat_tests) in
     rw (first, six, own.from ds d) refl
@@ -79,8 +79,8 @@ cut-is c (b ∷ bs) r h = cut-step c b bs (b == c) (cut c bs) r refl (cut-is c b
 
 quality-cut-is : (text : List ℕ) (o : Option (List ℕ × List ℕ)) (q : ℕ) → cut point text ≡ o → quality_cut text o ≡ Some q → IsQuality text q
 quality-cut-is text None q e h =
-    let b = both-some (units text) (Some 0) q h in
-    let u = units-is text b.0 b.2 in
+    let b = both-some (short_number text) (Some 0) q h in
+    let u = short_number-is text b.0 b.2 in
     let zero : 0 ≡ b.1 = cc in
     record {
       whole = text;
@@ -94,8 +94,8 @@ quality-cut-is text None q e h =
       value = b.4 ∙ ap (λ n. n * 1000 + b.1) u.3 ∙ ap (λ y. digits_value 10 text * 1000 + y) (sym zero);
     }
 quality-cut-is text (Some r) q e h =
-    let b = both-some (units r.0) (thousandths r.1) q h in
-    let u = units-is r.0 b.0 b.2 in
+    let b = both-some (short_number r.0) (thousandths r.1) q h in
+    let u = short_number-is r.0 b.0 b.2 in
     let t = thousandths-is r.1 b.1 b.3 in
     record {
       whole = r.0;
@@ -118,7 +118,7 @@ no-point ds d = has-no point ds (not_in_digits plain ds point d (λ r. let low :
 
 quality-one : (text : List ℕ) (q : ℕ) → IsQuality text q → quality text ≡ Some q
 quality-one text q i =
-    let u = units-one i.whole i.one_or_more i.at_most_six i.whole_digits in
+    let u = short_number-one i.whole i.one_or_more i.at_most_six i.whole_digits in
     let t = thousandths-one i.fraction i.at_most_three i.fraction_digits in
     let n = digits_value 10 i.whole in
     elim i.joins [

@@ -13,7 +13,7 @@ use Rattle.std.proofs.lemmas.Str.Pattern.{IsSplitOnceResult, split_parts}
 use Rattle.std.proofs.lemmas.Str.Parse.{IsNumeralModel, numerals_by_value, tells_all_ascii_digits, digits_value_short}
 use Rattle.std.proofs.lemmas.Int.Digits.{digits_value-lt}
 use Rattle.tiny_http_wire.specs.Bytes.{is_blank, HasNo, parts, point, semicolon}
-use Rattle.tiny_http_wire.specs.QualityReading.{cut, units, thousandths, both, quality, behind_q, parameter_quality, first_quality, element}
+use Rattle.tiny_http_wire.specs.QualityReading.{cut, short_number, thousandths, both, quality, behind_q, parameter_quality, first_quality, element}
 use Rattle.tiny_http_wire.proofs.AnswerLemmas.{none-from}
 use Rattle.tiny_http_wire.specs.Reading.{skip_while, skip_end_while, trimmed}
 use Rattle.tiny_http_wire.proofs.TextLemmas.{front, back, parts-word, parts-last}
@@ -99,28 +99,28 @@ own : IsNumeralModel (λ ds. all_ascii_digits ds ≡ true) (digits_value 10)
 own = numerals_by_value _ tells_all_ascii_digits
 
 -- one to six digits
-pub units-long : (ds : List ℕ) → 6 < length ds → None ≡ units ds
-unfolding units
-units-long ds l =
+pub short_number-long : (ds : List ℕ) → 6 < length ds → None ≡ short_number ds
+unfolding short_number
+short_number-long ds l =
     let long : nat_le (length ds) 6 ≡ false = grind (arith, nat_tests) in
     rw long (elim (ltb 0 (length ds)) as (λ v. None ≡ (if v && false then Some (digits_value 10 ds) else None)) [ true ↦ refl | false ↦ refl ])
 
-pub units-short : (ds : List ℕ) (r : Option ℕ) → length ds ≤ 6 → SomeIff r (IsNumeral 10 ds × (digits_value 10 ds < 2 ^ 32)) (digits_value 10 ds) → r ≡ units ds
-unfolding units
-units-short ds (Some n) l h =
+pub short_number-short : (ds : List ℕ) (r : Option ℕ) → length ds ≤ 6 → SomeIff r (IsNumeral 10 ds × (digits_value 10 ds < 2 ^ 32)) (digits_value 10 ds) → r ≡ short_number ds
+unfolding short_number
+short_number-short ds (Some n) l h =
     let some : ltb 0 (length ds) ≡ true = lt-ltb 0 (length ds) h.0.0.0 in
     let short : nat_le (length ds) 6 ≡ true = grind (arith, nat_tests) in
     let digits : all_ascii_digits ds ≡ true = own.from ds h.0.0.1 in
     rw (some, short, digits) (ap Some h.1)
-units-short ds None l h = none-from _ _ (λ t.
+short_number-short ds None l h = none-from _ _ (λ t.
     let first = and_parts _ _ t in
     let digits = (and_parts _ _ first.1).1 in
     let small = digits_value_short own ds 6 digits l in
     h ((ltb-true 0 (length ds) first.0, own.to ds digits), omega (arith, small)))
 
-pub units-bound : (ds : List ℕ) (r : Option ℕ) → length ds ≤ 6 → SomeIff r (IsNumeral 10 ds × (digits_value 10 ds < 2 ^ 32)) (digits_value 10 ds) → IfSome r (λ n. (n < 10 ^ length ds) × (n < 1000000))
-units-bound ds None l h = tt
-units-bound ds (Some n) l h =
+pub short_number-bound : (ds : List ℕ) (r : Option ℕ) → length ds ≤ 6 → SomeIff r (IsNumeral 10 ds × (digits_value 10 ds < 2 ^ 32)) (digits_value 10 ds) → IfSome r (λ n. (n < 10 ^ length ds) × (n < 1000000))
+short_number-bound ds None l h = tt
+short_number-bound ds (Some n) l h =
     let first : digits_value 10 ds < 10 ^ length ds = digits_value-lt 10 ds h.0.0.1 in
     let second : digits_value 10 ds < 10 ^ 6 = digits_value_short own ds 6 (own.from ds h.0.0.1) l in
     (subst (λ k. k < 10 ^ length ds) (sym h.1) first, subst (λ k. k < 1000000) (sym h.1) second)
@@ -137,8 +137,8 @@ thousandths-long ds l =
     let long : nat_le (length ds) 3 ≡ false = grind (arith, nat_tests) in
     rw long refl
 
-pub scaled : (ds : List ℕ) (o : Option ℕ) → o ≡ units ds → 0 < length ds → length ds ≤ 3 → option_map (λ n. n * 10 ^ (3 - length ds)) o ≡ thousandths ds
-unfolding units thousandths
+pub scaled : (ds : List ℕ) (o : Option ℕ) → o ≡ short_number ds → 0 < length ds → length ds ≤ 3 → option_map (λ n. n * 10 ^ (3 - length ds)) o ≡ thousandths ds
+unfolding short_number thousandths
 scaled ds o e some l =
     let first : ltb 0 (length ds) ≡ true = lt-ltb 0 (length ds) some in
     let six : nat_le (length ds) 6 ≡ true = grind (arith, nat_tests) in
@@ -173,11 +173,11 @@ cut-with c xs (b ∷ bs) f e h =
     let k = and_parts (not (b == c)) (list_all (λ x. not (x == c)) bs) h in
     rw (e, not-true (b == c) k.0, cut-with c (bs ++ c ∷ f) bs f refl k.1) refl
 
-pub quality-whole : (text : List ℕ) → HasNo point text → quality text ≡ both (units text) (Some 0)
+pub quality-whole : (text : List ℕ) → HasNo point text → quality text ≡ both (short_number text) (Some 0)
 unfolding quality
 quality-whole text h = rw (cut-without point text h) refl
 
-pub quality-parted : (text w f : List ℕ) → text ≡ w ++ point ∷ f → HasNo point w → quality text ≡ both (units w) (thousandths f)
+pub quality-parted : (text w f : List ℕ) → text ≡ w ++ point ∷ f → HasNo point w → quality text ≡ both (short_number w) (thousandths f)
 unfolding quality
 quality-parted text w f e h = rw (cut-with point text w f e h) refl
 

@@ -11,8 +11,8 @@ cut c [] = None
 cut c (b ∷ bs) = if b == c then Some ([], bs) else option_map (λ r. (b ∷ r.0, r.1)) (cut c bs)
 
 -- the number of one to six digits
-unfoldable pub units : List ℕ → Option ℕ
-units ds = if nat_lt 0 (length ds) && (nat_le (length ds) 6 && all_ascii_digits ds) then Some (digits_value 10 ds) else None
+unfoldable pub short_number : List ℕ → Option ℕ
+short_number ds = if nat_lt 0 (length ds) && (nat_le (length ds) 6 && all_ascii_digits ds) then Some (digits_value 10 ds) else None
 
 -- the thousandths of up to three digits behind a point
 unfoldable pub thousandths : List ℕ → Option ℕ
@@ -24,8 +24,8 @@ both (Some whole) None = None
 both None fraction = None
 
 abbrev pub quality_cut : List ℕ → Option (List ℕ × List ℕ) → Option ℕ
-quality_cut text None = both (units text) (Some 0)
-quality_cut text (Some r) = both (units r.0) (thousandths r.1)
+quality_cut text None = both (short_number text) (Some 0)
+quality_cut text (Some r) = both (short_number r.0) (thousandths r.1)
 
 unfoldable pub quality : List ℕ → Option ℕ
 quality text = quality_cut text (cut point text)

@@ -5,13 +5,13 @@ ghost use Rattle.std.specs.Str.Parse.{IsNumeral, digits_value};
 ghost use Rattle.tiny_http_wire.specs.Bytes.{HasNo, is_blank, parts, semicolon};
 ghost use Rattle.tiny_http_wire.specs.Reading.{skip_while, trimmed};
 ghost use Rattle.tiny_http_wire.specs.Qualities.{ListsQualities};
-ghost use Rattle.tiny_http_wire.specs.QualityReading.{units, thousandths, quality, parameter_quality, first_quality, element};
+ghost use Rattle.tiny_http_wire.specs.QualityReading.{short_number, thousandths, quality, parameter_quality, first_quality, element};
 
 use crate::grammar;
 use std::alloc::{AllocError, Global};
 
-// The quality of an element that names none.
-const WHOLE: u32 = 1000;
+// The quality of an element that gives none that can be read.
+const DEFAULT_QUALITY: u32 = 1000;
 
 // The text without white space at its front.
 fn trim_front(text: &str) -> &str
@@ -51,8 +51,8 @@ fn number(digits: &str) -> Option<u32>
 }
 
 // The number that one to six digits write.
-fn units(digits: &str) -> Option<u32>
-    ensures value { result ≡ units digits.now }
+fn short_number(digits: &str) -> Option<u32>
+    ensures value { result ≡ short_number digits.now }
     ensures bound { IfSome result (λ n. (n < 10 ^ length digits.now) × (n < 1000000)) }
 {
     if digits.len() > 6 {
@@ -85,7 +85,7 @@ fn thousandths(digits: &str) -> Option<u32>
     if digits.len() > 3 {
         return None;
     }
-    Some(units(digits)? * scale(digits.len()))
+    Some(short_number(digits)? * scale(digits.len()))
 }
 
 // The thousandths that a quality writes.
@@ -93,8 +93,8 @@ fn quality(text: &str) -> Option<u32>
     ensures { result ≡ quality text.now }
 {
     match cut(text, '.') {
-        None => Some(units(text)? * 1000),
-        Some((whole, fraction)) => Some(units(whole)? * 1000 + thousandths(fraction)?),
+        None => Some(short_number(text)? * 1000),
+        Some((whole, fraction)) => Some(short_number(whole)? * 1000 + thousandths(fraction)?),
     }
 }
 
@@ -117,7 +117,7 @@ fn first_quality(parameters: &str) -> u32
         }
         rest = behind;
     }
-    parameter_quality(rest).unwrap_or(WHOLE)
+    parameter_quality(rest).unwrap_or(DEFAULT_QUALITY)
 }
 
 // An element's name and quality.
@@ -125,14 +125,14 @@ fn element(text: &str) -> (&str, u32)
     ensures { (result.0.now, result.1) ≡ element text.now }
 {
     match cut(text, ';') {
-        None => (trim(text), WHOLE),
+        None => (trim(text), DEFAULT_QUALITY),
         Some((name, parameters)) => (trim(name), first_quality(parameters)),
     }
 }
 
 /// Reads the value of `TE`, or of a header like it, as a list: the names between the commas, in
-/// their order, each with its quality in thousandths (RFC 9110, section 12.4.2; the form is
-/// tiny_http's, with whole numbers). A name stands before the first semicolon of its element, and is
+/// their order, each with its quality in thousandths (RFC 9110, section 12.4.2; as tiny_http, but for
+/// the form of the numbers). A name stands before the first semicolon of its element, and is
 /// trimmed of white space (bytes 9 to 13 and 32). Its quality is that of the first of the further
 /// parts that begins, behind white space, with `q=` and can be read: one to six digits, and
 /// optionally a point and up to three digits more, between white space. Where there is none it is

@@ -11,7 +11,8 @@ ghost use Rattle.tiny_http_wire.specs.declared.device.Stop.{Stop};
 ghost use Rattle.tiny_http_wire.specs.Bytes.{AreAscii, HasNo, IsTrimmed, IsWord, colon};
 ghost use Rattle.tiny_http_wire.specs.Chunks.{WholeChunks, CutChunks};
 ghost use Rattle.tiny_http_wire.specs.Common.{IsSameButForCase, same_name, is_code, code_order, is_version, version_order, IsBefore, HasItsOwnName, method_text, header_text};
-ghost use Rattle.tiny_http_wire.specs.Heads.{IsHeader, method_of};
+ghost use Rattle.tiny_http_wire.specs.Heads.{IsHeader, method_of, RequestLine, HeaderLine};
+ghost use Rattle.tiny_http_wire.specs.Reading.{request_line, header_line};
 ghost use Rattle.tiny_http_wire.specs.Qualities.{ListsQualities};
 
 use crate::common::{HTTPVersion, HeaderField, Method, StatusCode};
@@ -65,13 +66,20 @@ pub fn header_from_its_text()
     ensures one { (text : List ℕ) (h k : Header) → IsHeader text h → IsHeader text k → h ≡ k }
 {}
 
+/// The plain readings of a request line and of a header line, which the parsers equal, are the
+/// grammar's (RFC 9112, sections 3 and 5).
+pub fn lines_by_the_grammar()
+    ensures request { (text path : List ℕ) (method : AnyMethod) (version : Version) → (request_line text ≡ Some (method, path, version)) ↔ RequestLine text method path version }
+    ensures header { (text : List ℕ) (h : Header) → (header_line text ≡ Some h) ↔ HeaderLine text h.field h.value }
+{}
+
 /// Each value lists names with qualities in one way.
 pub fn one_quality_list()
     ensures some { (value : List ℕ) → (list : List (List ℕ × ℕ)) × ListsQualities value list }
     ensures one { (value : List ℕ) (list other : List (List ℕ × ℕ)) → ListsQualities value list → ListsQualities value other → list ≡ other }
 {}
 
-/// Each bytes with their stop are a chunked body and a rest, or a cut one: one of the two, in one way (RFC 9112, section 7.1).
+/// All bytes with their stop are a chunked body and a rest, or a cut one: one of the two, in one way (RFC 9112, section 7.1).
 pub fn one_chunked_body()
     ensures some { (bytes : List ℕ) (stop : Stop) → ((body : List ℕ) × (rest : List ℕ) × WholeChunks bytes body rest) ⊎ ((body : List ℕ) × (kind : ErrorKind) × CutChunks bytes stop body kind) }
     ensures one_whole { (bytes body rest other remainder : List ℕ) → WholeChunks bytes body rest → WholeChunks bytes other remainder → (body ≡ other) × (rest ≡ remainder) }

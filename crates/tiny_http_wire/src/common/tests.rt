@@ -89,6 +89,9 @@ fn versions(rt: HostRuntime) -> Result<(), Fail> {
         let shown = format!(in rt.alloc(); "{}", HTTPVersion::from(version))?;
         assert_eq!(rt; shown.as_str(), text);
     }
+    let version = HTTPVersion(1, 1);
+    let shown = format!(in rt.alloc(); "{version:>9}")?;
+    assert_eq!(rt; shown.as_str(), "1.1");
     assert!(rt; HTTPVersion(0, 9) < HTTPVersion(1, 0) && HTTPVersion(1, 1) < HTTPVersion(2, 0));
     assert!(rt; HTTPVersion(1, 0) < HTTPVersion(1, 1) && HTTPVersion(1, 1) != HTTPVersion(1, 0));
     Ok(())
