@@ -146,12 +146,12 @@ rest-at : (last : Bool) (rest : List ℕ) (f : Feed) (p : Option Feed) (more : L
 rest-at true rest f p more at items = no-items f.stop more items
 rest-at false rest f p more at items = let P : Option Feed → Type 0 = λ x. RestAt false false x more in subst P (sym at) items
 
-abbrev pub after_handed : Kept → Head → List ℕ → Option Feed → Kept
-after_handed k h body p = record k { numbers = k.numbers + 1; waiting = Some (kept_of (request_of h body)); over = h.is_last; feed = p }
+abbrev pub after_handed : Kept → HttpDate → Head → List ℕ → Option Feed → Kept
+after_handed k date h body p = record k { numbers = k.numbers + 1; waiting = Some (kept_of date (request_of h body)); over = h.is_last; feed = p }
 
 pub ask-handed : (client : Feed) (before : Sink) (k : Kept) (s : State) (date : HttpDate) (h : Head) (body : Vec ℕ) (p : Option Feed) → Stands client before k s → k.ended ≡ false → k.waiting ≡ None → k.over ≡ false
     → ReadsHead k.feed p (read.Request h body) → GoesOn k.feed p
-    → Answered client before (after_handed k h body.items p) s date Ask (Handed k.numbers (head_message h) (head_framing h))
+    → Answered client before (after_handed k date h body.items p) s date Ask (Handed k.numbers (head_message h) (head_framing h))
 ask-handed client before k s date h body p st e w o reads goes =
     let g = going client before k s st e w o in
     let P : Option Feed → Type 0 = λ x. ReadsHead x p (read.Request h body) in

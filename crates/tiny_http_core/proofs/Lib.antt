@@ -12,6 +12,7 @@ pub mod SendLemmas
 pub mod SlotLemmas
 pub mod AskLemmas
 pub mod RespondLemmas
+pub mod DropLemmas
 pub mod StepLemmas
 pub mod RunLemmas
 pub mod Rows

@@ -12,54 +12,76 @@ use Rattle.tiny_http_wire.specs.Answer.{Text, Ending, Broken, Printing, text_of}
 use Rattle.tiny_http_core.specs.declared.driver.Waiting.{Waiting}
 use Rattle.tiny_http_core.specs.Pipeline.{Item, Asks, Refuses, Request}
 use Rattle.tiny_http_core.specs.Slots.{ResponseValue, Slot, Stage, Waits, Answered as AnsweredBy, ByServer, Raw, Upgraded, is_over, is_finished, is_broken, is_slot_broken, segment, joined, breaks_off, new_slot, turn_has_come, to_request, text_if, IsGathered}
-use Rattle.tiny_http_core.specs.Steps.{Respond, Replied, Done, NoSuch, Use, Reported, Outcome, Reached, unchanged, changes, finished, takes, fault_in, fault_of_answer, at_item, at_slot, at_number}
+use Rattle.tiny_http_core.specs.Steps.{Asked, outcome, Respond, Replied, Done, NoSuch, Use, Reported, Outcome, Reached, unchanged, changes, finished, takes, fault_in, fault_of_answer, at_item, at_slot, at_number}
 use Rattle.tiny_http_core.specs.Conversation.{Failure, State, has_output_ended, IsFront, FailsWithin, FailsTold, FailsBehind, broken_reply, Writes, Has, GathersAt, MayLack}
 use Rattle.tiny_http_core.specs.Sending.{Sent, Lost, SendsText, Sends}
 use Rattle.tiny_http_core.specs.Connection.{Kept, kept_of, WaitsLast, WaitsFor, is_plain_item, OutputAt, Stands}
 use Rattle.tiny_http_core.proofs.AskLemmas.{Answered, step-unchanged, all-finished, lost-front, count-next}
 use Rattle.tiny_http_core.proofs.SlotLemmas.{all-snoc, all-front, get-all, get-front, get-last, set-last, take-front, joined-snoc, joined-broken, joined-waiting, breaks-snoc, breaks-waiting}
 
--- a number that is finished takes no response
-not-taken : (stage : Stage) (owed : Bool) (n : ℕ) (v : ResponseValue) → is_over stage ≡ true → takes stage owed (Respond n v) ≡ false
-not-taken Waits owed n v e = cc
-not-taken (AnsweredBy r d f) owed n v e = refl
-not-taken ByServer owed n v e = refl
-not-taken (Raw w c) owed n v e = refl
-not-taken (Upgraded p r d w c) owed n v e = refl
+-- a number that is finished takes no such step
+abbrev pub TakesNone : Asked → Type 0
+TakesNone step = (stage : Stage) (owed : Bool) → is_over stage ≡ true → takes stage owed step ≡ false
 
-nothing-at : (date : HttpDate) (old : Reached) (n : ℕ) (v : ResponseValue) → ((x : Slot) → slice_get old.slots n ≡ Some x → is_finished x ≡ true) → at_number true date old n (Respond n v) ≡ unchanged old NoSuch
-nothing-at date old n v h = at (slice_get old.slots n) refl
+pub respond-not_taken : (n : ℕ) (v : ResponseValue) → TakesNone (Respond n v)
+respond-not_taken n v Waits owed e = cc
+respond-not_taken n v (AnsweredBy r d f) owed e = refl
+respond-not_taken n v ByServer owed e = refl
+respond-not_taken n v (Raw w c) owed e = refl
+respond-not_taken n v (Upgraded p r d w c) owed e = refl
+
+nothing-at : (date : HttpDate) (old : Reached) (n : ℕ) (step : Asked) → TakesNone step → ((x : Slot) → slice_get old.slots n ≡ Some x → is_finished x ≡ true) → at_number true date old n step ≡ unchanged old NoSuch
+nothing-at date old n step free h = at (slice_get old.slots n) refl
   where
-    of : (x : Slot) (item : Item) → is_finished x ≡ true → at_item true date old n (Respond n v) x item ≡ unchanged old NoSuch
+    of : (x : Slot) (item : Item) → is_finished x ≡ true → at_item true date old n step x item ≡ unchanged old NoSuch
     of x (Refuses a b c) f = refl
-    of x (Asks r) f = rw (not-taken x.stage x.owed n v f) refl
+    of x (Asks r) f = rw (free x.stage x.owed f) refl
 
-    at : (o : Option Slot) → slice_get old.slots n ≡ o → at_slot true date old n (Respond n v) o ≡ unchanged old NoSuch
+    at : (o : Option Slot) → slice_get old.slots n ≡ o → at_slot true date old n step o ≡ unchanged old NoSuch
     at None e = refl
     at (Some x) e = of x x.item (h x e)
 
-pub respond-none : (client : Feed) (before : Sink) (k : Kept) (s : State) (date : HttpDate) (n : ℕ) (v : ResponseValue) → Stands client before k s → k.waiting ≡ None → Answered client before k s date (Respond n v) NoSuch
-respond-none client before k s date n v st w =
-    let fin = all-finished k s w st.waits in
-    step-unchanged client before k s date (Respond n v) NoSuch st (nothing-at date s.reached n v (λ x e. get-all is_finished s.reached.slots x n fin e))
-
 -- the number that waits
-waits-last : (k : Kept) (s : State) (w : Waiting) → k.waiting ≡ Some w → WaitsFor k.waiting s.reached.slots → WaitsLast w s.reached.slots
+pub waits-last : (k : Kept) (s : State) (w : Waiting) → k.waiting ≡ Some w → WaitsFor k.waiting s.reached.slots → WaitsLast w s.reached.slots
 waits-last k s w e h = let P : Option Waiting → Type 0 = λ x. WaitsFor x s.reached.slots in subst P e h
 
 -- its place
 place-of : (w : Waiting) (slots : List Slot) (h : WaitsLast w slots) → length slots ≡ length h.before + 1
 place-of w slots h = ap length h.last ∙ length-append h.before (new_slot h.date (Asks h.request) ∷ [])
 
-pub respond-other : (client : Feed) (before : Sink) (k : Kept) (s : State) (date : HttpDate) (n : ℕ) (v : ResponseValue) (w : Waiting) → Stands client before k s → k.waiting ≡ Some w → (n + 1 ≡ k.numbers → ⊥)
-    → Answered client before k s date (Respond n v) NoSuch
-respond-other client before k s date n v w st e ne =
-    let h = waits-last k s w e st.waits in
-    let size = place-of w s.reached.slots h in
-    let P : List Slot → Type 0 = λ l. (x : Slot) → slice_get l n ≡ Some x → is_finished x ≡ true in
-    let not_last : n ≡ length h.before → ⊥ = λ q. ne (ap (λ x. x + 1) q ∙ sym size ∙ st.numbers) in
-    let all : P (h.before ++ new_slot h.date (Asks h.request) ∷ []) = λ x q. ⊎_elim (λ f. f) (λ last. absurd (not_last last)) (get-front is_finished h.before x (new_slot h.date (Asks h.request)) n h.finished q) in
-    step-unchanged client before k s date (Respond n v) NoSuch st (nothing-at date s.reached n v (subst P (sym h.last) all))
+-- no request of this number takes the step
+pub no-such : (client : Feed) (before : Sink) (k : Kept) (s : State) (date : HttpDate) (n : ℕ) (step : Asked) → outcome true date s.reached step ≡ at_number true date s.reached n step → TakesNone step → Stands client before k s → (n + 1 ≡ k.numbers → k.waiting ≡ None)
+    → Answered client before k s date step NoSuch
+no-such client before k s date n step at free st other = step-unchanged client before k s date step NoSuch st (at ∙ nothing-at date s.reached n step free (over k.waiting refl))
+  where
+    over : (w : Option Waiting) → k.waiting ≡ w → (x : Slot) → slice_get s.reached.slots n ≡ Some x → is_finished x ≡ true
+    over None e = λ x q. get-all is_finished s.reached.slots x n (all-finished k s e st.waits) q
+    over (Some w) e =
+        let h = waits-last k s w e st.waits in
+        let size = place-of w s.reached.slots h in
+        let P : List Slot → Type 0 = λ l. (x : Slot) → slice_get l n ≡ Some x → is_finished x ≡ true in
+        let not_last : n ≡ length h.before → ⊥ = λ q. let none : Some w ≡ None = sym e ∙ other (ap (λ x. x + 1) q ∙ sym size ∙ st.numbers) in cc in
+        let all : P (h.before ++ new_slot h.date (Asks h.request) ∷ []) = λ x q. ⊎_elim (λ f. f) (λ last. absurd (not_last last)) (get-front is_finished h.before x (new_slot h.date (Asks h.request)) n h.finished q) in
+        subst P (sym h.last) all
+
+-- the place of the number that waits
+pub record AtLast (slots bs : List Slot) (s0 : Slot) (n : ℕ) : Type 0 where
+  pub get : slice_get slots n ≡ Some s0
+  pub set : (s1 : Slot) → slice_set slots n s1 ≡ bs ++ s1 ∷ []
+  pub turn : turn_has_come n slots ≡ true
+  pub size : length slots ≡ length bs + 1
+
+pub at-last-place : (w : Waiting) (slots : List Slot) (h : WaitsLast w slots) (n : ℕ) → n + 1 ≡ length slots → AtLast slots h.before (new_slot h.date (Asks h.request)) n
+at-last-place w slots h n num =
+    let s0 = new_slot h.date (Asks h.request) in
+    let size = place-of w slots h in
+    let place : n ≡ length h.before = omega (arith, size, num) in
+    record {
+      get = ap (λ l. slice_get l n) h.last ∙ ap (λ x. slice_get (h.before ++ s0 ∷ []) x) place ∙ get-last h.before s0;
+      set = λ s1. ap (λ l. slice_set l n s1) h.last ∙ ap (λ x. slice_set (h.before ++ s0 ∷ []) x s1) place ∙ set-last h.before s0 s1;
+      turn = ap (λ l. turn_has_come n l) h.last ∙ ap (λ x. turn_has_come x (h.before ++ s0 ∷ [])) place ∙ ap (list_all is_finished) (take-front h.before s0) ∙ h.finished;
+      size = size;
+    }
 
 -- the slot behind the response
 abbrev pub answered_slot : HttpDate → Request → ResponseValue → HttpDate → Bool → Slot
@@ -91,13 +113,8 @@ pub respond-said : (client : Feed) (before : Sink) (k : Kept) (s : State) (date 
 respond-said client before k s date n v w found sink ended reply st num h lack said =
     let s0 = new_slot h.date (Asks h.request) in
     let s1 = answered_slot h.date h.request v date found in
-    let size = place-of w s.reached.slots h in
-    let place : n ≡ length h.before = omega (arith, size, st.numbers, num) in
-    let get : slice_get s.reached.slots n ≡ Some s0 = ap (λ l. slice_get l n) h.last ∙ ap (λ x. slice_get (h.before ++ s0 ∷ []) x) place ∙ get-last h.before s0 in
-    let set : slice_set s.reached.slots n s1 ≡ h.before ++ s1 ∷ [] = ap (λ l. slice_set l n s1) h.last ∙ ap (λ x. slice_set (h.before ++ s0 ∷ []) x s1) place ∙ set-last h.before s0 s1 in
-    let turn : turn_has_come n s.reached.slots ≡ true =
-    ap (λ l. turn_has_come n l) h.last ∙ ap (λ x. turn_has_come x (h.before ++ s0 ∷ [])) place ∙ ap (list_all is_finished) (take-front h.before s0) ∙ h.finished in
-    let is = at-last date h.date s.reached n v h.request found get turn in
+    let last = at-last-place w s.reached.slots h n (num ∙ sym st.numbers) in
+    let is = at-last date h.date s.reached n v h.request found last.get last.turn in
     let slots = h.before ++ s1 ∷ [] in
     let plain : list_all (λ (x : Slot). is_plain_item x.item) s.reached.slots ≡ true = st.plain in
     let A : List Slot → Type 0 = λ l. list_all (λ (x : Slot). is_plain_item x.item) l ≡ true in
@@ -106,10 +123,10 @@ respond-said client before k s date n v w found sink ended reply st num h lack s
     let R : List Slot → Reached = λ l. record { slots = l; rest = s.reached.rest; ended = s.reached.ended } in
     let W : List Slot → Type 0 = λ l. Writes (used (own_text found v h.request date)) s Done l reply said.failure in
     let G : Outcome → Type 0 = λ x. Has x s reply new in
-    let has = subst G (sym is) (ap R (sym set), subst W (sym set) said.writes) in (
+    let has = subst G (sym is) (ap R (sym (last.set s1)), subst W (sym (last.set s1)) said.writes) in (
       new,
       record {
-        numbers = length-append h.before (s1 ∷ []) ∙ sym size ∙ st.numbers;
+        numbers = length-append h.before (s1 ∷ []) ∙ sym last.size ∙ st.numbers;
         ended = st.ended;
         waits = all-snoc is_finished h.before s1 h.finished refl;
         plain = all-snoc (λ (x : Slot). is_plain_item x.item) h.before s1 front.0 front.1;
@@ -117,7 +134,7 @@ respond-said client before k s date n v w found sink ended reply st num h lack s
         source = st.source;
         output = said.output;
       },
-      inl (found, lacks found lack get, has),
+      inl (found, lacks found lack last.get, has),
     )
   where
     lacks : (t : Bool) → (t ≡ true) ⊎ IsGathered v.answer (to_request h.request date) → slice_get s.reached.slots n ≡ Some (new_slot h.date (Asks h.request)) → MayLack t date s.reached (Respond n v)
@@ -256,9 +273,9 @@ said-sent before sink new e ended bs s0 s1 was text r reply None same slots h fi
 abbrev pub printed_as : Waiting → HttpDate → Printing
 printed_as w date = record { version = w.version; request_headers = []; no_body = w.is_head; upgrade = None; date = date }
 
-same-text : (v : ResponseValue) (r : Request) (w : Waiting) (date : HttpDate) → w ≡ kept_of r → text_of v.answer v.content (printed_as w date) ≡ text_of v.answer v.content (to_request r date)
+same-text : (v : ResponseValue) (r : Request) (w : Waiting) (asked date : HttpDate) → w ≡ kept_of asked r → text_of v.answer v.content (printed_as w date) ≡ text_of v.answer v.content (to_request r date)
 unfolding text_of
-same-text v r w date e = let P : Waiting → Text = λ x. text_of v.answer v.content (printed_as x date) in ap P e
+same-text v r w asked date e = let P : Waiting → Text = λ x. text_of v.answer v.content (printed_as x date) in ap P e
 
 pub respond-sent : {T : Type 0} (client : Feed) (before : Sink) (k : Kept) (s : State) (date : HttpDate) (n : ℕ) (v : ResponseValue) (w : Waiting) (new : Sink) (ended : Bool) (r : Result T Error) (reply : Replied) → Stands client before k s → before.failures < 2 ^ 64 - 1
     → k.waiting ≡ Some w → n + 1 ≡ k.numbers → k.output_ended ≡ false → Sends k.sink new ended r v.answer v.content (printed_as w date) → reply ≡ reply_to r
@@ -272,7 +289,7 @@ respond-sent {T = T} client before k s date n v w new ended r reply st low e num
     ⊎_elim
     (λ x. respond-said client before k s date n v w true new ended reply st num h (inl refl)
     (said-sent {T = T} before k.sink new k.output_ended ended h.before s0 (answered_slot h.date h.request v date true) s (own_text true v h.request date) r reply s.failure refl h.last out h.finished refl refl refl refl low z
-    (subst Q (same-text v h.request w date h.same) x) told))
+    (subst Q (same-text v h.request w h.date date h.same) x) told))
     (λ x. respond-said client before k s date n v w false new ended reply st num h (inr (refl, refl, x.0.2))
     (said-sent {T = T} before k.sink new k.output_ended ended h.before s0 (answered_slot h.date h.request v date false) s (own_text false v h.request date) r reply s.failure refl h.last out h.finished refl refl refl refl low z x.1 told))
     sends

@@ -142,6 +142,7 @@ rise-along a b c e (inr h) = inr (h ∙ ap next_count e)
 
 fail-along : {D : Type 0} (feed : D → Option Feed) (a b c : Sink) (s : Step D) (kind : ErrorKind) → b.failures ≡ a.failures → MayFail feed b c s kind → MayFail feed a c s kind
 fail-along feed a b c step.Ask kind e h = h
+fail-along {D = D} feed a b c (step.Drop n) kind e h = elim h [ ]
 fail-along feed a b c (step.Respond n r) kind e (inl h) = inl (h ∙ ap next_count e)
 fail-along feed a b c (step.Respond n r) kind e (inr h) = inr h
 

@@ -16,9 +16,7 @@ use Rattle.tiny_http_wire.specs.declared.coding.FramingHeader.{FramingHeader}
 use Rattle.tiny_http_wire.specs.declared.coding.FramingHeader.TheVariants.{ContentLength}
 use Rattle.tiny_http_wire.specs.declared.device.Stop.{Stop}
 use Rattle.tiny_http_wire.specs.declared.device.Stop.TheVariants.{End, Fault}
-use Rattle.tiny_http_core.specs.declared.exchange.Refusal.{Refusal}
-use Rattle.tiny_http_core.specs.HeadReads.{refused}
-use Rattle.tiny_http_core.specs.Slots.{segment, new_slot}
+use Rattle.tiny_http_core.specs.Slots.{own_printing, own_text}
 use Rattle.tiny_http_core.specs.Sending.{Sent, Lost, EndsQuietly, Abandons, SendsText, Sends, SendsQuietly, SendsUnlessEnded, FailsOnce, BreakOff, IsHonest}
 
 pub or-false : (a b : Bool) → (a || b) ≡ false → (a ≡ false) × (b ≡ false)
@@ -158,13 +156,11 @@ pub ended-once : (T : Type 0) (a b c : Sink) (n : ℕ) (e : Error) (ended : Bool
 ended-once T a b c n e ended (inl u) same m z = ended-by a b c n ended (b.failures == n) refl same (inl u.failures) m z
 ended-once T a b c n e ended (inr u) same m z = ended-by a b c n ended (b.failures == n) refl same (inr u.failures) m z
 
--- the answer to a refused head is whole
-abbrev pub bad_request : HTTPVersion → HttpDate → Printing
-bad_request v date = record { version = v; request_headers = []; no_body = false; upgrade = None; date = date }
-
-bad-request-whole : (v : HTTPVersion) (date : HttpDate) → (text_of (answer_with 400 [] 0) (ending []) (bad_request v date)).ending ≡ Whole
+-- an answer of the server's own is whole
+pub own-whole : (status : ℕ) (v : HTTPVersion) (withheld : Bool) (date : HttpDate) → (text_of (answer_with status [] 0) (ending []) (own_printing v withheld date)).ending ≡ Whole
 unfolding text_of
-bad-request-whole v date = refl
+own-whole status v withheld date =
+    elim (is_withheld withheld status) as (λ t. (unless t (identity_body 0 (ending []))).ending ≡ Whole) [ true ↦ refl | false ↦ refl ]
 
 broken-whole : {G : Type 0} (text : Text) (kind : ErrorKind) → text.ending ≡ Whole → text.ending ≡ Broken kind → G
 broken-whole text kind w b = let e : Whole ≡ Broken kind = sym w ∙ b in cc
@@ -173,14 +169,14 @@ quietly : {T : Type 0} (a b : Sink) (ended : Bool) (r : Result T Error) (text : 
 quietly a b ended (Ok x) text w h = inl (h.2, h.3, h.1)
 quietly a b ended (Err e) text w h = ⊎_elim (λ k. broken-whole text (error_kind e) w k.0) (λ k. inr (h.0, h.1, error_kind e, k)) h.2
 
-pub bad-request-sent : {T : Type 0} (x : Refusal) (date : HttpDate) (a b : Sink) (was ended : Bool) (r : Result T Error) → was ≡ false → Sends a b ended r (answer_with 400 [] 0) (ending []) (bad_request x.version date)
-    → SendsUnlessEnded was a b ended (segment (new_slot date (refused x)))
-bad-request-sent x date a b was ended r open_is h =
-    let P : Bool → Type 0 = λ t. SendsUnlessEnded t a b ended (segment (new_slot date (refused x))) in
+pub own-sent : {T : Type 0} (status : ℕ) (v : HTTPVersion) (withheld : Bool) (date : HttpDate) (a b : Sink) (was ended : Bool) (r : Result T Error) → was ≡ false → Sends a b ended r (answer_with status [] 0) (ending []) (own_printing v withheld date)
+    → SendsUnlessEnded was a b ended (own_text status v withheld date)
+own-sent status v withheld date a b was ended r open_is h =
+    let P : Bool → Type 0 = λ t. SendsUnlessEnded t a b ended (own_text status v withheld date) in
     subst P (sym open_is) (by-cases h)
   where
-    by-cases : Sends a b ended r (answer_with 400 [] 0) (ending []) (bad_request x.version date) → SendsQuietly a b ended (segment (new_slot date (refused x)))
-    by-cases (inl k) = quietly a b ended r _ (bad-request-whole x.version date) k
+    by-cases : Sends a b ended r (answer_with status [] 0) (ending []) (own_printing v withheld date) → SendsQuietly a b ended (own_text status v withheld date)
+    by-cases (inl k) = quietly a b ended r _ (own-whole status v withheld date) k
     by-cases (inr k) = let none : ◌≡◌ {A = Option ℕ} (Some 0) None = k.0.2 in cc
 
 pub not-sent : (was : Bool) (a b : Sink) (ended : Bool) (text : List ℕ) → was ≡ true → b ≡ a → ended ≡ true → SendsUnlessEnded was a b ended text

@@ -41,6 +41,26 @@ is-respond feed n r (Upgrade k p v) h = elim h [ ]
 is-respond feed n r (Finish k) h = elim h [ ]
 is-respond feed n r (Drop k) h = elim h [ ]
 
+is-drop : {D : Type 0} (feed : D → Option Feed) (n : ℕ) (x : Asked) → (let a : Step D = step.Drop n in IsStep feed a x) → x ≡ Drop n
+is-drop feed n Ask h = elim h [ ]
+is-drop feed n (AsReader k) h = elim h [ ]
+is-drop feed n (Read k m) h = elim h [ ]
+is-drop feed n (Respond k v) h = elim h [ ]
+is-drop feed n (IntoWriter k) h = elim h [ ]
+is-drop feed n (Write k b) h = elim h [ ]
+is-drop feed n (Flush k) h = elim h [ ]
+is-drop feed n (Upgrade k p v) h = elim h [ ]
+is-drop feed n (Finish k) h = elim h [ ]
+is-drop feed n (Drop k) h = ap (λ m. Drop m) h
+
+pub step-drop : {D : Type 0} (feed : D → Option Feed) (client : Feed) (before : Sink) (k : Kept) (s : State) (d : Dated) (x : Step D) (n : ℕ) (reply : Replied) → x ≡ step.Drop n → IsStep feed x d.1
+    → Answered client before k s d.0 (Drop n) reply → Answered client before k s d.0 d.1 reply
+step-drop feed client before k s d x n reply e told h =
+    let P : Step _ → Type 0 = λ y. IsStep feed y d.1 in
+    let is = is-drop feed n d.1 (subst P e told) in
+    let Q : Asked → Type 0 = λ y. Answered client before k s d.0 y reply in
+    subst Q (sym is) h
+
 pub step-ask : {D : Type 0} (feed : D → Option Feed) (client : Feed) (before : Sink) (k : Kept) (s : State) (now : HttpDate) (d : Dated) (x : Step D) (reply : Replied) → x ≡ step.Ask → d.0 ≡ now → IsStep feed x d.1
     → Answered client before k s now Ask reply → Answered client before k s d.0 d.1 reply
 step-ask feed client before k s now d x reply e date told h =

@@ -28,9 +28,9 @@ abbrev pub kept : {R W : Type 0} → (W → Sink) → Connection R W → Kept
 kept sink c =
     record { numbers = c.numbers; waiting = c.waiting; over = c.over; ended = c.ended; feed = c.source.feed; sink = outlet_sink sink c.outlet; output_ended = outlet_ended c.outlet }
 
--- what is kept of a request
-abbrev pub kept_of : Request → Waiting
-kept_of r = record { version = r.message.version; is_head = is_head_method r.message.method }
+-- what is kept of a request that was handed out on this date
+abbrev pub kept_of : HttpDate → Request → Waiting
+kept_of date r = record { version = r.message.version; is_head = is_head_method r.message.method; handed = date }
 
 -- the last number was handed out on some date and waits for its answer; all before it are finished
 pub record WaitsLast (w : Waiting) (slots : List Slot) : Type 0 where
@@ -39,7 +39,7 @@ pub record WaitsLast (w : Waiting) (slots : List Slot) : Type 0 where
   pub date : HttpDate
   pub last : slots ≡ before ++ new_slot date (Asks request) ∷ []
   pub finished : list_all is_finished before ≡ true
-  pub same : w ≡ kept_of request
+  pub same : w ≡ kept_of date request
 
 abbrev pub WaitsFor : Option Waiting → List Slot → Type 0
 WaitsFor None slots = list_all is_finished slots ≡ true

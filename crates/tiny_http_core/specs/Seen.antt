@@ -10,7 +10,7 @@ use Rattle.tiny_http_core.specs.declared.driver.Reply.{Reply}
 use Rattle.tiny_http_core.specs.declared.driver.Reply.TheVariants as reply
 use Rattle.tiny_http_core.specs.HeadReads.{head_message, head_framing}
 use Rattle.tiny_http_core.specs.Slots.{ResponseValue}
-use Rattle.tiny_http_core.specs.Steps.{Asked, Ask, Respond, Replied, Handed, Ended, Fault, NotYet, Done, NoSuch, Memory}
+use Rattle.tiny_http_core.specs.Steps.{Asked, Ask, Respond, Drop, Replied, Handed, Ended, Fault, NotYet, Done, NoSuch, Memory}
 use Rattle.tiny_http_core.specs.Conversation.{Dated}
 use Rattle.tiny_http_core.specs.Sending.{IsHonest, FailsAtMostOnce}
 
@@ -22,6 +22,7 @@ IsResponse feed r value = (value.answer ≡ r.answer) × (feed r.data_reader ≡
 abbrev pub IsStep : {D : Type 0} → (D → Option Feed) → Step D → Asked → Type 0
 IsStep feed step.Ask Ask = Unit {0}
 IsStep feed (step.Respond k r) (Respond n value) = (n ≡ k) × IsResponse feed r value
+IsStep feed (step.Drop k) (Drop n) = n ≡ k
 IsStep feed _ _ = ⊥
 
 -- the step on its date is this one
@@ -38,9 +39,10 @@ seen reply.Done = Done
 seen reply.NoSuch = NoSuch
 seen reply.Memory = Memory
 
--- the step may fail by this kind, by the writer or by its own data; an Ask tells no fault
+-- the step may fail by this kind, by the writer or by its own data; an Ask and a Drop tell no fault
 abbrev pub MayFail : {D : Type 0} → (D → Option Feed) → Sink → Sink → Step D → ErrorKind → Type 0
 MayFail feed old new step.Ask kind = ⊥
+MayFail feed old new (step.Drop k) kind = ⊥
 MayFail feed old new (step.Respond k r) kind = IsHonest old new r.answer.length (feed r.data_reader) kind
 
 -- a fault that is told is the writer's, whose count rose, or that of the step's own data

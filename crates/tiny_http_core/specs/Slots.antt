@@ -3,10 +3,11 @@ use Rattle.std.specs.Prelude.{◌≡◌, ℕ, Bool, true, false, not, ◌&&◌, 
 use Rattle.std.specs.List.{list_all, last_or}
 use Rattle.std.specs.declared.io.ErrorKind.TheVariants.{OutOfMemory}
 use Rattle.httpdate.specs.declared.date.HttpDate.{HttpDate}
+use Rattle.tiny_http_wire.specs.declared.common.HTTPVersion.{HTTPVersion}
 use Rattle.tiny_http_wire.specs.declared.common.Header.{Header}
 use Rattle.tiny_http_wire.specs.declared.coding.Coding.TheVariants as coding
 use Rattle.tiny_http_wire.specs.Device.{Feed, ending}
-use Rattle.tiny_http_wire.specs.Answer.{Answer, Text, Ending, Whole, Broken, Printing, text_of, coding_for, behind, whole, nothing}
+use Rattle.tiny_http_wire.specs.Answer.{Answer, answer_with, Text, Ending, Whole, Broken, Printing, text_of, coding_for, behind, whole, nothing}
 use Rattle.tiny_http_core.specs.declared.exchange.Form.{Form}
 use Rattle.tiny_http_core.specs.declared.exchange.Form.TheVariants.{Rest, Nothing, Held, Counted, Chunked}
 use Rattle.tiny_http_core.specs.Pipeline.{Item, Asks, Refuses, Request, is_head_method, said_length}
@@ -65,6 +66,14 @@ drop_response = own_response 500 [] []
 abbrev pub continue_response : ResponseValue
 continue_response = own_response 100 [] []
 
+-- how such an answer is printed
+abbrev pub own_printing : HTTPVersion → Bool → HttpDate → Printing
+own_printing version withheld date = record { version = version; request_headers = []; no_body = withheld; upgrade = None; date = date }
+
+-- the text of such an answer without data
+abbrev pub own_text : ℕ → HTTPVersion → Bool → HttpDate → List ℕ
+own_text status version withheld date = (text_of (answer_with status [] 0) (ending []) (own_printing version withheld date)).bytes
+
 -- an answer to a request: in its version, by its headers, without a body for HEAD
 abbrev pub to_request : Request → HttpDate → Printing
 to_request r date = record { version = r.message.version; request_headers = r.message.headers; no_body = is_head_method r.message.method; upgrade = None; date = date }
@@ -72,7 +81,7 @@ to_request r date = record { version = r.message.version; request_headers = r.me
 -- how an answer under an item is printed
 abbrev pub printing_for : Item → HttpDate → Printing
 printing_for (Asks r) date = to_request r date
-printing_for (Refuses status version withheld) date = record { version = version; request_headers = []; no_body = withheld; upgrade = None; date = date }
+printing_for (Refuses status version withheld) date = own_printing version withheld date
 
 abbrev pub own_answer : Item → ResponseValue
 own_answer (Asks r) = drop_response

@@ -1,11 +1,12 @@
 //! A connection driven by a list of steps, without threads.
-ghost use Rattle.std.specs.Prelude.{◌≡◌, ◌-◌, ◌<◌, ◌^◌, true, false, List, [], Some, None, map, Ok, IfOk, IfErr, vec_len};
+ghost use Rattle.std.specs.Prelude.{◌≡◌, ◌+◌, ◌-◌, ◌<◌, ◌^◌, true, false, List, [], Some, None, map, Ok, IfOk, IfErr, IfSome, IfNone, vec_len};
 ghost use Rattle.std.specs.List.{AllZip};
 ghost use Rattle.tiny_http_wire.specs.Device.{Feed, Sink};
 ghost use Rattle.tiny_http_core.specs.Slots.{ResponseValue};
 ghost use Rattle.tiny_http_core.specs.Pipeline.{Item, Pipeline, is_head_method};
 ghost use Rattle.tiny_http_core.specs.Conversation.{State, StepsTo, IsConversation, IsFresh, Dated, start};
-ghost use Rattle.tiny_http_core.specs.Steps.{Ask, Respond, Fault, is_closed_client, fault_of_answer};
+ghost use Rattle.httpdate.specs.declared.date.HttpDate.{HttpDate as Date};
+ghost use Rattle.tiny_http_core.specs.Steps.{Ask, Respond, Drop, Fault, is_closed_client, fault_of_answer};
 ghost use Rattle.std.specs.declared.io.ErrorKind.{ErrorKind};
 ghost use Rattle.tiny_http_core.specs.Source.{GoesOn};
 ghost use Rattle.tiny_http_core.specs.Connection.{kept, Stands};
@@ -16,12 +17,12 @@ ghost use Rattle.tiny_http_core.specs.Sending.{FailsOnceUnlessEnded, FailsAtMost
 use crate::exchange::{Head, HeadRead};
 use crate::heads::read_head;
 use crate::outlet::Outlet;
-use crate::sending::{refuse, send};
+use crate::sending::{answer_quietly, refuse, send};
 use crate::source::Source;
 use httpdate::HttpDate;
 use std::alloc::Global;
 use std::io::ErrorKind;
-use tiny_http_wire::common::{HTTPVersion, Method};
+use tiny_http_wire::common::{HTTPVersion, Method, StatusCode};
 use tiny_http_wire::device::{ReadDevice, WriteDevice};
 use tiny_http_wire::response::Response;
 
@@ -32,6 +33,8 @@ pub enum Step<D> {
     Ask,
     /// Answers the request of this number.
     Respond(u64, Response<D>),
+    /// Drops the request of this number: it is answered by an empty 500, on the date on which it was handed out.
+    Drop(u64),
 }
 
 /// A step, and the date of what it sends.
@@ -87,6 +90,8 @@ pub struct RunError<R, W> {
 pub(crate) struct Waiting {
     pub version: HTTPVersion,
     pub is_head: bool,
+    /// When it was handed out.
+    pub handed: HttpDate,
 }
 
 /// A connection: its input and output, how many numbers were given out, the request that isn't answered yet, whether
@@ -183,6 +188,7 @@ impl<R: ReadDevice, W: WriteDevice> Connection<R, W> {
                 self.waiting = Some(Waiting {
                     version: head.version,
                     is_head: is_head(&head.method),
+                    handed: now,
                 });
                 self.over = head.is_last;
                 Reply::Handed(number, head)
@@ -204,6 +210,42 @@ impl<R: ReadDevice, W: WriteDevice> Connection<R, W> {
         }
     }
 
+    // What is kept of the request of this number, if it waits for its answer.
+    fn waiting_at(&self, number: u64) -> Option<Waiting>
+        ensures some { IfSome result (λ w. (self.now.waiting ≡ Some w) × (number + 1 ≡ self.now.numbers)) }
+        ensures none { IfNone result (number + 1 ≡ self.now.numbers → self.now.waiting ≡ None) }
+    {
+        if number >= self.numbers || number != self.numbers - 1 {
+            return None;
+        }
+        self.waiting
+    }
+
+    // Answers the request of this number by a 500.
+    fn drop_request(&mut self, alloc: Global, number: u64) -> Reply
+        ensures stands { (client : Feed) (before : Sink) (s : State) (date : Date) → before.failures < 2 ^ 64 - 1 → Stands client before (kept W.sink self.old) s
+            → (new : State) × Stands client before (kept W.sink self.new) new × StepsTo s date (Drop number) (seen result) new }
+        ensures goes_on { self.new.source ≡ self.old.source }
+        ensures fails_once { FailsOnceUnlessEnded (outlet_ended self.old.outlet) (outlet_sink W.sink self.old.outlet) (outlet_sink W.sink self.new.outlet) (outlet_ended self.new.outlet) }
+        ensures flushed { outlet_held self.old.outlet ≡ [] → outlet_held self.new.outlet ≡ [] }
+        ensures sent_on { SentOn W.sink W.held self.old.outlet → SentOn W.sink W.held self.new.outlet }
+        ensures honest { (kind : ErrorKind) → seen result ≡ Fault kind → ⊥ }
+    {
+        let Some(waiting) = self.waiting_at(number) else {
+            return Reply::NoSuch;
+        };
+        self.waiting = None;
+        answer_quietly(
+            alloc,
+            &mut self.outlet,
+            StatusCode(500),
+            waiting.version,
+            waiting.is_head,
+            waiting.handed,
+        );
+        Reply::Done
+    }
+
     // Answers the request of this number.
     fn respond<D: ReadDevice + Drop>(
         &mut self,
@@ -220,12 +262,9 @@ impl<R: ReadDevice, W: WriteDevice> Connection<R, W> {
         ensures sent_on { SentOn W.sink W.held self.old.outlet → SentOn W.sink W.held self.new.outlet }
         ensures honest { (kind : ErrorKind) → seen result ≡ Fault kind → IsHonest (outlet_sink W.sink self.old.outlet) (outlet_sink W.sink self.new.outlet) response.answer.length (D.feed response.data_reader) kind }
     {
-        let Some(waiting) = self.waiting else {
+        let Some(waiting) = self.waiting_at(number) else {
             return Reply::NoSuch;
         };
-        if number >= self.numbers || number != self.numbers - 1 {
-            return Reply::NoSuch;
-        }
         self.waiting = None;
         if self.outlet.is_ended() {
             return Reply::Done;
@@ -256,6 +295,7 @@ impl<R: ReadDevice, W: WriteDevice> Connection<R, W> {
         match step {
             Step::Ask => self.ask(alloc, now),
             Step::Respond(number, response) => self.respond(alloc, now, number, response),
+            Step::Drop(number) => self.drop_request(alloc, number),
         }
     }
 }

@@ -2,7 +2,7 @@
 ghost use Rattle.std.specs.Prelude.{◌≡◌, ◌<◌, ◌^◌, ◌==◌, true, false, [], length, Some, None, IfErr, MatchBool};
 ghost use Rattle.std.specs.IoError.{error_kind};
 ghost use Rattle.tiny_http_wire.specs.Device.{Feed};
-ghost use Rattle.tiny_http_core.specs.Slots.{segment, new_slot};
+ghost use Rattle.tiny_http_core.specs.Slots.{segment, new_slot, own_text};
 ghost use Rattle.tiny_http_core.specs.HeadReads.{refused};
 ghost use Rattle.tiny_http_core.specs.Outlet.{outlet_sink, outlet_ended, outlet_held, SentOn};
 ghost use Rattle.tiny_http_core.specs.Sending.{Sends, SendsUnlessEnded, EndsQuietly, Abandons, CanSend, FailsOnce, FailsOnceUnlessEnded, IsHonest};
@@ -61,6 +61,30 @@ pub(crate) fn send<W: WriteDevice, D: ReadDevice + Drop>(
     outlet.flush()
 }
 
+/// Sends an answer of the server's own: this code, no headers of its own and no data. No reply tells a fault that is met
+/// there.
+pub(crate) fn answer_quietly<W: WriteDevice>(
+    alloc: Global,
+    outlet: &mut Outlet<W>,
+    status: StatusCode,
+    version: HTTPVersion,
+    no_body: bool,
+    now: HttpDate,
+)
+    ensures sends { (outlet_ended outlet.old ≡ false → CanSend (outlet_sink W.sink outlet.old))
+        → SendsUnlessEnded (outlet_ended outlet.old) (outlet_sink W.sink outlet.old) (outlet_sink W.sink outlet.new) (outlet_ended outlet.new)
+        (own_text status.0 version no_body now) }
+    ensures fails_once { FailsOnceUnlessEnded (outlet_ended outlet.old) (outlet_sink W.sink outlet.old) (outlet_sink W.sink outlet.new) (outlet_ended outlet.new) }
+    ensures flushed { outlet_held outlet.new ≡ [] }
+    ensures sent_on { SentOn W.sink W.held outlet.new }
+{
+    if outlet.is_ended() {
+        return;
+    }
+    let answer = Response::empty(alloc, status);
+    let _ = send(alloc, outlet, answer, version, no_body, now);
+}
+
 /// Answers a refused head. No reply tells a fault that is met there.
 pub(crate) fn refuse<W: WriteDevice>(
     alloc: Global,
@@ -75,9 +99,12 @@ pub(crate) fn refuse<W: WriteDevice>(
     ensures flushed { outlet_held outlet.new ≡ [] }
     ensures sent_on { SentOn W.sink W.held outlet.new }
 {
-    if outlet.is_ended() {
-        return;
-    }
-    let answer = Response::empty(alloc, StatusCode(400));
-    let _ = send(alloc, outlet, answer, refusal.version, false, now);
+    answer_quietly(
+        alloc,
+        outlet,
+        StatusCode(400),
+        refusal.version,
+        false,
+        now,
+    );
 }

@@ -41,7 +41,7 @@ returns-in-Request-clause-stands g c client before s low st =
     let k : Kept = kept g.W.WriteDevice.sink q in
     let numbers : c.in-Some.numbers ≡ q.numbers + 1 = search rules in
     let P : ℕ → Bool → Type 0 = λ n b.
-    Answered client before (record k { numbers = n; waiting = Some (record { version = h.version; is_head = b }); over = h.is_last; feed = c.read_head.new.source.feed }) s c.args.now Ask (Handed q.numbers (head_message h) (head_framing h)) in
+    Answered client before (record k { numbers = n; waiting = Some (record { version = h.version; is_head = b; handed = c.args.now }); over = h.is_last; feed = c.read_head.new.source.feed }) s c.args.now Ask (Handed q.numbers (head_message h) (head_framing h)) in
     let done = ask-handed client before k s c.args.now h c.in-Request._body c.read_head.new.source.feed st (search rules) (none-of q.waiting (search rules)) (search rules) c.in-Request.ensures.reads c.in-Request.ensures.goes_on in
     subst (λ n. P n c.is_head.result) (sym numbers) (subst (λ b. P (q.numbers + 1) b) (sym c.is_head.ensures) done)
 

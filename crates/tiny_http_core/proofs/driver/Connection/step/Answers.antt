@@ -1,7 +1,7 @@
 use Rattle.tiny_http_core.specs.Connection.{kept}
 use Rattle.tiny_http_core.specs.Seen.{seen}
 use Rattle.tiny_http_core.proofs.GoingOn.{goes-on_same}
-use Rattle.tiny_http_core.proofs.StepLemmas.{step-ask, step-respond}
+use Rattle.tiny_http_core.proofs.StepLemmas.{step-ask, step-respond, step-drop}
 use Rattle.tiny_http_core.proofs.driver.Connection.step.Goals as goal
 
 pub returns-in-Ask-clause-stands : goal.returns-in-Ask-clause-stands
@@ -16,3 +16,11 @@ returns-in-Respond-clause-stands g c client before s d low told st =
 
 pub returns-in-Respond-clause-goes_on : goal.returns-in-Respond-clause-goes_on
 returns-in-Respond-clause-goes_on g c = rw c.respond.ensures.goes_on (goes-on_same c.args.self.now.source.feed)
+
+pub returns-in-Drop-clause-stands : goal.returns-in-Drop-clause-stands
+returns-in-Drop-clause-stands g c client before s d low told st =
+    step-drop g.D.ReadDevice.feed client before (kept g.W.WriteDevice.sink c.drop_request.new.self) s d c.args.timed.step c.in-Drop.number (seen c.drop_request.result) c.in-Drop.is told.1
+    (c.drop_request.ensures.stands client before s d.0 low st)
+
+pub returns-in-Drop-clause-goes_on : goal.returns-in-Drop-clause-goes_on
+returns-in-Drop-clause-goes_on g c = rw c.drop_request.ensures.goes_on (goes-on_same c.args.self.now.source.feed)
