@@ -1,5 +1,5 @@
 //! Answers: which request they go to, and what a writer's fault leaves of them.
-use crate::runs::Deed::{Ask, Text};
+use crate::runs::Deed::{Ask, Drop, Text};
 use crate::runs::{AMPLE, Case, EMPTY, TEXT, Trouble, assert_case, assert_troubled};
 use std::io::ErrorKind;
 use std::test::Fail;
@@ -23,6 +23,49 @@ fn a_request_is_answered_once(rt: HostRuntime) -> Result<(), Fail> {
         output: &["HTTP/1.1 200 OK\r\n", TEXT, "Content-Length: 1\r\n\r\na"],
     };
     assert_case(&rt, rt.alloc(), &case)
+}
+
+#[test]
+fn a_dropped_request_is_answered_500(rt: HostRuntime) -> Result<(), Fail> {
+    let case = Case {
+        client: b"GET / HTTP/1.1\r\n\r\nHEAD /b HTTP/1.0\r\nConnection: keep-alive\r\n\r\nGET /c HTTP/1.1\r\n\r\n",
+        deeds: &[
+            Drop(0),
+            Ask,
+            Drop(1),
+            Drop(0),
+            Drop(0),
+            Text(0, "late"),
+            Ask,
+            Drop(1),
+            Ask,
+            Text(2, "c"),
+            Drop(2),
+            Ask,
+        ],
+        replies: "no such; 0: GET / 1.1; no such; done; no such; no such; 1: HEAD /b 1.0 [Connection: keep-alive]; done; 2: GET /c 1.1; done; no such; ended",
+        output: &[
+            "HTTP/1.1 500 Internal Server Error\r\n",
+            EMPTY,
+            "HTTP/1.0 500 Internal Server Error\r\n",
+            EMPTY,
+            "HTTP/1.1 200 OK\r\n",
+            TEXT,
+            "Content-Length: 1\r\n\r\nc",
+        ],
+    };
+    assert_case(&rt, rt.alloc(), &case)
+}
+
+#[test]
+fn a_drop_tells_no_fault_of_the_writer(rt: HostRuntime) -> Result<(), Fail> {
+    let case = Case {
+        client: b"GET / HTTP/1.1\r\n\r\nGET / HTTP/1.1\r\n\r\n",
+        deeds: &[Ask, Drop(0), Ask, Text(1, "b")],
+        replies: "0: GET / 1.1; done; 1: GET / 1.1; done",
+        output: &["HTTP/1.1 5"],
+    };
+    assert_troubled(&rt, rt.alloc(), &case, takes(10, ErrorKind::Other))
 }
 
 #[test]

@@ -33,6 +33,8 @@ pub(crate) enum Deed<'a> {
     Text(u64, &'a str),
     /// Answers the request of this number by a code and a text.
     Coded(u64, u16, &'a str),
+    /// Drops the request of this number.
+    Drop(u64),
 }
 
 /// A run, and what has to come of it.
@@ -99,6 +101,7 @@ fn step_of(alloc: Global, deed: Deed<'_>) -> Result<Step<Cursor<Vec<u8>>>, Alloc
             let answer = text(alloc, words)?;
             Step::Respond(number, answer.with_status_code(StatusCode(code)))
         }
+        Deed::Drop(number) => Step::Drop(number),
     })
 }
 

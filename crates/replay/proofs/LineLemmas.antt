@@ -8,7 +8,7 @@ use Rattle.std.proofs.lemmas.Str.Pattern.{IsSplitOnceResult, split_after}
 use Rattle.std.specs.Str.{bytes_eq}
 use Rattle.std.specs.Str.Pattern.{LacksTextAt}
 use Rattle.replay.specs.Line.{WritesNumber, BeginsByNumber, BeginsByNumbers, IsAnswer, SaysSome, IsDate}
-use Rattle.replay.specs.declared.line.Line.TheVariants.{Blank, Now, Ask, Text, Empty}
+use Rattle.replay.specs.declared.line.Line.TheVariants.{Blank, Now, Ask, Text, Empty, Drop}
 
 own : IsNumeralModel (AllDigits 10) (digits_value 10)
 own = numerals_by_value (AllDigits 10) tells_digits
@@ -31,6 +31,7 @@ answer_parts words (Empty number status, w) = (number, status, codes "empty", w,
 answer_parts words (Blank, w) = absurd w
 answer_parts words (Now date, w) = absurd w
 answer_parts words (Ask, w) = absurd w
+answer_parts words (Drop number, w) = absurd w
 
 -- a text that begins by `now` doesn't begin by `respond`
 no_respond : (text rest words : List ℕ) → text ≡ codes "now " ++ rest → text ≡ codes "respond " ++ words → ⊥
@@ -44,6 +45,24 @@ only_now text rest e (Now date, d) = let same : rest ≡ d.0 = ap (drop 4) (sym 
 only_now text rest e (Ask, h) = absurd (let first : ◌≡◌ {A = ℕ} 110 97 = ap (λ bs. get_or bs 0 0) (sym e ∙ h) in omega arith)
 only_now text rest e (Text number status words, h) = absurd (no_respond text rest h.0 e h.1)
 only_now text rest e (Empty number status, h) = absurd (no_respond text rest h.0 e h.1)
+only_now text rest e (Drop number, h) = absurd (let first : ◌≡◌ {A = ℕ} 110 100 = ap (λ bs. get_or bs 0 0) (sym e ∙ h.1) in omega arith)
+
+-- the digits write some number of 64 bits
+abbrev pub IsNumber : List ℕ → Type 0
+IsNumber digits = (number : ℕ) × WritesNumber digits number × (number < 2 ^ 64)
+
+no_respond_drop : (text rest words : List ℕ) → text ≡ codes "drop " ++ rest → text ≡ codes "respond " ++ words → ⊥
+no_respond_drop text rest words e h = let first : ◌≡◌ {A = ℕ} 100 114 = ap (λ bs. get_or bs 0 0) (sym e ∙ h) in omega arith
+
+-- a line that begins by `drop` says a number, if it says anything
+pub only_drop : (text rest : List ℕ) → text ≡ codes "drop " ++ rest → SaysSome text → IsNumber rest
+only_drop text rest e (Blank, inl h) = absurd (let first : ◌≡◌ {A = ℕ} 100 0 = ap (λ bs. get_or bs 0 0) (sym e ∙ h) in omega arith)
+only_drop text rest e (Blank, inr h) = absurd (let first : ◌≡◌ {A = ℕ} 100 35 = ap (λ bs. get_or bs 0 0) (sym e ∙ h.1) in omega arith)
+only_drop text rest e (Now date, h) = absurd (let first : ◌≡◌ {A = ℕ} 100 110 = ap (λ bs. get_or bs 0 0) (sym e ∙ h.1) in omega arith)
+only_drop text rest e (Ask, h) = absurd (let first : ◌≡◌ {A = ℕ} 100 97 = ap (λ bs. get_or bs 0 0) (sym e ∙ h) in omega arith)
+only_drop text rest e (Text number status words, h) = absurd (no_respond_drop text rest h.0 e h.1)
+only_drop text rest e (Empty number status, h) = absurd (no_respond_drop text rest h.0 e h.1)
+only_drop text rest e (Drop number, h) = let same : rest ≡ h.0 = ap (drop 5) (sym e ∙ h.1) in (number, rw same h.2, h.3)
 
 -- what is refused doesn't hold
 pub none_fits : {T E : Type 0} (r : Result T E) (P : Type 0) (v : T) → OkIff r P v → false ≡ is_ok r → P → ⊥

@@ -4,7 +4,7 @@ use Rattle.std.specs.Str.Parse.{IsNumeral, digits_value}
 use Rattle.httpdate.specs.Date.{unix_secs}
 use Rattle.httpdate.specs.declared.date.HttpDate.{HttpDate}
 use Rattle.replay.specs.declared.line.Line.{Line}
-use Rattle.replay.specs.declared.line.Line.TheVariants.{Blank, Now, Ask, Text, Empty}
+use Rattle.replay.specs.declared.line.Line.TheVariants.{Blank, Now, Ask, Text, Empty, Drop}
 
 -- the text is one decimal digit or more, and they write this number
 abbrev pub WritesNumber : List ℕ → ℕ → Type 0
@@ -34,6 +34,7 @@ WritesAnswer words (Empty number status) = BeginsByNumbers words number status (
 WritesAnswer words Blank = ⊥
 WritesAnswer words (Now date) = ⊥
 WritesAnswer words Ask = ⊥
+WritesAnswer words (Drop number) = ⊥
 
 -- the words are some answer
 abbrev pub IsAnswer : List ℕ → Type 0
@@ -50,6 +51,7 @@ Writes text (Now date) = (digits : List ℕ) × (text ≡ codes "now " ++ digits
 Writes text Ask = text ≡ codes "ask"
 Writes text (Text number status words) = WritesRespond text (Text number status words)
 Writes text (Empty number status) = WritesRespond text (Empty number status)
+Writes text (Drop number) = (digits : List ℕ) × (text ≡ codes "drop " ++ digits) × WritesNumber digits number × (number < 2 ^ 64)
 
 -- the text says something
 abbrev pub SaysSome : List ℕ → Type 0

@@ -9,15 +9,15 @@ use Rattle.tiny_http_wire.specs.Answer.{answer_with, text_plain}
 use Rattle.tiny_http_wire.specs.Cursor.{cursor_bytes}
 use Rattle.tiny_http_wire.specs.Device.{Sink, ending}
 use Rattle.tiny_http_core.specs.Slots.{ResponseValue}
-use Rattle.tiny_http_core.specs.Steps.{Asked, Ask, Respond, Replied}
+use Rattle.tiny_http_core.specs.Steps.{Asked, Ask, Respond, Drop, Replied}
 use Rattle.tiny_http_core.specs.Conversation.{Dated, IsFresh, IsConversation}
 use Rattle.tiny_http_core.specs.declared.driver.Step.{Step}
-use Rattle.tiny_http_core.specs.declared.driver.Step.TheVariants.{Ask as AskStep, Respond as RespondStep}
+use Rattle.tiny_http_core.specs.declared.driver.Step.TheVariants.{Ask as AskStep, Respond as RespondStep, Drop as DropStep}
 use Rattle.tiny_http_core.specs.declared.driver.Timed.{Timed}
 use Rattle.replay.specs.Reply.{reply_line}
 use Rattle.replay.specs.Line.{IsLine, IsGood}
 use Rattle.replay.specs.declared.line.Line.{Line}
-use Rattle.replay.specs.declared.line.Line.TheVariants.{Blank, Now, Ask as AskLine, Text, Empty}
+use Rattle.replay.specs.declared.line.Line.TheVariants.{Blank, Now, Ask as AskLine, Text, Empty, Drop as DropLine}
 
 -- a LF ends a line, and so does the end
 abbrev pub script_lines : List ℕ → List (List ℕ)
@@ -44,6 +44,7 @@ said_step (Now date) = None
 said_step AskLine = Some Ask
 said_step (Text number status text) = Some (Respond number (text_response status text.now))
 said_step (Empty number status) = Some (Respond number (empty_response status))
+said_step (DropLine number) = Some (Drop number)
 
 -- the date of the steps from a line on
 abbrev pub date_behind : HttpDate → Line → HttpDate
@@ -52,6 +53,7 @@ date_behind now (Now date) = date
 date_behind now AskLine = now
 date_behind now (Text number status text) = now
 date_behind now (Empty number status) = now
+date_behind now (DropLine number) = now
 
 -- at most one step, on its date
 abbrev pub on_date : HttpDate → Option Asked → List Dated
@@ -73,6 +75,7 @@ IsScript script steps =
 abbrev pub step_value : {A : Type 0} → Step (Cursor (Vec ℕ A)) → Asked
 step_value AskStep = Ask
 step_value (RespondStep number response) = Respond number (record { answer = response.answer; content = ending (cursor_bytes response.data_reader) })
+step_value (DropStep number) = Drop number
 
 -- the same on its date
 abbrev pub timed_value : {A : Type 0} → Timed (Cursor (Vec ℕ A)) → Dated

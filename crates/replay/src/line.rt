@@ -19,6 +19,8 @@ pub(crate) enum Line<'a> {
     Text(u64, u16, &'a str),
     /// Answers the request of this number by this code, without data.
     Empty(u64, u16),
+    /// Drops the request of this number.
+    Drop(u64),
 }
 
 // The number that decimal digits write, if it is below 2^64. `parse` takes a plus before them; a script doesn't.
@@ -78,6 +80,9 @@ fn text_in(text: &str) -> Option<Line<'_>>
     }
     if let Some(seconds) = text.strip_prefix("now ") {
         return Some(Line::Now(date_in(seconds)?));
+    }
+    if let Some(number) = text.strip_prefix("drop ") {
+        return Some(Line::Drop(number_in(number)?));
     }
     answer_in(text.strip_prefix("respond ")?)
 }

@@ -78,6 +78,7 @@ fn step_in(alloc: Global, line: &Line<'_>) -> Result<Option<Step<Data>>, AllocEr
             let response = response.with_status_code(StatusCode(*status));
             Ok(Some(Step::Respond(*number, response)))
         }
+        Line::Drop(number) => Ok(Some(Step::Drop(*number))),
     }
 }
 

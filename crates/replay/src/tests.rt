@@ -96,6 +96,23 @@ fn answers_at_their_dates(rt: HostRuntime) -> Result<(), Fail> {
 }
 
 #[test]
+fn a_drop_is_dated_by_its_ask(rt: HostRuntime) -> Result<(), Fail> {
+    let script = "ask\nnow 784111777\ndrop 00\ndrop 0\ndrop 18446744073709551615\n";
+    let out =
+        "HTTP/1.1 500 Internal Server Error\r\nServer: tiny-http (Rust)\r\nDate: Wed, 04 May 1983 11:17:00 GMT\r\n\
+        Content-Length: 0\r\n\r\n";
+    let replies = "handed 0 GET / 1.1 0 -\ndone\nnosuch\nnosuch\n";
+    assert_good(
+        &rt,
+        rt.alloc(),
+        ("GET / HTTP/1.1\r\n\r\n", script),
+        out,
+        replies,
+    )?;
+    Ok(())
+}
+
+#[test]
 fn replies_without_output(rt: HostRuntime) -> Result<(), Fail> {
     let post = "POST /f HTTP/1.0\r\nHost: a\r\nContent-Length: 2\r\n\r\nhi";
     for (bytes, script, err) in [
@@ -138,6 +155,15 @@ fn no_line_but_the_grammars(rt: HostRuntime) -> Result<(), Fail> {
         "now 1\r",
         "now 253402300800",
         "now 18446744073709551616",
+        "drop",
+        "drop ",
+        "drop x",
+        "drop +1",
+        "drop  0",
+        "drop 0 ",
+        "drop 0\r",
+        "drop 18446744073709551616",
+        "Drop 0",
     ] {
         assert_bad(&rt, rt.alloc(), line.as_bytes(), 1)?;
     }
@@ -183,7 +209,6 @@ fn no_step_of_a_later_stage(rt: HostRuntime) -> Result<(), Fail> {
         "flush 0",
         "upgrade 0 101 websocket",
         "finish 0",
-        "drop 0",
         "respond 0 200 stream 5",
         "respond 0 200 broken 5",
     ] {

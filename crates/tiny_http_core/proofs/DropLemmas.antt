@@ -1,14 +1,14 @@
 -- A Drop: from where the connection stands to where it stands behind it.
-use Rattle.std.proofs.Common.{◌≡◌, refl, sym, ap, ◌∙◌, subst, ℕ, ◌+◌, ◌-◌, ◌<◌, ◌^◌, ◌⊎◌, inl, inr, Bool, true, false, ◌||◌, List, [], ◌∷◌, ◌++◌, length, Option, Some, None, length-append}
+use Rattle.std.proofs.Common.{◌≡◌, refl, sym, ap, ◌∙◌, subst, ℕ, ◌+◌, ◌-◌, ◌<◌, ◌^◌, ◌⊎◌, inl, Bool, true, false, ◌||◌, List, [], ◌∷◌, ◌++◌, Option, Some, None, length-append}
 use Rattle.std.specs.Prelude.{MatchBool, is_some}
 use Rattle.std.specs.List.{list_all}
 use Rattle.httpdate.specs.declared.date.HttpDate.{HttpDate}
 use Rattle.tiny_http_wire.specs.Device.{Feed, Sink}
-use Rattle.tiny_http_wire.specs.Answer.{Ending, text_of}
+use Rattle.tiny_http_wire.specs.Answer.{text_of}
 use Rattle.tiny_http_core.specs.declared.driver.Waiting.{Waiting}
-use Rattle.tiny_http_core.specs.Pipeline.{Item, Asks, Refuses, Request, is_head_method}
-use Rattle.tiny_http_core.specs.Slots.{Slot, Stage, Waits, Answered as AnsweredBy, ByServer, Raw, Upgraded, is_finished, is_broken, is_slot_broken, segment, joined, breaks_off, new_slot, turn_has_come, own_text}
-use Rattle.tiny_http_core.specs.Steps.{Drop, Replied, Done, Unreported, Outcome, Reached, changes, finished, at_slot, at_number}
+use Rattle.tiny_http_core.specs.Pipeline.{Asks, Request, is_head_method}
+use Rattle.tiny_http_core.specs.Slots.{Slot, Waits, Answered as AnsweredBy, ByServer, Raw, Upgraded, is_finished, is_broken, is_slot_broken, segment, joined, breaks_off, new_slot, turn_has_come, own_text}
+use Rattle.tiny_http_core.specs.Steps.{Drop, Done, Unreported, Outcome, Reached, changes, finished, at_slot, at_number}
 use Rattle.tiny_http_core.specs.Conversation.{Failure, State, FailsWithin, Has}
 use Rattle.tiny_http_core.specs.Sending.{SendsUnlessEnded}
 use Rattle.tiny_http_core.specs.Connection.{Kept, kept_of, is_plain_item, OutputAt, Stands}

@@ -99,12 +99,5 @@ pub(crate) fn refuse<W: WriteDevice>(
     ensures flushed { outlet_held outlet.new ≡ [] }
     ensures sent_on { SentOn W.sink W.held outlet.new }
 {
-    answer_quietly(
-        alloc,
-        outlet,
-        StatusCode(400),
-        refusal.version,
-        false,
-        now,
-    );
+    answer_quietly(alloc, outlet, StatusCode(400), refusal.version, false, now);
 }

@@ -1,4 +1,4 @@
-use Rattle.std.proofs.Common.{rules, refl}
+use Rattle.std.proofs.Common.{refl}
 use Rattle.tiny_http_core.specs.Steps.{Drop}
 use Rattle.tiny_http_core.specs.Outlet.{outlet_sink, outlet_ended}
 use Rattle.tiny_http_core.specs.Connection.{kept}

@@ -1,4 +1,4 @@
-use Rattle.std.proofs.Common.{rules, refl, sym, subst, ◌≡◌, ◌+◌, arith, false, Result, Ok, Err}
+use Rattle.std.proofs.Common.{rules, refl, sym, subst, ◌≡◌, false, Result, Ok, Err}
 use Rattle.std.specs.IoError.{error_kind}
 use Rattle.std.specs.declared.io.Error.{Error}
 use Rattle.tiny_http_core.specs.Steps.{Respond, Done, fault_of_answer}
