@@ -69,6 +69,17 @@ fn a_drop_tells_no_fault_of_the_writer(rt: HostRuntime) -> Result<(), Fail> {
 }
 
 #[test]
+fn a_fault_is_told_before_a_drop(rt: HostRuntime) -> Result<(), Fail> {
+    let case = Case {
+        client: b"GET / HTTP/1.1\r\n\r\nGET / HTTP/1.1\r\n\r\n",
+        deeds: &[Ask, Text(0, "a"), Ask, Drop(1)],
+        replies: "0: GET / 1.1; fault Other; 1: GET / 1.1; done",
+        output: &["HTTP/1.1 2"],
+    };
+    assert_troubled(&rt, rt.alloc(), &case, takes(10, ErrorKind::Other))
+}
+
+#[test]
 fn a_refused_request_takes_no_answer(rt: HostRuntime) -> Result<(), Fail> {
     let case = Case {
         client: b"GET / HTTP/1.1\r\n\r\nqsd qsd qsd\r\n",

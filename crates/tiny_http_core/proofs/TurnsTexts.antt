@@ -143,53 +143,56 @@ come_in_turn steps n h =
     let none : text_waiting (slice_get (marks_after steps []) n) ≡ [] = none_waits (marks_after steps []) n (shape_after steps [] tt) h in
     sym (append-nil (texts_out n steps [])) ∙ (ap (λ (xs : List (List ℕ)). texts_out n steps [] ++ xs) (sym none) ∙ come_once steps n)
 
--- where a text comes out, its number is held
-abbrev HoldsIt : TurnOutcome → Type 0
-HoldsIt o = (n : ℕ) (text : List ℕ) → o.0 ≡ Goes n text → slice_get o.1 n ≡ Some Held
+-- where a text comes out, its number wasn't held and is held now
+abbrev IsHeldNow : List Mark → List Mark → ℕ → Type 0
+IsHeldNow old new n = (slice_get old n ≡ Some Held → ⊥) × (slice_get new n ≡ Some Held)
 
-held_there : (marks : List Mark) (k n : ℕ) (was : Mark) (text told : List ℕ) → slice_get marks k ≡ Some was → Goes k text ≡ Goes n told → slice_get (slice_set marks k Held) n ≡ Some Held
-held_there marks k n was text told e g =
+abbrev HoldsIt : List Mark → TurnOutcome → Type 0
+HoldsIt old o = (n : ℕ) (text : List ℕ) → o.0 ≡ Goes n text → IsHeldNow old o.1 n
+
+held_there : (old marks : List Mark) (k n : ℕ) (was : Mark) (text told : List ℕ) → slice_get old k ≡ Some was → (Some was ≡ Some Held → ⊥) → slice_get marks k ≡ Some was → Goes k text ≡ Goes n told → IsHeldNow old (slice_set marks k Held) n
+held_there old marks k n was text told was_so other e g =
     let same_number : k ≡ n = cc in
-    subst (λ (j : ℕ). slice_get (slice_set marks k Held) j ≡ Some Held) same_number (get-set_same marks k was Held e)
+    subst (λ (j : ℕ). IsHeldNow old (slice_set marks k Held) j) same_number (λ h. other (sym was_so ∙ h), get-set_same marks k was Held e)
 
-take_holds : (o : Option Mark) (marks : List Mark) (k : ℕ) → HoldsIt (take_at o k marks)
+take_holds : (o : Option Mark) (marks : List Mark) (k : ℕ) → HoldsIt marks (take_at o k marks)
 take_holds None marks k = λ n text e. cc
 take_holds (Some Open) marks k =
-    by_eq k (first_unfinished marks) (λ b. HoldsIt (if b then (Taken, slice_set marks k Held) else (Strange, marks))) (λ t n text e. cc) (λ ne n text e. cc)
+    by_eq k (first_unfinished marks) (λ b. HoldsIt marks (if b then (Taken, slice_set marks k Held) else (Strange, marks))) (λ t n text e. cc) (λ ne n text e. cc)
 take_holds (Some Held) marks k = λ n text e. cc
 take_holds (Some (Left was)) marks k = λ n text e. cc
 take_holds (Some Finished) marks k = λ n text e. cc
 
-put_back_holds : (o : Option Mark) (marks : List Mark) (k : ℕ) → HoldsIt (put_back_at o k marks)
+put_back_holds : (o : Option Mark) (marks : List Mark) (k : ℕ) → HoldsIt marks (put_back_at o k marks)
 put_back_holds None marks k n text e = cc
 put_back_holds (Some Open) marks k n text e = cc
 put_back_holds (Some Held) marks k n text e = cc
 put_back_holds (Some (Left was)) marks k n text e = cc
 put_back_holds (Some Finished) marks k n text e = cc
 
-pass_holds : (o : Option Mark) (marks : List Mark) (k : ℕ) → slice_get marks k ≡ o → HoldsIt (pass_to o k marks)
-pass_holds None marks k f n text e = cc
-pass_holds (Some Open) marks k f n text e = cc
-pass_holds (Some Held) marks k f n text e = cc
-pass_holds (Some (Left was)) marks k f n text e = held_there marks k n (Left was) was text f e
-pass_holds (Some Finished) marks k f n text e = cc
+pass_holds : (o : Option Mark) (old marks : List Mark) (k : ℕ) → slice_get old k ≡ o → slice_get marks k ≡ o → HoldsIt old (pass_to o k marks)
+pass_holds None old marks k was f n text e = cc
+pass_holds (Some Open) old marks k was f n text e = cc
+pass_holds (Some Held) old marks k was f n text e = cc
+pass_holds (Some (Left text)) old marks k was f n told e = held_there old marks k n (Left text) text told was (λ h. cc) f e
+pass_holds (Some Finished) old marks k was f n text e = cc
 
-finish_holds : (o : Option Mark) (marks : List Mark) (k : ℕ) → HoldsIt (finish_at o k marks)
+finish_holds : (o : Option Mark) (marks : List Mark) (k : ℕ) → HoldsIt marks (finish_at o k marks)
 finish_holds None marks k n text e = cc
 finish_holds (Some Open) marks k n text e = cc
-finish_holds (Some Held) marks k n text e = pass_holds (slice_get marks (suc k)) (slice_set marks k Finished) (suc k) (get-set_next marks k Finished) n text e
+finish_holds (Some Held) marks k n text e = pass_holds (slice_get marks (suc k)) marks (slice_set marks k Finished) (suc k) refl (get-set_next marks k Finished) n text e
 finish_holds (Some (Left was)) marks k n text e = cc
 finish_holds (Some Finished) marks k n text e = cc
 
-leave_holds : (o : Option Mark) (marks : List Mark) (k : ℕ) (text : List ℕ) → slice_get marks k ≡ o → HoldsIt (leave_at o k text marks)
+leave_holds : (o : Option Mark) (marks : List Mark) (k : ℕ) (text : List ℕ) → slice_get marks k ≡ o → HoldsIt marks (leave_at o k text marks)
 leave_holds None marks k text f = λ n told e. cc
 leave_holds (Some Open) marks k text f =
-    by_eq k (first_unfinished marks) (λ b. HoldsIt (if b then (Goes k text, slice_set marks k Held) else (Waits, slice_set marks k (Left text)))) (λ t n told e. held_there marks k n Open text told f e) (λ ne n told e. cc)
+    by_eq k (first_unfinished marks) (λ b. HoldsIt marks (if b then (Goes k text, slice_set marks k Held) else (Waits, slice_set marks k (Left text)))) (λ t n told e. held_there marks marks k n Open text told f (λ h. cc) f e) (λ ne n told e. cc)
 leave_holds (Some Held) marks k text f = λ n told e. cc
 leave_holds (Some (Left was)) marks k text f = λ n told e. cc
 leave_holds (Some Finished) marks k text f = λ n told e. cc
 
-pub go_holds : (step : TurnStep) (marks : List Mark) (n : ℕ) (text : List ℕ) → answer step marks ≡ Goes n text → slice_get (after step marks) n ≡ Some Held
+pub go_holds : (step : TurnStep) (marks : List Mark) (n : ℕ) (text : List ℕ) → answer step marks ≡ Goes n text → IsHeldNow marks (after step marks) n
 go_holds Issue marks n text e = cc
 go_holds (Take k) marks n text e = take_holds (slice_get marks k) marks k n text e
 go_holds (PutBack k) marks n text e = put_back_holds (slice_get marks k) marks k n text e

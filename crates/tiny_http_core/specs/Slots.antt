@@ -23,7 +23,7 @@ pub data Stage : Type 0 where
   Waits : Stage
   -- it was answered by this response on this date; `found`: the memory for data that are read whole first was found
   Answered : (response : ResponseValue) (date : HttpDate) (found : Bool) → Stage
-  -- the server answered itself: a refused head, or a request that was dropped
+  -- the server answered itself: a refused head, a request that was dropped, or one whose upgrade was refused
   ByServer : Stage
   -- its raw writer wrote these bytes, and has ended or not
   Raw : (written : List ℕ) (closed : Bool) → Stage

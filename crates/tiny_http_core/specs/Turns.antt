@@ -81,7 +81,7 @@ pub data TurnAnswer : Type 0 where
   Waits : TurnAnswer
   -- the number, which was left with this text, is held now
   Goes : (number : ℕ) → (text : List ℕ) → TurnAnswer
-  -- the number is in another state, and nothing changed
+  -- the number is in another state, its turn hasn't come, or it was never issued; nothing changed
   Strange : TurnAnswer
 
 -- the marks after a step, with its answer

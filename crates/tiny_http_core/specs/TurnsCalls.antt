@@ -12,7 +12,7 @@ module _ {T : Type 0} where
   abbrev pub new_turns : T → TurnsState T
   new_turns item = record { marks = []; slot = Some item }
 
-  -- the item comes out of the slot exactly if the number is held now
+  -- the item comes out of the slot exactly if this call holds the number
   abbrev pub Takes : TurnAnswer → Option T → Option T → Option T → Type 0
   Takes Taken old result new = (result ≡ old) × IsSome result × (new ≡ None)
   Takes Strange old result new = (result ≡ None) × (new ≡ old)
@@ -39,7 +39,7 @@ module _ {T : Type 0} where
   Leaves _ old result new = ⊥
 
   -- a text that comes back is the one that was given
-  abbrev pub IsStrange : Leaving T → Vec ℕ → Type 0
-  IsStrange IsLeft given = Unit {0}
-  IsStrange (LeaveGo item back) given = back ≡ given
-  IsStrange (LeaveStrange back) given = back ≡ given
+  abbrev pub GivesBack : Leaving T → Vec ℕ → Type 0
+  GivesBack IsLeft given = Unit {0}
+  GivesBack (LeaveGo item back) given = back ≡ given
+  GivesBack (LeaveStrange back) given = back ≡ given

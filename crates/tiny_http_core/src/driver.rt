@@ -37,10 +37,10 @@ pub enum Step<D> {
     Drop(u64),
 }
 
-/// A step, and the date of what it sends.
+/// A step on its date.
 #[derive(Drop)]
 pub struct Timed<D> {
-    /// The `Date` of what is sent.
+    /// The `Date` of what the step sends; a dropped request's 500 has that of its `Ask`.
     pub now: HttpDate,
     /// What is done.
     pub step: Step<D>,

@@ -49,7 +49,7 @@ enum Entry {
     Open,
     // It has the item.
     Held,
-    // It is passed over in its turn, once this text is written.
+    // It is held in its turn by who finishes the turn before, and this text comes out.
     Left(Vec<u8>),
     // Its turn is over.
     Finished,
@@ -78,7 +78,7 @@ impl<T> Model for Turns<T> {
 
 impl<T: Drop> Turns<T> {
     ghost use Rattle.tiny_http_core.specs.Turns.{IsInOrder};
-    ghost use Rattle.tiny_http_core.specs.TurnsCalls.{new_turns, Takes, PutsBack, Finishes, Leaves, IsStrange};
+    ghost use Rattle.tiny_http_core.specs.TurnsCalls.{new_turns, Takes, PutsBack, Finishes, Leaves, GivesBack};
 
     /// No number is issued, and the item lies in the slot.
     pub fn new(alloc: Global, item: T) -> Turns<T>
@@ -171,7 +171,7 @@ impl<T: Drop> Turns<T> {
         ensures in_order { IsInOrder self.new }
         ensures marks { self.new.marks ≡ after (Leave number text.items) self.old.marks }
         ensures item { Leaves (answer (Leave number text.items) self.old.marks) self.old.slot result self.new.slot }
-        ensures back { IsStrange result text }
+        ensures back { GivesBack result text }
     {
         let at = number as usize;
         if !is_open(&self.entries, at) {

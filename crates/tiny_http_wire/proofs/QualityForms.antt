@@ -6,8 +6,7 @@ use Rattle.std.specs.Str.Parse.{AllDigits, digits_value}
 use Rattle.std.proofs.lemmas.Bool.{and_parts}
 use Rattle.std.proofs.lemmas.Bool.Decides.{nat_tests}
 use Rattle.std.proofs.lemmas.Str.Parse.{IsNumeralModel, numerals_by_value, tells_digits, tells_all_ascii_digits, not_in_digits}
-use Rattle.tiny_http_wire.specs.Bytes.{is_blank, HasNo, parts, comma, point, semicolon}
-use Rattle.tiny_http_wire.specs.Reading.{skip_while, trimmed}
+use Rattle.tiny_http_wire.specs.Bytes.{is_blank, HasNo, parts, comma, point, semicolon, skip_while, trimmed}
 use Rattle.tiny_http_wire.specs.Qualities.{IsQuality, GivesQuality, FirstQuality, Element, Elements, ListsQualities}
 use Rattle.tiny_http_wire.specs.QualityReading.{cut, short_number, thousandths, both, quality_cut, quality, behind_q, parameter_quality, first_quality, element_parts, element, qualities}
 use Rattle.tiny_http_wire.proofs.TextLemmas.{front, trims-is, trims-one, skip-blanks, ArePartsOf, parts-are}

@@ -12,10 +12,9 @@ use Rattle.std.proofs.lemmas.Str.{IsUtf8-drop, IsCharBoundary-after_ascii, IsCha
 use Rattle.std.proofs.lemmas.Str.Pattern.{IsSplitOnceResult, split_parts}
 use Rattle.std.proofs.lemmas.Str.Parse.{IsNumeralModel, numerals_by_value, tells_all_ascii_digits, digits_value_short}
 use Rattle.std.proofs.lemmas.Int.Digits.{digits_value-lt}
-use Rattle.tiny_http_wire.specs.Bytes.{is_blank, HasNo, parts, point, semicolon}
+use Rattle.tiny_http_wire.specs.Bytes.{is_blank, HasNo, parts, point, semicolon, skip_while, skip_end_while, trimmed}
 use Rattle.tiny_http_wire.specs.QualityReading.{cut, short_number, thousandths, both, quality, behind_q, parameter_quality, first_quality, element}
 use Rattle.tiny_http_wire.proofs.AnswerLemmas.{none-from}
-use Rattle.tiny_http_wire.specs.Reading.{skip_while, skip_end_while, trimmed}
 use Rattle.tiny_http_wire.proofs.TextLemmas.{front, back, parts-word, parts-last}
 use Rattle.tiny_http_wire.proofs.HeadLemmas.{not_true}
 

@@ -2,8 +2,7 @@
 use Rattle.std.specs.Prelude.{ℕ, ◌+◌, ◌-◌, ◌*◌, ◌^◌, ◌&&◌, ◌==◌, nat_lt, nat_le, List, [], ◌∷◌, length, map, Option, Some, None, option_map, unwrap_or, if◌then◌else◌}
 use Rattle.std.specs.Str.{all_ascii_digits}
 use Rattle.std.specs.Str.Parse.{digits_value}
-use Rattle.tiny_http_wire.specs.Bytes.{is_blank, parts, comma, semicolon, point}
-use Rattle.tiny_http_wire.specs.Reading.{skip_while, trimmed}
+use Rattle.tiny_http_wire.specs.Bytes.{is_blank, parts, comma, semicolon, point, skip_while, trimmed}
 
 -- what stands before the first c and behind it
 abbrev pub cut : ℕ → List ℕ → Option (List ℕ × List ℕ)

@@ -2,33 +2,15 @@
 ghost use Rattle.std.specs.Prelude.{◌≡◌, ◌-◌, ◌^◌, ◌<◌, ◌≤◌, ◌++◌, ◌∷◌, length, map, IfOk, IfSome, IfNone};
 ghost use Rattle.std.specs.Option.{SomeIff};
 ghost use Rattle.std.specs.Str.Parse.{IsNumeral, digits_value};
-ghost use Rattle.tiny_http_wire.specs.Bytes.{HasNo, is_blank, parts, semicolon};
-ghost use Rattle.tiny_http_wire.specs.Reading.{skip_while, trimmed};
+ghost use Rattle.tiny_http_wire.specs.Bytes.{HasNo, parts, semicolon};
 ghost use Rattle.tiny_http_wire.specs.Qualities.{ListsQualities};
 ghost use Rattle.tiny_http_wire.specs.QualityReading.{short_number, thousandths, quality, parameter_quality, first_quality, element};
 
-use crate::grammar;
+use crate::ascii::{trim, trim_front};
 use std::alloc::{AllocError, Global};
 
 // The quality of an element that gives none that can be read.
 const DEFAULT_QUALITY: u32 = 1000;
-
-// The text without white space at its front.
-fn trim_front(text: &str) -> &str
-    ensures { result.now ≡ skip_while is_blank text.now }
-{
-    let front = grammar::trim_front(text.as_bytes());
-    &text[text.len() - front.len()..]
-}
-
-// The text without white space at its ends.
-fn trim(text: &str) -> &str
-    ensures { result.now ≡ trimmed is_blank text.now }
-{
-    let front = trim_front(text);
-    let core = grammar::trim_end(front.as_bytes());
-    &front[..core.len()]
-}
 
 // What stands before the first such character, and behind it.
 fn cut(text: &str, c: char) -> Option<(&str, &str)>

@@ -1,6 +1,6 @@
 use Rattle.std.proofs.Common.{rules, ◌∙◌, length}
 use Rattle.tiny_http_wire.proofs.QualityLemmas.{before-blanks, range-front}
-use Rattle.tiny_http_wire.proofs.header_value.trim.Goals as goal
+use Rattle.tiny_http_wire.proofs.ascii.trim.Goals as goal
 
 pub range-requires-clause-end_boundary : goal.range-requires-clause-end_boundary
 range-requires-clause-end_boundary c = (before-blanks c.trim_front-front.result.now c.trim_end-core.result.now (search rules)).cut

@@ -1,6 +1,6 @@
 use Rattle.std.proofs.Common.{rules, ◌∙◌}
 use Rattle.tiny_http_wire.proofs.QualityLemmas.{behind-blanks}
-use Rattle.tiny_http_wire.proofs.header_value.trim_front.Goals as goal
+use Rattle.tiny_http_wire.proofs.ascii.trim_front.Goals as goal
 
 pub overflow_sub-text : goal.overflow_sub-text
 overflow_sub-text c = (behind-blanks c.args.text.now c.trim_front-front.result.now c.utf8.text (search rules)).shorter
