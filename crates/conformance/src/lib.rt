@@ -1,4 +1,5 @@
-//! Tests of whole connections: a client's bytes and steps go in, replies and output come out.
+//! Tests over the libraries: whole connections, where a client's bytes and steps go in and replies and output come out,
+//! and the calls of `tiny_http_wire`, with tables of what they answer.
 #![tactic(auto)]
 
 #[cfg(test)]
@@ -11,5 +12,9 @@ mod heads;
 mod persistence;
 #[cfg(test)]
 mod runs;
+#[cfg(test)]
+mod turns;
+#[cfg(test)]
+mod wire;
 #[cfg(test)]
 mod withheld;

@@ -237,6 +237,3 @@ fn hold_left(entries: &mut Vec<Entry>, at: usize) -> Option<Vec<u8>>
         _ => None,
     }
 }
-
-#[cfg(test)]
-mod tests;

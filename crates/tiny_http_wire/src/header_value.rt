@@ -124,6 +124,3 @@ pub fn parse_header_value(alloc: Global, value: &str) -> Result<Vec<(&str, u32)>
 {
     value.split(',').map(|text| element(text)).collect(alloc)
 }
-
-#[cfg(test)]
-mod tests;

@@ -1,9 +1,11 @@
 //! Codes, versions, methods and headers, made, shown and compared.
-use super::*;
 use httpdate::HttpDate;
 use std::alloc::Global;
+use std::cmp::Ordering;
 use std::hash::{DefaultHasher, Hash, Hasher};
 use std::test::Fail;
+use tiny_http_wire::ascii::AsciiString;
+use tiny_http_wire::common::{HTTPVersion, Header, HeaderField, Method, ParseError, StatusCode};
 
 fn header(alloc: Global, field: &[u8], value: &[u8]) -> Result<Header, Fail> {
     match Header::from_bytes(field.to_vec(alloc)?, value.to_vec(alloc)?) {

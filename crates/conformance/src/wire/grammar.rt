@@ -3,8 +3,9 @@ ghost use Rattle.std.specs.Prelude.{◌≡◌};
 ghost use Rattle.std.specs.List.{list_all};
 ghost use Rattle.tiny_http_wire.specs.Bytes.{is_ascii};
 
-use super::*;
 use std::test::Fail;
+use tiny_http_wire::common::{HTTPVersion, Header, Method};
+use tiny_http_wire::grammar::{parse_content_length, parse_header_line, parse_request_line};
 
 fn is_ascii(text: &[u8]) -> bool
     ensures { result ≡ list_all is_ascii text.now }
@@ -70,9 +71,7 @@ fn the_nine_methods(rt: HostRuntime) -> Result<(), Fail> {
         ("TRACE", Method::Trace),
         ("PATCH", Method::Patch),
     ] {
-        let name = name.as_bytes();
-        assert!(rt; is_ascii(name));
-        let method = method_of(rt.alloc(), name)?;
+        let method = Method::from_str(rt.alloc(), name)?;
         assert_eq!(rt; method, wanted);
     }
     Ok(())

@@ -1,6 +1,7 @@
 //! Numbers that have a byte in turn.
-use super::*;
+use std::alloc::Global;
 use std::test::Fail;
+use tiny_http_core::turns::{Finishing, Leaving, Turns, TurnsError};
 
 fn text(alloc: Global, text: &[u8]) -> Result<Vec<u8>, Fail> {
     Ok(text.to_vec(alloc)?)

@@ -1,6 +1,6 @@
 //! Header values, read.
-use super::*;
 use std::test::Fail;
+use tiny_http_wire::header_value::parse_header_value;
 
 #[test]
 fn names_and_qualities(rt: HostRuntime) -> Result<(), Fail> {

@@ -1,0 +1,6 @@
+//! The calls of `tiny_http_wire`.
+mod ascii;
+mod common;
+mod device;
+mod grammar;
+mod header_value;
