@@ -10,9 +10,12 @@ pub mod GoingOn
 pub mod PipelineLemmas
 pub mod SendLemmas
 pub mod SlotLemmas
+pub mod KeptLemmas
+pub mod OutputLemmas
 pub mod AskLemmas
 pub mod RespondLemmas
 pub mod DropLemmas
+pub mod PassLemmas
 pub mod StepLemmas
 pub mod RunLemmas
 pub mod Rows

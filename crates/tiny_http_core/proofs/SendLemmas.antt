@@ -7,8 +7,9 @@ use Rattle.std.specs.declared.io.ErrorKind.{ErrorKind}
 use Rattle.std.specs.declared.io.ErrorKind.TheVariants.{OutOfMemory}
 use Rattle.std.specs.Io.KnownBytes.{append_known}
 use Rattle.std.proofs.lemmas.Bool.{ne_eqb, leb-false}
-use Rattle.tiny_http_wire.specs.Device.{Feed, ending, Sink, IsFrontOf, grown, Tells, Took, Failed, Puts, next_count, fault_of, Uses}
+use Rattle.tiny_http_wire.specs.Device.{Feed, ending, Sink, IsFront, BeginsKnown, IsFrontOf, grown, Tells, Took, Failed, Puts, next_count, fault_of, Uses}
 use Rattle.tiny_http_wire.specs.Answer.{Answer, answer_with, Text, Whole, Broken, Printing, Prints, PrintsAnswer, text_of, nothing, gathered_body, unless, identity_body, as_it_is, is_withheld}
+use Rattle.tiny_http_wire.proofs.DeviceLemmas.{IsFront-same, IsFront-append}
 use Rattle.tiny_http_core.specs.Outlet.{holding, EndsWith}
 use Rattle.httpdate.specs.declared.date.HttpDate.{HttpDate}
 use Rattle.tiny_http_wire.specs.declared.common.HTTPVersion.{HTTPVersion}
@@ -17,7 +18,7 @@ use Rattle.tiny_http_wire.specs.declared.coding.FramingHeader.TheVariants.{Conte
 use Rattle.tiny_http_wire.specs.declared.device.Stop.{Stop}
 use Rattle.tiny_http_wire.specs.declared.device.Stop.TheVariants.{End, Fault}
 use Rattle.tiny_http_core.specs.Slots.{own_printing, own_text}
-use Rattle.tiny_http_core.specs.Sending.{Sent, Lost, EndsQuietly, Abandons, SendsText, Sends, SendsQuietly, SendsUnlessEnded, FailsOnce, BreakOff, IsHonest}
+use Rattle.tiny_http_core.specs.Sending.{CanSend, Sent, Lost, Idles, EndsQuietly, Abandons, SendsText, Sends, SendsQuietly, SendsUnlessEnded, FailsOnce, FailsOnceUnlessEnded, BreakOff, IsHonest}
 
 pub or-false : (a b : Bool) → (a || b) ≡ false → (a ≡ false) × (b ≡ false)
 or-false true b h = cc
@@ -37,36 +38,44 @@ fronts (Some xs) b c h k = (h.0 ++ k.0, k.1 ∙ ap (λ x. append_known x k.0) h.
 pub taken-sent : (a b : Sink) (text : List ℕ) → a.has_ended ≡ false → Took a b text → Sent a b text
 taken-sent a b text unended t = record {
   bytes = t.bytes ∙ ap (λ e. grown e a.taken text) unended;
+  sent = t.sent;
   failures = t.failures;
 }
 
+-- what was sent on stays so
+pub begins : (xs ys : List ℕ) (known : Option (List ℕ)) → IsFront xs ys → BeginsKnown ys known → BeginsKnown xs known
+begins xs ys None h k = tt
+begins xs ys (Some zs) h k = IsFront-append xs ys zs h k
+
 failed-lost : (a b : Sink) (text : List ℕ) (kind : ErrorKind) → Failed a b text kind → Lost a b text kind
-failed-lost a b text kind f = record { bytes = f.bytes; failures = f.failures; last_kind = f.last_kind }
+failed-lost a b text kind f = record { bytes = f.bytes; keeps = begins a.sent b.sent b.taken f.sent f.keeps; failures = f.failures; last_kind = f.last_kind }
 
 sent-none : (a b c : Sink) (text : List ℕ) → Sent a b text → Sent b c [] → Sent a c text
-sent-none a b c text s t = record { bytes = t.bytes ∙ append-none b.taken ∙ s.bytes; failures = t.failures ∙ s.failures }
+sent-none a b c text s t = record { bytes = t.bytes ∙ append-none b.taken ∙ s.bytes; sent = IsFront-append a.sent b.sent c.sent s.sent t.sent; failures = t.failures ∙ s.failures }
 
 sent-lost : (a b c : Sink) (text : List ℕ) (kind : ErrorKind) → Sent a b text → Lost b c [] kind → Lost a c text kind
 sent-lost a b c text kind s l =
     let P : Option (List ℕ) → Type 0 = λ x. IsFrontOf c.taken x in
     record {
       bytes = subst P (append-none b.taken ∙ s.bytes) l.bytes;
+      keeps = begins a.sent b.sent c.taken s.sent l.keeps;
       failures = l.failures ∙ ap next_count s.failures;
       last_kind = l.last_kind;
     }
 
-lost-abandoned : (a b c : Sink) (text : List ℕ) (kind : ErrorKind) → Lost a b text kind → Abandons b c → Lost a c text kind
-lost-abandoned a b c text kind l d =
+failed-abandoned : (a b c : Sink) (text : List ℕ) (kind : ErrorKind) → Failed a b text kind → Abandons b c → Lost a c text kind
+failed-abandoned a b c text kind l d =
     let P : Option ErrorKind → Type 0 = λ x. Tells x kind in
     record {
       bytes = fronts c.taken b.taken (append_known a.taken text) d.bytes l.bytes;
+      keeps = begins a.sent c.sent c.taken (IsFront-append a.sent b.sent c.sent l.sent d.sent) d.keeps;
       failures = d.failures ∙ l.failures;
       last_kind = subst P (sym d.last_kind) l.last_kind;
     }
 
 -- an outlet that was ended
 pub ended-quietly : {T : Type 0} (a b : Sink) (r : Result T Error) → EndsWith a b r → EndsQuietly a b
-ended-quietly a b (Ok x) h = inl (record { bytes = h.0 ∙ sym (append-none a.taken); failures = h.1 })
+ended-quietly a b (Ok x) h = inl (record { bytes = h.0 ∙ sym (append-none a.taken); sent = h.1; failures = h.2 })
 ended-quietly a b (Err e) h = inr (error_kind e, failed-lost a b [] (error_kind e) h)
 
 -- an outlet that was given up
@@ -78,10 +87,11 @@ pub grown-none : (ended : Bool) (known : Option (List ℕ)) → grown ended know
 grown-none true known = refl
 grown-none false known = append-none known
 
-pub given-up : (s : Sink) (held : List ℕ) (was now : Bool) → Abandons (holding s held was) (holding s [] now)
-given-up s held was now =
+pub given-up : (s : Sink) (held : List ℕ) (was now : Bool) → BeginsKnown s.sent s.taken → Abandons (holding s held was) (holding s [] now)
+given-up s held was now begins =
+    let Q : Option (List ℕ) → Type 0 = λ x. BeginsKnown s.sent x in
     let P : Option (List ℕ) → Type 0 = λ x. IsFrontOf x (grown s.has_ended s.taken held) in
-    record { bytes = subst P (sym (grown-none s.has_ended s.taken)) (grown-front s.has_ended s.taken held); failures = refl; last_kind = refl }
+    record { bytes = subst P (sym (grown-none s.has_ended s.taken)) (grown-front s.has_ended s.taken held); sent = IsFront-same s.sent; keeps = subst Q (sym (grown-none s.has_ended s.taken)) begins; failures = refl; last_kind = refl }
 
 -- all of the text was printed; then it is flushed
 whole-flushed : {T U : Type 0} (a b c : Sink) (was ended : Bool) (x : U) (r : Result T Error) (text : Text) → a.has_ended ≡ false → Prints a b (Ok x) text → Puts b c r []
@@ -123,7 +133,7 @@ broken-ended T a b c ended e text unended low (inl h) m z y =
 broken-ended T a b c ended e text unended low (inr h) m z y =
     let rose : (b.failures == a.failures) ≡ false = ap (λ k. k == a.failures) h.failures ∙ count-rose a.failures low in
     let P : Bool → Type 0 = λ t. MatchBool t (EndsQuietly b c) (Abandons b c) in
-    (z, y, inr (lost-abandoned a b c text.bytes (error_kind e) (failed-lost a b text.bytes (error_kind e) h) (subst P rose m)))
+    (z, y, inr (failed-abandoned a b c text.bytes (error_kind e) h (subst P rose m)))
 
 pub printed-ended : (T : Type 0) (o : Option Feed) (a b c : Sink) (n : ℕ) (ended : Bool) (e : Error) (ans : Answer) (p : Printing) → (content : Feed) → o ≡ Some content → length content.bytes < 2 ^ 63
     → IfSome o (λ feed. length feed.bytes < 2 ^ 63 → PrintsAnswer {T = T} a b (Err e) ans feed p) → n ≡ a.failures → MatchBool (b.failures == n) (EndsQuietly b c) (Abandons b c)
@@ -161,26 +171,6 @@ pub own-whole : (status : ℕ) (v : HTTPVersion) (withheld : Bool) (date : HttpD
 unfolding text_of
 own-whole status v withheld date =
     elim (is_withheld withheld status) as (λ t. (unless t (identity_body 0 (ending []))).ending ≡ Whole) [ true ↦ refl | false ↦ refl ]
-
-broken-whole : {G : Type 0} (text : Text) (kind : ErrorKind) → text.ending ≡ Whole → text.ending ≡ Broken kind → G
-broken-whole text kind w b = let e : Whole ≡ Broken kind = sym w ∙ b in cc
-
-quietly : {T : Type 0} (a b : Sink) (ended : Bool) (r : Result T Error) (text : Text) → text.ending ≡ Whole → SendsText a b ended r text → SendsQuietly a b ended text.bytes
-quietly a b ended (Ok x) text w h = inl (h.2, h.3, h.1)
-quietly a b ended (Err e) text w h = ⊎_elim (λ k. broken-whole text (error_kind e) w k.0) (λ k. inr (h.0, h.1, error_kind e, k)) h.2
-
-pub own-sent : {T : Type 0} (status : ℕ) (v : HTTPVersion) (withheld : Bool) (date : HttpDate) (a b : Sink) (was ended : Bool) (r : Result T Error) → was ≡ false → Sends a b ended r (answer_with status [] 0) (ending []) (own_printing v withheld date)
-    → SendsUnlessEnded was a b ended (own_text status v withheld date)
-own-sent status v withheld date a b was ended r open_is h =
-    let P : Bool → Type 0 = λ t. SendsUnlessEnded t a b ended (own_text status v withheld date) in
-    subst P (sym open_is) (by-cases h)
-  where
-    by-cases : Sends a b ended r (answer_with status [] 0) (ending []) (own_printing v withheld date) → SendsQuietly a b ended (own_text status v withheld date)
-    by-cases (inl k) = quietly a b ended r _ (own-whole status v withheld date) k
-    by-cases (inr k) = let none : ◌≡◌ {A = Option ℕ} (Some 0) None = k.0.2 in cc
-
-pub not-sent : (was : Bool) (a b : Sink) (ended : Bool) (text : List ℕ) → was ≡ true → b ≡ a → ended ≡ true → SendsUnlessEnded was a b ended text
-not-sent was a b ended text e same z = let P : Bool → Type 0 = λ t. SendsUnlessEnded t a b ended text in subst P (sym e) (same, z)
 
 -- whose a fault is
 gathered-breaks : (stop : Stop) (front : List ℕ) (withheld : Bool) (bytes : List ℕ) (kind : ErrorKind) → (gathered_body stop front withheld bytes).ending ≡ Broken kind → stop ≡ Fault kind
@@ -235,3 +225,84 @@ pub printed-honest : (T : Type 0) (o : Option Feed) (a b c : Sink) (n : ℕ) (e 
     → Uses {T = T} a b (Err e) → n ≡ a.failures → MatchBool (b.failures == n) (EndsQuietly b c) (Abandons b c) → IsHonest a c ans.length o (error_kind e)
 printed-honest T o a b c n e ans v no_body date h (inl u) same m = honest-by T o a b c n e ans v no_body date (next_count a.failures == a.failures) refl u.failures h same m
 printed-honest T o a b c n e ans v no_body date h (inr u) same m = inl (rose a b c n (b.failures == n) refl same u.failures m)
+
+-- one text after another, each sent quietly
+known-append : (known : Option (List ℕ)) (s t : List ℕ) → append_known (append_known known s) t ≡ append_known known (s ++ t)
+known-append None s t = refl
+known-append (Some xs) s t = ap Some (append_assoc xs s t)
+
+sent-append : (a b c : Sink) (s t : List ℕ) → Sent a b s → Sent b c t → Sent a c (s ++ t)
+sent-append a b c s t h k = record {
+  bytes = k.bytes ∙ ap (λ y. append_known y t) h.bytes ∙ known-append a.taken s t;
+  sent = IsFront-append a.sent b.sent c.sent h.sent k.sent;
+  failures = k.failures ∙ h.failures;
+}
+
+sent-then_lost : (a b c : Sink) (s t : List ℕ) (kind : ErrorKind) → Sent a b s → Lost b c t kind → Lost a c (s ++ t) kind
+sent-then_lost a b c s t kind h l =
+    let P : Option (List ℕ) → Type 0 = λ x. IsFrontOf c.taken x in
+    record {
+      bytes = subst P (ap (λ y. append_known y t) h.bytes ∙ known-append a.taken s t) l.bytes;
+      keeps = begins a.sent b.sent c.taken h.sent l.keeps;
+      failures = l.failures ∙ ap next_count h.failures;
+      last_kind = l.last_kind;
+    }
+
+lost-idle : (a b c : Sink) (s t : List ℕ) (kind : ErrorKind) → Lost a b s kind → Idles b c → Lost a c (s ++ t) kind
+lost-idle a b c s t kind l i =
+    let P : Option (List ℕ) → Type 0 = λ x. IsFrontOf x (append_known a.taken (s ++ t)) in
+    let Q : Option (List ℕ) → Type 0 = λ x. BeginsKnown a.sent x in
+    let K : Option ErrorKind → Type 0 = λ x. Tells x kind in
+    record {
+      bytes = subst P (sym i.bytes) (l.bytes.0 ++ t, sym (known-append a.taken s t) ∙ ap (λ y. append_known y t) l.bytes.1 ∙ known-append b.taken l.bytes.0 t);
+      keeps = subst Q (sym i.bytes) l.keeps;
+      failures = i.failures ∙ l.failures;
+      last_kind = subst K (sym i.last_kind) l.last_kind;
+    }
+
+idles-append : (a b c : Sink) → Idles a b → Idles b c → Idles a c
+idles-append a b c h k = record { bytes = k.bytes ∙ h.bytes; failures = k.failures ∙ h.failures; last_kind = k.last_kind ∙ h.last_kind; stays = k.stays ∙ h.stays }
+
+unless-idle : (e ec : Bool) (b c : Sink) (t : List ℕ) → e ≡ true → SendsUnlessEnded e b c ec t → Idles b c × (ec ≡ true)
+unless-idle e ec b c t z h = let P : Bool → Type 0 = λ x. SendsUnlessEnded x b c ec t in subst P z h
+
+unless-open : (e ec : Bool) (b c : Sink) (t : List ℕ) → e ≡ false → SendsUnlessEnded e b c ec t → SendsQuietly b c ec t
+unless-open e ec b c t z h = let P : Bool → Type 0 = λ x. SendsUnlessEnded x b c ec t in subst P z h
+
+pub sends-append : (was eb ec : Bool) (a b c : Sink) (s t : List ℕ) → SendsUnlessEnded was a b eb s → SendsUnlessEnded eb b c ec t → SendsUnlessEnded was a c ec (s ++ t)
+sends-append true eb ec a b c s t h k = let i = unless-idle eb ec b c t h.1 k in (idles-append a b c h.0 i.0, i.1)
+sends-append false eb ec a b c s t (inl h) k = next (unless-open eb ec b c t h.0 k)
+  where
+    next : SendsQuietly b c ec t → SendsQuietly a c ec (s ++ t)
+    next (inl m) = inl (m.0, m.1, sent-append a b c s t h.2 m.2)
+    next (inr m) = inr (m.0, m.1, m.2, sent-then_lost a b c s t m.2 h.2 m.3)
+sends-append false eb ec a b c s t (inr h) k =
+    let i = unless-idle eb ec b c t h.0 k in
+    inr (i.1, i.0.stays ∙ h.1, h.2, lost-idle a b c s t h.2 h.3 i.0)
+
+pub sends-none : (was : Bool) (a : Sink) → (was ≡ false → CanSend a) → SendsUnlessEnded was a a was []
+sends-none true a can = (record { bytes = refl; failures = refl; last_kind = refl; stays = refl }, refl)
+sends-none false a can = inl (refl, (can refl).unended, record { bytes = sym (append-none a.taken); sent = IsFront-same a.sent; failures = refl })
+
+-- where the output has not ended, more can be sent
+pub sends-can : (was eb : Bool) (a b : Sink) (s : List ℕ) → (was ≡ false → CanSend a) → SendsUnlessEnded was a b eb s → eb ≡ false → CanSend b
+sends-can true eb a b s can h e = let no : true ≡ false = sym h.1 ∙ e in cc
+sends-can false eb a b s can (inl h) e =
+    let P : ℕ → Type 0 = λ n. n < 2 ^ 64 - 1 in
+    record { unended = h.1; can_count = subst P (sym h.2.failures) (can refl).can_count }
+sends-can false eb a b s can (inr h) e = let no : true ≡ false = sym h.0 ∙ e in cc
+
+-- the count over one call and the next
+once-idle : (e ec : Bool) (b c : Sink) → e ≡ true → FailsOnceUnlessEnded e b c ec → (c.failures ≡ b.failures) × (ec ≡ true)
+once-idle e ec b c z h = let P : Bool → Type 0 = λ x. FailsOnceUnlessEnded x b c ec in subst P z h
+
+pub once-append : (was eb ec : Bool) (a b c : Sink) → FailsOnceUnlessEnded was a b eb → FailsOnceUnlessEnded eb b c ec → FailsOnceUnlessEnded was a c ec
+once-append true eb ec a b c h k = let i = once-idle eb ec b c h.1 k in (i.0 ∙ h.0, i.1)
+once-append false true ec a b c (inl h) k = inl (k.0 ∙ h)
+once-append false false ec a b c (inl h) (inl k) = inl (k ∙ h)
+once-append false false ec a b c (inl h) (inr k) = inr (k.0 ∙ ap next_count h, k.1)
+once-append false eb ec a b c (inr h) k = let i = once-idle eb ec b c h.1 k in inr (i.0 ∙ h.0, i.1)
+
+pub once-none : (was : Bool) (a : Sink) → FailsOnceUnlessEnded was a a was
+once-none true a = (refl, refl)
+once-none false a = inl refl

@@ -2,22 +2,25 @@
 use Rattle.std.specs.Prelude.{◌≡◌, ℕ, ◌+◌, Bool, true, false, List, [], ◌∷◌, ◌++◌, length, Option, Some, None}
 use Rattle.std.specs.List.{list_all}
 use Rattle.httpdate.specs.declared.date.HttpDate.{HttpDate}
-use Rattle.tiny_http_wire.specs.Device.{Feed, Sink, Tells}
-use Rattle.tiny_http_core.specs.declared.driver.Waiting.{Waiting}
+use Rattle.tiny_http_wire.specs.Device.{Feed, Sink, IsFront, Tells}
+use Rattle.tiny_http_core.specs.declared.pending.AnswerForm.{AnswerForm}
+use Rattle.tiny_http_core.specs.declared.pending.Waiting.{Waiting}
 use Rattle.tiny_http_core.specs.declared.driver.Connection.{Connection}
 use Rattle.tiny_http_core.specs.Framing.{is_plain}
 use Rattle.tiny_http_core.specs.Source.{GoesOn}
 use Rattle.tiny_http_core.specs.Outlet.{outlet_sink, outlet_ended}
 use Rattle.tiny_http_core.specs.Pipeline.{Item, Asks, Refuses, Request, Pipeline, is_head_method}
-use Rattle.tiny_http_core.specs.Slots.{Slot, is_finished, joined, breaks_off, new_slot}
+use Rattle.tiny_http_core.specs.Slots.{Slot, ByServer, is_finished, is_slot_broken, segment, joined, breaks_off, new_slot}
+use Rattle.tiny_http_core.specs.Steps.{finished}
+use Rattle.tiny_http_core.specs.Turns.{Mark, Open, Left, Finished, AreInShape}
 use Rattle.tiny_http_core.specs.Conversation.{State, Failure}
 
--- What the program keeps of a connection: how many numbers were given out, the request that waits for its answer, whether
--- the last head was read, whether the asking has ended, what is still to come, what the writer tells with what is held,
--- and whether the output has ended.
+-- What the program keeps of a connection: the turns of its numbers, the requests that wait for their answers, whether the
+-- last head was read, whether the asking has ended, what is still to come, what the writer tells with what is held, and
+-- whether the output has ended.
 pub record Kept : Type 0 where
-  pub numbers : ℕ
-  pub waiting : Option Waiting
+  pub marks : List Mark
+  pub requests : List (Option Waiting)
   pub over : Bool
   pub ended : Bool
   pub feed : Option Feed
@@ -26,24 +29,41 @@ pub record Kept : Type 0 where
 
 abbrev pub kept : {R W : Type 0} → (W → Sink) → Connection R W → Kept
 kept sink c =
-    record { numbers = c.numbers; waiting = c.waiting; over = c.over; ended = c.ended; feed = c.source.feed; sink = outlet_sink sink c.outlet; output_ended = outlet_ended c.outlet }
+    record { marks = c.pending.turns.marks; requests = c.pending.requests.items; over = c.over; ended = c.ended; feed = c.source.feed; sink = outlet_sink sink c.outlet; output_ended = outlet_ended c.outlet }
 
--- what is kept of a request that was handed out on this date
-abbrev pub kept_of : HttpDate → Request → Waiting
-kept_of date r = record { version = r.message.version; is_head = is_head_method r.message.method; handed = date }
+-- how a request is answered
+abbrev pub form_of : Request → AnswerForm
+form_of r = record { version = r.message.version; no_body = is_head_method r.message.method }
 
--- the last number was handed out on some date and waits for its answer; all before it are finished
-pub record WaitsLast (w : Waiting) (slots : List Slot) : Type 0 where
-  pub before : List Slot
+-- what becomes of a request that was handed out on this date and is dropped
+abbrev pub dropped : HttpDate → Request → Slot
+dropped date r = finished (new_slot date (Asks r)) ByServer
+
+-- a request that was handed out on some date and waits
+pub record IsWaiting (s : Slot) (w : Waiting) : Type 0 where
   pub request : Request
   pub date : HttpDate
-  pub last : slots ≡ before ++ new_slot date (Asks request) ∷ []
-  pub finished : list_all is_finished before ≡ true
-  pub same : w ≡ kept_of date request
+  pub fresh : s ≡ new_slot date (Asks request)
+  pub form : w.form ≡ form_of request
+  pub text : w.dropped.items ≡ segment (dropped date request)
 
-abbrev pub WaitsFor : Option Waiting → List Slot → Type 0
-WaitsFor None slots = list_all is_finished slots ≡ true
-WaitsFor (Some w) slots = WaitsLast w slots
+-- a number whose text waits for its turn
+pub record IsLeft (s : Slot) (text : List ℕ) : Type 0 where
+  pub finished : is_finished s ≡ true
+  pub whole : is_slot_broken s ≡ false
+  pub same : segment s ≡ text
+
+-- what became of a number, by its turn and by what is kept of it
+abbrev pub IsKept : Slot → Mark → Option Waiting → Type 0
+IsKept s Open (Some w) = IsWaiting s w
+IsKept s (Left text) None = IsLeft s text
+IsKept s Finished None = is_finished s ≡ true
+IsKept s _ _ = ⊥
+
+abbrev pub AreKept : List Slot → List Mark → List (Option Waiting) → Type 0
+AreKept [] [] [] = Unit {0}
+AreKept (s ∷ slots) (m ∷ marks) (w ∷ requests) = IsKept s m w × AreKept slots marks requests
+AreKept _ _ _ = ⊥
 
 -- what the bytes still ask: nothing behind the last head, else the pipeline from where the input stands
 abbrev pub RestAt : Bool → Bool → Option Feed → List Item → Type 0
@@ -57,18 +77,19 @@ abbrev pub is_plain_item : Item → Bool
 is_plain_item (Asks r) = is_plain r.framing.form
 is_plain_item (Refuses status version withheld) = true
 
--- the output so far: the joined segments; or what the writer took when it failed
+-- the output so far: the joined segments, which no failure takes back; or what the writer took when it failed
 abbrev pub OutputAt : Sink → Sink → Bool → List Slot → Option Failure → Type 0
 OutputAt before sink ended slots None =
     (sink.taken ≡ Some (joined slots)) × (sink.failures ≡ before.failures) × (sink.has_ended ≡ ended) × (ended ≡ breaks_off slots)
+    × (ended ≡ false → IsFront (joined slots) sink.sent)
 OutputAt before sink ended slots (Some f) =
     (sink.taken ≡ Some f.output) × (sink.failures ≡ before.failures + 1) × Tells sink.last_kind f.kind × (ended ≡ true)
 
 -- the connection stands so, behind this much of the client's feed and over a writer that told this before
 pub record Stands (client : Feed) (before : Sink) (k : Kept) (s : State) : Type 0 where
-  pub numbers : length s.reached.slots ≡ k.numbers
+  pub numbers : AreKept s.reached.slots k.marks k.requests
+  pub shape : AreInShape k.marks
   pub ended : s.reached.ended ≡ k.ended
-  pub waits : WaitsFor k.waiting s.reached.slots
   pub plain : list_all (λ (x : Slot). is_plain_item x.item) s.reached.slots ≡ true
   pub rest : RestAt k.ended k.over k.feed s.reached.rest
   pub source : GoesOn (Some client) k.feed

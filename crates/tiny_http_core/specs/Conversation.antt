@@ -3,9 +3,9 @@ use Rattle.std.specs.Prelude.{◌≡◌, ℕ, ◌+◌, ◌-◌, ◌^◌, ◌<◌
 use Rattle.std.specs.List.{AllByRecursion}
 use Rattle.std.specs.declared.io.ErrorKind.{ErrorKind}
 use Rattle.httpdate.specs.declared.date.HttpDate.{HttpDate}
-use Rattle.tiny_http_wire.specs.Device.{Feed, Sink, Tells}
+use Rattle.tiny_http_wire.specs.Device.{Feed, Sink, IsFront, Tells}
 use Rattle.tiny_http_core.specs.Pipeline.{Item, Asks, Refuses, Pipeline}
-use Rattle.tiny_http_core.specs.Slots.{ResponseValue, Slot, is_finished, joined, breaks_off, new_slot, last_slot, reader_is_held, reader_is_lost, is_unanswered, IsGathered, to_request}
+use Rattle.tiny_http_core.specs.Slots.{ResponseValue, Slot, is_finished, joined, breaks_off, new_slot, last_slot, reader_is_held, reader_is_lost, IsGathered, to_request}
 use Rattle.tiny_http_core.specs.Steps.{Asked, Ask, Read, Respond, Replied, NoSuch, Memory, Use, Unused, Unreported, Reported, Outcome, Reached, outcome}
 
 -- the writer's first fault: its kind, and all that the writer took
@@ -22,10 +22,6 @@ pub record State : Type 0 where
 abbrev pub has_output_ended : State → Bool
 has_output_ended old = is_some old.failure || breaks_off old.reached.slots
 
--- these bytes begin those
-abbrev pub IsFront : List ℕ → List ℕ → Type 0
-IsFront front whole = (rest : List ℕ) × (whole ≡ front ++ rest)
-
 -- how many numbers are finished in front
 abbrev pub finished_front : List Slot → ℕ
 finished_front [] = 0
@@ -36,32 +32,30 @@ abbrev pub broken_reply : (ErrorKind → Replied) → Replied → Option ErrorKi
 broken_reply tell reply None = reply
 broken_reply tell reply (Some kind) = tell kind
 
--- the writer failed, and took a front of this much
-abbrev pub FailsWithin : List ℕ → Option Failure → Type 0
-FailsWithin text failure = (f : Failure) × (failure ≡ Some f) × IsFront f.output text
+-- the writer failed while the output grew from one text to another: it took the first, and a front of the other
+abbrev pub FailsBetween : List ℕ → List ℕ → Option Failure → Type 0
+FailsBetween from to failure = (f : Failure) × (failure ≡ Some f) × IsFront from f.output × IsFront f.output to
 
 -- the same, and the fault is told
-abbrev pub FailsTold : (ErrorKind → Replied) → Replied → List ℕ → Option Failure → Type 0
-FailsTold tell reply text failure = (f : Failure) × (failure ≡ Some f) × (reply ≡ tell f.kind) × IsFront f.output text
+abbrev pub FailsTold : (ErrorKind → Replied) → Replied → List ℕ → List ℕ → Option Failure → Type 0
+FailsTold tell reply from to failure = (f : Failure) × (failure ≡ Some f) × (reply ≡ tell f.kind) × IsFront from f.output × IsFront f.output to
 
--- the writer failed behind the step's own text: in a text that was left, or, where the data broke off, in what was held
+-- the writer failed behind the step's own text: in a text that was left; or, where the data broke off, in what was held
 abbrev pub FailsBehind : List Slot → List ℕ → Option ErrorKind → List Slot → Option Failure → Type 0
 FailsBehind before own None slots failure =
-    (finished_front before + 1 < finished_front slots)
-    × (f : Failure) × (left : List ℕ) × (part : List ℕ) × (failure ≡ Some f)
-    × (joined slots ≡ joined before ++ (own ++ left)) × IsFront part left × (f.output ≡ joined before ++ (own ++ part))
-FailsBehind before own (Some kind) slots failure = FailsWithin (joined before ++ own) failure
+    (finished_front before + 1 < finished_front slots) × FailsBetween (joined before ++ own) (joined slots) failure
+FailsBehind before own (Some kind) slots failure = FailsBetween (joined before) (joined before ++ own) failure
 
 -- The writer's part of a step: its reply, and the writer's failure behind it.
 abbrev pub Writes : Use → State → Replied → List Slot → Replied → Option Failure → Type 0
 Writes Unused old turn slots reply failure = (reply ≡ turn) × (failure ≡ old.failure)
 Writes Unreported old turn slots reply failure =
-    (reply ≡ turn) × MatchBool (has_output_ended old) (failure ≡ old.failure) ((failure ≡ None) ⊎ FailsWithin (joined slots) failure)
+    (reply ≡ turn) × MatchBool (has_output_ended old) (failure ≡ old.failure) ((failure ≡ None) ⊎ FailsBetween (joined old.reached.slots) (joined slots) failure)
 Writes (Reported own broken tell) old turn slots reply failure =
     MatchBool (has_output_ended old)
     ((reply ≡ turn) × (failure ≡ old.failure))
     (((reply ≡ broken_reply tell turn broken) × (failure ≡ None))
-    ⊎ (FailsTold tell reply (joined old.reached.slots ++ own) failure
+    ⊎ (FailsTold tell reply (joined old.reached.slots) (joined old.reached.slots ++ own) failure
     ⊎ ((reply ≡ broken_reply tell turn broken) × FailsBehind old.reached.slots own broken slots failure)))
 
 abbrev pub reached_by : Outcome → Reached
@@ -100,8 +94,7 @@ answers_to (item ∷ refused) = Unreported
 abbrev pub FindsNoMemory : HttpDate → State → Asked → Replied → State → Type 0
 FindsNoMemory date old (Read k n) reply new = ((outcome true date old.reached (Read k n)).reply ≡ NoSuch → ⊥) × (reply ≡ Memory) × (new ≡ old)
 FindsNoMemory date old Ask reply new =
-    (old.reached.ended ≡ false) × (is_unanswered (last_slot old.reached.slots) ≡ false) × (reader_is_held (last_slot old.reached.slots) ≡ false)
-    × (reader_is_lost (last_slot old.reached.slots) ≡ false)
+    (old.reached.ended ≡ false) × (reader_is_held (last_slot old.reached.slots) ≡ false) × (reader_is_lost (last_slot old.reached.slots) ≡ false)
     × (refused : List Item) × (rest : List Item) × (old.reached.rest ≡ refused ++ rest) × AllByRecursion IsRefused refused
     × (let slots = old.reached.slots ++ map (new_slot date) refused in
     Has (record { reply = Memory; slots = slots; rest = rest; ended = true; writer = answers_to refused }) old reply new)

@@ -6,6 +6,7 @@ pub mod Framing
 pub mod Pipeline
 pub mod HeadReads
 pub mod Outlet
+pub mod Pending
 pub mod Slots
 pub mod Steps
 pub mod Conversation

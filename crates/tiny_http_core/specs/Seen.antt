@@ -1,18 +1,22 @@
 -- The program's steps and replies as the definitions see them.
-use Rattle.std.specs.Prelude.{◌≡◌, ◌<◌, ◌^◌, List, [], ◌∷◌, length, Option, Some}
+use Rattle.std.specs.Prelude.{◌≡◌, ◌<◌, ◌^◌, List, [], ◌∷◌, length, Option, Some, None, Bool, Result, Ok, Err}
+use Rattle.std.specs.IoError.{error_kind}
+use Rattle.std.specs.declared.io.Error.{Error}
 use Rattle.std.specs.declared.io.ErrorKind.{ErrorKind}
+use Rattle.httpdate.specs.declared.date.HttpDate.{HttpDate}
 use Rattle.tiny_http_wire.specs.Device.{Feed, Sink}
-use Rattle.tiny_http_wire.specs.Answer.{ResponseState}
+use Rattle.tiny_http_wire.specs.Answer.{Answer, Printing, ResponseState}
 use Rattle.tiny_http_core.specs.declared.driver.Step.{Step}
 use Rattle.tiny_http_core.specs.declared.driver.Step.TheVariants as step
 use Rattle.tiny_http_core.specs.declared.driver.Timed.{Timed}
+use Rattle.tiny_http_core.specs.declared.pending.AnswerForm.{AnswerForm}
 use Rattle.tiny_http_core.specs.declared.driver.Reply.{Reply}
 use Rattle.tiny_http_core.specs.declared.driver.Reply.TheVariants as reply
 use Rattle.tiny_http_core.specs.HeadReads.{head_message, head_framing}
 use Rattle.tiny_http_core.specs.Slots.{ResponseValue}
-use Rattle.tiny_http_core.specs.Steps.{Asked, Ask, Respond, Drop, Replied, Handed, Ended, Fault, NotYet, Done, NoSuch, Memory}
+use Rattle.tiny_http_core.specs.Steps.{Asked, Ask, Respond, Drop, Replied, Handed, Ended, Fault, NotYet, Done, NoSuch, Memory, fault_of_answer}
 use Rattle.tiny_http_core.specs.Conversation.{Dated}
-use Rattle.tiny_http_core.specs.Sending.{IsHonest, FailsAtMostOnce}
+use Rattle.tiny_http_core.specs.Sending.{Sends, IsHonest, FailsAtMostOnce}
 
 -- the response tells its data, of fewer than 2^63 bytes
 abbrev pub IsResponse : {D : Type 0} → (D → Option Feed) → ResponseState D → ResponseValue → Type 0
@@ -56,3 +60,16 @@ TellHonestly feed old (t ∷ steps) (r ∷ replies) new =
     (mid : Sink) × FailsAtMostOnce old mid × TellsHonestly feed old mid t r × TellHonestly feed mid steps replies new
 TellHonestly feed old [] (r ∷ replies) new = ⊥
 TellHonestly feed old (t ∷ steps) [] new = ⊥
+
+-- how the driver prints an answer: the coding isn't chosen yet, so that it needs no request header
+abbrev pub printed_as : AnswerForm → HttpDate → Printing
+printed_as form date = record { version = form.version; request_headers = []; no_body = form.no_body; upgrade = None; date = date }
+
+-- what a call that sends an answer is told as
+abbrev pub reply_to : {T : Type 0} → Result T Error → Replied
+reply_to (Ok x) = Done
+reply_to (Err e) = fault_of_answer (error_kind e)
+
+-- an answer with this data was sent, and the reply tells how that went
+abbrev pub Answers : Sink → Sink → Bool → Replied → Answer → Feed → Printing → Type 0
+Answers old new ended reply answer content p = (r : Result (Unit {0}) Error) × (reply ≡ reply_to r) × Sends old new ended r answer content p

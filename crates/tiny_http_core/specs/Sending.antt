@@ -6,7 +6,7 @@ use Rattle.std.specs.declared.io.ErrorKind.{ErrorKind}
 use Rattle.std.specs.declared.io.ErrorKind.TheVariants.{OutOfMemory}
 use Rattle.std.specs.Io.KnownBytes.{append_known}
 use Rattle.tiny_http_wire.specs.declared.device.Stop.TheVariants.{Fault}
-use Rattle.tiny_http_wire.specs.Device.{Feed, Sink, IsFrontOf, Tells, next_count, fault_of}
+use Rattle.tiny_http_wire.specs.Device.{Feed, Sink, IsFront, BeginsKnown, IsFrontOf, Tells, next_count, fault_of}
 use Rattle.tiny_http_wire.specs.Answer.{Answer, Text, Whole, Broken, Printing, text_of, nothing}
 use Rattle.tiny_http_core.specs.Slots.{IsGathered}
 
@@ -18,11 +18,13 @@ pub record CanSend (sink : Sink) : Type 0 where
 -- the writer took these bytes, and did not fail
 pub record Sent (old new : Sink) (text : List ℕ) : Type 0 where
   pub bytes : new.taken ≡ append_known old.taken text
+  pub sent : IsFront old.sent new.sent
   pub failures : new.failures ≡ old.failures
 
--- the writer failed once, with this kind, and took a front of its bytes before and these
+-- the writer failed once, with this kind, and tells a front of its bytes before and these, with all that it had sent on
 pub record Lost (old new : Sink) (text : List ℕ) (kind : ErrorKind) : Type 0 where
   pub bytes : IsFrontOf new.taken (append_known old.taken text)
+  pub keeps : BeginsKnown old.sent new.taken
   pub failures : new.failures ≡ next_count old.failures
   pub last_kind : Tells new.last_kind kind
 
@@ -33,6 +35,8 @@ EndsQuietly old new = Sent old new [] ⊎ ((kind : ErrorKind) × Lost old new []
 -- what was held was dropped
 pub record Abandons (old new : Sink) : Type 0 where
   pub bytes : IsFrontOf new.taken old.taken
+  pub sent : IsFront old.sent new.sent
+  pub keeps : BeginsKnown new.sent new.taken
   pub failures : new.failures ≡ old.failures
   pub last_kind : new.last_kind ≡ old.last_kind
 
@@ -54,9 +58,16 @@ abbrev pub SendsQuietly : Sink → Sink → Bool → List ℕ → Type 0
 SendsQuietly old new ended text =
     ((ended ≡ false) × (new.has_ended ≡ false) × Sent old new text) ⊎ ((ended ≡ true) × (new.has_ended ≡ true) × (kind : ErrorKind) × Lost old new text kind)
 
--- the same, where an outlet that has ended sends nothing
+-- the writer took nothing, and did not fail
+pub record Idles (old new : Sink) : Type 0 where
+  pub bytes : new.taken ≡ old.taken
+  pub failures : new.failures ≡ old.failures
+  pub last_kind : new.last_kind ≡ old.last_kind
+  pub stays : new.has_ended ≡ old.has_ended
+
+-- a call that sends a text and tells no fault, where an outlet that has ended sends nothing
 abbrev pub SendsUnlessEnded : Bool → Sink → Sink → Bool → List ℕ → Type 0
-SendsUnlessEnded was old new ended text = MatchBool was ((new ≡ old) × (ended ≡ true)) (SendsQuietly old new ended text)
+SendsUnlessEnded was old new ended text = MatchBool was (Idles old new × (ended ≡ true)) (SendsQuietly old new ended text)
 
 -- whatever reader and writer tell: the writer's count is as it was, or it failed once, and the outlet has ended
 abbrev pub FailsOnce : Sink → Sink → Bool → Type 0

@@ -202,8 +202,3 @@ reader_is_held (Some s) = body_holds_reader s s.item
 abbrev pub reader_is_lost : Option Slot → Bool
 reader_is_lost None = false
 reader_is_lost (Some s) = body_was_abandoned s s.item
-
--- THE INTERIM GUARD on pipelining: an Ask waits for the answer to the request before it.
-abbrev pub is_unanswered : Option Slot → Bool
-is_unanswered None = false
-is_unanswered (Some s) = not (is_finished s)

@@ -11,7 +11,7 @@ use Rattle.tiny_http_wire.specs.Heads.{Message}
 use Rattle.tiny_http_wire.specs.Answer.{Ending, Whole, Broken}
 use Rattle.tiny_http_core.specs.declared.framing.Framing.{Framing}
 use Rattle.tiny_http_core.specs.Pipeline.{Item, Asks, Refuses, Request}
-use Rattle.tiny_http_core.specs.Slots.{ResponseValue, Slot, Stage, Waits, Answered, ByServer, Raw, Upgraded, turn_has_come, to_request, text_if, new_slot, body_left, last_slot, reader_is_held, reader_is_lost, is_unanswered}
+use Rattle.tiny_http_core.specs.Slots.{ResponseValue, Slot, Stage, Waits, Answered, ByServer, Raw, Upgraded, turn_has_come, to_request, text_if, new_slot, body_left, last_slot, reader_is_held, reader_is_lost}
 
 -- a step, with its response as a value
 pub data Asked : Type 0 where
@@ -90,7 +90,6 @@ asks_from date writer slots (Refuses status version withheld ∷ items) =
 abbrev pub ask : HttpDate → Reached → Outcome
 ask date old =
     if old.ended then unchanged old Ended else
-    if is_unanswered (last_slot old.slots) then unchanged old NotYet else
     if reader_is_held (last_slot old.slots) then unchanged old NotYet else
     if reader_is_lost (last_slot old.slots) then record { reply = Ended; slots = old.slots; rest = old.rest; ended = true; writer = Unused } else
     asks_from date Unused old.slots old.rest

@@ -1,28 +1,28 @@
 //! A connection driven by a list of steps, without threads.
-ghost use Rattle.std.specs.Prelude.{◌≡◌, ◌+◌, ◌-◌, ◌<◌, ◌^◌, true, false, List, [], Some, None, map, Ok, IfOk, IfErr, IfSome, IfNone, vec_len};
+ghost use Rattle.std.specs.Prelude.{◌≡◌, ◌+◌, ◌-◌, ◌<◌, ◌^◌, true, false, List, [], length, Some, None, map, Ok, IfOk, IfErr, IfSome, IfNone, vec_len};
 ghost use Rattle.std.specs.List.{AllZip};
-ghost use Rattle.tiny_http_wire.specs.Device.{Feed, Sink};
+ghost use Rattle.tiny_http_wire.specs.Device.{Feed, Sink, HoldsNothing};
 ghost use Rattle.tiny_http_core.specs.Slots.{ResponseValue};
-ghost use Rattle.tiny_http_core.specs.Pipeline.{Item, Pipeline, is_head_method};
+ghost use Rattle.tiny_http_core.specs.Pipeline.{Item, Pipeline};
 ghost use Rattle.tiny_http_core.specs.Conversation.{State, StepsTo, IsConversation, IsFresh, Dated, start};
 ghost use Rattle.httpdate.specs.declared.date.HttpDate.{HttpDate as Date};
-ghost use Rattle.tiny_http_core.specs.Steps.{Ask, Respond, Drop, Fault, is_closed_client, fault_of_answer};
+ghost use Rattle.tiny_http_core.specs.Steps.{Ask, Respond, Drop, Done, Fault, is_closed_client, fault_of_answer};
 ghost use Rattle.std.specs.declared.io.ErrorKind.{ErrorKind};
 ghost use Rattle.tiny_http_core.specs.Source.{GoesOn};
 ghost use Rattle.tiny_http_core.specs.Connection.{kept, Stands};
-ghost use Rattle.tiny_http_core.specs.Seen.{seen, IsResponse, IsTold, TellsHonestly, TellHonestly};
+ghost use Rattle.tiny_http_core.specs.Seen.{seen, Answers, printed_as, IsResponse, IsTold, TellsHonestly, TellHonestly};
 ghost use Rattle.tiny_http_core.specs.Outlet.{outlet_sink, outlet_ended, outlet_held, outlet_writer, SentOn};
-ghost use Rattle.tiny_http_core.specs.Sending.{FailsOnceUnlessEnded, FailsAtMostOnce, IsHonest};
+ghost use Rattle.tiny_http_core.specs.Sending.{CanSend, FailsOnceUnlessEnded, FailsAtMostOnce, IsHonest};
 
 use crate::exchange::{Head, HeadRead};
 use crate::heads::read_head;
 use crate::outlet::Outlet;
-use crate::sending::{answer_quietly, refuse, send};
+use crate::pending::{AnswerForm, Pending};
+use crate::sending::send;
 use crate::source::Source;
 use httpdate::HttpDate;
 use std::alloc::Global;
 use std::io::ErrorKind;
-use tiny_http_wire::common::{HTTPVersion, Method, StatusCode};
 use tiny_http_wire::device::{ReadDevice, WriteDevice};
 use tiny_http_wire::response::Response;
 
@@ -85,31 +85,14 @@ pub struct RunError<R, W> {
     pub writer: W,
 }
 
-/// What is kept of a request until it is answered.
-#[derive(Clone, Copy, Debug, PartialEq, Eq)]
-pub(crate) struct Waiting {
-    pub version: HTTPVersion,
-    pub is_head: bool,
-    /// When it was handed out.
-    pub handed: HttpDate,
-}
-
-/// A connection: its input and output, how many numbers were given out, the request that isn't answered yet, whether
-/// the last head was read, and whether the asking has ended.
+/// A connection: its input and output, its numbers, whether the last head was read, and whether the asking has ended.
 #[derive(Drop)]
 pub(crate) struct Connection<R: ReadDevice, W: WriteDevice> {
     source: Source<R>,
     outlet: Outlet<W>,
-    numbers: u64,
-    waiting: Option<Waiting>,
+    pending: Pending,
     over: bool,
     ended: bool,
-}
-
-fn is_head(method: &Method) -> bool
-    ensures { result ≡ is_head_method method.now }
-{
-    matches!(method, Method::Head)
 }
 
 // The kinds of fault of a client that has closed the connection: an answer to it is no failure.
@@ -137,21 +120,48 @@ impl Reply {
     }
 }
 
+// Sends the answer to a request whose turn has come, and says how it is told. An output that has ended sends nothing, and
+// the data are left unread.
+fn answer<W: WriteDevice, D: ReadDevice + Drop>(
+    alloc: Global,
+    outlet: &mut Outlet<W>,
+    response: Response<D>,
+    form: AnswerForm,
+    now: HttpDate,
+) -> Reply
+    ensures past { outlet_ended outlet.old ≡ true → (outlet.new ≡ outlet.old) × (seen result ≡ Done) }
+    ensures sends { (content : Feed) → D.feed response.data_reader ≡ Some content → length content.bytes < 2 ^ 63
+        → outlet_ended outlet.old ≡ false → CanSend (outlet_sink W.sink outlet.old)
+        → Answers (outlet_sink W.sink outlet.old) (outlet_sink W.sink outlet.new) (outlet_ended outlet.new) (seen result) response.answer content (printed_as form now) }
+    ensures fails_once { FailsOnceUnlessEnded (outlet_ended outlet.old) (outlet_sink W.sink outlet.old) (outlet_sink W.sink outlet.new) (outlet_ended outlet.new) }
+    ensures flushed { outlet_held outlet.old ≡ [] → outlet_held outlet.new ≡ [] }
+    ensures sent_on { SentOn W.sink outlet.old → SentOn W.sink outlet.new }
+    ensures honest { (kind : ErrorKind) → seen result ≡ Fault kind → (outlet_ended outlet.new ≡ true)
+        × IsHonest (outlet_sink W.sink outlet.old) (outlet_sink W.sink outlet.new) response.answer.length (D.feed response.data_reader) kind }
+{
+    if outlet.is_ended() {
+        return Reply::Done;
+    }
+    match send(alloc, outlet, response, form.version, form.no_body, now) {
+        Ok(()) => Reply::Done,
+        Err(fault) => Reply::fault_of_answer(fault.kind()),
+    }
+}
+
 impl<R: ReadDevice, W: WriteDevice> Connection<R, W> {
     // A connection at its begin.
-    fn new(reader: R, writer: W) -> Connection<R, W>
+    fn new(alloc: Global, reader: R, writer: W) -> Connection<R, W>
         ensures stands { (client : Feed) (items : List Item) → R.feed reader ≡ Some client → IsFresh (W.sink writer) → Pipeline (Some client.bytes) client.stop items
             → Stands client (W.sink writer) (kept W.sink result) (start items) }
         ensures feed { result.source.feed ≡ R.feed reader }
         ensures failures { (outlet_sink W.sink result.outlet).failures ≡ (W.sink writer).failures }
         ensures flushed { outlet_held result.outlet ≡ [] }
-        ensures sent_on { W.held writer ≡ [] → SentOn W.sink W.held result.outlet }
+        ensures sent_on { HoldsNothing (W.sink writer) → SentOn W.sink result.outlet }
     {
         Connection {
             source: Source::new(reader),
             outlet: Outlet::new(writer),
-            numbers: 0,
-            waiting: None,
+            pending: Pending::new(alloc),
             over: false,
             ended: false,
         }
@@ -164,40 +174,33 @@ impl<R: ReadDevice, W: WriteDevice> Connection<R, W> {
         ensures goes_on { GoesOn self.old.source.feed self.new.source.feed }
         ensures fails_once { FailsOnceUnlessEnded (outlet_ended self.old.outlet) (outlet_sink W.sink self.old.outlet) (outlet_sink W.sink self.new.outlet) (outlet_ended self.new.outlet) }
         ensures flushed { outlet_held self.old.outlet ≡ [] → outlet_held self.new.outlet ≡ [] }
-        ensures sent_on { SentOn W.sink W.held self.old.outlet → SentOn W.sink W.held self.new.outlet }
+        ensures sent_on { SentOn W.sink self.old.outlet → SentOn W.sink self.new.outlet }
         ensures honest { (kind : ErrorKind) → seen result ≡ Fault kind → ⊥ }
     {
         if self.ended {
             return Reply::Ended;
         }
-        if self.waiting.is_some() {
-            return Reply::NotYet;
-        }
         if self.over {
             self.ended = true;
             return Reply::Ended;
         }
-        let Some(numbers) = self.numbers.checked_add(1) else {
-            self.ended = true;
-            return Reply::Memory;
-        };
         match read_head(alloc, &mut self.source) {
-            HeadRead::Request(head, _body) => {
-                let number = self.numbers;
-                self.numbers = numbers;
-                self.waiting = Some(Waiting {
-                    version: head.version,
-                    is_head: is_head(&head.method),
-                    handed: now,
-                });
-                self.over = head.is_last;
-                Reply::Handed(number, head)
-            }
+            HeadRead::Request(head, _body) => match self.pending.hand_out(alloc, &head, now) {
+                Ok(number) => {
+                    self.over = head.is_last;
+                    Reply::Handed(number, head)
+                }
+                Err(_) => {
+                    self.ended = true;
+                    Reply::Memory
+                }
+            },
             HeadRead::Refused(refusal) => {
-                self.numbers = numbers;
                 self.ended = true;
-                refuse(alloc, &mut self.outlet, refusal, now);
-                Reply::Ended
+                match self.pending.refuse(alloc, &mut self.outlet, refusal, now) {
+                    Ok(()) => Reply::Ended,
+                    Err(_) => Reply::Memory,
+                }
             }
             HeadRead::Ended => {
                 self.ended = true;
@@ -210,43 +213,24 @@ impl<R: ReadDevice, W: WriteDevice> Connection<R, W> {
         }
     }
 
-    // What is kept of the request of this number, if it waits for its answer.
-    fn waiting_at(&self, number: u64) -> Option<Waiting>
-        ensures some { IfSome result (λ w. (self.now.waiting ≡ Some w) × (number + 1 ≡ self.now.numbers)) }
-        ensures none { IfNone result (number + 1 ≡ self.now.numbers → self.now.waiting ≡ None) }
-    {
-        if number >= self.numbers || number != self.numbers - 1 {
-            return None;
-        }
-        self.waiting
-    }
-
-    // Answers the request of this number by a 500.
-    fn drop_request(&mut self, alloc: Global, number: u64) -> Reply
+    // Answers the request of this number by a 500: in its turn, or as it comes.
+    fn drop_request(&mut self, number: u64) -> Reply
         ensures stands { (client : Feed) (before : Sink) (s : State) (date : Date) → before.failures < 2 ^ 64 - 1 → Stands client before (kept W.sink self.old) s
             → (new : State) × Stands client before (kept W.sink self.new) new × StepsTo s date (Drop number) (seen result) new }
         ensures goes_on { self.new.source ≡ self.old.source }
         ensures fails_once { FailsOnceUnlessEnded (outlet_ended self.old.outlet) (outlet_sink W.sink self.old.outlet) (outlet_sink W.sink self.new.outlet) (outlet_ended self.new.outlet) }
         ensures flushed { outlet_held self.old.outlet ≡ [] → outlet_held self.new.outlet ≡ [] }
-        ensures sent_on { SentOn W.sink W.held self.old.outlet → SentOn W.sink W.held self.new.outlet }
+        ensures sent_on { SentOn W.sink self.old.outlet → SentOn W.sink self.new.outlet }
         ensures honest { (kind : ErrorKind) → seen result ≡ Fault kind → ⊥ }
     {
-        let Some(waiting) = self.waiting_at(number) else {
+        let Some(text) = self.pending.take_dropped(number) else {
             return Reply::NoSuch;
         };
-        self.waiting = None;
-        answer_quietly(
-            alloc,
-            &mut self.outlet,
-            StatusCode(500),
-            waiting.version,
-            waiting.is_head,
-            waiting.handed,
-        );
+        self.pending.leave(&mut self.outlet, number, text);
         Reply::Done
     }
 
-    // Answers the request of this number.
+    // Answers the request of this number, in its turn.
     fn respond<D: ReadDevice + Drop>(
         &mut self,
         alloc: Global,
@@ -259,27 +243,18 @@ impl<R: ReadDevice, W: WriteDevice> Connection<R, W> {
         ensures goes_on { self.new.source ≡ self.old.source }
         ensures fails_once { FailsOnceUnlessEnded (outlet_ended self.old.outlet) (outlet_sink W.sink self.old.outlet) (outlet_sink W.sink self.new.outlet) (outlet_ended self.new.outlet) }
         ensures flushed { outlet_held self.old.outlet ≡ [] → outlet_held self.new.outlet ≡ [] }
-        ensures sent_on { SentOn W.sink W.held self.old.outlet → SentOn W.sink W.held self.new.outlet }
+        ensures sent_on { SentOn W.sink self.old.outlet → SentOn W.sink self.new.outlet }
         ensures honest { (kind : ErrorKind) → seen result ≡ Fault kind → IsHonest (outlet_sink W.sink self.old.outlet) (outlet_sink W.sink self.new.outlet) response.answer.length (D.feed response.data_reader) kind }
     {
-        let Some(waiting) = self.waiting_at(number) else {
+        let Some(form) = self.pending.form_at(number) else {
             return Reply::NoSuch;
         };
-        self.waiting = None;
-        if self.outlet.is_ended() {
-            return Reply::Done;
+        if !self.pending.hold(number) {
+            return Reply::NotYet;
         }
-        match send(
-            alloc,
-            &mut self.outlet,
-            response,
-            waiting.version,
-            waiting.is_head,
-            now,
-        ) {
-            Ok(()) => Reply::Done,
-            Err(fault) => Reply::fault_of_answer(fault.kind()),
-        }
+        let reply = answer(alloc, &mut self.outlet, response, form, now);
+        self.pending.pass(&mut self.outlet, number);
+        reply
     }
 
     fn step<D: ReadDevice + Drop>(&mut self, alloc: Global, timed: Timed<D>) -> Reply
@@ -288,14 +263,14 @@ impl<R: ReadDevice, W: WriteDevice> Connection<R, W> {
         ensures goes_on { GoesOn self.old.source.feed self.new.source.feed }
         ensures fails_once { FailsOnceUnlessEnded (outlet_ended self.old.outlet) (outlet_sink W.sink self.old.outlet) (outlet_sink W.sink self.new.outlet) (outlet_ended self.new.outlet) }
         ensures flushed { outlet_held self.old.outlet ≡ [] → outlet_held self.new.outlet ≡ [] }
-        ensures sent_on { SentOn W.sink W.held self.old.outlet → SentOn W.sink W.held self.new.outlet }
+        ensures sent_on { SentOn W.sink self.old.outlet → SentOn W.sink self.new.outlet }
         ensures honest { TellsHonestly D.feed (outlet_sink W.sink self.old.outlet) (outlet_sink W.sink self.new.outlet) timed result }
     {
         let Timed { now, step } = timed;
         match step {
             Step::Ask => self.ask(alloc, now),
             Step::Respond(number, response) => self.respond(alloc, now, number, response),
-            Step::Drop(number) => self.drop_request(alloc, number),
+            Step::Drop(number) => self.drop_request(number),
         }
     }
 }
@@ -321,13 +296,13 @@ pub fn run<R: ReadDevice + Drop, W: WriteDevice + Drop, D: ReadDevice + Drop>(
     ensures honest { IfOk result (λ done. TellHonestly D.feed (W.sink writer) steps.items done.replies.items (W.sink (outlet_writer done.outlet))) }
     // So far each step that writes flushes, and so does the writer.
     ensures flushed { IfOk result (λ done. outlet_held done.outlet ≡ []) }
-    ensures sent_on { IfOk result (λ done. W.held writer ≡ [] → SentOn W.sink W.held done.outlet) }
+    ensures sent_on { IfOk result (λ done. HoldsNothing (W.sink writer) → SentOn W.sink done.outlet) }
     ensures err { IfErr result (λ e. (e.reader ≡ reader) × (e.writer ≡ writer)) }
 {
     let Ok(mut replies) = Vec::with_capacity(alloc, steps.len()) else {
         return Err(RunError { reader, writer });
     };
-    let mut connection = Connection::new(reader, writer);
+    let mut connection = Connection::new(alloc, reader, writer);
     for timed in steps {
         let reply = connection.step(alloc, timed);
         replies.push_reserved(reply);

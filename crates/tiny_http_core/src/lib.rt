@@ -9,6 +9,7 @@ mod heads;
 mod input;
 pub mod laws;
 pub mod outlet;
+mod pending;
 mod sending;
 pub mod source;
 pub mod turns;

@@ -1,19 +1,18 @@
 //! An answer on its way out: printed, flushed, and what follows a fault.
-ghost use Rattle.std.specs.Prelude.{◌≡◌, ◌<◌, ◌^◌, ◌==◌, true, false, [], length, Some, None, IfErr, MatchBool};
+ghost use Rattle.std.specs.Prelude.{◌≡◌, ◌<◌, ◌^◌, ◌==◌, true, false, [], length, Some, None, IfOk, IfErr, OnErr, MatchBool};
 ghost use Rattle.std.specs.IoError.{error_kind};
 ghost use Rattle.tiny_http_wire.specs.Device.{Feed};
-ghost use Rattle.tiny_http_core.specs.Slots.{segment, new_slot, own_text};
-ghost use Rattle.tiny_http_core.specs.HeadReads.{refused};
+ghost use Rattle.tiny_http_core.specs.Slots.{own_text};
 ghost use Rattle.tiny_http_core.specs.Outlet.{outlet_sink, outlet_ended, outlet_held, SentOn};
 ghost use Rattle.tiny_http_core.specs.Sending.{Sends, SendsUnlessEnded, EndsQuietly, Abandons, CanSend, FailsOnce, FailsOnceUnlessEnded, IsHonest};
 
-use crate::exchange::Refusal;
 use crate::outlet::Outlet;
 use httpdate::HttpDate;
-use std::alloc::Global;
+use std::alloc::{AllocError, Global};
 use std::io;
+use std::io::ErrorKind;
 use tiny_http_wire::common::{HTTPVersion, StatusCode};
-use tiny_http_wire::device::{ReadDevice, WriteDevice};
+use tiny_http_wire::device::{Budget, ReadDevice, WriteDevice};
 use tiny_http_wire::response::Response;
 
 // Ends an outlet on which printing met a fault. Where the writer's count is still this one the fault was not the
@@ -26,7 +25,7 @@ fn end_behind_fault<W: WriteDevice>(outlet: &mut Outlet<W>, failures: u64)
     ensures takes_none { (outlet_sink W.sink outlet.new).has_ended ≡ true }
     ensures flushed { outlet_held outlet.new ≡ [] }
 {
-    if outlet.failures() == failures {
+    if outlet.writer_failures() == failures {
         let _ = outlet.end();
     } else {
         outlet.abandon();
@@ -49,8 +48,9 @@ pub(crate) fn send<W: WriteDevice, D: ReadDevice + Drop>(
         (record { version = version; request_headers = []; no_body = no_body; upgrade = None; date = now }) }
     ensures fails_once { FailsOnce (outlet_sink W.sink outlet.old) (outlet_sink W.sink outlet.new) (outlet_ended outlet.new) }
     ensures honest { IfErr result (λ e. IsHonest (outlet_sink W.sink outlet.old) (outlet_sink W.sink outlet.new) response.answer.length (D.feed response.data_reader) (error_kind e)) }
+    ensures ended { OnErr result (outlet_ended outlet.new ≡ true) }
     ensures flushed { outlet_held outlet.new ≡ [] }
-    ensures sent_on { SentOn W.sink W.held outlet.new }
+    ensures sent_on { SentOn W.sink outlet.new }
 {
     let failures = outlet.failures();
     let printed = response.raw_print(alloc, outlet, version, &[], no_body, None, now);
@@ -61,43 +61,45 @@ pub(crate) fn send<W: WriteDevice, D: ReadDevice + Drop>(
     outlet.flush()
 }
 
-/// Sends an answer of the server's own: this code, no headers of its own and no data. No reply tells a fault that is met
-/// there.
-pub(crate) fn answer_quietly<W: WriteDevice>(
+// How many bytes an answer of the server's own has, at most.
+const OWN_ANSWER: usize = 128;
+
+/// The text of an answer of the server's own: this code, no headers of its own and no data. An error where there is no
+/// memory for it.
+pub(crate) fn own_answer(
     alloc: Global,
-    outlet: &mut Outlet<W>,
     status: StatusCode,
     version: HTTPVersion,
     no_body: bool,
     now: HttpDate,
-)
-    ensures sends { (outlet_ended outlet.old ≡ false → CanSend (outlet_sink W.sink outlet.old))
-        → SendsUnlessEnded (outlet_ended outlet.old) (outlet_sink W.sink outlet.old) (outlet_sink W.sink outlet.new) (outlet_ended outlet.new)
-        (own_text status.0 version no_body now) }
-    ensures fails_once { FailsOnceUnlessEnded (outlet_ended outlet.old) (outlet_sink W.sink outlet.old) (outlet_sink W.sink outlet.new) (outlet_ended outlet.new) }
-    ensures flushed { outlet_held outlet.new ≡ [] }
-    ensures sent_on { SentOn W.sink W.held outlet.new }
+) -> Result<Vec<u8>, AllocError>
+    ensures { IfOk result (λ text. text.items ≡ own_text status.0 version no_body now) }
 {
-    if outlet.is_ended() {
-        return;
-    }
+    let bytes = Vec::with_capacity(alloc, OWN_ANSWER)?;
+    let mut writer = Budget::from_vec(bytes, usize::MAX, ErrorKind::OutOfMemory);
     let answer = Response::empty(alloc, status);
-    let _ = send(alloc, outlet, answer, version, no_body, now);
+    match answer.raw_print(alloc, &mut writer, version, &[], no_body, None, now) {
+        Ok(()) => Ok(writer.into_bytes()),
+        Err(_) => Err(AllocError),
+    }
 }
 
-/// Answers a refused head. No reply tells a fault that is met there.
-pub(crate) fn refuse<W: WriteDevice>(
-    alloc: Global,
-    outlet: &mut Outlet<W>,
-    refusal: Refusal,
-    now: HttpDate,
-)
+/// Writes a text. No reply tells a fault that is met there.
+pub(crate) fn write_quietly<W: WriteDevice>(outlet: &mut Outlet<W>, text: &[u8])
     ensures sends { (outlet_ended outlet.old ≡ false → CanSend (outlet_sink W.sink outlet.old))
-        → SendsUnlessEnded (outlet_ended outlet.old) (outlet_sink W.sink outlet.old) (outlet_sink W.sink outlet.new) (outlet_ended outlet.new)
-        (segment (new_slot now (refused refusal))) }
+        → SendsUnlessEnded (outlet_ended outlet.old) (outlet_sink W.sink outlet.old) (outlet_sink W.sink outlet.new) (outlet_ended outlet.new) text.now }
+    ensures fails_once { FailsOnceUnlessEnded (outlet_ended outlet.old) (outlet_sink W.sink outlet.old) (outlet_sink W.sink outlet.new) (outlet_ended outlet.new) }
+{
+    let _ = outlet.write(text);
+}
+
+/// Flushes what was written. No reply tells a fault that is met there.
+pub(crate) fn flush_quietly<W: WriteDevice>(outlet: &mut Outlet<W>)
+    ensures sends { (outlet_ended outlet.old ≡ false → CanSend (outlet_sink W.sink outlet.old))
+        → SendsUnlessEnded (outlet_ended outlet.old) (outlet_sink W.sink outlet.old) (outlet_sink W.sink outlet.new) (outlet_ended outlet.new) [] }
     ensures fails_once { FailsOnceUnlessEnded (outlet_ended outlet.old) (outlet_sink W.sink outlet.old) (outlet_sink W.sink outlet.new) (outlet_ended outlet.new) }
     ensures flushed { outlet_held outlet.new ≡ [] }
-    ensures sent_on { SentOn W.sink W.held outlet.new }
+    ensures sent_on { SentOn W.sink outlet.new }
 {
-    answer_quietly(alloc, outlet, StatusCode(400), refusal.version, false, now);
+    let _ = outlet.flush();
 }

@@ -1,5 +1,5 @@
 //! One item, and numbers that have it in turn.
-ghost use Rattle.std.specs.Prelude.{◌≡◌, ◌-◌, ◌^◌, ◌↔◌, length, map, IfOk, OnOk, OnErr, IsSome, IsTrue, slice_get, Some};
+ghost use Rattle.std.specs.Prelude.{◌≡◌, ◌-◌, ◌^◌, ◌<◌, ◌↔◌, length, map, IfOk, OnOk, OnErr, IsSome, IsTrue, slice_get, Some};
 ghost use Rattle.tiny_http_core.specs.Turns.{Issue, Take, PutBack, Finish, Leave, Issued, Open, Held, first_unfinished, mark_of, after, answer, pass_to, Passes, is_left_mark};
 
 use std::alloc::Global;
@@ -150,6 +150,8 @@ impl<T: Drop> Turns<T> {
         ensures in_order { IsInOrder self.new }
         ensures marks { self.new.marks ≡ after (Finish number) self.old.marks }
         ensures item { Finishes (answer (Finish number) self.old.marks) item self.old.slot result self.new.slot }
+        // The number behind it fits.
+        ensures bound { length self.new.marks < 2 ^ 64 }
     {
         let at = number as usize;
         if !is_held(&self.entries, at) {

@@ -1,5 +1,5 @@
 -- What a clause reads of a `Metered`.
-use Rattle.std.specs.Prelude.{None, false}
+use Rattle.std.specs.Prelude.{[], None, false}
 use Rattle.tiny_http_wire.specs.Device.{Sink}
 use Rattle.tiny_http_wire.specs.declared.device.Metered.{Metered}
 
@@ -9,4 +9,4 @@ metered_inner m = m.inner
 
 -- what it tells as a writer: its failures, and no bytes
 abbrev pub metered_sink : {S : Type 0} → Metered S → Sink
-metered_sink m = record { taken = None; failures = m.failures; last_kind = m.last; has_ended = false }
+metered_sink m = record { taken = None; sent = []; failures = m.failures; last_kind = m.last; has_ended = false }

@@ -5,7 +5,7 @@ use Rattle.tiny_http_core.proofs.sending.send.Goals as goal
 
 pub returns-in-Err-clause-sends : goal.returns-in-Err-clause-sends
 returns-in-Err-clause-sends g c content told few can =
-    printed-ended (Unit {0}) _ _ _ _ c.failures-failures.result _ c.in-Err.fault _ _ content told few c.in-Err.ensures.text c.failures-failures.ensures c.end_behind_fault.ensures.ends can.unended can.can_count
+    printed-ended (Unit {0}) _ _ _ _ c.failures-failures.result _ c.in-Err.fault _ _ content told few c.in-Err.ensures.text c.failures-failures.ensures.count c.end_behind_fault.ensures.ends can.unended can.can_count
     c.end_behind_fault.ensures.ended c.end_behind_fault.ensures.takes_none
 
 pub returns-clause-sends : goal.returns-clause-sends
@@ -18,11 +18,11 @@ returns-clause-sends g c content told few can =
     (λ h. (or-false mid.ended (sink mid.inner).has_ended h).0) ends c.flush.ensures.ended c.flush.ensures.stays
 
 pub returns-in-Err-clause-fails_once : goal.returns-in-Err-clause-fails_once
-returns-in-Err-clause-fails_once g c = ended-once (Unit {0}) _ _ _ c.failures-failures.result c.in-Err.fault _ c.in-Err.ensures.uses c.failures-failures.ensures c.end_behind_fault.ensures.ends c.end_behind_fault.ensures.ended
+returns-in-Err-clause-fails_once g c = ended-once (Unit {0}) _ _ _ c.failures-failures.result c.in-Err.fault _ c.in-Err.ensures.uses c.failures-failures.ensures.count c.end_behind_fault.ensures.ends c.end_behind_fault.ensures.ended
 
 pub returns-clause-fails_once : goal.returns-clause-fails_once
 returns-clause-fails_once g c = flushed-once _ _ _ c.in_default.field-0 c.flush.result _ c.in_default.ensures.uses c.flush.ensures.puts c.flush.ensures.ended
 
 pub returns-in-Err-clause-honest : goal.returns-in-Err-clause-honest
 returns-in-Err-clause-honest g c =
-    printed-honest (Unit {0}) _ _ _ _ c.failures-failures.result c.in-Err.fault _ c.args.version c.args.no_body c.args.now c.in-Err.ensures.text c.in-Err.ensures.uses c.failures-failures.ensures c.end_behind_fault.ensures.ends
+    printed-honest (Unit {0}) _ _ _ _ c.failures-failures.result c.in-Err.fault _ c.args.version c.args.no_body c.args.now c.in-Err.ensures.text c.in-Err.ensures.uses c.failures-failures.ensures.count c.end_behind_fault.ensures.ends

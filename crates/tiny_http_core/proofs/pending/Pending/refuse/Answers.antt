@@ -1,0 +1,8 @@
+use Rattle.std.proofs.Common.{sym, []}
+use Rattle.tiny_http_core.proofs.PassLemmas.{leaves-issued}
+use Rattle.tiny_http_core.proofs.pending.Pending.refuse.Goals as goal
+
+pub returns-clause-leaves : goal.returns-clause-leaves
+returns-clause-leaves g c can =
+    leaves-issued c.args.self.now.turns.marks _ _ _ _ _ _ _ _ _ c.in_ok-number.ensures.marks c.in_ok-number.ensures.number c.in-Ok.ensures
+    (c.leave.ensures.leaves c.args.self.now.turns.marks [] c.in_ok-number.ensures.marks (sym c.in_ok-number.ensures.number) can)

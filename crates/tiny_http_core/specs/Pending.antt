@@ -1,0 +1,62 @@
+-- Numbers whose turn comes, and what is sent as it does.
+use Rattle.std.specs.Prelude.{◌≡◌, ℕ, Bool, true, false, List, [], ◌∷◌, ◌++◌, ◌==◌, Option, Some, None, MatchBool}
+use Rattle.httpdate.specs.declared.date.HttpDate.{HttpDate}
+use Rattle.tiny_http_wire.specs.Device.{Sink}
+use Rattle.tiny_http_core.specs.declared.exchange.Head.{Head}
+use Rattle.tiny_http_core.specs.declared.pending.AnswerForm.{AnswerForm}
+use Rattle.tiny_http_core.specs.declared.pending.Waiting.{Waiting}
+use Rattle.tiny_http_core.specs.Pipeline.{is_head_method}
+use Rattle.tiny_http_core.specs.Slots.{own_text}
+use Rattle.tiny_http_core.specs.Sending.{SendsUnlessEnded}
+use Rattle.tiny_http_core.specs.Turns.{Mark, Open, Held, Left, Finished, AreInShape, first_unfinished}
+
+-- the texts that were left at the front of these numbers
+abbrev pub left_text : List Mark → List ℕ
+left_text [] = []
+left_text (Open ∷ marks) = []
+left_text (Held ∷ marks) = []
+left_text (Left text ∷ marks) = text ++ left_text marks
+left_text (Finished ∷ marks) = []
+
+-- these numbers are finished
+abbrev pub passed : List Mark → List Mark
+passed [] = []
+passed (Open ∷ marks) = Open ∷ marks
+passed (Held ∷ marks) = Held ∷ marks
+passed (Left text ∷ marks) = Finished ∷ passed marks
+passed (Finished ∷ marks) = Finished ∷ marks
+
+-- the first of these numbers was left
+abbrev pub begins_left : List Mark → Bool
+begins_left [] = false
+begins_left (Open ∷ marks) = false
+begins_left (Held ∷ marks) = false
+begins_left (Left text ∷ marks) = true
+begins_left (Finished ∷ marks) = false
+
+-- as a turn passes to these numbers the texts that were left at their front are sent; if there is none, nothing is done
+abbrev pub SendsLeft : List Mark → Bool → Sink → Sink → Bool → Type 0
+SendsLeft rest was old new ended = MatchBool (begins_left rest) (SendsUnlessEnded was old new ended (left_text rest)) ((new ≡ old) × (ended ≡ was))
+
+-- the number at the place of the held one is finished, and so are those behind it that were left
+abbrev pub Passes : List Mark → List Mark → List Mark → Type 0
+Passes front rest new = new ≡ front ++ (Finished ∷ passed rest)
+
+-- An open number is left with a text: in its turn the text is sent, with those behind it; else it waits.
+abbrev pub LeavesText : Bool → List Mark → List Mark → List Mark → List ℕ → Bool → Sink → Sink → Bool → Type 0
+LeavesText in_turn front rest marks text was old new ended =
+    MatchBool in_turn
+    (Passes front rest marks × SendsUnlessEnded was old new ended (text ++ left_text rest))
+    ((marks ≡ front ++ (Left text ∷ rest)) × AreInShape marks × (new ≡ old) × (ended ≡ was))
+
+-- what is kept of the request of a number that waits for its answer
+abbrev pub waiting_form : Option (Option Waiting) → Option AnswerForm
+waiting_form None = None
+waiting_form (Some None) = None
+waiting_form (Some (Some w)) = Some w.form
+
+-- this is kept of a request with this head that was handed out on this date
+pub record KeepsHead (w : Waiting) (h : Head) (date : HttpDate) : Type 0 where
+  pub version : w.form.version ≡ h.version
+  pub no_body : w.form.no_body ≡ is_head_method h.method
+  pub text : w.dropped.items ≡ own_text 500 h.version (is_head_method h.method) date

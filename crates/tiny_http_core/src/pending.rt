@@ -1,0 +1,235 @@
+//! Requests that wait for their answers, and texts that wait for their turn.
+ghost use Rattle.std.specs.Prelude.{◌≡◌, ◌↔◌, ◌++◌, ◌∷◌, true, false, List, [], length, Some, None, IfOk, IfSome, IfNone, OnOk, OnErr, IsTrue, ◌==◌, slice_get, slice_set};
+ghost use Rattle.tiny_http_core.specs.Turns.{Mark, Open, Held, AreInShape, first_unfinished};
+ghost use Rattle.tiny_http_core.specs.Outlet.{outlet_sink, outlet_ended, outlet_held, SentOn};
+ghost use Rattle.tiny_http_core.specs.Sending.{CanSend, SendsUnlessEnded, FailsOnceUnlessEnded};
+ghost use Rattle.tiny_http_core.specs.Pending.{left_text, SendsLeft, Passes, LeavesText, KeepsHead, waiting_form};
+ghost use Rattle.tiny_http_core.specs.Pipeline.{is_head_method};
+ghost use Rattle.tiny_http_core.specs.Slots.{own_text};
+
+use crate::exchange::{Head, Refusal};
+use crate::outlet::Outlet;
+use crate::sending::{flush_quietly, own_answer, write_quietly};
+use crate::turns::{Finishing, Leaving, Turns, TurnsError};
+use httpdate::HttpDate;
+use std::alloc::Global;
+use tiny_http_wire::common::{HTTPVersion, Method, StatusCode};
+use tiny_http_wire::device::WriteDevice;
+
+/// How the answer to a request is printed.
+#[derive(Clone, Copy, Debug, PartialEq, Eq)]
+pub(crate) struct AnswerForm {
+    pub version: HTTPVersion,
+    /// The body is withheld: the request is a `HEAD`.
+    pub no_body: bool,
+}
+
+/// What is kept of a request until it is answered.
+#[derive(Drop)]
+pub(crate) struct Waiting {
+    pub form: AnswerForm,
+    /// What is sent if the request is dropped.
+    pub dropped: Vec<u8>,
+}
+
+/// The numbers of a connection: their turns, and what is kept of each that waits for its answer.
+#[derive(Drop)]
+pub(crate) struct Pending {
+    pub turns: Turns<()>,
+    pub requests: Vec<Option<Waiting>>,
+}
+
+fn is_head(method: &Method) -> bool
+    ensures { result ≡ is_head_method method.now }
+{
+    matches!(method, Method::Head)
+}
+
+impl Pending {
+    /// No number was given out.
+    pub fn new(alloc: Global) -> Pending
+        ensures marks { result.turns.marks ≡ [] }
+        ensures requests { result.requests.items ≡ [] }
+    {
+        Pending {
+            turns: Turns::new(alloc, ()),
+            requests: Vec::new(alloc),
+        }
+    }
+
+    /// Gives out the next number, and keeps this under it. An error changes nothing.
+    pub fn issue(&mut self, waiting: Option<Waiting>) -> Result<u64, TurnsError>
+        ensures number { IfOk result (λ n. n ≡ length self.old.turns.marks) }
+        ensures marks { OnOk result (self.new.turns.marks ≡ self.old.turns.marks ++ (Open ∷ [])) }
+        ensures shape { OnOk result (AreInShape self.new.turns.marks) }
+        ensures requests { OnOk result (self.new.requests.items ≡ self.old.requests.items ++ (waiting ∷ [])) }
+        ensures err { OnErr result ((self.new.turns ≡ self.old.turns) × (self.new.requests.items ≡ self.old.requests.items)) }
+    {
+        if self.requests.try_reserve(1).is_err() {
+            return Err(TurnsError::Memory);
+        }
+        let number = self.turns.issue()?;
+        self.requests.push_reserved(waiting);
+        Ok(number)
+    }
+
+    /// Gives a request the next number, with the text that is sent if it is dropped: so a drop takes no memory. An error
+    /// changes nothing.
+    pub fn hand_out(&mut self, alloc: Global, head: &Head, now: HttpDate) -> Result<u64, TurnsError>
+        ensures number { IfOk result (λ n. n ≡ length self.old.turns.marks) }
+        ensures marks { OnOk result (self.new.turns.marks ≡ self.old.turns.marks ++ (Open ∷ [])) }
+        ensures shape { OnOk result (AreInShape self.new.turns.marks) }
+        ensures requests { OnOk result ((w : Waiting) × (self.new.requests.items ≡ self.old.requests.items ++ (Some w ∷ [])) × KeepsHead w head.now now) }
+        ensures err { OnErr result ((self.new.turns ≡ self.old.turns) × (self.new.requests.items ≡ self.old.requests.items)) }
+    {
+        let form = AnswerForm {
+            version: head.version,
+            no_body: is_head(&head.method),
+        };
+        let Ok(dropped) = own_answer(alloc, StatusCode(500), form.version, form.no_body, now)
+        else {
+            return Err(TurnsError::Memory);
+        };
+        self.issue(Some(Waiting { form, dropped }))
+    }
+
+    /// Gives a refused head the next number, and leaves its answer under it. An error changes nothing.
+    pub fn refuse<W: WriteDevice>(
+        &mut self,
+        alloc: Global,
+        outlet: &mut Outlet<W>,
+        refusal: Refusal,
+        now: HttpDate,
+    ) -> Result<(), TurnsError>
+        ensures leaves { (outlet_ended outlet.old ≡ false → CanSend (outlet_sink W.sink outlet.old))
+            → OnOk result (LeavesText (length self.old.turns.marks == first_unfinished self.old.turns.marks) self.old.turns.marks [] self.new.turns.marks (own_text 400 refusal.version false now)
+            (outlet_ended outlet.old) (outlet_sink W.sink outlet.old) (outlet_sink W.sink outlet.new) (outlet_ended outlet.new)) }
+        ensures requests { OnOk result (self.new.requests.items ≡ self.old.requests.items ++ (None ∷ [])) }
+        ensures err { OnErr result ((self.new.turns ≡ self.old.turns) × (self.new.requests.items ≡ self.old.requests.items) × (outlet.new ≡ outlet.old)) }
+        ensures fails_once { FailsOnceUnlessEnded (outlet_ended outlet.old) (outlet_sink W.sink outlet.old) (outlet_sink W.sink outlet.new) (outlet_ended outlet.new) }
+        ensures flushed { outlet_held outlet.old ≡ [] → outlet_held outlet.new ≡ [] }
+        ensures sent_on { SentOn W.sink outlet.old → SentOn W.sink outlet.new }
+    {
+        let Ok(text) = own_answer(alloc, StatusCode(400), refusal.version, false, now) else {
+            return Err(TurnsError::Memory);
+        };
+        let number = self.issue(None)?;
+        self.leave(outlet, number, text);
+        Ok(())
+    }
+
+    /// How the answer of this number is printed, if it waits for it.
+    pub fn form_at(&self, number: u64) -> Option<AnswerForm>
+        ensures { result ≡ waiting_form (slice_get self.now.requests.items number) }
+    {
+        match self.requests.get(number as usize) {
+            Some(Some(waiting)) => Some(waiting.form),
+            _ => None,
+        }
+    }
+
+    /// What is sent if this number is dropped, if it waits for its answer. It doesn't wait any more.
+    pub fn take_dropped(&mut self, number: u64) -> Option<Vec<u8>>
+        ensures some { IfSome result (λ text. (w : Waiting) × (slice_get self.old.requests.items number ≡ Some (Some w)) × (text ≡ w.dropped)
+            × (self.new.requests.items ≡ slice_set self.old.requests.items number None)) }
+        ensures none { IfNone result ((waiting_form (slice_get self.old.requests.items number) ≡ None) × (self.new.requests.items ≡ self.old.requests.items)) }
+        ensures turns { self.new.turns ≡ self.old.turns }
+    {
+        let Some(entry) = self.requests.get_mut(number as usize) else {
+            return None;
+        };
+        match entry.take() {
+            Some(Waiting { form: _, dropped }) => Some(dropped),
+            None => None,
+        }
+    }
+
+    /// Holds this number, which waits for its answer, if its turn has come. It doesn't wait any more then.
+    pub fn hold(&mut self, number: u64) -> bool
+        ensures held { IsTrue result ↔ ((slice_get self.old.turns.marks number ≡ Some Open) × (number ≡ first_unfinished self.old.turns.marks)) }
+        ensures marks { IsTrue result → self.new.turns.marks ≡ slice_set self.old.turns.marks number Held }
+        ensures requests { IsTrue result → self.new.requests.items ≡ slice_set self.old.requests.items number None }
+        ensures not_yet { result ≡ false → (self.new.turns.marks ≡ self.old.turns.marks) × (self.new.requests.items ≡ self.old.requests.items) }
+    {
+        if self.turns.take(number).is_none() {
+            return false;
+        }
+        if let Some(entry) = self.requests.get_mut(number as usize) {
+            *entry = None;
+        }
+        true
+    }
+
+    /// Finishes a number that is held, and so each behind it that was left, whose text is sent. No reply tells a fault that
+    /// is met there.
+    pub fn pass<W: WriteDevice>(&mut self, outlet: &mut Outlet<W>, number: u64)
+        ensures passes { (front rest : List Mark) → self.old.turns.marks ≡ front ++ (Held ∷ rest) → length front ≡ number → Passes front rest self.new.turns.marks }
+        ensures sends { (front rest : List Mark) → self.old.turns.marks ≡ front ++ (Held ∷ rest) → length front ≡ number
+            → (outlet_ended outlet.old ≡ false → CanSend (outlet_sink W.sink outlet.old))
+            → SendsLeft rest (outlet_ended outlet.old) (outlet_sink W.sink outlet.old) (outlet_sink W.sink outlet.new) (outlet_ended outlet.new) }
+        ensures requests { self.new.requests ≡ self.old.requests }
+        ensures fails_once { FailsOnceUnlessEnded (outlet_ended outlet.old) (outlet_sink W.sink outlet.old) (outlet_sink W.sink outlet.new) (outlet_ended outlet.new) }
+        ensures flushed { outlet_held outlet.old ≡ [] → outlet_held outlet.new ≡ [] }
+        ensures sent_on { SentOn W.sink outlet.old → SentOn W.sink outlet.new }
+    {
+        if let Finishing::Go((), text) = self.turns.finish(number, ()) {
+            write_left(&mut self.turns, outlet, number + 1, text);
+        }
+    }
+
+    /// Leaves an open number with a text. In its turn the text is sent, and the number is finished, as by `pass`.
+    pub fn leave<W: WriteDevice>(&mut self, outlet: &mut Outlet<W>, number: u64, text: Vec<u8>)
+        ensures leaves { (front rest : List Mark) → self.old.turns.marks ≡ front ++ (Open ∷ rest) → length front ≡ number
+            → (outlet_ended outlet.old ≡ false → CanSend (outlet_sink W.sink outlet.old))
+            → LeavesText (number == first_unfinished self.old.turns.marks) front rest self.new.turns.marks text.items
+            (outlet_ended outlet.old) (outlet_sink W.sink outlet.old) (outlet_sink W.sink outlet.new) (outlet_ended outlet.new) }
+        ensures requests { self.new.requests ≡ self.old.requests }
+        ensures fails_once { FailsOnceUnlessEnded (outlet_ended outlet.old) (outlet_sink W.sink outlet.old) (outlet_sink W.sink outlet.new) (outlet_ended outlet.new) }
+        ensures flushed { outlet_held outlet.old ≡ [] → outlet_held outlet.new ≡ [] }
+        ensures sent_on { SentOn W.sink outlet.old → SentOn W.sink outlet.new }
+    {
+        if let Leaving::Go((), text) = self.turns.leave(number, text) {
+            write_left(&mut self.turns, outlet, number, text);
+        }
+    }
+}
+
+// Writes the text of a number that is held and finishes it, and so each behind it that was left.
+fn write_texts<W: WriteDevice>(
+    turns: &mut Turns<()>,
+    outlet: &mut Outlet<W>,
+    number: u64,
+    text: Vec<u8>,
+)
+    ensures passes { (front rest : List Mark) → turns.old.marks ≡ front ++ (Held ∷ rest) → length front ≡ number
+        → Passes front rest turns.new.marks
+        × ((outlet_ended outlet.old ≡ false → CanSend (outlet_sink W.sink outlet.old))
+        → SendsUnlessEnded (outlet_ended outlet.old) (outlet_sink W.sink outlet.old) (outlet_sink W.sink outlet.new) (outlet_ended outlet.new) (text.items ++ left_text rest)) }
+    ensures fails_once { FailsOnceUnlessEnded (outlet_ended outlet.old) (outlet_sink W.sink outlet.old) (outlet_sink W.sink outlet.new) (outlet_ended outlet.new) }
+{
+    write_quietly(outlet, &text);
+    let mut at = number;
+    while let Finishing::Go((), text) = turns.finish(at, ()) {
+        write_quietly(outlet, &text);
+        at += 1;
+    }
+}
+
+// The same, and flushes.
+fn write_left<W: WriteDevice>(
+    turns: &mut Turns<()>,
+    outlet: &mut Outlet<W>,
+    number: u64,
+    text: Vec<u8>,
+)
+    ensures passes { (front rest : List Mark) → turns.old.marks ≡ front ++ (Held ∷ rest) → length front ≡ number
+        → Passes front rest turns.new.marks
+        × ((outlet_ended outlet.old ≡ false → CanSend (outlet_sink W.sink outlet.old))
+        → SendsUnlessEnded (outlet_ended outlet.old) (outlet_sink W.sink outlet.old) (outlet_sink W.sink outlet.new) (outlet_ended outlet.new) (text.items ++ left_text rest)) }
+    ensures fails_once { FailsOnceUnlessEnded (outlet_ended outlet.old) (outlet_sink W.sink outlet.old) (outlet_sink W.sink outlet.new) (outlet_ended outlet.new) }
+    ensures flushed { outlet_held outlet.new ≡ [] }
+    ensures sent_on { SentOn W.sink outlet.new }
+{
+    write_texts(turns, outlet, number, text);
+    flush_quietly(outlet);
+}
