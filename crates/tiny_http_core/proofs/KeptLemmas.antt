@@ -189,3 +189,18 @@ turn-at (b ∷ bs) (Finished ∷ fs) (Some w ∷ us) rs h shape = absurd h.0
 -- what is stored at a place
 pub stored : {X : Type 0} (xs : List X) (n : ℕ) (x y d : X) → n < length xs → x ≡ get_or xs n d → y ≡ x → slice_get xs n ≡ Some y
 stored xs n x y d lt e same = slice_get-get_or xs n d lt ∙ ap Some (sym e ∙ sym same)
+
+-- a number more keeps the shape
+waiting-issued : (marks : List Mark) → AreWaiting marks → AreWaiting (marks ++ (Open ∷ []))
+waiting-issued [] h = tt
+waiting-issued (Open ∷ marks) h = waiting-issued marks h
+waiting-issued (Held ∷ marks) h = absurd h
+waiting-issued (Left text ∷ marks) h = waiting-issued marks h
+waiting-issued (Finished ∷ marks) h = absurd h
+
+pub shape-issued : (marks : List Mark) → AreInShape marks → AreInShape (marks ++ (Open ∷ []))
+shape-issued [] h = tt
+shape-issued (Open ∷ marks) h = waiting-issued marks h
+shape-issued (Held ∷ marks) h = waiting-issued marks h
+shape-issued (Left text ∷ marks) h = absurd h
+shape-issued (Finished ∷ marks) h = shape-issued marks h

@@ -11,7 +11,7 @@ use Rattle.tiny_http_core.specs.declared.turns.Finishing.{Finishing}
 use Rattle.tiny_http_core.specs.declared.turns.Finishing.TheVariants.{Passed as IsPassed, Go, Strange as IsStrange}
 use Rattle.tiny_http_core.specs.declared.turns.Leaving.{Leaving}
 use Rattle.tiny_http_core.specs.declared.turns.Leaving.TheVariants.{Left as IsLeft, Go as LeaveGo, Strange as LeaveStrange}
-use Rattle.tiny_http_core.specs.Sending.{CanSend, SendsUnlessEnded}
+use Rattle.tiny_http_core.specs.Sending.{CanSend, IsFlushed, SendsUnlessEnded}
 use Rattle.tiny_http_core.specs.Turns.{Mark, Open, Held, Left, Finished, AreInShape, first_unfinished, TurnAnswer, Goes, Passed, Waits, TurnOutcome, Finish, Leave, outcome, answer, after, finish_at, pass_to, leave_at}
 use Rattle.tiny_http_core.specs.TurnsCalls.{Finishes, Leaves}
 use Rattle.tiny_http_core.specs.Pending.{left_text, passed, begins_left, SendsLeft, Passes, LeavesText, KeepsHead}
@@ -177,9 +177,9 @@ flushed-behind was mid ended a b c text sends flushes can =
 -- What finishing a held number leaves: the texts behind it are sent, from that which comes out on.
 pub pass-goes : (front rest marks mid final : List Mark) (number : ℕ) (was : Bool) (old now : Sink) (ended : Bool) (r : Finishing (Unit {0})) (next : Vec ℕ) (u : Unit {0}) (before behind : Option (Unit {0}))
     → marks ≡ front ++ (Held ∷ rest) → length front ≡ number → Told marks mid number r before behind → r ≡ Go u next
-    → ((f more : List Mark) → mid ≡ f ++ (Held ∷ more) → length f ≡ number + 1 → Passes f more final × ((was ≡ false → CanSend old) → SendsUnlessEnded was old now ended (next.items ++ left_text more)))
+    → ((f more : List Mark) → mid ≡ f ++ (Held ∷ more) → length f ≡ number + 1 → Passes f more final × ((was ≡ false → CanSend old) → SendsUnlessEnded was old now ended (next.items ++ left_text more))) → IsFlushed now
     → Passes front rest final × ((was ≡ false → CanSend old) → SendsLeft rest was old now ended)
-pass-goes front rest marks mid final number was old now ended r next u before behind e place told is more_sent =
+pass-goes front rest marks mid final number was old now ended r next u before behind e place told is more_sent flushed =
     by-rest rest (told-at front rest mid marks number (Go u next) before behind e place (subst (λ x. Told marks mid number x before behind) is told))
   where
     Ends : List Mark → Type 0
@@ -197,7 +197,7 @@ pass-goes front rest marks mid final number was old now ended r next u before be
         let o = told-left front x mid left (Go u next) before behind t in
         let s = more_sent (front ++ (Finished ∷ [])) x o.0 (length-append front (Finished ∷ []) ∙ ap (λ n. n + 1) place) in
         let P : List ℕ → Type 0 = λ y. SendsUnlessEnded was old now ended (y ++ left_text x) in
-        (s.0 ∙ append_assoc front (Finished ∷ []) (Finished ∷ passed x), λ can. subst P o.1.1 (s.1 can))
+        (s.0 ∙ append_assoc front (Finished ∷ []) (Finished ∷ passed x), λ can. (subst P o.1.1 (s.1 can), flushed))
 
 pub pass-ends : (front rest marks mid : List Mark) (number : ℕ) (was : Bool) (old : Sink) (r : Finishing (Unit {0})) (before behind : Option (Unit {0}))
     → marks ≡ front ++ (Held ∷ rest) → length front ≡ number → Told marks mid number r before behind → ((u : Unit {0}) (next : Vec ℕ) → r ≡ Go u next → ⊥)
@@ -210,7 +210,7 @@ pass-ends front rest marks mid number was old r before behind e place told none 
     other : (x : List Mark) → begins_left x ≡ false → Told (front ++ (Held ∷ x)) mid (length front) r before behind → Ends x
     other x f t =
         let o = told-other front x mid r before behind f t in
-        let P : Bool → Type 0 = λ b. MatchBool b (SendsUnlessEnded was old old was (left_text x)) ((old ≡ old) × (was ≡ was)) in
+        let P : Bool → Type 0 = λ b. MatchBool b (SendsUnlessEnded was old old was (left_text x) × IsFlushed old) ((old ≡ old) × (was ≡ was)) in
         (o.0 ∙ ap (λ y. front ++ (Finished ∷ y)) (sym (none-left x f).1), subst P (sym f) (refl, refl))
 
     goes : (next : List ℕ) (n : ℕ) (x : Finishing (Unit {0})) → ((u : Unit {0}) (v : Vec ℕ) → x ≡ Go u v → ⊥) → Finishes (Goes n next) tt before x behind → ⊥
@@ -254,16 +254,16 @@ told_left-at front rest marks new number text t r before behind e place turn tol
 
 pub leave-goes : (front rest marks mid final : List Mark) (number : ℕ) (text : List ℕ) (was : Bool) (old now : Sink) (ended : Bool) (r : Leaving (Unit {0})) (u : Unit {0}) (back : Vec ℕ) (before behind : Option (Unit {0}))
     → marks ≡ front ++ (Open ∷ rest) → length front ≡ number → ToldLeft marks mid number text r before behind → r ≡ LeaveGo u back
-    → (mid ≡ front ++ (Held ∷ rest) → Passes front rest final × SendsUnlessEnded was old now ended (back.items ++ left_text rest))
+    → (mid ≡ front ++ (Held ∷ rest) → Passes front rest final × SendsUnlessEnded was old now ended (back.items ++ left_text rest)) → IsFlushed now
     → LeavesText (number == first_unfinished marks) front rest final text was old now ended
-leave-goes front rest marks mid final number text was old now ended r u back before behind e place told is more =
+leave-goes front rest marks mid final number text was old now ended r u back before behind e place told is more flushed =
     by-turn (number == first_unfinished marks) (told_left-at front rest marks mid number text (number == first_unfinished marks) (LeaveGo u back) before behind e place refl (subst (λ x. ToldLeft marks mid number text x before behind) is told))
   where
     by-turn : (t : Bool) → OutcomeLeft (leave-outcome t front rest text (length front)) mid (LeaveGo u back) before behind → LeavesText t front rest final text was old now ended
     by-turn true o =
         let P : List ℕ → Type 0 = λ y. SendsUnlessEnded was old now ended (y ++ left_text rest) in
         let s = more o.0 in
-        (s.0, subst P o.1.1 s.1)
+        (s.0, subst P o.1.1 s.1, flushed)
     by-turn false o = absurd o.1
 
 pub leave-stays : (front rest marks mid : List Mark) (number : ℕ) (text : List ℕ) (was : Bool) (old : Sink) (r : Leaving (Unit {0})) (before behind : Option (Unit {0}))

@@ -78,14 +78,14 @@ or-parts : (a b : Bool) → (a || b) ≡ false → (a ≡ false) × (b ≡ false
 or-parts true b h = cc
 or-parts false b h = (refl, h)
 
--- all before are finished, and none broke off: the segment follows
-pub joined-snoc : (slots : List Slot) (s : Slot) → list_all is_finished slots ≡ true → breaks_off slots ≡ false → joined (slots ++ s ∷ []) ≡ joined slots ++ segment s
-joined-snoc [] s a b = joined-one s
-joined-snoc (x ∷ xs) s a b =
+-- all before are finished, and none broke off: what is behind follows
+pub joined-front : (xs ys : List Slot) → list_all is_finished xs ≡ true → breaks_off xs ≡ false → joined (xs ++ ys) ≡ joined xs ++ joined ys
+joined-front [] ys a b = refl
+joined-front (x ∷ xs) ys a b =
     let h = and_parts (is_finished x) (list_all is_finished xs) a in
     let c = or-parts (is_slot_broken x) (is_finished x && breaks_off xs) b in
     let c2 : breaks_off xs ≡ false = rw h.0 at c.1 in
-    rw (h.0, c.0) (ap (λ r. segment x ++ r) (joined-snoc xs s h.1 c2) ∙ sym (append_assoc (segment x) (joined xs) (segment s)))
+    rw (h.0, c.0) (ap (λ r. segment x ++ r) (joined-front xs ys h.1 c2) ∙ sym (append_assoc (segment x) (joined xs) (joined ys)))
 
 -- one broke off: nothing follows
 pub joined-broken : (slots : List Slot) (more : List Slot) → breaks_off slots ≡ true → joined (slots ++ more) ≡ joined slots
@@ -93,30 +93,33 @@ joined-broken [] more b = cc
 joined-broken (x ∷ xs) more b =
     joined-cons x (xs ++ more) xs (λ f nb. let c : breaks_off xs ≡ true = rw (nb, f) at b in joined-broken xs more c)
 
--- a number that has sent nothing adds nothing
-pub joined-waiting : (slots : List Slot) (s : Slot) → segment s ≡ [] → joined (slots ++ s ∷ []) ≡ joined slots
-joined-waiting [] s e = joined-one s ∙ e
-joined-waiting (x ∷ xs) s e = joined-cons x (xs ++ s ∷ []) xs (λ f nb. joined-waiting xs s e)
+-- one that waits hides what is behind it
+pub joined-waits : (xs : List Slot) (s : Slot) (ys : List Slot) → segment s ≡ [] → is_finished s ≡ false → joined (xs ++ (s ∷ ys)) ≡ joined xs
+joined-waits [] s ys e f = rw (e, f) refl
+joined-waits (x ∷ xs) s ys e f = joined-cons x (xs ++ (s ∷ ys)) xs (λ g nb. joined-waits xs s ys e f)
 
-or-and-false : (b f : Bool) → (b || (f && false)) ≡ b
-or-and-false true f = refl
-or-and-false false true = refl
-or-and-false false false = refl
+pub joined-hidden : (xs ys : List Slot) → list_all is_finished xs ≡ false → joined (xs ++ ys) ≡ joined xs
+joined-hidden [] ys h = cc
+joined-hidden (x ∷ xs) ys h = joined-cons x (xs ++ ys) xs (λ g nb. let more : list_all is_finished xs ≡ false = rw g at h in joined-hidden xs ys more)
 
 or-assoc : (a b c : Bool) → (a || (b || c)) ≡ ((a || b) || c)
 or-assoc true b c = refl
 or-assoc false b c = refl
 
-pub breaks-snoc : (slots : List Slot) (s : Slot) → list_all is_finished slots ≡ true → breaks_off (slots ++ s ∷ []) ≡ (breaks_off slots || is_slot_broken s)
-breaks-snoc [] s a = or-and-false (is_slot_broken s) (is_finished s)
-breaks-snoc (x ∷ xs) s a =
+pub breaks-front : (xs ys : List Slot) → list_all is_finished xs ≡ true → breaks_off (xs ++ ys) ≡ (breaks_off xs || breaks_off ys)
+breaks-front [] ys a = refl
+breaks-front (x ∷ xs) ys a =
     let h = and_parts (is_finished x) (list_all is_finished xs) a in
-    rw h.0 (ap (λ r. is_slot_broken x || r) (breaks-snoc xs s h.1) ∙ or-assoc (is_slot_broken x) (breaks_off xs) (is_slot_broken s))
+    rw h.0 (ap (λ r. is_slot_broken x || r) (breaks-front xs ys h.1) ∙ or-assoc (is_slot_broken x) (breaks_off xs) (breaks_off ys))
 
-and-false : (f : Bool) → (f && false) ≡ false
-and-false true = refl
-and-false false = refl
+breaks-cons : (f b u v : Bool) → (f ≡ true → u ≡ v) → (b || (f && u)) ≡ (b || (f && v))
+breaks-cons true b u v h = ap (λ r. b || r) (h refl)
+breaks-cons false b u v h = refl
 
-pub breaks-waiting : (slots : List Slot) (s : Slot) → is_slot_broken s ≡ false → breaks_off (slots ++ s ∷ []) ≡ breaks_off slots
-breaks-waiting [] s e = ap (λ r. r || (is_finished s && false)) e ∙ and-false (is_finished s)
-breaks-waiting (x ∷ xs) s e = ap (λ r. is_slot_broken x || (is_finished x && r)) (breaks-waiting xs s e)
+pub breaks-waits : (xs : List Slot) (s : Slot) (ys : List Slot) → is_slot_broken s ≡ false → is_finished s ≡ false → breaks_off (xs ++ (s ∷ ys)) ≡ breaks_off xs
+breaks-waits [] s ys e f = rw (e, f) refl
+breaks-waits (x ∷ xs) s ys e f = breaks-cons (is_finished x) (is_slot_broken x) (breaks_off (xs ++ (s ∷ ys))) (breaks_off xs) (λ g. breaks-waits xs s ys e f)
+
+pub breaks-hidden : (xs ys : List Slot) → list_all is_finished xs ≡ false → breaks_off (xs ++ ys) ≡ breaks_off xs
+breaks-hidden [] ys h = cc
+breaks-hidden (x ∷ xs) ys h = breaks-cons (is_finished x) (is_slot_broken x) (breaks_off (xs ++ ys)) (breaks_off xs) (λ g. let more : list_all is_finished xs ≡ false = rw g at h in breaks-hidden xs ys more)

@@ -7,7 +7,7 @@ use Rattle.tiny_http_core.specs.declared.pending.AnswerForm.{AnswerForm}
 use Rattle.tiny_http_core.specs.declared.pending.Waiting.{Waiting}
 use Rattle.tiny_http_core.specs.Pipeline.{is_head_method}
 use Rattle.tiny_http_core.specs.Slots.{own_text}
-use Rattle.tiny_http_core.specs.Sending.{SendsUnlessEnded}
+use Rattle.tiny_http_core.specs.Sending.{SendsUnlessEnded, IsFlushed}
 use Rattle.tiny_http_core.specs.Turns.{Mark, Open, Held, Left, Finished, AreInShape, first_unfinished}
 
 -- the texts that were left at the front of these numbers
@@ -36,7 +36,7 @@ begins_left (Finished ∷ marks) = false
 
 -- as a turn passes to these numbers the texts that were left at their front are sent; if there is none, nothing is done
 abbrev pub SendsLeft : List Mark → Bool → Sink → Sink → Bool → Type 0
-SendsLeft rest was old new ended = MatchBool (begins_left rest) (SendsUnlessEnded was old new ended (left_text rest)) ((new ≡ old) × (ended ≡ was))
+SendsLeft rest was old new ended = MatchBool (begins_left rest) (SendsUnlessEnded was old new ended (left_text rest) × IsFlushed new) ((new ≡ old) × (ended ≡ was))
 
 -- the number at the place of the held one is finished, and so are those behind it that were left
 abbrev pub Passes : List Mark → List Mark → List Mark → Type 0
@@ -46,7 +46,7 @@ Passes front rest new = new ≡ front ++ (Finished ∷ passed rest)
 abbrev pub LeavesText : Bool → List Mark → List Mark → List Mark → List ℕ → Bool → Sink → Sink → Bool → Type 0
 LeavesText in_turn front rest marks text was old new ended =
     MatchBool in_turn
-    (Passes front rest marks × SendsUnlessEnded was old new ended (text ++ left_text rest))
+    (Passes front rest marks × SendsUnlessEnded was old new ended (text ++ left_text rest) × IsFlushed new)
     ((marks ≡ front ++ (Left text ∷ rest)) × AreInShape marks × (new ≡ old) × (ended ≡ was))
 
 -- what is kept of the request of a number that waits for its answer

@@ -16,7 +16,7 @@ use Rattle.tiny_http_core.specs.HeadReads.{head_message, head_framing}
 use Rattle.tiny_http_core.specs.Slots.{ResponseValue}
 use Rattle.tiny_http_core.specs.Steps.{Asked, Ask, Respond, Drop, Replied, Handed, Ended, Fault, NotYet, Done, NoSuch, Memory, fault_of_answer}
 use Rattle.tiny_http_core.specs.Conversation.{Dated}
-use Rattle.tiny_http_core.specs.Sending.{Sends, IsHonest, FailsAtMostOnce}
+use Rattle.tiny_http_core.specs.Sending.{Sends, IsFlushed, IsHonest, FailsAtMostOnce}
 
 -- the response tells its data, of fewer than 2^63 bytes
 abbrev pub IsResponse : {D : Type 0} → (D → Option Feed) → ResponseState D → ResponseValue → Type 0
@@ -70,6 +70,6 @@ abbrev pub reply_to : {T : Type 0} → Result T Error → Replied
 reply_to (Ok x) = Done
 reply_to (Err e) = fault_of_answer (error_kind e)
 
--- an answer with this data was sent, and the reply tells how that went
+-- an answer with this data was sent and flushed, and the reply tells how that went
 abbrev pub Answers : Sink → Sink → Bool → Replied → Answer → Feed → Printing → Type 0
-Answers old new ended reply answer content p = (r : Result (Unit {0}) Error) × (reply ≡ reply_to r) × Sends old new ended r answer content p
+Answers old new ended reply answer content p = (r : Result (Unit {0}) Error) × (reply ≡ reply_to r) × Sends old new ended r answer content p × IsFlushed new

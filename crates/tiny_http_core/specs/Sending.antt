@@ -6,7 +6,7 @@ use Rattle.std.specs.declared.io.ErrorKind.{ErrorKind}
 use Rattle.std.specs.declared.io.ErrorKind.TheVariants.{OutOfMemory}
 use Rattle.std.specs.Io.KnownBytes.{append_known}
 use Rattle.tiny_http_wire.specs.declared.device.Stop.TheVariants.{Fault}
-use Rattle.tiny_http_wire.specs.Device.{Feed, Sink, IsFront, BeginsKnown, IsFrontOf, Tells, next_count, fault_of}
+use Rattle.tiny_http_wire.specs.Device.{Feed, Sink, IsFront, BeginsKnown, HoldsNothing, IsFrontOf, Tells, next_count, fault_of}
 use Rattle.tiny_http_wire.specs.Answer.{Answer, Text, Whole, Broken, Printing, text_of, nothing}
 use Rattle.tiny_http_core.specs.Slots.{IsGathered}
 
@@ -57,6 +57,10 @@ Sends old new ended r a feed p = SendsText old new ended r (text_of a feed p) �
 abbrev pub SendsQuietly : Sink → Sink → Bool → List ℕ → Type 0
 SendsQuietly old new ended text =
     ((ended ≡ false) × (new.has_ended ≡ false) × Sent old new text) ⊎ ((ended ≡ true) × (new.has_ended ≡ true) × (kind : ErrorKind) × Lost old new text kind)
+
+-- a writer that goes on holds nothing back
+abbrev pub IsFlushed : Sink → Type 0
+IsFlushed s = s.has_ended ≡ false → HoldsNothing s
 
 -- the writer took nothing, and did not fail
 pub record Idles (old new : Sink) : Type 0 where

@@ -2,7 +2,7 @@
 ghost use Rattle.std.specs.Prelude.{◌≡◌, ◌↔◌, ◌++◌, ◌∷◌, true, false, List, [], length, Some, None, IfOk, IfSome, IfNone, OnOk, OnErr, IsTrue, ◌==◌, slice_get, slice_set};
 ghost use Rattle.tiny_http_core.specs.Turns.{Mark, Open, Held, AreInShape, first_unfinished};
 ghost use Rattle.tiny_http_core.specs.Outlet.{outlet_sink, outlet_ended, outlet_held, SentOn};
-ghost use Rattle.tiny_http_core.specs.Sending.{CanSend, SendsUnlessEnded, FailsOnceUnlessEnded};
+ghost use Rattle.tiny_http_core.specs.Sending.{CanSend, IsFlushed, SendsUnlessEnded, FailsOnceUnlessEnded};
 ghost use Rattle.tiny_http_core.specs.Pending.{left_text, SendsLeft, Passes, LeavesText, KeepsHead, waiting_form};
 ghost use Rattle.tiny_http_core.specs.Pipeline.{is_head_method};
 ghost use Rattle.tiny_http_core.specs.Slots.{own_text};
@@ -229,6 +229,7 @@ fn write_left<W: WriteDevice>(
     ensures fails_once { FailsOnceUnlessEnded (outlet_ended outlet.old) (outlet_sink W.sink outlet.old) (outlet_sink W.sink outlet.new) (outlet_ended outlet.new) }
     ensures flushed { outlet_held outlet.new ≡ [] }
     ensures sent_on { SentOn W.sink outlet.new }
+    ensures is_flushed { IsFlushed (outlet_sink W.sink outlet.new) }
 {
     write_texts(turns, outlet, number, text);
     flush_quietly(outlet);

@@ -7,7 +7,7 @@ use Rattle.tiny_http_core.proofs.pending.Pending.leave.Goals as goal
 pub returns-in-Go-clause-leaves : goal.returns-in-Go-clause-leaves
 returns-in-Go-clause-leaves g c front rest e place can =
     leave-goes front rest c.args.self.now.turns.marks c.leave.new.self.marks c.write_left.new.turns.marks c.args.number c.args.text.items _ _ _ _ c.leave.result c.in-Go.field-0 c.in-Go.text c.args.self.now.turns.slot c.leave.new.self.slot e place
-    (record { marks_are = c.leave.ensures.marks; item = c.leave.ensures.item }) c.in-Go.is (λ held. let h = c.write_left.ensures.passes front rest held place in (h.0, h.1 can))
+    (record { marks_are = c.leave.ensures.marks; item = c.leave.ensures.item }) c.in-Go.is (λ held. let h = c.write_left.ensures.passes front rest held place in (h.0, h.1 can)) c.write_left.ensures.is_flushed
 
 pub returns-in_default : goal.returns-in_default
 returns-in_default g c =

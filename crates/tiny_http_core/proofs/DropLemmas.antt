@@ -1,0 +1,143 @@
+-- A Drop: from where the connection stands to where it stands behind it.
+use Rattle.std.proofs.Common.{◌≡◌, refl, sym, ap, ◌∙◌, subst, ℕ, ◌-◌, ◌<◌, ◌^◌, ◌⊎◌, inl, inr, ⊎_elim, Bool, true, false, ◌||◌, List, [], ◌∷◌, ◌++◌, length, Option, Some, None, eq-eqb}
+use Rattle.std.proofs.lemmas.Bool.{ne_eqb}
+use Rattle.std.specs.Prelude.{MatchBool, ◌==◌, is_some, slice_get, slice_set}
+use Rattle.std.specs.List.{list_all}
+use Rattle.httpdate.specs.declared.date.HttpDate.{HttpDate}
+use Rattle.tiny_http_wire.specs.Device.{Feed, Sink}
+use Rattle.tiny_http_core.specs.declared.pending.Waiting.{Waiting}
+use Rattle.tiny_http_core.specs.Pipeline.{Asks, Request}
+use Rattle.tiny_http_core.specs.Slots.{Slot, Waits, Answered as AnsweredBy, ByServer, Raw, Upgraded, is_finished, is_slot_broken, segment, joined, breaks_off, new_slot, turn_has_come}
+use Rattle.tiny_http_core.specs.Steps.{Drop, Done, Use, Unused, Unreported, Outcome, Reached, changes, in_turn, at_slot, at_number}
+use Rattle.tiny_http_core.specs.Conversation.{Failure, State, FailsBetween, Writes, Has}
+use Rattle.tiny_http_core.specs.Sending.{CanSend}
+use Rattle.tiny_http_core.specs.Turns.{Mark, Open, Left, Finished, AreInShape, first_unfinished}
+use Rattle.tiny_http_core.specs.Pending.{left_text, passed, LeavesText}
+use Rattle.tiny_http_core.specs.Connection.{Kept, dropped, AreKept, is_plain_item, OutputAt, Stands}
+use Rattle.tiny_http_core.proofs.AskLemmas.{Answered, dropped-whole}
+use Rattle.tiny_http_core.proofs.SlotLemmas.{joined-hidden, joined-waits, breaks-hidden, breaks-waits}
+use Rattle.tiny_http_core.proofs.KeptLemmas.{all-at, all-place, kept-append, kept-passed, Place, place-of, InTurn, OutOfTurn, turn-at}
+use Rattle.tiny_http_core.proofs.OutputLemmas.{behind, ended-is, output-same, can-send, Goes, output-more}
+use Rattle.tiny_http_core.proofs.RespondLemmas.{TakesNone, SlotAt, slot-at, set-place, output-before, after_number}
+
+pub drop-not_taken : (n : ℕ) → TakesNone (Drop n)
+drop-not_taken n Waits owed e = cc
+drop-not_taken n (AnsweredBy r d f) owed e = refl
+drop-not_taken n ByServer owed e = refl
+drop-not_taken n (Raw w c) owed e = refl
+drop-not_taken n (Upgraded p r d w c) owed e = refl
+
+at-drop : (date asked : HttpDate) (old : Reached) (n : ℕ) (r : Request) (t : Bool) → slice_get old.slots n ≡ Some (new_slot asked (Asks r)) → turn_has_come n old.slots ≡ t
+    → at_number true date old n (Drop n) ≡ changes old n (dropped asked r) Done (in_turn t)
+at-drop date asked old n r t e turn =
+    ap (at_slot true date old n (Drop n)) e ∙ ap (λ b. changes old n (dropped asked r) Done (in_turn b)) turn
+
+-- what the drop leaves, in its turn or out of it
+record DropSaid (before new : Sink) (ended : Bool) (slots : List Slot) (old : State) (t : Bool) (final : List Mark) (requests : List (Option Waiting)) : Type 0 where
+  pub failure : Option Failure
+  pub output : OutputAt before new ended slots failure
+  pub writes : Writes (in_turn t) old Done slots Done failure
+  pub numbers : AreKept slots final requests
+  pub shape : AreInShape final
+
+-- the connection behind a drop, by what is said of it
+drop-stands : (client : Feed) (before : Sink) (k : Kept) (s : State) (date asked : HttpDate) (n : ℕ) (r : Request) (new : Sink) (ended : Bool) (final : List Mark) (requests : List (Option Waiting)) (bs cs : List Slot) (t : Bool) → Stands client before k s
+    → s.reached.slots ≡ bs ++ (new_slot asked (Asks r) ∷ cs) → SlotAt s.reached.slots bs cs (new_slot asked (Asks r)) n → list_all is_finished bs ≡ t → DropSaid before new ended (bs ++ (dropped asked r ∷ cs)) s t final requests
+    → Answered client before (after_number k final requests new ended) s date (Drop n) Done
+drop-stands client before k s date asked n r new ended final requests bs cs t st slots_are at turn said =
+    let s0 = new_slot asked (Asks r) in
+    let s1 = dropped asked r in
+    let slots = bs ++ (s1 ∷ cs) in
+    let is = at-drop date asked s.reached n r t at.get (at.turn ∙ turn) in
+    let plain : list_all (λ (x : Slot). is_plain_item x.item) s.reached.slots ≡ true = st.plain in
+    let A : List Slot → Type 0 = λ l. list_all (λ (x : Slot). is_plain_item x.item) l ≡ true in
+    let old_plain = subst A slots_are plain in
+    let new_state : State = record { reached = record { slots = slots; rest = s.reached.rest; ended = s.reached.ended }; failure = said.failure } in
+    let R : List Slot → Reached = λ l. record { slots = l; rest = s.reached.rest; ended = s.reached.ended } in
+    let W : List Slot → Type 0 = λ l. Writes (in_turn t) s Done l Done said.failure in
+    let G : Outcome → Type 0 = λ x. Has x s Done new_state in (
+      new_state,
+      record {
+        numbers = said.numbers;
+        shape = said.shape;
+        ended = st.ended;
+        plain = all-at (λ (x : Slot). is_plain_item x.item) bs s0 s1 cs old_plain (all-place (λ (x : Slot). is_plain_item x.item) bs s0 cs old_plain);
+        rest = st.rest;
+        source = st.source;
+        output = said.output;
+      },
+      inl (true, tt, subst G (sym is) (ap R (sym (at.set s1)), subst W (sym (at.set s1)) said.writes)),
+    )
+
+pub drop-done : (client : Feed) (before : Sink) (k : Kept) (s : State) (date : HttpDate) (n : ℕ) (w : Waiting) (new : Sink) (ended : Bool) (final : List Mark) (requests : List (Option Waiting)) → Stands client before k s → before.failures < 2 ^ 64 - 1
+    → slice_get k.requests n ≡ Some (Some w) → requests ≡ slice_set k.requests n None
+    → ((front rest : List Mark) → k.marks ≡ front ++ (Open ∷ rest) → length front ≡ n → (k.output_ended ≡ false → CanSend k.sink) → LeavesText (n == first_unfinished k.marks) front rest final w.dropped.items k.output_ended k.sink new ended)
+    → Answered client before (after_number k final requests new ended) s date (Drop n) Done
+drop-done client before k s date n w new ended final requests st low e requests_are leaves = ⊎_elim in-turn out-of-turn (turn-at p.bs p.fs p.us p.rs p.before (subst S p.marks_are st.shape))
+  where
+    S : List Mark → Type 0
+    S m = AreInShape m
+
+    p : Place s.reached.slots k.marks k.requests n w
+    p = place-of s.reached.slots k.marks k.requests n w st.numbers e
+
+    r : Request
+    r = p.waiting.request
+
+    asked : HttpDate
+    asked = p.waiting.date
+
+    s1 : Slot
+    s1 = dropped asked r
+
+    slots_are : s.reached.slots ≡ p.bs ++ (new_slot asked (Asks r) ∷ p.cs)
+    slots_are = p.slots_are ∙ ap (λ x. p.bs ++ (x ∷ p.cs)) p.waiting.fresh
+
+    out : OutputAt before k.sink k.output_ended p.bs s.failure
+    out = output-before client before k s p.bs p.cs asked r st slots_are
+
+    left : LeavesText (n == first_unfinished k.marks) p.fs p.rs final w.dropped.items k.output_ended k.sink new ended
+    left = leaves p.fs p.rs p.marks_are p.marks_before (can-send before k.sink k.output_ended p.bs s.failure out low)
+
+    kept : (m : Mark) (rs : List Mark) → final ≡ p.fs ++ (m ∷ rs) → AreKept (p.bs ++ (s1 ∷ p.cs)) (p.fs ++ (m ∷ rs)) (p.us ++ (None ∷ p.vs)) → AreKept (p.bs ++ (s1 ∷ p.cs)) final requests
+    kept m rs f h =
+        let M : List Mark → Type 0 = λ y. AreKept (p.bs ++ (s1 ∷ p.cs)) y requests in
+        let Q : List (Option Waiting) → Type 0 = λ y. AreKept (p.bs ++ (s1 ∷ p.cs)) (p.fs ++ (m ∷ rs)) y in
+        subst M (sym f) (subst Q (sym (requests_are ∙ set-place k.requests p.us p.vs n (Some w) None p.requests_are p.requests_before)) h)
+
+    ends : (t : Bool) → list_all is_finished p.bs ≡ t → DropSaid before new ended (p.bs ++ (s1 ∷ p.cs)) s t final requests → Answered client before (after_number k final requests new ended) s date (Drop n) Done
+    ends t turn said = drop-stands client before k s date asked n r new ended final requests p.bs p.cs t st slots_are (slot-at s.reached.slots p.bs p.cs (new_slot asked (Asks r)) n slots_are p.slots_before) turn said
+
+    in-turn : InTurn p.bs p.fs p.rs → Answered client before (after_number k final requests new ended) s date (Drop n) Done
+    in-turn t =
+        let come : (n == first_unfinished k.marks) ≡ true = eq-eqb n (first_unfinished k.marks) (sym p.marks_before ∙ t.turn ∙ ap first_unfinished (sym p.marks_are)) in
+        let l = subst (λ (b : Bool). LeavesText b p.fs p.rs final w.dropped.items k.output_ended k.sink new ended) come left in
+        let b = behind p.cs p.rs p.vs t.waiting p.behind in
+        let whole = dropped-whole asked r in
+        let text : joined (s1 ∷ p.cs) ≡ w.dropped.items ++ left_text p.rs = rw whole (ap (λ y. y ++ joined p.cs) (sym p.waiting.text) ∙ ap (λ y. w.dropped.items ++ y) b.0) in
+        let go = output-more before k.sink new k.output_ended ended p.bs (s1 ∷ p.cs) (w.dropped.items ++ left_text p.rs) s.failure out t.finished text (rw whole b.1) low l.1 l.2 in
+        let over = ended-is before k.sink k.output_ended s.reached.slots s.failure st.output in
+        let known : joined s.reached.slots ≡ joined p.bs = ap joined slots_are ∙ joined-waits p.bs (new_slot asked (Asks r)) p.cs refl refl in
+        let W : Bool → List ℕ → Type 0 = λ x y. MatchBool x (go.failure ≡ s.failure) ((go.failure ≡ None) ⊎ FailsBetween y (joined (p.bs ++ (s1 ∷ p.cs))) go.failure) in
+        let K : List Mark → Type 0 = λ y. AreInShape y in
+        ends true t.finished (record {
+          failure = go.failure;
+          output = go.output;
+          writes = (refl, subst (λ y. W (is_some s.failure || breaks_off s.reached.slots) y) (sym known) (subst (λ x. W x (joined p.bs)) (sym over) go.writes));
+          numbers = kept Finished (passed p.rs) l.0 (kept-append p.bs p.fs p.us (s1 ∷ p.cs) (Finished ∷ passed p.rs) (None ∷ p.vs) p.before (refl, kept-passed p.cs p.rs p.vs p.behind));
+          shape = subst K (sym l.0) t.shape;
+        })
+
+    out-of-turn : OutOfTurn p.bs p.fs p.rs → Answered client before (after_number k final requests new ended) s date (Drop n) Done
+    out-of-turn t =
+        let come : (n == first_unfinished k.marks) ≡ false = ne_eqb n (first_unfinished k.marks) (λ x. t.turn (p.marks_before ∙ x ∙ ap first_unfinished p.marks_are)) in
+        let l = subst (λ (b : Bool). LeavesText b p.fs p.rs final w.dropped.items k.output_ended k.sink new ended) come left in
+        let O : Sink → Bool → Type 0 = λ x y. OutputAt before x y (p.bs ++ (s1 ∷ p.cs)) s.failure in
+        let hidden = output-same before k.sink k.output_ended p.bs (p.bs ++ (s1 ∷ p.cs)) s.failure (sym (joined-hidden p.bs (s1 ∷ p.cs) t.unfinished)) (sym (breaks-hidden p.bs (s1 ∷ p.cs) t.unfinished)) out in
+        ends false t.unfinished (record {
+          failure = s.failure;
+          output = subst (λ y. O new y) (sym l.3) (subst (λ x. O x k.output_ended) (sym l.2) hidden);
+          writes = (refl, refl);
+          numbers = kept (Left w.dropped.items) p.rs l.0 (kept-append p.bs p.fs p.us (s1 ∷ p.cs) (Left w.dropped.items ∷ p.rs) (None ∷ p.vs) p.before (record { finished = refl; whole = dropped-whole asked r; same = sym p.waiting.text }, p.behind));
+          shape = l.1;
+        })

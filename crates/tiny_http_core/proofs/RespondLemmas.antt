@@ -1,0 +1,486 @@
+-- A Respond: from where the connection stands to where it stands behind it.
+use Rattle.std.proofs.Common.{◌≡◌, refl, sym, ap, ◌∙◌, subst, ℕ, ◌+◌, ◌-◌, ◌<◌, ◌^◌, ◌⊎◌, inl, inr, ⊎_elim, Bool, true, false, not, ◌&&◌, ◌||◌, List, [], ◌∷◌, ◌++◌, length, Option, Some, None, Result, Ok, Err, arith, append_assoc, append-nil}
+use Rattle.std.specs.Prelude.{MatchBool, is_some, slice_get, slice_set}
+use Rattle.std.specs.List.{list_all}
+use Rattle.std.specs.Io.KnownBytes.{append_known}
+use Rattle.std.specs.IoError.{error_kind}
+use Rattle.std.specs.declared.io.Error.{Error}
+use Rattle.std.specs.declared.io.ErrorKind.{ErrorKind}
+use Rattle.httpdate.specs.declared.date.HttpDate.{HttpDate}
+use Rattle.tiny_http_wire.specs.Device.{Feed, Sink, IsFront, HoldsNothing}
+use Rattle.tiny_http_wire.specs.Answer.{Text, Ending, Whole, Broken, text_of}
+use Rattle.tiny_http_core.specs.declared.pending.AnswerForm.{AnswerForm}
+use Rattle.tiny_http_core.specs.declared.pending.Waiting.{Waiting}
+use Rattle.tiny_http_core.specs.Pipeline.{Item, Asks, Refuses, Request}
+use Rattle.tiny_http_core.specs.Slots.{ResponseValue, Slot, Stage, Waits, Answered as AnsweredBy, ByServer, Raw, Upgraded, is_over, is_finished, is_broken, is_slot_broken, segment, joined, breaks_off, new_slot, turn_has_come, to_request, text_if, IsGathered}
+use Rattle.tiny_http_core.specs.Steps.{Asked, outcome, Respond, Replied, Done, NoSuch, NotYet, Use, Reported, Outcome, Reached, unchanged, changes, finished, takes, waits, fault_in, fault_of_answer, at_item, at_slot, at_number}
+use Rattle.tiny_http_core.specs.Conversation.{Failure, State, has_output_ended, finished_front, FailsBetween, FailsTold, FailsBehind, broken_reply, Writes, Has, GathersAt, MayLack}
+use Rattle.tiny_http_core.specs.Seen.{printed_as, reply_to}
+use Rattle.tiny_http_core.specs.Sending.{CanSend, Sent, Lost, Idles, IsFlushed, SendsText, Sends, SendsUnlessEnded}
+use Rattle.tiny_http_core.specs.Turns.{Mark, Open, Held, Finished, AreInShape, first_unfinished}
+use Rattle.tiny_http_core.specs.Pending.{left_text, passed, begins_left, SendsLeft, Passes, waiting_form}
+use Rattle.tiny_http_core.specs.Connection.{Kept, form_of, IsWaiting, AreKept, is_plain_item, OutputAt, Stands}
+use Rattle.tiny_http_core.proofs.AskLemmas.{Answered, step-unchanged}
+use Rattle.tiny_http_core.proofs.SlotLemmas.{all-snoc, joined-front, joined-broken, joined-waits, breaks-front, breaks-waits}
+use Rattle.tiny_http_core.proofs.KeptLemmas.{get-at, set-at, take-at, all-at, all-place, kept-append, kept-passed, none-waits, Place, place-of, InTurn, OutOfTurn, turn-at}
+use Rattle.tiny_http_core.proofs.OutputLemmas.{behind, front-all, left-finished, lost-output, LostOutput, all-firm, ended-is, output-same, plain-more, can-send, Goes, output-more}
+use Rattle.tiny_http_core.proofs.PassLemmas.{none-left}
+use Rattle.tiny_http_core.proofs.SendLemmas.{or-false}
+
+-- a number that is finished takes no such step
+abbrev pub TakesNone : Asked → Type 0
+TakesNone step = (stage : Stage) (owed : Bool) → is_over stage ≡ true → takes stage owed step ≡ false
+
+pub respond-not_taken : (n : ℕ) (v : ResponseValue) → TakesNone (Respond n v)
+respond-not_taken n v Waits owed e = cc
+respond-not_taken n v (AnsweredBy r d f) owed e = refl
+respond-not_taken n v ByServer owed e = refl
+respond-not_taken n v (Raw w c) owed e = refl
+respond-not_taken n v (Upgraded p r d w c) owed e = refl
+
+nothing-at : (date : HttpDate) (old : Reached) (n : ℕ) (step : Asked) → TakesNone step → ((x : Slot) → slice_get old.slots n ≡ Some x → is_finished x ≡ true) → at_number true date old n step ≡ unchanged old NoSuch
+nothing-at date old n step free h = at (slice_get old.slots n) refl
+  where
+    of : (x : Slot) (item : Item) → is_finished x ≡ true → at_item true date old n step x item ≡ unchanged old NoSuch
+    of x (Refuses a b c) f = refl
+    of x (Asks r) f = rw (free x.stage x.owed f) refl
+
+    at : (o : Option Slot) → slice_get old.slots n ≡ o → at_slot true date old n step o ≡ unchanged old NoSuch
+    at None e = refl
+    at (Some x) e = of x x.item (h x e)
+
+-- no request of this number takes the step
+pub no-such : (client : Feed) (before : Sink) (k : Kept) (s : State) (date : HttpDate) (n : ℕ) (step : Asked) → outcome true date s.reached step ≡ at_number true date s.reached n step → TakesNone step → Stands client before k s → waiting_form (slice_get k.requests n) ≡ None
+    → Answered client before k s date step NoSuch
+no-such client before k s date n step at free st none =
+    step-unchanged client before k s date step NoSuch st (at ∙ nothing-at date s.reached n step free (none-waits s.reached.slots k.marks k.requests n st.numbers none))
+
+-- a number that waits is kept
+pub form-some : (o : Option (Option Waiting)) (form : AnswerForm) → waiting_form o ≡ Some form → (w : Waiting) × (o ≡ Some (Some w)) × (w.form ≡ form)
+form-some None form e = cc
+form-some (Some None) form e = cc
+form-some (Some (Some w)) form e = (w, refl, (let same : w.form ≡ form = cc in same))
+
+-- the place of such a number, in the slots
+pub record SlotAt (slots bs cs : List Slot) (s0 : Slot) (n : ℕ) : Type 0 where
+  pub get : slice_get slots n ≡ Some s0
+  pub set : (s1 : Slot) → slice_set slots n s1 ≡ bs ++ (s1 ∷ cs)
+  pub turn : turn_has_come n slots ≡ list_all is_finished bs
+
+pub slot-at : (slots bs cs : List Slot) (s0 : Slot) (n : ℕ) → slots ≡ bs ++ (s0 ∷ cs) → length bs ≡ n → SlotAt slots bs cs s0 n
+slot-at slots bs cs s0 n e place =
+    let P : ℕ → Type 0 = λ m. SlotAt slots bs cs s0 m in
+    let Q : List Slot → Type 0 = λ l. SlotAt l bs cs s0 (length bs) in
+    subst P place (subst Q (sym e) (record {
+      get = get-at bs s0 cs;
+      set = λ s1. set-at bs s0 s1 cs;
+      turn = ap (list_all is_finished) (take-at bs (s0 ∷ cs));
+    }))
+
+-- its turn hasn't come
+pub respond-not_yet : (client : Feed) (before : Sink) (k : Kept) (s : State) (date : HttpDate) (n : ℕ) (v : ResponseValue) (w : Waiting) → Stands client before k s → slice_get k.requests n ≡ Some (Some w)
+    → ((slice_get k.marks n ≡ Some Open) × (n ≡ first_unfinished k.marks) → ⊥) → Answered client before k s date (Respond n v) NotYet
+respond-not_yet client before k s date n v w st e never =
+    let p = place-of s.reached.slots k.marks k.requests n w st.numbers e in
+    let at = slot-at s.reached.slots p.bs p.cs p.s n p.slots_are p.slots_before in
+    let S : List Mark → Type 0 = λ m. AreInShape m in
+    let early : (t : InTurn p.bs p.fs p.rs) → ⊥ = λ t. never (ap (λ m. slice_get m n) p.marks_are ∙ ap (λ x. slice_get (p.fs ++ (Open ∷ p.rs)) x) (sym p.marks_before) ∙ get-at p.fs Open p.rs, sym p.marks_before ∙ t.turn ∙ ap first_unfinished (sym p.marks_are)) in
+    let late : list_all is_finished p.bs ≡ false = ⊎_elim (λ (t : InTurn p.bs p.fs p.rs). absurd (early t)) (λ (t : OutOfTurn p.bs p.fs p.rs). t.unfinished) (turn-at p.bs p.fs p.us p.rs p.before (subst S p.marks_are st.shape)) in
+    let T : Slot → Type 0 = λ x. at_slot true date s.reached n (Respond n v) (Some x) ≡ unchanged s.reached NotYet in
+    let is = subst T (sym p.waiting.fresh) (rw (at.turn ∙ late) refl) in
+    step-unchanged client before k s date (Respond n v) NotYet st (ap (at_slot true date s.reached n (Respond n v)) at.get ∙ is)
+
+-- the slot behind the response
+abbrev pub answered_slot : HttpDate → Request → ResponseValue → HttpDate → Bool → Slot
+answered_slot asked r v date found = finished (new_slot asked (Asks r)) (AnsweredBy v date found)
+
+abbrev pub response_sent : Bool → ResponseValue → Request → HttpDate → Text
+response_sent found v r date = text_if found v (to_request r date)
+
+abbrev pub used : Text → Use
+used text = Reported text.bytes (fault_in text.ending) fault_of_answer
+
+at-turn : (date asked : HttpDate) (old : Reached) (n : ℕ) (v : ResponseValue) (r : Request) (found : Bool) → slice_get old.slots n ≡ Some (new_slot asked (Asks r)) → turn_has_come n old.slots ≡ true
+    → at_number found date old n (Respond n v) ≡ changes old n (answered_slot asked r v date found) Done (used (response_sent found v r date))
+at-turn date asked old n v r found e t = ap (at_slot found date old n (Respond n v)) e ∙ rw t refl
+
+-- the texts of the response itself
+same-text : (v : ResponseValue) (r : Request) (form : AnswerForm) (date : HttpDate) → form ≡ form_of r → text_of v.answer v.content (printed_as form date) ≡ text_of v.answer v.content (to_request r date)
+unfolding text_of
+same-text v r form date e = let P : AnswerForm → Text = λ x. text_of v.answer v.content (printed_as x date) in ap P e
+
+-- what becomes of the response's own text, with the step's reply: it was sent, or broke off, or the writer failed in it
+abbrev pub OwnWrites : Bool → Option Failure → List ℕ → Text → Replied → Option Failure → Type 0
+OwnWrites was failed known text reply failure =
+    MatchBool was ((reply ≡ Done) × (failure ≡ failed))
+    (((reply ≡ broken_reply fault_of_answer Done (fault_in text.ending)) × (failure ≡ None))
+    ⊎ (FailsTold fault_of_answer reply known (known ++ text.bytes) failure
+    ⊎ ((kind : ErrorKind) × (text.ending ≡ Broken kind) × (reply ≡ broken_reply fault_of_answer Done (fault_in text.ending)) × FailsBetween known (known ++ text.bytes) failure)))
+
+pub record OwnSaid (before mid : Sink) (was ended : Bool) (bs : List Slot) (s1 : Slot) (text : Text) (failed : Option Failure) (reply : Replied) : Type 0 where
+  pub failure : Option Failure
+  pub output : OutputAt before mid ended (bs ++ (s1 ∷ [])) failure
+  pub writes : OwnWrites was failed (joined bs) text reply failure
+
+told-broken : (text : Text) (kind : ErrorKind) (reply : Replied) → text.ending ≡ Broken kind → reply ≡ fault_of_answer kind → reply ≡ broken_reply fault_of_answer Done (fault_in text.ending)
+told-broken text kind reply e t = t ∙ ap (λ x. broken_reply fault_of_answer Done (fault_in x)) (sym e)
+
+own-said : {T : Type 0} (before sink mid : Sink) (ended : Bool) (bs : List Slot) (s1 : Slot) (text : Text) (r : Result T Error) (reply : Replied) → OutputAt before sink false bs None → list_all is_finished bs ≡ true → is_finished s1 ≡ true
+    → segment s1 ≡ text.bytes → is_slot_broken s1 ≡ is_broken text.ending → before.failures < 2 ^ 64 - 1 → SendsText sink mid ended r text → IsFlushed mid → reply ≡ reply_to r → OwnSaid before mid false ended bs s1 text None reply
+own-said before sink mid ended bs s1 text (Ok x) reply h fin over own broken low d flushed t =
+    let none : breaks_off bs ≡ false = sym h.3 in
+    let whole : is_slot_broken s1 ≡ false = broken ∙ ap is_broken d.0 in
+    let longer : joined bs ++ text.bytes ≡ joined (bs ++ (s1 ∷ [])) = ap (λ y. joined bs ++ y) (sym own ∙ sym (rw (over, whole) (append-nil (segment s1)))) ∙ sym (joined-front bs (s1 ∷ []) fin none) in
+    let breaks : breaks_off (bs ++ (s1 ∷ [])) ≡ false = breaks-front bs (s1 ∷ []) fin ∙ rw (none, over, whole) refl in
+    let taken : mid.taken ≡ Some (joined (bs ++ (s1 ∷ []))) = d.1.bytes ∙ ap (λ y. append_known y text.bytes) h.0 ∙ ap Some longer in
+    record {
+      failure = None;
+      output = (taken, d.1.failures ∙ h.1, d.3 ∙ sym d.2, d.2 ∙ sym breaks, λ z. all-firm mid (joined (bs ++ (s1 ∷ []))) taken (flushed d.3));
+      writes = inl (t ∙ ap (λ y. broken_reply fault_of_answer Done (fault_in y)) (sym d.0), refl);
+    }
+own-said before sink mid ended bs s1 text (Err e) reply h fin over own broken low d flushed t =
+    ⊎_elim (λ k. ⊎_elim (λ x. broken-sent k.0 x) (λ x. broken-lost k.0 x.0 x.1) k.1) (λ l. lost l) d.2
+  where
+    none : breaks_off bs ≡ false
+    none = sym h.3
+
+    broken-sent : text.ending ≡ Broken (error_kind e) → Sent sink mid text.bytes → OwnSaid before mid false ended bs s1 text None reply
+    broken-sent b x =
+        let breaks_is : is_slot_broken s1 ≡ true = broken ∙ ap is_broken b in
+        let longer : joined bs ++ text.bytes ≡ joined (bs ++ (s1 ∷ [])) = ap (λ y. joined bs ++ y) (sym own ∙ sym (rw (over, breaks_is) (append-nil (segment s1)))) ∙ sym (joined-front bs (s1 ∷ []) fin none) in
+        let breaks : breaks_off (bs ++ (s1 ∷ [])) ≡ true = breaks-front bs (s1 ∷ []) fin ∙ rw (none, breaks_is) refl in
+        record {
+          failure = None;
+          output = (x.bytes ∙ ap (λ y. append_known y text.bytes) h.0 ∙ ap Some longer, x.failures ∙ h.1, d.1 ∙ sym d.0, d.0 ∙ sym breaks, λ z. (let absent : true ≡ false = sym d.0 ∙ z in cc));
+          writes = inl (told-broken text (error_kind e) reply b t, refl);
+        }
+
+    broken-lost : text.ending ≡ Broken (error_kind e) → (kind : ErrorKind) → Lost sink mid text.bytes kind → OwnSaid before mid false ended bs s1 text None reply
+    broken-lost b kind l =
+        let z = lost-output before sink mid (joined bs) text.bytes kind h.0 h.1 (h.4 refl) low l in
+        let f : Failure = record { kind = kind; output = z.output } in
+        record {
+          failure = Some f;
+          output = (z.taken, z.failures, z.told, d.0);
+          writes = inr (inr (error_kind e, b, told-broken text (error_kind e) reply b t, (f, refl, z.begins, z.front)));
+        }
+
+    lost : Lost sink mid text.bytes (error_kind e) → OwnSaid before mid false ended bs s1 text None reply
+    lost l =
+        let z = lost-output before sink mid (joined bs) text.bytes (error_kind e) h.0 h.1 (h.4 refl) low l in
+        let f : Failure = record { kind = error_kind e; output = z.output } in
+        record {
+          failure = Some f;
+          output = (z.taken, z.failures, z.told, d.0);
+          writes = inr (inl (f, refl, t, z.begins, z.front));
+        }
+
+pub own-sent : {T : Type 0} (before sink mid : Sink) (was ended : Bool) (bs : List Slot) (s1 : Slot) (text : Text) (failed : Option Failure) (r : Result T Error) (reply : Replied) → OutputAt before sink was bs failed → list_all is_finished bs ≡ true → is_finished s1 ≡ true
+    → segment s1 ≡ text.bytes → is_slot_broken s1 ≡ is_broken text.ending → before.failures < 2 ^ 64 - 1 → was ≡ false → SendsText sink mid ended r text → IsFlushed mid → reply ≡ reply_to r → OwnSaid before mid was ended bs s1 text failed reply
+own-sent before sink mid was ended bs s1 text (Some f) r reply h fin over own broken low z d flushed t = let absent : false ≡ true = sym z ∙ h.3 in cc
+own-sent {T = T} before sink mid was ended bs s1 text None r reply h fin over own broken low z d flushed t =
+    let P : Bool → Type 0 = λ b. OutputAt before sink b bs None in
+    let Q : Bool → Type 0 = λ b. OwnSaid before mid b ended bs s1 text None reply in
+    subst Q (sym z) (own-said {T = T} before sink mid ended bs s1 text r reply (subst P z h) fin over own broken low d flushed t)
+
+-- an output that has ended sends nothing
+pub own-past : (before sink : Sink) (was : Bool) (bs : List Slot) (s1 : Slot) (text : Text) (failed : Option Failure) → OutputAt before sink was bs failed → list_all is_finished bs ≡ true → was ≡ true → OwnSaid before sink was was bs s1 text failed Done
+own-past before sink was bs s1 text None h fin z =
+    let breaks : breaks_off bs ≡ true = sym h.3 ∙ z in
+    let all : breaks_off (bs ++ (s1 ∷ [])) ≡ breaks_off bs = breaks-front bs (s1 ∷ []) fin ∙ rw breaks refl in
+    let M : Bool → Type 0 = λ b. OwnWrites b None (joined bs) text Done None in
+    record { failure = None; output = output-same before sink was bs (bs ++ (s1 ∷ [])) None (sym (joined-broken bs (s1 ∷ []) breaks)) (sym all) h; writes = subst M (sym z) (refl, refl) }
+own-past before sink was bs s1 text (Some f) h fin z =
+    let M : Bool → Type 0 = λ b. OwnWrites b (Some f) (joined bs) text Done (Some f) in
+    record { failure = Some f; output = h; writes = subst M (sym z) (refl, refl) }
+
+-- The response and the texts behind it, as the step's part of the output.
+pub record Said (before new : Sink) (ended : Bool) (slots : List Slot) (was : State) (text : Text) (reply : Replied) : Type 0 where
+  pub failure : Option Failure
+  pub output : OutputAt before new ended slots failure
+  pub writes : Writes (used text) was Done slots reply failure
+
+-- what the writer did, by whether the output had ended
+abbrev Alternatives : List Slot → Text → List Slot → Replied → Option Failure → Type 0
+Alternatives old text slots reply failure =
+    ((reply ≡ broken_reply fault_of_answer Done (fault_in text.ending)) × (failure ≡ None))
+    ⊎ (FailsTold fault_of_answer reply (joined old) (joined old ++ text.bytes) failure
+    ⊎ ((reply ≡ broken_reply fault_of_answer Done (fault_in text.ending)) × FailsBehind old text.bytes (fault_in text.ending) slots failure))
+
+abbrev WritesIf : Bool → Option Failure → List Slot → Text → List Slot → Replied → Option Failure → Type 0
+WritesIf t failed old text slots reply failure = MatchBool t ((reply ≡ Done) × (failure ≡ failed)) (Alternatives old text slots reply failure)
+
+-- where nothing is written behind the response, it is as it was
+own-alternatives : (was : Bool) (failed : Option Failure) (old : List Slot) (text : Text) (slots : List Slot) (reply : Replied) (failure : Option Failure) → OwnWrites was failed (joined old) text reply failure → WritesIf was failed old text slots reply failure
+own-alternatives true failed old text slots reply failure h = h
+own-alternatives false failed old text slots reply failure (inl h) = inl h
+own-alternatives false failed old text slots reply failure (inr (inl h)) = inr (inl h)
+own-alternatives false failed old text slots reply failure (inr (inr h)) =
+    let P : Ending → Type 0 = λ x. FailsBehind old text.bytes (fault_in x) slots failure in
+    inr (inr (h.2, subst P (sym h.1) h.3))
+
+-- a fault behind the response, in the texts that were left
+behind-alternatives : (was : Bool) (failed : Option Failure) (old : List Slot) (text : Text) (slots : List Slot) (reply : Replied) (own failure : Option Failure) → OwnWrites was failed (joined old) text reply own → is_some own ≡ false → text.ending ≡ Whole
+    → finished_front old + 1 < finished_front slots → (failure ≡ None) ⊎ FailsBetween (joined old ++ text.bytes) (joined slots) failure → was ≡ false → WritesIf was failed old text slots reply failure
+behind-alternatives true failed old text slots reply own failure h none whole more left z = cc
+behind-alternatives false failed old text slots reply own failure (inl h) none whole more left z =
+    let P : Ending → Type 0 = λ x. FailsBehind old text.bytes (fault_in x) slots failure in
+    ⊎_elim (λ k. inl (h.0, k)) (λ k. inr (inr (h.0, subst P (sym whole) (more, k)))) left
+behind-alternatives false failed old text slots reply own failure (inr (inl h)) none whole more left z = let absent : true ≡ false = ap is_some (sym h.1) ∙ none in cc
+behind-alternatives false failed old text slots reply own failure (inr (inr h)) none whole more left z = let absent : true ≡ false = ap is_some (sym h.3.1) ∙ none in cc
+
+-- the output is open behind the response only where the response is whole, and was open before it
+open-whole : (before mid : Sink) (was : Bool) (bs : List Slot) (s1 : Slot) (text : Text) (failed : Option Failure) (reply : Replied) → list_all is_finished bs ≡ true → is_slot_broken s1 ≡ is_broken text.ending → (is_some failed || breaks_off bs) ≡ was
+    → (o : OwnSaid before mid was false bs s1 text failed reply) → (is_some o.failure ≡ false) × (text.ending ≡ Whole) × (was ≡ false)
+open-whole before mid was bs s1 text failed reply fin broken over o =
+    let open_is : (is_some o.failure || breaks_off (bs ++ (s1 ∷ []))) ≡ false = ended-is before mid false (bs ++ (s1 ∷ [])) o.failure o.output in
+    let parts = or-false (is_some o.failure) (breaks_off (bs ++ (s1 ∷ []))) open_is in
+    let breaks : (breaks_off bs || breaks_off (s1 ∷ [])) ≡ false = sym (breaks-front bs (s1 ∷ []) fin) ∙ parts.1 in
+    let two = or-false (breaks_off bs) (breaks_off (s1 ∷ [])) breaks in
+    let whole : is_slot_broken s1 ≡ false = (or-false (is_slot_broken s1) (is_finished s1 && false) two.1).0 in
+    (parts.0, unbroken text.ending (sym broken ∙ whole), by-was was refl)
+  where
+    unbroken : (x : Ending) → is_broken x ≡ false → x ≡ Whole
+    unbroken Whole e = refl
+    unbroken (Broken kind) e = cc
+
+    by-was : (t : Bool) → was ≡ t → was ≡ false
+    by-was false e = e
+    by-was true e =
+        let M : Bool → Type 0 = λ b. OwnWrites b failed (joined bs) text reply o.failure in
+        let kept = subst M e o.writes in
+        let open_is = ended-is before mid false (bs ++ (s1 ∷ [])) o.failure o.output in
+        let parts = or-false (is_some o.failure) (breaks_off (bs ++ (s1 ∷ []))) open_is in
+        let two = or-false (breaks_off bs) (breaks_off (s1 ∷ [])) (sym (breaks-front bs (s1 ∷ []) fin) ∙ parts.1) in
+        sym over ∙ ap (λ f. is_some f || breaks_off bs) (sym kept.1) ∙ ap (λ b. b || breaks_off bs) parts.0 ∙ two.0
+
+pub respond-left : (before mid new : Sink) (was mid_ended ended : Bool) (bs : List Slot) (s0 s1 : Slot) (cs : List Slot) (fs rs : List Mark) (vs : List (Option Waiting)) (old : State) (text : Text) (reply : Replied)
+    → old.reached.slots ≡ bs ++ (s0 ∷ cs) → has_output_ended old ≡ was → list_all is_finished bs ≡ true → is_finished s0 ≡ false → segment s0 ≡ [] → is_finished s1 ≡ true → is_slot_broken s1 ≡ is_broken text.ending → segment s1 ≡ text.bytes
+    → (is_some old.failure || breaks_off bs) ≡ was → OwnSaid before mid was mid_ended bs s1 text old.failure reply → InTurn bs fs rs → AreKept cs rs vs → before.failures < 2 ^ 64 - 1 → SendsLeft rs mid_ended mid new ended
+    → Said before new ended (bs ++ (s1 ∷ cs)) old text reply
+respond-left before mid new was mid_ended ended bs s0 s1 cs fs rs vs old text reply slots_are over fin open_is none_sent done broken own over2 o t kept low sends = by-left (begins_left rs) refl sends
+  where
+    all : List Slot
+    all = bs ++ (s1 ∷ cs)
+
+    same : (bs ++ (s1 ∷ [])) ++ cs ≡ bs ++ (s1 ∷ cs)
+    same = append_assoc bs (s1 ∷ []) cs
+
+    known : joined old.reached.slots ≡ joined bs
+    known = ap joined slots_are ∙ joined-waits bs s0 cs none_sent open_is
+
+    all-finished : list_all is_finished (bs ++ (s1 ∷ [])) ≡ true
+    all-finished = all-snoc is_finished bs s1 fin done
+
+    by-has_ended : (reply : Replied) (failure : Option Failure) → WritesIf was old.failure old.reached.slots text all reply failure → Writes (used text) old Done all reply failure
+    by-has_ended reply failure h = let P : Bool → Type 0 = λ b. WritesIf b old.failure old.reached.slots text all reply failure in subst P (sym over) h
+
+    writes-known : (failure : Option Failure) → OwnWrites was old.failure (joined bs) text reply failure → OwnWrites was old.failure (joined old.reached.slots) text reply failure
+    writes-known failure h = let P : List ℕ → Type 0 = λ j. OwnWrites was old.failure j text reply failure in subst P (sym known) h
+
+    nothing-left : begins_left rs ≡ false → new ≡ mid → ended ≡ mid_ended → Said before new ended all old text reply
+    nothing-left e n z =
+        let b = behind cs rs vs t.waiting kept in
+        let no_text : joined cs ≡ [] = b.0 ∙ (none-left rs e).0 in
+        let out = plain-more before mid mid_ended (bs ++ (s1 ∷ [])) cs o.failure o.output all-finished no_text b.1 in
+        let P : List Slot → Type 0 = λ l. OutputAt before mid mid_ended l o.failure in
+        let S : Sink → Bool → Type 0 = λ x y. OutputAt before x y all o.failure in
+        record {
+          failure = o.failure;
+          output = subst (λ y. S new y) (sym z) (subst (λ x. S x mid_ended) (sym n) (subst P same out));
+          writes = by-has_ended reply o.failure (own-alternatives was old.failure old.reached.slots text all reply o.failure (writes-known o.failure o.writes));
+        }
+
+    left-behind : begins_left rs ≡ true → SendsUnlessEnded mid_ended mid new ended (left_text rs) → IsFlushed new → Said before new ended all old text reply
+    left-behind e sent flushed =
+        let b = behind cs rs vs t.waiting kept in
+        let go = output-more before mid new mid_ended ended (bs ++ (s1 ∷ [])) cs (left_text rs) o.failure o.output all-finished b.0 b.1 low sent flushed in
+        let P : List Slot → Type 0 = λ l. OutputAt before new ended l go.failure in
+        record {
+          failure = go.failure;
+          output = subst P same go.output;
+          writes = by-has_ended reply go.failure (by-mid mid_ended refl go.failure go.writes);
+        }
+      where
+        more : finished_front old.reached.slots + 1 < finished_front all
+        more =
+            let x : finished_front old.reached.slots ≡ length bs = ap finished_front slots_are ∙ front-all bs (s0 ∷ cs) fin ∙ rw open_is (omega arith) in
+            let y : finished_front all ≡ length bs + (finished_front cs + 1) = front-all bs (s1 ∷ cs) fin ∙ rw done refl in
+            let z = left-finished cs rs vs kept e in
+            omega (arith, x, y, z)
+
+        by-mid : (m : Bool) → mid_ended ≡ m → (failure : Option Failure) → MatchBool mid_ended (failure ≡ o.failure) ((failure ≡ None) ⊎ FailsBetween (joined (bs ++ (s1 ∷ []))) (joined ((bs ++ (s1 ∷ [])) ++ cs)) failure)
+            → WritesIf was old.failure old.reached.slots text all reply failure
+        by-mid true z failure h =
+            let M : Bool → Type 0 = λ m. MatchBool m (failure ≡ o.failure) ((failure ≡ None) ⊎ FailsBetween (joined (bs ++ (s1 ∷ []))) (joined ((bs ++ (s1 ∷ [])) ++ cs)) failure) in
+            let k = subst M z h in
+            let W : Option Failure → Type 0 = λ f. WritesIf was old.failure old.reached.slots text all reply f in
+            subst W (sym k) (own-alternatives was old.failure old.reached.slots text all reply o.failure (writes-known o.failure o.writes))
+        by-mid false z failure h =
+            let M : Bool → Type 0 = λ m. MatchBool m (failure ≡ o.failure) ((failure ≡ None) ⊎ FailsBetween (joined (bs ++ (s1 ∷ []))) (joined ((bs ++ (s1 ∷ [])) ++ cs)) failure) in
+            let k = subst M z h in
+            let O : Bool → Type 0 = λ m. OwnSaid before mid was m bs s1 text old.failure reply in
+            let said = subst O z o in
+            let w = open-whole before mid was bs s1 text old.failure reply fin broken over2 said in
+            let none_broken : breaks_off bs ≡ false = (or-false (is_some old.failure) (breaks_off bs) (over2 ∙ w.2)).1 in
+            let from : joined (bs ++ (s1 ∷ [])) ≡ joined old.reached.slots ++ text.bytes =
+            joined-front bs (s1 ∷ []) fin none_broken ∙ ap (λ y. joined bs ++ y) (rw (done, broken ∙ ap is_broken w.1) (append-nil (segment s1)) ∙ own) ∙ ap (λ y. y ++ text.bytes) (sym known) in
+            let F : List ℕ → Type 0 = λ y. (failure ≡ None) ⊎ FailsBetween y (joined ((bs ++ (s1 ∷ [])) ++ cs)) failure in
+            let G : List Slot → Type 0 = λ l. (failure ≡ None) ⊎ FailsBetween (joined old.reached.slots ++ text.bytes) (joined l) failure in
+            behind-alternatives was old.failure old.reached.slots text all reply said.failure failure (writes-known said.failure said.writes) w.0 w.1 more (subst G same (subst F from k)) w.2
+
+    by-left : (l : Bool) → begins_left rs ≡ l → MatchBool l (SendsUnlessEnded mid_ended mid new ended (left_text rs) × IsFlushed new) ((new ≡ mid) × (ended ≡ mid_ended)) → Said before new ended all old text reply
+    by-left true e h = left-behind e h.0 h.1
+    by-left false e h = nothing-left e h.0 h.1
+
+-- a number that waits, in its turn
+pub record Answerable (k : Kept) (s : State) (n : ℕ) (form : AnswerForm) : Type 0 where
+  pub bs : List Slot
+  pub cs : List Slot
+  pub fs : List Mark
+  pub rs : List Mark
+  pub us : List (Option Waiting)
+  pub vs : List (Option Waiting)
+  pub request : Request
+  pub asked : HttpDate
+  pub waiting : Waiting
+  pub slots_are : s.reached.slots ≡ bs ++ (new_slot asked (Asks request) ∷ cs)
+  pub marks_are : k.marks ≡ fs ++ (Open ∷ rs)
+  pub requests_are : k.requests ≡ us ++ (Some waiting ∷ vs)
+  pub at : SlotAt s.reached.slots bs cs (new_slot asked (Asks request)) n
+  pub place : length fs ≡ n
+  pub form_is : form ≡ form_of request
+  pub requests_set : slice_set k.requests n None ≡ us ++ (None ∷ vs)
+  pub marks_set : slice_set k.marks n Held ≡ fs ++ (Held ∷ rs)
+  pub before : AreKept bs fs us
+  pub behind : AreKept cs rs vs
+  pub turn : InTurn bs fs rs
+
+pub set-place : {X : Type 0} (xs us vs : List X) (n : ℕ) (x y : X) → xs ≡ us ++ (x ∷ vs) → length us ≡ n → slice_set xs n y ≡ us ++ (y ∷ vs)
+set-place xs us vs n x y e place = ap (λ l. slice_set l n y) e ∙ ap (λ m. slice_set (us ++ (x ∷ vs)) m y) (sym place) ∙ set-at us x y vs
+
+pub answerable : (client : Feed) (before : Sink) (k : Kept) (s : State) (n : ℕ) (form : AnswerForm) → Stands client before k s → waiting_form (slice_get k.requests n) ≡ Some form → n ≡ first_unfinished k.marks → Answerable k s n form
+answerable client before k s n form st e first =
+    let w = form-some (slice_get k.requests n) form e in
+    let p = place-of s.reached.slots k.marks k.requests n w.0 st.numbers w.1 in
+    let slots_are = p.slots_are ∙ ap (λ x. p.bs ++ (x ∷ p.cs)) p.waiting.fresh in
+    let S : List Mark → Type 0 = λ m. AreInShape m in
+    record {
+      bs = p.bs; cs = p.cs; fs = p.fs; rs = p.rs; us = p.us; vs = p.vs;
+      request = p.waiting.request; asked = p.waiting.date; waiting = w.0;
+      slots_are = slots_are; marks_are = p.marks_are; requests_are = p.requests_are;
+      at = slot-at s.reached.slots p.bs p.cs (new_slot p.waiting.date (Asks p.waiting.request)) n slots_are p.slots_before;
+      place = p.marks_before;
+      form_is = sym w.2 ∙ p.waiting.form;
+      requests_set = set-place k.requests p.us p.vs n (Some w.0) None p.requests_are p.requests_before;
+      marks_set = set-place k.marks p.fs p.rs n Open Held p.marks_are p.marks_before;
+      before = p.before; behind = p.behind;
+      turn = ⊎_elim (λ (t : InTurn p.bs p.fs p.rs). t) (λ (t : OutOfTurn p.bs p.fs p.rs). absurd (t.turn (p.marks_before ∙ first ∙ ap first_unfinished p.marks_are))) (turn-at p.bs p.fs p.us p.rs p.before (subst S p.marks_are st.shape));
+    }
+
+-- the output up to such a number
+pub output-before : (client : Feed) (before : Sink) (k : Kept) (s : State) (bs cs : List Slot) (asked : HttpDate) (r : Request) → Stands client before k s → s.reached.slots ≡ bs ++ (new_slot asked (Asks r) ∷ cs) → OutputAt before k.sink k.output_ended bs s.failure
+output-before client before k s bs cs asked r st e =
+    let s0 = new_slot asked (Asks r) in
+    output-same before k.sink k.output_ended s.reached.slots bs s.failure (ap joined e ∙ joined-waits bs s0 cs refl refl) (ap breaks_off e ∙ breaks-waits bs s0 cs refl refl) st.output
+
+-- what the connection keeps behind a step of a number
+abbrev pub after_number : Kept → List Mark → List (Option Waiting) → Sink → Bool → Kept
+after_number k marks requests sink ended = record k { marks = marks; requests = requests; sink = sink; output_ended = ended }
+
+respond-stands : (client : Feed) (before : Sink) (k : Kept) (s : State) (date : HttpDate) (n : ℕ) (v : ResponseValue) (form : AnswerForm) (found : Bool) (mid new : Sink) (mid_ended ended : Bool) (final : List Mark) (requests : List (Option Waiting)) (reply : Replied)
+    → Stands client before k s → before.failures < 2 ^ 64 - 1 → (a : Answerable k s n form) → (found ≡ true) ⊎ IsGathered v.answer (to_request a.request date) → requests ≡ slice_set k.requests n None → Passes a.fs a.rs final
+    → OwnSaid before mid k.output_ended mid_ended a.bs (answered_slot a.asked a.request v date found) (response_sent found v a.request date) s.failure reply → SendsLeft a.rs mid_ended mid new ended
+    → Answered client before (after_number k final requests new ended) s date (Respond n v) reply
+respond-stands client before k s date n v form found mid new mid_ended ended final requests reply st low a lack requests_are passes own sends =
+    let s0 = new_slot a.asked (Asks a.request) in
+    let s1 = answered_slot a.asked a.request v date found in
+    let text = response_sent found v a.request date in
+    let over = ended-is before k.sink k.output_ended a.bs s.failure (output-before client before k s a.bs a.cs a.asked a.request st a.slots_are) in
+    let said = respond-left before mid new k.output_ended mid_ended ended a.bs s0 s1 a.cs a.fs a.rs a.vs s text reply a.slots_are (ended-is before k.sink k.output_ended s.reached.slots s.failure st.output) a.turn.finished refl refl refl refl refl over own a.turn a.behind low sends in
+    let is = at-turn date a.asked s.reached n v a.request found a.at.get (a.at.turn ∙ a.turn.finished) in
+    let slots = a.bs ++ (s1 ∷ a.cs) in
+    let plain : list_all (λ (x : Slot). is_plain_item x.item) s.reached.slots ≡ true = st.plain in
+    let A : List Slot → Type 0 = λ l. list_all (λ (x : Slot). is_plain_item x.item) l ≡ true in
+    let old_plain = subst A a.slots_are plain in
+    let new_state : State = record { reached = record { slots = slots; rest = s.reached.rest; ended = s.reached.ended }; failure = said.failure } in
+    let R : List Slot → Reached = λ l. record { slots = l; rest = s.reached.rest; ended = s.reached.ended } in
+    let W : List Slot → Type 0 = λ l. Writes (used text) s Done l reply said.failure in
+    let G : Outcome → Type 0 = λ x. Has x s reply new_state in
+    let has = subst G (sym is) (ap R (sym (a.at.set s1)), subst W (sym (a.at.set s1)) said.writes) in
+    let M : List Mark → Type 0 = λ y. AreKept slots y requests in
+    let Q : List (Option Waiting) → Type 0 = λ y. AreKept slots (a.fs ++ (Finished ∷ passed a.rs)) y in
+    let K : List Mark → Type 0 = λ y. AreInShape y in (
+      new_state,
+      record {
+        numbers = subst M (sym passes) (subst Q (sym (requests_are ∙ a.requests_set)) (kept-append a.bs a.fs a.us (s1 ∷ a.cs) (Finished ∷ passed a.rs) (None ∷ a.vs) a.before (refl, kept-passed a.cs a.rs a.vs a.behind)));
+        shape = subst K (sym passes) a.turn.shape;
+        ended = st.ended;
+        plain = all-at (λ (x : Slot). is_plain_item x.item) a.bs s0 s1 a.cs old_plain (all-place (λ (x : Slot). is_plain_item x.item) a.bs s0 a.cs old_plain);
+        rest = st.rest;
+        source = st.source;
+        output = said.output;
+      },
+      inl (found, lacks found lack a.at.get, has),
+    )
+  where
+    lacks : (t : Bool) → (t ≡ true) ⊎ IsGathered v.answer (to_request a.request date) → slice_get s.reached.slots n ≡ Some (new_slot a.asked (Asks a.request)) → MayLack t date s.reached (Respond n v)
+    lacks true l g = tt
+    lacks false (inl e) g = cc
+    lacks false (inr x) g = let P : Option Slot → Type 0 = λ o. GathersAt date v o in subst P (sym g) x
+
+-- what the call that answers did
+pub RespondsBy : Kept → Sink → Bool → Replied → ResponseValue → AnswerForm → HttpDate → Type 0
+RespondsBy k mid mid_ended reply v form date =
+    ((k.output_ended ≡ true) × (mid ≡ k.sink) × (mid_ended ≡ k.output_ended) × (reply ≡ Done))
+    ⊎ ((k.output_ended ≡ false) × (r : Result (Unit {0}) Error) × (reply ≡ reply_to r) × Sends k.sink mid mid_ended r v.answer v.content (printed_as form date) × IsFlushed mid)
+
+pub respond-done : (client : Feed) (before : Sink) (k : Kept) (s : State) (date : HttpDate) (n : ℕ) (v : ResponseValue) (form : AnswerForm) (mid new : Sink) (mid_ended ended : Bool) (marks final : List Mark) (requests : List (Option Waiting)) (reply : Replied)
+    → Stands client before k s → before.failures < 2 ^ 64 - 1 → waiting_form (slice_get k.requests n) ≡ Some form → n ≡ first_unfinished k.marks → marks ≡ slice_set k.marks n Held → requests ≡ slice_set k.requests n None
+    → RespondsBy k mid mid_ended reply v form date
+    → ((front rest : List Mark) → marks ≡ front ++ (Held ∷ rest) → length front ≡ n → Passes front rest final)
+    → ((front rest : List Mark) → marks ≡ front ++ (Held ∷ rest) → length front ≡ n → (mid_ended ≡ false → CanSend mid) → SendsLeft rest mid_ended mid new ended)
+    → Answered client before (after_number k final requests new ended) s date (Respond n v) reply
+unfolding RespondsBy
+respond-done client before k s date n v form mid new mid_ended ended marks final requests reply st low e first marks_are requests_are own passes sends = by-own own
+  where
+    a : Answerable k s n form
+    a = answerable client before k s n form st e first
+
+    held : marks ≡ a.fs ++ (Held ∷ a.rs)
+    held = marks_are ∙ a.marks_set
+
+    out : OutputAt before k.sink k.output_ended a.bs s.failure
+    out = output-before client before k s a.bs a.cs a.asked a.request st a.slots_are
+
+    answered : (found : Bool) → (found ≡ true) ⊎ IsGathered v.answer (to_request a.request date) → OwnSaid before mid k.output_ended mid_ended a.bs (answered_slot a.asked a.request v date found) (response_sent found v a.request date) s.failure reply
+        → Answered client before (after_number k final requests new ended) s date (Respond n v) reply
+    answered found lack o =
+        respond-stands client before k s date n v form found mid new mid_ended ended final requests reply st low a lack requests_are (passes a.fs a.rs held a.place) o
+        (sends a.fs a.rs held a.place (can-send before mid mid_ended (a.bs ++ (answered_slot a.asked a.request v date found ∷ [])) o.failure o.output low))
+
+    by-own : RespondsBy k mid mid_ended reply v form date → Answered client before (after_number k final requests new ended) s date (Respond n v) reply
+    by-own (inl h) =
+        let s1 = answered_slot a.asked a.request v date true in
+        let o = own-past before k.sink k.output_ended a.bs s1 (response_sent true v a.request date) s.failure out a.turn.finished h.0 in
+        let P : Sink → Bool → Replied → Type 0 = λ x y z. OwnSaid before x k.output_ended y a.bs s1 (response_sent true v a.request date) s.failure z in
+        answered true (inl refl) (subst (λ x. P x mid_ended reply) (sym h.1) (subst (λ y. P k.sink y reply) (sym h.2) (subst (λ z. P k.sink k.output_ended z) (sym h.3) o)))
+    by-own (inr h) =
+        let r = h.1 in
+        let Q : Text → Type 0 = λ t. SendsText {T = Unit {0}} k.sink mid mid_ended r t in
+        ⊎_elim
+        (λ x. answered true (inl refl)
+        (own-sent {T = Unit {0}} before k.sink mid k.output_ended mid_ended a.bs (answered_slot a.asked a.request v date true) (response_sent true v a.request date) s.failure r reply out a.turn.finished refl refl refl low h.0
+        (subst Q (same-text v a.request form date a.form_is) x) h.4 h.2))
+        (λ x. answered false (inr (refl, refl, x.0.2))
+        (own-sent {T = Unit {0}} before k.sink mid k.output_ended mid_ended a.bs (answered_slot a.asked a.request v date false) (response_sent false v a.request date) s.failure r reply out a.turn.finished refl refl refl low h.0 x.1 h.4 h.2))
+        h.3
+
+pub responds-by : (k : Kept) (mid : Sink) (mid_ended : Bool) (reply : Replied) (v : ResponseValue) (form : AnswerForm) (date : HttpDate) → (k.output_ended ≡ true → (mid ≡ k.sink) × (mid_ended ≡ k.output_ended) × (reply ≡ Done))
+    → (k.output_ended ≡ false → (r : Result (Unit {0}) Error) × (reply ≡ reply_to r) × Sends k.sink mid mid_ended r v.answer v.content (printed_as form date) × IsFlushed mid) → RespondsBy k mid mid_ended reply v form date
+unfolding RespondsBy
+responds-by k mid mid_ended reply v form date past open_is = by k.output_ended refl
+  where
+    by : (t : Bool) → k.output_ended ≡ t → RespondsBy k mid mid_ended reply v form date
+    by true e = let h = past e in inl (e, h.0, h.1, h.2)
+    by false e = let h = open_is e in inr (e, h.0, h.1, h.2, h.3)
