@@ -92,7 +92,7 @@ held_body : (date : HttpDate) → conversed (ending (codes "GET / HTTP/1.1\r\nCo
 unfolding digits text_of status_line field_line upgrade_lines server_line date_line framing_line head reason_phrase framing length_in
 held_body date = refl
 
-one_after_another : (date : HttpDate) → conversed (ending (codes "GET /a HTTP/1.1\r\n\r\nGET /b HTTP/1.1\r\n\r\nbad\r\n")) (on_date date (Ask ∷ Ask ∷ Respond 1 (hello (codes "x")) ∷ Respond 0 (hello (codes "a")) ∷ Ask ∷ Respond 1 (hello (codes "b")) ∷ Ask ∷ [])) ≡ gives (Handed 0 (message Get (codes "/a") 1 1 []) plain ∷ NotYet ∷ NoSuch ∷ Done ∷ Handed 1 (message Get (codes "/b") 1 1 []) plain ∷ Done ∷ Ended ∷ []) (output (text_of_length date (codes "1") (codes "a") ∷ text_of_length date (codes "1") (codes "b") ∷ empty (codes "1.1 400 Bad Request") date ∷ []))
+one_after_another : (date : HttpDate) → conversed (ending (codes "GET /a HTTP/1.1\r\n\r\nGET /b HTTP/1.1\r\n\r\nbad\r\n")) (on_date date (Ask ∷ Ask ∷ Respond 1 (hello (codes "x")) ∷ Ask ∷ Respond 0 (hello (codes "a")) ∷ Respond 1 (hello (codes "b")) ∷ Ask ∷ [])) ≡ gives (Handed 0 (message Get (codes "/a") 1 1 []) plain ∷ Handed 1 (message Get (codes "/b") 1 1 []) plain ∷ NotYet ∷ Ended ∷ Done ∷ Done ∷ Ended ∷ []) (output (text_of_length date (codes "1") (codes "a") ∷ text_of_length date (codes "1") (codes "b") ∷ empty (codes "1.1 400 Bad Request") date ∷ []))
 unfolding digits text_of status_line field_line upgrade_lines server_line date_line framing_line head reason_phrase framing length_in
 one_after_another date = refl
 
@@ -103,3 +103,23 @@ drop date = refl
 withheld_for_head : (date : HttpDate) → conversed (ending (codes "HEAD / HTTP/1.1\r\n\r\n")) (on_date date (Ask ∷ Respond 0 (hello (codes "a")) ∷ [])) ≡ gives (Handed 0 (message Head (codes "/") 1 1 []) plain ∷ Done ∷ []) (output (text_of_length date (codes "1") [] ∷ []))
 unfolding digits text_of status_line field_line upgrade_lines server_line date_line framing_line head reason_phrase framing length_in
 withheld_for_head date = refl
+
+-- three requests, the answers out of order
+three : List ℕ
+three = codes "GET / HTTP/1.1\r\n\r\nGET / HTTP/1.1\r\n\r\nGET / HTTP/1.1\r\n\r\n"
+
+abbrev got : ℕ → Replied
+got k = Handed k (message Get (codes "/") 1 1 []) plain
+
+answers_in_order : (date : HttpDate) → conversed (ending three) (on_date date (Ask ∷ Ask ∷ Ask ∷ Drop 1 ∷ Respond 2 (hello (codes "c")) ∷ Respond 0 (hello (codes "a")) ∷ Respond 2 (hello (codes "c")) ∷ [])) ≡ gives (got 0 ∷ got 1 ∷ got 2 ∷ Done ∷ NotYet ∷ Done ∷ Done ∷ []) (output (text_of_length date (codes "1") (codes "a") ∷ empty (codes "1.1 500 Internal Server Error") date ∷ text_of_length date (codes "1") (codes "c") ∷ []))
+unfolding three digits text_of status_line field_line upgrade_lines server_line date_line framing_line head reason_phrase framing length_in
+answers_in_order date = refl
+
+-- nothing is written before the first number is answered
+held_back : (date : HttpDate) → conversed (ending (codes "GET / HTTP/1.1\r\n\r\nGET / HTTP/1.1\r\n\r\nbad\r\n")) (on_date date (Ask ∷ Ask ∷ Ask ∷ Drop 1 ∷ [])) ≡ gives (got 0 ∷ got 1 ∷ Ended ∷ Done ∷ []) []
+unfolding digits text_of status_line field_line upgrade_lines server_line date_line framing_line head reason_phrase framing length_in
+held_back date = refl
+
+left_refusal : (date : HttpDate) → conversed (ending (codes "GET / HTTP/1.1\r\n\r\nGET / HTTP/1.1\r\n\r\nbad\r\n")) (on_date date (Ask ∷ Ask ∷ Ask ∷ Drop 1 ∷ Respond 0 (hello (codes "a")) ∷ [])) ≡ gives (got 0 ∷ got 1 ∷ Ended ∷ Done ∷ Done ∷ []) (output (text_of_length date (codes "1") (codes "a") ∷ empty (codes "1.1 500 Internal Server Error") date ∷ empty (codes "1.1 400 Bad Request") date ∷ []))
+unfolding digits text_of status_line field_line upgrade_lines server_line date_line framing_line head reason_phrase framing length_in
+left_refusal date = refl

@@ -77,7 +77,7 @@ joins-end all done (x ∷ rest) joins len = absurd (omega arith)
 
 -- the connection at its begin
 abbrev pub begun : Option Feed → Sink → Kept
-begun feed sink = record { numbers = 0; waiting = None; over = false; ended = false; feed = feed; sink = holding sink [] false; output_ended = false }
+begun feed sink = record { marks = []; requests = []; over = false; ended = false; feed = feed; sink = holding sink [] false; output_ended = false }
 
 begun-rest : (feed : Option Feed) (client : Feed) (items : List Item) → feed ≡ Some client → Pipeline (Some client.bytes) client.stop items → RestAt false false feed items
 begun-rest feed client items e h = let P : Option Feed → Type 0 = λ x. RestAt false false x items in subst P (sym e) h
@@ -86,13 +86,13 @@ pub stands-begun : (client : Feed) (feed : Option Feed) (sink : Sink) (items : L
 stands-begun client feed sink items e fresh h =
     let G : Option Feed → Type 0 = λ x. GoesOn (Some client) x in
     record {
-      numbers = refl;
+      numbers = tt;
+      shape = tt;
       ended = refl;
-      waits = refl;
       plain = refl;
       rest = begun-rest feed client items e h;
       source = subst G (sym e) (same-feed (Some client));
-      output = (grown-none sink.has_ended sink.taken ∙ fresh.no_bytes, refl, fresh.goes_on, refl);
+      output = (grown-none sink.has_ended sink.taken ∙ fresh.no_bytes, refl, fresh.goes_on, refl, λ z. (sink.sent, refl));
     }
 
 -- what the writer took and what is held

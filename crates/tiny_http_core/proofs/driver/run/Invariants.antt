@@ -1,7 +1,7 @@
 use Rattle.tiny_http_core.specs.Outlet.{outlet_held, SentOn}
 use Rattle.std.proofs.Common.{[], ◌≡◌, ◌++◌, List, map, vec_len, vec_capacity, ℕ, ◌≤◌, length, Some, Option}
 use Rattle.std.specs.Vec.Iter.{into_iter_items}
-use Rattle.tiny_http_wire.specs.Device.{Feed, Sink}
+use Rattle.tiny_http_wire.specs.Device.{Feed, Sink, HoldsNothing}
 use Rattle.tiny_http_core.specs.Conversation.{IsFresh}
 use Rattle.tiny_http_core.specs.Source.{GoesOn}
 use Rattle.tiny_http_core.specs.Seen.{IsTold, seen, TellHonestly}
@@ -27,4 +27,4 @@ pub record Goes {D : Type 0} (feed : D → Option Feed) (reader : Option Feed) (
 abbrev pub invariant-loop-timed : goal.invariant-loop-timed
 invariant-loop-timed g l =
     Goes g.D.ReadDevice.feed (g.R.ReadDevice.feed l.fn.reader) (g.W.WriteDevice.sink l.fn.writer) l.fn.steps.items l.yielded (into_iter_items l.timed-iterator) l.replies.items (kept g.W.WriteDevice.sink l.connection) (vec_len l.replies) (vec_capacity l.replies) (outlet_held l.connection.outlet)
-    (g.W.WriteDevice.held l.fn.writer ≡ [] → SentOn g.W.WriteDevice.sink g.W.WriteDevice.held l.connection.outlet)
+    (HoldsNothing (g.W.WriteDevice.sink l.fn.writer) → SentOn g.W.WriteDevice.sink l.connection.outlet)
