@@ -11,6 +11,8 @@ mod heads;
 #[cfg(test)]
 mod persistence;
 #[cfg(test)]
+mod pipelining;
+#[cfg(test)]
 mod runs;
 #[cfg(test)]
 mod turns;

@@ -26,17 +26,6 @@ fn requests_follow_one_another(rt: HostRuntime) -> Result<(), Fail> {
 }
 
 #[test]
-fn an_unanswered_request_puts_off_the_next(rt: HostRuntime) -> Result<(), Fail> {
-    let case = Case {
-        client: b"GET /a HTTP/1.1\r\n\r\nGET /b HTTP/1.1\r\n\r\n",
-        deeds: &[Ask, Ask, Ask, Text(0, "a"), Ask, Ask],
-        replies: "0: GET /a 1.1; not yet; not yet; done; 1: GET /b 1.1; not yet",
-        output: &["HTTP/1.1 200 OK\r\n", TEXT, A],
-    };
-    assert_case(&rt, rt.alloc(), &case)
-}
-
-#[test]
 fn an_older_client_asks_to_go_on(rt: HostRuntime) -> Result<(), Fail> {
     for (client, replies) in [
         (

@@ -1,0 +1,319 @@
+//! Requests that are handed out while earlier ones are open: their answers leave in the order of the requests.
+use crate::runs::Deed::{Ask, Drop, Text};
+use crate::runs::{Case, Deed, EMPTY, TEXT, Trouble, assert_case, assert_troubled, steps_of};
+use std::alloc::Global;
+use std::io;
+use std::io::{ErrorKind, Write};
+use std::process::Abort;
+use std::test::Fail;
+use tiny_http_core::driver::run;
+use tiny_http_wire::device::{Canned, Metered, WriteDevice};
+
+const THREE: &[u8] =
+    b"GET / HTTP/1.1\r\n\r\nGET / HTTP/1.1\r\n\r\nGET / HTTP/1.1\r\n\r\n";
+
+// A drop out of turn, and answers before, in and behind their turn.
+const OUT_OF_ORDER: &[Deed<'static>] = &[
+    Ask,
+    Ask,
+    Ask,
+    Drop(1),
+    Text(2, "c"),
+    Text(0, "a"),
+    Text(2, "c"),
+];
+
+const IN_ORDER: &[&str] = &[
+    "HTTP/1.1 200 OK\r\n",
+    TEXT,
+    "Content-Length: 1\r\n\r\na",
+    "HTTP/1.1 500 Internal Server Error\r\n",
+    EMPTY,
+    "HTTP/1.1 200 OK\r\n",
+    TEXT,
+    "Content-Length: 1\r\n\r\nc",
+];
+
+#[test]
+fn answers_leave_in_order(rt: HostRuntime) -> Result<(), Fail> {
+    let case = Case {
+        client: THREE,
+        deeds: OUT_OF_ORDER,
+        replies: "0: GET / 1.1; 1: GET / 1.1; 2: GET / 1.1; done; not yet; done; done",
+        output: IN_ORDER,
+    };
+    assert_case(&rt, rt.alloc(), &case)
+}
+
+#[test]
+fn a_refusal_waits_for_its_turn(rt: HostRuntime) -> Result<(), Fail> {
+    let client = b"GET / HTTP/1.1\r\n\r\nGET / HTTP/1.1\r\n\r\nbad\r\n";
+    let held_back = Case {
+        client,
+        deeds: &[Ask, Ask, Ask, Drop(1)],
+        replies: "0: GET / 1.1; 1: GET / 1.1; ended; done",
+        output: &[],
+    };
+    assert_case(&rt, rt.alloc(), &held_back)?;
+    let answered = Case {
+        client,
+        deeds: &[Ask, Ask, Ask, Drop(1), Text(0, "a")],
+        replies: "0: GET / 1.1; 1: GET / 1.1; ended; done; done",
+        output: &[
+            "HTTP/1.1 200 OK\r\n",
+            TEXT,
+            "Content-Length: 1\r\n\r\na",
+            "HTTP/1.1 500 Internal Server Error\r\n",
+            EMPTY,
+            "HTTP/1.1 400 Bad Request\r\n",
+            EMPTY,
+        ],
+    };
+    assert_case(&rt, rt.alloc(), &answered)
+}
+
+#[test]
+fn a_number_takes_one_answer(rt: HostRuntime) -> Result<(), Fail> {
+    let case = Case {
+        client: b"GET /a HTTP/1.1\r\n\r\nGET /b HTTP/1.1\r\n\r\n",
+        deeds: &[
+            Ask,
+            Ask,
+            Drop(1),
+            Drop(1),
+            Text(1, "b"),
+            Ask,
+            Text(2, "c"),
+            Text(0, "a"),
+            Text(0, "a"),
+            Drop(0),
+        ],
+        replies: "0: GET /a 1.1; 1: GET /b 1.1; done; no such; no such; ended; no such; done; no such; no such",
+        output: &[
+            "HTTP/1.1 200 OK\r\n",
+            TEXT,
+            "Content-Length: 1\r\n\r\na",
+            "HTTP/1.1 500 Internal Server Error\r\n",
+            EMPTY,
+        ],
+    };
+    assert_case(&rt, rt.alloc(), &case)
+}
+
+#[test]
+fn a_fault_is_told_where_it_is_met(rt: HostRuntime) -> Result<(), Fail> {
+    let client = b"GET / HTTP/1.1\r\n\r\nGET / HTTP/1.1\r\n\r\n";
+    for (kind, replies) in [
+        (
+            ErrorKind::Other,
+            "0: GET / 1.1; 1: GET / 1.1; fault Other; done",
+        ),
+        (
+            ErrorKind::BrokenPipe,
+            "0: GET / 1.1; 1: GET / 1.1; done; done",
+        ),
+    ] {
+        let case = Case {
+            client,
+            deeds: &[Ask, Ask, Text(0, "a"), Text(1, "b")],
+            replies,
+            output: &["HTTP/1.1 2"],
+        };
+        assert_troubled(&rt, rt.alloc(), &case, fails_behind(10, kind))?;
+    }
+    Ok(())
+}
+
+#[test]
+fn no_reply_tells_a_fault_in_a_text_that_waited(rt: HostRuntime) -> Result<(), Fail> {
+    let case = Case {
+        client: b"GET / HTTP/1.1\r\n\r\nGET / HTTP/1.1\r\n\r\nGET / HTTP/1.1\r\n\r\n",
+        deeds: &[Ask, Ask, Ask, Drop(1), Text(0, "a"), Text(2, "c")],
+        replies: "0: GET / 1.1; 1: GET / 1.1; 2: GET / 1.1; done; done; done",
+        output: &[
+            "HTTP/1.1 200 OK\r\n",
+            TEXT,
+            "Content-Length: 1\r\n\r\na",
+            "HTTP/1.1 5",
+        ],
+    };
+    let room = "HTTP/1.1 200 OK\r\n".len() + TEXT.len() + "Content-Length: 1\r\n\r\na".len() + 10;
+    assert_troubled(&rt, rt.alloc(), &case, fails_behind(room, ErrorKind::Other))
+}
+
+// The reader ends, and the writer takes so many bytes and then fails so.
+fn fails_behind(room: usize, writer: ErrorKind) -> Trouble {
+    Trouble {
+        reader: None,
+        room,
+        writer,
+    }
+}
+
+// Requests of two versions in turn, so that their answers differ.
+const REQUESTS: [&str; 5] = [
+    "GET /0 HTTP/1.1\r\n\r\n",
+    "GET /1 HTTP/1.0\r\nConnection: keep-alive\r\n\r\n",
+    "GET /2 HTTP/1.1\r\n\r\n",
+    "GET /3 HTTP/1.0\r\nConnection: keep-alive\r\n\r\n",
+    "GET /4 HTTP/1.1\r\n\r\n",
+];
+
+const STATUS_LINES: [&str; 5] = [
+    "HTTP/1.1 500 Internal Server Error\r\n",
+    "HTTP/1.0 500 Internal Server Error\r\n",
+    "HTTP/1.1 500 Internal Server Error\r\n",
+    "HTTP/1.0 500 Internal Server Error\r\n",
+    "HTTP/1.1 500 Internal Server Error\r\n",
+];
+
+// The output of a run of these steps over these bytes, where the writer takes all.
+fn output(alloc: Global, client: &[u8], deeds: &[Deed<'_>]) -> Result<Vec<u8>, Fail> {
+    let reader = Canned::new(client.to_vec(alloc)?, None);
+    let writer = Metered::new(Faltering {
+        taken: Vec::new(alloc),
+        calls: u64::MAX,
+    });
+    let Ok(record) = run(alloc, reader, writer, steps_of(alloc, deeds)?) else {
+        return Err("no room for the replies".into());
+    };
+    Ok(record.outlet.into_inner().into_inner().taken)
+}
+
+// The order that this number stands for, whose digits to this base are its numbers; none if one comes twice.
+fn order_of(alloc: Global, code: u64, base: u64) -> Result<Option<Vec<u64>>, Fail> {
+    let mut order = Vec::new(alloc);
+    let mut rest = code;
+    for _ in 0..base {
+        let (Some(number), Some(more)) = (rest.checked_rem(base), rest.checked_div(base)) else {
+            return Ok(None);
+        };
+        if order.contains(&number) {
+            return Ok(None);
+        }
+        order.push(number)?;
+        rest = more;
+    }
+    Ok(Some(order))
+}
+
+// So many Asks, and then the drops in this order.
+fn deeds_of(alloc: Global, order: &[u64]) -> Result<Vec<Deed<'static>>, Fail> {
+    let mut deeds = Vec::new(alloc);
+    for _number in order {
+        deeds.push(Ask)?;
+    }
+    for number in order {
+        deeds.push(Drop(*number))?;
+    }
+    Ok(deeds)
+}
+
+// Drops so many requests in every order, and says how many orders there are.
+fn drop_all(rt: &impl Abort, alloc: Global, count: usize, codes: u64) -> Result<u64, Fail> {
+    let mut client = Vec::new(alloc);
+    let mut wanted = Vec::new(alloc);
+    for (request, status_line) in REQUESTS.iter().zip(&STATUS_LINES).take(count) {
+        client.extend_from_slice(request.as_bytes())?;
+        wanted.extend_from_slice(status_line.as_bytes())?;
+        wanted.extend_from_slice(EMPTY.as_bytes())?;
+    }
+    let mut orders: u64 = 0;
+    for code in 0..codes {
+        let Some(order) = order_of(alloc, code, count as u64)? else {
+            continue;
+        };
+        let deeds = deeds_of(alloc, order.as_slice())?;
+        let written = output(alloc, client.as_slice(), deeds.as_slice())?;
+        assert_eq!(rt; written.as_slice(), wanted.as_slice(), "{order:?}");
+        orders = orders.saturating_add(1);
+    }
+    Ok(orders)
+}
+
+#[test]
+fn drops_in_every_order(rt: HostRuntime) -> Result<(), Fail> {
+    for (count, codes, wanted) in [
+        (1, 1, 1),
+        (2, 4, 2),
+        (3, 27, 6),
+        (4, 256, 24),
+        (5, 3125, 120),
+    ] {
+        let orders = drop_all(&rt, rt.alloc(), count, codes)?;
+        assert_eq!(rt; orders, wanted);
+    }
+    Ok(())
+}
+
+// Takes all bytes, but for one call, which fails.
+#[derive(Drop)]
+struct Faltering {
+    taken: Vec<u8>,
+    // How many calls are left up to that one, and with it.
+    calls: u64,
+}
+
+impl Faltering {
+    fn falters(&mut self) -> bool {
+        if self.calls == 0 {
+            return false;
+        }
+        self.calls -= 1;
+        self.calls == 0
+    }
+}
+
+impl Write for Faltering {
+    fn write(&mut self, buf: &[u8]) -> io::Result<usize> {
+        if self.falters() {
+            return Err(ErrorKind::Other.into());
+        }
+        self.taken.extend_from_slice(buf)?;
+        Ok(buf.len())
+    }
+
+    fn flush(&mut self) -> io::Result<()> {
+        if self.falters() {
+            return Err(ErrorKind::Other.into());
+        }
+        Ok(())
+    }
+}
+
+// What the run of three requests leaves where this call of the writer fails: how often the writer failed, what it took,
+// and whether the call came at all.
+fn falter_at(alloc: Global, calls: u64) -> Result<(u64, Vec<u8>, bool), Fail> {
+    let reader = Canned::new(THREE.to_vec(alloc)?, None);
+    let writer = Metered::new(Faltering {
+        taken: Vec::new(alloc),
+        calls,
+    });
+    let Ok(record) = run(alloc, reader, writer, steps_of(alloc, OUT_OF_ORDER)?) else {
+        return Err("no room for the replies".into());
+    };
+    let writer = record.outlet.into_inner();
+    let failures = writer.failures();
+    let Faltering { taken, calls } = writer.into_inner();
+    Ok((failures, taken, calls == 0))
+}
+
+#[test]
+fn each_call_of_the_writer_fails(rt: HostRuntime) -> Result<(), Fail> {
+    let whole = output(rt.alloc(), THREE, OUT_OF_ORDER)?;
+    let mut calls = 0;
+    for call in 1..100 {
+        let (failures, taken, came) = falter_at(rt.alloc(), call)?;
+        if !came {
+            assert_eq!(rt; failures, 0);
+            assert_eq!(rt; taken.as_slice(), whole.as_slice());
+            break;
+        }
+        assert_eq!(rt; failures, 1);
+        assert!(rt; taken.len() <= whole.len() && whole.starts_with(taken.as_slice()));
+        calls = call;
+    }
+    // Three answers and one text that waited, each written and flushed by at least one call.
+    assert!(rt; calls >= 6 && calls < 99);
+    Ok(())
+}
