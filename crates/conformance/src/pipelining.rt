@@ -9,8 +9,7 @@ use std::test::Fail;
 use tiny_http_core::driver::run;
 use tiny_http_wire::device::{Canned, Metered, WriteDevice};
 
-const THREE: &[u8] =
-    b"GET / HTTP/1.1\r\n\r\nGET / HTTP/1.1\r\n\r\nGET / HTTP/1.1\r\n\r\n";
+const THREE: &[u8] = b"GET / HTTP/1.1\r\n\r\nGET / HTTP/1.1\r\n\r\nGET / HTTP/1.1\r\n\r\n";
 
 // A drop out of turn, and answers before, in and behind their turn.
 const OUT_OF_ORDER: &[Deed<'static>] = &[

@@ -105,7 +105,10 @@ fn step_of(alloc: Global, deed: Deed<'_>) -> Result<Step<Cursor<Vec<u8>>>, Alloc
     })
 }
 
-pub(crate) fn steps_of(alloc: Global, deeds: &[Deed<'_>]) -> Result<Vec<Timed<Cursor<Vec<u8>>>>, Fail> {
+pub(crate) fn steps_of(
+    alloc: Global,
+    deeds: &[Deed<'_>],
+) -> Result<Vec<Timed<Cursor<Vec<u8>>>>, Fail> {
     let now = HttpDate::from_unix_secs(SECONDS)?;
     let mut steps = Vec::new(alloc);
     for deed in deeds {

@@ -126,7 +126,12 @@ fn replies_without_output(rt: HostRuntime) -> Result<(), Fail> {
         (
             post,
             "ask\nask\nrespond 1 200 empty\n",
-            "handed 0 POST /f 1.0 2 2\nnotyet\nnosuch\n",
+            "handed 0 POST /f 1.0 2 2\nended\nnosuch\n",
+        ),
+        (
+            "GET /a HTTP/1.1\r\n\r\nGET /b HTTP/1.1\r\n\r\n",
+            "ask\nask\nrespond 1 200 empty\ndrop 1\n",
+            "handed 0 GET /a 1.1 0 -\nhanded 1 GET /b 1.1 0 -\nnotyet\ndone\n",
         ),
     ] {
         assert_good(&rt, rt.alloc(), (bytes, script), "", err)?;

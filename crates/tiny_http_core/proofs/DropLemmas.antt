@@ -1,5 +1,5 @@
 -- A Drop: from where the connection stands to where it stands behind it.
-use Rattle.std.proofs.Common.{◌≡◌, refl, sym, ap, ◌∙◌, subst, ℕ, ◌-◌, ◌<◌, ◌^◌, ◌⊎◌, inl, inr, ⊎_elim, Bool, true, false, ◌||◌, List, [], ◌∷◌, ◌++◌, length, Option, Some, None, eq-eqb}
+use Rattle.std.proofs.Common.{◌≡◌, refl, sym, ap, ◌∙◌, subst, ℕ, ◌-◌, ◌<◌, ◌^◌, ◌⊎◌, inl, ⊎_elim, Bool, true, false, ◌||◌, List, ◌∷◌, ◌++◌, length, Option, Some, None, eq-eqb}
 use Rattle.std.proofs.lemmas.Bool.{ne_eqb}
 use Rattle.std.specs.Prelude.{MatchBool, ◌==◌, is_some, slice_get, slice_set}
 use Rattle.std.specs.List.{list_all}
@@ -7,17 +7,17 @@ use Rattle.httpdate.specs.declared.date.HttpDate.{HttpDate}
 use Rattle.tiny_http_wire.specs.Device.{Feed, Sink}
 use Rattle.tiny_http_core.specs.declared.pending.Waiting.{Waiting}
 use Rattle.tiny_http_core.specs.Pipeline.{Asks, Request}
-use Rattle.tiny_http_core.specs.Slots.{Slot, Waits, Answered as AnsweredBy, ByServer, Raw, Upgraded, is_finished, is_slot_broken, segment, joined, breaks_off, new_slot, turn_has_come}
-use Rattle.tiny_http_core.specs.Steps.{Drop, Done, Use, Unused, Unreported, Outcome, Reached, changes, in_turn, at_slot, at_number}
+use Rattle.tiny_http_core.specs.Slots.{Slot, Waits, Answered as AnsweredBy, ByServer, Raw, Upgraded, is_finished, joined, breaks_off, new_slot, turn_has_come}
+use Rattle.tiny_http_core.specs.Steps.{Drop, Done, Outcome, Reached, changes, in_turn, at_slot, at_number}
 use Rattle.tiny_http_core.specs.Conversation.{Failure, State, FailsBetween, Writes, Has}
 use Rattle.tiny_http_core.specs.Sending.{CanSend}
 use Rattle.tiny_http_core.specs.Turns.{Mark, Open, Left, Finished, AreInShape, first_unfinished}
 use Rattle.tiny_http_core.specs.Pending.{left_text, passed, LeavesText}
 use Rattle.tiny_http_core.specs.Connection.{Kept, dropped, AreKept, is_plain_item, OutputAt, Stands}
 use Rattle.tiny_http_core.proofs.AskLemmas.{Answered, dropped-whole}
-use Rattle.tiny_http_core.proofs.SlotLemmas.{joined-hidden, joined-waits, breaks-hidden, breaks-waits}
+use Rattle.tiny_http_core.proofs.SlotLemmas.{joined-hidden, joined-waits, breaks-hidden}
 use Rattle.tiny_http_core.proofs.KeptLemmas.{all-at, all-place, kept-append, kept-passed, Place, place-of, InTurn, OutOfTurn, turn-at}
-use Rattle.tiny_http_core.proofs.OutputLemmas.{behind, ended-is, output-same, can-send, Goes, output-more}
+use Rattle.tiny_http_core.proofs.OutputLemmas.{behind, ended-is, output-same, can-send, output-more}
 use Rattle.tiny_http_core.proofs.RespondLemmas.{TakesNone, SlotAt, slot-at, set-place, output-before, after_number}
 
 pub drop-not_taken : (n : ℕ) → TakesNone (Drop n)

@@ -1,5 +1,5 @@
 -- Numbers with their marks and what is kept of them, place by place.
-use Rattle.std.proofs.Common.{◌≡◌, refl, sym, ap, ◌∙◌, subst, ℕ, zero, suc, ◌<◌, get_or, ◌⊎◌, inl, inr, ⊎_elim, Bool, true, false, ◌&&◌, List, [], ◌∷◌, ◌++◌, length, take, Option, Some, None}
+use Rattle.std.proofs.Common.{◌≡◌, refl, sym, ap, ◌∙◌, subst, ℕ, zero, suc, ◌<◌, get_or, ◌⊎◌, inl, inr, Bool, true, false, List, [], ◌∷◌, ◌++◌, length, take, Option, Some, None}
 use Rattle.std.specs.Prelude.{slice_get, slice_set}
 use Rattle.std.specs.List.{list_all}
 use Rattle.std.proofs.lemmas.Bool.{and_parts}
@@ -83,18 +83,42 @@ place-first s Finished x w ss ms us h k same = absurd h
 place-first s Open x w ss ms us h k same =
     let P : Waiting → Type 0 = λ y. IsWaiting s y in
     record {
-      bs = []; s = s; cs = ss; fs = []; rs = ms; us = []; vs = us;
-      slots_are = refl; marks_are = refl; requests_are = ap (λ y. Some y ∷ us) same;
-      slots_before = refl; marks_before = refl; requests_before = refl;
-      before = tt; waiting = subst P same h; behind = k;
+      bs = [];
+      s = s;
+      cs = ss;
+      fs = [];
+      rs = ms;
+      us = [];
+      vs = us;
+      slots_are = refl;
+      marks_are = refl;
+      requests_are = ap (λ y. Some y ∷ us) same;
+      slots_before = refl;
+      marks_before = refl;
+      requests_before = refl;
+      before = tt;
+      waiting = subst P same h;
+      behind = k;
     }
 
 place-next : (s : Slot) (m : Mark) (u : Option Waiting) (ss : List Slot) (ms : List Mark) (us : List (Option Waiting)) (n : ℕ) (w : Waiting) → IsKept s m u → Place ss ms us n w → Place (s ∷ ss) (m ∷ ms) (u ∷ us) (suc n) w
 place-next s m u ss ms us n w h p = record {
-  bs = s ∷ p.bs; s = p.s; cs = p.cs; fs = m ∷ p.fs; rs = p.rs; us = u ∷ p.us; vs = p.vs;
-  slots_are = ap (λ r. s ∷ r) p.slots_are; marks_are = ap (λ r. m ∷ r) p.marks_are; requests_are = ap (λ r. u ∷ r) p.requests_are;
-  slots_before = ap suc p.slots_before; marks_before = ap suc p.marks_before; requests_before = ap suc p.requests_before;
-  before = (h, p.before); waiting = p.waiting; behind = p.behind;
+  bs = s ∷ p.bs;
+  s = p.s;
+  cs = p.cs;
+  fs = m ∷ p.fs;
+  rs = p.rs;
+  us = u ∷ p.us;
+  vs = p.vs;
+  slots_are = ap (λ r. s ∷ r) p.slots_are;
+  marks_are = ap (λ r. m ∷ r) p.marks_are;
+  requests_are = ap (λ r. u ∷ r) p.requests_are;
+  slots_before = ap suc p.slots_before;
+  marks_before = ap suc p.marks_before;
+  requests_before = ap suc p.requests_before;
+  before = (h, p.before);
+  waiting = p.waiting;
+  behind = p.behind;
 }
 
 some-some : {X : Type 0} (x y : X) → ◌≡◌ {A = Option (Option X)} (Some (Some x)) (Some (Some y)) → x ≡ y

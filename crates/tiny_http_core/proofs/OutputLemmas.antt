@@ -1,6 +1,6 @@
 -- The output, as texts are sent one behind another.
-use Rattle.std.proofs.Common.{◌≡◌, refl, sym, ap, ◌∙◌, subst, ℕ, ◌+◌, ◌-◌, ◌<◌, ◌^◌, ◌⊎◌, inl, inr, ⊎_elim, Bool, true, false, not, ◌&&◌, ◌||◌, List, [], ◌∷◌, ◌++◌, length, Option, Some, None, arith, append-nil}
-use Rattle.std.specs.Prelude.{MatchBool, is_some, if◌then◌else◌}
+use Rattle.std.proofs.Common.{◌≡◌, refl, sym, ap, ◌∙◌, subst, ℕ, ◌+◌, ◌-◌, ◌<◌, ◌^◌, ◌⊎◌, inl, inr, ⊎_elim, Bool, true, false, ◌||◌, List, [], ◌∷◌, ◌++◌, length, Option, Some, None, arith, append-nil}
+use Rattle.std.specs.Prelude.{MatchBool, is_some}
 use Rattle.std.specs.List.{list_all}
 use Rattle.std.specs.Io.KnownBytes.{append_known}
 use Rattle.std.specs.declared.io.ErrorKind.{ErrorKind}
@@ -8,7 +8,7 @@ use Rattle.std.proofs.lemmas.Bool.{and_parts}
 use Rattle.tiny_http_wire.specs.Device.{Sink, IsFront, IsFrontOf, BeginsKnown, IsAllKnown, HoldsNothing, Tells, next_count}
 use Rattle.tiny_http_wire.proofs.DeviceLemmas.{IsFront-append}
 use Rattle.tiny_http_core.specs.declared.pending.Waiting.{Waiting}
-use Rattle.tiny_http_core.specs.Slots.{Slot, is_finished, is_slot_broken, segment, joined, breaks_off}
+use Rattle.tiny_http_core.specs.Slots.{Slot, is_finished, joined, breaks_off}
 use Rattle.tiny_http_core.specs.Conversation.{Failure, FailsBetween, finished_front}
 use Rattle.tiny_http_core.specs.Sending.{CanSend, IsFlushed, Lost, Idles, SendsUnlessEnded}
 use Rattle.tiny_http_core.specs.Turns.{Mark, Open, Held, Left, Finished, AreWaiting}

@@ -1,8 +1,7 @@
 -- What the calls on numbers leave, as lists of marks.
-use Rattle.std.proofs.Common.{◌≡◌, refl, sym, ap, ◌∙◌, subst, ℕ, zero, suc, ◌+◌, ◌<◌, Bool, true, false, List, [], ◌∷◌, ◌++◌, length, Option, Some, None, Result, Ok, Err, append_assoc, append-nil, length-append, arith}
+use Rattle.std.proofs.Common.{◌≡◌, refl, sym, ap, ◌∙◌, subst, ℕ, suc, ◌+◌, Bool, true, false, List, [], ◌∷◌, ◌++◌, length, Option, Some, Result, Ok, Err, append_assoc, append-nil, length-append}
 use Rattle.std.specs.Global.{Vec}
 use Rattle.std.specs.Prelude.{OnOk, MatchBool, ◌==◌, if◌then◌else◌, slice_get, slice_set}
-use Rattle.std.proofs.lemmas.Option.{slice_get_within}
 use Rattle.httpdate.specs.declared.date.HttpDate.{HttpDate}
 use Rattle.tiny_http_wire.specs.Device.{Sink}
 use Rattle.tiny_http_core.specs.declared.exchange.Head.{Head}
@@ -12,7 +11,7 @@ use Rattle.tiny_http_core.specs.declared.turns.Finishing.TheVariants.{Passed as 
 use Rattle.tiny_http_core.specs.declared.turns.Leaving.{Leaving}
 use Rattle.tiny_http_core.specs.declared.turns.Leaving.TheVariants.{Left as IsLeft, Go as LeaveGo, Strange as LeaveStrange}
 use Rattle.tiny_http_core.specs.Sending.{CanSend, IsFlushed, SendsUnlessEnded}
-use Rattle.tiny_http_core.specs.Turns.{Mark, Open, Held, Left, Finished, AreInShape, first_unfinished, TurnAnswer, Goes, Passed, Waits, TurnOutcome, Finish, Leave, outcome, answer, after, finish_at, pass_to, leave_at}
+use Rattle.tiny_http_core.specs.Turns.{Mark, Open, Held, Left, Finished, AreInShape, first_unfinished, Goes, Passed, Waits, TurnOutcome, Finish, Leave, outcome, answer, after, finish_at, pass_to, leave_at}
 use Rattle.tiny_http_core.specs.TurnsCalls.{Finishes, Leaves}
 use Rattle.tiny_http_core.specs.Pending.{left_text, passed, begins_left, SendsLeft, Passes, LeavesText, KeepsHead}
 use Rattle.tiny_http_core.proofs.KeptLemmas.{get-at, set-at}

@@ -1,5 +1,5 @@
 -- A Respond: from where the connection stands to where it stands behind it.
-use Rattle.std.proofs.Common.{◌≡◌, refl, sym, ap, ◌∙◌, subst, ℕ, ◌+◌, ◌-◌, ◌<◌, ◌^◌, ◌⊎◌, inl, inr, ⊎_elim, Bool, true, false, not, ◌&&◌, ◌||◌, List, [], ◌∷◌, ◌++◌, length, Option, Some, None, Result, Ok, Err, arith, append_assoc, append-nil}
+use Rattle.std.proofs.Common.{◌≡◌, refl, sym, ap, ◌∙◌, subst, ℕ, ◌+◌, ◌-◌, ◌<◌, ◌^◌, ◌⊎◌, inl, inr, ⊎_elim, Bool, true, false, ◌&&◌, ◌||◌, List, [], ◌∷◌, ◌++◌, length, Option, Some, None, Result, Ok, Err, arith, append_assoc, append-nil}
 use Rattle.std.specs.Prelude.{MatchBool, is_some, slice_get, slice_set}
 use Rattle.std.specs.List.{list_all}
 use Rattle.std.specs.Io.KnownBytes.{append_known}
@@ -7,23 +7,23 @@ use Rattle.std.specs.IoError.{error_kind}
 use Rattle.std.specs.declared.io.Error.{Error}
 use Rattle.std.specs.declared.io.ErrorKind.{ErrorKind}
 use Rattle.httpdate.specs.declared.date.HttpDate.{HttpDate}
-use Rattle.tiny_http_wire.specs.Device.{Feed, Sink, IsFront, HoldsNothing}
+use Rattle.tiny_http_wire.specs.Device.{Feed, Sink}
 use Rattle.tiny_http_wire.specs.Answer.{Text, Ending, Whole, Broken, text_of}
 use Rattle.tiny_http_core.specs.declared.pending.AnswerForm.{AnswerForm}
 use Rattle.tiny_http_core.specs.declared.pending.Waiting.{Waiting}
 use Rattle.tiny_http_core.specs.Pipeline.{Item, Asks, Refuses, Request}
 use Rattle.tiny_http_core.specs.Slots.{ResponseValue, Slot, Stage, Waits, Answered as AnsweredBy, ByServer, Raw, Upgraded, is_over, is_finished, is_broken, is_slot_broken, segment, joined, breaks_off, new_slot, turn_has_come, to_request, text_if, IsGathered}
-use Rattle.tiny_http_core.specs.Steps.{Asked, outcome, Respond, Replied, Done, NoSuch, NotYet, Use, Reported, Outcome, Reached, unchanged, changes, finished, takes, waits, fault_in, fault_of_answer, at_item, at_slot, at_number}
+use Rattle.tiny_http_core.specs.Steps.{Asked, outcome, Respond, Replied, Done, NoSuch, NotYet, Use, Reported, Outcome, Reached, unchanged, changes, finished, takes, fault_in, fault_of_answer, at_item, at_slot, at_number}
 use Rattle.tiny_http_core.specs.Conversation.{Failure, State, has_output_ended, finished_front, FailsBetween, FailsTold, FailsBehind, broken_reply, Writes, Has, GathersAt, MayLack}
 use Rattle.tiny_http_core.specs.Seen.{printed_as, reply_to}
-use Rattle.tiny_http_core.specs.Sending.{CanSend, Sent, Lost, Idles, IsFlushed, SendsText, Sends, SendsUnlessEnded}
+use Rattle.tiny_http_core.specs.Sending.{CanSend, Sent, Lost, IsFlushed, SendsText, Sends, SendsUnlessEnded}
 use Rattle.tiny_http_core.specs.Turns.{Mark, Open, Held, Finished, AreInShape, first_unfinished}
 use Rattle.tiny_http_core.specs.Pending.{left_text, passed, begins_left, SendsLeft, Passes, waiting_form}
-use Rattle.tiny_http_core.specs.Connection.{Kept, form_of, IsWaiting, AreKept, is_plain_item, OutputAt, Stands}
+use Rattle.tiny_http_core.specs.Connection.{Kept, form_of, AreKept, is_plain_item, OutputAt, Stands}
 use Rattle.tiny_http_core.proofs.AskLemmas.{Answered, step-unchanged}
 use Rattle.tiny_http_core.proofs.SlotLemmas.{all-snoc, joined-front, joined-broken, joined-waits, breaks-front, breaks-waits}
-use Rattle.tiny_http_core.proofs.KeptLemmas.{get-at, set-at, take-at, all-at, all-place, kept-append, kept-passed, none-waits, Place, place-of, InTurn, OutOfTurn, turn-at}
-use Rattle.tiny_http_core.proofs.OutputLemmas.{behind, front-all, left-finished, lost-output, LostOutput, all-firm, ended-is, output-same, plain-more, can-send, Goes, output-more}
+use Rattle.tiny_http_core.proofs.KeptLemmas.{get-at, set-at, take-at, all-at, all-place, kept-append, kept-passed, none-waits, place-of, InTurn, OutOfTurn, turn-at}
+use Rattle.tiny_http_core.proofs.OutputLemmas.{behind, front-all, left-finished, lost-output, all-firm, ended-is, output-same, plain-more, can-send, output-more}
 use Rattle.tiny_http_core.proofs.PassLemmas.{none-left}
 use Rattle.tiny_http_core.proofs.SendLemmas.{or-false}
 
@@ -366,15 +366,25 @@ answerable client before k s n form st e first =
     let slots_are = p.slots_are ∙ ap (λ x. p.bs ++ (x ∷ p.cs)) p.waiting.fresh in
     let S : List Mark → Type 0 = λ m. AreInShape m in
     record {
-      bs = p.bs; cs = p.cs; fs = p.fs; rs = p.rs; us = p.us; vs = p.vs;
-      request = p.waiting.request; asked = p.waiting.date; waiting = w.0;
-      slots_are = slots_are; marks_are = p.marks_are; requests_are = p.requests_are;
+      bs = p.bs;
+      cs = p.cs;
+      fs = p.fs;
+      rs = p.rs;
+      us = p.us;
+      vs = p.vs;
+      request = p.waiting.request;
+      asked = p.waiting.date;
+      waiting = w.0;
+      slots_are = slots_are;
+      marks_are = p.marks_are;
+      requests_are = p.requests_are;
       at = slot-at s.reached.slots p.bs p.cs (new_slot p.waiting.date (Asks p.waiting.request)) n slots_are p.slots_before;
       place = p.marks_before;
       form_is = sym w.2 ∙ p.waiting.form;
       requests_set = set-place k.requests p.us p.vs n (Some w.0) None p.requests_are p.requests_before;
       marks_set = set-place k.marks p.fs p.rs n Open Held p.marks_are p.marks_before;
-      before = p.before; behind = p.behind;
+      before = p.before;
+      behind = p.behind;
       turn = ⊎_elim (λ (t : InTurn p.bs p.fs p.rs). t) (λ (t : OutOfTurn p.bs p.fs p.rs). absurd (t.turn (p.marks_before ∙ first ∙ ap first_unfinished p.marks_are))) (turn-at p.bs p.fs p.us p.rs p.before (subst S p.marks_are st.shape));
     }
 

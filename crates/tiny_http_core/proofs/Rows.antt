@@ -16,7 +16,7 @@ use Rattle.tiny_http_core.specs.declared.exchange.Form.TheVariants.{Nothing, Hel
 use Rattle.tiny_http_core.specs.declared.framing.Framing.{Framing}
 use Rattle.tiny_http_core.specs.Framing.{framing}
 use Rattle.tiny_http_core.specs.Slots.{ResponseValue, own_response, text_type}
-use Rattle.tiny_http_core.specs.Steps.{Asked, Ask, Respond, Drop, Replied, Handed, Ended, NotYet, Done, NoSuch}
+use Rattle.tiny_http_core.specs.Steps.{Asked, Ask, Respond, Drop, Replied, Handed, Ended, NotYet, Done}
 use Rattle.tiny_http_core.specs.Conversation.{Dated}
 use Rattle.tiny_http_core.specs.Reading.{conversed, Conversed}
 

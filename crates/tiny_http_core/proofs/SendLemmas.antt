@@ -17,7 +17,7 @@ use Rattle.tiny_http_wire.specs.declared.coding.FramingHeader.{FramingHeader}
 use Rattle.tiny_http_wire.specs.declared.coding.FramingHeader.TheVariants.{ContentLength}
 use Rattle.tiny_http_wire.specs.declared.device.Stop.{Stop}
 use Rattle.tiny_http_wire.specs.declared.device.Stop.TheVariants.{End, Fault}
-use Rattle.tiny_http_core.specs.Slots.{own_printing, own_text}
+use Rattle.tiny_http_core.specs.Slots.{own_printing}
 use Rattle.tiny_http_core.specs.Sending.{CanSend, Sent, Lost, Idles, EndsQuietly, Abandons, SendsText, Sends, SendsQuietly, SendsUnlessEnded, FailsOnce, FailsOnceUnlessEnded, BreakOff, IsHonest}
 
 pub or-false : (a b : Bool) → (a || b) ≡ false → (a ≡ false) × (b ≡ false)

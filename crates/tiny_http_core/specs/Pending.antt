@@ -1,5 +1,5 @@
 -- Numbers whose turn comes, and what is sent as it does.
-use Rattle.std.specs.Prelude.{◌≡◌, ℕ, Bool, true, false, List, [], ◌∷◌, ◌++◌, ◌==◌, Option, Some, None, MatchBool}
+use Rattle.std.specs.Prelude.{◌≡◌, ℕ, Bool, true, false, List, [], ◌∷◌, ◌++◌, Option, Some, None, MatchBool}
 use Rattle.httpdate.specs.declared.date.HttpDate.{HttpDate}
 use Rattle.tiny_http_wire.specs.Device.{Sink}
 use Rattle.tiny_http_core.specs.declared.exchange.Head.{Head}
@@ -8,7 +8,7 @@ use Rattle.tiny_http_core.specs.declared.pending.Waiting.{Waiting}
 use Rattle.tiny_http_core.specs.Pipeline.{is_head_method}
 use Rattle.tiny_http_core.specs.Slots.{own_text}
 use Rattle.tiny_http_core.specs.Sending.{SendsUnlessEnded, IsFlushed}
-use Rattle.tiny_http_core.specs.Turns.{Mark, Open, Held, Left, Finished, AreInShape, first_unfinished}
+use Rattle.tiny_http_core.specs.Turns.{Mark, Open, Held, Left, Finished, AreInShape}
 
 -- the texts that were left at the front of these numbers
 abbrev pub left_text : List Mark → List ℕ

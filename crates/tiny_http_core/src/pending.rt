@@ -86,8 +86,7 @@ impl Pending {
             version: head.version,
             no_body: is_head(&head.method),
         };
-        let Ok(dropped) = own_answer(alloc, StatusCode(500), form.version, form.no_body, now)
-        else {
+        let Ok(dropped) = own_answer(alloc, StatusCode(500), form.version, form.no_body, now) else {
             return Err(TurnsError::Memory);
         };
         self.issue(Some(Waiting { form, dropped }))

@@ -6,11 +6,7 @@ use std::test::Fail;
 use tiny_http_wire::device::{Budget, Canned, Metered, ReadDevice, WriteDevice, put, put_all};
 
 // What the first three reads into four bytes answer: so many bytes, or a fault.
-fn reads<R: ReadDevice>(
-    rt: &impl Abort,
-    reader: &mut R,
-    wanted: [Result<&[u8], ErrorKind>; 3],
-) {
+fn reads<R: ReadDevice>(rt: &impl Abort, reader: &mut R, wanted: [Result<&[u8], ErrorKind>; 3]) {
     let mut buf = [0u8; 4];
     for want in wanted {
         match (reader.read_in(&mut buf), want) {

@@ -1,11 +1,11 @@
-use Rattle.std.proofs.Common.{rules, refl, sym, ap, subst, ◌≡◌, true, List, Option}
+use Rattle.std.proofs.Common.{rules, sym, ap, subst, true, List, Option}
 use Rattle.tiny_http_core.specs.declared.pending.Waiting.{Waiting}
 use Rattle.tiny_http_core.specs.declared.outlet.Outlet.{Outlet}
 use Rattle.tiny_http_core.specs.Turns.{Mark}
 use Rattle.tiny_http_core.specs.Outlet.{outlet_sink, outlet_ended}
-use Rattle.tiny_http_core.specs.Steps.{Ask, Ended, Memory}
+use Rattle.tiny_http_core.specs.Steps.{Ask, Memory}
 use Rattle.tiny_http_core.specs.Connection.{Kept, kept}
-use Rattle.tiny_http_core.proofs.AskLemmas.{Answered, ask-ended, ask-over, ask-none, ask-memory, ask-handed, ask-refused, same-feed}
+use Rattle.tiny_http_core.proofs.AskLemmas.{Answered, ask-ended, ask-over, ask-none, ask-memory, ask-handed, ask-refused}
 use Rattle.tiny_http_core.proofs.OutputLemmas.{can-send}
 use Rattle.tiny_http_core.proofs.driver.Connection.ask.Goals as goal
 

@@ -1,4 +1,4 @@
-use Rattle.std.proofs.Common.{◌≡◌, refl, sym, ap, ◌∙◌, subst, List, Option, ℕ}
+use Rattle.std.proofs.Common.{refl, sym, ap, ◌∙◌, subst, List, Option, ℕ}
 use Rattle.std.specs.Prelude.{◌==◌}
 use Rattle.std.specs.Global.{Vec}
 use Rattle.tiny_http_core.specs.declared.pending.Waiting.{Waiting}

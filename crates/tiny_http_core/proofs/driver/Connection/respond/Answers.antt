@@ -1,9 +1,9 @@
-use Rattle.std.proofs.Common.{rules, ◌≡◌, refl, sym, ap, ◌∙◌, subst, inl, inr, Bool, true, false, List, Option, Some, None, ℕ}
+use Rattle.std.proofs.Common.{rules, ◌≡◌, refl, sym, ap, ◌∙◌, subst, true, false, List, Option, Some}
 use Rattle.std.specs.Prelude.{slice_get, IsTrue}
 use Rattle.tiny_http_wire.specs.Answer.{Answer}
 use Rattle.tiny_http_core.specs.declared.pending.Waiting.{Waiting}
-use Rattle.tiny_http_core.specs.Steps.{Respond, NoSuch, NotYet}
-use Rattle.tiny_http_core.specs.Turns.{Mark, Open, first_unfinished}
+use Rattle.tiny_http_core.specs.Steps.{Respond, NotYet}
+use Rattle.tiny_http_core.specs.Turns.{Mark}
 use Rattle.tiny_http_core.specs.Pending.{waiting_form}
 use Rattle.tiny_http_core.specs.Outlet.{outlet_sink, outlet_ended}
 use Rattle.tiny_http_core.specs.Connection.{Kept, kept}

@@ -1,4 +1,4 @@
-use Rattle.std.proofs.Common.{◌≡◌, refl}
+use Rattle.std.proofs.Common.{refl}
 use Rattle.tiny_http_core.specs.Outlet.{outlet_sink, outlet_ended}
 use Rattle.tiny_http_core.proofs.PassLemmas.{leave-goes, leave-stays}
 use Rattle.tiny_http_core.proofs.SendLemmas.{once-none}

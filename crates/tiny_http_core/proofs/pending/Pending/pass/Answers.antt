@@ -1,4 +1,4 @@
-use Rattle.std.proofs.Common.{◌≡◌, refl, Bool, true, false, inl}
+use Rattle.std.proofs.Common.{refl}
 use Rattle.tiny_http_core.specs.Outlet.{outlet_sink, outlet_ended}
 use Rattle.tiny_http_core.proofs.PassLemmas.{pass-goes, pass-ends}
 use Rattle.tiny_http_core.proofs.SendLemmas.{once-none}
