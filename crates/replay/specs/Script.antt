@@ -1,5 +1,5 @@
 -- The steps that a script names, and its first bad line.
-use Rattle.std.specs.Prelude.{◌≡◌, ◌==◌, ◌+◌, ℕ, Option, Some, None, List, [], ◌∷◌, ◌++◌, length, Vec}
+use Rattle.std.specs.Prelude.{◌≡◌, ◌==◌, ◌+◌, ℕ, Bool, Option, Some, None, List, [], ◌∷◌, ◌++◌, length, Vec}
 use Rattle.std.specs.List.{AllZip, AllByRecursion, slice_split, flat_map}
 use Rattle.std.specs.Io.KnownBytes.{Appends}
 use Rattle.std.specs.declared.io.Cursor.{Cursor}
@@ -7,7 +7,7 @@ use Rattle.httpdate.specs.declared.date.HttpDate.{HttpDate}
 use Rattle.httpdate.specs.Date.{unix_secs}
 use Rattle.tiny_http_wire.specs.Answer.{answer_with, text_plain}
 use Rattle.tiny_http_wire.specs.Cursor.{cursor_bytes}
-use Rattle.tiny_http_wire.specs.Device.{Sink, ending}
+use Rattle.tiny_http_wire.specs.Device.{Feed, Sink, ending}
 use Rattle.tiny_http_core.specs.Slots.{ResponseValue}
 use Rattle.tiny_http_core.specs.Steps.{Asked, Ask, Respond, Drop, Replied}
 use Rattle.tiny_http_core.specs.Conversation.{Dated, IsFresh, IsConversation}
@@ -88,7 +88,9 @@ pub record HasRun (client : List ℕ) (steps : List Dated) (replies : List Repli
   pub taken : List ℕ
   pub held : List ℕ
   pub fresh : IsFresh before
-  pub conversation : IsConversation (ending client) before steps replies after held
+  pub ended : Bool
+  pub left : Option Feed
+  pub conversation : IsConversation (ending client) before steps replies after held ended left
   pub no_fault : after.failures ≡ before.failures
   pub took : after.taken ≡ Some taken
   pub output_is : output ≡ taken ++ held

@@ -1,6 +1,7 @@
 -- An Ask: from where the connection stands to where it stands behind it.
-use Rattle.std.proofs.Common.{◌≡◌, refl, sym, ap, ◌∙◌, subst, ℕ, ◌-◌, ◌<◌, ◌^◌, ◌⊎◌, inl, inr, Bool, true, false, not, ◌&&◌, ◌||◌, List, [], ◌∷◌, ◌++◌, length, Option, Some, None, append-nil, eq-eqb, ⊎_elim}
+use Rattle.std.proofs.Common.{◌≡◌, refl, sym, ap, ◌∙◌, subst, ℕ, ◌-◌, ◌<◌, ◌^◌, ◌⊎◌, inl, inr, Bool, true, false, not, ◌&&◌, ◌||◌, List, [], ◌∷◌, ◌++◌, length, Option, Some, None, append-nil, arith, eq-eqb, ⊎_elim}
 use Rattle.std.proofs.lemmas.Bool.{ne_eqb}
+use Rattle.std.proofs.lemmas.List.{take_all}
 use Rattle.std.specs.Prelude.{MatchOption, MatchBool, is_some, ⊤, ◌==◌, if◌then◌else◌}
 use Rattle.std.specs.Global.{Vec}
 use Rattle.std.specs.List.{list_all}
@@ -20,13 +21,13 @@ use Rattle.tiny_http_core.specs.Framing.{is_built, is_plain}
 use Rattle.tiny_http_core.specs.Source.{GoesOn}
 use Rattle.tiny_http_core.specs.Pipeline.{Item, Asks, Refuses, Request, Place, Heading, Ends, Heads, OneHead, FoundAt, served, served_answer, is_head_method, Pipeline}
 use Rattle.tiny_http_core.specs.HeadReads.{ReadsHead, StandsAt, place_after, request_of, refused, head_message, head_framing}
-use Rattle.tiny_http_core.specs.Slots.{Slot, is_finished, is_broken, is_slot_broken, segment, joined, breaks_off, new_slot, own_text, is_streamed, is_chunked, body_holds_reader, body_was_abandoned, last_slot, reader_is_held, reader_is_lost}
-use Rattle.tiny_http_core.specs.Steps.{Asked, Ask, Replied, Handed, Ended, Memory, Unused, Outcome, Reached, unchanged, ask, asks_from, outcome}
-use Rattle.tiny_http_core.specs.Conversation.{Failure, State, has_output_ended, FailsBetween, Has, StepsTo}
+use Rattle.tiny_http_core.specs.Slots.{Slot, is_finished, is_broken, is_slot_broken, segment, joined, breaks_off, new_slot, own_text, turn_has_come, is_streamed, is_chunked, body_holds_reader, body_was_abandoned, last_slot, reader_is_held, reader_is_lost}
+use Rattle.tiny_http_core.specs.Steps.{Asked, Ask, Replied, Handed, Ended, Memory, Unused, Unreported, Outcome, Reached, unchanged, ask, asks_from, outcome}
+use Rattle.tiny_http_core.specs.Conversation.{Failure, State, has_output_ended, RestAt, FailsBetween, Writes, Has, StepsTo}
 use Rattle.tiny_http_core.specs.Sending.{IsFlushed, SendsUnlessEnded}
 use Rattle.tiny_http_core.specs.Turns.{Mark, Open, Left, Finished, AreInShape, first_unfinished}
 use Rattle.tiny_http_core.specs.Pending.{LeavesText, KeepsHead}
-use Rattle.tiny_http_core.specs.Connection.{Kept, dropped, IsWaiting, AreKept, RestAt, is_plain_item, OutputAt, Stands}
+use Rattle.tiny_http_core.specs.Connection.{Kept, dropped, IsWaiting, AreKept, is_plain_item, OutputAt, Stands}
 use Rattle.tiny_http_core.proofs.HeadServing.{built-parts}
 use Rattle.tiny_http_core.proofs.GoingOn.{goes-on_more}
 use Rattle.tiny_http_core.proofs.PipelineLemmas.{pipeline-first, pipeline-none}
@@ -288,17 +289,13 @@ refused-waits before sink e slots n failure h hidden = output-same before sink e
 record RefusedOutput (before new : Sink) (ended : Bool) (slots : List Slot) (n : Slot) (s : State) (marks : List Mark) (requests : List (Option Waiting)) : Type 0 where
   pub failure : Option Failure
   pub output : OutputAt before new ended (slots ++ (n ∷ [])) failure
-  pub writes : MatchBool (has_output_ended s) (failure ≡ s.failure) ((failure ≡ None) ⊎ FailsBetween (joined s.reached.slots) (joined (slots ++ (n ∷ []))) failure)
+  pub writes : Writes (if turn_has_come (length s.reached.slots) s.reached.slots then Unreported else Unused) s Ended (slots ++ (n ∷ [])) Ended failure
   pub numbers : AreKept (slots ++ (n ∷ [])) marks requests
   pub shape : AreInShape marks
 
-unfailed : (before sink : Sink) (e : Bool) (s : State) (text : List ℕ) → OutputAt before sink e s.reached.slots s.failure → MatchBool (has_output_ended s) (s.failure ≡ s.failure) ((s.failure ≡ None) ⊎ FailsBetween (joined s.reached.slots) text s.failure)
-unfailed before sink e s text h = by-failure s.failure (is_some s.failure || breaks_off s.reached.slots) refl
-  where
-    by-failure : (f : Option Failure) (t : Bool) → (is_some f || breaks_off s.reached.slots) ≡ t → MatchBool t (f ≡ f) ((f ≡ None) ⊎ FailsBetween (joined s.reached.slots) text f)
-    by-failure f true x = refl
-    by-failure None false x = inl refl
-    by-failure (Some f) false x = cc
+-- the turn of the next number has come when all are finished
+turn-next : (slots : List Slot) → turn_has_come (length slots) slots ≡ list_all is_finished slots
+turn-next slots = ap (list_all is_finished) (take_all (length slots) slots (omega arith))
 
 refuses : (before sink new : Sink) (e ended : Bool) (s : State) (marks final : List Mark) (requests : List (Option Waiting)) (n : Slot) (text : List ℕ) → OutputAt before sink e s.reached.slots s.failure → AreKept s.reached.slots marks requests → AreInShape marks
     → is_finished n ≡ true → is_slot_broken n ≡ false → segment n ≡ text → before.failures < 2 ^ 64 - 1 → LeavesText (length marks == first_unfinished marks) marks [] final text e sink new ended
@@ -306,6 +303,7 @@ refuses : (before sink new : Sink) (e ended : Bool) (s : State) (marks final : L
 refuses before sink new e ended s marks final requests n text h kept shape over whole same low leaves =
     let slots = s.reached.slots in
     let over_is = ended-is before sink e slots s.failure h in
+    let U : Bool → Option Failure → Type 0 = λ t f. Writes (if t then Unreported else Unused) s Ended (slots ++ (n ∷ [])) Ended f in
     let W : Bool → Option Failure → Type 0 = λ t f. MatchBool t (f ≡ s.failure) ((f ≡ None) ⊎ FailsBetween (joined slots) (joined (slots ++ (n ∷ []))) f) in
     ⊎_elim
     (λ (t : InTurn slots marks []).
@@ -318,7 +316,7 @@ refuses before sink new e ended s marks final requests n text h kept shape over 
     record {
       failure = go.failure;
       output = go.output;
-      writes = subst (λ (b : Bool). W b go.failure) (sym over_is) go.writes;
+      writes = subst (λ (b : Bool). U b go.failure) (sym (turn-next slots ∙ t.finished)) (refl, subst (λ (b : Bool). W b go.failure) (sym over_is) go.writes);
       numbers = subst M (sym l.0) (kept-append slots marks requests (n ∷ []) (Finished ∷ []) (None ∷ []) kept (over, tt));
       shape = subst A (sym l.0) t.shape;
     })
@@ -330,7 +328,7 @@ refuses before sink new e ended s marks final requests n text h kept shape over 
     record {
       failure = s.failure;
       output = subst (λ (b : Bool). O new b) (sym l.3) (subst (λ (x : Sink). O x e) (sym l.2) (refused-waits before sink e slots n s.failure h t.unfinished));
-      writes = unfailed before sink e s (joined (slots ++ (n ∷ []))) h;
+      writes = subst (λ (b : Bool). U b s.failure) (sym (turn-next slots ∙ t.unfinished)) (refl, refl);
       numbers = subst M (sym l.0) (kept-append slots marks requests (n ∷ []) (Left text ∷ []) (None ∷ []) kept (record { finished = over; whole = whole; same = same }, tt));
       shape = l.1;
     })
@@ -366,7 +364,7 @@ ask-refused client before k s date x p marks requests sink ended st low e o read
         source = goes-on_more (Some client) k.feed p st.source goes;
         output = out.output;
       },
-      inl (true, tt, subst G (sym is) (refl, (refl, out.writes))),
+      inl (true, tt, subst G (sym is) (refl, out.writes)),
     )
 
 pub ask-ended : (client : Feed) (before : Sink) (k : Kept) (s : State) (date : HttpDate) → Stands client before k s → k.ended ≡ true → Answered client before k s date Ask Ended

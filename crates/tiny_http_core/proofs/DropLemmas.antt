@@ -8,7 +8,7 @@ use Rattle.tiny_http_wire.specs.Device.{Feed, Sink}
 use Rattle.tiny_http_core.specs.declared.pending.Waiting.{Waiting}
 use Rattle.tiny_http_core.specs.Pipeline.{Asks, Request}
 use Rattle.tiny_http_core.specs.Slots.{Slot, Waits, Answered as AnsweredBy, ByServer, Raw, Upgraded, is_finished, joined, breaks_off, new_slot, turn_has_come}
-use Rattle.tiny_http_core.specs.Steps.{Drop, Done, Outcome, Reached, changes, in_turn, at_slot, at_number}
+use Rattle.tiny_http_core.specs.Steps.{Drop, Done, Outcome, Reached, changes, use_in_turn, at_slot, at_number}
 use Rattle.tiny_http_core.specs.Conversation.{Failure, State, FailsBetween, Writes, Has}
 use Rattle.tiny_http_core.specs.Sending.{CanSend}
 use Rattle.tiny_http_core.specs.Turns.{Mark, Open, Left, Finished, AreInShape, first_unfinished}
@@ -28,15 +28,15 @@ drop-not_taken n (Raw w c) owed e = refl
 drop-not_taken n (Upgraded p r d w c) owed e = refl
 
 at-drop : (date asked : HttpDate) (old : Reached) (n : ℕ) (r : Request) (t : Bool) → slice_get old.slots n ≡ Some (new_slot asked (Asks r)) → turn_has_come n old.slots ≡ t
-    → at_number true date old n (Drop n) ≡ changes old n (dropped asked r) Done (in_turn t)
+    → at_number true date old n (Drop n) ≡ changes old n (dropped asked r) Done (use_in_turn t)
 at-drop date asked old n r t e turn =
-    ap (at_slot true date old n (Drop n)) e ∙ ap (λ b. changes old n (dropped asked r) Done (in_turn b)) turn
+    ap (at_slot true date old n (Drop n)) e ∙ ap (λ b. changes old n (dropped asked r) Done (use_in_turn b)) turn
 
 -- what the drop leaves, in its turn or out of it
 record DropSaid (before new : Sink) (ended : Bool) (slots : List Slot) (old : State) (t : Bool) (final : List Mark) (requests : List (Option Waiting)) : Type 0 where
   pub failure : Option Failure
   pub output : OutputAt before new ended slots failure
-  pub writes : Writes (in_turn t) old Done slots Done failure
+  pub writes : Writes (use_in_turn t) old Done slots Done failure
   pub numbers : AreKept slots final requests
   pub shape : AreInShape final
 
@@ -54,7 +54,7 @@ drop-stands client before k s date asked n r new ended final requests bs cs t st
     let old_plain = subst A slots_are plain in
     let new_state : State = record { reached = record { slots = slots; rest = s.reached.rest; ended = s.reached.ended }; failure = said.failure } in
     let R : List Slot → Reached = λ l. record { slots = l; rest = s.reached.rest; ended = s.reached.ended } in
-    let W : List Slot → Type 0 = λ l. Writes (in_turn t) s Done l Done said.failure in
+    let W : List Slot → Type 0 = λ l. Writes (use_in_turn t) s Done l Done said.failure in
     let G : Outcome → Type 0 = λ x. Has x s Done new_state in (
       new_state,
       record {

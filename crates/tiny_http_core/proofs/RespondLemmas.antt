@@ -16,7 +16,7 @@ use Rattle.tiny_http_core.specs.Slots.{ResponseValue, Slot, Stage, Waits, Answer
 use Rattle.tiny_http_core.specs.Steps.{Asked, outcome, Respond, Replied, Done, NoSuch, NotYet, Use, Reported, Outcome, Reached, unchanged, changes, finished, takes, fault_in, fault_of_answer, at_item, at_slot, at_number}
 use Rattle.tiny_http_core.specs.Conversation.{Failure, State, has_output_ended, finished_front, FailsBetween, FailsTold, FailsBehind, broken_reply, Writes, Has, GathersAt, MayLack}
 use Rattle.tiny_http_core.specs.Seen.{printed_as, reply_to}
-use Rattle.tiny_http_core.specs.Sending.{CanSend, Sent, Lost, IsFlushed, SendsText, Sends, SendsUnlessEnded}
+use Rattle.tiny_http_core.specs.Sending.{CanSend, Wrote, Lost, IsFlushed, SendsText, Sends, SendsUnlessEnded}
 use Rattle.tiny_http_core.specs.Turns.{Mark, Open, Held, Finished, AreInShape, first_unfinished}
 use Rattle.tiny_http_core.specs.Pending.{left_text, passed, begins_left, SendsLeft, Passes, waiting_form}
 use Rattle.tiny_http_core.specs.Connection.{Kept, form_of, AreKept, is_plain_item, OutputAt, Stands}
@@ -144,7 +144,7 @@ own-said before sink mid ended bs s1 text (Err e) reply h fin over own broken lo
     none : breaks_off bs ≡ false
     none = sym h.3
 
-    broken-sent : text.ending ≡ Broken (error_kind e) → Sent sink mid text.bytes → OwnSaid before mid false ended bs s1 text None reply
+    broken-sent : text.ending ≡ Broken (error_kind e) → Wrote sink mid text.bytes → OwnSaid before mid false ended bs s1 text None reply
     broken-sent b x =
         let breaks_is : is_slot_broken s1 ≡ true = broken ∙ ap is_broken b in
         let longer : joined bs ++ text.bytes ≡ joined (bs ++ (s1 ∷ [])) = ap (λ y. joined bs ++ y) (sym own ∙ sym (rw (over, breaks_is) (append-nil (segment s1)))) ∙ sym (joined-front bs (s1 ∷ []) fin none) in

@@ -9,8 +9,8 @@ use Rattle.tiny_http_core.specs.Source.{GoesOn}
 use Rattle.tiny_http_core.specs.Pipeline.{Item, Pipeline}
 use Rattle.tiny_http_core.specs.Slots.{joined}
 use Rattle.tiny_http_core.specs.Steps.{Replied}
-use Rattle.tiny_http_core.specs.Conversation.{State, Failure, StepsTo, Run, Dated, start, IsFresh, IsOutput, IsConversation}
-use Rattle.tiny_http_core.specs.Connection.{Kept, RestAt, OutputAt, Stands}
+use Rattle.tiny_http_core.specs.Conversation.{State, Failure, StepsTo, Run, Dated, start, IsFresh, RestAt, IsOutput, IsConversation}
+use Rattle.tiny_http_core.specs.Connection.{Kept, OutputAt, Stands}
 use Rattle.tiny_http_core.specs.declared.driver.Timed.{Timed}
 use Rattle.tiny_http_core.specs.declared.driver.Reply.{Reply}
 use Rattle.std.specs.declared.io.ErrorKind.{ErrorKind}
@@ -101,31 +101,33 @@ sent-held held None whole e = let no : None ≡ Some whole = e in cc
 sent-held held (Some xs) whole e = (xs, refl, (let same : Some (xs ++ held) ≡ Some whole = e in cc))
 
 -- the output at the end: an outlet that has ended holds nothing
-pub output-end : (before sink : Sink) (held : List ℕ) (ended : Bool) (s : State) → (ended ≡ true → held ≡ []) → OutputAt before (holding sink held ended) ended s.reached.slots s.failure → IsOutput s.reached.slots s.failure before sink held
+pub output-end : (before sink : Sink) (held : List ℕ) (ended : Bool) (s : State) → (ended ≡ true → held ≡ []) → OutputAt before (holding sink held ended) ended s.reached.slots s.failure → IsOutput s.reached.slots s.failure before sink held ended
 output-end before sink held ended s empty h = by-failure s.failure h
   where
-    whole : (e : Bool) (slots : _) → (e ≡ true → held ≡ []) → OutputAt before (holding sink held e) e slots None → IsOutput slots None before sink held
+    whole : (e : Bool) (slots : _) → (e ≡ true → held ≡ []) → OutputAt before (holding sink held e) e slots None → IsOutput slots None before sink held e
     whole true slots empty h =
         let none = empty refl in
         let bare : sink.taken ≡ Some (joined slots) = sym (grown-none sink.has_ended sink.taken) ∙ ap (grown sink.has_ended sink.taken) (sym none) ∙ h.0 in
-        (h.1, joined slots, bare, ap (λ x. joined slots ++ x) none ∙ append-nil (joined slots))
+        (h.1, joined slots, bare, ap (λ x. joined slots ++ x) none ∙ append-nil (joined slots), h.3)
     whole false slots empty h =
         let z = sent-held held sink.taken (joined slots) (ap (λ x. grown x sink.taken held) (sym h.2) ∙ h.0) in
-        (h.1, z.0, z.1, z.2)
+        (h.1, z.0, z.1, z.2, h.3)
 
-    by-failure : (failure : Option Failure) → OutputAt before (holding sink held ended) ended s.reached.slots failure → IsOutput s.reached.slots failure before sink held
+    by-failure : (failure : Option Failure) → OutputAt before (holding sink held ended) ended s.reached.slots failure → IsOutput s.reached.slots failure before sink held ended
     by-failure None h = whole ended s.reached.slots empty h
     by-failure (Some f) h =
         let none = empty h.3 in
-        (h.1, h.2, sym (grown-none sink.has_ended sink.taken) ∙ ap (grown sink.has_ended sink.taken) (sym none) ∙ h.0, none)
+        (h.1, h.2, sym (grown-none sink.has_ended sink.taken) ∙ ap (grown sink.has_ended sink.taken) (sym none) ∙ h.0, none, h.3)
 
 pub conversation : {X : Type 0} (told : X → Dated → Type 0) (client : Feed) (before sink : Sink) (held : List ℕ) (k : Kept) (ended : Bool) (all : List X) (replies : List Replied) (dated : List Dated) → k.sink ≡ holding sink held ended → k.output_ended ≡ ended → (ended ≡ true → held ≡ [])
-    → Follows told client before all replies k → AllZip told all dated → IsConversation client before dated replies sink held
+    → Follows told client before all replies k → AllZip told all dated → IsConversation client before dated replies sink held ended k.feed
 conversation told client before sink held k ended all replies dated same same_end empty f h =
     let m = f dated h in
     let P : Sink → Bool → Type 0 = λ x y. OutputAt before x y m.0.reached.slots m.0.failure in
     let out : P (holding sink held ended) ended = subst (λ y. P (holding sink held ended) y) same_end (subst (λ x. P x k.output_ended) same m.1.output) in
-    record { items = items_of client; end = m.0; pipeline = feed-pipeline client; run = m.2; output = output-end before sink held ended m.0 empty out }
+    let Q : Bool → Type 0 = λ y. RestAt y k.over k.feed m.0.reached.rest in
+    let left = subst Q (sym m.1.ended) m.1.rest in
+    record { items = items_of client; end = m.0; pipeline = feed-pipeline client; run = m.2; over = k.over; output = output-end before sink held ended m.0 empty out; input = left }
 
 -- the writer's count over the steps
 pub fails-step : (writer old new : Sink) (was ended : Bool) → FailsOnce writer old was → FailsOnceUnlessEnded was old new ended → FailsOnce writer new ended

@@ -18,7 +18,7 @@ use Rattle.tiny_http_wire.specs.declared.coding.FramingHeader.TheVariants.{Conte
 use Rattle.tiny_http_wire.specs.declared.device.Stop.{Stop}
 use Rattle.tiny_http_wire.specs.declared.device.Stop.TheVariants.{End, Fault}
 use Rattle.tiny_http_core.specs.Slots.{own_printing}
-use Rattle.tiny_http_core.specs.Sending.{CanSend, Sent, Lost, Idles, EndsQuietly, Abandons, SendsText, Sends, SendsQuietly, SendsUnlessEnded, FailsOnce, FailsOnceUnlessEnded, BreakOff, IsHonest}
+use Rattle.tiny_http_core.specs.Sending.{CanSend, Wrote, Lost, Idles, EndsQuietly, Abandons, SendsText, Sends, SendsQuietly, SendsUnlessEnded, FailsOnce, FailsOnceUnlessEnded, BreakOff, IsHonest}
 
 pub or-false : (a b : Bool) → (a || b) ≡ false → (a ≡ false) × (b ≡ false)
 or-false true b h = cc
@@ -35,7 +35,7 @@ fronts None b c h k =
     (k.0, k.1 ∙ ap (λ x. append_known x k.0) h.1)
 fronts (Some xs) b c h k = (h.0 ++ k.0, k.1 ∙ ap (λ x. append_known x k.0) h.1 ∙ ap Some (append_assoc xs h.0 k.0))
 
-pub taken-sent : (a b : Sink) (text : List ℕ) → a.has_ended ≡ false → Took a b text → Sent a b text
+pub taken-sent : (a b : Sink) (text : List ℕ) → a.has_ended ≡ false → Took a b text → Wrote a b text
 taken-sent a b text unended t = record {
   bytes = t.bytes ∙ ap (λ e. grown e a.taken text) unended;
   sent = t.sent;
@@ -50,10 +50,10 @@ begins xs ys (Some zs) h k = IsFront-append xs ys zs h k
 failed-lost : (a b : Sink) (text : List ℕ) (kind : ErrorKind) → Failed a b text kind → Lost a b text kind
 failed-lost a b text kind f = record { bytes = f.bytes; keeps = begins a.sent b.sent b.taken f.sent f.keeps; failures = f.failures; last_kind = f.last_kind }
 
-sent-none : (a b c : Sink) (text : List ℕ) → Sent a b text → Sent b c [] → Sent a c text
+sent-none : (a b c : Sink) (text : List ℕ) → Wrote a b text → Wrote b c [] → Wrote a c text
 sent-none a b c text s t = record { bytes = t.bytes ∙ append-none b.taken ∙ s.bytes; sent = IsFront-append a.sent b.sent c.sent s.sent t.sent; failures = t.failures ∙ s.failures }
 
-sent-lost : (a b c : Sink) (text : List ℕ) (kind : ErrorKind) → Sent a b text → Lost b c [] kind → Lost a c text kind
+sent-lost : (a b c : Sink) (text : List ℕ) (kind : ErrorKind) → Wrote a b text → Lost b c [] kind → Lost a c text kind
 sent-lost a b c text kind s l =
     let P : Option (List ℕ) → Type 0 = λ x. IsFrontOf c.taken x in
     record {
@@ -127,7 +127,7 @@ broken-ended T a b c ended e text unended low (inl h) m z y =
     let P : Bool → Type 0 = λ t. MatchBool t (EndsQuietly b c) (Abandons b c) in
     (z, y, inl (h.0, ends (subst P same m)))
   where
-    ends : EndsQuietly b c → Sent a c text.bytes ⊎ ((kind : ErrorKind) × Lost a c text.bytes kind)
+    ends : EndsQuietly b c → Wrote a c text.bytes ⊎ ((kind : ErrorKind) × Lost a c text.bytes kind)
     ends (inl s) = inl (sent-none a b c text.bytes (taken-sent a b text.bytes unended h.1) s)
     ends (inr l) = inr (l.0, sent-lost a b c text.bytes l.0 (taken-sent a b text.bytes unended h.1) l.1)
 broken-ended T a b c ended e text unended low (inr h) m z y =
@@ -231,14 +231,14 @@ known-append : (known : Option (List ℕ)) (s t : List ℕ) → append_known (ap
 known-append None s t = refl
 known-append (Some xs) s t = ap Some (append_assoc xs s t)
 
-sent-append : (a b c : Sink) (s t : List ℕ) → Sent a b s → Sent b c t → Sent a c (s ++ t)
+sent-append : (a b c : Sink) (s t : List ℕ) → Wrote a b s → Wrote b c t → Wrote a c (s ++ t)
 sent-append a b c s t h k = record {
   bytes = k.bytes ∙ ap (λ y. append_known y t) h.bytes ∙ known-append a.taken s t;
   sent = IsFront-append a.sent b.sent c.sent h.sent k.sent;
   failures = k.failures ∙ h.failures;
 }
 
-sent-then_lost : (a b c : Sink) (s t : List ℕ) (kind : ErrorKind) → Sent a b s → Lost b c t kind → Lost a c (s ++ t) kind
+sent-then_lost : (a b c : Sink) (s t : List ℕ) (kind : ErrorKind) → Wrote a b s → Lost b c t kind → Lost a c (s ++ t) kind
 sent-then_lost a b c s t kind h l =
     let P : Option (List ℕ) → Type 0 = λ x. IsFrontOf c.taken x in
     record {

@@ -13,7 +13,7 @@ use Rattle.tiny_http_core.specs.Pipeline.{Item, Asks, Refuses, Request, Pipeline
 use Rattle.tiny_http_core.specs.Slots.{Slot, ByServer, is_finished, is_slot_broken, segment, joined, breaks_off, new_slot}
 use Rattle.tiny_http_core.specs.Steps.{finished}
 use Rattle.tiny_http_core.specs.Turns.{Mark, Open, Left, Finished, AreInShape}
-use Rattle.tiny_http_core.specs.Conversation.{State, Failure}
+use Rattle.tiny_http_core.specs.Conversation.{State, Failure, RestAt}
 
 -- What the program keeps of a connection: the turns of its numbers, the requests that wait for their answers, whether the
 -- last head was read, whether the asking has ended, what is still to come, what the writer tells with what is held, and
@@ -64,13 +64,6 @@ abbrev pub AreKept : List Slot → List Mark → List (Option Waiting) → Type 
 AreKept [] [] [] = Unit {0}
 AreKept (s ∷ slots) (m ∷ marks) (w ∷ requests) = IsKept s m w × AreKept slots marks requests
 AreKept _ _ _ = ⊥
-
--- what the bytes still ask: nothing behind the last head, else the pipeline from where the input stands
-abbrev pub RestAt : Bool → Bool → Option Feed → List Item → Type 0
-RestAt true over feed rest = Unit {0}
-RestAt false true feed rest = rest ≡ []
-RestAt false false None rest = ⊥
-RestAt false false (Some f) rest = Pipeline (Some f.bytes) f.stop rest
 
 -- bodies are nothing, or held
 abbrev pub is_plain_item : Item → Bool

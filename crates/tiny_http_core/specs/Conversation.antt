@@ -1,12 +1,12 @@
 -- Whole conversations: which replies and which output a list of steps may have.
-use Rattle.std.specs.Prelude.{◌≡◌, ℕ, ◌+◌, ◌-◌, ◌^◌, ◌<◌, ◌⊎◌, Bool, true, false, ◌||◌, List, [], ◌∷◌, ◌++◌, map, Option, Some, None, is_some, MatchBool, slice_get, if◌then◌else◌}
+use Rattle.std.specs.Prelude.{◌≡◌, ℕ, ◌+◌, ◌-◌, ◌^◌, ◌<◌, ◌⊎◌, Bool, true, false, ◌||◌, List, [], ◌∷◌, ◌++◌, map, length, Option, Some, None, is_some, MatchBool, slice_get, if◌then◌else◌}
 use Rattle.std.specs.List.{AllByRecursion}
 use Rattle.std.specs.declared.io.ErrorKind.{ErrorKind}
 use Rattle.httpdate.specs.declared.date.HttpDate.{HttpDate}
 use Rattle.tiny_http_wire.specs.Device.{Feed, Sink, IsFront, Tells}
 use Rattle.tiny_http_core.specs.Pipeline.{Item, Asks, Refuses, Pipeline}
-use Rattle.tiny_http_core.specs.Slots.{ResponseValue, Slot, is_finished, joined, breaks_off, new_slot, last_slot, reader_is_held, reader_is_lost, IsGathered, to_request}
-use Rattle.tiny_http_core.specs.Steps.{Asked, Ask, Read, Respond, Replied, NoSuch, Memory, Use, Unused, Unreported, Reported, Outcome, Reached, outcome}
+use Rattle.tiny_http_core.specs.Slots.{ResponseValue, Slot, is_finished, joined, breaks_off, new_slot, last_slot, reader_is_held, reader_is_lost, turn_has_come, IsGathered, to_request}
+use Rattle.tiny_http_core.specs.Steps.{Asked, Ask, Read, Respond, Replied, NoSuch, Memory, Use, Unused, Unreported, Reported, use_in_turn, Outcome, Reached, outcome}
 
 -- the writer's first fault: its kind, and all that the writer took
 pub record Failure : Type 0 where
@@ -48,15 +48,15 @@ FailsBehind before own (Some kind) slots failure = FailsBetween (joined before) 
 
 -- The writer's part of a step: its reply, and the writer's failure behind it.
 abbrev pub Writes : Use → State → Replied → List Slot → Replied → Option Failure → Type 0
-Writes Unused old turn slots reply failure = (reply ≡ turn) × (failure ≡ old.failure)
-Writes Unreported old turn slots reply failure =
-    (reply ≡ turn) × MatchBool (has_output_ended old) (failure ≡ old.failure) ((failure ≡ None) ⊎ FailsBetween (joined old.reached.slots) (joined slots) failure)
-Writes (Reported own broken tell) old turn slots reply failure =
+Writes Unused old planned slots reply failure = (reply ≡ planned) × (failure ≡ old.failure)
+Writes Unreported old planned slots reply failure =
+    (reply ≡ planned) × MatchBool (has_output_ended old) (failure ≡ old.failure) ((failure ≡ None) ⊎ FailsBetween (joined old.reached.slots) (joined slots) failure)
+Writes (Reported own broken tell) old planned slots reply failure =
     MatchBool (has_output_ended old)
-    ((reply ≡ turn) × (failure ≡ old.failure))
-    (((reply ≡ broken_reply tell turn broken) × (failure ≡ None))
+    ((reply ≡ planned) × (failure ≡ old.failure))
+    (((reply ≡ broken_reply tell planned broken) × (failure ≡ None))
     ⊎ (FailsTold tell reply (joined old.reached.slots) (joined old.reached.slots ++ own) failure
-    ⊎ ((reply ≡ broken_reply tell turn broken) × FailsBehind old.reached.slots own broken slots failure)))
+    ⊎ ((reply ≡ broken_reply tell planned broken) × FailsBehind old.reached.slots own broken slots failure)))
 
 abbrev pub reached_by : Outcome → Reached
 reached_by o = record { slots = o.slots; rest = o.rest; ended = o.ended }
@@ -85,10 +85,10 @@ abbrev pub IsRefused : Item → Type 0
 IsRefused (Asks r) = ⊥
 IsRefused (Refuses status version withheld) = Unit {0}
 
--- the heads that were refused on the way are answered
-abbrev pub answers_to : List Item → Use
-answers_to [] = Unused
-answers_to (item ∷ refused) = Unreported
+-- the heads that were refused on the way are answered, if the turn of the first has come
+abbrev pub answers_to : List Slot → List Item → Use
+answers_to slots [] = Unused
+answers_to slots (item ∷ refused) = use_in_turn (turn_has_come (length slots) slots)
 
 -- want of memory: before a read, which changes nothing; or at a head, which ends the asking
 abbrev pub FindsNoMemory : HttpDate → State → Asked → Replied → State → Type 0
@@ -97,7 +97,7 @@ FindsNoMemory date old Ask reply new =
     (old.reached.ended ≡ false) × (reader_is_held (last_slot old.reached.slots) ≡ false) × (reader_is_lost (last_slot old.reached.slots) ≡ false)
     × (refused : List Item) × (rest : List Item) × (old.reached.rest ≡ refused ++ rest) × AllByRecursion IsRefused refused
     × (let slots = old.reached.slots ++ map (new_slot date) refused in
-    Has (record { reply = Memory; slots = slots; rest = rest; ended = true; writer = answers_to refused }) old reply new)
+    Has (record { reply = Memory; slots = slots; rest = rest; ended = true; writer = answers_to old.reached.slots refused }) old reply new)
 FindsNoMemory date old _ reply new = ⊥
 
 -- One step on a date may be answered so and leave this.
@@ -121,20 +121,34 @@ Run old (s ∷ steps) [] new = ⊥
 abbrev pub start : List Item → State
 start items = record { reached = record { slots = []; rest = items; ended = false }; failure = None }
 
--- The output: what the writer took and what is held are the joined segments, and it did not fail. Or it failed once: it
--- tells that kind and those bytes, and nothing is held.
-abbrev pub IsOutput : List Slot → Option Failure → Sink → Sink → List ℕ → Type 0
-IsOutput slots None before after held = (after.failures ≡ before.failures) × (sent : List ℕ) × (after.taken ≡ Some sent) × (sent ++ held ≡ joined slots)
-IsOutput slots (Some f) before after held =
-    (after.failures ≡ before.failures + 1) × Tells after.last_kind f.kind × (after.taken ≡ Some f.output) × (held ≡ [])
+-- The output: what the writer took and what is held are the joined segments, it did not fail, and the output has ended
+-- exactly if one of them broke off. Or the writer failed once: it tells that kind and those bytes, nothing is held, and the
+-- output has ended.
+abbrev pub IsOutput : List Slot → Option Failure → Sink → Sink → List ℕ → Bool → Type 0
+IsOutput slots None before after held ended =
+    (after.failures ≡ before.failures) × (taken : List ℕ) × (after.taken ≡ Some taken) × (taken ++ held ≡ joined slots) × (ended ≡ breaks_off slots)
+IsOutput slots (Some f) before after held ended =
+    (after.failures ≡ before.failures + 1) × Tells after.last_kind f.kind × (after.taken ≡ Some f.output) × (held ≡ []) × (ended ≡ true)
 
--- THE CONNECTION THEOREM: replies and output are those of a run over the pipeline that stands in the feed.
-pub record IsConversation (feed : Feed) (before : Sink) (steps : List Dated) (replies : List Replied) (after : Sink) (held : List ℕ) : Type 0 where
+-- what the bytes still ask, unless the asking has ended: nothing behind the last head, else the pipeline from where the
+-- input stands
+abbrev pub RestAt : Bool → Bool → Option Feed → List Item → Type 0
+RestAt true over feed rest = Unit {0}
+RestAt false true feed rest = rest ≡ []
+RestAt false false None rest = ⊥
+RestAt false false (Some f) rest = Pipeline (Some f.bytes) f.stop rest
+
+-- THE CONNECTION THEOREM: replies and output are those of a run over the pipeline that stands in the feed; and this of the
+-- feed is left.
+pub record IsConversation (feed : Feed) (before : Sink) (steps : List Dated) (replies : List Replied) (after : Sink) (held : List ℕ) (ended : Bool) (left : Option Feed) : Type 0 where
   pub items : List Item
   pub end : State
+  -- the last head was read
+  pub over : Bool
   pub pipeline : Pipeline (Some feed.bytes) feed.stop items
   pub run : Run (start items) steps replies end
-  pub output : IsOutput end.reached.slots end.failure before after held
+  pub output : IsOutput end.reached.slots end.failure before after held ended
+  pub input : RestAt end.reached.ended over left end.reached.rest
 
 -- the writer as a run takes it: it tells that it took no bytes, it has not ended, and its count can rise
 pub record IsFresh (sink : Sink) : Type 0 where

@@ -16,7 +16,7 @@ pub record CanSend (sink : Sink) : Type 0 where
   pub can_count : sink.failures < 2 ^ 64 - 1
 
 -- the writer took these bytes, and did not fail
-pub record Sent (old new : Sink) (text : List ℕ) : Type 0 where
+pub record Wrote (old new : Sink) (text : List ℕ) : Type 0 where
   pub bytes : new.taken ≡ append_known old.taken text
   pub sent : IsFront old.sent new.sent
   pub failures : new.failures ≡ old.failures
@@ -30,7 +30,7 @@ pub record Lost (old new : Sink) (text : List ℕ) (kind : ErrorKind) : Type 0 w
 
 -- what was held was sent, or the writer failed in it
 abbrev pub EndsQuietly : Sink → Sink → Type 0
-EndsQuietly old new = Sent old new [] ⊎ ((kind : ErrorKind) × Lost old new [] kind)
+EndsQuietly old new = Wrote old new [] ⊎ ((kind : ErrorKind) × Lost old new [] kind)
 
 -- what was held was dropped
 pub record Abandons (old new : Sink) : Type 0 where
@@ -43,10 +43,10 @@ pub record Abandons (old new : Sink) : Type 0 where
 -- A call that sends a text and flushes it: all was sent; or the text broke off, with its fault as the answer, and what there
 -- is was sent, or lost; or the writer failed. Behind a fault the outlet has ended.
 abbrev pub SendsText : {T : Type 0} → Sink → Sink → Bool → Result T Error → Text → Type 0
-SendsText old new ended (Ok x) text = (text.ending ≡ Whole) × Sent old new text.bytes × (ended ≡ false) × (new.has_ended ≡ false)
+SendsText old new ended (Ok x) text = (text.ending ≡ Whole) × Wrote old new text.bytes × (ended ≡ false) × (new.has_ended ≡ false)
 SendsText old new ended (Err e) text =
     (ended ≡ true) × (new.has_ended ≡ true)
-    × (((text.ending ≡ Broken (error_kind e)) × (Sent old new text.bytes ⊎ ((kind : ErrorKind) × Lost old new text.bytes kind)))
+    × (((text.ending ≡ Broken (error_kind e)) × (Wrote old new text.bytes ⊎ ((kind : ErrorKind) × Lost old new text.bytes kind)))
     ⊎ Lost old new text.bytes (error_kind e))
 
 -- a call that sends an answer with this data
@@ -56,7 +56,7 @@ Sends old new ended r a feed p = SendsText old new ended r (text_of a feed p) �
 -- a call that sends a text, and tells no fault
 abbrev pub SendsQuietly : Sink → Sink → Bool → List ℕ → Type 0
 SendsQuietly old new ended text =
-    ((ended ≡ false) × (new.has_ended ≡ false) × Sent old new text) ⊎ ((ended ≡ true) × (new.has_ended ≡ true) × (kind : ErrorKind) × Lost old new text kind)
+    ((ended ≡ false) × (new.has_ended ≡ false) × Wrote old new text) ⊎ ((ended ≡ true) × (new.has_ended ≡ true) × (kind : ErrorKind) × Lost old new text kind)
 
 -- a writer that goes on holds nothing back
 abbrev pub IsFlushed : Sink → Type 0

@@ -49,8 +49,8 @@ is_closed_client _ = false
 abbrev pub fault_of_answer : ErrorKind → Replied
 fault_of_answer kind = if is_closed_client kind then Done else Fault kind
 
--- How a step uses the writer: not at all; or its faults are told by no reply; or the first fault that is met while the
--- step's own text is written is told, else the fault of its response's data, if any.
+-- How a step uses the writer: not at all; or its faults are told by no reply; or a fault of the writer that is met in the
+-- step's own text is told, or the fault of its response's data, if any. Where both fail, either may be told.
 pub data Use : Type 0 where
   Unused : Use
   Unreported : Use
@@ -83,7 +83,7 @@ asks_from date writer slots [] = record { reply = Ended; slots = slots; rest = [
 asks_from date writer slots (Asks r ∷ items) =
     record { reply = Handed (length slots) r.message r.framing; slots = slots ++ new_slot date (Asks r) ∷ []; rest = items; ended = false; writer = writer }
 asks_from date writer slots (Refuses status version withheld ∷ items) =
-    asks_from date Unreported (slots ++ new_slot date (Refuses status version withheld) ∷ []) items
+    asks_from date (if turn_has_come (length slots) slots then Unreported else writer) (slots ++ new_slot date (Refuses status version withheld) ∷ []) items
 
 -- The answer to an Ask: Ended once it was; NotYet while the last body handed out holds the reader; Ended behind a chunked
 -- body that was given up before its end; else the next request of the pipeline, or its end.
@@ -152,9 +152,10 @@ waits owed (Flush k) = true
 waits owed (Upgrade k protocol response) = list_all is_ascii protocol
 waits owed _ = false
 
-abbrev pub in_turn : Bool → Use
-in_turn true = Unreported
-in_turn false = Unused
+-- a text of the server's own is written in its turn alone
+abbrev pub use_in_turn : Bool → Use
+use_in_turn true = Unreported
+use_in_turn false = Unused
 
 -- a step that the number of a request takes, in its time
 abbrev pub effect : Bool → HttpDate → Reached → Request → Slot → Bool → Asked → Outcome
@@ -173,9 +174,9 @@ effect found date old r s turn (Flush k) = changes old k s Done (Reported [] Non
 effect found date old r s turn (Upgrade k protocol response) =
     if list_all is_ascii protocol
     then changes old k (record s { stage = Upgraded protocol response date [] false; owed = false }) Done Unreported
-    else changes old k (finished s ByServer) Refused (in_turn turn)
-effect found date old r s turn (Finish k) = changes old k (finished s (closed s.stage)) Done (in_turn turn)
-effect found date old r s turn (Drop k) = changes old k (finished s ByServer) Done (in_turn turn)
+    else changes old k (finished s ByServer) Refused (use_in_turn turn)
+effect found date old r s turn (Finish k) = changes old k (finished s (closed s.stage)) Done (use_in_turn turn)
+effect found date old r s turn (Drop k) = changes old k (finished s ByServer) Done (use_in_turn turn)
 effect found date old r s turn Ask = unchanged old NoSuch
 
 abbrev pub at_item : Bool → HttpDate → Reached → ℕ → Asked → Slot → Item → Outcome

@@ -286,7 +286,7 @@ pub fn run<R: ReadDevice + Drop, W: WriteDevice + Drop, D: ReadDevice + Drop>(
     // THE CONNECTION THEOREM: the reader tells its feed; the writer tells that it took nothing, has not ended, and its count
     // can rise; the responses' data tell their feeds of fewer than 2^63 bytes.
     ensures conversation { IfOk result (λ done. (feed : Feed) (dated : List Dated) → R.feed reader ≡ Some feed → IsFresh (W.sink writer) → AllZip (IsTold D.feed) steps.items dated
-        → IsConversation feed (W.sink writer) dated (map seen done.replies.items) (W.sink (outlet_writer done.outlet)) (outlet_held done.outlet)) }
+        → IsConversation feed (W.sink writer) dated (map seen done.replies.items) (W.sink (outlet_writer done.outlet)) (outlet_held done.outlet) (outlet_ended done.outlet) done.source.feed) }
     // What the source still gives is the client's bytes from some place on.
     ensures source { IfOk result (λ done. GoesOn (R.feed reader) done.source.feed) }
 

@@ -2,7 +2,7 @@ use Rattle.std.proofs.Common.{rules, arith, lit<, ◌≡◌, refl, sym, ap, ◌�
 use Rattle.tiny_http_wire.specs.Device.{Sink, ending}
 use Rattle.tiny_http_wire.specs.Budget.{budget_sink, budget_bytes}
 use Rattle.tiny_http_core.specs.Conversation.{IsFresh}
-use Rattle.tiny_http_core.specs.Outlet.{outlet_held}
+use Rattle.tiny_http_core.specs.Outlet.{outlet_held, outlet_ended}
 use Rattle.replay.specs.Script.{timed_value}
 use Rattle.replay.proofs.ScriptLemmas.{told}
 use Rattle.replay.proofs.run_steps.Goals as goal
@@ -21,6 +21,8 @@ returns-clause-runs c =
       taken = budget_bytes writer;
       held = outlet_held c.in-Ok.record.outlet;
       fresh = fresh;
+      ended = outlet_ended c.in-Ok.record.outlet;
+      left = c.in-Ok.record.source.feed;
       conversation = c.in-Ok.ensures.conversation (ending c.args.bytes.items) (map timed_value c.args.steps.items) (ap Some c.new-reader.ensures) fresh (told c.args.steps.items);
       no_fault = zero ∙ sym none;
       took = refl;
