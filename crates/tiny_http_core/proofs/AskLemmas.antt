@@ -1,8 +1,8 @@
 -- An Ask: from where the connection stands to where it stands behind it.
-use Rattle.std.proofs.Common.{◌≡◌, refl, sym, ap, ◌∙◌, subst, ℕ, ◌-◌, ◌<◌, ◌^◌, ◌⊎◌, inl, inr, Bool, true, false, not, ◌&&◌, ◌||◌, List, [], ◌∷◌, ◌++◌, length, Option, Some, None, append-nil, arith, eq-eqb, ⊎_elim}
+use Rattle.std.proofs.Common.{◌≡◌, refl, sym, ap, ◌∙◌, subst, ℕ, ◌-◌, ◌<◌, ◌^◌, ◌⊎◌, inl, inr, Bool, true, false, not, ◌&&◌, List, [], ◌∷◌, ◌++◌, length, Option, Some, None, append-nil, arith, eq-eqb, ⊎_elim}
 use Rattle.std.proofs.lemmas.Bool.{ne_eqb}
 use Rattle.std.proofs.lemmas.List.{take_all}
-use Rattle.std.specs.Prelude.{MatchOption, MatchBool, is_some, ⊤, ◌==◌, if◌then◌else◌}
+use Rattle.std.specs.Prelude.{MatchOption, MatchBool, ⊤, ◌==◌, if◌then◌else◌}
 use Rattle.std.specs.Global.{Vec}
 use Rattle.std.specs.List.{list_all}
 use Rattle.httpdate.specs.declared.date.HttpDate.{HttpDate}
@@ -21,9 +21,9 @@ use Rattle.tiny_http_core.specs.Framing.{is_built, is_plain}
 use Rattle.tiny_http_core.specs.Source.{GoesOn}
 use Rattle.tiny_http_core.specs.Pipeline.{Item, Asks, Refuses, Request, Place, Heading, Ends, Heads, OneHead, FoundAt, served, served_answer, is_head_method, Pipeline}
 use Rattle.tiny_http_core.specs.HeadReads.{ReadsHead, StandsAt, place_after, request_of, refused, head_message, head_framing}
-use Rattle.tiny_http_core.specs.Slots.{Slot, is_finished, is_broken, is_slot_broken, segment, joined, breaks_off, new_slot, own_text, turn_has_come, is_streamed, is_chunked, body_holds_reader, body_was_abandoned, last_slot, reader_is_held, reader_is_lost}
+use Rattle.tiny_http_core.specs.Slots.{Slot, is_finished, is_broken, is_slot_broken, segment, joined, new_slot, own_text, turn_has_come, is_streamed, is_chunked, body_holds_reader, body_was_abandoned, last_slot, reader_is_held, reader_is_lost}
 use Rattle.tiny_http_core.specs.Steps.{Asked, Ask, Replied, Handed, Ended, Memory, Unused, Unreported, Outcome, Reached, unchanged, ask, asks_from, outcome}
-use Rattle.tiny_http_core.specs.Conversation.{Failure, State, has_output_ended, RestAt, FailsBetween, Writes, Has, StepsTo}
+use Rattle.tiny_http_core.specs.Conversation.{Failure, State, RestAt, FailsBetween, Writes, Has, StepsTo}
 use Rattle.tiny_http_core.specs.Sending.{IsFlushed, SendsUnlessEnded}
 use Rattle.tiny_http_core.specs.Turns.{Mark, Open, Left, Finished, AreInShape, first_unfinished}
 use Rattle.tiny_http_core.specs.Pending.{LeavesText, KeepsHead}

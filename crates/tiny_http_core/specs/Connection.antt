@@ -9,7 +9,7 @@ use Rattle.tiny_http_core.specs.declared.driver.Connection.{Connection}
 use Rattle.tiny_http_core.specs.Framing.{is_plain}
 use Rattle.tiny_http_core.specs.Source.{GoesOn}
 use Rattle.tiny_http_core.specs.Outlet.{outlet_sink, outlet_ended}
-use Rattle.tiny_http_core.specs.Pipeline.{Item, Asks, Refuses, Request, Pipeline, is_head_method}
+use Rattle.tiny_http_core.specs.Pipeline.{Item, Asks, Refuses, Request, is_head_method}
 use Rattle.tiny_http_core.specs.Slots.{Slot, ByServer, is_finished, is_slot_broken, segment, joined, breaks_off, new_slot}
 use Rattle.tiny_http_core.specs.Steps.{finished}
 use Rattle.tiny_http_core.specs.Turns.{Mark, Open, Left, Finished, AreInShape}
