@@ -1,17 +1,7 @@
 //! Lines of a head, read and refused.
-ghost use Rattle.std.specs.Prelude.{◌≡◌};
-ghost use Rattle.std.specs.List.{list_all};
-ghost use Rattle.tiny_http_wire.specs.Bytes.{is_ascii};
-
 use std::test::Fail;
 use tiny_http_wire::common::{HTTPVersion, Header, Method};
 use tiny_http_wire::grammar::{parse_content_length, parse_header_line, parse_request_line};
-
-fn is_ascii(text: &[u8]) -> bool
-    ensures { result ≡ list_all is_ascii text.now }
-{
-    text.iter().all(|b| *b < 128)
-}
 
 #[test]
 fn request_lines(rt: HostRuntime) -> Result<(), Fail> {
@@ -43,7 +33,7 @@ fn request_lines(rt: HostRuntime) -> Result<(), Fail> {
         ("GET / http/1.1", None),
     ] {
         let line = line.as_bytes();
-        assert!(rt; is_ascii(line));
+        assert!(rt; line.iter().all(|b| *b < 128));
         let found = parse_request_line(rt.alloc(), line)?;
         match (&found, wanted) {
             (Some((method, path, version)), Some(want)) => {
@@ -95,7 +85,7 @@ fn header_lines(rt: HostRuntime) -> Result<(), Fail> {
         ("Content-Length : 5", None),
     ] {
         let line = line.as_bytes();
-        assert!(rt; is_ascii(line));
+        assert!(rt; line.iter().all(|b| *b < 128));
         let found = parse_header_line(rt.alloc(), line)?;
         match (&found, wanted) {
             (Some(header), Some((field, value))) => {
