@@ -1,6 +1,6 @@
 //! Answers: which request they go to, and what a writer's fault leaves of them.
 use crate::runs::Deed::{Ask, Drop, Text};
-use crate::runs::{AMPLE, Case, EMPTY, TEXT, Trouble, assert_case, assert_troubled};
+use crate::runs::{AMPLE, Case, EMPTY, TEXT, Trouble, assert_case, assert_troubled, takes};
 use std::io::ErrorKind;
 use std::test::Fail;
 
@@ -94,15 +94,6 @@ fn a_refused_request_takes_no_answer(rt: HostRuntime) -> Result<(), Fail> {
         ],
     };
     assert_case(&rt, rt.alloc(), &case)
-}
-
-// The reader ends, and the writer takes so many bytes and then fails so.
-fn takes(room: usize, writer: ErrorKind) -> Trouble {
-    Trouble {
-        reader: None,
-        room,
-        writer,
-    }
 }
 
 #[test]

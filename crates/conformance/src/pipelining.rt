@@ -1,6 +1,6 @@
 //! Requests that are handed out while earlier ones are open: their answers leave in the order of the requests.
 use crate::runs::Deed::{Ask, Drop, Text};
-use crate::runs::{Case, Deed, EMPTY, TEXT, Trouble, assert_case, assert_troubled, steps_of};
+use crate::runs::{Case, Deed, EMPTY, TEXT, assert_case, assert_troubled, steps_of, takes};
 use std::alloc::Global;
 use std::io;
 use std::io::{ErrorKind, Write};
@@ -118,7 +118,7 @@ fn a_fault_is_told_where_it_is_met(rt: HostRuntime) -> Result<(), Fail> {
             replies,
             output: &["HTTP/1.1 2"],
         };
-        assert_troubled(&rt, rt.alloc(), &case, fails_behind(10, kind))?;
+        assert_troubled(&rt, rt.alloc(), &case, takes(10, kind))?;
     }
     Ok(())
 }
@@ -137,16 +137,62 @@ fn no_reply_tells_a_fault_in_a_text_that_waited(rt: HostRuntime) -> Result<(), F
         ],
     };
     let room = "HTTP/1.1 200 OK\r\n".len() + TEXT.len() + "Content-Length: 1\r\n\r\na".len() + 10;
-    assert_troubled(&rt, rt.alloc(), &case, fails_behind(room, ErrorKind::Other))
+    assert_troubled(&rt, rt.alloc(), &case, takes(room, ErrorKind::Other))
 }
 
-// The reader ends, and the writer takes so many bytes and then fails so.
-fn fails_behind(room: usize, writer: ErrorKind) -> Trouble {
-    Trouble {
-        reader: None,
-        room,
-        writer,
+// Takes all bytes, but for one call, which fails.
+#[derive(Drop)]
+struct Faltering {
+    taken: Vec<u8>,
+    // How many calls are left up to that one, and with it.
+    calls: u64,
+}
+
+impl Faltering {
+    fn falters(&mut self) -> bool {
+        if self.calls == 0 {
+            return false;
+        }
+        self.calls -= 1;
+        self.calls == 0
     }
+}
+
+impl Write for Faltering {
+    fn write(&mut self, buf: &[u8]) -> io::Result<usize> {
+        if self.falters() {
+            return Err(ErrorKind::Other.into());
+        }
+        self.taken.extend_from_slice(buf)?;
+        Ok(buf.len())
+    }
+
+    fn flush(&mut self) -> io::Result<()> {
+        if self.falters() {
+            return Err(ErrorKind::Other.into());
+        }
+        Ok(())
+    }
+}
+
+// Runs these steps over these bytes, where this call of the writer fails: how often the writer failed, and what is left of it.
+fn run_faltering(
+    alloc: Global,
+    client: &[u8],
+    deeds: &[Deed<'_>],
+    calls: u64,
+) -> Result<(u64, Faltering), Fail> {
+    let reader = Canned::new(client.to_vec(alloc)?, None);
+    let writer = Metered::new(Faltering {
+        taken: Vec::new(alloc),
+        calls,
+    });
+    let Ok(record) = run(alloc, reader, writer, steps_of(alloc, deeds)?) else {
+        return Err("no room for the replies".into());
+    };
+    let writer = record.outlet.into_inner();
+    let failures = writer.failures();
+    Ok((failures, writer.into_inner()))
 }
 
 // Requests of two versions in turn, so that their answers differ.
@@ -165,19 +211,6 @@ const STATUS_LINES: [&str; 5] = [
     "HTTP/1.0 500 Internal Server Error\r\n",
     "HTTP/1.1 500 Internal Server Error\r\n",
 ];
-
-// The output of a run of these steps over these bytes, where the writer takes all.
-fn output(alloc: Global, client: &[u8], deeds: &[Deed<'_>]) -> Result<Vec<u8>, Fail> {
-    let reader = Canned::new(client.to_vec(alloc)?, None);
-    let writer = Metered::new(Faltering {
-        taken: Vec::new(alloc),
-        calls: u64::MAX,
-    });
-    let Ok(record) = run(alloc, reader, writer, steps_of(alloc, deeds)?) else {
-        return Err("no room for the replies".into());
-    };
-    Ok(record.outlet.into_inner().into_inner().taken)
-}
 
 // The order that this number stands for, whose digits to this base are its numbers; none if one comes twice.
 fn order_of(alloc: Global, code: u64, base: u64) -> Result<Option<Vec<u64>>, Fail> {
@@ -223,8 +256,13 @@ fn drop_all(rt: &impl Abort, alloc: Global, count: usize, codes: u64) -> Result<
             continue;
         };
         let deeds = deeds_of(alloc, order.as_slice())?;
-        let written = output(alloc, client.as_slice(), deeds.as_slice())?;
-        assert_eq!(rt; written.as_slice(), wanted.as_slice(), "{order:?}");
+        let (_failures, writer) = run_faltering(
+            alloc,
+            client.as_slice(),
+            deeds.as_slice(),
+            u64::MAX,
+        )?;
+        assert_eq!(rt; writer.taken.as_slice(), wanted.as_slice(), "{order:?}");
         orders = orders.saturating_add(1);
     }
     Ok(orders)
@@ -245,74 +283,22 @@ fn drops_in_every_order(rt: HostRuntime) -> Result<(), Fail> {
     Ok(())
 }
 
-// Takes all bytes, but for one call, which fails.
-#[derive(Drop)]
-struct Faltering {
-    taken: Vec<u8>,
-    // How many calls are left up to that one, and with it.
-    calls: u64,
-}
-
-impl Faltering {
-    fn falters(&mut self) -> bool {
-        if self.calls == 0 {
-            return false;
-        }
-        self.calls -= 1;
-        self.calls == 0
-    }
-}
-
-impl Write for Faltering {
-    fn write(&mut self, buf: &[u8]) -> io::Result<usize> {
-        if self.falters() {
-            return Err(ErrorKind::Other.into());
-        }
-        self.taken.extend_from_slice(buf)?;
-        Ok(buf.len())
-    }
-
-    fn flush(&mut self) -> io::Result<()> {
-        if self.falters() {
-            return Err(ErrorKind::Other.into());
-        }
-        Ok(())
-    }
-}
-
-// What the run of three requests leaves where this call of the writer fails: how often the writer failed, what it took,
-// and whether the call came at all.
-fn falter_at(alloc: Global, calls: u64) -> Result<(u64, Vec<u8>, bool), Fail> {
-    let reader = Canned::new(THREE.to_vec(alloc)?, None);
-    let writer = Metered::new(Faltering {
-        taken: Vec::new(alloc),
-        calls,
-    });
-    let Ok(record) = run(alloc, reader, writer, steps_of(alloc, OUT_OF_ORDER)?) else {
-        return Err("no room for the replies".into());
-    };
-    let writer = record.outlet.into_inner();
-    let failures = writer.failures();
-    let Faltering { taken, calls } = writer.into_inner();
-    Ok((failures, taken, calls == 0))
-}
-
 #[test]
 fn each_call_of_the_writer_fails(rt: HostRuntime) -> Result<(), Fail> {
-    let whole = output(rt.alloc(), THREE, OUT_OF_ORDER)?;
-    let mut calls = 0;
+    let (_failures, whole) = run_faltering(rt.alloc(), THREE, OUT_OF_ORDER, u64::MAX)?;
+    let mut last = 0;
     for call in 1..100 {
-        let (failures, taken, came) = falter_at(rt.alloc(), call)?;
-        if !came {
+        let (failures, writer) = run_faltering(rt.alloc(), THREE, OUT_OF_ORDER, call)?;
+        if writer.calls > 0 {
             assert_eq!(rt; failures, 0);
-            assert_eq!(rt; taken.as_slice(), whole.as_slice());
+            assert_eq!(rt; writer.taken.as_slice(), whole.taken.as_slice());
             break;
         }
         assert_eq!(rt; failures, 1);
-        assert!(rt; taken.len() <= whole.len() && whole.starts_with(taken.as_slice()));
-        calls = call;
+        assert!(rt; whole.taken.starts_with(writer.taken.as_slice()));
+        last = call;
     }
     // Three answers and one text that waited, each written and flushed by at least one call.
-    assert!(rt; calls >= 6 && calls < 99);
+    assert!(rt; last >= 6 && last < 99);
     Ok(())
 }

@@ -60,6 +60,15 @@ pub(crate) struct Trouble {
     pub writer: ErrorKind,
 }
 
+/// The reader ends, and the writer takes so many bytes and then fails so.
+pub(crate) fn takes(room: usize, writer: ErrorKind) -> Trouble {
+    Trouble {
+        reader: None,
+        room,
+        writer,
+    }
+}
+
 /// The reader ends, and the writer takes all.
 const NO_TROUBLE: Trouble = Trouble {
     reader: None,

@@ -1,6 +1,6 @@
--- How the joined output goes with one slot more.
-use Rattle.std.proofs.Common.{◌≡◌, refl, sym, ap, ◌∙◌, ℕ, zero, suc, Bool, true, false, not, ◌&&◌, ◌||◌, List, [], ◌∷◌, ◌++◌, length, take, Option, Some, append_assoc, append-nil, inl, inr, ◌⊎◌}
-use Rattle.std.specs.Prelude.{slice_get, slice_set, if◌then◌else◌, MatchOption, ⊤}
+-- How the joined output goes with more slots.
+use Rattle.std.proofs.Common.{◌≡◌, refl, sym, ap, ◌∙◌, ℕ, Bool, true, false, not, ◌&&◌, ◌||◌, List, [], ◌∷◌, ◌++◌, Option, Some, append_assoc}
+use Rattle.std.specs.Prelude.{if◌then◌else◌, MatchOption, ⊤}
 use Rattle.std.specs.List.{list_all, last_or}
 use Rattle.std.proofs.lemmas.Bool.{and_parts}
 use Rattle.tiny_http_core.specs.Slots.{Slot, is_finished, is_slot_broken, segment, joined, breaks_off}
@@ -10,62 +10,12 @@ pub all-snoc : {X : Type 0} (p : X → Bool) (xs : List X) (x : X) → list_all 
 all-snoc p [] x h k = rw k refl
 all-snoc p (y ∷ ys) x h k = let a = and_parts (p y) (list_all p ys) h in rw (a.0, all-snoc p ys x a.1 k) refl
 
-pub all-front : {X : Type 0} (p : X → Bool) (xs : List X) (x : X) → list_all p (xs ++ x ∷ []) ≡ true → (list_all p xs ≡ true) × (p x ≡ true)
-all-front p [] x h = (refl, (and_parts (p x) true h).0)
-all-front p (y ∷ ys) x h =
-    let a = and_parts (p y) (list_all p (ys ++ x ∷ [])) h in
-    let k = all-front p ys x a.1 in
-    (rw (a.0, k.0) refl, k.1)
-
 -- the last of a list
 pub last-all : {X : Type 0} (p : X → Bool) (o : Option X) (xs : List X) → MatchOption o ⊤ (λ x. p x ≡ true) → list_all p xs ≡ true → MatchOption (last_or o xs) ⊤ (λ x. p x ≡ true)
 last-all p o [] h a = h
 last-all p o (x ∷ xs) h a = let k = and_parts (p x) (list_all p xs) a in last-all p (Some x) xs k.0 k.1
 
-pub last-snoc : {X : Type 0} (o : Option X) (xs : List X) (x : X) → last_or o (xs ++ x ∷ []) ≡ Some x
-last-snoc o [] x = refl
-last-snoc o (y ∷ ys) x = last-snoc (Some y) ys x
-
--- places of a list with one more
-pub get-last : {X : Type 0} (xs : List X) (x : X) → slice_get (xs ++ x ∷ []) (length xs) ≡ Some x
-get-last [] x = refl
-get-last (y ∷ ys) x = get-last ys x
-
-pub get-front : {X : Type 0} (p : X → Bool) (xs : List X) (x y : X) (k : ℕ) → list_all p xs ≡ true → slice_get (xs ++ y ∷ []) k ≡ Some x → (p x ≡ true) ⊎ (k ≡ length xs)
-get-front p [] x y zero a e = inr refl
-get-front p [] x y (suc k) a e = cc
-get-front p (z ∷ zs) x y zero a e =
-    let same : z ≡ x = cc in
-    inl (ap p (sym same) ∙ (and_parts (p z) (list_all p zs) a).0)
-get-front p (z ∷ zs) x y (suc k) a e = next (get-front p zs x y k (and_parts (p z) (list_all p zs) a).1 e)
-  where
-    next : (p x ≡ true) ⊎ (k ≡ length zs) → (p x ≡ true) ⊎ (suc k ≡ suc (length zs))
-    next (inl h) = inl h
-    next (inr h) = inr (ap suc h)
-
-pub get-all : {X : Type 0} (p : X → Bool) (xs : List X) (x : X) (k : ℕ) → list_all p xs ≡ true → slice_get xs k ≡ Some x → p x ≡ true
-get-all p [] x k a e = cc
-get-all p (z ∷ zs) x zero a e =
-    let same : z ≡ x = cc in
-    ap p (sym same) ∙ (and_parts (p z) (list_all p zs) a).0
-get-all p (z ∷ zs) x (suc k) a e = get-all p zs x k (and_parts (p z) (list_all p zs) a).1 e
-
-pub set-last : {X : Type 0} (xs : List X) (x y : X) → slice_set (xs ++ x ∷ []) (length xs) y ≡ xs ++ y ∷ []
-set-last [] x y = refl
-set-last (z ∷ zs) x y = ap (λ r. z ∷ r) (set-last zs x y)
-
-pub take-front : {X : Type 0} (xs : List X) (x : X) → take (length xs) (xs ++ x ∷ []) ≡ xs
-take-front [] x = refl
-take-front (z ∷ zs) x = ap (λ r. z ∷ r) (take-front zs x)
-
 -- joined segments
-either-empty : (t : Bool) → ◌≡◌ {A = List ℕ} (if t then [] else []) []
-either-empty true = refl
-either-empty false = refl
-
-joined-one : (s : Slot) → joined (s ∷ []) ≡ segment s
-joined-one s = ap (λ r. segment s ++ r) (either-empty (is_finished s && not (is_slot_broken s))) ∙ append-nil (segment s)
-
 goes-on : (f b : Bool) (u v w : List ℕ) → (f ≡ true → b ≡ false → u ≡ v) → w ++ (if (f && not b) then u else []) ≡ w ++ (if (f && not b) then v else [])
 goes-on true false u v w h = ap (λ r. w ++ r) (h refl refl)
 goes-on true true u v w h = refl
