@@ -3,6 +3,7 @@
 
 pub mod ascii;
 mod body;
+pub mod chunked;
 pub mod coding;
 pub mod common;
 pub mod device;

@@ -1,0 +1,54 @@
+-- The size that a size line gives, read byte by byte (RFC 9112, section 7.1).
+use Rattle.std.specs.Prelude.{ℕ, ◌+◌, ◌*◌, ◌^◌, ◌<◌, ◌≤◌, ◌==◌, nat_lt, List, [], ◌∷◌, Option, Some, None, if◌then◌else◌, ⊤}
+use Rattle.std.specs.Char.{digit_value}
+use Rattle.tiny_http_wire.specs.Bytes.{semicolon}
+use Rattle.tiny_http_wire.specs.Chunks.{is_bws, is_hex}
+use Rattle.tiny_http_wire.specs.declared.chunked.size.Size.{Size}
+use Rattle.tiny_http_wire.specs.declared.chunked.size.Size.TheVariants.{Blank, Digits, Behind, Extension, Wrong}
+
+-- the value of a hexadecimal digit
+unfoldable pub hex_of : ℕ → Option ℕ
+hex_of b = if is_hex b then Some (digit_value b) else None
+
+-- behind the digits, by a byte that is no digit
+abbrev pub digits_ended : ℕ → ℕ → Size
+digits_ended value b = if is_bws b then Behind value else (if b == semicolon then Extension value else Wrong)
+
+-- at the first byte that isn't blank
+abbrev pub digits_begun : Option ℕ → Size
+digits_begun None = Wrong
+digits_begun (Some digit) = Digits digit 1
+
+-- behind a digit, by the next byte
+abbrev pub more_digits : ℕ → ℕ → ℕ → Option ℕ → Size
+more_digits value count b None = digits_ended value b
+more_digits value count b (Some digit) = if nat_lt count 16 then Digits (value * 16 + digit) (count + 1) else Wrong
+
+-- one byte more
+abbrev pub size_step : Size → ℕ → Size
+size_step Blank b = if is_bws b then Blank else digits_begun (hex_of b)
+size_step (Digits value count) b = more_digits value count b (hex_of b)
+size_step (Behind value) b = digits_ended value b
+size_step (Extension value) b = Extension value
+size_step Wrong b = Wrong
+
+-- behind these bytes
+abbrev pub size_after : Size → List ℕ → Size
+size_after size [] = size
+size_after size (b ∷ bs) = size_after (size_step size b) bs
+
+-- the size, where the line ends here
+abbrev pub size_value : Size → Option ℕ
+size_value Blank = None
+size_value (Digits value count) = Some value
+size_value (Behind value) = Some value
+size_value (Extension value) = Some value
+size_value Wrong = None
+
+-- the number has no more digits than were read
+abbrev pub SizeFits : Size → Type 0
+SizeFits Blank = ⊤
+SizeFits (Digits value count) = (value < 16 ^ count) × (count ≤ 16)
+SizeFits (Behind value) = ⊤
+SizeFits (Extension value) = ⊤
+SizeFits Wrong = ⊤

@@ -1,0 +1,117 @@
+-- What a decoder of a chunked body still gives (RFC 9112, section 7.1).
+use Rattle.std.specs.Prelude.{◌≡◌, ℕ, ◌+◌, ◌<◌, nat_lt, List, [], ◌++◌, length, Option, Some, None, Result, Ok, Err, ⊤}
+use Rattle.std.specs.Option.{option_map}
+use Rattle.std.specs.IoError.{error_kind}
+use Rattle.std.specs.declared.io.Error.{Error}
+use Rattle.std.specs.declared.io.ErrorKind.{ErrorKind}
+use Rattle.tiny_http_wire.specs.declared.device.Stop.{Stop}
+use Rattle.tiny_http_wire.specs.declared.device.Stop.TheVariants.{End, Fault}
+use Rattle.tiny_http_wire.specs.declared.chunked.Next.{Next}
+use Rattle.tiny_http_wire.specs.declared.chunked.Next.TheVariants.{Line, Data, Over, Broken}
+use Rattle.tiny_http_wire.specs.declared.chunked.Decoding.{Decoding}
+use Rattle.tiny_http_wire.specs.declared.chunked.Decoder.{Decoder}
+use Rattle.tiny_http_wire.specs.Device.{Feed}
+use Rattle.tiny_http_wire.specs.ChunkReading.{Decoded, decoded, data_at, trailer_part, broken}
+
+-- the data that are still to come, and what the reader gives behind the body, or the fault
+pub record Coming : Type 0 where
+  pub bytes : List ℕ
+  pub behind : Result Feed ErrorKind
+
+-- a chunked body that begins here
+abbrev pub body_at : Stop → List ℕ → Decoded
+body_at stop bytes = decoded (length bytes + 1) stop bytes
+
+-- what is read of the body from here on
+unfoldable pub decoded_from : Next → Feed → Decoded
+decoded_from Line feed = body_at feed.stop feed.bytes
+decoded_from (Data left) feed = data_at (body_at feed.stop) feed.stop left feed.bytes (nat_lt (length feed.bytes) left)
+decoded_from Over feed = record { body = []; ends = Ok feed.bytes }
+decoded_from (Broken kind) feed = broken [] kind
+
+-- what is read behind the last chunk's line, where so many trailer lines may stand
+unfoldable pub trailers_from : ℕ → Feed → Decoded
+trailers_from most feed = trailer_part most feed.stop feed.bytes
+
+-- the rest of the bytes, with their stop, or the fault
+abbrev pub rest_at : Stop → Result (List ℕ) ErrorKind → Result Feed ErrorKind
+rest_at stop (Ok rest) = Ok (record { bytes = rest; stop = stop })
+rest_at stop (Err kind) = Err kind
+
+abbrev pub coming_of : Stop → Decoded → Coming
+coming_of stop d = record { bytes = d.body; behind = rest_at stop d.ends }
+
+-- what comes of a reader's feed, if it is told
+abbrev pub comes : Next → Option Feed → Option Coming
+comes next feed = option_map (λ f. coming_of f.stop (decoded_from next f)) feed
+
+abbrev pub trails : ℕ → Option Feed → Option Coming
+trails most feed = option_map (λ f. coming_of f.stop (trailers_from most f)) feed
+
+abbrev pub decoding_coming : Decoding → Option Feed → Option Coming
+decoding_coming d feed = comes d.next feed
+
+-- no line has to be read before the next byte of data, the end or the fault
+abbrev pub IsReady : Next → Type 0
+IsReady Line = ⊥
+IsReady (Data left) = 0 < left
+IsReady Over = ⊤
+IsReady (Broken kind) = ⊤
+
+-- the end or the fault that is told from now on
+abbrev pub next_stop : Next → Option Stop
+next_stop Line = None
+next_stop (Data left) = None
+next_stop Over = Some End
+next_stop (Broken kind) = Some (Fault kind)
+
+abbrev pub decoding_stop : Decoding → Option Stop
+decoding_stop d = next_stop d.next
+
+-- these data, and then what comes
+abbrev pub prepend_data : List ℕ → Coming → Coming
+prepend_data bs c = record { bytes = bs ++ c.bytes; behind = c.behind }
+
+-- these data, and then what comes, where it is told
+abbrev pub with_front : List ℕ → Option Coming → Option Coming
+with_front bs c = option_map (prepend_data bs) c
+
+-- the body is over, and this stands behind it
+abbrev pub over_at : Feed → Coming
+over_at feed = record { bytes = []; behind = Ok feed }
+
+-- nothing comes but this fault, if it is told what comes
+abbrev pub BreaksBy : ErrorKind → Option Coming → Type 0
+BreaksBy kind None = ⊤
+BreaksBy kind (Some c) = c ≡ record { bytes = []; behind = Err kind }
+
+-- the answer of a read is this end or fault
+abbrev pub AnswersStop : Stop → Result ℕ Error → Type 0
+AnswersStop End (Ok n) = n ≡ 0
+AnswersStop End (Err e) = ⊥
+AnswersStop (Fault kind) (Ok n) = ⊥
+AnswersStop (Fault kind) (Err e) = error_kind e ≡ kind
+
+-- the reader inside of a decoder
+abbrev pub decoder_inner : {R : Type 0} → Decoder R → R
+decoder_inner d = d.inner
+
+-- the data that it still gives, and what stands behind the body, or the fault
+abbrev pub decoder_coming : {R : Type 0} → (R → Option Feed) → Decoder R → Option Coming
+decoder_coming feed d = decoding_coming d.decoding (feed d.inner)
+
+-- the end or the fault that it tells from now on
+abbrev pub decoder_stop : {R : Type 0} → Decoder R → Option Stop
+decoder_stop d = decoding_stop d.decoding
+
+-- the data as a reader's bytes: those of a whole body end, others stop by the fault
+abbrev pub stop_behind : Result Feed ErrorKind → Stop
+stop_behind (Ok rest) = End
+stop_behind (Err kind) = Fault kind
+
+abbrev pub feed_of : Coming → Feed
+feed_of c = record { bytes = c.bytes; stop = stop_behind c.behind }
+
+-- what the decoder gives as a reader
+abbrev pub decoder_feed : {R : Type 0} → (R → Option Feed) → Decoder R → Option Feed
+decoder_feed feed d = option_map feed_of (decoder_coming feed d)

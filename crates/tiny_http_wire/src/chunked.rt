@@ -1,0 +1,310 @@
+//! The decoder of chunked bodies (RFC 9112, section 7.1).
+ghost use Rattle.std.specs.Prelude.{◌≡◌, ℕ, ◌<◌, ◌≤◌, List, length, take, Option, None, Some, Ok, Err, IfOk, IfErr, OnOk, OnErr, IsSome, IfSome};
+ghost use Rattle.std.specs.Option.{option_map};
+ghost use Rattle.std.specs.IoError.{error_kind};
+ghost use Rattle.tiny_http_wire.specs.Device.{given};
+ghost use Rattle.tiny_http_wire.specs.Chunks.{WholeChunks, CutChunks};
+ghost use Rattle.tiny_http_wire.specs.ChunkLine.{CutBy};
+ghost use Rattle.tiny_http_wire.specs.Decoding.{comes, trails, IsReady, next_stop, decoding_coming, decoding_stop, with_front, over_at, BreaksBy, AnswersStop};
+
+mod line;
+mod size;
+
+use crate::chunked::line::{next_byte, next_line};
+use crate::device::{ReadDevice, Stop, read_front};
+use std::io;
+use std::io::{ErrorKind, Read};
+
+/// What has to come next of a chunked body.
+#[derive(Clone, Copy, Drop)]
+enum Next {
+    /// A size line.
+    Line,
+    /// So many bytes of data, and a CR LF.
+    Data(u64),
+    /// Nothing: the trailer part was read.
+    Over,
+    /// Nothing: the body is broken, by a fault of this kind.
+    Broken(ErrorKind),
+}
+
+// Takes the CR LF behind a chunk's data.
+fn close_chunk<R: ReadDevice>(reader: &mut R) -> Result<(), ErrorKind>
+    ensures closed { OnOk result (comes Next.Line (R.feed reader.new) ≡ comes (Next.Data 0) (R.feed reader.old)) }
+    ensures broken { IfErr result (λ kind. comes (Next.Broken kind) (R.feed reader.new) ≡ comes (Next.Data 0) (R.feed reader.old)) }
+{
+    match next_byte(reader) {
+        Err(kind) => return Err(kind),
+        Ok(b) => {
+            if b != b'\r' {
+                return Err(ErrorKind::InvalidData);
+            }
+        }
+    }
+    match next_byte(reader) {
+        Err(kind) => Err(kind),
+        Ok(b) => {
+            if b == b'\n' {
+                Ok(())
+            } else {
+                Err(ErrorKind::InvalidData)
+            }
+        }
+    }
+}
+
+// Takes the trailer part: at most 128 lines, and its empty line.
+fn skip_trailers<R: ReadDevice>(reader: &mut R) -> Next
+    ensures comes { comes result (R.feed reader.new) ≡ trails 128 (R.feed reader.old) }
+    ensures ready { IsReady result }
+{
+    for lines in 0..128_usize {
+        match next_line(reader) {
+            Err(kind) => return Next::Broken(kind),
+            Ok(line) => {
+                if line.length == 0 {
+                    return Next::Over;
+                }
+            }
+        }
+    }
+    match next_line(reader) {
+        Err(kind) => Next::Broken(kind),
+        Ok(line) => {
+            if line.length == 0 {
+                Next::Over
+            } else {
+                Next::Broken(ErrorKind::InvalidData)
+            }
+        }
+    }
+}
+
+// Takes a size line, and behind that of the last chunk the trailer part.
+fn open_chunk<R: ReadDevice>(reader: &mut R) -> Next
+    ensures comes { comes result (R.feed reader.new) ≡ comes Next.Line (R.feed reader.old) }
+    ensures ready { IsReady result }
+{
+    match next_line(reader) {
+        Err(kind) => Next::Broken(kind),
+        Ok(line) => match line.size.value() {
+            None => Next::Broken(ErrorKind::InvalidData),
+            Some(size) => {
+                if size == 0 {
+                    skip_trailers(reader)
+                } else {
+                    Next::Data(size)
+                }
+            }
+        },
+    }
+}
+
+// Takes what stands before the next byte of data, the end or the fault.
+fn go_to_data<R: ReadDevice>(reader: &mut R, next: Next) -> Next
+    ensures comes { comes result (R.feed reader.new) ≡ comes next (R.feed reader.old) }
+    ensures ready { IsReady result }
+    ensures stays { IsSome (next_stop next) → (result ≡ next) × (reader.new ≡ reader.old) }
+{
+    match next {
+        Next::Line => open_chunk(reader),
+        Next::Data(left) => {
+            if left > 0 {
+                Next::Data(left)
+            } else {
+                match close_chunk(reader) {
+                    Ok(()) => open_chunk(reader),
+                    Err(kind) => Next::Broken(kind),
+                }
+            }
+        }
+        Next::Over => Next::Over,
+        Next::Broken(kind) => Next::Broken(kind),
+    }
+}
+
+// Reads some of so many bytes, which have to come.
+fn read_data<R: ReadDevice>(reader: &mut R, left: u64, buf: &mut [u8]) -> Result<usize, io::Error>
+    requires left { 0 < left }
+    requires room { 0 < length buf.old }
+    ensures bound { IfOk result (λ n. n ≤ length buf.new) }
+    ensures most { IfOk result (λ n. n ≤ left) }
+    ensures some { IfOk result (λ n. 0 < n) }
+    ensures bytes { IfOk result (λ n. R.feed reader.old ≡ given (take n buf.new) (R.feed reader.new)) }
+    ensures cut { IfErr result (λ e. CutBy (error_kind e) (R.feed reader.old)) }
+    ensures again { OnErr result (R.feed reader.new ≡ R.feed reader.old) }
+{
+    match read_front(reader, left as usize, buf) {
+        Ok(0) => Err(ErrorKind::UnexpectedEof.into()),
+        Ok(n) => Ok(n),
+        Err(e) => Err(e),
+    }
+}
+
+/// How far a chunked body was decoded, apart from its reader.
+#[derive(Clone, Copy, Drop)]
+pub struct Decoding {
+    next: Next,
+}
+
+impl Decoding {
+    /// The decoding of a body whose first byte is the reader's next one.
+    pub fn new() -> Decoding
+        // A body that is whole gives its data, and leaves the rest.
+        ensures whole { (bytes body rest : List ℕ) (stop : Stop) → WholeChunks bytes body rest
+            → decoding_coming result (Some (record { bytes = bytes; stop = stop })) ≡ Some (record { bytes = body; behind = Ok (record { bytes = rest; stop = stop }) }) }
+        // Another one gives the data that stand, and then the fault.
+        ensures front { (bytes body : List ℕ) (stop : Stop) (kind : ErrorKind) → CutChunks bytes stop body kind
+            → decoding_coming result (Some (record { bytes = bytes; stop = stop })) ≡ Some (record { bytes = body; behind = Err kind }) }
+        ensures stop { decoding_stop result ≡ None }
+    {
+        Decoding { next: Next::Line }
+    }
+
+    /// Reads some data into the front of `buf`, and says how many bytes: 0 at the end, and where
+    /// `buf` is empty. Size lines, CR LFs and the trailer part are taken and not given, and nothing
+    /// behind the trailer part is taken (RFC 9112, section 7.1). It takes no memory.
+    ///
+    /// A line has at most 8192 bytes before its CR LF, a size 1 to 16 digits, and the trailer part
+    /// at most 128 lines. What breaks the grammar or these bounds is a fault of kind InvalidData.
+    /// Where the reader stops within the body, its end is a fault of kind UnexpectedEof, and its
+    /// fault is one of the same kind. The data before a fault are given first.
+    ///
+    /// The end is told once the trailer part was read. From then on, and from a fault on, each call
+    /// answers the same, and does not call the reader.
+    pub fn read<R: ReadDevice>(&mut self, reader: &mut R, buf: &mut [u8]) -> Result<usize, io::Error>
+        ensures bound { IfOk result (λ n. n ≤ length buf.new) }
+        // The bytes that came are the next of the data.
+        ensures data { IfOk result (λ n. decoding_coming self.old (R.feed reader.old) ≡ with_front (take n buf.new) (decoding_coming self.new (R.feed reader.new))) }
+        // The end is told where the reader stands behind the body.
+        ensures end { IfOk result (λ n. n ≡ 0 → 0 < length buf.new → decoding_coming self.old (R.feed reader.old) ≡ option_map over_at (R.feed reader.new)) }
+        ensures fault { IfErr result (λ e. BreaksBy (error_kind e) (decoding_coming self.old (R.feed reader.old))) }
+        ensures again { OnErr result (decoding_coming self.new (R.feed reader.new) ≡ decoding_coming self.old (R.feed reader.old)) }
+        ensures empty { length buf.new ≡ 0 → (result ≡ Ok 0) × (self.new ≡ self.old) × (reader.new ≡ reader.old) }
+        // Whatever the reader tells, behind the end or a fault it isn't called again, and the same is answered.
+        ensures ended { IfOk result (λ n. n ≡ 0 → 0 < length buf.new → decoding_stop self.new ≡ Some Stop.End) }
+        ensures broken { IfErr result (λ e. decoding_stop self.new ≡ Some (Stop.Fault (error_kind e))) }
+        ensures stays { IsSome (decoding_stop self.old) → (self.new ≡ self.old) × (reader.new ≡ reader.old) }
+        ensures tells { IfSome (decoding_stop self.old) (λ stop. 0 < length buf.new → AnswersStop stop result) }
+    {
+        if buf.is_empty() {
+            return Ok(0);
+        }
+        self.next = go_to_data(reader, self.next);
+        match self.next {
+            Next::Data(left) => match read_data(reader, left, buf) {
+                Ok(n) => {
+                    self.next = Next::Data(left - n as u64);
+                    Ok(n)
+                }
+                Err(e) => {
+                    self.next = Next::Broken(e.kind());
+                    Err(e)
+                }
+            },
+            Next::Broken(kind) => Err(kind.into()),
+            Next::Over | Next::Line => Ok(0),
+        }
+    }
+
+    /// The end or the fault that each read tells from now on, if it is known.
+    pub fn stop(&self) -> Option<Stop>
+        ensures { result ≡ decoding_stop self.now }
+    {
+        match self.next {
+            Next::Line | Next::Data(_) => None,
+            Next::Over => Some(Stop::End),
+            Next::Broken(kind) => Some(Stop::Fault(kind)),
+        }
+    }
+}
+
+/// The data of a chunked body, as a reader. It takes no byte of the reader inside behind the body's
+/// trailer part.
+#[derive(Drop)]
+pub struct Decoder<R> {
+    inner: R,
+    decoding: Decoding,
+}
+
+impl<R: ReadDevice> Decoder<R> {
+    ghost use Rattle.tiny_http_wire.specs.Device.{Feed};
+    ghost use Rattle.tiny_http_wire.specs.Decoding.{decoder_coming, decoder_inner, decoder_stop};
+
+    /// The data of a body whose first byte is the reader's next one.
+    pub fn new(inner: R) -> Decoder<R>
+        ensures inner { decoder_inner result ≡ inner }
+        // A body that is whole gives its data, and leaves the rest.
+        ensures whole { (feed : Feed) (body rest : List ℕ) → R.feed inner ≡ Some feed → WholeChunks feed.bytes body rest
+            → decoder_coming R.feed result ≡ Some (record { bytes = body; behind = Ok (record { bytes = rest; stop = feed.stop }) }) }
+        // Another one gives the data that stand, and then the fault.
+        ensures front { (feed : Feed) (body : List ℕ) (kind : ErrorKind) → R.feed inner ≡ Some feed → CutChunks feed.bytes feed.stop body kind
+            → decoder_coming R.feed result ≡ Some (record { bytes = body; behind = Err kind }) }
+        ensures stop { decoder_stop result ≡ None }
+    {
+        Decoder {
+            inner,
+            decoding: Decoding::new(),
+        }
+    }
+
+    /// Reads some data into the front of `buf`, as `Decoding::read`: behind them each call answers
+    /// the end, or the fault.
+    pub fn read(&mut self, buf: &mut [u8]) -> Result<usize, io::Error>
+        ensures bound { IfOk result (λ n. n ≤ length buf.new) }
+        ensures data { IfOk result (λ n. decoder_coming R.feed self.old ≡ with_front (take n buf.new) (decoder_coming R.feed self.new)) }
+        // The end is told where the reader inside stands behind the body.
+        ensures end { IfOk result (λ n. n ≡ 0 → 0 < length buf.new → decoder_coming R.feed self.old ≡ option_map over_at (R.feed (decoder_inner self.new))) }
+        ensures fault { IfErr result (λ e. BreaksBy (error_kind e) (decoder_coming R.feed self.old)) }
+        ensures again { OnErr result (decoder_coming R.feed self.new ≡ decoder_coming R.feed self.old) }
+        ensures empty { length buf.new ≡ 0 → (result ≡ Ok 0) × (self.new ≡ self.old) }
+        // Whatever the reader inside tells, behind the end or a fault it isn't called again, and the same is answered.
+        ensures ended { IfOk result (λ n. n ≡ 0 → 0 < length buf.new → decoder_stop self.new ≡ Some Stop.End) }
+        ensures broken { IfErr result (λ e. decoder_stop self.new ≡ Some (Stop.Fault (error_kind e))) }
+        ensures stays { IsSome (decoder_stop self.old) → self.new ≡ self.old }
+        ensures tells { IfSome (decoder_stop self.old) (λ stop. 0 < length buf.new → AnswersStop stop result) }
+    {
+        self.decoding.read(&mut self.inner, buf)
+    }
+
+    /// The reader inside. Once the end was told it stands behind the body.
+    pub fn into_inner(self) -> R
+        ensures { result ≡ decoder_inner self }
+    {
+        self.inner
+    }
+}
+
+impl<R: ReadDevice> ReadDevice for Decoder<R> {
+    ghost use Rattle.tiny_http_wire.specs.Decoding.{decoder_feed};
+
+    ghost feed = { decoder_feed R.feed };
+
+    /// Reads some data.
+    fn read_in(&mut self, buf: &mut [u8]) -> Result<usize, io::Error> {
+        self.read(buf)
+    }
+}
+
+impl<R: ReadDevice> Read for Decoder<R> {
+    ghost use Rattle.std.specs.Io.{ReadsAtMost};
+    ghost use Rattle.std.specs.Io.KnownBytes.{ReadConsumes};
+    ghost use Rattle.tiny_http_wire.specs.Decoding.{decoder_coming, decoder_inner, decoder_stop};
+
+    /// Reads some data.
+    fn read(&mut self, buf: &mut [u8]) -> io::Result<usize>
+        ensures bound { ReadsAtMost result buf.new }
+        ensures bytes { ReadConsumes None None result buf.new }
+        ensures data { IfOk result (λ n. decoder_coming R.feed self.old ≡ with_front (take n buf.new) (decoder_coming R.feed self.new)) }
+        ensures end { IfOk result (λ n. n ≡ 0 → 0 < length buf.new → decoder_coming R.feed self.old ≡ option_map over_at (R.feed (decoder_inner self.new))) }
+        ensures fault { IfErr result (λ e. BreaksBy (error_kind e) (decoder_coming R.feed self.old)) }
+        ensures again { OnErr result (decoder_coming R.feed self.new ≡ decoder_coming R.feed self.old) }
+        ensures empty { length buf.new ≡ 0 → (result ≡ Ok 0) × (self.new ≡ self.old) }
+        ensures ended { IfOk result (λ n. n ≡ 0 → 0 < length buf.new → decoder_stop self.new ≡ Some Stop.End) }
+        ensures broken { IfErr result (λ e. decoder_stop self.new ≡ Some (Stop.Fault (error_kind e))) }
+        ensures stays { IsSome (decoder_stop self.old) → self.new ≡ self.old }
+        ensures tells { IfSome (decoder_stop self.old) (λ stop. 0 < length buf.new → AnswersStop stop result) }
+    {
+        Decoder::read(self, buf)
+    }
+}
