@@ -130,15 +130,15 @@ short-fault stop bytes kind h =
 abbrev whole_part : List ℕ → Decoded
 whole_part rest = record { body = []; ends = Ok rest }
 
-trailer-end : (m : ℕ) (stop : Stop) (rest : List ℕ) → trailer_part m stop (crlf ++ rest) ≡ whole_part rest
+pub trailer-end : (m : ℕ) (stop : Stop) (rest : List ℕ) → trailer_part m stop (crlf ++ rest) ≡ whole_part rest
 trailer-end zero stop rest = refl
 trailer-end (suc m) stop rest = refl
 
-at-cons : (go : List ℕ → Decoded) (text rest : List ℕ) → 0 < length text → trailer_at go text rest ≡ go rest
+pub at-cons : (go : List ℕ → Decoded) (text rest : List ℕ) → 0 < length text → trailer_at go text rest ≡ go rest
 at-cons go [] rest h = absurd (omega arith)
 at-cons go (b ∷ bs) rest h = refl
 
-trailer-more : (m : ℕ) (stop : Stop) (text rest : List ℕ) → IsTrailerLine text → trailer_part (suc m) stop (text ++ crlf ++ rest) ≡ trailer_part m stop rest
+pub trailer-more : (m : ℕ) (stop : Stop) (text rest : List ℕ) → IsTrailerLine text → trailer_part (suc m) stop (text ++ crlf ++ rest) ≡ trailer_part m stop rest
 trailer-more m stop text rest h = rw (short-one stop text rest h.0) (at-cons (trailer_part m stop) text rest h.1)
 
 regroup : (text : List ℕ) (lines : List (List ℕ)) (rest : List ℕ) → lines_text (text ∷ lines) ++ rest ≡ text ++ crlf ++ (lines_text lines ++ rest)
@@ -149,7 +149,7 @@ trailer-whole m stop [] rest h le = trailer-end m stop rest
 trailer-whole zero stop (x ∷ xs) rest h le = absurd (omega arith)
 trailer-whole (suc m) stop (x ∷ xs) rest h le = rw (regroup x xs (crlf ++ rest)) (trailer-more m stop x (lines_text xs ++ (crlf ++ rest)) h.0 ∙ trailer-whole m stop xs rest h.1 (omega arith))
 
-trailer-faulty : (m : ℕ) (stop : Stop) (bytes : List ℕ) (kind : ErrorKind) → LineFault bytes stop kind → trailer_part m stop bytes ≡ broken [] kind
+pub trailer-faulty : (m : ℕ) (stop : Stop) (bytes : List ℕ) (kind : ErrorKind) → LineFault bytes stop kind → trailer_part m stop bytes ≡ broken [] kind
 trailer-faulty zero stop bytes kind h = rw (short-fault stop bytes kind h) refl
 trailer-faulty (suc m) stop bytes kind h = rw (short-fault stop bytes kind h) refl
 
@@ -179,7 +179,7 @@ ne-test a n false e h = refl
 pair-crlf : (a b : ℕ) → (a ≡ 13) × (b ≡ 10) → a ∷ b ∷ [] ≡ crlf
 pair-crlf a b h = rw (h.0, h.1) refl
 
-close-fault : (stop : Stop) (close : List ℕ) (kind : ErrorKind) → CloseFault close stop kind → after_data stop close ≡ Err kind
+pub close-fault : (stop : Stop) (close : List ℕ) (kind : ErrorKind) → CloseFault close stop kind → after_data stop close ≡ Err kind
 close-fault stop [] kind h = ap Err (sym h)
 close-fault stop (a ∷ []) kind h =
     ⊎_elim (λ k. rw (k.0) (ap Err (sym k.1))) (λ k. rw (ne-test a 13 (a == 13) refl k.0) (ap Err (sym k.1))) h
@@ -208,12 +208,12 @@ close-step stop a b bs true true e f = let p = eqb-true a 13 e in let q = eqb-tr
 close-step stop a b bs false t e f = ((λ k. not_same a (head_of a b k) e), refl)
 close-step stop a b bs true false e f = ((λ k. not_same2 b (next_of a b k) f), refl)
 
-close-is : (stop : Stop) (bytes : List ℕ) → MatchResult (after_data stop bytes) (λ rest. bytes ≡ crlf ++ rest) (λ kind. CloseFault bytes stop kind)
+pub close-is : (stop : Stop) (bytes : List ℕ) → MatchResult (after_data stop bytes) (λ rest. bytes ≡ crlf ++ rest) (λ kind. CloseFault bytes stop kind)
 close-is stop [] = refl
 close-is stop (a ∷ []) = one-step stop a (a == 13) refl
 close-is stop (a ∷ b ∷ bs) = close-step stop a b bs (a == 13) (b == 10) refl refl
 
-abbrev Go : Type 0
+abbrev pub Go : Type 0
 Go = List ℕ → Decoded
 
 sized-at : (go : Go) (stop : Stop) (rest : List ℕ) (n : ℕ) → 0 < n → sized go stop rest (Some n) ≡ data_at go stop n rest (nat_lt (length rest) n)
@@ -223,14 +223,14 @@ sized-at go stop rest (suc m) h = refl
 take_at : (xs ys : List ℕ) → take (length xs) (xs ++ ys) ≡ xs
 take_at xs ys = grind (arith, common_steps)
 
-drop_at : (xs ys : List ℕ) → drop (length xs) (xs ++ ys) ≡ ys
+pub drop_at : (xs ys : List ℕ) → drop (length xs) (xs ++ ys) ≡ ys
 drop_at xs ys = grind (arith, common_steps)
 
 not-shorter : (xs ys : List ℕ) → nat_lt (length (xs ++ ys)) (length xs) ≡ false
 not-shorter xs ys = le-ltb (length (xs ++ ys)) (length xs) (simp length-append (omega arith))
 
 -- a size line of a size above 0
-sized-line : (fuel : ℕ) (stop : Stop) (text rest : List ℕ) (n : ℕ) → IsShortLine text → SizeText text n → 0 < n
+pub sized-line : (fuel : ℕ) (stop : Stop) (text rest : List ℕ) (n : ℕ) → IsShortLine text → SizeText text n → 0 < n
     → decoded (suc fuel) stop (text ++ crlf ++ rest) ≡ data_at (decoded fuel stop) stop n rest (nat_lt (length rest) n)
 sized-line fuel stop text rest n s z p = rw (short-one stop text rest s, size-one text n z) (sized-at (decoded fuel stop) stop rest n p)
 
@@ -253,7 +253,7 @@ chunk-one fuel stop c rest h =
 abbrev joined_chunks : List Chunk → List ℕ
 joined_chunks chunks = flat_map chunk_text chunks
 
-abbrev made : List ℕ → Result (List ℕ) ErrorKind → Decoded
+abbrev pub made : List ℕ → Result (List ℕ) ErrorKind → Decoded
 made body ends = record { body = body; ends = ends }
 
 chunks-front : (fuel : ℕ) (stop : Stop) (chunks : List Chunk) (rest part : List ℕ) (ends : Result (List ℕ) ErrorKind) → AllByRecursion IsChunk chunks → length chunks < fuel

@@ -11,15 +11,15 @@ use Rattle.tiny_http_wire.specs.declared.chunked.line.Scan.{Scan}
 use Rattle.tiny_http_wire.specs.ChunkSize.{size_step, size_after}
 
 -- A byte more, behind a carriage return or not. A carriage return is held back: it may begin the line's end.
-abbrev pub scanned : Size → Bool → ℕ → Bool → Scan
-scanned size false b true = record { size = size; after_return = true }
-scanned size false b false = record { size = size_step size b; after_return = false }
-scanned size true b true = record { size = size_step size 13; after_return = true }
-scanned size true b false = record { size = size_step (size_step size 13) b; after_return = false }
+abbrev pub scan_with : Size → Bool → ℕ → Bool → Scan
+scan_with size false b true = record { size = size; after_return = true }
+scan_with size false b false = record { size = size_step size b; after_return = false }
+scan_with size true b true = record { size = size_step size 13; after_return = true }
+scan_with size true b false = record { size = size_step (size_step size 13) b; after_return = false }
 
 -- one byte more, which doesn't end the line
 abbrev pub scan_step : Scan → ℕ → Scan
-scan_step s b = scanned s.size s.after_return b (b == 13)
+scan_step s b = scan_with s.size s.after_return b (b == 13)
 
 -- a line was taken, and is this one
 pub record OneLine (old new : Option Feed) (line : Line) : Type 0 where

@@ -1,0 +1,48 @@
+use Rattle.std.proofs.Common.{◌≡◌, ap, sym, ◌∙◌, ⊎_elim, take}
+use Rattle.std.proofs.lemmas.List.{length-take-le}
+use Rattle.std.specs.IoError.{error_kind}
+use Rattle.tiny_http_wire.specs.declared.chunked.Next.{Next}
+use Rattle.tiny_http_wire.specs.declared.chunked.Next.TheVariants.{Data, Over, Broken}
+use Rattle.tiny_http_wire.specs.Decoding.{comes, decoding_coming}
+use Rattle.tiny_http_wire.proofs.DecodingLemmas.{data-given, data-cut, breaks, over-comes}
+use Rattle.tiny_http_wire.proofs.chunked.Decoding.read.Goals as goal
+
+pub returns-in-Ok-clause-data : goal.returns-in-Ok-clause-data
+returns-in-Ok-clause-data g c =
+    let feed = g.R.ReadDevice.feed in
+    let s = c.go_to_data-self in
+    let r = c.in-Ok.ensures in
+    let here : comes (Data c.in-Data.left) (feed s.new.reader) ≡ decoding_coming c.args.self.now (feed c.args.reader.now) = ap (λ (x : Next). comes x (feed s.new.reader)) (sym c.in-Data.is) ∙ s.ensures.comes in
+    sym here ∙ data-given (feed s.new.reader) (feed c.read_data.new.reader) (take c.in-Ok.n c.read_data.new.buf) c.in-Data.left c.in-Ok.n r.bytes (length-take-le c.in-Ok.n c.read_data.new.buf r.bound) r.most
+
+pub returns-in-Err-clause-fault : goal.returns-in-Err-clause-fault
+returns-in-Err-clause-fault g c =
+    let feed = g.R.ReadDevice.feed in
+    let s = c.go_to_data-self in
+    let r = c.in-Err.ensures in
+    let ready = rw c.in-Data.is at s.ensures.ready in
+    let here : comes (Data c.in-Data.left) (feed s.new.reader) ≡ decoding_coming c.args.self.now (feed c.args.reader.now) = ap (λ (x : Next). comes x (feed s.new.reader)) (sym c.in-Data.is) ∙ s.ensures.comes in
+    breaks (feed c.read_data.new.reader) (error_kind c.in-Err.e) _ (data-cut (feed s.new.reader) (feed c.read_data.new.reader) (error_kind c.in-Err.e) c.in-Data.left ready r.cut r.again ∙ here)
+
+pub returns-in-Err-clause-again : goal.returns-in-Err-clause-again
+returns-in-Err-clause-again g c =
+    let feed = g.R.ReadDevice.feed in
+    let s = c.go_to_data-self in
+    let r = c.in-Err.ensures in
+    let ready = rw c.in-Data.is at s.ensures.ready in
+    let here : comes (Data c.in-Data.left) (feed s.new.reader) ≡ decoding_coming c.args.self.now (feed c.args.reader.now) = ap (λ (x : Next). comes x (feed s.new.reader)) (sym c.in-Data.is) ∙ s.ensures.comes in
+    ap (λ k. comes (Broken k) (feed c.read_data.new.reader)) c.kind.ensures ∙ (data-cut (feed s.new.reader) (feed c.read_data.new.reader) (error_kind c.in-Err.e) c.in-Data.left ready r.cut r.again ∙ here)
+
+pub returns-in-Broken-clause-fault : goal.returns-in-Broken-clause-fault
+returns-in-Broken-clause-fault g c =
+    let feed = g.R.ReadDevice.feed in
+    let s = c.go_to_data-self in
+    let here : comes (Broken c.in-Broken.kind) (feed s.new.reader) ≡ decoding_coming c.args.self.now (feed c.args.reader.now) = ap (λ (x : Next). comes x (feed s.new.reader)) (sym c.in-Broken.is) ∙ s.ensures.comes in
+    breaks (feed s.new.reader) (error_kind c.into.result) _ (ap (λ k. comes (Broken k) (feed s.new.reader)) c.into.ensures ∙ here)
+
+pub returns-in-Over-clause-end : goal.returns-in-Over-clause-end
+returns-in-Over-clause-end g c none room =
+    let feed = g.R.ReadDevice.feed in
+    let s = c.go_to_data-self in
+    let is : s.result ≡ Over = ⊎_elim (λ e. e) (λ e. absurd (rw e at s.ensures.ready)) c.in-Over.is in
+    sym s.ensures.comes ∙ (ap (λ (x : Next). comes x (feed s.new.reader)) is ∙ over-comes (feed s.new.reader))

@@ -1,0 +1,26 @@
+use Rattle.std.proofs.Common.{◌-◌, ◌+◌, ◌∙◌, ap, ℕ}
+use Rattle.tiny_http_wire.specs.Decoding.{trails}
+use Rattle.tiny_http_wire.proofs.DecodingLemmas.{trail-over, trail-more, trail-long, trail-none, one_less, none_left}
+use Rattle.tiny_http_wire.proofs.chunked.skip_trailers.Goals as goal
+
+pub returns-in-Err-clause-comes : goal.returns-in-Err-clause-comes
+returns-in-Err-clause-comes g c = trail-none _ _ _ (128 - c.loop-lines.lines) c.in-Err.ensures.none ∙ c.loop-lines.invariant
+
+pub returns-then-line-eq0-clause-comes : goal.returns-then-line-eq0-clause-comes
+returns-then-line-eq0-clause-comes g c = trail-over _ _ _ (128 - c.loop-lines.lines) c.in-Ok.ensures.line c.if-line-eq0.true ∙ c.loop-lines.invariant
+
+pub loop-lines-preserved : goal.loop-lines-preserved
+loop-lines-preserved g c =
+    trail-more _ _ _ (128 - c.loop-lines.lines) (128 - (c.loop-lines.lines + 1)) c.in-Ok.ensures.line c.if-line-eq0.false (one_less 128 c.loop-lines.lines c.loop-lines-test.true) ∙ c.loop-lines.invariant
+
+pub returns-in-Err-next_line-clause-comes : goal.returns-in-Err-next_line-clause-comes
+returns-in-Err-next_line-clause-comes g c = trail-none _ _ _ (128 - c.loop-lines.lines) c.in-Err-next_line.ensures.none ∙ c.loop-lines.invariant
+
+pub returns-then-line-eq0-2-clause-comes : goal.returns-then-line-eq0-2-clause-comes
+returns-then-line-eq0-2-clause-comes g c = trail-over _ _ _ (128 - c.loop-lines.lines) c.in-Ok-next_line.ensures.line c.if-line-eq0-2.true ∙ c.loop-lines.invariant
+
+pub returns-else-line-eq0-2-clause-comes : goal.returns-else-line-eq0-2-clause-comes
+returns-else-line-eq0-2-clause-comes g c =
+    let old = g.R.ReadDevice.feed c.loop-lines.reader in
+    trail-long old _ _ c.in-Ok-next_line.ensures.line c.if-line-eq0-2.false
+    ∙ (ap (λ (m : ℕ). trails m old) (none_left 128 c.loop-lines.lines c.loop-lines-test.false) ∙ c.loop-lines.invariant)
