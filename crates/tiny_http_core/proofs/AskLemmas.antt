@@ -15,8 +15,8 @@ use Rattle.tiny_http_core.specs.declared.exchange.Form.TheVariants.{Rest, Nothin
 use Rattle.tiny_http_core.specs.declared.exchange.Head.{Head}
 use Rattle.tiny_http_core.specs.declared.exchange.Refusal.{Refusal}
 use Rattle.tiny_http_core.specs.declared.exchange.HeadRead.TheVariants as read
-use Rattle.tiny_http_core.specs.declared.pending.AnswerForm.{AnswerForm}
-use Rattle.tiny_http_core.specs.declared.pending.Waiting.{Waiting}
+use Rattle.tiny_http_core.specs.declared.exchange.AnswerForm.{AnswerForm}
+use Rattle.tiny_http_core.specs.declared.exchange.Waiting.{Waiting}
 use Rattle.tiny_http_core.specs.Framing.{is_built, is_plain}
 use Rattle.tiny_http_core.specs.Source.{GoesOn}
 use Rattle.tiny_http_core.specs.Pipeline.{Item, Asks, Refuses, Request, Place, Heading, Ends, Heads, OneHead, FoundAt, served, served_answer, is_head_method, Pipeline}

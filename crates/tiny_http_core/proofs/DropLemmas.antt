@@ -5,7 +5,7 @@ use Rattle.std.specs.Prelude.{MatchBool, ◌==◌, is_some, slice_get, slice_set
 use Rattle.std.specs.List.{list_all}
 use Rattle.httpdate.specs.declared.date.HttpDate.{HttpDate}
 use Rattle.tiny_http_wire.specs.Device.{Feed, Sink}
-use Rattle.tiny_http_core.specs.declared.pending.Waiting.{Waiting}
+use Rattle.tiny_http_core.specs.declared.exchange.Waiting.{Waiting}
 use Rattle.tiny_http_core.specs.Pipeline.{Asks, Request}
 use Rattle.tiny_http_core.specs.Slots.{Slot, Waits, Answered as AnsweredBy, ByServer, Raw, Upgraded, is_finished, joined, breaks_off, new_slot, turn_has_come}
 use Rattle.tiny_http_core.specs.Steps.{Drop, Done, Outcome, Reached, changes, use_in_turn, at_slot, at_number}

@@ -4,7 +4,7 @@ use Rattle.std.specs.Prelude.{slice_get, slice_set}
 use Rattle.std.specs.List.{list_all}
 use Rattle.std.proofs.lemmas.Bool.{and_parts}
 use Rattle.std.proofs.lemmas.Option.{slice_get-get_or}
-use Rattle.tiny_http_core.specs.declared.pending.Waiting.{Waiting}
+use Rattle.tiny_http_core.specs.declared.exchange.Waiting.{Waiting}
 use Rattle.tiny_http_core.specs.Slots.{Slot, is_finished}
 use Rattle.tiny_http_core.specs.Turns.{Mark, Open, Held, Left, Finished, AreInShape, AreWaiting, first_unfinished}
 use Rattle.tiny_http_core.specs.Pending.{passed, waiting_form}

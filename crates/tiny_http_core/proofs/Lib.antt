@@ -1,3 +1,5 @@
+pub mod PartLemmas
+pub mod BodyReads
 pub mod Windows
 pub mod Inputs
 pub mod Lines

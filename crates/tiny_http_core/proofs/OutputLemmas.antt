@@ -7,7 +7,7 @@ use Rattle.std.specs.declared.io.ErrorKind.{ErrorKind}
 use Rattle.std.proofs.lemmas.Bool.{and_parts}
 use Rattle.tiny_http_wire.specs.Device.{Sink, IsFront, IsFrontOf, BeginsKnown, IsAllKnown, HoldsNothing, Tells, next_count}
 use Rattle.tiny_http_wire.proofs.DeviceLemmas.{IsFront-append}
-use Rattle.tiny_http_core.specs.declared.pending.Waiting.{Waiting}
+use Rattle.tiny_http_core.specs.declared.exchange.Waiting.{Waiting}
 use Rattle.tiny_http_core.specs.Slots.{Slot, is_finished, joined, breaks_off}
 use Rattle.tiny_http_core.specs.Conversation.{Failure, FailsBetween, finished_front}
 use Rattle.tiny_http_core.specs.Sending.{CanSend, IsFlushed, Lost, Idles, SendsUnlessEnded}

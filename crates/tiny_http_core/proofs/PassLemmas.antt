@@ -5,7 +5,7 @@ use Rattle.std.specs.Prelude.{OnOk, MatchBool, ◌==◌, if◌then◌else◌, sl
 use Rattle.httpdate.specs.declared.date.HttpDate.{HttpDate}
 use Rattle.tiny_http_wire.specs.Device.{Sink}
 use Rattle.tiny_http_core.specs.declared.exchange.Head.{Head}
-use Rattle.tiny_http_core.specs.declared.pending.Waiting.{Waiting}
+use Rattle.tiny_http_core.specs.declared.exchange.Waiting.{Waiting}
 use Rattle.tiny_http_core.specs.declared.turns.Finishing.{Finishing}
 use Rattle.tiny_http_core.specs.declared.turns.Finishing.TheVariants.{Passed as IsPassed, Go, Strange as IsStrange}
 use Rattle.tiny_http_core.specs.declared.turns.Leaving.{Leaving}

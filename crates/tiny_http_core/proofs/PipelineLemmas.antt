@@ -74,7 +74,7 @@ chunked-is : (n : ℕ) (after : List ℕ) (stop : Stop) (body : List ℕ) (e : R
 chunked-is n after stop body (Ok rest) h = inl (rest, h, refl, refl)
 chunked-is n after stop body (Err kind) h = inr (kind, h, refl, refl)
 
-sized-is : (n : ℕ) (after : List ℕ) (stop : Stop) (t : Bool) → nat_lt (length after) n ≡ t
+pub sized-is : (n : ℕ) (after : List ℕ) (stop : Stop) (t : Bool) → nat_lt (length after) n ≡ t
     → (let r : BodyRead = (if t then record { body = record { bytes = after; stop = stop }; next = None } else record { body = ending (take n after); next = Some (drop n after) }) in
     BodyAt Counted n after stop r.body r.next)
 sized-is n after stop true e = inr (ltb-true (length after) n e, refl, refl)

@@ -1,55 +1,78 @@
 -- How the driver's connection stands to a state of the definitions.
-use Rattle.std.specs.Prelude.{◌≡◌, ℕ, ◌+◌, Bool, true, false, List, [], ◌∷◌, Option, Some, None}
-use Rattle.std.specs.List.{list_all}
+use Rattle.std.specs.Prelude.{◌≡◌, ℕ, ◌+◌, Bool, true, false, List, [], ◌∷◌, drop, Option, Some, None, ⊤}
+use Rattle.std.specs.Option.{option_map}
 use Rattle.httpdate.specs.declared.date.HttpDate.{HttpDate}
-use Rattle.tiny_http_wire.specs.Device.{Feed, Sink, IsFront, Tells}
-use Rattle.tiny_http_core.specs.declared.pending.AnswerForm.{AnswerForm}
-use Rattle.tiny_http_core.specs.declared.pending.Waiting.{Waiting}
+use Rattle.tiny_http_wire.specs.declared.device.Stop.TheVariants.{End}
+use Rattle.tiny_http_wire.specs.Device.{Feed, Sink, IsFront, Tells, ending}
+use Rattle.tiny_http_core.specs.declared.body.Body.{Body}
+use Rattle.tiny_http_core.specs.declared.exchange.AnswerForm.{AnswerForm}
+use Rattle.tiny_http_core.specs.declared.exchange.Waiting.{Waiting}
 use Rattle.tiny_http_core.specs.declared.driver.Connection.{Connection}
-use Rattle.tiny_http_core.specs.Framing.{is_plain}
-use Rattle.tiny_http_core.specs.Source.{GoesOn}
+use Rattle.tiny_http_core.specs.Source.{SourceState, IsAtEnd, GoesOn}
+use Rattle.tiny_http_core.specs.ToCome.{stopped}
+use Rattle.tiny_http_core.specs.Body.{Remaining, remaining, taken_left, is_streaming, Fits}
+use Rattle.tiny_http_core.specs.Pending.{last_body}
 use Rattle.tiny_http_core.specs.Outlet.{outlet_sink, outlet_ended}
-use Rattle.tiny_http_core.specs.Pipeline.{Item, Asks, Refuses, Request, is_head_method}
-use Rattle.tiny_http_core.specs.Slots.{Slot, ByServer, is_finished, is_slot_broken, segment, joined, breaks_off, new_slot}
+use Rattle.tiny_http_core.specs.Pipeline.{Item, Asks, Refuses, Request, is_head_method, said_length}
+use Rattle.tiny_http_core.specs.Slots.{Slot, ByServer, is_finished, is_slot_broken, segment, joined, breaks_off, new_slot, last_slot, reader_is_lost}
 use Rattle.tiny_http_core.specs.Steps.{finished}
 use Rattle.tiny_http_core.specs.Turns.{Mark, Open, Left, Finished, AreInShape}
-use Rattle.tiny_http_core.specs.Conversation.{State, Failure, RestAt}
+use Rattle.tiny_http_core.specs.Conversation.{State, Failure, PlaceAt}
 
 -- What the program keeps of a connection: the turns of its numbers, the requests that wait for their answers, whether the
--- last head was read, whether the asking has ended, what is still to come, what the writer tells with what is held, and
--- whether the output has ended.
-pub record Kept : Type 0 where
+-- last head was read, whether the asking has ended, the input, what the writer tells with what is held, and whether the
+-- output has ended.
+pub record Kept (R : Type 0) : Type 1 where
   pub marks : List Mark
   pub requests : List (Option Waiting)
   pub over : Bool
   pub ended : Bool
-  pub feed : Option Feed
+  pub source : SourceState R
   pub sink : Sink
   pub output_ended : Bool
 
-abbrev pub kept : {R W : Type 0} → (W → Sink) → Connection R W → Kept
+abbrev pub kept : {R W : Type 0} → (W → Sink) → Connection R W → Kept R
 kept sink c =
-    record { marks = c.pending.turns.marks; requests = c.pending.requests.items; over = c.over; ended = c.ended; feed = c.source.feed; sink = outlet_sink sink c.outlet; output_ended = outlet_ended c.outlet }
+    record { marks = c.pending.turns.marks; requests = c.pending.requests.items; over = c.over; ended = c.ended; source = c.source; sink = outlet_sink sink c.outlet; output_ended = outlet_ended c.outlet }
 
 -- how a request is answered
 abbrev pub form_of : Request → AnswerForm
 form_of r = record { version = r.message.version; no_body = is_head_method r.message.method }
 
--- what becomes of a request that was handed out on this date and is dropped
-abbrev pub dropped : HttpDate → Request → Slot
-dropped date r = finished (new_slot date (Asks r)) ByServer
+-- a request that was handed out on this date and waits, while so many bytes of its body were given, and its end told or not
+abbrev pub open_slot : HttpDate → Request → ℕ → Bool → Slot
+open_slot date r given told = record (new_slot date (Asks r)) { given = given; told = told }
+
+-- what becomes of it if it is dropped
+abbrev pub dropped : HttpDate → Request → ℕ → Bool → Slot
+dropped date r given told = finished (open_slot date r given told) ByServer
+
+-- what is left of a request's body
+abbrev pub rest_of : Request → ℕ → Feed
+rest_of r given = record { bytes = drop given r.body.bytes; stop = r.body.stop }
 
 -- a request that was handed out on some date and waits
 pub record IsWaiting (s : Slot) (w : Waiting) : Type 0 where
   pub request : Request
   pub date : HttpDate
-  pub fresh : s ≡ new_slot date (Asks request)
+  pub given : ℕ
+  pub told : Bool
+  pub is : s ≡ open_slot date request given told
+  pub unowed : request.framing.owes_continue ≡ false
   pub form : w.form ≡ form_of request
-  pub text : w.dropped.items ≡ segment (dropped date request)
+  pub text : w.dropped.items ≡ segment (dropped date request given told)
+  pub fits : Fits w.body request.framing.form (said_length request.framing) given told
+  -- where the body isn't read from the input, this is left of it
+  pub settled : is_streaming w.body ≡ false → (f : Feed) → remaining w.body (Some f) ≡ Some (taken_left (rest_of request given) f)
+
+-- a number that is finished
+pub record IsDone (s : Slot) : Type 0 where
+  pub finished : is_finished s ≡ true
+  pub given_up : s.given_up ≡ true
 
 -- a number whose text waits for its turn
 pub record IsLeft (s : Slot) (text : List ℕ) : Type 0 where
-  pub finished : is_finished s ≡ true
+  pub done : IsDone s
   pub whole : is_slot_broken s ≡ false
   pub same : segment s ≡ text
 
@@ -57,7 +80,7 @@ pub record IsLeft (s : Slot) (text : List ℕ) : Type 0 where
 abbrev pub IsKept : Slot → Mark → Option Waiting → Type 0
 IsKept s Open (Some w) = IsWaiting s w
 IsKept s (Left text) None = IsLeft s text
-IsKept s Finished None = is_finished s ≡ true
+IsKept s Finished None = IsDone s
 IsKept s _ _ = ⊥
 
 abbrev pub AreKept : List Slot → List Mark → List (Option Waiting) → Type 0
@@ -65,10 +88,50 @@ AreKept [] [] [] = Unit {0}
 AreKept (s ∷ slots) (m ∷ marks) (w ∷ requests) = IsKept s m w × AreKept slots marks requests
 AreKept _ _ _ = ⊥
 
--- bodies are nothing, or held
-abbrev pub is_plain_item : Item → Bool
-is_plain_item (Asks r) = is_plain r.framing.form
-is_plain_item (Refuses status version withheld) = true
+-- only the last body is read from the input
+abbrev pub IsSettled : Option Waiting → Type 0
+IsSettled None = ⊤
+IsSettled (Some w) = is_streaming w.body ≡ false
+
+abbrev pub AreSettled : List (Option Waiting) → Type 0
+AreSettled [] = ⊤
+AreSettled (w ∷ []) = ⊤
+AreSettled (w ∷ v ∷ ws) = IsSettled w × AreSettled (v ∷ ws)
+
+-- where the input will stand behind this body
+abbrev pub behind_body : Option Body → Option Feed → Option Feed
+behind_body None feed = feed
+behind_body (Some b) feed = option_map (λ (r : Remaining). r.behind) (remaining b feed)
+
+-- what is left of a number's body
+abbrev pub rest_in : ℕ → Item → Feed
+rest_in given (Asks r) = rest_of r given
+rest_in given (Refuses status version withheld) = ending []
+
+abbrev pub slot_rest : Slot → Feed
+slot_rest s = rest_in s.given s.item
+
+-- the body that is read from the input gives what is left of it
+abbrev pub GivesRest : Option Body → Option Slot → Option Feed → Type 0
+GivesRest None s feed = ⊤
+GivesRest (Some b) None feed = ⊤
+GivesRest (Some b) (Some s) feed = option_map (λ (r : Remaining). r.body) (remaining b feed) ≡ Some (slot_rest s)
+
+-- the number has the last head
+abbrev pub is_last_item : Item → Bool
+is_last_item (Asks r) = r.framing.is_last
+is_last_item (Refuses status version withheld) = true
+
+abbrev pub is_last_slot : Option Slot → Bool
+is_last_slot None = false
+is_last_slot (Some s) = is_last_item s.item
+
+-- Where the next head is read, while the asking hasn't ended: behind the last body; and nowhere behind the last head, or
+-- behind a chunked body that was given up before its end.
+pub record NextHead {R : Type 0} (over : Bool) (source : SourceState R) (last : Option Slot) (body : Option Body) (rest : List Item) : Type 1 where
+  pub is_last : over ≡ is_last_slot last
+  pub lost : reader_is_lost last ≡ true → IsAtEnd source × (source.feed ≡ Some (stopped End))
+  pub place : reader_is_lost last ≡ false → PlaceAt over (behind_body body source.feed) rest
 
 -- the output so far: the joined segments, which no failure takes back; or what the writer took when it failed
 abbrev pub OutputAt : Sink → Sink → Bool → List Slot → Option Failure → Type 0
@@ -79,11 +142,12 @@ OutputAt before sink ended slots (Some f) =
     (sink.taken ≡ Some f.output) × (sink.failures ≡ before.failures + 1) × Tells sink.last_kind f.kind × (ended ≡ true)
 
 -- the connection stands so, behind this much of the client's feed and over a writer that told this before
-pub record Stands (client : Feed) (before : Sink) (k : Kept) (s : State) : Type 0 where
+pub record Stands {R : Type 0} (client : Feed) (before : Sink) (k : Kept R) (s : State) : Type 1 where
   pub numbers : AreKept s.reached.slots k.marks k.requests
   pub shape : AreInShape k.marks
   pub ended : s.reached.ended ≡ k.ended
-  pub plain : list_all (λ (x : Slot). is_plain_item x.item) s.reached.slots ≡ true
-  pub rest : RestAt k.ended k.over k.feed s.reached.rest
-  pub source : GoesOn (Some client) k.feed
+  pub settled : AreSettled k.requests
+  pub gives : GivesRest (last_body k.requests) (last_slot s.reached.slots) k.source.feed
+  pub next : k.ended ≡ false → NextHead k.over k.source (last_slot s.reached.slots) (last_body k.requests) s.reached.rest
+  pub source : GoesOn (Some client) k.source.feed
   pub output : OutputAt before k.sink k.output_ended s.reached.slots s.failure

@@ -5,6 +5,8 @@ use Rattle.std.specs.declared.io.ErrorKind.{ErrorKind}
 use Rattle.httpdate.specs.declared.date.HttpDate.{HttpDate}
 use Rattle.tiny_http_wire.specs.Device.{Feed, Sink, IsFront, Tells}
 use Rattle.tiny_http_core.specs.Pipeline.{Item, Asks, Refuses, Pipeline}
+use Rattle.tiny_http_wire.specs.declared.device.Stop.TheVariants.{End}
+use Rattle.tiny_http_core.specs.ToCome.{stopped}
 use Rattle.tiny_http_core.specs.Slots.{ResponseValue, Slot, is_finished, joined, breaks_off, new_slot, last_slot, reader_is_held, reader_is_lost, turn_has_come, IsGathered, to_request}
 use Rattle.tiny_http_core.specs.Steps.{Asked, Ask, Read, Respond, Replied, NoSuch, Memory, Use, Unused, Unreported, Reported, use_in_turn, Outcome, Reached, outcome}
 
@@ -130,13 +132,19 @@ IsOutput slots None before after held ended =
 IsOutput slots (Some f) before after held ended =
     (after.failures ≡ before.failures + 1) × Tells after.last_kind f.kind × (after.taken ≡ Some f.output) × (held ≡ []) × (ended ≡ true)
 
--- what the bytes still ask, unless the asking has ended: nothing behind the last head, else the pipeline from where the
--- input stands
-abbrev pub RestAt : Bool → Bool → Option Feed → List Item → Type 0
-RestAt true over feed rest = Unit {0}
-RestAt false true feed rest = rest ≡ []
-RestAt false false None rest = ⊥
-RestAt false false (Some f) rest = Pipeline (Some f.bytes) f.stop rest
+-- what the bytes still ask: nothing behind the last head, else the pipeline from where the input stands
+abbrev pub PlaceAt : Bool → Option Feed → List Item → Type 0
+PlaceAt true feed rest = rest ≡ []
+PlaceAt false None rest = ⊥
+PlaceAt false (Some f) rest = Pipeline (Some f.bytes) f.stop rest
+
+-- How the input stands while the asking goes on: it has ended behind a chunked body that was given up before its end; it
+-- stands within the last body, while that holds it; else what the bytes still ask is the rest of the pipeline.
+abbrev pub InputAt : Reached → Bool → Option Feed → Type 0
+InputAt old over left =
+    MatchBool old.ended (Unit {0})
+    (MatchBool (reader_is_lost (last_slot old.slots)) (left ≡ Some (stopped End))
+    (MatchBool (reader_is_held (last_slot old.slots)) (Unit {0}) (PlaceAt over left old.rest)))
 
 -- THE CONNECTION THEOREM: replies and output are those of a run over the pipeline that stands in the feed; and this of the
 -- feed is left.
@@ -148,7 +156,7 @@ pub record IsConversation (feed : Feed) (before : Sink) (steps : List Dated) (re
   pub pipeline : Pipeline (Some feed.bytes) feed.stop items
   pub run : Run (start items) steps replies end
   pub output : IsOutput end.reached.slots end.failure before after held ended
-  pub input : RestAt end.reached.ended over left end.reached.rest
+  pub input : InputAt end.reached over left
 
 -- the writer as a run takes it: it tells that it took no bytes, it has not ended, and its count can rise
 pub record IsFresh (sink : Sink) : Type 0 where

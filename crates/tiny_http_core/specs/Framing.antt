@@ -62,12 +62,12 @@ framed_by v headers (Some owed) =
 unfoldable pub framing : HTTPVersion → List Header → Option Framing
 framing v headers = framed_by v headers (expectation (value_of (codes "Expect") headers))
 
--- THE INTERIM GUARD on heads: what is served so far is a request of a version up to 1.1, without an expectation or an
--- upgrade, whose body is nothing or read with its head. Any other head ends the connection without an answer.
-abbrev pub is_plain : Form → Bool
-is_plain Nothing = true
-is_plain Held = true
-is_plain _ = false
+-- the body is the whole rest of the stream
+abbrev pub is_rest : Form → Bool
+is_rest Rest = true
+is_rest _ = false
 
+-- THE INTERIM GUARD on heads: what is served so far is a request of a version up to 1.1, without an expectation or an
+-- upgrade. Any other head ends the connection without an answer.
 abbrev pub is_built : HTTPVersion → Framing → Bool
-is_built v f = not (is_too_new v) && (not f.owes_continue && is_plain f.form)
+is_built v f = not (is_too_new v) && (not f.owes_continue && not (is_rest f.form))

@@ -1,5 +1,7 @@
 -- What the calls that read a head make of the input.
 use Rattle.std.specs.Prelude.{◌≡◌, ℕ, ⊤, List, [], Option, Some, None, Result, Ok, Err, unwrap_or, Bool, true, false}
+use Rattle.std.specs.declared.alloc.AllocError.{AllocError}
+use Rattle.httpdate.specs.declared.date.HttpDate.{HttpDate}
 use Rattle.tiny_http_wire.specs.declared.common.Method.{Method}
 use Rattle.tiny_http_wire.specs.declared.common.HTTPVersion.{HTTPVersion}
 use Rattle.tiny_http_wire.specs.declared.common.Header.{Header}
@@ -9,19 +11,21 @@ use Rattle.tiny_http_wire.specs.Bytes.{AreAscii}
 use Rattle.tiny_http_wire.specs.Lines.{Line, IsUnfinished}
 use Rattle.tiny_http_wire.specs.Heads.{Message as Texted, Starts, Fields, HeaderLine, FaultyLine, FaultyHead, HeadText, IsRequestLine, IsFieldOrEnd, Cut, NotAscii, Malformed, version}
 use Rattle.tiny_http_core.specs.declared.heads.Message.{Message}
-use Rattle.tiny_http_core.specs.declared.exchange.Form.{Form}
-use Rattle.tiny_http_core.specs.declared.exchange.Form.TheVariants.{Held}
 use Rattle.tiny_http_core.specs.declared.framing.Framing.{Framing}
 use Rattle.tiny_http_core.specs.declared.exchange.Head.{Head}
-use Rattle.tiny_http_core.specs.declared.exchange.Refusal.{Refusal}
 use Rattle.tiny_http_core.specs.declared.exchange.HeadRead.{HeadRead}
 use Rattle.tiny_http_core.specs.declared.exchange.HeadRead.TheVariants as read
 use Rattle.tiny_http_core.specs.declared.source.LineFault.{LineFault}
 use Rattle.tiny_http_core.specs.declared.source.LineFault.TheVariants as linefault
 use Rattle.tiny_http_core.specs.declared.heads.HeadFault.{HeadFault}
 use Rattle.tiny_http_core.specs.declared.heads.HeadFault.TheVariants as fault
+use Rattle.tiny_http_core.specs.declared.body.Body.{Body}
+use Rattle.tiny_http_core.specs.Framing.{is_rest}
 use Rattle.tiny_http_core.specs.Source.{from}
-use Rattle.tiny_http_core.specs.Pipeline.{Request, Item, Asks, Refuses, Place, OneHead, said_length}
+use Rattle.tiny_http_core.specs.Pipeline.{Request, Item, Asks, Refuses, Place, IsCutHeld, BodyAt, OneHead, said_length}
+use Rattle.tiny_http_core.specs.Slots.{own_text}
+use Rattle.tiny_http_core.specs.Body.{Remaining, remaining, Fits}
+use Rattle.tiny_http_core.specs.Exchange.{exchange_head, exchange_left, KeepsRequest}
 
 -- what is wrong with a head whose next line isn't read
 abbrev pub head_fault : LineFault → HeadFault
@@ -80,8 +84,8 @@ abbrev pub head_framing : Head → Framing
 head_framing h = record { form = h.form; owes_continue = h.owes_continue; body_length = h.body_length; is_last = h.is_last }
 
 -- the request of a head, with its body
-abbrev pub request_of : Head → List ℕ → Request
-request_of h body = record { message = head_message h; framing = head_framing h; body = ending body }
+abbrev pub request_of : Head → Feed → Request
+request_of h body = record { message = head_message h; framing = head_framing h; body = body }
 
 -- a head that is faulty so, under the version if that was read
 abbrev pub IsFaultyHead : List ℕ → Option HTTPVersion → HeadFault → Type 0
@@ -96,41 +100,50 @@ ReadsMessage None new r = ⊤
 ReadsMessage (Some f) new (Ok m) = (rest : List ℕ) × HeadText f.bytes (message_of m) rest × (new ≡ from f rest)
 ReadsMessage (Some f) new (Err e) = IsFaultyHead f.bytes e.0 e.1
 
--- the item of a refused head
-abbrev pub refused : Refusal → Item
-refused r = Refuses 400 r.version false
+-- the item of a head that is refused by a 400 in this version
+abbrev pub refused : HTTPVersion → Item
+refused v = Refuses 400 v false
 
--- what a faulty head is answered so far
-abbrev pub refusal : Option HTTPVersion → HeadFault → HeadRead
-refusal v fault.Malformed = read.Refused (record { version = unwrap_or v (version 1 1) })
-refusal v fault.Memory = read.Memory
-refusal v fault.Cut = read.Ended
-refusal v fault.NotAscii = read.Ended
+-- what a faulty head is answered so far, under the version if that was read; no memory is found for its line or its answer
+abbrev pub RefusesBy : Option HTTPVersion → HeadFault → HttpDate → Result HeadRead AllocError → Type 0
+RefusesBy v fault.Malformed date (Ok (read.Refused text last)) = (text.items ≡ own_text 400 (unwrap_or v (version 1 1)) false date) × (last ≡ true)
+RefusesBy v fault.Malformed date (Ok _) = ⊥
+RefusesBy v fault.Malformed date (Err e) = ⊤
+RefusesBy v fault.Memory date (Ok x) = ⊥
+RefusesBy v fault.Memory date (Err e) = ⊤
+RefusesBy v _ date (Ok read.Ended) = ⊤
+RefusesBy v _ date _ = ⊥
 
--- how many bytes are read with a head
-abbrev pub held_by : Form → ℕ → ℕ
-held_by Held n = n
-held_by _ n = 0
+-- the feed at a place; nothing where no head follows
+abbrev pub place_feed : Stop → Place → Feed
+place_feed stop None = ending []
+place_feed stop (Some bytes) = record { bytes = bytes; stop = stop }
 
-abbrev pub held_length : Framing → ℕ
-held_length f = held_by f.form (said_length f)
+-- the body that stands here, and the place behind it, are to come
+abbrev pub ComesWith : Option Remaining → Stop → Feed → Place → Type 0
+ComesWith left stop body next = left ≡ Some (record { body = body; behind = place_feed stop next })
 
--- the input stands at the place
-abbrev pub StandsAt : Place → Stop → Option Feed → Type 0
-StandsAt None stop feed = ⊤
-StandsAt (Some bytes) stop feed = feed ≡ Some (record { bytes = bytes; stop = stop })
+-- The body that begins at the input's place, or none: it is read with its head, and cut short.
+abbrev pub Begins : Framing → Option Feed → Option Feed → Option Body → Type 0
+Begins f None new b = ⊤
+Begins f (Some x) new None = IsCutHeld f.form (said_length f) x.bytes
+Begins f (Some x) new (Some b) =
+    is_rest f.form ≡ false → (IsCutHeld f.form (said_length f) x.bytes → ⊥) × (body : Feed) × (next : Place) × BodyAt f.form (said_length f) x.bytes x.stop body next
+    × ComesWith (remaining b new) x.stop body next × Fits b f.form (said_length f) 0 false
 
 -- where the next head begins behind a request
-abbrev pub place_after : Bool → List ℕ → Place
-place_after true rest = None
-place_after false rest = Some rest
+abbrev pub place_after : Bool → Place → Place
+place_after true next = None
+place_after false next = next
 
--- ONE HEAD, read: the item that stands at the input's place, and where the input stands behind it.
-abbrev pub ReadsHead : Option Feed → Option Feed → HeadRead → Type 0
-ReadsHead None new r = ⊤
-ReadsHead (Some f) new (read.Request h body) =
-    (rest : List ℕ) × OneHead f.bytes f.stop (Some (Asks (request_of h body.items))) (place_after h.is_last rest)
-    × StandsAt (place_after h.is_last rest) f.stop new
-ReadsHead (Some f) new (read.Refused r) = OneHead f.bytes f.stop (Some (refused r)) None
-ReadsHead (Some f) new read.Ended = OneHead f.bytes f.stop None None
-ReadsHead (Some f) new read.Memory = ⊤
+-- ONE HEAD, read: the item that stands at the input's place, what is still to come of its body, and where the next head
+-- begins behind that.
+abbrev pub ReadsHead : HttpDate → Option Feed → Option Feed → Result HeadRead AllocError → Type 0
+ReadsHead date None new r = ⊤
+ReadsHead date (Some f) new (Ok (read.Request x)) =
+    (body : Feed) × (next : Place) × OneHead f.bytes f.stop (Some (Asks (request_of (exchange_head x) body))) (place_after (exchange_head x).is_last next)
+    × ComesWith (exchange_left x new) f.stop body next × KeepsRequest x date
+ReadsHead date (Some f) new (Ok (read.Refused text last)) =
+    (v : HTTPVersion) × OneHead f.bytes f.stop (Some (refused v)) None × (text.items ≡ own_text 400 v false date) × (last ≡ true)
+ReadsHead date (Some f) new (Ok read.Ended) = OneHead f.bytes f.stop None None
+ReadsHead date (Some f) new (Err e) = ⊤

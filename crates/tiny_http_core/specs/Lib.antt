@@ -1,4 +1,7 @@
 pub mod Line
+pub mod Parts
+pub mod Body
+pub mod Exchange
 pub mod ToCome
 pub mod Input
 pub mod Source

@@ -1,12 +1,10 @@
 -- Numbers whose turn comes, and what is sent as it does.
 use Rattle.std.specs.Prelude.{◌≡◌, ℕ, Bool, true, false, List, [], ◌∷◌, ◌++◌, Option, Some, None, MatchBool}
-use Rattle.httpdate.specs.declared.date.HttpDate.{HttpDate}
 use Rattle.tiny_http_wire.specs.Device.{Sink}
-use Rattle.tiny_http_core.specs.declared.exchange.Head.{Head}
-use Rattle.tiny_http_core.specs.declared.pending.AnswerForm.{AnswerForm}
-use Rattle.tiny_http_core.specs.declared.pending.Waiting.{Waiting}
-use Rattle.tiny_http_core.specs.Pipeline.{is_head_method}
-use Rattle.tiny_http_core.specs.Slots.{own_text}
+use Rattle.tiny_http_core.specs.declared.exchange.AnswerForm.{AnswerForm}
+use Rattle.tiny_http_core.specs.declared.exchange.Waiting.{Waiting}
+use Rattle.tiny_http_core.specs.declared.body.Body.{Body}
+use Rattle.tiny_http_core.specs.Body.{is_streaming}
 use Rattle.tiny_http_core.specs.Sending.{SendsUnlessEnded, IsFlushed}
 use Rattle.tiny_http_core.specs.Turns.{Mark, Open, Held, Left, Finished, AreInShape}
 
@@ -55,8 +53,14 @@ waiting_form None = None
 waiting_form (Some None) = None
 waiting_form (Some (Some w)) = Some w.form
 
--- this is kept of a request with this head that was handed out on this date
-pub record KeepsHead (w : Waiting) (h : Head) (date : HttpDate) : Type 0 where
-  pub version : w.form.version ≡ h.version
-  pub no_body : w.form.no_body ≡ is_head_method h.method
-  pub text : w.dropped.items ≡ own_text 500 h.version (is_head_method h.method) date
+-- the body of the last of these, if that waits
+abbrev pub last_body : List (Option Waiting) → Option Body
+last_body [] = None
+last_body (None ∷ []) = None
+last_body (Some w ∷ []) = Some w.body
+last_body (w ∷ v ∷ ws) = last_body (v ∷ ws)
+
+-- the body is read from the input
+abbrev pub is_held : Option Body → Bool
+is_held None = false
+is_held (Some b) = is_streaming b

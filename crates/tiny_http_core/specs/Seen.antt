@@ -9,12 +9,12 @@ use Rattle.tiny_http_wire.specs.Answer.{Answer, Printing, ResponseState}
 use Rattle.tiny_http_core.specs.declared.driver.Step.{Step}
 use Rattle.tiny_http_core.specs.declared.driver.Step.TheVariants as step
 use Rattle.tiny_http_core.specs.declared.driver.Timed.{Timed}
-use Rattle.tiny_http_core.specs.declared.pending.AnswerForm.{AnswerForm}
+use Rattle.tiny_http_core.specs.declared.exchange.AnswerForm.{AnswerForm}
 use Rattle.tiny_http_core.specs.declared.driver.Reply.{Reply}
 use Rattle.tiny_http_core.specs.declared.driver.Reply.TheVariants as reply
 use Rattle.tiny_http_core.specs.HeadReads.{head_message, head_framing}
 use Rattle.tiny_http_core.specs.Slots.{ResponseValue}
-use Rattle.tiny_http_core.specs.Steps.{Asked, Ask, Respond, Drop, Replied, Handed, Ended, Fault, NotYet, Done, NoSuch, Memory, fault_of_answer}
+use Rattle.tiny_http_core.specs.Steps.{Asked, Ask, Read, Respond, Drop, Replied, Handed, Ended, Given, Fault, NotYet, Done, NoSuch, Memory, fault_of_answer}
 use Rattle.tiny_http_core.specs.Conversation.{Dated}
 use Rattle.tiny_http_core.specs.Sending.{Sends, IsFlushed, IsHonest, FailsAtMostOnce}
 
@@ -25,6 +25,7 @@ IsResponse feed r value = (value.answer ≡ r.answer) × (feed r.data_reader ≡
 -- the step is this one
 abbrev pub IsStep : {D : Type 0} → (D → Option Feed) → Step D → Asked → Type 0
 IsStep feed step.Ask Ask = Unit {0}
+IsStep feed (step.Read k n) (Read j m) = (j ≡ k) × (m ≡ n)
 IsStep feed (step.Respond k r) (Respond n value) = (n ≡ k) × IsResponse feed r value
 IsStep feed (step.Drop k) (Drop n) = n ≡ k
 IsStep feed _ _ = ⊥
@@ -37,15 +38,18 @@ IsTold feed t d = (d.0 ≡ t.now) × IsStep feed t.step d.1
 abbrev pub seen : Reply → Replied
 seen (reply.Handed k h) = Handed k (head_message h) (head_framing h)
 seen reply.Ended = Ended
+seen (reply.Given bytes) = Given bytes.items
 seen (reply.Fault kind) = Fault kind
 seen reply.NotYet = NotYet
 seen reply.Done = Done
 seen reply.NoSuch = NoSuch
 seen reply.Memory = Memory
 
--- the step may fail by this kind, by the writer or by its own data; an Ask and a Drop tell no fault
+-- the step may fail by this kind, by the writer or by its own data, or by that of the body that it reads; an Ask and a Drop
+-- tell no fault
 abbrev pub MayFail : {D : Type 0} → (D → Option Feed) → Sink → Sink → Step D → ErrorKind → Type 0
 MayFail feed old new step.Ask kind = ⊥
+MayFail feed old new (step.Read k n) kind = Unit {0}
 MayFail feed old new (step.Drop k) kind = ⊥
 MayFail feed old new (step.Respond k r) kind = IsHonest old new r.answer.length (feed r.data_reader) kind
 

@@ -164,12 +164,15 @@ abbrev pub body_left : Slot → Request → List ℕ
 body_left s r = drop s.given r.body.bytes
 
 -- the body is finished: it is nothing or held, or all its bytes were given out, or its end or fault was told
-abbrev pub is_body_finished : Form → ℕ → Slot → Bool
-is_body_finished Nothing n s = true
-is_body_finished Held n s = true
-is_body_finished Counted n s = s.given == n || s.told
-is_body_finished Chunked n s = s.told
-is_body_finished Rest n s = s.told
+abbrev pub body_finished : Form → ℕ → ℕ → Bool → Bool
+body_finished Nothing n given told = true
+body_finished Held n given told = true
+body_finished Counted n given told = given == n || told
+body_finished Chunked n given told = told
+body_finished Rest n given told = told
+
+abbrev pub is_body_finished : Request → Slot → Bool
+is_body_finished r s = body_finished r.framing.form (said_length r.framing) s.given s.told
 
 -- forms whose body is read from the stream, up to where the next head begins
 abbrev pub is_streamed : Form → Bool
@@ -180,7 +183,7 @@ is_streamed _ = false
 -- the body holds the reader: the next head can't be read yet
 abbrev pub body_holds_reader : Slot → Item → Bool
 body_holds_reader s (Asks r) =
-    not r.framing.is_last && (is_streamed r.framing.form && not (is_body_finished r.framing.form (said_length r.framing) s || s.given_up))
+    not r.framing.is_last && (is_streamed r.framing.form && not (is_body_finished r s || s.given_up))
 body_holds_reader s (Refuses status version withheld) = false
 
 abbrev pub is_chunked : Form → Bool

@@ -1,5 +1,5 @@
 -- What a `Source` still gives, and what its calls make of it.
-use Rattle.std.specs.Prelude.{ℕ, ◌≡◌, ◌<◌, ◌++◌, length, Bool, List, ⊤, Option, None, Some, Result, Ok, Err}
+use Rattle.std.specs.Prelude.{ℕ, ◌≡◌, ◌<◌, ◌++◌, length, Bool, true, List, ⊤, Option, None, Some, Result, Ok, Err}
 use Rattle.std.specs.Str.{IsAscii, IsNotAscii}
 use Rattle.std.specs.declared.io.ErrorKind.TheVariants.{TimedOut}
 use Rattle.tiny_http_wire.specs.Device.{Feed}
@@ -17,6 +17,10 @@ pub record SourceState (R : Type 0) : Type 0 where
   pub stop : Option Stop
   pub is_over : Bool
   pub reader : R
+
+-- the reader has ended, or the source was: each line from now on is the end
+abbrev pub IsAtEnd : {R : Type 0} → SourceState R → Type 0
+IsAtEnd s = (s.is_over ≡ true) × (s.stop ≡ Some End)
 
 -- the bytes of a feed
 abbrev pub bytes_of : Option Feed → Option (List ℕ)

@@ -6,7 +6,7 @@ ghost use Rattle.tiny_http_core.specs.Slots.{ResponseValue};
 ghost use Rattle.tiny_http_core.specs.Pipeline.{Item, Pipeline};
 ghost use Rattle.tiny_http_core.specs.Conversation.{State, StepsTo, IsConversation, IsFresh, Dated, start};
 ghost use Rattle.httpdate.specs.declared.date.HttpDate.{HttpDate as Date};
-ghost use Rattle.tiny_http_core.specs.Steps.{Ask, Respond, Drop, Done, Fault, is_closed_client, fault_of_answer};
+ghost use Rattle.tiny_http_core.specs.Steps.{Ask, Read, Respond, Drop, Done, Fault, is_closed_client, fault_of_answer};
 ghost use Rattle.std.specs.declared.io.ErrorKind.{ErrorKind};
 ghost use Rattle.tiny_http_core.specs.Source.{GoesOn};
 ghost use Rattle.tiny_http_core.specs.Connection.{kept, Stands};
@@ -14,10 +14,9 @@ ghost use Rattle.tiny_http_core.specs.Seen.{seen, Answers, printed_as, IsRespons
 ghost use Rattle.tiny_http_core.specs.Outlet.{outlet_sink, outlet_ended, outlet_held, outlet_writer, SentOn};
 ghost use Rattle.tiny_http_core.specs.Sending.{CanSend, FailsOnceUnlessEnded, FailsAtMostOnce, IsHonest};
 
-use crate::exchange::{Head, HeadRead};
-use crate::heads::read_head;
+use crate::exchange::{AnswerForm, Exchange, Head, HeadRead, Waiting, read_head};
 use crate::outlet::Outlet;
-use crate::pending::{AnswerForm, Pending};
+use crate::pending::Pending;
 use crate::sending::send;
 use crate::source::Source;
 use httpdate::HttpDate;
@@ -31,6 +30,8 @@ use tiny_http_wire::response::Response;
 pub enum Step<D> {
     /// Reads the next head and hands it out.
     Ask,
+    /// Reads the body of the request of this number, until there are so many bytes, or no more follow.
+    Read(u64, u16),
     /// Answers the request of this number.
     Respond(u64, Response<D>),
     /// Drops the request of this number: it is answered by an empty 500, on the date on which it was handed out.
@@ -53,7 +54,10 @@ pub enum Reply {
     Handed(u64, Head),
     /// The connection has no further request.
     Ended,
-    /// The writer or the response's data failed so.
+    /// These bytes of the body. Where they are fewer than were asked for no byte follows: the next read tells the end by none,
+    /// or the fault.
+    Given(Vec<u8>),
+    /// The body ends by this fault; or the writer or the response's data failed so.
     Fault(ErrorKind),
     /// The step has to wait; nothing has changed.
     NotYet,
@@ -61,7 +65,7 @@ pub enum Reply {
     Done,
     /// No request of this number takes the step; nothing has changed.
     NoSuch,
-    /// No memory was found; every later `Ask` is answered `Ended`.
+    /// No memory was found. A `Read` has changed nothing; behind an `Ask` every later one is answered `Ended`.
     Memory,
 }
 
@@ -184,8 +188,11 @@ impl<R: ReadDevice, W: WriteDevice> Connection<R, W> {
             self.ended = true;
             return Reply::Ended;
         }
-        match read_head(alloc, &mut self.source) {
-            HeadRead::Request(head, _body) => match self.pending.hand_out(alloc, &head, now) {
+        if self.pending.holds_reader() {
+            return Reply::NotYet;
+        }
+        match read_head(alloc, &mut self.source, now) {
+            Ok(HeadRead::Request(Exchange { head, waiting })) => match self.pending.issue(Some(waiting)) {
                 Ok(number) => {
                     self.over = head.is_last;
                     Reply::Handed(number, head)
@@ -195,21 +202,47 @@ impl<R: ReadDevice, W: WriteDevice> Connection<R, W> {
                     Reply::Memory
                 }
             },
-            HeadRead::Refused(refusal) => {
+            Ok(HeadRead::Refused { text, .. }) => {
                 self.ended = true;
-                match self.pending.refuse(alloc, &mut self.outlet, refusal, now) {
+                match self.pending.refuse(&mut self.outlet, text) {
                     Ok(()) => Reply::Ended,
                     Err(_) => Reply::Memory,
                 }
             }
-            HeadRead::Ended => {
+            Ok(HeadRead::Ended) => {
                 self.ended = true;
                 Reply::Ended
             }
-            HeadRead::Memory => {
+            Err(_) => {
                 self.ended = true;
                 Reply::Memory
             }
+        }
+    }
+
+    // Reads the body of the request of this number.
+    fn read(&mut self, alloc: Global, number: u64, count: u16) -> Reply
+        ensures stands { (client : Feed) (before : Sink) (s : State) (date : Date) → Stands client before (kept W.sink self.old) s
+            → (new : State) × Stands client before (kept W.sink self.new) new × StepsTo s date (Read number count) (seen result) new }
+        ensures goes_on { GoesOn self.old.source.feed self.new.source.feed }
+        ensures outlet { self.new.outlet ≡ self.old.outlet }
+    {
+        if self.pending.form_at(number).is_none() {
+            return Reply::NoSuch;
+        }
+        let mut bytes = Vec::new(alloc);
+        if bytes.resize(count as usize, 0).is_err() {
+            return Reply::Memory;
+        }
+        if count == 0 {
+            return Reply::Given(bytes);
+        }
+        match self.pending.fill(&mut self.source, number, bytes.as_mut_slice()) {
+            Ok(n) => {
+                bytes.truncate(n);
+                Reply::Given(bytes)
+            }
+            Err(kind) => Reply::Fault(kind),
         }
     }
 
@@ -217,16 +250,20 @@ impl<R: ReadDevice, W: WriteDevice> Connection<R, W> {
     fn drop_request(&mut self, number: u64) -> Reply
         ensures stands { (client : Feed) (before : Sink) (s : State) (date : Date) → before.failures < 2 ^ 64 - 1 → Stands client before (kept W.sink self.old) s
             → (new : State) × Stands client before (kept W.sink self.new) new × StepsTo s date (Drop number) (seen result) new }
-        ensures goes_on { self.new.source ≡ self.old.source }
+        ensures goes_on { GoesOn self.old.source.feed self.new.source.feed }
         ensures fails_once { FailsOnceUnlessEnded (outlet_ended self.old.outlet) (outlet_sink W.sink self.old.outlet) (outlet_sink W.sink self.new.outlet) (outlet_ended self.new.outlet) }
         ensures flushed { outlet_held self.old.outlet ≡ [] → outlet_held self.new.outlet ≡ [] }
         ensures sent_on { SentOn W.sink self.old.outlet → SentOn W.sink self.new.outlet }
         ensures honest { (kind : ErrorKind) → seen result ≡ Fault kind → ⊥ }
     {
-        let Some(text) = self.pending.take_dropped(number) else {
+        let Some(waiting) = self.pending.take(number) else {
             return Reply::NoSuch;
         };
-        self.pending.leave(&mut self.outlet, number, text);
+        let Waiting {
+            dropped, mut body, ..
+        } = waiting;
+        self.pending.leave(&mut self.outlet, number, dropped);
+        body.give_up(&mut self.source);
         Reply::Done
     }
 
@@ -240,7 +277,7 @@ impl<R: ReadDevice, W: WriteDevice> Connection<R, W> {
     ) -> Reply
         ensures stands { (client : Feed) (before : Sink) (s : State) (value : ResponseValue) → before.failures < 2 ^ 64 - 1 → IsResponse D.feed response value → Stands client before (kept W.sink self.old) s
             → (new : State) × Stands client before (kept W.sink self.new) new × StepsTo s now (Respond number value) (seen result) new }
-        ensures goes_on { self.new.source ≡ self.old.source }
+        ensures goes_on { GoesOn self.old.source.feed self.new.source.feed }
         ensures fails_once { FailsOnceUnlessEnded (outlet_ended self.old.outlet) (outlet_sink W.sink self.old.outlet) (outlet_sink W.sink self.new.outlet) (outlet_ended self.new.outlet) }
         ensures flushed { outlet_held self.old.outlet ≡ [] → outlet_held self.new.outlet ≡ [] }
         ensures sent_on { SentOn W.sink self.old.outlet → SentOn W.sink self.new.outlet }
@@ -254,6 +291,9 @@ impl<R: ReadDevice, W: WriteDevice> Connection<R, W> {
         }
         let reply = answer(alloc, &mut self.outlet, response, form, now);
         self.pending.pass(&mut self.outlet, number);
+        if let Some(Waiting { mut body, .. }) = self.pending.take(number) {
+            body.give_up(&mut self.source);
+        }
         reply
     }
 
@@ -269,6 +309,7 @@ impl<R: ReadDevice, W: WriteDevice> Connection<R, W> {
         let Timed { now, step } = timed;
         match step {
             Step::Ask => self.ask(alloc, now),
+            Step::Read(number, count) => self.read(alloc, number, count),
             Step::Respond(number, response) => self.respond(alloc, now, number, response),
             Step::Drop(number) => self.drop_request(number),
         }

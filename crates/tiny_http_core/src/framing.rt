@@ -5,7 +5,7 @@ ghost use Rattle.std.specs.List.{starts_with};
 ghost use Rattle.tiny_http_wire.specs.Bytes.{contains_word};
 ghost use Rattle.tiny_http_wire.specs.Common.{lowercase};
 ghost use Rattle.tiny_http_wire.specs.Heads.{is_too_new};
-ghost use Rattle.tiny_http_core.specs.Framing.{value_of, mentions, body_length, expectation, sized_form, form_of, is_last, framing, is_plain, is_built};
+ghost use Rattle.tiny_http_core.specs.Framing.{value_of, mentions, body_length, expectation, sized_form, form_of, is_last, framing, is_built};
 
 use crate::exchange::Form;
 use tiny_http_wire::ascii::AsciiString;
@@ -145,15 +145,9 @@ fn is_too_new(version: HTTPVersion) -> bool
     version.0 > 1 || (version.0 == 1 && version.1 > 1)
 }
 
-fn is_plain(form: Form) -> bool
-    ensures { result ≡ is_plain form }
-{
-    matches!(form, Form::Nothing | Form::Held)
-}
-
 /// Whether a request so framed is served.
 pub(crate) fn is_built(version: HTTPVersion, framing: Framing) -> bool
     ensures { result ≡ is_built version framing }
 {
-    !is_too_new(version) && !framing.owes_continue && is_plain(framing.form)
+    !is_too_new(version) && !framing.owes_continue && framing.form != Form::Rest
 }

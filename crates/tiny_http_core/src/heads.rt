@@ -1,10 +1,8 @@
-//! One head after another.
-ghost use Rattle.std.specs.Prelude.{◌≡◌, Ok, Err};
-ghost use Rattle.tiny_http_core.specs.Source.{GoesOn};
-ghost use Rattle.tiny_http_core.specs.HeadReads.{ReadsText, ReadsStart, ReadsField, ReadsFields, ReadsMessage, ReadsHead, head_fault, refusal, held_length, message_of, head_message, head_framing};
+//! The lines of a head.
+ghost use Rattle.std.specs.Prelude.{◌≡◌, None, Err};
+ghost use Rattle.tiny_http_core.specs.Source.{GoesOn, IsAtEnd};
+ghost use Rattle.tiny_http_core.specs.HeadReads.{ReadsText, ReadsStart, ReadsField, ReadsFields, ReadsMessage, head_fault};
 
-use crate::exchange::{Form, Head, HeadRead, Refusal};
-use crate::framing::{Framing, framing_of, is_built};
 use crate::source::{LineFault, Source};
 use std::alloc::Global;
 use tiny_http_wire::ascii::AsciiString;
@@ -44,6 +42,7 @@ fn head_fault(fault: LineFault) -> HeadFault
 fn read_text<R: ReadDevice>(alloc: Global, source: &mut Source<R>) -> Result<AsciiString, HeadFault>
     ensures reads { ReadsText source.old.feed source.new.feed result }
     ensures goes_on { GoesOn source.old.feed source.new.feed }
+    ensures at_end { IsAtEnd source.old → (result ≡ Err HeadFault.Cut) × (source.new ≡ source.old) }
 {
     match source.read_line(alloc) {
         Ok(text) => Ok(text),
@@ -58,6 +57,7 @@ fn read_start<R: ReadDevice>(
 ) -> Result<(Method, AsciiString, HTTPVersion), HeadFault>
     ensures reads { ReadsStart source.old.feed source.new.feed result }
     ensures goes_on { GoesOn source.old.feed source.new.feed }
+    ensures at_end { IsAtEnd source.old → (result ≡ Err HeadFault.Cut) × (source.new ≡ source.old) }
 {
     let text = read_text(alloc, source)?;
     match parse_request_line(alloc, text.as_str().as_bytes()) {
@@ -108,13 +108,14 @@ fn read_fields<R: ReadDevice>(
     }
 }
 
-// A whole head; or its fault, under its version if that was read.
-fn read_message<R: ReadDevice>(
+/// Reads a whole head; or answers its fault, under its version if that was read.
+pub(crate) fn read_message<R: ReadDevice>(
     alloc: Global,
     source: &mut Source<R>,
 ) -> Result<Message, (Option<HTTPVersion>, HeadFault)>
     ensures reads { ReadsMessage source.old.feed source.new.feed result }
     ensures goes_on { GoesOn source.old.feed source.new.feed }
+    ensures at_end { IsAtEnd source.old → (result ≡ Err (None, HeadFault.Cut)) × (source.new ≡ source.old) }
 {
     let (method, path, version) = match read_start(alloc, source) {
         Ok(start) => start,
@@ -128,67 +129,5 @@ fn read_message<R: ReadDevice>(
             headers,
         }),
         Err(fault) => Err((Some(version), fault)),
-    }
-}
-
-// What a faulty head is answered.
-fn refusal(version: Option<HTTPVersion>, fault: HeadFault) -> HeadRead
-    ensures { result ≡ refusal version fault }
-{
-    match fault {
-        HeadFault::Malformed => HeadRead::Refused(Refusal {
-            version: version.unwrap_or(HTTPVersion(1, 1)),
-        }),
-        HeadFault::Memory => HeadRead::Memory,
-        HeadFault::Cut | HeadFault::NotAscii => HeadRead::Ended,
-    }
-}
-
-// How many bytes are read with a head.
-fn held_length(framing: Framing) -> usize
-    ensures { result ≡ held_length framing }
-{
-    match framing.form {
-        Form::Held => framing.body_length.unwrap_or(0),
-        _ => 0,
-    }
-}
-
-// The head that a message and its framing make.
-fn head_of(message: Message, framing: Framing) -> Head
-    ensures message { head_message result ≡ message_of message }
-    ensures framing { head_framing result ≡ framing }
-{
-    Head {
-        method: message.method,
-        path: message.path,
-        version: message.version,
-        headers: message.headers,
-        body_length: framing.body_length,
-        form: framing.form,
-        owes_continue: framing.owes_continue,
-        is_last: framing.is_last,
-    }
-}
-
-/// Reads one head, and with it a body of up to 1024 bytes.
-pub(crate) fn read_head<R: ReadDevice>(alloc: Global, source: &mut Source<R>) -> HeadRead
-    ensures reads { ReadsHead source.old.feed source.new.feed result }
-    ensures goes_on { GoesOn source.old.feed source.new.feed }
-{
-    let message = match read_message(alloc, source) {
-        Ok(message) => message,
-        Err((version, fault)) => return refusal(version, fault),
-    };
-    let Some(framing) = framing_of(message.version, message.headers.as_slice()) else {
-        return HeadRead::Ended;
-    };
-    if !is_built(message.version, framing) {
-        return HeadRead::Ended;
-    }
-    match source.take_exactly(alloc, held_length(framing)) {
-        Ok(Some(body)) => HeadRead::Request(head_of(message, framing), body),
-        Ok(None) => HeadRead::Ended,
-        Err(_) => HeadRead::Memory,
     }
 }

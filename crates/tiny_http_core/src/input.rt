@@ -147,8 +147,8 @@ impl<R: ReadDevice> Input<R> {
         Err(self.line_fault())
     }
 
-    // Lets the input end here.
-    fn end(&mut self)
+    /// Lets the input end here.
+    pub fn end(&mut self)
         ensures feed { input_feed R.feed self.new ≡ option_map (λ _. stopped Stop.End) (input_feed R.feed self.old) }
         ensures over { IsOver self.new }
         ensures stop { input_stop self.new ≡ Some Stop.End }

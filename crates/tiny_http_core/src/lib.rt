@@ -1,6 +1,7 @@
 //! One connection of a small HTTP server, without threads.
 #![tactic(auto)]
 
+mod body;
 mod buffer;
 pub mod driver;
 pub mod exchange;

@@ -1,48 +1,27 @@
 //! Requests that wait for their answers, and texts that wait for their turn.
-ghost use Rattle.std.specs.Prelude.{◌≡◌, ◌↔◌, ◌++◌, ◌∷◌, true, false, List, [], length, Some, None, IfOk, IfSome, IfNone, OnOk, OnErr, IsTrue, ◌==◌, slice_get, slice_set};
+ghost use Rattle.std.specs.Prelude.{◌≡◌, ◌↔◌, ◌≤◌, ◌++◌, ◌∷◌, true, false, List, [], length, Some, None, IfOk, IfSome, IfNone, OnOk, OnErr, IsTrue, ◌==◌, slice_get, slice_set};
 ghost use Rattle.tiny_http_core.specs.Turns.{Mark, Open, Held, AreInShape, first_unfinished};
 ghost use Rattle.tiny_http_core.specs.Outlet.{outlet_sink, outlet_ended, outlet_held, SentOn};
 ghost use Rattle.tiny_http_core.specs.Sending.{CanSend, IsFlushed, SendsUnlessEnded, FailsOnceUnlessEnded};
-ghost use Rattle.tiny_http_core.specs.Pending.{left_text, SendsLeft, Passes, LeavesText, KeepsHead, waiting_form};
-ghost use Rattle.tiny_http_core.specs.Pipeline.{is_head_method};
-ghost use Rattle.tiny_http_core.specs.Slots.{own_text};
+ghost use Rattle.tiny_http_core.specs.declared.body.Body.{Body};
+ghost use Rattle.tiny_http_core.specs.Source.{GoesOn};
+ghost use Rattle.tiny_http_core.specs.Body.{is_streaming, Fills};
+ghost use Rattle.tiny_http_core.specs.Pending.{left_text, SendsLeft, Passes, LeavesText, waiting_form, last_body, is_held};
 
-use crate::exchange::{Head, Refusal};
+use crate::exchange::{AnswerForm, Waiting};
 use crate::outlet::Outlet;
-use crate::sending::{flush_quietly, own_answer, write_quietly};
+use crate::sending::{flush_quietly, write_quietly};
+use crate::source::Source;
 use crate::turns::{Finishing, Leaving, Turns, TurnsError};
-use httpdate::HttpDate;
 use std::alloc::Global;
-use tiny_http_wire::common::{HTTPVersion, Method, StatusCode};
-use tiny_http_wire::device::WriteDevice;
-
-/// How the answer to a request is printed.
-#[derive(Clone, Copy, Debug, PartialEq, Eq)]
-pub(crate) struct AnswerForm {
-    pub version: HTTPVersion,
-    /// The body is withheld: the request is a `HEAD`.
-    pub no_body: bool,
-}
-
-/// What is kept of a request until it is answered.
-#[derive(Drop)]
-pub(crate) struct Waiting {
-    pub form: AnswerForm,
-    /// What is sent if the request is dropped.
-    pub dropped: Vec<u8>,
-}
+use std::io::ErrorKind;
+use tiny_http_wire::device::{ReadDevice, WriteDevice};
 
 /// The numbers of a connection: their turns, and what is kept of each that waits for its answer.
 #[derive(Drop)]
 pub(crate) struct Pending {
     pub turns: Turns<()>,
     pub requests: Vec<Option<Waiting>>,
-}
-
-fn is_head(method: &Method) -> bool
-    ensures { result ≡ is_head_method method.now }
-{
-    matches!(method, Method::Head)
 }
 
 impl Pending {
@@ -73,35 +52,14 @@ impl Pending {
         Ok(number)
     }
 
-    /// Gives a request the next number, with the text that is sent if it is dropped: so a drop takes no memory. An error
-    /// changes nothing.
-    pub fn hand_out(&mut self, alloc: Global, head: &Head, now: HttpDate) -> Result<u64, TurnsError>
-        ensures number { IfOk result (λ n. n ≡ length self.old.turns.marks) }
-        ensures marks { OnOk result (self.new.turns.marks ≡ self.old.turns.marks ++ (Open ∷ [])) }
-        ensures shape { OnOk result (AreInShape self.new.turns.marks) }
-        ensures requests { OnOk result ((w : Waiting) × (self.new.requests.items ≡ self.old.requests.items ++ (Some w ∷ [])) × KeepsHead w head.now now) }
-        ensures err { OnErr result ((self.new.turns ≡ self.old.turns) × (self.new.requests.items ≡ self.old.requests.items)) }
-    {
-        let form = AnswerForm {
-            version: head.version,
-            no_body: is_head(&head.method),
-        };
-        let Ok(dropped) = own_answer(alloc, StatusCode(500), form.version, form.no_body, now) else {
-            return Err(TurnsError::Memory);
-        };
-        self.issue(Some(Waiting { form, dropped }))
-    }
-
     /// Gives a refused head the next number, and leaves its answer under it. An error changes nothing.
     pub fn refuse<W: WriteDevice>(
         &mut self,
-        alloc: Global,
         outlet: &mut Outlet<W>,
-        refusal: Refusal,
-        now: HttpDate,
+        text: Vec<u8>,
     ) -> Result<(), TurnsError>
         ensures leaves { (outlet_ended outlet.old ≡ false → CanSend (outlet_sink W.sink outlet.old))
-            → OnOk result (LeavesText (length self.old.turns.marks == first_unfinished self.old.turns.marks) self.old.turns.marks [] self.new.turns.marks (own_text 400 refusal.version false now)
+            → OnOk result (LeavesText (length self.old.turns.marks == first_unfinished self.old.turns.marks) self.old.turns.marks [] self.new.turns.marks text.items
             (outlet_ended outlet.old) (outlet_sink W.sink outlet.old) (outlet_sink W.sink outlet.new) (outlet_ended outlet.new)) }
         ensures requests { OnOk result (self.new.requests.items ≡ self.old.requests.items ++ (None ∷ [])) }
         ensures err { OnErr result ((self.new.turns ≡ self.old.turns) × (self.new.requests.items ≡ self.old.requests.items) × (outlet.new ≡ outlet.old)) }
@@ -109,9 +67,6 @@ impl Pending {
         ensures flushed { outlet_held outlet.old ≡ [] → outlet_held outlet.new ≡ [] }
         ensures sent_on { SentOn W.sink outlet.old → SentOn W.sink outlet.new }
     {
-        let Ok(text) = own_answer(alloc, StatusCode(400), refusal.version, false, now) else {
-            return Err(TurnsError::Memory);
-        };
         let number = self.issue(None)?;
         self.leave(outlet, number, text);
         Ok(())
@@ -127,9 +82,40 @@ impl Pending {
         }
     }
 
-    /// What is sent if this number is dropped, if it waits for its answer. It doesn't wait any more.
-    pub fn take_dropped(&mut self, number: u64) -> Option<Vec<u8>>
-        ensures some { IfSome result (λ text. (w : Waiting) × (slice_get self.old.requests.items number ≡ Some (Some w)) × (text ≡ w.dropped)
+    /// Fills a buffer from the body of this number, if it waits for its answer.
+    pub fn fill<R: ReadDevice>(
+        &mut self,
+        source: &mut Source<R>,
+        number: u64,
+        buf: &mut [u8],
+    ) -> Result<usize, ErrorKind>
+        ensures bound { IfOk result (λ n. n ≤ length buf.new) }
+        ensures fills { (w : Waiting) → slice_get self.old.requests.items number ≡ Some (Some w)
+            → (body : Body) × (self.new.requests.items ≡ slice_set self.old.requests.items number (Some (record w { body = body })))
+            × Fills w.body source.old.feed body source.new.feed result buf.new × (is_streaming w.body ≡ false → source.new ≡ source.old) }
+        ensures turns { self.new.turns ≡ self.old.turns }
+        ensures goes_on { GoesOn source.old.feed source.new.feed }
+    {
+        match self.requests.get_mut(number as usize) {
+            Some(Some(waiting)) => waiting.body.fill(source, buf),
+            _ => Ok(0),
+        }
+    }
+
+    /// Whether the last request that was handed out waits, and the next head stands behind bytes of its body that were not
+    /// read.
+    pub fn holds_reader(&self) -> bool
+        ensures { result ≡ is_held (last_body self.now.requests.items) }
+    {
+        match self.requests.last() {
+            Some(Some(waiting)) => waiting.body.holds_reader(),
+            _ => false,
+        }
+    }
+
+    /// What is kept of this number, if it waits for its answer. It doesn't wait any more.
+    pub fn take(&mut self, number: u64) -> Option<Waiting>
+        ensures some { IfSome result (λ w. (slice_get self.old.requests.items number ≡ Some (Some w))
             × (self.new.requests.items ≡ slice_set self.old.requests.items number None)) }
         ensures none { IfNone result ((waiting_form (slice_get self.old.requests.items number) ≡ None) × (self.new.requests.items ≡ self.old.requests.items)) }
         ensures turns { self.new.turns ≡ self.old.turns }
@@ -137,26 +123,17 @@ impl Pending {
         let Some(entry) = self.requests.get_mut(number as usize) else {
             return None;
         };
-        match entry.take() {
-            Some(Waiting { form: _, dropped }) => Some(dropped),
-            None => None,
-        }
+        entry.take()
     }
 
-    /// Holds this number, which waits for its answer, if its turn has come. It doesn't wait any more then.
+    /// Holds this number, if its turn has come.
     pub fn hold(&mut self, number: u64) -> bool
         ensures held { IsTrue result ↔ ((slice_get self.old.turns.marks number ≡ Some Open) × (number ≡ first_unfinished self.old.turns.marks)) }
         ensures marks { IsTrue result → self.new.turns.marks ≡ slice_set self.old.turns.marks number Held }
-        ensures requests { IsTrue result → self.new.requests.items ≡ slice_set self.old.requests.items number None }
-        ensures not_yet { result ≡ false → (self.new.turns.marks ≡ self.old.turns.marks) × (self.new.requests.items ≡ self.old.requests.items) }
+        ensures not_yet { result ≡ false → self.new.turns.marks ≡ self.old.turns.marks }
+        ensures requests { self.new.requests ≡ self.old.requests }
     {
-        if self.turns.take(number).is_none() {
-            return false;
-        }
-        if let Some(entry) = self.requests.get_mut(number as usize) {
-            *entry = None;
-        }
-        true
+        self.turns.take(number).is_some()
     }
 
     /// Finishes a number that is held, and so each behind it that was left, whose text is sent. No reply tells a fault that

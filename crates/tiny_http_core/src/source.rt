@@ -3,7 +3,7 @@ ghost use Rattle.std.specs.Prelude.{◌≡◌, ◌≢◌, true, ◌<◌, ◌≤�
 ghost use Rattle.std.specs.Option.{option_map};
 ghost use Rattle.std.specs.IoError.{error_kind};
 ghost use Rattle.tiny_http_wire.specs.Device.{given, StopsBy};
-ghost use Rattle.tiny_http_core.specs.ToCome.{skipped};
+ghost use Rattle.tiny_http_core.specs.ToCome.{skipped, stopped};
 
 use crate::input::Input;
 use std::alloc::{AllocError, Global};
@@ -46,7 +46,7 @@ impl<R: ReadDevice> Model for Source<R> {
 }
 
 impl<R: ReadDevice> Source<R> {
-    ghost use Rattle.tiny_http_core.specs.Source.{fault_of, ReadsLine, TakesExactly, GoesOn};
+    ghost use Rattle.tiny_http_core.specs.Source.{fault_of, ReadsLine, TakesExactly, GoesOn, IsAtEnd};
 
     /// A source over this reader.
     pub fn new(inner: R) -> Source<R>
@@ -66,6 +66,15 @@ impl<R: ReadDevice> Source<R> {
         ensures once { IsSome self.old.stop → IsSome self.new.stop × (self.new.reader ≡ self.old.reader) }
     {
         self.input.skip(n)
+    }
+
+    /// Lets the input end here: what is left of it is passed over.
+    pub(crate) fn end(&mut self)
+        ensures feed { self.new.feed ≡ option_map (λ _. stopped Stop.End) self.old.feed }
+        ensures at_end { IsAtEnd self.new }
+        ensures reader { self.new.reader ≡ self.old.reader }
+    {
+        self.input.end()
     }
 
     /// Reads the first line, without its CR LF (RFC 9112, section 2.2); a lone CR or LF stays in it.

@@ -1,5 +1,5 @@
 use Rattle.std.proofs.Common.{rules, sym, ap, subst, true, List, Option}
-use Rattle.tiny_http_core.specs.declared.pending.Waiting.{Waiting}
+use Rattle.tiny_http_core.specs.declared.exchange.Waiting.{Waiting}
 use Rattle.tiny_http_core.specs.declared.outlet.Outlet.{Outlet}
 use Rattle.tiny_http_core.specs.Turns.{Mark}
 use Rattle.tiny_http_core.specs.Outlet.{outlet_sink, outlet_ended}

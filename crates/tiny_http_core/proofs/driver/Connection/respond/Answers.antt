@@ -1,7 +1,7 @@
 use Rattle.std.proofs.Common.{rules, ◌≡◌, refl, sym, ap, ◌∙◌, subst, true, false, List, Option, Some}
 use Rattle.std.specs.Prelude.{slice_get, IsTrue}
 use Rattle.tiny_http_wire.specs.Answer.{Answer}
-use Rattle.tiny_http_core.specs.declared.pending.Waiting.{Waiting}
+use Rattle.tiny_http_core.specs.declared.exchange.Waiting.{Waiting}
 use Rattle.tiny_http_core.specs.Steps.{Respond, NotYet}
 use Rattle.tiny_http_core.specs.Turns.{Mark}
 use Rattle.tiny_http_core.specs.Pending.{waiting_form}
