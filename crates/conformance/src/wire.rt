@@ -1,5 +1,6 @@
 //! The calls of `tiny_http_wire`.
 mod ascii;
+mod chunked;
 mod common;
 mod device;
 mod grammar;

@@ -172,7 +172,11 @@ impl Decoding {
     ///
     /// The end is told once the trailer part was read. From then on, and from a fault on, each call
     /// answers the same, and does not call the reader.
-    pub fn read<R: ReadDevice>(&mut self, reader: &mut R, buf: &mut [u8]) -> Result<usize, io::Error>
+    pub fn read<R: ReadDevice>(
+        &mut self,
+        reader: &mut R,
+        buf: &mut [u8],
+    ) -> Result<usize, io::Error>
         ensures bound { IfOk result (λ n. n ≤ length buf.new) }
         // The bytes that came are the next of the data.
         ensures data { IfOk result (λ n. decoding_coming self.old (R.feed reader.old) ≡ with_front (take n buf.new) (decoding_coming self.new (R.feed reader.new))) }

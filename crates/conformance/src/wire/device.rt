@@ -3,7 +3,9 @@ use std::io;
 use std::io::{Cursor, ErrorKind, Write};
 use std::process::Abort;
 use std::test::Fail;
-use tiny_http_wire::device::{Budget, Canned, Metered, ReadDevice, WriteDevice, put, put_all};
+use tiny_http_wire::device::{
+    Budget, Canned, Metered, ReadDevice, WriteDevice, put, put_all, read_front,
+};
 
 // What the first three reads into four bytes answer: so many bytes, or a fault.
 fn reads<R: ReadDevice>(rt: &impl Abort, reader: &mut R, wanted: [Result<&[u8], ErrorKind>; 3]) {
@@ -38,6 +40,24 @@ fn readers_give_their_bytes_and_then_their_stop(rt: HostRuntime) -> Result<(), F
     let mut metered = Metered::new(Cursor::new(bytes.to_vec(rt.alloc())?));
     reads(&rt, &mut metered, [Ok(b"hell"), Ok(b"o"), Ok(b"")]);
     assert_eq!(rt; metered.into_inner().position(), 5);
+    Ok(())
+}
+
+#[test]
+fn a_front_is_read_alone(rt: HostRuntime) -> Result<(), Fail> {
+    let mut reader = Canned::new(b"hello".to_vec(rt.alloc())?, Some(ErrorKind::TimedOut));
+    for (most, wanted) in [(0, "".as_bytes()), (2, b"he"), (9, b"llo"), (0, b"")] {
+        let mut buf = [b'.'; 4];
+        let n = read_front(&mut reader, most, &mut buf)?;
+        assert_eq!(rt; &buf[..n], wanted);
+        assert!(rt; buf[n..].iter().all(|b| *b == b'.'));
+        let nothing = read_front(&mut reader, most, &mut [])?;
+        assert_eq!(rt; nothing, 0);
+    }
+    let Err(e) = read_front(&mut reader, 1, &mut [0u8; 4]) else {
+        return Err("no fault".into());
+    };
+    assert_eq!(rt; e.kind(), ErrorKind::TimedOut);
     Ok(())
 }
 
