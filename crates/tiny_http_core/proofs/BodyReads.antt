@@ -218,3 +218,11 @@ moves-more a b c zero n told same moves h =
     let Q : ℕ → Type 0 = λ k. ReadsOn a k told c in
     subst Q (omega arith) (subst P (same refl) h)
 moves-more a b c (suc at) n told same moves h = reads-on a b c (suc at) n told (moves (omega arith)) h
+
+-- at an end that was made
+pub goes-on_end : (old new : Option Feed) → new ≡ option_map (λ _. stopped End) old → GoesOn old new
+goes-on_end old new e = let P : Option Feed → Type 0 = λ x. GoesOn old x in subst P (sym e) (ends old)
+  where
+    ends : (o : Option Feed) → GoesOn o (option_map (λ _. stopped End) o)
+    ends None = tt
+    ends (Some f) = record { gone = f.bytes; joins = sym (append-nil f.bytes) }

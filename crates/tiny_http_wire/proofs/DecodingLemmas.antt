@@ -9,7 +9,8 @@ use Rattle.std.specs.declared.io.ErrorKind.{ErrorKind}
 use Rattle.std.specs.declared.io.ErrorKind.TheVariants.{InvalidData}
 use Rattle.tiny_http_wire.specs.declared.device.Stop.{Stop}
 use Rattle.tiny_http_wire.specs.Bytes.{crlf}
-use Rattle.tiny_http_wire.specs.Device.{Feed, given, fault_of}
+use Rattle.tiny_http_wire.specs.Device.{Feed, given, TakesFront, fault_of}
+use Rattle.tiny_http_wire.proofs.Feeds.{given-along}
 use Rattle.tiny_http_wire.specs.Chunks.{IsShortLine, LineFault, CloseFault, SizeText, WholeChunks, CutChunks}
 use Rattle.tiny_http_wire.specs.ChunkReading.{decoded, data_at, closed, after_data, trailer_part, broken, with_data, size_of}
 use Rattle.tiny_http_wire.proofs.ChunkLemmas.{Go, made, IsDecoded, decoded-is, decoded-one, decoded-front, sized-line, short-one, short-fault, size-is, close-is, close-fault, trailer-end, trailer-more, trailer-faulty, at-cons, drop_at}
@@ -286,3 +287,20 @@ breaks f kind d e = let P : Option Coming → Type 0 = λ x. BreaksBy kind x in 
 pub over-comes : (f : Option Feed) → comes Over f ≡ option_map over_at f
 over-comes None = refl
 over-comes (Some f) = ap (λ d. Some (coming_of f.stop d)) (over-is f)
+
+-- only bytes at the front were taken
+pub takes-more : (a b c : Option Feed) → TakesFront a b → TakesFront b c → TakesFront a c
+takes-more a b c h k = (h.0 ++ k.0, given-along a b c h.0 k.0 (h.0 ++ k.0) h.1 k.1 refl)
+
+pub takes-none : (a b : Option Feed) → b ≡ a → TakesFront a b
+takes-none a b e = ([], sym e ∙ nothing b)
+  where
+    nothing : (o : Option Feed) → o ≡ given [] o
+    nothing None = refl
+    nothing (Some f) = refl
+
+pub line-takes : (a b : Option Feed) (line : TakenLine) → OneLine a b line → TakesFront a b
+line-takes a b line h = (h.text ++ crlf, h.gives)
+
+pub none-takes : (a b : Option Feed) (kind : ErrorKind) → NoLine a b kind → TakesFront a b
+none-takes a b kind h = (h.gone, h.gives)

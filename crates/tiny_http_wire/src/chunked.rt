@@ -2,7 +2,7 @@
 ghost use Rattle.std.specs.Prelude.{◌≡◌, ℕ, ◌<◌, ◌≤◌, List, length, take, Option, None, Some, Ok, Err, IfOk, IfErr, OnOk, OnErr, IsSome, IfSome};
 ghost use Rattle.std.specs.Option.{option_map};
 ghost use Rattle.std.specs.IoError.{error_kind};
-ghost use Rattle.tiny_http_wire.specs.Device.{given};
+ghost use Rattle.tiny_http_wire.specs.Device.{given, TakesFront};
 ghost use Rattle.tiny_http_wire.specs.Chunks.{WholeChunks, CutChunks};
 ghost use Rattle.tiny_http_wire.specs.ChunkLine.{CutBy};
 ghost use Rattle.tiny_http_wire.specs.Decoding.{comes, trails, IsReady, next_stop, decoding_coming, decoding_stop, with_front, over_at, BreaksBy, AnswersStop};
@@ -32,6 +32,7 @@ enum Next {
 fn close_chunk<R: ReadDevice>(reader: &mut R) -> Result<(), ErrorKind>
     ensures closed { OnOk result (comes Next.Line (R.feed reader.new) ≡ comes (Next.Data 0) (R.feed reader.old)) }
     ensures broken { IfErr result (λ kind. comes (Next.Broken kind) (R.feed reader.new) ≡ comes (Next.Data 0) (R.feed reader.old)) }
+    ensures takes { TakesFront (R.feed reader.old) (R.feed reader.new) }
 {
     match next_byte(reader) {
         Err(kind) => return Err(kind),
@@ -57,6 +58,7 @@ fn close_chunk<R: ReadDevice>(reader: &mut R) -> Result<(), ErrorKind>
 fn skip_trailers<R: ReadDevice>(reader: &mut R) -> Next
     ensures comes { comes result (R.feed reader.new) ≡ trails 128 (R.feed reader.old) }
     ensures ready { IsReady result }
+    ensures takes { TakesFront (R.feed reader.old) (R.feed reader.new) }
 {
     for lines in 0..128_usize {
         match next_line(reader) {
@@ -84,6 +86,7 @@ fn skip_trailers<R: ReadDevice>(reader: &mut R) -> Next
 fn open_chunk<R: ReadDevice>(reader: &mut R) -> Next
     ensures comes { comes result (R.feed reader.new) ≡ comes Next.Line (R.feed reader.old) }
     ensures ready { IsReady result }
+    ensures takes { TakesFront (R.feed reader.old) (R.feed reader.new) }
 {
     match next_line(reader) {
         Err(kind) => Next::Broken(kind),
@@ -104,6 +107,7 @@ fn open_chunk<R: ReadDevice>(reader: &mut R) -> Next
 fn go_to_data<R: ReadDevice>(reader: &mut R, next: Next) -> Next
     ensures comes { comes result (R.feed reader.new) ≡ comes next (R.feed reader.old) }
     ensures ready { IsReady result }
+    ensures takes { TakesFront (R.feed reader.old) (R.feed reader.new) }
     ensures stays { IsSome (next_stop next) → (result ≡ next) × (reader.new ≡ reader.old) }
 {
     match next {
@@ -190,6 +194,8 @@ impl Decoding {
         ensures broken { IfErr result (λ e. decoding_stop self.new ≡ Some (Stop.Fault (error_kind e))) }
         ensures stays { IsSome (decoding_stop self.old) → (self.new ≡ self.old) × (reader.new ≡ reader.old) }
         ensures tells { IfSome (decoding_stop self.old) (λ stop. 0 < length buf.new → AnswersStop stop result) }
+        // Only bytes at the front of what the reader gives are taken.
+        ensures takes { TakesFront (R.feed reader.old) (R.feed reader.new) }
     {
         if buf.is_empty() {
             return Ok(0);

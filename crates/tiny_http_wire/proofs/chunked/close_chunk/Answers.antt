@@ -1,4 +1,5 @@
-use Rattle.tiny_http_wire.proofs.DecodingLemmas.{close-cut, close-wrong, close-cut_feed, close-wrong_feed, close-good}
+use Rattle.std.proofs.Common.{[], ◌∷◌}
+use Rattle.tiny_http_wire.proofs.DecodingLemmas.{close-cut, close-wrong, close-cut_feed, close-wrong_feed, close-good, takes-more}
 use Rattle.tiny_http_wire.proofs.chunked.close_chunk.Goals as goal
 
 pub returns-in-Err-clause-broken : goal.returns-in-Err-clause-broken
@@ -18,3 +19,9 @@ returns-then-b-eq10-clause-closed g c =
 pub returns-else-b-eq10-clause-broken : goal.returns-else-b-eq10-clause-broken
 returns-else-b-eq10-clause-broken g c =
     close-wrong_feed _ _ _ c.in-Ok.b c.in-Ok-next_byte.b c.in-Ok.ensures.byte c.if-b-ne13.false c.in-Ok-next_byte.ensures.byte c.if-b-eq10.false
+
+pub returns-then-b-eq10-clause-takes : goal.returns-then-b-eq10-clause-takes
+returns-then-b-eq10-clause-takes g c = takes-more _ _ _ (c.in-Ok.b ∷ [], c.in-Ok.ensures.byte) (c.in-Ok-next_byte.b ∷ [], c.in-Ok-next_byte.ensures.byte)
+
+pub returns-else-b-eq10-clause-takes : goal.returns-else-b-eq10-clause-takes
+returns-else-b-eq10-clause-takes g c = takes-more _ _ _ (c.in-Ok.b ∷ [], c.in-Ok.ensures.byte) (c.in-Ok-next_byte.b ∷ [], c.in-Ok-next_byte.ensures.byte)

@@ -4,7 +4,7 @@ use Rattle.std.specs.IoError.{error_kind}
 use Rattle.tiny_http_wire.specs.declared.chunked.Next.{Next}
 use Rattle.tiny_http_wire.specs.declared.chunked.Next.TheVariants.{Data, Over, Broken}
 use Rattle.tiny_http_wire.specs.Decoding.{comes, decoding_coming}
-use Rattle.tiny_http_wire.proofs.DecodingLemmas.{data-given, data-cut, breaks, over-comes}
+use Rattle.tiny_http_wire.proofs.DecodingLemmas.{data-given, data-cut, breaks, over-comes, takes-more, takes-none}
 use Rattle.tiny_http_wire.proofs.chunked.Decoding.read.Goals as goal
 
 pub returns-in-Ok-clause-data : goal.returns-in-Ok-clause-data
@@ -46,3 +46,9 @@ returns-in-Over-clause-end g c none room =
     let s = c.go_to_data-self in
     let is : s.result ≡ Over = ⊎_elim (λ e. e) (λ e. absurd (rw e at s.ensures.ready)) c.in-Over.is in
     sym s.ensures.comes ∙ (ap (λ (x : Next). comes x (feed s.new.reader)) is ∙ over-comes (feed s.new.reader))
+
+pub returns-in-Ok-clause-takes : goal.returns-in-Ok-clause-takes
+returns-in-Ok-clause-takes g c = takes-more _ _ _ c.go_to_data-self.ensures.takes (take c.in-Ok.n c.read_data.new.buf, c.in-Ok.ensures.bytes)
+
+pub returns-in-Err-clause-takes : goal.returns-in-Err-clause-takes
+returns-in-Err-clause-takes g c = takes-more _ _ _ c.go_to_data-self.ensures.takes (takes-none _ _ c.in-Err.ensures.again)
