@@ -1,7 +1,7 @@
 use Rattle.std.proofs.Common.{refl, sym, ap, ◌∙◌, Some, None, slice_set, ltb-true}
 use Rattle.tiny_http_core.specs.Pending.{waiting_form}
 use Rattle.tiny_http_core.proofs.KeptLemmas.{set-same, stored}
-use Rattle.tiny_http_core.proofs.pending.Pending.take_dropped.Goals as goal
+use Rattle.tiny_http_core.proofs.pending.Pending.take.Goals as goal
 
 pub returns-in-Some-take-clause-some : goal.returns-in-Some-take-clause-some
 returns-in-Some-take-clause-some c =
