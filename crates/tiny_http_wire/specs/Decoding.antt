@@ -38,16 +38,19 @@ abbrev pub rest_at : Stop → Result (List ℕ) ErrorKind → Result Feed ErrorK
 rest_at stop (Ok rest) = Ok (record { bytes = rest; stop = stop })
 rest_at stop (Err kind) = Err kind
 
+-- the same, by what is read of the bytes
 abbrev pub coming_of : Stop → Decoded → Coming
 coming_of stop d = record { bytes = d.body; behind = rest_at stop d.ends }
 
--- what comes of a reader's feed, if it is told
+-- what comes of the body from here on, where the reader's feed is told
 abbrev pub comes : Next → Option Feed → Option Coming
 comes next feed = option_map (λ f. coming_of f.stop (decoded_from next f)) feed
 
+-- what comes behind the last chunk's line, where so many trailer lines may stand
 abbrev pub trails : ℕ → Option Feed → Option Coming
 trails most feed = option_map (λ f. coming_of f.stop (trailers_from most f)) feed
 
+-- the data that a decoding still gives with a reader of this feed, and what stands behind the body, or the fault
 abbrev pub decoding_coming : Decoding → Option Feed → Option Coming
 decoding_coming d feed = comes d.next feed
 
@@ -65,6 +68,7 @@ next_stop (Data left) = None
 next_stop Over = Some End
 next_stop (Broken kind) = Some (Fault kind)
 
+-- the end or the fault that a decoding tells from now on
 abbrev pub decoding_stop : Decoding → Option Stop
 decoding_stop d = next_stop d.next
 
@@ -104,11 +108,12 @@ decoder_coming feed d = decoding_coming d.decoding (feed d.inner)
 abbrev pub decoder_stop : {R : Type 0} → Decoder R → Option Stop
 decoder_stop d = decoding_stop d.decoding
 
--- the data as a reader's bytes: those of a whole body end, others stop by the fault
+-- the data of a whole body end, others stop by the fault
 abbrev pub stop_behind : Result Feed ErrorKind → Stop
 stop_behind (Ok rest) = End
 stop_behind (Err kind) = Fault kind
 
+-- the data as a reader's feed
 abbrev pub feed_of : Coming → Feed
 feed_of c = record { bytes = c.bytes; stop = stop_behind c.behind }
 

@@ -169,10 +169,12 @@ impl Decoding {
     /// `buf` is empty. Size lines, CR LFs and the trailer part are taken and not given, and nothing
     /// behind the trailer part is taken (RFC 9112, section 7.1). It takes no memory.
     ///
-    /// A line has at most 8192 bytes before its CR LF, a size 1 to 16 digits, and the trailer part
-    /// at most 128 lines. What breaks the grammar or these bounds is a fault of kind InvalidData.
-    /// Where the reader stops within the body, its end is a fault of kind UnexpectedEof, and its
-    /// fault is one of the same kind. The data before a fault are given first.
+    /// A line has at most 8192 bytes before its CR LF, and the trailer part at most 128 lines. A
+    /// size is 1 to 16 hexadecimal digits of either case: what stands before the first `;` of its
+    /// line, without bytes 9 and 32 round it. What breaks the grammar or these bounds is a fault of
+    /// kind InvalidData. Where the reader stops within the body, its end is a fault of kind
+    /// UnexpectedEof, and its fault is one of the same kind. The data before a fault are given
+    /// first, those of an unfinished chunk too.
     ///
     /// The end is told once the trailer part was read. From then on, and from a fault on, each call
     /// answers the same, and does not call the reader.
