@@ -1,38 +1,42 @@
 -- An Ask: from where the connection stands to where it stands behind it.
-use Rattle.std.proofs.Common.{◌≡◌, refl, sym, ap, ◌∙◌, subst, ℕ, ◌-◌, ◌<◌, ◌^◌, ◌⊎◌, inl, inr, Bool, true, false, not, ◌&&◌, List, [], ◌∷◌, ◌++◌, length, Option, Some, None, append-nil, arith, eq-eqb, ⊎_elim}
+use Rattle.std.proofs.Common.{◌≡◌, refl, sym, ap, ◌∙◌, subst, ℕ, ◌-◌, ◌<◌, ◌^◌, ◌⊎◌, inl, inr, Bool, true, false, not, ◌&&◌, List, [], ◌∷◌, ◌++◌, length, Option, Some, None, Ok, append-nil, arith, eq-eqb, ⊎_elim}
 use Rattle.std.proofs.lemmas.Bool.{ne_eqb}
 use Rattle.std.proofs.lemmas.List.{take_all}
 use Rattle.std.specs.Prelude.{MatchOption, MatchBool, ⊤, ◌==◌, if◌then◌else◌}
 use Rattle.std.specs.Global.{Vec}
 use Rattle.std.specs.List.{list_all}
+use Rattle.std.specs.Option.{option_map}
 use Rattle.httpdate.specs.declared.date.HttpDate.{HttpDate}
 use Rattle.tiny_http_wire.specs.declared.common.HTTPVersion.{HTTPVersion}
 use Rattle.tiny_http_wire.specs.declared.device.Stop.{Stop}
-use Rattle.tiny_http_wire.specs.Device.{Feed, Sink}
+use Rattle.tiny_http_wire.specs.Device.{Feed, Sink, ending}
+use Rattle.tiny_http_wire.specs.declared.device.Stop.TheVariants.{End}
 use Rattle.tiny_http_wire.specs.Answer.{text_of}
-use Rattle.tiny_http_core.specs.declared.exchange.Form.{Form}
-use Rattle.tiny_http_core.specs.declared.exchange.Form.TheVariants.{Rest, Nothing, Held, Counted, Chunked}
-use Rattle.tiny_http_core.specs.declared.exchange.Head.{Head}
-use Rattle.tiny_http_core.specs.declared.exchange.Refusal.{Refusal}
+use Rattle.tiny_http_core.specs.declared.exchange.Exchange.{Exchange}
+use Rattle.tiny_http_core.specs.declared.body.Body.{Body}
+use Rattle.tiny_http_core.specs.declared.body.Body.TheVariants as body
 use Rattle.tiny_http_core.specs.declared.exchange.HeadRead.TheVariants as read
 use Rattle.tiny_http_core.specs.declared.exchange.AnswerForm.{AnswerForm}
 use Rattle.tiny_http_core.specs.declared.exchange.Waiting.{Waiting}
-use Rattle.tiny_http_core.specs.Framing.{is_built, is_plain}
+use Rattle.tiny_http_core.specs.Framing.{is_built}
 use Rattle.tiny_http_core.specs.Source.{GoesOn}
 use Rattle.tiny_http_core.specs.Pipeline.{Item, Asks, Refuses, Request, Place, Heading, Ends, Heads, OneHead, FoundAt, served, served_answer, is_head_method, Pipeline}
-use Rattle.tiny_http_core.specs.HeadReads.{ReadsHead, StandsAt, place_after, request_of, refused, head_message, head_framing}
-use Rattle.tiny_http_core.specs.Slots.{Slot, is_finished, is_broken, is_slot_broken, segment, joined, new_slot, own_text, turn_has_come, is_streamed, is_chunked, body_holds_reader, body_was_abandoned, last_slot, reader_is_held, reader_is_lost}
-use Rattle.tiny_http_core.specs.Steps.{Asked, Ask, Replied, Handed, Ended, Memory, Unused, Unreported, Outcome, Reached, unchanged, ask, asks_from, outcome}
-use Rattle.tiny_http_core.specs.Conversation.{Failure, State, RestAt, FailsBetween, Writes, Has, StepsTo}
+use Rattle.tiny_http_core.specs.HeadReads.{ReadsHead, place_after, place_feed, request_of, refused, head_message, head_framing}
+use Rattle.tiny_http_core.specs.Exchange.{KeepsRequest}
+use Rattle.tiny_http_core.specs.Body.{Remaining, remaining, taken_left, is_streaming}
+use Rattle.tiny_http_core.specs.Slots.{Slot, is_finished, is_broken, is_slot_broken, segment, joined, new_slot, own_text, turn_has_come, is_chunked, last_slot, reader_is_held, reader_is_lost}
+use Rattle.tiny_http_core.specs.Steps.{Asked, Ask, Replied, Handed, Ended, NotYet, Memory, Unused, Unreported, Outcome, Reached, unchanged, ask, asks_from, outcome}
+use Rattle.tiny_http_core.specs.Conversation.{Failure, State, PlaceAt, FailsBetween, Writes, Has, StepsTo}
 use Rattle.tiny_http_core.specs.Sending.{IsFlushed, SendsUnlessEnded}
 use Rattle.tiny_http_core.specs.Turns.{Mark, Open, Left, Finished, AreInShape, first_unfinished}
-use Rattle.tiny_http_core.specs.Pending.{LeavesText, KeepsHead}
-use Rattle.tiny_http_core.specs.Connection.{Kept, dropped, IsWaiting, AreKept, is_plain_item, OutputAt, Stands}
+use Rattle.tiny_http_core.specs.Pending.{LeavesText, last_body, is_held}
+use Rattle.tiny_http_core.specs.Connection.{Kept, dropped, IsWaiting, IsDone, AreKept, OutputAt, behind_body, GivesRest, is_last_slot, InputEnded, NextHead, Reader, Stands}
 use Rattle.tiny_http_core.proofs.HeadServing.{built-parts}
 use Rattle.tiny_http_core.proofs.GoingOn.{goes-on_more}
-use Rattle.tiny_http_core.proofs.PipelineLemmas.{pipeline-first, pipeline-none}
+use Rattle.tiny_http_core.proofs.PipelineLemmas.{pipeline-first, pipeline-none, feed-pipeline}
+use Rattle.tiny_http_core.proofs.ReaderLemmas.{LastKept, last-kept, last-snoc, body-snoc, settled-snoc, and-false, held-by, behind-settled, gives-settled}
 use Rattle.tiny_http_core.proofs.SendLemmas.{own-whole}
-use Rattle.tiny_http_core.proofs.SlotLemmas.{all-snoc, last-all, joined-waits, joined-hidden, breaks-waits, breaks-hidden}
+use Rattle.tiny_http_core.proofs.SlotLemmas.{joined-waits, joined-hidden, breaks-waits, breaks-hidden}
 use Rattle.tiny_http_core.proofs.KeptLemmas.{kept-append, kept-length, shape-issued, InTurn, OutOfTurn, turn-at}
 use Rattle.tiny_http_core.proofs.OutputLemmas.{ended-is, output-same, Goes, output-more}
 use Rattle.tiny_http_core.proofs.PassLemmas.{first-issued}
@@ -52,100 +56,90 @@ step-unchanged client before k s date step reply h e =
 ask-ends : (date : HttpDate) (old : Reached) → old.ended ≡ true → ask date old ≡ unchanged old Ended
 ask-ends date old e = rw e refl
 
+ask-held : (date : HttpDate) (old : Reached) → old.ended ≡ false → reader_is_held (last_slot old.slots) ≡ true → ask date old ≡ unchanged old NotYet
+ask-held date old e h = rw (e, h) refl
+
+ask-lost : (date : HttpDate) (old : Reached) → old.ended ≡ false → reader_is_held (last_slot old.slots) ≡ false → reader_is_lost (last_slot old.slots) ≡ true
+    → ask date old ≡ record { reply = Ended; slots = old.slots; rest = old.rest; ended = true; writer = Unused }
+ask-lost date old e h l = rw (e, h, l) refl
+
 ask-goes : (date : HttpDate) (old : Reached) → old.ended ≡ false → reader_is_held (last_slot old.slots) ≡ false → reader_is_lost (last_slot old.slots) ≡ false
     → ask date old ≡ asks_from date Unused old.slots old.rest
 ask-goes date old e h l = rw (e, h, l) refl
 
--- the body of the last slot holds nothing up
-plain-form : (form : Form) → is_plain form ≡ true → (is_streamed form ≡ false) × (is_chunked form ≡ false)
-plain-form Rest p = cc
-plain-form Nothing p = (refl, refl)
-plain-form Held p = (refl, refl)
-plain-form Counted p = cc
-plain-form Chunked p = cc
-
-and-false : (f : Bool) → (f && false) ≡ false
-and-false true = refl
-and-false false = refl
-
-holds-none : (s : Slot) (item : Item) → is_plain_item item ≡ true → body_holds_reader s item ≡ false
-holds-none s (Asks r) p = rw (plain-form r.framing.form p).0 (and-false (not r.framing.is_last))
-holds-none s (Refuses a b c) p = refl
-
-lost-none : (s : Slot) (item : Item) → is_plain_item item ≡ true → body_was_abandoned s item ≡ false
-lost-none s (Asks r) p = rw (plain-form r.framing.form p).1 refl
-lost-none s (Refuses a b c) p = refl
-
-pub record IsQuiet (o : Option Slot) : Type 0 where
-  pub unheld : reader_is_held o ≡ false
-  pub kept : reader_is_lost o ≡ false
-
-quiet : (o : Option Slot) → MatchOption o ⊤ (λ (s : Slot). is_plain_item s.item ≡ true) → IsQuiet o
-quiet None p = record { unheld = refl; kept = refl }
-quiet (Some s) p = record { unheld = holds-none s s.item p; kept = lost-none s s.item p }
-
-last-quiet : (slots : List Slot) → list_all (λ (s : Slot). is_plain_item s.item) slots ≡ true → IsQuiet (last_slot slots)
-last-quiet slots p = quiet (last_slot slots) (last-all (λ (s : Slot). is_plain_item s.item) None slots tt p)
-
--- what stands at a place is plain
-served-plain : (o : Option Item) (r : Request) → Some (Asks r) ≡ served_answer o → is_plain r.framing.form ≡ true
-served-plain None r e = cc
-served-plain (Some (Asks q)) r e = cc
-served-plain (Some (Refuses status v w)) r e = by-status (status == 400) e
+-- what stands at a place owes no 100
+served-unowed : (o : Option Item) (r : Request) → Some (Asks r) ≡ served_answer o → r.framing.owes_continue ≡ false
+served-unowed None r e = cc
+served-unowed (Some (Asks q)) r e = cc
+served-unowed (Some (Refuses status v w)) r e = by-status (status == 400) e
   where
-    by-status : (t : Bool) → Some (Asks r) ≡ (if t then Some (Refuses status v w) else None) → is_plain r.framing.form ≡ true
+    by-status : (t : Bool) → Some (Asks r) ≡ (if t then Some (Refuses status v w) else None) → r.framing.owes_continue ≡ false
     by-status true e = cc
     by-status false e = cc
 
-found-plain : (stop : Stop) (heading : Heading) (r : Request) (next : Place) → FoundAt stop (served heading) (Some (Asks r)) next → is_plain r.framing.form ≡ true
-found-plain stop (Ends answer) r next h = served-plain answer r h.0
-found-plain stop (Heads m f after) r next h = by-built (is_built m.version f) refl h
+found-unowed : (stop : Stop) (heading : Heading) (r : Request) (next : Place) → FoundAt stop (served heading) (Some (Asks r)) next → r.framing.owes_continue ≡ false
+found-unowed stop (Ends answer) r next h = served-unowed answer r h.0
+found-unowed stop (Heads m f after) r next h = by-built (is_built m.version f) refl h
   where
-    by-built : (t : Bool) → is_built m.version f ≡ t → FoundAt stop (if t then Heads m f after else Ends None) (Some (Asks r)) next → is_plain r.framing.form ≡ true
+    by-built : (t : Bool) → is_built m.version f ≡ t → FoundAt stop (if t then Heads m f after else Ends None) (Some (Asks r)) next → r.framing.owes_continue ≡ false
     by-built true b k =
         let parts = built-parts m.version f b in
-        let item : Some (Asks r) ≡ Some (Asks (record { message = m; framing = f; body = k.0 })) = k.3 ∙ rw parts.0 refl in
+        let item : Some (Asks r) ≡ Some (Asks (record { message = m; framing = f; body = k.0 })) = k.3 ∙ rw parts.version_is refl in
         let same : r ≡ record { message = m; framing = f; body = k.0 } = cc in
-        ap (λ (x : Request). is_plain x.framing.form) same ∙ parts.1
+        ap (λ (x : Request). x.framing.owes_continue) same ∙ parts.unowed
     by-built false b k = let none : Some (Asks r) ≡ None = k.0 in cc
 
-pub one-head-plain : (bytes : List ℕ) (stop : Stop) (r : Request) (next : Place) → OneHead bytes stop (Some (Asks r)) next → is_plain r.framing.form ≡ true
-one-head-plain bytes stop r next h = found-plain stop h.0 r next h.2
+one-head-unowed : (bytes : List ℕ) (stop : Stop) (r : Request) (next : Place) → OneHead bytes stop (Some (Asks r)) next → r.framing.owes_continue ≡ false
+one-head-unowed bytes stop r next h = found-unowed stop h.0 r next h.2
 
 -- where the asking goes on the rest of the pipeline stands where the input does
 pub record Going (k : Kept) (s : State) : Type 0 where
   pub feed : Feed
   pub told : k.feed ≡ Some feed
+  pub unheld : reader_is_held (last_slot s.reached.slots) ≡ false
+  pub kept : reader_is_lost (last_slot s.reached.slots) ≡ false
   pub pipeline : Pipeline (Some feed.bytes) feed.stop s.reached.rest
 
-told-feed : (client : Feed) (o : Option Feed) → GoesOn (Some client) o → (f : Feed) × (o ≡ Some f)
+pub told-feed : (client : Feed) (o : Option Feed) → GoesOn (Some client) o → (f : Feed) × (o ≡ Some f)
 told-feed client None h = absurd h
 told-feed client (Some f) h = (f, refl)
 
-going : (client : Feed) (before : Sink) (k : Kept) (s : State) → Stands client before k s → k.ended ≡ false → k.over ≡ false → Going k s
-going client before k s h e o =
-    let f = told-feed client k.feed h.source in
-    let P : Bool → Type 0 = λ x. RestAt x k.over k.feed s.reached.rest in
-    let Q : Bool → Type 0 = λ x. RestAt false x k.feed s.reached.rest in
-    let R : Option Feed → Type 0 = λ x. RestAt false false x s.reached.rest in
-    record { feed = f.0; told = f.1; pipeline = subst R f.1 (subst Q o (subst P e h.rest)) }
+pub last-of : (client : Feed) (before : Sink) (k : Kept) (s : State) → Stands client before k s → LastKept (last_slot s.reached.slots) (last_body k.requests)
+last-of client before k s h = last-kept s.reached.slots k.marks k.requests h.numbers
+
+unheld : (client : Feed) (before : Sink) (k : Kept) (s : State) → Stands client before k s → is_held (last_body k.requests) ≡ false → reader_is_held (last_slot s.reached.slots) ≡ false
+unheld client before k s h quiet = held-by (last_slot s.reached.slots) (last_body k.requests) (last-of client before k s h) ∙ rw quiet (and-false (not (is_last_slot (last_slot s.reached.slots))))
+
+going : (client : Feed) (before : Sink) (k : Kept) (s : State) → Stands client before k s → k.ended ≡ false → k.over ≡ false → is_held (last_body k.requests) ≡ false → (InputEnded k → ⊥) → Going k s
+going client before k s h e o quiet open_input =
+    let f = told-feed client k.feed h.reader.source in
+    let next = h.reader.next e in
+    let kept : reader_is_lost (last_slot s.reached.slots) ≡ false = by next (reader_is_lost (last_slot s.reached.slots)) refl in
+    let here : behind_body (last_body k.requests) k.feed ≡ Some f.0 = ap (behind_body (last_body k.requests)) f.1 ∙ behind-settled (last_slot s.reached.slots) (last_body k.requests) f.0 (last-of client before k s h) quiet in
+    let P : Bool → Type 0 = λ x. PlaceAt x (behind_body (last_body k.requests) k.feed) s.reached.rest in
+    let Q : Option Feed → Type 0 = λ x. PlaceAt false x s.reached.rest in
+    record { feed = f.0; told = f.1; unheld = unheld client before k s h quiet; kept = kept; pipeline = subst Q here (subst P o (next.place kept)) }
+  where
+    by : NextHead k (last_slot s.reached.slots) s.reached.rest → (t : Bool) → reader_is_lost (last_slot s.reached.slots) ≡ t → t ≡ false
+    by next true z = absurd (open_input (next.lost z).0)
+    by next false z = refl
 
 -- the texts of the server's own
-pub dropped-text : (asked : HttpDate) (r : Request) → own_text 500 r.message.version (is_head_method r.message.method) asked ≡ segment (dropped asked r)
+pub dropped-text : (asked : HttpDate) (r : Request) (given : ℕ) (told : Bool) → own_text 500 r.message.version (is_head_method r.message.method) asked ≡ segment (dropped asked r given told)
 unfolding text_of
-dropped-text asked r = refl
+dropped-text asked r given told = refl
 
-pub dropped-whole : (asked : HttpDate) (r : Request) → is_slot_broken (dropped asked r) ≡ false
+pub dropped-whole : (asked : HttpDate) (r : Request) (given : ℕ) (told : Bool) → is_slot_broken (dropped asked r given told) ≡ false
 unfolding text_of
-dropped-whole asked r = ap is_broken (own-whole 500 r.message.version (is_head_method r.message.method) asked)
+dropped-whole asked r given told = ap is_broken (own-whole 500 r.message.version (is_head_method r.message.method) asked)
 
-refused-whole : (date : HttpDate) (x : Refusal) → is_slot_broken (new_slot date (refused x)) ≡ false
+refused-whole : (date : HttpDate) (v : HTTPVersion) → is_slot_broken (new_slot date (refused v)) ≡ false
 unfolding text_of
-refused-whole date x = refl
+refused-whole date v = refl
 
-refused-text : (date : HttpDate) (x : Refusal) → segment (new_slot date (refused x)) ≡ own_text 400 x.version false date
+refused-text : (date : HttpDate) (v : HTTPVersion) → segment (new_slot date (refused v)) ≡ own_text 400 v false date
 unfolding text_of
-refused-text date x = refl
+refused-text date v = refl
 
 -- a request that is handed out has sent nothing
 abbrev pub handed_slot : HttpDate → Request → Slot
@@ -156,115 +150,221 @@ output-waiting before sink e slots date r failure h =
     let n = handed_slot date r in
     output-same before sink e slots (slots ++ (n ∷ [])) failure (sym (joined-waits slots n [] refl refl)) (sym (breaks-waits slots n [] refl refl)) h
 
+-- a body that isn't read from the input gives the same wherever that stands
+settled-any : (b : Body) (p : Option Feed) (content behind : Feed) → remaining b p ≡ Some (record { body = content; behind = behind }) → is_streaming b ≡ false → (f : Feed) → remaining b (Some f) ≡ Some (taken_left content f)
+settled-any (body.Over stop) None content behind h e f = cc
+settled-any (body.Over stop) (Some g) content behind h e f = ap (λ (x : Option Remaining). option_map (λ (r : Remaining). taken_left r.body f) x) h
+settled-any (body.Held bytes) None content behind h e f = cc
+settled-any (body.Held bytes) (Some g) content behind h e f = ap (λ (x : Option Remaining). option_map (λ (r : Remaining). taken_left r.body f) x) h
+settled-any (body.Counted left) p content behind h e f = cc
+settled-any (body.Chunked d) p content behind h e f = cc
+
 -- what is kept of it
-kept-handed : (date : HttpDate) (h : Head) (body : List ℕ) (w : Waiting) → KeepsHead w h date → IsWaiting (handed_slot date (request_of h body)) w
-kept-handed date h body w k = record {
-  request = request_of h body;
+kept-handed : (date : HttpDate) (x : Exchange) (p : Option Feed) (content behind : Feed) → KeepsRequest x date → remaining x.waiting.body p ≡ Some (record { body = content; behind = behind }) → (request_of x.head content).framing.owes_continue ≡ false
+    → IsWaiting (handed_slot date (request_of x.head content)) x.waiting
+kept-handed date x p content behind k left unowed = record {
+  request = request_of x.head content;
   date = date;
-  fresh = refl;
-  form = let F : HTTPVersion → Bool → AnswerForm = λ v b. record { version = v; no_body = b } in ap (λ v. F v w.form.no_body) k.version ∙ ap (F h.version) k.no_body;
-  text = k.text ∙ dropped-text date (request_of h body);
+  given = 0;
+  told = false;
+  is = refl;
+  unowed = unowed;
+  form = let F : HTTPVersion → Bool → AnswerForm = λ v b. record { version = v; no_body = b } in ap (λ v. F v x.waiting.form.no_body) k.answer.version ∙ ap (F x.head.version) k.answer.no_body;
+  text = k.answer.text ∙ dropped-text date (request_of x.head content) 0 false;
+  fits = k.body;
+  settled = settled-any x.waiting.body p content behind left;
 }
 
 no-items : (stop : Stop) (items : List Item) → Pipeline None stop items → items ≡ []
 no-items stop [] h = refl
 no-items stop (x ∷ xs) h = elim h [ ]
 
-rest-at : (last : Bool) (rest : List ℕ) (f : Feed) (p : Option Feed) (more : List Item) → StandsAt (place_after last rest) f.stop p → Pipeline (place_after last rest) f.stop more → RestAt false last p more
-rest-at true rest f p more at items = no-items f.stop more items
-rest-at false rest f p more at items = let P : Option Feed → Type 0 = λ x. RestAt false false x more in subst P (sym at) items
+-- no head stands in front of no byte
+pipeline-empty : Pipeline (Some []) End []
+pipeline-empty = feed-pipeline (ending [])
 
-abbrev pub after_handed : Kept → List Mark → List (Option Waiting) → Bool → Option Feed → Kept
-after_handed k marks requests last p = record k { marks = marks; requests = requests; over = last; feed = p }
+handed-place : (last : Bool) (stop : Stop) (next : Place) (more : List Item) → Pipeline (place_after last next) stop more → PlaceAt last (Some (place_feed stop next)) more
+handed-place true stop next more items = no-items stop more items
+handed-place false stop None more items = let P : List Item → Type 0 = λ x. Pipeline (Some []) End x in subst P (sym (no-items stop more items)) pipeline-empty
+handed-place false stop (Some bytes) more items = items
 
-pub ask-handed : (client : Feed) (before : Sink) (k : Kept) (s : State) (date : HttpDate) (h : Head) (body : Vec ℕ) (p : Option Feed) (n : ℕ) (marks : List Mark) (requests : List (Option Waiting)) → Stands client before k s → k.ended ≡ false → k.over ≡ false
-    → ReadsHead k.feed p (read.Request h body) → GoesOn k.feed p → n ≡ length k.marks → marks ≡ k.marks ++ (Open ∷ []) → AreInShape marks
-    → (w : Waiting) × (requests ≡ k.requests ++ (Some w ∷ [])) × KeepsHead w h date
-    → Answered client before (after_handed k marks requests h.is_last p) s date Ask (Handed n (head_message h) (head_framing h))
-ask-handed client before k s date h body p n marks requests st e o reads goes number marks_are shape kept =
-    let g = going client before k s st e o in
-    let P : Option Feed → Type 0 = λ x. ReadsHead x p (read.Request h body) in
-    let found = subst P g.told reads in
-    let r = request_of h body.items in
-    let first = pipeline-first g.feed.bytes g.feed.stop (Asks r) (place_after h.is_last found.0) s.reached.rest found.1 g.pipeline in
+-- the input as it stands now
+abbrev pub with_input : Kept → Option Feed → Option Stop → Bool → Kept
+with_input k p stop over = record k { feed = p; stop = stop; is_over = over }
+
+abbrev pub after_handed : Kept → Waiting → Bool → Option Feed → Option Stop → Bool → Kept
+after_handed k w last p stop over = record k { marks = k.marks ++ (Open ∷ []); requests = k.requests ++ (Some w ∷ []); over = last; feed = p; stop = stop; is_over = over }
+
+handed-reader : (client : Feed) (k : Kept) (slots : List Slot) (rest more : List Item) (date : HttpDate) (r : Request) (w : Waiting) (p : Option Feed) (stop : Option Stop) (over : Bool) (close : Stop) (next : Place) → Reader client k slots rest → is_held (last_body k.requests) ≡ false
+    → remaining w.body p ≡ Some (record { body = r.body; behind = place_feed close next }) → Pipeline (place_after r.framing.is_last next) close more → GoesOn (Some client) p
+    → Reader client (after_handed k w r.framing.is_last p stop over) (slots ++ (handed_slot date r ∷ [])) more
+handed-reader client k slots rest more date r w p stop over close next old quiet left items source =
     let x = handed_slot date r in
-    let slots = s.reached.slots ++ (x ∷ []) in
-    let Q : Bool → Type 0 = λ y. RestAt y h.is_last p first.0 in
-    let last = last-quiet s.reached.slots st.plain in
+    let last : last_slot (slots ++ (x ∷ [])) ≡ Some x = last-snoc None slots x in
+    let content : last_body (k.requests ++ (Some w ∷ [])) ≡ Some w.body = body-snoc k.requests (Some w) in
+    let B : Option Remaining → Option Feed = λ o. option_map (λ (y : Remaining). y.body) o in
+    let P : Option Slot → Option Body → Type 0 = λ o b. GivesRest b o p in
+    let here : P (Some x) (Some w.body) = ap B left in
+    let Q : Option Body → Type 0 = λ b. PlaceAt r.framing.is_last (behind_body b p) more in
+    let F : Option Feed → Type 0 = λ o. PlaceAt r.framing.is_last o more in
+    let behind : behind_body (Some w.body) p ≡ Some (place_feed close next) = ap (λ (o : Option Remaining). option_map (λ (y : Remaining). y.behind) o) left in
+    let k2 : Kept = after_handed k w r.framing.is_last p stop over in
+    record {
+      settled = settled-snoc k.requests (Some w) old.settled quiet;
+      gives = subst (λ o. P o (last_body (k.requests ++ (Some w ∷ [])))) (sym last) (subst (λ b. P (Some x) b) (sym content) here);
+      next = λ e. record {
+        is_last = ap is_last_slot (sym last);
+        lost = λ lost. (let no : true ≡ false = sym lost ∙ (ap reader_is_lost last ∙ and-false (is_chunked r.framing.form)) in cc);
+        place = λ e. subst Q (sym content) (subst F (sym behind) (handed-place r.framing.is_last close next more items));
+      };
+      source = source;
+    }
+
+pub ask-handed : (client : Feed) (before : Sink) (k : Kept) (s : State) (date : HttpDate) (x : Exchange) (p : Option Feed) (stop : Option Stop) (over : Bool) (n : ℕ) → Stands client before k s → k.ended ≡ false → k.over ≡ false → is_held (last_body k.requests) ≡ false
+    → (InputEnded k → ⊥) → ReadsHead date k.feed p (Ok (read.Request x)) → GoesOn k.feed p → n ≡ length k.marks → AreInShape (k.marks ++ (Open ∷ []))
+    → Answered client before (after_handed k x.waiting x.head.is_last p stop over) s date Ask (Handed n (head_message x.head) (head_framing x.head))
+ask-handed client before k s date x p stop over n st e o quiet open_input reads goes number shape =
+    let g = going client before k s st e o quiet open_input in
+    let P : Option Feed → Type 0 = λ y. ReadsHead date y p (Ok (read.Request x)) in
+    let found = subst P g.told reads in
+    let h = x.head in
+    let r = request_of h found.0 in
+    let first = pipeline-first g.feed.bytes g.feed.stop (Asks r) (place_after h.is_last found.1) s.reached.rest found.2 g.pipeline in
+    let y = handed_slot date r in
+    let slots = s.reached.slots ++ (y ∷ []) in
     let ends : s.reached.ended ≡ false = st.ended ∙ e in
-    let F : List Item → Outcome = λ y. asks_from date Unused s.reached.slots y in
-    let is : ask date s.reached ≡ asks_from date Unused s.reached.slots (Asks r ∷ first.0) = ask-goes date s.reached ends last.unheld last.kept ∙ ap F first.1 in
+    let F : List Item → Outcome = λ z. asks_from date Unused s.reached.slots z in
+    let is : ask date s.reached ≡ asks_from date Unused s.reached.slots (Asks r ∷ first.0) = ask-goes date s.reached ends g.unheld g.kept ∙ ap F first.1 in
     let new : State = record { reached = record { slots = slots; rest = first.0; ended = false }; failure = s.failure } in
-    let G : Outcome → Type 0 = λ y. Has y s (Handed n (head_message h) (head_framing h)) new in
+    let G : Outcome → Type 0 = λ z. Has z s (Handed n (head_message h) (head_framing h)) new in
     let told : n ≡ length s.reached.slots = number ∙ sym (kept-length s.reached.slots k.marks k.requests st.numbers) in
-    let M : List Mark → Type 0 = λ y. AreKept slots y requests in
-    let R : List (Option Waiting) → Type 0 = λ y. AreKept slots (k.marks ++ (Open ∷ [])) y in
-    let all = kept-append s.reached.slots k.marks k.requests (x ∷ []) (Open ∷ []) (Some kept.0 ∷ []) st.numbers (kept-handed date h body.items kept.0 kept.2, tt) in (
+    let waits = kept-handed date x p found.0 (place_feed g.feed.stop found.1) found.4 found.3 (one-head-unowed g.feed.bytes g.feed.stop r (place_after h.is_last found.1) found.2) in (
       new,
       record {
-        numbers = subst M (sym marks_are) (subst R (sym kept.1) all);
+        numbers = kept-append s.reached.slots k.marks k.requests (y ∷ []) (Open ∷ []) (Some x.waiting ∷ []) st.numbers (waits, tt);
         shape = shape;
         ended = sym e;
-        plain = all-snoc (λ (y : Slot). is_plain_item y.item) s.reached.slots x st.plain (one-head-plain g.feed.bytes g.feed.stop r (place_after h.is_last found.0) found.1);
-        rest = subst Q (sym e) (rest-at h.is_last found.0 g.feed p first.0 found.2 first.2);
-        source = goes-on_more (Some client) k.feed p st.source goes;
+        reader = handed-reader client k s.reached.slots s.reached.rest first.0 date r x.waiting p stop over g.feed.stop found.1 st.reader quiet found.3 first.2 (goes-on_more (Some client) k.feed p st.reader.source goes);
         output = output-waiting before k.sink k.output_ended s.reached.slots date r s.failure st.output;
       },
-      inl (true, tt, subst G (sym is) (refl, (ap (λ y. Handed y (head_message h) (head_framing h)) told, refl))),
+      inl (true, tt, subst G (sym is) (refl, (ap (λ z. Handed z (head_message h) (head_framing h)) told, refl))),
     )
+
+-- the body of the last request holds the reader
+pub ask-not_yet : (client : Feed) (before : Sink) (k : Kept) (s : State) (date : HttpDate) → Stands client before k s → k.ended ≡ false → k.over ≡ false → is_held (last_body k.requests) ≡ true → Answered client before k s date Ask NotYet
+ask-not_yet client before k s date st e o held =
+    let slots = s.reached.slots in
+    let last : is_last_slot (last_slot slots) ≡ false = sym (st.reader.next e).is_last ∙ o in
+    let is : reader_is_held (last_slot slots) ≡ true = held-by (last_slot slots) (last_body k.requests) (last-of client before k s st) ∙ rw (last, held) refl in
+    step-unchanged client before k s date Ask NotYet st (ask-held date s.reached (st.ended ∙ e) is)
 
 -- the pipeline has ended
 abbrev ends_with : Reached → Outcome
 ends_with old = record { reply = Ended; slots = old.slots; rest = []; ended = true; writer = Unused }
 
-abbrev pub after_end : Kept → Option Feed → Kept
-after_end k p = record k { ended = true; feed = p }
+abbrev pub after_end : Kept → Option Feed → Option Stop → Bool → Kept
+after_end k p stop over = record k { ended = true; feed = p; stop = stop; is_over = over }
 
-ask-nothing : (client : Feed) (before : Sink) (k : Kept) (s : State) (date : HttpDate) (p : Option Feed) → Stands client before k s → k.ended ≡ false → s.reached.rest ≡ [] → GoesOn k.feed p
-    → Answered client before (after_end k p) s date Ask Ended
-ask-nothing client before k s date p st e none goes =
-    let last = last-quiet s.reached.slots st.plain in
-    let F : List Item → Outcome = λ x. asks_from date Unused s.reached.slots x in
-    let is : ask date s.reached ≡ ends_with s.reached = ask-goes date s.reached (st.ended ∙ e) last.unheld last.kept ∙ ap F none in
-    let new : State = record { reached = record { slots = s.reached.slots; rest = []; ended = true }; failure = s.failure } in
-    let G : Outcome → Type 0 = λ x. Has x s Ended new in (
-      new,
-      record { numbers = st.numbers; shape = st.shape; ended = refl; plain = st.plain; rest = tt; source = goes-on_more (Some client) k.feed p st.source goes; output = st.output },
-      inl (true, tt, subst G (sym is) (refl, (refl, refl))),
-    )
+-- the input was read, and the last body isn't read from it
+end-reader : (client : Feed) (before : Sink) (k : Kept) (s : State) (p : Option Feed) (stop : Option Stop) (over : Bool) (rest : List Item) → Stands client before k s → is_held (last_body k.requests) ≡ false → GoesOn k.feed p
+    → Reader client (after_end k p stop over) s.reached.slots rest
+end-reader client before k s p stop over rest st quiet goes =
+    let source = goes-on_more (Some client) k.feed p st.reader.source goes in
+    let f = told-feed client p source in
+    let P : Option Feed → Type 0 = λ y. GivesRest (last_body k.requests) (last_slot s.reached.slots) y in
+    record { settled = st.reader.settled; gives = subst P (sym f.1) (gives-settled (last_slot s.reached.slots) (last_body k.requests) f.0 (last-of client before k s st) quiet); next = λ e. cc; source = source }
 
 pub same-feed : (x : Option Feed) → GoesOn x x
 same-feed None = tt
 same-feed (Some f) = record { gone = []; joins = refl }
 
 pub ask-over : (client : Feed) (before : Sink) (k : Kept) (s : State) (date : HttpDate) → Stands client before k s → k.ended ≡ false → k.over ≡ true
-    → Answered client before (after_end k k.feed) s date Ask Ended
-ask-over client before k s date st e o =
-    let P : Bool → Type 0 = λ x. RestAt x k.over k.feed s.reached.rest in
-    let Q : Bool → Type 0 = λ x. RestAt false x k.feed s.reached.rest in
-    ask-nothing client before k s date k.feed st e (subst Q o (subst P e st.rest)) (same-feed k.feed)
+    → Answered client before (after_end k k.feed k.stop k.is_over) s date Ask Ended
+ask-over client before k s date st e o = by (reader_is_lost (last_slot s.reached.slots)) refl
+  where
+    slots : List Slot
+    slots = s.reached.slots
 
-pub ask-none : (client : Feed) (before : Sink) (k : Kept) (s : State) (date : HttpDate) (p : Option Feed) → Stands client before k s → k.ended ≡ false → k.over ≡ false
-    → ReadsHead k.feed p read.Ended → GoesOn k.feed p
-    → Answered client before (after_end k p) s date Ask Ended
-ask-none client before k s date p st e o reads goes =
-    let g = going client before k s st e o in
-    let P : Option Feed → Type 0 = λ x. ReadsHead x p read.Ended in
-    ask-nothing client before k s date p st e (pipeline-none g.feed.bytes g.feed.stop s.reached.rest (subst P g.told reads) g.pipeline) goes
+    next : NextHead k (last_slot slots) s.reached.rest
+    next = st.reader.next e
+
+    unheld_now : reader_is_held (last_slot slots) ≡ false
+    unheld_now =
+        let last : is_last_slot (last_slot slots) ≡ true = sym next.is_last ∙ o in
+        held-by (last_slot slots) (last_body k.requests) (last-of client before k s st) ∙ rw last refl
+
+    ended_reader : (rest : List Item) → Reader client (after_end k k.feed k.stop k.is_over) slots rest
+    ended_reader rest = record { settled = st.reader.settled; gives = st.reader.gives; next = λ z. cc; source = st.reader.source }
+
+    by : (t : Bool) → reader_is_lost (last_slot slots) ≡ t → Answered client before (after_end k k.feed k.stop k.is_over) s date Ask Ended
+    by true l =
+        let new : State = record { reached = record { slots = slots; rest = s.reached.rest; ended = true }; failure = s.failure } in
+        let G : Outcome → Type 0 = λ x. Has x s Ended new in (
+          new,
+          record { numbers = st.numbers; shape = st.shape; ended = refl; reader = ended_reader s.reached.rest; output = st.output },
+          inl (true, tt, subst G (sym (ask-lost date s.reached (st.ended ∙ e) unheld_now l)) (refl, (refl, refl))),
+        )
+    by false l =
+        let P : Bool → Type 0 = λ x. PlaceAt x (behind_body (last_body k.requests) k.feed) s.reached.rest in
+        let none : s.reached.rest ≡ [] = subst P o (next.place l) in
+        let F : List Item → Outcome = λ x. asks_from date Unused slots x in
+        let is : ask date s.reached ≡ ends_with s.reached = ask-goes date s.reached (st.ended ∙ e) unheld_now l ∙ ap F none in
+        let new : State = record { reached = record { slots = slots; rest = []; ended = true }; failure = s.failure } in
+        let G : Outcome → Type 0 = λ x. Has x s Ended new in (
+          new,
+          record { numbers = st.numbers; shape = st.shape; ended = refl; reader = ended_reader []; output = st.output },
+          inl (true, tt, subst G (sym is) (refl, (refl, refl))),
+        )
+
+-- no head follows
+pub ask-none : (client : Feed) (before : Sink) (k : Kept) (s : State) (date : HttpDate) (p : Option Feed) (stop : Option Stop) (over : Bool) → Stands client before k s → k.ended ≡ false → k.over ≡ false → is_held (last_body k.requests) ≡ false
+    → ReadsHead date k.feed p (Ok read.Ended) → GoesOn k.feed p
+    → Answered client before (after_end k p stop over) s date Ask Ended
+ask-none client before k s date p stop over st e o quiet reads goes = by (reader_is_lost (last_slot s.reached.slots)) refl
+  where
+    slots : List Slot
+    slots = s.reached.slots
+
+    quiet_now : reader_is_held (last_slot slots) ≡ false
+    quiet_now = unheld client before k s st quiet
+
+    by : (t : Bool) → reader_is_lost (last_slot slots) ≡ t → Answered client before (after_end k p stop over) s date Ask Ended
+    by true l =
+        let new : State = record { reached = record { slots = slots; rest = s.reached.rest; ended = true }; failure = s.failure } in
+        let G : Outcome → Type 0 = λ x. Has x s Ended new in (
+          new,
+          record { numbers = st.numbers; shape = st.shape; ended = refl; reader = end-reader client before k s p stop over s.reached.rest st quiet goes; output = st.output },
+          inl (true, tt, subst G (sym (ask-lost date s.reached (st.ended ∙ e) quiet_now l)) (refl, (refl, refl))),
+        )
+    by false l =
+        let f = told-feed client k.feed st.reader.source in
+        let here : behind_body (last_body k.requests) k.feed ≡ Some f.0 = ap (behind_body (last_body k.requests)) f.1 ∙ behind-settled (last_slot slots) (last_body k.requests) f.0 (last-of client before k s st) quiet in
+        let P : Bool → Type 0 = λ x. PlaceAt x (behind_body (last_body k.requests) k.feed) s.reached.rest in
+        let Q : Option Feed → Type 0 = λ x. PlaceAt false x s.reached.rest in
+        let R : Option Feed → Type 0 = λ x. ReadsHead date x p (Ok read.Ended) in
+        let none = pipeline-none f.0.bytes f.0.stop s.reached.rest (subst R f.1 reads) (subst Q here (subst P o ((st.reader.next e).place l))) in
+        let F : List Item → Outcome = λ x. asks_from date Unused slots x in
+        let is : ask date s.reached ≡ ends_with s.reached = ask-goes date s.reached (st.ended ∙ e) quiet_now l ∙ ap F none in
+        let new : State = record { reached = record { slots = slots; rest = []; ended = true }; failure = s.failure } in
+        let G : Outcome → Type 0 = λ x. Has x s Ended new in (
+          new,
+          record { numbers = st.numbers; shape = st.shape; ended = refl; reader = end-reader client before k s p stop over [] st quiet goes; output = st.output },
+          inl (true, tt, subst G (sym is) (refl, (refl, refl))),
+        )
 
 -- no memory was found
-pub ask-memory : (client : Feed) (before : Sink) (k : Kept) (s : State) (date : HttpDate) (p : Option Feed) → Stands client before k s → k.ended ≡ false → GoesOn k.feed p
-    → Answered client before (after_end k p) s date Ask Memory
-ask-memory client before k s date p st e goes =
-    let last = last-quiet s.reached.slots st.plain in
+pub ask-memory : (client : Feed) (before : Sink) (k : Kept) (s : State) (date : HttpDate) (p : Option Feed) (stop : Option Stop) (over : Bool) → Stands client before k s → k.ended ≡ false → k.over ≡ false → is_held (last_body k.requests) ≡ false → (InputEnded k → ⊥) → GoesOn k.feed p
+    → Answered client before (after_end k p stop over) s date Ask Memory
+ask-memory client before k s date p stop over st e o quiet open_input goes =
+    let g = going client before k s st e o quiet open_input in
     let new : State = record { reached = record { slots = s.reached.slots; rest = s.reached.rest; ended = true }; failure = s.failure } in
     let R : List Slot → Reached = λ x. record { slots = x; rest = s.reached.rest; ended = true } in (
       new,
-      record { numbers = st.numbers; shape = st.shape; ended = refl; plain = st.plain; rest = tt; source = goes-on_more (Some client) k.feed p st.source goes; output = st.output },
+      record { numbers = st.numbers; shape = st.shape; ended = refl; reader = end-reader client before k s p stop over s.reached.rest st quiet goes; output = st.output },
       inr (
         st.ended ∙ e,
-        last.unheld,
-        last.kept,
+        g.unheld,
+        g.kept,
         [],
         s.reached.rest,
         refl,
@@ -274,8 +374,8 @@ ask-memory client before k s date p st e goes =
     )
 
 -- a refused head has its number, and its answer was sent, or waits for its turn
-abbrev pub after_refused : Kept → List Mark → List (Option Waiting) → Option Feed → Sink → Bool → Kept
-after_refused k marks requests p sink ended = record k { marks = marks; requests = requests; ended = true; feed = p; sink = sink; output_ended = ended }
+abbrev pub after_refused : Kept → List Mark → Option Feed → Option Stop → Bool → Sink → Bool → Kept
+after_refused k marks p stop over sink ended = record k { marks = marks; requests = k.requests ++ (None ∷ []); ended = true; feed = p; stop = stop; is_over = over; sink = sink; output_ended = ended }
 
 refused-output : (before sink new : Sink) (e ended : Bool) (slots : List Slot) (n : Slot) (s : State) → OutputAt before sink e slots s.failure → s.reached.slots ≡ slots → list_all is_finished slots ≡ true → is_finished n ≡ true → is_slot_broken n ≡ false
     → before.failures < 2 ^ 64 - 1 → SendsUnlessEnded e sink new ended (segment n ++ []) → IsFlushed new → Goes before new e ended slots (slots ++ (n ∷ [])) s.failure
@@ -298,9 +398,9 @@ turn-next : (slots : List Slot) → turn_has_come (length slots) slots ≡ list_
 turn-next slots = ap (list_all is_finished) (take_all (length slots) slots (omega arith))
 
 refuses : (before sink new : Sink) (e ended : Bool) (s : State) (marks final : List Mark) (requests : List (Option Waiting)) (n : Slot) (text : List ℕ) → OutputAt before sink e s.reached.slots s.failure → AreKept s.reached.slots marks requests → AreInShape marks
-    → is_finished n ≡ true → is_slot_broken n ≡ false → segment n ≡ text → before.failures < 2 ^ 64 - 1 → LeavesText (length marks == first_unfinished marks) marks [] final text e sink new ended
+    → is_finished n ≡ true → n.given_up ≡ true → is_slot_broken n ≡ false → segment n ≡ text → before.failures < 2 ^ 64 - 1 → LeavesText (length marks == first_unfinished marks) marks [] final text e sink new ended
     → RefusedOutput before new ended s.reached.slots n s final (requests ++ (None ∷ []))
-refuses before sink new e ended s marks final requests n text h kept shape over whole same low leaves =
+refuses before sink new e ended s marks final requests n text h kept shape over given_up whole same low leaves =
     let slots = s.reached.slots in
     let over_is = ended-is before sink e slots s.failure h in
     let U : Bool → Option Failure → Type 0 = λ t f. Writes (if t then Unreported else Unused) s Ended (slots ++ (n ∷ [])) Ended f in
@@ -317,7 +417,7 @@ refuses before sink new e ended s marks final requests n text h kept shape over 
       failure = go.failure;
       output = go.output;
       writes = subst (λ (b : Bool). U b go.failure) (sym (turn-next slots ∙ t.finished)) (refl, subst (λ (b : Bool). W b go.failure) (sym over_is) go.writes);
-      numbers = subst M (sym l.0) (kept-append slots marks requests (n ∷ []) (Finished ∷ []) (None ∷ []) kept (over, tt));
+      numbers = subst M (sym l.0) (kept-append slots marks requests (n ∷ []) (Finished ∷ []) (None ∷ []) kept (record { finished = over; given_up = given_up }, tt));
       shape = subst A (sym l.0) t.shape;
     })
     (λ (t : OutOfTurn slots marks []).
@@ -329,39 +429,41 @@ refuses before sink new e ended s marks final requests n text h kept shape over 
       failure = s.failure;
       output = subst (λ (b : Bool). O new b) (sym l.3) (subst (λ (x : Sink). O x e) (sym l.2) (refused-waits before sink e slots n s.failure h t.unfinished));
       writes = subst (λ (b : Bool). U b s.failure) (sym (turn-next slots ∙ t.unfinished)) (refl, refl);
-      numbers = subst M (sym l.0) (kept-append slots marks requests (n ∷ []) (Left text ∷ []) (None ∷ []) kept (record { finished = over; whole = whole; same = same }, tt));
+      numbers = subst M (sym l.0) (kept-append slots marks requests (n ∷ []) (Left text ∷ []) (None ∷ []) kept (record { done = record { finished = over; given_up = given_up }; whole = whole; same = same }, tt));
       shape = l.1;
     })
     (turn-at slots marks requests [] kept (shape-issued marks shape))
 
-pub ask-refused : (client : Feed) (before : Sink) (k : Kept) (s : State) (date : HttpDate) (x : Refusal) (p : Option Feed) (marks : List Mark) (requests : List (Option Waiting)) (sink : Sink) (ended : Bool) → Stands client before k s → before.failures < 2 ^ 64 - 1 → k.ended ≡ false → k.over ≡ false
-    → ReadsHead k.feed p (read.Refused x) → GoesOn k.feed p → requests ≡ k.requests ++ (None ∷ [])
-    → LeavesText (length k.marks == first_unfinished k.marks) k.marks [] marks (own_text 400 x.version false date) k.output_ended k.sink sink ended
-    → Answered client before (after_refused k marks requests p sink ended) s date Ask Ended
-ask-refused client before k s date x p marks requests sink ended st low e o reads goes requests_are leaves =
-    let g = going client before k s st e o in
-    let P : Option Feed → Type 0 = λ y. ReadsHead y p (read.Refused x) in
+pub ask-refused : (client : Feed) (before : Sink) (k : Kept) (s : State) (date : HttpDate) (text : Vec ℕ) (is_last : Bool) (p : Option Feed) (stop : Option Stop) (over : Bool) (marks : List Mark) (sink : Sink) (ended : Bool) → Stands client before k s → before.failures < 2 ^ 64 - 1
+    → k.ended ≡ false → k.over ≡ false → is_held (last_body k.requests) ≡ false → (InputEnded k → ⊥) → ReadsHead date k.feed p (Ok (read.Refused text is_last)) → GoesOn k.feed p
+    → LeavesText (length k.marks == first_unfinished k.marks) k.marks [] marks text.items k.output_ended k.sink sink ended
+    → Answered client before (after_refused k marks p stop over sink ended) s date Ask Ended
+ask-refused client before k s date text is_last p stop over marks sink ended st low e o quiet open_input reads goes leaves =
+    let g = going client before k s st e o quiet open_input in
+    let P : Option Feed → Type 0 = λ y. ReadsHead date y p (Ok (read.Refused text is_last)) in
     let found = subst P g.told reads in
-    let first = pipeline-first g.feed.bytes g.feed.stop (refused x) None s.reached.rest found g.pipeline in
+    let v = found.0 in
+    let first = pipeline-first g.feed.bytes g.feed.stop (refused v) None s.reached.rest found.1 g.pipeline in
     let none = no-items g.feed.stop first.0 first.2 in
-    let n = new_slot date (refused x) in
+    let n = new_slot date (refused v) in
     let slots = s.reached.slots ++ (n ∷ []) in
-    let last = last-quiet s.reached.slots st.plain in
     let F : List Item → Outcome = λ y. asks_from date Unused s.reached.slots y in
-    let is : ask date s.reached ≡ asks_from date Unused s.reached.slots (refused x ∷ []) =
-    ask-goes date s.reached (st.ended ∙ e) last.unheld last.kept ∙ ap F (first.1 ∙ ap (λ y. refused x ∷ y) none) in
-    let out = refuses before k.sink sink k.output_ended ended s k.marks marks k.requests n (own_text 400 x.version false date) st.output st.numbers st.shape refl (refused-whole date x) (refused-text date x) low leaves in
+    let is : ask date s.reached ≡ asks_from date Unused s.reached.slots (refused v ∷ []) = ask-goes date s.reached (st.ended ∙ e) g.unheld g.kept ∙ ap F (first.1 ∙ ap (λ y. refused v ∷ y) none) in
+    let out = refuses before k.sink sink k.output_ended ended s k.marks marks k.requests n text.items st.output st.numbers st.shape refl refl (refused-whole date v) (refused-text date v ∙ sym found.2) low leaves in
     let new : State = record { reached = record { slots = slots; rest = []; ended = true }; failure = out.failure } in
     let G : Outcome → Type 0 = λ y. Has y s Ended new in
-    let R : List (Option Waiting) → Type 0 = λ y. AreKept slots marks y in (
+    let B : Option Body → Type 0 = λ b. GivesRest b (last_slot slots) p in (
       new,
       record {
-        numbers = subst R (sym requests_are) out.numbers;
+        numbers = out.numbers;
         shape = out.shape;
         ended = refl;
-        plain = all-snoc (λ (y : Slot). is_plain_item y.item) s.reached.slots n st.plain refl;
-        rest = tt;
-        source = goes-on_more (Some client) k.feed p st.source goes;
+        reader = record {
+          settled = settled-snoc k.requests None st.reader.settled quiet;
+          gives = subst B (sym (body-snoc k.requests None)) tt;
+          next = λ z. cc;
+          source = goes-on_more (Some client) k.feed p st.reader.source goes;
+        };
         output = out.output;
       },
       inl (true, tt, subst G (sym is) (refl, out.writes)),

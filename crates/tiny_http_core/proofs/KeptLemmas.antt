@@ -150,8 +150,8 @@ place-of (s ∷ ss) (m ∷ ms) (u ∷ us) n w h e = place-at s m u ss ms us n w 
 kept-finished : (s : Slot) (m : Mark) → IsKept s m None → is_finished s ≡ true
 kept-finished s Open h = absurd h
 kept-finished s Held h = absurd h
-kept-finished s (Left text) h = h.finished
-kept-finished s Finished h = h
+kept-finished s (Left text) h = h.done.finished
+kept-finished s Finished h = h.finished
 
 pub none-waits : (slots : List Slot) (marks : List Mark) (requests : List (Option Waiting)) (n : ℕ) → AreKept slots marks requests → waiting_form (slice_get requests n) ≡ None → (x : Slot) → slice_get slots n ≡ Some x → is_finished x ≡ true
 none-waits [] ms us n h none x e = cc
@@ -170,7 +170,7 @@ kept-passed (c ∷ cs) [] vs h = absurd h
 kept-passed (c ∷ cs) (r ∷ rs) [] h = absurd h
 kept-passed (c ∷ cs) (Open ∷ rs) (v ∷ vs) h = h
 kept-passed (c ∷ cs) (Held ∷ rs) (v ∷ vs) h = h
-kept-passed (c ∷ cs) (Left text ∷ rs) (None ∷ vs) h = (h.0.finished, kept-passed cs rs vs h.1)
+kept-passed (c ∷ cs) (Left text ∷ rs) (None ∷ vs) h = (h.0.done, kept-passed cs rs vs h.1)
 kept-passed (c ∷ cs) (Left text ∷ rs) (Some w ∷ vs) h = absurd h.0
 kept-passed (c ∷ cs) (Finished ∷ rs) (v ∷ vs) h = h
 
@@ -203,11 +203,11 @@ turn-at (b ∷ bs) [] us rs h shape = absurd h
 turn-at (b ∷ bs) (f ∷ fs) [] rs h shape = absurd h
 turn-at (b ∷ bs) (Open ∷ fs) (None ∷ us) rs h shape = absurd h.0
 turn-at (b ∷ bs) (Open ∷ fs) (Some w ∷ us) rs h shape =
-    let open_is : is_finished b ≡ false = ap is_finished h.0.fresh in
+    let open_is : is_finished b ≡ false = ap is_finished h.0.is in
     inr (record { unfinished = rw open_is refl; turn = λ e. (let no : suc (length fs) ≡ 0 = e in cc) })
 turn-at (b ∷ bs) (Held ∷ fs) (u ∷ us) rs h shape = absurd h.0
 turn-at (b ∷ bs) (Left text ∷ fs) (u ∷ us) rs h shape = absurd shape
-turn-at (b ∷ bs) (Finished ∷ fs) (None ∷ us) rs h shape = later b bs fs rs h.0 (turn-at bs fs us rs h.1 shape)
+turn-at (b ∷ bs) (Finished ∷ fs) (None ∷ us) rs h shape = later b bs fs rs h.0.finished (turn-at bs fs us rs h.1 shape)
 turn-at (b ∷ bs) (Finished ∷ fs) (Some w ∷ us) rs h shape = absurd h.0
 
 -- what is stored at a place

@@ -12,8 +12,10 @@ pub mod GoingOn
 pub mod PipelineLemmas
 pub mod SendLemmas
 pub mod SlotLemmas
+pub mod ReaderLemmas
 pub mod KeptLemmas
 pub mod OutputLemmas
+pub mod BodySteps
 pub mod AskLemmas
 pub mod RespondLemmas
 pub mod DropLemmas

@@ -29,11 +29,11 @@ behind (c ∷ cs) (r ∷ rs) [] w h = absurd h
 behind (c ∷ cs) (Open ∷ rs) (None ∷ vs) w h = absurd h.0
 behind (c ∷ cs) (Open ∷ rs) (Some q ∷ vs) w h =
     let P : Slot → Type 0 = λ x. (joined (x ∷ cs) ≡ []) × (breaks_off (x ∷ cs) ≡ false) in
-    subst P (sym h.0.fresh) (refl, refl)
+    subst P (sym h.0.is) (refl, refl)
 behind (c ∷ cs) (Held ∷ rs) (v ∷ vs) w h = absurd w
 behind (c ∷ cs) (Left text ∷ rs) (None ∷ vs) w h =
     let k = behind cs rs vs w h.1 in
-    (rw (h.0.finished, h.0.whole) (ap (λ y. y ++ joined cs) h.0.same ∙ ap (λ y. text ++ y) k.0), rw (h.0.finished, h.0.whole) k.1)
+    (rw (h.0.done.finished, h.0.whole) (ap (λ y. y ++ joined cs) h.0.same ∙ ap (λ y. text ++ y) k.0), rw (h.0.done.finished, h.0.whole) k.1)
 behind (c ∷ cs) (Left text ∷ rs) (Some q ∷ vs) w h = absurd h.0
 behind (c ∷ cs) (Finished ∷ rs) (v ∷ vs) w h = absurd w
 
@@ -52,7 +52,7 @@ left-finished (c ∷ cs) [] vs h e = absurd h
 left-finished (c ∷ cs) (r ∷ rs) [] h e = absurd h
 left-finished (c ∷ cs) (Open ∷ rs) (v ∷ vs) h e = cc
 left-finished (c ∷ cs) (Held ∷ rs) (v ∷ vs) h e = cc
-left-finished (c ∷ cs) (Left text ∷ rs) (None ∷ vs) h e = rw h.0.finished (omega arith)
+left-finished (c ∷ cs) (Left text ∷ rs) (None ∷ vs) h e = rw h.0.done.finished (omega arith)
 left-finished (c ∷ cs) (Left text ∷ rs) (Some q ∷ vs) h e = absurd h.0
 left-finished (c ∷ cs) (Finished ∷ rs) (v ∷ vs) h e = cc
 

@@ -1,11 +1,8 @@
 -- What the calls on numbers leave, as lists of marks.
 use Rattle.std.proofs.Common.{◌≡◌, refl, sym, ap, ◌∙◌, subst, ℕ, suc, ◌+◌, Bool, true, false, List, [], ◌∷◌, ◌++◌, length, Option, Some, Result, Ok, Err, append_assoc, append-nil, length-append}
 use Rattle.std.specs.Global.{Vec}
-use Rattle.std.specs.Prelude.{OnOk, MatchBool, ◌==◌, if◌then◌else◌, slice_get, slice_set}
-use Rattle.httpdate.specs.declared.date.HttpDate.{HttpDate}
+use Rattle.std.specs.Prelude.{MatchBool, ◌==◌, if◌then◌else◌, slice_get, slice_set}
 use Rattle.tiny_http_wire.specs.Device.{Sink}
-use Rattle.tiny_http_core.specs.declared.exchange.Head.{Head}
-use Rattle.tiny_http_core.specs.declared.exchange.Waiting.{Waiting}
 use Rattle.tiny_http_core.specs.declared.turns.Finishing.{Finishing}
 use Rattle.tiny_http_core.specs.declared.turns.Finishing.TheVariants.{Passed as IsPassed, Go, Strange as IsStrange}
 use Rattle.tiny_http_core.specs.declared.turns.Leaving.{Leaving}
@@ -13,13 +10,9 @@ use Rattle.tiny_http_core.specs.declared.turns.Leaving.TheVariants.{Left as IsLe
 use Rattle.tiny_http_core.specs.Sending.{CanSend, IsFlushed, SendsUnlessEnded}
 use Rattle.tiny_http_core.specs.Turns.{Mark, Open, Held, Left, Finished, AreInShape, first_unfinished, Goes, Passed, Waits, TurnOutcome, Finish, Leave, outcome, answer, after, finish_at, pass_to, leave_at}
 use Rattle.tiny_http_core.specs.TurnsCalls.{Finishes, Leaves}
-use Rattle.tiny_http_core.specs.Pending.{left_text, passed, begins_left, SendsLeft, Passes, LeavesText, KeepsHead}
+use Rattle.tiny_http_core.specs.Pending.{left_text, passed, begins_left, SendsLeft, Passes, LeavesText}
 use Rattle.tiny_http_core.proofs.KeptLemmas.{get-at, set-at}
 use Rattle.tiny_http_core.proofs.SendLemmas.{sends-append, sends-can}
-
-pub keeps-head : {T E : Type 0} (r : Result T E) (new old : List (Option Waiting)) (w : Waiting) (h : Head) (date : HttpDate) → OnOk r (new ≡ old ++ (Some w ∷ [])) → KeepsHead w h date → OnOk r ((x : Waiting) × (new ≡ old ++ (Some x ∷ [])) × KeepsHead x h date)
-keeps-head (Ok x) new old w h date e k = (w, e, k)
-keeps-head (Err e) new old w h date e2 k = tt
 
 -- the place behind a place
 get-next : {X : Type 0} (xs : List X) (x : X) (ys : List X) → slice_get (xs ++ (x ∷ ys)) (suc (length xs)) ≡ slice_get ys 0
@@ -288,9 +281,8 @@ first-issued (Held ∷ marks) = refl
 first-issued (Left text ∷ marks) = refl
 first-issued (Finished ∷ marks) = ap suc (first-issued marks)
 
-pub leaves-issued : (marks issued new : List Mark) (number : ℕ) (text own : List ℕ) (was : Bool) (old now : Sink) (ended : Bool) → issued ≡ marks ++ (Open ∷ []) → number ≡ length marks → text ≡ own
-    → LeavesText (number == first_unfinished issued) marks [] new text was old now ended → LeavesText (length marks == first_unfinished marks) marks [] new own was old now ended
-leaves-issued marks issued new number text own was old now ended e place same h =
-    let T : Bool → Type 0 = λ t. LeavesText t marks [] new own was old now ended in
-    let P : List ℕ → Type 0 = λ x. LeavesText (number == first_unfinished issued) marks [] new x was old now ended in
-    subst T (ap (λ n. n == first_unfinished issued) place ∙ ap (λ n. length marks == n) (ap first_unfinished e ∙ first-issued marks)) (subst P same h)
+pub leaves-issued : (marks issued new : List Mark) (number : ℕ) (text : List ℕ) (was : Bool) (old now : Sink) (ended : Bool) → issued ≡ marks ++ (Open ∷ []) → number ≡ length marks
+    → LeavesText (number == first_unfinished issued) marks [] new text was old now ended → LeavesText (length marks == first_unfinished marks) marks [] new text was old now ended
+leaves-issued marks issued new number text was old now ended e place h =
+    let T : Bool → Type 0 = λ t. LeavesText t marks [] new text was old now ended in
+    subst T (ap (λ n. n == first_unfinished issued) place ∙ ap (λ n. length marks == n) (ap first_unfinished e ∙ first-issued marks)) h

@@ -2,13 +2,14 @@
 use Rattle.std.specs.Prelude.{◌≡◌, ℕ, ◌+◌, Bool, true, false, List, [], ◌∷◌, drop, Option, Some, None, ⊤}
 use Rattle.std.specs.Option.{option_map}
 use Rattle.httpdate.specs.declared.date.HttpDate.{HttpDate}
+use Rattle.tiny_http_wire.specs.declared.device.Stop.{Stop}
 use Rattle.tiny_http_wire.specs.declared.device.Stop.TheVariants.{End}
 use Rattle.tiny_http_wire.specs.Device.{Feed, Sink, IsFront, Tells, ending}
 use Rattle.tiny_http_core.specs.declared.body.Body.{Body}
 use Rattle.tiny_http_core.specs.declared.exchange.AnswerForm.{AnswerForm}
 use Rattle.tiny_http_core.specs.declared.exchange.Waiting.{Waiting}
 use Rattle.tiny_http_core.specs.declared.driver.Connection.{Connection}
-use Rattle.tiny_http_core.specs.Source.{SourceState, IsAtEnd, GoesOn}
+use Rattle.tiny_http_core.specs.Source.{GoesOn}
 use Rattle.tiny_http_core.specs.ToCome.{stopped}
 use Rattle.tiny_http_core.specs.Body.{Remaining, remaining, taken_left, is_streaming, Fits}
 use Rattle.tiny_http_core.specs.Pending.{last_body}
@@ -20,20 +21,22 @@ use Rattle.tiny_http_core.specs.Turns.{Mark, Open, Left, Finished, AreInShape}
 use Rattle.tiny_http_core.specs.Conversation.{State, Failure, PlaceAt}
 
 -- What the program keeps of a connection: the turns of its numbers, the requests that wait for their answers, whether the
--- last head was read, whether the asking has ended, the input, what the writer tells with what is held, and whether the
--- output has ended.
-pub record Kept (R : Type 0) : Type 1 where
+-- last head was read, whether the asking has ended, what is still to come of the input, how it stopped and whether it is
+-- over, what the writer tells with what is held, and whether the output has ended.
+pub record Kept : Type 0 where
   pub marks : List Mark
   pub requests : List (Option Waiting)
   pub over : Bool
   pub ended : Bool
-  pub source : SourceState R
+  pub feed : Option Feed
+  pub stop : Option Stop
+  pub is_over : Bool
   pub sink : Sink
   pub output_ended : Bool
 
-abbrev pub kept : {R W : Type 0} → (W → Sink) → Connection R W → Kept R
+abbrev pub kept : {R W : Type 0} → (W → Sink) → Connection R W → Kept
 kept sink c =
-    record { marks = c.pending.turns.marks; requests = c.pending.requests.items; over = c.over; ended = c.ended; source = c.source; sink = outlet_sink sink c.outlet; output_ended = outlet_ended c.outlet }
+    record { marks = c.pending.turns.marks; requests = c.pending.requests.items; over = c.over; ended = c.ended; feed = c.source.feed; stop = c.source.stop; is_over = c.source.is_over; sink = outlet_sink sink c.outlet; output_ended = outlet_ended c.outlet }
 
 -- how a request is answered
 abbrev pub form_of : Request → AnswerForm
@@ -126,12 +129,23 @@ abbrev pub is_last_slot : Option Slot → Bool
 is_last_slot None = false
 is_last_slot (Some s) = is_last_item s.item
 
+-- the input has ended
+abbrev pub InputEnded : Kept → Type 0
+InputEnded k = (k.is_over ≡ true) × (k.stop ≡ Some End)
+
 -- Where the next head is read, while the asking hasn't ended: behind the last body; and nowhere behind the last head, or
 -- behind a chunked body that was given up before its end.
-pub record NextHead {R : Type 0} (over : Bool) (source : SourceState R) (last : Option Slot) (body : Option Body) (rest : List Item) : Type 1 where
-  pub is_last : over ≡ is_last_slot last
-  pub lost : reader_is_lost last ≡ true → IsAtEnd source × (source.feed ≡ Some (stopped End))
-  pub place : reader_is_lost last ≡ false → PlaceAt over (behind_body body source.feed) rest
+pub record NextHead (k : Kept) (last : Option Slot) (rest : List Item) : Type 0 where
+  pub is_last : k.over ≡ is_last_slot last
+  pub lost : reader_is_lost last ≡ true → InputEnded k × (k.feed ≡ Some (stopped End))
+  pub place : reader_is_lost last ≡ false → PlaceAt k.over (behind_body (last_body k.requests) k.feed) rest
+
+-- how the input stands to the bodies and to the rest of the pipeline, behind this much of the client's feed
+pub record Reader (client : Feed) (k : Kept) (slots : List Slot) (rest : List Item) : Type 0 where
+  pub settled : AreSettled k.requests
+  pub gives : GivesRest (last_body k.requests) (last_slot slots) k.feed
+  pub next : k.ended ≡ false → NextHead k (last_slot slots) rest
+  pub source : GoesOn (Some client) k.feed
 
 -- the output so far: the joined segments, which no failure takes back; or what the writer took when it failed
 abbrev pub OutputAt : Sink → Sink → Bool → List Slot → Option Failure → Type 0
@@ -142,12 +156,9 @@ OutputAt before sink ended slots (Some f) =
     (sink.taken ≡ Some f.output) × (sink.failures ≡ before.failures + 1) × Tells sink.last_kind f.kind × (ended ≡ true)
 
 -- the connection stands so, behind this much of the client's feed and over a writer that told this before
-pub record Stands {R : Type 0} (client : Feed) (before : Sink) (k : Kept R) (s : State) : Type 1 where
+pub record Stands (client : Feed) (before : Sink) (k : Kept) (s : State) : Type 0 where
   pub numbers : AreKept s.reached.slots k.marks k.requests
   pub shape : AreInShape k.marks
   pub ended : s.reached.ended ≡ k.ended
-  pub settled : AreSettled k.requests
-  pub gives : GivesRest (last_body k.requests) (last_slot s.reached.slots) k.source.feed
-  pub next : k.ended ≡ false → NextHead k.over k.source (last_slot s.reached.slots) (last_body k.requests) s.reached.rest
-  pub source : GoesOn (Some client) k.source.feed
+  pub reader : Reader client k s.reached.slots s.reached.rest
   pub output : OutputAt before k.sink k.output_ended s.reached.slots s.failure

@@ -96,9 +96,12 @@ impl Pending {
         ensures turns { self.new.turns ≡ self.old.turns }
         ensures goes_on { GoesOn source.old.feed source.new.feed }
     {
-        match self.requests.get_mut(number as usize) {
-            Some(Some(waiting)) => waiting.body.fill(source, buf),
-            _ => Ok(0),
+        let Some(entry) = self.requests.get_mut(number as usize) else {
+            return Ok(0);
+        };
+        match entry {
+            Some(waiting) => waiting.body.fill(source, buf),
+            None => Ok(0),
         }
     }
 
@@ -107,9 +110,12 @@ impl Pending {
     pub fn holds_reader(&self) -> bool
         ensures { result ≡ is_held (last_body self.now.requests.items) }
     {
-        match self.requests.last() {
-            Some(Some(waiting)) => waiting.body.holds_reader(),
-            _ => false,
+        let Some(last) = self.requests.last() else {
+            return false;
+        };
+        match last {
+            Some(waiting) => waiting.body.holds_reader(),
+            None => false,
         }
     }
 
@@ -120,9 +126,7 @@ impl Pending {
         ensures none { IfNone result ((waiting_form (slice_get self.old.requests.items number) ≡ None) × (self.new.requests.items ≡ self.old.requests.items)) }
         ensures turns { self.new.turns ≡ self.old.turns }
     {
-        let Some(entry) = self.requests.get_mut(number as usize) else {
-            return None;
-        };
+        let entry = self.requests.get_mut(number as usize)?;
         entry.take()
     }
 

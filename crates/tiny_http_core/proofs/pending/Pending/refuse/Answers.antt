@@ -4,5 +4,5 @@ use Rattle.tiny_http_core.proofs.pending.Pending.refuse.Goals as goal
 
 pub returns-clause-leaves : goal.returns-clause-leaves
 returns-clause-leaves g c can =
-    leaves-issued c.args.self.now.turns.marks _ _ _ _ _ _ _ _ _ c.in_ok-number.ensures.marks c.in_ok-number.ensures.number c.in-Ok.ensures
+    leaves-issued c.args.self.now.turns.marks _ _ _ _ _ _ _ _ c.in_ok-number.ensures.marks c.in_ok-number.ensures.number
     (c.leave.ensures.leaves c.args.self.now.turns.marks [] c.in_ok-number.ensures.marks (sym c.in_ok-number.ensures.number) can)

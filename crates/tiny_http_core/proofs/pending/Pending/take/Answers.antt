@@ -1,16 +1,16 @@
-use Rattle.std.proofs.Common.{refl, sym, ap, ◌∙◌, Some, None, slice_set, ltb-true}
+use Rattle.std.proofs.Common.{◌≡◌, refl, sym, ap, ◌∙◌, Option, Some, None, IfNone, slice_get, slice_set, ltb-true}
+use Rattle.tiny_http_core.specs.declared.exchange.Waiting.{Waiting}
 use Rattle.tiny_http_core.specs.Pending.{waiting_form}
 use Rattle.tiny_http_core.proofs.KeptLemmas.{set-same, stored}
 use Rattle.tiny_http_core.proofs.pending.Pending.take.Goals as goal
 
-pub returns-in-Some-take-clause-some : goal.returns-in-Some-take-clause-some
-returns-in-Some-take-clause-some c =
-    let entry = c.in-Some.ensures in
-    let got = stored c.args.self.now.requests.items c.args.number c.in-Some.entry.now (Some c.in-Some-take.field-0) c.in-Some.entry.now (ltb-true _ _ (sym entry.item.0)) entry.value (sym c.in-Some-take.is ∙ c.take.ensures.value) in
-    (c.in-Some-take.field-0, got, refl, ap (slice_set c.args.self.now.requests.items c.args.number) c.take.ensures.after)
-
-pub returns-in-None-clause-none : goal.returns-in-None-clause-none
-returns-in-None-clause-none c =
-    let entry = c.in-Some.ensures in
-    let got = stored c.args.self.now.requests.items c.args.number c.in-Some.entry.now None c.in-Some.entry.now (ltb-true _ _ (sym entry.item.0)) entry.value (sym c.in-None.is ∙ c.take.ensures.value) in
-    (ap waiting_form got, ap (slice_set c.args.self.now.requests.items c.args.number) c.take.ensures.after ∙ set-same c.args.self.now.requests.items c.args.number None got)
+pub returns-clause-none : goal.returns-clause-none
+returns-clause-none c = by c.take.result refl
+  where
+    by : (o : Option Waiting) → c.take.result ≡ o
+        → IfNone o ((waiting_form (slice_get c.args.self.now.requests.items c.args.number) ≡ None) × (slice_set c.args.self.now.requests.items c.args.number c.take.new.self ≡ c.args.self.now.requests.items))
+    by (Some w) e = tt
+    by None e =
+        let entry = c.in_ok-entry.ensures in
+        let got = stored c.args.self.now.requests.items c.args.number c.in_ok-entry.entry.now None c.in_ok-entry.entry.now (ltb-true _ _ (sym entry.item.0)) entry.value (sym e ∙ c.take.ensures.value) in
+        (ap waiting_form got, ap (slice_set c.args.self.now.requests.items c.args.number) c.take.ensures.after ∙ set-same c.args.self.now.requests.items c.args.number None got)

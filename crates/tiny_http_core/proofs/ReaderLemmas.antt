@@ -1,0 +1,162 @@
+-- The last body of a connection, and where its reader stands.
+use Rattle.std.proofs.Common.{◌≡◌, refl, sym, ap, ◌∙◌, subst, ℕ, zero, suc, ◌+◌, ◌-◌, ◌<◌, ◌⊎◌, inl, inr, Bool, true, false, not, ◌&&◌, ◌||◌, List, [], ◌∷◌, ◌++◌, length, drop, Option, Some, None, arith}
+use Rattle.std.specs.Prelude.{slice_get, slice_set, MatchBool, ◌==◌}
+use Rattle.std.specs.List.{last_or}
+use Rattle.std.specs.Option.{option_map}
+use Rattle.std.proofs.lemmas.Bool.{ne_eqb}
+use Rattle.tiny_http_wire.specs.Device.{Feed}
+use Rattle.tiny_http_core.specs.declared.exchange.Waiting.{Waiting}
+use Rattle.tiny_http_core.specs.declared.exchange.Form.{Form}
+use Rattle.tiny_http_core.specs.declared.body.Body.{Body}
+use Rattle.tiny_http_core.specs.declared.body.Body.TheVariants as body
+use Rattle.tiny_http_core.specs.Pipeline.{Item, Asks, Refuses, said_length}
+use Rattle.tiny_http_core.specs.Slots.{Slot, is_streamed, is_chunked, body_finished, is_body_finished, body_holds_reader, last_slot, reader_is_held, reader_is_lost}
+use Rattle.tiny_http_core.specs.Turns.{Mark, Open, Held, Left, Finished}
+use Rattle.tiny_http_core.specs.Body.{Remaining, remaining, is_streaming, Fits}
+use Rattle.tiny_http_core.specs.Pending.{last_body, is_held}
+use Rattle.tiny_http_core.specs.Connection.{IsWaiting, IsDone, IsKept, AreKept, IsSettled, AreSettled, behind_body, slot_rest, GivesRest, is_last_item, is_last_slot}
+
+-- the body at a place is read from the input
+abbrev pub held_at : Option (Option Waiting) → Bool
+held_at None = false
+held_at (Some None) = false
+held_at (Some (Some w)) = is_streaming w.body
+
+pub held-last : (ws : List (Option Waiting)) → held_at (slice_get ws (length ws - 1)) ≡ is_held (last_body ws)
+held-last [] = refl
+held-last (None ∷ []) = refl
+held-last (Some w ∷ []) = refl
+held-last (w ∷ v ∷ ws) =
+    let less : length (w ∷ v ∷ ws) - 1 ≡ suc (length (v ∷ ws) - 1) = omega arith in
+    ap (λ n. held_at (slice_get (w ∷ v ∷ ws) n)) less ∙ held-last (v ∷ ws)
+
+pub held-is : (ws l : List (Option Waiting)) (o : Option (Option Waiting)) → l ≡ ws → o ≡ slice_get l (length l - 1) → held_at o ≡ is_held (last_body ws)
+held-is ws l o e at = ap held_at at ∙ held-last l ∙ ap (λ x. is_held (last_body x)) e
+
+-- the last of some, and what is kept of it
+abbrev pub LastKept : Option Slot → Option Body → Type 0
+LastKept o b =
+    ((o ≡ None) × (b ≡ None))
+    ⊎ (((s : Slot) × (o ≡ Some s) × (b ≡ None) × IsDone s)
+    ⊎ ((s : Slot) × (w : Waiting) × (o ≡ Some s) × (b ≡ Some w.body) × IsWaiting s w))
+
+last-one : (s : Slot) (m : Mark) (u : Option Waiting) → IsKept s m u → LastKept (Some s) (last_body (u ∷ []))
+last-one s Open None h = absurd h
+last-one s Open (Some w) h = inr (inr (s, w, refl, refl, h))
+last-one s Held None h = absurd h
+last-one s Held (Some w) h = absurd h
+last-one s (Left text) None h = inr (inl (s, refl, refl, h.done))
+last-one s (Left text) (Some w) h = absurd h
+last-one s Finished None h = inr (inl (s, refl, refl, h))
+last-one s Finished (Some w) h = absurd h
+
+last-from : (s : Slot) (m : Mark) (u : Option Waiting) (ss : List Slot) (ms : List Mark) (us : List (Option Waiting)) → IsKept s m u → AreKept ss ms us → LastKept (last_or (Some s) ss) (last_body (u ∷ us))
+last-from s m u [] [] [] h k = last-one s m u h
+last-from s m u [] [] (v ∷ us) h k = absurd k
+last-from s m u [] (n ∷ ms) us h k = absurd k
+last-from s m u (t ∷ ss) [] us h k = absurd k
+last-from s m u (t ∷ ss) (n ∷ ms) [] h k = absurd k
+last-from s m u (t ∷ ss) (n ∷ ms) (v ∷ us) h k = last-from t n v ss ms us k.0 k.1
+
+pub last-kept : (slots : List Slot) (marks : List Mark) (requests : List (Option Waiting)) → AreKept slots marks requests → LastKept (last_slot slots) (last_body requests)
+last-kept [] [] [] k = inl (refl, refl)
+last-kept [] [] (v ∷ us) k = absurd k
+last-kept [] (n ∷ ms) us k = absurd k
+last-kept (t ∷ ss) [] us k = absurd k
+last-kept (t ∷ ss) (n ∷ ms) [] k = absurd k
+last-kept (t ∷ ss) (n ∷ ms) (v ∷ us) k = last-from t n v ss ms us k.0 k.1
+
+-- one more at the end
+pub last-snoc : {X : Type 0} (o : Option X) (xs : List X) (x : X) → last_or o (xs ++ (x ∷ [])) ≡ Some x
+last-snoc o [] x = refl
+last-snoc o (y ∷ ys) x = last-snoc (Some y) ys x
+
+pub body-snoc : (us : List (Option Waiting)) (u : Option Waiting) → last_body (us ++ (u ∷ [])) ≡ last_body (u ∷ [])
+body-snoc [] u = refl
+body-snoc (v ∷ []) u = refl
+body-snoc (v ∷ (w ∷ us)) u = body-snoc (w ∷ us) u
+
+-- one that isn't the last
+pub last-within : {X : Type 0} (o : Option X) (xs : List X) (x y z : X) (ys : List X) → last_or o (xs ++ (x ∷ (z ∷ ys))) ≡ last_or o (xs ++ (y ∷ (z ∷ ys)))
+last-within o [] x y z ys = refl
+last-within o (w ∷ ws) x y z ys = last-within (Some w) ws x y z ys
+
+pub body-within : (us : List (Option Waiting)) (u v w : Option Waiting) (vs : List (Option Waiting)) → last_body (us ++ (u ∷ (w ∷ vs))) ≡ last_body (us ++ (v ∷ (w ∷ vs)))
+body-within [] u v w vs = refl
+body-within (x ∷ []) u v w vs = refl
+body-within (x ∷ (y ∷ us)) u v w vs = body-within (y ∷ us) u v w vs
+
+-- only the last body is read from the input
+pub settled-snoc : (us : List (Option Waiting)) (u : Option Waiting) → AreSettled us → is_held (last_body us) ≡ false → AreSettled (us ++ (u ∷ []))
+settled-snoc [] u h e = tt
+settled-snoc (None ∷ []) u h e = (tt, tt)
+settled-snoc (Some w ∷ []) u h e = (e, tt)
+settled-snoc (v ∷ (w ∷ us)) u h e = (h.0, settled-snoc (w ∷ us) u h.1 e)
+
+pub settled-place : (us : List (Option Waiting)) (u v : Option Waiting) (vs : List (Option Waiting)) → AreSettled (us ++ (u ∷ (v ∷ vs))) → IsSettled u
+settled-place [] u v vs h = h.0
+settled-place (x ∷ []) u v vs h = h.1.0
+settled-place (x ∷ (y ∷ us)) u v vs h = settled-place (y ∷ us) u v vs h.1
+
+pub settled-set : (us : List (Option Waiting)) (u x : Option Waiting) (vs : List (Option Waiting)) → AreSettled (us ++ (u ∷ vs)) → (IsSettled x ⊎ (vs ≡ [])) → AreSettled (us ++ (x ∷ vs))
+settled-set [] u x [] h k = tt
+settled-set [] u x (v ∷ vs) h (inl e) = (e, h.1)
+settled-set [] u x (v ∷ vs) h (inr e) = cc
+settled-set (y ∷ []) u x vs h k = (h.0, settled-set [] u x vs h.1 k)
+settled-set (y ∷ (z ∷ us)) u x vs h k = (h.0, settled-set (z ∷ us) u x vs h.1 k)
+
+-- whether a body is read from the input, by its form
+pub and-false : (f : Bool) → (f && false) ≡ false
+and-false true = refl
+and-false false = refl
+
+pub fits-streams : (b : Body) (form : Form) (n given : ℕ) (told : Bool) → Fits b form n given told → (is_streamed form && not (body_finished form n given told || false)) ≡ is_streaming b
+fits-streams (body.Over stop) form n given told h = rw h (and-false (is_streamed form))
+fits-streams (body.Held bytes) form n given told h = rw h refl
+fits-streams (body.Counted left) form n given told h = rw (h.0, h.3, ne_eqb given n (λ e. absurd (omega (arith, e, h.1, h.2)))) refl
+fits-streams (body.Chunked d) form n given told h = rw (h.0, h.1) refl
+
+-- the reader of the last body
+pub waiting-held : (s : Slot) (w : Waiting) (h : IsWaiting s w) → reader_is_held (Some s) ≡ (not (is_last_item s.item) && is_streaming w.body)
+waiting-held s w h =
+    let r = h.request in
+    let P : Slot → Type 0 = λ x. reader_is_held (Some x) ≡ (not (is_last_item x.item) && is_streaming w.body) in
+    subst P (sym h.is) (ap (λ t. not r.framing.is_last && t) (fits-streams w.body r.framing.form (said_length r.framing) h.given h.told h.fits))
+
+pub waiting-kept : (s : Slot) (w : Waiting) (h : IsWaiting s w) → reader_is_lost (Some s) ≡ false
+waiting-kept s w h = let P : Slot → Type 0 = λ x. reader_is_lost (Some x) ≡ false in subst P (sym h.is) (and-false (is_chunked h.request.framing.form))
+
+done-held : (s : Slot) → IsDone s → reader_is_held (Some s) ≡ false
+done-held s d = at s.item
+  where
+    or-true : (a : Bool) → (a || true) ≡ true
+    or-true true = refl
+    or-true false = refl
+
+    at : (item : Item) → body_holds_reader s item ≡ false
+    at (Asks r) = rw (d.given_up, or-true (is_body_finished r s), and-false (is_streamed r.framing.form)) (and-false (not r.framing.is_last))
+    at (Refuses a b c) = refl
+
+-- whether the last body holds the reader, and the program's sight of it
+pub held-by : (o : Option Slot) (b : Option Body) → LastKept o b → reader_is_held o ≡ (not (is_last_slot o) && is_held b)
+held-by o b (inl h) = rw (h.0, h.1) refl
+held-by o b (inr (inl h)) = rw (h.1, h.2, done-held h.0 h.3) (sym (and-false (not (is_last_item h.0.item))))
+held-by o b (inr (inr h)) = rw (h.2, h.3) (waiting-held h.0 h.1 h.4)
+
+-- behind a body that isn't read from the input the input stands
+pub behind-settled : (o : Option Slot) (b : Option Body) (f : Feed) → LastKept o b → is_held b ≡ false → behind_body b (Some f) ≡ Some f
+behind-settled o b f (inl h) e = rw h.1 refl
+behind-settled o b f (inr (inl h)) e = rw h.2 refl
+behind-settled o b f (inr (inr h)) e =
+    let P : Option Body → Type 0 = λ x. is_held x ≡ false in
+    let quiet : is_streaming h.1.body ≡ false = subst P h.3 e in
+    rw h.3 (ap (λ (x : Option Remaining). option_map (λ (r : Remaining). r.behind) x) (h.4.settled quiet f))
+
+pub gives-settled : (o : Option Slot) (b : Option Body) (f : Feed) → LastKept o b → is_held b ≡ false → GivesRest b o (Some f)
+gives-settled o b f (inl h) e = rw (h.0, h.1) tt
+gives-settled o b f (inr (inl h)) e = rw h.2 tt
+gives-settled o b f (inr (inr h)) e =
+    let P : Option Body → Type 0 = λ x. is_held x ≡ false in
+    let quiet : is_streaming h.1.body ≡ false = subst P h.3 e in
+    let Q : Slot → Type 0 = λ x. option_map (λ (r : Remaining). r.body) (remaining h.1.body (Some f)) ≡ Some (slot_rest x) in
+    rw (h.2, h.3) (subst Q (sym h.4.is) (ap (λ (x : Option Remaining). option_map (λ (r : Remaining). r.body) x) (h.4.settled quiet f)))
