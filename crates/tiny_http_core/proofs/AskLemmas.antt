@@ -151,7 +151,7 @@ output-waiting before sink e slots date r failure h =
     output-same before sink e slots (slots ++ (n ∷ [])) failure (sym (joined-waits slots n [] refl refl)) (sym (breaks-waits slots n [] refl refl)) h
 
 -- a body that isn't read from the input gives the same wherever that stands
-settled-any : (b : Body) (p : Option Feed) (content behind : Feed) → remaining b p ≡ Some (record { body = content; behind = behind }) → is_streaming b ≡ false → (f : Feed) → remaining b (Some f) ≡ Some (taken_left content f)
+pub settled-any : (b : Body) (p : Option Feed) (content behind : Feed) → remaining b p ≡ Some (record { body = content; behind = behind }) → is_streaming b ≡ false → (f : Feed) → remaining b (Some f) ≡ Some (taken_left content f)
 settled-any (body.Over stop) None content behind h e f = cc
 settled-any (body.Over stop) (Some g) content behind h e f = ap (λ (x : Option Remaining). option_map (λ (r : Remaining). taken_left r.body f) x) h
 settled-any (body.Held bytes) None content behind h e f = cc

@@ -6,19 +6,22 @@ use Rattle.std.specs.List.{list_all}
 use Rattle.httpdate.specs.declared.date.HttpDate.{HttpDate}
 use Rattle.tiny_http_wire.specs.Device.{Feed, Sink}
 use Rattle.tiny_http_core.specs.declared.exchange.Waiting.{Waiting}
-use Rattle.tiny_http_core.specs.Pipeline.{Asks, Request}
-use Rattle.tiny_http_core.specs.Slots.{Slot, Waits, Answered as AnsweredBy, ByServer, Raw, Upgraded, is_finished, joined, breaks_off, new_slot, turn_has_come}
+use Rattle.tiny_http_core.specs.Pipeline.{Request}
+use Rattle.tiny_http_core.specs.Slots.{Slot, Waits, Answered as AnsweredBy, ByServer, Raw, Upgraded, is_finished, joined, breaks_off, turn_has_come}
 use Rattle.tiny_http_core.specs.Steps.{Drop, Done, Outcome, Reached, changes, use_in_turn, at_slot, at_number}
 use Rattle.tiny_http_core.specs.Conversation.{Failure, State, FailsBetween, Writes, Has}
 use Rattle.tiny_http_core.specs.Sending.{CanSend}
 use Rattle.tiny_http_core.specs.Turns.{Mark, Open, Left, Finished, AreInShape, first_unfinished}
 use Rattle.tiny_http_core.specs.Pending.{left_text, passed, LeavesText}
-use Rattle.tiny_http_core.specs.Connection.{Kept, dropped, AreKept, is_plain_item, OutputAt, Stands}
+use Rattle.tiny_http_core.specs.Connection.{Kept, open_slot, dropped, IsDone, AreKept, OutputAt, Reader, Stands}
+use Rattle.tiny_http_core.specs.Source.{SourceState}
+use Rattle.tiny_http_core.specs.Body.{GivesUp}
+use Rattle.tiny_http_core.proofs.BodySteps.{ReadsFrom, with_reader, reader-given_up}
 use Rattle.tiny_http_core.proofs.AskLemmas.{Answered, dropped-whole}
 use Rattle.tiny_http_core.proofs.SlotLemmas.{joined-hidden, joined-waits, breaks-hidden}
-use Rattle.tiny_http_core.proofs.KeptLemmas.{all-at, all-place, kept-append, kept-passed, Place, place-of, InTurn, OutOfTurn, turn-at}
+use Rattle.tiny_http_core.proofs.KeptLemmas.{kept-append, kept-passed, kept-many, Place, place-of, InTurn, OutOfTurn, turn-at}
 use Rattle.tiny_http_core.proofs.OutputLemmas.{behind, ended-is, output-same, can-send, output-more}
-use Rattle.tiny_http_core.proofs.RespondLemmas.{TakesNone, SlotAt, slot-at, set-place, output-before, after_number}
+use Rattle.tiny_http_core.proofs.RespondLemmas.{TakesNone, SlotAt, slot-at, set-place, output-before, after_number, reader-after}
 
 pub drop-not_taken : (n : ℕ) → TakesNone (Drop n)
 drop-not_taken n Waits owed e = cc
@@ -27,10 +30,10 @@ drop-not_taken n ByServer owed e = refl
 drop-not_taken n (Raw w c) owed e = refl
 drop-not_taken n (Upgraded p r d w c) owed e = refl
 
-at-drop : (date asked : HttpDate) (old : Reached) (n : ℕ) (r : Request) (t : Bool) → slice_get old.slots n ≡ Some (new_slot asked (Asks r)) → turn_has_come n old.slots ≡ t
-    → at_number true date old n (Drop n) ≡ changes old n (dropped asked r) Done (use_in_turn t)
-at-drop date asked old n r t e turn =
-    ap (at_slot true date old n (Drop n)) e ∙ ap (λ b. changes old n (dropped asked r) Done (use_in_turn b)) turn
+at-drop : (date asked : HttpDate) (old : Reached) (n : ℕ) (r : Request) (given : ℕ) (told t : Bool) → slice_get old.slots n ≡ Some (open_slot asked r given told) → turn_has_come n old.slots ≡ t
+    → at_number true date old n (Drop n) ≡ changes old n (dropped asked r given told) Done (use_in_turn t)
+at-drop date asked old n r given told t e turn =
+    ap (at_slot true date old n (Drop n)) e ∙ ap (λ b. changes old n (dropped asked r given told) Done (use_in_turn b)) turn
 
 -- what the drop leaves, in its turn or out of it
 record DropSaid (before new : Sink) (ended : Bool) (slots : List Slot) (old : State) (t : Bool) (final : List Mark) (requests : List (Option Waiting)) : Type 0 where
@@ -41,17 +44,13 @@ record DropSaid (before new : Sink) (ended : Bool) (slots : List Slot) (old : St
   pub shape : AreInShape final
 
 -- the connection behind a drop, by what is said of it
-drop-stands : (client : Feed) (before : Sink) (k : Kept) (s : State) (date asked : HttpDate) (n : ℕ) (r : Request) (new : Sink) (ended : Bool) (final : List Mark) (requests : List (Option Waiting)) (bs cs : List Slot) (t : Bool) → Stands client before k s
-    → s.reached.slots ≡ bs ++ (new_slot asked (Asks r) ∷ cs) → SlotAt s.reached.slots bs cs (new_slot asked (Asks r)) n → list_all is_finished bs ≡ t → DropSaid before new ended (bs ++ (dropped asked r ∷ cs)) s t final requests
-    → Answered client before (after_number k final requests new ended) s date (Drop n) Done
-drop-stands client before k s date asked n r new ended final requests bs cs t st slots_are at turn said =
-    let s0 = new_slot asked (Asks r) in
-    let s1 = dropped asked r in
+drop-stands : {R : Type 0} (client : Feed) (before : Sink) (k : Kept) (s : State) (date asked : HttpDate) (n : ℕ) (r : Request) (given : ℕ) (told : Bool) (new : Sink) (ended : Bool) (final : List Mark) (requests : List (Option Waiting)) (source : SourceState R) (bs cs : List Slot) (t : Bool)
+    → Stands client before k s → SlotAt s.reached.slots bs cs (open_slot asked r given told) n → list_all is_finished bs ≡ t → Reader client (with_reader k requests source) (bs ++ (dropped asked r given told ∷ cs)) s.reached.rest
+    → DropSaid before new ended (bs ++ (dropped asked r given told ∷ cs)) s t final requests → Answered client before (after_number k final requests source new ended) s date (Drop n) Done
+drop-stands client before k s date asked n r given told new ended final requests source bs cs t st at turn reader said =
+    let s1 = dropped asked r given told in
     let slots = bs ++ (s1 ∷ cs) in
-    let is = at-drop date asked s.reached n r t at.get (at.turn ∙ turn) in
-    let plain : list_all (λ (x : Slot). is_plain_item x.item) s.reached.slots ≡ true = st.plain in
-    let A : List Slot → Type 0 = λ l. list_all (λ (x : Slot). is_plain_item x.item) l ≡ true in
-    let old_plain = subst A slots_are plain in
+    let is = at-drop date asked s.reached n r given told t at.get (at.turn ∙ turn) in
     let new_state : State = record { reached = record { slots = slots; rest = s.reached.rest; ended = s.reached.ended }; failure = said.failure } in
     let R : List Slot → Reached = λ l. record { slots = l; rest = s.reached.rest; ended = s.reached.ended } in
     let W : List Slot → Type 0 = λ l. Writes (use_in_turn t) s Done l Done said.failure in
@@ -61,19 +60,17 @@ drop-stands client before k s date asked n r new ended final requests bs cs t st
         numbers = said.numbers;
         shape = said.shape;
         ended = st.ended;
-        plain = all-at (λ (x : Slot). is_plain_item x.item) bs s0 s1 cs old_plain (all-place (λ (x : Slot). is_plain_item x.item) bs s0 cs old_plain);
-        rest = st.rest;
-        source = st.source;
+        reader = reader-after client k final requests source new ended slots s.reached.rest reader;
         output = said.output;
       },
       inl (true, tt, subst G (sym is) (ap R (sym (at.set s1)), subst W (sym (at.set s1)) said.writes)),
     )
 
-pub drop-done : (client : Feed) (before : Sink) (k : Kept) (s : State) (date : HttpDate) (n : ℕ) (w : Waiting) (new : Sink) (ended : Bool) (final : List Mark) (requests : List (Option Waiting)) → Stands client before k s → before.failures < 2 ^ 64 - 1
+pub drop-done : {R : Type 0} (client : Feed) (before : Sink) (k : Kept) (s : State) (date : HttpDate) (n : ℕ) (w : Waiting) (new : Sink) (ended : Bool) (final : List Mark) (requests : List (Option Waiting)) (old source : SourceState R) → Stands client before k s → ReadsFrom k old → GivesUp w.body old source → before.failures < 2 ^ 64 - 1
     → slice_get k.requests n ≡ Some (Some w) → requests ≡ slice_set k.requests n None
     → ((front rest : List Mark) → k.marks ≡ front ++ (Open ∷ rest) → length front ≡ n → (k.output_ended ≡ false → CanSend k.sink) → LeavesText (n == first_unfinished k.marks) front rest final w.dropped.items k.output_ended k.sink new ended)
-    → Answered client before (after_number k final requests new ended) s date (Drop n) Done
-drop-done client before k s date n w new ended final requests st low e requests_are leaves = ⊎_elim in-turn out-of-turn (turn-at p.bs p.fs p.us p.rs p.before (subst S p.marks_are st.shape))
+    → Answered client before (after_number k final requests source new ended) s date (Drop n) Done
+drop-done {R = R} client before k s date n w new ended final requests old source st from gives low e requests_are leaves = ⊎_elim in-turn out-of-turn (turn-at p.bs p.fs p.us p.rs p.before (subst S p.marks_are st.shape))
   where
     S : List Mark → Type 0
     S m = AreInShape m
@@ -87,14 +84,26 @@ drop-done client before k s date n w new ended final requests st low e requests_
     asked : HttpDate
     asked = p.waiting.date
 
-    s1 : Slot
-    s1 = dropped asked r
+    s0 : Slot
+    s0 = open_slot asked r p.waiting.given p.waiting.told
 
-    slots_are : s.reached.slots ≡ p.bs ++ (new_slot asked (Asks r) ∷ p.cs)
-    slots_are = p.slots_are ∙ ap (λ x. p.bs ++ (x ∷ p.cs)) p.waiting.fresh
+    s1 : Slot
+    s1 = dropped asked r p.waiting.given p.waiting.told
+
+    slots_are : s.reached.slots ≡ p.bs ++ (s0 ∷ p.cs)
+    slots_are = p.slots_are ∙ ap (λ x. p.bs ++ (x ∷ p.cs)) p.waiting.is
+
+    requests_now : requests ≡ p.us ++ (None ∷ p.vs)
+    requests_now = requests_are ∙ set-place k.requests p.us p.vs n (Some w) None p.requests_are p.requests_before
+
+    reader : Reader client (with_reader k requests source) (p.bs ++ (s1 ∷ p.cs)) s.reached.rest
+    reader =
+        let P : List Slot → Type 0 = λ l. Reader client k l s.reached.rest in
+        let Q : List (Option Waiting) → Type 0 = λ q. Reader client (with_reader k q source) (p.bs ++ (s1 ∷ p.cs)) s.reached.rest in
+        subst Q (sym requests_now) (reader-given_up client k old source p.bs p.cs p.us p.vs s.reached.rest p.s w ByServer p.waiting from (subst P p.slots_are st.reader) p.requests_are (kept-many p.cs p.rs p.vs p.behind) gives)
 
     out : OutputAt before k.sink k.output_ended p.bs s.failure
-    out = output-before client before k s p.bs p.cs asked r st slots_are
+    out = output-before client before k s p.bs p.cs asked r p.waiting.given p.waiting.told st slots_are
 
     left : LeavesText (n == first_unfinished k.marks) p.fs p.rs final w.dropped.items k.output_ended k.sink new ended
     left = leaves p.fs p.rs p.marks_are p.marks_before (can-send before k.sink k.output_ended p.bs s.failure out low)
@@ -103,32 +112,32 @@ drop-done client before k s date n w new ended final requests st low e requests_
     kept m rs f h =
         let M : List Mark → Type 0 = λ y. AreKept (p.bs ++ (s1 ∷ p.cs)) y requests in
         let Q : List (Option Waiting) → Type 0 = λ y. AreKept (p.bs ++ (s1 ∷ p.cs)) (p.fs ++ (m ∷ rs)) y in
-        subst M (sym f) (subst Q (sym (requests_are ∙ set-place k.requests p.us p.vs n (Some w) None p.requests_are p.requests_before)) h)
+        subst M (sym f) (subst Q (sym requests_now) h)
 
-    ends : (t : Bool) → list_all is_finished p.bs ≡ t → DropSaid before new ended (p.bs ++ (s1 ∷ p.cs)) s t final requests → Answered client before (after_number k final requests new ended) s date (Drop n) Done
-    ends t turn said = drop-stands client before k s date asked n r new ended final requests p.bs p.cs t st slots_are (slot-at s.reached.slots p.bs p.cs (new_slot asked (Asks r)) n slots_are p.slots_before) turn said
+    ends : (t : Bool) → list_all is_finished p.bs ≡ t → DropSaid before new ended (p.bs ++ (s1 ∷ p.cs)) s t final requests → Answered client before (after_number k final requests source new ended) s date (Drop n) Done
+    ends t turn said = drop-stands client before k s date asked n r p.waiting.given p.waiting.told new ended final requests source p.bs p.cs t st (slot-at s.reached.slots p.bs p.cs s0 n slots_are p.slots_before) turn reader said
 
-    in-turn : InTurn p.bs p.fs p.rs → Answered client before (after_number k final requests new ended) s date (Drop n) Done
+    in-turn : InTurn p.bs p.fs p.rs → Answered client before (after_number k final requests source new ended) s date (Drop n) Done
     in-turn t =
         let come : (n == first_unfinished k.marks) ≡ true = eq-eqb n (first_unfinished k.marks) (sym p.marks_before ∙ t.turn ∙ ap first_unfinished (sym p.marks_are)) in
         let l = subst (λ (b : Bool). LeavesText b p.fs p.rs final w.dropped.items k.output_ended k.sink new ended) come left in
         let b = behind p.cs p.rs p.vs t.waiting p.behind in
-        let whole = dropped-whole asked r in
+        let whole = dropped-whole asked r p.waiting.given p.waiting.told in
         let text : joined (s1 ∷ p.cs) ≡ w.dropped.items ++ left_text p.rs = rw whole (ap (λ y. y ++ joined p.cs) (sym p.waiting.text) ∙ ap (λ y. w.dropped.items ++ y) b.0) in
         let go = output-more before k.sink new k.output_ended ended p.bs (s1 ∷ p.cs) (w.dropped.items ++ left_text p.rs) s.failure out t.finished text (rw whole b.1) low l.1 l.2 in
         let over = ended-is before k.sink k.output_ended s.reached.slots s.failure st.output in
-        let known : joined s.reached.slots ≡ joined p.bs = ap joined slots_are ∙ joined-waits p.bs (new_slot asked (Asks r)) p.cs refl refl in
+        let known : joined s.reached.slots ≡ joined p.bs = ap joined slots_are ∙ joined-waits p.bs s0 p.cs refl refl in
         let W : Bool → List ℕ → Type 0 = λ x y. MatchBool x (go.failure ≡ s.failure) ((go.failure ≡ None) ⊎ FailsBetween y (joined (p.bs ++ (s1 ∷ p.cs))) go.failure) in
         let K : List Mark → Type 0 = λ y. AreInShape y in
         ends true t.finished (record {
           failure = go.failure;
           output = go.output;
           writes = (refl, subst (λ y. W (is_some s.failure || breaks_off s.reached.slots) y) (sym known) (subst (λ x. W x (joined p.bs)) (sym over) go.writes));
-          numbers = kept Finished (passed p.rs) l.0 (kept-append p.bs p.fs p.us (s1 ∷ p.cs) (Finished ∷ passed p.rs) (None ∷ p.vs) p.before (refl, kept-passed p.cs p.rs p.vs p.behind));
+          numbers = kept Finished (passed p.rs) l.0 (kept-append p.bs p.fs p.us (s1 ∷ p.cs) (Finished ∷ passed p.rs) (None ∷ p.vs) p.before (record { finished = refl; given_up = refl }, kept-passed p.cs p.rs p.vs p.behind));
           shape = subst K (sym l.0) t.shape;
         })
 
-    out-of-turn : OutOfTurn p.bs p.fs p.rs → Answered client before (after_number k final requests new ended) s date (Drop n) Done
+    out-of-turn : OutOfTurn p.bs p.fs p.rs → Answered client before (after_number k final requests source new ended) s date (Drop n) Done
     out-of-turn t =
         let come : (n == first_unfinished k.marks) ≡ false = ne_eqb n (first_unfinished k.marks) (λ x. t.turn (p.marks_before ∙ x ∙ ap first_unfinished p.marks_are)) in
         let l = subst (λ (b : Bool). LeavesText b p.fs p.rs final w.dropped.items k.output_ended k.sink new ended) come left in
@@ -138,6 +147,6 @@ drop-done client before k s date n w new ended final requests st low e requests_
           failure = s.failure;
           output = subst (λ y. O new y) (sym l.3) (subst (λ x. O x k.output_ended) (sym l.2) hidden);
           writes = (refl, refl);
-          numbers = kept (Left w.dropped.items) p.rs l.0 (kept-append p.bs p.fs p.us (s1 ∷ p.cs) (Left w.dropped.items ∷ p.rs) (None ∷ p.vs) p.before (record { finished = refl; whole = dropped-whole asked r; same = sym p.waiting.text }, p.behind));
+          numbers = kept (Left w.dropped.items) p.rs l.0 (kept-append p.bs p.fs p.us (s1 ∷ p.cs) (Left w.dropped.items ∷ p.rs) (None ∷ p.vs) p.before (record { done = record { finished = refl; given_up = refl }; whole = dropped-whole asked r p.waiting.given p.waiting.told; same = sym p.waiting.text }, p.behind));
           shape = l.1;
         })

@@ -2,7 +2,6 @@
 use Rattle.std.proofs.Common.{◌≡◌, refl, sym, ap, ◌∙◌, subst, ℕ, zero, suc, ◌<◌, get_or, ◌⊎◌, inl, inr, Bool, true, false, List, [], ◌∷◌, ◌++◌, length, take, Option, Some, None}
 use Rattle.std.specs.Prelude.{slice_get, slice_set}
 use Rattle.std.specs.List.{list_all}
-use Rattle.std.proofs.lemmas.Bool.{and_parts}
 use Rattle.std.proofs.lemmas.Option.{slice_get-get_or}
 use Rattle.tiny_http_core.specs.declared.exchange.Waiting.{Waiting}
 use Rattle.tiny_http_core.specs.Slots.{Slot, is_finished}
@@ -29,17 +28,6 @@ set-same [] k x e = cc
 set-same (z ∷ zs) zero x e = let same : z ≡ x = cc in ap (λ y. y ∷ zs) (sym same)
 set-same (z ∷ zs) (suc k) x e = ap (λ r. z ∷ r) (set-same zs k x e)
 
--- a test of all, where one is another
-pub all-at : {X : Type 0} (p : X → Bool) (xs : List X) (x y : X) (ys : List X) → list_all p (xs ++ (x ∷ ys)) ≡ true → p y ≡ true → list_all p (xs ++ (y ∷ ys)) ≡ true
-all-at p [] x y ys h k = rw (k, (and_parts (p x) (list_all p ys) h).1) refl
-all-at p (z ∷ zs) x y ys h k =
-    let a = and_parts (p z) (list_all p (zs ++ (x ∷ ys))) h in
-    rw (a.0, all-at p zs x y ys a.1 k) refl
-
-pub all-place : {X : Type 0} (p : X → Bool) (xs : List X) (x : X) (ys : List X) → list_all p (xs ++ (x ∷ ys)) ≡ true → p x ≡ true
-all-place p [] x ys h = (and_parts (p x) (list_all p ys) h).0
-all-place p (z ∷ zs) x ys h = all-place p zs x ys (and_parts (p z) (list_all p (zs ++ (x ∷ ys))) h).1
-
 -- one after another
 pub kept-append : (bs : List Slot) (fs : List Mark) (us : List (Option Waiting)) (cs : List Slot) (rs : List Mark) (vs : List (Option Waiting)) → AreKept bs fs us → AreKept cs rs vs → AreKept (bs ++ cs) (fs ++ rs) (us ++ vs)
 kept-append [] [] [] cs rs vs h k = k
@@ -56,6 +44,15 @@ kept-length [] (f ∷ fs) us h = absurd h
 kept-length (b ∷ bs) [] us h = absurd h
 kept-length (b ∷ bs) (f ∷ fs) [] h = absurd h
 kept-length (b ∷ bs) (f ∷ fs) (u ∷ us) h = ap suc (kept-length bs fs us h.1)
+
+-- as many as are kept
+pub kept-many : (bs : List Slot) (fs : List Mark) (us : List (Option Waiting)) → AreKept bs fs us → length bs ≡ length us
+kept-many [] [] [] h = refl
+kept-many [] [] (u ∷ us) h = absurd h
+kept-many [] (f ∷ fs) us h = absurd h
+kept-many (b ∷ bs) [] us h = absurd h
+kept-many (b ∷ bs) (f ∷ fs) [] h = absurd h
+kept-many (b ∷ bs) (f ∷ fs) (u ∷ us) h = ap suc (kept-many bs fs us h.1)
 
 -- the place of a number that waits
 pub record Place (slots : List Slot) (marks : List Mark) (requests : List (Option Waiting)) (n : ℕ) (w : Waiting) : Type 0 where

@@ -19,6 +19,7 @@ pub mod BodySteps
 pub mod AskLemmas
 pub mod RespondLemmas
 pub mod DropLemmas
+pub mod ReadSteps
 pub mod PassLemmas
 pub mod StepLemmas
 pub mod RunLemmas

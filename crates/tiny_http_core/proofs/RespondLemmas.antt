@@ -12,17 +12,20 @@ use Rattle.tiny_http_wire.specs.Answer.{Text, Ending, Whole, Broken, text_of}
 use Rattle.tiny_http_core.specs.declared.exchange.AnswerForm.{AnswerForm}
 use Rattle.tiny_http_core.specs.declared.exchange.Waiting.{Waiting}
 use Rattle.tiny_http_core.specs.Pipeline.{Item, Asks, Refuses, Request}
-use Rattle.tiny_http_core.specs.Slots.{ResponseValue, Slot, Stage, Waits, Answered as AnsweredBy, ByServer, Raw, Upgraded, is_over, is_finished, is_broken, is_slot_broken, segment, joined, breaks_off, new_slot, turn_has_come, to_request, text_if, IsGathered}
+use Rattle.tiny_http_core.specs.Slots.{ResponseValue, Slot, Stage, Waits, Answered as AnsweredBy, ByServer, Raw, Upgraded, is_over, is_finished, is_broken, is_slot_broken, segment, joined, breaks_off, last_slot, turn_has_come, to_request, text_if, IsGathered}
 use Rattle.tiny_http_core.specs.Steps.{Asked, outcome, Respond, Replied, Done, NoSuch, NotYet, Use, Reported, Outcome, Reached, unchanged, changes, finished, takes, fault_in, fault_of_answer, at_item, at_slot, at_number}
 use Rattle.tiny_http_core.specs.Conversation.{Failure, State, has_output_ended, finished_front, FailsBetween, FailsTold, FailsBehind, broken_reply, Writes, Has, GathersAt, MayLack}
 use Rattle.tiny_http_core.specs.Seen.{printed_as, reply_to}
 use Rattle.tiny_http_core.specs.Sending.{CanSend, Wrote, Lost, IsFlushed, SendsText, Sends, SendsUnlessEnded}
 use Rattle.tiny_http_core.specs.Turns.{Mark, Open, Held, Finished, AreInShape, first_unfinished}
 use Rattle.tiny_http_core.specs.Pending.{left_text, passed, begins_left, SendsLeft, Passes, waiting_form}
-use Rattle.tiny_http_core.specs.Connection.{Kept, form_of, AreKept, is_plain_item, OutputAt, Stands}
+use Rattle.tiny_http_core.specs.Connection.{Kept, form_of, open_slot, IsWaiting, IsDone, AreKept, OutputAt, Reader, Stands}
+use Rattle.tiny_http_core.specs.Source.{SourceState}
+use Rattle.tiny_http_core.specs.Body.{GivesUp}
+use Rattle.tiny_http_core.proofs.BodySteps.{ReadsFrom, with_reader, next-same, reader-given_up}
 use Rattle.tiny_http_core.proofs.AskLemmas.{Answered, step-unchanged}
 use Rattle.tiny_http_core.proofs.SlotLemmas.{all-snoc, joined-front, joined-broken, joined-waits, breaks-front, breaks-waits}
-use Rattle.tiny_http_core.proofs.KeptLemmas.{get-at, set-at, take-at, all-at, all-place, kept-append, kept-passed, none-waits, place-of, InTurn, OutOfTurn, turn-at}
+use Rattle.tiny_http_core.proofs.KeptLemmas.{get-at, set-at, take-at, kept-append, kept-many, kept-passed, none-waits, place-of, InTurn, OutOfTurn, turn-at}
 use Rattle.tiny_http_core.proofs.OutputLemmas.{behind, front-all, left-finished, lost-output, all-firm, ended-is, output-same, plain-more, can-send, output-more}
 use Rattle.tiny_http_core.proofs.PassLemmas.{none-left}
 use Rattle.tiny_http_core.proofs.SendLemmas.{or-false}
@@ -87,12 +90,12 @@ respond-not_yet client before k s date n v w st e never =
     let early : (t : InTurn p.bs p.fs p.rs) → ⊥ = λ t. never (ap (λ m. slice_get m n) p.marks_are ∙ ap (λ x. slice_get (p.fs ++ (Open ∷ p.rs)) x) (sym p.marks_before) ∙ get-at p.fs Open p.rs, sym p.marks_before ∙ t.turn ∙ ap first_unfinished (sym p.marks_are)) in
     let late : list_all is_finished p.bs ≡ false = ⊎_elim (λ (t : InTurn p.bs p.fs p.rs). absurd (early t)) (λ (t : OutOfTurn p.bs p.fs p.rs). t.unfinished) (turn-at p.bs p.fs p.us p.rs p.before (subst S p.marks_are st.shape)) in
     let T : Slot → Type 0 = λ x. at_slot true date s.reached n (Respond n v) (Some x) ≡ unchanged s.reached NotYet in
-    let is = subst T (sym p.waiting.fresh) (rw (at.turn ∙ late) refl) in
+    let is = subst T (sym p.waiting.is) (rw (at.turn ∙ late) refl) in
     step-unchanged client before k s date (Respond n v) NotYet st (ap (at_slot true date s.reached n (Respond n v)) at.get ∙ is)
 
 -- the slot behind the response
-abbrev pub answered_slot : HttpDate → Request → ResponseValue → HttpDate → Bool → Slot
-answered_slot asked r v date found = finished (new_slot asked (Asks r)) (AnsweredBy v date found)
+abbrev pub answered_slot : HttpDate → Request → ℕ → Bool → ResponseValue → HttpDate → Bool → Slot
+answered_slot asked r given told v date found = finished (open_slot asked r given told) (AnsweredBy v date found)
 
 abbrev pub response_sent : Bool → ResponseValue → Request → HttpDate → Text
 response_sent found v r date = text_if found v (to_request r date)
@@ -100,9 +103,9 @@ response_sent found v r date = text_if found v (to_request r date)
 abbrev pub used : Text → Use
 used text = Reported text.bytes (fault_in text.ending) fault_of_answer
 
-at-turn : (date asked : HttpDate) (old : Reached) (n : ℕ) (v : ResponseValue) (r : Request) (found : Bool) → slice_get old.slots n ≡ Some (new_slot asked (Asks r)) → turn_has_come n old.slots ≡ true
-    → at_number found date old n (Respond n v) ≡ changes old n (answered_slot asked r v date found) Done (used (response_sent found v r date))
-at-turn date asked old n v r found e t = ap (at_slot found date old n (Respond n v)) e ∙ rw t refl
+at-turn : (date asked : HttpDate) (old : Reached) (n : ℕ) (v : ResponseValue) (r : Request) (given : ℕ) (told found : Bool) → slice_get old.slots n ≡ Some (open_slot asked r given told) → turn_has_come n old.slots ≡ true
+    → at_number found date old n (Respond n v) ≡ changes old n (answered_slot asked r given told v date found) Done (used (response_sent found v r date))
+at-turn date asked old n v r given told found e t = ap (at_slot found date old n (Respond n v)) e ∙ rw t refl
 
 -- the texts of the response itself
 same-text : (v : ResponseValue) (r : Request) (form : AnswerForm) (date : HttpDate) → form ≡ form_of r → text_of v.answer v.content (printed_as form date) ≡ text_of v.answer v.content (to_request r date)
@@ -341,15 +344,18 @@ pub record Answerable (k : Kept) (s : State) (n : ℕ) (form : AnswerForm) : Typ
   pub rs : List Mark
   pub us : List (Option Waiting)
   pub vs : List (Option Waiting)
-  pub request : Request
-  pub asked : HttpDate
   pub waiting : Waiting
-  pub slots_are : s.reached.slots ≡ bs ++ (new_slot asked (Asks request) ∷ cs)
+  pub slot : Slot
+  pub waits : IsWaiting slot waiting
+  pub slots_were : s.reached.slots ≡ bs ++ (slot ∷ cs)
+  pub slots_are : s.reached.slots ≡ bs ++ (open_slot waits.date waits.request waits.given waits.told ∷ cs)
   pub marks_are : k.marks ≡ fs ++ (Open ∷ rs)
   pub requests_are : k.requests ≡ us ++ (Some waiting ∷ vs)
-  pub at : SlotAt s.reached.slots bs cs (new_slot asked (Asks request)) n
+  pub at : SlotAt s.reached.slots bs cs (open_slot waits.date waits.request waits.given waits.told) n
   pub place : length fs ≡ n
-  pub form_is : form ≡ form_of request
+  pub form_is : form ≡ form_of waits.request
+  pub kept : slice_get k.requests n ≡ Some (Some waiting)
+  pub as_many : length cs ≡ length vs
   pub requests_set : slice_set k.requests n None ≡ us ++ (None ∷ vs)
   pub marks_set : slice_set k.marks n Held ≡ fs ++ (Held ∷ rs)
   pub before : AreKept bs fs us
@@ -363,7 +369,7 @@ pub answerable : (client : Feed) (before : Sink) (k : Kept) (s : State) (n : ℕ
 answerable client before k s n form st e first =
     let w = form-some (slice_get k.requests n) form e in
     let p = place-of s.reached.slots k.marks k.requests n w.0 st.numbers w.1 in
-    let slots_are = p.slots_are ∙ ap (λ x. p.bs ++ (x ∷ p.cs)) p.waiting.fresh in
+    let slots_are = p.slots_are ∙ ap (λ x. p.bs ++ (x ∷ p.cs)) p.waiting.is in
     let S : List Mark → Type 0 = λ m. AreInShape m in
     record {
       bs = p.bs;
@@ -372,15 +378,18 @@ answerable client before k s n form st e first =
       rs = p.rs;
       us = p.us;
       vs = p.vs;
-      request = p.waiting.request;
-      asked = p.waiting.date;
       waiting = w.0;
+      slot = p.s;
+      waits = p.waiting;
+      slots_were = p.slots_are;
       slots_are = slots_are;
       marks_are = p.marks_are;
       requests_are = p.requests_are;
-      at = slot-at s.reached.slots p.bs p.cs (new_slot p.waiting.date (Asks p.waiting.request)) n slots_are p.slots_before;
+      at = slot-at s.reached.slots p.bs p.cs (open_slot p.waiting.date p.waiting.request p.waiting.given p.waiting.told) n slots_are p.slots_before;
       place = p.marks_before;
       form_is = sym w.2 ∙ p.waiting.form;
+      kept = w.1;
+      as_many = kept-many p.cs p.rs p.vs p.behind;
       requests_set = set-place k.requests p.us p.vs n (Some w.0) None p.requests_are p.requests_before;
       marks_set = set-place k.marks p.fs p.rs n Open Held p.marks_are p.marks_before;
       before = p.before;
@@ -389,30 +398,34 @@ answerable client before k s n form st e first =
     }
 
 -- the output up to such a number
-pub output-before : (client : Feed) (before : Sink) (k : Kept) (s : State) (bs cs : List Slot) (asked : HttpDate) (r : Request) → Stands client before k s → s.reached.slots ≡ bs ++ (new_slot asked (Asks r) ∷ cs) → OutputAt before k.sink k.output_ended bs s.failure
-output-before client before k s bs cs asked r st e =
-    let s0 = new_slot asked (Asks r) in
+pub output-before : (client : Feed) (before : Sink) (k : Kept) (s : State) (bs cs : List Slot) (asked : HttpDate) (r : Request) (given : ℕ) (told : Bool) → Stands client before k s → s.reached.slots ≡ bs ++ (open_slot asked r given told ∷ cs) → OutputAt before k.sink k.output_ended bs s.failure
+output-before client before k s bs cs asked r given told st e =
+    let s0 = open_slot asked r given told in
     output-same before k.sink k.output_ended s.reached.slots bs s.failure (ap joined e ∙ joined-waits bs s0 cs refl refl) (ap breaks_off e ∙ breaks-waits bs s0 cs refl refl) st.output
 
 -- what the connection keeps behind a step of a number
-abbrev pub after_number : Kept → List Mark → List (Option Waiting) → Sink → Bool → Kept
-after_number k marks requests sink ended = record k { marks = marks; requests = requests; sink = sink; output_ended = ended }
+abbrev pub after_number : Kept → List Mark → List (Option Waiting) → {R : Type 0} → SourceState R → Sink → Bool → Kept
+after_number k marks requests source sink ended =
+    record k { marks = marks; requests = requests; feed = source.feed; stop = source.stop; is_over = source.is_over; sink = sink; output_ended = ended }
 
-respond-stands : (client : Feed) (before : Sink) (k : Kept) (s : State) (date : HttpDate) (n : ℕ) (v : ResponseValue) (form : AnswerForm) (found : Bool) (mid new : Sink) (mid_ended ended : Bool) (final : List Mark) (requests : List (Option Waiting)) (reply : Replied)
-    → Stands client before k s → before.failures < 2 ^ 64 - 1 → (a : Answerable k s n form) → (found ≡ true) ⊎ IsGathered v.answer (to_request a.request date) → requests ≡ slice_set k.requests n None → Passes a.fs a.rs final
-    → OwnSaid before mid k.output_ended mid_ended a.bs (answered_slot a.asked a.request v date found) (response_sent found v a.request date) s.failure reply → SendsLeft a.rs mid_ended mid new ended
-    → Answered client before (after_number k final requests new ended) s date (Respond n v) reply
-respond-stands client before k s date n v form found mid new mid_ended ended final requests reply st low a lack requests_are passes own sends =
-    let s0 = new_slot a.asked (Asks a.request) in
-    let s1 = answered_slot a.asked a.request v date found in
-    let text = response_sent found v a.request date in
-    let over = ended-is before k.sink k.output_ended a.bs s.failure (output-before client before k s a.bs a.cs a.asked a.request st a.slots_are) in
+-- the reader doesn't see the turns and the output
+pub reader-after : {R : Type 0} (client : Feed) (k : Kept) (marks : List Mark) (requests : List (Option Waiting)) (source : SourceState R) (sink : Sink) (ended : Bool) (slots : List Slot) (rest : List Item) → Reader client (with_reader k requests source) slots rest
+    → Reader client (after_number k marks requests source sink ended) slots rest
+reader-after client k marks requests source sink ended slots rest r =
+    record { settled = r.settled; gives = r.gives; next = λ e. next-same (with_reader k requests source) (after_number k marks requests source sink ended) (last_slot slots) (last_slot slots) rest refl refl refl refl refl refl (r.next e); source = r.source }
+
+respond-stands : {R : Type 0} (client : Feed) (before : Sink) (k : Kept) (s : State) (date : HttpDate) (n : ℕ) (v : ResponseValue) (form : AnswerForm) (found : Bool) (mid new : Sink) (mid_ended ended : Bool) (final : List Mark) (requests : List (Option Waiting)) (source : SourceState R) (reply : Replied)
+    → Stands client before k s → before.failures < 2 ^ 64 - 1 → (a : Answerable k s n form) → (found ≡ true) ⊎ IsGathered v.answer (to_request a.waits.request date) → requests ≡ slice_set k.requests n None → Reader client (with_reader k (a.us ++ (None ∷ a.vs)) source) (a.bs ++ (answered_slot a.waits.date a.waits.request a.waits.given a.waits.told v date found ∷ a.cs)) s.reached.rest → Passes a.fs a.rs final
+    → OwnSaid before mid k.output_ended mid_ended a.bs (answered_slot a.waits.date a.waits.request a.waits.given a.waits.told v date found) (response_sent found v a.waits.request date) s.failure reply → SendsLeft a.rs mid_ended mid new ended
+    → Answered client before (after_number k final requests source new ended) s date (Respond n v) reply
+respond-stands client before k s date n v form found mid new mid_ended ended final requests source reply st low a lack requests_are reader passes own sends =
+    let s0 = open_slot a.waits.date a.waits.request a.waits.given a.waits.told in
+    let s1 = answered_slot a.waits.date a.waits.request a.waits.given a.waits.told v date found in
+    let text = response_sent found v a.waits.request date in
+    let over = ended-is before k.sink k.output_ended a.bs s.failure (output-before client before k s a.bs a.cs a.waits.date a.waits.request a.waits.given a.waits.told st a.slots_are) in
     let said = respond-left before mid new k.output_ended mid_ended ended a.bs s0 s1 a.cs a.fs a.rs a.vs s text reply a.slots_are (ended-is before k.sink k.output_ended s.reached.slots s.failure st.output) a.turn.finished refl refl refl refl refl over own a.turn a.behind low sends in
-    let is = at-turn date a.asked s.reached n v a.request found a.at.get (a.at.turn ∙ a.turn.finished) in
+    let is = at-turn date a.waits.date s.reached n v a.waits.request a.waits.given a.waits.told found a.at.get (a.at.turn ∙ a.turn.finished) in
     let slots = a.bs ++ (s1 ∷ a.cs) in
-    let plain : list_all (λ (x : Slot). is_plain_item x.item) s.reached.slots ≡ true = st.plain in
-    let A : List Slot → Type 0 = λ l. list_all (λ (x : Slot). is_plain_item x.item) l ≡ true in
-    let old_plain = subst A a.slots_are plain in
     let new_state : State = record { reached = record { slots = slots; rest = s.reached.rest; ended = s.reached.ended }; failure = said.failure } in
     let R : List Slot → Reached = λ l. record { slots = l; rest = s.reached.rest; ended = s.reached.ended } in
     let W : List Slot → Type 0 = λ l. Writes (used text) s Done l reply said.failure in
@@ -423,18 +436,16 @@ respond-stands client before k s date n v form found mid new mid_ended ended fin
     let K : List Mark → Type 0 = λ y. AreInShape y in (
       new_state,
       record {
-        numbers = subst M (sym passes) (subst Q (sym (requests_are ∙ a.requests_set)) (kept-append a.bs a.fs a.us (s1 ∷ a.cs) (Finished ∷ passed a.rs) (None ∷ a.vs) a.before (refl, kept-passed a.cs a.rs a.vs a.behind)));
+        numbers = subst M (sym passes) (subst Q (sym (requests_are ∙ a.requests_set)) (kept-append a.bs a.fs a.us (s1 ∷ a.cs) (Finished ∷ passed a.rs) (None ∷ a.vs) a.before (record { finished = refl; given_up = refl }, kept-passed a.cs a.rs a.vs a.behind)));
         shape = subst K (sym passes) a.turn.shape;
         ended = st.ended;
-        plain = all-at (λ (x : Slot). is_plain_item x.item) a.bs s0 s1 a.cs old_plain (all-place (λ (x : Slot). is_plain_item x.item) a.bs s0 a.cs old_plain);
-        rest = st.rest;
-        source = st.source;
+        reader = reader-after client k final requests source new ended slots s.reached.rest (subst (λ q. Reader client (with_reader k q source) slots s.reached.rest) (sym (requests_are ∙ a.requests_set)) reader);
         output = said.output;
       },
       inl (found, lacks found lack a.at.get, has),
     )
   where
-    lacks : (t : Bool) → (t ≡ true) ⊎ IsGathered v.answer (to_request a.request date) → slice_get s.reached.slots n ≡ Some (new_slot a.asked (Asks a.request)) → MayLack t date s.reached (Respond n v)
+    lacks : (t : Bool) → (t ≡ true) ⊎ IsGathered v.answer (to_request a.waits.request date) → slice_get s.reached.slots n ≡ Some (open_slot a.waits.date a.waits.request a.waits.given a.waits.told) → MayLack t date s.reached (Respond n v)
     lacks true l g = tt
     lacks false (inl e) g = cc
     lacks false (inr x) g = let P : Option Slot → Type 0 = λ o. GathersAt date v o in subst P (sym g) x
@@ -445,14 +456,14 @@ RespondsBy k mid mid_ended reply v form date =
     ((k.output_ended ≡ true) × (mid ≡ k.sink) × (mid_ended ≡ k.output_ended) × (reply ≡ Done))
     ⊎ ((k.output_ended ≡ false) × (r : Result (Unit {0}) Error) × (reply ≡ reply_to r) × Sends k.sink mid mid_ended r v.answer v.content (printed_as form date) × IsFlushed mid)
 
-pub respond-done : (client : Feed) (before : Sink) (k : Kept) (s : State) (date : HttpDate) (n : ℕ) (v : ResponseValue) (form : AnswerForm) (mid new : Sink) (mid_ended ended : Bool) (marks final : List Mark) (requests : List (Option Waiting)) (reply : Replied)
-    → Stands client before k s → before.failures < 2 ^ 64 - 1 → waiting_form (slice_get k.requests n) ≡ Some form → n ≡ first_unfinished k.marks → marks ≡ slice_set k.marks n Held → requests ≡ slice_set k.requests n None
+pub respond-done : {R : Type 0} (client : Feed) (before : Sink) (k : Kept) (s : State) (date : HttpDate) (n : ℕ) (v : ResponseValue) (form : AnswerForm) (mid new : Sink) (mid_ended ended : Bool) (marks final : List Mark) (requests : List (Option Waiting)) (old source : SourceState R) (reply : Replied)
+    → Stands client before k s → ReadsFrom k old → ((w : Waiting) → slice_get k.requests n ≡ Some (Some w) → GivesUp w.body old source) → before.failures < 2 ^ 64 - 1 → waiting_form (slice_get k.requests n) ≡ Some form → n ≡ first_unfinished k.marks → marks ≡ slice_set k.marks n Held → requests ≡ slice_set k.requests n None
     → RespondsBy k mid mid_ended reply v form date
     → ((front rest : List Mark) → marks ≡ front ++ (Held ∷ rest) → length front ≡ n → Passes front rest final)
     → ((front rest : List Mark) → marks ≡ front ++ (Held ∷ rest) → length front ≡ n → (mid_ended ≡ false → CanSend mid) → SendsLeft rest mid_ended mid new ended)
-    → Answered client before (after_number k final requests new ended) s date (Respond n v) reply
+    → Answered client before (after_number k final requests source new ended) s date (Respond n v) reply
 unfolding RespondsBy
-respond-done client before k s date n v form mid new mid_ended ended marks final requests reply st low e first marks_are requests_are own passes sends = by-own own
+respond-done {R = R} client before k s date n v form mid new mid_ended ended marks final requests old source reply st from gives low e first marks_are requests_are own passes sends = by-own own
   where
     a : Answerable k s n form
     a = answerable client before k s n form st e first
@@ -461,29 +472,34 @@ respond-done client before k s date n v form mid new mid_ended ended marks final
     held = marks_are ∙ a.marks_set
 
     out : OutputAt before k.sink k.output_ended a.bs s.failure
-    out = output-before client before k s a.bs a.cs a.asked a.request st a.slots_are
+    out = output-before client before k s a.bs a.cs a.waits.date a.waits.request a.waits.given a.waits.told st a.slots_are
 
-    answered : (found : Bool) → (found ≡ true) ⊎ IsGathered v.answer (to_request a.request date) → OwnSaid before mid k.output_ended mid_ended a.bs (answered_slot a.asked a.request v date found) (response_sent found v a.request date) s.failure reply
-        → Answered client before (after_number k final requests new ended) s date (Respond n v) reply
+    reader : (found : Bool) → Reader client (with_reader k (a.us ++ (None ∷ a.vs)) source) (a.bs ++ (answered_slot a.waits.date a.waits.request a.waits.given a.waits.told v date found ∷ a.cs)) s.reached.rest
+    reader found =
+        let P : List Slot → Type 0 = λ l. Reader client k l s.reached.rest in
+        reader-given_up client k old source a.bs a.cs a.us a.vs s.reached.rest a.slot a.waiting (AnsweredBy v date found) a.waits from (subst P a.slots_were st.reader) a.requests_are a.as_many (gives a.waiting a.kept)
+
+    answered : (found : Bool) → (found ≡ true) ⊎ IsGathered v.answer (to_request a.waits.request date) → OwnSaid before mid k.output_ended mid_ended a.bs (answered_slot a.waits.date a.waits.request a.waits.given a.waits.told v date found) (response_sent found v a.waits.request date) s.failure reply
+        → Answered client before (after_number k final requests source new ended) s date (Respond n v) reply
     answered found lack o =
-        respond-stands client before k s date n v form found mid new mid_ended ended final requests reply st low a lack requests_are (passes a.fs a.rs held a.place) o
-        (sends a.fs a.rs held a.place (can-send before mid mid_ended (a.bs ++ (answered_slot a.asked a.request v date found ∷ [])) o.failure o.output low))
+        respond-stands client before k s date n v form found mid new mid_ended ended final requests source reply st low a lack requests_are (reader found) (passes a.fs a.rs held a.place) o
+        (sends a.fs a.rs held a.place (can-send before mid mid_ended (a.bs ++ (answered_slot a.waits.date a.waits.request a.waits.given a.waits.told v date found ∷ [])) o.failure o.output low))
 
-    by-own : RespondsBy k mid mid_ended reply v form date → Answered client before (after_number k final requests new ended) s date (Respond n v) reply
+    by-own : RespondsBy k mid mid_ended reply v form date → Answered client before (after_number k final requests source new ended) s date (Respond n v) reply
     by-own (inl h) =
-        let s1 = answered_slot a.asked a.request v date true in
-        let o = own-past before k.sink k.output_ended a.bs s1 (response_sent true v a.request date) s.failure out a.turn.finished h.0 in
-        let P : Sink → Bool → Replied → Type 0 = λ x y z. OwnSaid before x k.output_ended y a.bs s1 (response_sent true v a.request date) s.failure z in
+        let s1 = answered_slot a.waits.date a.waits.request a.waits.given a.waits.told v date true in
+        let o = own-past before k.sink k.output_ended a.bs s1 (response_sent true v a.waits.request date) s.failure out a.turn.finished h.0 in
+        let P : Sink → Bool → Replied → Type 0 = λ x y z. OwnSaid before x k.output_ended y a.bs s1 (response_sent true v a.waits.request date) s.failure z in
         answered true (inl refl) (subst (λ x. P x mid_ended reply) (sym h.1) (subst (λ y. P k.sink y reply) (sym h.2) (subst (λ z. P k.sink k.output_ended z) (sym h.3) o)))
     by-own (inr h) =
         let r = h.1 in
         let Q : Text → Type 0 = λ t. SendsText {T = Unit {0}} k.sink mid mid_ended r t in
         ⊎_elim
         (λ x. answered true (inl refl)
-        (own-sent {T = Unit {0}} before k.sink mid k.output_ended mid_ended a.bs (answered_slot a.asked a.request v date true) (response_sent true v a.request date) s.failure r reply out a.turn.finished refl refl refl low h.0
-        (subst Q (same-text v a.request form date a.form_is) x) h.4 h.2))
+        (own-sent {T = Unit {0}} before k.sink mid k.output_ended mid_ended a.bs (answered_slot a.waits.date a.waits.request a.waits.given a.waits.told v date true) (response_sent true v a.waits.request date) s.failure r reply out a.turn.finished refl refl refl low h.0
+        (subst Q (same-text v a.waits.request form date a.form_is) x) h.4 h.2))
         (λ x. answered false (inr (refl, refl, x.0.2))
-        (own-sent {T = Unit {0}} before k.sink mid k.output_ended mid_ended a.bs (answered_slot a.asked a.request v date false) (response_sent false v a.request date) s.failure r reply out a.turn.finished refl refl refl low h.0 x.1 h.4 h.2))
+        (own-sent {T = Unit {0}} before k.sink mid k.output_ended mid_ended a.bs (answered_slot a.waits.date a.waits.request a.waits.given a.waits.told v date false) (response_sent false v a.waits.request date) s.failure r reply out a.turn.finished refl refl refl low h.0 x.1 h.4 h.2))
         h.3
 
 pub responds-by : (k : Kept) (mid : Sink) (mid_ended : Bool) (reply : Replied) (v : ResponseValue) (form : AnswerForm) (date : HttpDate) → (k.output_ended ≡ true → (mid ≡ k.sink) × (mid_ended ≡ k.output_ended) × (reply ≡ Done))

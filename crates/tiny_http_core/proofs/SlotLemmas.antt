@@ -1,7 +1,7 @@
 -- How the joined output goes with more slots.
-use Rattle.std.proofs.Common.{◌≡◌, refl, sym, ap, ◌∙◌, ℕ, Bool, true, false, not, ◌&&◌, ◌||◌, List, [], ◌∷◌, ◌++◌, Option, Some, append_assoc}
-use Rattle.std.specs.Prelude.{if◌then◌else◌, MatchOption, ⊤}
-use Rattle.std.specs.List.{list_all, last_or}
+use Rattle.std.proofs.Common.{◌≡◌, refl, sym, ap, ◌∙◌, ℕ, Bool, true, false, not, ◌&&◌, ◌||◌, List, [], ◌∷◌, ◌++◌, append_assoc}
+use Rattle.std.specs.Prelude.{if◌then◌else◌}
+use Rattle.std.specs.List.{list_all}
 use Rattle.std.proofs.lemmas.Bool.{and_parts}
 use Rattle.tiny_http_core.specs.Slots.{Slot, is_finished, is_slot_broken, segment, joined, breaks_off}
 
@@ -9,11 +9,6 @@ use Rattle.tiny_http_core.specs.Slots.{Slot, is_finished, is_slot_broken, segmen
 pub all-snoc : {X : Type 0} (p : X → Bool) (xs : List X) (x : X) → list_all p xs ≡ true → p x ≡ true → list_all p (xs ++ x ∷ []) ≡ true
 all-snoc p [] x h k = rw k refl
 all-snoc p (y ∷ ys) x h k = let a = and_parts (p y) (list_all p ys) h in rw (a.0, all-snoc p ys x a.1 k) refl
-
--- the last of a list
-pub last-all : {X : Type 0} (p : X → Bool) (o : Option X) (xs : List X) → MatchOption o ⊤ (λ x. p x ≡ true) → list_all p xs ≡ true → MatchOption (last_or o xs) ⊤ (λ x. p x ≡ true)
-last-all p o [] h a = h
-last-all p o (x ∷ xs) h a = let k = and_parts (p x) (list_all p xs) a in last-all p (Some x) xs k.0 k.1
 
 -- joined segments
 goes-on : (f b : Bool) (u v w : List ℕ) → (f ≡ true → b ≡ false → u ≡ v) → w ++ (if (f && not b) then u else []) ≡ w ++ (if (f && not b) then v else [])

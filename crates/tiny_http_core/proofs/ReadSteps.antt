@@ -1,0 +1,252 @@
+-- A Read: from where the connection stands to where it stands behind it.
+use Rattle.std.proofs.Common.{◌≡◌, refl, sym, ap, ◌∙◌, subst, ℕ, ◌+◌, ◌-◌, ◌<◌, ◌≤◌, ◌⊎◌, inl, inr, Bool, true, false, not, ◌&&◌, ◌||◌, List, [], ◌∷◌, ◌++◌, length, take, drop, Option, Some, None, Result, Ok, Err, arith, length-append, eq-eqb, append-nil}
+use Rattle.std.specs.Prelude.{MatchBool, ◌==◌, nat_lt, slice_get, slice_set, ⊤}
+use Rattle.std.specs.List.{list_all}
+use Rattle.std.specs.Option.{option_map}
+use Rattle.std.proofs.lemmas.Bool.{lt-ltb, le-ltb, cases_lt, eqb-true, ne_eqb}
+use Rattle.std.proofs.lemmas.List.{drop-drop, take_all}
+use Rattle.std.proofs.lemmas.Grind.{common_steps}
+use Rattle.std.specs.declared.io.ErrorKind.{ErrorKind}
+use Rattle.httpdate.specs.declared.date.HttpDate.{HttpDate}
+use Rattle.tiny_http_wire.specs.declared.device.Stop.{Stop}
+use Rattle.tiny_http_wire.specs.declared.device.Stop.TheVariants.{End, Fault as Faults}
+use Rattle.tiny_http_wire.specs.Device.{Feed, Sink}
+use Rattle.tiny_http_core.specs.declared.exchange.Waiting.{Waiting}
+use Rattle.tiny_http_core.specs.declared.exchange.Form.{Form}
+use Rattle.tiny_http_core.specs.declared.exchange.Form.TheVariants.{Rest, Nothing, Held, Counted, Chunked}
+use Rattle.tiny_http_core.specs.declared.body.Body.{Body}
+use Rattle.tiny_http_core.specs.declared.body.Body.TheVariants as body
+use Rattle.tiny_http_core.specs.ToCome.{stopped}
+use Rattle.tiny_http_core.specs.Source.{SourceState, GoesOn}
+use Rattle.tiny_http_core.specs.Pipeline.{Item, Request, said_length}
+use Rattle.tiny_http_core.specs.Slots.{Slot, Waits, Answered as AnsweredBy, ByServer, Raw, Upgraded, body_finished, is_chunked, joined, breaks_off, last_slot, reader_is_lost, turn_has_come}
+use Rattle.tiny_http_core.specs.Steps.{Read, Replied, Given, Fault, Memory, NoSuch, Unused, Outcome, Reached, unchanged, changes, read_reply, effect, at_slot, at_number, outcome}
+use Rattle.tiny_http_core.specs.Conversation.{State, PlaceAt, Has, FindsNoMemory}
+use Rattle.tiny_http_core.specs.Body.{Remaining, remaining, after_bytes, with_bytes, BodyStops, NoneLeft, is_streaming, IsOver, ReadsOn, Fits, Fills}
+use Rattle.tiny_http_core.specs.Turns.{Mark, Open}
+use Rattle.tiny_http_core.specs.Pending.{last_body}
+use Rattle.tiny_http_core.specs.Connection.{Kept, open_slot, IsWaiting, AreKept, AreSettled, OutputAt, behind_body, rest_of, slot_rest, GivesRest, is_last_item, is_last_slot, NextHead, Reader, Stands}
+use Rattle.tiny_http_core.proofs.GoingOn.{goes-on_more}
+use Rattle.tiny_http_core.proofs.AskLemmas.{Answered, step-unchanged, settled-any}
+use Rattle.tiny_http_core.proofs.BodyReads.{stays-settled}
+use Rattle.tiny_http_core.proofs.BodySteps.{ReadsFrom, LastWaits, last-waits, with_reader, reader-within}
+use Rattle.tiny_http_core.proofs.KeptLemmas.{Place, place-of, kept-append, kept-many}
+use Rattle.tiny_http_core.proofs.OutputLemmas.{output-same}
+use Rattle.tiny_http_core.proofs.ReaderLemmas.{last-snoc, body-snoc, settled-place, settled-set, and-false}
+use Rattle.tiny_http_core.proofs.RespondLemmas.{TakesNone, SlotAt, slot-at, set-place}
+use Rattle.tiny_http_core.proofs.SlotLemmas.{joined-waits, breaks-waits}
+
+-- how much was read of what is left
+record Counts (left bs xs : List ℕ) (m n : ℕ) : Type 0 where
+  front : take n left ≡ bs
+  behind : drop m left ≡ xs
+  short : nat_lt (length left) n ≡ nat_lt m n
+
+counts : (left bs xs : List ℕ) (m n : ℕ) → left ≡ bs ++ xs → length bs ≡ m → m ≤ n → (m < n → xs ≡ []) → Counts left bs xs m n
+counts left bs xs m n e len le none = by (cases_lt m n)
+  where
+    long : length left ≡ m + length xs
+    long = ap length e ∙ length-append bs xs ∙ ap (λ k. k + length xs) len
+
+    by : (m < n) ⊎ (n ≤ m) → Counts left bs xs m n
+    by (inl lt) =
+        let empty = none lt in
+        let same : left ≡ bs = e ∙ ap (λ x. bs ++ x) empty ∙ append-nil bs in
+        let size : length left ≡ m = ap length same ∙ len in
+        record {
+          front = take_all n left (omega (arith, size, lt)) ∙ same;
+          behind = rw empty (nothing-left left m size);
+          short = lt-ltb (length left) n (omega (arith, size, lt)) ∙ sym (lt-ltb m n lt);
+        }
+      where
+        nothing-left : (l : List ℕ) (k : ℕ) → length l ≡ k → drop k l ≡ []
+        nothing-left l k e = grind (arith, common_steps)
+    by (inr ge) =
+        let all : m ≡ n = omega (arith, ge, le) in
+        record {
+          front = rw (e, sym all, sym len) (front-of bs xs);
+          behind = rw (e, sym len) (behind-of bs xs);
+          short = le-ltb (length left) n (omega (arith, long, all)) ∙ sym (le-ltb m n (omega (arith, all)));
+        }
+      where
+        front-of : (bs xs : List ℕ) → take (length bs) (bs ++ xs) ≡ bs
+        front-of [] [] = refl
+        front-of [] (x ∷ xs) = refl
+        front-of (b ∷ bs) xs = ap (λ r. b ∷ r) (front-of bs xs)
+
+        behind-of : (bs xs : List ℕ) → drop (length bs) (bs ++ xs) ≡ xs
+        behind-of [] [] = refl
+        behind-of [] (x ∷ xs) = refl
+        behind-of (b ∷ bs) xs = behind-of bs xs
+
+or-true : (a : Bool) → (a || true) ≡ true
+or-true true = refl
+or-true false = refl
+
+or-false : (a : Bool) → (a || false) ≡ a
+or-false true = refl
+or-false false = refl
+
+-- what was read of a body fits it
+still-over : (form : Form) (n given : ℕ) (told more : Bool) → body_finished form n given told ≡ true → body_finished form n given (told || more) ≡ true
+still-over Nothing n given told more h = refl
+still-over Held n given told more h = refl
+still-over Counted n given true more h = or-true (given == n)
+still-over Counted n given false more h = by (given == n) h
+  where
+    by : (t : Bool) → (t || false) ≡ true → (t || more) ≡ true
+    by true e = refl
+    by false e = cc
+still-over Chunked n given true more h = refl
+still-over Chunked n given false more h = cc
+still-over Rest n given true more h = refl
+still-over Rest n given false more h = cc
+
+fits-on : (b c : Body) (form : Form) (n given m : ℕ) (told more : Bool) → Fits b form n given told → ReadsOn b m more c → Fits c form n (given + m) (told || more)
+fits-on (body.Over stop) c form n given m told more fits h =
+    let P : Body → Type 0 = λ x. Fits x form n (given + m) (told || more) in
+    let same : given + m ≡ given = omega (arith, h.1) in
+    subst P (sym h.0) (ap (λ k. body_finished form n k (told || more)) same ∙ still-over form n given told more fits)
+fits-on (body.Held bytes) (body.Held left) form n given m told more fits h = fits
+fits-on (body.Held bytes) (body.Over stop) form n given m told more fits h = absurd h
+fits-on (body.Held bytes) (body.Counted left) form n given m told more fits h = absurd h
+fits-on (body.Held bytes) (body.Chunked d) form n given m told more fits h = absurd h
+fits-on (body.Counted left) c form n given m told more fits h = by (more || (m == left)) refl h
+  where
+    over : (c : Body) → IsOver c → (more || (m == left)) ≡ true → Fits c form n (given + m) (told || more)
+    over (body.Over stop) i e = rw fits.0 (at more e)
+      where
+        at : (t : Bool) → (t || (m == left)) ≡ true → ((given + m) == n || (told || t)) ≡ true
+        at true e = ap (λ x. (given + m) == n || x) (or-true told) ∙ or-true ((given + m) == n)
+        at false e = rw (eq-eqb (given + m) n (omega (arith, fits.1, eqb-true m left e))) refl
+    over (body.Held bytes) i e = absurd i
+    over (body.Counted l) i e = absurd i
+    over (body.Chunked d) i e = absurd i
+
+    neither : (a b : Bool) → (a || b) ≡ false → a ≡ false
+    neither true b e = cc
+    neither false b e = refl
+
+    by : (t : Bool) → (more || (m == left)) ≡ t → MatchBool t (IsOver c) ((c ≡ body.Counted (left - m)) × (m < left)) → Fits c form n (given + m) (told || more)
+    by true e k = over c k e
+    by false e k =
+        let P : Body → Type 0 = λ x. Fits x form n (given + m) (told || more) in
+        let untold : (told || more) ≡ false = rw (fits.3, neither more (m == left) e) refl in
+        subst P (sym k.0) (fits.0, omega (arith, fits.1, k.1), omega (arith, k.1), untold)
+fits-on (body.Chunked d) c form n given m told true fits h = over c h
+  where
+    over : (c : Body) → IsOver c → Fits c form n (given + m) (told || true)
+    over (body.Over stop) i = rw (fits.0, or-true told) refl
+    over (body.Held bytes) i = absurd i
+    over (body.Counted l) i = absurd i
+    over (body.Chunked d) i = absurd i
+fits-on (body.Chunked d) (body.Chunked e) form n given m told false fits h = (fits.0, or-false told ∙ fits.1)
+fits-on (body.Chunked d) (body.Over stop) form n given m told false fits h = absurd h
+fits-on (body.Chunked d) (body.Held bytes) form n given m told false fits h = absurd h
+fits-on (body.Chunked d) (body.Counted l) form n given m told false fits h = absurd h
+
+-- how many bytes are given then, and whether the end is told
+abbrev now_given : Request → ℕ → ℕ → ℕ
+now_given r given n = given + length (take n (drop given r.body.bytes))
+
+abbrev now_told : Request → ℕ → Bool → ℕ → Bool
+now_told r given told n = told || nat_lt (length (drop given r.body.bytes)) n
+
+-- the reply to a read that filled a buffer so
+abbrev pub reply_for : Result ℕ ErrorKind → List ℕ → Replied
+reply_for (Ok m) buf = Given (take m buf)
+reply_for (Err kind) buf = Fault kind
+
+-- no more bytes were read than the buffer has room for
+abbrev pub IfBound : Result ℕ ErrorKind → List ℕ → Type 0
+IfBound (Ok m) buf = m ≤ length buf
+IfBound (Err kind) buf = ⊤
+
+-- what a read leaves of a request's body
+record ReadOn (b c : Body) (old new : Option Feed) (r : Request) (given : ℕ) (told : Bool) (n : ℕ) (reply : Replied) : Type 0 where
+  x : Remaining
+  is : remaining c new ≡ Some x
+  rest : x.body ≡ rest_of r (now_given r given n)
+  behind : behind_body (Some c) new ≡ behind_body (Some b) old
+  fits : Fits c r.framing.form (said_length r.framing) (now_given r given n) (now_told r given told n)
+  reply_is : reply ≡ read_reply n (drop given r.body.bytes) r.body.stop
+  stays : is_streaming b ≡ false → is_streaming c ≡ false
+
+taken : (y : Remaining) (q : Option Remaining) (bs : List ℕ) → Some y ≡ with_bytes bs q → (x : Remaining) × (q ≡ Some x) × (y ≡ after_bytes bs x)
+taken y None bs e = let no : Some y ≡ None = e in cc
+taken y (Some x) bs e = (x, refl, (let same : Some y ≡ Some (after_bytes bs x) = e in cc))
+
+given-reply : (n : ℕ) (left bs : List ℕ) (stop : Stop) → take n left ≡ bs → (left ≡ [] → stop ≡ End) → Given bs ≡ read_reply n left stop
+given-reply n [] bs stop e end =
+    let empty : bs ≡ [] = sym e ∙ grind (arith, common_steps) in
+    let P : Stop → Type 0 = λ s. Given bs ≡ read_reply n [] s in
+    subst P (sym (end refl)) (ap Given empty)
+given-reply n (a ∷ left) bs stop e end = ap Given (sym e)
+
+abbrev B : Option Remaining → Option Feed
+B o = option_map (λ (y : Remaining). y.behind) o
+
+read-given : (b c : Body) (old new : Option Feed) (r : Request) (given : ℕ) (told : Bool) (n m : ℕ) (buf : List ℕ) (y : Remaining) → remaining b old ≡ Some y → y.body ≡ rest_of r given → Fits b r.framing.form (said_length r.framing) given told
+    → m ≤ length buf → length buf ≡ n → 0 < n → Fills b old c new (Ok m) buf → ReadOn b c old new r given told n (Given (take m buf))
+read-given b c old new r given told n m buf y here rest fits le size some fills =
+    let bs = take m buf in
+    let left = drop given r.body.bytes in
+    let t = taken y (remaining c new) bs (sym here ∙ fills.0) in
+    let x = t.0 in
+    let whole : rest_of r given ≡ (after_bytes bs x).body = sym rest ∙ ap (λ (z : Remaining). z.body) t.2 in
+    let bytes : left ≡ bs ++ x.body.bytes = ap (λ (f : Feed). f.bytes) whole in
+    let stop : r.body.stop ≡ x.body.stop = ap (λ (f : Feed). f.stop) whole in
+    let len : length bs ≡ m = grind (arith, common_steps) in
+    let N : Option Remaining → Type 0 = λ o. NoneLeft o in
+    let k = counts left bs x.body.bytes m n bytes len (omega (arith, le, size)) (λ lt. subst N t.1 (fills.2 (omega (arith, lt, size)))) in
+    let count : now_given r given n ≡ given + m = ap (λ l. given + length l) k.front ∙ ap (λ j. given + j) len in
+    let F : List ℕ → Stop → Feed = λ l s. record { bytes = l; stop = s } in
+    let E : Option Remaining → Type 0 = λ o. BodyStops End o in
+    let on = fits-on b c r.framing.form (said_length r.framing) given m told (nat_lt m (length buf)) fits (fills.1 (omega (arith, size, some))) in
+    let G : ℕ → Bool → Type 0 = λ j u. Fits c r.framing.form (said_length r.framing) j (told || u) in
+    let short : nat_lt m (length buf) ≡ nat_lt (length left) n = ap (λ j. nat_lt m j) size ∙ sym k.short in
+    record {
+      x = x;
+      is = t.1;
+      rest = ap (λ s. F x.body.bytes s) (sym stop) ∙ ap (λ l. F l r.body.stop) (sym k.behind ∙ drop-drop m given r.body.bytes ∙ ap (λ j. drop j r.body.bytes) (sym count));
+      behind = ap B t.1 ∙ ap (λ (z : Remaining). Some z.behind) (sym t.2) ∙ ap B (sym here);
+      fits = subst (λ j. G j (nat_lt (length left) n)) (sym count) (subst (λ u. G (given + m) u) short on);
+      reply_is = given-reply n left bs r.body.stop k.front
+          (λ empty. ap (λ (f : Feed). f.stop) (sym rest ∙ subst E here (fills.3 (none-read left bs x.body.bytes m bytes empty len) (omega (arith, size, some)))));
+      stays = stays-settled b c m (nat_lt m (length buf)) (fills.1 (omega (arith, size, some)));
+    }
+  where
+    none-read : (left bs xs : List ℕ) (m : ℕ) → left ≡ bs ++ xs → left ≡ [] → length bs ≡ m → m ≡ 0
+    none-read left [] xs m e empty len = sym len
+    none-read left (z ∷ bs) xs m e empty len = let no : z ∷ (bs ++ xs) ≡ [] = sym e ∙ empty in cc
+
+read-fault : (b c : Body) (old new : Option Feed) (r : Request) (given : ℕ) (told : Bool) (n : ℕ) (kind : ErrorKind) (buf : List ℕ) (y : Remaining) → remaining b old ≡ Some y → y.body ≡ rest_of r given → Fits b r.framing.form (said_length r.framing) given told
+    → 0 < n → Fills b old c new (Err kind) buf → ReadOn b c old new r given told n (Fault kind)
+read-fault b c old new r given told n kind buf y here rest fits some fills =
+    let left = drop given r.body.bytes in
+    let E : Option Remaining → Type 0 = λ o. BodyStops (Faults kind) o in
+    let ends : rest_of r given ≡ stopped (Faults kind) = sym rest ∙ subst E here fills.2 in
+    let empty : left ≡ [] = ap (λ (f : Feed). f.bytes) ends in
+    let stop : r.body.stop ≡ Faults kind = ap (λ (f : Feed). f.stop) ends in
+    let none : length (take n left) ≡ 0 = rw empty (grind (arith, common_steps)) in
+    let count : now_given r given n ≡ given + 0 = ap (λ j. given + j) none in
+    let same : now_given r given n ≡ given = omega (arith, count) in
+    let zero : length left ≡ 0 = ap length empty in
+    let told_now : nat_lt (length left) n ≡ true = lt-ltb (length left) n (omega (arith, zero, some)) in
+    let G : ℕ → Bool → Type 0 = λ j u. Fits c r.framing.form (said_length r.framing) j (told || u) in
+    let P : List ℕ → Stop → Type 0 = λ l s. Fault kind ≡ read_reply n l s in
+    let on = fits-on b c r.framing.form (said_length r.framing) given 0 told true fits fills.1 in
+    record {
+      x = y;
+      is = fills.0 ∙ here;
+      rest = rest ∙ ap (λ j. rest_of r j) (sym same);
+      behind = ap B fills.0;
+      fits = subst (λ j. G j (nat_lt (length left) n)) (sym count) (subst (λ u. G (given + 0) u) (sym told_now) on);
+      reply_is = subst (λ l. P l r.body.stop) (sym empty) (subst (λ s. P [] s) (sym stop) refl);
+      stays = stays-settled b c 0 true fills.1;
+    }
+
+read-on : (b c : Body) (old new : Option Feed) (r : Request) (given : ℕ) (told : Bool) (n : ℕ) (result : Result ℕ ErrorKind) (buf : List ℕ) (y : Remaining) → remaining b old ≡ Some y → y.body ≡ rest_of r given → Fits b r.framing.form (said_length r.framing) given told
+    → IfBound result buf → length buf ≡ n → 0 < n → Fills b old c new result buf → ReadOn b c old new r given told n (reply_for result buf)
+read-on b c old new r given told n (Ok m) buf y here rest fits le size some fills = read-given b c old new r given told n m buf y here rest fits le size some fills
+read-on b c old new r given told n (Err kind) buf y here rest fits le size some fills = read-fault b c old new r given told n kind buf y here rest fits some fills
