@@ -86,7 +86,7 @@ pub record ReadsFrom {R : Type 0} (k : Kept) (source : SourceState R) : Type 0 w
   pub ends : k.is_over ≡ source.is_over
 
 -- a step of a number that isn't the last, which leaves the input
-reader-within : {R : Type 0} (client : Feed) (k : Kept) (source : SourceState R) (bs cs : List Slot) (us vs : List (Option Waiting)) (rest : List Item) (s t c : Slot) (v x u : Option Waiting) → ReadsFrom k source → Reader client k (bs ++ (s ∷ (c ∷ cs))) rest
+pub reader-within : {R : Type 0} (client : Feed) (k : Kept) (source : SourceState R) (bs cs : List Slot) (us vs : List (Option Waiting)) (rest : List Item) (s t c : Slot) (v x u : Option Waiting) → ReadsFrom k source → Reader client k (bs ++ (s ∷ (c ∷ cs))) rest
     → k.requests ≡ us ++ (u ∷ (v ∷ vs)) → IsSettled x → Reader client (with_reader k (us ++ (x ∷ (v ∷ vs))) source) (bs ++ (t ∷ (c ∷ cs))) rest
 reader-within client k source bs cs us vs rest s t c v x u from reader is quiet =
     let last : last_slot (bs ++ (t ∷ (c ∷ cs))) ≡ last_slot (bs ++ (s ∷ (c ∷ cs))) = last-within None bs t s c cs in

@@ -1,6 +1,6 @@
 -- A Read: from where the connection stands to where it stands behind it.
 use Rattle.std.proofs.Common.{◌≡◌, refl, sym, ap, ◌∙◌, subst, ℕ, ◌+◌, ◌-◌, ◌<◌, ◌≤◌, ◌⊎◌, inl, inr, Bool, true, false, not, ◌&&◌, ◌||◌, List, [], ◌∷◌, ◌++◌, length, take, drop, Option, Some, None, Result, Ok, Err, arith, length-append, eq-eqb, append-nil}
-use Rattle.std.specs.Prelude.{MatchBool, ◌==◌, nat_lt, slice_get, slice_set, ⊤}
+use Rattle.std.specs.Prelude.{MatchBool, ◌==◌, nat_lt, slice_get, slice_set, ⊤, if◌then◌else◌}
 use Rattle.std.specs.List.{list_all}
 use Rattle.std.specs.Option.{option_map}
 use Rattle.std.proofs.lemmas.Bool.{lt-ltb, le-ltb, cases_lt, eqb-true, ne_eqb}
@@ -22,12 +22,12 @@ use Rattle.tiny_http_core.specs.Pipeline.{Item, Request, said_length}
 use Rattle.tiny_http_core.specs.Slots.{Slot, Waits, Answered as AnsweredBy, ByServer, Raw, Upgraded, body_finished, is_chunked, joined, breaks_off, last_slot, reader_is_lost, turn_has_come}
 use Rattle.tiny_http_core.specs.Steps.{Read, Replied, Given, Fault, Memory, NoSuch, Unused, Outcome, Reached, unchanged, changes, read_reply, effect, at_slot, at_number, outcome}
 use Rattle.tiny_http_core.specs.Conversation.{State, PlaceAt, Has, FindsNoMemory}
-use Rattle.tiny_http_core.specs.Body.{Remaining, remaining, after_bytes, with_bytes, BodyStops, NoneLeft, is_streaming, IsOver, ReadsOn, Fits, Fills}
+use Rattle.tiny_http_core.specs.Body.{Remaining, remaining, taken_left, after_bytes, with_bytes, BodyStops, NoneLeft, is_streaming, IsOver, ReadsOn, Fits, Fills}
 use Rattle.tiny_http_core.specs.Turns.{Mark, Open}
 use Rattle.tiny_http_core.specs.Pending.{last_body}
 use Rattle.tiny_http_core.specs.Connection.{Kept, open_slot, IsWaiting, AreKept, AreSettled, OutputAt, behind_body, rest_of, slot_rest, GivesRest, is_last_item, is_last_slot, NextHead, Reader, Stands}
 use Rattle.tiny_http_core.proofs.GoingOn.{goes-on_more}
-use Rattle.tiny_http_core.proofs.AskLemmas.{Answered, step-unchanged, settled-any}
+use Rattle.tiny_http_core.proofs.AskLemmas.{Answered, step-unchanged, settled-any, told-feed}
 use Rattle.tiny_http_core.proofs.BodyReads.{stays-settled}
 use Rattle.tiny_http_core.proofs.BodySteps.{ReadsFrom, LastWaits, last-waits, with_reader, reader-within}
 use Rattle.tiny_http_core.proofs.KeptLemmas.{Place, place-of, kept-append, kept-many}
@@ -250,3 +250,191 @@ read-on : (b c : Body) (old new : Option Feed) (r : Request) (given : ℕ) (told
     → IfBound result buf → length buf ≡ n → 0 < n → Fills b old c new result buf → ReadOn b c old new r given told n (reply_for result buf)
 read-on b c old new r given told n (Ok m) buf y here rest fits le size some fills = read-given b c old new r given told n m buf y here rest fits le size some fills
 read-on b c old new r given told n (Err kind) buf y here rest fits le size some fills = read-fault b c old new r given told n kind buf y here rest fits some fills
+
+-- the slot of a request, of which so much was read
+abbrev read_slot : (s : Slot) (w : Waiting) → IsWaiting s w → ℕ → Slot
+read_slot s w h n = open_slot h.date h.request (now_given h.request h.given n) (now_told h.request h.given h.told n)
+
+abbrev with_body : Waiting → Body → Waiting
+with_body w b = record w { body = b }
+
+still-waiting : (s : Slot) (w : Waiting) (h : IsWaiting s w) (c : Body) (old new : Option Feed) (n : ℕ) (reply : Replied) → ReadOn w.body c old new h.request h.given h.told n reply → IsWaiting (read_slot s w h n) (with_body w c)
+still-waiting s w h c old new n reply k = record {
+  request = h.request;
+  date = h.date;
+  given = now_given h.request h.given n;
+  told = now_told h.request h.given h.told n;
+  is = refl;
+  unowed = h.unowed;
+  form = h.form;
+  text = h.text;
+  fits = k.fits;
+  settled = settled-any c new (rest_of h.request (now_given h.request h.given n)) k.x.behind (k.is ∙ (let R : Feed → Option Remaining = λ f. Some (record { body = f; behind = k.x.behind }) in ap R k.rest));
+}
+
+-- the last number's body is read
+read-last : {R : Type 0} (client : Feed) (k : Kept) (old new : SourceState R) (bs : List Slot) (us : List (Option Waiting)) (rest : List Item) (s : Slot) (w : Waiting) (c : Body) (n : ℕ) (reply : Replied) → (h : IsWaiting s w) → ReadsFrom k old → Reader client k (bs ++ (s ∷ [])) rest
+    → k.requests ≡ us ++ (Some w ∷ []) → ReadOn w.body c old.feed new.feed h.request h.given h.told n reply → GoesOn old.feed new.feed
+    → Reader client (with_reader k (us ++ (Some (with_body w c) ∷ [])) new) (bs ++ (read_slot s w h n ∷ [])) rest
+read-last client k old new bs us rest s w c n reply h from reader is on goes =
+    let t = read_slot s w h n in
+    let last : last_slot (bs ++ (t ∷ [])) ≡ Some t = last-snoc None bs t in
+    let content : last_body (us ++ (Some (with_body w c) ∷ [])) ≡ Some c = body-snoc us (Some (with_body w c)) in
+    let l = last-waits client k old bs us rest s w h from reader is in
+    let A : List (Option Waiting) → Type 0 = λ x. AreSettled x in
+    let G : Option Body → Option Slot → Type 0 = λ b o. GivesRest b o new.feed in
+    let P : Option Body → Type 0 = λ b. PlaceAt k.over (behind_body b new.feed) rest in
+    let Q : Option Feed → Type 0 = λ f. PlaceAt k.over f rest in
+    let S : Option Feed → Type 0 = λ f. GoesOn f new.feed in
+    let C : Option Remaining → Option Feed = λ o. option_map (λ (x : Remaining). x.body) o in
+    record {
+      settled = settled-set us (Some w) (Some (with_body w c)) [] (subst A is reader.settled) (inr refl);
+      gives = subst (λ o. G (last_body (us ++ (Some (with_body w c) ∷ []))) o) (sym last) (subst (λ b. G b (Some t)) (sym content) (ap C on.is ∙ ap Some on.rest));
+      next = λ e. record {
+        is_last = l.is_last e ∙ ap (λ (x : Slot). is_last_item x.item) h.is ∙ ap is_last_slot (sym last);
+        lost = λ lost. (let no : true ≡ false = sym lost ∙ (ap reader_is_lost last ∙ and-false (is_chunked h.request.framing.form)) in cc);
+        place = λ kept. subst P (sym content) (subst Q (sym on.behind) (l.place e));
+      };
+      source = goes-on_more (Some client) k.feed new.feed reader.source (subst S (sym from.feed) goes);
+    }
+
+reader-read : {R : Type 0} (client : Feed) (k : Kept) (old new : SourceState R) (bs cs : List Slot) (us vs : List (Option Waiting)) (rest : List Item) (s : Slot) (w : Waiting) (c : Body) (n : ℕ) (reply : Replied) → (h : IsWaiting s w) → ReadsFrom k old → Reader client k (bs ++ (s ∷ cs)) rest
+    → k.requests ≡ us ++ (Some w ∷ vs) → length cs ≡ length vs → ReadOn w.body c old.feed new.feed h.request h.given h.told n reply → (is_streaming w.body ≡ false → new ≡ old) → GoesOn old.feed new.feed
+    → Reader client (with_reader k (us ++ (Some (with_body w c) ∷ vs)) new) (bs ++ (read_slot s w h n ∷ cs)) rest
+reader-read client k old new bs [] us [] rest s w c n reply h from reader is same on leaves goes = read-last client k old new bs us rest s w c n reply h from reader is on goes
+reader-read client k old new bs [] us (v ∷ vs) rest s w c n reply h from reader is same on leaves goes = absurd (omega (arith, same))
+reader-read client k old new bs (d ∷ cs) us [] rest s w c n reply h from reader is same on leaves goes = absurd (omega (arith, same))
+reader-read {R = R} client k old new bs (d ∷ cs) us (v ∷ vs) rest s w c n reply h from reader is same on leaves goes =
+    let A : List (Option Waiting) → Type 0 = λ x. AreSettled x in
+    let quiet = settled-place us (Some w) v vs (subst A is reader.settled) in
+    let t = read_slot s w h n in
+    let P : SourceState R → Type 0 = λ x. Reader client (with_reader k (us ++ (Some (with_body w c) ∷ (v ∷ vs))) x) (bs ++ (t ∷ (d ∷ cs))) rest in
+    subst P (sym (leaves quiet)) (reader-within client k old bs cs us vs rest s t d v (Some (with_body w c)) (Some w) from reader is (on.stays quiet))
+
+-- what is left of a number's body, as its reader sees it
+left-of : {R : Type 0} (client : Feed) (k : Kept) (old : SourceState R) (bs cs : List Slot) (us vs : List (Option Waiting)) (rest : List Item) (s : Slot) (w : Waiting) → (h : IsWaiting s w) → ReadsFrom k old → Reader client k (bs ++ (s ∷ cs)) rest
+    → k.requests ≡ us ++ (Some w ∷ vs) → length cs ≡ length vs → (y : Remaining) × (remaining w.body old.feed ≡ Some y) × (y.body ≡ rest_of h.request h.given)
+left-of client k old bs [] us [] rest s w h from reader is same =
+    let l = last-waits client k old bs us rest s w h from reader is in
+    told (remaining w.body old.feed) refl (l.gives ∙ ap (λ (x : Slot). Some (slot_rest x)) h.is)
+  where
+    told : (o : Option Remaining) → remaining w.body old.feed ≡ o → option_map (λ (x : Remaining). x.body) o ≡ Some (rest_of h.request h.given) → (y : Remaining) × (remaining w.body old.feed ≡ Some y) × (y.body ≡ rest_of h.request h.given)
+    told None e g = let no : None ≡ Some (rest_of h.request h.given) = g in cc
+    told (Some y) e g = (y, e, (let same : Some y.body ≡ Some (rest_of h.request h.given) = g in cc))
+left-of client k old bs [] us (v ∷ vs) rest s w h from reader is same = absurd (omega (arith, same))
+left-of client k old bs (d ∷ cs) us [] rest s w h from reader is same = absurd (omega (arith, same))
+left-of client k old bs (d ∷ cs) us (v ∷ vs) rest s w h from reader is same =
+    let A : List (Option Waiting) → Type 0 = λ x. AreSettled x in
+    let quiet = settled-place us (Some w) v vs (subst A is reader.settled) in
+    let f = told-feed client k.feed reader.source in
+    let e : old.feed ≡ Some f.0 = sym from.feed ∙ f.1 in
+    (taken_left (rest_of h.request h.given) f.0, ap (remaining w.body) e ∙ h.settled quiet f.0, refl)
+
+pub read-not_taken : (k n : ℕ) → TakesNone (Read k n)
+read-not_taken k n Waits owed e = cc
+read-not_taken k n (AnsweredBy r d f) owed e = refl
+read-not_taken k n ByServer owed e = refl
+read-not_taken k n (Raw w true) owed e = refl
+read-not_taken k n (Raw w false) owed e = refl
+read-not_taken k n (Upgraded p r d w true) owed e = refl
+read-not_taken k n (Upgraded p r d w false) owed e = cc
+
+-- the step at a request that waits
+at-read : (date : HttpDate) (old : Reached) (k n : ℕ) (s : Slot) (w : Waiting) (h : IsWaiting s w) → slice_get old.slots k ≡ Some s
+    → at_number true date old k (Read k n) ≡ effect true date old h.request (open_slot h.date h.request h.given h.told) (turn_has_come k old.slots) (Read k n)
+at-read date old k n s w h e =
+    let T : Slot → Outcome = λ x. at_slot true date old k (Read k n) (Some x) in
+    ap (at_slot true date old k (Read k n)) e ∙ ap T h.is ∙ rw h.unowed refl
+
+-- no bytes are asked for
+pub read-none : (client : Feed) (before : Sink) (k : Kept) (s : State) (date : HttpDate) (j n : ℕ) (w : Waiting) → Stands client before k s → slice_get k.requests j ≡ Some (Some w) → n ≡ 0 → Answered client before k s date (Read j n) (Given [])
+read-none client before k s date j n w st e zero =
+    let p = place-of s.reached.slots k.marks k.requests j w st.numbers e in
+    let at = slot-at s.reached.slots p.bs p.cs p.s j p.slots_are p.slots_before in
+    step-unchanged client before k s date (Read j n) (Given []) st (at-read date s.reached j n p.s w p.waiting at.get ∙ rw zero refl)
+
+-- no memory was found
+pub read-memory : (client : Feed) (before : Sink) (k : Kept) (s : State) (date : HttpDate) (j n : ℕ) (w : Waiting) → Stands client before k s → slice_get k.requests j ≡ Some (Some w) → Answered client before k s date (Read j n) Memory
+read-memory client before k s date j n w st e =
+    let p = place-of s.reached.slots k.marks k.requests j w st.numbers e in
+    let at = slot-at s.reached.slots p.bs p.cs p.s j p.slots_are p.slots_before in
+    let is = at-read date s.reached j n p.s w p.waiting at.get in
+    let left = drop p.waiting.given p.waiting.request.body.bytes in
+    (s, st, inr ((λ none. such n left p.waiting.request.body.stop (n == 0) _ _ refl refl (ap (λ (o : Outcome). o.reply) (sym is) ∙ none)), refl, refl))
+  where
+    such : (n : ℕ) (left : List ℕ) (stop : Stop) (t : Bool) (a b : Outcome) → a.reply ≡ Given [] → b.reply ≡ read_reply n left stop → (if t then a else b).reply ≡ NoSuch → ⊥
+    such n left stop true a b x y e = let no : Given [] ≡ NoSuch = sym x ∙ e in cc
+    such n [] End false a b x y e = let no : Given [] ≡ NoSuch = sym y ∙ e in cc
+    such n [] (Faults kind) false a b x y e = let no : Fault kind ≡ NoSuch = sym y ∙ e in cc
+    such n (z ∷ left) stop false a b x y e = let no : Given (take n (z ∷ left)) ≡ NoSuch = sym y ∙ e in cc
+
+-- the body was read
+pub read-done : {R : Type 0} (client : Feed) (before : Sink) (k : Kept) (s : State) (date : HttpDate) (j n : ℕ) (w : Waiting) (c : Body) (old new : SourceState R) (requests : List (Option Waiting)) (result : Result ℕ ErrorKind) (buf : List ℕ) → Stands client before k s → slice_get k.requests j ≡ Some (Some w)
+    → requests ≡ slice_set k.requests j (Some (with_body w c)) → ReadsFrom k old → IfBound result buf → length buf ≡ n → 0 < n → Fills w.body old.feed c new.feed result buf → (is_streaming w.body ≡ false → new ≡ old) → GoesOn old.feed new.feed
+    → Answered client before (with_reader k requests new) s date (Read j n) (reply_for result buf)
+read-done {R = R} client before k s date j n w c old new requests result buf st e requests_are from bound size some fills leaves goes =
+    let R : List (Option Waiting) → Type 0 = λ l. Answered client before (with_reader k l new) s date (Read j n) (reply_for result buf) in
+    subst R (sym set) (
+      state,
+      record {
+        numbers = subst M (sym p.marks_are) (kept-append p.bs p.fs p.us (s1 ∷ p.cs) (Open ∷ p.rs) (Some (with_body w c) ∷ p.vs) p.before (still-waiting p.s w h c old.feed new.feed n (reply_for result buf) on, p.behind));
+        shape = st.shape;
+        ended = st.ended;
+        reader = reader-read client k old new p.bs p.cs p.us p.vs s.reached.rest p.s w c n (reply_for result buf) h from (subst P p.slots_are st.reader) p.requests_are many on leaves goes;
+        output = output-same before k.sink k.output_ended s.reached.slots slots s.failure joined_same breaks_same st.output;
+      },
+      inl (true, tt, subst G (sym is) (ap L (sym (at.set s1)), (on.reply_is, refl))),
+    )
+  where
+    p : Place s.reached.slots k.marks k.requests j w
+    p = place-of s.reached.slots k.marks k.requests j w st.numbers e
+
+    h : IsWaiting p.s w
+    h = p.waiting
+
+    many : length p.cs ≡ length p.vs
+    many = kept-many p.cs p.rs p.vs p.behind
+
+    P : List Slot → Type 0
+    P l = Reader client k l s.reached.rest
+
+    M : List Mark → Type 0
+    M m = AreKept (p.bs ++ (read_slot p.s w h n ∷ p.cs)) m (p.us ++ (Some (with_body w c) ∷ p.vs))
+
+    s1 : Slot
+    s1 = read_slot p.s w h n
+
+    slots : List Slot
+    slots = p.bs ++ (s1 ∷ p.cs)
+
+    set : requests ≡ p.us ++ (Some (with_body w c) ∷ p.vs)
+    set = requests_are ∙ set-place k.requests p.us p.vs j (Some w) (Some (with_body w c)) p.requests_are p.requests_before
+
+    on : ReadOn w.body c old.feed new.feed h.request h.given h.told n (reply_for result buf)
+    on =
+        let y = left-of client k old p.bs p.cs p.us p.vs s.reached.rest p.s w h from (subst P p.slots_are st.reader) p.requests_are many in
+        read-on w.body c old.feed new.feed h.request h.given h.told n result buf y.0 y.1 y.2 h.fits bound size some fills
+
+    at : SlotAt s.reached.slots p.bs p.cs p.s j
+    at = slot-at s.reached.slots p.bs p.cs p.s j p.slots_are p.slots_before
+
+    open_is : s.reached.slots ≡ p.bs ++ (open_slot h.date h.request h.given h.told ∷ p.cs)
+    open_is = p.slots_are ∙ ap (λ x. p.bs ++ (x ∷ p.cs)) h.is
+
+    joined_same : joined s.reached.slots ≡ joined slots
+    joined_same = ap joined open_is ∙ joined-waits p.bs (open_slot h.date h.request h.given h.told) p.cs refl refl ∙ sym (joined-waits p.bs s1 p.cs refl refl)
+
+    breaks_same : breaks_off s.reached.slots ≡ breaks_off slots
+    breaks_same = ap breaks_off open_is ∙ breaks-waits p.bs (open_slot h.date h.request h.given h.told) p.cs refl refl ∙ sym (breaks-waits p.bs s1 p.cs refl refl)
+
+    state : State
+    state = record { reached = record { slots = slots; rest = s.reached.rest; ended = s.reached.ended }; failure = s.failure }
+
+    L : List Slot → Reached
+    L l = record { slots = l; rest = s.reached.rest; ended = s.reached.ended }
+
+    G : Outcome → Type 0
+    G o = Has o s (reply_for result buf) state
+
+    is : at_number true date s.reached j (Read j n) ≡ changes s.reached j s1 (read_reply n (drop h.given h.request.body.bytes) h.request.body.stop) Unused
+    is = at-read date s.reached j n p.s w h at.get ∙ rw (ne_eqb n 0 (λ z. absurd (omega (arith, z, some)))) refl

@@ -20,7 +20,7 @@ use crate::pending::Pending;
 use crate::sending::send;
 use crate::source::Source;
 use httpdate::HttpDate;
-use std::alloc::Global;
+use std::alloc::{AllocError, Global};
 use std::io::ErrorKind;
 use tiny_http_wire::device::{ReadDevice, WriteDevice};
 use tiny_http_wire::response::Response;
@@ -152,6 +152,15 @@ fn answer<W: WriteDevice, D: ReadDevice + Drop>(
     }
 }
 
+// So many bytes 0.
+fn zeros(alloc: Global, count: u16) -> Result<Vec<u8>, AllocError>
+    ensures { IfOk result (λ v. length v.items ≡ count) }
+{
+    let mut bytes = Vec::new(alloc);
+    bytes.resize(usize::from(count), 0)?;
+    Ok(bytes)
+}
+
 impl<R: ReadDevice, W: WriteDevice> Connection<R, W> {
     // A connection at its begin.
     fn new(alloc: Global, reader: R, writer: W) -> Connection<R, W>
@@ -227,13 +236,12 @@ impl<R: ReadDevice, W: WriteDevice> Connection<R, W> {
         ensures goes_on { GoesOn self.old.source.feed self.new.source.feed }
         ensures outlet { self.new.outlet ≡ self.old.outlet }
     {
-        if self.pending.form_at(number).is_none() {
+        let Some(_) = self.pending.form_at(number) else {
             return Reply::NoSuch;
-        }
-        let mut bytes = Vec::new(alloc);
-        if bytes.resize(count as usize, 0).is_err() {
+        };
+        let Ok(mut bytes) = zeros(alloc, count) else {
             return Reply::Memory;
-        }
+        };
         if count == 0 {
             return Reply::Given(bytes);
         }
