@@ -1,5 +1,6 @@
 -- A run goes on by one step.
 use Rattle.std.proofs.Common.{◌≡◌, refl, sym, ap, ◌∙◌, subst, ℕ, ◌<◌, ◌≤◌, Bool, true, false, List, [], ◌∷◌, ◌++◌, length, Option, Some, None, arith, append-nil, inl, inr}
+use Rattle.std.specs.Prelude.{MatchBool}
 use Rattle.std.specs.List.{AllZip}
 use Rattle.std.specs.Io.KnownBytes.{append_known}
 use Rattle.std.proofs.lemmas.Grind.{common_steps}
@@ -7,10 +8,14 @@ use Rattle.tiny_http_wire.specs.Device.{Feed, Sink, grown, next_count}
 use Rattle.tiny_http_core.specs.Outlet.{holding}
 use Rattle.tiny_http_core.specs.Source.{GoesOn}
 use Rattle.tiny_http_core.specs.Pipeline.{Item, Pipeline}
-use Rattle.tiny_http_core.specs.Slots.{joined}
+use Rattle.tiny_http_core.specs.Slots.{Slot, joined, last_slot, reader_is_held, reader_is_lost}
 use Rattle.tiny_http_core.specs.Steps.{Replied}
-use Rattle.tiny_http_core.specs.Conversation.{State, Failure, StepsTo, Run, Dated, start, IsFresh, RestAt, IsOutput, IsConversation}
-use Rattle.tiny_http_core.specs.Connection.{Kept, OutputAt, Stands}
+use Rattle.tiny_http_core.specs.Conversation.{State, Failure, StepsTo, Run, Dated, start, IsFresh, PlaceAt, InputAt, IsOutput, IsConversation}
+use Rattle.tiny_http_core.specs.Connection.{Kept, OutputAt, behind_body, is_last_slot, Stands}
+use Rattle.tiny_http_core.specs.ToCome.{stopped}
+use Rattle.tiny_http_core.specs.Pending.{last_body, is_held}
+use Rattle.tiny_http_wire.specs.declared.device.Stop.TheVariants.{End}
+use Rattle.tiny_http_core.proofs.ReaderLemmas.{held-by, behind-settled}
 use Rattle.tiny_http_core.specs.declared.driver.Timed.{Timed}
 use Rattle.tiny_http_core.specs.declared.driver.Reply.{Reply}
 use Rattle.std.specs.declared.io.ErrorKind.{ErrorKind}
@@ -21,7 +26,7 @@ use Rattle.tiny_http_core.specs.Sending.{FailsOnce, FailsOnceUnlessEnded, FailsA
 use Rattle.tiny_http_core.specs.Reading.{items_of}
 use Rattle.tiny_http_core.proofs.PipelineLemmas.{feed-pipeline}
 use Rattle.tiny_http_core.proofs.SendLemmas.{grown-none}
-use Rattle.tiny_http_core.proofs.AskLemmas.{same-feed}
+use Rattle.tiny_http_core.proofs.AskLemmas.{same-feed, told-feed, last-of}
 
 run-more : (a mid new : State) (xs : List Dated) (rs : List Replied) (d : Dated) (r : Replied) → Run a xs rs mid → StepsTo mid d.0 d.1 r new → Run a (xs ++ d ∷ []) (rs ++ r ∷ []) new
 run-more a mid new [] [] d r run step = (new, (let P : State → Type 0 = λ s. StepsTo s d.0 d.1 r new in subst P run step), refl)
@@ -76,24 +81,57 @@ joins-end all done [] joins len = grind (arith, common_steps)
 joins-end all done (x ∷ rest) joins len = absurd (omega arith)
 
 -- the connection at its begin
-abbrev pub begun : Option Feed → Sink → Kept
-begun feed sink = record { marks = []; requests = []; over = false; ended = false; feed = feed; sink = holding sink [] false; output_ended = false }
+abbrev pub begun : Option Feed → Bool → Sink → Kept
+begun feed is_over sink = record { marks = []; requests = []; over = false; ended = false; feed = feed; stop = None; is_over = is_over; sink = holding sink [] false; output_ended = false }
 
-begun-rest : (feed : Option Feed) (client : Feed) (items : List Item) → feed ≡ Some client → Pipeline (Some client.bytes) client.stop items → RestAt false false feed items
-begun-rest feed client items e h = let P : Option Feed → Type 0 = λ x. RestAt false false x items in subst P (sym e) h
-
-pub stands-begun : (client : Feed) (feed : Option Feed) (sink : Sink) (items : List Item) → feed ≡ Some client → IsFresh sink → Pipeline (Some client.bytes) client.stop items → Stands client sink (begun feed sink) (start items)
-stands-begun client feed sink items e fresh h =
+pub stands-begun : (client : Feed) (feed : Option Feed) (is_over : Bool) (sink : Sink) (items : List Item) → feed ≡ Some client → IsFresh sink → Pipeline (Some client.bytes) client.stop items → Stands client sink (begun feed is_over sink) (start items)
+stands-begun client feed is_over sink items e fresh h =
     let G : Option Feed → Type 0 = λ x. GoesOn (Some client) x in
+    let P : Option Feed → Type 0 = λ x. PlaceAt false x items in
     record {
       numbers = tt;
       shape = tt;
       ended = refl;
-      plain = refl;
-      rest = begun-rest feed client items e h;
-      source = subst G (sym e) (same-feed (Some client));
+      reader = record {
+        settled = tt;
+        gives = tt;
+        next = λ z. record { is_last = refl; lost = λ l. cc; place = λ l. subst P (sym e) h };
+        source = subst G (sym e) (same-feed (Some client));
+      };
       output = (grown-none sink.has_ended sink.taken ∙ fresh.no_bytes, refl, fresh.goes_on, refl, λ z. (sink.sent, refl));
     }
+
+-- how the input stands at the end
+input-end : (client : Feed) (before : Sink) (k : Kept) (s : State) → Stands client before k s → InputAt s.reached k.over k.feed
+input-end client before k s st = by-ended s.reached.ended refl
+  where
+    last : Option Slot
+    last = last_slot s.reached.slots
+
+    quiet : (t : Bool) → k.over ≡ t → k.ended ≡ false → reader_is_held last ≡ false → reader_is_lost last ≡ false → PlaceAt k.over k.feed s.reached.rest
+    quiet true o e h l =
+        let P : Bool → Option Feed → Type 0 = λ x f. PlaceAt x f s.reached.rest in
+        let none : P true (behind_body (last_body k.requests) k.feed) = subst (λ x. P x (behind_body (last_body k.requests) k.feed)) o ((st.reader.next e).place l) in
+        subst (λ x. P x k.feed) (sym o) none
+    quiet false o e h l =
+        let f = told-feed client k.feed st.reader.source in
+        let open_last : is_last_slot last ≡ false = sym (st.reader.next e).is_last ∙ o in
+        let free : is_held (last_body k.requests) ≡ false = sym (held-by last (last_body k.requests) (last-of client before k s st) ∙ rw open_last refl) ∙ h in
+        let here : behind_body (last_body k.requests) k.feed ≡ k.feed = ap (behind_body (last_body k.requests)) f.1 ∙ behind-settled last (last_body k.requests) f.0 (last-of client before k s st) free ∙ sym f.1 in
+        let P : Option Feed → Type 0 = λ x. PlaceAt k.over x s.reached.rest in
+        subst P here ((st.reader.next e).place l)
+
+    by-held : (t : Bool) → reader_is_held last ≡ t → k.ended ≡ false → reader_is_lost last ≡ false → MatchBool t (Unit {0}) (PlaceAt k.over k.feed s.reached.rest)
+    by-held true h e l = tt
+    by-held false h e l = quiet k.over refl e h l
+
+    by-lost : (t : Bool) → reader_is_lost last ≡ t → k.ended ≡ false → MatchBool t (k.feed ≡ Some (stopped End)) (MatchBool (reader_is_held last) (Unit {0}) (PlaceAt k.over k.feed s.reached.rest))
+    by-lost true l e = ((st.reader.next e).lost l).1
+    by-lost false l e = by-held (reader_is_held last) refl e l
+
+    by-ended : (t : Bool) → s.reached.ended ≡ t → MatchBool t (Unit {0}) (MatchBool (reader_is_lost last) (k.feed ≡ Some (stopped End)) (MatchBool (reader_is_held last) (Unit {0}) (PlaceAt k.over k.feed s.reached.rest)))
+    by-ended true e = tt
+    by-ended false e = by-lost (reader_is_lost last) refl (sym st.ended ∙ e)
 
 -- what the writer took and what is held
 sent-held : (held : List ℕ) (taken : Option (List ℕ)) (whole : List ℕ) → append_known taken held ≡ Some whole → (sent : List ℕ) × (taken ≡ Some sent) × (sent ++ held ≡ whole)
@@ -125,9 +163,7 @@ conversation told client before sink held k ended all replies dated same same_en
     let m = f dated h in
     let P : Sink → Bool → Type 0 = λ x y. OutputAt before x y m.0.reached.slots m.0.failure in
     let out : P (holding sink held ended) ended = subst (λ y. P (holding sink held ended) y) same_end (subst (λ x. P x k.output_ended) same m.1.output) in
-    let Q : Bool → Type 0 = λ y. RestAt y k.over k.feed m.0.reached.rest in
-    let left = subst Q (sym m.1.ended) m.1.rest in
-    record { items = items_of client; end = m.0; pipeline = feed-pipeline client; run = m.2; over = k.over; output = output-end before sink held ended m.0 empty out; input = left }
+    record { items = items_of client; end = m.0; pipeline = feed-pipeline client; run = m.2; over = k.over; output = output-end before sink held ended m.0 empty out; input = input-end client before k m.0 m.1 }
 
 -- the writer's count over the steps
 pub fails-step : (writer old new : Sink) (was ended : Bool) → FailsOnce writer old was → FailsOnceUnlessEnded was old new ended → FailsOnce writer new ended
@@ -144,6 +180,7 @@ rise-along a b c e (inr h) = inr (h ∙ ap next_count e)
 
 fail-along : {D : Type 0} (feed : D → Option Feed) (a b c : Sink) (s : Step D) (kind : ErrorKind) → b.failures ≡ a.failures → MayFail feed b c s kind → MayFail feed a c s kind
 fail-along feed a b c step.Ask kind e h = h
+fail-along feed a b c (step.Read n m) kind e h = h
 fail-along {D = D} feed a b c (step.Drop n) kind e h = elim h [ ]
 fail-along feed a b c (step.Respond n r) kind e (inl h) = inl (h ∙ ap next_count e)
 fail-along feed a b c (step.Respond n r) kind e (inr h) = inr h

@@ -1,5 +1,5 @@
 -- The steps of the program, as the definitions see them.
-use Rattle.std.proofs.Common.{◌≡◌, refl, sym, ap, subst, ℕ, Option}
+use Rattle.std.proofs.Common.{◌≡◌, refl, sym, ap, ◌∙◌, subst, ℕ, Option}
 use Rattle.tiny_http_wire.specs.Device.{Feed, Sink}
 use Rattle.tiny_http_wire.specs.Answer.{ResponseState}
 use Rattle.httpdate.specs.declared.date.HttpDate.{HttpDate}
@@ -78,3 +78,23 @@ step-respond feed client before k s now d x n r reply e date told h =
     let Q : Asked → Type 0 = λ y. Answered client before k s now y reply in
     let R : HttpDate → Type 0 = λ y. Answered client before k s y d.1 reply in
     subst R (sym date) (subst Q (sym is.is) (h is.value is.response))
+
+is-read : {D : Type 0} (feed : D → Option Feed) (n m : ℕ) (x : Asked) → (let a : Step D = step.Read n m in IsStep feed a x) → x ≡ Read n m
+is-read feed n m Ask h = elim h [ ]
+is-read feed n m (AsReader k) h = elim h [ ]
+is-read feed n m (Read k l) h = ap (λ j. Read j l) h.0 ∙ ap (λ j. Read n j) h.1
+is-read feed n m (Respond k v) h = elim h [ ]
+is-read feed n m (IntoWriter k) h = elim h [ ]
+is-read feed n m (Write k b) h = elim h [ ]
+is-read feed n m (Flush k) h = elim h [ ]
+is-read feed n m (Upgrade k p v) h = elim h [ ]
+is-read feed n m (Finish k) h = elim h [ ]
+is-read feed n m (Drop k) h = elim h [ ]
+
+pub step-read : {D : Type 0} (feed : D → Option Feed) (client : Feed) (before : Sink) (k : Kept) (s : State) (d : Dated) (x : Step D) (n m : ℕ) (reply : Replied) → x ≡ step.Read n m → IsStep feed x d.1
+    → Answered client before k s d.0 (Read n m) reply → Answered client before k s d.0 d.1 reply
+step-read feed client before k s d x n m reply e told h =
+    let P : Step _ → Type 0 = λ y. IsStep feed y d.1 in
+    let is = is-read feed n m d.1 (subst P e told) in
+    let Q : Asked → Type 0 = λ y. Answered client before k s d.0 y reply in
+    subst Q (sym is) h

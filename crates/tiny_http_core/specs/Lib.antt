@@ -2,6 +2,8 @@ pub mod Line
 pub mod Parts
 pub mod Body
 pub mod Exchange
+pub mod EqualReader
+pub mod FusedReader
 pub mod ToCome
 pub mod Input
 pub mod Source

@@ -4,8 +4,10 @@
 mod body;
 mod buffer;
 pub mod driver;
+pub mod equal_reader;
 pub mod exchange;
 mod framing;
+pub mod fused_reader;
 mod heads;
 mod input;
 pub mod laws;
