@@ -1,24 +1,22 @@
 -- Reading a body: what was still to come of it is what was read and what is still to come.
-use Rattle.std.proofs.Common.{◌≡◌, refl, sym, ap, ◌∙◌, subst, ℕ, zero, suc, ◌+◌, ◌-◌, ◌<◌, ◌≤◌, Bool, true, false, List, [], ◌∷◌, ◌++◌, length, take, drop, Option, Some, None, Result, Ok, Err, ◌⊎◌, inl, inr, ◌||◌, arith, eq-eqb, append_assoc, append-nil}
-use Rattle.std.specs.Prelude.{nat_lt, MatchBool, ◌==◌}
+use Rattle.std.proofs.Common.{◌≡◌, refl, sym, ap, ◌∙◌, subst, ℕ, zero, suc, ◌+◌, ◌-◌, ◌<◌, ◌≤◌, Bool, true, false, List, [], ◌∷◌, ◌++◌, length, take, drop, Option, Some, None, ◌⊎◌, inl, inr, ◌||◌, arith, eq-eqb, append_assoc, append-nil}
+use Rattle.std.specs.Prelude.{MatchBool, ◌==◌}
 use Rattle.std.specs.Option.{option_map}
 use Rattle.std.proofs.Math.Seq.{take-nil}
 use Rattle.std.proofs.lemmas.Bool.{lt-ltb, le-ltb, ne_eqb, eqb-true, cases_lt}
 use Rattle.std.proofs.lemmas.List.{take-append-drop}
-use Rattle.std.specs.declared.io.ErrorKind.{ErrorKind}
 use Rattle.tiny_http_wire.specs.declared.device.Stop.{Stop}
-use Rattle.tiny_http_wire.specs.declared.device.Stop.TheVariants.{End, Fault}
-use Rattle.tiny_http_wire.specs.Device.{Feed, given, prepend, ending, StopsBy}
-use Rattle.tiny_http_wire.specs.Decoding.{Coming, with_front, over_at, BreaksBy}
+use Rattle.tiny_http_wire.specs.declared.device.Stop.TheVariants.{End}
+use Rattle.tiny_http_wire.specs.Device.{Feed, given, prepend, StopsBy}
 use Rattle.tiny_http_core.specs.declared.body.Body.{Body}
 use Rattle.tiny_http_core.specs.declared.body.Body.TheVariants.{Over, Held, Counted, Chunked}
 use Rattle.tiny_http_core.specs.ToCome.{skipped, stopped}
 use Rattle.tiny_http_core.specs.Parts.{first_part}
-use Rattle.tiny_http_core.specs.Body.{Remaining, remaining, counted_left, coming_left, taken_left, after_bytes, with_bytes, BodyStops, NoneLeft, is_streaming, IsOver, IsHeld, IsChunked, ReadsOn, GivesUp}
+use Rattle.tiny_http_core.specs.Body.{Remaining, remaining, counted_left, taken_left, after_bytes, with_bytes, BodyStops, NoneLeft, is_streaming, IsOver, ReadsOn, GivesUp}
 use Rattle.tiny_http_core.specs.Source.{SourceState, GoesOn, IsRestOf}
 use Rattle.tiny_http_core.proofs.GoingOn.{goes-on_same}
 use Rattle.tiny_http_core.proofs.Inputs.{skipped-skipped, skipped-prepend, skipped-within, skipped-beyond}
-use Rattle.tiny_http_core.proofs.PartLemmas.{part-more, lt-shift}
+use Rattle.tiny_http_core.proofs.PartLemmas.{part-more}
 
 -- bytes that were given, and no others, are skipped
 skipped-front : (front : List ℕ) (f : Feed) (k : ℕ) → skipped (length front + k) (prepend front f) ≡ skipped k f

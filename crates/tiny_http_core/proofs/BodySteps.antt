@@ -1,10 +1,6 @@
 -- A step on a request's body: from where the reader stands to where it stands behind it.
-use Rattle.std.proofs.Common.{◌≡◌, refl, sym, ap, ◌∙◌, subst, ℕ, ◌+◌, ◌-◌, ◌<◌, ◌≤◌, ◌⊎◌, inl, inr, Bool, true, false, not, ◌&&◌, ◌||◌, List, [], ◌∷◌, ◌++◌, length, take, drop, Option, Some, None, Result, Ok, Err, arith}
-use Rattle.std.specs.Prelude.{MatchBool, ◌==◌, nat_lt}
-use Rattle.std.specs.List.{last_or}
+use Rattle.std.proofs.Common.{◌≡◌, refl, sym, ap, ◌∙◌, subst, ℕ, inl, Bool, true, false, not, ◌&&◌, List, [], ◌∷◌, ◌++◌, length, Option, Some, None, arith}
 use Rattle.std.specs.Option.{option_map}
-use Rattle.httpdate.specs.declared.date.HttpDate.{HttpDate}
-use Rattle.tiny_http_wire.specs.declared.device.Stop.{Stop}
 use Rattle.tiny_http_wire.specs.declared.device.Stop.TheVariants.{End}
 use Rattle.tiny_http_wire.specs.Device.{Feed}
 use Rattle.tiny_http_core.specs.declared.exchange.Waiting.{Waiting}
@@ -14,17 +10,17 @@ use Rattle.tiny_http_core.specs.declared.body.Body.{Body}
 use Rattle.tiny_http_core.specs.declared.body.Body.TheVariants as body
 use Rattle.tiny_http_core.specs.ToCome.{skipped, stopped}
 use Rattle.tiny_http_core.specs.Source.{SourceState, GoesOn}
-use Rattle.tiny_http_core.specs.Pipeline.{Item, Asks, Request, said_length}
+use Rattle.tiny_http_core.specs.Pipeline.{Item, Request, said_length}
 use Rattle.tiny_http_core.specs.Slots.{Slot, Stage, is_chunked, body_finished, last_slot, reader_is_lost}
 use Rattle.tiny_http_core.specs.Steps.{finished}
 use Rattle.tiny_http_core.specs.Conversation.{PlaceAt}
-use Rattle.tiny_http_core.specs.Body.{Remaining, remaining, taken_left, is_streaming, Fits, GivesUp}
+use Rattle.tiny_http_core.specs.Body.{Remaining, remaining, is_streaming, Fits, GivesUp}
 use Rattle.tiny_http_core.specs.Pending.{last_body}
-use Rattle.tiny_http_core.specs.Connection.{Kept, open_slot, IsWaiting, IsSettled, AreSettled, behind_body, rest_of, slot_rest, GivesRest, is_last_item, is_last_slot, InputEnded, NextHead, Reader}
+use Rattle.tiny_http_core.specs.Connection.{Kept, open_slot, IsWaiting, IsSettled, AreSettled, behind_body, slot_rest, GivesRest, is_last_item, is_last_slot, NextHead, Reader}
 use Rattle.tiny_http_core.proofs.GoingOn.{goes-on_more}
 use Rattle.tiny_http_core.proofs.AskLemmas.{told-feed}
 use Rattle.tiny_http_core.proofs.BodyReads.{gives-up}
-use Rattle.tiny_http_core.proofs.ReaderLemmas.{last-snoc, body-snoc, last-within, body-within, settled-place, settled-set, waiting-kept, and-false}
+use Rattle.tiny_http_core.proofs.ReaderLemmas.{last-snoc, body-snoc, last-within, body-within, settled-place, settled-set, waiting-kept}
 
 -- the input and the bodies, behind a step of a number
 abbrev pub with_reader : Kept → List (Option Waiting) → {R : Type 0} → SourceState R → Kept

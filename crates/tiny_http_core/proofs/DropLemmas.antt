@@ -13,7 +13,7 @@ use Rattle.tiny_http_core.specs.Conversation.{Failure, State, FailsBetween, Writ
 use Rattle.tiny_http_core.specs.Sending.{CanSend}
 use Rattle.tiny_http_core.specs.Turns.{Mark, Open, Left, Finished, AreInShape, first_unfinished}
 use Rattle.tiny_http_core.specs.Pending.{left_text, passed, LeavesText}
-use Rattle.tiny_http_core.specs.Connection.{Kept, open_slot, dropped, IsDone, AreKept, OutputAt, Reader, Stands}
+use Rattle.tiny_http_core.specs.Connection.{Kept, open_slot, dropped, AreKept, OutputAt, Reader, Stands}
 use Rattle.tiny_http_core.specs.Source.{SourceState}
 use Rattle.tiny_http_core.specs.Body.{GivesUp}
 use Rattle.tiny_http_core.proofs.BodySteps.{ReadsFrom, with_reader, reader-given_up}

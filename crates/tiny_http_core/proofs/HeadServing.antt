@@ -1,5 +1,5 @@
 -- From a head read to the item that stands there.
-use Rattle.std.proofs.Common.{◌≡◌, refl, sym, ap, ◌∙◌, subst, ℕ, ◌-◌, ◌<◌, ◌≤◌, Bool, true, false, not, ◌&&◌, List, [], ◌∷◌, ◌++◌, ◌+◌, length, take, drop, length-append, Option, Some, None, Result, Ok, Err, inl, inr, arith}
+use Rattle.std.proofs.Common.{◌≡◌, refl, sym, ap, ◌∙◌, subst, ℕ, ◌-◌, ◌<◌, ◌≤◌, Bool, true, false, not, ◌&&◌, List, [], ◌+◌, length, take, drop, length-append, Option, Some, None, Result, Ok, Err, inl, inr, arith}
 use Rattle.std.specs.Prelude.{nat_lt, unwrap_or, MatchResult, MatchBool, ◌==◌, if◌then◌else◌}
 use Rattle.std.specs.Option.{option_map}
 use Rattle.std.specs.Global.{Vec}
@@ -34,12 +34,12 @@ use Rattle.tiny_http_core.specs.declared.body.Body.{Body}
 use Rattle.tiny_http_core.specs.declared.body.Body.TheVariants as body
 use Rattle.tiny_http_core.specs.Framing.{framing, is_built, is_rest}
 use Rattle.tiny_http_core.specs.Parts.{first_part}
-use Rattle.tiny_http_core.specs.ToCome.{skipped, stopped}
+use Rattle.tiny_http_core.specs.ToCome.{skipped}
 use Rattle.tiny_http_core.specs.Body.{Remaining, remaining, counted_left, coming_left, Fits, IsOver, ReadsOn}
-use Rattle.tiny_http_core.specs.Exchange.{exchange_head, KeepsHead, KeepsRequest}
+use Rattle.tiny_http_core.specs.Exchange.{KeepsHead}
 use Rattle.tiny_http_core.specs.Source.{TakesExactly, from}
 use Rattle.tiny_http_core.specs.Pipeline.{Item, Asks, Refuses, Place, Heading, Ends, Heads, IsCutHeld, cut_answer, is_timed_out, said_length, served, served_answer, BodyAt, FoundAt, OneHead, item_of, goes_on}
-use Rattle.tiny_http_core.specs.HeadReads.{ReadsMessage, ReadsHead, RefusesBy, Begins, ComesWith, place_after, place_feed, message_of, head_message, head_framing}
+use Rattle.tiny_http_core.specs.HeadReads.{ReadsMessage, ReadsHead, RefusesBy, Begins, ComesWith, place_after, message_of, head_message, head_framing}
 use Rattle.tiny_http_core.proofs.Inputs.{skipped-within, skipped-beyond}
 use Rattle.tiny_http_core.proofs.PipelineLemmas.{sized-is}
 

@@ -1,5 +1,5 @@
 -- What the calls on numbers leave, as lists of marks.
-use Rattle.std.proofs.Common.{◌≡◌, refl, sym, ap, ◌∙◌, subst, ℕ, suc, ◌+◌, Bool, true, false, List, [], ◌∷◌, ◌++◌, length, Option, Some, Result, Ok, Err, append_assoc, append-nil, length-append}
+use Rattle.std.proofs.Common.{◌≡◌, refl, sym, ap, ◌∙◌, subst, ℕ, suc, ◌+◌, Bool, true, false, List, [], ◌∷◌, ◌++◌, length, Option, append_assoc, append-nil, length-append}
 use Rattle.std.specs.Global.{Vec}
 use Rattle.std.specs.Prelude.{MatchBool, ◌==◌, if◌then◌else◌, slice_get, slice_set}
 use Rattle.tiny_http_wire.specs.Device.{Sink}

@@ -1,7 +1,6 @@
 -- A Read: from where the connection stands to where it stands behind it.
-use Rattle.std.proofs.Common.{◌≡◌, refl, sym, ap, ◌∙◌, subst, ℕ, ◌+◌, ◌-◌, ◌<◌, ◌≤◌, ◌⊎◌, inl, inr, Bool, true, false, not, ◌&&◌, ◌||◌, List, [], ◌∷◌, ◌++◌, length, take, drop, Option, Some, None, Result, Ok, Err, arith, length-append, eq-eqb, append-nil}
+use Rattle.std.proofs.Common.{◌≡◌, refl, sym, ap, ◌∙◌, subst, ℕ, ◌+◌, ◌-◌, ◌<◌, ◌≤◌, ◌⊎◌, inl, inr, Bool, true, false, ◌||◌, List, [], ◌∷◌, ◌++◌, length, take, drop, Option, Some, None, Result, Ok, Err, arith, length-append, eq-eqb, append-nil}
 use Rattle.std.specs.Prelude.{MatchBool, ◌==◌, nat_lt, slice_get, slice_set, ⊤, if◌then◌else◌}
-use Rattle.std.specs.List.{list_all}
 use Rattle.std.specs.Option.{option_map}
 use Rattle.std.proofs.lemmas.Bool.{lt-ltb, le-ltb, cases_lt, eqb-true, ne_eqb}
 use Rattle.std.proofs.lemmas.List.{drop-drop, take_all}
@@ -20,16 +19,16 @@ use Rattle.tiny_http_core.specs.ToCome.{stopped}
 use Rattle.tiny_http_core.specs.Source.{SourceState, GoesOn}
 use Rattle.tiny_http_core.specs.Pipeline.{Item, Request, said_length}
 use Rattle.tiny_http_core.specs.Slots.{Slot, Waits, Answered as AnsweredBy, ByServer, Raw, Upgraded, body_finished, is_chunked, joined, breaks_off, last_slot, reader_is_lost, turn_has_come}
-use Rattle.tiny_http_core.specs.Steps.{Read, Replied, Given, Fault, Memory, NoSuch, Unused, Outcome, Reached, unchanged, changes, read_reply, effect, at_slot, at_number, outcome}
-use Rattle.tiny_http_core.specs.Conversation.{State, PlaceAt, Has, FindsNoMemory}
+use Rattle.tiny_http_core.specs.Steps.{Read, Replied, Given, Fault, Memory, NoSuch, Unused, Outcome, Reached, changes, read_reply, effect, at_slot, at_number}
+use Rattle.tiny_http_core.specs.Conversation.{State, PlaceAt, Has}
 use Rattle.tiny_http_core.specs.Body.{Remaining, remaining, taken_left, after_bytes, with_bytes, BodyStops, NoneLeft, is_streaming, IsOver, ReadsOn, Fits, Fills}
 use Rattle.tiny_http_core.specs.Turns.{Mark, Open}
 use Rattle.tiny_http_core.specs.Pending.{last_body}
-use Rattle.tiny_http_core.specs.Connection.{Kept, open_slot, IsWaiting, AreKept, AreSettled, OutputAt, behind_body, rest_of, slot_rest, GivesRest, is_last_item, is_last_slot, NextHead, Reader, Stands}
+use Rattle.tiny_http_core.specs.Connection.{Kept, open_slot, IsWaiting, AreKept, AreSettled, behind_body, rest_of, slot_rest, GivesRest, is_last_item, is_last_slot, Reader, Stands}
 use Rattle.tiny_http_core.proofs.GoingOn.{goes-on_more}
 use Rattle.tiny_http_core.proofs.AskLemmas.{Answered, step-unchanged, settled-any, told-feed}
 use Rattle.tiny_http_core.proofs.BodyReads.{stays-settled}
-use Rattle.tiny_http_core.proofs.BodySteps.{ReadsFrom, LastWaits, last-waits, with_reader, reader-within}
+use Rattle.tiny_http_core.proofs.BodySteps.{ReadsFrom, last-waits, with_reader, reader-within}
 use Rattle.tiny_http_core.proofs.KeptLemmas.{Place, place-of, kept-append, kept-many}
 use Rattle.tiny_http_core.proofs.OutputLemmas.{output-same}
 use Rattle.tiny_http_core.proofs.ReaderLemmas.{last-snoc, body-snoc, settled-place, settled-set, and-false}

@@ -19,7 +19,7 @@ use Rattle.tiny_http_core.specs.Seen.{printed_as, reply_to}
 use Rattle.tiny_http_core.specs.Sending.{CanSend, Wrote, Lost, IsFlushed, SendsText, Sends, SendsUnlessEnded}
 use Rattle.tiny_http_core.specs.Turns.{Mark, Open, Held, Finished, AreInShape, first_unfinished}
 use Rattle.tiny_http_core.specs.Pending.{left_text, passed, begins_left, SendsLeft, Passes, waiting_form}
-use Rattle.tiny_http_core.specs.Connection.{Kept, form_of, open_slot, IsWaiting, IsDone, AreKept, OutputAt, Reader, Stands}
+use Rattle.tiny_http_core.specs.Connection.{Kept, form_of, open_slot, IsWaiting, AreKept, OutputAt, Reader, Stands}
 use Rattle.tiny_http_core.specs.Source.{SourceState}
 use Rattle.tiny_http_core.specs.Body.{GivesUp}
 use Rattle.tiny_http_core.proofs.BodySteps.{ReadsFrom, with_reader, next-same, reader-given_up}

@@ -201,7 +201,10 @@ impl<R: ReadDevice, W: WriteDevice> Connection<R, W> {
             return Reply::NotYet;
         }
         match read_head(alloc, &mut self.source, now) {
-            Ok(HeadRead::Request(Exchange { head, waiting })) => match self.pending.issue(Some(waiting)) {
+            Ok(HeadRead::Request(Exchange { head, waiting })) => match self
+                .pending
+                .issue(Some(waiting))
+            {
                 Ok(number) => {
                     self.over = head.is_last;
                     Reply::Handed(number, head)
@@ -245,7 +248,10 @@ impl<R: ReadDevice, W: WriteDevice> Connection<R, W> {
         if count == 0 {
             return Reply::Given(bytes);
         }
-        match self.pending.fill(&mut self.source, number, bytes.as_mut_slice()) {
+        match self
+            .pending
+            .fill(&mut self.source, number, bytes.as_mut_slice())
+        {
             Ok(n) => {
                 bytes.truncate(n);
                 Reply::Given(bytes)
@@ -268,7 +274,9 @@ impl<R: ReadDevice, W: WriteDevice> Connection<R, W> {
             return Reply::NoSuch;
         };
         let Waiting {
-            dropped, mut body, ..
+            dropped,
+            mut body,
+            ..
         } = waiting;
         self.pending.leave(&mut self.outlet, number, dropped);
         body.give_up(&mut self.source);

@@ -183,12 +183,7 @@ fn head_of(message: Message, framing: Framing) -> Head
 }
 
 // A request with this body; or no memory is found for the text that is sent if it is dropped.
-fn hand_out(
-    alloc: Global,
-    head: Head,
-    body: Body,
-    now: HttpDate,
-) -> Result<Exchange, AllocError>
+fn hand_out(alloc: Global, head: Head, body: Body, now: HttpDate) -> Result<Exchange, AllocError>
     ensures { IfOk result (λ x. (x.head ≡ head) × (x.waiting.body ≡ body) × KeepsHead x.waiting head now) }
 {
     let form = AnswerForm {

@@ -1,4 +1,4 @@
-use Rattle.std.proofs.Common.{◌<◌, ◌≤◌, ◌∙◌, arith, length, take}
+use Rattle.std.proofs.Common.{◌<◌, ◌∙◌, arith, length, take}
 use Rattle.std.proofs.lemmas.List.{length-take-le}
 use Rattle.tiny_http_wire.specs.declared.device.Stop.TheVariants.{End}
 use Rattle.tiny_http_core.proofs.PartLemmas.{last-stop, last-none, last-bytes, nothing-given}

@@ -1,4 +1,4 @@
-use Rattle.std.proofs.Common.{rules, ◌≡◌, refl, sym, ap, ◌∙◌, ℕ, drop}
+use Rattle.std.proofs.Common.{rules, ap, ◌∙◌, ℕ, drop}
 use Rattle.std.specs.Global.{Vec}
 use Rattle.std.specs.Io.Cursor.{cursor_inner}
 use Rattle.tiny_http_core.proofs.HeadServing.{begins-rest, begins-nothing, begins-counted, begins-chunked, begins-held, begins-cut}

@@ -1,8 +1,8 @@
-use Rattle.std.proofs.Common.{◌≡◌, refl, sym, ap, ◌∙◌, subst, ◌+◌, ◌-◌, ◌<◌, ◌≤◌, ℕ, Bool, true, false, Option, length, take, drop, arith}
+use Rattle.std.proofs.Common.{◌≡◌, refl, sym, ◌∙◌, subst, ◌+◌, ◌<◌, ℕ, Bool, true, false, Option, length, take, drop, arith}
 use Rattle.std.proofs.lemmas.Bool.{ne_eqb, lt-ltb}
 use Rattle.std.specs.Prelude.{◌==◌}
 use Rattle.tiny_http_wire.specs.declared.device.Stop.TheVariants.{End}
-use Rattle.tiny_http_core.specs.Body.{Remaining, remaining, with_bytes, BodyStops, NoneLeft, is_streaming, ReadsOn}
+use Rattle.tiny_http_core.specs.Body.{Remaining, remaining, with_bytes, BodyStops, NoneLeft, ReadsOn}
 use Rattle.tiny_http_core.proofs.GoingOn.{goes-on_more}
 use Rattle.tiny_http_core.proofs.BodyReads.{read-more, moves-more, stays-settled, bytes-none, stops-none-left}
 use Rattle.tiny_http_core.proofs.body.Body.fill.Goals as goal

@@ -1,5 +1,3 @@
-use Rattle.std.proofs.Common.{subst, sym}
-use Rattle.tiny_http_wire.specs.Device.{Feed}
 use Rattle.tiny_http_core.proofs.GoingOn.{goes-on_given, goes-on_more}
 use Rattle.tiny_http_core.proofs.BodyReads.{goes-on_end}
 use Rattle.tiny_http_core.proofs.body.Body.read_chunked.Goals as goal

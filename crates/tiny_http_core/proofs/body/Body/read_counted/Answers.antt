@@ -1,10 +1,9 @@
-use Rattle.std.proofs.Common.{◌≡◌, refl, sym, ap, ◌∙◌, rules, ℕ, ◌-◌, ◌<◌, List, [], Option, length, take, arith}
+use Rattle.std.proofs.Common.{sym, ap, ◌∙◌, ◌<◌, length, take, arith}
 use Rattle.std.proofs.lemmas.List.{length-take}
 use Rattle.std.specs.Option.{option_map}
 use Rattle.std.specs.IoError.{error_kind}
 use Rattle.tiny_http_wire.specs.declared.device.Stop.TheVariants.{End, Fault}
-use Rattle.tiny_http_wire.specs.Device.{Feed}
-use Rattle.tiny_http_core.specs.declared.body.Body.TheVariants.{Over, Counted}
+use Rattle.tiny_http_core.specs.declared.body.Body.TheVariants.{Over}
 use Rattle.tiny_http_core.specs.Body.{remaining, with_bytes, counted_left}
 use Rattle.tiny_http_core.proofs.PartLemmas.{nothing-given}
 use Rattle.tiny_http_core.proofs.BodyReads.{counted-bytes, counted-none, cut-is, cut-stops, taken-stops, read-nothing}

@@ -1,4 +1,4 @@
-use Rattle.std.proofs.Common.{rules, ◌≡◌, sym, ap, ◌∙◌, subst, true, false, List, [], ◌∷◌, ◌++◌, Option, Some, None, Result, Ok, Err, ℕ, Bool}
+use Rattle.std.proofs.Common.{rules, ◌≡◌, sym, ap, ◌∙◌, subst, true, List, [], ◌∷◌, ◌++◌, Option, Result, Ok, Err, ℕ, Bool}
 use Rattle.std.specs.Global.{Vec}
 use Rattle.std.specs.declared.alloc.AllocError.{AllocError}
 use Rattle.tiny_http_core.specs.declared.exchange.Waiting.{Waiting}
@@ -10,7 +10,7 @@ use Rattle.tiny_http_core.specs.HeadReads.{ReadsHead, head_message, head_framing
 use Rattle.tiny_http_core.specs.Turns.{Mark, AreInShape, Open}
 use Rattle.tiny_http_core.specs.Outlet.{outlet_sink, outlet_ended}
 use Rattle.tiny_http_core.specs.Steps.{Ask, Ended, Memory, Handed}
-use Rattle.tiny_http_core.specs.Connection.{Kept, kept, InputEnded}
+use Rattle.tiny_http_core.specs.Connection.{Kept, kept}
 use Rattle.tiny_http_core.proofs.AskLemmas.{Answered, ask-ended, ask-over, ask-none, ask-memory, ask-not_yet, ask-handed, ask-refused}
 use Rattle.tiny_http_core.proofs.OutputLemmas.{can-send}
 use Rattle.tiny_http_core.proofs.driver.Connection.ask.Goals as goal

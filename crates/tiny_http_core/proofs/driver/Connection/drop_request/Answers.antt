@@ -1,4 +1,4 @@
-use Rattle.std.proofs.Common.{refl, sym, ap, ◌∙◌, subst, List, Option, ℕ}
+use Rattle.std.proofs.Common.{refl, sym, ap, ◌∙◌, subst, List, Option}
 use Rattle.std.specs.Prelude.{◌==◌}
 use Rattle.tiny_http_core.specs.declared.exchange.Waiting.{Waiting}
 use Rattle.tiny_http_core.specs.Steps.{Drop, NoSuch}

@@ -1,11 +1,8 @@
-use Rattle.std.proofs.Common.{rules, ◌≡◌, refl, sym, ap, ◌∙◌, subst, true, false, List, [], ◌∷◌, Option, Some, None, Ok, Err, ℕ, ◌++◌, length, take, drop, arith}
+use Rattle.std.proofs.Common.{rules, ◌≡◌, refl, sym, ap, ◌∙◌, subst, List, [], ◌∷◌, Ok, Err, ℕ, ◌++◌, length, take, drop, arith}
 use Rattle.std.proofs.lemmas.Grind.{common_steps}
-use Rattle.std.specs.Prelude.{slice_get, slice_set}
-use Rattle.tiny_http_core.specs.declared.exchange.Waiting.{Waiting}
-use Rattle.tiny_http_core.specs.declared.exchange.AnswerForm.{AnswerForm}
-use Rattle.tiny_http_core.specs.Steps.{Read, Given, Fault, NoSuch, Memory, Replied}
+use Rattle.std.specs.Prelude.{slice_get}
+use Rattle.tiny_http_core.specs.Steps.{Read, Given, Fault}
 use Rattle.tiny_http_core.specs.Turns.{Mark}
-use Rattle.tiny_http_core.specs.Pending.{waiting_form}
 use Rattle.tiny_http_core.specs.Connection.{Kept, kept}
 use Rattle.tiny_http_core.proofs.AskLemmas.{Answered}
 use Rattle.tiny_http_core.proofs.BodySteps.{with_reader}
@@ -57,10 +54,10 @@ returns-in-Err-clause-stands g c client before s date st =
     let done = read-done client before k s date n c.args.count w.0 fills.0 q.source c.fill.new.source c.fill.new.self.requests.items (Err c.in-Err.kind) c.fill.new.buf st w.1 fills.1 (record { feed = refl; stop = refl; ends = refl }) tt size (omega (arith, c.if-count-eq0.false)) fills.2 fills.3 c.fill.ensures.goes_on in
     let P : List Mark → Type 0 = λ m. Answered client before (record (with_reader k c.fill.new.self.requests.items c.fill.new.source) { marks = m }) s date (Read n c.args.count) (Fault c.in-Err.kind) in
     subst P (ap (λ t. t.marks) (sym c.fill.ensures.turns)) done
+
 pub returns-in_default-zeros-clause-stands : goal.returns-in_default-zeros-clause-stands
 returns-in_default-zeros-clause-stands g c client before s date st =
     let n = c.args.number in
     let k : Kept = kept g.W.WriteDevice.sink c.args.self.now in
     let w = form-some (slice_get k.requests n) c.in-Some.field-0 (sym c.form_at.ensures ∙ c.in-Some.is) in
     read-memory client before k s date n c.args.count w.0 st w.1
-

@@ -1,4 +1,4 @@
-use Rattle.std.proofs.Common.{◌<◌, ◌≤◌, arith, length, take}
+use Rattle.std.proofs.Common.{arith, take}
 use Rattle.std.proofs.lemmas.List.{length-take-le}
 use Rattle.std.specs.IoError.{error_kind}
 use Rattle.tiny_http_core.proofs.PartLemmas.{part-none, part-fault, part-bytes, part-end, last-bytes}

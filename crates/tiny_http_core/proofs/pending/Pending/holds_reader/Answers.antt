@@ -1,6 +1,6 @@
-use Rattle.std.proofs.Common.{◌≡◌, sym, ap, ◌∙◌, Some, None, Option}
+use Rattle.std.proofs.Common.{sym, ap, ◌∙◌, Some, None, Option}
 use Rattle.tiny_http_core.specs.declared.exchange.Waiting.{Waiting}
-use Rattle.tiny_http_core.proofs.ReaderLemmas.{held_at, held-is}
+use Rattle.tiny_http_core.proofs.ReaderLemmas.{held-is}
 use Rattle.tiny_http_core.proofs.pending.Pending.holds_reader.Goals as goal
 
 pub returns-in_default : goal.returns-in_default
