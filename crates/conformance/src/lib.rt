@@ -13,6 +13,8 @@ mod persistence;
 #[cfg(test)]
 mod pipelining;
 #[cfg(test)]
+mod reading;
+#[cfg(test)]
 mod runs;
 #[cfg(test)]
 mod turns;
