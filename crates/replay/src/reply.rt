@@ -64,9 +64,8 @@ impl fmt::Display for Bytes<'_> {
         }
         write!(f, " ")?;
         for byte in bytes {
-            let high = byte / 16;
-            let low = byte % 16;
-            write!(f, "{high:x}{low:x}")?;
+            let byte = *byte;
+            write!(f, "{byte:02x}")?;
         }
         Ok(())
     }
