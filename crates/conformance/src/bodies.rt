@@ -1,13 +1,14 @@
 //! Bodies: those that are read with their heads, and those that are read from the stream.
 use crate::runs::Deed::{Ask, Drop, Read, Text};
-use crate::runs::{AMPLE, Case, Deed, EMPTY, TEXT, Trouble, assert_case, assert_troubled};
+use crate::runs::{Case, EMPTY, TEXT, assert_case};
 use std::alloc::{AllocError, Global};
-use std::io::ErrorKind;
 use std::test::Fail;
 
-const ANSWER: &[&str] = &["HTTP/1.1 200 OK\r\n", TEXT, "Content-Length: 1\r\n\r\nx"];
+/// The output where a request is answered by `x`.
+pub(crate) const ANSWER: &[&str] = &["HTTP/1.1 200 OK\r\n", TEXT, "Content-Length: 1\r\n\r\nx"];
 
-const ERROR: &[&str] = &["HTTP/1.1 500 Internal Server Error\r\n", EMPTY];
+/// The output where a request is dropped.
+pub(crate) const ERROR: &[&str] = &["HTTP/1.1 500 Internal Server Error\r\n", EMPTY];
 
 #[test]
 fn a_body_is_as_long_as_its_head_says(rt: HostRuntime) -> Result<(), Fail> {
@@ -167,7 +168,9 @@ fn a_longer_body_holds_the_next_head(rt: HostRuntime) -> Result<(), Fail> {
         (Text(0, "x"), "done", ANSWER),
         (Drop(0), "done", ERROR),
     ] {
-        let told = format!(in alloc; "0: POST / 1.1 [Content-Length: 1025] length 1025; given *; not yet; {reply}; 1: GET /b 1.1")?;
+        let told = format!(in alloc;
+            "0: POST / 1.1 [Content-Length: 1025] length 1025; given *; not yet; {reply}; 1: GET /b 1.1"
+        )?;
         let replies = replies_of(alloc, told.as_str(), 1024)?;
         let case = Case {
             client: client.as_slice(),
@@ -204,130 +207,6 @@ fn a_body_without_an_end_is_cut_by_the_end(rt: HostRuntime) -> Result<(), Fail> 
         assert_case(&rt, rt.alloc(), &case)?;
     }
     Ok(())
-}
-
-// The head of a chunked request, as the replies tell it.
-const CHUNKED: &str = "0: POST / 1.1 [Transfer-Encoding: chunked]";
-
-// A run over a chunked body, behind its head: what the steps behind the first Ask are answered.
-fn chunked(
-    alloc: Global,
-    body: &[u8],
-    replies: &str,
-) -> Result<(Vec<u8>, String), AllocError> {
-    let mut client = b"POST / HTTP/1.1\r\nTransfer-Encoding: chunked\r\n\r\n".to_vec(alloc)?;
-    client.extend_from_slice(body)?;
-    let told = format!(in alloc; "{CHUNKED}; {replies}")?;
-    Ok((client, told))
-}
-
-#[test]
-fn a_chunked_body_is_read(rt: HostRuntime) -> Result<(), Fail> {
-    let whole = b"5;x=1\r\nhello\r\n0\r\nT: v\r\n\r\nGET /b HTTP/1.1\r\n\r\n".as_slice();
-    for (body, deeds, replies, output) in [
-        (
-            whole,
-            [Ask, Read(0, 5), Ask, Read(0, 1), Ask].as_slice(),
-            "given hello; not yet; given; 1: GET /b 1.1",
-            [].as_slice(),
-        ),
-        (
-            whole,
-            &[Ask, Read(0, 5), Drop(0), Ask],
-            "given hello; done; ended",
-            ERROR,
-        ),
-        (whole, &[Ask, Text(0, "x"), Ask], "done; ended", ANSWER),
-        (
-            b"5\r\nhelloXY",
-            &[Ask, Read(0, 9), Read(0, 1), Read(0, 1), Ask],
-            "given hello; fault InvalidData; fault InvalidData; ended",
-            &[],
-        ),
-        (
-            b"5\r\nhel",
-            &[Ask, Read(0, 9), Read(0, 9)],
-            "given hel; fault UnexpectedEof",
-            &[],
-        ),
-    ] {
-        let (client, told) = chunked(rt.alloc(), body, replies)?;
-        let case = Case {
-            client: client.as_slice(),
-            deeds,
-            replies: told.as_str(),
-            output,
-        };
-        assert_case(&rt, rt.alloc(), &case)?;
-    }
-    Ok(())
-}
-
-// The client sends these bytes, and then the reader times out.
-const TIMES_OUT: Trouble = Trouble {
-    reader: Some(ErrorKind::TimedOut),
-    room: AMPLE,
-    writer: ErrorKind::Other,
-};
-
-#[test]
-fn a_time_out_within_a_body_is_told(rt: HostRuntime) -> Result<(), Fail> {
-    for (client, head) in [
-        (
-            b"GET / HTTP/1.1\r\nContent-Length: 2000\r\n\r\nabc".as_slice(),
-            "0: GET / 1.1 [Content-Length: 2000] length 2000",
-        ),
-        (
-            b"POST / HTTP/1.1\r\nTransfer-Encoding: chunked\r\n\r\n5\r\nabc".as_slice(),
-            CHUNKED,
-        ),
-    ] {
-        let reads = [Ask, Read(0, 10), Read(0, 1), Read(0, 1), Ask];
-        let gives_up = [Ask, Text(0, "x"), Ask];
-        for (deeds, rest, output) in [
-            (
-                reads.as_slice(),
-                "given abc; fault TimedOut; fault TimedOut; ended",
-                [].as_slice(),
-            ),
-            (gives_up.as_slice(), "done; ended", ANSWER),
-        ] {
-            let replies = format!(in rt.alloc(); "{head}; {rest}")?;
-            let case = Case {
-                client,
-                deeds,
-                replies: replies.as_str(),
-                output,
-            };
-            assert_troubled(&rt, rt.alloc(), &case, TIMES_OUT)?;
-        }
-    }
-    Ok(())
-}
-
-#[test]
-fn a_read_of_nothing_changes_nothing(rt: HostRuntime) -> Result<(), Fail> {
-    let counted = b"GET / HTTP/1.1\r\nContent-Length: 2000\r\n\r\nabc".as_slice();
-    let deeds: &[Deed<'_>] = &[Ask, Read(0, 0), Ask, Read(0, 3), Read(0, 0), Read(0, 1), Read(0, 0), Read(0, 1)];
-    let case = Case {
-        client: counted,
-        deeds,
-        replies: "0: GET / 1.1 [Content-Length: 2000] length 2000; given; not yet; given abc; given; fault TimedOut; given; fault TimedOut",
-        output: &[],
-    };
-    assert_troubled(&rt, rt.alloc(), &case, TIMES_OUT)?;
-    let (client, told) = chunked(
-        rt.alloc(),
-        b"3\r\nabcXY",
-        "given; not yet; given abc; given; fault InvalidData; given; fault InvalidData",
-    )?;
-    let case = Case {
-        client: client.as_slice(),
-        deeds,
-        replies: told.as_str(),
-        output: &[],
-    };
-    assert_case(&rt, rt.alloc(), &case)
 }
 
 #[test]
@@ -381,7 +260,9 @@ fn a_body_is_read_behind_a_later_request(rt: HostRuntime) -> Result<(), Fail> {
 #[test]
 fn the_last_body_is_read_behind_the_end(rt: HostRuntime) -> Result<(), Fail> {
     let alloc = rt.alloc();
-    let mut client = b"POST / HTTP/1.1\r\nConnection: close\r\nContent-Length: 2000\r\n\r\n".to_vec(alloc)?;
+    let mut client = b"POST / HTTP/1.1\r\nConnection: close\r\nContent-Length: 2000\r\n\r\n".to_vec(
+        alloc,
+    )?;
     for _ in 0..2000 {
         client.push(b'x')?;
     }

@@ -7,6 +7,8 @@ mod answers;
 #[cfg(test)]
 mod bodies;
 #[cfg(test)]
+mod exchanges;
+#[cfg(test)]
 mod heads;
 #[cfg(test)]
 mod persistence;

@@ -1,14 +1,140 @@
-//! A client's bytes cut at every place, and requests that are read without a driver.
-use crate::runs::Deed::{Ask, Read};
-use crate::runs::{Case, EMPTY, Pieces, SIZES, assert_case};
-use httpdate::HttpDate;
-use std::alloc::Global;
+//! Chunked bodies, bodies that a fault cuts, and a client's bytes cut at every place.
+use crate::bodies::{ANSWER, ERROR};
+use crate::runs::Deed::{Ask, Drop, Read, Text};
+use crate::runs::{AMPLE, Case, Deed, Trouble, assert_case, assert_troubled};
+use std::alloc::{AllocError, Global};
 use std::io::ErrorKind;
-use std::process::Abort;
 use std::test::Fail;
-use tiny_http_core::exchange::{Exchange, HeadRead, read_head};
-use tiny_http_core::source::Source;
-use tiny_http_wire::device::Canned;
+
+// The head of a chunked request, as the replies tell it.
+const CHUNKED: &str = "0: POST / 1.1 [Transfer-Encoding: chunked]";
+
+// A run over a chunked body, behind its head: what the steps behind the first Ask are answered.
+fn chunked(alloc: Global, body: &[u8], replies: &str) -> Result<(Vec<u8>, String), AllocError> {
+    let mut client = b"POST / HTTP/1.1\r\nTransfer-Encoding: chunked\r\n\r\n".to_vec(alloc)?;
+    client.extend_from_slice(body)?;
+    let told = format!(in alloc; "{CHUNKED}; {replies}")?;
+    Ok((client, told))
+}
+
+#[test]
+fn a_chunked_body_is_read(rt: HostRuntime) -> Result<(), Fail> {
+    let whole = b"5;x=1\r\nhello\r\n0\r\nT: v\r\n\r\nGET /b HTTP/1.1\r\n\r\n".as_slice();
+    for (body, deeds, replies, output) in [
+        (
+            whole,
+            [Ask, Read(0, 5), Ask, Read(0, 1), Ask].as_slice(),
+            "given hello; not yet; given; 1: GET /b 1.1",
+            [].as_slice(),
+        ),
+        (
+            whole,
+            &[Ask, Read(0, 5), Drop(0), Ask],
+            "given hello; done; ended",
+            ERROR,
+        ),
+        (whole, &[Ask, Text(0, "x"), Ask], "done; ended", ANSWER),
+        (
+            b"5\r\nhelloXY",
+            &[Ask, Read(0, 9), Read(0, 1), Read(0, 1), Ask],
+            "given hello; fault InvalidData; fault InvalidData; ended",
+            &[],
+        ),
+        (
+            b"5\r\nhel",
+            &[Ask, Read(0, 9), Read(0, 9)],
+            "given hel; fault UnexpectedEof",
+            &[],
+        ),
+    ] {
+        let (client, told) = chunked(rt.alloc(), body, replies)?;
+        let case = Case {
+            client: client.as_slice(),
+            deeds,
+            replies: told.as_str(),
+            output,
+        };
+        assert_case(&rt, rt.alloc(), &case)?;
+    }
+    Ok(())
+}
+
+// The client sends these bytes, and then the reader times out.
+const TIMES_OUT: Trouble = Trouble {
+    reader: Some(ErrorKind::TimedOut),
+    room: AMPLE,
+    writer: ErrorKind::Other,
+};
+
+#[test]
+fn a_time_out_within_a_body_is_told(rt: HostRuntime) -> Result<(), Fail> {
+    for (client, head) in [
+        (
+            b"GET / HTTP/1.1\r\nContent-Length: 2000\r\n\r\nabc".as_slice(),
+            "0: GET / 1.1 [Content-Length: 2000] length 2000",
+        ),
+        (
+            b"POST / HTTP/1.1\r\nTransfer-Encoding: chunked\r\n\r\n5\r\nabc".as_slice(),
+            CHUNKED,
+        ),
+    ] {
+        let reads = [Ask, Read(0, 10), Read(0, 1), Read(0, 1), Ask];
+        let gives_up = [Ask, Text(0, "x"), Ask];
+        for (deeds, rest, output) in [
+            (
+                reads.as_slice(),
+                "given abc; fault TimedOut; fault TimedOut; ended",
+                [].as_slice(),
+            ),
+            (gives_up.as_slice(), "done; ended", ANSWER),
+        ] {
+            let replies = format!(in rt.alloc(); "{head}; {rest}")?;
+            let case = Case {
+                client,
+                deeds,
+                replies: replies.as_str(),
+                output,
+            };
+            assert_troubled(&rt, rt.alloc(), &case, TIMES_OUT)?;
+        }
+    }
+    Ok(())
+}
+
+// Reads of nothing, before any byte and behind a fault that was told.
+const READS_OF_NOTHING: &[Deed<'static>] = &[
+    Ask,
+    Read(0, 0),
+    Ask,
+    Read(0, 3),
+    Read(0, 0),
+    Read(0, 1),
+    Read(0, 0),
+    Read(0, 1),
+];
+
+#[test]
+fn a_read_of_nothing_changes_nothing(rt: HostRuntime) -> Result<(), Fail> {
+    let case = Case {
+        client: b"GET / HTTP/1.1\r\nContent-Length: 2000\r\n\r\nabc",
+        deeds: READS_OF_NOTHING,
+        replies: "0: GET / 1.1 [Content-Length: 2000] length 2000; given; not yet; given abc; given; fault TimedOut; given; fault TimedOut",
+        output: &[],
+    };
+    assert_troubled(&rt, rt.alloc(), &case, TIMES_OUT)?;
+    let (client, told) = chunked(
+        rt.alloc(),
+        b"3\r\nabcXY",
+        "given; not yet; given abc; given; fault InvalidData; given; fault InvalidData",
+    )?;
+    let case = Case {
+        client: client.as_slice(),
+        deeds: READS_OF_NOTHING,
+        replies: told.as_str(),
+        output: &[],
+    };
+    assert_case(&rt, rt.alloc(), &case)
+}
 
 const THREE: &[u8] =
     b"GET / HTTP/1.1\r\n\r\nPOST /p HTTP/1.1\r\nContent-Length: 2\r\n\r\nokPOST /c HTTP/1.1\r\nTransfer-Encoding: chunked\r\n\r\n2\r\nhi\r\n0\r\n\r\n";
@@ -53,223 +179,6 @@ fn three_requests_are_cut_at_every_place(rt: HostRuntime) -> Result<(), Fail> {
             output: &[],
         };
         assert_case(&rt, rt.alloc(), &case)?;
-    }
-    Ok(())
-}
-
-// A source of these bytes and then this fault, if any, in pieces of at most so many.
-fn source_of(
-    alloc: Global,
-    client: &[u8],
-    fault: Option<ErrorKind>,
-    most: usize,
-) -> Result<Source<Pieces>, Fail> {
-    let reader = Canned::new(client.to_vec(alloc)?, fault);
-    Ok(Source::new(Pieces::new(reader, most)))
-}
-
-fn date() -> Result<HttpDate, Fail> {
-    Ok(HttpDate::from_unix_secs(420_895_020)?)
-}
-
-// The request that is read next, of this target.
-fn request(
-    rt: &impl Abort,
-    alloc: Global,
-    source: &mut Source<Pieces>,
-    path: &str,
-) -> Result<Exchange, Fail> {
-    let HeadRead::Request(exchange) = read_head(alloc, source, date()?)? else {
-        return Err("no request".into());
-    };
-    assert_eq!(rt; exchange.head().path.as_str(), path);
-    Ok(exchange)
-}
-
-fn assert_ended(
-    rt: &impl Abort,
-    alloc: Global,
-    source: &mut Source<Pieces>,
-) -> Result<(), Fail> {
-    for _ in 0..2 {
-        let ended = matches!(read_head(alloc, source, date()?)?, HeadRead::Ended);
-        assert!(rt; ended);
-    }
-    Ok(())
-}
-
-// Reads the body until there are so many bytes or no more follow.
-fn body_of(
-    alloc: Global,
-    exchange: &mut Exchange,
-    source: &mut Source<Pieces>,
-    count: usize,
-) -> Result<Vec<u8>, Fail> {
-    let mut bytes = Vec::new(alloc);
-    bytes.resize(count, 0)?;
-    let mut at = 0;
-    while at < count {
-        let n = exchange.read_body(source, &mut bytes[at..])?;
-        if n == 0 {
-            break;
-        }
-        at += n;
-    }
-    bytes.truncate(at);
-    Ok(bytes)
-}
-
-// These bytes of the body are read.
-fn assert_body(
-    rt: &impl Abort,
-    alloc: Global,
-    (exchange, source): (&mut Exchange, &mut Source<Pieces>),
-    count: usize,
-    wanted: &[u8],
-) -> Result<(), Fail> {
-    let body = body_of(alloc, exchange, source, count)?;
-    assert_eq!(rt; body.as_slice(), wanted);
-    Ok(())
-}
-
-#[test]
-fn bodies_without_a_driver(rt: HostRuntime) -> Result<(), Fail> {
-    let alloc = rt.alloc();
-    for most in SIZES {
-        let mut source = source_of(alloc, THREE, None, most)?;
-        let mut first = request(&rt, alloc, &mut source, "/")?;
-        assert_body(&rt, alloc, (&mut first, &mut source), 9, b"")?;
-        let mut held = request(&rt, alloc, &mut source, "/p")?;
-        assert_eq!(rt; held.head().body_length, Some(2));
-        let mut chunked = request(&rt, alloc, &mut source, "/c")?;
-        assert_eq!(rt; chunked.head().body_length, None);
-        assert_body(&rt, alloc, (&mut held, &mut source), 9, b"ok")?;
-        assert_body(&rt, alloc, (&mut chunked, &mut source), 9, b"hi")?;
-        assert_body(&rt, alloc, (&mut chunked, &mut source), 9, b"")?;
-        assert_ended(&rt, alloc, &mut source)?;
-    }
-    Ok(())
-}
-
-// A body of 1500 bytes that is read from the stream, and a request behind it.
-fn counted(alloc: Global) -> Result<Vec<u8>, Fail> {
-    let mut client = b"POST /a HTTP/1.1\r\nContent-Length: 1500\r\n\r\n".to_vec(alloc)?;
-    for _ in 0..1500 {
-        client.push(b'x')?;
-    }
-    client.extend_from_slice(b"GET /b HTTP/1.1\r\n\r\n")?;
-    Ok(client)
-}
-
-#[test]
-fn the_next_head_stands_behind_a_counted_body(rt: HostRuntime) -> Result<(), Fail> {
-    let alloc = rt.alloc();
-    let client = counted(alloc)?;
-    for most in SIZES {
-        for (count, gives_up) in [(1500, false), (1500, true), (700, true), (0, true)] {
-            let mut source = source_of(alloc, client.as_slice(), None, most)?;
-            let mut exchange = request(&rt, alloc, &mut source, "/a")?;
-            let body = body_of(alloc, &mut exchange, &mut source, count)?;
-            assert_eq!(rt; body.len(), count);
-            assert!(rt; body.iter().all(|b| *b == b'x'));
-            if gives_up {
-                exchange.give_up(&mut source);
-                assert_body(&rt, alloc, (&mut exchange, &mut source), 9, b"")?;
-            }
-            let _behind = request(&rt, alloc, &mut source, "/b")?;
-            assert_ended(&rt, alloc, &mut source)?;
-        }
-    }
-    Ok(())
-}
-
-const CHUNKED: &[u8] =
-    b"POST /c HTTP/1.1\r\nTransfer-Encoding: chunked\r\n\r\n2\r\nhi\r\n0\r\n\r\nGET /b HTTP/1.1\r\n\r\n";
-
-#[test]
-fn no_head_stands_behind_a_chunked_body_given_up(rt: HostRuntime) -> Result<(), Fail> {
-    let alloc = rt.alloc();
-    for most in SIZES {
-        for count in 0..3 {
-            let mut source = source_of(alloc, CHUNKED, None, most)?;
-            let mut exchange = request(&rt, alloc, &mut source, "/c")?;
-            let body = body_of(alloc, &mut exchange, &mut source, count)?;
-            assert_eq!(rt; body.len(), count);
-            exchange.give_up(&mut source);
-            assert_ended(&rt, alloc, &mut source)?;
-        }
-        let mut source = source_of(alloc, CHUNKED, None, most)?;
-        let mut exchange = request(&rt, alloc, &mut source, "/c")?;
-        assert_body(&rt, alloc, (&mut exchange, &mut source), 3, b"hi")?;
-        exchange.give_up(&mut source);
-        let _behind = request(&rt, alloc, &mut source, "/b")?;
-    }
-    Ok(())
-}
-
-// Each of three reads tells this fault.
-fn assert_fault(
-    rt: &impl Abort,
-    exchange: &mut Exchange,
-    source: &mut Source<Pieces>,
-    kind: ErrorKind,
-) -> Result<(), Fail> {
-    for _ in 0..3 {
-        let mut buf = [0u8; 4];
-        let Err(fault) = exchange.read_body(source, &mut buf) else {
-            return Err("no fault".into());
-        };
-        assert_eq!(rt; fault.kind(), kind);
-    }
-    Ok(())
-}
-
-#[test]
-fn no_head_stands_behind_a_fault_of_a_body(rt: HostRuntime) -> Result<(), Fail> {
-    let alloc = rt.alloc();
-    for (client, fault, kind) in [
-        (
-            b"POST /a HTTP/1.1\r\nContent-Length: 2000\r\n\r\nabc".as_slice(),
-            Some(ErrorKind::TimedOut),
-            ErrorKind::TimedOut,
-        ),
-        (
-            b"POST /a HTTP/1.1\r\nTransfer-Encoding: chunked\r\n\r\n3\r\nabcGET /b HTTP/1.1\r\n\r\n".as_slice(),
-            None,
-            ErrorKind::InvalidData,
-        ),
-        (
-            b"POST /a HTTP/1.1\r\nTransfer-Encoding: chunked\r\n\r\n5\r\nabc".as_slice(),
-            None,
-            ErrorKind::UnexpectedEof,
-        ),
-    ] {
-        for most in SIZES {
-            let mut source = source_of(alloc, client, fault, most)?;
-            let mut exchange = request(&rt, alloc, &mut source, "/a")?;
-            assert_body(&rt, alloc, (&mut exchange, &mut source), 3, b"abc")?;
-            assert_fault(&rt, &mut exchange, &mut source, kind)?;
-            assert_ended(&rt, alloc, &mut source)?;
-        }
-    }
-    Ok(())
-}
-
-#[test]
-fn heads_that_are_no_requests(rt: HostRuntime) -> Result<(), Fail> {
-    let alloc = rt.alloc();
-    let bad = b"qsd qsd qsd\r\nGET / HTTP/1.1\r\n\r\n".as_slice();
-    let refusal = format!(in alloc; "HTTP/1.1 400 Bad Request\r\n{EMPTY}")?;
-    for most in SIZES {
-        let mut source = source_of(alloc, bad, None, most)?;
-        let HeadRead::Refused { text, last } = read_head(alloc, &mut source, date()?)? else {
-            return Err("not refused".into());
-        };
-        assert_eq!(rt; text.as_slice(), refusal.as_str().as_bytes());
-        assert!(rt; last);
-        let cut = b"GET / HTTP/1.1\r\nHost: a".as_slice();
-        let mut source = source_of(alloc, cut, Some(ErrorKind::TimedOut), most)?;
-        assert_ended(&rt, alloc, &mut source)?;
     }
     Ok(())
 }
