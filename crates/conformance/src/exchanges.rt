@@ -54,16 +54,15 @@ fn body_of(
     count: usize,
 ) -> Result<Vec<u8>, Fail> {
     let mut bytes = Vec::new(alloc);
-    bytes.resize(count, 0)?;
-    let mut at = 0;
-    while at < count {
-        let n = exchange.read_body(source, &mut bytes[at..])?;
+    let mut buf = [0u8; 1024];
+    for _ in 0..count {
+        let room = count.saturating_sub(bytes.len()).min(buf.len());
+        let n = exchange.read_body(source, &mut buf[..room])?;
         if n == 0 {
             break;
         }
-        at += n;
+        bytes.extend_from_slice(&buf[..n])?;
     }
-    bytes.truncate(at);
     Ok(bytes)
 }
 
