@@ -1,10 +1,14 @@
-//! Bodies that are read with their heads, and what isn't served yet.
-use crate::runs::Deed::{Ask, Text};
-use crate::runs::{Case, TEXT, assert_case};
+//! Bodies: those that are read with their heads, and those that are read from the stream.
+use crate::runs::Deed::{Ask, Drop, Read, Text};
+use crate::runs::{Case, EMPTY, TEXT, assert_case};
 use std::alloc::{AllocError, Global};
 use std::test::Fail;
 
-const ANSWER: &[&str] = &["HTTP/1.1 200 OK\r\n", TEXT, "Content-Length: 1\r\n\r\nx"];
+/// The output where a request is answered by `x`.
+pub(crate) const ANSWER: &[&str] = &["HTTP/1.1 200 OK\r\n", TEXT, "Content-Length: 1\r\n\r\nx"];
+
+/// The output where a request is dropped.
+pub(crate) const ERROR: &[&str] = &["HTTP/1.1 500 Internal Server Error\r\n", EMPTY];
 
 #[test]
 fn a_body_is_as_long_as_its_head_says(rt: HostRuntime) -> Result<(), Fail> {
@@ -42,19 +46,76 @@ fn a_body_is_as_long_as_its_head_says(rt: HostRuntime) -> Result<(), Fail> {
     Ok(())
 }
 
-// A head that announces a body of 1024 bytes, and so many of them.
-fn announced(alloc: Global, length: usize) -> Result<Vec<u8>, AllocError> {
-    let mut client = b"POST / HTTP/1.1\r\nContent-Length: 1024\r\n\r\n".to_vec(alloc)?;
-    for _ in 0..length {
+#[test]
+fn a_short_body_is_read(rt: HostRuntime) -> Result<(), Fail> {
+    for (client, deeds, replies) in [
+        (
+            b"GET / HTTP/1.1\r\nContent-Length: 3\r\n\r\nhello".as_slice(),
+            [Ask, Read(0, 10), Ask].as_slice(),
+            "0: GET / 1.1 [Content-Length: 3] length 3; given hel; ended",
+        ),
+        (
+            b"GET / HTTP/1.1\r\nContent-Length: +5\r\n\r\nhello".as_slice(),
+            &[Ask, Read(0, 10)],
+            "0: GET / 1.1 [Content-Length: +5] length 5; given hello",
+        ),
+        (
+            b"GET / HTTP/1.1\r\nContent-Length: 18446744073709551616\r\n\r\nhello".as_slice(),
+            &[Ask, Read(0, 5)],
+            "0: GET / 1.1 [Content-Length: 18446744073709551616]; given",
+        ),
+        (
+            b"GET / HTTP/1.1\r\nContent-Length: 5\r\n\r\nhello".as_slice(),
+            &[Ask, Read(0, 2), Read(0, 3), Read(0, 1)],
+            "0: GET / 1.1 [Content-Length: 5] length 5; given he; given llo; given",
+        ),
+    ] {
+        let case = Case {
+            client,
+            deeds,
+            replies,
+            output: &[],
+        };
+        assert_case(&rt, rt.alloc(), &case)?;
+    }
+    Ok(())
+}
+
+// A head that announces a body of so many bytes, and some of them.
+fn announced(alloc: Global, said: usize, sent: usize) -> Result<Vec<u8>, AllocError> {
+    let head = format!(in alloc; "POST / HTTP/1.1\r\nContent-Length: {said}\r\n\r\n")?;
+    let mut client = head.as_str().as_bytes().to_vec(alloc)?;
+    for _ in 0..sent {
         client.push(b'x')?;
     }
+    Ok(client)
+}
+
+// The same, and a request behind them.
+fn followed(alloc: Global, said: usize, sent: usize) -> Result<Vec<u8>, AllocError> {
+    let mut client = announced(alloc, said, sent)?;
     client.extend_from_slice(b"GET /b HTTP/1.1\r\n\r\n")?;
     Ok(client)
 }
 
+// Replies, where `*` stands for so many bytes of the body.
+fn replies_of(alloc: Global, replies: &str, count: usize) -> Result<String, AllocError> {
+    let mut told = String::new(alloc);
+    for c in replies.chars() {
+        if c == '*' {
+            for _ in 0..count {
+                told.push('x')?;
+            }
+        } else {
+            told.push(c)?;
+        }
+    }
+    Ok(told)
+}
+
 #[test]
 fn the_longest_body_that_is_read_with_its_head(rt: HostRuntime) -> Result<(), Fail> {
-    let client = announced(rt.alloc(), 1024)?;
+    let client = followed(rt.alloc(), 1024, 1024)?;
     let case = Case {
         client: client.as_slice(),
         deeds: &[Ask, Text(0, "x"), Ask],
@@ -65,22 +126,163 @@ fn the_longest_body_that_is_read_with_its_head(rt: HostRuntime) -> Result<(), Fa
 }
 
 #[test]
-fn a_body_that_is_cut_ends_the_connection(rt: HostRuntime) -> Result<(), Fail> {
-    let client = announced(rt.alloc(), 1004)?;
+fn a_held_body_that_is_cut_ends_the_connection(rt: HostRuntime) -> Result<(), Fail> {
+    let shorter = followed(rt.alloc(), 1024, 1004)?;
+    let by_one = announced(rt.alloc(), 1024, 1023)?;
+    for client in [shorter.as_slice(), by_one.as_slice()] {
+        let case = Case {
+            client,
+            deeds: &[Ask, Ask],
+            replies: "ended; ended",
+            output: &[],
+        };
+        assert_case(&rt, rt.alloc(), &case)?;
+    }
+    Ok(())
+}
+
+#[test]
+fn a_longer_body_that_is_cut_ends_there(rt: HostRuntime) -> Result<(), Fail> {
+    let alloc = rt.alloc();
+    let client = announced(alloc, 1025, 1024)?;
+    let replies = replies_of(
+        alloc,
+        "0: POST / 1.1 [Content-Length: 1025] length 1025; given *; given; ended",
+        1024,
+    )?;
     let case = Case {
         client: client.as_slice(),
-        deeds: &[Ask, Ask],
-        replies: "ended; ended",
+        deeds: &[Ask, Read(0, 2000), Read(0, 2000), Ask],
+        replies: replies.as_str(),
         output: &[],
+    };
+    assert_case(&rt, alloc, &case)
+}
+
+#[test]
+fn a_longer_body_holds_the_next_head(rt: HostRuntime) -> Result<(), Fail> {
+    let alloc = rt.alloc();
+    let client = followed(alloc, 1025, 1025)?;
+    for (deed, reply, output) in [
+        (Read(0, 1), "given x", [].as_slice()),
+        (Text(0, "x"), "done", ANSWER),
+        (Drop(0), "done", ERROR),
+    ] {
+        let told = format!(in alloc;
+            "0: POST / 1.1 [Content-Length: 1025] length 1025; given *; not yet; {reply}; 1: GET /b 1.1"
+        )?;
+        let replies = replies_of(alloc, told.as_str(), 1024)?;
+        let case = Case {
+            client: client.as_slice(),
+            deeds: &[Ask, Read(0, 1024), Ask, deed, Ask],
+            replies: replies.as_str(),
+            output,
+        };
+        assert_case(&rt, alloc, &case)?;
+    }
+    Ok(())
+}
+
+#[test]
+fn a_body_without_an_end_is_cut_by_the_end(rt: HostRuntime) -> Result<(), Fail> {
+    let client = b"GET / HTTP/1.1\r\nContent-Length: 18446744073709551615\r\n\r\nabc";
+    for (deeds, replies, output) in [
+        (
+            [Ask, Read(0, 10), Read(0, 10), Ask].as_slice(),
+            "0: GET / 1.1 [Content-Length: 18446744073709551615] length 18446744073709551615; given abc; given; ended",
+            [].as_slice(),
+        ),
+        (
+            &[Ask, Drop(0), Ask],
+            "0: GET / 1.1 [Content-Length: 18446744073709551615] length 18446744073709551615; done; ended",
+            ERROR,
+        ),
+    ] {
+        let case = Case {
+            client,
+            deeds,
+            replies,
+            output,
+        };
+        assert_case(&rt, rt.alloc(), &case)?;
+    }
+    Ok(())
+}
+
+#[test]
+fn only_an_open_request_is_read(rt: HostRuntime) -> Result<(), Fail> {
+    let case = Case {
+        client: b"POST / HTTP/1.1\r\nContent-Length: 5\r\n\r\nhello",
+        deeds: &[
+            Read(0, 1),
+            Ask,
+            Read(1, 1),
+            Read(u64::MAX, 0),
+            Text(0, "x"),
+            Read(0, 1),
+            Read(0, 0),
+        ],
+        replies: "no such; 0: POST / 1.1 [Content-Length: 5] length 5; no such; no such; done; no such; no such",
+        output: ANSWER,
     };
     assert_case(&rt, rt.alloc(), &case)
 }
 
 #[test]
+fn a_body_is_read_behind_a_later_request(rt: HostRuntime) -> Result<(), Fail> {
+    let alloc = rt.alloc();
+    let held = followed(alloc, 2, 2)?;
+    let counted = followed(alloc, 1025, 1025)?;
+    for (client, deeds, replies) in [
+        (
+            held.as_slice(),
+            [Ask, Ask, Read(0, 9), Read(0, 9), Read(1, 9)].as_slice(),
+            "0: POST / 1.1 [Content-Length: 2] length 2; 1: GET /b 1.1; given xx; given; given",
+        ),
+        (
+            counted.as_slice(),
+            &[Ask, Read(0, 1025), Ask, Read(0, 9), Read(1, 9)],
+            "0: POST / 1.1 [Content-Length: 1025] length 1025; given *; 1: GET /b 1.1; given; given",
+        ),
+    ] {
+        let told = replies_of(alloc, replies, 1025)?;
+        let case = Case {
+            client,
+            deeds,
+            replies: told.as_str(),
+            output: &[],
+        };
+        assert_case(&rt, alloc, &case)?;
+    }
+    Ok(())
+}
+
+#[test]
+fn the_last_body_is_read_behind_the_end(rt: HostRuntime) -> Result<(), Fail> {
+    let alloc = rt.alloc();
+    let mut client = b"POST / HTTP/1.1\r\nConnection: close\r\nContent-Length: 2000\r\n\r\n".to_vec(
+        alloc,
+    )?;
+    for _ in 0..2000 {
+        client.push(b'x')?;
+    }
+    let replies = replies_of(
+        alloc,
+        "0: POST / 1.1 [Connection: close] [Content-Length: 2000] length 2000; ended; given *; given",
+        2000,
+    )?;
+    let case = Case {
+        client: client.as_slice(),
+        deeds: &[Ask, Ask, Read(0, 2000), Read(0, 1)],
+        replies: replies.as_str(),
+        output: &[],
+    };
+    assert_case(&rt, alloc, &case)
+}
+
+#[test]
 fn what_is_not_served_yet_ends_the_connection(rt: HostRuntime) -> Result<(), Fail> {
     for client in [
-        b"GET / HTTP/1.1\r\nContent-Length: 1025\r\n\r\n".as_slice(),
-        b"POST / HTTP/1.1\r\nTransfer-Encoding: chunked\r\n\r\n0\r\n\r\n".as_slice(),
         b"GET / HTTP/1.1\r\nConnection: upgrade\r\n\r\n".as_slice(),
         b"GET / HTTP/1.1\r\nConnection: keep-alive, Upgrade\r\n\r\n".as_slice(),
         b"POST / HTTP/1.1\r\nExpect: 100-continue\r\nContent-Length: 5\r\n\r\nhello".as_slice(),

@@ -7,11 +7,15 @@ mod answers;
 #[cfg(test)]
 mod bodies;
 #[cfg(test)]
+mod exchanges;
+#[cfg(test)]
 mod heads;
 #[cfg(test)]
 mod persistence;
 #[cfg(test)]
 mod pipelining;
+#[cfg(test)]
+mod reading;
 #[cfg(test)]
 mod runs;
 #[cfg(test)]

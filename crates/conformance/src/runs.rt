@@ -29,6 +29,8 @@ pub(crate) const AMPLE: usize = 1_000_000;
 #[derive(Clone, Copy, Debug)]
 pub(crate) enum Deed<'a> {
     Ask,
+    /// Reads the body of the request of this number, up to so many bytes.
+    Read(u64, u16),
     /// Answers the request of this number by 200 and a text.
     Text(u64, &'a str),
     /// Answers the request of this number by a code and a text.
@@ -83,19 +85,29 @@ struct Outcome {
     output: Vec<u8>,
 }
 
-/// A reader that gives another's bytes one at a time.
+/// A reader that gives another's bytes, at most so many a call.
 #[derive(Drop)]
-struct Dripping(Canned);
+pub(crate) struct Pieces {
+    inner: Canned,
+    most: usize,
+}
 
-impl ReadDevice for Dripping {
-    /// Reads one byte.
-    fn read_in(&mut self, buf: &mut [u8]) -> Result<usize, io::Error> {
-        if buf.is_empty() {
-            return Ok(0);
-        }
-        self.0.read_in(&mut buf[..1])
+impl Pieces {
+    pub(crate) fn new(inner: Canned, most: usize) -> Pieces {
+        Pieces { inner, most }
     }
 }
+
+impl ReadDevice for Pieces {
+    /// Reads a piece.
+    fn read_in(&mut self, buf: &mut [u8]) -> Result<usize, io::Error> {
+        let room = buf.len().min(self.most);
+        self.inner.read_in(&mut buf[..room])
+    }
+}
+
+/// The most bytes a call of the readers that every run is tried with: one, two, and about as many as the source holds.
+pub(crate) const SIZES: [usize; 4] = [1, 2, 1023, 1024];
 
 // The answer 200 with this text.
 fn text(alloc: Global, text: &str) -> Result<Response<Cursor<Vec<u8>>>, AllocError> {
@@ -105,6 +117,7 @@ fn text(alloc: Global, text: &str) -> Result<Response<Cursor<Vec<u8>>>, AllocErr
 fn step_of(alloc: Global, deed: Deed<'_>) -> Result<Step<Cursor<Vec<u8>>>, AllocError> {
     Ok(match deed {
         Deed::Ask => Step::Ask,
+        Deed::Read(number, count) => Step::Read(number, count),
         Deed::Text(number, words) => Step::Respond(number, text(alloc, words)?),
         Deed::Coded(number, code, words) => {
             let answer = text(alloc, words)?;
@@ -142,12 +155,25 @@ fn describe_head(summary: &mut String, head: &Head) -> Result<(), AllocError> {
     Ok(())
 }
 
+// Writes bytes that are ASCII, behind a space; nothing where there are none.
+fn describe_bytes(summary: &mut String, bytes: &[u8]) -> Result<(), AllocError> {
+    summary.push_str("given")?;
+    if !bytes.is_empty() {
+        summary.push(' ')?;
+    }
+    for byte in bytes {
+        summary.push(*byte as char)?;
+    }
+    Ok(())
+}
+
 fn describe_reply(summary: &mut String, reply: &Reply) -> Result<(), AllocError> {
     match reply {
         Reply::Handed(number, head) => {
             write!(summary, "{number}: ")?;
             describe_head(summary, head)
         }
+        Reply::Given(bytes) => describe_bytes(summary, bytes.as_slice()),
         Reply::Fault(kind) => write!(summary, "fault {kind:?}"),
         Reply::Ended => summary.push_str("ended"),
         Reply::NotYet => summary.push_str("not yet"),
@@ -203,7 +229,7 @@ fn assert_outcome(
     Ok(())
 }
 
-/// The run comes out so where reader and writer fail so, whether the bytes come together or one at a time.
+/// The run comes out so where reader and writer fail so, whether the bytes come together or in pieces.
 pub(crate) fn assert_troubled(
     rt: &impl Abort,
     alloc: Global,
@@ -213,9 +239,12 @@ pub(crate) fn assert_troubled(
     let reader = Canned::new(case.client.to_vec(alloc)?, trouble.reader);
     let together = run_through(alloc, reader, case.deeds, trouble)?;
     assert_outcome(rt, alloc, case, &together)?;
-    let reader = Dripping(Canned::new(case.client.to_vec(alloc)?, trouble.reader));
-    let apart = run_through(alloc, reader, case.deeds, trouble)?;
-    assert_outcome(rt, alloc, case, &apart)
+    for most in SIZES {
+        let reader = Canned::new(case.client.to_vec(alloc)?, trouble.reader);
+        let apart = run_through(alloc, Pieces::new(reader, most), case.deeds, trouble)?;
+        assert_outcome(rt, alloc, case, &apart)?;
+    }
+    Ok(())
 }
 
 /// The run comes out so where the client ends and the writer takes all.

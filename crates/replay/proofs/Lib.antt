@@ -1,3 +1,4 @@
+pub mod HexLemmas
 mod LineLemmas
 pub mod ReplyLemmas
 pub mod ScriptLemmas

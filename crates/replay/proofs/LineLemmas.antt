@@ -7,8 +7,8 @@ use Rattle.std.proofs.lemmas.Str.Parse.{IsNumeralModel, numerals_by_value, tells
 use Rattle.std.proofs.lemmas.Str.Pattern.{IsSplitOnceResult, split_after}
 use Rattle.std.specs.Str.{bytes_eq}
 use Rattle.std.specs.Str.Pattern.{LacksTextAt}
-use Rattle.replay.specs.Line.{WritesNumber, BeginsByNumber, BeginsByNumbers, IsAnswer, SaysSome, IsDate}
-use Rattle.replay.specs.declared.line.Line.TheVariants.{Blank, Now, Ask, Text, Empty, Drop}
+use Rattle.replay.specs.Line.{WritesNumber, BeginsByNumber, BeginsByNumbers, IsAnswer, SaysSome, IsDate, WritesRead}
+use Rattle.replay.specs.declared.line.Line.TheVariants.{Blank, Now, Ask, Read, Text, Empty, Drop}
 
 own : IsNumeralModel (AllDigits 10) (digits_value 10)
 own = numerals_by_value (AllDigits 10) tells_digits
@@ -31,6 +31,7 @@ answer_parts words (Empty number status, w) = (number, status, codes "empty", w,
 answer_parts words (Blank, w) = absurd w
 answer_parts words (Now date, w) = absurd w
 answer_parts words (Ask, w) = absurd w
+answer_parts words (Read number count, w) = absurd w
 answer_parts words (Drop number, w) = absurd w
 
 -- a text that begins by `now` doesn't begin by `respond`
@@ -43,6 +44,7 @@ only_now text rest e (Blank, inl h) = absurd (let first : ◌≡◌ {A = ℕ} 11
 only_now text rest e (Blank, inr h) = absurd (let first : ◌≡◌ {A = ℕ} 110 35 = ap (λ bs. get_or bs 0 0) (sym e ∙ h.1) in omega arith)
 only_now text rest e (Now date, d) = let same : rest ≡ d.0 = ap (drop 4) (sym e ∙ d.1) in (date, rw same d.2)
 only_now text rest e (Ask, h) = absurd (let first : ◌≡◌ {A = ℕ} 110 97 = ap (λ bs. get_or bs 0 0) (sym e ∙ h) in omega arith)
+only_now text rest e (Read number count, h) = absurd (let first : ◌≡◌ {A = ℕ} 110 114 = ap (λ bs. get_or bs 0 0) (sym e ∙ h.1) in omega arith)
 only_now text rest e (Text number status words, h) = absurd (no_respond text rest h.0 e h.1)
 only_now text rest e (Empty number status, h) = absurd (no_respond text rest h.0 e h.1)
 only_now text rest e (Drop number, h) = absurd (let first : ◌≡◌ {A = ℕ} 110 100 = ap (λ bs. get_or bs 0 0) (sym e ∙ h.1) in omega arith)
@@ -60,9 +62,28 @@ only_drop text rest e (Blank, inl h) = absurd (let first : ◌≡◌ {A = ℕ} 1
 only_drop text rest e (Blank, inr h) = absurd (let first : ◌≡◌ {A = ℕ} 100 35 = ap (λ bs. get_or bs 0 0) (sym e ∙ h.1) in omega arith)
 only_drop text rest e (Now date, h) = absurd (let first : ◌≡◌ {A = ℕ} 100 110 = ap (λ bs. get_or bs 0 0) (sym e ∙ h.1) in omega arith)
 only_drop text rest e (Ask, h) = absurd (let first : ◌≡◌ {A = ℕ} 100 97 = ap (λ bs. get_or bs 0 0) (sym e ∙ h) in omega arith)
+only_drop text rest e (Read number count, h) = absurd (let first : ◌≡◌ {A = ℕ} 100 114 = ap (λ bs. get_or bs 0 0) (sym e ∙ h.1) in omega arith)
 only_drop text rest e (Text number status words, h) = absurd (no_respond_drop text rest h.0 e h.1)
 only_drop text rest e (Empty number status, h) = absurd (no_respond_drop text rest h.0 e h.1)
 only_drop text rest e (Drop number, h) = let same : rest ≡ h.0 = ap (drop 5) (sym e ∙ h.1) in (number, rw same h.2, h.3)
+
+-- the words are some read
+abbrev pub IsRead : List ℕ → Type 0
+IsRead words = (number : ℕ) × (count : ℕ) × WritesRead words number count
+
+no_respond_read : (text rest words : List ℕ) → text ≡ codes "read " ++ rest → text ≡ codes "respond " ++ words → ⊥
+no_respond_read text rest words e h = let third : ◌≡◌ {A = ℕ} 97 115 = ap (λ bs. get_or bs 2 0) (sym e ∙ h) in omega arith
+
+-- a line that begins by `read` says a read, if it says anything
+pub only_read : (text rest : List ℕ) → text ≡ codes "read " ++ rest → SaysSome text → IsRead rest
+only_read text rest e (Blank, inl h) = absurd (let first : ◌≡◌ {A = ℕ} 114 0 = ap (λ bs. get_or bs 0 0) (sym e ∙ h) in omega arith)
+only_read text rest e (Blank, inr h) = absurd (let first : ◌≡◌ {A = ℕ} 114 35 = ap (λ bs. get_or bs 0 0) (sym e ∙ h.1) in omega arith)
+only_read text rest e (Now date, h) = absurd (let first : ◌≡◌ {A = ℕ} 114 110 = ap (λ bs. get_or bs 0 0) (sym e ∙ h.1) in omega arith)
+only_read text rest e (Ask, h) = absurd (let first : ◌≡◌ {A = ℕ} 114 97 = ap (λ bs. get_or bs 0 0) (sym e ∙ h) in omega arith)
+only_read text rest e (Read number count, h) = let same : rest ≡ h.0 = ap (drop 5) (sym e ∙ h.1) in (number, count, rw same h.2)
+only_read text rest e (Text number status words, h) = absurd (no_respond_read text rest h.0 e h.1)
+only_read text rest e (Empty number status, h) = absurd (no_respond_read text rest h.0 e h.1)
+only_read text rest e (Drop number, h) = absurd (let first : ◌≡◌ {A = ℕ} 114 100 = ap (λ bs. get_or bs 0 0) (sym e ∙ h.1) in omega arith)
 
 -- what is refused doesn't hold
 pub none_fits : {T E : Type 0} (r : Result T E) (P : Type 0) (v : T) → OkIff r P v → false ≡ is_ok r → P → ⊥

@@ -6,7 +6,7 @@ use Rattle.httpdate.specs.declared.date.HttpDate.{HttpDate}
 use Rattle.tiny_http_core.specs.Conversation.{Dated}
 use Rattle.tiny_http_core.specs.Seen.{IsTold, IsStep}
 use Rattle.tiny_http_core.specs.declared.driver.Step.{Step}
-use Rattle.tiny_http_core.specs.declared.driver.Step.TheVariants.{Ask as AskStep, Respond as RespondStep, Drop as DropStep}
+use Rattle.tiny_http_core.specs.declared.driver.Step.TheVariants.{Ask as AskStep, Read as ReadStep, Respond as RespondStep, Drop as DropStep}
 use Rattle.tiny_http_core.specs.declared.driver.Timed.{Timed}
 use Rattle.tiny_http_wire.specs.Device.{ending}
 use Rattle.tiny_http_wire.specs.Cursor.{cursor_bytes}
@@ -90,6 +90,7 @@ few v n = let dropped = length-drop n v.items in omega (arith, v.ok.0, v.ok.1, v
 -- a step over data in memory tells what it is
 step_told : {A : Type 0} (step : Step (Cursor (Vec ℕ A))) → IsStep (λ c. Some (ending (cursor_bytes c))) step (step_value step)
 step_told AskStep = tt
+step_told (ReadStep number count) = (refl, refl)
 step_told (RespondStep number response) = (refl, (refl, refl, few (cursor_inner response.data_reader) (cursor_position response.data_reader)))
 step_told (DropStep number) = refl
 

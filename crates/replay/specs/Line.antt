@@ -4,7 +4,7 @@ use Rattle.std.specs.Str.Parse.{IsNumeral, digits_value}
 use Rattle.httpdate.specs.Date.{unix_secs}
 use Rattle.httpdate.specs.declared.date.HttpDate.{HttpDate}
 use Rattle.replay.specs.declared.line.Line.{Line}
-use Rattle.replay.specs.declared.line.Line.TheVariants.{Blank, Now, Ask, Text, Empty, Drop}
+use Rattle.replay.specs.declared.line.Line.TheVariants.{Blank, Now, Ask, Read, Text, Empty, Drop}
 
 -- the text is one decimal digit or more, and they write this number
 abbrev pub WritesNumber : List ℕ → ℕ → Type 0
@@ -34,6 +34,7 @@ WritesAnswer words (Empty number status) = BeginsByNumbers words number status (
 WritesAnswer words Blank = ⊥
 WritesAnswer words (Now date) = ⊥
 WritesAnswer words Ask = ⊥
+WritesAnswer words (Read number count) = ⊥
 WritesAnswer words (Drop number) = ⊥
 
 -- the words are some answer
@@ -44,11 +45,17 @@ IsAnswer words = (line : Line) × WritesAnswer words line
 abbrev pub WritesRespond : List ℕ → Line → Type 0
 WritesRespond text line = (words : List ℕ) × (text ≡ codes "respond " ++ words) × WritesAnswer words line
 
+-- the grammar of what stands behind `read`: a number of 64 bits, a space, and one of 16 bits
+abbrev pub WritesRead : List ℕ → ℕ → ℕ → Type 0
+WritesRead words number count =
+    (digits : List ℕ) × BeginsByNumber words number digits × WritesNumber digits count × (number < 2 ^ 64) × (count < 2 ^ 16)
+
 -- the grammar of a line: which text says what
 abbrev pub Writes : List ℕ → Line → Type 0
 Writes text Blank = (text ≡ []) ⊎ ((comment : List ℕ) × (text ≡ codes "#" ++ comment))
 Writes text (Now date) = (digits : List ℕ) × (text ≡ codes "now " ++ digits) × WritesDate digits date
 Writes text Ask = text ≡ codes "ask"
+Writes text (Read number count) = (words : List ℕ) × (text ≡ codes "read " ++ words) × WritesRead words number count
 Writes text (Text number status words) = WritesRespond text (Text number status words)
 Writes text (Empty number status) = WritesRespond text (Empty number status)
 Writes text (Drop number) = (digits : List ℕ) × (text ≡ codes "drop " ++ digits) × WritesNumber digits number × (number < 2 ^ 64)

@@ -1,5 +1,5 @@
 -- The lines that tell what the steps were answered.
-use Rattle.std.specs.Prelude.{ℕ, List, [], ◌++◌, length, Option, Some, None, codes, decimal}
+use Rattle.std.specs.Prelude.{ℕ, ◌/◌, ◌%◌, List, [], ◌∷◌, ◌++◌, length, get_or, flat_map, Option, Some, None, codes, decimal}
 use Rattle.std.specs.declared.io.ErrorKind.{ErrorKind}
 use Rattle.std.specs.declared.io.ErrorKind.TheVariants.{InvalidData, UnexpectedEof, OutOfMemory}
 use Rattle.tiny_http_wire.specs.Common.{version_text, method_text}
@@ -24,16 +24,25 @@ handed_text k m said =
     codes "handed " ++ decimal k ++ codes " " ++ method_text m.method ++ codes " " ++ m.path ++ codes " " ++ version_text m.version
     ++ codes " " ++ decimal (length m.headers) ++ codes " " ++ length_text said
 
--- a reply without the end of its line; nothing for the two that no step of a script has
+-- a byte as two hexadecimal digits
+abbrev pub hex_byte : ℕ → List ℕ
+hex_byte b = get_or (codes "0123456789abcdef") (b / 16) 0 ∷ get_or (codes "0123456789abcdef") (b % 16) 0 ∷ []
+
+-- a space and the bytes; nothing where there are none
+abbrev pub bytes_text : List ℕ → List ℕ
+bytes_text [] = []
+bytes_text (b ∷ bytes) = codes " " ++ flat_map hex_byte (b ∷ bytes)
+
+-- a reply without the end of its line; nothing for the one that no step of a script has
 abbrev pub reply_text : Replied → List ℕ
 reply_text (Handed k message framing) = handed_text k message framing.body_length
 reply_text (Fault kind) = codes "fault " ++ kind_name kind
 reply_text NotYet = codes "notyet"
 reply_text Ended = codes "ended"
+reply_text (Given bytes) = codes "given" ++ bytes_text bytes
 reply_text Done = codes "done"
 reply_text NoSuch = codes "nosuch"
 reply_text Memory = codes "memory"
-reply_text (Given bytes) = []
 reply_text Refused = []
 
 -- a reply's line, with the LF that ends it

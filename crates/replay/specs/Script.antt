@@ -9,15 +9,15 @@ use Rattle.tiny_http_wire.specs.Answer.{answer_with, text_plain}
 use Rattle.tiny_http_wire.specs.Cursor.{cursor_bytes}
 use Rattle.tiny_http_wire.specs.Device.{Feed, Sink, ending}
 use Rattle.tiny_http_core.specs.Slots.{ResponseValue}
-use Rattle.tiny_http_core.specs.Steps.{Asked, Ask, Respond, Drop, Replied}
+use Rattle.tiny_http_core.specs.Steps.{Asked, Ask, Read, Respond, Drop, Replied}
 use Rattle.tiny_http_core.specs.Conversation.{Dated, IsFresh, IsConversation}
 use Rattle.tiny_http_core.specs.declared.driver.Step.{Step}
-use Rattle.tiny_http_core.specs.declared.driver.Step.TheVariants.{Ask as AskStep, Respond as RespondStep, Drop as DropStep}
+use Rattle.tiny_http_core.specs.declared.driver.Step.TheVariants.{Ask as AskStep, Read as ReadStep, Respond as RespondStep, Drop as DropStep}
 use Rattle.tiny_http_core.specs.declared.driver.Timed.{Timed}
 use Rattle.replay.specs.Reply.{reply_line}
 use Rattle.replay.specs.Line.{IsLine, IsGood}
 use Rattle.replay.specs.declared.line.Line.{Line}
-use Rattle.replay.specs.declared.line.Line.TheVariants.{Blank, Now, Ask as AskLine, Text, Empty, Drop as DropLine}
+use Rattle.replay.specs.declared.line.Line.TheVariants.{Blank, Now, Ask as AskLine, Read as ReadLine, Text, Empty, Drop as DropLine}
 
 -- a LF ends a line, and so does the end
 abbrev pub script_lines : List ℕ → List (List ℕ)
@@ -42,6 +42,7 @@ abbrev pub said_step : Line → Option Asked
 said_step Blank = None
 said_step (Now date) = None
 said_step AskLine = Some Ask
+said_step (ReadLine number count) = Some (Read number count)
 said_step (Text number status text) = Some (Respond number (text_response status text.now))
 said_step (Empty number status) = Some (Respond number (empty_response status))
 said_step (DropLine number) = Some (Drop number)
@@ -51,6 +52,7 @@ abbrev pub date_behind : HttpDate → Line → HttpDate
 date_behind now Blank = now
 date_behind now (Now date) = date
 date_behind now AskLine = now
+date_behind now (ReadLine number count) = now
 date_behind now (Text number status text) = now
 date_behind now (Empty number status) = now
 date_behind now (DropLine number) = now
@@ -74,6 +76,7 @@ IsScript script steps =
 -- a step over data in memory, as a value
 abbrev pub step_value : {A : Type 0} → Step (Cursor (Vec ℕ A)) → Asked
 step_value AskStep = Ask
+step_value (ReadStep number count) = Read number count
 step_value (RespondStep number response) = Respond number (record { answer = response.answer; content = ending (cursor_bytes response.data_reader) })
 step_value (DropStep number) = Drop number
 

@@ -2,7 +2,7 @@
 ghost use Rattle.std.specs.Prelude.{◌≡◌, ◌<◌, ◌^◌, ℕ, List, ◌↔◌, IfSome, IsSomeAnd, IsSome};
 ghost use Rattle.std.specs.Option.{SomeIff};
 ghost use Rattle.std.specs.Str.Parse.{IsNumeral, digits_value};
-ghost use Rattle.replay.specs.Line.{BeginsByNumber, WritesDate, IsDate, WritesAnswer, IsAnswer, Writes, SaysSome, IsLine, IsGood};
+ghost use Rattle.replay.specs.Line.{BeginsByNumber, WritesDate, IsDate, WritesAnswer, IsAnswer, WritesRead, Writes, SaysSome, IsLine, IsGood};
 
 use httpdate::HttpDate;
 
@@ -15,6 +15,8 @@ pub(crate) enum Line<'a> {
     Now(HttpDate),
     /// Asks for the next request.
     Ask,
+    /// Reads the body of the request of this number, up to so many bytes.
+    Read(u64, u16),
     /// Answers the request of this number by this code and text.
     Text(u64, u16, &'a str),
     /// Answers the request of this number by this code, without data.
@@ -67,6 +69,16 @@ fn answer_in(words: &str) -> Option<Line<'_>>
     }
 }
 
+// What stands behind `read`: a number, and how many bytes are read.
+fn count_in(words: &str) -> Option<(u64, u16)>
+    ensures some { IfSome result (λ r. WritesRead words.now r.0 r.1) }
+    ensures found { (n : ℕ) → (count : ℕ) → WritesRead words.now n count → IsSome result }
+{
+    let (number, digits) = number_before(words)?;
+    let count = u16::try_from(number_in(digits)?).ok()?;
+    Some((number, count))
+}
+
 // What a text says; None where it says nothing known.
 fn text_in(text: &str) -> Option<Line<'_>>
     ensures some { IfSome result (λ line. Writes text.now line) }
@@ -83,6 +95,10 @@ fn text_in(text: &str) -> Option<Line<'_>>
     }
     if let Some(number) = text.strip_prefix("drop ") {
         return Some(Line::Drop(number_in(number)?));
+    }
+    if let Some(words) = text.strip_prefix("read ") {
+        let (number, count) = count_in(words)?;
+        return Some(Line::Read(number, count));
     }
     answer_in(text.strip_prefix("respond ")?)
 }

@@ -1,6 +1,6 @@
 //! The lines that tell what the steps were answered.
 ghost use Rattle.std.specs.Prelude.{◌≡◌, Some};
-ghost use Rattle.replay.specs.Reply.{kind_name, length_text, handed_text, reply_text};
+ghost use Rattle.replay.specs.Reply.{kind_name, length_text, handed_text, bytes_text, reply_text};
 ghost use Rattle.tiny_http_core.specs.HeadReads.{head_message};
 ghost use Rattle.tiny_http_core.specs.Seen.{seen};
 
@@ -50,6 +50,27 @@ impl fmt::Display for Handed<'_> {
     }
 }
 
+/// Bytes of a body, printed as a space and two hexadecimal digits a byte; nothing where there are none.
+#[derive(Drop)]
+struct Bytes<'a>(&'a [u8]);
+
+impl fmt::Display for Bytes<'_> {
+    ghost output = { λ b. Some (bytes_text b.0.now) };
+
+    fn fmt<W: fmt::Write>(&self, f: &mut fmt::Formatter<W>) -> fmt::Result {
+        let bytes = self.0;
+        if bytes.is_empty() {
+            return Ok(());
+        }
+        write!(f, " ")?;
+        for byte in bytes {
+            let byte = *byte;
+            write!(f, "{byte:02x}")?;
+        }
+        Ok(())
+    }
+}
+
 // The kinds of fault that the replies tell apart.
 fn name_of(kind: ErrorKind) -> &'static str
     ensures { result.now ≡ kind_name kind }
@@ -70,6 +91,7 @@ impl fmt::Display for ReplyLine<'_> {
             Reply::Handed(number, head) => write!(f, "{}", Handed(*number, head)),
             Reply::Fault(kind) => write!(f, "fault {}", name_of(*kind)),
             Reply::NotYet => write!(f, "notyet"),
+            Reply::Given(bytes) => write!(f, "given{}", Bytes(bytes.as_slice())),
             Reply::Ended => write!(f, "ended"),
             Reply::Done => write!(f, "done"),
             Reply::NoSuch => write!(f, "nosuch"),

@@ -67,6 +67,7 @@ fn step_in(alloc: Global, line: &Line<'_>) -> Result<Option<Step<Data>>, AllocEr
     match line {
         Line::Blank | Line::Now(_) => Ok(None),
         Line::Ask => Ok(Some(Step::Ask)),
+        Line::Read(number, count) => Ok(Some(Step::Read(*number, *count))),
         Line::Text(number, status, text) => {
             let text = String::from_str(alloc, text)?;
             let response = Response::from_string(alloc, text)?;

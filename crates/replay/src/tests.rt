@@ -113,6 +113,58 @@ fn a_drop_is_dated_by_its_ask(rt: HostRuntime) -> Result<(), Fail> {
 }
 
 #[test]
+fn bodies_are_read(rt: HostRuntime) -> Result<(), Fail> {
+    let held = "GET / HTTP/1.1\r\nContent-Length: 3\r\n\r\nhello";
+    let chunked = "POST / HTTP/1.1\r\nTransfer-Encoding: chunked\r\n\r\n";
+    for (head, body, script, err) in [
+        (
+            held,
+            "",
+            "ask\nread 0 10\nread 00 065535\nask\n",
+            "handed 0 GET / 1.1 1 3\ngiven 68656c\ngiven\nended\n",
+        ),
+        (
+            chunked,
+            "5;x=1\r\nhello\r\n0\r\nT: v\r\n\r\nGET /b HTTP/1.1\r\n\r\n",
+            "ask\nread 0 5\nask\nread 0 1\nask\n",
+            "handed 0 POST / 1.1 1 -\ngiven 68656c6c6f\nnotyet\ngiven\nhanded 1 GET /b 1.1 0 -\n",
+        ),
+        (
+            chunked,
+            "5\r\nhelloXY",
+            "ask\nread 0 9\nread 0 1\nread 0 1\nask\n",
+            "handed 0 POST / 1.1 1 -\ngiven 68656c6c6f\nfault InvalidData\nfault InvalidData\nended\n",
+        ),
+        (
+            chunked,
+            "5\r\nhel",
+            "ask\nread 0 0\nread 0 9\nread 0 0\nread 0 9\nread 1 9\nread 18446744073709551615 0\n",
+            "handed 0 POST / 1.1 1 -\ngiven\ngiven 68656c\ngiven\nfault UnexpectedEof\nnosuch\nnosuch\n",
+        ),
+    ] {
+        let bytes = format!(in rt.alloc(); "{head}{body}")?;
+        assert_good(&rt, rt.alloc(), (bytes.as_str(), script), "", err)?;
+    }
+    Ok(())
+}
+
+#[test]
+fn bytes_are_told_in_hexadecimal(rt: HostRuntime) -> Result<(), Fail> {
+    for (bytes, want) in [
+        (b"".as_slice(), "given"),
+        (b"\0", "given 00"),
+        (b"\x09\x0a\x0f\x10", "given 090a0f10"),
+        (b"\x7f\x80\x9f\xa0\xbc\xde\xff", "given 7f809fa0bcdeff"),
+        (b"hello", "given 68656c6c6f"),
+    ] {
+        let reply = Reply::Given(bytes.to_vec(rt.alloc())?);
+        let line = format!(in rt.alloc(); "{}", ReplyLine(&reply))?;
+        assert_eq!(rt; line.as_str(), want);
+    }
+    Ok(())
+}
+
+#[test]
 fn replies_without_output(rt: HostRuntime) -> Result<(), Fail> {
     let post = "POST /f HTTP/1.0\r\nHost: a\r\nContent-Length: 2\r\n\r\nhi";
     for (bytes, script, err) in [
@@ -169,6 +221,24 @@ fn no_line_but_the_grammars(rt: HostRuntime) -> Result<(), Fail> {
         "drop 0\r",
         "drop 18446744073709551616",
         "Drop 0",
+        "read",
+        "read ",
+        "read 0",
+        "read 0 ",
+        "read  0 5",
+        "read 0  5",
+        "read 0 5 ",
+        "read 0 5\r",
+        "read 0\t5",
+        "read x 5",
+        "read 0 x",
+        "read +0 5",
+        "read 0 +5",
+        "read 0 -5",
+        "read 0 65536",
+        "read 0 18446744073709551621",
+        "read 18446744073709551616 5",
+        "Read 0 5",
     ] {
         assert_bad(&rt, rt.alloc(), line.as_bytes(), 1)?;
     }
@@ -208,7 +278,6 @@ fn no_answer_but_the_grammars(rt: HostRuntime) -> Result<(), Fail> {
 fn no_step_of_a_later_stage(rt: HostRuntime) -> Result<(), Fail> {
     for line in [
         "asreader 0",
-        "read 0 5",
         "writer 0",
         "write 0 x",
         "flush 0",

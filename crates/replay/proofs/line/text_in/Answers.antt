@@ -1,5 +1,5 @@
 use Rattle.std.proofs.Common.{◌≡◌, ◌++◌, codes}
-use Rattle.replay.proofs.LineLemmas.{only_now}
+use Rattle.replay.proofs.LineLemmas.{only_now, only_read}
 use Rattle.replay.proofs.line.text_in.Goals as goal
 
 pub returns-in_err-date_in-clause-found : goal.returns-in_err-date_in-clause-found
@@ -7,3 +7,11 @@ returns-in_err-date_in-clause-found c = λ s.
     let strips = c.in-Some.ensures.cases in
     let e : c.args.text.now ≡ codes "now " ++ c.in-Some.seconds.now = rw strips.2 strips.1.1 in
     rw c.from_residual.ensures (c.in_err-date_in.ensures.found (only_now c.args.text.now c.in-Some.seconds.now e s))
+
+pub returns-in_err-number-clause-found : goal.returns-in_err-number-clause-found
+returns-in_err-number-clause-found c = λ s.
+    let strips = c.in-Some-strip_prefix-2.ensures.cases in
+    let words = c.in-Some-strip_prefix-2.words.now in
+    let e : c.args.text.now ≡ codes "read " ++ words = rw strips.2 strips.1.1 in
+    let read = only_read c.args.text.now words e s in
+    rw c.from_residual-in_err-number.ensures (c.in_err-number.ensures.found read.0 read.1 read.2)

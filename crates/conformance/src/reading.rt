@@ -1,0 +1,184 @@
+//! Chunked bodies, bodies that a fault cuts, and a client's bytes cut at every place.
+use crate::bodies::{ANSWER, ERROR};
+use crate::runs::Deed::{Ask, Drop, Read, Text};
+use crate::runs::{AMPLE, Case, Deed, Trouble, assert_case, assert_troubled};
+use std::alloc::{AllocError, Global};
+use std::io::ErrorKind;
+use std::test::Fail;
+
+// The head of a chunked request, as the replies tell it.
+const CHUNKED: &str = "0: POST / 1.1 [Transfer-Encoding: chunked]";
+
+// A run over a chunked body, behind its head: what the steps behind the first Ask are answered.
+fn chunked(alloc: Global, body: &[u8], replies: &str) -> Result<(Vec<u8>, String), AllocError> {
+    let mut client = b"POST / HTTP/1.1\r\nTransfer-Encoding: chunked\r\n\r\n".to_vec(alloc)?;
+    client.extend_from_slice(body)?;
+    let told = format!(in alloc; "{CHUNKED}; {replies}")?;
+    Ok((client, told))
+}
+
+#[test]
+fn a_chunked_body_is_read(rt: HostRuntime) -> Result<(), Fail> {
+    let whole = b"5;x=1\r\nhello\r\n0\r\nT: v\r\n\r\nGET /b HTTP/1.1\r\n\r\n".as_slice();
+    for (body, deeds, replies, output) in [
+        (
+            whole,
+            [Ask, Read(0, 5), Ask, Read(0, 1), Ask].as_slice(),
+            "given hello; not yet; given; 1: GET /b 1.1",
+            [].as_slice(),
+        ),
+        (
+            whole,
+            &[Ask, Read(0, 5), Drop(0), Ask],
+            "given hello; done; ended",
+            ERROR,
+        ),
+        (whole, &[Ask, Text(0, "x"), Ask], "done; ended", ANSWER),
+        (
+            b"5\r\nhelloXY",
+            &[Ask, Read(0, 9), Read(0, 1), Read(0, 1), Ask],
+            "given hello; fault InvalidData; fault InvalidData; ended",
+            &[],
+        ),
+        (
+            b"5\r\nhel",
+            &[Ask, Read(0, 9), Read(0, 9)],
+            "given hel; fault UnexpectedEof",
+            &[],
+        ),
+    ] {
+        let (client, told) = chunked(rt.alloc(), body, replies)?;
+        let case = Case {
+            client: client.as_slice(),
+            deeds,
+            replies: told.as_str(),
+            output,
+        };
+        assert_case(&rt, rt.alloc(), &case)?;
+    }
+    Ok(())
+}
+
+// The client sends these bytes, and then the reader times out.
+const TIMES_OUT: Trouble = Trouble {
+    reader: Some(ErrorKind::TimedOut),
+    room: AMPLE,
+    writer: ErrorKind::Other,
+};
+
+#[test]
+fn a_time_out_within_a_body_is_told(rt: HostRuntime) -> Result<(), Fail> {
+    for (client, head) in [
+        (
+            b"GET / HTTP/1.1\r\nContent-Length: 2000\r\n\r\nabc".as_slice(),
+            "0: GET / 1.1 [Content-Length: 2000] length 2000",
+        ),
+        (
+            b"POST / HTTP/1.1\r\nTransfer-Encoding: chunked\r\n\r\n5\r\nabc".as_slice(),
+            CHUNKED,
+        ),
+    ] {
+        let reads = [Ask, Read(0, 10), Read(0, 1), Read(0, 1), Ask];
+        let gives_up = [Ask, Text(0, "x"), Ask];
+        for (deeds, rest, output) in [
+            (
+                reads.as_slice(),
+                "given abc; fault TimedOut; fault TimedOut; ended",
+                [].as_slice(),
+            ),
+            (gives_up.as_slice(), "done; ended", ANSWER),
+        ] {
+            let replies = format!(in rt.alloc(); "{head}; {rest}")?;
+            let case = Case {
+                client,
+                deeds,
+                replies: replies.as_str(),
+                output,
+            };
+            assert_troubled(&rt, rt.alloc(), &case, TIMES_OUT)?;
+        }
+    }
+    Ok(())
+}
+
+// Reads of nothing, before any byte and behind a fault that was told.
+const READS_OF_NOTHING: &[Deed<'static>] = &[
+    Ask,
+    Read(0, 0),
+    Ask,
+    Read(0, 3),
+    Read(0, 0),
+    Read(0, 1),
+    Read(0, 0),
+    Read(0, 1),
+];
+
+#[test]
+fn a_read_of_nothing_changes_nothing(rt: HostRuntime) -> Result<(), Fail> {
+    let case = Case {
+        client: b"GET / HTTP/1.1\r\nContent-Length: 2000\r\n\r\nabc",
+        deeds: READS_OF_NOTHING,
+        replies: "0: GET / 1.1 [Content-Length: 2000] length 2000; given; not yet; given abc; given; fault TimedOut; given; fault TimedOut",
+        output: &[],
+    };
+    assert_troubled(&rt, rt.alloc(), &case, TIMES_OUT)?;
+    let (client, told) = chunked(
+        rt.alloc(),
+        b"3\r\nabcXY",
+        "given; not yet; given abc; given; fault InvalidData; given; fault InvalidData",
+    )?;
+    let case = Case {
+        client: client.as_slice(),
+        deeds: READS_OF_NOTHING,
+        replies: told.as_str(),
+        output: &[],
+    };
+    assert_case(&rt, rt.alloc(), &case)
+}
+
+const THREE: &[u8] =
+    b"GET / HTTP/1.1\r\n\r\nPOST /p HTTP/1.1\r\nContent-Length: 2\r\n\r\nokPOST /c HTTP/1.1\r\nTransfer-Encoding: chunked\r\n\r\n2\r\nhi\r\n0\r\n\r\n";
+
+// What three Asks are answered where so many bytes come.
+fn asks_at(n: usize) -> &'static str {
+    match n {
+        0..=17 => "ended; ended; ended",
+        18..=58 => "0: GET / 1.1; ended; ended",
+        59..=106 => "0: GET / 1.1; 1: POST /p 1.1 [Content-Length: 2] length 2; ended",
+        _ => {
+            "0: GET / 1.1; 1: POST /p 1.1 [Content-Length: 2] length 2; 2: POST /c 1.1 [Transfer-Encoding: chunked]"
+        }
+    }
+}
+
+// What the two Reads behind them are answered.
+fn reads_at(n: usize) -> &'static str {
+    match n {
+        0..=106 => "no such; no such",
+        107..=110 => "fault UnexpectedEof; fault UnexpectedEof",
+        111 => "given h; fault UnexpectedEof",
+        112..=118 => "given hi; fault UnexpectedEof",
+        _ => "given hi; given",
+    }
+}
+
+#[test]
+fn three_requests_are_cut_at_every_place(rt: HostRuntime) -> Result<(), Fail> {
+    assert_eq!(rt; THREE.len(), 119);
+    for n in 0..=119 {
+        let asks = asks_at(n);
+        let reads = reads_at(n);
+        let replies = format!(in rt.alloc(); "{asks}; {reads}")?;
+        let Some(client) = THREE.get(..n) else {
+            return Err("too short".into());
+        };
+        let case = Case {
+            client,
+            deeds: &[Ask, Ask, Ask, Read(2, 9), Read(2, 9)],
+            replies: replies.as_str(),
+            output: &[],
+        };
+        assert_case(&rt, rt.alloc(), &case)?;
+    }
+    Ok(())
+}
