@@ -15,6 +15,8 @@ mod persistence;
 #[cfg(test)]
 mod pipelining;
 #[cfg(test)]
+mod readers;
+#[cfg(test)]
 mod reading;
 #[cfg(test)]
 mod runs;
