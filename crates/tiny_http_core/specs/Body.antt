@@ -69,7 +69,7 @@ is_streaming (Held bytes) = false
 is_streaming (Counted n) = true
 is_streaming (Chunked decoding) = true
 
--- what is told from now on
+-- what is told from now on, where that is kept
 abbrev pub body_stop : Body → Option Stop
 body_stop (Over stop) = Some stop
 body_stop (Held bytes) = None

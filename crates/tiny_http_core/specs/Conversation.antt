@@ -151,7 +151,7 @@ InputAt old over left =
 pub record IsConversation (feed : Feed) (before : Sink) (steps : List Dated) (replies : List Replied) (after : Sink) (held : List ℕ) (ended : Bool) (left : Option Feed) : Type 0 where
   pub items : List Item
   pub end : State
-  -- the last head was read
+  -- where nothing of the pipeline is left: whether the last head was read. Either will do then
   pub over : Bool
   pub pipeline : Pipeline (Some feed.bytes) feed.stop items
   pub run : Run (start items) steps replies end

@@ -19,7 +19,7 @@ exchange_head x = x.head
 abbrev pub exchange_left : Exchange → Option Feed → Option Remaining
 exchange_left x feed = remaining x.waiting.body feed
 
--- the end or the fault that its body tells from now on
+-- the end or the fault that its body tells from now on, where that is kept
 abbrev pub exchange_stop : Exchange → Option Stop
 exchange_stop x = body_stop x.waiting.body
 

@@ -137,7 +137,7 @@ place_after true next = None
 place_after false next = next
 
 -- ONE HEAD, read: the item that stands at the input's place, what is still to come of its body, and where the next head
--- begins behind that.
+-- begins behind that, unless the request is the last.
 abbrev pub ReadsHead : HttpDate → Option Feed → Option Feed → Result HeadRead AllocError → Type 0
 ReadsHead date None new r = ⊤
 ReadsHead date (Some f) new (Ok (read.Request x)) =

@@ -53,7 +53,7 @@ MayFail feed old new (step.Read k n) kind = Unit {0}
 MayFail feed old new (step.Drop k) kind = ⊥
 MayFail feed old new (step.Respond k r) kind = IsHonest old new r.answer.length (feed r.data_reader) kind
 
--- a fault that is told is the writer's, whose count rose, or that of the step's own data
+-- a fault that an answer tells is the writer's, whose count rose, or that of the step's own data; of a body's nothing is said
 abbrev pub TellsHonestly : {D : Type 0} → (D → Option Feed) → Sink → Sink → Timed D → Reply → Type 0
 TellsHonestly feed old new t reply = (kind : ErrorKind) → seen reply ≡ Fault kind → MayFail feed old new t.step kind
 

@@ -28,13 +28,14 @@ use tiny_http_wire::response::Response;
 /// What is done next on a connection.
 #[derive(Drop)]
 pub enum Step<D> {
-    /// Reads the next head and hands it out.
+    /// Reads the next head and hands it out. It waits while the body of the last request that was handed out holds the
+    /// reader: one that is counted or chunked, and neither read to its end nor given up.
     Ask,
-    /// Reads the body of the request of this number, until there are so many bytes, or no more follow.
+    /// Reads the body of the request of this number, until there are so many bytes, 0 to 65535, or no more follow.
     Read(u64, u16),
-    /// Answers the request of this number.
+    /// Answers the request of this number in its turn, and gives its body up.
     Respond(u64, Response<D>),
-    /// Drops the request of this number: it is answered by an empty 500, on the date on which it was handed out.
+    /// Drops the request of this number, and gives its body up: it is answered by an empty 500, on the date on which it was handed out.
     Drop(u64),
 }
 
@@ -59,7 +60,8 @@ pub enum Reply {
     Given(Vec<u8>),
     /// The body ends by this fault; or the writer or the response's data failed so.
     Fault(ErrorKind),
-    /// The step has to wait; nothing has changed.
+    /// The step has to wait, an `Ask` for the last body to be read or given up, a `Respond` for its turn; nothing has
+    /// changed.
     NotYet,
     /// The step was done, and met no fault that is told.
     Done,
@@ -74,7 +76,7 @@ pub enum Reply {
 pub struct Record<R: ReadDevice, W: WriteDevice> {
     /// What each step was answered.
     pub replies: Vec<Reply>,
-    /// The reader, with what was read ahead.
+    /// The reader, with what was read ahead. It stands behind the last head that was read and what was read of its body.
     pub source: Source<R>,
     /// The writer, with what is held back. Its bytes and then those held are the output.
     pub outlet: Outlet<W>,
@@ -333,7 +335,8 @@ impl<R: ReadDevice, W: WriteDevice> Connection<R, W> {
 }
 
 /// Runs the steps over a connection, one reply a step. It hands out exactly the requests that the grammar finds in the
-/// client's bytes, and the output is one segment a request or refused head, in order, whole up to the first fault.
+/// client's bytes, each body gives its own bytes and tells its end only there, and the output is one segment a request or
+/// refused head, in order, whole up to the first fault.
 pub fn run<R: ReadDevice + Drop, W: WriteDevice + Drop, D: ReadDevice + Drop>(
     alloc: Global,
     reader: R,

@@ -85,7 +85,7 @@ pub struct Exchange {
 pub enum HeadRead {
     /// A request.
     Request(Exchange),
-    /// A head that is refused by this answer. If it is the last, no head follows.
+    /// A head that is refused: the whole text of its answer, to be sent in its turn. If it is the last, no head follows.
     Refused { text: Vec<u8>, last: bool },
     /// The connection has no further request.
     Ended,
@@ -102,10 +102,10 @@ impl Exchange {
     }
 
     /// Reads some bytes of the body into the front of `buf`, and says how many: fewer than `buf` has room for also where
-    /// more follow. Behind the last byte each call answers 0, or the fault by which the body is cut or broken (RFC 9112,
+    /// more follow, and 0 where `buf` is empty. Behind the last byte each call answers 0, or the fault by which the body is cut or broken (RFC 9112,
     /// sections 6.2 and 7.1): the reader's own; or InvalidData or UnexpectedEof of a chunked body. A body of a known length
     /// that is cut by the end of the input ends there. The source must be the one that the request was read from; after a
-    /// fault it has ended. No memory is taken.
+    /// fault the source has ended. A body that was given up answers 0. No memory is taken.
     pub fn read_body<R: ReadDevice>(
         &mut self,
         source: &mut Source<R>,
@@ -225,7 +225,10 @@ fn begin_body<R: ReadDevice>(
 
 /// Reads one head, and with it a body of up to 1024 bytes (RFC 9112, sections 2 to 6): a request, whose body is then read
 /// from the source; or a head that is refused; or the end. `now` dates the answer to a refused head, and the 500 of a
-/// request that is dropped. An error for want of memory: then the source has ended, or stands within the head.
+/// request that is dropped. An error for want of memory: then the source may stand within the head or its body.
+///
+/// The body of the request before has to be read to its end, or given up. No head should be read behind an error, a refused
+/// head that is the last, or a request whose head `is_last`: what stands there isn't one.
 pub fn read_head<R: ReadDevice>(
     alloc: Global,
     source: &mut Source<R>,

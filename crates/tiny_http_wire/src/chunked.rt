@@ -145,7 +145,7 @@ fn read_data<R: ReadDevice>(reader: &mut R, left: u64, buf: &mut [u8]) -> Result
     }
 }
 
-/// How far a chunked body was decoded, apart from its reader.
+/// How far a chunked body was decoded, apart from its reader. A copy stays where it was made.
 #[derive(Clone, Copy, Drop)]
 pub struct Decoding {
     next: Next,
@@ -232,7 +232,7 @@ impl Decoding {
 }
 
 /// The data of a chunked body, as a reader. It takes no byte of the reader inside behind the body's
-/// trailer part.
+/// trailer part. Dropped or taken apart before its end it leaves the rest of the body unread.
 #[derive(Drop)]
 pub struct Decoder<R> {
     inner: R,
