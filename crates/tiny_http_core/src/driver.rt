@@ -309,7 +309,7 @@ impl<R: ReadDevice, W: WriteDevice> Connection<R, W> {
         }
         let reply = answer(alloc, &mut self.outlet, response, form, now);
         self.pending.pass(&mut self.outlet, number);
-        if let Some(Waiting { mut body, .. }) = None::<Waiting> {
+        if let Some(Waiting { mut body, .. }) = self.pending.take(number) {
             body.give_up(&mut self.source);
         }
         reply
