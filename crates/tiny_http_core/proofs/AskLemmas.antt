@@ -24,13 +24,13 @@ use Rattle.tiny_http_core.specs.Pipeline.{Item, Asks, Refuses, Request, Place, H
 use Rattle.tiny_http_core.specs.HeadReads.{ReadsHead, place_after, place_feed, request_of, refused, head_message, head_framing}
 use Rattle.tiny_http_core.specs.Exchange.{KeepsRequest}
 use Rattle.tiny_http_core.specs.Body.{Remaining, remaining, taken_left, is_streaming}
-use Rattle.tiny_http_core.specs.Slots.{Slot, is_finished, is_broken, is_slot_broken, segment, joined, new_slot, own_text, turn_has_come, is_chunked, last_slot, reader_is_held, reader_is_lost}
+use Rattle.tiny_http_core.specs.Slots.{Slot, is_finished, is_broken, is_slot_broken, segment, joined, new_slot, own_text, turn_has_come, is_chunked, last_slot, reader_is_held, reader_is_lost, is_last_slot}
 use Rattle.tiny_http_core.specs.Steps.{Asked, Ask, Replied, Handed, Ended, NotYet, Memory, Unused, Unreported, Outcome, Reached, unchanged, ask, asks_from, outcome}
 use Rattle.tiny_http_core.specs.Conversation.{Failure, State, PlaceAt, FailsBetween, Writes, Has, StepsTo}
 use Rattle.tiny_http_core.specs.Sending.{IsFlushed, SendsUnlessEnded}
 use Rattle.tiny_http_core.specs.Turns.{Mark, Open, Left, Finished, AreInShape, first_unfinished}
 use Rattle.tiny_http_core.specs.Pending.{LeavesText, last_body, is_held}
-use Rattle.tiny_http_core.specs.Connection.{Kept, dropped, IsWaiting, AreKept, OutputAt, behind_body, GivesRest, is_last_slot, InputEnded, NextHead, Reader, Stands}
+use Rattle.tiny_http_core.specs.Connection.{Kept, dropped, IsWaiting, AreKept, OutputAt, behind_body, GivesRest, InputEnded, NextHead, Reader, Stands}
 use Rattle.tiny_http_core.proofs.HeadServing.{built-parts}
 use Rattle.tiny_http_core.proofs.GoingOn.{goes-on_more}
 use Rattle.tiny_http_core.proofs.PipelineLemmas.{pipeline-first, pipeline-none, feed-pipeline}

@@ -11,12 +11,12 @@ use Rattle.tiny_http_core.specs.declared.body.Body.TheVariants as body
 use Rattle.tiny_http_core.specs.ToCome.{skipped, stopped}
 use Rattle.tiny_http_core.specs.Source.{SourceState, GoesOn}
 use Rattle.tiny_http_core.specs.Pipeline.{Item, Request, said_length}
-use Rattle.tiny_http_core.specs.Slots.{Slot, Stage, is_chunked, body_finished, last_slot, reader_is_lost}
+use Rattle.tiny_http_core.specs.Slots.{Slot, Stage, is_chunked, body_finished, last_slot, reader_is_lost, is_last_item, is_last_slot}
 use Rattle.tiny_http_core.specs.Steps.{finished}
 use Rattle.tiny_http_core.specs.Conversation.{PlaceAt}
 use Rattle.tiny_http_core.specs.Body.{Remaining, remaining, is_streaming, Fits, GivesUp}
 use Rattle.tiny_http_core.specs.Pending.{last_body}
-use Rattle.tiny_http_core.specs.Connection.{Kept, open_slot, IsWaiting, IsSettled, AreSettled, behind_body, slot_rest, GivesRest, is_last_item, is_last_slot, NextHead, Reader}
+use Rattle.tiny_http_core.specs.Connection.{Kept, open_slot, IsWaiting, IsSettled, AreSettled, behind_body, slot_rest, GivesRest, NextHead, Reader}
 use Rattle.tiny_http_core.proofs.GoingOn.{goes-on_more}
 use Rattle.tiny_http_core.proofs.AskLemmas.{told-feed}
 use Rattle.tiny_http_core.proofs.BodyReads.{gives-up}

@@ -18,13 +18,13 @@ use Rattle.tiny_http_core.specs.declared.body.Body.TheVariants as body
 use Rattle.tiny_http_core.specs.ToCome.{stopped}
 use Rattle.tiny_http_core.specs.Source.{SourceState, GoesOn}
 use Rattle.tiny_http_core.specs.Pipeline.{Item, Request, said_length}
-use Rattle.tiny_http_core.specs.Slots.{Slot, Waits, Answered as AnsweredBy, ByServer, Raw, Upgraded, body_finished, is_chunked, joined, breaks_off, last_slot, reader_is_lost, turn_has_come}
+use Rattle.tiny_http_core.specs.Slots.{Slot, Waits, Answered as AnsweredBy, ByServer, Raw, Upgraded, body_finished, is_chunked, joined, breaks_off, last_slot, reader_is_lost, turn_has_come, is_last_item, is_last_slot}
 use Rattle.tiny_http_core.specs.Steps.{Read, Replied, Given, Fault, Memory, NoSuch, Unused, Outcome, Reached, changes, read_reply, effect, at_slot, at_number}
 use Rattle.tiny_http_core.specs.Conversation.{State, PlaceAt, Has}
 use Rattle.tiny_http_core.specs.Body.{Remaining, remaining, taken_left, after_bytes, with_bytes, BodyStops, NoneLeft, is_streaming, IsOver, ReadsOn, Fits, Fills}
 use Rattle.tiny_http_core.specs.Turns.{Mark, Open}
 use Rattle.tiny_http_core.specs.Pending.{last_body}
-use Rattle.tiny_http_core.specs.Connection.{Kept, open_slot, IsWaiting, AreKept, AreSettled, behind_body, rest_of, slot_rest, GivesRest, is_last_item, is_last_slot, Reader, Stands}
+use Rattle.tiny_http_core.specs.Connection.{Kept, open_slot, IsWaiting, AreKept, AreSettled, behind_body, rest_of, slot_rest, GivesRest, Reader, Stands}
 use Rattle.tiny_http_core.proofs.GoingOn.{goes-on_more}
 use Rattle.tiny_http_core.proofs.AskLemmas.{Answered, step-unchanged, settled-any, told-feed}
 use Rattle.tiny_http_core.proofs.BodyReads.{stays-settled}
@@ -353,13 +353,13 @@ read-none client before k s date j n w st e zero =
     step-unchanged client before k s date (Read j n) (Given []) st (at-read date s.reached j n p.s w p.waiting at.get ∙ rw zero refl)
 
 -- no memory was found
-pub read-memory : (client : Feed) (before : Sink) (k : Kept) (s : State) (date : HttpDate) (j n : ℕ) (w : Waiting) → Stands client before k s → slice_get k.requests j ≡ Some (Some w) → Answered client before k s date (Read j n) Memory
-read-memory client before k s date j n w st e =
+pub read-memory : (client : Feed) (before : Sink) (k : Kept) (s : State) (date : HttpDate) (j n : ℕ) (w : Waiting) → Stands client before k s → slice_get k.requests j ≡ Some (Some w) → 0 < n → Answered client before k s date (Read j n) Memory
+read-memory client before k s date j n w st e some =
     let p = place-of s.reached.slots k.marks k.requests j w st.numbers e in
     let at = slot-at s.reached.slots p.bs p.cs p.s j p.slots_are p.slots_before in
     let is = at-read date s.reached j n p.s w p.waiting at.get in
     let left = drop p.waiting.given p.waiting.request.body.bytes in
-    (s, st, inr ((λ none. such n left p.waiting.request.body.stop (n == 0) _ _ refl refl (ap (λ (o : Outcome). o.reply) (sym is) ∙ none)), refl, refl))
+    (s, st, inr (some, (λ none. such n left p.waiting.request.body.stop (n == 0) _ _ refl refl (ap (λ (o : Outcome). o.reply) (sym is) ∙ none)), refl, refl))
   where
     such : (n : ℕ) (left : List ℕ) (stop : Stop) (t : Bool) (a b : Outcome) → a.reply ≡ Given [] → b.reply ≡ read_reply n left stop → (if t then a else b).reply ≡ NoSuch → ⊥
     such n left stop true a b x y e = let no : Given [] ≡ NoSuch = sym x ∙ e in cc

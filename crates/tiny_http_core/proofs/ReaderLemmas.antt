@@ -10,11 +10,11 @@ use Rattle.tiny_http_core.specs.declared.exchange.Form.{Form}
 use Rattle.tiny_http_core.specs.declared.body.Body.{Body}
 use Rattle.tiny_http_core.specs.declared.body.Body.TheVariants as body
 use Rattle.tiny_http_core.specs.Pipeline.{Item, Asks, Refuses, said_length}
-use Rattle.tiny_http_core.specs.Slots.{Slot, is_streamed, is_chunked, body_finished, is_body_finished, body_holds_reader, last_slot, reader_is_held, reader_is_lost}
+use Rattle.tiny_http_core.specs.Slots.{Slot, is_streamed, is_chunked, body_finished, is_body_finished, body_holds_reader, last_slot, reader_is_held, reader_is_lost, is_last_item, is_last_slot}
 use Rattle.tiny_http_core.specs.Turns.{Mark, Open, Held, Left, Finished}
 use Rattle.tiny_http_core.specs.Body.{Remaining, remaining, is_streaming, Fits}
 use Rattle.tiny_http_core.specs.Pending.{last_body, is_held}
-use Rattle.tiny_http_core.specs.Connection.{IsWaiting, IsDone, IsKept, AreKept, IsSettled, AreSettled, behind_body, slot_rest, GivesRest, is_last_item, is_last_slot}
+use Rattle.tiny_http_core.specs.Connection.{IsWaiting, IsDone, IsKept, AreKept, IsSettled, AreSettled, behind_body, slot_rest, GivesRest}
 
 -- the body at a place is read from the input
 abbrev pub held_at : Option (Option Waiting) → Bool

@@ -8,10 +8,10 @@ use Rattle.tiny_http_wire.specs.Device.{Feed, Sink, grown, next_count}
 use Rattle.tiny_http_core.specs.Outlet.{holding}
 use Rattle.tiny_http_core.specs.Source.{GoesOn}
 use Rattle.tiny_http_core.specs.Pipeline.{Item, Pipeline}
-use Rattle.tiny_http_core.specs.Slots.{Slot, joined, last_slot, reader_is_held, reader_is_lost}
+use Rattle.tiny_http_core.specs.Slots.{Slot, joined, last_slot, reader_is_held, reader_is_lost, is_last_slot}
 use Rattle.tiny_http_core.specs.Steps.{Replied}
 use Rattle.tiny_http_core.specs.Conversation.{State, Failure, StepsTo, Run, Dated, start, IsFresh, PlaceAt, InputAt, IsOutput, IsConversation}
-use Rattle.tiny_http_core.specs.Connection.{Kept, OutputAt, behind_body, is_last_slot, Stands}
+use Rattle.tiny_http_core.specs.Connection.{Kept, OutputAt, behind_body, Stands}
 use Rattle.tiny_http_core.specs.ToCome.{stopped}
 use Rattle.tiny_http_core.specs.Pending.{last_body, is_held}
 use Rattle.tiny_http_wire.specs.declared.device.Stop.TheVariants.{End}
@@ -102,34 +102,41 @@ stands-begun client feed is_over sink items e fresh h =
     }
 
 -- how the input stands at the end
-input-end : (client : Feed) (before : Sink) (k : Kept) (s : State) → Stands client before k s → InputAt s.reached k.over k.feed
+input-end : (client : Feed) (before : Sink) (k : Kept) (s : State) → Stands client before k s → InputAt s.reached k.feed
 input-end client before k s st = by-ended s.reached.ended refl
   where
     last : Option Slot
     last = last_slot s.reached.slots
 
-    quiet : (t : Bool) → k.over ≡ t → k.ended ≡ false → reader_is_held last ≡ false → reader_is_lost last ≡ false → PlaceAt k.over k.feed s.reached.rest
+    over : Bool
+    over = is_last_slot last
+
+    place : k.ended ≡ false → reader_is_lost last ≡ false → PlaceAt over (behind_body (last_body k.requests) k.feed) s.reached.rest
+    place e l =
+        let P : Bool → Type 0 = λ x. PlaceAt x (behind_body (last_body k.requests) k.feed) s.reached.rest in
+        subst P (st.reader.next e).is_last ((st.reader.next e).place l)
+
+    quiet : (t : Bool) → over ≡ t → k.ended ≡ false → reader_is_held last ≡ false → reader_is_lost last ≡ false → PlaceAt over k.feed s.reached.rest
     quiet true o e h l =
         let P : Bool → Option Feed → Type 0 = λ x f. PlaceAt x f s.reached.rest in
-        let none : P true (behind_body (last_body k.requests) k.feed) = subst (λ x. P x (behind_body (last_body k.requests) k.feed)) o ((st.reader.next e).place l) in
+        let none : P true (behind_body (last_body k.requests) k.feed) = subst (λ x. P x (behind_body (last_body k.requests) k.feed)) o (place e l) in
         subst (λ x. P x k.feed) (sym o) none
     quiet false o e h l =
         let f = told-feed client k.feed st.reader.source in
-        let open_last : is_last_slot last ≡ false = sym (st.reader.next e).is_last ∙ o in
-        let free : is_held (last_body k.requests) ≡ false = sym (held-by last (last_body k.requests) (last-of client before k s st) ∙ rw open_last refl) ∙ h in
+        let free : is_held (last_body k.requests) ≡ false = sym (held-by last (last_body k.requests) (last-of client before k s st) ∙ rw o refl) ∙ h in
         let here : behind_body (last_body k.requests) k.feed ≡ k.feed = ap (behind_body (last_body k.requests)) f.1 ∙ behind-settled last (last_body k.requests) f.0 (last-of client before k s st) free ∙ sym f.1 in
-        let P : Option Feed → Type 0 = λ x. PlaceAt k.over x s.reached.rest in
-        subst P here ((st.reader.next e).place l)
+        let P : Option Feed → Type 0 = λ x. PlaceAt over x s.reached.rest in
+        subst P here (place e l)
 
-    by-held : (t : Bool) → reader_is_held last ≡ t → k.ended ≡ false → reader_is_lost last ≡ false → MatchBool t (Unit {0}) (PlaceAt k.over k.feed s.reached.rest)
+    by-held : (t : Bool) → reader_is_held last ≡ t → k.ended ≡ false → reader_is_lost last ≡ false → MatchBool t (Unit {0}) (PlaceAt over k.feed s.reached.rest)
     by-held true h e l = tt
-    by-held false h e l = quiet k.over refl e h l
+    by-held false h e l = quiet over refl e h l
 
-    by-lost : (t : Bool) → reader_is_lost last ≡ t → k.ended ≡ false → MatchBool t (k.feed ≡ Some (stopped End)) (MatchBool (reader_is_held last) (Unit {0}) (PlaceAt k.over k.feed s.reached.rest))
+    by-lost : (t : Bool) → reader_is_lost last ≡ t → k.ended ≡ false → MatchBool t (k.feed ≡ Some (stopped End)) (MatchBool (reader_is_held last) (Unit {0}) (PlaceAt over k.feed s.reached.rest))
     by-lost true l e = ((st.reader.next e).lost l).1
     by-lost false l e = by-held (reader_is_held last) refl e l
 
-    by-ended : (t : Bool) → s.reached.ended ≡ t → MatchBool t (Unit {0}) (MatchBool (reader_is_lost last) (k.feed ≡ Some (stopped End)) (MatchBool (reader_is_held last) (Unit {0}) (PlaceAt k.over k.feed s.reached.rest)))
+    by-ended : (t : Bool) → s.reached.ended ≡ t → MatchBool t (Unit {0}) (MatchBool (reader_is_lost last) (k.feed ≡ Some (stopped End)) (MatchBool (reader_is_held last) (Unit {0}) (PlaceAt over k.feed s.reached.rest)))
     by-ended true e = tt
     by-ended false e = by-lost (reader_is_lost last) refl (sym st.ended ∙ e)
 
@@ -163,7 +170,7 @@ conversation told client before sink held k ended all replies dated same same_en
     let m = f dated h in
     let P : Sink → Bool → Type 0 = λ x y. OutputAt before x y m.0.reached.slots m.0.failure in
     let out : P (holding sink held ended) ended = subst (λ y. P (holding sink held ended) y) same_end (subst (λ x. P x k.output_ended) same m.1.output) in
-    record { items = items_of client; end = m.0; pipeline = feed-pipeline client; run = m.2; over = k.over; output = output-end before sink held ended m.0 empty out; input = input-end client before k m.0 m.1 }
+    record { items = items_of client; end = m.0; pipeline = feed-pipeline client; run = m.2; output = output-end before sink held ended m.0 empty out; input = input-end client before k m.0 m.1 }
 
 -- the writer's count over the steps
 pub fails-step : (writer old new : Sink) (was ended : Bool) → FailsOnce writer old was → FailsOnceUnlessEnded was old new ended → FailsOnce writer new ended

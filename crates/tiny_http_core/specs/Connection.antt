@@ -15,7 +15,7 @@ use Rattle.tiny_http_core.specs.Body.{Remaining, remaining, taken_left, is_strea
 use Rattle.tiny_http_core.specs.Pending.{last_body}
 use Rattle.tiny_http_core.specs.Outlet.{outlet_sink, outlet_ended}
 use Rattle.tiny_http_core.specs.Pipeline.{Item, Asks, Refuses, Request, is_head_method, said_length}
-use Rattle.tiny_http_core.specs.Slots.{Slot, ByServer, is_finished, is_slot_broken, segment, joined, breaks_off, new_slot, last_slot, reader_is_lost}
+use Rattle.tiny_http_core.specs.Slots.{Slot, ByServer, is_finished, is_slot_broken, segment, joined, breaks_off, new_slot, last_slot, is_last_slot, reader_is_lost}
 use Rattle.tiny_http_core.specs.Steps.{finished}
 use Rattle.tiny_http_core.specs.Turns.{Mark, Open, Left, Finished, AreInShape}
 use Rattle.tiny_http_core.specs.Conversation.{State, Failure, PlaceAt}
@@ -119,15 +119,6 @@ abbrev pub GivesRest : Option Body → Option Slot → Option Feed → Type 0
 GivesRest None s feed = ⊤
 GivesRest (Some b) None feed = ⊤
 GivesRest (Some b) (Some s) feed = option_map (λ (r : Remaining). r.body) (remaining b feed) ≡ Some (slot_rest s)
-
--- the number has the last head
-abbrev pub is_last_item : Item → Bool
-is_last_item (Asks r) = r.framing.is_last
-is_last_item (Refuses status version withheld) = true
-
-abbrev pub is_last_slot : Option Slot → Bool
-is_last_slot None = false
-is_last_slot (Some s) = is_last_item s.item
 
 -- the input has ended
 abbrev pub InputEnded : Kept → Type 0

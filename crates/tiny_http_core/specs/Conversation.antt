@@ -7,7 +7,7 @@ use Rattle.tiny_http_wire.specs.Device.{Feed, Sink, IsFront, Tells}
 use Rattle.tiny_http_core.specs.Pipeline.{Item, Asks, Refuses, Pipeline}
 use Rattle.tiny_http_wire.specs.declared.device.Stop.TheVariants.{End}
 use Rattle.tiny_http_core.specs.ToCome.{stopped}
-use Rattle.tiny_http_core.specs.Slots.{ResponseValue, Slot, is_finished, joined, breaks_off, new_slot, last_slot, reader_is_held, reader_is_lost, turn_has_come, IsGathered, to_request}
+use Rattle.tiny_http_core.specs.Slots.{ResponseValue, Slot, is_finished, joined, breaks_off, new_slot, last_slot, is_last_slot, reader_is_held, reader_is_lost, turn_has_come, IsGathered, to_request}
 use Rattle.tiny_http_core.specs.Steps.{Asked, Ask, Read, Respond, Replied, NoSuch, Memory, Use, Unused, Unreported, Reported, use_in_turn, Outcome, Reached, outcome}
 
 -- the writer's first fault: its kind, and all that the writer took
@@ -94,7 +94,7 @@ answers_to slots (item ∷ refused) = use_in_turn (turn_has_come (length slots) 
 
 -- want of memory: before a read, which changes nothing; or at a head, which ends the asking
 abbrev pub FindsNoMemory : HttpDate → State → Asked → Replied → State → Type 0
-FindsNoMemory date old (Read k n) reply new = ((outcome true date old.reached (Read k n)).reply ≡ NoSuch → ⊥) × (reply ≡ Memory) × (new ≡ old)
+FindsNoMemory date old (Read k n) reply new = 0 < n × ((outcome true date old.reached (Read k n)).reply ≡ NoSuch → ⊥) × (reply ≡ Memory) × (new ≡ old)
 FindsNoMemory date old Ask reply new =
     (old.reached.ended ≡ false) × (reader_is_held (last_slot old.reached.slots) ≡ false) × (reader_is_lost (last_slot old.reached.slots) ≡ false)
     × (refused : List Item) × (rest : List Item) × (old.reached.rest ≡ refused ++ rest) × AllByRecursion IsRefused refused
@@ -140,23 +140,21 @@ PlaceAt false (Some f) rest = Pipeline (Some f.bytes) f.stop rest
 
 -- How the input stands while the asking goes on: it has ended behind a chunked body that was given up before its end; it
 -- stands within the last body, while that holds it; else what the bytes still ask is the rest of the pipeline.
-abbrev pub InputAt : Reached → Bool → Option Feed → Type 0
-InputAt old over left =
+abbrev pub InputAt : Reached → Option Feed → Type 0
+InputAt old left =
     MatchBool old.ended (Unit {0})
     (MatchBool (reader_is_lost (last_slot old.slots)) (left ≡ Some (stopped End))
-    (MatchBool (reader_is_held (last_slot old.slots)) (Unit {0}) (PlaceAt over left old.rest)))
+    (MatchBool (reader_is_held (last_slot old.slots)) (Unit {0}) (PlaceAt (is_last_slot (last_slot old.slots)) left old.rest)))
 
 -- THE CONNECTION THEOREM: replies and output are those of a run over the pipeline that stands in the feed; and this of the
 -- feed is left.
 pub record IsConversation (feed : Feed) (before : Sink) (steps : List Dated) (replies : List Replied) (after : Sink) (held : List ℕ) (ended : Bool) (left : Option Feed) : Type 0 where
   pub items : List Item
   pub end : State
-  -- where nothing of the pipeline is left: whether the last head was read. Either will do then
-  pub over : Bool
   pub pipeline : Pipeline (Some feed.bytes) feed.stop items
   pub run : Run (start items) steps replies end
   pub output : IsOutput end.reached.slots end.failure before after held ended
-  pub input : InputAt end.reached over left
+  pub input : InputAt end.reached left
 
 -- the writer as a run takes it: it tells that it took no bytes, it has not ended, and its count can rise
 pub record IsFresh (sink : Sink) : Type 0 where

@@ -21,7 +21,7 @@ use Rattle.tiny_http_core.specs.declared.heads.HeadFault.{HeadFault}
 use Rattle.tiny_http_core.specs.declared.heads.HeadFault.TheVariants as fault
 use Rattle.tiny_http_core.specs.declared.body.Body.{Body}
 use Rattle.tiny_http_core.specs.Framing.{is_rest}
-use Rattle.tiny_http_core.specs.Source.{from}
+use Rattle.tiny_http_core.specs.Source.{SourceState, from, IsAtEnd}
 use Rattle.tiny_http_core.specs.Pipeline.{Request, Item, Asks, Refuses, Place, IsCutHeld, BodyAt, OneHead, said_length}
 use Rattle.tiny_http_core.specs.Slots.{own_text}
 use Rattle.tiny_http_core.specs.Body.{Remaining, remaining, Fits}
@@ -147,3 +147,8 @@ ReadsHead date (Some f) new (Ok (read.Refused text last)) =
     (v : HTTPVersion) × OneHead f.bytes f.stop (Some (refused v)) None × (text.items ≡ own_text 400 v false date) × (last ≡ true)
 ReadsHead date (Some f) new (Ok read.Ended) = OneHead f.bytes f.stop None None
 ReadsHead date (Some f) new (Err e) = ⊤
+
+-- behind anything but a request the source has ended
+abbrev pub EndsUnlessHanded : {R : Type 0} → Result HeadRead AllocError → SourceState R → Type 0
+EndsUnlessHanded (Ok (read.Request x)) s = ⊤
+EndsUnlessHanded _ s = IsAtEnd s

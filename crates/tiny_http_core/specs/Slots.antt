@@ -198,6 +198,15 @@ body_was_abandoned s (Refuses status version withheld) = false
 abbrev pub last_slot : List Slot → Option Slot
 last_slot slots = last_or None slots
 
+-- the number has the last head
+abbrev pub is_last_item : Item → Bool
+is_last_item (Asks r) = r.framing.is_last
+is_last_item (Refuses status version withheld) = true
+
+abbrev pub is_last_slot : Option Slot → Bool
+is_last_slot None = false
+is_last_slot (Some s) = is_last_item s.item
+
 abbrev pub reader_is_held : Option Slot → Bool
 reader_is_held None = false
 reader_is_held (Some s) = body_holds_reader s s.item

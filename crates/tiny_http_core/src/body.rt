@@ -4,7 +4,7 @@ ghost use Rattle.std.specs.Option.{option_map};
 ghost use Rattle.std.specs.IoError.{error_kind};
 ghost use Rattle.tiny_http_wire.specs.Device.{Feed};
 ghost use Rattle.tiny_http_wire.specs.Decoding.{AnswersStop};
-ghost use Rattle.tiny_http_core.specs.Source.{GoesOn};
+ghost use Rattle.tiny_http_core.specs.Source.{GoesOn, IsAtEnd};
 ghost use Rattle.tiny_http_core.specs.ToCome.{skipped, stopped};
 ghost use Rattle.tiny_http_core.specs.Body.{remaining, counted_left, with_bytes, BodyStops, is_streaming, body_stop, ReadsOn, Fills, GivesUp};
 
@@ -65,6 +65,7 @@ impl Body {
         ensures fault { IfErr result (λ e. BodyStops (Stop.Fault (error_kind e)) (remaining self.old source.old.feed)) }
         ensures again { OnErr result (remaining self.new source.new.feed ≡ remaining self.old source.old.feed) }
         ensures over { IfErr result (λ e. self.new ≡ Body.Over (Stop.Fault (error_kind e))) }
+        ensures at_end { OnErr result (IsAtEnd source.new) }
         ensures moves { IfOk result (λ n. ReadsOn self.old n (n == 0) self.new) }
         ensures goes_on { GoesOn source.old.feed source.new.feed }
     {
@@ -105,6 +106,7 @@ impl Body {
         ensures fault { IfErr result (λ e. BodyStops (Stop.Fault (error_kind e)) (remaining self.old source.old.feed)) }
         ensures again { OnErr result (remaining self.new source.new.feed ≡ remaining self.old source.old.feed) }
         ensures over { IfErr result (λ e. self.new ≡ Body.Over (Stop.Fault (error_kind e))) }
+        ensures at_end { OnErr result (IsAtEnd source.new) }
         ensures moves { IfOk result (λ n. ReadsOn self.old n (n == 0) self.new) }
         ensures goes_on { GoesOn source.old.feed source.new.feed }
     {
@@ -142,6 +144,7 @@ impl Body {
         ensures moves { IfOk result (λ n. 0 < length buf.new → ReadsOn self.old n (n == 0) self.new) }
         ensures broken { IfErr result (λ e. ReadsOn self.old 0 true self.new × (self.new ≡ Body.Over (Stop.Fault (error_kind e)))) }
         ensures settled { is_streaming self.old ≡ false → source.new ≡ source.old }
+        ensures at_end { OnErr result (body_stop self.old ≡ None → IsAtEnd source.new) }
         ensures tells { IfSome (body_stop self.old) (λ stop. 0 < length buf.new → AnswersStop stop result × (self.new ≡ self.old)) }
         ensures goes_on { GoesOn source.old.feed source.new.feed }
     {

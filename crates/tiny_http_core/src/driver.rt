@@ -244,12 +244,12 @@ impl<R: ReadDevice, W: WriteDevice> Connection<R, W> {
         let Some(_) = self.pending.form_at(number) else {
             return Reply::NoSuch;
         };
+        if count == 0 {
+            return Reply::Given(Vec::new(alloc));
+        }
         let Ok(mut bytes) = zeros(alloc, count) else {
             return Reply::Memory;
         };
-        if count == 0 {
-            return Reply::Given(bytes);
-        }
         match self
             .pending
             .fill(&mut self.source, number, bytes.as_mut_slice())

@@ -1,5 +1,5 @@
 //! A reader of so many bytes of another one.
-ghost use Rattle.std.specs.Prelude.{◌≡◌, ◌<◌, ◌≤◌, length, take, Ok, IfOk, IfErr, OnErr};
+ghost use Rattle.std.specs.Prelude.{◌≡◌, ◌<◌, ◌≤◌, ◌+◌, length, take, Ok, IfOk, IfErr, OnErr};
 ghost use Rattle.std.specs.Option.{option_map};
 ghost use Rattle.std.specs.IoError.{error_kind};
 ghost use Rattle.tiny_http_wire.specs.Device.{given, StopsBy};
@@ -73,6 +73,8 @@ impl<R: ReadDevice + Drop> ReadDevice for EqualReader<R> {
         ensures fault { IfErr result (λ e. StopsBy (Stop.Fault (error_kind e)) (equal_feed R.feed self.old)) }
         ensures again { OnErr result (equal_feed R.feed self.new ≡ equal_feed R.feed self.old) }
         ensures empty { length buf.new ≡ 0 → (result ≡ Ok 0) × (self.new ≡ self.old) }
+        ensures count { IfOk result (λ n. equal_left self.old ≡ n + equal_left self.new) }
+        ensures kept { OnErr result (equal_left self.new ≡ equal_left self.old) }
         // What is read away, now or later, stays the same.
         ensures behind { option_map (last_part (equal_left self.new)) (R.feed (equal_inner self.new)) ≡ option_map (last_part (equal_left self.old)) (R.feed (equal_inner self.old)) }
     {
@@ -97,12 +99,26 @@ impl<R: ReadDevice + Drop> Drop for EqualReader<R> {
 }
 
 impl<R: ReadDevice + Drop> Read for EqualReader<R> {
-    ghost use Rattle.tiny_http_core.specs.EqualReader.{equal_feed};
+    ghost use Rattle.std.specs.Io.{ReadsAtMost};
+    ghost use Rattle.std.specs.Io.KnownBytes.{ReadConsumes};
+    ghost use Rattle.tiny_http_core.specs.EqualReader.{equal_feed, equal_left, equal_inner};
     ghost use Rattle.tiny_http_core.specs.Source.{bytes_of};
 
     ghost remaining = { λ r. bytes_of (equal_feed R.feed r) };
 
-    fn read(&mut self, buf: &mut [u8]) -> io::Result<usize> {
+    /// Reads some of the bytes that are left.
+    fn read(&mut self, buf: &mut [u8]) -> io::Result<usize>
+        ensures bound { ReadsAtMost result buf.new }
+        ensures bytes { ReadConsumes (bytes_of (equal_feed R.feed self.old)) (bytes_of (equal_feed R.feed self.new)) result buf.new }
+        ensures next { IfOk result (λ n. equal_feed R.feed self.old ≡ given (take n buf.new) (equal_feed R.feed self.new)) }
+        ensures end { IfOk result (λ n. n ≡ 0 → 0 < length buf.new → StopsBy Stop.End (equal_feed R.feed self.old)) }
+        ensures fault { IfErr result (λ e. StopsBy (Stop.Fault (error_kind e)) (equal_feed R.feed self.old)) }
+        ensures again { OnErr result (equal_feed R.feed self.new ≡ equal_feed R.feed self.old) }
+        ensures empty { length buf.new ≡ 0 → (result ≡ Ok 0) × (self.new ≡ self.old) }
+        ensures count { IfOk result (λ n. equal_left self.old ≡ n + equal_left self.new) }
+        ensures kept { OnErr result (equal_left self.new ≡ equal_left self.old) }
+        ensures behind { option_map (last_part (equal_left self.new)) (R.feed (equal_inner self.new)) ≡ option_map (last_part (equal_left self.old)) (R.feed (equal_inner self.old)) }
+    {
         self.read_in(buf)
     }
 }

@@ -6,7 +6,7 @@ ghost use Rattle.tiny_http_core.specs.Source.{GoesOn, IsAtEnd};
 ghost use Rattle.tiny_http_core.specs.Slots.{own_text};
 ghost use Rattle.tiny_http_core.specs.Pipeline.{is_head_method};
 ghost use Rattle.tiny_http_core.specs.Body.{with_bytes, BodyStops};
-ghost use Rattle.tiny_http_core.specs.HeadReads.{ReadsHead, RefusesBy, Begins, message_of, head_message, head_framing};
+ghost use Rattle.tiny_http_core.specs.HeadReads.{ReadsHead, EndsUnlessHanded, RefusesBy, Begins, message_of, head_message, head_framing};
 ghost use Rattle.tiny_http_core.specs.Exchange.{KeepsHead};
 
 use crate::body::{Body, counted};
@@ -92,7 +92,7 @@ pub enum HeadRead {
 }
 
 impl Exchange {
-    ghost use Rattle.tiny_http_core.specs.Exchange.{exchange_head, exchange_left, exchange_stop, GivesUpBody};
+    ghost use Rattle.tiny_http_core.specs.Exchange.{exchange_head, exchange_left, exchange_stop, exchange_streams, GivesUpBody};
 
     /// What the request's head says.
     pub fn head(&self) -> &Head
@@ -118,7 +118,11 @@ impl Exchange {
         ensures fault { IfErr result (λ e. BodyStops (Stop.Fault (error_kind e)) (exchange_left self.old source.old.feed)) }
         ensures again { OnErr result (exchange_left self.new source.new.feed ≡ exchange_left self.old source.old.feed) }
         ensures empty { length buf.new ≡ 0 → (result ≡ Ok 0) × (self.new ≡ self.old) × (source.new ≡ source.old) }
-        // Whatever the reader tells: a fault is told again by each later read.
+        // Whatever the reader tells: behind its end a body holds the source no more, and behind its first fault the source
+        // has ended. A fault is told again by each later read.
+        ensures ended { IfOk result (λ n. n ≡ 0 → 0 < length buf.new → exchange_streams self.new ≡ false) }
+        ensures settled { exchange_streams self.old ≡ false → (exchange_streams self.new ≡ false) × (source.new ≡ source.old) }
+        ensures at_end { OnErr result (exchange_stop self.old ≡ None → IsAtEnd source.new) }
         ensures broken { IfErr result (λ e. exchange_stop self.new ≡ Some (Stop.Fault (error_kind e))) }
         ensures tells { IfSome (exchange_stop self.old) (λ stop. 0 < length buf.new → AnswersStop stop result × (exchange_stop self.new ≡ Some stop) × (source.new ≡ source.old)) }
         ensures head { exchange_head self.new ≡ exchange_head self.old }
@@ -223,21 +227,15 @@ fn begin_body<R: ReadDevice>(
     }
 }
 
-/// Reads one head, and with it a body of up to 1024 bytes (RFC 9112, sections 2 to 6): a request, whose body is then read
-/// from the source; or a head that is refused; or the end. `now` dates the answer to a refused head, and the 500 of a
-/// request that is dropped. An error for want of memory: then the source may stand within the head or its body.
-///
-/// The body of the request before has to be read to its end, or given up. No head should be read behind an error, a refused
-/// head that is the last, or a request whose head `is_last`: what stands there isn't one.
-pub fn read_head<R: ReadDevice>(
+// What stands at the source's place. Behind anything but a request the source may stand within a head or its body.
+fn read_item<R: ReadDevice>(
     alloc: Global,
     source: &mut Source<R>,
     now: HttpDate,
 ) -> Result<HeadRead, AllocError>
     ensures reads { ReadsHead now source.old.feed source.new.feed result }
     ensures goes_on { GoesOn source.old.feed source.new.feed }
-    // Whatever the reader tells: behind the end no head follows.
-    ensures at_end { IsAtEnd source.old → (result ≡ Ok HeadRead.Ended) × (source.new ≡ source.old) }
+    ensures at_end { IsAtEnd source.old → result ≡ Ok HeadRead.Ended }
 {
     let message = match read_message(alloc, source) {
         Ok(message) => message,
@@ -256,5 +254,31 @@ pub fn read_head<R: ReadDevice>(
         },
         Ok(None) => Ok(HeadRead::Ended),
         Err(e) => Err(e),
+    }
+}
+
+/// Reads one head, and with it a body of up to 1024 bytes (RFC 9112, sections 2 to 6): a request, whose body is then read
+/// from the source; or a head that is refused; or the end. `now` dates the answer to a refused head, and the 500 of a
+/// request that is dropped. An error for want of memory. Behind anything but a request the source has ended.
+///
+/// The body of the request before has to be read to its end, or given up. No head should be read behind a request whose
+/// head `is_last`: what stands there isn't one.
+pub fn read_head<R: ReadDevice>(
+    alloc: Global,
+    source: &mut Source<R>,
+    now: HttpDate,
+) -> Result<HeadRead, AllocError>
+    ensures reads { ReadsHead now source.old.feed source.new.feed result }
+    ensures goes_on { GoesOn source.old.feed source.new.feed }
+    // Whatever the reader tells: behind the end no head follows.
+    ensures at_end { IsAtEnd source.old → result ≡ Ok HeadRead.Ended }
+    ensures ends { EndsUnlessHanded result source.new }
+{
+    match read_item(alloc, source, now) {
+        Ok(HeadRead::Request(exchange)) => Ok(HeadRead::Request(exchange)),
+        other => {
+            source.end();
+            other
+        }
     }
 }

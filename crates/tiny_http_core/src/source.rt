@@ -129,17 +129,44 @@ impl<R: ReadDevice> Source<R> {
 impl<R: ReadDevice> ReadDevice for Source<R> {
     ghost feed = { λ s. s.feed };
 
-    fn read_in(&mut self, buf: &mut [u8]) -> Result<usize, io::Error> {
+    /// Reads some bytes, as `Source::read`.
+    fn read_in(&mut self, buf: &mut [u8]) -> Result<usize, io::Error>
+        ensures bound { IfOk result (λ n. n ≤ length buf.new) }
+        ensures bytes { IfOk result (λ n. self.old.feed ≡ given (take n buf.new) self.new.feed) }
+        ensures end { IfOk result (λ n. n ≡ 0 → 0 < length buf.new → StopsBy Stop.End self.old.feed) }
+        ensures fault { IfErr result (λ e. StopsBy (Stop.Fault (error_kind e)) self.old.feed) }
+        ensures again { OnErr result (self.new.feed ≡ self.old.feed) }
+        ensures empty { length buf.new ≡ 0 → (result ≡ Ok 0) × (self.new ≡ self.old) }
+        ensures once { IsSome self.old.stop → IsSome self.new.stop × (self.new.reader ≡ self.old.reader) }
+        ensures over { IfErr result (λ e. (self.new.is_over ≡ true) × (self.new.stop ≡ Some (Stop.Fault (error_kind e)))) }
+        ensures none { IfOk result (λ n. n ≡ 0 → 0 < length buf.new → (self.new.is_over ≡ true) × (self.new.stop ≡ Some Stop.End)) }
+        ensures stays { self.old.is_over ≡ true → self.new ≡ self.old }
+    {
         self.input.read(buf)
     }
 }
 
 impl<R: ReadDevice> Read for Source<R> {
+    ghost use Rattle.std.specs.Io.{ReadsAtMost};
+    ghost use Rattle.std.specs.Io.KnownBytes.{ReadConsumes};
     ghost use Rattle.tiny_http_core.specs.Source.{bytes_of};
 
     ghost remaining = { λ s. bytes_of s.feed };
 
-    fn read(&mut self, buf: &mut [u8]) -> io::Result<usize> {
+    /// Reads some bytes, as `Source::read`.
+    fn read(&mut self, buf: &mut [u8]) -> io::Result<usize>
+        ensures bound { ReadsAtMost result buf.new }
+        ensures bytes { ReadConsumes (bytes_of self.old.feed) (bytes_of self.new.feed) result buf.new }
+        ensures next { IfOk result (λ n. self.old.feed ≡ given (take n buf.new) self.new.feed) }
+        ensures end { IfOk result (λ n. n ≡ 0 → 0 < length buf.new → StopsBy Stop.End self.old.feed) }
+        ensures fault { IfErr result (λ e. StopsBy (Stop.Fault (error_kind e)) self.old.feed) }
+        ensures again { OnErr result (self.new.feed ≡ self.old.feed) }
+        ensures empty { length buf.new ≡ 0 → (result ≡ Ok 0) × (self.new ≡ self.old) }
+        ensures once { IsSome self.old.stop → IsSome self.new.stop × (self.new.reader ≡ self.old.reader) }
+        ensures over { IfErr result (λ e. (self.new.is_over ≡ true) × (self.new.stop ≡ Some (Stop.Fault (error_kind e)))) }
+        ensures none { IfOk result (λ n. n ≡ 0 → 0 < length buf.new → (self.new.is_over ≡ true) × (self.new.stop ≡ Some Stop.End)) }
+        ensures stays { self.old.is_over ≡ true → self.new ≡ self.old }
+    {
         self.read_in(buf)
     }
 }

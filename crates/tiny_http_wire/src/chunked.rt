@@ -2,7 +2,7 @@
 ghost use Rattle.std.specs.Prelude.{◌≡◌, ℕ, ◌<◌, ◌≤◌, List, length, take, Option, None, Some, Ok, Err, IfOk, IfErr, OnOk, OnErr, IsSome, IfSome};
 ghost use Rattle.std.specs.Option.{option_map};
 ghost use Rattle.std.specs.IoError.{error_kind};
-ghost use Rattle.tiny_http_wire.specs.Device.{given, TakesFront};
+ghost use Rattle.tiny_http_wire.specs.Device.{given, StopsBy, TakesFront};
 ghost use Rattle.tiny_http_wire.specs.Chunks.{WholeChunks, CutChunks};
 ghost use Rattle.tiny_http_wire.specs.ChunkLine.{CutBy};
 ghost use Rattle.tiny_http_wire.specs.Decoding.{comes, trails, IsReady, next_stop, decoding_coming, decoding_stop, with_front, over_at, BreaksBy, AnswersStop};
@@ -275,6 +275,8 @@ impl<R: ReadDevice> Decoder<R> {
         ensures broken { IfErr result (λ e. decoder_stop self.new ≡ Some (Stop.Fault (error_kind e))) }
         ensures stays { IsSome (decoder_stop self.old) → self.new ≡ self.old }
         ensures tells { IfSome (decoder_stop self.old) (λ stop. 0 < length buf.new → AnswersStop stop result) }
+        // Only bytes at the front of what the reader inside gives are taken.
+        ensures takes { TakesFront (R.feed (decoder_inner self.old)) (R.feed (decoder_inner self.new)) }
     {
         self.decoding.read(&mut self.inner, buf)
     }
@@ -288,12 +290,28 @@ impl<R: ReadDevice> Decoder<R> {
 }
 
 impl<R: ReadDevice> ReadDevice for Decoder<R> {
-    ghost use Rattle.tiny_http_wire.specs.Decoding.{decoder_feed};
+    ghost use Rattle.tiny_http_wire.specs.Decoding.{decoder_feed, decoder_coming, decoder_inner, decoder_stop};
 
     ghost feed = { decoder_feed R.feed };
 
     /// Reads some data.
-    fn read_in(&mut self, buf: &mut [u8]) -> Result<usize, io::Error> {
+    fn read_in(&mut self, buf: &mut [u8]) -> Result<usize, io::Error>
+        ensures bound { IfOk result (λ n. n ≤ length buf.new) }
+        ensures bytes { IfOk result (λ n. decoder_feed R.feed self.old ≡ given (take n buf.new) (decoder_feed R.feed self.new)) }
+        ensures end { IfOk result (λ n. n ≡ 0 → 0 < length buf.new → StopsBy Stop.End (decoder_feed R.feed self.old)) }
+        ensures fault { IfErr result (λ e. StopsBy (Stop.Fault (error_kind e)) (decoder_feed R.feed self.old)) }
+        ensures again { OnErr result (decoder_feed R.feed self.new ≡ decoder_feed R.feed self.old) }
+        ensures data { IfOk result (λ n. decoder_coming R.feed self.old ≡ with_front (take n buf.new) (decoder_coming R.feed self.new)) }
+        ensures behind { IfOk result (λ n. n ≡ 0 → 0 < length buf.new → decoder_coming R.feed self.old ≡ option_map over_at (R.feed (decoder_inner self.new))) }
+        ensures breaks { IfErr result (λ e. BreaksBy (error_kind e) (decoder_coming R.feed self.old)) }
+        ensures same { OnErr result (decoder_coming R.feed self.new ≡ decoder_coming R.feed self.old) }
+        ensures empty { length buf.new ≡ 0 → (result ≡ Ok 0) × (self.new ≡ self.old) }
+        ensures behinded { IfOk result (λ n. n ≡ 0 → 0 < length buf.new → decoder_stop self.new ≡ Some Stop.End) }
+        ensures broken { IfErr result (λ e. decoder_stop self.new ≡ Some (Stop.Fault (error_kind e))) }
+        ensures stays { IsSome (decoder_stop self.old) → self.new ≡ self.old }
+        ensures tells { IfSome (decoder_stop self.old) (λ stop. 0 < length buf.new → AnswersStop stop result) }
+        ensures takes { TakesFront (R.feed (decoder_inner self.old)) (R.feed (decoder_inner self.new)) }
+    {
         self.read(buf)
     }
 }
@@ -316,6 +334,7 @@ impl<R: ReadDevice> Read for Decoder<R> {
         ensures broken { IfErr result (λ e. decoder_stop self.new ≡ Some (Stop.Fault (error_kind e))) }
         ensures stays { IsSome (decoder_stop self.old) → self.new ≡ self.old }
         ensures tells { IfSome (decoder_stop self.old) (λ stop. 0 < length buf.new → AnswersStop stop result) }
+        ensures takes { TakesFront (R.feed (decoder_inner self.old)) (R.feed (decoder_inner self.new)) }
     {
         Decoder::read(self, buf)
     }
