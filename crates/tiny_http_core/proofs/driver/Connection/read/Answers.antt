@@ -29,7 +29,7 @@ returns-then-count-eq0-clause-stands g c client before s date st =
     let k : Kept = kept g.W.WriteDevice.sink c.args.self.now in
     let w = form-some (slice_get k.requests n) c.in-Some.field-0 (sym c.form_at.ensures ∙ c.in-Some.is) in
     let P : List ℕ → Type 0 = λ l. Answered client before k s date (Read n c.args.count) (Given l) in
-    subst P (none c.new.result.items (search rules)) (read-none client before k s date n c.args.count w.0 st w.1 c.if-count-eq0.true)
+    subst P (none _ (search rules)) (read-none client before k s date n c.args.count w.0 st w.1 c.if-count-eq0.true)
 
 pub returns-in-Ok-fill-clause-stands : goal.returns-in-Ok-fill-clause-stands
 returns-in-Ok-fill-clause-stands g c client before s date st =
