@@ -1,11 +1,11 @@
 //! The body of a request, read from the connection's input.
-ghost use Rattle.std.specs.Prelude.{◌≡◌, ◌<◌, ◌≤◌, ◌+◌, ◌==◌, true, false, length, take, drop, Option, Some, None, Ok, IfOk, IfErr, IfSome, OnErr};
+ghost use Rattle.std.specs.Prelude.{◌≡◌, ◌<◌, ◌≤◌, ◌+◌, ◌==◌, true, false, length, take, drop, Option, None, Ok, IfOk, IfErr, IfSome, OnErr};
 ghost use Rattle.std.specs.Option.{option_map};
 ghost use Rattle.std.specs.IoError.{error_kind};
 ghost use Rattle.tiny_http_wire.specs.Device.{Feed};
 ghost use Rattle.tiny_http_wire.specs.Decoding.{AnswersStop};
 ghost use Rattle.tiny_http_core.specs.Source.{GoesOn, IsAtEnd};
-ghost use Rattle.tiny_http_core.specs.ToCome.{skipped, stopped};
+ghost use Rattle.tiny_http_core.specs.ToCome.{skipped};
 ghost use Rattle.tiny_http_core.specs.Body.{remaining, counted_left, with_bytes, BodyStops, is_streaming, body_stop, ReadsOn, Fills, GivesUp};
 
 use crate::source::Source;

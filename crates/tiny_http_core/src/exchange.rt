@@ -1,9 +1,8 @@
 //! A request without locks: its head, its body on the connection's input, and what becomes of both.
-ghost use Rattle.std.specs.Prelude.{◌≡◌, ◌<◌, ◌≤◌, ◌==◌, false, length, take, Ok, IfOk, IfErr, IfSome, OnErr};
+ghost use Rattle.std.specs.Prelude.{◌≡◌, ◌<◌, ◌≤◌, false, length, take, Ok, IfOk, IfErr, IfSome, OnErr};
 ghost use Rattle.std.specs.IoError.{error_kind};
 ghost use Rattle.tiny_http_wire.specs.Decoding.{AnswersStop};
 ghost use Rattle.tiny_http_core.specs.Source.{GoesOn, IsAtEnd};
-ghost use Rattle.tiny_http_core.specs.Slots.{own_text};
 ghost use Rattle.tiny_http_core.specs.Pipeline.{is_head_method};
 ghost use Rattle.tiny_http_core.specs.Body.{with_bytes, BodyStops};
 ghost use Rattle.tiny_http_core.specs.HeadReads.{ReadsHead, EndsUnlessHanded, RefusesBy, Begins, message_of, head_message, head_framing};

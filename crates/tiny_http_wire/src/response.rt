@@ -1,5 +1,5 @@
 //! Answers to requests, and how they are printed.
-ghost use Rattle.std.specs.Prelude.{◌≡◌, ℕ, Bool, List, Option, Some, None, IfSome, if◌then◌else◌, ◌∷◌, IfOk, vec_len, string_len, string_bytes, [], ◌<◌, ◌^◌, ◌++◌, length};
+ghost use Rattle.std.specs.Prelude.{◌≡◌, Option, Some, None, IfSome, if◌then◌else◌, ◌∷◌, IfOk, vec_len, string_len, string_bytes, [], ◌<◌, ◌^◌, ◌++◌, length};
 ghost use Rattle.std.specs.Option.{option_copied};
 ghost use Rattle.tiny_http_wire.specs.Answer.{Answer, ResponseState, Prints, behind, whole, identity_body, is_withheld, is_ascii, PrintsGathered, PrintsUncoded, PrintsAnswer, as_it_is, nothing, text_plain, answer_with};
 ghost use Rattle.tiny_http_wire.specs.Cursor.{cursor_bytes};

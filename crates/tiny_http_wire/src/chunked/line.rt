@@ -1,5 +1,5 @@
 //! A size line or a trailer line, taken from a reader byte by byte (RFC 9112, section 7.1).
-ghost use Rattle.std.specs.Prelude.{◌≡◌, ℕ, List, [], ◌∷◌, IfOk, IfErr, OnErr};
+ghost use Rattle.std.specs.Prelude.{◌≡◌, [], ◌∷◌, IfOk, IfErr, OnErr};
 ghost use Rattle.tiny_http_wire.specs.Device.{given};
 ghost use Rattle.tiny_http_wire.specs.ChunkSize.{SizeFits};
 ghost use Rattle.tiny_http_wire.specs.ChunkLine.{scan_step, OneLine, NoLine, CutBy};

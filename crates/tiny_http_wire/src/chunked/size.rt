@@ -1,5 +1,5 @@
 //! The size that a size line gives, read byte by byte (RFC 9112, section 7.1).
-ghost use Rattle.std.specs.Prelude.{◌≡◌, ℕ, ◌<◌, IfSome};
+ghost use Rattle.std.specs.Prelude.{◌≡◌, ◌<◌, IfSome};
 ghost use Rattle.tiny_http_wire.specs.Chunks.{is_bws};
 ghost use Rattle.tiny_http_wire.specs.ChunkSize.{hex_of, digits_ended, size_step, size_value, SizeFits};
 
