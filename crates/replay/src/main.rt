@@ -1,7 +1,7 @@
 //! Runs the steps of a script over a client's bytes: `replay BYTES SCRIPT`.
 #![tactic(auto)]
 
-ghost use Rattle.std.specs.Prelude.{◌≡◌, ◌<◌, ◌≤◌, ◌⊎◌, ℕ, map, Err, IsErrAnd, IfOk, IfErr, OnOk};
+ghost use Rattle.std.specs.Prelude.{◌≡◌, ◌<◌, ◌≤◌, ◌⊎◌, ℕ, ◌++◌, map, Err, IsErrAnd, IfOk, IfErr, OnOk};
 ghost use Rattle.replay.specs.Fault.{exit_status};
 ghost use Rattle.replay.specs.Script.{script_lines, IsFirstBad, timed_value, HasRun, WritesReplay};
 ghost use Rattle.std.specs.Io.KnownBytes.{Appends};

@@ -1,5 +1,5 @@
 //! The steps that a script names, line by line.
-ghost use Rattle.std.specs.Prelude.{◌≡◌, ℕ, map, Err, IfOk};
+ghost use Rattle.std.specs.Prelude.{◌≡◌, ℕ, ◌++◌, map, Err, IfOk};
 ghost use Rattle.std.specs.Option.{option_map};
 ghost use Rattle.std.specs.List.{AllZip};
 ghost use Rattle.httpdate.specs.Date.{unix_secs};
