@@ -29,7 +29,7 @@ use Rattle.tiny_http_core.specs.Steps.{Asked, Ask, Replied, Handed, Ended, NotYe
 use Rattle.tiny_http_core.specs.Conversation.{Failure, State, PlaceAt, FailsBetween, Writes, Has, StepsTo}
 use Rattle.tiny_http_core.specs.Sending.{IsFlushed, SendsUnlessEnded}
 use Rattle.tiny_http_core.specs.Turns.{Mark, Open, Left, Finished, AreInShape, first_unfinished}
-use Rattle.tiny_http_core.specs.Pending.{LeavesText, last_body, is_held}
+use Rattle.tiny_http_core.specs.Pending.{LeavesText, last_body, streams}
 use Rattle.tiny_http_core.specs.Connection.{Kept, dropped, IsWaiting, AreKept, OutputAt, behind_body, GivesRest, InputEnded, NextHead, Reader, Stands}
 use Rattle.tiny_http_core.proofs.HeadServing.{built-parts}
 use Rattle.tiny_http_core.proofs.GoingOn.{goes-on_more}
@@ -107,10 +107,10 @@ told-feed client (Some f) h = (f, refl)
 pub last-of : (client : Feed) (before : Sink) (k : Kept) (s : State) → Stands client before k s → LastKept (last_slot s.reached.slots) (last_body k.requests)
 last-of client before k s h = last-kept s.reached.slots k.marks k.requests h.numbers
 
-unheld : (client : Feed) (before : Sink) (k : Kept) (s : State) → Stands client before k s → is_held (last_body k.requests) ≡ false → reader_is_held (last_slot s.reached.slots) ≡ false
+unheld : (client : Feed) (before : Sink) (k : Kept) (s : State) → Stands client before k s → streams (last_body k.requests) ≡ false → reader_is_held (last_slot s.reached.slots) ≡ false
 unheld client before k s h quiet = held-by (last_slot s.reached.slots) (last_body k.requests) (last-of client before k s h) ∙ rw quiet (and-false (not (is_last_slot (last_slot s.reached.slots))))
 
-going : (client : Feed) (before : Sink) (k : Kept) (s : State) → Stands client before k s → k.ended ≡ false → k.over ≡ false → is_held (last_body k.requests) ≡ false → (InputEnded k → ⊥) → Going k s
+going : (client : Feed) (before : Sink) (k : Kept) (s : State) → Stands client before k s → k.ended ≡ false → k.over ≡ false → streams (last_body k.requests) ≡ false → (InputEnded k → ⊥) → Going k s
 going client before k s h e o quiet open_input =
     let f = told-feed client k.feed h.reader.source in
     let next = h.reader.next e in
@@ -195,7 +195,7 @@ with_input k p stop over = record k { feed = p; stop = stop; is_over = over }
 abbrev pub after_handed : Kept → Waiting → Bool → Option Feed → Option Stop → Bool → Kept
 after_handed k w last p stop over = record k { marks = k.marks ++ (Open ∷ []); requests = k.requests ++ (Some w ∷ []); over = last; feed = p; stop = stop; is_over = over }
 
-handed-reader : (client : Feed) (k : Kept) (slots : List Slot) (rest more : List Item) (date : HttpDate) (r : Request) (w : Waiting) (p : Option Feed) (stop : Option Stop) (over : Bool) (close : Stop) (next : Place) → Reader client k slots rest → is_held (last_body k.requests) ≡ false
+handed-reader : (client : Feed) (k : Kept) (slots : List Slot) (rest more : List Item) (date : HttpDate) (r : Request) (w : Waiting) (p : Option Feed) (stop : Option Stop) (over : Bool) (close : Stop) (next : Place) → Reader client k slots rest → streams (last_body k.requests) ≡ false
     → remaining w.body p ≡ Some (record { body = r.body; behind = place_feed close next }) → Pipeline (place_after r.framing.is_last next) close more → GoesOn (Some client) p
     → Reader client (after_handed k w r.framing.is_last p stop over) (slots ++ (handed_slot date r ∷ [])) more
 handed-reader client k slots rest more date r w p stop over close next old quiet left items source =
@@ -220,7 +220,7 @@ handed-reader client k slots rest more date r w p stop over close next old quiet
       source = source;
     }
 
-pub ask-handed : (client : Feed) (before : Sink) (k : Kept) (s : State) (date : HttpDate) (x : Exchange) (p : Option Feed) (stop : Option Stop) (over : Bool) (n : ℕ) → Stands client before k s → k.ended ≡ false → k.over ≡ false → is_held (last_body k.requests) ≡ false
+pub ask-handed : (client : Feed) (before : Sink) (k : Kept) (s : State) (date : HttpDate) (x : Exchange) (p : Option Feed) (stop : Option Stop) (over : Bool) (n : ℕ) → Stands client before k s → k.ended ≡ false → k.over ≡ false → streams (last_body k.requests) ≡ false
     → (InputEnded k → ⊥) → ReadsHead date k.feed p (Ok (read.Request x)) → GoesOn k.feed p → n ≡ length k.marks → AreInShape (k.marks ++ (Open ∷ []))
     → Answered client before (after_handed k x.waiting x.head.is_last p stop over) s date Ask (Handed n (head_message x.head) (head_framing x.head))
 ask-handed client before k s date x p stop over n st e o quiet open_input reads goes number shape =
@@ -251,7 +251,7 @@ ask-handed client before k s date x p stop over n st e o quiet open_input reads 
     )
 
 -- the body of the last request holds the reader
-pub ask-not_yet : (client : Feed) (before : Sink) (k : Kept) (s : State) (date : HttpDate) → Stands client before k s → k.ended ≡ false → k.over ≡ false → is_held (last_body k.requests) ≡ true → Answered client before k s date Ask NotYet
+pub ask-not_yet : (client : Feed) (before : Sink) (k : Kept) (s : State) (date : HttpDate) → Stands client before k s → k.ended ≡ false → k.over ≡ false → streams (last_body k.requests) ≡ true → Answered client before k s date Ask NotYet
 ask-not_yet client before k s date st e o held =
     let slots = s.reached.slots in
     let last : is_last_slot (last_slot slots) ≡ false = sym (st.reader.next e).is_last ∙ o in
@@ -266,7 +266,7 @@ abbrev pub after_end : Kept → Option Feed → Option Stop → Bool → Kept
 after_end k p stop over = record k { ended = true; feed = p; stop = stop; is_over = over }
 
 -- the input was read, and the last body isn't read from it
-end-reader : (client : Feed) (before : Sink) (k : Kept) (s : State) (p : Option Feed) (stop : Option Stop) (over : Bool) (rest : List Item) → Stands client before k s → is_held (last_body k.requests) ≡ false → GoesOn k.feed p
+end-reader : (client : Feed) (before : Sink) (k : Kept) (s : State) (p : Option Feed) (stop : Option Stop) (over : Bool) (rest : List Item) → Stands client before k s → streams (last_body k.requests) ≡ false → GoesOn k.feed p
     → Reader client (after_end k p stop over) s.reached.slots rest
 end-reader client before k s p stop over rest st quiet goes =
     let source = goes-on_more (Some client) k.feed p st.reader.source goes in
@@ -317,7 +317,7 @@ ask-over client before k s date st e o = by (reader_is_lost (last_slot s.reached
         )
 
 -- no head follows
-pub ask-none : (client : Feed) (before : Sink) (k : Kept) (s : State) (date : HttpDate) (p : Option Feed) (stop : Option Stop) (over : Bool) → Stands client before k s → k.ended ≡ false → k.over ≡ false → is_held (last_body k.requests) ≡ false
+pub ask-none : (client : Feed) (before : Sink) (k : Kept) (s : State) (date : HttpDate) (p : Option Feed) (stop : Option Stop) (over : Bool) → Stands client before k s → k.ended ≡ false → k.over ≡ false → streams (last_body k.requests) ≡ false
     → ReadsHead date k.feed p (Ok read.Ended) → GoesOn k.feed p
     → Answered client before (after_end k p stop over) s date Ask Ended
 ask-none client before k s date p stop over st e o quiet reads goes = by (reader_is_lost (last_slot s.reached.slots)) refl
@@ -353,7 +353,7 @@ ask-none client before k s date p stop over st e o quiet reads goes = by (reader
         )
 
 -- no memory was found
-pub ask-memory : (client : Feed) (before : Sink) (k : Kept) (s : State) (date : HttpDate) (p : Option Feed) (stop : Option Stop) (over : Bool) → Stands client before k s → k.ended ≡ false → k.over ≡ false → is_held (last_body k.requests) ≡ false → (InputEnded k → ⊥) → GoesOn k.feed p
+pub ask-memory : (client : Feed) (before : Sink) (k : Kept) (s : State) (date : HttpDate) (p : Option Feed) (stop : Option Stop) (over : Bool) → Stands client before k s → k.ended ≡ false → k.over ≡ false → streams (last_body k.requests) ≡ false → (InputEnded k → ⊥) → GoesOn k.feed p
     → Answered client before (after_end k p stop over) s date Ask Memory
 ask-memory client before k s date p stop over st e o quiet open_input goes =
     let g = going client before k s st e o quiet open_input in
@@ -435,7 +435,7 @@ refuses before sink new e ended s marks final requests n text h kept shape over 
     (turn-at slots marks requests [] kept (shape-issued marks shape))
 
 pub ask-refused : (client : Feed) (before : Sink) (k : Kept) (s : State) (date : HttpDate) (text : Vec ℕ) (is_last : Bool) (p : Option Feed) (stop : Option Stop) (over : Bool) (marks : List Mark) (sink : Sink) (ended : Bool) → Stands client before k s → before.failures < 2 ^ 64 - 1
-    → k.ended ≡ false → k.over ≡ false → is_held (last_body k.requests) ≡ false → (InputEnded k → ⊥) → ReadsHead date k.feed p (Ok (read.Refused text is_last)) → GoesOn k.feed p
+    → k.ended ≡ false → k.over ≡ false → streams (last_body k.requests) ≡ false → (InputEnded k → ⊥) → ReadsHead date k.feed p (Ok (read.Refused text is_last)) → GoesOn k.feed p
     → LeavesText (length k.marks == first_unfinished k.marks) k.marks [] marks text.items k.output_ended k.sink sink ended
     → Answered client before (after_refused k marks p stop over sink ended) s date Ask Ended
 ask-refused client before k s date text is_last p stop over marks sink ended st low e o quiet open_input reads goes leaves =

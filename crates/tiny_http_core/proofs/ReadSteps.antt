@@ -21,7 +21,7 @@ use Rattle.tiny_http_core.specs.Pipeline.{Item, Request, said_length}
 use Rattle.tiny_http_core.specs.Slots.{Slot, Waits, Answered as AnsweredBy, ByServer, Raw, Upgraded, body_finished, is_chunked, joined, breaks_off, last_slot, reader_is_lost, turn_has_come, is_last_item, is_last_slot}
 use Rattle.tiny_http_core.specs.Steps.{Read, Replied, Given, Fault, Memory, NoSuch, Unused, Outcome, Reached, changes, read_reply, effect, at_slot, at_number}
 use Rattle.tiny_http_core.specs.Conversation.{State, PlaceAt, Has}
-use Rattle.tiny_http_core.specs.Body.{Remaining, remaining, taken_left, after_bytes, with_bytes, BodyStops, NoneLeft, is_streaming, IsOver, ReadsOn, Fits, Fills}
+use Rattle.tiny_http_core.specs.Body.{Remaining, remaining, taken_left, after_bytes, with_bytes, BodyStops, NoneLeft, is_streaming, IsOver, ReadsOn, Fits, FillsFromBody}
 use Rattle.tiny_http_core.specs.Turns.{Mark, Open}
 use Rattle.tiny_http_core.specs.Pending.{last_body}
 use Rattle.tiny_http_core.specs.Connection.{Kept, open_slot, IsWaiting, AreKept, AreSettled, behind_body, rest_of, slot_rest, GivesRest, Reader, Stands}
@@ -186,7 +186,7 @@ abbrev B : Option Remaining → Option Feed
 B o = option_map (λ (y : Remaining). y.behind) o
 
 read-given : (b c : Body) (old new : Option Feed) (r : Request) (given : ℕ) (told : Bool) (n m : ℕ) (buf : List ℕ) (y : Remaining) → remaining b old ≡ Some y → y.body ≡ rest_of r given → Fits b r.framing.form (said_length r.framing) given told
-    → m ≤ length buf → length buf ≡ n → 0 < n → Fills b old c new (Ok m) buf → ReadOn b c old new r given told n (Given (take m buf))
+    → m ≤ length buf → length buf ≡ n → 0 < n → FillsFromBody b old c new (Ok m) buf → ReadOn b c old new r given told n (Given (take m buf))
 read-given b c old new r given told n m buf y here rest fits le size some fills =
     let bs = take m buf in
     let left = drop given r.body.bytes in
@@ -220,7 +220,7 @@ read-given b c old new r given told n m buf y here rest fits le size some fills 
     none-read left (z ∷ bs) xs m e empty len = let no : z ∷ (bs ++ xs) ≡ [] = sym e ∙ empty in cc
 
 read-fault : (b c : Body) (old new : Option Feed) (r : Request) (given : ℕ) (told : Bool) (n : ℕ) (kind : ErrorKind) (buf : List ℕ) (y : Remaining) → remaining b old ≡ Some y → y.body ≡ rest_of r given → Fits b r.framing.form (said_length r.framing) given told
-    → 0 < n → Fills b old c new (Err kind) buf → ReadOn b c old new r given told n (Fault kind)
+    → 0 < n → FillsFromBody b old c new (Err kind) buf → ReadOn b c old new r given told n (Fault kind)
 read-fault b c old new r given told n kind buf y here rest fits some fills =
     let left = drop given r.body.bytes in
     let E : Option Remaining → Type 0 = λ o. BodyStops (Faults kind) o in
@@ -246,7 +246,7 @@ read-fault b c old new r given told n kind buf y here rest fits some fills =
     }
 
 read-on : (b c : Body) (old new : Option Feed) (r : Request) (given : ℕ) (told : Bool) (n : ℕ) (result : Result ℕ ErrorKind) (buf : List ℕ) (y : Remaining) → remaining b old ≡ Some y → y.body ≡ rest_of r given → Fits b r.framing.form (said_length r.framing) given told
-    → IfBound result buf → length buf ≡ n → 0 < n → Fills b old c new result buf → ReadOn b c old new r given told n (reply_for result buf)
+    → IfBound result buf → length buf ≡ n → 0 < n → FillsFromBody b old c new result buf → ReadOn b c old new r given told n (reply_for result buf)
 read-on b c old new r given told n (Ok m) buf y here rest fits le size some fills = read-given b c old new r given told n m buf y here rest fits le size some fills
 read-on b c old new r given told n (Err kind) buf y here rest fits le size some fills = read-fault b c old new r given told n kind buf y here rest fits some fills
 
@@ -369,7 +369,7 @@ read-memory client before k s date j n w st e some =
 
 -- the body was read
 pub read-done : {R : Type 0} (client : Feed) (before : Sink) (k : Kept) (s : State) (date : HttpDate) (j n : ℕ) (w : Waiting) (c : Body) (old new : SourceState R) (requests : List (Option Waiting)) (result : Result ℕ ErrorKind) (buf : List ℕ) → Stands client before k s → slice_get k.requests j ≡ Some (Some w)
-    → requests ≡ slice_set k.requests j (Some (with_body w c)) → ReadsFrom k old → IfBound result buf → length buf ≡ n → 0 < n → Fills w.body old.feed c new.feed result buf → (is_streaming w.body ≡ false → new ≡ old) → GoesOn old.feed new.feed
+    → requests ≡ slice_set k.requests j (Some (with_body w c)) → ReadsFrom k old → IfBound result buf → length buf ≡ n → 0 < n → FillsFromBody w.body old.feed c new.feed result buf → (is_streaming w.body ≡ false → new ≡ old) → GoesOn old.feed new.feed
     → Answered client before (with_reader k requests new) s date (Read j n) (reply_for result buf)
 read-done {R = R} client before k s date j n w c old new requests result buf st e requests_are from bound size some fills leaves goes =
     let R : List (Option Waiting) → Type 0 = λ l. Answered client before (with_reader k l new) s date (Read j n) (reply_for result buf) in

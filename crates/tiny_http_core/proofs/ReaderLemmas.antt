@@ -13,7 +13,7 @@ use Rattle.tiny_http_core.specs.Pipeline.{Item, Asks, Refuses, said_length}
 use Rattle.tiny_http_core.specs.Slots.{Slot, is_streamed, is_chunked, body_finished, is_body_finished, body_holds_reader, last_slot, reader_is_held, reader_is_lost, is_last_item, is_last_slot}
 use Rattle.tiny_http_core.specs.Turns.{Mark, Open, Held, Left, Finished}
 use Rattle.tiny_http_core.specs.Body.{Remaining, remaining, is_streaming, Fits}
-use Rattle.tiny_http_core.specs.Pending.{last_body, is_held}
+use Rattle.tiny_http_core.specs.Pending.{last_body, streams}
 use Rattle.tiny_http_core.specs.Connection.{IsWaiting, IsDone, IsKept, AreKept, IsSettled, AreSettled, behind_body, slot_rest, GivesRest}
 
 -- the body at a place is read from the input
@@ -22,7 +22,7 @@ held_at None = false
 held_at (Some None) = false
 held_at (Some (Some w)) = is_streaming w.body
 
-pub held-last : (ws : List (Option Waiting)) → held_at (slice_get ws (length ws - 1)) ≡ is_held (last_body ws)
+pub held-last : (ws : List (Option Waiting)) → held_at (slice_get ws (length ws - 1)) ≡ streams (last_body ws)
 held-last [] = refl
 held-last (None ∷ []) = refl
 held-last (Some w ∷ []) = refl
@@ -30,8 +30,8 @@ held-last (w ∷ v ∷ ws) =
     let less : length (w ∷ v ∷ ws) - 1 ≡ suc (length (v ∷ ws) - 1) = omega arith in
     ap (λ n. held_at (slice_get (w ∷ v ∷ ws) n)) less ∙ held-last (v ∷ ws)
 
-pub held-is : (ws l : List (Option Waiting)) (o : Option (Option Waiting)) → l ≡ ws → o ≡ slice_get l (length l - 1) → held_at o ≡ is_held (last_body ws)
-held-is ws l o e at = ap held_at at ∙ held-last l ∙ ap (λ x. is_held (last_body x)) e
+pub held-is : (ws l : List (Option Waiting)) (o : Option (Option Waiting)) → l ≡ ws → o ≡ slice_get l (length l - 1) → held_at o ≡ streams (last_body ws)
+held-is ws l o e at = ap held_at at ∙ held-last l ∙ ap (λ x. streams (last_body x)) e
 
 -- the last of some, and what is kept of it
 abbrev pub LastKept : Option Slot → Option Body → Type 0
@@ -87,7 +87,7 @@ body-within (x ∷ []) u v w vs = refl
 body-within (x ∷ (y ∷ us)) u v w vs = body-within (y ∷ us) u v w vs
 
 -- only the last body is read from the input
-pub settled-snoc : (us : List (Option Waiting)) (u : Option Waiting) → AreSettled us → is_held (last_body us) ≡ false → AreSettled (us ++ (u ∷ []))
+pub settled-snoc : (us : List (Option Waiting)) (u : Option Waiting) → AreSettled us → streams (last_body us) ≡ false → AreSettled (us ++ (u ∷ []))
 settled-snoc [] u h e = tt
 settled-snoc (None ∷ []) u h e = (tt, tt)
 settled-snoc (Some w ∷ []) u h e = (e, tt)
@@ -138,25 +138,25 @@ done-held s d = at s.item
     at (Refuses a b c) = refl
 
 -- whether the last body holds the reader, and the program's sight of it
-pub held-by : (o : Option Slot) (b : Option Body) → LastKept o b → reader_is_held o ≡ (not (is_last_slot o) && is_held b)
+pub held-by : (o : Option Slot) (b : Option Body) → LastKept o b → reader_is_held o ≡ (not (is_last_slot o) && streams b)
 held-by o b (inl h) = rw (h.0, h.1) refl
 held-by o b (inr (inl h)) = rw (h.1, h.2, done-held h.0 h.3) (sym (and-false (not (is_last_item h.0.item))))
 held-by o b (inr (inr h)) = rw (h.2, h.3) (waiting-held h.0 h.1 h.4)
 
 -- behind a body that isn't read from the input the input stands
-pub behind-settled : (o : Option Slot) (b : Option Body) (f : Feed) → LastKept o b → is_held b ≡ false → behind_body b (Some f) ≡ Some f
+pub behind-settled : (o : Option Slot) (b : Option Body) (f : Feed) → LastKept o b → streams b ≡ false → behind_body b (Some f) ≡ Some f
 behind-settled o b f (inl h) e = rw h.1 refl
 behind-settled o b f (inr (inl h)) e = rw h.2 refl
 behind-settled o b f (inr (inr h)) e =
-    let P : Option Body → Type 0 = λ x. is_held x ≡ false in
+    let P : Option Body → Type 0 = λ x. streams x ≡ false in
     let quiet : is_streaming h.1.body ≡ false = subst P h.3 e in
     rw h.3 (ap (λ (x : Option Remaining). option_map (λ (r : Remaining). r.behind) x) (h.4.settled quiet f))
 
-pub gives-settled : (o : Option Slot) (b : Option Body) (f : Feed) → LastKept o b → is_held b ≡ false → GivesRest b o (Some f)
+pub gives-settled : (o : Option Slot) (b : Option Body) (f : Feed) → LastKept o b → streams b ≡ false → GivesRest b o (Some f)
 gives-settled o b f (inl h) e = rw (h.0, h.1) tt
 gives-settled o b f (inr (inl h)) e = rw h.2 tt
 gives-settled o b f (inr (inr h)) e =
-    let P : Option Body → Type 0 = λ x. is_held x ≡ false in
+    let P : Option Body → Type 0 = λ x. streams x ≡ false in
     let quiet : is_streaming h.1.body ≡ false = subst P h.3 e in
     let Q : Slot → Type 0 = λ x. option_map (λ (r : Remaining). r.body) (remaining h.1.body (Some f)) ≡ Some (slot_rest x) in
     rw (h.2, h.3) (subst Q (sym h.4.is) (ap (λ (x : Option Remaining). option_map (λ (r : Remaining). r.body) x) (h.4.settled quiet f)))

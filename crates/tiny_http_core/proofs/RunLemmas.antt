@@ -13,7 +13,7 @@ use Rattle.tiny_http_core.specs.Steps.{Replied}
 use Rattle.tiny_http_core.specs.Conversation.{State, Failure, StepsTo, Run, Dated, start, IsFresh, PlaceAt, InputAt, IsOutput, IsConversation}
 use Rattle.tiny_http_core.specs.Connection.{Kept, OutputAt, behind_body, Stands}
 use Rattle.tiny_http_core.specs.ToCome.{stopped}
-use Rattle.tiny_http_core.specs.Pending.{last_body, is_held}
+use Rattle.tiny_http_core.specs.Pending.{last_body, streams}
 use Rattle.tiny_http_wire.specs.declared.device.Stop.TheVariants.{End}
 use Rattle.tiny_http_core.proofs.ReaderLemmas.{held-by, behind-settled}
 use Rattle.tiny_http_core.specs.declared.driver.Timed.{Timed}
@@ -123,7 +123,7 @@ input-end client before k s st = by-ended s.reached.ended refl
         subst (λ x. P x k.feed) (sym o) none
     quiet false o e h l =
         let f = told-feed client k.feed st.reader.source in
-        let free : is_held (last_body k.requests) ≡ false = sym (held-by last (last_body k.requests) (last-of client before k s st) ∙ rw o refl) ∙ h in
+        let free : streams (last_body k.requests) ≡ false = sym (held-by last (last_body k.requests) (last-of client before k s st) ∙ rw o refl) ∙ h in
         let here : behind_body (last_body k.requests) k.feed ≡ k.feed = ap (behind_body (last_body k.requests)) f.1 ∙ behind-settled last (last_body k.requests) f.0 (last-of client before k s st) free ∙ sym f.1 in
         let P : Option Feed → Type 0 = λ x. PlaceAt over x s.reached.rest in
         subst P here (place e l)

@@ -104,11 +104,11 @@ Fits (Counted left) shape n given told = (shape ≡ form.Counted) × (given + le
 Fits (Chunked decoding) shape n given told = (shape ≡ form.Chunked) × (told ≡ false)
 
 -- A buffer was filled from the body: with all its bytes; or with fewer, and none is left; or a fault came before any byte.
-abbrev pub Fills : Body → Option Feed → Body → Option Feed → Result ℕ ErrorKind → List ℕ → Type 0
-Fills old from new to (Ok n) buf =
+abbrev pub FillsFromBody : Body → Option Feed → Body → Option Feed → Result ℕ ErrorKind → List ℕ → Type 0
+FillsFromBody old from new to (Ok n) buf =
     (remaining old from ≡ with_bytes (take n buf) (remaining new to)) × (0 < length buf → ReadsOn old n (nat_lt n (length buf)) new)
     × (n < length buf → NoneLeft (remaining new to)) × (n ≡ 0 → 0 < length buf → BodyStops End (remaining old from))
-Fills old from new to (Err kind) buf =
+FillsFromBody old from new to (Err kind) buf =
     (remaining new to ≡ remaining old from) × ReadsOn old 0 true new × BodyStops (Fault kind) (remaining old from)
 
 -- A body is given up: the rest of a counted one is skipped; behind a chunked one no head follows; else nothing changes.

@@ -61,6 +61,6 @@ last_body (Some w ∷ []) = Some w.body
 last_body (w ∷ v ∷ ws) = last_body (v ∷ ws)
 
 -- the body is read from the input
-abbrev pub is_held : Option Body → Bool
-is_held None = false
-is_held (Some b) = is_streaming b
+abbrev pub streams : Option Body → Bool
+streams None = false
+streams (Some b) = is_streaming b

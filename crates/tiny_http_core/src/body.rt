@@ -6,7 +6,7 @@ ghost use Rattle.tiny_http_wire.specs.Device.{Feed};
 ghost use Rattle.tiny_http_wire.specs.Decoding.{AnswersStop};
 ghost use Rattle.tiny_http_core.specs.Source.{GoesOn, IsAtEnd};
 ghost use Rattle.tiny_http_core.specs.ToCome.{skipped};
-ghost use Rattle.tiny_http_core.specs.Body.{remaining, counted_left, with_bytes, BodyStops, is_streaming, body_stop, ReadsOn, Fills, GivesUp};
+ghost use Rattle.tiny_http_core.specs.Body.{remaining, counted_left, with_bytes, BodyStops, is_streaming, body_stop, ReadsOn, FillsFromBody, GivesUp};
 
 use crate::source::Source;
 use std::io;
@@ -196,7 +196,7 @@ impl Body {
         buf: &mut [u8],
     ) -> Result<usize, ErrorKind>
         ensures bound { IfOk result (λ n. n ≤ length buf.new) }
-        ensures fills { Fills self.old source.old.feed self.new source.new.feed result buf.new }
+        ensures fills { FillsFromBody self.old source.old.feed self.new source.new.feed result buf.new }
         ensures settled { is_streaming self.old ≡ false → source.new ≡ source.old }
         ensures goes_on { GoesOn source.old.feed source.new.feed }
     {

@@ -5,8 +5,8 @@ ghost use Rattle.tiny_http_core.specs.Outlet.{outlet_sink, outlet_ended, outlet_
 ghost use Rattle.tiny_http_core.specs.Sending.{CanSend, IsFlushed, SendsUnlessEnded, FailsOnceUnlessEnded};
 ghost use Rattle.tiny_http_core.specs.declared.body.Body.{Body};
 ghost use Rattle.tiny_http_core.specs.Source.{GoesOn};
-ghost use Rattle.tiny_http_core.specs.Body.{is_streaming, Fills};
-ghost use Rattle.tiny_http_core.specs.Pending.{left_text, SendsLeft, Passes, LeavesText, waiting_form, last_body, is_held};
+ghost use Rattle.tiny_http_core.specs.Body.{is_streaming, FillsFromBody};
+ghost use Rattle.tiny_http_core.specs.Pending.{left_text, SendsLeft, Passes, LeavesText, waiting_form, last_body, streams};
 
 use crate::exchange::{AnswerForm, Waiting};
 use crate::outlet::Outlet;
@@ -92,7 +92,7 @@ impl Pending {
         ensures bound { IfOk result (λ n. n ≤ length buf.new) }
         ensures fills { (w : Waiting) → slice_get self.old.requests.items number ≡ Some (Some w)
             → (body : Body) × (self.new.requests.items ≡ slice_set self.old.requests.items number (Some (record w { body = body })))
-            × Fills w.body source.old.feed body source.new.feed result buf.new × (is_streaming w.body ≡ false → source.new ≡ source.old) }
+            × FillsFromBody w.body source.old.feed body source.new.feed result buf.new × (is_streaming w.body ≡ false → source.new ≡ source.old) }
         ensures turns { self.new.turns ≡ self.old.turns }
         ensures goes_on { GoesOn source.old.feed source.new.feed }
     {
@@ -108,7 +108,7 @@ impl Pending {
     /// Whether the last request that was handed out waits, and the next head stands behind bytes of its body that were not
     /// read.
     pub fn holds_reader(&self) -> bool
-        ensures { result ≡ is_held (last_body self.now.requests.items) }
+        ensures { result ≡ streams (last_body self.now.requests.items) }
     {
         let Some(last) = self.requests.last() else {
             return false;
