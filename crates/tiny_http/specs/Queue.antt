@@ -1,0 +1,18 @@
+-- A QUEUE: a list of marks, the front first. A mark is a value, or a call to unblock one who waits, which is None.
+use Rattle.std.specs.Prelude.{◌≡◌, List, [], ◌∷◌, Option, Some, None}
+use Rattle.tiny_http.specs.declared.messages_queue.Popped.{Popped}
+use Rattle.tiny_http.specs.declared.messages_queue.Popped.TheVariants.{Value, Unblocked, Empty}
+
+module _ {T : Type 0} where
+  -- a pop takes the mark at the front, and tells it; from an empty queue it takes none
+  abbrev pub Pops : List (Option T) → Popped T → List (Option T) → Type 0
+  Pops (Some x ∷ marks) (Value y) new = (y ≡ x) × (new ≡ marks)
+  Pops (None ∷ marks) Unblocked new = new ≡ marks
+  Pops [] Empty new = new ≡ []
+  Pops old popped new = ⊥
+
+  -- what a pop is answered by a queue that threads share: the value, or None
+  abbrev pub answer_of : Popped T → Option T
+  answer_of (Value x) = Some x
+  answer_of Unblocked = None
+  answer_of Empty = None
