@@ -3,14 +3,13 @@ ghost use Rattle.std.specs.Prelude.{◌≡◌, IfErr, IfSome};
 
 use std::alloc::{AllocError, Global};
 use std::collections::VecDeque;
-use std::io;
 use std::io::ErrorKind;
 use std::marker::Model;
 use std::sync::atomic::{AtomicBool, Ordering};
 use std::sync::{Arc, Condvar, Mutex, MutexGuard, Wait};
-use std::thread;
 use std::thread::Threads;
 use std::time::{Clock, Duration};
+use std::{io, thread};
 
 // So many workers are kept though they are idle.
 const MIN_THREADS: usize = 4;
@@ -25,7 +24,7 @@ pub trait Job {
 }
 
 /// What became of a job that was offered to a pool.
-#[derive(Drop)]
+#[derive(Debug, PartialEq, Eq, Drop)]
 pub enum Offered<J> {
     /// It waits, and an idle worker is to be woken for it.
     Queued,
@@ -307,14 +306,13 @@ impl<J: Job + Drop + Send + 'static, R: Threads + Wait + Clock + Copy + Send + '
         let Ok(refused) = Arc::new(alloc, AtomicBool::new(false)) else {
             return Err(job);
         };
-        let (Ok(mark), Ok(theirs)) = (Arc::try_clone(&refused), Arc::try_clone(&self.sharing)) else {
+        let (Ok(mark), Ok(theirs)) = (Arc::try_clone(&refused), Arc::try_clone(&self.sharing))
+        else {
             return Err(job);
         };
         let worker = move || -> Option<J>
             ensures { IfSome result (λ back. back ≡ job) }
-        {
-            work_unless(rt, mark, theirs, job)
-        };
+        { work_unless(rt, mark, theirs, job) };
         match thread::spawn(&rt, worker) {
             Ok(_) => Ok(()),
             Err(unmade) => {
