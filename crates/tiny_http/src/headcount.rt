@@ -31,10 +31,11 @@ impl Headcount {
     pub fn enter(&mut self) -> bool
         ensures { Enters self.old result self.new }
     {
-        if self.present == usize::MAX {
+        let Headcount { present } = self;
+        if *present == usize::MAX {
             return false;
         }
-        self.present += 1;
+        *present += 1;
         true
     }
 
@@ -42,10 +43,11 @@ impl Headcount {
     pub fn leave(&mut self) -> bool
         ensures { Leaves self.old result self.new }
     {
-        if self.present == 0 {
+        let Headcount { present } = self;
+        if *present == 0 {
             return false;
         }
-        self.present -= 1;
+        *present -= 1;
         true
     }
 

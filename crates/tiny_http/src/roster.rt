@@ -21,15 +21,16 @@ impl<L: Ledger> Entries<L> {
         ensures share { mine.new.amount + self.old.book.total ≡ mine.old.amount + self.new.book.total }
         ensures parts { mine.new.parts ≡ mine.old.parts }
     {
-        if self.number == u64::MAX {
+        let Entries { number, book } = self;
+        if *number == u64::MAX {
             return false;
         }
-        self.book.add(mine, 1);
-        self.number += 1;
+        book.add(mine, 1);
+        *number += 1;
         true
     }
 
-    // The sum of all shares.
+    // What all shares count together.
     fn count(&self) -> u64
         ensures { result ≡ self.now.book.total }
     {
@@ -44,7 +45,7 @@ impl<L: Ledger> Entries<L> {
         ensures parts { all.new.parts ≡ all.old.parts }
     {
         self.book.audit(all);
-        self.number
+        self.count()
     }
 }
 

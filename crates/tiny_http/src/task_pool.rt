@@ -154,15 +154,15 @@ impl<J: Drop> PoolState<J> {
         self.is_closed = true;
     }
 
-    /// Whether the pool is closed.
-    pub fn is_closed(&self) -> bool
+    // Whether the pool is closed.
+    fn is_closed(&self) -> bool
         ensures { result ≡ self.now.closed }
     {
         self.is_closed
     }
 
-    /// How many workers run.
-    pub fn running(&self) -> usize
+    // How many workers run.
+    fn running(&self) -> usize
         ensures { result ≡ self.now.running }
     {
         self.running
@@ -231,7 +231,7 @@ impl<J: Job + Drop> Sharing<J> {
     }
 }
 
-// Works, the given job first; or gives that job back, where the mark is set.
+// Works, this job first; or gives the job back, where its worker was refused.
 fn work_unless<J: Job + Drop, R: Wait + Clock + Drop>(
     rt: R,
     is_refused: Arc<AtomicBool>,
@@ -298,29 +298,27 @@ impl<J: Job + Drop + Send + 'static, R: Threads + Wait + Clock + Copy + Send + '
         }
     }
 
-    // Starts a worker with a job. Where no thread is made its closure comes back, and called with the mark set it gives the job
-    // back in place of running it.
+    // Starts a worker with a job. Where no thread could be made its closure comes back, which has the job: called with the
+    // mark set, it gives the job back in place of running it.
     fn start(&self, rt: R, alloc: Global, job: J) -> Result<(), J>
         ensures { IfErr result (λ back. back ≡ job) }
     {
-        let Ok(refused) = Arc::new(alloc, AtomicBool::new(false)) else {
+        let Ok(is_refused) = Arc::new(alloc, AtomicBool::new(false)) else {
             return Err(job);
         };
-        let (Ok(mark), Ok(theirs)) = (Arc::try_clone(&refused), Arc::try_clone(&self.sharing))
+        let (Ok(mark), Ok(sharing)) = (Arc::try_clone(&is_refused), Arc::try_clone(&self.sharing))
         else {
             return Err(job);
         };
         let worker = move || -> Option<J>
             ensures { IfSome result (λ back. back ≡ job) }
-        { work_unless(rt, mark, theirs, job) };
+        { work_unless(rt, mark, sharing, job) };
         match thread::spawn(&rt, worker) {
             Ok(_) => Ok(()),
             Err(unmade) => {
-                refused.store(true, Ordering::SeqCst);
-                match (unmade.value)() {
-                    Some(job) => Err(job),
-                    None => Ok(()),
-                }
+                is_refused.store(true, Ordering::SeqCst);
+                let back = (unmade.value)();
+                back.map_or(Ok(()), Err)
             }
         }
     }
