@@ -173,7 +173,7 @@ impl<T: Drop> MessagesQueue<T> {
 }
 
 // What is told of what a pop found.
-fn answer<T>(found: Popped<T>) -> Option<T>
+fn answer<T: Drop>(found: Popped<T>) -> Option<T>
     ensures { result ≡ answer_of found }
 {
     match found {
