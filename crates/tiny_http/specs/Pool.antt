@@ -20,8 +20,8 @@ module _ {J : Type 0} where
   abbrev pub new_pool : ℕ → Pool J
   new_pool running = record { jobs = []; idle = 0; running = running; closed = false }
 
-  -- The job waits where more workers are idle than jobs wait, or comes back if room for it was refused. Else it is to start
-  -- on a new worker, which counts as running from now on; or comes back if 2^64 - 1 run.
+  -- Where more workers are idle than jobs wait, the job waits behind these, or comes back if room for it was refused. Else
+  -- it is to start on a worker more, or comes back if 2^64 - 1 run.
   abbrev pub Offers : Pool J → J → Offered J → Pool J → Type 0
   Offers old job Queued new = (length old.jobs < old.idle) × (new ≡ record old { jobs = old.jobs ++ job ∷ [] })
   Offers old job (Start same) new = (same ≡ job) × (old.idle ≤ length old.jobs) × (old.running < 2 ^ 64 - 1) × (new ≡ record old { running = old.running + 1 })

@@ -93,8 +93,9 @@ impl<T: Drop> QueueState<T> {
     }
 }
 
-/// A queue that threads share: a `QueueState` under a lock. Each call is one step on it, but for those that wait, which
-/// try again until there is something to pop. The lock is let go before one who waits is woken.
+/// A queue that threads share: a `QueueState` under a lock. Each call is one step on it, but for the pops that wait, which
+/// try again until there is something to pop. The lock is let go before one who waits is woken. What a call did to the queue
+/// no contract can say.
 #[derive(Drop)]
 pub struct MessagesQueue<T> {
     state: Mutex<QueueState<T>>,
@@ -123,8 +124,8 @@ impl<T: Drop> MessagesQueue<T> {
         Ok(())
     }
 
-    /// Adds a mark at the back that one pop answers by `None`, and wakes one who waits. An error comes where room for it was
-    /// refused.
+    /// Adds a mark at the back, which one pop answers by `None`, and wakes one who waits. An error comes where room for it
+    /// was refused.
     pub fn unblock<R: Wait>(&self, rt: &R) -> Result<(), AllocError> {
         self.state.lock(rt).unblock()?;
         self.woken.notify_one();
@@ -149,9 +150,9 @@ impl<T: Drop> MessagesQueue<T> {
         answer(found)
     }
 
-    /// As `pop`, for so long at most, and then `None`. Each turn waits with what remains of that time. Less than a millisecond
-    /// counts as nothing, and so does a time when the clock can't be read; the queue is looked at all the same, and once more
-    /// behind each wait.
+    /// As `pop`, for so long at most, and then `None`. Each turn waits with what remains of that time. Less than a
+    /// millisecond counts as nothing, and nothing remains where the clock can't be read. The queue is looked at before the
+    /// first wait and behind each one.
     pub fn pop_timeout<R: Wait + Clock>(&self, rt: &R, timeout: Duration) -> Option<T> {
         let mut state = self.state.lock(rt);
         match state.pop() {
@@ -185,7 +186,7 @@ fn answer<T: Drop>(found: Popped<T>) -> Option<T>
 // What remains of a time, if it is a millisecond or more and it is known how much has elapsed.
 fn remaining(timeout: Duration, elapsed: Option<Duration>) -> Option<Duration>
     ensures enough { IsSome result ↔ IsSomeAnd elapsed (λ spent. as_nanos spent + 1_000_000 ≤ as_nanos timeout) }
-    ensures left { IfSome result (λ left. IsSomeAnd elapsed (λ spent. as_nanos left + as_nanos spent ≡ as_nanos timeout)) }
+    ensures rest { IfSome result (λ left. IsSomeAnd elapsed (λ spent. as_nanos left + as_nanos spent ≡ as_nanos timeout)) }
 {
     let left = timeout.checked_sub(elapsed?)?;
     if left.as_nanos() < 1_000_000 {

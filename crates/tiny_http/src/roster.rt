@@ -75,7 +75,7 @@ impl<L: Ledger> Roster<L> {
         self.entries.lock(rt).enter(mine)
     }
 
-    /// The number at this moment.
+    /// The number at this moment, of which no contract can speak.
     pub fn count<R: Wait>(&self, rt: &R) -> u64 {
         self.entries.lock(rt).count()
     }

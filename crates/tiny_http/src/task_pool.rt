@@ -35,7 +35,7 @@ pub enum Offered<J> {
 }
 
 /// The jobs that wait for a worker, how many workers run and how many of these are idle, and whether the pool is closed.
-/// At most as many jobs wait as workers are idle, and at most as many are idle as run. A contract sees the four as a `Pool`.
+/// At most as many jobs wait as workers are idle, and at most as many are idle as run. A contract sees a `Pool`.
 #[derive(Drop)]
 pub struct PoolState<J> {
     jobs: VecDeque<J>,
@@ -70,8 +70,8 @@ impl<J: Drop> PoolState<J> {
         }
     }
 
-    /// Takes a job. It waits where more workers are idle than jobs wait; then it comes back only if room for it was refused.
-    /// Else it is to start, with one worker more; then it comes back only where 2^64 - 1 run.
+    /// Takes a job. Where more workers are idle than jobs wait, it waits, or comes back if room for it was refused. Else it
+    /// is to start on a new worker, which counts as running from now on, or comes back if 2^64 - 1 run.
     pub fn offer(&mut self, job: J) -> Offered<J>
         ensures sound { IsSound self.new }
         ensures offers { Offers self.old job result self.new }
@@ -119,8 +119,8 @@ impl<J: Drop> PoolState<J> {
         may_rest
     }
 
-    /// Takes the front job for an idle worker, which is idle no more. `None`, and nothing has changed, where no job waits, as
-    /// where no worker is idle.
+    /// Takes the front job for an idle worker, which is idle no more. `None`, and nothing has changed, where no job waits;
+    /// so it is where no worker is idle.
     pub fn wake(&mut self) -> Option<J>
         ensures sound { IsSound self.new }
         ensures wakes { Wakes self.old result self.new }
@@ -130,8 +130,8 @@ impl<J: Drop> PoolState<J> {
         Some(job)
     }
 
-    /// An idle worker ends. False, and nothing has changed, where none is idle, a job waits, or at most 4 run and the pool isn't
-    /// closed.
+    /// An idle worker ends. False, and nothing has changed, where none is idle, a job waits, or at most 4 run and the pool
+    /// isn't closed.
     pub fn give_up(&mut self) -> bool
         ensures sound { IsSound self.new }
         ensures gives_up { GivesUp self.old result self.new }
@@ -247,8 +247,9 @@ fn work_unless<J: Job + Drop, R: Wait + Clock + Drop>(
     None
 }
 
-/// Workers that run jobs: four, and one more for each job for which none is idle. One above the four that is idle for 5,000 ms
-/// ends. A dropped pool is closed: its workers run the jobs that wait, and end.
+/// Workers that run jobs: four, and one more for each job for which none is idle. One above the four that was idle for
+/// 5,000 ms ends. A dropped pool is closed: its workers run the jobs that wait, and end. What a call did to the pool no
+/// contract can say.
 pub struct TaskPool<J: Drop, R: Wait + Drop> {
     rt: R,
     sharing: Arc<Sharing<J>>,
