@@ -1,7 +1,7 @@
 //! Workers that run jobs, as many as there is work for.
 ghost use Rattle.std.specs.Prelude.{◌≡◌, IfErr, IfSome};
 
-use std::alloc::{AllocError, Global};
+use std::alloc::Global;
 use std::collections::VecDeque;
 use std::io::ErrorKind;
 use std::marker::Model;
@@ -56,7 +56,7 @@ impl<J> Model for PoolState<J> {
 
 impl<J: Drop> PoolState<J> {
     ghost use Rattle.std.specs.Prelude.{true};
-    ghost use Rattle.tiny_http.specs.Pool.{Pool, IsSound, new_pool, Offers, NotStarted, Takes, Rests, Wakes, GivesUp};
+    ghost use Rattle.tiny_http.specs.Pool.{IsSound, new_pool, Offers, NotStarted, Takes, Rests, Wakes, GivesUp};
 
     /// So many workers run. Nothing waits, and no worker is idle.
     pub fn new(alloc: Global, running: usize) -> PoolState<J>
@@ -319,6 +319,7 @@ impl<J: Job + Drop + Send + 'static, R: Threads + Wait + Clock + Copy + Send + '
             Err(unmade) => {
                 is_refused.store(true, Ordering::SeqCst);
                 let back = (unmade.value)();
+                // Nothing would come back from one that has run the job.
                 back.map_or(Ok(()), Err)
             }
         }

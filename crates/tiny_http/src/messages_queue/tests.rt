@@ -1,5 +1,3 @@
-ghost use Rattle.std.specs.Prelude.{◌≡◌, ◌<◌};
-
 use super::*;
 use std::sync::atomic::{AtomicBool, Ordering};
 use std::test::Fail;
