@@ -259,7 +259,8 @@ impl<J: Job + Drop + Send + 'static, R: Threads + Wait + Clock + Copy + Send + '
     J,
     R,
 > {
-    /// Starts four workers. An error is of kind `OutOfMemory`, or `WouldBlock` where a thread could not be made.
+    /// Starts four workers. An error is of kind `OutOfMemory`, or `WouldBlock` where a thread could not be made; the pool is
+    /// closed then, so that those that were started end.
     pub fn new(rt: R, alloc: Global) -> io::Result<TaskPool<J, R>> {
         let sharing = Sharing {
             state: Mutex::new(PoolState::new(alloc, MIN_THREADS)),
