@@ -25,42 +25,28 @@ module _ {J : Type 0} where
   abbrev pub Offers : Pool J → J → Offered J → Pool J → Type 0
   Offers old job Queued new = (length old.jobs < old.idle) × (new ≡ record old { jobs = old.jobs ++ job ∷ [] })
   Offers old job (Start same) new = (same ≡ job) × (old.idle ≤ length old.jobs) × (old.running < 2 ^ 64 - 1) × (new ≡ record old { running = old.running + 1 })
-  Offers old job (Back same) new = (same ≡ job) × ((length old.jobs < old.idle) ⊎ (old.running ≡ 2 ^ 64 - 1)) × (new ≡ old)
+  Offers old job (Back same) new = (same ≡ job) × (old.idle ≤ length old.jobs → old.running ≡ 2 ^ 64 - 1) × (new ≡ old)
 
   -- a worker that was to start doesn't run
   abbrev pub NotStarted : Pool J → Pool J → Type 0
-  NotStarted old new = (old.idle < old.running → new ≡ record old { running = old.running - 1 }) × (old.idle ≡ old.running → new ≡ old)
+  NotStarted old new = (old.idle < old.running → new ≡ record old { running = old.running - 1 }) × (old.running ≤ old.idle → new ≡ old)
 
   -- a worker that isn't idle takes the job at the front, if one waits
-  abbrev pub TakesFrom : List J → Pool J → Option J → Pool J → Type 0
-  TakesFrom [] old None new = new ≡ old
-  TakesFrom (x ∷ jobs) old (Some job) new = (job ≡ x) × (new ≡ record old { jobs = jobs })
-  TakesFrom jobs old job new = ⊥
-
   abbrev pub Takes : Pool J → Option J → Pool J → Type 0
-  Takes old job new = TakesFrom old.jobs old job new
+  Takes old None new = (old.jobs ≡ []) × (new ≡ old)
+  Takes old (Some job) new = (old.jobs ≡ job ∷ new.jobs) × (new ≡ record old { jobs = new.jobs })
 
-  -- a worker may be idle where nothing waits, and not all that run are idle
-  abbrev pub MayRest : Pool J → Type 0
-  MayRest old = (old.jobs ≡ []) × (old.idle < old.running)
-
+  -- a worker becomes idle, where nothing waits and not all that run are idle
   abbrev pub Rests : Pool J → Bool → Pool J → Type 0
-  Rests old true new = MayRest old × (new ≡ record old { idle = old.idle + 1 })
-  Rests old false new = (MayRest old → ⊥) × (new ≡ old)
+  Rests old true new = (old.jobs ≡ []) × (old.idle < old.running) × (new ≡ record old { idle = old.idle + 1 })
+  Rests old false new = (old.jobs ≡ [] → old.running ≤ old.idle) × (new ≡ old)
 
   -- an idle worker takes the job at the front, if one waits, and is idle no more
-  abbrev pub WakesFor : List J → Pool J → Option J → Pool J → Type 0
-  WakesFor [] old None new = new ≡ old
-  WakesFor (x ∷ jobs) old (Some job) new = (job ≡ x) × (0 < old.idle) × (new ≡ record old { jobs = jobs; idle = old.idle - 1 })
-  WakesFor jobs old job new = ⊥
-
   abbrev pub Wakes : Pool J → Option J → Pool J → Type 0
-  Wakes old job new = WakesFor old.jobs old job new
+  Wakes old None new = (old.jobs ≡ []) × (new ≡ old)
+  Wakes old (Some job) new = (old.jobs ≡ job ∷ new.jobs) × (0 < old.idle) × (new ≡ record old { jobs = new.jobs; idle = old.idle - 1 })
 
-  -- an idle worker may end where nothing waits, and more than four run or the pool is closed
-  abbrev pub MayGiveUp : Pool J → Type 0
-  MayGiveUp old = (0 < old.idle) × (old.jobs ≡ []) × ((4 < old.running) ⊎ (old.closed ≡ true))
-
+  -- an idle worker ends, where nothing waits, and more than four run or the pool is closed
   abbrev pub GivesUp : Pool J → Bool → Pool J → Type 0
-  GivesUp old true new = MayGiveUp old × (new ≡ record old { idle = old.idle - 1; running = old.running - 1 })
-  GivesUp old false new = (MayGiveUp old → ⊥) × (new ≡ old)
+  GivesUp old true new = (0 < old.idle) × (old.jobs ≡ []) × ((4 < old.running) ⊎ (old.closed ≡ true)) × (new ≡ record old { idle = old.idle - 1; running = old.running - 1 })
+  GivesUp old false new = (0 < old.idle → old.jobs ≡ [] → (old.running ≤ 4) × (old.closed ≡ false)) × (new ≡ old)

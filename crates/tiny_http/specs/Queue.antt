@@ -4,14 +4,13 @@ use Rattle.tiny_http.specs.declared.messages_queue.Popped.{Popped}
 use Rattle.tiny_http.specs.declared.messages_queue.Popped.TheVariants.{Value, Unblocked, Empty}
 
 module _ {T : Type 0} where
-  -- a pop takes the mark at the front, and tells it; from an empty queue it takes none
+  -- a pop takes the mark at the front and tells which it was, or that there is none
   abbrev pub Pops : List (Option T) → Popped T → List (Option T) → Type 0
-  Pops (Some x ∷ marks) (Value y) new = (y ≡ x) × (new ≡ marks)
-  Pops (None ∷ marks) Unblocked new = new ≡ marks
-  Pops [] Empty new = new ≡ []
-  Pops old popped new = ⊥
+  Pops old (Value x) new = old ≡ Some x ∷ new
+  Pops old Unblocked new = old ≡ None ∷ new
+  Pops old Empty new = (old ≡ []) × (new ≡ [])
 
-  -- what a pop is answered by a queue that threads share: the value, or None
+  -- what the pop of a queue that threads share answers
   abbrev pub answer_of : Popped T → Option T
   answer_of (Value x) = Some x
   answer_of Unblocked = None

@@ -1,5 +1,5 @@
 //! How many entries any number of threads made.
-ghost use Rattle.std.specs.Prelude.{◌≡◌, ◌+◌, ◌<◌, if◌then◌else◌};
+ghost use Rattle.std.specs.Prelude.{◌≡◌, ◌+◌, ◌-◌, ◌^◌, ◌<◌, false, if◌then◌else◌};
 ghost use Rattle.tiny_http.specs.Headcount.{Enters};
 
 use std::sync::ledger::{Book, Ledger, Share};
@@ -20,8 +20,10 @@ impl<L: Ledger> Entries<L> {
         ensures number { Enters self.old.book.total result self.new.book.total }
         ensures share { mine.new.amount + self.old.book.total ≡ mine.old.amount + self.new.book.total }
         ensures parts { mine.new.parts ≡ mine.old.parts }
+        ensures whole { mine.old.parts ≡ L.parts → mine.old.amount ≡ self.old.book.total }
     {
         let Entries { number, book } = self;
+        book.audit(mine);
         if *number == u64::MAX {
             return false;
         }
@@ -71,6 +73,8 @@ impl<L: Ledger> Roster<L> {
         requires { 0 < mine.old.parts }
         ensures amount { mine.new.amount ≡ (if result then mine.old.amount + 1 else mine.old.amount) }
         ensures parts { mine.new.parts ≡ mine.old.parts }
+        // Who has the whole share knows the number.
+        ensures full { result ≡ false → mine.old.parts ≡ L.parts → mine.old.amount ≡ 2 ^ 64 - 1 }
     {
         self.entries.lock(rt).enter(mine)
     }

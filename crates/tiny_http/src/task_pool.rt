@@ -1,5 +1,6 @@
 //! Workers that run jobs, as many as there is work for.
-ghost use Rattle.std.specs.Prelude.{◌≡◌, IfErr, IfSome};
+ghost use Rattle.std.specs.Prelude.{◌≡◌, ◌⊎◌, IfErr, IfSome};
+ghost use Rattle.std.specs.IoError.{error_kind};
 
 use std::alloc::Global;
 use std::collections::VecDeque;
@@ -261,7 +262,9 @@ impl<J: Job + Drop + Send + 'static, R: Threads + Wait + Clock + Copy + Send + '
 > {
     /// Starts four workers. An error is of kind `OutOfMemory`, or `WouldBlock` where a thread could not be made; the pool is
     /// closed then, so that those that were started end.
-    pub fn new(rt: R, alloc: Global) -> io::Result<TaskPool<J, R>> {
+    pub fn new(rt: R, alloc: Global) -> io::Result<TaskPool<J, R>>
+        ensures { IfErr result (λ e. (error_kind e ≡ ErrorKind.OutOfMemory) ⊎ (error_kind e ≡ ErrorKind.WouldBlock)) }
+    {
         let sharing = Sharing {
             state: Mutex::new(PoolState::new(alloc, MIN_THREADS)),
             woken: Condvar::new(),
