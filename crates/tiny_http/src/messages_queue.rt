@@ -55,21 +55,6 @@ impl<T: Drop> QueueState<T> {
         })
     }
 
-    /// Adds a value at the back. It comes back where room for it was refused, and nothing has changed.
-    pub fn push(&mut self, value: T) -> Result<(), T>
-        ensures ok { OnOk result (self.new ≡ self.old ++ (Some value ∷ [])) }
-        ensures err { OnErr result (self.new ≡ self.old) }
-        ensures back { IfErr result (λ back. back ≡ value) }
-    {
-        match self.marks.push_back(Some(value)) {
-            Ok(()) => Ok(()),
-            Err(refused) => match refused.value {
-                Some(back) => Err(back),
-                None => unreachable!(),
-            },
-        }
-    }
-
     /// Adds a mark that unblocks at the back. An error comes where room for it was refused, and nothing has changed.
     pub fn unblock(&mut self) -> Result<(), AllocError>
         ensures ok { OnOk result (self.new ≡ self.old ++ (None ∷ [])) }
@@ -89,6 +74,24 @@ impl<T: Drop> QueueState<T> {
             Some(Some(value)) => Popped::Value(value),
             Some(None) => Popped::Unblocked,
             None => Popped::Empty,
+        }
+    }
+}
+
+// A value can't be dropped here: it is added, or comes back.
+impl<T> QueueState<T> {
+    /// Adds a value at the back. It comes back where room for it was refused, and nothing has changed.
+    pub fn push(&mut self, value: T) -> Result<(), T>
+        ensures ok { OnOk result (self.new ≡ self.old ++ (Some value ∷ [])) }
+        ensures err { OnErr result (self.new ≡ self.old) }
+        ensures back { IfErr result (λ back. back ≡ value) }
+    {
+        match self.marks.push_back(Some(value)) {
+            Ok(()) => Ok(()),
+            Err(refused) => match refused.value {
+                Some(back) => Err(back),
+                None => unreachable!(),
+            },
         }
     }
 }
@@ -113,15 +116,6 @@ impl<T: Drop> MessagesQueue<T> {
             woken: Condvar::new(),
         };
         Ok(Arc::new(alloc, queue)?)
-    }
-
-    /// Adds a value at the back, and wakes one who waits. It comes back where room for it was refused.
-    pub fn push<R: Wait>(&self, rt: &R, value: T) -> Result<(), T>
-        ensures { IfErr result (λ back. back ≡ value) }
-    {
-        self.state.lock(rt).push(value)?;
-        self.woken.notify_one();
-        Ok(())
     }
 
     /// Adds a mark at the back, which one pop answers by `None`, and wakes one who waits. An error comes where room for it
@@ -170,6 +164,18 @@ impl<T: Drop> MessagesQueue<T> {
             }
         }
         unreachable!()
+    }
+}
+
+// A value can't be dropped here: it is added, or comes back.
+impl<T> MessagesQueue<T> {
+    /// Adds a value at the back, and wakes one who waits. It comes back where room for it was refused.
+    pub fn push<R: Wait>(&self, rt: &R, value: T) -> Result<(), T>
+        ensures { IfErr result (λ back. back ≡ value) }
+    {
+        self.state.lock(rt).push(value)?;
+        self.woken.notify_one();
+        Ok(())
     }
 }
 
