@@ -20,7 +20,8 @@ pub enum Popped<T> {
     Empty,
 }
 
-/// Values and unblock marks, first in first out. A contract sees the list of them, the front first, a mark as `None`.
+/// Values and unblock marks, first in first out. A push and a pop can drop no value: they don't ask for `T: Drop`. A contract
+/// sees the list of them, the front first, a mark as `None`.
 #[derive(Drop)]
 pub struct QueueState<T> {
     marks: VecDeque<Option<T>>,
@@ -34,7 +35,7 @@ impl<T> Model for QueueState<T> {
     ghost view = { λ q. q.marks.items };
 }
 
-impl<T: Drop> QueueState<T> {
+impl<T> QueueState<T> {
     ghost use Rattle.tiny_http.specs.Queue.{Pops};
 
     /// Nothing.
@@ -55,8 +56,25 @@ impl<T: Drop> QueueState<T> {
         })
     }
 
+    /// Adds a value at the back. It comes back where room for it was refused, and nothing has changed.
+    pub fn push(&mut self, value: T) -> Result<(), T>
+        ensures ok { OnOk result (self.new ≡ self.old ++ (Some value ∷ [])) }
+        ensures err { OnErr result (self.new ≡ self.old) }
+        ensures back { IfErr result (λ back. back ≡ value) }
+    {
+        match self.marks.push_back(Some(value)) {
+            Ok(()) => Ok(()),
+            Err(refused) => match refused.value {
+                Some(back) => Err(back),
+                None => unreachable!(),
+            },
+        }
+    }
+
     /// Adds a mark that unblocks at the back. An error comes where room for it was refused, and nothing has changed.
     pub fn unblock(&mut self) -> Result<(), AllocError>
+    where
+        T: Drop,
         ensures ok { OnOk result (self.new ≡ self.old ++ (None ∷ [])) }
         ensures err { OnErr result (self.new ≡ self.old) }
     {
@@ -78,24 +96,6 @@ impl<T: Drop> QueueState<T> {
     }
 }
 
-// A value can't be dropped here: it is added, or comes back.
-impl<T> QueueState<T> {
-    /// Adds a value at the back. It comes back where room for it was refused, and nothing has changed.
-    pub fn push(&mut self, value: T) -> Result<(), T>
-        ensures ok { OnOk result (self.new ≡ self.old ++ (Some value ∷ [])) }
-        ensures err { OnErr result (self.new ≡ self.old) }
-        ensures back { IfErr result (λ back. back ≡ value) }
-    {
-        match self.marks.push_back(Some(value)) {
-            Ok(()) => Ok(()),
-            Err(refused) => match refused.value {
-                Some(back) => Err(back),
-                None => unreachable!(),
-            },
-        }
-    }
-}
-
 /// A queue that threads share: a `QueueState` under a lock. Each call is one step on it, but for the pops that wait, which
 /// try again until there is something to pop. The lock is let go before one who waits is woken. What a call did to the queue
 /// no contract can say.
@@ -105,12 +105,15 @@ pub struct MessagesQueue<T> {
     woken: Condvar,
 }
 
-impl<T: Drop> MessagesQueue<T> {
+impl<T> MessagesQueue<T> {
     /// An empty queue, with room for so many values and marks. An error comes where memory was refused.
     pub fn with_capacity(
         alloc: Global,
         capacity: usize,
-    ) -> Result<Arc<MessagesQueue<T>>, AllocError> {
+    ) -> Result<Arc<MessagesQueue<T>>, AllocError>
+    where
+        T: Drop,
+    {
         let queue = MessagesQueue {
             state: Mutex::new(QueueState::with_capacity(alloc, capacity)?),
             woken: Condvar::new(),
@@ -118,9 +121,21 @@ impl<T: Drop> MessagesQueue<T> {
         Ok(Arc::new(alloc, queue)?)
     }
 
+    /// Adds a value at the back, and wakes one who waits. It comes back where room for it was refused.
+    pub fn push<R: Wait>(&self, rt: &R, value: T) -> Result<(), T>
+        ensures { IfErr result (λ back. back ≡ value) }
+    {
+        self.state.lock(rt).push(value)?;
+        self.woken.notify_one();
+        Ok(())
+    }
+
     /// Adds a mark at the back, which one pop answers by `None`, and wakes one who waits. An error comes where room for it
     /// was refused.
-    pub fn unblock<R: Wait>(&self, rt: &R) -> Result<(), AllocError> {
+    pub fn unblock<R: Wait>(&self, rt: &R) -> Result<(), AllocError>
+    where
+        T: Drop,
+    {
         self.state.lock(rt).unblock()?;
         self.woken.notify_one();
         Ok(())
@@ -167,20 +182,8 @@ impl<T: Drop> MessagesQueue<T> {
     }
 }
 
-// A value can't be dropped here: it is added, or comes back.
-impl<T> MessagesQueue<T> {
-    /// Adds a value at the back, and wakes one who waits. It comes back where room for it was refused.
-    pub fn push<R: Wait>(&self, rt: &R, value: T) -> Result<(), T>
-        ensures { IfErr result (λ back. back ≡ value) }
-    {
-        self.state.lock(rt).push(value)?;
-        self.woken.notify_one();
-        Ok(())
-    }
-}
-
 // What is told of what a pop found.
-fn answer<T: Drop>(found: Popped<T>) -> Option<T>
+fn answer<T>(found: Popped<T>) -> Option<T>
     ensures { result ≡ answer_of found }
 {
     match found {

@@ -55,7 +55,7 @@ impl<J> Model for PoolState<J> {
     ghost invariant = { λ p. IsSound (record { jobs = p.jobs.items; idle = p.idle; running = p.running; closed = p.is_closed }) };
 }
 
-impl<J: Drop> PoolState<J> {
+impl<J> PoolState<J> {
     ghost use Rattle.std.specs.Prelude.{true};
     ghost use Rattle.tiny_http.specs.Pool.{IsSound, new_pool, Offers, NotStarted, Takes, Rests, Wakes, GivesUp};
 
