@@ -38,7 +38,7 @@ impl<T> Model for QueueState<T> {
 impl<T> QueueState<T> {
     ghost use Rattle.tiny_http.specs.Queue.{Pops};
 
-    /// Nothing.
+    /// An empty queue.
     pub fn new(alloc: Global) -> QueueState<T>
         ensures { result ≡ [] }
     {
@@ -47,7 +47,7 @@ impl<T> QueueState<T> {
         }
     }
 
-    // Nothing, with room for so many marks.
+    // An empty queue, with room for so many marks.
     fn with_capacity(alloc: Global, capacity: usize) -> Result<QueueState<T>, AllocError>
         ensures { IfOk result (λ queue. queue ≡ []) }
     {
@@ -98,7 +98,7 @@ impl<T> QueueState<T> {
 
 /// A queue that threads share: a `QueueState` under a lock. Each call is one step on it, but for the pops that wait, which
 /// try again until there is something to pop. The lock is let go before one who waits is woken. What a call did to the queue
-/// no contract can say.
+/// no contract here says.
 #[derive(Drop)]
 pub struct MessagesQueue<T> {
     state: Mutex<QueueState<T>>,
@@ -106,7 +106,7 @@ pub struct MessagesQueue<T> {
 }
 
 impl<T> MessagesQueue<T> {
-    /// An empty queue, with room for so many values and marks. An error comes where memory was refused.
+    /// An empty queue, with room for `capacity` values and marks. An error comes where memory was refused.
     pub fn with_capacity(
         alloc: Global,
         capacity: usize,
@@ -159,7 +159,7 @@ impl<T> MessagesQueue<T> {
         answer(found)
     }
 
-    /// As `pop`, for so long at most, and then `None`. Each turn waits with what remains of that time. Less than a
+    /// As `pop`, for so long at most, and then `None`. Each wait is for what remains of that time. Less than a
     /// millisecond counts as nothing, and nothing remains where the clock can't be read. The queue is looked at before the
     /// first wait and behind each one.
     pub fn pop_timeout<R: Wait + Clock>(&self, rt: &R, timeout: Duration) -> Option<T> {

@@ -12,10 +12,10 @@ use std::thread::Threads;
 use std::time::{Clock, Duration};
 use std::{io, thread};
 
-// So many workers are kept though they are idle.
+// How many workers are kept though they are idle.
 const MIN_THREADS: usize = 4;
 
-// After so many milliseconds an idle worker above those ends.
+// How long a worker above those is idle before it ends, in milliseconds.
 const IDLE_MILLIS: u64 = 5000;
 
 /// What a worker runs.
@@ -59,7 +59,7 @@ impl<J> PoolState<J> {
     ghost use Rattle.std.specs.Prelude.{true};
     ghost use Rattle.tiny_http.specs.Pool.{IsSound, new_pool, Offers, NotStarted, Takes, Rests, Wakes, GivesUp};
 
-    /// So many workers run. Nothing waits, and no worker is idle.
+    /// A pool of `running` workers, none of them idle. Nothing waits.
     pub fn new(alloc: Global, running: usize) -> PoolState<J>
         ensures { result ≡ new_pool running }
     {
@@ -248,9 +248,9 @@ fn work_unless<J: Job + Drop, R: Wait + Clock + Drop>(
     None
 }
 
-/// Workers that run jobs: four, and one more for each job for which none is idle. One above the four that was idle for
-/// 5,000 ms ends. A dropped pool is closed: its workers run the jobs that wait, and end. What a call did to the pool no
-/// contract can say.
+/// Workers that run jobs: four, and one more for each job for which no idle worker is left. One above the four that was idle
+/// for 5,000 ms ends. A dropped pool is closed: its workers run the jobs that wait, and end. What a call did to the pool no
+/// contract here says.
 pub struct TaskPool<J: Drop, R: Wait + Drop> {
     rt: R,
     sharing: Arc<Sharing<J>>,
