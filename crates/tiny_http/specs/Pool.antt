@@ -1,0 +1,52 @@
+-- A POOL OF WORKERS: jobs that wait for one, and how many workers there are.
+use Rattle.std.specs.Prelude.{◌≡◌, ℕ, ◌+◌, ◌-◌, ◌^◌, ◌<◌, ◌≤◌, ◌⊎◌, Bool, true, false, List, [], ◌∷◌, ◌++◌, length, Option, Some, None}
+use Rattle.tiny_http.specs.declared.task_pool.Offered.{Offered}
+use Rattle.tiny_http.specs.declared.task_pool.Offered.TheVariants.{Queued, Start, Back}
+
+-- the jobs that wait, the front first; how many workers run, and how many of these are idle; whether the pool is closed
+pub record Pool (J : Type 0) : Type 0 where
+  pub jobs : List J
+  pub idle : ℕ
+  pub running : ℕ
+  pub closed : Bool
+
+module _ {J : Type 0} where
+  -- at most as many jobs wait as workers are idle, and at most as many are idle as run
+  pub record IsSound (pool : Pool J) : Type 0 where
+    pub jobs_fit : length pool.jobs ≤ pool.idle
+    pub idle_fit : pool.idle ≤ pool.running
+
+  -- nothing waits and no worker is idle
+  abbrev pub new_pool : ℕ → Pool J
+  new_pool running = record { jobs = []; idle = 0; running = running; closed = false }
+
+  -- Where more workers are idle than jobs wait, the job waits behind these, or comes back if room for it was refused. Else
+  -- it is to start on a worker more, or comes back if 2^64 - 1 run.
+  abbrev pub Offers : Pool J → J → Offered J → Pool J → Type 0
+  Offers old job Queued new = (length old.jobs < old.idle) × (new ≡ record old { jobs = old.jobs ++ job ∷ [] })
+  Offers old job (Start same) new = (same ≡ job) × (old.idle ≤ length old.jobs) × (old.running < 2 ^ 64 - 1) × (new ≡ record old { running = old.running + 1 })
+  Offers old job (Back same) new = (same ≡ job) × (old.idle ≤ length old.jobs → old.running ≡ 2 ^ 64 - 1) × (new ≡ old)
+
+  -- a worker that was to start doesn't run
+  abbrev pub NotStarted : Pool J → Pool J → Type 0
+  NotStarted old new = (old.idle < old.running → new ≡ record old { running = old.running - 1 }) × (old.running ≤ old.idle → new ≡ old)
+
+  -- a worker that isn't idle takes the job at the front, if one waits
+  abbrev pub Takes : Pool J → Option J → Pool J → Type 0
+  Takes old None new = (old.jobs ≡ []) × (new ≡ old)
+  Takes old (Some job) new = (old.jobs ≡ job ∷ new.jobs) × (new ≡ record old { jobs = new.jobs })
+
+  -- a worker becomes idle, where nothing waits and not all that run are idle
+  abbrev pub Rests : Pool J → Bool → Pool J → Type 0
+  Rests old true new = (old.jobs ≡ []) × (old.idle < old.running) × (new ≡ record old { idle = old.idle + 1 })
+  Rests old false new = (old.jobs ≡ [] → old.running ≤ old.idle) × (new ≡ old)
+
+  -- an idle worker takes the job at the front, if one waits, and is idle no more
+  abbrev pub Wakes : Pool J → Option J → Pool J → Type 0
+  Wakes old None new = (old.jobs ≡ []) × (new ≡ old)
+  Wakes old (Some job) new = (old.jobs ≡ job ∷ new.jobs) × (0 < old.idle) × (new ≡ record old { jobs = new.jobs; idle = old.idle - 1 })
+
+  -- an idle worker ends, where nothing waits, and more than four run or the pool is closed
+  abbrev pub GivesUp : Pool J → Bool → Pool J → Type 0
+  GivesUp old true new = (0 < old.idle) × (old.jobs ≡ []) × ((4 < old.running) ⊎ (old.closed ≡ true)) × (new ≡ record old { idle = old.idle - 1; running = old.running - 1 })
+  GivesUp old false new = (0 < old.idle → old.jobs ≡ [] → (old.running ≤ 4) × (old.closed ≡ false)) × (new ≡ old)

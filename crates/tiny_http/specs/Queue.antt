@@ -1,0 +1,17 @@
+-- A QUEUE: a list of marks, the front first. A mark is a value, or a call to unblock one who waits, which is None.
+use Rattle.std.specs.Prelude.{◌≡◌, List, [], ◌∷◌, Option, Some, None}
+use Rattle.tiny_http.specs.declared.messages_queue.Popped.{Popped}
+use Rattle.tiny_http.specs.declared.messages_queue.Popped.TheVariants.{Value, Unblocked, Empty}
+
+module _ {T : Type 0} where
+  -- a pop takes the mark at the front and tells which it was, or that there is none
+  abbrev pub Pops : List (Option T) → Popped T → List (Option T) → Type 0
+  Pops old (Value x) new = old ≡ Some x ∷ new
+  Pops old Unblocked new = old ≡ None ∷ new
+  Pops old Empty new = (old ≡ []) × (new ≡ [])
+
+  -- what the pop of a queue that threads share answers
+  abbrev pub answer_of : Popped T → Option T
+  answer_of (Value x) = Some x
+  answer_of Unblocked = None
+  answer_of Empty = None

@@ -1,0 +1,208 @@
+//! A queue that threads share, and that can be told to wake one who waits.
+ghost use Rattle.std.specs.Prelude.{◌≡◌, ◌++◌, ◌∷◌, [], Some, None, OnOk, OnErr, IfOk, IfErr, IfSome, IsSome, IsSomeAnd, ◌↔◌, ◌+◌, ◌≤◌};
+ghost use Rattle.std.specs.Duration.{as_nanos};
+ghost use Rattle.tiny_http.specs.Queue.{answer_of};
+
+use std::alloc::{AllocError, Global};
+use std::collections::VecDeque;
+use std::marker::Model;
+use std::sync::{Arc, Condvar, Mutex, Wait};
+use std::time::{Clock, Duration, Instant};
+
+/// What a pop found at the front of a queue.
+#[derive(Debug, PartialEq, Eq, Drop)]
+pub enum Popped<T> {
+    /// A value.
+    Value(T),
+    /// A mark that unblocks.
+    Unblocked,
+    /// Nothing: the queue is empty.
+    Empty,
+}
+
+/// Values and unblock marks, first in first out. A push and a pop can drop no value: they don't ask for `T: Drop`. A contract
+/// sees the list of them, the front first, a mark as `None`.
+#[derive(Drop)]
+pub struct QueueState<T> {
+    marks: VecDeque<Option<T>>,
+}
+
+impl<T> Model for QueueState<T> {
+    ghost use Rattle.std.specs.Prelude.{List, Option};
+
+    ghost Value = { List (Option T) };
+
+    ghost view = { λ q. q.marks.items };
+}
+
+impl<T> QueueState<T> {
+    ghost use Rattle.tiny_http.specs.Queue.{Pops};
+
+    /// An empty queue.
+    pub fn new(alloc: Global) -> QueueState<T>
+        ensures { result ≡ [] }
+    {
+        QueueState {
+            marks: VecDeque::new(alloc),
+        }
+    }
+
+    // An empty queue, with room for so many marks.
+    fn with_capacity(alloc: Global, capacity: usize) -> Result<QueueState<T>, AllocError>
+        ensures { IfOk result (λ queue. queue ≡ []) }
+    {
+        Ok(QueueState {
+            marks: VecDeque::with_capacity(alloc, capacity)?,
+        })
+    }
+
+    /// Adds a value at the back. It comes back where room for it was refused, and nothing has changed.
+    pub fn push(&mut self, value: T) -> Result<(), T>
+        ensures ok { OnOk result (self.new ≡ self.old ++ (Some value ∷ [])) }
+        ensures err { OnErr result (self.new ≡ self.old) }
+        ensures back { IfErr result (λ back. back ≡ value) }
+    {
+        match self.marks.push_back(Some(value)) {
+            Ok(()) => Ok(()),
+            Err(refused) => match refused.value {
+                Some(back) => Err(back),
+                None => unreachable!(),
+            },
+        }
+    }
+
+    /// Adds a mark that unblocks at the back. An error comes where room for it was refused, and nothing has changed.
+    pub fn unblock(&mut self) -> Result<(), AllocError>
+    where
+        T: Drop,
+        ensures ok { OnOk result (self.new ≡ self.old ++ (None ∷ [])) }
+        ensures err { OnErr result (self.new ≡ self.old) }
+    {
+        match self.marks.push_back(None) {
+            Ok(()) => Ok(()),
+            Err(_) => Err(AllocError),
+        }
+    }
+
+    /// Takes what is at the front.
+    pub fn pop(&mut self) -> Popped<T>
+        ensures { Pops self.old result self.new }
+    {
+        match self.marks.pop_front() {
+            Some(Some(value)) => Popped::Value(value),
+            Some(None) => Popped::Unblocked,
+            None => Popped::Empty,
+        }
+    }
+}
+
+/// A queue that threads share: a `QueueState` under a lock. Each call is one step on it, but for the pops that wait, which
+/// try again until there is something to pop. The lock is let go before one who waits is woken. What a call did to the queue
+/// no contract here says.
+#[derive(Drop)]
+pub struct MessagesQueue<T> {
+    state: Mutex<QueueState<T>>,
+    woken: Condvar,
+}
+
+impl<T> MessagesQueue<T> {
+    /// An empty queue, with room for `capacity` values and marks. An error comes where memory was refused.
+    pub fn with_capacity(
+        alloc: Global,
+        capacity: usize,
+    ) -> Result<Arc<MessagesQueue<T>>, AllocError>
+    where
+        T: Drop,
+    {
+        let queue = MessagesQueue {
+            state: Mutex::new(QueueState::with_capacity(alloc, capacity)?),
+            woken: Condvar::new(),
+        };
+        Ok(Arc::new(alloc, queue)?)
+    }
+
+    /// Adds a value at the back, and wakes one who waits. It comes back where room for it was refused.
+    pub fn push<R: Wait>(&self, rt: &R, value: T) -> Result<(), T>
+        ensures { IfErr result (λ back. back ≡ value) }
+    {
+        self.state.lock(rt).push(value)?;
+        self.woken.notify_one();
+        Ok(())
+    }
+
+    /// Adds a mark at the back, which one pop answers by `None`, and wakes one who waits. An error comes where room for it
+    /// was refused.
+    pub fn unblock<R: Wait>(&self, rt: &R) -> Result<(), AllocError>
+    where
+        T: Drop,
+    {
+        self.state.lock(rt).unblock()?;
+        self.woken.notify_one();
+        Ok(())
+    }
+
+    /// Waits until there is something at the front, and takes it: a value, or `None` for an unblock mark.
+    pub fn pop<R: Wait>(&self, rt: &R) -> Option<T> {
+        let mut state = self.state.lock(rt);
+        for _ in rt.forever() {
+            match state.pop() {
+                Popped::Empty => state = self.woken.wait(rt, state),
+                found => return answer(found),
+            }
+        }
+        unreachable!()
+    }
+
+    /// Takes what is at the front: a value, or `None` for an unblock mark. `None` too where the queue is empty.
+    pub fn try_pop<R: Wait>(&self, rt: &R) -> Option<T> {
+        let found = self.state.lock(rt).pop();
+        answer(found)
+    }
+
+    /// As `pop`, for so long at most, and then `None`. Each wait is for what remains of that time. Less than a
+    /// millisecond counts as nothing, and nothing remains where the clock can't be read. The queue is looked at before the
+    /// first wait and behind each one.
+    pub fn pop_timeout<R: Wait + Clock>(&self, rt: &R, timeout: Duration) -> Option<T> {
+        let mut state = self.state.lock(rt);
+        match state.pop() {
+            Popped::Empty => {}
+            found => return answer(found),
+        }
+        let start = Instant::now(rt).ok();
+        for _ in rt.forever() {
+            let elapsed = start.and_then(|start| start.elapsed(rt).ok());
+            let left = remaining(timeout, elapsed)?;
+            state = self.woken.wait_timeout(rt, state, left).0;
+            match state.pop() {
+                Popped::Empty => {}
+                found => return answer(found),
+            }
+        }
+        unreachable!()
+    }
+}
+
+// What is told of what a pop found.
+fn answer<T>(found: Popped<T>) -> Option<T>
+    ensures { result ≡ answer_of found }
+{
+    match found {
+        Popped::Value(value) => Some(value),
+        Popped::Unblocked | Popped::Empty => None,
+    }
+}
+
+// What remains of a time, if it is a millisecond or more and it is known how much has elapsed.
+fn remaining(timeout: Duration, elapsed: Option<Duration>) -> Option<Duration>
+    ensures enough { IsSome result ↔ IsSomeAnd elapsed (λ spent. as_nanos spent + 1_000_000 ≤ as_nanos timeout) }
+    ensures rest { IfSome result (λ left. IsSomeAnd elapsed (λ spent. as_nanos left + as_nanos spent ≡ as_nanos timeout)) }
+{
+    let left = timeout.checked_sub(elapsed?)?;
+    if left.as_nanos() < 1_000_000 {
+        return None;
+    }
+    Some(left)
+}
+
+#[cfg(test)]
+mod tests;

@@ -1,0 +1,102 @@
+//! How many entries any number of threads made.
+ghost use Rattle.std.specs.Prelude.{◌≡◌, ◌+◌, ◌-◌, ◌^◌, ◌<◌, false, if◌then◌else◌};
+ghost use Rattle.tiny_http.specs.Headcount.{Enters};
+
+use std::sync::ledger::{Book, Ledger, Share};
+use std::sync::{Mutex, Wait};
+
+// The number of entries, beside the book of what all shares count.
+#[derive(Drop)]
+struct Entries<L: Ledger> {
+    number: u64,
+    book: Book<L>,
+    ghost counted: { number ≡ book.total },
+}
+
+impl<L: Ledger> Entries<L> {
+    // One more in the number and in the share; false, with nothing changed, only at 2^64 - 1.
+    fn enter(&mut self, mine: &mut Share<L>) -> bool
+        requires { 0 < mine.old.parts }
+        ensures number { Enters self.old.book.total result self.new.book.total }
+        ensures share { mine.new.amount + self.old.book.total ≡ mine.old.amount + self.new.book.total }
+        ensures parts { mine.new.parts ≡ mine.old.parts }
+        ensures whole { mine.old.parts ≡ L.parts → mine.old.amount ≡ self.old.book.total }
+    {
+        let Entries { number, book } = self;
+        book.audit(mine);
+        if *number == u64::MAX {
+            return false;
+        }
+        book.add(mine, 1);
+        *number += 1;
+        true
+    }
+
+    // What all shares count together.
+    fn count(&self) -> u64
+        ensures { result ≡ self.now.book.total }
+    {
+        self.number
+    }
+
+    // The same, given all shares in one.
+    fn total(&mut self, all: &mut Share<L>) -> u64
+        requires { all.old.parts ≡ L.parts }
+        ensures total { result ≡ all.old.amount }
+        ensures amount { all.new.amount ≡ all.old.amount }
+        ensures parts { all.new.parts ≡ all.old.parts }
+    {
+        self.book.audit(all);
+        self.count()
+    }
+}
+
+/// A number of entries that any thread may raise by one, under a lock. What each thread added stands in its share of a
+/// ledger; the number is the sum of the shares.
+#[derive(Drop)]
+pub struct Roster<L: Ledger> {
+    entries: Mutex<Entries<L>>,
+}
+
+impl<L: Ledger> Roster<L> {
+    /// No entry, over a ledger whose shares count nothing yet.
+    pub fn new(book: Book<L>) -> Roster<L>
+        requires { book.total ≡ 0 }
+    {
+        Roster {
+            entries: Mutex::new(Entries { number: 0, book }),
+        }
+    }
+
+    /// One more in the number and in the caller's share, which needs a part. False, and nothing has changed, only where the
+    /// number is 2^64 - 1.
+    pub fn enter<R: Wait>(&self, rt: &R, mine: &mut Share<L>) -> bool
+        requires { 0 < mine.old.parts }
+        ensures amount { mine.new.amount ≡ (if result then mine.old.amount + 1 else mine.old.amount) }
+        ensures parts { mine.new.parts ≡ mine.old.parts }
+        // Who has the whole share knows the number.
+        ensures full { result ≡ false → mine.old.parts ≡ L.parts → mine.old.amount ≡ 2 ^ 64 - 1 }
+    {
+        self.entries.lock(rt).enter(mine)
+    }
+
+    /// The number at this moment. Its contract doesn't say that, as the call takes no share.
+    pub fn count<R: Wait>(&self, rt: &R) -> u64 {
+        self.entries.lock(rt).count()
+    }
+
+    /// The number of all entries, given the one share into which all were merged.
+    pub fn close(self, all: &mut Share<L>) -> u64
+        requires { all.old.parts ≡ L.parts }
+        ensures total { result ≡ all.old.amount }
+        ensures amount { all.new.amount ≡ all.old.amount }
+        ensures parts { all.new.parts ≡ all.old.parts }
+    {
+        let Roster { entries } = self;
+        let mut entries = entries.into_inner();
+        entries.total(all)
+    }
+}
+
+#[cfg(test)]
+mod tests;

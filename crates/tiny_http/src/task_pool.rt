@@ -1,0 +1,342 @@
+//! Workers that run jobs, as many as there is work for.
+ghost use Rattle.std.specs.Prelude.{◌≡◌, ◌⊎◌, IfErr, IfSome};
+ghost use Rattle.std.specs.IoError.{error_kind};
+
+use std::alloc::Global;
+use std::collections::VecDeque;
+use std::io::ErrorKind;
+use std::marker::Model;
+use std::sync::atomic::{AtomicBool, Ordering};
+use std::sync::{Arc, Condvar, Mutex, MutexGuard, Wait};
+use std::thread::Threads;
+use std::time::{Clock, Duration};
+use std::{io, thread};
+
+// How many workers are kept though they are idle.
+const MIN_THREADS: usize = 4;
+
+// How long a worker above those is idle before it ends, in milliseconds.
+const IDLE_MILLIS: u64 = 5000;
+
+/// What a worker runs.
+pub trait Job {
+    /// Runs it, once.
+    fn run(&mut self);
+}
+
+/// What became of a job that was offered to a pool.
+#[derive(Debug, PartialEq, Eq, Drop)]
+pub enum Offered<J> {
+    /// It waits, and an idle worker is to be woken for it.
+    Queued,
+    /// A new worker, which counts as running, is to be started with it.
+    Start(J),
+    /// It comes back, and nothing has changed.
+    Back(J),
+}
+
+/// The jobs that wait for a worker, how many workers run and how many of these are idle, and whether the pool is closed.
+/// At most as many jobs wait as workers are idle, and at most as many are idle as run. A contract sees a `Pool`.
+#[derive(Drop)]
+pub struct PoolState<J> {
+    jobs: VecDeque<J>,
+    idle: usize,
+    running: usize,
+    is_closed: bool,
+}
+
+impl<J> Model for PoolState<J> {
+    ghost use Rattle.tiny_http.specs.Pool.{Pool, IsSound};
+
+    ghost Value = { Pool J };
+
+    ghost view = { λ p. record { jobs = p.jobs.items; idle = p.idle; running = p.running; closed = p.is_closed } };
+
+    ghost invariant = { λ p. IsSound (record { jobs = p.jobs.items; idle = p.idle; running = p.running; closed = p.is_closed }) };
+}
+
+impl<J> PoolState<J> {
+    ghost use Rattle.std.specs.Prelude.{true};
+    ghost use Rattle.tiny_http.specs.Pool.{IsSound, new_pool, Offers, NotStarted, Takes, Rests, Wakes, GivesUp};
+
+    /// A pool of `running` workers, none of them idle. Nothing waits.
+    pub fn new(alloc: Global, running: usize) -> PoolState<J>
+        ensures { result ≡ new_pool running }
+    {
+        PoolState {
+            jobs: VecDeque::new(alloc),
+            idle: 0,
+            running,
+            is_closed: false,
+        }
+    }
+
+    /// Takes a job. Where more workers are idle than jobs wait, it waits, or comes back if room for it was refused. Else it
+    /// is to start on a new worker, which counts as running from now on, or comes back if 2^64 - 1 run.
+    pub fn offer(&mut self, job: J) -> Offered<J>
+        ensures sound { IsSound self.new }
+        ensures offers { Offers self.old job result self.new }
+    {
+        if self.jobs.len() < self.idle {
+            return match self.jobs.push_back(job) {
+                Ok(()) => Offered::Queued,
+                Err(refused) => Offered::Back(refused.value),
+            };
+        }
+        if self.running == usize::MAX {
+            return Offered::Back(job);
+        }
+        self.running += 1;
+        Offered::Start(job)
+    }
+
+    /// One worker less runs: the one that was to start could not be made. Nothing changes where all that run are idle.
+    pub fn not_started(&mut self)
+        ensures sound { IsSound self.new }
+        ensures not_started { NotStarted self.old self.new }
+    {
+        if self.idle < self.running {
+            self.running -= 1;
+        }
+    }
+
+    /// Takes the front job for a worker that isn't idle. `None`, and nothing has changed, where no job waits.
+    pub fn take(&mut self) -> Option<J>
+        ensures sound { IsSound self.new }
+        ensures takes { Takes self.old result self.new }
+    {
+        self.jobs.pop_front()
+    }
+
+    /// One worker more is idle. False, and nothing has changed, where a job waits or all that run are idle.
+    pub fn rest(&mut self) -> bool
+        ensures sound { IsSound self.new }
+        ensures rests { Rests self.old result self.new }
+    {
+        let may_rest = self.jobs.is_empty() && self.idle < self.running;
+        if may_rest {
+            self.idle += 1;
+        }
+        may_rest
+    }
+
+    /// Takes the front job for an idle worker, which is idle no more. `None`, and nothing has changed, where no job waits;
+    /// so it is where no worker is idle.
+    pub fn wake(&mut self) -> Option<J>
+        ensures sound { IsSound self.new }
+        ensures wakes { Wakes self.old result self.new }
+    {
+        let job = self.jobs.pop_front()?;
+        self.idle -= 1;
+        Some(job)
+    }
+
+    /// An idle worker ends. False, and nothing has changed, where none is idle, a job waits, or at most 4 run and the pool
+    /// isn't closed.
+    pub fn give_up(&mut self) -> bool
+        ensures sound { IsSound self.new }
+        ensures gives_up { GivesUp self.old result self.new }
+    {
+        let may_end = self.idle > 0
+            && self.jobs.is_empty()
+            && (self.running > MIN_THREADS || self.is_closed);
+        if may_end {
+            self.idle -= 1;
+            self.running -= 1;
+        }
+        may_end
+    }
+
+    /// Closes the pool: idle workers may end.
+    pub fn close(&mut self)
+        ensures sound { IsSound self.new }
+        ensures closes { self.new ≡ record self.old { closed = true } }
+    {
+        self.is_closed = true;
+    }
+
+    // Whether the pool is closed.
+    fn is_closed(&self) -> bool
+        ensures { result ≡ self.now.closed }
+    {
+        self.is_closed
+    }
+
+    // How many workers run.
+    fn running(&self) -> usize
+        ensures { result ≡ self.now.running }
+    {
+        self.running
+    }
+}
+
+// What the pool and its workers share.
+#[derive(Drop)]
+struct Sharing<J> {
+    state: Mutex<PoolState<J>>,
+    woken: Condvar,
+}
+
+impl<J: Job + Drop> Sharing<J> {
+    // Runs the first job, and then one after another until the worker is to end.
+    fn work<R: Wait + Clock>(&self, rt: &R, first: Option<J>) {
+        if let Some(mut job) = first {
+            job.run();
+        }
+        for _ in rt.forever() {
+            let Some(mut job) = self.next(rt) else {
+                return;
+            };
+            job.run();
+        }
+    }
+
+    // Waits for a job. `None` where the worker is to end.
+    fn next<R: Wait + Clock>(&self, rt: &R) -> Option<J> {
+        let mut state = self.state.lock(rt);
+        if let Some(job) = state.take() {
+            return Some(job);
+        }
+        if !state.rest() {
+            // This worker isn't idle, so fewer are than run: this doesn't come. One that isn't counted ends.
+            return None;
+        }
+        for _ in rt.forever() {
+            if state.is_closed() && state.give_up() {
+                return None;
+            }
+            let (woken, timed_out) = self.wait(rt, state);
+            state = woken;
+            if let Some(job) = state.wake() {
+                return Some(job);
+            }
+            if timed_out && state.give_up() {
+                return None;
+            }
+        }
+        unreachable!()
+    }
+
+    // Waits to be woken; where more workers run than are kept, for 5,000 ms at most. Says whether that time is up.
+    fn wait<'a, R: Wait + Clock>(
+        &self,
+        rt: &R,
+        state: MutexGuard<'a, PoolState<J>>,
+    ) -> (MutexGuard<'a, PoolState<J>>, bool) {
+        if state.running() <= MIN_THREADS {
+            return (self.woken.wait(rt, state), false);
+        }
+        let timeout = Duration::from_millis(IDLE_MILLIS);
+        let (state, waited) = self.woken.wait_timeout(rt, state, timeout);
+        (state, waited.timed_out())
+    }
+}
+
+// Works, this job first; or gives the job back, where its worker was refused.
+fn work_unless<J: Job + Drop, R: Wait + Clock + Drop>(
+    rt: R,
+    is_refused: Arc<AtomicBool>,
+    sharing: Arc<Sharing<J>>,
+    job: J,
+) -> Option<J>
+    ensures { IfSome result (λ back. back ≡ job) }
+{
+    if is_refused.load(Ordering::SeqCst) {
+        return Some(job);
+    }
+    sharing.work(&rt, Some(job));
+    None
+}
+
+/// Workers that run jobs: four, and one more for each job for which no idle worker is left. One above the four that was idle
+/// for 5,000 ms ends. A dropped pool is closed: its workers run the jobs that wait, and end. What a call did to the pool no
+/// contract here says.
+pub struct TaskPool<J: Drop, R: Wait + Drop> {
+    rt: R,
+    sharing: Arc<Sharing<J>>,
+}
+
+impl<J: Job + Drop + Send + 'static, R: Threads + Wait + Clock + Copy + Send + 'static> TaskPool<
+    J,
+    R,
+> {
+    /// Starts four workers. An error is of kind `OutOfMemory`, or `WouldBlock` where a thread could not be made; the pool is
+    /// closed then, so that those that were started end.
+    pub fn new(rt: R, alloc: Global) -> io::Result<TaskPool<J, R>>
+        ensures { IfErr result (λ e. (error_kind e ≡ ErrorKind.OutOfMemory) ⊎ (error_kind e ≡ ErrorKind.WouldBlock)) }
+    {
+        let sharing = Sharing {
+            state: Mutex::new(PoolState::new(alloc, MIN_THREADS)),
+            woken: Condvar::new(),
+        };
+        let pool = TaskPool {
+            rt,
+            sharing: Arc::new(alloc, sharing).map_err(|_| ErrorKind::OutOfMemory)?,
+        };
+        for _ in 0..MIN_THREADS {
+            let theirs = Arc::try_clone(&pool.sharing)?;
+            if thread::spawn(&rt, move || theirs.work(&rt, None)).is_err() {
+                return Err(ErrorKind::WouldBlock.into());
+            }
+        }
+        Ok(pool)
+    }
+
+    /// Runs a job on a worker: an idle one, or a new one. It comes back where memory or a thread was refused.
+    pub fn spawn(&self, rt: &R, alloc: Global, job: J) -> Result<(), J>
+        ensures { IfErr result (λ back. back ≡ job) }
+    {
+        let offered = self.sharing.state.lock(rt).offer(job);
+        match offered {
+            Offered::Queued => {
+                self.sharing.woken.notify_one();
+                Ok(())
+            }
+            Offered::Start(job) => {
+                let started = self.start(*rt, alloc, job);
+                if started.is_err() {
+                    self.sharing.state.lock(rt).not_started();
+                }
+                started
+            }
+            Offered::Back(job) => Err(job),
+        }
+    }
+
+    // Starts a worker with a job. Where no thread could be made its closure comes back, which has the job: called with the
+    // mark set, it gives the job back in place of running it.
+    fn start(&self, rt: R, alloc: Global, job: J) -> Result<(), J>
+        ensures { IfErr result (λ back. back ≡ job) }
+    {
+        let Ok(is_refused) = Arc::new(alloc, AtomicBool::new(false)) else {
+            return Err(job);
+        };
+        let (Ok(mark), Ok(sharing)) = (Arc::try_clone(&is_refused), Arc::try_clone(&self.sharing))
+        else {
+            return Err(job);
+        };
+        let worker = move || -> Option<J>
+            ensures { IfSome result (λ back. back ≡ job) }
+        { work_unless(rt, mark, sharing, job) };
+        match thread::spawn(&rt, worker) {
+            Ok(_) => Ok(()),
+            Err(unmade) => {
+                is_refused.store(true, Ordering::SeqCst);
+                let back = (unmade.value)();
+                // Nothing would come back from one that has run the job.
+                back.map_or(Ok(()), Err)
+            }
+        }
+    }
+}
+
+impl<J: Drop, R: Wait + Drop> Drop for TaskPool<J, R> {
+    fn drop(self) {
+        let Self { rt, sharing } = self;
+        sharing.state.lock(&rt).close();
+        sharing.woken.notify_all();
+    }
+}
+
+#[cfg(test)]
+mod tests;
