@@ -20,8 +20,7 @@ pub enum Popped<T> {
     Empty,
 }
 
-/// Values and unblock marks, first in first out. A push and a pop can drop no value: they don't ask for `T: Drop`. A contract
-/// sees the list of them, the front first, a mark as `None`.
+/// Values and unblock marks, first in first out. A contract sees the list of them, the front first, a mark as `None`.
 #[derive(Drop)]
 pub struct QueueState<T> {
     marks: VecDeque<Option<T>>,
@@ -35,9 +34,7 @@ impl<T> Model for QueueState<T> {
     ghost view = { λ q. q.marks.items };
 }
 
-impl<T> QueueState<T> {
-    ghost use Rattle.tiny_http.specs.Queue.{Pops};
-
+impl<T: Drop> QueueState<T> {
     /// An empty queue.
     pub fn new(alloc: Global) -> QueueState<T>
         ensures { result ≡ [] }
@@ -56,6 +53,22 @@ impl<T> QueueState<T> {
         })
     }
 
+    /// Adds a mark that unblocks at the back. An error comes where room for it was refused, and nothing has changed.
+    pub fn unblock(&mut self) -> Result<(), AllocError>
+        ensures ok { OnOk result (self.new ≡ self.old ++ (None ∷ [])) }
+        ensures err { OnErr result (self.new ≡ self.old) }
+    {
+        match self.marks.push_back(None) {
+            Ok(()) => Ok(()),
+            Err(_) => Err(AllocError),
+        }
+    }
+}
+
+// With no `T: Drop` a value can't be dropped, so none of these calls can lose one.
+impl<T> QueueState<T> {
+    ghost use Rattle.tiny_http.specs.Queue.{Pops};
+
     /// Adds a value at the back. It comes back where room for it was refused, and nothing has changed.
     pub fn push(&mut self, value: T) -> Result<(), T>
         ensures ok { OnOk result (self.new ≡ self.old ++ (Some value ∷ [])) }
@@ -68,19 +81,6 @@ impl<T> QueueState<T> {
                 Some(back) => Err(back),
                 None => unreachable!(),
             },
-        }
-    }
-
-    /// Adds a mark that unblocks at the back. An error comes where room for it was refused, and nothing has changed.
-    pub fn unblock(&mut self) -> Result<(), AllocError>
-    where
-        T: Drop,
-        ensures ok { OnOk result (self.new ≡ self.old ++ (None ∷ [])) }
-        ensures err { OnErr result (self.new ≡ self.old) }
-    {
-        match self.marks.push_back(None) {
-            Ok(()) => Ok(()),
-            Err(_) => Err(AllocError),
         }
     }
 
@@ -105,15 +105,12 @@ pub struct MessagesQueue<T> {
     woken: Condvar,
 }
 
-impl<T> MessagesQueue<T> {
+impl<T: Drop> MessagesQueue<T> {
     /// An empty queue, with room for `capacity` values and marks. An error comes where memory was refused.
     pub fn with_capacity(
         alloc: Global,
         capacity: usize,
-    ) -> Result<Arc<MessagesQueue<T>>, AllocError>
-    where
-        T: Drop,
-    {
+    ) -> Result<Arc<MessagesQueue<T>>, AllocError> {
         let queue = MessagesQueue {
             state: Mutex::new(QueueState::with_capacity(alloc, capacity)?),
             woken: Condvar::new(),
@@ -121,22 +118,22 @@ impl<T> MessagesQueue<T> {
         Ok(Arc::new(alloc, queue)?)
     }
 
+    /// Adds a mark at the back, which one pop answers by `None`, and wakes one who waits. An error comes where room for it
+    /// was refused.
+    pub fn unblock<R: Wait>(&self, rt: &R) -> Result<(), AllocError> {
+        self.state.lock(rt).unblock()?;
+        self.woken.notify_one();
+        Ok(())
+    }
+}
+
+// None of these calls can lose a value either.
+impl<T> MessagesQueue<T> {
     /// Adds a value at the back, and wakes one who waits. It comes back where room for it was refused.
     pub fn push<R: Wait>(&self, rt: &R, value: T) -> Result<(), T>
         ensures { IfErr result (λ back. back ≡ value) }
     {
         self.state.lock(rt).push(value)?;
-        self.woken.notify_one();
-        Ok(())
-    }
-
-    /// Adds a mark at the back, which one pop answers by `None`, and wakes one who waits. An error comes where room for it
-    /// was refused.
-    pub fn unblock<R: Wait>(&self, rt: &R) -> Result<(), AllocError>
-    where
-        T: Drop,
-    {
-        self.state.lock(rt).unblock()?;
         self.woken.notify_one();
         Ok(())
     }
