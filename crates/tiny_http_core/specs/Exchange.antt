@@ -1,5 +1,5 @@
 -- What a contract sees of an `Exchange`.
-use Rattle.std.specs.Prelude.{◌≡◌, Bool, false, Option, unwrap_or}
+use Rattle.std.specs.Prelude.{◌≡◌, ℕ, Bool, false, Option, unwrap_or}
 use Rattle.httpdate.specs.declared.date.HttpDate.{HttpDate}
 use Rattle.tiny_http_wire.specs.declared.device.Stop.{Stop}
 use Rattle.tiny_http_wire.specs.Device.{Feed}
@@ -9,7 +9,7 @@ use Rattle.tiny_http_core.specs.declared.exchange.Exchange.{Exchange}
 use Rattle.tiny_http_core.specs.Source.{SourceState}
 use Rattle.tiny_http_core.specs.Pipeline.{is_head_method}
 use Rattle.tiny_http_core.specs.Slots.{own_text}
-use Rattle.tiny_http_core.specs.Body.{Remaining, remaining, body_stop, is_streaming, Fits, GivesUp}
+use Rattle.tiny_http_core.specs.Body.{Remaining, remaining, body_stop, is_streaming, ReadsOn, Fits, GivesUp}
 
 -- what the request's head says
 abbrev pub exchange_head : Exchange → Head
@@ -26,6 +26,10 @@ exchange_stop x = body_stop x.waiting.body
 -- its body is read from the input, which has to stand behind it before the next head is read
 abbrev pub exchange_streams : Exchange → Bool
 exchange_streams x = is_streaming x.waiting.body
+
+-- so many bytes of its body were read, and the end or the fault was told or not
+abbrev pub ExchangeReadsOn : Exchange → ℕ → Bool → Exchange → Type 0
+ExchangeReadsOn x n told new = ReadsOn x.waiting.body n told new.waiting.body
 
 -- its body is given up
 abbrev pub GivesUpBody : {R : Type 0} → Exchange → SourceState R → SourceState R → Type 0

@@ -18,14 +18,9 @@ pub record SourceState (R : Type 0) : Type 0 where
   pub is_over : Bool
   pub reader : R
 
--- the reader has ended, or the source was: each line from now on is the end
+-- the input has ended, or was made to end, and nothing is left of it: each line from now on is the end
 abbrev pub IsAtEnd : {R : Type 0} → SourceState R → Type 0
 IsAtEnd s = (s.is_over ≡ true) × (s.stop ≡ Some End)
-
--- the bytes of a feed
-abbrev pub bytes_of : Option Feed → Option (List ℕ)
-bytes_of None = None
-bytes_of (Some f) = Some f.bytes
 
 -- what is told in a line's place where the input stops
 abbrev pub fault_of : Stop → LineFault

@@ -29,7 +29,8 @@ use tiny_http_wire::response::Response;
 #[derive(Drop)]
 pub enum Step<D> {
     /// Reads the next head and hands it out. It waits while the body of the last request that was handed out holds the
-    /// reader: one that is counted or chunked, and neither read to its end nor given up.
+    /// reader: one that is counted or chunked, neither read to its end nor given up, of a request that isn't the
+    /// connection's last. Behind a chunked body that was given up before its end was told no head follows.
     Ask,
     /// Reads the body of the request of this number, until there are so many bytes, 0 to 65535, or no more follow.
     Read(u64, u16),
@@ -51,7 +52,7 @@ pub struct Timed<D> {
 /// What a step is answered.
 #[derive(Drop)]
 pub enum Reply {
-    /// The request of this number.
+    /// The request of this number. Refused heads have taken numbers too.
     Handed(u64, Head),
     /// The connection has no further request.
     Ended,

@@ -102,7 +102,7 @@ impl<R: ReadDevice + Drop> Read for EqualReader<R> {
     ghost use Rattle.std.specs.Io.{ReadsAtMost};
     ghost use Rattle.std.specs.Io.KnownBytes.{ReadConsumes};
     ghost use Rattle.tiny_http_core.specs.EqualReader.{equal_feed, equal_left, equal_inner};
-    ghost use Rattle.tiny_http_core.specs.Source.{bytes_of};
+    ghost use Rattle.tiny_http_wire.specs.Device.{bytes_of};
 
     ghost remaining = { λ r. bytes_of (equal_feed R.feed r) };
 

@@ -1,5 +1,5 @@
 //! A request without locks: its head, its body on the connection's input, and what becomes of both.
-ghost use Rattle.std.specs.Prelude.{◌≡◌, ◌<◌, ◌≤◌, false, length, take, Ok, IfOk, IfErr, IfSome, OnErr};
+ghost use Rattle.std.specs.Prelude.{◌≡◌, ◌<◌, ◌≤◌, ◌==◌, false, length, take, Ok, IfOk, IfErr, IfSome, OnErr};
 ghost use Rattle.std.specs.IoError.{error_kind};
 ghost use Rattle.tiny_http_wire.specs.Decoding.{AnswersStop};
 ghost use Rattle.tiny_http_core.specs.Source.{GoesOn, IsAtEnd};
@@ -91,7 +91,7 @@ pub enum HeadRead {
 }
 
 impl Exchange {
-    ghost use Rattle.tiny_http_core.specs.Exchange.{exchange_head, exchange_left, exchange_stop, exchange_streams, GivesUpBody};
+    ghost use Rattle.tiny_http_core.specs.Exchange.{exchange_head, exchange_left, exchange_stop, exchange_streams, ExchangeReadsOn, GivesUpBody};
 
     /// What the request's head says.
     pub fn head(&self) -> &Head
@@ -117,8 +117,9 @@ impl Exchange {
         ensures fault { IfErr result (λ e. BodyStops (Stop.Fault (error_kind e)) (exchange_left self.old source.old.feed)) }
         ensures again { OnErr result (exchange_left self.new source.new.feed ≡ exchange_left self.old source.old.feed) }
         ensures empty { length buf.new ≡ 0 → (result ≡ Ok 0) × (self.new ≡ self.old) × (source.new ≡ source.old) }
-        // Whatever the reader tells: behind its end a body holds the source no more, and behind its first fault the source
-        // has ended. A fault is told again by each later read.
+        // Whatever the reader tells: a body holds the source no more once its end was told, a counted one with its last byte.
+        // Behind its first fault the source has ended. A fault is told again by each later read.
+        ensures moves { IfOk result (λ n. 0 < length buf.new → ExchangeReadsOn self.old n (n == 0) self.new) }
         ensures ended { IfOk result (λ n. n ≡ 0 → 0 < length buf.new → exchange_streams self.new ≡ false) }
         ensures settled { exchange_streams self.old ≡ false → (exchange_streams self.new ≡ false) × (source.new ≡ source.old) }
         ensures at_end { OnErr result (exchange_stop self.old ≡ None → IsAtEnd source.new) }

@@ -1,5 +1,5 @@
 //! A reader that stays at its end.
-ghost use Rattle.std.specs.Prelude.{◌≡◌, ◌<◌, ◌≤◌, length, take, Some, None, Ok, IfOk, IfErr, OnErr};
+ghost use Rattle.std.specs.Prelude.{◌≡◌, ◌<◌, ◌≤◌, length, take, Some, None, Ok, IfOk, IfErr, OnErr, IsSome};
 ghost use Rattle.std.specs.IoError.{error_kind};
 ghost use Rattle.tiny_http_wire.specs.Device.{given, StopsBy};
 
@@ -54,6 +54,7 @@ impl<R: ReadDevice> ReadDevice for FusedReader<R> {
         ensures empty { length buf.new ≡ 0 → (result ≡ Ok 0) × (self.new ≡ self.old) }
         // Whatever the reader tells: it isn't called again behind its end.
         ensures over { IfOk result (λ n. n ≡ 0 → 0 < length buf.new → fused_inner self.new ≡ None) }
+        ensures kept { IfOk result (λ n. 0 < n → IsSome (fused_inner self.new)) }
         ensures stays { fused_inner self.old ≡ None → (result ≡ Ok 0) × (self.new ≡ self.old) }
     {
         if self.over || buf.is_empty() {
@@ -75,7 +76,7 @@ impl<R: ReadDevice> Read for FusedReader<R> {
     ghost use Rattle.std.specs.Io.{ReadsAtMost};
     ghost use Rattle.std.specs.Io.KnownBytes.{ReadConsumes};
     ghost use Rattle.tiny_http_core.specs.FusedReader.{fused_inner, fused_feed};
-    ghost use Rattle.tiny_http_core.specs.Source.{bytes_of};
+    ghost use Rattle.tiny_http_wire.specs.Device.{bytes_of};
 
     ghost remaining = { λ r. bytes_of (fused_feed R.feed r) };
 
@@ -89,6 +90,7 @@ impl<R: ReadDevice> Read for FusedReader<R> {
         ensures again { OnErr result (fused_feed R.feed self.new ≡ fused_feed R.feed self.old) }
         ensures empty { length buf.new ≡ 0 → (result ≡ Ok 0) × (self.new ≡ self.old) }
         ensures over { IfOk result (λ n. n ≡ 0 → 0 < length buf.new → fused_inner self.new ≡ None) }
+        ensures kept { IfOk result (λ n. 0 < n → IsSome (fused_inner self.new)) }
         ensures stays { fused_inner self.old ≡ None → (result ≡ Ok 0) × (self.new ≡ self.old) }
     {
         self.read_in(buf)

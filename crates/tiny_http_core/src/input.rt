@@ -5,6 +5,7 @@ ghost use Rattle.std.specs.IoError.{error_kind};
 ghost use Rattle.tiny_http_core.specs.ToCome.{skipped, stopped};
 ghost use Rattle.tiny_http_core.specs.Line.{pending, Passed};
 ghost use Rattle.tiny_http_wire.specs.Lines.{IsUnfinished};
+ghost use Rattle.tiny_http_wire.specs.Decoding.{AnswersStop};
 ghost use Rattle.tiny_http_wire.specs.Device.{given, StopsBy};
 
 use crate::buffer::Buffer;
@@ -251,7 +252,7 @@ impl<R: ReadDevice> Input<R> {
         ensures over { OnErr result (IsOver self.new) }
         ensures none { IfOk result (λ n. n ≡ 0 → 0 < length buf.new → IsOver self.new × (input_stop self.new ≡ Some Stop.End)) }
         ensures kind { IfErr result (λ e. input_stop self.new ≡ Some (Stop.Fault (error_kind e))) }
-        ensures stays { IsOver self.old → self.new ≡ self.old }
+        ensures stays { IsOver self.old → (self.new ≡ self.old) × IfSome (input_stop self.old) (λ stop. 0 < length buf.new → AnswersStop stop result) }
     {
         if buf.is_empty() {
             return Ok(0);

@@ -2,6 +2,7 @@
 ghost use Rattle.std.specs.Prelude.{◌≡◌, ◌≢◌, true, ◌<◌, ◌≤◌, length, take, Option, None, Some, Ok, Err, IsSome, IfOk, IfErr, IfSome, OnErr};
 ghost use Rattle.std.specs.Option.{option_map};
 ghost use Rattle.std.specs.IoError.{error_kind};
+ghost use Rattle.tiny_http_wire.specs.Decoding.{AnswersStop};
 ghost use Rattle.tiny_http_wire.specs.Device.{given, StopsBy};
 ghost use Rattle.tiny_http_core.specs.ToCome.{skipped, stopped};
 
@@ -85,7 +86,7 @@ impl<R: ReadDevice> Source<R> {
         // After an end or a fault the reader isn't called again.
         ensures once { IsSome self.old.stop → IsSome self.new.stop × (self.new.reader ≡ self.old.reader) }
         // Whatever the reader tells: behind any fault but a line that isn't ASCII the source is over.
-        ensures over { IfErr result (λ fault. fault ≢ LineFault.NotAscii → self.new.is_over ≡ true) }
+        ensures over { IfErr result (λ fault. fault ≢ LineFault.NotAscii → (self.new.is_over ≡ true) × IsSome self.new.stop) }
         ensures memory { IfErr result (λ fault. fault ≡ LineFault.Memory → self.new.stop ≡ Some Stop.End) }
         ensures stop { IfErr result (λ fault. fault ≢ LineFault.NotAscii → fault ≢ LineFault.Memory → IfSome self.new.stop (λ stop. fault ≡ fault_of stop)) }
         // A source that is over stays so, and each line is its stop.
@@ -107,7 +108,7 @@ impl<R: ReadDevice> Source<R> {
         ensures once { IsSome self.old.stop → IsSome self.new.stop × (self.new.reader ≡ self.old.reader) }
         ensures over { IfErr result (λ e. (self.new.is_over ≡ true) × (self.new.stop ≡ Some (Stop.Fault (error_kind e)))) }
         ensures none { IfOk result (λ n. n ≡ 0 → 0 < length buf.new → (self.new.is_over ≡ true) × (self.new.stop ≡ Some Stop.End)) }
-        ensures stays { self.old.is_over ≡ true → self.new ≡ self.old }
+        ensures stays { self.old.is_over ≡ true → (self.new ≡ self.old) × IfSome self.old.stop (λ stop. 0 < length buf.new → AnswersStop stop result) }
     {
         self.input.read(buf)
     }
@@ -140,7 +141,7 @@ impl<R: ReadDevice> ReadDevice for Source<R> {
         ensures once { IsSome self.old.stop → IsSome self.new.stop × (self.new.reader ≡ self.old.reader) }
         ensures over { IfErr result (λ e. (self.new.is_over ≡ true) × (self.new.stop ≡ Some (Stop.Fault (error_kind e)))) }
         ensures none { IfOk result (λ n. n ≡ 0 → 0 < length buf.new → (self.new.is_over ≡ true) × (self.new.stop ≡ Some Stop.End)) }
-        ensures stays { self.old.is_over ≡ true → self.new ≡ self.old }
+        ensures stays { self.old.is_over ≡ true → (self.new ≡ self.old) × IfSome self.old.stop (λ stop. 0 < length buf.new → AnswersStop stop result) }
     {
         self.input.read(buf)
     }
@@ -149,7 +150,7 @@ impl<R: ReadDevice> ReadDevice for Source<R> {
 impl<R: ReadDevice> Read for Source<R> {
     ghost use Rattle.std.specs.Io.{ReadsAtMost};
     ghost use Rattle.std.specs.Io.KnownBytes.{ReadConsumes};
-    ghost use Rattle.tiny_http_core.specs.Source.{bytes_of};
+    ghost use Rattle.tiny_http_wire.specs.Device.{bytes_of};
 
     ghost remaining = { λ s. bytes_of s.feed };
 
@@ -165,7 +166,7 @@ impl<R: ReadDevice> Read for Source<R> {
         ensures once { IsSome self.old.stop → IsSome self.new.stop × (self.new.reader ≡ self.old.reader) }
         ensures over { IfErr result (λ e. (self.new.is_over ≡ true) × (self.new.stop ≡ Some (Stop.Fault (error_kind e)))) }
         ensures none { IfOk result (λ n. n ≡ 0 → 0 < length buf.new → (self.new.is_over ≡ true) × (self.new.stop ≡ Some Stop.End)) }
-        ensures stays { self.old.is_over ≡ true → self.new ≡ self.old }
+        ensures stays { self.old.is_over ≡ true → (self.new ≡ self.old) × IfSome self.old.stop (λ stop. 0 < length buf.new → AnswersStop stop result) }
     {
         self.read_in(buf)
     }

@@ -171,8 +171,9 @@ impl Decoding {
     ///
     /// A line has at most 8192 bytes before its CR LF, and the trailer part at most 128 lines. A
     /// size is 1 to 16 hexadecimal digits of either case: what stands before the first `;` of its
-    /// line, without bytes 9 and 32 round it. What breaks the grammar or these bounds is a fault of
-    /// kind InvalidData. Where the reader stops within the body, its end is a fault of kind
+    /// line, without bytes 9 and 32 round it. Of an extension and of a trailer line the length alone
+    /// is checked. What breaks these rules, and other bytes than CR LF behind a chunk's data, is a
+    /// fault of kind InvalidData. Where the reader stops within the body, its end is a fault of kind
     /// UnexpectedEof, and its fault is one of the same kind. The data before a fault are given
     /// first, those of an unfinished chunk too.
     ///
@@ -306,7 +307,7 @@ impl<R: ReadDevice> ReadDevice for Decoder<R> {
         ensures breaks { IfErr result (λ e. BreaksBy (error_kind e) (decoder_coming R.feed self.old)) }
         ensures same { OnErr result (decoder_coming R.feed self.new ≡ decoder_coming R.feed self.old) }
         ensures empty { length buf.new ≡ 0 → (result ≡ Ok 0) × (self.new ≡ self.old) }
-        ensures behinded { IfOk result (λ n. n ≡ 0 → 0 < length buf.new → decoder_stop self.new ≡ Some Stop.End) }
+        ensures ended { IfOk result (λ n. n ≡ 0 → 0 < length buf.new → decoder_stop self.new ≡ Some Stop.End) }
         ensures broken { IfErr result (λ e. decoder_stop self.new ≡ Some (Stop.Fault (error_kind e))) }
         ensures stays { IsSome (decoder_stop self.old) → self.new ≡ self.old }
         ensures tells { IfSome (decoder_stop self.old) (λ stop. 0 < length buf.new → AnswersStop stop result) }
@@ -319,12 +320,15 @@ impl<R: ReadDevice> ReadDevice for Decoder<R> {
 impl<R: ReadDevice> Read for Decoder<R> {
     ghost use Rattle.std.specs.Io.{ReadsAtMost};
     ghost use Rattle.std.specs.Io.KnownBytes.{ReadConsumes};
-    ghost use Rattle.tiny_http_wire.specs.Decoding.{decoder_coming, decoder_inner, decoder_stop};
+    ghost use Rattle.tiny_http_wire.specs.Device.{bytes_of};
+    ghost use Rattle.tiny_http_wire.specs.Decoding.{decoder_feed, decoder_coming, decoder_inner, decoder_stop};
+
+    ghost remaining = { λ d. bytes_of (decoder_feed R.feed d) };
 
     /// Reads some data.
     fn read(&mut self, buf: &mut [u8]) -> io::Result<usize>
         ensures bound { ReadsAtMost result buf.new }
-        ensures bytes { ReadConsumes None None result buf.new }
+        ensures bytes { ReadConsumes (bytes_of (decoder_feed R.feed self.old)) (bytes_of (decoder_feed R.feed self.new)) result buf.new }
         ensures data { IfOk result (λ n. decoder_coming R.feed self.old ≡ with_front (take n buf.new) (decoder_coming R.feed self.new)) }
         ensures end { IfOk result (λ n. n ≡ 0 → 0 < length buf.new → decoder_coming R.feed self.old ≡ option_map over_at (R.feed (decoder_inner self.new))) }
         ensures fault { IfErr result (λ e. BreaksBy (error_kind e) (decoder_coming R.feed self.old)) }
