@@ -126,7 +126,7 @@ waiting-held s w h =
 pub waiting-kept : (s : Slot) (w : Waiting) (h : IsWaiting s w) → reader_is_lost (Some s) ≡ false
 waiting-kept s w h = let P : Slot → Type 0 = λ x. reader_is_lost (Some x) ≡ false in subst P (sym h.is) (and-false (is_chunked h.request.framing.form))
 
-done-held : (s : Slot) → IsDone s → reader_is_held (Some s) ≡ false
+pub done-held : (s : Slot) → IsDone s → reader_is_held (Some s) ≡ false
 done-held s d = at s.item
   where
     or-true : (a : Bool) → (a || true) ≡ true
