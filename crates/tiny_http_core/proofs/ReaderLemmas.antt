@@ -10,7 +10,7 @@ use Rattle.tiny_http_core.specs.declared.exchange.Form.{Form}
 use Rattle.tiny_http_core.specs.declared.body.Body.{Body}
 use Rattle.tiny_http_core.specs.declared.body.Body.TheVariants as body
 use Rattle.tiny_http_core.specs.Pipeline.{Item, Asks, Refuses, said_length}
-use Rattle.tiny_http_core.specs.Slots.{Slot, is_streamed, is_chunked, body_finished, is_body_finished, body_holds_reader, last_slot, reader_is_held, reader_is_lost, is_last_item, is_last_slot}
+use Rattle.tiny_http_core.specs.Slots.{Slot, is_streamed, is_chunked, body_finished, is_body_finished, body_is_open, body_holds_reader, last_slot, last_is_open, reader_is_held, reader_is_lost, is_last_item, is_last_slot}
 use Rattle.tiny_http_core.specs.Turns.{Mark, Open, Held, Left, Finished}
 use Rattle.tiny_http_core.specs.Body.{Remaining, remaining, is_streaming, Fits}
 use Rattle.tiny_http_core.specs.Pending.{last_body, streams}
@@ -126,7 +126,7 @@ waiting-held s w h =
 pub waiting-kept : (s : Slot) (w : Waiting) (h : IsWaiting s w) → reader_is_lost (Some s) ≡ false
 waiting-kept s w h = let P : Slot → Type 0 = λ x. reader_is_lost (Some x) ≡ false in subst P (sym h.is) (and-false (is_chunked h.request.framing.form))
 
-pub done-held : (s : Slot) → IsDone s → reader_is_held (Some s) ≡ false
+done-held : (s : Slot) → IsDone s → reader_is_held (Some s) ≡ false
 done-held s d = at s.item
   where
     or-true : (a : Bool) → (a || true) ≡ true
@@ -136,6 +136,28 @@ done-held s d = at s.item
     at : (item : Item) → body_holds_reader s item ≡ false
     at (Asks r) = rw (d.given_up, or-true (is_body_finished r s), and-false (is_streamed r.framing.form)) (and-false (not r.framing.is_last))
     at (Refuses a b c) = refl
+
+-- whether the last body is open, and the program's sight of it
+waiting-open : (s : Slot) (w : Waiting) (h : IsWaiting s w) → last_is_open (Some s) ≡ is_streaming w.body
+waiting-open s w h =
+    let P : Slot → Type 0 = λ x. last_is_open (Some x) ≡ is_streaming w.body in
+    subst P (sym h.is) (fits-streams w.body h.request.framing.form (said_length h.request.framing) h.given h.told h.fits)
+
+pub done-open : (s : Slot) → IsDone s → last_is_open (Some s) ≡ false
+done-open s d = at s.item
+  where
+    or-true : (a : Bool) → (a || true) ≡ true
+    or-true true = refl
+    or-true false = refl
+
+    at : (item : Item) → body_is_open s item ≡ false
+    at (Asks r) = rw (d.given_up, or-true (is_body_finished r s)) (and-false (is_streamed r.framing.form))
+    at (Refuses a b c) = refl
+
+pub open-by : (o : Option Slot) (b : Option Body) → LastKept o b → last_is_open o ≡ streams b
+open-by o b (inl h) = rw (h.0, h.1) refl
+open-by o b (inr (inl h)) = rw (h.1, h.2, done-open h.0 h.3) refl
+open-by o b (inr (inr h)) = rw (h.2, h.3) (waiting-open h.0 h.1 h.4)
 
 -- whether the last body holds the reader, and the program's sight of it
 pub held-by : (o : Option Slot) (b : Option Body) → LastKept o b → reader_is_held o ≡ (not (is_last_slot o) && streams b)

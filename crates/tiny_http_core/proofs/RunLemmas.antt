@@ -1,5 +1,5 @@
 -- A run goes on by one step.
-use Rattle.std.proofs.Common.{◌≡◌, refl, sym, ap, ◌∙◌, subst, ℕ, ◌<◌, ◌≤◌, Bool, true, false, not, ◌&&◌, List, [], ◌∷◌, ◌++◌, length, Option, Some, None, arith, append-nil, inl, inr}
+use Rattle.std.proofs.Common.{◌≡◌, refl, sym, ap, ◌∙◌, subst, ℕ, ◌<◌, ◌≤◌, Bool, true, false, List, [], ◌∷◌, ◌++◌, length, Option, Some, None, arith, append-nil, inl, inr}
 use Rattle.std.specs.Prelude.{MatchBool, ⊤}
 use Rattle.std.specs.Option.{option_map}
 use Rattle.std.specs.List.{AllZip}
@@ -9,17 +9,17 @@ use Rattle.tiny_http_wire.specs.Device.{Feed, Sink, grown, next_count}
 use Rattle.tiny_http_core.specs.Outlet.{holding}
 use Rattle.tiny_http_core.specs.Source.{GoesOn}
 use Rattle.tiny_http_core.specs.Pipeline.{Item, Pipeline}
-use Rattle.tiny_http_core.specs.Slots.{Slot, joined, last_slot, reader_is_held, reader_is_lost, is_last_item, is_last_slot}
+use Rattle.tiny_http_core.specs.Slots.{Slot, joined, last_slot, last_is_open, reader_is_lost, is_last_item, is_last_slot}
 use Rattle.tiny_http_core.specs.Steps.{Replied}
 use Rattle.tiny_http_core.specs.Conversation.{State, Failure, StepsTo, Run, Dated, start, IsFresh, PlaceAt, WithinBody, WithinLast, InputAt, IsOutput, IsConversation}
 use Rattle.tiny_http_core.specs.Connection.{Kept, OutputAt, IsWaiting, behind_body, slot_rest, GivesRest, Stands}
 use Rattle.tiny_http_core.specs.ToCome.{stopped}
-use Rattle.tiny_http_core.specs.Body.{Remaining, remaining, is_streaming}
+use Rattle.tiny_http_core.specs.Body.{Remaining, remaining}
 use Rattle.tiny_http_core.specs.Pending.{last_body, streams}
 use Rattle.tiny_http_core.specs.declared.exchange.Waiting.{Waiting}
 use Rattle.tiny_http_core.specs.declared.body.Body.{Body}
 use Rattle.tiny_http_wire.specs.declared.device.Stop.TheVariants.{End}
-use Rattle.tiny_http_core.proofs.ReaderLemmas.{LastKept, waiting-held, done-held, held-by, behind-settled}
+use Rattle.tiny_http_core.proofs.ReaderLemmas.{LastKept, done-open, open-by, behind-settled}
 use Rattle.tiny_http_core.specs.declared.driver.Timed.{Timed}
 use Rattle.tiny_http_core.specs.declared.driver.Reply.{Reply}
 use Rattle.std.specs.declared.io.ErrorKind.{ErrorKind}
@@ -106,31 +106,26 @@ stands-begun client feed is_over sink items e fresh h =
     }
 
 -- the input within the last body
-within : (s : Slot) (w : Waiting) (f : Feed) (rest : List Item) (o : Option Remaining) → IsWaiting s w → remaining w.body (Some f) ≡ o → option_map (λ (r : Remaining). r.body) o ≡ Some (slot_rest s) → PlaceAt false (option_map (λ (r : Remaining). r.behind) o) rest → WithinBody s s.item f rest
+within : (s : Slot) (w : Waiting) (f : Feed) (rest : List Item) (o : Option Remaining) → IsWaiting s w → remaining w.body (Some f) ≡ o → option_map (λ (r : Remaining). r.body) o ≡ Some (slot_rest s)
+    → PlaceAt (is_last_item s.item) (option_map (λ (r : Remaining). r.behind) o) rest → WithinBody s s.item f rest
 within s w f rest None h e g p = let no : None ≡ Some (slot_rest s) = g in cc
 within s w f rest (Some x) h e g p =
     let same : x.body ≡ slot_rest s = cc in
     let R : Feed → Remaining = λ b. record { body = b; behind = x.behind } in
-    let P : Slot → Type 0 = λ y. x.body ≡ slot_rest y → WithinBody y y.item f rest in
-    subst P (sym h.is) (λ is. (w.body, x.behind, h.fits, e ∙ ap (λ b. Some (R b)) is, p)) same
+    let P : Slot → Type 0 = λ y. x.body ≡ slot_rest y → PlaceAt (is_last_item y.item) (Some x.behind) rest → WithinBody y y.item f rest in
+    subst P (sym h.is) (λ is place. (w.body, x.behind, h.fits, e ∙ ap (λ b. Some (R b)) is, place)) same p
 
-within-last : (last : Option Slot) (b : Option Body) (feed : Option Feed) (f : Feed) (rest : List Item) → feed ≡ Some f → LastKept last b → reader_is_held last ≡ true → GivesRest b last feed → PlaceAt (is_last_slot last) (behind_body b feed) rest → WithinLast last feed rest
-within-last last b feed f rest told (inl n) h g p = let no : false ≡ true = ap reader_is_held (sym n.0) ∙ h in cc
-within-last last b feed f rest told (inr (inl d)) h g p = let no : false ≡ true = sym (done-held d.0 d.3) ∙ ap reader_is_held (sym d.1) ∙ h in cc
+within-last : (last : Option Slot) (b : Option Body) (feed : Option Feed) (f : Feed) (rest : List Item) → feed ≡ Some f → LastKept last b → last_is_open last ≡ true → GivesRest b last feed → PlaceAt (is_last_slot last) (behind_body b feed) rest → WithinLast last feed rest
+within-last last b feed f rest told (inl n) h g p = let no : false ≡ true = ap last_is_open (sym n.0) ∙ h in cc
+within-last last b feed f rest told (inr (inl d)) h g p = let no : false ≡ true = sym (done-open d.0 d.3) ∙ ap last_is_open (sym d.1) ∙ h in cc
 within-last last b feed f rest told (inr (inr w)) h g p =
-    let held : (not (is_last_item w.0.item) && is_streaming w.1.body) ≡ true = sym (waiting-held w.0 w.1 w.4) ∙ ap reader_is_held (sym w.2) ∙ h in
     let G : Option Slot → Option Body → Option Feed → Type 0 = λ x y z. GivesRest y x z in
     let P : Option Slot → Option Body → Option Feed → Type 0 = λ x y z. PlaceAt (is_last_slot x) (behind_body y z) rest in
     let Q : Option Slot → Option Feed → Type 0 = λ x z. WithinLast x z rest in
     let gives = subst (λ z. G (Some w.0) (Some w.1.body) z) told (subst (λ y. G (Some w.0) y feed) w.3 (subst (λ x. G x b feed) w.2 g)) in
     let place = subst (λ z. P (Some w.0) (Some w.1.body) z) told (subst (λ y. P (Some w.0) y feed) w.3 (subst (λ x. P x b feed) w.2 p)) in
-    let O : Bool → Type 0 = λ t. PlaceAt t (behind_body (Some w.1.body) (Some f)) rest in
-    let inside = within w.0 w.1 f rest (remaining w.1.body (Some f)) w.4 refl gives (subst O (open-item (is_last_item w.0.item) (is_streaming w.1.body) held) place) in
+    let inside = within w.0 w.1 f rest (remaining w.1.body (Some f)) w.4 refl gives place in
     subst (λ z. Q last z) (sym told) (subst (λ x. Q x (Some f)) (sym w.2) inside)
-  where
-    open-item : (a c : Bool) → (not a && c) ≡ true → a ≡ false
-    open-item true c e = cc
-    open-item false c e = refl
 
 -- how the input stands at the end
 input-end : (client : Feed) (before : Sink) (k : Kept) (s : State) → Stands client before k s → InputAt s.reached k.feed
@@ -147,29 +142,25 @@ input-end client before k s st = by-ended s.reached.ended refl
         let P : Bool → Type 0 = λ x. PlaceAt x (behind_body (last_body k.requests) k.feed) s.reached.rest in
         subst P (st.reader.next e).is_last ((st.reader.next e).place l)
 
-    quiet : (t : Bool) → over ≡ t → k.ended ≡ false → reader_is_held last ≡ false → reader_is_lost last ≡ false → PlaceAt over k.feed s.reached.rest
-    quiet true o e h l =
-        let P : Bool → Option Feed → Type 0 = λ x f. PlaceAt x f s.reached.rest in
-        let none : P true (behind_body (last_body k.requests) k.feed) = subst (λ x. P x (behind_body (last_body k.requests) k.feed)) o (place e l) in
-        subst (λ x. P x k.feed) (sym o) none
-    quiet false o e h l =
+    quiet : k.ended ≡ false → last_is_open last ≡ false → reader_is_lost last ≡ false → PlaceAt over k.feed s.reached.rest
+    quiet e h l =
         let f = told-feed client k.feed st.reader.source in
-        let free : streams (last_body k.requests) ≡ false = sym (held-by last (last_body k.requests) (last-of client before k s st) ∙ rw o refl) ∙ h in
+        let free : streams (last_body k.requests) ≡ false = sym (open-by last (last_body k.requests) (last-of client before k s st)) ∙ h in
         let here : behind_body (last_body k.requests) k.feed ≡ k.feed = ap (behind_body (last_body k.requests)) f.1 ∙ behind-settled last (last_body k.requests) f.0 (last-of client before k s st) free ∙ sym f.1 in
         let P : Option Feed → Type 0 = λ x. PlaceAt over x s.reached.rest in
         subst P here (place e l)
 
-    by-held : (t : Bool) → reader_is_held last ≡ t → k.ended ≡ false → reader_is_lost last ≡ false → MatchBool t (WithinLast last k.feed s.reached.rest) (PlaceAt over k.feed s.reached.rest)
+    by-held : (t : Bool) → last_is_open last ≡ t → k.ended ≡ false → reader_is_lost last ≡ false → MatchBool t (WithinLast last k.feed s.reached.rest) (PlaceAt over k.feed s.reached.rest)
     by-held true h e l =
         let f = told-feed client k.feed st.reader.source in
         within-last last (last_body k.requests) k.feed f.0 s.reached.rest f.1 (last-of client before k s st) h st.reader.gives (place e l)
-    by-held false h e l = quiet over refl e h l
+    by-held false h e l = quiet e h l
 
-    by-lost : (t : Bool) → reader_is_lost last ≡ t → k.ended ≡ false → MatchBool t (k.feed ≡ Some (stopped End)) (MatchBool (reader_is_held last) (WithinLast last k.feed s.reached.rest) (PlaceAt over k.feed s.reached.rest))
+    by-lost : (t : Bool) → reader_is_lost last ≡ t → k.ended ≡ false → MatchBool t (k.feed ≡ Some (stopped End)) (MatchBool (last_is_open last) (WithinLast last k.feed s.reached.rest) (PlaceAt over k.feed s.reached.rest))
     by-lost true l e = ((st.reader.next e).lost l).1
-    by-lost false l e = by-held (reader_is_held last) refl e l
+    by-lost false l e = by-held (last_is_open last) refl e l
 
-    by-ended : (t : Bool) → s.reached.ended ≡ t → MatchBool t (Unit {0}) (MatchBool (reader_is_lost last) (k.feed ≡ Some (stopped End)) (MatchBool (reader_is_held last) (WithinLast last k.feed s.reached.rest) (PlaceAt over k.feed s.reached.rest)))
+    by-ended : (t : Bool) → s.reached.ended ≡ t → MatchBool t (Unit {0}) (MatchBool (reader_is_lost last) (k.feed ≡ Some (stopped End)) (MatchBool (last_is_open last) (WithinLast last k.feed s.reached.rest) (PlaceAt over k.feed s.reached.rest)))
     by-ended true e = tt
     by-ended false e = by-lost (reader_is_lost last) refl (sym st.ended ∙ e)
 

@@ -9,7 +9,7 @@ use Rattle.tiny_http_core.specs.Body.{remaining, Fits}
 use Rattle.tiny_http_core.specs.Pipeline.{Item, Asks, Refuses, said_length, Pipeline}
 use Rattle.tiny_http_wire.specs.declared.device.Stop.TheVariants.{End}
 use Rattle.tiny_http_core.specs.ToCome.{stopped}
-use Rattle.tiny_http_core.specs.Slots.{ResponseValue, Slot, is_finished, joined, breaks_off, new_slot, body_left, last_slot, is_last_slot, reader_is_held, reader_is_lost, turn_has_come, IsGathered, to_request}
+use Rattle.tiny_http_core.specs.Slots.{ResponseValue, Slot, is_finished, joined, breaks_off, new_slot, body_left, last_slot, last_is_open, is_last_slot, reader_is_held, reader_is_lost, turn_has_come, IsGathered, to_request}
 use Rattle.tiny_http_core.specs.Steps.{Asked, Ask, Read, Respond, Replied, NoSuch, Memory, Use, Unused, Unreported, Reported, use_in_turn, Outcome, Reached, outcome}
 
 -- the writer's first fault: its kind, and all that the writer took
@@ -140,12 +140,12 @@ PlaceAt true feed rest = rest ≡ []
 PlaceAt false None rest = ⊥
 PlaceAt false (Some f) rest = Pipeline (Some f.bytes) f.stop rest
 
--- The input stands within this number's body: what is left of the body comes next, and behind it the rest of the pipeline.
+-- The input stands within this number's body: what is left of the body comes next, and behind it what the pipeline still has.
 abbrev pub WithinBody : Slot → Item → Feed → List Item → Type 0
 WithinBody s (Asks r) left rest =
     (b : Body) × (behind : Feed) × Fits b r.framing.form (said_length r.framing) s.given s.told
     × (remaining b (Some left) ≡ Some (record { body = record { bytes = body_left s r; stop = r.body.stop }; behind = behind }))
-    × Pipeline (Some behind.bytes) behind.stop rest
+    × PlaceAt r.framing.is_last (Some behind) rest
 WithinBody s (Refuses status version withheld) left rest = ⊥
 
 abbrev pub WithinLast : Option Slot → Option Feed → List Item → Type 0
@@ -153,12 +153,12 @@ WithinLast (Some s) (Some left) rest = WithinBody s s.item left rest
 WithinLast _ _ rest = ⊥
 
 -- How the input stands while the asking goes on: it has ended behind a chunked body that was given up before its end; it
--- stands within the last body, while that holds it; else what the bytes still ask is the rest of the pipeline.
+-- stands within the last body, while that is open; else what the bytes still ask is the rest of the pipeline.
 abbrev pub InputAt : Reached → Option Feed → Type 0
 InputAt old left =
     MatchBool old.ended (Unit {0})
     (MatchBool (reader_is_lost (last_slot old.slots)) (left ≡ Some (stopped End))
-    (MatchBool (reader_is_held (last_slot old.slots)) (WithinLast (last_slot old.slots) left old.rest) (PlaceAt (is_last_slot (last_slot old.slots)) left old.rest)))
+    (MatchBool (last_is_open (last_slot old.slots)) (WithinLast (last_slot old.slots) left old.rest) (PlaceAt (is_last_slot (last_slot old.slots)) left old.rest)))
 
 -- THE CONNECTION THEOREM: replies and output are those of a run over the pipeline that stands in the feed; and this of the
 -- feed is left.

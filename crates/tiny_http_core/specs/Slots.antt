@@ -180,11 +180,19 @@ is_streamed Counted = true
 is_streamed Chunked = true
 is_streamed _ = false
 
+-- the number has the last head
+abbrev pub is_last_item : Item → Bool
+is_last_item (Asks r) = r.framing.is_last
+is_last_item (Refuses status version withheld) = true
+
+-- the body is read from the stream, isn't finished and wasn't given up
+abbrev pub body_is_open : Slot → Item → Bool
+body_is_open s (Asks r) = is_streamed r.framing.form && not (is_body_finished r s || s.given_up)
+body_is_open s (Refuses status version withheld) = false
+
 -- the body holds the reader: the next head can't be read yet
 abbrev pub body_holds_reader : Slot → Item → Bool
-body_holds_reader s (Asks r) =
-    not r.framing.is_last && (is_streamed r.framing.form && not (is_body_finished r s || s.given_up))
-body_holds_reader s (Refuses status version withheld) = false
+body_holds_reader s item = not (is_last_item item) && body_is_open s item
 
 abbrev pub is_chunked : Form → Bool
 is_chunked Chunked = true
@@ -198,14 +206,13 @@ body_was_abandoned s (Refuses status version withheld) = false
 abbrev pub last_slot : List Slot → Option Slot
 last_slot slots = last_or None slots
 
--- the number has the last head
-abbrev pub is_last_item : Item → Bool
-is_last_item (Asks r) = r.framing.is_last
-is_last_item (Refuses status version withheld) = true
-
 abbrev pub is_last_slot : Option Slot → Bool
 is_last_slot None = false
 is_last_slot (Some s) = is_last_item s.item
+
+abbrev pub last_is_open : Option Slot → Bool
+last_is_open None = false
+last_is_open (Some s) = body_is_open s s.item
 
 abbrev pub reader_is_held : Option Slot → Bool
 reader_is_held None = false
