@@ -18,13 +18,13 @@ use Rattle.tiny_http_core.specs.declared.body.Body.TheVariants as body
 use Rattle.tiny_http_core.specs.ToCome.{stopped}
 use Rattle.tiny_http_core.specs.Source.{SourceState, GoesOn}
 use Rattle.tiny_http_core.specs.Pipeline.{Item, Request, said_length}
-use Rattle.tiny_http_core.specs.Slots.{Slot, Waits, Answered as AnsweredBy, ByServer, Raw, Upgraded, body_finished, is_chunked, joined, breaks_off, last_slot, reader_is_lost, turn_has_come, is_last_item, is_last_slot}
+use Rattle.tiny_http_core.specs.Slots.{Slot, Waits, Answered as AnsweredBy, ByServer, Raw, Upgraded, body_finished, is_chunked, joined, breaks_off, last_slot, reader_is_lost, turn_has_come, is_last_item, is_last_slot, rest_of}
 use Rattle.tiny_http_core.specs.Steps.{Read, Replied, Given, Fault, Memory, NoSuch, Unused, Outcome, Reached, changes, read_reply, effect, at_slot, at_number}
 use Rattle.tiny_http_core.specs.Conversation.{State, PlaceAt, Has}
 use Rattle.tiny_http_core.specs.Body.{Remaining, remaining, taken_left, after_bytes, with_bytes, BodyStops, NoneLeft, is_streaming, IsOver, ReadsOn, Fits, FillsFromBody}
 use Rattle.tiny_http_core.specs.Turns.{Mark, Open}
 use Rattle.tiny_http_core.specs.Pending.{last_body}
-use Rattle.tiny_http_core.specs.Connection.{Kept, open_slot, IsWaiting, AreKept, AreSettled, behind_body, rest_of, slot_rest, GivesRest, Reader, Stands}
+use Rattle.tiny_http_core.specs.Connection.{Kept, open_slot, IsWaiting, AreKept, AreSettled, behind_body, slot_rest, GivesRest, Reader, Stands}
 use Rattle.tiny_http_core.proofs.GoingOn.{goes-on_more}
 use Rattle.tiny_http_core.proofs.AskLemmas.{Answered, step-unchanged, settled-any, told-feed}
 use Rattle.tiny_http_core.proofs.BodyReads.{stays-settled}

@@ -10,7 +10,7 @@ use Rattle.tiny_http_core.specs.declared.exchange.Form.{Form}
 use Rattle.tiny_http_core.specs.declared.body.Body.{Body}
 use Rattle.tiny_http_core.specs.declared.body.Body.TheVariants as body
 use Rattle.tiny_http_core.specs.Pipeline.{Item, Asks, Refuses, said_length}
-use Rattle.tiny_http_core.specs.Slots.{Slot, is_streamed, is_chunked, body_finished, is_body_finished, body_is_open, body_holds_reader, last_slot, last_is_open, reader_is_held, reader_is_lost, is_last_item, is_last_slot}
+use Rattle.tiny_http_core.specs.Slots.{Slot, is_streamed, is_chunked, body_finished, is_body_finished, body_is_open, last_slot, last_is_open, reader_is_held, reader_is_lost, is_last_item, is_last_slot}
 use Rattle.tiny_http_core.specs.Turns.{Mark, Open, Held, Left, Finished}
 use Rattle.tiny_http_core.specs.Body.{Remaining, remaining, is_streaming, Fits}
 use Rattle.tiny_http_core.specs.Pending.{last_body, streams}
@@ -116,26 +116,8 @@ fits-streams (body.Held bytes) form n given told h = rw h refl
 fits-streams (body.Counted left) form n given told h = rw (h.0, h.3, ne_eqb given n (λ e. absurd (omega (arith, e, h.1, h.2)))) refl
 fits-streams (body.Chunked d) form n given told h = rw (h.0, h.1) refl
 
--- the reader of the last body
-pub waiting-held : (s : Slot) (w : Waiting) (h : IsWaiting s w) → reader_is_held (Some s) ≡ (not (is_last_item s.item) && is_streaming w.body)
-waiting-held s w h =
-    let r = h.request in
-    let P : Slot → Type 0 = λ x. reader_is_held (Some x) ≡ (not (is_last_item x.item) && is_streaming w.body) in
-    subst P (sym h.is) (ap (λ t. not r.framing.is_last && t) (fits-streams w.body r.framing.form (said_length r.framing) h.given h.told h.fits))
-
 pub waiting-kept : (s : Slot) (w : Waiting) (h : IsWaiting s w) → reader_is_lost (Some s) ≡ false
 waiting-kept s w h = let P : Slot → Type 0 = λ x. reader_is_lost (Some x) ≡ false in subst P (sym h.is) (and-false (is_chunked h.request.framing.form))
-
-done-held : (s : Slot) → IsDone s → reader_is_held (Some s) ≡ false
-done-held s d = at s.item
-  where
-    or-true : (a : Bool) → (a || true) ≡ true
-    or-true true = refl
-    or-true false = refl
-
-    at : (item : Item) → body_holds_reader s item ≡ false
-    at (Asks r) = rw (d.given_up, or-true (is_body_finished r s), and-false (is_streamed r.framing.form)) (and-false (not r.framing.is_last))
-    at (Refuses a b c) = refl
 
 -- whether the last body is open, and the program's sight of it
 waiting-open : (s : Slot) (w : Waiting) (h : IsWaiting s w) → last_is_open (Some s) ≡ is_streaming w.body
@@ -159,11 +141,9 @@ open-by o b (inl h) = rw (h.0, h.1) refl
 open-by o b (inr (inl h)) = rw (h.1, h.2, done-open h.0 h.3) refl
 open-by o b (inr (inr h)) = rw (h.2, h.3) (waiting-open h.0 h.1 h.4)
 
--- whether the last body holds the reader, and the program's sight of it
+-- whether the last body holds the reader
 pub held-by : (o : Option Slot) (b : Option Body) → LastKept o b → reader_is_held o ≡ (not (is_last_slot o) && streams b)
-held-by o b (inl h) = rw (h.0, h.1) refl
-held-by o b (inr (inl h)) = rw (h.1, h.2, done-held h.0 h.3) (sym (and-false (not (is_last_item h.0.item))))
-held-by o b (inr (inr h)) = rw (h.2, h.3) (waiting-held h.0 h.1 h.4)
+held-by o b h = ap (λ t. not (is_last_slot o) && t) (open-by o b h)
 
 -- behind a body that isn't read from the input the input stands
 pub behind-settled : (o : Option Slot) (b : Option Body) (f : Feed) → LastKept o b → streams b ≡ false → behind_body b (Some f) ≡ Some f

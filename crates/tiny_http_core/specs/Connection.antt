@@ -15,7 +15,7 @@ use Rattle.tiny_http_core.specs.Body.{Remaining, remaining, taken_left, is_strea
 use Rattle.tiny_http_core.specs.Pending.{last_body}
 use Rattle.tiny_http_core.specs.Outlet.{outlet_sink, outlet_ended}
 use Rattle.tiny_http_core.specs.Pipeline.{Item, Asks, Refuses, Request, is_head_method, said_length}
-use Rattle.tiny_http_core.specs.Slots.{Slot, ByServer, is_finished, is_slot_broken, segment, joined, breaks_off, new_slot, last_slot, is_last_slot, reader_is_lost}
+use Rattle.tiny_http_core.specs.Slots.{Slot, ByServer, is_finished, is_slot_broken, segment, joined, breaks_off, new_slot, last_slot, is_last_slot, reader_is_lost, rest_of}
 use Rattle.tiny_http_core.specs.Steps.{finished}
 use Rattle.tiny_http_core.specs.Turns.{Mark, Open, Left, Finished, AreInShape}
 use Rattle.tiny_http_core.specs.Conversation.{State, Failure, PlaceAt}
@@ -49,10 +49,6 @@ open_slot date r given told = record (new_slot date (Asks r)) { given = given; t
 -- what becomes of it if it is dropped
 abbrev pub dropped : HttpDate → Request → ℕ → Bool → Slot
 dropped date r given told = finished (open_slot date r given told) ByServer
-
--- what is left of a request's body
-abbrev pub rest_of : Request → ℕ → Feed
-rest_of r given = record { bytes = drop given r.body.bytes; stop = r.body.stop }
 
 -- a request that was handed out on some date and waits
 pub record IsWaiting (s : Slot) (w : Waiting) : Type 0 where

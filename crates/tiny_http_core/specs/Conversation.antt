@@ -9,7 +9,7 @@ use Rattle.tiny_http_core.specs.Body.{remaining, Fits}
 use Rattle.tiny_http_core.specs.Pipeline.{Item, Asks, Refuses, said_length, Pipeline}
 use Rattle.tiny_http_wire.specs.declared.device.Stop.TheVariants.{End}
 use Rattle.tiny_http_core.specs.ToCome.{stopped}
-use Rattle.tiny_http_core.specs.Slots.{ResponseValue, Slot, is_finished, joined, breaks_off, new_slot, body_left, last_slot, last_is_open, is_last_slot, reader_is_held, reader_is_lost, turn_has_come, IsGathered, to_request}
+use Rattle.tiny_http_core.specs.Slots.{ResponseValue, Slot, is_finished, joined, breaks_off, new_slot, rest_of, last_slot, last_is_open, is_last_slot, reader_is_held, reader_is_lost, turn_has_come, IsGathered, to_request}
 use Rattle.tiny_http_core.specs.Steps.{Asked, Ask, Read, Respond, Replied, NoSuch, Memory, Use, Unused, Unreported, Reported, use_in_turn, Outcome, Reached, outcome}
 
 -- the writer's first fault: its kind, and all that the writer took
@@ -144,7 +144,7 @@ PlaceAt false (Some f) rest = Pipeline (Some f.bytes) f.stop rest
 abbrev pub WithinBody : Slot → Item → Feed → List Item → Type 0
 WithinBody s (Asks r) left rest =
     (b : Body) × (behind : Feed) × Fits b r.framing.form (said_length r.framing) s.given s.told
-    × (remaining b (Some left) ≡ Some (record { body = record { bytes = body_left s r; stop = r.body.stop }; behind = behind }))
+    × (remaining b (Some left) ≡ Some (record { body = rest_of r s.given; behind = behind }))
     × PlaceAt r.framing.is_last (Some behind) rest
 WithinBody s (Refuses status version withheld) left rest = ⊥
 

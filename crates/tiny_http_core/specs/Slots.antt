@@ -163,6 +163,10 @@ new_slot date (Refuses status version withheld) =
 abbrev pub body_left : Slot → Request → List ℕ
 body_left s r = drop s.given r.body.bytes
 
+-- what is left of a request's body
+abbrev pub rest_of : Request → ℕ → Feed
+rest_of r given = record { bytes = drop given r.body.bytes; stop = r.body.stop }
+
 -- the body is finished: it is nothing or held, or all its bytes were given out, or its end or fault was told
 abbrev pub body_finished : Form → ℕ → ℕ → Bool → Bool
 body_finished Nothing n given told = true
@@ -190,10 +194,6 @@ abbrev pub body_is_open : Slot → Item → Bool
 body_is_open s (Asks r) = is_streamed r.framing.form && not (is_body_finished r s || s.given_up)
 body_is_open s (Refuses status version withheld) = false
 
--- the body holds the reader: the next head can't be read yet
-abbrev pub body_holds_reader : Slot → Item → Bool
-body_holds_reader s item = not (is_last_item item) && body_is_open s item
-
 abbrev pub is_chunked : Form → Bool
 is_chunked Chunked = true
 is_chunked _ = false
@@ -214,9 +214,9 @@ abbrev pub last_is_open : Option Slot → Bool
 last_is_open None = false
 last_is_open (Some s) = body_is_open s s.item
 
+-- the last body holds the reader: the next head can't be read yet
 abbrev pub reader_is_held : Option Slot → Bool
-reader_is_held None = false
-reader_is_held (Some s) = body_holds_reader s s.item
+reader_is_held last = not (is_last_slot last) && last_is_open last
 
 abbrev pub reader_is_lost : Option Slot → Bool
 reader_is_lost None = false
