@@ -235,7 +235,7 @@ fn read_item<R: ReadDevice>(
 ) -> Result<HeadRead, AllocError>
     ensures reads { ReadsHead now source.old.feed source.new.feed result }
     ensures goes_on { GoesOn source.old.feed source.new.feed }
-    ensures at_end { IsAtEnd source.old → result ≡ Ok HeadRead.Ended }
+    ensures at_end { IsAtEnd source.old → (result ≡ Ok HeadRead.Ended) × (source.new ≡ source.old) }
 {
     let message = match read_message(alloc, source) {
         Ok(message) => message,
@@ -270,8 +270,8 @@ pub fn read_head<R: ReadDevice>(
 ) -> Result<HeadRead, AllocError>
     ensures reads { ReadsHead now source.old.feed source.new.feed result }
     ensures goes_on { GoesOn source.old.feed source.new.feed }
-    // Whatever the reader tells: behind the end no head follows.
-    ensures at_end { IsAtEnd source.old → result ≡ Ok HeadRead.Ended }
+    // Whatever the reader tells: behind the end no head follows, and the reader isn't called.
+    ensures at_end { IsAtEnd source.old → (result ≡ Ok HeadRead.Ended) × (source.new.reader ≡ source.old.reader) }
     ensures ends { EndsUnlessHanded result source.new }
 {
     match read_item(alloc, source, now) {
