@@ -3,6 +3,7 @@ pub mod BodyReads
 pub mod Windows
 pub mod Inputs
 pub mod Lines
+pub mod LineEnds
 pub mod LineReads
 pub mod HeadReading
 pub mod HeadServing
@@ -17,12 +18,14 @@ pub mod KeptLemmas
 pub mod OutputLemmas
 pub mod BodySteps
 pub mod AskLemmas
+pub mod DropText
 pub mod RespondLemmas
 pub mod DropLemmas
 pub mod ReadSteps
 pub mod PassLemmas
 pub mod StepLemmas
 pub mod RunLemmas
+pub mod DriverLemmas
 pub mod Rows
 pub mod TurnsLemmas
 pub mod TurnsOutcomes

@@ -10,7 +10,7 @@ use Rattle.tiny_http_core.specs.declared.exchange.Form.{Form}
 use Rattle.tiny_http_core.specs.declared.body.Body.{Body}
 use Rattle.tiny_http_core.specs.declared.body.Body.TheVariants as body
 use Rattle.tiny_http_core.specs.Pipeline.{Item, Asks, Refuses, said_length}
-use Rattle.tiny_http_core.specs.Slots.{Slot, is_streamed, is_chunked, body_finished, is_body_finished, body_is_open, last_slot, last_is_open, reader_is_held, reader_is_lost, is_last_item, is_last_slot}
+use Rattle.tiny_http_core.specs.Slots.{Slot, is_streamed, is_chunked, body_finished, is_body_finished, body_is_open, last_slot, last_is_open, reader_is_held, reader_is_lost, is_last_slot}
 use Rattle.tiny_http_core.specs.Turns.{Mark, Open, Held, Left, Finished}
 use Rattle.tiny_http_core.specs.Body.{Remaining, remaining, is_streaming, Fits}
 use Rattle.tiny_http_core.specs.Pending.{last_body, streams}

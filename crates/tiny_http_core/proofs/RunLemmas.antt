@@ -1,6 +1,6 @@
 -- A run goes on by one step.
 use Rattle.std.proofs.Common.{◌≡◌, refl, sym, ap, ◌∙◌, subst, ℕ, ◌<◌, ◌≤◌, Bool, true, false, List, [], ◌∷◌, ◌++◌, length, Option, Some, None, arith, append-nil, inl, inr}
-use Rattle.std.specs.Prelude.{MatchBool, ⊤}
+use Rattle.std.specs.Prelude.{MatchBool}
 use Rattle.std.specs.Option.{option_map}
 use Rattle.std.specs.List.{AllZip}
 use Rattle.std.specs.Io.KnownBytes.{append_known}
@@ -27,26 +27,24 @@ use Rattle.tiny_http_core.specs.declared.driver.Step.{Step}
 use Rattle.tiny_http_core.specs.declared.driver.Step.TheVariants as step
 use Rattle.tiny_http_core.specs.Seen.{TellsHonestly, TellHonestly, MayFail}
 use Rattle.tiny_http_core.specs.Sending.{FailsOnce, FailsOnceUnlessEnded, FailsAtMostOnce}
-use Rattle.tiny_http_core.specs.Reading.{items_of}
-use Rattle.tiny_http_core.proofs.PipelineLemmas.{feed-pipeline}
 use Rattle.tiny_http_core.proofs.SendLemmas.{grown-none}
 use Rattle.tiny_http_core.proofs.AskLemmas.{same-feed, told-feed, last-of}
 
-run-more : (a mid new : State) (xs : List Dated) (rs : List Replied) (d : Dated) (r : Replied) → Run a xs rs mid → StepsTo mid d.0 d.1 r new → Run a (xs ++ d ∷ []) (rs ++ r ∷ []) new
+pub run-more : (a mid new : State) (xs : List Dated) (rs : List Replied) (d : Dated) (r : Replied) → Run a xs rs mid → StepsTo mid d.0 d.1 r new → Run a (xs ++ d ∷ []) (rs ++ r ∷ []) new
 run-more a mid new [] [] d r run step = (new, (let P : State → Type 0 = λ s. StepsTo s d.0 d.1 r new in subst P run step), refl)
 run-more a mid new (x ∷ xs) (y ∷ ys) d r run step = (run.0, run.1, run-more run.0 mid new xs ys d r run.2 step)
 run-more a mid new [] (y ∷ ys) d r run step = elim run [ ]
 run-more a mid new (x ∷ xs) [] d r run step = elim run [ ]
 
 -- the last of a list, where each is told by one
-record Split {X : Type 0} (told : X → Dated → Type 0) (xs : List X) (x : X) (ds : List Dated) : Type 0 where
-  front : List Dated
-  last : Dated
-  joins : ds ≡ front ++ last ∷ []
-  all : AllZip told xs front
-  one : told x last
+pub record Split {X : Type 0} (told : X → Dated → Type 0) (xs : List X) (x : X) (ds : List Dated) : Type 0 where
+  pub front : List Dated
+  pub last : Dated
+  pub joins : ds ≡ front ++ last ∷ []
+  pub all : AllZip told xs front
+  pub one : told x last
 
-split : {X : Type 0} (told : X → Dated → Type 0) (xs : List X) (x : X) (ds : List Dated) → AllZip told (xs ++ x ∷ []) ds → Split told xs x ds
+pub split : {X : Type 0} (told : X → Dated → Type 0) (xs : List X) (x : X) (ds : List Dated) → AllZip told (xs ++ x ∷ []) ds → Split told xs x ds
 split told [] x [] h = elim h [ ]
 split told [] x (d ∷ []) h = record { front = []; last = d; joins = refl; all = tt; one = h.0 }
 split told [] x (d ∷ e ∷ ds) h = elim h.1 [ ]
@@ -54,25 +52,6 @@ split told (y ∷ ys) x [] h = elim h [ ]
 split told (y ∷ ys) x (d ∷ ds) h =
     let s = split told ys x ds h.1 in
     record { front = d ∷ s.front; last = s.last; joins = ap (λ t. d ∷ t) s.joins; all = (h.0, s.all); one = s.one }
-
--- the replies so far are those of a run, and the connection stands where it leads
-abbrev pub Follows : {X : Type 0} → (X → Dated → Type 0) → Feed → Sink → List X → List Replied → Kept → Type 0
-Follows told client before done replies k =
-    (ds : List Dated) → AllZip told done ds → (s : State) × Stands client before k s × Run (start (items_of client)) ds replies s
-
-pub follows-start : {X : Type 0} (told : X → Dated → Type 0) (client : Feed) (before : Sink) (k : Kept) → Stands client before k (start (items_of client)) → Follows told client before [] [] k
-follows-start told client before k st [] h = (start (items_of client), st, refl)
-follows-start told client before k st (d ∷ ds) h = elim h [ ]
-
-pub follows-step : {X : Type 0} (told : X → Dated → Type 0) (client : Feed) (before : Sink) (done : List X) (x : X) (replies : List Replied) (r : Replied) (k next : Kept) → Follows told client before done replies k
-    → ((s : State) (d : Dated) → told x d → Stands client before k s → (new : State) × Stands client before next new × StepsTo s d.0 d.1 r new)
-    → Follows told client before (done ++ x ∷ []) (replies ++ r ∷ []) next
-follows-step told client before done x replies r k next f step ds h =
-    let p = split told done x ds h in
-    let m = f p.front p.all in
-    let n = step m.0 p.last p.one m.1 in
-    let P : List Dated → Type 0 = λ t. Run (start (items_of client)) t (replies ++ r ∷ []) n.0 in
-    (n.0, n.1, subst P (sym p.joins) (run-more (start (items_of client)) m.0 n.0 p.front replies p.last r m.2 n.2))
 
 pub has_room : {X : Type 0} (all done rest more : List X) (x : X) (count room : ℕ) → all ≡ done ++ rest → rest ≡ x ∷ more → count ≡ length done → length all ≤ room → count < room
 has_room all done rest more x count room joins next counted fits = grind (arith, common_steps)
@@ -188,13 +167,13 @@ output-end before sink held ended s empty h = by-failure s.failure h
         let none = empty h.3 in
         (h.1, h.2, sym (grown-none sink.has_ended sink.taken) ∙ ap (grown sink.has_ended sink.taken) (sym none) ∙ h.0, none, h.3)
 
-pub conversation : {X : Type 0} (told : X → Dated → Type 0) (client : Feed) (before sink : Sink) (held : List ℕ) (k : Kept) (ended : Bool) (all : List X) (replies : List Replied) (dated : List Dated) → k.sink ≡ holding sink held ended → k.output_ended ≡ ended → (ended ≡ true → held ≡ [])
-    → Follows told client before all replies k → AllZip told all dated → IsConversation client before dated replies sink held ended k.feed
-conversation told client before sink held k ended all replies dated same same_end empty f h =
-    let m = f dated h in
-    let P : Sink → Bool → Type 0 = λ x y. OutputAt before x y m.0.reached.slots m.0.failure in
-    let out : P (holding sink held ended) ended = subst (λ y. P (holding sink held ended) y) same_end (subst (λ x. P x k.output_ended) same m.1.output) in
-    record { items = items_of client; end = m.0; pipeline = feed-pipeline client; run = m.2; output = output-end before sink held ended m.0 empty out; input = input-end client before k m.0 m.1 }
+-- a run to where the connection stands is a conversation, with what is then held and left
+pub conversation : (client : Feed) (before sink : Sink) (held : List ℕ) (k : Kept) (ended : Bool) (items : List Item) (end : State) (replies : List Replied) (dated : List Dated) → k.sink ≡ holding sink held ended → k.output_ended ≡ ended → (ended ≡ true → held ≡ [])
+    → Pipeline (Some client.bytes) client.stop items → Run (start items) dated replies end → Stands client before k end → IsConversation client before dated replies sink held ended k.feed
+conversation client before sink held k ended items end replies dated same same_end empty pipeline run st =
+    let P : Sink → Bool → Type 0 = λ x y. OutputAt before x y end.reached.slots end.failure in
+    let out : P (holding sink held ended) ended = subst (λ y. P (holding sink held ended) y) same_end (subst (λ x. P x k.output_ended) same st.output) in
+    record { items = items; end = end; pipeline = pipeline; run = run; output = output-end before sink held ended end empty out; input = input-end client before k end st }
 
 -- the writer's count over the steps
 pub fails-step : (writer old new : Sink) (was ended : Bool) → FailsOnce writer old was → FailsOnceUnlessEnded was old new ended → FailsOnce writer new ended

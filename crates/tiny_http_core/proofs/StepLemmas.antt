@@ -12,7 +12,7 @@ use Rattle.tiny_http_core.specs.Seen.{IsResponse, IsStep}
 use Rattle.tiny_http_core.specs.Connection.{Kept}
 use Rattle.tiny_http_core.proofs.AskLemmas.{Answered}
 
-is-ask : {D : Type 0} (feed : D → Option Feed) (x : Asked) → (let a : Step D = step.Ask in IsStep feed a x) → x ≡ Ask
+pub is-ask : {D : Type 0} (feed : D → Option Feed) (x : Asked) → (let a : Step D = step.Ask in IsStep feed a x) → x ≡ Ask
 is-ask feed Ask h = refl
 is-ask feed (AsReader k) h = elim h [ ]
 is-ask feed (Read k n) h = elim h [ ]
@@ -24,12 +24,12 @@ is-ask feed (Upgrade k p v) h = elim h [ ]
 is-ask feed (Finish k) h = elim h [ ]
 is-ask feed (Drop k) h = elim h [ ]
 
-record Responds {D : Type 0} (feed : D → Option Feed) (n : ℕ) (r : ResponseState D) (x : Asked) : Type 0 where
-  value : ResponseValue
-  is : x ≡ Respond n value
-  response : IsResponse feed r value
+pub record Responds {D : Type 0} (feed : D → Option Feed) (n : ℕ) (r : ResponseState D) (x : Asked) : Type 0 where
+  pub value : ResponseValue
+  pub is : x ≡ Respond n value
+  pub response : IsResponse feed r value
 
-is-respond : {D : Type 0} (feed : D → Option Feed) (n : ℕ) (r : ResponseState D) (x : Asked) → IsStep feed (step.Respond n r) x → Responds feed n r x
+pub is-respond : {D : Type 0} (feed : D → Option Feed) (n : ℕ) (r : ResponseState D) (x : Asked) → IsStep feed (step.Respond n r) x → Responds feed n r x
 is-respond feed n r Ask h = elim h [ ]
 is-respond feed n r (AsReader k) h = elim h [ ]
 is-respond feed n r (Read k m) h = elim h [ ]
@@ -41,7 +41,7 @@ is-respond feed n r (Upgrade k p v) h = elim h [ ]
 is-respond feed n r (Finish k) h = elim h [ ]
 is-respond feed n r (Drop k) h = elim h [ ]
 
-is-drop : {D : Type 0} (feed : D → Option Feed) (n : ℕ) (x : Asked) → (let a : Step D = step.Drop n in IsStep feed a x) → x ≡ Drop n
+pub is-drop : {D : Type 0} (feed : D → Option Feed) (n : ℕ) (x : Asked) → (let a : Step D = step.Drop n in IsStep feed a x) → x ≡ Drop n
 is-drop feed n Ask h = elim h [ ]
 is-drop feed n (AsReader k) h = elim h [ ]
 is-drop feed n (Read k m) h = elim h [ ]
@@ -79,7 +79,7 @@ step-respond feed client before k s now d x n r reply e date told h =
     let R : HttpDate → Type 0 = λ y. Answered client before k s y d.1 reply in
     subst R (sym date) (subst Q (sym is.is) (h is.value is.response))
 
-is-read : {D : Type 0} (feed : D → Option Feed) (n m : ℕ) (x : Asked) → (let a : Step D = step.Read n m in IsStep feed a x) → x ≡ Read n m
+pub is-read : {D : Type 0} (feed : D → Option Feed) (n m : ℕ) (x : Asked) → (let a : Step D = step.Read n m in IsStep feed a x) → x ≡ Read n m
 is-read feed n m Ask h = elim h [ ]
 is-read feed n m (AsReader k) h = elim h [ ]
 is-read feed n m (Read k l) h = ap (λ j. Read j l) h.0 ∙ ap (λ j. Read n j) h.1

@@ -1,5 +1,5 @@
 -- How the driver's connection stands to a state of the definitions.
-use Rattle.std.specs.Prelude.{◌≡◌, ℕ, ◌+◌, Bool, true, false, List, [], ◌∷◌, drop, Option, Some, None, ⊤}
+use Rattle.std.specs.Prelude.{◌≡◌, ℕ, ◌+◌, Bool, true, false, List, [], ◌∷◌, Option, Some, None, ⊤}
 use Rattle.std.specs.Option.{option_map}
 use Rattle.httpdate.specs.declared.date.HttpDate.{HttpDate}
 use Rattle.tiny_http_wire.specs.declared.device.Stop.{Stop}
@@ -8,12 +8,11 @@ use Rattle.tiny_http_wire.specs.Device.{Feed, Sink, IsFront, Tells, ending}
 use Rattle.tiny_http_core.specs.declared.body.Body.{Body}
 use Rattle.tiny_http_core.specs.declared.exchange.AnswerForm.{AnswerForm}
 use Rattle.tiny_http_core.specs.declared.exchange.Waiting.{Waiting}
-use Rattle.tiny_http_core.specs.declared.driver.Connection.{Connection}
-use Rattle.tiny_http_core.specs.Source.{GoesOn}
+use Rattle.tiny_http_core.specs.Source.{SourceState, GoesOn}
 use Rattle.tiny_http_core.specs.ToCome.{stopped}
 use Rattle.tiny_http_core.specs.Body.{Remaining, remaining, taken_left, is_streaming, Fits}
 use Rattle.tiny_http_core.specs.Pending.{last_body}
-use Rattle.tiny_http_core.specs.Outlet.{outlet_sink, outlet_ended}
+use Rattle.tiny_http_core.specs.Outlet.{OutletState, output_of}
 use Rattle.tiny_http_core.specs.Pipeline.{Item, Asks, Refuses, Request, is_head_method, said_length}
 use Rattle.tiny_http_core.specs.Slots.{Slot, ByServer, is_finished, is_slot_broken, segment, joined, breaks_off, new_slot, last_slot, is_last_slot, reader_is_lost, rest_of}
 use Rattle.tiny_http_core.specs.Steps.{finished}
@@ -34,9 +33,19 @@ pub record Kept : Type 0 where
   pub sink : Sink
   pub output_ended : Bool
 
-abbrev pub kept : {R W : Type 0} → (W → Sink) → Connection R W → Kept
-kept sink c =
-    record { marks = c.pending.turns.marks; requests = c.pending.requests.items; over = c.over; ended = c.ended; feed = c.source.feed; stop = c.source.stop; is_over = c.source.is_over; sink = outlet_sink sink c.outlet; output_ended = outlet_ended c.outlet }
+-- What a clause sees of a `Connection`: the turns of its numbers, the requests that wait for their answers, whether the
+-- last head was read, whether the asking has ended, its input and its output.
+pub record ConnectionState (R W : Type 0) : Type 0 where
+  pub marks : List Mark
+  pub requests : List (Option Waiting)
+  pub over : Bool
+  pub ended : Bool
+  pub source : SourceState R
+  pub outlet : OutletState W
+
+abbrev pub kept : {R W : Type 0} → ConnectionState R W → Kept
+kept c =
+    record { marks = c.marks; requests = c.requests; over = c.over; ended = c.ended; feed = c.source.feed; stop = c.source.stop; is_over = c.source.is_over; sink = output_of c.outlet; output_ended = c.outlet.ended }
 
 -- how a request is answered
 abbrev pub form_of : Request → AnswerForm

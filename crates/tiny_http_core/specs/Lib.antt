@@ -18,7 +18,10 @@ pub mod Conversation
 pub mod Seen
 pub mod Sending
 pub mod Connection
+pub mod Driving
 pub mod Reading
 pub mod Turns
 pub mod TurnsCalls
 pub mod TurnsLaw
+pub mod DropText
+pub mod TextState

@@ -4,14 +4,14 @@ ghost use Rattle.std.specs.List.{AllZip};
 ghost use Rattle.tiny_http_wire.specs.Device.{Feed, Sink, HoldsNothing};
 ghost use Rattle.tiny_http_core.specs.Slots.{ResponseValue};
 ghost use Rattle.tiny_http_core.specs.Pipeline.{Item, Pipeline};
-ghost use Rattle.tiny_http_core.specs.Conversation.{State, StepsTo, IsConversation, IsFresh, Dated, start};
+ghost use Rattle.tiny_http_core.specs.Conversation.{IsConversation, IsFresh, Dated};
 ghost use Rattle.httpdate.specs.declared.date.HttpDate.{HttpDate as Date};
-ghost use Rattle.tiny_http_core.specs.Steps.{Ask, Read, Respond, Drop, Done, Fault, is_closed_client, fault_of_answer};
+ghost use Rattle.tiny_http_core.specs.Steps.{Replied, Done, Fault, is_closed_client, fault_of_answer};
 ghost use Rattle.std.specs.declared.io.ErrorKind.{ErrorKind};
 ghost use Rattle.tiny_http_core.specs.Source.{GoesOn};
-ghost use Rattle.tiny_http_core.specs.Connection.{kept, Stands};
+ghost use Rattle.tiny_http_core.specs.Driving.{HasDone, TakesStep, told_response, told_step};
 ghost use Rattle.tiny_http_core.specs.Seen.{seen, Answers, printed_as, IsResponse, IsTold, TellsHonestly, TellHonestly};
-ghost use Rattle.tiny_http_core.specs.Outlet.{outlet_sink, outlet_ended, outlet_held, outlet_writer, SentOn};
+ghost use Rattle.tiny_http_core.specs.Outlet.{output_of, outlet_ended, outlet_held, outlet_writer, SentOn};
 ghost use Rattle.tiny_http_core.specs.Sending.{CanSend, FailsOnceUnlessEnded, FailsAtMostOnce, IsHonest};
 
 use crate::exchange::{AnswerForm, Exchange, Head, HeadRead, Waiting, read_head};
@@ -22,6 +22,7 @@ use crate::source::Source;
 use httpdate::HttpDate;
 use std::alloc::{AllocError, Global};
 use std::io::ErrorKind;
+use std::marker::Model;
 use tiny_http_wire::device::{ReadDevice, WriteDevice};
 use tiny_http_wire::response::Response;
 
@@ -94,12 +95,20 @@ pub struct RunError<R, W> {
 
 /// A connection: its input and output, its numbers, whether the last head was read, and whether the asking has ended.
 #[derive(Drop)]
-pub(crate) struct Connection<R: ReadDevice, W: WriteDevice> {
+pub struct Connection<R: ReadDevice, W: WriteDevice> {
     source: Source<R>,
     outlet: Outlet<W>,
     pending: Pending,
     over: bool,
     ended: bool,
+}
+
+impl<R: ReadDevice, W: WriteDevice> Model for Connection<R, W> {
+    ghost use Rattle.tiny_http_core.specs.Connection.{ConnectionState};
+
+    ghost Value = { ConnectionState R W };
+
+    ghost view = { λ c. record { marks = c.pending.turns.marks; requests = c.pending.requests.items; over = c.over; ended = c.ended; source = c.source; outlet = c.outlet } };
 }
 
 // The kinds of fault of a client that has closed the connection: an answer to it is no failure.
@@ -138,13 +147,13 @@ fn answer<W: WriteDevice, D: ReadDevice + Drop>(
 ) -> Reply
     ensures past { outlet_ended outlet.old ≡ true → (outlet.new ≡ outlet.old) × (seen result ≡ Done) }
     ensures sends { (content : Feed) → D.feed response.data_reader ≡ Some content → length content.bytes < 2 ^ 63
-        → outlet_ended outlet.old ≡ false → CanSend (outlet_sink W.sink outlet.old)
-        → Answers (outlet_sink W.sink outlet.old) (outlet_sink W.sink outlet.new) (outlet_ended outlet.new) (seen result) response.answer content (printed_as form now) }
-    ensures fails_once { FailsOnceUnlessEnded (outlet_ended outlet.old) (outlet_sink W.sink outlet.old) (outlet_sink W.sink outlet.new) (outlet_ended outlet.new) }
+        → outlet_ended outlet.old ≡ false → CanSend (output_of outlet.old)
+        → Answers (output_of outlet.old) (output_of outlet.new) (outlet_ended outlet.new) (seen result) response.answer content (printed_as form now) }
+    ensures fails_once { FailsOnceUnlessEnded (outlet_ended outlet.old) (output_of outlet.old) (output_of outlet.new) (outlet_ended outlet.new) }
     ensures flushed { outlet_held outlet.old ≡ [] → outlet_held outlet.new ≡ [] }
-    ensures sent_on { SentOn W.sink outlet.old → SentOn W.sink outlet.new }
+    ensures sent_on { SentOn outlet.old → SentOn outlet.new }
     ensures honest { (kind : ErrorKind) → seen result ≡ Fault kind → (outlet_ended outlet.new ≡ true)
-        × IsHonest (outlet_sink W.sink outlet.old) (outlet_sink W.sink outlet.new) response.answer.length (D.feed response.data_reader) kind }
+        × IsHonest (output_of outlet.old) (output_of outlet.new) response.answer.length (D.feed response.data_reader) kind }
 {
     if outlet.is_ended() {
         return Reply::Done;
@@ -165,14 +174,11 @@ fn zeros(alloc: Global, count: u16) -> Result<Vec<u8>, AllocError>
 }
 
 impl<R: ReadDevice, W: WriteDevice> Connection<R, W> {
-    // A connection at its begin.
-    fn new(alloc: Global, reader: R, writer: W) -> Connection<R, W>
-        ensures stands { (client : Feed) (items : List Item) → R.feed reader ≡ Some client → IsFresh (W.sink writer) → Pipeline (Some client.bytes) client.stop items
-            → Stands client (W.sink writer) (kept W.sink result) (start items) }
+    /// A connection at its begin.
+    pub fn new(alloc: Global, reader: R, writer: W) -> Connection<R, W>
+        ensures begins { (client : Feed) → R.feed reader ≡ Some client → IsFresh (W.sink writer) → HasDone client (W.sink writer) result [] [] }
         ensures feed { result.source.feed ≡ R.feed reader }
-        ensures failures { (outlet_sink W.sink result.outlet).failures ≡ (W.sink writer).failures }
-        ensures flushed { outlet_held result.outlet ≡ [] }
-        ensures sent_on { HoldsNothing (W.sink writer) → SentOn W.sink result.outlet }
+        ensures outlet { result.outlet ≡ record { held = []; ended = false; writer = writer; tells = W.sink writer } }
     {
         Connection {
             source: Source::new(reader),
@@ -183,15 +189,9 @@ impl<R: ReadDevice, W: WriteDevice> Connection<R, W> {
         }
     }
 
-    // Goes to the next request.
-    fn ask(&mut self, alloc: Global, now: HttpDate) -> Reply
-        ensures stands { (client : Feed) (before : Sink) (s : State) → before.failures < 2 ^ 64 - 1 → Stands client before (kept W.sink self.old) s
-            → (new : State) × Stands client before (kept W.sink self.new) new × StepsTo s now Ask (seen result) new }
-        ensures goes_on { GoesOn self.old.source.feed self.new.source.feed }
-        ensures fails_once { FailsOnceUnlessEnded (outlet_ended self.old.outlet) (outlet_sink W.sink self.old.outlet) (outlet_sink W.sink self.new.outlet) (outlet_ended self.new.outlet) }
-        ensures flushed { outlet_held self.old.outlet ≡ [] → outlet_held self.new.outlet ≡ [] }
-        ensures sent_on { SentOn W.sink self.old.outlet → SentOn W.sink self.new.outlet }
-        ensures honest { (kind : ErrorKind) → seen result ≡ Fault kind → ⊥ }
+    /// Goes to the next request.
+    pub fn ask(&mut self, alloc: Global, now: HttpDate) -> Reply
+        ensures step { TakesStep self.old self.new now Step.Ask (seen result) }
     {
         if self.ended {
             return Reply::Ended;
@@ -235,12 +235,9 @@ impl<R: ReadDevice, W: WriteDevice> Connection<R, W> {
         }
     }
 
-    // Reads the body of the request of this number.
-    fn read(&mut self, alloc: Global, number: u64, count: u16) -> Reply
-        ensures stands { (client : Feed) (before : Sink) (s : State) (date : Date) → Stands client before (kept W.sink self.old) s
-            → (new : State) × Stands client before (kept W.sink self.new) new × StepsTo s date (Read number count) (seen result) new }
-        ensures goes_on { GoesOn self.old.source.feed self.new.source.feed }
-        ensures outlet { self.new.outlet ≡ self.old.outlet }
+    /// Reads the body of the request of this number. The step has any date.
+    pub fn read(&mut self, alloc: Global, number: u64, count: u16) -> Reply
+        ensures step { (date : Date) → TakesStep self.old self.new date (Step.Read number count) (seen result) }
     {
         let Some(_) = self.pending.form_at(number) else {
             return Reply::NoSuch;
@@ -263,15 +260,9 @@ impl<R: ReadDevice, W: WriteDevice> Connection<R, W> {
         }
     }
 
-    // Answers the request of this number by a 500: in its turn, or as it comes.
-    fn drop_request(&mut self, number: u64) -> Reply
-        ensures stands { (client : Feed) (before : Sink) (s : State) (date : Date) → before.failures < 2 ^ 64 - 1 → Stands client before (kept W.sink self.old) s
-            → (new : State) × Stands client before (kept W.sink self.new) new × StepsTo s date (Drop number) (seen result) new }
-        ensures goes_on { GoesOn self.old.source.feed self.new.source.feed }
-        ensures fails_once { FailsOnceUnlessEnded (outlet_ended self.old.outlet) (outlet_sink W.sink self.old.outlet) (outlet_sink W.sink self.new.outlet) (outlet_ended self.new.outlet) }
-        ensures flushed { outlet_held self.old.outlet ≡ [] → outlet_held self.new.outlet ≡ [] }
-        ensures sent_on { SentOn W.sink self.old.outlet → SentOn W.sink self.new.outlet }
-        ensures honest { (kind : ErrorKind) → seen result ≡ Fault kind → ⊥ }
+    /// Answers the request of this number by a 500: in its turn, or as it comes. The step has any date.
+    pub fn drop_request(&mut self, alloc: Global, number: u64) -> Reply
+        ensures step { (date : Date) → TakesStep self.old self.new date (Step.Drop number) (seen result) }
     {
         let Some(waiting) = self.pending.take(number) else {
             return Reply::NoSuch;
@@ -281,26 +272,21 @@ impl<R: ReadDevice, W: WriteDevice> Connection<R, W> {
             mut body,
             ..
         } = waiting;
-        self.pending.leave(&mut self.outlet, number, dropped);
+        let text = dropped.into_text(alloc);
+        self.pending.leave(&mut self.outlet, number, text);
         body.give_up(&mut self.source);
         Reply::Done
     }
 
-    // Answers the request of this number, in its turn.
-    fn respond<D: ReadDevice + Drop>(
+    /// Answers the request of this number, in its turn.
+    pub fn respond<D: ReadDevice + Drop>(
         &mut self,
         alloc: Global,
         now: HttpDate,
         number: u64,
         response: Response<D>,
     ) -> Reply
-        ensures stands { (client : Feed) (before : Sink) (s : State) (value : ResponseValue) → before.failures < 2 ^ 64 - 1 → IsResponse D.feed response value → Stands client before (kept W.sink self.old) s
-            → (new : State) × Stands client before (kept W.sink self.new) new × StepsTo s now (Respond number value) (seen result) new }
-        ensures goes_on { GoesOn self.old.source.feed self.new.source.feed }
-        ensures fails_once { FailsOnceUnlessEnded (outlet_ended self.old.outlet) (outlet_sink W.sink self.old.outlet) (outlet_sink W.sink self.new.outlet) (outlet_ended self.new.outlet) }
-        ensures flushed { outlet_held self.old.outlet ≡ [] → outlet_held self.new.outlet ≡ [] }
-        ensures sent_on { SentOn W.sink self.old.outlet → SentOn W.sink self.new.outlet }
-        ensures honest { (kind : ErrorKind) → seen result ≡ Fault kind → IsHonest (outlet_sink W.sink self.old.outlet) (outlet_sink W.sink self.new.outlet) response.answer.length (D.feed response.data_reader) kind }
+        ensures step { TakesStep self.old self.new now (Step.Respond number (told_response D.feed response)) (seen result) }
     {
         let Some(form) = self.pending.form_at(number) else {
             return Reply::NoSuch;
@@ -316,22 +302,29 @@ impl<R: ReadDevice, W: WriteDevice> Connection<R, W> {
         reply
     }
 
-    fn step<D: ReadDevice + Drop>(&mut self, alloc: Global, timed: Timed<D>) -> Reply
-        ensures stands { (client : Feed) (before : Sink) (s : State) (d : Dated) → before.failures < 2 ^ 64 - 1 → IsTold D.feed timed d → Stands client before (kept W.sink self.old) s
-            → (new : State) × Stands client before (kept W.sink self.new) new × StepsTo s d.0 d.1 (seen result) new }
-        ensures goes_on { GoesOn self.old.source.feed self.new.source.feed }
-        ensures fails_once { FailsOnceUnlessEnded (outlet_ended self.old.outlet) (outlet_sink W.sink self.old.outlet) (outlet_sink W.sink self.new.outlet) (outlet_ended self.new.outlet) }
-        ensures flushed { outlet_held self.old.outlet ≡ [] → outlet_held self.new.outlet ≡ [] }
-        ensures sent_on { SentOn W.sink self.old.outlet → SentOn W.sink self.new.outlet }
-        ensures honest { TellsHonestly D.feed (outlet_sink W.sink self.old.outlet) (outlet_sink W.sink self.new.outlet) timed result }
+    /// Does a step on its date.
+    pub fn step<D: ReadDevice + Drop>(&mut self, alloc: Global, timed: Timed<D>) -> Reply
+        ensures step { TakesStep self.old self.new timed.now (told_step D.feed timed.step) (seen result) }
     {
         let Timed { now, step } = timed;
         match step {
             Step::Ask => self.ask(alloc, now),
             Step::Read(number, count) => self.read(alloc, number, count),
             Step::Respond(number, response) => self.respond(alloc, now, number, response),
-            Step::Drop(number) => self.drop_request(number),
+            Step::Drop(number) => self.drop_request(alloc, number),
         }
+    }
+
+    /// Reader and writer, within their buffers.
+    pub fn into_parts(self) -> (Source<R>, Outlet<W>)
+        ensures conversation { (client : Feed) (before : Sink) (steps : List Dated) (replies : List Replied) → HasDone client before self steps replies
+            → IsConversation client before steps replies (W.sink (outlet_writer result.1)) (outlet_held result.1) (outlet_ended result.1) result.0.feed }
+        ensures source { result.0 ≡ self.source }
+        ensures outlet { result.1 ≡ self.outlet }
+        ensures tells { result.1.tells ≡ W.sink (outlet_writer result.1) }
+    {
+        self.outlet.tell();
+        (self.source, self.outlet)
     }
 }
 
@@ -357,7 +350,7 @@ pub fn run<R: ReadDevice + Drop, W: WriteDevice + Drop, D: ReadDevice + Drop>(
     ensures honest { IfOk result (λ done. TellHonestly D.feed (W.sink writer) steps.items done.replies.items (W.sink (outlet_writer done.outlet))) }
     // So far each step that writes flushes, and so does the writer.
     ensures flushed { IfOk result (λ done. outlet_held done.outlet ≡ []) }
-    ensures sent_on { IfOk result (λ done. HoldsNothing (W.sink writer) → SentOn W.sink done.outlet) }
+    ensures sent_on { IfOk result (λ done. HoldsNothing (W.sink writer) → SentOn done.outlet) }
     ensures err { IfErr result (λ e. (e.reader ≡ reader) × (e.writer ≡ writer)) }
 {
     let Ok(mut replies) = Vec::with_capacity(alloc, steps.len()) else {
@@ -368,7 +361,7 @@ pub fn run<R: ReadDevice + Drop, W: WriteDevice + Drop, D: ReadDevice + Drop>(
         let reply = connection.step(alloc, timed);
         replies.push_reserved(reply);
     }
-    let Connection { source, outlet, .. } = connection;
+    let (source, outlet) = connection.into_parts();
     Ok(Record {
         replies,
         source,

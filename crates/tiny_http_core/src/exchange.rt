@@ -9,6 +9,7 @@ ghost use Rattle.tiny_http_core.specs.HeadReads.{ReadsHead, EndsUnlessHanded, Re
 ghost use Rattle.tiny_http_core.specs.Exchange.{KeepsHead};
 
 use crate::body::{Body, counted};
+use crate::drop_text::DropText;
 use crate::framing::{Framing, framing_of, is_built};
 use crate::heads::{HeadFault, Message, read_message};
 use crate::sending::own_answer;
@@ -68,7 +69,7 @@ pub(crate) struct AnswerForm {
 pub(crate) struct Waiting {
     pub form: AnswerForm,
     /// What is sent if the request is dropped.
-    pub dropped: Vec<u8>,
+    pub dropped: DropText,
     pub body: Body,
 }
 
@@ -194,7 +195,7 @@ fn hand_out(alloc: Global, head: Head, body: Body, now: HttpDate) -> Result<Exch
         version: head.version,
         no_body: is_head(&head.method),
     };
-    let dropped = own_answer(alloc, StatusCode(500), form.version, form.no_body, now)?;
+    let dropped = DropText::new(alloc, form.version, form.no_body, now)?;
     let waiting = Waiting {
         form,
         dropped,

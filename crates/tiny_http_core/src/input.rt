@@ -3,7 +3,7 @@ ghost use Rattle.std.specs.Prelude.{◌≡◌, ◌≢◌, ℕ, true, false, vec_
 ghost use Rattle.std.specs.Option.{option_map};
 ghost use Rattle.std.specs.IoError.{error_kind};
 ghost use Rattle.tiny_http_core.specs.ToCome.{skipped, stopped};
-ghost use Rattle.tiny_http_core.specs.Line.{pending, Passed};
+ghost use Rattle.tiny_http_core.specs.Line.{pending, Passed, EndsLine};
 ghost use Rattle.tiny_http_wire.specs.Lines.{IsUnfinished};
 ghost use Rattle.tiny_http_wire.specs.Decoding.{AnswersStop};
 ghost use Rattle.tiny_http_wire.specs.Device.{given, StopsBy};
@@ -15,6 +15,23 @@ use std::io;
 use std::io::ErrorKind;
 use tiny_http_wire::ascii::AsciiString;
 use tiny_http_wire::device::{ReadDevice, Stop};
+
+// Where the first CR LF begins.
+fn line_end(bytes: &[u8]) -> Option<usize>
+    ensures { IfSome result (EndsLine bytes.now) }
+{
+    let mut returned = false;
+    let mut at = 0;
+    while at < bytes.len() {
+        let b = bytes[at];
+        if returned && b == b'\n' {
+            return Some(at - 1);
+        }
+        returned = b == b'\r';
+        at += 1;
+    }
+    None
+}
 
 // Takes a byte that doesn't end the line. A carriage return is kept once the byte behind it is known.
 fn go_on(text: &mut Vec<u8>, after_return: &mut bool, b: u8) -> Result<(), LineFault>
@@ -127,6 +144,39 @@ impl<R: ReadDevice> Input<R> {
 
     // The bytes of the first line.
     fn read_text(&mut self, alloc: Global) -> Result<Vec<u8>, LineFault>
+        ensures text { IfOk result (λ text. input_feed R.feed self.old ≡ given (text.items ++ (13 ∷ (10 ∷ []))) (input_feed R.feed self.new)) }
+        ensures first { IfOk result (λ text. Passed text.items (13 ∷ [])) }
+        ensures told { OnErr result (IsSome (input_feed R.feed self.old) → IsSome (input_feed R.feed self.new)) }
+        ensures none { IfErr result (λ fault. fault ≢ LineFault.Memory → (gone : List ℕ) × IsUnfinished gone
+            × (input_feed R.feed self.old ≡ given gone (input_feed R.feed self.new))) }
+        ensures fault { IfErr result (λ fault. fault ≢ LineFault.Memory → IsOver self.new
+            × IfSome (input_stop self.new) (λ stop. (fault ≡ fault_of stop) × StopsBy stop (input_feed R.feed self.new))) }
+        ensures once { IsSome (input_stop self.old) → IsSome (input_stop self.new) × (input_reader self.new ≡ input_reader self.old) }
+        ensures stays { IsOver self.old → (self.new ≡ self.old) × IfSome (input_stop self.old) (λ stop. result ≡ Err (fault_of stop)) }
+    {
+        self.fill();
+        match line_end(self.held.as_slice()) {
+            Some(n) => self.take_line(alloc, n),
+            None => self.read_slowly(alloc),
+        }
+    }
+
+    // Takes n bytes off that are held, and the CR LF behind them.
+    fn take_line(&mut self, alloc: Global, n: usize) -> Result<Vec<u8>, LineFault>
+        requires { n + 2 ≤ length self.old.held }
+        ensures text { IfOk result (λ text. text.items ≡ take n self.old.held) }
+        ensures rest { OnOk result (self.new ≡ record self.old { held = drop (n + 2) self.old.held }) }
+        ensures err { IfErr result (λ fault. (fault ≡ LineFault.Memory) × (self.new ≡ self.old)) }
+    {
+        let Ok(text) = self.held.as_slice()[..n].to_vec(alloc) else {
+            return Err(LineFault::Memory);
+        };
+        self.held.consume(n + 2);
+        Ok(text)
+    }
+
+    // The same, byte by byte.
+    fn read_slowly(&mut self, alloc: Global) -> Result<Vec<u8>, LineFault>
         ensures text { IfOk result (λ text. input_feed R.feed self.old ≡ given (text.items ++ (13 ∷ (10 ∷ []))) (input_feed R.feed self.new)) }
         ensures first { IfOk result (λ text. Passed text.items (13 ∷ [])) }
         ensures told { OnErr result (IsSome (input_feed R.feed self.old) → IsSome (input_feed R.feed self.new)) }

@@ -4,6 +4,7 @@
 mod body;
 mod buffer;
 pub mod driver;
+mod drop_text;
 pub mod equal_reader;
 pub mod exchange;
 mod framing;

@@ -1,7 +1,7 @@
 //! Requests that wait for their answers, and texts that wait for their turn.
 ghost use Rattle.std.specs.Prelude.{◌≡◌, ◌↔◌, ◌≤◌, ◌++◌, ◌∷◌, false, List, [], length, Some, None, IfOk, IfSome, IfNone, OnOk, OnErr, IsTrue, ◌==◌, slice_get, slice_set};
 ghost use Rattle.tiny_http_core.specs.Turns.{Mark, Open, Held, AreInShape, first_unfinished};
-ghost use Rattle.tiny_http_core.specs.Outlet.{outlet_sink, outlet_ended, outlet_held, SentOn};
+ghost use Rattle.tiny_http_core.specs.Outlet.{output_of, outlet_ended, outlet_held, SentOn};
 ghost use Rattle.tiny_http_core.specs.Sending.{CanSend, IsFlushed, SendsUnlessEnded, FailsOnceUnlessEnded};
 ghost use Rattle.tiny_http_core.specs.declared.body.Body.{Body};
 ghost use Rattle.tiny_http_core.specs.Source.{GoesOn};
@@ -58,14 +58,14 @@ impl Pending {
         outlet: &mut Outlet<W>,
         text: Vec<u8>,
     ) -> Result<(), TurnsError>
-        ensures leaves { (outlet_ended outlet.old ≡ false → CanSend (outlet_sink W.sink outlet.old))
+        ensures leaves { (outlet_ended outlet.old ≡ false → CanSend (output_of outlet.old))
             → OnOk result (LeavesText (length self.old.turns.marks == first_unfinished self.old.turns.marks) self.old.turns.marks [] self.new.turns.marks text.items
-            (outlet_ended outlet.old) (outlet_sink W.sink outlet.old) (outlet_sink W.sink outlet.new) (outlet_ended outlet.new)) }
+            (outlet_ended outlet.old) (output_of outlet.old) (output_of outlet.new) (outlet_ended outlet.new)) }
         ensures requests { OnOk result (self.new.requests.items ≡ self.old.requests.items ++ (None ∷ [])) }
         ensures err { OnErr result ((self.new.turns ≡ self.old.turns) × (self.new.requests.items ≡ self.old.requests.items) × (outlet.new ≡ outlet.old)) }
-        ensures fails_once { FailsOnceUnlessEnded (outlet_ended outlet.old) (outlet_sink W.sink outlet.old) (outlet_sink W.sink outlet.new) (outlet_ended outlet.new) }
+        ensures fails_once { FailsOnceUnlessEnded (outlet_ended outlet.old) (output_of outlet.old) (output_of outlet.new) (outlet_ended outlet.new) }
         ensures flushed { outlet_held outlet.old ≡ [] → outlet_held outlet.new ≡ [] }
-        ensures sent_on { SentOn W.sink outlet.old → SentOn W.sink outlet.new }
+        ensures sent_on { SentOn outlet.old → SentOn outlet.new }
     {
         let number = self.issue(None)?;
         self.leave(outlet, number, text);
@@ -145,12 +145,12 @@ impl Pending {
     pub fn pass<W: WriteDevice>(&mut self, outlet: &mut Outlet<W>, number: u64)
         ensures passes { (front rest : List Mark) → self.old.turns.marks ≡ front ++ (Held ∷ rest) → length front ≡ number → Passes front rest self.new.turns.marks }
         ensures sends { (front rest : List Mark) → self.old.turns.marks ≡ front ++ (Held ∷ rest) → length front ≡ number
-            → (outlet_ended outlet.old ≡ false → CanSend (outlet_sink W.sink outlet.old))
-            → SendsLeft rest (outlet_ended outlet.old) (outlet_sink W.sink outlet.old) (outlet_sink W.sink outlet.new) (outlet_ended outlet.new) }
+            → (outlet_ended outlet.old ≡ false → CanSend (output_of outlet.old))
+            → SendsLeft rest (outlet_ended outlet.old) (output_of outlet.old) (output_of outlet.new) (outlet_ended outlet.new) }
         ensures requests { self.new.requests ≡ self.old.requests }
-        ensures fails_once { FailsOnceUnlessEnded (outlet_ended outlet.old) (outlet_sink W.sink outlet.old) (outlet_sink W.sink outlet.new) (outlet_ended outlet.new) }
+        ensures fails_once { FailsOnceUnlessEnded (outlet_ended outlet.old) (output_of outlet.old) (output_of outlet.new) (outlet_ended outlet.new) }
         ensures flushed { outlet_held outlet.old ≡ [] → outlet_held outlet.new ≡ [] }
-        ensures sent_on { SentOn W.sink outlet.old → SentOn W.sink outlet.new }
+        ensures sent_on { SentOn outlet.old → SentOn outlet.new }
     {
         if let Finishing::Go((), text) = self.turns.finish(number, ()) {
             write_left(&mut self.turns, outlet, number + 1, text);
@@ -160,13 +160,13 @@ impl Pending {
     /// Leaves an open number with a text. In its turn the text is sent, and the number is finished, as by `pass`.
     pub fn leave<W: WriteDevice>(&mut self, outlet: &mut Outlet<W>, number: u64, text: Vec<u8>)
         ensures leaves { (front rest : List Mark) → self.old.turns.marks ≡ front ++ (Open ∷ rest) → length front ≡ number
-            → (outlet_ended outlet.old ≡ false → CanSend (outlet_sink W.sink outlet.old))
+            → (outlet_ended outlet.old ≡ false → CanSend (output_of outlet.old))
             → LeavesText (number == first_unfinished self.old.turns.marks) front rest self.new.turns.marks text.items
-            (outlet_ended outlet.old) (outlet_sink W.sink outlet.old) (outlet_sink W.sink outlet.new) (outlet_ended outlet.new) }
+            (outlet_ended outlet.old) (output_of outlet.old) (output_of outlet.new) (outlet_ended outlet.new) }
         ensures requests { self.new.requests ≡ self.old.requests }
-        ensures fails_once { FailsOnceUnlessEnded (outlet_ended outlet.old) (outlet_sink W.sink outlet.old) (outlet_sink W.sink outlet.new) (outlet_ended outlet.new) }
+        ensures fails_once { FailsOnceUnlessEnded (outlet_ended outlet.old) (output_of outlet.old) (output_of outlet.new) (outlet_ended outlet.new) }
         ensures flushed { outlet_held outlet.old ≡ [] → outlet_held outlet.new ≡ [] }
-        ensures sent_on { SentOn W.sink outlet.old → SentOn W.sink outlet.new }
+        ensures sent_on { SentOn outlet.old → SentOn outlet.new }
     {
         if let Leaving::Go((), text) = self.turns.leave(number, text) {
             write_left(&mut self.turns, outlet, number, text);
@@ -183,9 +183,9 @@ fn write_texts<W: WriteDevice>(
 )
     ensures passes { (front rest : List Mark) → turns.old.marks ≡ front ++ (Held ∷ rest) → length front ≡ number
         → Passes front rest turns.new.marks
-        × ((outlet_ended outlet.old ≡ false → CanSend (outlet_sink W.sink outlet.old))
-        → SendsUnlessEnded (outlet_ended outlet.old) (outlet_sink W.sink outlet.old) (outlet_sink W.sink outlet.new) (outlet_ended outlet.new) (text.items ++ left_text rest)) }
-    ensures fails_once { FailsOnceUnlessEnded (outlet_ended outlet.old) (outlet_sink W.sink outlet.old) (outlet_sink W.sink outlet.new) (outlet_ended outlet.new) }
+        × ((outlet_ended outlet.old ≡ false → CanSend (output_of outlet.old))
+        → SendsUnlessEnded (outlet_ended outlet.old) (output_of outlet.old) (output_of outlet.new) (outlet_ended outlet.new) (text.items ++ left_text rest)) }
+    ensures fails_once { FailsOnceUnlessEnded (outlet_ended outlet.old) (output_of outlet.old) (output_of outlet.new) (outlet_ended outlet.new) }
 {
     write_quietly(outlet, &text);
     let mut at = number;
@@ -204,12 +204,12 @@ fn write_left<W: WriteDevice>(
 )
     ensures passes { (front rest : List Mark) → turns.old.marks ≡ front ++ (Held ∷ rest) → length front ≡ number
         → Passes front rest turns.new.marks
-        × ((outlet_ended outlet.old ≡ false → CanSend (outlet_sink W.sink outlet.old))
-        → SendsUnlessEnded (outlet_ended outlet.old) (outlet_sink W.sink outlet.old) (outlet_sink W.sink outlet.new) (outlet_ended outlet.new) (text.items ++ left_text rest)) }
-    ensures fails_once { FailsOnceUnlessEnded (outlet_ended outlet.old) (outlet_sink W.sink outlet.old) (outlet_sink W.sink outlet.new) (outlet_ended outlet.new) }
+        × ((outlet_ended outlet.old ≡ false → CanSend (output_of outlet.old))
+        → SendsUnlessEnded (outlet_ended outlet.old) (output_of outlet.old) (output_of outlet.new) (outlet_ended outlet.new) (text.items ++ left_text rest)) }
+    ensures fails_once { FailsOnceUnlessEnded (outlet_ended outlet.old) (output_of outlet.old) (output_of outlet.new) (outlet_ended outlet.new) }
     ensures flushed { outlet_held outlet.new ≡ [] }
-    ensures sent_on { SentOn W.sink outlet.new }
-    ensures is_flushed { IsFlushed (outlet_sink W.sink outlet.new) }
+    ensures sent_on { SentOn outlet.new }
+    ensures is_flushed { IsFlushed (output_of outlet.new) }
 {
     write_texts(turns, outlet, number, text);
     flush_quietly(outlet);

@@ -3,7 +3,7 @@ ghost use Rattle.std.specs.Prelude.{◌≡◌, ◌<◌, ◌^◌, ◌==◌, true,
 ghost use Rattle.std.specs.IoError.{error_kind};
 ghost use Rattle.tiny_http_wire.specs.Device.{Feed};
 ghost use Rattle.tiny_http_core.specs.Slots.{own_text};
-ghost use Rattle.tiny_http_core.specs.Outlet.{outlet_sink, outlet_ended, outlet_held, SentOn};
+ghost use Rattle.tiny_http_core.specs.Outlet.{output_of, outlet_ended, outlet_held, SentOn};
 ghost use Rattle.tiny_http_core.specs.Sending.{Sends, SendsUnlessEnded, EndsQuietly, Abandons, CanSend, FailsOnce, FailsOnceUnlessEnded, IsHonest};
 
 use crate::outlet::Outlet;
@@ -18,11 +18,11 @@ use tiny_http_wire::response::Response;
 // Ends an outlet on which printing met a fault. Where the writer's count is still this one the fault was not the
 // writer's, and what is held is sent.
 fn end_behind_fault<W: WriteDevice>(outlet: &mut Outlet<W>, failures: u64)
-    ensures ends { MatchBool ((outlet_sink W.sink outlet.old).failures == failures)
-        (EndsQuietly (outlet_sink W.sink outlet.old) (outlet_sink W.sink outlet.new))
-        (Abandons (outlet_sink W.sink outlet.old) (outlet_sink W.sink outlet.new)) }
+    ensures ends { MatchBool ((output_of outlet.old).failures == failures)
+        (EndsQuietly (output_of outlet.old) (output_of outlet.new))
+        (Abandons (output_of outlet.old) (output_of outlet.new)) }
     ensures ended { outlet_ended outlet.new ≡ true }
-    ensures takes_none { (outlet_sink W.sink outlet.new).has_ended ≡ true }
+    ensures takes_none { (output_of outlet.new).has_ended ≡ true }
     ensures flushed { outlet_held outlet.new ≡ [] }
 {
     if outlet.writer_failures() == failures {
@@ -43,14 +43,14 @@ pub(crate) fn send<W: WriteDevice, D: ReadDevice + Drop>(
     now: HttpDate,
 ) -> Result<(), io::Error>
     ensures sends { (content : Feed) → D.feed response.data_reader ≡ Some content → length content.bytes < 2 ^ 63
-        → CanSend (outlet_sink W.sink outlet.old)
-        → Sends (outlet_sink W.sink outlet.old) (outlet_sink W.sink outlet.new) (outlet_ended outlet.new) result response.answer content
+        → CanSend (output_of outlet.old)
+        → Sends (output_of outlet.old) (output_of outlet.new) (outlet_ended outlet.new) result response.answer content
         (record { version = version; request_headers = []; no_body = no_body; upgrade = None; date = now }) }
-    ensures fails_once { FailsOnce (outlet_sink W.sink outlet.old) (outlet_sink W.sink outlet.new) (outlet_ended outlet.new) }
-    ensures honest { IfErr result (λ e. IsHonest (outlet_sink W.sink outlet.old) (outlet_sink W.sink outlet.new) response.answer.length (D.feed response.data_reader) (error_kind e)) }
+    ensures fails_once { FailsOnce (output_of outlet.old) (output_of outlet.new) (outlet_ended outlet.new) }
+    ensures honest { IfErr result (λ e. IsHonest (output_of outlet.old) (output_of outlet.new) response.answer.length (D.feed response.data_reader) (error_kind e)) }
     ensures ended { OnErr result (outlet_ended outlet.new ≡ true) }
     ensures flushed { outlet_held outlet.new ≡ [] }
-    ensures sent_on { SentOn W.sink outlet.new }
+    ensures sent_on { SentOn outlet.new }
 {
     let failures = outlet.failures();
     let printed = response.raw_print(alloc, outlet, version, &[], no_body, None, now);
@@ -86,20 +86,20 @@ pub(crate) fn own_answer(
 
 /// Writes a text. No reply tells a fault that is met there.
 pub(crate) fn write_quietly<W: WriteDevice>(outlet: &mut Outlet<W>, text: &[u8])
-    ensures sends { (outlet_ended outlet.old ≡ false → CanSend (outlet_sink W.sink outlet.old))
-        → SendsUnlessEnded (outlet_ended outlet.old) (outlet_sink W.sink outlet.old) (outlet_sink W.sink outlet.new) (outlet_ended outlet.new) text.now }
-    ensures fails_once { FailsOnceUnlessEnded (outlet_ended outlet.old) (outlet_sink W.sink outlet.old) (outlet_sink W.sink outlet.new) (outlet_ended outlet.new) }
+    ensures sends { (outlet_ended outlet.old ≡ false → CanSend (output_of outlet.old))
+        → SendsUnlessEnded (outlet_ended outlet.old) (output_of outlet.old) (output_of outlet.new) (outlet_ended outlet.new) text.now }
+    ensures fails_once { FailsOnceUnlessEnded (outlet_ended outlet.old) (output_of outlet.old) (output_of outlet.new) (outlet_ended outlet.new) }
 {
     let _ = outlet.write(text);
 }
 
 /// Flushes what was written. No reply tells a fault that is met there.
 pub(crate) fn flush_quietly<W: WriteDevice>(outlet: &mut Outlet<W>)
-    ensures sends { (outlet_ended outlet.old ≡ false → CanSend (outlet_sink W.sink outlet.old))
-        → SendsUnlessEnded (outlet_ended outlet.old) (outlet_sink W.sink outlet.old) (outlet_sink W.sink outlet.new) (outlet_ended outlet.new) [] }
-    ensures fails_once { FailsOnceUnlessEnded (outlet_ended outlet.old) (outlet_sink W.sink outlet.old) (outlet_sink W.sink outlet.new) (outlet_ended outlet.new) }
+    ensures sends { (outlet_ended outlet.old ≡ false → CanSend (output_of outlet.old))
+        → SendsUnlessEnded (outlet_ended outlet.old) (output_of outlet.old) (output_of outlet.new) (outlet_ended outlet.new) [] }
+    ensures fails_once { FailsOnceUnlessEnded (outlet_ended outlet.old) (output_of outlet.old) (output_of outlet.new) (outlet_ended outlet.new) }
     ensures flushed { outlet_held outlet.new ≡ [] }
-    ensures sent_on { SentOn W.sink outlet.new }
+    ensures sent_on { SentOn outlet.new }
 {
     let _ = outlet.flush();
 }

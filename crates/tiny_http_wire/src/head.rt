@@ -101,18 +101,18 @@ fn put_upgrade<W: WriteDevice>(writer: &mut W, upgrade: Option<&str>) -> Result<
 }
 
 // The server's name, unless the list has one.
-#[tactic(auto, unfolding(crate::specs::Answer::server_line))]
+#[tactic(auto, unfolding(crate::specs::Answer::server_line, crate::specs::Answer::field_line))]
 fn put_server<W: WriteDevice>(writer: &mut W, headers: &[Header]) -> Result<(), io::Error>
     ensures { Puts (W.sink writer.old) (W.sink writer.new) result (server_line headers.now) }
 {
     if has_header(headers, "Server") {
         return Ok(());
     }
-    put_field(writer, b"Server", b"tiny-http (Rust)")
+    put(writer, b"Server: tiny-http (Rust)\r\n")
 }
 
 // The date, unless the list has one.
-#[tactic(auto, unfolding(crate::specs::Answer::date_line))]
+#[tactic(auto, unfolding(crate::specs::Answer::date_line, crate::specs::Answer::field_line))]
 fn put_date<W: WriteDevice>(
     writer: &mut W,
     headers: &[Header],
@@ -124,16 +124,17 @@ fn put_date<W: WriteDevice>(
         return Ok(());
     }
     let date = now.to_bytes();
-    put_field(writer, b"Date", &date)
+    put_all(writer, &[b"Date: ", &date, b"\r\n"])
 }
 
 // The number of bytes of the body.
+#[tactic(auto, unfolding(crate::specs::Answer::field_line))]
 fn put_length<W: WriteDevice>(writer: &mut W, n: usize) -> Result<(), io::Error>
     ensures { Puts (W.sink writer.old) (W.sink writer.new) result (length_line n) }
 {
     let mut digits = Buffer::new();
     let digits = digits.format(n).as_bytes();
-    put_field(writer, b"Content-Length", digits)
+    put_all(writer, &[b"Content-Length: ", digits, b"\r\n"])
 }
 
 // The line that frames the body, if there is one.

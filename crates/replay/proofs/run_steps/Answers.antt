@@ -9,12 +9,14 @@ use Rattle.replay.proofs.run_steps.Goals as goal
 
 pub returns-clause-runs : goal.returns-clause-runs
 returns-clause-runs c =
-    let writer = c.in-Ok.record.outlet.inner in
+    let writer = c.in-Ok.record.outlet.writer in
     let before = budget_sink c.new-writer.result in
     let none : c.new-writer.result.failures ≡ 0 = ap (λ (s : Sink). s.failures) c.new-writer.ensures.sink in
     let fresh : IsFresh before = record { no_bytes = ap (λ (s : Sink). s.taken) c.new-writer.ensures.sink; goes_on = refl; can_count = rw none (lit< tt) } in
     let held : c.in-Ok-to_vec.held.items ≡ outlet_held c.in-Ok.record.outlet = search rules in
-    let zero : writer.failures ≡ 0 = omega (arith, c.failures.ensures, c.if-failures-gt0.false) in
+    let inner = c.into_inner.ensures.inner in
+    let unfailed : c.in-Ok.record.outlet.tells.failures ≡ 0 = omega (arith, c.failures.ensures, c.if-failures-gt0.false) in
+    let zero : writer.failures ≡ 0 = ap (λ b. (budget_sink b).failures) (sym inner) ∙ ap (λ (s : Sink). s.failures) c.into_inner.ensures.tells ∙ unfailed in
     record {
       before = before;
       after = budget_sink writer;
@@ -26,5 +28,5 @@ returns-clause-runs c =
       conversation = c.in-Ok.ensures.conversation (ending c.args.bytes.items) (map timed_value c.args.steps.items) (ap Some c.new-reader.ensures) fresh (told c.args.steps.items);
       no_fault = zero ∙ sym none;
       took = refl;
-      output_is = ap (λ b. budget_bytes b ++ c.in-Ok-to_vec.held.items) c.into_inner.ensures ∙ ap (λ bs. budget_bytes writer ++ bs) held;
+      output_is = ap (λ b. budget_bytes b ++ c.in-Ok-to_vec.held.items) inner ∙ ap (λ bs. budget_bytes writer ++ bs) held;
     }

@@ -1,5 +1,5 @@
 use Rattle.std.proofs.Common.{subst, List, ℕ}
-use Rattle.tiny_http_core.specs.Outlet.{outlet_sink, outlet_ended}
+use Rattle.tiny_http_core.specs.Outlet.{output_of, outlet_ended}
 use Rattle.tiny_http_core.specs.Sending.{SendsUnlessEnded}
 use Rattle.tiny_http_core.proofs.SendLemmas.{once-append}
 use Rattle.tiny_http_core.proofs.PassLemmas.{writes-next, writes-last}
@@ -11,12 +11,12 @@ loop-text-preserved g c =
     let was = c.args.outlet.now in
     let now = c.loop-text.outlet in
     let later = c.write_quietly-in-Go.new.outlet in
-    let P : List ℕ → Type 0 = λ t. SendsUnlessEnded (outlet_ended now) (outlet_sink sink now) (outlet_sink sink later) (outlet_ended later) t in
+    let P : List ℕ → Type 0 = λ t. SendsUnlessEnded (outlet_ended now) (output_of now) (output_of later) (outlet_ended later) t in
     record {
-      writes = λ front rest e place. writes-next front rest c.loop-text.turns.marks c.finish.new.self.marks c.loop-text.at c.args.text.items (outlet_ended was) (outlet_sink sink was) (outlet_sink sink now) (outlet_sink sink later) (outlet_ended now) (outlet_ended later)
+      writes = λ front rest e place. writes-next front rest c.loop-text.turns.marks c.finish.new.self.marks c.loop-text.at c.args.text.items (outlet_ended was) (output_of was) (output_of now) (output_of later) (outlet_ended now) (outlet_ended later)
           c.finish.result c.in-Go.text c.in-Go.field-0 c.loop-text.turns.slot c.finish.new.self.slot
           (c.loop-text.invariant.writes front rest e place) (record { marks_are = c.finish.ensures.marks; item = c.finish.ensures.item }) c.in-Go.is (λ can. subst P c.deref-in-Go.ensures.value (c.write_quietly-in-Go.ensures.sends can));
-      once = once-append (outlet_ended was) (outlet_ended now) (outlet_ended later) (outlet_sink sink was) (outlet_sink sink now) (outlet_sink sink later) c.loop-text.invariant.once c.write_quietly-in-Go.ensures.fails_once;
+      once = once-append (outlet_ended was) (outlet_ended now) (outlet_ended later) (output_of was) (output_of now) (output_of later) c.loop-text.invariant.once c.write_quietly-in-Go.ensures.fails_once;
     }
 
 pub returns : goal.returns

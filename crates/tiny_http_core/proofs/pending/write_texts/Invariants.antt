@@ -1,6 +1,6 @@
 use Rattle.std.proofs.Common.{◌≡◌, ◌-◌, ◌∷◌, ◌++◌, List, length}
 use Rattle.tiny_http_core.specs.Turns.{Mark, Held}
-use Rattle.tiny_http_core.specs.Outlet.{outlet_sink, outlet_ended}
+use Rattle.tiny_http_core.specs.Outlet.{output_of, outlet_ended}
 use Rattle.tiny_http_core.specs.Sending.{FailsOnceUnlessEnded}
 use Rattle.tiny_http_core.proofs.PassLemmas.{Writes}
 use Rattle.tiny_http_core.proofs.pending.write_texts.Given as goal
@@ -8,8 +8,8 @@ use Rattle.tiny_http_core.proofs.pending.write_texts.Given as goal
 abbrev pub invariant-loop-text : goal.invariant-loop-text
 invariant-loop-text g l = record {
   writes : (front rest : List Mark) → l.fn.turns.marks ≡ front ++ (Held ∷ rest) → length front ≡ l.fn.number
-      → Writes front rest l.turns.marks l.at l.fn.text.items (outlet_ended l.fn.outlet) (outlet_sink g.W.WriteDevice.sink l.fn.outlet) (outlet_sink g.W.WriteDevice.sink l.outlet) (outlet_ended l.outlet);
-  once : FailsOnceUnlessEnded (outlet_ended l.fn.outlet) (outlet_sink g.W.WriteDevice.sink l.fn.outlet) (outlet_sink g.W.WriteDevice.sink l.outlet) (outlet_ended l.outlet);
+      → Writes front rest l.turns.marks l.at l.fn.text.items (outlet_ended l.fn.outlet) (output_of l.fn.outlet) (output_of l.outlet) (outlet_ended l.outlet);
+  once : FailsOnceUnlessEnded (outlet_ended l.fn.outlet) (output_of l.fn.outlet) (output_of l.outlet) (outlet_ended l.outlet);
 }
 
 abbrev pub decreases-loop-text : goal.decreases-loop-text

@@ -10,12 +10,11 @@ returns-in-Err-clause-sends g c content told few can =
 
 pub returns-clause-sends : goal.returns-clause-sends
 returns-clause-sends g c content told few can =
-    let sink = g.W.WriteDevice.sink in
     let mid = c.raw_print-printed.new.writer in
     let new = c.flush.new.self in
-    let ends : new.ended ≡ true → (new.ended || (sink new.inner).has_ended) ≡ true = λ e. ap (λ x. x || (sink new.inner).has_ended) e in
+    let ends : new.ended ≡ true → (new.ended || new.tells.has_ended) ≡ true = λ e. ap (λ x. x || new.tells.has_ended) e in
     printed-flushed _ _ _ _ mid.ended new.ended c.in_default.field-0 c.flush.result _ _ content told few c.in_default.ensures.text c.flush.ensures.puts can.unended
-    (λ h. (or-false mid.ended (sink mid.inner).has_ended h).0) ends c.flush.ensures.ended c.flush.ensures.stays
+    (λ h. (or-false mid.ended mid.tells.has_ended h).0) ends c.flush.ensures.ended c.flush.ensures.stays
 
 pub returns-in-Err-clause-fails_once : goal.returns-in-Err-clause-fails_once
 returns-in-Err-clause-fails_once g c = ended-once (Unit {0}) _ _ _ c.failures-failures.result c.in-Err.fault _ c.in-Err.ensures.uses c.failures-failures.ensures.count c.end_behind_fault.ensures.ends c.end_behind_fault.ensures.ended

@@ -2,67 +2,94 @@ use Rattle.std.proofs.Common.{rules, ◌≡◌, refl, sym, ap, ◌∙◌, subst,
 use Rattle.std.specs.Prelude.{slice_get, slice_set, IsTrue}
 use Rattle.tiny_http_wire.specs.Answer.{Answer}
 use Rattle.tiny_http_core.specs.declared.exchange.Waiting.{Waiting}
-use Rattle.tiny_http_core.specs.Steps.{Respond, NotYet}
+use Rattle.tiny_http_core.specs.Steps.{Respond, NotYet, NoSuch}
 use Rattle.tiny_http_core.specs.Turns.{Mark}
 use Rattle.tiny_http_core.specs.Pending.{waiting_form}
-use Rattle.tiny_http_core.specs.Outlet.{outlet_sink, outlet_ended}
+use Rattle.tiny_http_core.specs.Outlet.{output_of, outlet_ended}
 use Rattle.tiny_http_core.specs.Connection.{Kept, kept}
 use Rattle.tiny_http_core.specs.Seen.{seen, Answers, printed_as}
 use Rattle.tiny_http_core.proofs.AskLemmas.{Answered}
+use Rattle.tiny_http_core.proofs.GoingOn.{goes-on_same}
 use Rattle.tiny_http_core.proofs.OutputLemmas.{can-send}
 use Rattle.tiny_http_core.proofs.RespondLemmas.{no-such, respond-not_taken, form-some, respond-not_yet, respond-done, responds-by, after_number}
 use Rattle.tiny_http_core.specs.Body.{GivesUp}
 use Rattle.tiny_http_core.proofs.BodyReads.{gives-up}
+use Rattle.tiny_http_core.proofs.DriverLemmas.{viewed, takes-respond, reads-on, stays, fails-more, honest-more}
 use Rattle.tiny_http_core.proofs.driver.Connection.respond.Goals as goal
 
-pub returns-in_default-clause-stands : goal.returns-in_default-clause-stands
-returns-in_default-clause-stands g c client before s value low is st =
+pub returns-in_default : goal.returns-in_default
+returns-in_default g c =
     let n = c.args.number in
-    no-such client before (kept g.W.WriteDevice.sink c.args.self.now) s c.args.now n (Respond n value) refl (respond-not_taken n value) st (sym c.form_at.ensures ∙ c.in_default.is)
+    let q = c.self.inside in
+    let old = viewed q.source q.outlet q.pending q.over q.ended in
+    record {
+      step = rw (← c.self.view_is) (takes-respond g.D.ReadDevice.feed old old c.args.now n c.args.response NoSuch
+          (λ client before s value low is st. no-such client before (kept old) s c.args.now n (Respond n value) refl (respond-not_taken n value) st (sym c.form_at.ensures ∙ c.in_default.is))
+          (stays old) (λ kind e. cc));
+    }
 
-pub returns-then-not-hold-clause-stands : goal.returns-then-not-hold-clause-stands
-returns-then-not-hold-clause-stands g c client before s value low is st =
+pub returns-then-not-hold : goal.returns-then-not-hold
+returns-then-not-hold g c =
     let n = c.args.number in
-    let k : Kept = kept g.W.WriteDevice.sink c.args.self.now in
-    let kept_form : waiting_form (slice_get k.requests n) ≡ Some c.in-Some.form = sym c.form_at.ensures ∙ c.in-Some.is in
-    let w = form-some (slice_get k.requests n) c.in-Some.form kept_form in
-    let late : c.hold.result ≡ false = search rules in
-    let same = c.hold.ensures.not_yet late in
-    let P : List Mark → List (Option Waiting) → Type 0 = λ m r. Answered client before (record k { marks = m; requests = r }) s c.args.now (Respond n value) NotYet in
-    let done = respond-not_yet client before k s c.args.now n value w.0 st w.1 (λ h. let none : true ≡ false = sym (c.hold.ensures.held.1 h) ∙ late in cc) in
-    subst (λ m. P m c.hold.new.self.requests.items) (sym same) (subst (λ r. P k.marks r) (ap (λ v. v.items) (sym c.hold.ensures.requests)) done)
+    let q = c.self.inside in
+    let old = viewed q.source q.outlet q.pending q.over q.ended in
+    let new = viewed q.source q.outlet c.hold.new.self q.over q.ended in
+    let k : Kept = kept old in
+    record {
+      step = rw (← c.self.view_is) (takes-respond g.D.ReadDevice.feed old new c.args.now n c.args.response NotYet
+          (λ client before s value low is st.
+          let kept_form : waiting_form (slice_get k.requests n) ≡ Some c.in-Some.form = sym c.form_at.ensures ∙ c.in-Some.is in
+          let w = form-some (slice_get k.requests n) c.in-Some.form kept_form in
+          let late : c.hold.result ≡ false = search rules in
+          let same = c.hold.ensures.not_yet late in
+          let P : List Mark → List (Option Waiting) → Type 0 = λ m r. Answered client before (record k { marks = m; requests = r }) s c.args.now (Respond n value) NotYet in
+          let done = respond-not_yet client before k s c.args.now n value w.0 st w.1 (λ h. let none : true ≡ false = sym (c.hold.ensures.held.1 h) ∙ late in cc) in
+          subst (λ m. P m c.hold.new.self.requests.items) (sym same) (subst (λ r. P k.marks r) (ap (λ v. v.items) (sym c.hold.ensures.requests)) done))
+          (reads-on old new refl (goes-on_same q.source.feed)) (λ kind e. cc));
+    }
 
 -- the request that was taken is the one that was kept
 one-kept : (o : Option (Option Waiting)) (w x : Waiting) → o ≡ Some (Some w) → o ≡ Some (Some x) → x ≡ w
 one-kept o w x e f = let same : ◌≡◌ {A = Option (Option Waiting)} (Some (Some w)) (Some (Some x)) = sym e ∙ f in cc
 
-pub returns-in-Some-take-clause-stands : goal.returns-in-Some-take-clause-stands
-returns-in-Some-take-clause-stands g c client before s value low is st =
+pub returns-in-Some-take : goal.returns-in-Some-take
+returns-in-Some-take g c =
     let n = c.args.number in
-    let q = c.args.self.now in
-    let old = q.source in
-    let k : Kept = kept g.W.WriteDevice.sink q in
-    let mid = c.answer-reply.new.outlet in
-    let new = c.pass.new in
-    let taken = c.take.new.self in
-    let kept_form : waiting_form (slice_get k.requests n) ≡ Some c.in-Some.form = sym c.form_at.ensures ∙ c.in-Some.is in
-    let held : IsTrue c.hold.result = search rules in
+    let q = c.self.inside in
     let sink = g.W.WriteDevice.sink in
-    let A : Answer → Type 0 = λ a. Answers k.sink (outlet_sink sink mid) (outlet_ended mid) (seen c.answer-reply.result) a value.content (printed_as c.in-Some.form c.args.now) in
-    let same : new.self.requests.items ≡ k.requests = ap (λ v. v.items) (c.pass.ensures.requests ∙ c.hold.ensures.requests) in
+    let old = viewed q.source q.outlet q.pending q.over q.ended in
+    let source = c.give_up.new.source in
+    let mid = c.answer-reply.new.outlet in
+    let last = c.pass.new in
+    let taken = c.take.new.self in
+    let new = viewed source last.outlet taken q.over q.ended in
+    let k : Kept = kept old in
+    let reply = seen c.answer-reply.result in
     let w0 = c.in-Some-take.field-0 in
-    let some = c.in-Some-take.ensures.some in
-    let got : slice_get k.requests n ≡ Some (Some w0) = ap (λ l. slice_get l n) (sym same) ∙ some.0 in
-    let U : Waiting → Type 0 = λ w. GivesUp w.body old c.give_up.new.source in
-    let requests : taken.requests.items ≡ slice_set k.requests n None = some.1 ∙ ap (λ l. slice_set l n None) same in
-    let done = respond-done client before k s c.args.now n value c.in-Some.form (outlet_sink sink mid) (outlet_sink sink new.outlet) (outlet_ended mid) (outlet_ended new.outlet) c.hold.new.self.turns.marks new.self.turns.marks taken.requests.items old c.give_up.new.source (seen c.answer-reply.result)
-    st (record { feed = refl; stop = refl; ends = refl }) (λ w e. subst U (sym (one-kept (slice_get k.requests n) w0 w got e)) c.give_up.ensures.gives_up) low kept_form (c.hold.ensures.held.0 held).1 (c.hold.ensures.marks held) requests
-    (responds-by k (outlet_sink sink mid) (outlet_ended mid) (seen c.answer-reply.result) value c.in-Some.form c.args.now
-    (λ e. let h = c.answer-reply.ensures.past e in (ap (λ o. outlet_sink sink o) h.0, ap (λ o. outlet_ended o) h.0, h.1))
-    (λ e. subst A (sym is.0) (c.answer-reply.ensures.sends value.content is.1 is.2 e (can-send before k.sink k.output_ended s.reached.slots s.failure st.output low e))))
-    c.pass.ensures.passes c.pass.ensures.sends in
-    let P : List Mark → Type 0 = λ m. Answered client before (after_number k m taken.requests.items c.give_up.new.source (outlet_sink sink new.outlet) (outlet_ended new.outlet)) s c.args.now (Respond n value) (seen c.answer-reply.result) in
-    subst P (ap (λ t. t.marks) (sym c.take.ensures.turns)) done
-
-pub returns-in-Some-take-clause-goes_on : goal.returns-in-Some-take-clause-goes_on
-returns-in-Some-take-clause-goes_on g c = gives-up c.in-Some-take.field-0.body c.args.self.now.source c.give_up.new.source c.give_up.ensures.gives_up
+    record {
+      step = rw (← c.self.view_is) (takes-respond g.D.ReadDevice.feed old new c.args.now n c.args.response reply
+          (λ client before s value low is st.
+          let kept_form : waiting_form (slice_get k.requests n) ≡ Some c.in-Some.form = sym c.form_at.ensures ∙ c.in-Some.is in
+          let held : IsTrue c.hold.result = search rules in
+          let A : Answer → Type 0 = λ a. Answers k.sink (output_of mid) (outlet_ended mid) reply a value.content (printed_as c.in-Some.form c.args.now) in
+          let same : last.self.requests.items ≡ k.requests = ap (λ v. v.items) (c.pass.ensures.requests ∙ c.hold.ensures.requests) in
+          let some = c.in-Some-take.ensures.some in
+          let got : slice_get k.requests n ≡ Some (Some w0) = ap (λ l. slice_get l n) (sym same) ∙ some.0 in
+          let U : Waiting → Type 0 = λ w. GivesUp w.body q.source source in
+          let requests : taken.requests.items ≡ slice_set k.requests n None = some.1 ∙ ap (λ l. slice_set l n None) same in
+          let done = respond-done client before k s c.args.now n value c.in-Some.form (output_of mid) (output_of last.outlet) (outlet_ended mid) (outlet_ended last.outlet) c.hold.new.self.turns.marks last.self.turns.marks taken.requests.items q.source source reply
+          st (record { feed = refl; stop = refl; ends = refl }) (λ w e. subst U (sym (one-kept (slice_get k.requests n) w0 w got e)) c.give_up.ensures.gives_up) low kept_form (c.hold.ensures.held.0 held).1 (c.hold.ensures.marks held) requests
+          (responds-by k (output_of mid) (outlet_ended mid) reply value c.in-Some.form c.args.now
+          (λ e. let h = c.answer-reply.ensures.past e in (ap (λ o. output_of o) h.0, ap (λ o. outlet_ended o) h.0, h.1))
+          (λ e. subst A (sym is.0) (c.answer-reply.ensures.sends value.content is.1 is.2 e (can-send before k.sink k.output_ended s.reached.slots s.failure st.output low e))))
+          c.pass.ensures.passes c.pass.ensures.sends in
+          let P : List Mark → Type 0 = λ m. Answered client before (after_number k m taken.requests.items source (output_of last.outlet) (outlet_ended last.outlet)) s c.args.now (Respond n value) reply in
+          subst P (ap (λ t. t.marks) (sym c.take.ensures.turns)) done)
+          (record {
+            goes_on = gives-up w0.body q.source source c.give_up.ensures.gives_up;
+            fails_once = fails-more (outlet_ended q.outlet) (outlet_ended mid) (outlet_ended last.outlet) k.sink (output_of mid) (output_of last.outlet) c.answer-reply.ensures.fails_once c.pass.ensures.fails_once;
+            flushed = λ h. c.pass.ensures.flushed (c.answer-reply.ensures.flushed h);
+            sent_on = λ h. c.pass.ensures.sent_on (c.answer-reply.ensures.sent_on h);
+          })
+          (λ kind e. let h = c.answer-reply.ensures.honest kind e in honest-more (outlet_ended mid) (outlet_ended last.outlet) k.sink (output_of mid) (output_of last.outlet) c.args.response.answer.length (g.D.ReadDevice.feed c.args.response.data_reader) kind h.0 c.pass.ensures.fails_once h.1));
+    }

@@ -1,12 +1,12 @@
 use Rattle.std.proofs.Common.{◌≡◌, ◌-◌, ◌≤◌, length, take}
 use Rattle.tiny_http_wire.specs.Device.{Took}
-use Rattle.tiny_http_core.specs.Outlet.{outlet_sink}
+use Rattle.tiny_http_core.specs.Outlet.{output_of}
 use Rattle.tiny_http_core.proofs.outlet.Outlet.write.Given as goal
 
 abbrev pub invariant-loop-at : goal.invariant-loop-at
 invariant-loop-at g l = record {
   within : l.at ≤ length l.bytes;
-  taken : Took (outlet_sink g.W.WriteDevice.sink l.initial.self) (outlet_sink g.W.WriteDevice.sink l.self) (take l.at l.bytes);
+  taken : Took (output_of l.initial.self) (output_of l.self) (take l.at l.bytes);
   stays : l.self.ended ≡ l.initial.self.ended;
 }
 

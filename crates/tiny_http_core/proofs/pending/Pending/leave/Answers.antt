@@ -1,5 +1,5 @@
 use Rattle.std.proofs.Common.{refl}
-use Rattle.tiny_http_core.specs.Outlet.{outlet_sink, outlet_ended}
+use Rattle.tiny_http_core.specs.Outlet.{output_of, outlet_ended}
 use Rattle.tiny_http_core.proofs.PassLemmas.{leave-goes, leave-stays}
 use Rattle.tiny_http_core.proofs.SendLemmas.{once-none}
 use Rattle.tiny_http_core.proofs.pending.Pending.leave.Goals as goal
@@ -14,9 +14,9 @@ returns-in_default g c =
     let sink = g.W.WriteDevice.sink in
     let outlet = c.args.outlet.now in
     record {
-      leaves = λ front rest e place can. leave-stays front rest c.args.self.now.turns.marks c.leave.new.self.marks c.args.number c.args.text.items (outlet_ended outlet) (outlet_sink sink outlet) c.leave.result c.args.self.now.turns.slot c.leave.new.self.slot e place (record { marks_are = c.leave.ensures.marks; item = c.leave.ensures.item }) c.in_default.not-Go c.leave.ensures.in_order.shape;
+      leaves = λ front rest e place can. leave-stays front rest c.args.self.now.turns.marks c.leave.new.self.marks c.args.number c.args.text.items (outlet_ended outlet) (output_of outlet) c.leave.result c.args.self.now.turns.slot c.leave.new.self.slot e place (record { marks_are = c.leave.ensures.marks; item = c.leave.ensures.item }) c.in_default.not-Go c.leave.ensures.in_order.shape;
       requests = refl;
-      fails_once = once-none (outlet_ended outlet) (outlet_sink sink outlet);
+      fails_once = once-none (outlet_ended outlet) (output_of outlet);
       flushed = λ h. h;
       sent_on = λ h. h;
     }

@@ -1,5 +1,5 @@
 use Rattle.std.proofs.Common.{refl}
-use Rattle.tiny_http_core.specs.Outlet.{outlet_sink, outlet_ended}
+use Rattle.tiny_http_core.specs.Outlet.{output_of, outlet_ended}
 use Rattle.tiny_http_core.proofs.PassLemmas.{pass-goes, pass-ends}
 use Rattle.tiny_http_core.proofs.SendLemmas.{once-none}
 use Rattle.tiny_http_core.proofs.pending.Pending.pass.Goals as goal
@@ -19,10 +19,10 @@ returns-in_default g c =
     let sink = g.W.WriteDevice.sink in
     let outlet = c.args.outlet.now in
     record {
-      passes = λ front rest e place. (pass-ends front rest c.args.self.now.turns.marks c.finish.new.self.marks c.args.number (outlet_ended outlet) (outlet_sink sink outlet) c.finish.result c.args.self.now.turns.slot c.finish.new.self.slot e place (record { marks_are = c.finish.ensures.marks; item = c.finish.ensures.item }) c.in_default.not-Go).0;
-      sends = λ front rest e place can. (pass-ends front rest c.args.self.now.turns.marks c.finish.new.self.marks c.args.number (outlet_ended outlet) (outlet_sink sink outlet) c.finish.result c.args.self.now.turns.slot c.finish.new.self.slot e place (record { marks_are = c.finish.ensures.marks; item = c.finish.ensures.item }) c.in_default.not-Go).1;
+      passes = λ front rest e place. (pass-ends front rest c.args.self.now.turns.marks c.finish.new.self.marks c.args.number (outlet_ended outlet) (output_of outlet) c.finish.result c.args.self.now.turns.slot c.finish.new.self.slot e place (record { marks_are = c.finish.ensures.marks; item = c.finish.ensures.item }) c.in_default.not-Go).0;
+      sends = λ front rest e place can. (pass-ends front rest c.args.self.now.turns.marks c.finish.new.self.marks c.args.number (outlet_ended outlet) (output_of outlet) c.finish.result c.args.self.now.turns.slot c.finish.new.self.slot e place (record { marks_are = c.finish.ensures.marks; item = c.finish.ensures.item }) c.in_default.not-Go).1;
       requests = refl;
-      fails_once = once-none (outlet_ended outlet) (outlet_sink sink outlet);
+      fails_once = once-none (outlet_ended outlet) (output_of outlet);
       flushed = λ h. h;
       sent_on = λ h. h;
     }

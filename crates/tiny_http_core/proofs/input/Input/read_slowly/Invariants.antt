@@ -3,7 +3,7 @@ use Rattle.std.specs.Prelude.{IsSome}
 use Rattle.tiny_http_wire.specs.Device.{given}
 use Rattle.tiny_http_core.specs.Line.{Passed, pending}
 use Rattle.tiny_http_core.specs.Input.{input_feed, input_stop, input_reader, IsOver}
-use Rattle.tiny_http_core.proofs.input.Input.read_text.Given as goal
+use Rattle.tiny_http_core.proofs.input.Input.read_slowly.Given as goal
 
 abbrev pub invariant-loop-b : goal.invariant-loop-b
 invariant-loop-b g l = record {

@@ -1,0 +1,65 @@
+//! A server that is no list of steps: what it answers depends on what was asked.
+#![tactic(auto)]
+
+ghost use Rattle.std.specs.Prelude.{◌≡◌, Some};
+ghost use Rattle.tiny_http_wire.specs.Device.{Feed};
+ghost use Rattle.tiny_http_core.specs.Conversation.{IsFresh};
+ghost use Rattle.tiny_http_core.specs.Outlet.{outlet_writer, outlet_held, outlet_ended};
+ghost use Rattle.greeter.specs.Talk.{IsStatus, Talks, TalksTo};
+
+use httpdate::HttpDate;
+use std::alloc::Global;
+use std::io::ErrorKind;
+use tiny_http_core::driver::{Connection, Reply};
+use tiny_http_core::exchange::Head;
+use tiny_http_core::outlet::Outlet;
+use tiny_http_core::source::Source;
+use tiny_http_wire::common::StatusCode;
+use tiny_http_wire::device::{Budget, Canned, ReadDevice, WriteDevice};
+use tiny_http_wire::response::Response;
+
+// How a request is answered.
+fn status_of(head: &Head) -> StatusCode
+    ensures { IsStatus head.now.path result.0 }
+{
+    if head.path.as_str() == "/" {
+        return StatusCode(200);
+    }
+    StatusCode(404)
+}
+
+/// Answers each request by its path, until there is none.
+pub fn serve<R: ReadDevice + Drop, W: WriteDevice + Drop>(
+    alloc: Global,
+    reader: R,
+    writer: W,
+    now: HttpDate,
+) -> (Source<R>, Outlet<W>)
+    ensures { (client : Feed) → R.feed reader ≡ Some client → IsFresh (W.sink writer)
+        → Talks client (W.sink writer) now (W.sink (outlet_writer result.1)) (outlet_held result.1) (outlet_ended result.1) result.0.feed }
+{
+    let mut connection = Connection::new(alloc, reader, writer);
+    for _turn in 0..u64::MAX {
+        match connection.ask(alloc, now) {
+            Reply::Handed(number, head) => {
+                let response = Response::empty(alloc, status_of(&head));
+                connection.respond(alloc, now, number, response);
+            }
+            _ => return connection.into_parts(),
+        }
+    }
+    connection.into_parts()
+}
+
+/// The same for a client that sends these bytes and ends, over a writer in memory.
+pub fn serve_bytes(alloc: Global, bytes: Vec<u8>, now: HttpDate) -> Outlet<Budget>
+    ensures { TalksTo bytes.items now (outlet_writer result) (outlet_held result) (outlet_ended result) }
+{
+    let reader = Canned::new(bytes, None);
+    let writer = Budget::new(alloc, usize::MAX, ErrorKind::OutOfMemory);
+    let (_, outlet) = serve(alloc, reader, writer, now);
+    outlet
+}
+
+#[cfg(test)]
+mod tests;

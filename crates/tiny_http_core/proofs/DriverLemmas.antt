@@ -1,0 +1,172 @@
+-- The calls of a `Connection`, as steps.
+use Rattle.std.proofs.Common.{◌≡◌, refl, sym, ap, ◌∙◌, subst, ℕ, ◌-◌, ◌<◌, ◌^◌, inl, inr, Bool, true, false, List, [], ◌∷◌, ◌++◌, Option, Some, None}
+use Rattle.std.specs.declared.io.ErrorKind.{ErrorKind}
+use Rattle.httpdate.specs.declared.date.HttpDate.{HttpDate}
+use Rattle.tiny_http_wire.specs.Device.{Feed, Sink}
+use Rattle.tiny_http_wire.specs.Answer.{ResponseState}
+use Rattle.tiny_http_wire.specs.declared.device.Stop.{Stop}
+use Rattle.tiny_http_core.specs.declared.exchange.Waiting.{Waiting}
+use Rattle.std.specs.List.{AllZip}
+use Rattle.tiny_http_core.specs.declared.driver.Timed.{Timed}
+use Rattle.tiny_http_core.specs.declared.driver.Reply.{Reply}
+use Rattle.tiny_http_core.specs.declared.driver.Step.{Step}
+use Rattle.tiny_http_core.specs.declared.driver.Step.TheVariants as step
+use Rattle.tiny_http_core.specs.declared.outlet.Outlet.{Outlet}
+use Rattle.tiny_http_core.specs.declared.pending.Pending.{Pending}
+use Rattle.tiny_http_core.specs.Source.{SourceState, GoesOn}
+use Rattle.tiny_http_core.specs.Outlet.{OutletState, output_of, SentOn}
+use Rattle.tiny_http_core.specs.Slots.{ResponseValue}
+use Rattle.tiny_http_core.specs.Steps.{Asked, Ask, Read, Respond, Drop, Replied, Fault}
+use Rattle.tiny_http_core.specs.Conversation.{State, Dated, IsFresh, start}
+use Rattle.tiny_http_core.specs.Sending.{FailsOnceUnlessEnded, IsHonest}
+use Rattle.tiny_http_core.specs.Seen.{seen, IsResponse, IsStep, IsTold, MayFail, TellsHonestly}
+use Rattle.tiny_http_core.specs.Connection.{Kept, ConnectionState, kept, Stands}
+use Rattle.tiny_http_core.specs.Driving.{HasDone, TakesStep, told_response, told_step}
+use Rattle.tiny_http_core.proofs.AskLemmas.{Answered}
+use Rattle.tiny_http_core.proofs.GoingOn.{goes-on_same}
+use Rattle.tiny_http_core.proofs.StepLemmas.{is-ask, is-read, is-respond, is-drop, step-ask, step-read, step-respond, step-drop}
+use Rattle.tiny_http_core.specs.Turns.{Mark}
+use Rattle.tiny_http_core.specs.Reading.{items_of}
+use Rattle.tiny_http_core.proofs.PipelineLemmas.{feed-pipeline}
+use Rattle.tiny_http_core.proofs.RunLemmas.{run-more, stands-begun, fails-step, split}
+
+-- the fields as they are seen
+abbrev pub viewed : {R W : Type 0} → SourceState R → OutletState W → Pending → Bool → Bool → ConnectionState R W
+viewed source outlet pending over ended =
+    record { marks = pending.turns.marks; requests = pending.requests.items; over = over; ended = ended; source = source; outlet = outlet }
+
+-- what a step does to input and output, whatever they tell
+pub record Moves {R W : Type 0} (old new : ConnectionState R W) : Type 0 where
+  pub goes_on : GoesOn old.source.feed new.source.feed
+  pub fails_once : FailsOnceUnlessEnded old.outlet.ended (output_of old.outlet) (output_of new.outlet) new.outlet.ended
+  pub flushed : old.outlet.held ≡ [] → new.outlet.held ≡ []
+  pub sent_on : SentOn old.outlet → SentOn new.outlet
+
+fails-none : (ended : Bool) (sink : Sink) → FailsOnceUnlessEnded ended sink sink ended
+fails-none true sink = (refl, refl)
+fails-none false sink = inl refl
+
+-- nothing is written
+pub reads-on : {R W : Type 0} (old new : ConnectionState R W) → old.outlet ≡ new.outlet → GoesOn old.source.feed new.source.feed → Moves old new
+reads-on {W = W} old new e h =
+    let P : OutletState W → Type 0 = λ o. FailsOnceUnlessEnded old.outlet.ended (output_of old.outlet) (output_of o) o.ended in
+    record {
+      goes_on = h;
+      fails_once = subst P e (fails-none old.outlet.ended (output_of old.outlet));
+      flushed = λ none. ap (λ o. o.held) (sym e) ∙ none;
+      sent_on = λ s. subst (λ o. SentOn o) e s;
+    }
+
+pub stays : {R W : Type 0} (c : ConnectionState R W) → Moves c c
+stays c = reads-on c c refl (goes-on_same c.source.feed)
+
+pub takes : {R W : Type 0} (old new : ConnectionState R W) (now : HttpDate) (x : Step (Option Feed)) (reply : Replied)
+    → ((client : Feed) (before : Sink) (s : State) (asked : Asked) → before.failures < 2 ^ 64 - 1 → IsStep (λ f. f) x asked → Stands client before (kept old) s → Answered client before (kept new) s now asked reply)
+    → Moves old new → ((kind : ErrorKind) → reply ≡ Fault kind → MayFail (λ f. f) (output_of old.outlet) (output_of new.outlet) x kind) → TakesStep old new now x reply
+takes old new now x reply answers moves honest =
+    record {
+      does = λ client before steps replies asked is done.
+          let a = answers client before done.at asked done.fresh.can_count is done.stands in
+          record { fresh = done.fresh; items = done.items; pipeline = done.pipeline; at = a.0; run = run-more _ done.at a.0 steps replies (now, asked) reply done.run a.2; stands = a.1 };
+      goes_on = moves.goes_on;
+      fails_once = moves.fails_once;
+      flushed = moves.flushed;
+      sent_on = moves.sent_on;
+      honest = honest;
+    }
+
+-- no fault is told
+abbrev pub TellsNone : Replied → Type 0
+TellsNone reply = (kind : ErrorKind) → reply ≡ Fault kind → ⊥
+
+pub takes-ask : {R W : Type 0} (old new : ConnectionState R W) (now : HttpDate) (reply : Replied)
+    → ((client : Feed) (before : Sink) (s : State) → before.failures < 2 ^ 64 - 1 → Stands client before (kept old) s → Answered client before (kept new) s now Ask reply)
+    → Moves old new → TellsNone reply → TakesStep old new now step.Ask reply
+takes-ask old new now reply answers moves none =
+    takes old new now step.Ask reply
+    (λ client before s asked low is st. step-ask {D = Option Feed} (λ f. f) client before (kept new) s now (now, asked) step.Ask reply refl refl is (answers client before s low st))
+    moves (λ kind e. absurd (none kind e))
+
+pub takes-drop : {R W : Type 0} (old new : ConnectionState R W) (now : HttpDate) (n : ℕ) (reply : Replied)
+    → ((client : Feed) (before : Sink) (s : State) → before.failures < 2 ^ 64 - 1 → Stands client before (kept old) s → Answered client before (kept new) s now (Drop n) reply)
+    → Moves old new → TellsNone reply → TakesStep old new now (step.Drop n) reply
+takes-drop old new now n reply answers moves none =
+    takes old new now (step.Drop n) reply
+    (λ client before s asked low is st. step-drop {D = Option Feed} (λ f. f) client before (kept new) s (now, asked) (step.Drop n) n reply refl is (answers client before s low st))
+    moves (λ kind e. absurd (none kind e))
+
+pub takes-read : {R W : Type 0} (old new : ConnectionState R W) (now : HttpDate) (n m : ℕ) (reply : Replied)
+    → ((client : Feed) (before : Sink) (s : State) → Stands client before (kept old) s → Answered client before (kept new) s now (Read n m) reply)
+    → Moves old new → TakesStep old new now (step.Read n m) reply
+takes-read old new now n m reply answers moves =
+    takes old new now (step.Read n m) reply
+    (λ client before s asked low is st. step-read {D = Option Feed} (λ f. f) client before (kept new) s (now, asked) (step.Read n m) n m reply refl is (answers client before s st))
+    moves (λ kind e. tt)
+
+pub takes-respond : {R W D : Type 0} (feed : D → Option Feed) (old new : ConnectionState R W) (now : HttpDate) (n : ℕ) (r : ResponseState D) (reply : Replied)
+    → ((client : Feed) (before : Sink) (s : State) (value : ResponseValue) → before.failures < 2 ^ 64 - 1 → IsResponse feed r value → Stands client before (kept old) s → Answered client before (kept new) s now (Respond n value) reply)
+    → Moves old new → ((kind : ErrorKind) → reply ≡ Fault kind → MayFail (λ f. f) (output_of old.outlet) (output_of new.outlet) (step.Respond n (told_response feed r)) kind)
+    → TakesStep old new now (step.Respond n (told_response feed r)) reply
+takes-respond feed old new now n r reply answers moves honest =
+    takes old new now (step.Respond n (told_response feed r)) reply
+    (λ client before s asked low is st. step-respond {D = Option Feed} (λ f. f) client before (kept new) s now (now, asked) (step.Respond n (told_response feed r)) n (told_response feed r) reply refl refl is (λ v h. answers client before s v low h st))
+    moves honest
+
+-- a connection at its begin
+pub begins : {R W : Type 0} (client : Feed) (before : Sink) (writer : W) (c : ConnectionState R W) → c.marks ≡ [] → c.requests ≡ [] → c.over ≡ false → c.ended ≡ false → c.source.feed ≡ Some client → c.source.stop ≡ None
+    → c.outlet ≡ record { held = []; ended = false; writer = writer; tells = before } → IsFresh before → HasDone client before c [] []
+begins {W = W} client before writer c m r o e feed stop outlet fresh =
+    let K : List Mark → List (Option Waiting) → Bool → Bool → Option Stop → OutletState W → Kept = λ m r o e s w.
+    record { marks = m; requests = r; over = o; ended = e; feed = c.source.feed; stop = s; is_over = c.source.is_over; sink = output_of w; output_ended = w.ended } in
+    let S : Kept → Type 0 = λ k. Stands client before k (start (items_of client)) in
+    let none : OutletState W = record { held = []; ended = false; writer = writer; tells = before } in
+    let st = stands-begun client c.source.feed c.source.is_over before (items_of client) feed fresh (feed-pipeline client) in
+    let st1 = subst (λ w. S (K [] [] false false None w)) (sym outlet) st in
+    let st2 = subst (λ s. S (K [] [] false false s c.outlet)) (sym stop) st1 in
+    let st3 = subst (λ x. S (K [] [] false x c.source.stop c.outlet)) (sym e) st2 in
+    let st4 = subst (λ x. S (K [] [] x c.ended c.source.stop c.outlet)) (sym o) st3 in
+    let st5 = subst (λ x. S (K [] x c.over c.ended c.source.stop c.outlet)) (sym r) st4 in
+    let st6 = subst (λ x. S (K x c.requests c.over c.ended c.source.stop c.outlet)) (sym m) st5 in
+    record { fresh = fresh; items = items_of client; pipeline = feed-pipeline client; at = start (items_of client); run = refl; stands = st6 }
+
+-- two calls, where behind a fault of the first the output has ended
+pub fails-more : (was mid ended : Bool) (a b c : Sink) → FailsOnceUnlessEnded was a b mid → FailsOnceUnlessEnded mid b c ended → FailsOnceUnlessEnded was a c ended
+fails-more true true ended a b c h k = (k.0 ∙ h.0, k.1)
+fails-more true false ended a b c h k = let no : false ≡ true = h.1 in cc
+fails-more false mid ended a b c h k = fails-step a b c mid ended h k
+
+pub honest-more : (mid ended : Bool) (a b c : Sink) (known : Option ℕ) (feed : Option Feed) (kind : ErrorKind) → mid ≡ true → FailsOnceUnlessEnded mid b c ended → IsHonest a b known feed kind → IsHonest a c known feed kind
+honest-more true ended a b c known feed kind e k (inl h) = inl (k.0 ∙ h)
+honest-more true ended a b c known feed kind e k (inr h) = inr h
+honest-more false ended a b c known feed kind e k h = let no : false ≡ true = e in cc
+
+-- a step, and what it is in place of its data
+is-told : {D : Type 0} (feed : D → Option Feed) (x : Step D) (asked : Asked) → IsStep feed x asked → IsStep (λ f. f) (told_step feed x) asked
+is-told feed step.Ask asked h = subst (λ y. (let a : Step (Option Feed) = step.Ask in IsStep (λ f. f) a y)) (sym (is-ask feed asked h)) tt
+is-told feed (step.Read k n) asked h = subst (λ y. (let a : Step (Option Feed) = step.Read k n in IsStep (λ f. f) a y)) (sym (is-read feed k n asked h)) (refl, refl)
+is-told feed (step.Respond k r) asked h =
+    let s = is-respond feed k r asked h in
+    subst (λ y. IsStep (λ f. f) (step.Respond k (told_response feed r)) y) (sym s.is) (refl, s.response)
+is-told feed (step.Drop k) asked h = subst (λ y. (let a : Step (Option Feed) = step.Drop k in IsStep (λ f. f) a y)) (sym (is-drop feed k asked h)) refl
+
+may-fail : {D : Type 0} (feed : D → Option Feed) (a b : Sink) (x : Step D) (kind : ErrorKind) → MayFail (λ f. f) a b (told_step feed x) kind → MayFail feed a b x kind
+may-fail feed a b step.Ask kind h = h
+may-fail feed a b (step.Read k n) kind h = h
+may-fail feed a b (step.Respond k r) kind h = h
+may-fail feed a b (step.Drop k) kind h = h
+
+pub tells-step : {D : Type 0} (feed : D → Option Feed) (a b : Sink) (t : Timed D) (reply : Reply) → ((kind : ErrorKind) → seen reply ≡ Fault kind → MayFail (λ f. f) a b (told_step feed t.step) kind) → TellsHonestly feed a b t reply
+tells-step feed a b t reply h kind e = may-fail feed a b t.step kind (h kind e)
+
+pub done-none : {R W X : Type 0} (told : X → Dated → Type 0) (client : Feed) (before : Sink) (c : ConnectionState R W) (dated : List Dated) → HasDone client before c [] [] → AllZip told [] dated → HasDone client before c dated []
+done-none told client before c [] h t = h
+done-none told client before c (d ∷ ds) h t = elim t [ ]
+
+pub done-step : {R W D : Type 0} (feed : D → Option Feed) (client : Feed) (before : Sink) (old new : ConnectionState R W) (t : Timed D) (done : List (Timed D)) (replies : List Replied) (reply : Replied) (dated : List Dated)
+    → ((ds : List Dated) → AllZip (IsTold feed) done ds → HasDone client before old ds replies) → TakesStep old new t.now (told_step feed t.step) reply → AllZip (IsTold feed) (done ++ t ∷ []) dated
+    → HasDone client before new dated (replies ++ reply ∷ [])
+done-step feed client before old new t done replies reply dated has step told =
+    let p = split (IsTold feed) done t dated told in
+    let more = step.does client before p.front replies p.last.1 (is-told feed t.step p.last.1 p.one.1) (has p.front p.all) in
+    let H : List Dated → Type 0 = λ ds. HasDone client before new ds (replies ++ reply ∷ []) in
+    subst H (sym p.joins) (subst (λ (x : HttpDate). H (p.front ++ (x, p.last.1) ∷ [])) (sym p.one.0) more)

@@ -1,0 +1,8 @@
+use Rattle.std.proofs.Common.{◌≡◌, List, ℕ, sym, ap, ◌∙◌, subst}
+use Rattle.tiny_http_wire.specs.Answer.{field_line}
+use Rattle.tiny_http_wire.specs.Device.{Puts}
+use Rattle.tiny_http_wire.proofs.head.put_length.Goals as goal
+
+pub returns : goal.returns
+unfolding field_line
+returns g c = rw (← c.format.ensures.text, ← c.as_bytes-digits.ensures.value) c.put_all.ensures
