@@ -12,30 +12,31 @@ use Rattle.tiny_http_wire.specs.declared.device.Stop.{Stop}
 use Rattle.tiny_http_wire.specs.Device.{Feed, Sink, ending}
 use Rattle.tiny_http_wire.specs.declared.device.Stop.TheVariants.{End}
 use Rattle.tiny_http_wire.specs.Answer.{text_of}
-use Rattle.tiny_http_core.specs.declared.exchange.Exchange.{Exchange}
-use Rattle.tiny_http_core.specs.declared.body.Body.{Body}
-use Rattle.tiny_http_core.specs.declared.body.Body.TheVariants as body
-use Rattle.tiny_http_core.specs.declared.exchange.HeadRead.TheVariants as read
-use Rattle.tiny_http_core.specs.declared.exchange.AnswerForm.{AnswerForm}
-use Rattle.tiny_http_core.specs.declared.exchange.Waiting.{Waiting}
-use Rattle.tiny_http_core.specs.Framing.{is_built}
-use Rattle.tiny_http_core.specs.Source.{GoesOn}
-use Rattle.tiny_http_core.specs.Pipeline.{Item, Asks, Refuses, Request, Place, Heading, Ends, Heads, OneHead, FoundAt, served, served_answer, is_head_method, Pipeline}
-use Rattle.tiny_http_core.specs.HeadReads.{ReadsHead, place_after, place_feed, request_of, refused, head_message, head_framing}
-use Rattle.tiny_http_core.specs.Exchange.{KeepsRequest}
-use Rattle.tiny_http_core.specs.Body.{Remaining, remaining, taken_left, is_streaming}
-use Rattle.tiny_http_core.specs.Slots.{Slot, is_finished, is_broken, is_slot_broken, segment, joined, new_slot, own_text, turn_has_come, is_chunked, last_slot, reader_is_held, reader_is_lost, is_last_slot}
+use Rattle.tiny_http_message.specs.declared.exchange.Exchange.{Exchange}
+use Rattle.tiny_http_message.specs.declared.body.Body.{Body}
+use Rattle.tiny_http_message.specs.declared.body.Body.TheVariants as body
+use Rattle.tiny_http_message.specs.declared.exchange.HeadRead.TheVariants as read
+use Rattle.tiny_http_message.specs.declared.waiting.AnswerForm.{AnswerForm}
+use Rattle.tiny_http_message.specs.declared.waiting.Waiting.{Waiting}
+use Rattle.tiny_http_message.specs.Framing.{is_built}
+use Rattle.tiny_http_stream.specs.Source.{GoesOn}
+use Rattle.tiny_http_message.specs.Pipeline.{Item, Asks, Refuses, Request, Place, Heading, Ends, Heads, OneHead, FoundAt, served, served_answer, is_head_method, Pipeline}
+use Rattle.tiny_http_message.specs.HeadReads.{ReadsHead, place_after, place_feed, request_of, refused, head_message, head_framing}
+use Rattle.tiny_http_message.specs.Exchange.{KeepsRequest}
+use Rattle.tiny_http_message.specs.Body.{Remaining, remaining, taken_left, is_streaming}
+use Rattle.tiny_http_core.specs.Slots.{Slot, is_finished, is_broken, is_slot_broken, segment, joined, new_slot, turn_has_come, is_chunked, last_slot, reader_is_held, reader_is_lost, is_last_slot}
+use Rattle.tiny_http_message.specs.OwnAnswer.{own_text}
 use Rattle.tiny_http_core.specs.Steps.{Asked, Ask, Replied, Handed, Ended, NotYet, Memory, Unused, Unreported, Outcome, Reached, unchanged, ask, asks_from, outcome}
 use Rattle.tiny_http_core.specs.Conversation.{Failure, State, PlaceAt, FailsBetween, Writes, Has, StepsTo}
 use Rattle.tiny_http_core.specs.Sending.{IsFlushed, SendsUnlessEnded}
-use Rattle.tiny_http_core.specs.Turns.{Mark, Open, Left, Finished, AreInShape, first_unfinished}
+use Rattle.tiny_http_turns.specs.Turns.{Mark, Open, Left, Finished, AreInShape, first_unfinished}
 use Rattle.tiny_http_core.specs.Pending.{LeavesText, last_body, streams}
 use Rattle.tiny_http_core.specs.Connection.{Kept, dropped, IsWaiting, AreKept, OutputAt, behind_body, GivesRest, InputEnded, NextHead, Reader, Stands}
-use Rattle.tiny_http_core.proofs.HeadServing.{built-parts}
-use Rattle.tiny_http_core.proofs.GoingOn.{goes-on_more}
-use Rattle.tiny_http_core.proofs.PipelineLemmas.{pipeline-first, pipeline-none, feed-pipeline}
+use Rattle.tiny_http_message.proofs.HeadServing.{built-parts}
+use Rattle.tiny_http_stream.proofs.GoingOn.{goes-on_more}
+use Rattle.tiny_http_message.proofs.PipelineLemmas.{pipeline-first, pipeline-none, feed-pipeline}
 use Rattle.tiny_http_core.proofs.ReaderLemmas.{LastKept, last-kept, last-snoc, body-snoc, settled-snoc, and-false, held-by, behind-settled, gives-settled}
-use Rattle.tiny_http_core.proofs.SendLemmas.{own-whole}
+use Rattle.tiny_http_message.proofs.OwnAnswerLemmas.{own-whole}
 use Rattle.tiny_http_core.proofs.SlotLemmas.{joined-waits, joined-hidden, breaks-waits, breaks-hidden}
 use Rattle.tiny_http_core.proofs.KeptLemmas.{kept-append, kept-length, shape-issued, InTurn, OutOfTurn, turn-at}
 use Rattle.tiny_http_core.proofs.OutputLemmas.{ended-is, output-same, Goes, output-more}

@@ -3,23 +3,24 @@ use Rattle.std.proofs.Common.{◌≡◌, refl, sym, ap, ◌∙◌, subst, ℕ, i
 use Rattle.std.specs.Option.{option_map}
 use Rattle.tiny_http_wire.specs.declared.device.Stop.TheVariants.{End}
 use Rattle.tiny_http_wire.specs.Device.{Feed}
-use Rattle.tiny_http_core.specs.declared.exchange.Waiting.{Waiting}
-use Rattle.tiny_http_core.specs.declared.exchange.Form.{Form}
-use Rattle.tiny_http_core.specs.declared.exchange.Form.TheVariants.{Rest, Nothing, Held, Counted, Chunked}
-use Rattle.tiny_http_core.specs.declared.body.Body.{Body}
-use Rattle.tiny_http_core.specs.declared.body.Body.TheVariants as body
-use Rattle.tiny_http_core.specs.ToCome.{skipped, stopped}
-use Rattle.tiny_http_core.specs.Source.{SourceState, GoesOn}
-use Rattle.tiny_http_core.specs.Pipeline.{Item, Request, said_length}
-use Rattle.tiny_http_core.specs.Slots.{Slot, Stage, is_chunked, body_finished, last_slot, reader_is_lost, is_last_item, is_last_slot}
+use Rattle.tiny_http_message.specs.declared.waiting.Waiting.{Waiting}
+use Rattle.tiny_http_message.specs.declared.framing.Form.{Form}
+use Rattle.tiny_http_message.specs.declared.framing.Form.TheVariants.{Rest, Nothing, Held, Counted, Chunked}
+use Rattle.tiny_http_message.specs.declared.body.Body.{Body}
+use Rattle.tiny_http_message.specs.declared.body.Body.TheVariants as body
+use Rattle.tiny_http_stream.specs.ToCome.{skipped, stopped}
+use Rattle.tiny_http_stream.specs.Source.{SourceState, GoesOn}
+use Rattle.tiny_http_message.specs.Pipeline.{Item, Request, said_length}
+use Rattle.tiny_http_core.specs.Slots.{Slot, Stage, is_chunked, last_slot, reader_is_lost, is_last_item, is_last_slot}
+use Rattle.tiny_http_message.specs.Body.{body_finished}
 use Rattle.tiny_http_core.specs.Steps.{finished}
 use Rattle.tiny_http_core.specs.Conversation.{PlaceAt}
-use Rattle.tiny_http_core.specs.Body.{Remaining, remaining, is_streaming, Fits, GivesUp}
+use Rattle.tiny_http_message.specs.Body.{Remaining, remaining, is_streaming, Fits, GivesUp}
 use Rattle.tiny_http_core.specs.Pending.{last_body}
 use Rattle.tiny_http_core.specs.Connection.{Kept, open_slot, IsWaiting, IsSettled, AreSettled, behind_body, slot_rest, GivesRest, NextHead, Reader}
-use Rattle.tiny_http_core.proofs.GoingOn.{goes-on_more}
+use Rattle.tiny_http_stream.proofs.GoingOn.{goes-on_more}
 use Rattle.tiny_http_core.proofs.AskLemmas.{told-feed}
-use Rattle.tiny_http_core.proofs.BodyReads.{gives-up}
+use Rattle.tiny_http_message.proofs.BodyReads.{gives-up}
 use Rattle.tiny_http_core.proofs.ReaderLemmas.{last-snoc, body-snoc, last-within, body-within, settled-place, settled-set, waiting-kept}
 
 -- the input and the bodies, behind a step of a number

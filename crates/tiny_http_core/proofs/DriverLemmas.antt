@@ -5,16 +5,15 @@ use Rattle.httpdate.specs.declared.date.HttpDate.{HttpDate}
 use Rattle.tiny_http_wire.specs.Device.{Feed, Sink}
 use Rattle.tiny_http_wire.specs.Answer.{ResponseState}
 use Rattle.tiny_http_wire.specs.declared.device.Stop.{Stop}
-use Rattle.tiny_http_core.specs.declared.exchange.Waiting.{Waiting}
+use Rattle.tiny_http_message.specs.declared.waiting.Waiting.{Waiting}
 use Rattle.std.specs.List.{AllZip}
 use Rattle.tiny_http_core.specs.declared.driver.Timed.{Timed}
 use Rattle.tiny_http_core.specs.declared.driver.Reply.{Reply}
 use Rattle.tiny_http_core.specs.declared.driver.Step.{Step}
 use Rattle.tiny_http_core.specs.declared.driver.Step.TheVariants as step
-use Rattle.tiny_http_core.specs.declared.outlet.Outlet.{Outlet}
 use Rattle.tiny_http_core.specs.declared.pending.Pending.{Pending}
-use Rattle.tiny_http_core.specs.Source.{SourceState, GoesOn}
-use Rattle.tiny_http_core.specs.Outlet.{OutletState, output_of, SentOn}
+use Rattle.tiny_http_stream.specs.Source.{SourceState, GoesOn}
+use Rattle.tiny_http_stream.specs.Outlet.{OutletState, output_of, SentOn}
 use Rattle.tiny_http_core.specs.Slots.{ResponseValue}
 use Rattle.tiny_http_core.specs.Steps.{Asked, Ask, Read, Respond, Drop, Replied, Fault}
 use Rattle.tiny_http_core.specs.Conversation.{State, Dated, IsFresh, start}
@@ -23,11 +22,11 @@ use Rattle.tiny_http_core.specs.Seen.{seen, IsResponse, IsStep, IsTold, MayFail,
 use Rattle.tiny_http_core.specs.Connection.{Kept, ConnectionState, kept, Stands}
 use Rattle.tiny_http_core.specs.Driving.{HasDone, TakesStep, told_response, told_step}
 use Rattle.tiny_http_core.proofs.AskLemmas.{Answered}
-use Rattle.tiny_http_core.proofs.GoingOn.{goes-on_same}
+use Rattle.tiny_http_stream.proofs.GoingOn.{goes-on_same}
 use Rattle.tiny_http_core.proofs.StepLemmas.{is-ask, is-read, is-respond, is-drop, step-ask, step-read, step-respond, step-drop}
-use Rattle.tiny_http_core.specs.Turns.{Mark}
-use Rattle.tiny_http_core.specs.Reading.{items_of}
-use Rattle.tiny_http_core.proofs.PipelineLemmas.{feed-pipeline}
+use Rattle.tiny_http_turns.specs.Turns.{Mark}
+use Rattle.tiny_http_message.specs.PipelineReading.{items_of}
+use Rattle.tiny_http_message.proofs.PipelineLemmas.{feed-pipeline}
 use Rattle.tiny_http_core.proofs.RunLemmas.{run-more, stands-begun, fails-step, split}
 
 -- the fields as they are seen

@@ -5,17 +5,17 @@ use Rattle.std.specs.Prelude.{MatchBool, ◌==◌, is_some, slice_get, slice_set
 use Rattle.std.specs.List.{list_all}
 use Rattle.httpdate.specs.declared.date.HttpDate.{HttpDate}
 use Rattle.tiny_http_wire.specs.Device.{Feed, Sink}
-use Rattle.tiny_http_core.specs.declared.exchange.Waiting.{Waiting}
-use Rattle.tiny_http_core.specs.Pipeline.{Request}
+use Rattle.tiny_http_message.specs.declared.waiting.Waiting.{Waiting}
+use Rattle.tiny_http_message.specs.Pipeline.{Request}
 use Rattle.tiny_http_core.specs.Slots.{Slot, Waits, Answered as AnsweredBy, ByServer, Raw, Upgraded, is_finished, joined, breaks_off, turn_has_come}
 use Rattle.tiny_http_core.specs.Steps.{Drop, Done, Outcome, Reached, changes, use_in_turn, at_slot, at_number}
 use Rattle.tiny_http_core.specs.Conversation.{Failure, State, FailsBetween, Writes, Has}
 use Rattle.tiny_http_core.specs.Sending.{CanSend}
-use Rattle.tiny_http_core.specs.Turns.{Mark, Open, Left, Finished, AreInShape, first_unfinished}
+use Rattle.tiny_http_turns.specs.Turns.{Mark, Open, Left, Finished, AreInShape, first_unfinished}
 use Rattle.tiny_http_core.specs.Pending.{left_text, passed, LeavesText}
 use Rattle.tiny_http_core.specs.Connection.{Kept, open_slot, dropped, AreKept, OutputAt, Reader, Stands}
-use Rattle.tiny_http_core.specs.Source.{SourceState}
-use Rattle.tiny_http_core.specs.Body.{GivesUp}
+use Rattle.tiny_http_stream.specs.Source.{SourceState}
+use Rattle.tiny_http_message.specs.Body.{GivesUp}
 use Rattle.tiny_http_core.proofs.BodySteps.{ReadsFrom, with_reader, reader-given_up}
 use Rattle.tiny_http_core.proofs.AskLemmas.{Answered, dropped-whole}
 use Rattle.tiny_http_core.proofs.SlotLemmas.{joined-hidden, joined-waits, breaks-hidden}

@@ -3,9 +3,9 @@ use Rattle.std.proofs.Common.{◌≡◌, refl, sym, ap, ◌∙◌, subst, ℕ, z
 use Rattle.std.specs.Prelude.{slice_get, slice_set}
 use Rattle.std.specs.List.{list_all}
 use Rattle.std.proofs.lemmas.Option.{slice_get-get_or}
-use Rattle.tiny_http_core.specs.declared.exchange.Waiting.{Waiting}
+use Rattle.tiny_http_message.specs.declared.waiting.Waiting.{Waiting}
 use Rattle.tiny_http_core.specs.Slots.{Slot, is_finished}
-use Rattle.tiny_http_core.specs.Turns.{Mark, Open, Held, Left, Finished, AreInShape, AreWaiting, first_unfinished}
+use Rattle.tiny_http_turns.specs.Turns.{Mark, Open, Held, Left, Finished, AreInShape, AreWaiting, first_unfinished}
 use Rattle.tiny_http_core.specs.Pending.{passed, waiting_form}
 use Rattle.tiny_http_core.specs.Connection.{IsWaiting, IsKept, AreKept}
 

@@ -1,16 +1,3 @@
-pub mod PartLemmas
-pub mod BodyReads
-pub mod Windows
-pub mod Inputs
-pub mod Lines
-pub mod LineEnds
-pub mod LineReads
-pub mod HeadReading
-pub mod HeadServing
-pub mod Words
-pub mod Holding
-pub mod GoingOn
-pub mod PipelineLemmas
 pub mod SendLemmas
 pub mod SlotLemmas
 pub mod ReaderLemmas
@@ -18,7 +5,6 @@ pub mod KeptLemmas
 pub mod OutputLemmas
 pub mod BodySteps
 pub mod AskLemmas
-pub mod DropText
 pub mod RespondLemmas
 pub mod DropLemmas
 pub mod ReadSteps
@@ -27,8 +13,3 @@ pub mod StepLemmas
 pub mod RunLemmas
 pub mod DriverLemmas
 pub mod Rows
-pub mod TurnsLemmas
-pub mod TurnsOutcomes
-pub mod TurnsKept
-pub mod TurnsOrder
-pub mod TurnsTexts

@@ -6,12 +6,12 @@ use Rattle.std.specs.Io.KnownBytes.{append_known}
 use Rattle.std.specs.declared.io.ErrorKind.{ErrorKind}
 use Rattle.std.proofs.lemmas.Bool.{and_parts}
 use Rattle.tiny_http_wire.specs.Device.{Sink, IsFront, IsFrontOf, BeginsKnown, IsAllKnown, HoldsNothing, Tells, next_count}
-use Rattle.tiny_http_wire.proofs.DeviceLemmas.{IsFront-append}
-use Rattle.tiny_http_core.specs.declared.exchange.Waiting.{Waiting}
+use Rattle.tiny_http_device.proofs.DeviceLemmas.{IsFront-append}
+use Rattle.tiny_http_message.specs.declared.waiting.Waiting.{Waiting}
 use Rattle.tiny_http_core.specs.Slots.{Slot, is_finished, joined, breaks_off}
 use Rattle.tiny_http_core.specs.Conversation.{Failure, FailsBetween, finished_front}
 use Rattle.tiny_http_core.specs.Sending.{CanSend, IsFlushed, Lost, Idles, SendsUnlessEnded}
-use Rattle.tiny_http_core.specs.Turns.{Mark, Open, Held, Left, Finished, AreWaiting}
+use Rattle.tiny_http_turns.specs.Turns.{Mark, Open, Held, Left, Finished, AreWaiting}
 use Rattle.tiny_http_core.specs.Pending.{left_text, begins_left}
 use Rattle.tiny_http_core.specs.Connection.{AreKept, OutputAt}
 use Rattle.tiny_http_core.proofs.SlotLemmas.{joined-front, joined-broken, breaks-front}

@@ -3,13 +3,13 @@ use Rattle.std.proofs.Common.{◌≡◌, refl, sym, ap, ◌∙◌, subst, ℕ, s
 use Rattle.std.specs.Global.{Vec}
 use Rattle.std.specs.Prelude.{MatchBool, ◌==◌, if◌then◌else◌, slice_get, slice_set}
 use Rattle.tiny_http_wire.specs.Device.{Sink}
-use Rattle.tiny_http_core.specs.declared.turns.Finishing.{Finishing}
-use Rattle.tiny_http_core.specs.declared.turns.Finishing.TheVariants.{Passed as IsPassed, Go, Strange as IsStrange}
-use Rattle.tiny_http_core.specs.declared.turns.Leaving.{Leaving}
-use Rattle.tiny_http_core.specs.declared.turns.Leaving.TheVariants.{Left as IsLeft, Go as LeaveGo, Strange as LeaveStrange}
+use Rattle.tiny_http_turns.specs.declared.turns.Finishing.{Finishing}
+use Rattle.tiny_http_turns.specs.declared.turns.Finishing.TheVariants.{Passed as IsPassed, Go, Strange as IsStrange}
+use Rattle.tiny_http_turns.specs.declared.turns.Leaving.{Leaving}
+use Rattle.tiny_http_turns.specs.declared.turns.Leaving.TheVariants.{Left as IsLeft, Go as LeaveGo, Strange as LeaveStrange}
 use Rattle.tiny_http_core.specs.Sending.{CanSend, IsFlushed, SendsUnlessEnded}
-use Rattle.tiny_http_core.specs.Turns.{Mark, Open, Held, Left, Finished, AreInShape, first_unfinished, Goes, Passed, Waits, TurnOutcome, Finish, Leave, outcome, answer, after, finish_at, pass_to, leave_at}
-use Rattle.tiny_http_core.specs.TurnsCalls.{Finishes, Leaves}
+use Rattle.tiny_http_turns.specs.Turns.{Mark, Open, Held, Left, Finished, AreInShape, first_unfinished, Goes, Passed, Waits, TurnOutcome, Finish, Leave, outcome, answer, after, finish_at, pass_to, leave_at}
+use Rattle.tiny_http_turns.specs.TurnsCalls.{Finishes, Leaves}
 use Rattle.tiny_http_core.specs.Pending.{left_text, passed, begins_left, SendsLeft, Passes, LeavesText}
 use Rattle.tiny_http_core.proofs.KeptLemmas.{get-at, set-at}
 use Rattle.tiny_http_core.proofs.SendLemmas.{sends-append, sends-can}

@@ -10,24 +10,25 @@ use Rattle.httpdate.specs.declared.date.HttpDate.{HttpDate}
 use Rattle.tiny_http_wire.specs.declared.device.Stop.{Stop}
 use Rattle.tiny_http_wire.specs.declared.device.Stop.TheVariants.{End, Fault as Faults}
 use Rattle.tiny_http_wire.specs.Device.{Feed, Sink}
-use Rattle.tiny_http_core.specs.declared.exchange.Waiting.{Waiting}
-use Rattle.tiny_http_core.specs.declared.exchange.Form.{Form}
-use Rattle.tiny_http_core.specs.declared.exchange.Form.TheVariants.{Rest, Nothing, Held, Counted, Chunked}
-use Rattle.tiny_http_core.specs.declared.body.Body.{Body}
-use Rattle.tiny_http_core.specs.declared.body.Body.TheVariants as body
-use Rattle.tiny_http_core.specs.ToCome.{stopped}
-use Rattle.tiny_http_core.specs.Source.{SourceState, GoesOn}
-use Rattle.tiny_http_core.specs.Pipeline.{Item, Request, said_length}
-use Rattle.tiny_http_core.specs.Slots.{Slot, Waits, Answered as AnsweredBy, ByServer, Raw, Upgraded, body_finished, is_chunked, joined, breaks_off, last_slot, reader_is_lost, turn_has_come, is_last_item, is_last_slot, rest_of}
+use Rattle.tiny_http_message.specs.declared.waiting.Waiting.{Waiting}
+use Rattle.tiny_http_message.specs.declared.framing.Form.{Form}
+use Rattle.tiny_http_message.specs.declared.framing.Form.TheVariants.{Rest, Nothing, Held, Counted, Chunked}
+use Rattle.tiny_http_message.specs.declared.body.Body.{Body}
+use Rattle.tiny_http_message.specs.declared.body.Body.TheVariants as body
+use Rattle.tiny_http_stream.specs.ToCome.{stopped}
+use Rattle.tiny_http_stream.specs.Source.{SourceState, GoesOn}
+use Rattle.tiny_http_message.specs.Pipeline.{Item, Request, said_length}
+use Rattle.tiny_http_core.specs.Slots.{Slot, Waits, Answered as AnsweredBy, ByServer, Raw, Upgraded, is_chunked, joined, breaks_off, last_slot, reader_is_lost, turn_has_come, is_last_item, is_last_slot, rest_of}
+use Rattle.tiny_http_message.specs.Body.{body_finished}
 use Rattle.tiny_http_core.specs.Steps.{Read, Replied, Given, Fault, Memory, NoSuch, Unused, Outcome, Reached, changes, read_reply, effect, at_slot, at_number}
 use Rattle.tiny_http_core.specs.Conversation.{State, PlaceAt, Has}
-use Rattle.tiny_http_core.specs.Body.{Remaining, remaining, taken_left, after_bytes, with_bytes, BodyStops, NoneLeft, is_streaming, IsOver, ReadsOn, Fits, FillsFromBody}
-use Rattle.tiny_http_core.specs.Turns.{Mark, Open}
+use Rattle.tiny_http_message.specs.Body.{Remaining, remaining, taken_left, after_bytes, with_bytes, BodyStops, NoneLeft, is_streaming, IsOver, ReadsOn, Fits, FillsFromBody}
+use Rattle.tiny_http_turns.specs.Turns.{Mark, Open}
 use Rattle.tiny_http_core.specs.Pending.{last_body}
 use Rattle.tiny_http_core.specs.Connection.{Kept, open_slot, IsWaiting, AreKept, AreSettled, behind_body, slot_rest, GivesRest, Reader, Stands}
-use Rattle.tiny_http_core.proofs.GoingOn.{goes-on_more}
+use Rattle.tiny_http_stream.proofs.GoingOn.{goes-on_more}
 use Rattle.tiny_http_core.proofs.AskLemmas.{Answered, step-unchanged, settled-any, told-feed}
-use Rattle.tiny_http_core.proofs.BodyReads.{stays-settled}
+use Rattle.tiny_http_message.proofs.BodyReads.{stays-settled}
 use Rattle.tiny_http_core.proofs.BodySteps.{ReadsFrom, last-waits, with_reader, reader-within}
 use Rattle.tiny_http_core.proofs.KeptLemmas.{Place, place-of, kept-append, kept-many}
 use Rattle.tiny_http_core.proofs.OutputLemmas.{output-same}

@@ -5,14 +5,15 @@ use Rattle.std.specs.List.{last_or}
 use Rattle.std.specs.Option.{option_map}
 use Rattle.std.proofs.lemmas.Bool.{ne_eqb}
 use Rattle.tiny_http_wire.specs.Device.{Feed}
-use Rattle.tiny_http_core.specs.declared.exchange.Waiting.{Waiting}
-use Rattle.tiny_http_core.specs.declared.exchange.Form.{Form}
-use Rattle.tiny_http_core.specs.declared.body.Body.{Body}
-use Rattle.tiny_http_core.specs.declared.body.Body.TheVariants as body
-use Rattle.tiny_http_core.specs.Pipeline.{Item, Asks, Refuses, said_length}
-use Rattle.tiny_http_core.specs.Slots.{Slot, is_streamed, is_chunked, body_finished, is_body_finished, body_is_open, last_slot, last_is_open, reader_is_held, reader_is_lost, is_last_slot}
-use Rattle.tiny_http_core.specs.Turns.{Mark, Open, Held, Left, Finished}
-use Rattle.tiny_http_core.specs.Body.{Remaining, remaining, is_streaming, Fits}
+use Rattle.tiny_http_message.specs.declared.waiting.Waiting.{Waiting}
+use Rattle.tiny_http_message.specs.declared.framing.Form.{Form}
+use Rattle.tiny_http_message.specs.declared.body.Body.{Body}
+use Rattle.tiny_http_message.specs.declared.body.Body.TheVariants as body
+use Rattle.tiny_http_message.specs.Pipeline.{Item, Asks, Refuses, said_length}
+use Rattle.tiny_http_core.specs.Slots.{Slot, is_streamed, is_chunked, is_body_finished, body_is_open, last_slot, last_is_open, reader_is_held, reader_is_lost, is_last_slot}
+use Rattle.tiny_http_message.specs.Body.{body_finished}
+use Rattle.tiny_http_turns.specs.Turns.{Mark, Open, Held, Left, Finished}
+use Rattle.tiny_http_message.specs.Body.{Remaining, remaining, is_streaming, Fits}
 use Rattle.tiny_http_core.specs.Pending.{last_body, streams}
 use Rattle.tiny_http_core.specs.Connection.{IsWaiting, IsDone, IsKept, AreKept, IsSettled, AreSettled, behind_body, slot_rest, GivesRest}
 

@@ -9,19 +9,19 @@ use Rattle.std.specs.declared.io.ErrorKind.{ErrorKind}
 use Rattle.httpdate.specs.declared.date.HttpDate.{HttpDate}
 use Rattle.tiny_http_wire.specs.Device.{Feed, Sink}
 use Rattle.tiny_http_wire.specs.Answer.{Text, Ending, Whole, Broken, text_of}
-use Rattle.tiny_http_core.specs.declared.exchange.AnswerForm.{AnswerForm}
-use Rattle.tiny_http_core.specs.declared.exchange.Waiting.{Waiting}
-use Rattle.tiny_http_core.specs.Pipeline.{Item, Asks, Refuses, Request}
+use Rattle.tiny_http_message.specs.declared.waiting.AnswerForm.{AnswerForm}
+use Rattle.tiny_http_message.specs.declared.waiting.Waiting.{Waiting}
+use Rattle.tiny_http_message.specs.Pipeline.{Item, Asks, Refuses, Request}
 use Rattle.tiny_http_core.specs.Slots.{ResponseValue, Slot, Stage, Waits, Answered as AnsweredBy, ByServer, Raw, Upgraded, is_over, is_finished, is_broken, is_slot_broken, segment, joined, breaks_off, last_slot, turn_has_come, to_request, text_if, IsGathered}
 use Rattle.tiny_http_core.specs.Steps.{Asked, outcome, Respond, Replied, Done, NoSuch, NotYet, Use, Reported, Outcome, Reached, unchanged, changes, finished, takes, fault_in, fault_of_answer, at_item, at_slot, at_number}
 use Rattle.tiny_http_core.specs.Conversation.{Failure, State, has_output_ended, finished_front, FailsBetween, FailsTold, FailsBehind, broken_reply, Writes, Has, GathersAt, MayLack}
 use Rattle.tiny_http_core.specs.Seen.{printed_as, reply_to}
 use Rattle.tiny_http_core.specs.Sending.{CanSend, Wrote, Lost, IsFlushed, SendsText, Sends, SendsUnlessEnded}
-use Rattle.tiny_http_core.specs.Turns.{Mark, Open, Held, Finished, AreInShape, first_unfinished}
+use Rattle.tiny_http_turns.specs.Turns.{Mark, Open, Held, Finished, AreInShape, first_unfinished}
 use Rattle.tiny_http_core.specs.Pending.{left_text, passed, begins_left, SendsLeft, Passes, waiting_form}
 use Rattle.tiny_http_core.specs.Connection.{Kept, form_of, open_slot, IsWaiting, AreKept, OutputAt, Reader, Stands}
-use Rattle.tiny_http_core.specs.Source.{SourceState}
-use Rattle.tiny_http_core.specs.Body.{GivesUp}
+use Rattle.tiny_http_stream.specs.Source.{SourceState}
+use Rattle.tiny_http_message.specs.Body.{GivesUp}
 use Rattle.tiny_http_core.proofs.BodySteps.{ReadsFrom, with_reader, next-same, reader-given_up}
 use Rattle.tiny_http_core.proofs.AskLemmas.{Answered, step-unchanged}
 use Rattle.tiny_http_core.proofs.SlotLemmas.{all-snoc, joined-front, joined-broken, joined-waits, breaks-front, breaks-waits}

@@ -7,14 +7,14 @@ use Rattle.httpdate.specs.declared.date.HttpDate.{HttpDate}
 use Rattle.tiny_http_wire.specs.declared.common.Method.{Method}
 use Rattle.tiny_http_wire.specs.declared.common.Method.TheVariants.{Get, Head}
 use Rattle.tiny_http_wire.specs.declared.common.Header.{Header}
-use Rattle.tiny_http_wire.specs.Heads.{version, Message}
+use Rattle.tiny_http_wire.specs.Heads.{version, Message, length_in}
 use Rattle.tiny_http_wire.specs.Device.{ending}
-use Rattle.tiny_http_wire.specs.Answer.{text_of, status_line, field_line, upgrade_lines, server_line, date_line, framing_line, head, length_in}
+use Rattle.tiny_http_wire.specs.Answer.{text_of, status_line, field_line, upgrade_lines, server_line, date_line, framing_line, head}
 use Rattle.tiny_http_wire.specs.Common.{reason_phrase}
-use Rattle.tiny_http_core.specs.declared.exchange.Form.{Form}
-use Rattle.tiny_http_core.specs.declared.exchange.Form.TheVariants.{Nothing, Held}
-use Rattle.tiny_http_core.specs.declared.framing.Framing.{Framing}
-use Rattle.tiny_http_core.specs.Framing.{framing}
+use Rattle.tiny_http_message.specs.declared.framing.Form.{Form}
+use Rattle.tiny_http_message.specs.declared.framing.Form.TheVariants.{Nothing, Held}
+use Rattle.tiny_http_message.specs.declared.framing.Framing.{Framing}
+use Rattle.tiny_http_message.specs.Framing.{framing}
 use Rattle.tiny_http_core.specs.Slots.{ResponseValue, own_response, text_type}
 use Rattle.tiny_http_core.specs.Steps.{Asked, Ask, Respond, Drop, Replied, Handed, Ended, NotYet, Done}
 use Rattle.tiny_http_core.specs.Conversation.{Dated}

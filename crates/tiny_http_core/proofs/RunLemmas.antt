@@ -6,18 +6,18 @@ use Rattle.std.specs.List.{AllZip}
 use Rattle.std.specs.Io.KnownBytes.{append_known}
 use Rattle.std.proofs.lemmas.Grind.{common_steps}
 use Rattle.tiny_http_wire.specs.Device.{Feed, Sink, grown, next_count}
-use Rattle.tiny_http_core.specs.Outlet.{holding}
-use Rattle.tiny_http_core.specs.Source.{GoesOn}
-use Rattle.tiny_http_core.specs.Pipeline.{Item, Pipeline}
+use Rattle.tiny_http_stream.specs.Outlet.{holding}
+use Rattle.tiny_http_stream.specs.Source.{GoesOn}
+use Rattle.tiny_http_message.specs.Pipeline.{Item, Pipeline}
 use Rattle.tiny_http_core.specs.Slots.{Slot, joined, last_slot, last_is_open, reader_is_lost, is_last_item, is_last_slot}
 use Rattle.tiny_http_core.specs.Steps.{Replied}
 use Rattle.tiny_http_core.specs.Conversation.{State, Failure, StepsTo, Run, Dated, start, IsFresh, PlaceAt, WithinBody, WithinLast, InputAt, IsOutput, IsConversation}
 use Rattle.tiny_http_core.specs.Connection.{Kept, OutputAt, IsWaiting, behind_body, slot_rest, GivesRest, Stands}
-use Rattle.tiny_http_core.specs.ToCome.{stopped}
-use Rattle.tiny_http_core.specs.Body.{Remaining, remaining}
+use Rattle.tiny_http_stream.specs.ToCome.{stopped}
+use Rattle.tiny_http_message.specs.Body.{Remaining, remaining}
 use Rattle.tiny_http_core.specs.Pending.{last_body, streams}
-use Rattle.tiny_http_core.specs.declared.exchange.Waiting.{Waiting}
-use Rattle.tiny_http_core.specs.declared.body.Body.{Body}
+use Rattle.tiny_http_message.specs.declared.waiting.Waiting.{Waiting}
+use Rattle.tiny_http_message.specs.declared.body.Body.{Body}
 use Rattle.tiny_http_wire.specs.declared.device.Stop.TheVariants.{End}
 use Rattle.tiny_http_core.proofs.ReaderLemmas.{LastKept, done-open, open-by, behind-settled}
 use Rattle.tiny_http_core.specs.declared.driver.Timed.{Timed}

@@ -7,18 +7,18 @@ use Rattle.std.specs.declared.io.ErrorKind.{ErrorKind}
 use Rattle.std.specs.declared.io.ErrorKind.TheVariants.{OutOfMemory}
 use Rattle.std.specs.Io.KnownBytes.{append_known}
 use Rattle.std.proofs.lemmas.Bool.{ne_eqb, leb-false}
-use Rattle.tiny_http_wire.specs.Device.{Feed, ending, Sink, IsFront, BeginsKnown, IsFrontOf, grown, Tells, Took, Failed, Puts, next_count, fault_of, Uses}
-use Rattle.tiny_http_wire.specs.Answer.{Answer, answer_with, Text, Whole, Broken, Printing, Prints, PrintsAnswer, text_of, nothing, gathered_body, unless, identity_body, as_it_is, is_withheld}
-use Rattle.tiny_http_wire.proofs.DeviceLemmas.{IsFront-same, IsFront-append}
-use Rattle.tiny_http_core.specs.Outlet.{holding, EndsWith}
+use Rattle.tiny_http_wire.specs.Device.{Feed, Sink, IsFront, BeginsKnown, IsFrontOf, IsAllKnown, HoldsNothing, grown, Tells, Took, Failed, Puts, next_count, fault_of, Uses}
+use Rattle.tiny_http_wire.specs.Answer.{Answer, Text, Whole, Broken, Printing, Prints, PrintsAnswer, text_of, nothing, gathered_body, unless, identity_body, as_it_is, is_withheld}
+use Rattle.tiny_http_device.proofs.DeviceLemmas.{IsFront-same, IsFront-append}
+use Rattle.tiny_http_stream.specs.Outlet.{holding, EndsWith}
+use Rattle.tiny_http_stream.proofs.Holding.{grown-nil}
 use Rattle.httpdate.specs.declared.date.HttpDate.{HttpDate}
 use Rattle.tiny_http_wire.specs.declared.common.HTTPVersion.{HTTPVersion}
 use Rattle.tiny_http_wire.specs.declared.coding.FramingHeader.{FramingHeader}
 use Rattle.tiny_http_wire.specs.declared.coding.FramingHeader.TheVariants.{ContentLength}
 use Rattle.tiny_http_wire.specs.declared.device.Stop.{Stop}
 use Rattle.tiny_http_wire.specs.declared.device.Stop.TheVariants.{End, Fault}
-use Rattle.tiny_http_core.specs.Slots.{own_printing}
-use Rattle.tiny_http_core.specs.Sending.{CanSend, Wrote, Lost, Idles, EndsQuietly, Abandons, SendsText, Sends, SendsQuietly, SendsUnlessEnded, FailsOnce, FailsOnceUnlessEnded, BreakOff, IsHonest}
+use Rattle.tiny_http_core.specs.Sending.{CanSend, Wrote, Lost, Idles, EndsQuietly, Abandons, SendsText, Sends, SendsQuietly, IsFlushed, SendsUnlessEnded, FailsOnce, FailsOnceUnlessEnded, BreakOff, IsHonest}
 
 pub or-false : (a b : Bool) → (a || b) ≡ false → (a ≡ false) × (b ≡ false)
 or-false true b h = cc
@@ -166,12 +166,6 @@ pub ended-once : (T : Type 0) (a b c : Sink) (n : ℕ) (e : Error) (ended : Bool
 ended-once T a b c n e ended (inl u) same m z = ended-by a b c n ended (b.failures == n) refl same (inl u.failures) m z
 ended-once T a b c n e ended (inr u) same m z = ended-by a b c n ended (b.failures == n) refl same (inr u.failures) m z
 
--- an answer of the server's own is whole
-pub own-whole : (status : ℕ) (v : HTTPVersion) (withheld : Bool) (date : HttpDate) → (text_of (answer_with status [] 0) (ending []) (own_printing v withheld date)).ending ≡ Whole
-unfolding text_of
-own-whole status v withheld date =
-    elim (is_withheld withheld status) as (λ t. (unless t (identity_body 0 (ending []))).ending ≡ Whole) [ true ↦ refl | false ↦ refl ]
-
 -- whose a fault is
 gathered-breaks : (stop : Stop) (front : List ℕ) (withheld : Bool) (bytes : List ℕ) (kind : ErrorKind) → (gathered_body stop front withheld bytes).ending ≡ Broken kind → stop ≡ Fault kind
 gathered-breaks End front withheld bytes kind e = cc
@@ -306,3 +300,10 @@ once-append false eb ec a b c (inr h) k = let i = once-idle eb ec b c h.1 k in i
 pub once-none : (was : Bool) (a : Sink) → FailsOnceUnlessEnded was a a was
 once-none true a = (refl, refl)
 once-none false a = inl refl
+
+-- nothing is held, and nothing held back
+pub is-flushed : (s : Sink) (held : List ℕ) (ended : Bool) → held ≡ [] → ((ended || s.has_ended) ≡ false → HoldsNothing s) → IsFlushed (holding s held ended)
+is-flushed s held ended e h z =
+    let P : List ℕ → Type 0 = λ x. IsAllKnown s.sent (grown s.has_ended s.taken x) in
+    let Q : Option (List ℕ) → Type 0 = λ x. IsAllKnown s.sent x in
+    subst P (sym e) (subst Q (sym (grown-nil s.has_ended s.taken)) (h z))

@@ -5,18 +5,18 @@ use Rattle.httpdate.specs.declared.date.HttpDate.{HttpDate}
 use Rattle.tiny_http_wire.specs.declared.device.Stop.{Stop}
 use Rattle.tiny_http_wire.specs.declared.device.Stop.TheVariants.{End}
 use Rattle.tiny_http_wire.specs.Device.{Feed, Sink, IsFront, Tells, ending}
-use Rattle.tiny_http_core.specs.declared.body.Body.{Body}
-use Rattle.tiny_http_core.specs.declared.exchange.AnswerForm.{AnswerForm}
-use Rattle.tiny_http_core.specs.declared.exchange.Waiting.{Waiting}
-use Rattle.tiny_http_core.specs.Source.{SourceState, GoesOn}
-use Rattle.tiny_http_core.specs.ToCome.{stopped}
-use Rattle.tiny_http_core.specs.Body.{Remaining, remaining, taken_left, is_streaming, Fits}
+use Rattle.tiny_http_message.specs.declared.body.Body.{Body}
+use Rattle.tiny_http_message.specs.declared.waiting.AnswerForm.{AnswerForm}
+use Rattle.tiny_http_message.specs.declared.waiting.Waiting.{Waiting}
+use Rattle.tiny_http_stream.specs.Source.{SourceState, GoesOn}
+use Rattle.tiny_http_stream.specs.ToCome.{stopped}
+use Rattle.tiny_http_message.specs.Body.{Remaining, remaining, taken_left, is_streaming, Fits}
 use Rattle.tiny_http_core.specs.Pending.{last_body}
-use Rattle.tiny_http_core.specs.Outlet.{OutletState, output_of}
-use Rattle.tiny_http_core.specs.Pipeline.{Item, Asks, Refuses, Request, is_head_method, said_length}
+use Rattle.tiny_http_stream.specs.Outlet.{OutletState, output_of}
+use Rattle.tiny_http_message.specs.Pipeline.{Item, Asks, Refuses, Request, is_head_method, said_length}
 use Rattle.tiny_http_core.specs.Slots.{Slot, ByServer, is_finished, is_slot_broken, segment, joined, breaks_off, new_slot, last_slot, is_last_slot, reader_is_lost, rest_of}
 use Rattle.tiny_http_core.specs.Steps.{finished}
-use Rattle.tiny_http_core.specs.Turns.{Mark, Open, Left, Finished, AreInShape}
+use Rattle.tiny_http_turns.specs.Turns.{Mark, Open, Left, Finished, AreInShape}
 use Rattle.tiny_http_core.specs.Conversation.{State, Failure, PlaceAt}
 
 -- What the program keeps of a connection: the turns of its numbers, the requests that wait for their answers, whether the

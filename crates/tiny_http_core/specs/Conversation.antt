@@ -4,11 +4,11 @@ use Rattle.std.specs.List.{AllByRecursion}
 use Rattle.std.specs.declared.io.ErrorKind.{ErrorKind}
 use Rattle.httpdate.specs.declared.date.HttpDate.{HttpDate}
 use Rattle.tiny_http_wire.specs.Device.{Feed, Sink, IsFront, Tells}
-use Rattle.tiny_http_core.specs.declared.body.Body.{Body}
-use Rattle.tiny_http_core.specs.Body.{remaining, Fits}
-use Rattle.tiny_http_core.specs.Pipeline.{Item, Asks, Refuses, said_length, Pipeline}
+use Rattle.tiny_http_message.specs.declared.body.Body.{Body}
+use Rattle.tiny_http_message.specs.Body.{remaining, Fits}
+use Rattle.tiny_http_message.specs.Pipeline.{Item, Asks, Refuses, said_length, Pipeline}
 use Rattle.tiny_http_wire.specs.declared.device.Stop.TheVariants.{End}
-use Rattle.tiny_http_core.specs.ToCome.{stopped}
+use Rattle.tiny_http_stream.specs.ToCome.{stopped}
 use Rattle.tiny_http_core.specs.Slots.{ResponseValue, Slot, is_finished, joined, breaks_off, new_slot, rest_of, last_slot, last_is_open, is_last_slot, reader_is_held, reader_is_lost, turn_has_come, IsGathered, to_request}
 use Rattle.tiny_http_core.specs.Steps.{Asked, Ask, Read, Respond, Replied, NoSuch, Memory, Use, Unused, Unreported, Reported, use_in_turn, Outcome, Reached, outcome}
 

@@ -6,9 +6,9 @@ use Rattle.tiny_http_wire.specs.Device.{Feed, Sink}
 use Rattle.tiny_http_wire.specs.Answer.{ResponseState}
 use Rattle.tiny_http_core.specs.declared.driver.Step.{Step}
 use Rattle.tiny_http_core.specs.declared.driver.Step.TheVariants as step
-use Rattle.tiny_http_core.specs.Source.{GoesOn}
-use Rattle.tiny_http_core.specs.Outlet.{output_of, SentOn}
-use Rattle.tiny_http_core.specs.Pipeline.{Item, Pipeline}
+use Rattle.tiny_http_stream.specs.Source.{GoesOn}
+use Rattle.tiny_http_stream.specs.Outlet.{output_of, SentOn}
+use Rattle.tiny_http_message.specs.Pipeline.{Item, Pipeline}
 use Rattle.tiny_http_core.specs.Steps.{Asked, Replied, Fault}
 use Rattle.tiny_http_core.specs.Conversation.{State, Dated, Run, start, IsFresh}
 use Rattle.tiny_http_core.specs.Sending.{FailsOnceUnlessEnded}

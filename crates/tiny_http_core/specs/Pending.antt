@@ -1,12 +1,12 @@
 -- Numbers whose turn comes, and what is sent as it does.
 use Rattle.std.specs.Prelude.{◌≡◌, ℕ, Bool, true, false, List, [], ◌∷◌, ◌++◌, Option, Some, None, MatchBool}
 use Rattle.tiny_http_wire.specs.Device.{Sink}
-use Rattle.tiny_http_core.specs.declared.exchange.AnswerForm.{AnswerForm}
-use Rattle.tiny_http_core.specs.declared.exchange.Waiting.{Waiting}
-use Rattle.tiny_http_core.specs.declared.body.Body.{Body}
-use Rattle.tiny_http_core.specs.Body.{is_streaming}
+use Rattle.tiny_http_message.specs.declared.waiting.AnswerForm.{AnswerForm}
+use Rattle.tiny_http_message.specs.declared.waiting.Waiting.{Waiting}
+use Rattle.tiny_http_message.specs.declared.body.Body.{Body}
+use Rattle.tiny_http_message.specs.Body.{is_streaming}
 use Rattle.tiny_http_core.specs.Sending.{SendsUnlessEnded, IsFlushed}
-use Rattle.tiny_http_core.specs.Turns.{Mark, Open, Held, Left, Finished, AreInShape}
+use Rattle.tiny_http_turns.specs.Turns.{Mark, Open, Held, Left, Finished, AreInShape}
 
 -- the texts that were left at the front of these numbers
 abbrev pub left_text : List Mark → List ℕ

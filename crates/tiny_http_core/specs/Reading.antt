@@ -1,75 +1,11 @@
--- The pipeline of a feed and a run over it, computed for a writer that takes all: one plain reading, by which the laws are
--- proved and the definitions are tried out.
-use Rattle.std.specs.Prelude.{ℕ, zero, suc, ◌+◌, Bool, true, false, nat_lt, List, [], ◌∷◌, length, take, drop, Option, Some, None, Ok, Err, if◌then◌else◌}
-use Rattle.tiny_http_wire.specs.declared.device.Stop.{Stop}
-use Rattle.tiny_http_wire.specs.declared.device.Stop.TheVariants.{End, Fault as Faults}
+-- A run over a feed, computed for a writer that takes all: one plain reading, by which the definitions are tried out.
+use Rattle.std.specs.Prelude.{ℕ, Bool, true, List, [], ◌∷◌, if◌then◌else◌}
+use Rattle.std.specs.Prelude.{false}
 use Rattle.tiny_http_wire.specs.Device.{Feed}
-use Rattle.tiny_http_wire.specs.Heads.{Message}
-use Rattle.tiny_http_wire.specs.Reading.{head, HeadRead, Whole, Faulty}
-use Rattle.tiny_http_wire.specs.ChunkReading.{decoded, Decoded}
-use Rattle.tiny_http_core.specs.declared.exchange.Form.{Form}
-use Rattle.tiny_http_core.specs.declared.exchange.Form.TheVariants.{Rest, Nothing, Held, Counted, Chunked}
-use Rattle.tiny_http_core.specs.declared.framing.Framing.{Framing}
-use Rattle.tiny_http_core.specs.Framing.{framing}
-use Rattle.tiny_http_core.specs.Pipeline.{Item, Refuses, Place, Heading, Ends, Heads, fault_answer, cut_answer, said_length, served, item_of, goes_on}
+use Rattle.tiny_http_message.specs.PipelineReading.{items_of}
 use Rattle.tiny_http_core.specs.Slots.{joined, breaks_off}
 use Rattle.tiny_http_core.specs.Steps.{Replied, Use, Unused, Unreported, Reported, Reached, outcome}
 use Rattle.tiny_http_core.specs.Conversation.{Dated, reached_by, broken_reply}
-
--- a body and where the next head begins
-pub record BodyRead : Type 0 where
-  pub body : Feed
-  pub next : Place
-
-abbrev pub chunked_read : Decoded → BodyRead
-chunked_read d = elim d.ends [ Ok rest ↦ record { body = record { bytes = d.body; stop = End }; next = Some rest } | Err kind ↦ record { body = record { bytes = d.body; stop = Faults kind }; next = None } ]
-
-abbrev pub sized_read : ℕ → List ℕ → Stop → BodyRead
-sized_read n after stop =
-    if nat_lt (length after) n
-    then record { body = record { bytes = after; stop = stop }; next = None }
-    else record { body = record { bytes = take n after; stop = End }; next = Some (drop n after) }
-
-abbrev pub body_read : Form → ℕ → List ℕ → Stop → BodyRead
-body_read Nothing n after stop = record { body = record { bytes = []; stop = End }; next = Some after }
-body_read Held n after stop = sized_read n after stop
-body_read Counted n after stop = sized_read n after stop
-body_read Rest n after stop = record { body = record { bytes = after; stop = stop }; next = None }
-body_read Chunked n after stop = chunked_read (decoded (length after + 1) stop after)
-
-abbrev pub is_cut_held : Form → ℕ → List ℕ → Bool
-is_cut_held Held n after = nat_lt (length after) n
-is_cut_held Nothing n after = false
-is_cut_held Counted n after = false
-is_cut_held Rest n after = false
-is_cut_held Chunked n after = false
-
-abbrev pub framed : Message → List ℕ → Stop → Option Framing → Heading
-framed m after stop None = Ends (Some (Refuses 417 m.version false))
-framed m after stop (Some f) = if is_cut_held f.form (said_length f) after then Ends (cut_answer stop) else Heads m f after
-
-abbrev pub heading : Stop → HeadRead → Heading
-heading stop (Faulty v fault) = Ends (fault_answer v fault stop)
-heading stop (Whole m after) = framed m after stop (framing m.version m.headers)
-
--- the heading at a place
-abbrev pub heading_of : Stop → List ℕ → Heading
-heading_of stop bytes = heading stop (head bytes)
-
-abbrev pub items_at : (Place → List Item) → Stop → Heading → List Item
-items_at go stop (Ends None) = []
-items_at go stop (Ends (Some item)) = item ∷ []
-items_at go stop (Heads m f after) =
-    let b = body_read f.form (said_length f) after stop in
-    item_of m f b.body ∷ go (goes_on m f b.next)
-
-abbrev pub items_from : ℕ → Stop → Place → List Item
-items_from zero stop place = []
-items_from (suc fuel) stop place = elim place [ None ↦ [] | Some bytes ↦ items_at (items_from fuel stop) stop (served (heading_of stop bytes)) ]
-
--- the pipeline of a feed
-abbrev pub items_of : Feed → List Item
-items_of feed = items_from (length feed.bytes + 1) feed.stop (Some feed.bytes)
 
 -- the reply, where the writer takes all
 abbrev pub reply_of : Use → Bool → Replied → Replied

@@ -9,10 +9,10 @@ use Rattle.tiny_http_wire.specs.Answer.{Answer, Printing, ResponseState}
 use Rattle.tiny_http_core.specs.declared.driver.Step.{Step}
 use Rattle.tiny_http_core.specs.declared.driver.Step.TheVariants as step
 use Rattle.tiny_http_core.specs.declared.driver.Timed.{Timed}
-use Rattle.tiny_http_core.specs.declared.exchange.AnswerForm.{AnswerForm}
+use Rattle.tiny_http_message.specs.declared.waiting.AnswerForm.{AnswerForm}
 use Rattle.tiny_http_core.specs.declared.driver.Reply.{Reply}
 use Rattle.tiny_http_core.specs.declared.driver.Reply.TheVariants as reply
-use Rattle.tiny_http_core.specs.HeadReads.{head_message, head_framing}
+use Rattle.tiny_http_message.specs.HeadReads.{head_message, head_framing}
 use Rattle.tiny_http_core.specs.Slots.{ResponseValue}
 use Rattle.tiny_http_core.specs.Steps.{Asked, Ask, Read, Respond, Drop, Replied, Handed, Ended, Given, Fault, NotYet, Done, NoSuch, Memory, fault_of_answer}
 use Rattle.tiny_http_core.specs.Conversation.{Dated}

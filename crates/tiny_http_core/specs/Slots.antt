@@ -3,14 +3,15 @@ use Rattle.std.specs.Prelude.{◌≡◌, ℕ, Bool, true, false, not, ◌&&◌, 
 use Rattle.std.specs.List.{list_all, last_or}
 use Rattle.std.specs.declared.io.ErrorKind.TheVariants.{OutOfMemory}
 use Rattle.httpdate.specs.declared.date.HttpDate.{HttpDate}
-use Rattle.tiny_http_wire.specs.declared.common.HTTPVersion.{HTTPVersion}
 use Rattle.tiny_http_wire.specs.declared.common.Header.{Header}
 use Rattle.tiny_http_wire.specs.declared.coding.Coding.TheVariants as coding
 use Rattle.tiny_http_wire.specs.Device.{Feed, ending}
-use Rattle.tiny_http_wire.specs.Answer.{Answer, answer_with, Text, Ending, Whole, Broken, Printing, text_of, coding_for, behind, whole, nothing}
-use Rattle.tiny_http_core.specs.declared.exchange.Form.{Form}
-use Rattle.tiny_http_core.specs.declared.exchange.Form.TheVariants.{Rest, Nothing, Held, Counted, Chunked}
-use Rattle.tiny_http_core.specs.Pipeline.{Item, Asks, Refuses, Request, is_head_method, said_length}
+use Rattle.tiny_http_wire.specs.Answer.{Answer, Text, Ending, Whole, Broken, Printing, text_of, coding_for, behind, whole, nothing}
+use Rattle.tiny_http_message.specs.declared.framing.Form.{Form}
+use Rattle.tiny_http_message.specs.declared.framing.Form.TheVariants.{Counted, Chunked}
+use Rattle.tiny_http_message.specs.Pipeline.{Item, Asks, Refuses, Request, is_head_method, said_length}
+use Rattle.tiny_http_message.specs.OwnAnswer.{own_printing}
+use Rattle.tiny_http_message.specs.Body.{body_finished}
 
 -- a response: the answer, and what its data give
 pub record ResponseValue : Type 0 where
@@ -65,14 +66,6 @@ drop_response = own_response 500 [] []
 -- the 100 of a request that expects it
 abbrev pub continue_response : ResponseValue
 continue_response = own_response 100 [] []
-
--- how such an answer is printed
-abbrev pub own_printing : HTTPVersion → Bool → HttpDate → Printing
-own_printing version withheld date = record { version = version; request_headers = []; no_body = withheld; upgrade = None; date = date }
-
--- the text of such an answer without data
-abbrev pub own_text : ℕ → HTTPVersion → Bool → HttpDate → List ℕ
-own_text status version withheld date = (text_of (answer_with status [] 0) (ending []) (own_printing version withheld date)).bytes
 
 -- an answer to a request: in its version, by its headers, without a body for HEAD
 abbrev pub to_request : Request → HttpDate → Printing
@@ -166,14 +159,6 @@ body_left s r = drop s.given r.body.bytes
 -- what is left of a request's body
 abbrev pub rest_of : Request → ℕ → Feed
 rest_of r given = record { bytes = drop given r.body.bytes; stop = r.body.stop }
-
--- the body is finished: it is nothing or held, or all its bytes were given out, or its end or fault was told
-abbrev pub body_finished : Form → ℕ → ℕ → Bool → Bool
-body_finished Nothing n given told = true
-body_finished Held n given told = true
-body_finished Counted n given told = given == n || told
-body_finished Chunked n given told = told
-body_finished Rest n given told = told
 
 abbrev pub is_body_finished : Request → Slot → Bool
 is_body_finished r s = body_finished r.framing.form (said_length r.framing) s.given s.told

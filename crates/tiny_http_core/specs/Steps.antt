@@ -9,8 +9,8 @@ use Rattle.tiny_http_wire.specs.declared.device.Stop.TheVariants.{End, Fault as 
 use Rattle.tiny_http_wire.specs.Bytes.{is_ascii}
 use Rattle.tiny_http_wire.specs.Heads.{Message}
 use Rattle.tiny_http_wire.specs.Answer.{Ending, Whole, Broken}
-use Rattle.tiny_http_core.specs.declared.framing.Framing.{Framing}
-use Rattle.tiny_http_core.specs.Pipeline.{Item, Asks, Refuses, Request}
+use Rattle.tiny_http_message.specs.declared.framing.Framing.{Framing}
+use Rattle.tiny_http_message.specs.Pipeline.{Item, Asks, Refuses, Request}
 use Rattle.tiny_http_core.specs.Slots.{ResponseValue, Slot, Stage, Waits, Answered, ByServer, Raw, Upgraded, turn_has_come, to_request, text_if, new_slot, body_left, last_slot, reader_is_held, reader_is_lost}
 
 -- a step, with its response as a value

@@ -3,26 +3,27 @@ ghost use Rattle.std.specs.Prelude.{◌≡◌, ◌-◌, ◌<◌, ◌^◌, true, 
 ghost use Rattle.std.specs.List.{AllZip};
 ghost use Rattle.tiny_http_wire.specs.Device.{Feed, Sink, HoldsNothing};
 ghost use Rattle.tiny_http_core.specs.Slots.{ResponseValue};
-ghost use Rattle.tiny_http_core.specs.Pipeline.{Item, Pipeline};
+ghost use Rattle.tiny_http_message.specs.Pipeline.{Item, Pipeline};
 ghost use Rattle.tiny_http_core.specs.Conversation.{IsConversation, IsFresh, Dated};
 ghost use Rattle.httpdate.specs.declared.date.HttpDate.{HttpDate as Date};
 ghost use Rattle.tiny_http_core.specs.Steps.{Replied, Done, Fault, is_closed_client, fault_of_answer};
 ghost use Rattle.std.specs.declared.io.ErrorKind.{ErrorKind};
-ghost use Rattle.tiny_http_core.specs.Source.{GoesOn};
+ghost use Rattle.tiny_http_stream.specs.Source.{GoesOn};
 ghost use Rattle.tiny_http_core.specs.Driving.{HasDone, TakesStep, told_response, told_step};
 ghost use Rattle.tiny_http_core.specs.Seen.{seen, Answers, printed_as, IsResponse, IsTold, TellsHonestly, TellHonestly};
-ghost use Rattle.tiny_http_core.specs.Outlet.{output_of, outlet_ended, outlet_held, outlet_writer, SentOn};
+ghost use Rattle.tiny_http_stream.specs.Outlet.{output_of, outlet_ended, outlet_held, outlet_writer, SentOn};
 ghost use Rattle.tiny_http_core.specs.Sending.{CanSend, FailsOnceUnlessEnded, FailsAtMostOnce, IsHonest};
 
-use crate::exchange::{AnswerForm, Exchange, Head, HeadRead, Waiting, read_head};
-use crate::outlet::Outlet;
 use crate::pending::Pending;
 use crate::sending::send;
-use crate::source::Source;
 use httpdate::HttpDate;
 use std::alloc::{AllocError, Global};
 use std::io::ErrorKind;
 use std::marker::Model;
+use tiny_http_message::exchange::{Head, HeadRead, read_head};
+use tiny_http_message::waiting::{AnswerForm, Waiting};
+use tiny_http_stream::outlet::Outlet;
+use tiny_http_stream::source::Source;
 use tiny_http_wire::device::{ReadDevice, WriteDevice};
 use tiny_http_wire::response::Response;
 
@@ -204,19 +205,19 @@ impl<R: ReadDevice, W: WriteDevice> Connection<R, W> {
             return Reply::NotYet;
         }
         match read_head(alloc, &mut self.source, now) {
-            Ok(HeadRead::Request(Exchange { head, waiting })) => match self
-                .pending
-                .issue(Some(waiting))
-            {
-                Ok(number) => {
-                    self.over = head.is_last;
-                    Reply::Handed(number, head)
+            Ok(HeadRead::Request(exchange)) => {
+                let (head, waiting) = exchange.into_parts();
+                match self.pending.issue(Some(waiting)) {
+                    Ok(number) => {
+                        self.over = head.is_last;
+                        Reply::Handed(number, head)
+                    }
+                    Err(_) => {
+                        self.ended = true;
+                        Reply::Memory
+                    }
                 }
-                Err(_) => {
-                    self.ended = true;
-                    Reply::Memory
-                }
-            },
+            }
             Ok(HeadRead::Refused { text, .. }) => {
                 self.ended = true;
                 match self.pending.refuse(&mut self.outlet, text) {

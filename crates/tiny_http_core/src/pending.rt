@@ -1,20 +1,20 @@
 //! Requests that wait for their answers, and texts that wait for their turn.
 ghost use Rattle.std.specs.Prelude.{◌≡◌, ◌↔◌, ◌≤◌, ◌++◌, ◌∷◌, false, List, [], length, Some, None, IfOk, IfSome, IfNone, OnOk, OnErr, IsTrue, ◌==◌, slice_get, slice_set};
-ghost use Rattle.tiny_http_core.specs.Turns.{Mark, Open, Held, AreInShape, first_unfinished};
-ghost use Rattle.tiny_http_core.specs.Outlet.{output_of, outlet_ended, outlet_held, SentOn};
+ghost use Rattle.tiny_http_turns.specs.Turns.{Mark, Open, Held, AreInShape, first_unfinished};
+ghost use Rattle.tiny_http_stream.specs.Outlet.{output_of, outlet_ended, outlet_held, SentOn};
 ghost use Rattle.tiny_http_core.specs.Sending.{CanSend, IsFlushed, SendsUnlessEnded, FailsOnceUnlessEnded};
-ghost use Rattle.tiny_http_core.specs.declared.body.Body.{Body};
-ghost use Rattle.tiny_http_core.specs.Source.{GoesOn};
-ghost use Rattle.tiny_http_core.specs.Body.{is_streaming, FillsFromBody};
+ghost use Rattle.tiny_http_message.specs.declared.body.Body.{Body};
+ghost use Rattle.tiny_http_stream.specs.Source.{GoesOn};
+ghost use Rattle.tiny_http_message.specs.Body.{is_streaming, FillsFromBody};
 ghost use Rattle.tiny_http_core.specs.Pending.{left_text, SendsLeft, Passes, LeavesText, waiting_form, last_body, streams};
 
-use crate::exchange::{AnswerForm, Waiting};
-use crate::outlet::Outlet;
 use crate::sending::{flush_quietly, write_quietly};
-use crate::source::Source;
-use crate::turns::{Finishing, Leaving, Turns, TurnsError};
 use std::alloc::Global;
 use std::io::ErrorKind;
+use tiny_http_message::waiting::{AnswerForm, Waiting};
+use tiny_http_stream::outlet::Outlet;
+use tiny_http_stream::source::Source;
+use tiny_http_turns::turns::{Finishing, Leaving, Turns, TurnsError};
 use tiny_http_wire::device::{ReadDevice, WriteDevice};
 
 /// The numbers of a connection: their turns, and what is kept of each that waits for its answer.

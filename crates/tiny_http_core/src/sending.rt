@@ -1,18 +1,16 @@
 //! An answer on its way out: printed, flushed, and what follows a fault.
-ghost use Rattle.std.specs.Prelude.{◌≡◌, ◌<◌, ◌^◌, ◌==◌, true, false, [], length, Some, None, IfOk, IfErr, OnErr, MatchBool};
+ghost use Rattle.std.specs.Prelude.{◌≡◌, ◌<◌, ◌^◌, ◌==◌, true, false, [], length, Some, None, IfErr, OnErr, MatchBool};
 ghost use Rattle.std.specs.IoError.{error_kind};
 ghost use Rattle.tiny_http_wire.specs.Device.{Feed};
-ghost use Rattle.tiny_http_core.specs.Slots.{own_text};
-ghost use Rattle.tiny_http_core.specs.Outlet.{output_of, outlet_ended, outlet_held, SentOn};
+ghost use Rattle.tiny_http_stream.specs.Outlet.{output_of, outlet_ended, outlet_held, SentOn};
 ghost use Rattle.tiny_http_core.specs.Sending.{Sends, SendsUnlessEnded, EndsQuietly, Abandons, CanSend, FailsOnce, FailsOnceUnlessEnded, IsHonest};
 
-use crate::outlet::Outlet;
 use httpdate::HttpDate;
-use std::alloc::{AllocError, Global};
+use std::alloc::Global;
 use std::io;
-use std::io::ErrorKind;
-use tiny_http_wire::common::{HTTPVersion, StatusCode};
-use tiny_http_wire::device::{Budget, ReadDevice, WriteDevice};
+use tiny_http_stream::outlet::Outlet;
+use tiny_http_wire::common::HTTPVersion;
+use tiny_http_wire::device::{ReadDevice, WriteDevice};
 use tiny_http_wire::response::Response;
 
 // Ends an outlet on which printing met a fault. Where the writer's count is still this one the fault was not the
@@ -59,29 +57,6 @@ pub(crate) fn send<W: WriteDevice, D: ReadDevice + Drop>(
         return Err(fault);
     }
     outlet.flush()
-}
-
-// How many bytes an answer of the server's own has, at most.
-const OWN_ANSWER: usize = 128;
-
-/// The text of an answer of the server's own: this code, no headers of its own and no data. An error where there is no
-/// memory for it.
-pub(crate) fn own_answer(
-    alloc: Global,
-    status: StatusCode,
-    version: HTTPVersion,
-    no_body: bool,
-    now: HttpDate,
-) -> Result<Vec<u8>, AllocError>
-    ensures { IfOk result (λ text. text.items ≡ own_text status.0 version no_body now) }
-{
-    let bytes = Vec::with_capacity(alloc, OWN_ANSWER)?;
-    let mut writer = Budget::from_vec(bytes, usize::MAX, ErrorKind::OutOfMemory);
-    let answer = Response::empty(alloc, status);
-    match answer.raw_print(alloc, &mut writer, version, &[], no_body, None, now) {
-        Ok(()) => Ok(writer.into_bytes()),
-        Err(_) => Err(AllocError),
-    }
 }
 
 /// Writes a text. No reply tells a fault that is met there.

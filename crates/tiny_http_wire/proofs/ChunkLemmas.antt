@@ -9,16 +9,16 @@ use Rattle.std.proofs.lemmas.List.{take-append-drop, length-take}
 use Rattle.std.proofs.lemmas.Bool.{and_parts, ltb-true, ltb-false, leb-true, leb-false, lt-ltb, le-ltb, le-leb, lt-leb}
 use Rattle.std.specs.declared.io.ErrorKind.{ErrorKind}
 use Rattle.std.specs.declared.io.ErrorKind.TheVariants.{InvalidData}
-use Rattle.tiny_http_wire.specs.declared.device.Stop.{Stop}
-use Rattle.tiny_http_wire.specs.declared.device.Stop.TheVariants.{End}
-use Rattle.tiny_http_wire.specs.Bytes.{HasNo, IsEmptyOrBegins, semicolon, crlf}
-use Rattle.tiny_http_wire.specs.Lines.{Line}
+use Rattle.tiny_http_device.specs.declared.device.Stop.{Stop}
+use Rattle.tiny_http_device.specs.declared.device.Stop.TheVariants.{End}
+use Rattle.tiny_http_text.specs.Bytes.{HasNo, IsEmptyOrBegins, semicolon, crlf}
+use Rattle.tiny_http_text.specs.Lines.{Line}
 use Rattle.tiny_http_wire.specs.Chunks.{longest_line, most_trailers, is_bws, is_hex, SizeText, IsShortLine, Chunk, chunk_text, IsChunk, IsLastLine, IsTrailerLine, lines_text, data_of, WholeChunks, HasNoShortLine, LineFault, CloseFault, Remainder, NoSizeLine, BadSize, CutData, NoClose, CutTrailer, LongTrailer, Breaks, CutChunks}
-use Rattle.tiny_http_wire.specs.Device.{fault_of}
-use Rattle.tiny_http_wire.specs.Reading.{line, front_while}
+use Rattle.tiny_http_device.specs.Device.{fault_of}
+use Rattle.tiny_http_head.specs.Reading.{line, front_while}
 use Rattle.tiny_http_wire.specs.ChunkReading.{digits_of, size_said, size_of, Decoded, broken, LineRead, short_in, short_line, trailer_at, trailer_in, trailer_part, after_data, with_data, closed, data_at, sized, chunk_in, decoded}
-use Rattle.tiny_http_wire.proofs.LineLemmas.{line-is, line-front, line-none}
-use Rattle.tiny_http_wire.proofs.TextLemmas.{trims-is, trims-one}
+use Rattle.tiny_http_head.proofs.LineLemmas.{line-is, line-front, line-none}
+use Rattle.tiny_http_text.proofs.TextLemmas.{trims-is, trims-one}
 
 abbrev before_semicolon : ℕ → Bool
 before_semicolon b = not (b == semicolon)

@@ -6,12 +6,12 @@ use Rattle.std.proofs.lemmas.List.{take-append-le, take-append-drop}
 use Rattle.std.proofs.Math.Seq.{take-length}
 use Rattle.std.specs.declared.io.ErrorKind.{ErrorKind}
 use Rattle.std.specs.declared.io.ErrorKind.TheVariants.{InvalidData}
-use Rattle.tiny_http_wire.specs.declared.device.Stop.{Stop}
-use Rattle.tiny_http_wire.specs.Bytes.{crlf}
-use Rattle.tiny_http_wire.specs.Device.{Feed, given, fault_of}
-use Rattle.tiny_http_wire.specs.Lines.{has_crlf}
+use Rattle.tiny_http_device.specs.declared.device.Stop.{Stop}
+use Rattle.tiny_http_text.specs.Bytes.{crlf}
+use Rattle.tiny_http_device.specs.Device.{Feed, given, fault_of}
+use Rattle.tiny_http_text.specs.Lines.{has_crlf}
 use Rattle.tiny_http_wire.specs.Chunks.{LineFault, longest_line}
-use Rattle.tiny_http_wire.proofs.Feeds.{given-along}
+use Rattle.tiny_http_device.proofs.Feeds.{given-along}
 use Rattle.tiny_http_wire.specs.declared.chunked.size.Size.{Size}
 use Rattle.tiny_http_wire.specs.declared.chunked.size.Size.TheVariants.{Blank}
 use Rattle.tiny_http_wire.specs.declared.chunked.line.Line.{Line}

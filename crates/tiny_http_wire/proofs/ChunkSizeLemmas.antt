@@ -6,9 +6,9 @@ use Rattle.std.specs.Char.{digit_value}
 use Rattle.std.specs.Str.Parse.{digits_value_after}
 use Rattle.std.proofs.Math.Nat.{pow-le-pow_right, pow-suc}
 use Rattle.std.proofs.lemmas.Bool.{ltb-true, ltb-false, lt-ltb, le-ltb, le-leb, lt-leb}
-use Rattle.tiny_http_wire.specs.Bytes.{semicolon, skip_while, skip_end_while}
+use Rattle.tiny_http_text.specs.Bytes.{semicolon, skip_while, skip_end_while}
 use Rattle.tiny_http_wire.specs.Chunks.{is_bws, is_hex}
-use Rattle.tiny_http_wire.specs.Reading.{front_while}
+use Rattle.tiny_http_head.specs.Reading.{front_while}
 use Rattle.tiny_http_wire.specs.ChunkReading.{size_said, size_of}
 use Rattle.tiny_http_wire.specs.declared.chunked.size.Size.{Size}
 use Rattle.tiny_http_wire.specs.declared.chunked.size.Size.TheVariants.{Blank, Digits, Behind, Extension, Wrong}

@@ -7,10 +7,10 @@ use Rattle.std.proofs.lemmas.List.{drop-drop}
 use Rattle.std.proofs.lemmas.Bool.{le-ltb, lt-ltb, ltb-true, ltb-false}
 use Rattle.std.specs.declared.io.ErrorKind.{ErrorKind}
 use Rattle.std.specs.declared.io.ErrorKind.TheVariants.{InvalidData}
-use Rattle.tiny_http_wire.specs.declared.device.Stop.{Stop}
-use Rattle.tiny_http_wire.specs.Bytes.{crlf}
-use Rattle.tiny_http_wire.specs.Device.{Feed, given, TakesFront, fault_of}
-use Rattle.tiny_http_wire.proofs.Feeds.{given-along}
+use Rattle.tiny_http_device.specs.declared.device.Stop.{Stop}
+use Rattle.tiny_http_text.specs.Bytes.{crlf}
+use Rattle.tiny_http_device.specs.Device.{Feed, given, TakesFront, fault_of}
+use Rattle.tiny_http_device.proofs.Feeds.{given-along}
 use Rattle.tiny_http_wire.specs.Chunks.{IsShortLine, LineFault, CloseFault, SizeText, WholeChunks, CutChunks}
 use Rattle.tiny_http_wire.specs.ChunkReading.{decoded, data_at, closed, after_data, trailer_part, broken, with_data, size_of}
 use Rattle.tiny_http_wire.proofs.ChunkLemmas.{Go, made, IsDecoded, decoded-is, decoded-one, decoded-front, sized-line, short-one, short-fault, size-is, close-is, close-fault, trailer-end, trailer-more, trailer-faulty, at-cons, drop_at}

@@ -3,7 +3,7 @@ use Rattle.std.proofs.Common.{ℕ, ◌+◌, ◌-◌, ◌^◌, min, List, Result,
 use Rattle.std.specs.IoError.{error_kind}
 use Rattle.std.specs.declared.io.Error.{Error}
 use Rattle.std.specs.declared.io.ErrorKind.{ErrorKind}
-use Rattle.tiny_http_wire.specs.Device.{Sink, Took, Failed, Puts, SameFaults, Faulted, Uses}
+use Rattle.tiny_http_device.specs.Device.{Sink, Took, Failed, Puts, SameFaults, Faulted, Uses}
 use Rattle.tiny_http_wire.specs.Answer.{Text, Prints}
 
 -- nothing was written

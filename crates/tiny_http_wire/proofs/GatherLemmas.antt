@@ -4,8 +4,8 @@ use Rattle.std.specs.IoError.{error_kind}
 use Rattle.std.specs.declared.io.Error.{Error}
 use Rattle.std.proofs.Math.Seq.{take-add}
 use Rattle.std.proofs.lemmas.List.{drop-drop, take_all, take-append-drop}
-use Rattle.tiny_http_wire.specs.Device.{Feed, ReadsFrom, Fills, FilledTo, GatheredTo}
-use Rattle.tiny_http_wire.specs.declared.device.Stop.TheVariants.{End, Fault}
+use Rattle.tiny_http_device.specs.Device.{Feed, ReadsFrom, Fills, FilledTo, GatheredTo}
+use Rattle.tiny_http_device.specs.declared.device.Stop.TheVariants.{End, Fault}
 use Rattle.std.specs.declared.io.ErrorKind.TheVariants.{OutOfMemory}
 use Rattle.tiny_http_wire.proofs.BodyLemmas.{read_front}
 

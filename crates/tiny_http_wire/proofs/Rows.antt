@@ -2,10 +2,10 @@
 use Rattle.std.proofs.Common.{◌≡◌, refl, ℕ, List, [], ◌∷◌, ◌++◌, Some, None, Ok, Err, zero, suc}
 use Rattle.std.specs.Prelude.{codes, replicate}
 use Rattle.std.specs.declared.io.ErrorKind.TheVariants.{InvalidData, UnexpectedEof}
-use Rattle.tiny_http_wire.specs.declared.device.Stop.TheVariants.{End}
-use Rattle.tiny_http_wire.specs.declared.common.Method.TheVariants.{Get}
-use Rattle.tiny_http_wire.specs.Heads.{version, Cut, NotAscii, Malformed}
-use Rattle.tiny_http_wire.specs.Reading.{head, Whole, Faulty}
+use Rattle.tiny_http_device.specs.declared.device.Stop.TheVariants.{End}
+use Rattle.tiny_http_head.specs.declared.common.Method.TheVariants.{Get}
+use Rattle.tiny_http_head.specs.Heads.{version, Cut, NotAscii, Malformed}
+use Rattle.tiny_http_head.specs.Reading.{head, Whole, Faulty}
 use Rattle.tiny_http_wire.specs.ChunkReading.{decoded}
 
 plain_request : head (codes "GET /hello HTTP/1.1\r\n\r\n") ≡ Whole (record { method = Get; path = codes "/hello"; version = version 1 1; headers = [] }) []

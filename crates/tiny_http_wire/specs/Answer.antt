@@ -1,25 +1,22 @@
 -- Answers, and the text that is sent for one (RFC 9112, sections 4, 5 and 6).
 use Rattle.std.specs.Prelude.{◌≡◌, ℕ, Bool, ◌&&◌, ◌||◌, List, [], ◌++◌, length, take, Option, Some, None, Result, Ok, Err, codes, decimal, nat_lt, nat_le, ◌==◌, if◌then◌else◌, ◌⊎◌}
 use Rattle.std.specs.List.{flat_map, list_any, list_all}
-use Rattle.std.specs.Prelude.{◌^◌}
-use Rattle.std.specs.Str.Parse.{without_leading_plus, digits_value}
-use Rattle.std.specs.Str.{all_ascii_digits}
 use Rattle.std.specs.IoError.{error_kind}
 use Rattle.std.specs.declared.io.Error.{Error}
 use Rattle.std.specs.declared.io.ErrorKind.{ErrorKind}
 use Rattle.std.specs.declared.io.ErrorKind.TheVariants.{InvalidInput, OutOfMemory}
 use Rattle.httpdate.specs.Date.{date_text}
 use Rattle.httpdate.specs.declared.date.HttpDate.{HttpDate}
-use Rattle.tiny_http_wire.specs.declared.common.HTTPVersion.{HTTPVersion}
-use Rattle.tiny_http_wire.specs.declared.common.Header.{Header}
+use Rattle.tiny_http_head.specs.declared.common.HTTPVersion.{HTTPVersion}
+use Rattle.tiny_http_head.specs.declared.common.Header.{Header}
 use Rattle.tiny_http_wire.specs.declared.coding.Coding.{Coding}
 use Rattle.tiny_http_wire.specs.declared.coding.Coding.TheVariants.{Identity, Chunked}
 use Rattle.tiny_http_wire.specs.declared.coding.FramingHeader.{FramingHeader}
 use Rattle.tiny_http_wire.specs.declared.coding.FramingHeader.TheVariants.{Neither, TransferEncoding, ContentLength}
-use Rattle.tiny_http_wire.specs.Common.{version_text, same_name, reason_phrase}
-use Rattle.tiny_http_wire.specs.Device.{Feed, fault_of, Sink, Took, Failed}
-use Rattle.tiny_http_wire.specs.declared.device.Stop.{Stop}
-use Rattle.tiny_http_wire.specs.declared.device.Stop.TheVariants.{End, Fault}
+use Rattle.tiny_http_head.specs.Common.{version_text, same_name, reason_phrase}
+use Rattle.tiny_http_device.specs.Device.{Feed, fault_of, Sink, Took, Failed}
+use Rattle.tiny_http_device.specs.declared.device.Stop.{Stop}
+use Rattle.tiny_http_device.specs.declared.device.Stop.TheVariants.{End, Fault}
 use Rattle.tiny_http_wire.specs.Chunked.{full_chunks, chunked}
 
 -- an answer without its data
@@ -190,10 +187,3 @@ PrintsGathered old new r front withheld feed = Prints old new r (gathered_body f
 pub record ResponseState (R : Type 0) : Type 0 where
   pub answer : Answer
   pub data_reader : R
-
--- the length that a Content-Length value says (RFC 9110, section 8.6): an optional plus, one digit or more, below 2^64
-abbrev pub length_of : List ℕ → Option ℕ
-length_of ds = if nat_lt 0 (length ds) && (all_ascii_digits ds && nat_lt (digits_value 10 ds) (2 ^ 64)) then Some (digits_value 10 ds) else None
-
-unfoldable pub length_in : List ℕ → Option ℕ
-length_in value = length_of (without_leading_plus value)

@@ -1,8 +1,8 @@
 -- A size line or a trailer line of a chunked body, taken from a reader byte by byte.
 use Rattle.std.specs.Prelude.{◌≡◌, ℕ, Bool, true, false, ◌==◌, List, [], ◌++◌, length, Option, Some, None, ⊤}
 use Rattle.std.specs.declared.io.ErrorKind.{ErrorKind}
-use Rattle.tiny_http_wire.specs.Bytes.{crlf}
-use Rattle.tiny_http_wire.specs.Device.{Feed, given, fault_of}
+use Rattle.tiny_http_text.specs.Bytes.{crlf}
+use Rattle.tiny_http_device.specs.Device.{Feed, given, fault_of}
 use Rattle.tiny_http_wire.specs.Chunks.{IsShortLine, LineFault}
 use Rattle.tiny_http_wire.specs.declared.chunked.size.Size.{Size}
 use Rattle.tiny_http_wire.specs.declared.chunked.size.Size.TheVariants.{Blank}

@@ -1,7 +1,7 @@
 -- The size that a size line gives, read byte by byte (RFC 9112, section 7.1).
 use Rattle.std.specs.Prelude.{ℕ, ◌+◌, ◌*◌, ◌^◌, ◌<◌, ◌≤◌, ◌==◌, nat_lt, List, [], ◌∷◌, Option, Some, None, if◌then◌else◌, ⊤}
 use Rattle.std.specs.Char.{digit_value}
-use Rattle.tiny_http_wire.specs.Bytes.{semicolon}
+use Rattle.tiny_http_text.specs.Bytes.{semicolon}
 use Rattle.tiny_http_wire.specs.Chunks.{is_bws, is_hex}
 use Rattle.tiny_http_wire.specs.declared.chunked.size.Size.{Size}
 use Rattle.tiny_http_wire.specs.declared.chunked.size.Size.TheVariants.{Blank, Digits, Behind, Extension, Wrong}

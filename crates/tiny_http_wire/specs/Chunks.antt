@@ -5,10 +5,10 @@ use Rattle.std.specs.Char.{digit_value}
 use Rattle.std.specs.Str.Parse.{digits_value}
 use Rattle.std.specs.declared.io.ErrorKind.{ErrorKind}
 use Rattle.std.specs.declared.io.ErrorKind.TheVariants.{InvalidData}
-use Rattle.tiny_http_wire.specs.declared.device.Stop.{Stop}
-use Rattle.tiny_http_wire.specs.Device.{fault_of}
-use Rattle.tiny_http_wire.specs.Bytes.{crlf, HasNo, Trims, IsEmptyOrBegins, semicolon}
-use Rattle.tiny_http_wire.specs.Lines.{has_crlf}
+use Rattle.tiny_http_device.specs.declared.device.Stop.{Stop}
+use Rattle.tiny_http_device.specs.Device.{fault_of}
+use Rattle.tiny_http_text.specs.Bytes.{crlf, HasNo, Trims, IsEmptyOrBegins, semicolon}
+use Rattle.tiny_http_text.specs.Lines.{has_crlf}
 
 abbrev pub longest_line : ℕ
 longest_line = 8192

@@ -1,16 +1,14 @@
 -- What a decoder of a chunked body still gives (RFC 9112, section 7.1).
 use Rattle.std.specs.Prelude.{◌≡◌, ℕ, ◌+◌, ◌<◌, nat_lt, List, [], ◌++◌, length, Option, Some, None, Result, Ok, Err, ⊤}
 use Rattle.std.specs.Option.{option_map}
-use Rattle.std.specs.IoError.{error_kind}
-use Rattle.std.specs.declared.io.Error.{Error}
 use Rattle.std.specs.declared.io.ErrorKind.{ErrorKind}
-use Rattle.tiny_http_wire.specs.declared.device.Stop.{Stop}
-use Rattle.tiny_http_wire.specs.declared.device.Stop.TheVariants.{End, Fault}
+use Rattle.tiny_http_device.specs.declared.device.Stop.{Stop}
+use Rattle.tiny_http_device.specs.declared.device.Stop.TheVariants.{End, Fault}
 use Rattle.tiny_http_wire.specs.declared.chunked.Next.{Next}
 use Rattle.tiny_http_wire.specs.declared.chunked.Next.TheVariants.{Line, Data, Over, Broken}
 use Rattle.tiny_http_wire.specs.declared.chunked.Decoding.{Decoding}
 use Rattle.tiny_http_wire.specs.declared.chunked.Decoder.{Decoder}
-use Rattle.tiny_http_wire.specs.Device.{Feed}
+use Rattle.tiny_http_device.specs.Device.{Feed}
 use Rattle.tiny_http_wire.specs.ChunkReading.{Decoded, decoded, data_at, trailer_part, broken}
 
 -- the data that are still to come, and what the reader gives behind the body, or the fault
@@ -88,13 +86,6 @@ over_at feed = record { bytes = []; behind = Ok feed }
 abbrev pub BreaksBy : ErrorKind → Option Coming → Type 0
 BreaksBy kind None = ⊤
 BreaksBy kind (Some c) = c ≡ record { bytes = []; behind = Err kind }
-
--- the answer of a read is this end or fault
-abbrev pub AnswersStop : Stop → Result ℕ Error → Type 0
-AnswersStop End (Ok n) = n ≡ 0
-AnswersStop End (Err e) = ⊥
-AnswersStop (Fault kind) (Ok n) = ⊥
-AnswersStop (Fault kind) (Err e) = error_kind e ≡ kind
 
 -- the reader inside of a decoder
 abbrev pub decoder_inner : {R : Type 0} → Decoder R → R

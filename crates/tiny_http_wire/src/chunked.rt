@@ -2,16 +2,16 @@
 ghost use Rattle.std.specs.Prelude.{◌≡◌, ℕ, ◌<◌, ◌≤◌, List, length, take, Option, None, Some, Ok, Err, IfOk, IfErr, OnOk, OnErr, IsSome, IfSome};
 ghost use Rattle.std.specs.Option.{option_map};
 ghost use Rattle.std.specs.IoError.{error_kind};
-ghost use Rattle.tiny_http_wire.specs.Device.{given, StopsBy, TakesFront};
+ghost use Rattle.tiny_http_device.specs.Device.{AnswersStop, given, StopsBy, TakesFront};
 ghost use Rattle.tiny_http_wire.specs.Chunks.{WholeChunks, CutChunks};
 ghost use Rattle.tiny_http_wire.specs.ChunkLine.{CutBy};
-ghost use Rattle.tiny_http_wire.specs.Decoding.{comes, trails, IsReady, next_stop, decoding_coming, decoding_stop, with_front, over_at, BreaksBy, AnswersStop};
+ghost use Rattle.tiny_http_wire.specs.Decoding.{comes, trails, IsReady, next_stop, decoding_coming, decoding_stop, with_front, over_at, BreaksBy};
 
 mod line;
 mod size;
 
 use crate::chunked::line::{next_byte, next_line};
-use crate::device::{ReadDevice, Stop, read_front};
+use tiny_http_device::device::{ReadDevice, Stop, read_front};
 use std::io;
 use std::io::{ErrorKind, Read};
 
@@ -241,7 +241,7 @@ pub struct Decoder<R> {
 }
 
 impl<R: ReadDevice> Decoder<R> {
-    ghost use Rattle.tiny_http_wire.specs.Device.{Feed};
+    ghost use Rattle.tiny_http_device.specs.Device.{Feed};
     ghost use Rattle.tiny_http_wire.specs.Decoding.{decoder_coming, decoder_inner, decoder_stop};
 
     /// The data of a body whose first byte is the reader's next one.
@@ -320,7 +320,7 @@ impl<R: ReadDevice> ReadDevice for Decoder<R> {
 impl<R: ReadDevice> Read for Decoder<R> {
     ghost use Rattle.std.specs.Io.{ReadsAtMost};
     ghost use Rattle.std.specs.Io.KnownBytes.{ReadConsumes};
-    ghost use Rattle.tiny_http_wire.specs.Device.{bytes_of};
+    ghost use Rattle.tiny_http_device.specs.Device.{bytes_of};
     ghost use Rattle.tiny_http_wire.specs.Decoding.{decoder_feed, decoder_coming, decoder_inner, decoder_stop};
 
     ghost remaining = { λ d. bytes_of (decoder_feed R.feed d) };

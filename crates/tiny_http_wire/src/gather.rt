@@ -1,8 +1,8 @@
 //! The data of an answer, read whole.
 ghost use Rattle.std.specs.Prelude.{◌≡◌, ◌<◌, ◌≤◌, ◌+◌, ◌^◌, length, drop, take, IfOk, IfSome};
-ghost use Rattle.tiny_http_wire.specs.Device.{Fills, ReadsFrom, Gathers};
+ghost use Rattle.tiny_http_device.specs.Device.{Fills, ReadsFrom, Gathers};
 
-use crate::device::{ReadDevice, read_some};
+use tiny_http_device::device::{ReadDevice, read_some};
 use std::alloc::Global;
 use std::io;
 use std::io::ErrorKind;

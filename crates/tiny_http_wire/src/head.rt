@@ -2,13 +2,13 @@
 ghost use Rattle.std.specs.Prelude.{◌≡◌};
 ghost use Rattle.std.specs.List.{flat_map};
 ghost use Rattle.std.specs.Option.{option_copied};
-ghost use Rattle.tiny_http_wire.specs.Device.{Puts};
+ghost use Rattle.tiny_http_device.specs.Device.{Puts};
 ghost use Rattle.tiny_http_wire.specs.Top.{head_of};
 ghost use Rattle.tiny_http_wire.specs.Answer.{has_header, status_line, field_line, header_line, protocol_lines, upgrade_lines, server_line, date_line, length_line, framing_line};
 
 use crate::coding::FramingHeader;
-use crate::common::{HTTPVersion, Header, StatusCode};
-use crate::device::{WriteDevice, put, put_all};
+use tiny_http_head::common::{HTTPVersion, Header, StatusCode};
+use tiny_http_device::device::{WriteDevice, put, put_all};
 use httpdate::HttpDate;
 use itoa::Buffer;
 use std::io;

@@ -2,16 +2,16 @@
 ghost use Rattle.std.specs.Prelude.{◌≡◌, Option, Some, None, IfSome, if◌then◌else◌, ◌∷◌, IfOk, vec_len, string_len, string_bytes, [], ◌<◌, ◌^◌, ◌++◌, length};
 ghost use Rattle.std.specs.Option.{option_copied};
 ghost use Rattle.tiny_http_wire.specs.Answer.{Answer, ResponseState, Prints, behind, whole, identity_body, is_withheld, is_ascii, PrintsGathered, PrintsUncoded, PrintsAnswer, as_it_is, nothing, text_plain, answer_with};
-ghost use Rattle.tiny_http_wire.specs.Cursor.{cursor_bytes};
+ghost use Rattle.tiny_http_device.specs.Cursor.{cursor_bytes};
 ghost use Rattle.tiny_http_wire.specs.Top.{head_of};
-ghost use Rattle.tiny_http_wire.specs.Device.{Puts, Uses};
+ghost use Rattle.tiny_http_device.specs.Device.{Puts, Uses};
 
 use crate::body::put_exactly;
 use crate::coding::FramingHeader;
-use crate::common::{HTTPVersion, Header, HeaderField, StatusCode};
-use crate::device::{ReadDevice, WriteDevice, put};
+use tiny_http_head::common::{HTTPVersion, Header, HeaderField, StatusCode};
+use tiny_http_device::device::{ReadDevice, WriteDevice, put};
 use crate::gather::gather;
-use crate::grammar::owned;
+use tiny_http_text::copies::owned;
 use crate::head::{Top, put_head};
 use httpdate::HttpDate;
 use std::alloc::{AllocError, Global};

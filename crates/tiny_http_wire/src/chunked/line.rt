@@ -1,11 +1,11 @@
 //! A size line or a trailer line, taken from a reader byte by byte (RFC 9112, section 7.1).
 ghost use Rattle.std.specs.Prelude.{◌≡◌, [], ◌∷◌, IfOk, IfErr, OnErr};
-ghost use Rattle.tiny_http_wire.specs.Device.{given};
+ghost use Rattle.tiny_http_device.specs.Device.{given};
 ghost use Rattle.tiny_http_wire.specs.ChunkSize.{SizeFits};
 ghost use Rattle.tiny_http_wire.specs.ChunkLine.{scan_step, OneLine, NoLine, CutBy};
 
 use crate::chunked::size::Size;
-use crate::device::ReadDevice;
+use tiny_http_device::device::ReadDevice;
 use std::io::ErrorKind;
 
 /// A line: the number of its bytes before the CR LF, and what they say of a size.

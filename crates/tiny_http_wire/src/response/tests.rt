@@ -1,7 +1,7 @@
 //! Answers printed into a writer of bounded room.
 use super::*;
-use crate::ascii::AsciiString;
-use crate::device::{Budget, Canned};
+use tiny_http_text::ascii::AsciiString;
+use tiny_http_device::device::{Budget, Canned};
 use std::process::Abort;
 use std::test::Fail;
 

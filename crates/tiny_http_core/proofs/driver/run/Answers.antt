@@ -3,11 +3,11 @@ use Rattle.std.specs.List.{AllZip}
 use Rattle.std.proofs.lemmas.List.{map-append}
 use Rattle.std.proofs.lemmas.Grind.{common_steps}
 use Rattle.tiny_http_wire.specs.Device.{Feed}
-use Rattle.tiny_http_core.specs.Source.{GoesOn}
+use Rattle.tiny_http_stream.specs.Source.{GoesOn}
 use Rattle.tiny_http_core.specs.Seen.{IsTold, seen}
-use Rattle.tiny_http_core.specs.Outlet.{OutletState, output_of, SentOn, outlet_writer}
+use Rattle.tiny_http_stream.specs.Outlet.{OutletState, output_of, SentOn, outlet_writer}
 use Rattle.tiny_http_core.specs.Sending.{FailsOnce}
-use Rattle.tiny_http_core.proofs.GoingOn.{goes-on_same, goes-on_more}
+use Rattle.tiny_http_stream.proofs.GoingOn.{goes-on_same, goes-on_more}
 use Rattle.tiny_http_core.proofs.RunLemmas.{joins-more, joins-end, fails-step, honest-step, honest-end}
 use Rattle.tiny_http_core.proofs.DriverLemmas.{done-none, done-step, tells-step}
 use Rattle.tiny_http_core.proofs.driver.run.Goals as goal

@@ -3,10 +3,10 @@ use Rattle.std.specs.List.{AllZip}
 use Rattle.std.specs.Vec.Iter.{into_iter_items}
 use Rattle.tiny_http_wire.specs.Device.{Feed, Sink, HoldsNothing}
 use Rattle.tiny_http_core.specs.Conversation.{IsFresh, Dated}
-use Rattle.tiny_http_core.specs.Source.{GoesOn}
+use Rattle.tiny_http_stream.specs.Source.{GoesOn}
 use Rattle.tiny_http_core.specs.Seen.{IsTold, seen, TellHonestly}
 use Rattle.tiny_http_core.specs.Sending.{FailsOnce}
-use Rattle.tiny_http_core.specs.Outlet.{output_of, SentOn}
+use Rattle.tiny_http_stream.specs.Outlet.{output_of, SentOn}
 use Rattle.tiny_http_core.specs.declared.driver.Timed.{Timed}
 use Rattle.tiny_http_core.specs.declared.driver.Reply.{Reply}
 use Rattle.tiny_http_core.specs.Connection.{ConnectionState}

@@ -1,4 +1,4 @@
-use Rattle.tiny_http_core.proofs.Holding.{is-flushed}
+use Rattle.tiny_http_core.proofs.SendLemmas.{is-flushed}
 use Rattle.tiny_http_core.proofs.PassLemmas.{flushed-behind}
 use Rattle.tiny_http_core.proofs.pending.write_left.Goals as goal
 

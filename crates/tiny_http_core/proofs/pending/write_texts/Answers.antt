@@ -1,5 +1,5 @@
 use Rattle.std.proofs.Common.{subst, List, ℕ}
-use Rattle.tiny_http_core.specs.Outlet.{output_of, outlet_ended}
+use Rattle.tiny_http_stream.specs.Outlet.{output_of, outlet_ended}
 use Rattle.tiny_http_core.specs.Sending.{SendsUnlessEnded}
 use Rattle.tiny_http_core.proofs.SendLemmas.{once-append}
 use Rattle.tiny_http_core.proofs.PassLemmas.{writes-next, writes-last}

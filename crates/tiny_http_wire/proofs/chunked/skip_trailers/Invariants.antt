@@ -1,5 +1,5 @@
 use Rattle.std.proofs.Common.{◌≡◌, ◌-◌}
-use Rattle.tiny_http_wire.specs.Device.{TakesFront}
+use Rattle.tiny_http_device.specs.Device.{TakesFront}
 use Rattle.tiny_http_wire.specs.Decoding.{trails}
 use Rattle.tiny_http_wire.proofs.chunked.skip_trailers.Given as goal
 

@@ -1,5 +1,5 @@
 use Rattle.std.proofs.Common.{◌-◌, ◌≤◌, length}
-use Rattle.tiny_http_wire.specs.Device.{FilledTo}
+use Rattle.tiny_http_device.specs.Device.{FilledTo}
 use Rattle.tiny_http_wire.proofs.gather.fill.Given as goal
 
 abbrev pub invariant-loop-at : goal.invariant-loop-at

@@ -1,5 +1,5 @@
 use Rattle.std.proofs.Common.{◌≡◌, length}
-use Rattle.tiny_http_wire.specs.Device.{GatheredTo}
+use Rattle.tiny_http_device.specs.Device.{GatheredTo}
 use Rattle.tiny_http_wire.proofs.gather.gather.Given as goal
 
 abbrev pub invariant-loop-turn : goal.invariant-loop-turn

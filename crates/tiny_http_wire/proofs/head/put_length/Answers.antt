@@ -1,6 +1,4 @@
-use Rattle.std.proofs.Common.{◌≡◌, List, ℕ, sym, ap, ◌∙◌, subst}
 use Rattle.tiny_http_wire.specs.Answer.{field_line}
-use Rattle.tiny_http_wire.specs.Device.{Puts}
 use Rattle.tiny_http_wire.proofs.head.put_length.Goals as goal
 
 pub returns : goal.returns

@@ -2,18 +2,19 @@ use Rattle.std.proofs.Common.{rules, ◌≡◌, refl, sym, ap, ◌∙◌, subst,
 use Rattle.std.specs.Global.{Vec}
 use Rattle.std.specs.Prelude.{ℕ}
 use Rattle.std.specs.declared.alloc.AllocError.{AllocError}
-use Rattle.tiny_http_core.specs.declared.exchange.Waiting.{Waiting}
-use Rattle.tiny_http_core.specs.declared.exchange.Exchange.{Exchange}
-use Rattle.tiny_http_core.specs.declared.exchange.HeadRead.{HeadRead}
-use Rattle.tiny_http_core.specs.declared.exchange.HeadRead.TheVariants as read
-use Rattle.tiny_http_core.specs.declared.outlet.Outlet.{Outlet}
-use Rattle.tiny_http_core.specs.HeadReads.{ReadsHead, head_message, head_framing}
-use Rattle.tiny_http_core.specs.Turns.{Mark, AreInShape, Open}
-use Rattle.tiny_http_core.specs.Outlet.{output_of, outlet_ended}
+use Rattle.tiny_http_message.specs.declared.waiting.Waiting.{Waiting}
+use Rattle.tiny_http_message.specs.declared.exchange.Exchange.{Exchange}
+use Rattle.tiny_http_message.specs.declared.exchange.HeadRead.{HeadRead}
+use Rattle.tiny_http_message.specs.declared.exchange.HeadRead.TheVariants as read
+use Rattle.tiny_http_stream.specs.declared.outlet.Outlet.{Outlet}
+use Rattle.tiny_http_message.specs.Exchange.{exchange_of}
+use Rattle.tiny_http_message.specs.HeadReads.{ReadsHead, head_message, head_framing}
+use Rattle.tiny_http_turns.specs.Turns.{Mark, AreInShape, Open}
+use Rattle.tiny_http_stream.specs.Outlet.{output_of, outlet_ended}
 use Rattle.tiny_http_core.specs.Steps.{Ask, Ended, Memory, Handed, NotYet}
 use Rattle.tiny_http_core.specs.Connection.{Kept, kept}
 use Rattle.tiny_http_core.proofs.AskLemmas.{Answered, ask-ended, ask-over, ask-none, ask-memory, ask-not_yet, ask-handed, ask-refused}
-use Rattle.tiny_http_core.proofs.GoingOn.{goes-on_same}
+use Rattle.tiny_http_stream.proofs.GoingOn.{goes-on_same}
 use Rattle.tiny_http_core.proofs.OutputLemmas.{can-send}
 use Rattle.tiny_http_core.proofs.DriverLemmas.{viewed, takes-ask, reads-on, stays}
 use Rattle.tiny_http_core.specs.Seen.{seen}
@@ -76,13 +77,13 @@ returns-in-Ok g c =
     let old = viewed q.source q.outlet q.pending q.over q.ended in
     let k : Kept = kept old in
     let source = c.read_head.new.source in
-    let x = c.in-Ok-Request.field-0-0 in
+    let x = exchange_of c.into_parts-head.result.0 c.into_parts-head.result.1 in
     let e = c.in-Ok.ensures in
     let new = viewed source q.outlet c.issue.new.self x.head.is_last q.ended in
     record {
       step = rw (← c.self.view_is) (takes-ask old new c.args.now (Handed c.in-Ok.number (head_message x.head) (head_framing x.head))
           (λ client before s low st.
-          let is : c.read_head.result ≡ Ok (read.Request x) = c.in-Ok-Request.is ∙ ap (λ y. Ok y) c.in-Ok-Request.field-0-is in
+          let is : c.read_head.result ≡ Ok (read.Request x) = c.in-Ok-Request.is ∙ ap (λ y. Ok y) c.in-Ok-Request.field-0-is ∙ ap (λ y. Ok (read.Request y)) c.into_parts-head.ensures in
           let R : Result HeadRead AllocError → Type 0 = λ r. ReadsHead c.args.now k.feed source.feed r in
           let shape : AreInShape (k.marks ++ (Open ∷ [])) = subst (λ m. AreInShape m) e.marks e.shape in
           let done = ask-handed client before k s c.args.now x source.feed source.stop source.is_over c.in-Ok.number st (search rules) (search rules) (search (rules, c.holds_reader.ensures))
@@ -100,13 +101,13 @@ returns-in-Err-issue g c =
     let old = viewed q.source q.outlet q.pending q.over q.ended in
     let k : Kept = kept old in
     let source = c.read_head.new.source in
-    let x = c.in-Ok-Request.field-0-0 in
+    let x = exchange_of c.into_parts-head.result.0 c.into_parts-head.result.1 in
     let e = c.in-Err-issue.ensures.err in
     let new = viewed source q.outlet c.issue.new.self q.over true in
     record {
       step = rw (← c.self.view_is) (takes-ask old new c.args.now Memory
           (λ client before s low st.
-          let is : c.read_head.result ≡ Ok (read.Request x) = c.in-Ok-Request.is ∙ ap (λ y. Ok y) c.in-Ok-Request.field-0-is in
+          let is : c.read_head.result ≡ Ok (read.Request x) = c.in-Ok-Request.is ∙ ap (λ y. Ok y) c.in-Ok-Request.field-0-is ∙ ap (λ y. Ok (read.Request y)) c.into_parts-head.ensures in
           let P : List Mark → List (Option Waiting) → Type 0 = λ m r. Answered client before (record k { marks = m; requests = r; ended = true; feed = source.feed; stop = source.stop; is_over = source.is_over }) s c.args.now Ask Memory in
           let done = ask-memory client before k s c.args.now source.feed source.stop source.is_over st (search rules) (search rules) (search (rules, c.holds_reader.ensures))
           (λ h. not-ended c.read_head.result x (c.read_head.ensures.at_end h).0 is) c.read_head.ensures.goes_on in

@@ -1,17 +1,17 @@
 use Rattle.std.proofs.Common.{ℕ, refl, sym, ap, ◌∙◌, subst, List, Option}
 use Rattle.std.specs.Prelude.{◌==◌}
-use Rattle.tiny_http_core.specs.declared.exchange.Waiting.{Waiting}
+use Rattle.tiny_http_message.specs.declared.waiting.Waiting.{Waiting}
 use Rattle.tiny_http_core.specs.Steps.{Drop, NoSuch, Done}
-use Rattle.tiny_http_core.specs.Turns.{Mark, first_unfinished}
+use Rattle.tiny_http_turns.specs.Turns.{Mark, first_unfinished}
 use Rattle.tiny_http_core.specs.Pending.{LeavesText}
-use Rattle.tiny_http_core.specs.Outlet.{output_of, outlet_ended}
+use Rattle.tiny_http_stream.specs.Outlet.{output_of, outlet_ended}
 use Rattle.tiny_http_core.specs.Connection.{Kept, kept}
 use Rattle.tiny_http_core.proofs.AskLemmas.{Answered}
-use Rattle.tiny_http_core.proofs.GoingOn.{goes-on_same}
+use Rattle.tiny_http_stream.proofs.GoingOn.{goes-on_same}
 use Rattle.tiny_http_core.proofs.RespondLemmas.{no-such}
 use Rattle.tiny_http_core.proofs.DropLemmas.{drop-not_taken, drop-done}
 use Rattle.tiny_http_core.proofs.DriverLemmas.{viewed, takes-drop, reads-on}
-use Rattle.tiny_http_core.proofs.BodyReads.{gives-up}
+use Rattle.tiny_http_message.proofs.BodyReads.{gives-up}
 use Rattle.tiny_http_core.proofs.driver.Connection.drop_request.Goals as goal
 
 pub returns-in_default : goal.returns-in_default

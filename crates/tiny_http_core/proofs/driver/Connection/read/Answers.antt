@@ -2,7 +2,7 @@ use Rattle.std.proofs.Common.{rules, ◌≡◌, refl, sym, ap, ◌∙◌, subst,
 use Rattle.std.proofs.lemmas.Grind.{common_steps}
 use Rattle.std.specs.Prelude.{slice_get}
 use Rattle.tiny_http_core.specs.Steps.{Read, Given, Fault, NoSuch, Memory}
-use Rattle.tiny_http_core.specs.Turns.{Mark}
+use Rattle.tiny_http_turns.specs.Turns.{Mark}
 use Rattle.tiny_http_core.specs.Connection.{Kept, kept}
 use Rattle.tiny_http_core.specs.Seen.{seen}
 use Rattle.tiny_http_core.proofs.AskLemmas.{Answered}

@@ -1,19 +1,19 @@
 use Rattle.std.proofs.Common.{rules, ◌≡◌, refl, sym, ap, ◌∙◌, subst, true, false, List, Option, Some, None}
 use Rattle.std.specs.Prelude.{slice_get, slice_set, IsTrue}
 use Rattle.tiny_http_wire.specs.Answer.{Answer}
-use Rattle.tiny_http_core.specs.declared.exchange.Waiting.{Waiting}
+use Rattle.tiny_http_message.specs.declared.waiting.Waiting.{Waiting}
 use Rattle.tiny_http_core.specs.Steps.{Respond, NotYet, NoSuch}
-use Rattle.tiny_http_core.specs.Turns.{Mark}
+use Rattle.tiny_http_turns.specs.Turns.{Mark}
 use Rattle.tiny_http_core.specs.Pending.{waiting_form}
-use Rattle.tiny_http_core.specs.Outlet.{output_of, outlet_ended}
+use Rattle.tiny_http_stream.specs.Outlet.{output_of, outlet_ended}
 use Rattle.tiny_http_core.specs.Connection.{Kept, kept}
 use Rattle.tiny_http_core.specs.Seen.{seen, Answers, printed_as}
 use Rattle.tiny_http_core.proofs.AskLemmas.{Answered}
-use Rattle.tiny_http_core.proofs.GoingOn.{goes-on_same}
+use Rattle.tiny_http_stream.proofs.GoingOn.{goes-on_same}
 use Rattle.tiny_http_core.proofs.OutputLemmas.{can-send}
 use Rattle.tiny_http_core.proofs.RespondLemmas.{no-such, respond-not_taken, form-some, respond-not_yet, respond-done, responds-by, after_number}
-use Rattle.tiny_http_core.specs.Body.{GivesUp}
-use Rattle.tiny_http_core.proofs.BodyReads.{gives-up}
+use Rattle.tiny_http_message.specs.Body.{GivesUp}
+use Rattle.tiny_http_message.proofs.BodyReads.{gives-up}
 use Rattle.tiny_http_core.proofs.DriverLemmas.{viewed, takes-respond, reads-on, stays, fails-more, honest-more}
 use Rattle.tiny_http_core.proofs.driver.Connection.respond.Goals as goal
 

@@ -1,5 +1,5 @@
 use Rattle.std.proofs.Common.{sym, ap, ◌∙◌, Some, None, Option}
-use Rattle.tiny_http_core.specs.declared.exchange.Waiting.{Waiting}
+use Rattle.tiny_http_message.specs.declared.waiting.Waiting.{Waiting}
 use Rattle.tiny_http_core.proofs.ReaderLemmas.{held-is}
 use Rattle.tiny_http_core.proofs.pending.Pending.holds_reader.Goals as goal
 

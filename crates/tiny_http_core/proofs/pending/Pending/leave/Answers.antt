@@ -1,5 +1,5 @@
 use Rattle.std.proofs.Common.{refl}
-use Rattle.tiny_http_core.specs.Outlet.{output_of, outlet_ended}
+use Rattle.tiny_http_stream.specs.Outlet.{output_of, outlet_ended}
 use Rattle.tiny_http_core.proofs.PassLemmas.{leave-goes, leave-stays}
 use Rattle.tiny_http_core.proofs.SendLemmas.{once-none}
 use Rattle.tiny_http_core.proofs.pending.Pending.leave.Goals as goal

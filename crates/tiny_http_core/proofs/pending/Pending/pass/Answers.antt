@@ -1,5 +1,5 @@
 use Rattle.std.proofs.Common.{refl}
-use Rattle.tiny_http_core.specs.Outlet.{output_of, outlet_ended}
+use Rattle.tiny_http_stream.specs.Outlet.{output_of, outlet_ended}
 use Rattle.tiny_http_core.proofs.PassLemmas.{pass-goes, pass-ends}
 use Rattle.tiny_http_core.proofs.SendLemmas.{once-none}
 use Rattle.tiny_http_core.proofs.pending.Pending.pass.Goals as goal

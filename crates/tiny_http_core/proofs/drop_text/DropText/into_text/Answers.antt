@@ -1,9 +1,0 @@
-use Rattle.std.proofs.Common.{ap, refl, sym, ◌∙◌, length, arith, Some}
-use Rattle.tiny_http_core.proofs.DropText.{own-length, no-fault}
-use Rattle.tiny_http_core.proofs.drop_text.DropText.into_text.Goals as goal
-
-pub unreachable-requires : goal.unreachable-requires
-unreachable-requires c =
-    let t = c.self.inside in
-    let page = c.raw_print.new.writer in
-    no-fault _ _ c.in-Err.field-0 _ t.version t.no_body t.now page.bytes.items c.empty-answer.ensures (ap Some c.self.invariant.0) refl refl page.full (own-length t.version t.no_body t.now c.self.invariant.3 c.self.invariant.4 (sym c.date_length-length.ensures.length ∙ c.date_length-length.ensures.value)) (c.in-Err.ensures.text (omega arith))

@@ -1,0 +1,4 @@
+pub mod Device
+pub mod Budget
+pub mod Metered
+pub mod Cursor

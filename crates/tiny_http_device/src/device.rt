@@ -1,0 +1,401 @@
+//! What is read and what is written: readers that may tell what they give, and writers that count their failures.
+ghost use Rattle.std.specs.Prelude.{◌≡◌, ◌<◌, ◌≤◌, min, false, [], length, take, drop, Option, None, Some, Ok, IfOk, IfErr, OnOk, OnErr, vec_len, flat_map};
+ghost use Rattle.std.specs.IoError.{error_kind};
+ghost use Rattle.tiny_http_device.specs.Cursor.{cursor_bytes};
+ghost use Rattle.tiny_http_device.specs.Device.{Feed, ending, given, StopsBy, stop_of, next_count, Sink, BeginsKnown, HoldsNothing, ReadsFrom, Puts, PutsFront};
+
+use std::alloc::Global;
+use std::io;
+use std::io::{Cursor, ErrorKind, Read, Write};
+use std::marker::Model;
+
+/// How a reader's bytes stop.
+#[derive(Clone, Copy, Debug, PartialEq, Eq)]
+pub enum Stop {
+    /// No byte follows.
+    End,
+    /// Each further read fails with this kind.
+    Fault(ErrorKind),
+}
+
+/// A reader whose contract may tell its feed: the bytes that it still gives, and how they stop.
+pub trait ReadDevice {
+    /// The bytes that it still gives and how they stop, if it tells.
+    ghost feed: { Self → Option Feed } = { λ _. None };
+
+    /// Reads some bytes into the front of `buf`, and says how many: 0 at the end, and where `buf`
+    /// is empty. Behind the last byte each call answers the stop. An error gives no byte.
+    fn read_in(&mut self, buf: &mut [u8]) -> Result<usize, io::Error>
+        ensures bound { IfOk result (λ n. n ≤ length buf.new) }
+        // The bytes that came are the next of the feed.
+        ensures bytes { IfOk result (λ n. feed self.old ≡ given (take n buf.new) (feed self.new)) }
+        ensures end { IfOk result (λ n. n ≡ 0 → 0 < length buf.new → StopsBy Stop.End (feed self.old)) }
+        ensures fault { IfErr result (λ e. StopsBy (Stop.Fault (error_kind e)) (feed self.old)) }
+        ensures again { OnErr result (feed self.new ≡ feed self.old) }
+        ensures empty { length buf.new ≡ 0 → (result ≡ Ok 0) × (self.new ≡ self.old) };
+}
+
+/// A writer that counts its failures, and may tell the bytes that it took and how it failed last.
+pub trait WriteDevice {
+    /// The bytes that it took, if it tells, and those that it has sent on; its failures; and whether it has ended.
+    ghost sink: { Self → Sink };
+
+    /// How often it has failed to write or to flush, up to 2^64 - 1.
+    fn failures(&self) -> u64
+        ensures count { result ≡ (sink self.now).failures }
+        // A law of every writer, for which this call is only the place: of its bytes the first were sent on, and the
+        // others are held back.
+        ensures sent { BeginsKnown (sink self.now).sent (sink self.now).taken };
+
+    /// Writes some bytes from the front of `buf`, and says how many: at least one if there is one.
+    /// A writer that has ended answers so too, and takes none of them.
+    fn write_out(&mut self, buf: &[u8]) -> Result<usize, io::Error>
+        ensures { PutsFront (sink self.old) (sink self.new) result buf.now };
+
+    /// Sends on what it holds back. The bytes that it took stay the same by that.
+    fn flush_out(&mut self) -> Result<(), io::Error>
+        ensures puts { Puts (sink self.old) (sink self.new) result [] }
+        ensures sent { OnOk result ((sink self.new).has_ended ≡ false → HoldsNothing (sink self.new)) };
+}
+
+// Copies as many bytes as both have, and says how many.
+fn copy_front(from: &[u8], to: &mut [u8]) -> usize
+    ensures count { result ≡ min (length from.now) (length to.old) }
+    ensures len { length to.new ≡ length to.old }
+    ensures copied { take result to.new ≡ take result from.now }
+{
+    let n = from.len().min(to.len());
+    to[..n].copy_from_slice(&from[..n]);
+    n
+}
+
+/// A reader of bytes in memory, with the stop that it is given. A contract sees it as its feed.
+#[derive(Drop)]
+pub struct Canned {
+    bytes: Vec<u8>,
+    at: usize,
+    stop: Stop,
+}
+
+impl Model for Canned {
+    ghost Value = { Feed };
+
+    ghost view = { λ c. record { bytes = drop c.at c.bytes.items; stop = c.stop } };
+
+    ghost invariant = { λ c. c.at ≤ vec_len c.bytes };
+}
+
+impl Canned {
+    /// Gives these bytes, and then an end, or a fault of this kind at each call.
+    pub fn new(bytes: Vec<u8>, fault: Option<ErrorKind>) -> Canned
+        ensures { result ≡ record { bytes = bytes.items; stop = stop_of fault } }
+    {
+        let stop = match fault {
+            None => Stop::End,
+            Some(kind) => Stop::Fault(kind),
+        };
+        Canned { bytes, at: 0, stop }
+    }
+}
+
+impl ReadDevice for Canned {
+    ghost feed = { λ c. Some c };
+
+    /// Copies the next bytes.
+    fn read_in(&mut self, buf: &mut [u8]) -> Result<usize, io::Error> {
+        if buf.is_empty() {
+            return Ok(0);
+        }
+        let n = copy_front(&self.bytes[self.at..], buf);
+        if n == 0
+            && let Stop::Fault(kind) = self.stop
+        {
+            return Err(kind.into());
+        }
+        self.at += n;
+        Ok(n)
+    }
+}
+
+impl ReadDevice for Cursor<Vec<u8>> {
+    ghost feed = { λ c. Some (ending (cursor_bytes c)) };
+
+    /// Copies the next bytes. It never fails.
+    fn read_in(&mut self, buf: &mut [u8]) -> Result<usize, io::Error> {
+        self.read(buf)
+    }
+}
+
+impl ReadDevice for io::Empty {
+    ghost feed = { λ _. Some (ending []) };
+
+    /// Answers the end.
+    fn read_in(&mut self, _buf: &mut [u8]) -> Result<usize, io::Error> {
+        Ok(0)
+    }
+}
+
+/// A stream with a count of its failures to write, and the kind of the last of them. As a reader it
+/// tells no feed, as a writer it doesn't tell its bytes.
+#[derive(Drop)]
+pub struct Metered<S> {
+    inner: S,
+    failures: u64,
+    last: Option<ErrorKind>,
+}
+
+impl<S> Metered<S> {
+    ghost use Rattle.tiny_http_device.specs.Metered.{metered_inner, metered_sink};
+
+    /// A stream that has not failed.
+    pub fn new(inner: S) -> Metered<S>
+        ensures inner { metered_inner result ≡ inner }
+        ensures sink { metered_sink result ≡ record { taken = None; sent = []; failures = 0; last_kind = None; has_ended = false } }
+    {
+        Metered {
+            inner,
+            failures: 0,
+            last: None,
+        }
+    }
+
+    // Counts a failure of this kind.
+    fn count(&mut self, kind: ErrorKind)
+        ensures { self.new ≡ record self.old { failures = next_count self.old.failures; last = Some kind } }
+    {
+        self.failures = next(self.failures);
+        self.last = Some(kind);
+    }
+
+    /// Gives the stream back.
+    pub fn into_inner(self) -> S
+        ensures { result ≡ metered_inner self }
+    {
+        self.inner
+    }
+}
+
+impl<S: Read> ReadDevice for Metered<S> {
+    /// Reads once from the stream, and not at all into an empty buffer.
+    fn read_in(&mut self, buf: &mut [u8]) -> Result<usize, io::Error> {
+        if buf.is_empty() {
+            return Ok(0);
+        }
+        self.inner.read(buf)
+    }
+}
+
+impl<S: Write> WriteDevice for Metered<S> {
+    ghost use Rattle.tiny_http_device.specs.Metered.{metered_sink};
+
+    ghost sink = { metered_sink };
+
+    /// The count.
+    fn failures(&self) -> u64 {
+        self.failures
+    }
+
+    /// Writes once to the stream. That it takes no byte of some is a fault of kind `WriteZero`.
+    fn write_out(&mut self, buf: &[u8]) -> Result<usize, io::Error> {
+        let outcome = match self.inner.write(buf) {
+            Ok(0) if !buf.is_empty() => Err(ErrorKind::WriteZero.into()),
+            outcome => outcome,
+        };
+        if let Err(e) = &outcome {
+            self.count(e.kind());
+        }
+        outcome
+    }
+
+    /// Flushes the stream.
+    fn flush_out(&mut self) -> Result<(), io::Error> {
+        let outcome = self.inner.flush();
+        if let Err(e) = &outcome {
+            self.count(e.kind());
+        }
+        outcome
+    }
+}
+
+// One failure more, up to the greatest number.
+fn next(failures: u64) -> u64
+    ensures { result ≡ next_count failures }
+{
+    failures.saturating_add(1)
+}
+
+/// A writer in memory: it takes so many bytes, and then each write of a byte fails. It keeps what it
+/// took.
+#[derive(Drop)]
+pub struct Budget {
+    bytes: Vec<u8>,
+    room: usize,
+    kind: ErrorKind,
+    failures: u64,
+    last: Option<ErrorKind>,
+}
+
+impl Budget {
+    ghost use Rattle.tiny_http_device.specs.Budget.{budget_bytes, budget_room, budget_kind, budget_sink};
+
+    /// Takes `room` bytes, and then fails with this kind; with `OutOfMemory` where there is no
+    /// memory for the bytes.
+    pub fn new(alloc: Global, room: usize, kind: ErrorKind) -> Budget
+        ensures sink { budget_sink result ≡ record { taken = Some []; sent = []; failures = 0; last_kind = None; has_ended = false } }
+        ensures room { budget_room result ≡ room }
+        ensures kind { budget_kind result ≡ kind }
+    {
+        Budget::from_vec(Vec::new(alloc), room, kind)
+    }
+
+    /// The same, with these bytes as the first that it took.
+    pub fn from_vec(bytes: Vec<u8>, room: usize, kind: ErrorKind) -> Budget
+        ensures sink { budget_sink result ≡ record { taken = Some bytes.items; sent = bytes.items; failures = 0; last_kind = None; has_ended = false } }
+        ensures room { budget_room result ≡ room }
+        ensures kind { budget_kind result ≡ kind }
+    {
+        Budget {
+            bytes,
+            room,
+            kind,
+            failures: 0,
+            last: None,
+        }
+    }
+
+    /// What it took, itself.
+    pub fn into_bytes(self) -> Vec<u8>
+        ensures { result.items ≡ budget_bytes self }
+    {
+        let Budget { bytes, .. } = self;
+        bytes
+    }
+
+    /// What it took.
+    pub fn bytes(&self) -> &[u8]
+        ensures { result.now ≡ budget_bytes self.now }
+    {
+        self.bytes.as_slice()
+    }
+
+    // Counts a failure of this kind.
+    fn fail(&mut self, kind: ErrorKind) -> io::Error
+        ensures kind { error_kind result ≡ kind }
+        ensures rest { self.new ≡ record self.old { failures = next_count self.old.failures; last = Some kind } }
+    {
+        self.failures = next(self.failures);
+        self.last = Some(kind);
+        kind.into()
+    }
+}
+
+impl WriteDevice for Budget {
+    ghost use Rattle.tiny_http_device.specs.Budget.{budget_sink};
+
+    ghost sink = { budget_sink };
+
+    /// The count.
+    fn failures(&self) -> u64 {
+        self.failures
+    }
+
+    /// Takes as many bytes as there is room for.
+    fn write_out(&mut self, buf: &[u8]) -> Result<usize, io::Error> {
+        let n = buf.len().min(self.room);
+        if n == 0 && !buf.is_empty() {
+            return Err(self.fail(self.kind));
+        }
+        match self.bytes.extend_from_slice(&buf[..n]) {
+            Ok(()) => {
+                self.room -= n;
+                Ok(n)
+            }
+            Err(_) => Err(self.fail(ErrorKind::OutOfMemory)),
+        }
+    }
+
+    /// Nothing is held back.
+    fn flush_out(&mut self) -> Result<(), io::Error> {
+        Ok(())
+    }
+}
+
+/// Reads once from the device, as `read_in`; its contract tells by cases what came of it.
+pub fn read_some<R: ReadDevice>(reader: &mut R, buf: &mut [u8]) -> Result<usize, io::Error>
+    ensures bound { IfOk result (λ n. n ≤ length buf.new) }
+    ensures bytes { ReadsFrom (R.feed reader.old) (R.feed reader.new) result buf.new }
+{
+    reader.read_in(buf)
+}
+
+/// Reads some bytes into the front of `buf`, at most `most` of them: as `read_in` into the smaller of
+/// that front and `buf`. Where either is empty it answers 0 and changes nothing.
+pub fn read_front<R: ReadDevice>(
+    reader: &mut R,
+    most: usize,
+    buf: &mut [u8],
+) -> Result<usize, io::Error>
+    ensures most { IfOk result (λ n. n ≤ most) }
+    ensures bound { IfOk result (λ n. n ≤ length buf.new) }
+    // The bytes that came are the next of the feed.
+    ensures bytes { IfOk result (λ n. R.feed reader.old ≡ given (take n buf.new) (R.feed reader.new)) }
+    ensures end { IfOk result (λ n. n ≡ 0 → 0 < most → 0 < length buf.new → StopsBy Stop.End (R.feed reader.old)) }
+    ensures fault { IfErr result (λ e. StopsBy (Stop.Fault (error_kind e)) (R.feed reader.old)) }
+    ensures again { OnErr result (R.feed reader.new ≡ R.feed reader.old) }
+    ensures empty { min most (length buf.old) ≡ 0 → (result ≡ Ok 0) × (reader.new ≡ reader.old) }
+    ensures len { length buf.new ≡ length buf.old }
+{
+    let room = most.min(buf.len());
+    let front = &mut buf[..room];
+    reader.read_in(front)
+}
+
+/// Writes all the bytes, by as many calls as it takes. After the writer's first fault nothing more
+/// is written.
+pub fn put<W: WriteDevice>(writer: &mut W, bytes: &[u8]) -> Result<(), io::Error>
+    ensures { Puts (W.sink writer.old) (W.sink writer.new) result bytes.now }
+{
+    let mut at = 0;
+    while at < bytes.len() {
+        at += writer.write_out(&bytes[at..])?;
+    }
+    Ok(())
+}
+
+/// Writes pieces one after another, as `put`.
+pub fn put_all<W: WriteDevice>(writer: &mut W, pieces: &[&[u8]]) -> Result<(), io::Error>
+    ensures { Puts (W.sink writer.old) (W.sink writer.new) result (flat_map (λ p. p.now) pieces.now) }
+{
+    for piece in pieces {
+        put(writer, piece)?;
+    }
+    Ok(())
+}
+
+impl<R: ReadDevice> ReadDevice for &mut R {
+    ghost feed = { λ r. R.feed r.now };
+
+    /// Reads from the reader that is lent.
+    fn read_in(&mut self, buf: &mut [u8]) -> Result<usize, io::Error> {
+        ReadDevice::read_in(&mut **self, buf)
+    }
+}
+
+impl<W: WriteDevice> WriteDevice for &mut W {
+    ghost sink = { λ w. W.sink w.now };
+
+    /// The count of the writer that is lent.
+    fn failures(&self) -> u64 {
+        WriteDevice::failures(&**self)
+    }
+
+    /// Writes to it.
+    fn write_out(&mut self, buf: &[u8]) -> Result<usize, io::Error> {
+        WriteDevice::write_out(&mut **self, buf)
+    }
+
+    /// Flushes it.
+    fn flush_out(&mut self) -> Result<(), io::Error> {
+        WriteDevice::flush_out(&mut **self)
+    }
+}

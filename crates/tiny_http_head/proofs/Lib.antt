@@ -1,0 +1,8 @@
+pub mod LineLemmas
+pub mod HeadLemmas
+pub mod Parsing
+pub mod LengthLemmas
+pub mod FmtLemmas
+pub mod NameLemmas
+pub mod QualityLemmas
+pub mod QualityForms

@@ -1,0 +1,119 @@
+-- The head of a request (RFC 9112, sections 2.1, 3 and 5): each text is a joining of named parts.
+use Rattle.std.specs.Prelude.{◌≡◌, ℕ, Bool, ◌&&◌, ◌||◌, ◌==◌, ◌⊎◌, List, [], ◌∷◌, ◌++◌, length, ◌^◌, Option, Some, None, if◌then◌else◌, codes, nat_lt}
+use Rattle.std.specs.Str.{bytes_eq, all_ascii_digits}
+use Rattle.std.specs.Str.Parse.{without_leading_plus, digits_value}
+use Rattle.tiny_http_head.specs.declared.common.Method.{Method}
+use Rattle.tiny_http_head.specs.declared.common.Method.TheVariants.{Get, Head, Post, Put, Delete, Connect, Options, Trace, Patch, NonStandard}
+use Rattle.tiny_http_head.specs.declared.common.HTTPVersion.{HTTPVersion}
+use Rattle.tiny_http_head.specs.declared.common.Header.{Header}
+use Rattle.tiny_http_text.specs.Bytes.{is_blank, AreAscii, HasNo, HasNoBlank, Trims, IsEmptyOrBegins, space, colon}
+use Rattle.tiny_http_text.specs.Lines.{Line, IsUnfinished}
+
+-- the method that a text names: one of the nine names, exactly, or one of its own
+abbrev pub method_of : List ℕ → Method
+method_of text =
+    if bytes_eq text (codes "GET") then Get else
+    if bytes_eq text (codes "HEAD") then Head else
+    if bytes_eq text (codes "POST") then Post else
+    if bytes_eq text (codes "PUT") then Put else
+    if bytes_eq text (codes "DELETE") then Delete else
+    if bytes_eq text (codes "CONNECT") then Connect else
+    if bytes_eq text (codes "OPTIONS") then Options else
+    if bytes_eq text (codes "TRACE") then Trace else
+    if bytes_eq text (codes "PATCH") then Patch else
+    NonStandard text
+
+abbrev pub version : ℕ → ℕ → HTTPVersion
+version major minor = record { 0 = major; 1 = minor }
+
+-- HTTP-version: the five that are read
+abbrev pub version_of : List ℕ → Option HTTPVersion
+version_of text =
+    if bytes_eq text (codes "HTTP/0.9") then Some (version 0 9) else
+    if bytes_eq text (codes "HTTP/1.0") then Some (version 1 0) else
+    if bytes_eq text (codes "HTTP/1.1") then Some (version 1 1) else
+    if bytes_eq text (codes "HTTP/2.0") then Some (version 2 0) else
+    if bytes_eq text (codes "HTTP/3.0") then Some (version 3 0) else
+    None
+
+-- the version is above 1.1
+abbrev pub is_too_new : HTTPVersion → Bool
+is_too_new v = nat_lt 1 v.0 || (v.0 == 1 && nat_lt 1 v.1)
+
+-- request-line: trimmed, it is method SP path SP version, and parts that follow after a further SP
+pub record RequestLine (text : List ℕ) (method : Method) (path : List ℕ) (version : HTTPVersion) : Type 0 where
+  pub core : List ℕ
+  pub method_text : List ℕ
+  pub version_text : List ℕ
+  pub more : List ℕ
+  pub trims : Trims is_blank text core
+  pub joins : core ≡ method_text ++ space ∷ path ++ space ∷ version_text ++ more
+  pub one_word : HasNo space method_text
+  pub one_path : HasNo space path
+  pub one_version : HasNo space version_text
+  pub more_parts : IsEmptyOrBegins space more
+  pub names_method : method ≡ method_of method_text
+  pub names_version : version_of version_text ≡ Some version
+
+-- field-line: the name without white space or colon, the first colon, and the value between white space
+pub record HeaderLine (text field value : List ℕ) : Type 0 where
+  pub padded : List ℕ
+  pub joins : text ≡ field ++ colon ∷ padded
+  pub no_blank : HasNoBlank field
+  pub no_colon : HasNo colon field
+  pub trims : Trims is_blank padded value
+
+-- the text is a header, as a text of its own
+abbrev pub IsHeader : List ℕ → Header → Type 0
+IsHeader text h = AreAscii text × HeaderLine text h.field h.value
+
+-- the bytes begin with these field-lines, and the rest follows
+abbrev pub Fields : List ℕ → List Header → List ℕ → Type 0
+Fields bytes [] rest = rest ≡ bytes
+Fields bytes (h ∷ hs) rest = (text : List ℕ) × (next : List ℕ) × Line bytes text next × AreAscii text × HeaderLine text h.field h.value × Fields next hs rest
+
+-- what a head says
+pub record Message : Type 0 where
+  pub method : Method
+  pub path : List ℕ
+  pub version : HTTPVersion
+  pub headers : List Header
+
+-- the bytes begin with the request line, and the rest follows
+abbrev pub Starts : List ℕ → Method → List ℕ → HTTPVersion → List ℕ → Type 0
+Starts bytes method path version rest = (text : List ℕ) × Line bytes text rest × AreAscii text × RequestLine text method path version
+
+-- the bytes begin with a head: a request line, field-lines and an empty line; what follows it is after
+abbrev pub HeadText : List ℕ → Message → List ℕ → Type 0
+HeadText bytes m after = (fields : List ℕ) × (empty : List ℕ) × Starts bytes m.method m.path m.version fields × Fields fields m.headers empty × Line empty [] after
+
+-- how the next line is no good: it isn't finished, or isn't ASCII, or it isn't what has to stand there
+pub data Fault : Type 0 where
+  Cut : Fault
+  NotAscii : Fault
+  Malformed : Fault
+
+abbrev pub FaultyLine : (List ℕ → Type 0) → List ℕ → Fault → Type 0
+FaultyLine IsGood bytes Cut = IsUnfinished bytes
+FaultyLine IsGood bytes NotAscii = (text : List ℕ) × (rest : List ℕ) × Line bytes text rest × (AreAscii text → ⊥)
+FaultyLine IsGood bytes Malformed = (text : List ℕ) × (rest : List ℕ) × Line bytes text rest × AreAscii text × (IsGood text → ⊥)
+
+abbrev pub IsRequestLine : List ℕ → Type 0
+IsRequestLine text = (method : Method) × (path : List ℕ) × (version : HTTPVersion) × RequestLine text method path version
+
+abbrev pub IsFieldOrEnd : List ℕ → Type 0
+IsFieldOrEnd text = (text ≡ []) ⊎ ((field : List ℕ) × (value : List ℕ) × HeaderLine text field value)
+
+-- the first faulty line of a head: the request line, or, under a version, a line after it
+abbrev pub FaultyHead : List ℕ → Option HTTPVersion → Fault → Type 0
+FaultyHead bytes None fault = FaultyLine IsRequestLine bytes fault
+FaultyHead bytes (Some v) fault =
+    (method : Method) × (path : List ℕ) × (fields : List ℕ) × Starts bytes method path v fields
+    × (headers : List Header) × (rest : List ℕ) × Fields fields headers rest × FaultyLine IsFieldOrEnd rest fault
+
+-- the length that a Content-Length value says (RFC 9110, section 8.6): an optional plus, one digit or more, below 2^64
+abbrev pub length_of : List ℕ → Option ℕ
+length_of ds = if nat_lt 0 (length ds) && (all_ascii_digits ds && nat_lt (digits_value 10 ds) (2 ^ 64)) then Some (digits_value 10 ds) else None
+
+unfoldable pub length_in : List ℕ → Option ℕ
+length_in value = length_of (without_leading_plus value)

@@ -1,0 +1,6 @@
+pub mod Common
+pub mod Number
+pub mod Heads
+pub mod Reading
+pub mod Qualities
+pub mod QualityReading

@@ -1,0 +1,51 @@
+-- Header values that list names with their qualities (RFC 9110, sections 5.6.1 and 12.4.2).
+use Rattle.std.specs.Prelude.{◌≡◌, ℕ, ◌+◌, ◌-◌, ◌*◌, ◌^◌, ◌≤◌, ◌⊎◌, ⊤, List, [], ◌∷◌, ◌++◌, length, codes, IsTrue}
+use Rattle.std.specs.List.{list_all}
+use Rattle.std.specs.Str.Parse.{AllDigits, digits_value}
+use Rattle.tiny_http_text.specs.Bytes.{is_blank, Trims, parts, comma, semicolon, point}
+
+-- a quality that can be read: one to six digits, and optionally a point and up to three digits more; in thousandths
+pub record IsQuality (text : List ℕ) (thousandths : ℕ) : Type 0 where
+  pub whole : List ℕ
+  pub fraction : List ℕ
+  pub joins : ((text ≡ whole) × (fraction ≡ [])) ⊎ (text ≡ whole ++ point ∷ fraction)
+  pub whole_digits : AllDigits 10 whole
+  pub fraction_digits : AllDigits 10 fraction
+  pub one_or_more : 1 ≤ length whole
+  pub at_most_six : length whole ≤ 6
+  pub at_most_three : length fraction ≤ 3
+  pub value : thousandths ≡ digits_value 10 whole * 1000 + digits_value 10 fraction * 10 ^ (3 - length fraction)
+
+-- the parameter gives this quality: white space, q=, and a quality between white space
+pub record GivesQuality (parameter : List ℕ) (thousandths : ℕ) : Type 0 where
+  pub before : List ℕ
+  pub padded : List ℕ
+  pub text : List ℕ
+  pub joins : parameter ≡ before ++ codes "q=" ++ padded
+  pub blank_before : IsTrue (list_all is_blank before)
+  pub trims : Trims is_blank padded text
+  pub quality : IsQuality text thousandths
+
+-- the first of the parameters that gives a quality gives this one; where none does it is 1000
+abbrev pub FirstQuality : List (List ℕ) → ℕ → Type 0
+FirstQuality [] q = q ≡ 1000
+FirstQuality (parameter ∷ more) q = GivesQuality parameter q ⊎ (((n : ℕ) → GivesQuality parameter n → ⊥) × FirstQuality more q)
+
+-- an element: its first part round the semicolons, trimmed, is the name, and the others are parameters
+pub record Element (text name : List ℕ) (q : ℕ) : Type 0 where
+  pub padded : List ℕ
+  pub parameters : List (List ℕ)
+  pub splits : parts semicolon text ≡ padded ∷ parameters
+  pub trims : Trims is_blank padded name
+  pub quality : FirstQuality parameters q
+
+-- the texts are these elements, one by one
+abbrev pub Elements : List (List ℕ) → List (List ℕ × ℕ) → Type 0
+Elements [] [] = ⊤
+Elements [] (e ∷ es) = ⊥
+Elements (text ∷ texts) [] = ⊥
+Elements (text ∷ texts) (e ∷ es) = Element text e.0 e.1 × Elements texts es
+
+-- the parts of the value round the commas are these names with their qualities
+abbrev pub ListsQualities : List ℕ → List (List ℕ × ℕ) → Type 0
+ListsQualities value list = Elements (parts comma value) list

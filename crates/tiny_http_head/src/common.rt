@@ -1,0 +1,568 @@
+//! Status codes, versions, methods and headers.
+ghost use Rattle.std.specs.Prelude.{◌≡◌, ◌%◌, ◌↔◌, IfOk, IfErr, IsOk, IsErrOf, IsSome, OnErr, IsAscii, Some, nat_eq, List, ℕ};
+ghost use Rattle.std.specs.Ordering.{on};
+ghost use Rattle.std.specs.Cmp.Lexicographic.{pointwise};
+ghost use Rattle.std.specs.Cmp.Rules.{comparing};
+ghost use Rattle.std.proofs.Common.{rules};
+ghost use Rattle.tiny_http_text.specs.Bytes.{AreAscii};
+ghost use Rattle.tiny_http_head.specs.Number.{code_of};
+ghost use Rattle.tiny_http_head.specs.Heads.{method_of};
+ghost use Rattle.tiny_http_head.specs.Reading.{header_line};
+
+use tiny_http_text::ascii::{AsciiStr, AsciiString, FromAsciiError};
+use tiny_http_text::bytes::{cut, has_no_blank, is, is_ascii, trim};
+use tiny_http_text::copies::owned;
+use itoa::Buffer;
+use std::alloc::{AllocError, Global};
+use std::cmp::Ordering;
+use std::fmt;
+use std::marker::Model;
+use thiserror::Error;
+
+/// Why a text isn't read.
+#[derive(Clone, Copy, Debug, PartialEq, Eq, Error)]
+pub enum ParseError {
+    /// The text isn't of the grammar.
+    #[error("not of the grammar")]
+    Refused,
+    /// There is no memory for the answer.
+    #[error("out of memory")]
+    Memory,
+}
+
+impl From<AllocError> for ParseError {
+    ghost use Rattle.tiny_http_head.specs.declared.common.ParseError.TheVariants.{Memory};
+
+    ghost from_gives = { λ _ error. error ≡ Memory };
+
+    fn from(_error: AllocError) -> ParseError {
+        ParseError::Memory
+    }
+}
+
+/// The status code of an answer (RFC 9110, section 15). Any number of 16 bits is let through.
+#[derive(Clone, Copy, Debug, PartialEq, Eq, PartialOrd, Ord)]
+pub struct StatusCode(pub u16);
+
+impl StatusCode {
+    ghost use Rattle.tiny_http_head.specs.Common.{reason_phrase, is_code, code_order};
+
+    /// The reason phrase of the code, and `Unknown` for a code that has none. The table is tiny_http's;
+    /// most of it is RFC 9110, section 15.
+    #[tactic(auto, unfolding(crate::specs::Common::reason_phrase))]
+    pub fn default_reason_phrase(&self) -> &'static str
+        ensures { result.now ≡ reason_phrase self.now.0 }
+    {
+        match self.as_u16() {
+            100 => "Continue",
+            101 => "Switching Protocols",
+            102 => "Processing",
+            103 => "Early Hints",
+            200 => "OK",
+            201 => "Created",
+            202 => "Accepted",
+            203 => "Non-Authoritative Information",
+            204 => "No Content",
+            205 => "Reset Content",
+            206 => "Partial Content",
+            207 => "Multi-Status",
+            208 => "Already Reported",
+            226 => "IM Used",
+            300 => "Multiple Choices",
+            301 => "Moved Permanently",
+            302 => "Found",
+            303 => "See Other",
+            304 => "Not Modified",
+            305 => "Use Proxy",
+            307 => "Temporary Redirect",
+            308 => "Permanent Redirect",
+            400 => "Bad Request",
+            401 => "Unauthorized",
+            402 => "Payment Required",
+            403 => "Forbidden",
+            404 => "Not Found",
+            405 => "Method Not Allowed",
+            406 => "Not Acceptable",
+            407 => "Proxy Authentication Required",
+            408 => "Request Timeout",
+            409 => "Conflict",
+            410 => "Gone",
+            411 => "Length Required",
+            412 => "Precondition Failed",
+            413 => "Payload Too Large",
+            414 => "URI Too Long",
+            415 => "Unsupported Media Type",
+            416 => "Range Not Satisfiable",
+            417 => "Expectation Failed",
+            421 => "Misdirected Request",
+            422 => "Unprocessable Entity",
+            423 => "Locked",
+            424 => "Failed Dependency",
+            426 => "Upgrade Required",
+            428 => "Precondition Required",
+            429 => "Too Many Requests",
+            431 => "Request Header Fields Too Large",
+            451 => "Unavailable For Legal Reasons",
+            500 => "Internal Server Error",
+            501 => "Not Implemented",
+            502 => "Bad Gateway",
+            503 => "Service Unavailable",
+            504 => "Gateway Timeout",
+            505 => "HTTP Version Not Supported",
+            506 => "Variant Also Negotiates",
+            507 => "Insufficient Storage",
+            508 => "Loop Detected",
+            510 => "Not Extended",
+            511 => "Network Authentication Required",
+            _ => "Unknown",
+        }
+    }
+
+    /// The code as a number.
+    pub fn as_u16(&self) -> u16
+        ensures { result ≡ self.now.0 }
+    {
+        self.0
+    }
+
+    /// Whether the code is this number.
+    pub fn is(&self, number: u16) -> bool
+        ensures { result ≡ is_code self.now number }
+    {
+        *self == StatusCode(number)
+    }
+
+    /// How the code stands to this number.
+    pub fn cmp_u16(&self, number: u16) -> Ordering
+        ensures { result ≡ code_order self.now number }
+    {
+        self.cmp(&StatusCode(number))
+    }
+}
+
+impl From<i8> for StatusCode {
+    ghost from_gives = { λ number code. code.0 ≡ code_of number };
+
+    /// The number modulo 65536.
+    fn from(number: i8) -> StatusCode {
+        StatusCode((number as i16).cast_unsigned())
+    }
+}
+
+impl From<u8> for StatusCode {
+    ghost from_gives = { λ number code. code.0 ≡ number };
+
+    /// The code with this number.
+    fn from(number: u8) -> StatusCode {
+        StatusCode(number as u16)
+    }
+}
+
+impl From<i16> for StatusCode {
+    ghost from_gives = { λ number code. code.0 ≡ code_of number };
+
+    /// The number modulo 65536.
+    fn from(number: i16) -> StatusCode {
+        StatusCode(number.cast_unsigned())
+    }
+}
+
+impl From<u16> for StatusCode {
+    ghost from_gives = { λ number code. code.0 ≡ number };
+
+    /// The code with this number.
+    fn from(number: u16) -> StatusCode {
+        StatusCode(number)
+    }
+}
+
+impl From<i32> for StatusCode {
+    ghost from_gives = { λ number code. code.0 ≡ code_of number };
+
+    /// The number modulo 65536.
+    fn from(number: i32) -> StatusCode {
+        StatusCode((number.cast_unsigned() % 65536) as u16)
+    }
+}
+
+impl From<u32> for StatusCode {
+    ghost from_gives = { λ number code. code.0 ≡ number % 65536 };
+
+    /// The number modulo 65536.
+    fn from(number: u32) -> StatusCode {
+        StatusCode((number % 65536) as u16)
+    }
+}
+
+/// A version of HTTP: its major and its minor number. The order goes by the major number first (RFC
+/// 9110, section 2.5).
+#[derive(Clone, Copy, Debug, PartialEq, Eq, PartialOrd, Ord)]
+pub struct HTTPVersion(pub u8, pub u8);
+
+impl HTTPVersion {
+    ghost use Rattle.tiny_http_head.specs.Common.{is_version, version_order};
+
+    /// Whether the version has these numbers, major first.
+    pub fn is(&self, numbers: (u8, u8)) -> bool
+        ensures { result ≡ is_version self.now numbers }
+    {
+        *self == HTTPVersion::from(numbers)
+    }
+
+    /// How the version stands to the one with these numbers, major first.
+    pub fn cmp_pair(&self, numbers: (u8, u8)) -> Ordering
+        ensures { result ≡ version_order self.now numbers }
+    {
+        self.cmp(&HTTPVersion::from(numbers))
+    }
+}
+
+impl From<(u8, u8)> for HTTPVersion {
+    ghost from_gives = { λ numbers version. (version.0 ≡ numbers.0) × (version.1 ≡ numbers.1) };
+
+    /// The version with these numbers, major first.
+    fn from(numbers: (u8, u8)) -> HTTPVersion {
+        HTTPVersion(numbers.0, numbers.1)
+    }
+}
+
+impl fmt::Display for HTTPVersion {
+    ghost use Rattle.tiny_http_head.specs.Common.{version_text};
+
+    ghost output = { λ v. Some (version_text v) };
+
+    ghost styled_output = { λ v _. Some (version_text v) };
+
+    /// Writes `major.minor`, in decimal. Width and the like change nothing.
+    fn fmt<W: fmt::Write>(&self, f: &mut fmt::Formatter<W>) -> fmt::Result {
+        let mut digits = Buffer::new();
+        f.write_str(digits.format(self.0))?;
+        f.write_str(".")?;
+        f.write_str(digits.format(self.1))
+    }
+}
+
+/// The name of a header: ASCII bytes, compared without regard to letter case (RFC 9110, section
+/// 5.1). A contract sees it as the list of its bytes.
+#[derive(Debug, Drop)]
+pub struct HeaderField {
+    text: AsciiString,
+}
+
+impl Model for HeaderField {
+    ghost use Rattle.std.specs.Prelude.{ℕ, List, IsAscii};
+
+    ghost Value = { List ℕ };
+
+    ghost view = { λ f. f.text };
+
+    ghost invariant = { λ f. IsAscii f.text };
+}
+
+impl HeaderField {
+    ghost use Rattle.tiny_http_head.specs.Common.{same_name};
+    ghost use Rattle.tiny_http_text.specs.Bytes.{IsWord};
+    ghost use Rattle.tiny_http_text.specs.Ascii.{IsFirstBad};
+    ghost use Rattle.tiny_http_text.specs.Refused.{refused_bytes, bad_place};
+
+    /// Takes any ASCII bytes, and no others: a refusal hands them back.
+    pub fn from_bytes(bytes: Vec<u8>) -> Result<HeaderField, FromAsciiError>
+        ensures ok { IfOk result (λ f. f ≡ bytes.items) }
+        ensures succeeds { IsOk result ↔ IsAscii bytes.items }
+        ensures source { IfErr result (λ e. refused_bytes e ≡ bytes.items) }
+        ensures place { IfErr result (λ e. IsFirstBad bytes.items (bad_place e)) }
+    {
+        Ok(HeaderField {
+            text: AsciiString::from_ascii(bytes)?,
+        })
+    }
+
+    /// Reads a name: ASCII without white space (bytes 9 to 13 and 32). `Refused` for any other text,
+    /// and for no other reason; `Memory` where there is no memory for a copy.
+    pub fn from_str(alloc: Global, text: &str) -> Result<HeaderField, ParseError>
+        ensures ok { IfOk result (λ f. (f ≡ text.now) × IsWord text.now) }
+        ensures refused { IsErrOf result ParseError.Refused ↔ ¬ (IsWord text.now) }
+    {
+        let text = text.as_bytes();
+        if !is_ascii(text) || !has_no_blank(text) {
+            return Err(ParseError::Refused);
+        }
+        let text = owned(alloc, text)?;
+        Ok(HeaderField { text })
+    }
+
+    /// The name of this text.
+    pub fn from_text(text: AsciiString) -> HeaderField
+        ensures { result ≡ text }
+    {
+        HeaderField { text }
+    }
+
+    /// The name as it was given.
+    pub fn as_str(&self) -> AsciiStr<'_>
+        ensures { result ≡ self.now }
+    {
+        self.text.as_ascii()
+    }
+
+    /// A copy of the name, or an error where there is no memory for it.
+    pub fn try_clone(&self) -> Result<HeaderField, AllocError>
+        ensures { IfOk result (λ f. f ≡ self.now) }
+    {
+        Ok(HeaderField {
+            text: self.text.try_clone()?,
+        })
+    }
+
+    /// Whether this is that name: the two differ at most in the case of ASCII letters.
+    pub fn equiv(&self, other: &str) -> bool
+        ensures { result ≡ same_name self.now other.now }
+    {
+        self.text.eq_ignore_ascii_case(other)
+    }
+}
+
+impl PartialEq for HeaderField {
+    ghost use Rattle.tiny_http_head.specs.Common.{lowercase};
+
+    ghost eq = { on lowercase (pointwise nat_eq) };
+
+    ghost laws = { Prim.search (comparing, rules) };
+
+    /// Whether the two names differ at most in the case of ASCII letters.
+    fn eq(&self, other: &HeaderField) -> bool {
+        self.equiv(other.as_str().as_str())
+    }
+}
+
+impl Eq for HeaderField {
+    ghost laws = { Prim.search (comparing, rules) };
+}
+
+impl fmt::Display for HeaderField {
+    ghost output = { λ f. Some f };
+
+    ghost styled_output = { λ f _. Some f };
+
+    /// Writes the name as it was given. Width and the like change nothing.
+    fn fmt<W: fmt::Write>(&self, f: &mut fmt::Formatter<W>) -> fmt::Result {
+        f.write_str(self.as_str().as_str())
+    }
+}
+
+/// What a request asks for (RFC 9110, section 9; `PATCH` by RFC 5789). Names are told apart by
+/// letter case.
+#[derive(Debug, Drop, PartialEq, Eq, Hash)]
+pub enum Method {
+    /// `GET`
+    Get,
+    /// `HEAD`
+    Head,
+    /// `POST`
+    Post,
+    /// `PUT`
+    Put,
+    /// `DELETE`
+    Delete,
+    /// `CONNECT`
+    Connect,
+    /// `OPTIONS`
+    Options,
+    /// `TRACE`
+    Trace,
+    /// `PATCH`
+    Patch,
+    /// Any ASCII text. `from_str` makes one only of a text that isn't among the nine names.
+    NonStandard(AsciiString),
+}
+
+impl Method {
+    ghost use Rattle.tiny_http_head.specs.Common.{method_text};
+
+    /// Reads a method: one of the nine names, exactly, or any other ASCII text, the empty one too.
+    /// `Refused` for a text that isn't ASCII, and for no other reason; `Memory` where there is no
+    /// memory for a copy.
+    pub fn from_str(alloc: Global, text: &str) -> Result<Method, ParseError>
+        ensures ok { IfOk result (λ m. (m ≡ method_of text.now) × AreAscii text.now) }
+        ensures refused { IsErrOf result ParseError.Refused ↔ ¬ (AreAscii text.now) }
+    {
+        let text = text.as_bytes();
+        if !is_ascii(text) {
+            return Err(ParseError::Refused);
+        }
+        let method = method_of(alloc, text)?;
+        Ok(method)
+    }
+
+    /// A copy of the method, or an error where there is no memory for it.
+    pub fn try_clone(&self) -> Result<Method, AllocError>
+        ensures { IfOk result (λ m. m ≡ self.now) }
+    {
+        match self {
+            Method::Get => Ok(Method::Get),
+            Method::Head => Ok(Method::Head),
+            Method::Post => Ok(Method::Post),
+            Method::Put => Ok(Method::Put),
+            Method::Delete => Ok(Method::Delete),
+            Method::Connect => Ok(Method::Connect),
+            Method::Options => Ok(Method::Options),
+            Method::Trace => Ok(Method::Trace),
+            Method::Patch => Ok(Method::Patch),
+            Method::NonStandard(name) => Ok(Method::NonStandard(name.try_clone()?)),
+        }
+    }
+
+    /// The method's name, as it stands in a request line.
+    pub fn as_str(&self) -> &str
+        ensures name { result.now ≡ method_text self.now }
+        ensures ascii { IsAscii result.now }
+    {
+        match self {
+            Method::Get => "GET",
+            Method::Head => "HEAD",
+            Method::Post => "POST",
+            Method::Put => "PUT",
+            Method::Delete => "DELETE",
+            Method::Connect => "CONNECT",
+            Method::Options => "OPTIONS",
+            Method::Trace => "TRACE",
+            Method::Patch => "PATCH",
+            Method::NonStandard(name) => name.as_str(),
+        }
+    }
+}
+
+impl fmt::Display for Method {
+    ghost use Rattle.tiny_http_head.specs.Common.{method_text};
+
+    ghost output = { λ m. Some (method_text m) };
+
+    ghost styled_output = { λ m _. Some (method_text m) };
+
+    /// Writes the method's name. Width and the like change nothing.
+    fn fmt<W: fmt::Write>(&self, f: &mut fmt::Formatter<W>) -> fmt::Result {
+        f.write_str(self.as_str())
+    }
+}
+
+/// A header: its name and its value (RFC 9110, section 5).
+#[derive(Debug, Drop)]
+pub struct Header {
+    pub field: HeaderField,
+    pub value: AsciiString,
+}
+
+impl Header {
+    ghost use Rattle.tiny_http_head.specs.Heads.{IsHeader};
+
+    /// Makes a header of any ASCII bytes. An error where either text isn't ASCII.
+    pub fn from_bytes(field: Vec<u8>, value: Vec<u8>) -> Result<Header, ()>
+        ensures ok { IfOk result (λ h. (h.field ≡ field.items) × (h.value ≡ value.items)) }
+        ensures succeeds { IsOk result ↔ (IsAscii field.items × IsAscii value.items) }
+    {
+        let Ok(field) = HeaderField::from_bytes(field) else {
+            return Err(());
+        };
+        let Ok(value) = AsciiString::from_ascii(value) else {
+            return Err(());
+        };
+        Ok(Header { field, value })
+    }
+
+    /// Reads a header line, without its end: the name stands before the first colon, the value,
+    /// trimmed, behind it (RFC 9112, section 5). `Refused` where there is no colon, white space
+    /// (bytes 9 to 13 and 32) in the name, or a byte that isn't ASCII, and for no other reason;
+    /// `Memory` where there is no memory for the copies.
+    pub fn from_str(alloc: Global, text: &str) -> Result<Header, ParseError>
+        ensures ok { IfOk result (λ h. IsHeader text.now h) }
+        ensures refused { IsErrOf result ParseError.Refused ↔ ((h : Header) → IsHeader text.now h → ⊥) }
+    {
+        let text = text.as_bytes();
+        if !is_ascii(text) {
+            return Err(ParseError::Refused);
+        }
+        match parse_header_line(alloc, text)? {
+            Some(header) => Ok(header),
+            None => Err(ParseError::Refused),
+        }
+    }
+
+    /// A copy of the header, or an error where there is no memory for it.
+    pub fn try_clone(&self) -> Result<Header, AllocError>
+        ensures { IfOk result (λ h. h ≡ self.now) }
+    {
+        Ok(Header {
+            field: self.field.try_clone()?,
+            value: self.value.try_clone()?,
+        })
+    }
+}
+
+impl fmt::Display for Header {
+    ghost use Rattle.tiny_http_head.specs.Common.{header_text};
+
+    ghost output = { λ h. Some (header_text h) };
+
+    ghost styled_output = { λ h _. Some (header_text h) };
+
+    /// Writes `field: value`. Width and the like change nothing.
+    fn fmt<W: fmt::Write>(&self, f: &mut fmt::Formatter<W>) -> fmt::Result {
+        f.write_str(self.field.as_str().as_str())?;
+        f.write_str(": ")?;
+        f.write_str(self.value.as_str())
+    }
+}
+
+/// The method that a text names, or an error where there is no memory for it.
+pub(crate) fn method_of(alloc: Global, text: &[u8]) -> Result<Method, AllocError>
+    requires { AreAscii text.now }
+    ensures { IfOk result (λ m. m ≡ method_of text.now) }
+{
+    if is(text, "GET") {
+        return Ok(Method::Get);
+    }
+    if is(text, "HEAD") {
+        return Ok(Method::Head);
+    }
+    if is(text, "POST") {
+        return Ok(Method::Post);
+    }
+    if is(text, "PUT") {
+        return Ok(Method::Put);
+    }
+    if is(text, "DELETE") {
+        return Ok(Method::Delete);
+    }
+    if is(text, "CONNECT") {
+        return Ok(Method::Connect);
+    }
+    if is(text, "OPTIONS") {
+        return Ok(Method::Options);
+    }
+    if is(text, "TRACE") {
+        return Ok(Method::Trace);
+    }
+    if is(text, "PATCH") {
+        return Ok(Method::Patch);
+    }
+    Ok(Method::NonStandard(owned(alloc, text)?))
+}
+
+/// Reads a header line: the name stands before the first colon, the value, trimmed, behind it (RFC
+/// 9112, section 5). `None` where there is no colon, or white space in the name. An error where the
+/// text is a header line and there is no memory for the answer.
+pub fn parse_header_line(alloc: Global, text: &[u8]) -> Result<Option<Header>, AllocError>
+    requires { AreAscii text.now }
+    ensures value { IfOk result (λ found. found ≡ header_line text.now) }
+    ensures judged { OnErr result (IsSome (header_line text.now)) }
+{
+    let Some((field, padded)) = cut(text, b':') else {
+        return Ok(None);
+    };
+    if !has_no_blank(field) {
+        return Ok(None);
+    }
+    let field = HeaderField::from_text(owned(alloc, field)?);
+    let value = owned(alloc, trim(padded))?;
+    Ok(Some(Header { field, value }))
+}

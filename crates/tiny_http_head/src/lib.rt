@@ -1,0 +1,7 @@
+//! The texts of a head (RFC 9110 and RFC 9112): status codes, versions, methods and headers, and the grammar of their lines.
+#![tactic(auto)]
+
+pub mod common;
+pub mod grammar;
+pub mod header_value;
+pub mod laws;

@@ -1,0 +1,139 @@
+-- From lines read to heads read.
+use Rattle.std.proofs.Common.{◌≡◌, refl, sym, ap, ◌∙◌, subst, ℕ, List, [], ◌∷◌, ◌++◌, length, Option, Some, None, Ok, Err, inl, inr, arith}
+use Rattle.tiny_http_wire.specs.declared.common.Header.{Header}
+use Rattle.tiny_http_wire.specs.Device.{Feed}
+use Rattle.tiny_http_wire.specs.Bytes.{AreAscii}
+use Rattle.tiny_http_wire.specs.Lines.{Line}
+use Rattle.tiny_http_wire.specs.Heads.{Fields, HeaderLine, IsRequestLine, IsFieldOrEnd}
+use Rattle.tiny_http_wire.specs.Reading as reading
+use Rattle.tiny_http_text.proofs.TextLemmas.{are-ascii, not-ascii}
+use Rattle.tiny_http_head.proofs.HeadLemmas.{request-line-is, request-line-one, header-line-is, header-line-one}
+use Rattle.tiny_http_wire.specs.declared.common.Method.{Method}
+use Rattle.tiny_http_wire.specs.declared.common.HTTPVersion.{HTTPVersion}
+use Rattle.tiny_http_message.specs.declared.heads.Message.{Message}
+use Rattle.tiny_http_stream.specs.declared.source.LineFault.{LineFault}
+use Rattle.tiny_http_stream.specs.declared.source.LineFault.TheVariants as linefault
+use Rattle.tiny_http_message.specs.declared.heads.HeadFault.{HeadFault}
+use Rattle.tiny_http_message.specs.declared.heads.HeadFault.TheVariants as fault
+use Rattle.tiny_http_stream.specs.Source.{ReadsLine, from}
+use Rattle.tiny_http_message.specs.HeadReads.{ReadsText, ReadsStart, ReadFields, ReadsField, ReadsFields, ReadsMessage, IsFaulty, IsFaultyHead, head_fault}
+
+pub text-read : (o p : Option Feed) (text : List ℕ) → ReadsLine o p (Ok text) → ReadsText o p (Ok text)
+text-read None p text h = tt
+text-read (Some f) p text h = (h.0, h.1, are-ascii text h.2, h.3)
+
+pub text-not-read : (o p : Option Feed) (e : LineFault) → ReadsLine o p (Err e) → ReadsText o p (Err (head_fault e))
+text-not-read None p e h = tt
+text-not-read (Some f) p linefault.NotAscii h = (h.0, h.1, h.2, not-ascii h.0 h.3)
+text-not-read (Some f) p linefault.Memory h = tt
+text-not-read (Some f) p linefault.End h = h.0
+text-not-read (Some f) p linefault.TimedOut h = h.0
+text-not-read (Some f) p (linefault.Broken kind) h = h.0
+
+-- a line that isn't read is a fault of each line that had to stand there
+pub text-faulty : (IsGood : List ℕ → Type 0) (f : Feed) (p : Option Feed) (e : HeadFault) → ReadsText (Some f) p (Err e) → IsFaulty IsGood f.bytes e
+text-faulty IsGood f p fault.Cut h = h
+text-faulty IsGood f p fault.NotAscii h = h
+text-faulty IsGood f p fault.Malformed h = absurd h
+text-faulty IsGood f p fault.Memory h = tt
+
+pub start-err : (o p : Option Feed) (e : HeadFault) → ReadsText o p (Err e) → ReadsStart o p (Err e)
+start-err None p e h = tt
+start-err (Some f) p e h = text-faulty IsRequestLine f p e h
+
+pub start-read : (o p : Option Feed) (text : List ℕ) (r : Method × List ℕ × HTTPVersion) → ReadsText o p (Ok text) → Some r ≡ reading.request_line text → ReadsStart o p (Ok r)
+start-read None p text r h e = tt
+start-read (Some f) p text r h e = (h.0, (text, h.1, h.2, request-line-is text r (sym e)), h.3)
+
+pub start-malformed : (o p : Option Feed) (text : List ℕ) → ReadsText o p (Ok text) → ◌≡◌ {A = Option (Method × List ℕ × HTTPVersion)} None (reading.request_line text) → ReadsStart o p (Err fault.Malformed)
+start-malformed None p text h e = tt
+start-malformed (Some f) p text h e = (text, h.0, h.1, h.2, λ k. none-some (e ∙ request-line-one text k.0 k.1 k.2 k.3))
+  where
+    none-some : {r : Method × List ℕ × HTTPVersion} → ◌≡◌ {A = Option (Method × List ℕ × HTTPVersion)} None (Some r) → ⊥
+    none-some x = cc
+
+pub field-err : (o p : Option Feed) (e : HeadFault) → ReadsText o p (Err e) → ReadsField o p (Err e)
+field-err None p e h = tt
+field-err (Some f) p e h = text-faulty IsFieldOrEnd f p e h
+
+pub field-end : (o p : Option Feed) (text : List ℕ) → ReadsText o p (Ok text) → length text ≡ 0 → ReadsField o p (Ok None)
+field-end None p text h e = tt
+field-end (Some f) p [] h e = (h.0, h.1, h.3)
+field-end (Some f) p (b ∷ bs) h e = absurd (omega arith)
+
+pub field-read : (o p : Option Feed) (text : List ℕ) (x : Header) → ReadsText o p (Ok text) → Some x ≡ reading.header_line text → ReadsField o p (Ok (Some x))
+field-read None p text x h e = tt
+field-read (Some f) p text x h e = (text, h.0, h.1, h.2, header-line-is text x (sym e), h.3)
+
+pub field-malformed : (o p : Option Feed) (text : List ℕ) → ReadsText o p (Ok text) → (length text ≡ 0 → ⊥) → ◌≡◌ {A = Option Header} None (reading.header_line text) → ReadsField o p (Err fault.Malformed)
+field-malformed None p text h n e = tt
+field-malformed (Some f) p text h n e = (text, h.0, h.1, h.2, no-field)
+  where
+    none-some : {r : Header} → ◌≡◌ {A = Option Header} None (Some r) → ⊥
+    none-some x = cc
+
+    no-field : IsFieldOrEnd text → ⊥
+    no-field (inl empty) = n (ap length empty)
+    no-field (inr k) = none-some (e ∙ header-line-one text k.0 k.1 k.2)
+
+Fields-push : (bytes : List ℕ) (hs : List Header) (mid text next : List ℕ) (h : Header) → Fields bytes hs mid → Line mid text next → AreAscii text → HeaderLine text h.field h.value → Fields bytes (hs ++ h ∷ []) next
+Fields-push bytes [] mid text next h here l a k =
+    let P : List ℕ → Type 0 = λ b. Line b text next in
+    (text, next, subst P here l, a, k, refl)
+Fields-push bytes (x ∷ hs) mid text next h f l a k = (f.0, f.1, f.2, f.3, f.4, Fields-push f.1 hs mid text next h f.5 l a k)
+
+pub fields-none : (o : Option Feed) → ReadFields o o []
+fields-none None = tt
+fields-none (Some f) = (f.bytes, refl, refl)
+
+pub fields-more : (o p q : Option Feed) (hs : List Header) (h : Header) → ReadFields o p hs → ReadsField p q (Ok (Some h)) → ReadFields o q (hs ++ h ∷ [])
+fields-more None p q hs h r k = tt
+fields-more (Some f) p q hs h r k =
+    let P : Option Feed → Type 0 = λ x. ReadsField x q (Ok (Some h)) in
+    let n = subst P r.2 k in
+    (n.1, Fields-push f.bytes hs r.0 n.0 n.1 h r.1 n.2 n.3 n.4, n.5)
+
+pub fields-end : {T : Type 0} (items : T → List Header) (o p q : Option Feed) (hs : T) → ReadFields o p (items hs) → ReadsField p q (Ok None) → ReadsFields items o q (Ok hs)
+fields-end items None p q hs r k = tt
+fields-end items (Some f) p q hs r k =
+    let P : Option Feed → Type 0 = λ x. ReadsField x q (Ok None) in
+    let n = subst P r.2 k in
+    (r.0, n.0, r.1, n.1, n.2)
+
+pub fields-err : {T : Type 0} (items : T → List Header) (o p q : Option Feed) (hs : List Header) (e : HeadFault) → ReadFields o p hs → ReadsField p q (Err e) → ReadsFields items o q (Err e)
+fields-err items None p q hs e r k = tt
+fields-err items (Some f) p q hs e r k =
+    let P : Option Feed → Type 0 = λ x. ReadsField x q (Err e) in
+    (hs, r.0, r.1, subst P r.2 k)
+
+pub fields-memory : {T : Type 0} (items : T → List Header) (o p q : Option Feed) (hs : List Header) → ReadFields o p hs → ReadsFields items o q (Err fault.Memory)
+fields-memory items None p q hs r = tt
+fields-memory items (Some f) p q hs r = (hs, r.0, r.1, tt)
+
+pub message-read : {T : Type 0} (items : T → List Header) (o p q : Option Feed) (hs : T) (m : Message) → m.headers.items ≡ items hs → ReadsStart o p (Ok (m.method, m.path, m.version)) → ReadsFields items p q (Ok hs) → ReadsMessage o q (Ok m)
+message-read items None p q hs m e s k = tt
+message-read items (Some f) p q hs m e s k =
+    let P : Option Feed → Type 0 = λ x. ReadsFields items x q (Ok hs) in
+    let n = subst P s.2 k in
+    let Q : List Header → Type 0 = λ x. Fields s.0 x n.0 in
+    (n.1, (s.0, n.0, s.1, subst Q (sym e) n.2, n.3), n.4)
+
+pub message-start_err : (o p : Option Feed) (e : HeadFault) → ReadsStart o p (Err e) → ReadsMessage o p (Err (None, e))
+message-start_err None p e h = tt
+message-start_err (Some f) p fault.Cut h = h
+message-start_err (Some f) p fault.NotAscii h = h
+message-start_err (Some f) p fault.Malformed h = h
+message-start_err (Some f) p fault.Memory h = tt
+
+pub message-fields_err : {T : Type 0} (items : T → List Header) (o p q : Option Feed) (method : Method) (path : List ℕ) (v : HTTPVersion) (e : HeadFault)
+    → ReadsStart o p (Ok (method, path, v)) → ReadsFields items p q (Err e) → ReadsMessage o q (Err (Some v, e))
+message-fields_err items None p q method path v e s k = tt
+message-fields_err items (Some f) p q method path v e s k =
+    let P : Option Feed → Type 0 = λ x. ReadsFields items x q (Err e) in
+    faulty e (subst P s.2 k)
+  where
+    faulty : (e : HeadFault) → ReadsFields items (from f s.0) q (Err e) → IsFaultyHead f.bytes (Some v) e
+    faulty fault.Cut n = (method, path, s.0, s.1, n.0, n.1, n.2, n.3)
+    faulty fault.NotAscii n = (method, path, s.0, s.1, n.0, n.1, n.2, n.3)
+    faulty fault.Malformed n = (method, path, s.0, s.1, n.0, n.1, n.2, n.3)
+    faulty fault.Memory n = tt

@@ -1,0 +1,262 @@
+-- From a head read to the item that stands there.
+use Rattle.std.proofs.Common.{◌≡◌, refl, sym, ap, ◌∙◌, subst, ℕ, ◌-◌, ◌<◌, ◌≤◌, Bool, true, false, not, ◌&&◌, List, [], ◌+◌, length, take, drop, length-append, Option, Some, None, Result, Ok, Err, inl, inr, arith}
+use Rattle.std.specs.Prelude.{nat_lt, unwrap_or, MatchResult, MatchBool, ◌==◌, if◌then◌else◌}
+use Rattle.std.specs.Option.{option_map}
+use Rattle.std.specs.Global.{Vec}
+use Rattle.std.specs.declared.alloc.AllocError.{AllocError}
+use Rattle.std.specs.declared.io.ErrorKind.{ErrorKind}
+use Rattle.std.proofs.lemmas.Bool.{and_parts, not-true, ltb-true, ltb-false, lt-ltb, le-ltb}
+use Rattle.std.proofs.lemmas.List.{take_all}
+use Rattle.std.specs.declared.io.Cursor.{Cursor}
+use Rattle.tiny_http_wire.specs.Cursor.{cursor_bytes}
+use Rattle.httpdate.specs.declared.date.HttpDate.{HttpDate}
+use Rattle.tiny_http_wire.specs.declared.device.Stop.{Stop}
+use Rattle.tiny_http_wire.specs.declared.device.Stop.TheVariants.{End, Fault as Faults}
+use Rattle.tiny_http_wire.specs.declared.chunked.Decoding.{Decoding}
+use Rattle.tiny_http_wire.specs.declared.common.HTTPVersion.{HTTPVersion}
+use Rattle.tiny_http_wire.specs.Device.{Feed, ending}
+use Rattle.tiny_http_wire.specs.Chunks.{WholeChunks, CutChunks}
+use Rattle.tiny_http_wire.specs.ChunkReading.{decoded}
+use Rattle.tiny_http_wire.specs.Decoding.{Coming, decoding_coming}
+use Rattle.tiny_http_wire.proofs.ChunkLemmas.{decoded-is}
+use Rattle.tiny_http_wire.specs.Heads.{Message as Texted, HeadText, Cut, NotAscii, Malformed, version, is_too_new}
+use Rattle.tiny_http_message.specs.declared.heads.Message.{Message}
+use Rattle.tiny_http_message.specs.declared.framing.Form.{Form}
+use Rattle.tiny_http_message.specs.declared.framing.Form.TheVariants.{Rest, Nothing, Held, Counted, Chunked}
+use Rattle.tiny_http_message.specs.declared.framing.Framing.{Framing}
+use Rattle.tiny_http_message.specs.declared.exchange.Head.{Head}
+use Rattle.tiny_http_message.specs.declared.exchange.Exchange.{Exchange}
+use Rattle.tiny_http_message.specs.declared.exchange.HeadRead.{HeadRead}
+use Rattle.tiny_http_message.specs.declared.exchange.HeadRead.TheVariants as read
+use Rattle.tiny_http_message.specs.declared.heads.HeadFault.{HeadFault}
+use Rattle.tiny_http_message.specs.declared.heads.HeadFault.TheVariants as fault
+use Rattle.tiny_http_message.specs.declared.body.Body.{Body}
+use Rattle.tiny_http_message.specs.declared.body.Body.TheVariants as body
+use Rattle.tiny_http_message.specs.Framing.{framing, is_built, is_rest}
+use Rattle.tiny_http_stream.specs.Parts.{first_part}
+use Rattle.tiny_http_stream.specs.ToCome.{skipped}
+use Rattle.tiny_http_message.specs.Body.{Remaining, remaining, counted_left, coming_left, Fits, IsOver, ReadsOn}
+use Rattle.tiny_http_message.specs.Exchange.{KeepsHead}
+use Rattle.tiny_http_stream.specs.Source.{TakesExactly, from}
+use Rattle.tiny_http_message.specs.Pipeline.{Item, Asks, Refuses, Place, Heading, Ends, Heads, IsCutHeld, cut_answer, is_timed_out, said_length, served, served_answer, BodyAt, FoundAt, OneHead, item_of, goes_on}
+use Rattle.tiny_http_message.specs.HeadReads.{ReadsMessage, ReadsHead, RefusesBy, Begins, ComesWith, place_after, message_of, head_message, head_framing}
+use Rattle.tiny_http_stream.proofs.Inputs.{skipped-within, skipped-beyond}
+use Rattle.tiny_http_message.proofs.PipelineLemmas.{sized-is}
+
+not_served : (t : Bool) → ◌≡◌ {A = Option Item} None (served_answer (if t then Some (Refuses 408 (version 1 1) false) else None))
+not_served true = refl
+not_served false = refl
+
+-- a cut head is answered so far by nothing
+cut-unanswered : (stop : Stop) → ◌≡◌ {A = Option Item} None (served_answer (cut_answer stop))
+cut-unanswered stop = not_served (is_timed_out stop)
+
+-- a faulty head
+pub head-refused : (date : HttpDate) (o p : Option Feed) (v : Option HTTPVersion) (e : HeadFault) (r : Result HeadRead AllocError) → ReadsMessage o p (Err (v, e)) → RefusesBy v e date r → ReadsHead date o p r
+head-refused date None p v e r h k = tt
+head-refused date (Some f) p v e (Err x) h k = tt
+head-refused date (Some f) p v fault.Cut (Ok read.Ended) h k = (Ends (cut_answer f.stop), inl (v, Cut, h, refl), (cut-unanswered f.stop, refl))
+head-refused date (Some f) p v fault.Cut (Ok (read.Request x)) h k = absurd k
+head-refused date (Some f) p v fault.Cut (Ok (read.Refused text last)) h k = absurd k
+head-refused date (Some f) p v fault.NotAscii (Ok read.Ended) h k = (Ends None, inl (v, NotAscii, h, refl), (refl, refl))
+head-refused date (Some f) p v fault.NotAscii (Ok (read.Request x)) h k = absurd k
+head-refused date (Some f) p v fault.NotAscii (Ok (read.Refused text last)) h k = absurd k
+head-refused date (Some f) p v fault.Malformed (Ok read.Ended) h k = absurd k
+head-refused date (Some f) p v fault.Malformed (Ok (read.Request x)) h k = absurd k
+head-refused date (Some f) p v fault.Malformed (Ok (read.Refused text last)) h k =
+    (unwrap_or v (version 1 1), (Ends (Some (Refuses 400 (unwrap_or v (version 1 1)) false)), inl (v, Malformed, h, refl), (refl, refl)), k.0, k.1)
+head-refused date (Some f) p v fault.Memory (Ok x) h k = absurd k
+
+-- an expectation that can't be met
+pub head-unframed : (date : HttpDate) (o p : Option Feed) (m : Message) → ReadsMessage o p (Ok m) → framing m.version m.headers.items ≡ None → ReadsHead date o p (Ok read.Ended)
+head-unframed date None p m h e = tt
+head-unframed date (Some f) p m h e = (Ends (Some (Refuses 417 m.version false)), inr (inl (message_of m, h.0, h.1, e, refl)), (refl, refl))
+
+abbrev pub is_cut_held : Form → ℕ → List ℕ → Bool
+is_cut_held Held n after = nat_lt (length after) n
+is_cut_held _ n after = false
+
+pub cut-held : (form : Form) (n : ℕ) (after : List ℕ) → is_cut_held form n after ≡ true → IsCutHeld form n after
+cut-held Held n after c = ltb-true (length after) n c
+cut-held Nothing n after c = cc
+cut-held Counted n after c = cc
+cut-held Rest n after c = cc
+cut-held Chunked n after c = cc
+
+pub held-cut : (form : Form) (n : ℕ) (after : List ℕ) → IsCutHeld form n after → is_cut_held form n after ≡ true
+held-cut Held n after c = lt-ltb (length after) n c
+held-cut Nothing n after c = elim c [ ]
+held-cut Counted n after c = elim c [ ]
+held-cut Rest n after c = elim c [ ]
+held-cut Chunked n after c = elim c [ ]
+
+-- a head that isn't built
+unbuilt : (bytes : List ℕ) (stop : Stop) (m : Texted) (f : Framing) (after : List ℕ) → HeadText bytes m after → framing m.version m.headers ≡ Some f → is_built m.version f ≡ false
+    → (t : Bool) → is_cut_held f.form (said_length f) after ≡ t → OneHead bytes stop None None
+unbuilt bytes stop m f after h e b true c = (Ends (cut_answer stop), inr (inr (m, after, f, h, e, cut-held f.form (said_length f) after c, refl)), (cut-unanswered stop, refl))
+unbuilt bytes stop m f after h e b false c =
+    let not_cut : IsCutHeld f.form (said_length f) after → ⊥ = λ k. (let x : true ≡ false = sym (held-cut f.form (said_length f) after k) ∙ c in cc) in
+    let P : Heading → Type 0 = λ x. FoundAt stop x None None in
+    let same : Ends None ≡ served (Heads m f after) = rw b refl in
+    (Heads m f after, (h, e, not_cut), subst P same (refl, refl))
+
+pub head-unbuilt : (date : HttpDate) (o p : Option Feed) (m : Message) (f : Framing) → ReadsMessage o p (Ok m) → framing m.version m.headers.items ≡ Some f → is_built m.version f ≡ false → ReadsHead date o p (Ok read.Ended)
+head-unbuilt date None p m f h e b = tt
+head-unbuilt date (Some x) p m f h e b = unbuilt x.bytes x.stop (message_of m) f h.0 h.1 e b (is_cut_held f.form (said_length f) h.0) refl
+
+-- what is built is no version above 1.1, owes no 100, and names no upgrade
+pub record Built (v : HTTPVersion) (f : Framing) : Type 0 where
+  pub version_is : is_too_new v ≡ false
+  pub unowed : f.owes_continue ≡ false
+  pub no_upgrade : is_rest f.form ≡ false
+
+pub built-parts : (v : HTTPVersion) (f : Framing) → is_built v f ≡ true → Built v f
+built-parts v f b =
+    let first = and_parts (not (is_too_new v)) (not f.owes_continue && not (is_rest f.form)) b in
+    let second = and_parts (not f.owes_continue) (not (is_rest f.form)) first.1 in
+    record { version_is = not-true (is_too_new v) first.0; unowed = not-true f.owes_continue second.0; no_upgrade = not-true (is_rest f.form) second.1 }
+
+-- the body that begins in front of some bytes
+abbrev pub BeginsAt : Form → ℕ → Feed → Option Feed → Body → Type 0
+BeginsAt form n x new b =
+    (IsCutHeld form n x.bytes → ⊥) × (content : Feed) × (next : Place) × BodyAt form n x.bytes x.stop content next × ComesWith (remaining b new) x.stop content next × Fits b form n 0 false
+
+pub begins-with : (f : Framing) (form : Form) (o new : Option Feed) (b : Body) → f.form ≡ form → ((x : Feed) → o ≡ Some x → BeginsAt form (said_length f) x new b) → Begins f o new (Some b)
+begins-with f form None new b e h = tt
+begins-with f form (Some x) new b e h = λ z. (let P : Form → Type 0 = λ y. BeginsAt y (said_length f) x new b in subst P (sym e) (h x refl))
+
+pub begins-rest : (f : Framing) (o new : Option Feed) (b : Body) → f.form ≡ Rest → Begins f o new (Some b)
+begins-rest f None new b e = tt
+begins-rest f (Some x) new b e = λ z. (let no : true ≡ false = sym (ap is_rest e) ∙ z in cc)
+
+nothing-at : (n : ℕ) (x : Feed) → BeginsAt Nothing n x (Some x) (body.Over End)
+nothing-at n x = (λ k. k, ending [], Some x.bytes, (refl, refl), refl, refl)
+
+pub begins-nothing : (f : Framing) (o : Option Feed) → f.form ≡ Nothing → Begins f o o (Some (body.Over End))
+begins-nothing f o e = begins-with f Nothing o o (body.Over End) e (λ x told. (let P : Option Feed → Type 0 = λ y. BeginsAt Nothing (said_length f) x y (body.Over End) in subst P (sym told) (nothing-at (said_length f) x)))
+
+-- a body of a known length
+counted-fits : (b : Body) (n : ℕ) → ReadsOn (body.Counted n) 0 false b → Fits b Counted n 0 false
+counted-fits b n h = by (0 == n) refl h
+  where
+    over : (b : Body) → IsOver b → (0 == n) ≡ true → Fits b Counted n 0 false
+    over (body.Over stop) k e = rw e refl
+    over (body.Held bytes) k e = absurd k
+    over (body.Counted left) k e = absurd k
+    over (body.Chunked d) k e = absurd k
+
+    by : (t : Bool) → (0 == n) ≡ t → MatchBool t (IsOver b) ((b ≡ body.Counted (n - 0)) × (0 < n)) → Fits b Counted n 0 false
+    by true e k = over b k e
+    by false e k =
+        let P : Body → Type 0 = λ x. Fits x Counted n 0 false in
+        subst P (sym k.0) (refl, omega arith, omega (arith, k.1), refl)
+
+abbrev pair : Feed → Feed → Remaining
+pair content behind = record { body = content; behind = behind }
+
+all-of : (n : ℕ) (x : Feed) → length x.bytes < n → counted_left n x ≡ pair x (ending [])
+unfolding first_part
+all-of n x lt =
+    let P : List ℕ → Feed = λ bs. record { bytes = bs; stop = x.stop } in
+    ap (λ y. pair y (skipped n x)) (rw (lt-ltb (length x.bytes) n lt) (ap P (take_all n x.bytes (omega (arith, lt))))) ∙ ap (pair x) (skipped-beyond n x lt)
+
+front-of : (n : ℕ) (x : Feed) → n ≤ length x.bytes → counted_left n x ≡ pair (ending (take n x.bytes)) (record { bytes = drop n x.bytes; stop = x.stop })
+unfolding first_part
+front-of n x le = rw (le-ltb (length x.bytes) n le) (ap (pair (ending (take n x.bytes))) (skipped-within n x le))
+
+counted-at : (n : ℕ) (x : Feed) (b : Body) → remaining b (Some x) ≡ Some (counted_left n x) → Fits b Counted n 0 false → BeginsAt Counted n x (Some x) b
+counted-at n x b left fits = by (nat_lt (length x.bytes) n) refl
+  where
+    by : (t : Bool) → nat_lt (length x.bytes) n ≡ t → BeginsAt Counted n x (Some x) b
+    by true e = (λ k. k, x, None, sized-is n x.bytes x.stop true e, left ∙ ap Some (all-of n x (ltb-true (length x.bytes) n e)), fits)
+    by false e = (λ k. k, ending (take n x.bytes), Some (drop n x.bytes), sized-is n x.bytes x.stop false e, left ∙ ap Some (front-of n x (ltb-false (length x.bytes) n e)), fits)
+
+pub begins-counted : (f : Framing) (o : Option Feed) (b : Body) (n : ℕ) → f.form ≡ Counted → n ≡ said_length f → ((feed : Option Feed) → remaining b feed ≡ option_map (counted_left n) feed) → ReadsOn (body.Counted n) 0 false b → Begins f o o (Some b)
+begins-counted f o b n e is left moves =
+    let P : ℕ → Type 0 = λ k. Fits b Counted k 0 false in
+    let Q : ℕ → Feed → Type 0 = λ k x. remaining b (Some x) ≡ Some (counted_left k x) in
+    let R : Option Feed → Feed → Type 0 = λ y x. BeginsAt Counted (said_length f) x y b in
+    begins-with f Counted o o b e (λ x told. subst (λ y. R y x) (sym told) (counted-at (said_length f) x b (subst (λ k. Q k x) is (left (Some x))) (subst P is (counted-fits b n moves))))
+
+-- a chunked body
+pub begins-chunked : (f : Framing) (o : Option Feed) (d : Decoding) → f.form ≡ Chunked
+    → ((bytes content rest : List ℕ) (stop : Stop) → WholeChunks bytes content rest → decoding_coming d (Some (record { bytes = bytes; stop = stop })) ≡ Some (record { bytes = content; behind = Ok (record { bytes = rest; stop = stop }) }))
+    → ((bytes content : List ℕ) (stop : Stop) (kind : ErrorKind) → CutChunks bytes stop content kind → decoding_coming d (Some (record { bytes = bytes; stop = stop })) ≡ Some (record { bytes = content; behind = Err kind }))
+    → Begins f o o (Some (body.Chunked d))
+begins-chunked f o d e whole front =
+    let R : Option Feed → Feed → Type 0 = λ y x. BeginsAt Chunked (said_length f) x y (body.Chunked d) in
+    begins-with f Chunked o o (body.Chunked d) e
+    (λ x told. subst (λ y. R y x) (sym told) (at x (decoded (length x.bytes + 1) x.stop x.bytes).body (decoded (length x.bytes + 1) x.stop x.bytes).ends (decoded-is (length x.bytes + 1) x.bytes x.stop (omega arith))))
+  where
+    at : (x : Feed) (content : List ℕ) (r : Result (List ℕ) ErrorKind) → MatchResult r (λ rest. WholeChunks x.bytes content rest) (λ kind. CutChunks x.bytes x.stop content kind) → BeginsAt Chunked (said_length f) x (Some x) (body.Chunked d)
+    at x content (Ok rest) h =
+        (λ k. k, ending content, Some rest, inl (rest, h, refl, refl), ap (λ (c : Option Coming). option_map coming_left c) (whole x.bytes content rest x.stop h), (refl, refl))
+    at x content (Err kind) h =
+        (λ k. k, record { bytes = content; stop = Faults kind }, None, inr (kind, h, refl, refl), ap (λ (c : Option Coming). option_map coming_left c) (front x.bytes content x.stop kind h), (refl, refl))
+
+-- a body that is read with its head
+pub begins-held : (f : Framing) (o new : Option Feed) (c : Cursor (Vec ℕ)) (v : Vec ℕ) (n : ℕ) → f.form ≡ Held → n ≡ said_length f → cursor_bytes c ≡ v.items → TakesExactly (λ (w : Vec ℕ). w.items) n o new (Some v) → Begins f o new (Some (body.Held c))
+begins-held f o new c v n e is bytes h = begins-with f Held o new (body.Held c) e (λ x told. at x (let P : Option Feed → Type 0 = λ y. TakesExactly (λ (w : Vec ℕ). w.items) n y new (Some v) in subst P told h))
+  where
+    at : (x : Feed) → TakesExactly (λ (w : Vec ℕ). w.items) n (Some x) new (Some v) → BeginsAt Held (said_length f) x new (body.Held c)
+    at x k =
+        let long : length x.bytes ≡ length v.items + length k.0 = ap length k.1 ∙ length-append v.items k.0 in
+        let R : Option Feed → Type 0 = λ y. remaining (body.Held c) y ≡ Some (pair (ending v.items) (record { bytes = k.0; stop = x.stop })) in (
+          λ lt. absurd (omega (arith, lt, is, long, k.2)),
+          ending v.items,
+          Some k.0,
+          (k.0, k.1, k.2 ∙ is, refl, refl),
+          subst R (sym k.3) (ap (λ bs. Some (pair (ending bs) (record { bytes = k.0; stop = x.stop }))) bytes),
+          refl,
+        )
+
+pub begins-cut : (f : Framing) (o new : Option Feed) (n : ℕ) → f.form ≡ Held → n ≡ said_length f → TakesExactly (λ (w : Vec ℕ). w.items) n o new None → Begins f o new None
+begins-cut f None new n e is h = tt
+begins-cut f (Some x) new n e is h =
+    let P : Form → Type 0 = λ y. IsCutHeld y (said_length f) x.bytes in
+    subst P (sym e) (omega (arith, h, is))
+
+-- a head with its body
+head-whole : (x : Feed) (q : Option Feed) (m : Texted) (f : Framing) (after : List ℕ) (b : Body) → HeadText x.bytes m after → framing m.version m.headers ≡ Some f → is_built m.version f ≡ true → Begins f (from x after) q (Some b)
+    → (content : Feed) × (next : Place) × OneHead x.bytes x.stop (Some (Asks (record { message = m; framing = f; body = content }))) (place_after f.is_last next) × ComesWith (remaining b q) x.stop content next × Fits b f.form (said_length f) 0 false
+head-whole x q m f after b h e built begins =
+    let parts = built-parts m.version f built in
+    let k = begins parts.no_upgrade in
+    let content = k.1 in
+    let next = k.2 in
+    let item : Some (Asks (record { message = m; framing = f; body = content })) ≡ Some (item_of m f content) = rw parts.version_is refl in
+    let place : place_after f.is_last next ≡ goes_on m f next = rw parts.version_is (place-is f.is_last next) in
+    let found : FoundAt x.stop (Heads m f after) (Some (Asks (record { message = m; framing = f; body = content }))) (place_after f.is_last next) = (content, next, k.3, item, place) in
+    let Q : Heading → Type 0 = λ y. FoundAt x.stop y (Some (Asks (record { message = m; framing = f; body = content }))) (place_after f.is_last next) in
+    let same : Heads m f after ≡ served (Heads m f after) = rw built refl in
+    (content, next, (Heads m f after, (h, e, k.0), subst Q same found), k.4, k.5)
+  where
+    place-is : (last : Bool) (next : Place) → place_after last next ≡ (if last then None else next)
+    place-is true next = refl
+    place-is false next = refl
+
+-- the request under a message and a framing that are those of a head
+abbrev Handed : Feed → Option Feed → Body → Texted → Framing → Type 0
+Handed x q b m f =
+    (content : Feed) × (next : Place) × OneHead x.bytes x.stop (Some (Asks (record { message = m; framing = f; body = content }))) (place_after f.is_last next) × ComesWith (remaining b q) x.stop content next × Fits b f.form (said_length f) 0 false
+
+pub head-handed : (date : HttpDate) (o p q : Option Feed) (m : Message) (f : Framing) (h : Head) (b : Body) (y : Exchange) → head_message h ≡ message_of m → head_framing h ≡ f → ReadsMessage o p (Ok m) → framing m.version m.headers.items ≡ Some f → is_built m.version f ≡ true
+    → Begins f p q (Some b) → y.head ≡ h → y.waiting.body ≡ b → KeepsHead y.waiting h date → ReadsHead date o q (Ok (read.Request y))
+head-handed date None p q m f h b y u v r e t begins heads bodies keeps = tt
+head-handed date (Some x) p q m f h b y u v r e t begins heads bodies keeps =
+    let P : Option Feed → Type 0 = λ z. Begins f z q (Some b) in
+    let found = head-whole x q (message_of m) f r.0 b r.1 e t (subst P r.2 begins) in
+    let Q : Texted → Type 0 = λ z. Handed x q b z f in
+    let R : Framing → Type 0 = λ z. Handed x q b (head_message h) z in
+    let S : Body → Type 0 = λ z. Handed x q z (head_message h) (head_framing h) in
+    let T : Head → Type 0 = λ z. Handed x q y.waiting.body (head_message z) (head_framing z) in
+    let K : Head → Type 0 = λ z. KeepsHead y.waiting z date in
+    let all = subst T (sym heads) (subst S (sym bodies) (subst R (sym v) (subst Q (sym u) found))) in
+    (all.0, all.1, all.2, all.3, record { answer = subst K (sym heads) keeps; body = all.4 })
+
+-- a body that is read with its head, and cut
+pub head-cut : (date : HttpDate) (o p q : Option Feed) (m : Message) (f : Framing) → ReadsMessage o p (Ok m) → framing m.version m.headers.items ≡ Some f → Begins f p q None → ReadsHead date o q (Ok read.Ended)
+head-cut date None p q m f h e t = tt
+head-cut date (Some x) p q m f h e t =
+    let P : Option Feed → Type 0 = λ y. Begins f y q None in
+    (Ends (cut_answer x.stop), inr (inr (message_of m, h.0, f, h.1, e, subst P h.2 t, refl)), (cut-unanswered x.stop, refl))

@@ -1,0 +1,6 @@
+pub mod BodyReads
+pub mod HeadReading
+pub mod HeadServing
+pub mod Words
+pub mod OwnAnswerLemmas
+pub mod PipelineLemmas

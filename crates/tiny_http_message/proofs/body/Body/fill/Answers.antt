@@ -1,0 +1,64 @@
+use Rattle.std.proofs.Common.{◌≡◌, refl, sym, ◌∙◌, subst, ◌+◌, ◌<◌, ℕ, Bool, true, false, Option, length, take, drop, arith}
+use Rattle.std.proofs.lemmas.Bool.{ne_eqb, lt-ltb}
+use Rattle.std.specs.Prelude.{◌==◌}
+use Rattle.tiny_http_wire.specs.declared.device.Stop.TheVariants.{End}
+use Rattle.tiny_http_message.specs.Body.{Remaining, remaining, with_bytes, BodyStops, NoneLeft, ReadsOn}
+use Rattle.tiny_http_stream.proofs.GoingOn.{goes-on_more}
+use Rattle.tiny_http_message.proofs.BodyReads.{read-more, moves-more, stays-settled, bytes-none, stops-none-left}
+use Rattle.tiny_http_message.proofs.body.Body.fill.Goals as goal
+
+pub loop-at-preserved : goal.loop-at-preserved
+loop-at-preserved g c =
+    let inv = c.loop-at.invariant in
+    let h = c.in-Ok.ensures in
+    let n = c.in-Ok.n in
+    let one : (n == 0) ≡ false = ne_eqb n 0 (λ e. c.in-Ok.n-test.1 e) in
+    let M : Bool → Type 0 = λ t. ReadsOn c.loop-at.self n t c.read_behind.new.self in
+    let moves = subst M one h.moves in
+    record {
+      within = omega (arith, h.bound);
+      given = read-more _ _ _ c.loop-at.buf c.read_behind.new.buf c.loop-at.at n inv.given h.bytes h.front h.bound;
+      start = λ e. absurd (c.in-Ok.n-test.1 (omega (arith, e)));
+      moves = λ some. moves-more _ _ _ c.loop-at.at n false inv.start inv.moves moves;
+      settled = λ e. (h.settled (inv.settled e).1 ∙ (inv.settled e).0, stays-settled _ _ n false moves (inv.settled e).1);
+      goes_on = goes-on_more _ _ _ inv.goes_on h.goes_on;
+    }
+
+pub returns-then-at-eq0-clause-goes_on : goal.returns-then-at-eq0-clause-goes_on
+returns-then-at-eq0-clause-goes_on g c = goes-on_more _ _ _ c.loop-at.invariant.goes_on c.in-Err.ensures.goes_on
+
+pub returns-in-Ok-eq0-clause-fills : goal.returns-in-Ok-eq0-clause-fills
+returns-in-Ok-eq0-clause-fills g c =
+    let inv = c.loop-at.invariant in
+    let h = c.in-Ok-eq0.ensures in
+    let at = c.loop-at.at in
+    let buf = c.read_behind.new.buf in
+    let was = remaining c.args.self.now c.args.source.now.feed in
+    let old = remaining c.loop-at.self c.loop-at.source.feed in
+    let new = remaining c.read_behind.new.self c.read_behind.new.source.feed in
+    let n = c.in-Ok-eq0.field-0 in
+    let zero : n ≡ 0 = c.in-Ok-eq0.field-0-test in
+    let end : BodyStops End old = h.end zero in
+    let same : new ≡ old = bytes-none old new (drop at buf) n h.bytes zero in
+    let all = read-more was old new c.loop-at.buf buf at n inv.given h.bytes h.front h.bound in
+    let none : at + n ≡ at = omega (arith, zero) in
+    let T : ℕ → Type 0 = λ k. was ≡ with_bytes (take k buf) new in
+    let M : ℕ → Bool → Type 0 = λ k t. ReadsOn c.loop-at.self k t c.read_behind.new.self in
+    let moves : ReadsOn c.loop-at.self 0 true c.read_behind.new.self = subst (λ t. M 0 t) refl (subst (λ k. M k (k == 0)) zero h.moves) in
+    let less : at < length buf = h.room in
+    let F : ℕ → Bool → Type 0 = λ k t. ReadsOn c.args.self.now k t c.read_behind.new.self in
+    let on : ReadsOn c.args.self.now (at + 0) true c.read_behind.new.self = moves-more c.args.self.now c.loop-at.self c.read_behind.new.self at 0 true inv.start inv.moves moves in
+    let zero_more : at + 0 ≡ at = omega arith in
+    let P : Option Remaining → Type 0 = λ r. NoneLeft r in
+    let Q : Option Remaining → Type 0 = λ r. BodyStops End r in (
+      subst T none all,
+      λ some. subst (λ t. F at t) (sym (lt-ltb at (length buf) less)) (subst (λ k. F k true) zero_more on),
+      λ lt. subst P (sym same) (stops-none-left old End end),
+      λ first some. subst Q (bytes-none was old c.loop-at.buf at inv.given first) end,
+    )
+
+pub returns-in-Ok-eq0-clause-goes_on : goal.returns-in-Ok-eq0-clause-goes_on
+returns-in-Ok-eq0-clause-goes_on g c = goes-on_more _ _ _ c.loop-at.invariant.goes_on c.in-Ok-eq0.ensures.goes_on
+
+pub returns-else-at-eq0-clause-goes_on : goal.returns-else-at-eq0-clause-goes_on
+returns-else-at-eq0-clause-goes_on g c = goes-on_more _ _ _ c.loop-at.invariant.goes_on c.in-Err.ensures.goes_on

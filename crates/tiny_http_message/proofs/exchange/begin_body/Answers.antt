@@ -1,0 +1,28 @@
+use Rattle.std.proofs.Common.{rules, ap, ◌∙◌, ℕ, drop}
+use Rattle.std.specs.Global.{Vec}
+use Rattle.std.specs.Io.Cursor.{cursor_inner}
+use Rattle.tiny_http_message.proofs.HeadServing.{begins-rest, begins-nothing, begins-counted, begins-chunked, begins-held, begins-cut}
+use Rattle.tiny_http_message.proofs.exchange.begin_body.Goals as goal
+
+pub returns-in-Rest-clause-begins : goal.returns-in-Rest-clause-begins
+returns-in-Rest-clause-begins g c = begins-rest c.args.framing c.args.source.now.feed c.args.source.now.feed _ (search rules)
+
+pub returns-in-Nothing-clause-begins : goal.returns-in-Nothing-clause-begins
+returns-in-Nothing-clause-begins g c = begins-nothing c.args.framing c.args.source.now.feed (search rules)
+
+pub returns-in-Counted-clause-begins : goal.returns-in-Counted-clause-begins
+returns-in-Counted-clause-begins g c = begins-counted c.args.framing c.args.source.now.feed c.counted.result _ (search rules) (search rules) c.counted.ensures.remaining c.counted.ensures.moves
+
+pub returns-in-Chunked-clause-begins : goal.returns-in-Chunked-clause-begins
+returns-in-Chunked-clause-begins g c = begins-chunked c.args.framing c.args.source.now.feed c.new.result (search rules) c.new.ensures.whole c.new.ensures.front
+
+pub returns-in-Ok-Some-clause-begins : goal.returns-in-Ok-Some-clause-begins
+returns-in-Ok-Some-clause-begins g c =
+    let taken = rw c.in-Ok-Some.field-0-is at c.in-Ok-Some.ensures in
+    begins-held c.args.framing c.args.source.now.feed c.take_exactly.new.self.feed c.new-in-Ok-Some.result c.in-Ok-Some.bytes c.unwrap_or-length.result (search rules) (search rules)
+    (ap (λ n. drop n (cursor_inner c.new-in-Ok-Some.result).items) c.new-in-Ok-Some.ensures.position ∙ ap (λ (v : Vec ℕ). v.items) c.new-in-Ok-Some.ensures.inner) taken.takes
+
+pub returns-in-Ok-None-clause-begins : goal.returns-in-Ok-None-clause-begins
+returns-in-Ok-None-clause-begins g c =
+    let taken = rw c.in-Ok-None.field-0-is at c.in-Ok-None.ensures in
+    begins-cut c.args.framing c.args.source.now.feed c.take_exactly.new.self.feed c.unwrap_or-length.result (search rules) (search rules) taken.takes

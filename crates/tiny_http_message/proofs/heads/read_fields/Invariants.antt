@@ -1,0 +1,13 @@
+use Rattle.std.proofs.Common.{◌-◌, ◌^◌, vec_len}
+use Rattle.tiny_http_message.specs.HeadReads.{ReadFields}
+use Rattle.tiny_http_stream.specs.Source.{GoesOn}
+use Rattle.tiny_http_message.proofs.heads.read_fields.Given as goal
+
+abbrev pub invariant-loop-header : goal.invariant-loop-header
+invariant-loop-header g l = record {
+  fields : ReadFields l.fn.source.feed l.source.feed l.headers.items;
+  goes_on : GoesOn l.fn.source.feed l.source.feed;
+}
+
+abbrev pub decreases-loop-header : goal.decreases-loop-header
+decreases-loop-header g l = 2 ^ 64 - vec_len l.headers

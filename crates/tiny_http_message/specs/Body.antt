@@ -1,0 +1,126 @@
+-- What is still to come of a request's body, and where the input stands behind it.
+use Rattle.std.specs.Prelude.{◌≡◌, ℕ, ◌+◌, ◌-◌, ◌<◌, Bool, true, false, ◌||◌, ◌==◌, nat_lt, List, [], length, take, Option, Some, None, Result, Ok, Err, MatchBool, ⊤}
+use Rattle.std.specs.Option.{option_map}
+use Rattle.std.specs.declared.io.ErrorKind.{ErrorKind}
+use Rattle.tiny_http_wire.specs.declared.device.Stop.{Stop}
+use Rattle.tiny_http_wire.specs.declared.device.Stop.TheVariants.{End, Fault}
+use Rattle.tiny_http_wire.specs.Cursor.{cursor_bytes}
+use Rattle.tiny_http_wire.specs.Device.{Feed, ending, prepend}
+use Rattle.tiny_http_wire.specs.Decoding.{Coming, decoding_coming}
+use Rattle.tiny_http_message.specs.declared.body.Body.{Body}
+use Rattle.tiny_http_message.specs.declared.body.Body.TheVariants.{Over, Held, Counted, Chunked}
+use Rattle.tiny_http_message.specs.declared.framing.Form.{Form}
+use Rattle.tiny_http_message.specs.declared.framing.Form.TheVariants as form
+use Rattle.tiny_http_stream.specs.ToCome.{skipped, stopped}
+use Rattle.tiny_http_stream.specs.Parts.{first_part}
+use Rattle.tiny_http_stream.specs.Source.{SourceState, IsAtEnd}
+
+-- What is still to come of a body, and the feed behind it; a feed without a byte, where no head follows.
+pub record Remaining : Type 0 where
+  pub body : Feed
+  pub behind : Feed
+
+-- a chunked body that is whole ends, and the input goes on behind it; one that is cut or broken stops by its fault, and
+-- no head follows
+abbrev pub chunks_left : List ℕ → Result Feed ErrorKind → Remaining
+chunks_left bytes (Ok feed) = record { body = ending bytes; behind = feed }
+chunks_left bytes (Err kind) = record { body = record { bytes = bytes; stop = Fault kind }; behind = stopped End }
+
+abbrev pub coming_left : Coming → Remaining
+coming_left c = chunks_left c.bytes c.behind
+
+-- so many bytes of the input; where there are fewer no head follows
+abbrev pub counted_left : ℕ → Feed → Remaining
+counted_left n feed = record { body = first_part n feed; behind = skipped n feed }
+
+-- the input stands behind the body already
+abbrev pub taken_left : Feed → Feed → Remaining
+taken_left body feed = record { body = body; behind = feed }
+
+-- what is still to come of the body, where the input still gives this
+abbrev pub remaining : Body → Option Feed → Option Remaining
+remaining (Over stop) feed = option_map (taken_left (stopped stop)) feed
+remaining (Held bytes) feed = option_map (taken_left (ending (cursor_bytes bytes))) feed
+remaining (Counted n) feed = option_map (counted_left n) feed
+remaining (Chunked decoding) feed = option_map coming_left (decoding_coming decoding feed)
+
+-- these bytes of the body, and then what remains
+abbrev pub after_bytes : List ℕ → Remaining → Remaining
+after_bytes bs r = record { body = prepend bs r.body; behind = r.behind }
+
+abbrev pub with_bytes : List ℕ → Option Remaining → Option Remaining
+with_bytes bs r = option_map (after_bytes bs) r
+
+-- no byte of the body is left, and this is how it stops
+abbrev pub BodyStops : Stop → Option Remaining → Type 0
+BodyStops stop None = ⊤
+BodyStops stop (Some r) = r.body ≡ stopped stop
+
+-- no byte of the body is left
+abbrev pub NoneLeft : Option Remaining → Type 0
+NoneLeft None = ⊤
+NoneLeft (Some r) = r.body.bytes ≡ []
+
+-- the body is read from the input
+abbrev pub is_streaming : Body → Bool
+is_streaming (Over stop) = false
+is_streaming (Held bytes) = false
+is_streaming (Counted n) = true
+is_streaming (Chunked decoding) = true
+
+-- what is told from now on, where that is kept
+abbrev pub body_stop : Body → Option Stop
+body_stop (Over stop) = Some stop
+body_stop (Held bytes) = None
+body_stop (Counted n) = None
+body_stop (Chunked decoding) = None
+
+abbrev pub IsOver : Body → Type 0
+IsOver (Over stop) = ⊤
+IsOver _ = ⊥
+
+abbrev pub IsHeld : Body → Type 0
+IsHeld (Held bytes) = ⊤
+IsHeld _ = ⊥
+
+abbrev pub IsChunked : Body → Type 0
+IsChunked (Chunked decoding) = ⊤
+IsChunked _ = ⊥
+
+-- So many bytes were read, and the end or the fault was told or not. A counted body is over with its last byte, a chunked
+-- one once its end or fault was told.
+abbrev pub ReadsOn : Body → ℕ → Bool → Body → Type 0
+ReadsOn (Over stop) n told new = (new ≡ Over stop) × (n ≡ 0)
+ReadsOn (Held bytes) n told new = IsHeld new
+ReadsOn (Counted left) n told new = MatchBool (told || n == left) (IsOver new) ((new ≡ Counted (left - n)) × (n < left))
+ReadsOn (Chunked decoding) n told new = MatchBool told (IsOver new) (IsChunked new)
+
+-- the body is finished: it is nothing or held, or all its bytes were given out, or its end or fault was told
+abbrev pub body_finished : Form → ℕ → ℕ → Bool → Bool
+body_finished form.Nothing n given told = true
+body_finished form.Held n given told = true
+body_finished form.Counted n given told = given == n || told
+body_finished form.Chunked n given told = told
+body_finished form.Rest n given told = told
+
+-- what was read of the body fits its form and length
+abbrev pub Fits : Body → Form → ℕ → ℕ → Bool → Type 0
+Fits (Over stop) shape n given told = body_finished shape n given told ≡ true
+Fits (Held bytes) shape n given told = shape ≡ form.Held
+Fits (Counted left) shape n given told = (shape ≡ form.Counted) × (given + left ≡ n) × (0 < left) × (told ≡ false)
+Fits (Chunked decoding) shape n given told = (shape ≡ form.Chunked) × (told ≡ false)
+
+-- A buffer was filled from the body: with all its bytes; or with fewer, and none is left; or a fault came before any byte.
+abbrev pub FillsFromBody : Body → Option Feed → Body → Option Feed → Result ℕ ErrorKind → List ℕ → Type 0
+FillsFromBody old from new to (Ok n) buf =
+    (remaining old from ≡ with_bytes (take n buf) (remaining new to)) × (0 < length buf → ReadsOn old n (nat_lt n (length buf)) new)
+    × (n < length buf → NoneLeft (remaining new to)) × (n ≡ 0 → 0 < length buf → BodyStops End (remaining old from))
+FillsFromBody old from new to (Err kind) buf =
+    (remaining new to ≡ remaining old from) × ReadsOn old 0 true new × BodyStops (Fault kind) (remaining old from)
+
+-- A body is given up: the rest of a counted one is skipped; behind a chunked one no head follows; else nothing changes.
+abbrev pub GivesUp : {R : Type 0} → Body → SourceState R → SourceState R → Type 0
+GivesUp (Over stop) old new = new ≡ old
+GivesUp (Held bytes) old new = new ≡ old
+GivesUp (Counted left) old new = new.feed ≡ option_map (skipped left) old.feed
+GivesUp (Chunked decoding) old new = (new.feed ≡ option_map (λ _. stopped End) old.feed) × IsAtEnd new

@@ -1,0 +1,51 @@
+-- What a contract sees of an `Exchange`.
+use Rattle.std.specs.Prelude.{◌≡◌, ℕ, Bool, false, Option, unwrap_or}
+use Rattle.httpdate.specs.declared.date.HttpDate.{HttpDate}
+use Rattle.tiny_http_wire.specs.declared.device.Stop.{Stop}
+use Rattle.tiny_http_wire.specs.Device.{Feed}
+use Rattle.tiny_http_message.specs.declared.exchange.Head.{Head}
+use Rattle.tiny_http_message.specs.declared.waiting.Waiting.{Waiting}
+use Rattle.tiny_http_message.specs.declared.exchange.Exchange.{Exchange}
+use Rattle.tiny_http_stream.specs.Source.{SourceState}
+use Rattle.tiny_http_message.specs.Pipeline.{is_head_method}
+use Rattle.tiny_http_message.specs.OwnAnswer.{own_text}
+use Rattle.tiny_http_message.specs.Body.{Remaining, remaining, body_stop, is_streaming, ReadsOn, Fits, GivesUp}
+
+-- a request of this head, of which this is kept
+abbrev pub exchange_of : Head → Waiting → Exchange
+exchange_of head waiting = record { head = head; waiting = waiting }
+
+-- what the request's head says
+abbrev pub exchange_head : Exchange → Head
+exchange_head x = x.head
+
+-- what is still to come of its body, where the input still gives this, and what stands behind it
+abbrev pub exchange_left : Exchange → Option Feed → Option Remaining
+exchange_left x feed = remaining x.waiting.body feed
+
+-- the end or the fault that its body tells from now on, where that is kept
+abbrev pub exchange_stop : Exchange → Option Stop
+exchange_stop x = body_stop x.waiting.body
+
+-- its body is read from the input, which has to stand behind it before the next head is read
+abbrev pub exchange_streams : Exchange → Bool
+exchange_streams x = is_streaming x.waiting.body
+
+-- so many bytes of its body were read, and the end or the fault was told or not
+abbrev pub ExchangeReadsOn : Exchange → ℕ → Bool → Exchange → Type 0
+ExchangeReadsOn x n told new = ReadsOn x.waiting.body n told new.waiting.body
+
+-- its body is given up
+abbrev pub GivesUpBody : {R : Type 0} → Exchange → SourceState R → SourceState R → Type 0
+GivesUpBody x old new = GivesUp x.waiting.body old new
+
+-- this is kept of a request with this head that was handed out on this date
+pub record KeepsHead (w : Waiting) (h : Head) (date : HttpDate) : Type 0 where
+  pub version : w.form.version ≡ h.version
+  pub no_body : w.form.no_body ≡ is_head_method h.method
+  pub text : w.dropped.items ≡ own_text 500 h.version (is_head_method h.method) date
+
+-- what is kept of a request that was read on this date, of whose body nothing was read yet
+pub record KeepsRequest (x : Exchange) (date : HttpDate) : Type 0 where
+  pub answer : KeepsHead x.waiting x.head date
+  pub body : Fits x.waiting.body x.head.form (unwrap_or x.head.body_length 0) 0 false

@@ -1,0 +1,154 @@
+-- What the calls that read a head make of the input.
+use Rattle.std.specs.Prelude.{◌≡◌, ℕ, ⊤, List, [], Option, Some, None, Result, Ok, Err, unwrap_or, Bool, true, false}
+use Rattle.std.specs.declared.alloc.AllocError.{AllocError}
+use Rattle.httpdate.specs.declared.date.HttpDate.{HttpDate}
+use Rattle.tiny_http_wire.specs.declared.common.Method.{Method}
+use Rattle.tiny_http_wire.specs.declared.common.HTTPVersion.{HTTPVersion}
+use Rattle.tiny_http_wire.specs.declared.common.Header.{Header}
+use Rattle.tiny_http_wire.specs.declared.device.Stop.{Stop}
+use Rattle.tiny_http_wire.specs.Device.{Feed, ending}
+use Rattle.tiny_http_wire.specs.Bytes.{AreAscii}
+use Rattle.tiny_http_wire.specs.Lines.{Line, IsUnfinished}
+use Rattle.tiny_http_wire.specs.Heads.{Message as Texted, Starts, Fields, HeaderLine, FaultyLine, FaultyHead, HeadText, IsRequestLine, IsFieldOrEnd, Cut, NotAscii, Malformed, version}
+use Rattle.tiny_http_message.specs.declared.heads.Message.{Message}
+use Rattle.tiny_http_message.specs.declared.framing.Framing.{Framing}
+use Rattle.tiny_http_message.specs.declared.exchange.Head.{Head}
+use Rattle.tiny_http_message.specs.declared.exchange.HeadRead.{HeadRead}
+use Rattle.tiny_http_message.specs.declared.exchange.HeadRead.TheVariants as read
+use Rattle.tiny_http_stream.specs.declared.source.LineFault.{LineFault}
+use Rattle.tiny_http_stream.specs.declared.source.LineFault.TheVariants as linefault
+use Rattle.tiny_http_message.specs.declared.heads.HeadFault.{HeadFault}
+use Rattle.tiny_http_message.specs.declared.heads.HeadFault.TheVariants as fault
+use Rattle.tiny_http_message.specs.declared.body.Body.{Body}
+use Rattle.tiny_http_message.specs.Framing.{is_rest}
+use Rattle.tiny_http_stream.specs.Source.{SourceState, from, IsAtEnd}
+use Rattle.tiny_http_message.specs.Pipeline.{Request, Item, Asks, Refuses, Place, IsCutHeld, BodyAt, OneHead, said_length}
+use Rattle.tiny_http_message.specs.OwnAnswer.{own_text}
+use Rattle.tiny_http_message.specs.Body.{Remaining, remaining, Fits}
+use Rattle.tiny_http_message.specs.Exchange.{exchange_head, exchange_left, KeepsRequest}
+
+-- what is wrong with a head whose next line isn't read
+abbrev pub head_fault : LineFault → HeadFault
+head_fault linefault.NotAscii = fault.NotAscii
+head_fault linefault.Memory = fault.Memory
+head_fault _ = fault.Cut
+
+-- a line of ASCII text
+abbrev pub ReadsText : Option Feed → Option Feed → Result (List ℕ) HeadFault → Type 0
+ReadsText None new r = ⊤
+ReadsText (Some f) new (Ok text) = (rest : List ℕ) × Line f.bytes text rest × AreAscii text × (new ≡ from f rest)
+ReadsText (Some f) new (Err fault.Cut) = IsUnfinished f.bytes
+ReadsText (Some f) new (Err fault.NotAscii) = (text : List ℕ) × (rest : List ℕ) × Line f.bytes text rest × (AreAscii text → ⊥)
+ReadsText (Some f) new (Err fault.Malformed) = ⊥
+ReadsText (Some f) new (Err fault.Memory) = ⊤
+
+-- a line that has to be good, and is not
+abbrev pub IsFaulty : (List ℕ → Type 0) → List ℕ → HeadFault → Type 0
+IsFaulty IsGood bytes fault.Cut = FaultyLine IsGood bytes Cut
+IsFaulty IsGood bytes fault.NotAscii = FaultyLine IsGood bytes NotAscii
+IsFaulty IsGood bytes fault.Malformed = FaultyLine IsGood bytes Malformed
+IsFaulty IsGood bytes fault.Memory = ⊤
+
+-- a request line
+abbrev pub ReadsStart : Option Feed → Option Feed → Result (Method × List ℕ × HTTPVersion) HeadFault → Type 0
+ReadsStart None new r = ⊤
+ReadsStart (Some f) new (Ok r) = (rest : List ℕ) × Starts f.bytes r.0 r.1 r.2 rest × (new ≡ from f rest)
+ReadsStart (Some f) new (Err e) = IsFaulty IsRequestLine f.bytes e
+
+-- a header line, or the empty line
+abbrev pub ReadsField : Option Feed → Option Feed → Result (Option Header) HeadFault → Type 0
+ReadsField None new r = ⊤
+ReadsField (Some f) new (Ok (Some h)) = (text : List ℕ) × (rest : List ℕ) × Line f.bytes text rest × AreAscii text × HeaderLine text h.field h.value × (new ≡ from f rest)
+ReadsField (Some f) new (Ok None) = (rest : List ℕ) × Line f.bytes [] rest × (new ≡ from f rest)
+ReadsField (Some f) new (Err e) = IsFaulty IsFieldOrEnd f.bytes e
+
+-- these header lines were read
+abbrev pub ReadFields : Option Feed → Option Feed → List Header → Type 0
+ReadFields None new hs = ⊤
+ReadFields (Some f) new hs = (rest : List ℕ) × Fields f.bytes hs rest × (new ≡ from f rest)
+
+-- all header lines and the empty line
+abbrev pub ReadsFields : {T : Type 0} → (T → List Header) → Option Feed → Option Feed → Result T HeadFault → Type 0
+ReadsFields items None new r = ⊤
+ReadsFields items (Some f) new (Ok hs) = (empty : List ℕ) × (rest : List ℕ) × Fields f.bytes (items hs) empty × Line empty [] rest × (new ≡ from f rest)
+ReadsFields items (Some f) new (Err e) = (hs : List Header) × (rest : List ℕ) × Fields f.bytes hs rest × IsFaulty IsFieldOrEnd rest e
+
+abbrev pub message_of : Message → Texted
+message_of m = record { method = m.method; path = m.path; version = m.version; headers = m.headers.items }
+
+-- what a head says, and how it is framed
+abbrev pub head_message : Head → Texted
+head_message h = record { method = h.method; path = h.path; version = h.version; headers = h.headers.items }
+
+abbrev pub head_framing : Head → Framing
+head_framing h = record { form = h.form; owes_continue = h.owes_continue; body_length = h.body_length; is_last = h.is_last }
+
+-- the request of a head, with its body
+abbrev pub request_of : Head → Feed → Request
+request_of h body = record { message = head_message h; framing = head_framing h; body = body }
+
+-- a head that is faulty so, under the version if that was read
+abbrev pub IsFaultyHead : List ℕ → Option HTTPVersion → HeadFault → Type 0
+IsFaultyHead bytes v fault.Cut = FaultyHead bytes v Cut
+IsFaultyHead bytes v fault.NotAscii = FaultyHead bytes v NotAscii
+IsFaultyHead bytes v fault.Malformed = FaultyHead bytes v Malformed
+IsFaultyHead bytes v fault.Memory = ⊤
+
+-- a whole head, or its first faulty line
+abbrev pub ReadsMessage : Option Feed → Option Feed → Result Message (Option HTTPVersion × HeadFault) → Type 0
+ReadsMessage None new r = ⊤
+ReadsMessage (Some f) new (Ok m) = (rest : List ℕ) × HeadText f.bytes (message_of m) rest × (new ≡ from f rest)
+ReadsMessage (Some f) new (Err e) = IsFaultyHead f.bytes e.0 e.1
+
+-- the item of a head that is refused by a 400 in this version
+abbrev pub refused : HTTPVersion → Item
+refused v = Refuses 400 v false
+
+-- what a faulty head is answered so far, under the version if that was read; no memory is found for its line or its answer
+abbrev pub RefusesBy : Option HTTPVersion → HeadFault → HttpDate → Result HeadRead AllocError → Type 0
+RefusesBy v fault.Malformed date (Ok (read.Refused text last)) = (text.items ≡ own_text 400 (unwrap_or v (version 1 1)) false date) × (last ≡ true)
+RefusesBy v fault.Malformed date (Ok _) = ⊥
+RefusesBy v fault.Malformed date (Err e) = ⊤
+RefusesBy v fault.Memory date (Ok x) = ⊥
+RefusesBy v fault.Memory date (Err e) = ⊤
+RefusesBy v _ date (Ok read.Ended) = ⊤
+RefusesBy v _ date _ = ⊥
+
+-- the feed at a place; nothing where no head follows
+abbrev pub place_feed : Stop → Place → Feed
+place_feed stop None = ending []
+place_feed stop (Some bytes) = record { bytes = bytes; stop = stop }
+
+-- the body that stands here, and the place behind it, are to come
+abbrev pub ComesWith : Option Remaining → Stop → Feed → Place → Type 0
+ComesWith left stop body next = left ≡ Some (record { body = body; behind = place_feed stop next })
+
+-- The body that begins at the input's place, or none: it is read with its head, and cut short.
+abbrev pub Begins : Framing → Option Feed → Option Feed → Option Body → Type 0
+Begins f None new b = ⊤
+Begins f (Some x) new None = IsCutHeld f.form (said_length f) x.bytes
+Begins f (Some x) new (Some b) =
+    is_rest f.form ≡ false → (IsCutHeld f.form (said_length f) x.bytes → ⊥) × (body : Feed) × (next : Place) × BodyAt f.form (said_length f) x.bytes x.stop body next
+    × ComesWith (remaining b new) x.stop body next × Fits b f.form (said_length f) 0 false
+
+-- where the next head begins behind a request
+abbrev pub place_after : Bool → Place → Place
+place_after true next = None
+place_after false next = next
+
+-- ONE HEAD, read: the item that stands at the input's place, what is still to come of its body, and where the next head
+-- begins behind that, unless the request is the last.
+abbrev pub ReadsHead : HttpDate → Option Feed → Option Feed → Result HeadRead AllocError → Type 0
+ReadsHead date None new r = ⊤
+ReadsHead date (Some f) new (Ok (read.Request x)) =
+    (body : Feed) × (next : Place) × OneHead f.bytes f.stop (Some (Asks (request_of (exchange_head x) body))) (place_after (exchange_head x).is_last next)
+    × ComesWith (exchange_left x new) f.stop body next × KeepsRequest x date
+ReadsHead date (Some f) new (Ok (read.Refused text last)) =
+    (v : HTTPVersion) × OneHead f.bytes f.stop (Some (refused v)) None × (text.items ≡ own_text 400 v false date) × (last ≡ true)
+ReadsHead date (Some f) new (Ok read.Ended) = OneHead f.bytes f.stop None None
+ReadsHead date (Some f) new (Err e) = ⊤
+
+-- behind anything but a request the source has ended
+abbrev pub EndsUnlessHanded : {R : Type 0} → Result HeadRead AllocError → SourceState R → Type 0
+EndsUnlessHanded (Ok (read.Request x)) s = ⊤
+EndsUnlessHanded _ s = IsAtEnd s

@@ -1,0 +1,9 @@
+pub mod Framing
+pub mod OwnAnswer
+pub mod Page
+pub mod TextState
+pub mod Pipeline
+pub mod PipelineReading
+pub mod Body
+pub mod Exchange
+pub mod HeadReads

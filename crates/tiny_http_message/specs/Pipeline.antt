@@ -1,0 +1,127 @@
+-- What a connection's bytes ask: requests with their bodies, and heads that are refused.
+use Rattle.std.specs.Prelude.{◌≡◌, ℕ, ◌<◌, ◌⊎◌, Bool, true, false, ◌==◌, List, [], ◌∷◌, ◌++◌, length, Option, Some, None, unwrap_or, if◌then◌else◌}
+use Rattle.std.specs.declared.io.ErrorKind.{ErrorKind}
+use Rattle.std.specs.declared.io.ErrorKind.TheVariants.{TimedOut}
+use Rattle.tiny_http_wire.specs.declared.common.Method.{Method}
+use Rattle.tiny_http_wire.specs.declared.common.Method.TheVariants.{Head}
+use Rattle.tiny_http_wire.specs.declared.common.HTTPVersion.{HTTPVersion}
+use Rattle.tiny_http_wire.specs.declared.device.Stop.{Stop}
+use Rattle.tiny_http_wire.specs.declared.device.Stop.TheVariants.{End, Fault as Faults}
+use Rattle.tiny_http_wire.specs.Device.{Feed}
+use Rattle.tiny_http_wire.specs.Chunks.{WholeChunks, CutChunks}
+use Rattle.tiny_http_wire.specs.Heads.{Message, HeadText, FaultyHead, Fault, Cut, NotAscii, Malformed, version, is_too_new}
+use Rattle.tiny_http_message.specs.declared.framing.Form.{Form}
+use Rattle.tiny_http_message.specs.declared.framing.Form.TheVariants.{Rest, Nothing, Held, Counted, Chunked}
+use Rattle.tiny_http_message.specs.declared.framing.Framing.{Framing}
+use Rattle.tiny_http_message.specs.Framing.{framing, is_built}
+
+-- a request that is handed out: its head, its framing, and what its body reader gives and how that closes
+pub record Request : Type 0 where
+  pub message : Message
+  pub framing : Framing
+  pub body : Feed
+
+-- a head of the connection: handed out, or refused
+pub data Item : Type 0 where
+  Asks : (request : Request) → Item
+  Refuses : (status : ℕ) (version : HTTPVersion) (withheld : Bool) → Item
+
+-- where the next head begins; or None: the connection has ended
+abbrev pub Place : Type 0
+Place = Option (List ℕ)
+
+abbrev pub is_timed_out : Stop → Bool
+is_timed_out (Faults TimedOut) = true
+is_timed_out _ = false
+
+abbrev pub is_head_method : Method → Bool
+is_head_method Head = true
+is_head_method _ = false
+
+-- an unfinished head is answered only where the reader timed out
+abbrev pub cut_answer : Stop → Option Item
+cut_answer stop = if is_timed_out stop then Some (Refuses 408 (version 1 1) false) else None
+
+-- the answer to the first faulty line
+abbrev pub fault_answer : Option HTTPVersion → Fault → Stop → Option Item
+fault_answer v Cut stop = cut_answer stop
+fault_answer v NotAscii stop = None
+fault_answer v Malformed stop = Some (Refuses 400 (unwrap_or v (version 1 1)) false)
+
+abbrev pub said_length : Framing → ℕ
+said_length f = unwrap_or f.body_length 0
+
+-- a body that is read with its head is cut short
+abbrev pub IsCutHeld : Form → ℕ → List ℕ → Type 0
+IsCutHeld Held n after = length after < n
+IsCutHeld _ n after = ⊥
+
+-- what the bytes at a head's place are
+pub data Heading : Type 0 where
+  Ends : (answer : Option Item) → Heading
+  Heads : (message : Message) (framing : Framing) (after : List ℕ) → Heading
+
+-- The first faulty line of the head decides; then the expectation; then a held body that is cut. Else the head stands.
+abbrev pub HeadAt : List ℕ → Stop → Heading → Type 0
+HeadAt bytes stop (Ends answer) =
+    ((v : Option HTTPVersion) × (fault : Fault) × FaultyHead bytes v fault × (answer ≡ fault_answer v fault stop))
+    ⊎ (((m : Message) × (after : List ℕ) × HeadText bytes m after × (framing m.version m.headers ≡ None) × (answer ≡ Some (Refuses 417 m.version false)))
+    ⊎ ((m : Message) × (after : List ℕ) × (f : Framing) × HeadText bytes m after × (framing m.version m.headers ≡ Some f) × IsCutHeld f.form (said_length f) after × (answer ≡ cut_answer stop)))
+HeadAt bytes stop (Heads m f after) =
+    HeadText bytes m after × (framing m.version m.headers ≡ Some f) × (IsCutHeld f.form (said_length f) after → ⊥)
+
+-- THE INTERIM GUARD on heads, applied: only a 400 is answered, and only what is built is handed out.
+abbrev pub served_answer : Option Item → Option Item
+served_answer None = None
+served_answer (Some (Asks r)) = None
+served_answer (Some (Refuses status v withheld)) = if status == 400 then Some (Refuses status v withheld) else None
+
+abbrev pub served : Heading → Heading
+served (Ends answer) = Ends (served_answer answer)
+served (Heads m f after) = if is_built m.version f then Heads m f after else Ends None
+
+-- the bytes begin with a body of n bytes
+abbrev pub SizedBody : ℕ → List ℕ → Feed → Place → Type 0
+SizedBody n after body next = (rest : List ℕ) × (after ≡ body.bytes ++ rest) × (length body.bytes ≡ n) × (body.stop ≡ End) × (next ≡ Some rest)
+
+-- The body that stands after a head, how it closes, and where the next head begins.
+abbrev pub BodyAt : Form → ℕ → List ℕ → Stop → Feed → Place → Type 0
+BodyAt Nothing n after stop body next = (body ≡ record { bytes = []; stop = End }) × (next ≡ Some after)
+BodyAt Held n after stop body next = SizedBody n after body next
+BodyAt Counted n after stop body next =
+    SizedBody n after body next ⊎ ((length after < n) × (body ≡ record { bytes = after; stop = stop }) × (next ≡ None))
+BodyAt Rest n after stop body next = (body ≡ record { bytes = after; stop = stop }) × (next ≡ None)
+BodyAt Chunked n after stop body next =
+    ((rest : List ℕ) × WholeChunks after body.bytes rest × (body.stop ≡ End) × (next ≡ Some rest))
+    ⊎ ((kind : ErrorKind) × CutChunks after stop body.bytes kind × (body.stop ≡ Faults kind) × (next ≡ None))
+
+-- a version above 1.1 is refused, and the body is passed over where that can be done
+abbrev pub ends_too_new : Form → Bool
+ends_too_new Rest = true
+ends_too_new Chunked = true
+ends_too_new _ = false
+
+abbrev pub item_of : Message → Framing → Feed → Item
+item_of m f body =
+    if is_too_new m.version then Refuses 505 (version 1 1) (is_head_method m.method) else Asks (record { message = m; framing = f; body = body })
+
+abbrev pub goes_on : Message → Framing → Place → Place
+goes_on m f next = if (if is_too_new m.version then ends_too_new f.form else f.is_last) then None else next
+
+-- what a heading is: an item, if any, and where the next one begins
+abbrev pub FoundAt : Stop → Heading → Option Item → Place → Type 0
+FoundAt stop (Ends answer) item next = (item ≡ answer) × (next ≡ None)
+FoundAt stop (Heads m f after) item next =
+    (body : Feed) × (behind : Place) × BodyAt f.form (said_length f) after stop body behind × (item ≡ Some (item_of m f body)) × (next ≡ goes_on m f behind)
+
+-- One head: the item that it is, if any, and where the next one begins.
+abbrev pub OneHead : List ℕ → Stop → Option Item → Place → Type 0
+OneHead bytes stop item next = (heading : Heading) × HeadAt bytes stop heading × FoundAt stop (served heading) item next
+
+-- The pipeline: the items that stand from a place on, one head after another, until the connection has ended (RFC 9112,
+-- section 9.3.2).
+abbrev pub Pipeline : Place → Stop → List Item → Type 0
+Pipeline None stop [] = Unit {0}
+Pipeline None stop (item ∷ items) = ⊥
+Pipeline (Some bytes) stop [] = OneHead bytes stop None None
+Pipeline (Some bytes) stop (item ∷ items) = (next : Place) × OneHead bytes stop (Some item) next × Pipeline next stop items

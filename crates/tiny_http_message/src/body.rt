@@ -1,0 +1,238 @@
+//! The body of a request, read from the connection's input.
+ghost use Rattle.std.specs.Prelude.{◌≡◌, ◌<◌, ◌≤◌, ◌+◌, ◌==◌, true, false, length, take, drop, Option, None, Ok, IfOk, IfErr, IfSome, OnErr};
+ghost use Rattle.std.specs.Option.{option_map};
+ghost use Rattle.std.specs.IoError.{error_kind};
+ghost use Rattle.tiny_http_wire.specs.Device.{AnswersStop, Feed};
+ghost use Rattle.tiny_http_stream.specs.Source.{GoesOn, IsAtEnd};
+ghost use Rattle.tiny_http_stream.specs.ToCome.{skipped};
+ghost use Rattle.tiny_http_message.specs.Body.{remaining, counted_left, with_bytes, BodyStops, is_streaming, body_stop, ReadsOn, FillsFromBody, GivesUp};
+
+use tiny_http_stream::source::Source;
+use std::io;
+use std::io::{Cursor, ErrorKind};
+use tiny_http_wire::chunked::Decoding;
+use tiny_http_wire::device::{ReadDevice, Stop, read_front};
+
+/// How far a request's body was read.
+#[derive(Drop)]
+pub enum Body {
+    /// No byte follows, and this is told.
+    Over(Stop),
+    /// The bytes were read with the head.
+    Held(Cursor<Vec<u8>>),
+    /// So many bytes of the input.
+    Counted(usize),
+    /// Chunks of the input.
+    Chunked(Decoding),
+}
+
+// What is told behind the last byte of a body.
+fn told(stop: Stop) -> Result<usize, io::Error>
+    ensures { AnswersStop stop result }
+{
+    match stop {
+        Stop::End => Ok(0),
+        Stop::Fault(kind) => Err(kind.into()),
+    }
+}
+
+/// The body of which so many bytes of the input are left.
+pub fn counted(left: usize) -> Body
+    ensures remaining { (feed : Option Feed) → remaining result feed ≡ option_map (counted_left left) feed }
+    ensures moves { ReadsOn (Body.Counted left) 0 false result }
+{
+    if left == 0 {
+        Body::Over(Stop::End)
+    } else {
+        Body::Counted(left)
+    }
+}
+
+impl Body {
+    // Reads some of the bytes that are left of a body of a known length. Behind one that is cut no head follows.
+    fn read_counted<R: ReadDevice>(
+        &mut self,
+        source: &mut Source<R>,
+        left: usize,
+        buf: &mut [u8],
+    ) -> Result<usize, io::Error>
+        requires counted { self.old ≡ Body.Counted left }
+        requires room { 0 < length buf.old }
+        ensures bound { IfOk result (λ n. n ≤ length buf.new) }
+        ensures bytes { IfOk result (λ n. remaining self.old source.old.feed ≡ with_bytes (take n buf.new) (remaining self.new source.new.feed)) }
+        ensures end { IfOk result (λ n. n ≡ 0 → BodyStops Stop.End (remaining self.old source.old.feed)) }
+        ensures fault { IfErr result (λ e. BodyStops (Stop.Fault (error_kind e)) (remaining self.old source.old.feed)) }
+        ensures again { OnErr result (remaining self.new source.new.feed ≡ remaining self.old source.old.feed) }
+        ensures over { IfErr result (λ e. self.new ≡ Body.Over (Stop.Fault (error_kind e))) }
+        ensures at_end { OnErr result (IsAtEnd source.new) }
+        ensures moves { IfOk result (λ n. ReadsOn self.old n (n == 0) self.new) }
+        ensures goes_on { GoesOn source.old.feed source.new.feed }
+    {
+        if left == 0 {
+            *self = Body::Over(Stop::End);
+            return Ok(0);
+        }
+        match read_front(source, left, buf) {
+            Ok(0) => {
+                source.end();
+                *self = Body::Over(Stop::End);
+                Ok(0)
+            }
+            Ok(n) => {
+                *self = counted(left - n);
+                Ok(n)
+            }
+            Err(e) => {
+                source.end();
+                *self = Body::Over(Stop::Fault(e.kind()));
+                Err(e)
+            }
+        }
+    }
+
+    // Reads some of the data of a chunked body. Behind one that is cut or broken no head follows.
+    fn read_chunked<R: ReadDevice>(
+        &mut self,
+        source: &mut Source<R>,
+        decoding: Decoding,
+        buf: &mut [u8],
+    ) -> Result<usize, io::Error>
+        requires chunked { self.old ≡ Body.Chunked decoding }
+        requires room { 0 < length buf.old }
+        ensures bound { IfOk result (λ n. n ≤ length buf.new) }
+        ensures bytes { IfOk result (λ n. remaining self.old source.old.feed ≡ with_bytes (take n buf.new) (remaining self.new source.new.feed)) }
+        ensures end { IfOk result (λ n. n ≡ 0 → BodyStops Stop.End (remaining self.old source.old.feed)) }
+        ensures fault { IfErr result (λ e. BodyStops (Stop.Fault (error_kind e)) (remaining self.old source.old.feed)) }
+        ensures again { OnErr result (remaining self.new source.new.feed ≡ remaining self.old source.old.feed) }
+        ensures over { IfErr result (λ e. self.new ≡ Body.Over (Stop.Fault (error_kind e))) }
+        ensures at_end { OnErr result (IsAtEnd source.new) }
+        ensures moves { IfOk result (λ n. ReadsOn self.old n (n == 0) self.new) }
+        ensures goes_on { GoesOn source.old.feed source.new.feed }
+    {
+        let mut decoding = decoding;
+        match decoding.read(source, buf) {
+            Ok(0) => {
+                *self = Body::Over(Stop::End);
+                Ok(0)
+            }
+            Ok(n) => {
+                *self = Body::Chunked(decoding);
+                Ok(n)
+            }
+            Err(e) => {
+                source.end();
+                *self = Body::Over(Stop::Fault(e.kind()));
+                Err(e)
+            }
+        }
+    }
+
+    /// Reads some bytes of the body into the front of `buf`, and says how many. Behind the last byte each call answers the
+    /// end, or the fault by which the body is cut or broken; after a fault no head follows on the source.
+    pub fn read<R: ReadDevice>(
+        &mut self,
+        source: &mut Source<R>,
+        buf: &mut [u8],
+    ) -> Result<usize, io::Error>
+        ensures bound { IfOk result (λ n. n ≤ length buf.new) }
+        ensures bytes { IfOk result (λ n. remaining self.old source.old.feed ≡ with_bytes (take n buf.new) (remaining self.new source.new.feed)) }
+        ensures end { IfOk result (λ n. n ≡ 0 → 0 < length buf.new → BodyStops Stop.End (remaining self.old source.old.feed)) }
+        ensures fault { IfErr result (λ e. BodyStops (Stop.Fault (error_kind e)) (remaining self.old source.old.feed)) }
+        ensures again { OnErr result (remaining self.new source.new.feed ≡ remaining self.old source.old.feed) }
+        ensures empty { length buf.new ≡ 0 → (result ≡ Ok 0) × (self.new ≡ self.old) × (source.new ≡ source.old) }
+        ensures moves { IfOk result (λ n. 0 < length buf.new → ReadsOn self.old n (n == 0) self.new) }
+        ensures broken { IfErr result (λ e. ReadsOn self.old 0 true self.new × (self.new ≡ Body.Over (Stop.Fault (error_kind e)))) }
+        ensures settled { is_streaming self.old ≡ false → source.new ≡ source.old }
+        ensures at_end { OnErr result (body_stop self.old ≡ None → IsAtEnd source.new) }
+        ensures tells { IfSome (body_stop self.old) (λ stop. 0 < length buf.new → AnswersStop stop result × (self.new ≡ self.old)) }
+        ensures goes_on { GoesOn source.old.feed source.new.feed }
+    {
+        if buf.is_empty() {
+            return Ok(0);
+        }
+        match self {
+            Body::Over(stop) => told(*stop),
+            Body::Held(bytes) => bytes.read_in(buf),
+            Body::Counted(left) => {
+                let left = *left;
+                self.read_counted(source, left, buf)
+            }
+            Body::Chunked(decoding) => {
+                let decoding = *decoding;
+                self.read_chunked(source, decoding, buf)
+            }
+        }
+    }
+
+    // Reads into the buffer from `at` on.
+    fn read_behind<R: ReadDevice>(
+        &mut self,
+        source: &mut Source<R>,
+        buf: &mut [u8],
+        at: usize,
+    ) -> Result<usize, io::Error>
+        requires { at < length buf.old }
+        ensures bound { IfOk result (λ n. at + n ≤ length buf.new) }
+        ensures room { at < length buf.new }
+        ensures front { take at buf.new ≡ take at buf.old }
+        ensures bytes { IfOk result (λ n. remaining self.old source.old.feed ≡ with_bytes (take n (drop at buf.new)) (remaining self.new source.new.feed)) }
+        ensures end { IfOk result (λ n. n ≡ 0 → BodyStops Stop.End (remaining self.old source.old.feed)) }
+        ensures fault { IfErr result (λ e. BodyStops (Stop.Fault (error_kind e)) (remaining self.old source.old.feed)) }
+        ensures again { OnErr result (remaining self.new source.new.feed ≡ remaining self.old source.old.feed) }
+        ensures moves { IfOk result (λ n. ReadsOn self.old n (n == 0) self.new) }
+        ensures broken { OnErr result (ReadsOn self.old 0 true self.new) }
+        ensures settled { is_streaming self.old ≡ false → source.new ≡ source.old }
+        ensures goes_on { GoesOn source.old.feed source.new.feed }
+    {
+        self.read(source, &mut buf[at..])
+    }
+
+    /// Reads until `buf` is full or no byte is left, and says how many bytes there are. A fault is told where it comes
+    /// before any byte, else by the next read.
+    pub fn fill<R: ReadDevice>(
+        &mut self,
+        source: &mut Source<R>,
+        buf: &mut [u8],
+    ) -> Result<usize, ErrorKind>
+        ensures bound { IfOk result (λ n. n ≤ length buf.new) }
+        ensures fills { FillsFromBody self.old source.old.feed self.new source.new.feed result buf.new }
+        ensures settled { is_streaming self.old ≡ false → source.new ≡ source.old }
+        ensures goes_on { GoesOn source.old.feed source.new.feed }
+    {
+        let mut at = 0;
+        while at < buf.len() {
+            match self.read_behind(source, buf, at) {
+                Ok(0) => break,
+                Ok(n) => at += n,
+                Err(e) => {
+                    if at == 0 {
+                        return Err(e.kind());
+                    }
+                    break;
+                }
+            }
+        }
+        Ok(at)
+    }
+
+    /// Whether the next head stands behind bytes of this body that were not read.
+    pub fn holds_reader(&self) -> bool
+        ensures { result ≡ is_streaming self.now }
+    {
+        matches!(self, Body::Counted(_) | Body::Chunked(_))
+    }
+
+    /// Gives the body up: what is left of a counted one is skipped by the next head; behind a chunked one of which the end
+    /// wasn't told no head follows.
+    pub fn give_up<R: ReadDevice>(&mut self, source: &mut Source<R>)
+        ensures over { self.new ≡ Body.Over Stop.End }
+        ensures gives_up { GivesUp self.old source.old source.new }
+    {
+        match self {
+            Body::Counted(left) => source.skip(*left),
+            Body::Chunked(_) => source.end(),
+            Body::Over(_) | Body::Held(_) => {}
+        }
+        *self = Body::Over(Stop::End);
+    }
+}

@@ -1,0 +1,167 @@
+//! How a message is framed, and whether the connection goes on.
+ghost use Rattle.std.specs.Prelude.{◌≡◌, ◌==◌, Option, codes};
+ghost use Rattle.std.specs.Option.{option_copied};
+ghost use Rattle.std.specs.List.{starts_with};
+ghost use Rattle.tiny_http_wire.specs.Bytes.{contains_word};
+ghost use Rattle.tiny_http_wire.specs.Common.{lowercase};
+ghost use Rattle.tiny_http_wire.specs.Heads.{is_too_new};
+ghost use Rattle.tiny_http_message.specs.Framing.{value_of, mentions, body_length, expectation, sized_form, form_of, is_last, framing, is_built};
+
+use tiny_http_wire::ascii::AsciiString;
+use tiny_http_wire::common::{HTTPVersion, Header};
+use tiny_http_wire::grammar::parse_content_length;
+
+/// How a request's body is delimited (RFC 9112, section 6).
+#[derive(Clone, Copy, Debug, PartialEq, Eq)]
+pub enum Form {
+    /// The whole rest of the stream: the head names an upgrade.
+    Rest,
+    /// No body.
+    Nothing,
+    /// 1 to 1024 bytes, read with the head.
+    Held,
+    /// As many bytes as the head says, read from the stream.
+    Counted,
+    /// Chunks, read from the stream.
+    Chunked,
+}
+
+/// How a message is framed: its body's form, whether a 100 is owed, the length that it says, and whether the connection
+/// ends behind it.
+#[derive(Clone, Copy, Debug, PartialEq, Eq)]
+pub struct Framing {
+    pub form: Form,
+    pub owes_continue: bool,
+    pub body_length: Option<usize>,
+    pub is_last: bool,
+}
+
+// The value of the first header of that name.
+fn value_of<'a>(headers: &'a [Header], name: &str) -> Option<&'a AsciiString>
+    ensures { option_copied result ≡ value_of name.now headers.now }
+{
+    for header in headers {
+        if header.field.equiv(name) {
+            return Some(&header.value);
+        }
+    }
+    None
+}
+
+// Whether the text, in lower case, begins with the word.
+fn begins(text: &[u8], word: &[u8]) -> bool
+    ensures { result ≡ starts_with ◌==◌ (lowercase text.now) word.now }
+{
+    if text.len() < word.len() {
+        return false;
+    }
+    for j in 0..word.len() {
+        if text[j].to_ascii_lowercase() != word[j] {
+            return false;
+        }
+    }
+    true
+}
+
+// Whether the word stands in the text, in lower case, somewhere.
+fn contains_word(text: &[u8], word: &[u8]) -> bool
+    ensures { result ≡ contains_word word.now (lowercase text.now) }
+{
+    for i in 0..text.len() {
+        if begins(&text[i..], word) {
+            return true;
+        }
+    }
+    word.is_empty()
+}
+
+// Whether the value of the first header of that name has the word in it.
+fn mentions(headers: &[Header], name: &str, word: &str) -> bool
+    ensures { result ≡ mentions word.now (value_of name.now headers.now) }
+{
+    match value_of(headers, name) {
+        Some(value) => contains_word(value.as_str().as_bytes(), word.as_bytes()),
+        None => false,
+    }
+}
+
+// The length that the headers say; a Transfer-Encoding hides it.
+fn body_length(headers: &[Header]) -> Option<usize>
+    ensures { result ≡ body_length headers.now }
+{
+    if value_of(headers, "Transfer-Encoding").is_some() {
+        return None;
+    }
+    match value_of(headers, "Content-Length") {
+        Some(value) => parse_content_length(value.as_str()),
+        None => None,
+    }
+}
+
+// Whether a 100 is owed; or None for an expectation that can't be met.
+fn expectation(headers: &[Header]) -> Option<bool>
+    ensures { result ≡ expectation (value_of (codes "Expect") headers.now) }
+{
+    match value_of(headers, "Expect") {
+        None => Some(false),
+        Some(value) if value.eq_ignore_ascii_case("100-continue") => Some(true),
+        Some(_) => None,
+    }
+}
+
+fn sized_form(owed: bool, length: Option<usize>) -> Form
+    ensures { result ≡ sized_form owed length }
+{
+    match length {
+        None | Some(0) => Form::Nothing,
+        Some(n) if n <= 1024 && !owed => Form::Held,
+        Some(_) => Form::Counted,
+    }
+}
+
+fn form_of(owed: bool, headers: &[Header]) -> Form
+    ensures { result ≡ form_of owed headers.now }
+{
+    if mentions(headers, "Connection", "upgrade") {
+        return Form::Rest;
+    }
+    if value_of(headers, "Transfer-Encoding").is_some() {
+        return Form::Chunked;
+    }
+    sized_form(owed, body_length(headers))
+}
+
+fn is_last(version: HTTPVersion, headers: &[Header]) -> bool
+    ensures { result ≡ is_last version (value_of (codes "Connection") headers.now) }
+{
+    mentions(headers, "Connection", "close")
+        || mentions(headers, "Connection", "upgrade")
+        || (version.0 == 1 && version.1 == 0 && !mentions(headers, "Connection", "keep-alive"))
+}
+
+/// The framing that version and headers give; None for an expectation that can't be met.
+#[tactic(auto, unfolding(crate::specs::Framing::framing))]
+pub fn framing_of(version: HTTPVersion, headers: &[Header]) -> Option<Framing>
+    ensures { result ≡ framing version headers.now }
+{
+    let owed = expectation(headers)?;
+    Some(Framing {
+        form: form_of(owed, headers),
+        owes_continue: owed,
+        body_length: body_length(headers),
+        is_last: is_last(version, headers),
+    })
+}
+
+fn is_too_new(version: HTTPVersion) -> bool
+    ensures { result ≡ is_too_new version }
+{
+    version.0 > 1 || (version.0 == 1 && version.1 > 1)
+}
+
+/// Whether a request so framed is served.
+pub fn is_built(version: HTTPVersion, framing: Framing) -> bool
+    ensures { result ≡ is_built version framing }
+{
+    !is_too_new(version) && !framing.owes_continue && framing.form != Form::Rest
+}

@@ -1,0 +1,133 @@
+//! The lines of a head.
+ghost use Rattle.std.specs.Prelude.{◌≡◌, None, Err};
+ghost use Rattle.tiny_http_stream.specs.Source.{GoesOn, IsAtEnd};
+ghost use Rattle.tiny_http_message.specs.HeadReads.{ReadsText, ReadsStart, ReadsField, ReadsFields, ReadsMessage, head_fault};
+
+use tiny_http_stream::source::{LineFault, Source};
+use std::alloc::Global;
+use tiny_http_wire::ascii::AsciiString;
+use tiny_http_wire::common::{HTTPVersion, Header, Method};
+use tiny_http_wire::device::ReadDevice;
+use tiny_http_wire::grammar::{parse_header_line, parse_request_line};
+
+/// The method, target, version and headers of a head.
+#[derive(Drop)]
+pub(crate) struct Message {
+    pub method: Method,
+    pub path: AsciiString,
+    pub version: HTTPVersion,
+    pub headers: Vec<Header>,
+}
+
+/// What is wrong with the next line of a head.
+#[derive(Clone, Copy, Debug, PartialEq, Eq)]
+pub(crate) enum HeadFault {
+    Cut,
+    NotAscii,
+    Malformed,
+    Memory,
+}
+
+fn head_fault(fault: LineFault) -> HeadFault
+    ensures { result ≡ head_fault fault }
+{
+    match fault {
+        LineFault::NotAscii => HeadFault::NotAscii,
+        LineFault::Memory => HeadFault::Memory,
+        _ => HeadFault::Cut,
+    }
+}
+
+// The next line.
+fn read_text<R: ReadDevice>(alloc: Global, source: &mut Source<R>) -> Result<AsciiString, HeadFault>
+    ensures reads { ReadsText source.old.feed source.new.feed result }
+    ensures goes_on { GoesOn source.old.feed source.new.feed }
+    ensures at_end { IsAtEnd source.old → (result ≡ Err HeadFault.Cut) × (source.new ≡ source.old) }
+{
+    match source.read_line(alloc) {
+        Ok(text) => Ok(text),
+        Err(fault) => Err(head_fault(fault)),
+    }
+}
+
+// The request line.
+fn read_start<R: ReadDevice>(
+    alloc: Global,
+    source: &mut Source<R>,
+) -> Result<(Method, AsciiString, HTTPVersion), HeadFault>
+    ensures reads { ReadsStart source.old.feed source.new.feed result }
+    ensures goes_on { GoesOn source.old.feed source.new.feed }
+    ensures at_end { IsAtEnd source.old → (result ≡ Err HeadFault.Cut) × (source.new ≡ source.old) }
+{
+    let text = read_text(alloc, source)?;
+    match parse_request_line(alloc, text.as_str().as_bytes()) {
+        Ok(Some(start)) => Ok(start),
+        Ok(None) => Err(HeadFault::Malformed),
+        Err(_) => Err(HeadFault::Memory),
+    }
+}
+
+// The next header, or None at the empty line.
+fn read_field<R: ReadDevice>(
+    alloc: Global,
+    source: &mut Source<R>,
+) -> Result<Option<Header>, HeadFault>
+    ensures reads { ReadsField source.old.feed source.new.feed result }
+    ensures goes_on { GoesOn source.old.feed source.new.feed }
+{
+    let text = read_text(alloc, source)?;
+    if text.is_empty() {
+        return Ok(None);
+    }
+    match parse_header_line(alloc, text.as_str().as_bytes()) {
+        Ok(Some(header)) => Ok(Some(header)),
+        Ok(None) => Err(HeadFault::Malformed),
+        Err(_) => Err(HeadFault::Memory),
+    }
+}
+
+// The headers, up to the empty line.
+fn read_fields<R: ReadDevice>(
+    alloc: Global,
+    source: &mut Source<R>,
+) -> Result<Vec<Header>, HeadFault>
+    ensures reads { ReadsFields (λ hs. hs.items) source.old.feed source.new.feed result }
+    ensures goes_on { GoesOn source.old.feed source.new.feed }
+{
+    let mut headers = Vec::new(alloc);
+    loop {
+        match read_field(alloc, source) {
+            Ok(Some(header)) => {
+                if headers.push(header).is_err() {
+                    return Err(HeadFault::Memory);
+                }
+            }
+            Ok(None) => return Ok(headers),
+            Err(fault) => return Err(fault),
+        }
+    }
+}
+
+/// Reads a whole head; or answers its fault, under its version if that was read.
+pub(crate) fn read_message<R: ReadDevice>(
+    alloc: Global,
+    source: &mut Source<R>,
+) -> Result<Message, (Option<HTTPVersion>, HeadFault)>
+    ensures reads { ReadsMessage source.old.feed source.new.feed result }
+    ensures goes_on { GoesOn source.old.feed source.new.feed }
+    ensures at_end { IsAtEnd source.old → (result ≡ Err (None, HeadFault.Cut)) × (source.new ≡ source.old) }
+{
+    let (method, path, version) = match read_start(alloc, source) {
+        Ok(start) => start,
+        Err(fault) => return Err((None, fault)),
+    };
+    match read_fields(alloc, source) {
+        Ok(headers) => Ok(Message {
+            method,
+            path,
+            version,
+            headers,
+        }),
+        Err(fault) => Err((Some(version), fault)),
+    }
+}

@@ -1,0 +1,148 @@
+//! Answers of the server's own: the text of a refused head, and the text of a dropped request, which is printed as it is dropped.
+ghost use Rattle.std.specs.Prelude.{◌≡◌, ◌<◌, ◌≤◌, [], IfOk, length, vec_len, vec_capacity};
+ghost use Rattle.httpdate.specs.Date.{date_text};
+ghost use Rattle.tiny_http_message.specs.OwnAnswer.{own_text};
+
+use httpdate::HttpDate;
+use std::alloc::{AllocError, Global};
+use std::io;
+use std::io::ErrorKind;
+use std::marker::Model;
+use tiny_http_wire::common::{HTTPVersion, StatusCode};
+use tiny_http_wire::device::{Budget, WriteDevice};
+use tiny_http_wire::response::Response;
+
+// How many bytes the text has, at most.
+const OWN_ANSWER: usize = 128;
+
+/// The text of an answer of the server's own: this code, no headers of its own and no data. An error where there is no
+/// memory for it.
+pub fn own_answer(
+    alloc: Global,
+    status: StatusCode,
+    version: HTTPVersion,
+    no_body: bool,
+    now: HttpDate,
+) -> Result<Vec<u8>, AllocError>
+    ensures { IfOk result (λ text. text.items ≡ own_text status.0 version no_body now) }
+{
+    let bytes = Vec::with_capacity(alloc, OWN_ANSWER)?;
+    let mut writer = Budget::from_vec(bytes, usize::MAX, ErrorKind::OutOfMemory);
+    let answer = Response::empty(alloc, status);
+    match answer.raw_print(alloc, &mut writer, version, &[], no_body, None, now) {
+        Ok(()) => Ok(writer.into_bytes()),
+        Err(_) => Err(AllocError),
+    }
+}
+
+// A writer into room that was taken before: it takes 128 bytes, and then each write of a byte fails.
+#[derive(Drop)]
+struct Page {
+    bytes: Vec<u8>,
+    failures: u64,
+    ghost room: { 128 ≤ vec_capacity bytes },
+    ghost within: { vec_len bytes ≤ 128 },
+    ghost full: { 0 < failures → 128 ≤ length bytes.items },
+}
+
+impl WriteDevice for Page {
+    ghost use Rattle.tiny_http_message.specs.Page.{page_sink};
+
+    ghost sink = { page_sink };
+
+    /// The count.
+    fn failures(&self) -> u64 {
+        self.failures
+    }
+
+    /// Takes as many bytes as there is room for.
+    fn write_out(&mut self, buf: &[u8]) -> Result<usize, io::Error> {
+        let n = buf.len().min(OWN_ANSWER - self.bytes.len());
+        if n == 0 && !buf.is_empty() {
+            self.failures = self.failures.saturating_add(1);
+            return Err(ErrorKind::OutOfMemory.into());
+        }
+        match self.bytes.extend_from_slice(&buf[..n]) {
+            Ok(()) => Ok(n),
+            Err(_) => unreachable!(),
+        }
+    }
+
+    /// Nothing is held back.
+    fn flush_out(&mut self) -> Result<(), io::Error> {
+        Ok(())
+    }
+}
+
+// The length of a date's text: 29.
+fn date_length(now: HttpDate) -> usize
+    ensures length { result ≡ length (date_text now) }
+    ensures value { result ≡ 29 }
+{
+    let date = now.to_bytes();
+    date.len()
+}
+
+/// The text that is sent if a request is dropped: an empty 500. Its room is taken as it is made, and it is printed as it
+/// is dropped.
+#[derive(Drop)]
+pub struct DropText {
+    room: Vec<u8>,
+    version: HTTPVersion,
+    no_body: bool,
+    now: HttpDate,
+}
+
+impl Model for DropText {
+    ghost use Rattle.std.specs.Prelude.{◌≡◌, ◌<◌, ◌≤◌, [], vec_len, vec_capacity};
+    ghost use Rattle.tiny_http_message.specs.OwnAnswer.{own_text};
+    ghost use Rattle.tiny_http_message.specs.TextState.{TextState};
+
+    ghost Value = { TextState };
+
+    ghost view = { λ t. record { items = own_text 500 t.version t.no_body t.now } };
+
+    ghost invariant = { λ t. (t.room.items ≡ []) × (vec_len t.room ≡ 0) × (128 ≤ vec_capacity t.room) × (t.version.0 < 256) × (t.version.1 < 256) };
+}
+
+impl DropText {
+    /// An error where there is no memory for it.
+    pub fn new(
+        alloc: Global,
+        version: HTTPVersion,
+        no_body: bool,
+        now: HttpDate,
+    ) -> Result<DropText, AllocError>
+        ensures { IfOk result (λ text. text.items ≡ own_text 500 version no_body now) }
+    {
+        let room = Vec::with_capacity(alloc, OWN_ANSWER)?;
+        Ok(DropText {
+            room,
+            version,
+            no_body,
+            now,
+        })
+    }
+
+    /// The text itself. It takes no memory.
+    pub fn into_text(self, alloc: Global) -> Vec<u8>
+        ensures { result.items ≡ self.items }
+    {
+        let DropText {
+            room,
+            version,
+            no_body,
+            now,
+        } = self;
+        let _length = date_length(now);
+        let mut page = Page {
+            bytes: room,
+            failures: 0,
+        };
+        let answer = Response::empty(alloc, StatusCode(500));
+        match answer.raw_print(alloc, &mut page, version, &[], no_body, None, now) {
+            Ok(()) => page.bytes,
+            Err(_) => unreachable!(),
+        }
+    }
+}

@@ -1,0 +1,21 @@
+//! What is kept of a request until it is answered.
+use crate::body::Body;
+use crate::own_answer::DropText;
+use tiny_http_wire::common::HTTPVersion;
+
+/// How the answer to a request is printed.
+#[derive(Clone, Copy, Debug, PartialEq, Eq)]
+pub struct AnswerForm {
+    pub version: HTTPVersion,
+    /// The body is withheld: the request is a `HEAD`.
+    pub no_body: bool,
+}
+
+/// What is kept of a request until it is answered.
+#[derive(Drop)]
+pub struct Waiting {
+    pub form: AnswerForm,
+    /// What is sent if the request is dropped.
+    pub dropped: DropText,
+    pub body: Body,
+}

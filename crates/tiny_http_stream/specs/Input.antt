@@ -1,0 +1,25 @@
+-- What an `Input` still gives.
+use Rattle.std.specs.Prelude.{◌≡◌, ◌&&◌, ◌==◌, Bool, is_some, length, [], Option, IsSome}
+use Rattle.tiny_http_device.specs.Device.{Feed}
+use Rattle.tiny_http_device.specs.declared.device.Stop.{Stop}
+use Rattle.tiny_http_stream.specs.ToCome.{behind, to_come}
+use Rattle.tiny_http_stream.specs.declared.source.Input.{Input}
+
+-- the feed that is still to come, where the reader tells its own
+abbrev pub input_feed : {R : Type 0} → (R → Option Feed) → Input R → Option Feed
+input_feed feed s = to_come s.skip s.held (behind s.stop (feed s.inner))
+
+-- how the reader stopped, if it has
+abbrev pub input_stop : {R : Type 0} → Input R → Option Stop
+input_stop s = s.stop
+
+-- the reader inside
+abbrev pub input_reader : {R : Type 0} → Input R → R
+input_reader s = s.inner
+
+-- the reader has stopped, and no byte that it gave is left
+abbrev pub IsOver : {R : Type 0} → Input R → Type 0
+IsOver s = IsSome s.stop × (s.held ≡ []) × (s.skip ≡ 0)
+
+abbrev pub is_input_over : {R : Type 0} → Input R → Bool
+is_input_over s = is_some s.stop && ((length s.held == 0) && (s.skip == 0))

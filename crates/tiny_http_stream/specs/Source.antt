@@ -1,0 +1,59 @@
+-- What a `Source` still gives, and what its calls make of it.
+use Rattle.std.specs.Prelude.{ℕ, ◌≡◌, ◌<◌, ◌++◌, length, Bool, true, List, ⊤, Option, None, Some, Result, Ok, Err}
+use Rattle.std.specs.Str.{IsAscii, IsNotAscii}
+use Rattle.std.specs.declared.io.ErrorKind.TheVariants.{TimedOut}
+use Rattle.tiny_http_device.specs.Device.{Feed}
+use Rattle.tiny_http_device.specs.declared.device.Stop.{Stop}
+use Rattle.tiny_http_device.specs.declared.device.Stop.TheVariants.{End, Fault}
+use Rattle.tiny_http_text.specs.Lines.{Line, IsUnfinished}
+use Rattle.tiny_http_stream.specs.ToCome.{stopped}
+use Rattle.tiny_http_stream.specs.declared.source.LineFault.{LineFault}
+use Rattle.tiny_http_stream.specs.declared.source.LineFault.TheVariants.{NotAscii, Broken, Memory, End as EndOfLines, TimedOut as LineTimedOut}
+
+-- What a clause sees of a `Source`: what is still to come, where the reader tells it; how the reader stopped, if it has;
+-- whether, behind that stop, nothing is left of what it gave; and the reader.
+pub record SourceState (R : Type 0) : Type 0 where
+  pub feed : Option Feed
+  pub stop : Option Stop
+  pub is_over : Bool
+  pub reader : R
+
+-- the input has ended, or was made to end, and nothing is left of it: each line from now on is the end
+abbrev pub IsAtEnd : {R : Type 0} → SourceState R → Type 0
+IsAtEnd s = (s.is_over ≡ true) × (s.stop ≡ Some End)
+
+-- what is told in a line's place where the input stops
+abbrev pub fault_of : Stop → LineFault
+fault_of End = EndOfLines
+fault_of (Fault TimedOut) = LineTimedOut
+fault_of (Fault kind) = Broken kind
+
+-- What reading a line makes of the feed: the first line is taken off, or there is none.
+abbrev pub ReadsLine : Option Feed → Option Feed → Result (List ℕ) LineFault → Type 0
+ReadsLine None new result = ⊤
+ReadsLine (Some old) new (Ok text) =
+    (rest : List ℕ) × Line old.bytes text rest × IsAscii text × (new ≡ Some (record { bytes = rest; stop = old.stop }))
+ReadsLine (Some old) new (Err NotAscii) =
+    (text : List ℕ) × (rest : List ℕ) × Line old.bytes text rest × IsNotAscii text × (new ≡ Some (record { bytes = rest; stop = old.stop }))
+ReadsLine (Some old) new (Err Memory) = new ≡ Some (stopped End)
+ReadsLine (Some old) new (Err fault) = IsUnfinished old.bytes × (fault ≡ fault_of old.stop) × (new ≡ Some (stopped old.stop))
+
+-- the feed goes on behind this much
+abbrev pub from : Feed → List ℕ → Option Feed
+from f rest = Some (record { bytes = rest; stop = f.stop })
+
+-- so many bytes, or fewer are left
+abbrev pub TakesExactly : {T : Type 0} → (T → List ℕ) → ℕ → Option Feed → Option Feed → Option T → Type 0
+TakesExactly items n None new r = ⊤
+TakesExactly items n (Some f) new (Some body) = (rest : List ℕ) × (f.bytes ≡ items body ++ rest) × (length (items body) ≡ n) × (new ≡ from f rest)
+TakesExactly items n (Some f) new None = length f.bytes < n
+
+-- only bytes at the front were taken: what is still to come is the feed from some place on
+pub record IsRestOf (old new : Feed) : Type 0 where
+  pub gone : List ℕ
+  pub joins : old.bytes ≡ gone ++ new.bytes
+
+abbrev pub GoesOn : Option Feed → Option Feed → Type 0
+GoesOn None new = ⊤
+GoesOn (Some old) None = ⊥
+GoesOn (Some old) (Some new) = IsRestOf old new

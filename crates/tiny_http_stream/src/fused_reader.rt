@@ -1,0 +1,98 @@
+//! A reader that stays at its end.
+ghost use Rattle.std.specs.Prelude.{◌≡◌, ◌<◌, ◌≤◌, length, take, Some, None, Ok, IfOk, IfErr, OnErr, IsSome};
+ghost use Rattle.std.specs.IoError.{error_kind};
+ghost use Rattle.tiny_http_device.specs.Device.{given, StopsBy};
+
+use std::io;
+use std::io::Read;
+use tiny_http_device::device::{ReadDevice, Stop};
+
+/// A reader that isn't called again behind its end, and from then on answers the end. A fault is told as it comes.
+#[derive(Drop)]
+pub struct FusedReader<R> {
+    inner: R,
+    over: bool,
+}
+
+impl<R: ReadDevice> FusedReader<R> {
+    ghost use Rattle.tiny_http_stream.specs.FusedReader.{fused_inner};
+
+    /// A fused reader over this one, whose end isn't known yet.
+    pub fn new(reader: R) -> FusedReader<R>
+        ensures { fused_inner result ≡ Some reader }
+    {
+        FusedReader {
+            inner: reader,
+            over: false,
+        }
+    }
+}
+
+impl<R: ReadDevice + Drop> FusedReader<R> {
+    ghost use Rattle.tiny_http_stream.specs.FusedReader.{fused_inner};
+
+    /// The reader inside, or None once its end was told.
+    pub fn into_inner(self) -> Option<R>
+        ensures { result ≡ fused_inner self }
+    {
+        if self.over { None } else { Some(self.inner) }
+    }
+}
+
+impl<R: ReadDevice> ReadDevice for FusedReader<R> {
+    ghost use Rattle.tiny_http_stream.specs.FusedReader.{fused_inner, fused_feed};
+
+    ghost feed = { fused_feed R.feed };
+
+    /// Reads some bytes. A read into an empty buffer is no end.
+    fn read_in(&mut self, buf: &mut [u8]) -> Result<usize, io::Error>
+        ensures bound { IfOk result (λ n. n ≤ length buf.new) }
+        ensures bytes { IfOk result (λ n. fused_feed R.feed self.old ≡ given (take n buf.new) (fused_feed R.feed self.new)) }
+        ensures end { IfOk result (λ n. n ≡ 0 → 0 < length buf.new → StopsBy Stop.End (fused_feed R.feed self.old)) }
+        ensures fault { IfErr result (λ e. StopsBy (Stop.Fault (error_kind e)) (fused_feed R.feed self.old)) }
+        ensures again { OnErr result (fused_feed R.feed self.new ≡ fused_feed R.feed self.old) }
+        ensures empty { length buf.new ≡ 0 → (result ≡ Ok 0) × (self.new ≡ self.old) }
+        // Whatever the reader tells: it isn't called again behind its end.
+        ensures over { IfOk result (λ n. n ≡ 0 → 0 < length buf.new → fused_inner self.new ≡ None) }
+        ensures kept { IfOk result (λ n. 0 < n → IsSome (fused_inner self.new)) }
+        ensures stays { fused_inner self.old ≡ None → (result ≡ Ok 0) × (self.new ≡ self.old) }
+    {
+        if self.over || buf.is_empty() {
+            return Ok(0);
+        }
+        match self.inner.read_in(buf) {
+            Err(e) => Err(e),
+            Ok(n) => {
+                if n == 0 {
+                    self.over = true;
+                }
+                Ok(n)
+            }
+        }
+    }
+}
+
+impl<R: ReadDevice> Read for FusedReader<R> {
+    ghost use Rattle.std.specs.Io.{ReadsAtMost};
+    ghost use Rattle.std.specs.Io.KnownBytes.{ReadConsumes};
+    ghost use Rattle.tiny_http_stream.specs.FusedReader.{fused_inner, fused_feed};
+    ghost use Rattle.tiny_http_device.specs.Device.{bytes_of};
+
+    ghost remaining = { λ r. bytes_of (fused_feed R.feed r) };
+
+    /// Reads some bytes. A read into an empty buffer is no end.
+    fn read(&mut self, buf: &mut [u8]) -> io::Result<usize>
+        ensures bound { ReadsAtMost result buf.new }
+        ensures bytes { ReadConsumes (bytes_of (fused_feed R.feed self.old)) (bytes_of (fused_feed R.feed self.new)) result buf.new }
+        ensures next { IfOk result (λ n. fused_feed R.feed self.old ≡ given (take n buf.new) (fused_feed R.feed self.new)) }
+        ensures end { IfOk result (λ n. n ≡ 0 → 0 < length buf.new → StopsBy Stop.End (fused_feed R.feed self.old)) }
+        ensures fault { IfErr result (λ e. StopsBy (Stop.Fault (error_kind e)) (fused_feed R.feed self.old)) }
+        ensures again { OnErr result (fused_feed R.feed self.new ≡ fused_feed R.feed self.old) }
+        ensures empty { length buf.new ≡ 0 → (result ≡ Ok 0) × (self.new ≡ self.old) }
+        ensures over { IfOk result (λ n. n ≡ 0 → 0 < length buf.new → fused_inner self.new ≡ None) }
+        ensures kept { IfOk result (λ n. 0 < n → IsSome (fused_inner self.new)) }
+        ensures stays { fused_inner self.old ≡ None → (result ≡ Ok 0) × (self.new ≡ self.old) }
+    {
+        self.read_in(buf)
+    }
+}

@@ -1,0 +1,208 @@
+//! The output of a connection, through a buffer.
+ghost use Rattle.std.specs.Prelude.{◌≡◌, ◌≤◌, true, false, [], length, OnOk, OnErr};
+ghost use Rattle.tiny_http_device.specs.Device.{BeginsKnown, HoldsNothing, Puts, PutsFront};
+
+use crate::buffer::Buffer;
+use std::io;
+use std::marker::Model;
+use tiny_http_device::device::{WriteDevice, put};
+
+/// A writer with a buffer. After its first fault it takes and holds nothing.
+#[derive(Drop)]
+pub struct Outlet<W: WriteDevice> {
+    inner: W,
+    held: Buffer,
+    ended: bool,
+    ghost none_held: { ended ≡ true → held ≡ [] },
+}
+
+impl<W: WriteDevice> Model for Outlet<W> {
+    ghost use Rattle.tiny_http_stream.specs.Outlet.{OutletState};
+
+    ghost Value = { OutletState W };
+
+    ghost view = { λ o. record { held = o.held; ended = o.ended; writer = o.inner; tells = W.sink o.inner } };
+}
+
+impl<W: WriteDevice> Outlet<W> {
+    ghost use Rattle.tiny_http_stream.specs.Outlet.{output_of, outlet_held, outlet_ended, outlet_writer, SentOn, EndsWith};
+
+    /// An outlet over this writer. What it promises is for a writer that has not ended by itself.
+    pub fn new(inner: W) -> Outlet<W>
+        ensures held { outlet_held result ≡ [] }
+        ensures writer { outlet_writer result ≡ inner }
+        ensures open { outlet_ended result ≡ false }
+        ensures tells { result.tells ≡ W.sink inner }
+    {
+        Outlet {
+            inner,
+            held: Buffer::new(),
+            ended: false,
+        }
+    }
+
+    /// What is held back: nothing after the end.
+    pub fn held(&self) -> &[u8]
+        ensures bytes { result.now ≡ outlet_held self.now }
+        ensures bound { length (outlet_held self.now) ≤ 1024 }
+        ensures none { outlet_ended self.now ≡ true → outlet_held self.now ≡ [] }
+    {
+        self.held.as_slice()
+    }
+
+    // Sends all that is held.
+    fn send(&mut self) -> Result<(), io::Error>
+        requires open { self.old.ended ≡ false }
+        ensures puts { Puts (output_of self.old) (output_of self.new) result [] }
+        ensures held { self.new.held ≡ [] }
+        ensures open { OnOk result (self.new.ended ≡ false) }
+        ensures ended { OnErr result (self.new.ended ≡ true) }
+    {
+        match put(&mut self.inner, self.held.as_slice()) {
+            Ok(()) => {
+                self.held.clear();
+                Ok(())
+            }
+            Err(e) => {
+                self.held.clear();
+                self.ended = true;
+                Err(e)
+            }
+        }
+    }
+
+    // Takes some bytes, at least one if there is one.
+    fn take_some(&mut self, buf: &[u8]) -> Result<usize, io::Error>
+        ensures puts { PutsFront (output_of self.old) (output_of self.new) result buf.now }
+        ensures ended { OnErr result (self.new.ended ≡ true) }
+        ensures stays { OnOk result (self.new.ended ≡ self.old.ended) }
+    {
+        if self.ended {
+            return Ok(buf.len());
+        }
+        let n = self.held.append(buf);
+        if n > 0 || buf.is_empty() {
+            return Ok(n);
+        }
+        if let Err(e) = self.send() {
+            return Err(e);
+        }
+        Ok(self.held.append(buf))
+    }
+
+    /// Takes all the bytes, and sends what doesn't fit into the buffer. After the outlet has ended it takes none and
+    /// answers `Ok`.
+    pub fn write(&mut self, bytes: &[u8]) -> Result<(), io::Error>
+        ensures puts { Puts (output_of self.old) (output_of self.new) result bytes.now }
+        // A fault ends the outlet; nothing else does.
+        ensures ended { OnErr result (outlet_ended self.new ≡ true) }
+        ensures stays { OnOk result (outlet_ended self.new ≡ outlet_ended self.old) }
+    {
+        let mut at = 0;
+        while at < bytes.len() {
+            at += self.take_some(&bytes[at..])?;
+        }
+        Ok(())
+    }
+
+    /// Sends what is held, and has the writer send it on.
+    pub fn flush(&mut self) -> Result<(), io::Error>
+        ensures puts { Puts (output_of self.old) (output_of self.new) result [] }
+        ensures held { outlet_held self.new ≡ [] }
+        ensures sent { SentOn self.new }
+        // A fault ends the outlet; nothing else does.
+        ensures ended { OnErr result (outlet_ended self.new ≡ true) }
+        ensures stays { OnOk result (outlet_ended self.new ≡ outlet_ended self.old) }
+    {
+        if self.ended {
+            return Ok(());
+        }
+        if let Err(e) = self.send() {
+            return Err(e);
+        }
+        match self.inner.flush_out() {
+            Ok(()) => Ok(()),
+            Err(e) => {
+                self.ended = true;
+                Err(e)
+            }
+        }
+    }
+
+    // What is always so.
+    pub fn tell(&self)
+        ensures tells { self.now.tells ≡ W.sink self.now.writer }
+        ensures none { self.now.ended ≡ true → self.now.held ≡ [] }
+    {
+        let _ = &self.inner;
+    }
+
+    /// Whether the outlet has ended: by `end`, or by the writer's first fault.
+    pub fn is_ended(&self) -> bool
+        ensures { result ≡ outlet_ended self.now }
+    {
+        self.ended
+    }
+
+    /// Sends what is held, if the writer takes it, and then takes nothing more.
+    pub fn end(&mut self) -> Result<(), io::Error>
+        ensures ends { EndsWith (output_of self.old) (output_of self.new) result }
+        ensures held { outlet_held self.new ≡ [] }
+        // The writer is flushed.
+        ensures sent { outlet_ended self.old ≡ false → OnOk result (self.new.tells.has_ended ≡ false → HoldsNothing self.new.tells) }
+        ensures ended { outlet_ended self.new ≡ true }
+    {
+        let sent = self.flush();
+        self.held.clear();
+        self.ended = true;
+        sent
+    }
+
+    /// The writer's count of failures.
+    pub fn writer_failures(&self) -> u64
+        ensures count { result ≡ (output_of self.now).failures }
+        ensures sent { let s = self.now.tells in BeginsKnown s.sent s.taken }
+    {
+        self.inner.failures()
+    }
+
+    /// Takes nothing more, and drops what is held.
+    pub fn abandon(&mut self)
+        ensures held { outlet_held self.new ≡ [] }
+        ensures ended { outlet_ended self.new ≡ true }
+        ensures writer { outlet_writer self.new ≡ outlet_writer self.old }
+        ensures tells { self.new.tells ≡ self.old.tells }
+    {
+        self.held.clear();
+        self.ended = true;
+    }
+
+    /// The writer. What is held is dropped.
+    pub fn into_inner(self) -> W
+        ensures inner { result ≡ outlet_writer self }
+        ensures tells { W.sink result ≡ self.tells }
+    {
+        self.inner
+    }
+}
+
+impl<W: WriteDevice> WriteDevice for Outlet<W> {
+    ghost use Rattle.tiny_http_stream.specs.Outlet.{output_of};
+
+    ghost sink = { output_of };
+
+    fn failures(&self) -> u64 {
+        self.inner.failures()
+    }
+
+    fn write_out(&mut self, buf: &[u8]) -> Result<usize, io::Error> {
+        self.take_some(buf)
+    }
+
+    fn flush_out(&mut self) -> Result<(), io::Error> {
+        self.flush()
+    }
+}
+
+#[cfg(test)]
+mod tests;

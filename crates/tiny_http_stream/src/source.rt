@@ -1,0 +1,478 @@
+//! A connection's input, seen as what is still to come of it: lines and bytes through a buffer.
+ghost use Rattle.std.specs.Prelude.{◌≡◌, ◌≢◌, ℕ, true, false, vec_len, ◌*◌, ◌+◌, ◌-◌, ◌<◌, ◌≤◌, min, List, [], ◌∷◌, ◌++◌, length, take, drop, Option, None, Some, Ok, Err, IfOk, IfErr, OnOk, OnErr, IsSome, IfSome, IfNone};
+ghost use Rattle.std.specs.Option.{option_map};
+ghost use Rattle.std.specs.IoError.{error_kind};
+ghost use Rattle.tiny_http_device.specs.Device.{AnswersStop, given, StopsBy};
+ghost use Rattle.tiny_http_text.specs.Lines.{IsUnfinished};
+ghost use Rattle.tiny_http_stream.specs.Line.{pending, Passed, EndsLine};
+ghost use Rattle.tiny_http_stream.specs.ToCome.{skipped, stopped};
+
+use crate::buffer::Buffer;
+use std::alloc::{AllocError, Global};
+use std::io;
+use std::io::{ErrorKind, Read};
+use std::marker::Model;
+use tiny_http_device::device::{ReadDevice, Stop};
+use tiny_http_text::ascii::AsciiString;
+
+/// Why there is no line.
+#[derive(Clone, Copy, Debug, PartialEq, Eq)]
+pub enum LineFault {
+    /// The bytes ended before a CR LF.
+    End,
+    /// The line has a byte from 128 on. The source goes on behind it.
+    NotAscii,
+    /// The reader timed out before a CR LF.
+    TimedOut,
+    /// The reader failed so before a CR LF.
+    Broken(ErrorKind),
+    /// No memory for the line was found. The source answers `End` from then on.
+    Memory,
+}
+
+/// A reader with a buffer of 1024 bytes, and a number of bytes to skip. After its first end or fault the reader isn't
+/// called again.
+#[derive(Drop)]
+pub struct Source<R: ReadDevice> {
+    input: Input<R>,
+}
+
+impl<R: ReadDevice> Model for Source<R> {
+    ghost use Rattle.tiny_http_stream.specs.Source.{SourceState};
+
+    ghost Value = { SourceState R };
+
+    ghost use Rattle.tiny_http_stream.specs.Input.{input_feed, input_stop, input_reader, is_input_over};
+
+    ghost view = { λ s. record { feed = input_feed R.feed s.input; stop = input_stop s.input; is_over = is_input_over s.input; reader = input_reader s.input } };
+}
+
+impl<R: ReadDevice> Source<R> {
+    ghost use Rattle.tiny_http_stream.specs.Source.{fault_of, ReadsLine, TakesExactly, GoesOn, IsAtEnd};
+
+    /// A source over this reader.
+    pub fn new(inner: R) -> Source<R>
+        ensures feed { result.feed ≡ R.feed inner }
+        ensures stop { result.stop ≡ None }
+        ensures reader { result.reader ≡ inner }
+    {
+        Source {
+            input: Input::new(inner),
+        }
+    }
+
+    /// Skips n bytes more, before the next line or read. Where fewer are left the input ends.
+    pub fn skip(&mut self, n: usize)
+        ensures feed { self.new.feed ≡ option_map (skipped n) self.old.feed }
+        // After an end or a fault the reader isn't called again.
+        ensures once { IsSome self.old.stop → IsSome self.new.stop × (self.new.reader ≡ self.old.reader) }
+    {
+        self.input.skip(n)
+    }
+
+    /// Lets the input end here: what is left of it is passed over.
+    pub fn end(&mut self)
+        ensures feed { self.new.feed ≡ option_map (λ _. stopped Stop.End) self.old.feed }
+        ensures at_end { IsAtEnd self.new }
+        ensures reader { self.new.reader ≡ self.old.reader }
+    {
+        self.input.end()
+    }
+
+    /// Reads the first line, without its CR LF (RFC 9112, section 2.2); a lone CR or LF stays in it.
+    pub fn read_line(&mut self, alloc: Global) -> Result<AsciiString, LineFault>
+        ensures line { ReadsLine self.old.feed self.new.feed result }
+        ensures goes_on { GoesOn self.old.feed self.new.feed }
+
+        // After an end or a fault the reader isn't called again.
+        ensures once { IsSome self.old.stop → IsSome self.new.stop × (self.new.reader ≡ self.old.reader) }
+        // Whatever the reader tells: behind any fault but a line that isn't ASCII the source is over.
+        ensures over { IfErr result (λ fault. fault ≢ LineFault.NotAscii → (self.new.is_over ≡ true) × IsSome self.new.stop) }
+        ensures memory { IfErr result (λ fault. fault ≡ LineFault.Memory → self.new.stop ≡ Some Stop.End) }
+        ensures stop { IfErr result (λ fault. fault ≢ LineFault.NotAscii → fault ≢ LineFault.Memory → IfSome self.new.stop (λ stop. fault ≡ fault_of stop)) }
+        // A source that is over stays so, and each line is its stop.
+        ensures stays { self.old.is_over ≡ true → (self.new ≡ self.old) × IfSome self.old.stop (λ stop. result ≡ Err (fault_of stop)) }
+    {
+        self.input.read_line(alloc)
+    }
+
+    /// Reads some bytes. Behind them each call answers how the reader stopped.
+    pub fn read(&mut self, buf: &mut [u8]) -> Result<usize, io::Error>
+        ensures bound { IfOk result (λ n. n ≤ length buf.new) }
+        ensures bytes { IfOk result (λ n. self.old.feed ≡ given (take n buf.new) self.new.feed) }
+        ensures end { IfOk result (λ n. n ≡ 0 → 0 < length buf.new → StopsBy Stop.End self.old.feed) }
+        ensures fault { IfErr result (λ e. StopsBy (Stop.Fault (error_kind e)) self.old.feed) }
+        ensures again { OnErr result (self.new.feed ≡ self.old.feed) }
+        ensures empty { length buf.new ≡ 0 → (result ≡ Ok 0) × (self.new ≡ self.old) }
+
+        // After an end or a fault the reader isn't called again.
+        ensures once { IsSome self.old.stop → IsSome self.new.stop × (self.new.reader ≡ self.old.reader) }
+        ensures over { IfErr result (λ e. (self.new.is_over ≡ true) × (self.new.stop ≡ Some (Stop.Fault (error_kind e)))) }
+        ensures none { IfOk result (λ n. n ≡ 0 → 0 < length buf.new → (self.new.is_over ≡ true) × (self.new.stop ≡ Some Stop.End)) }
+        ensures stays { self.old.is_over ≡ true → (self.new ≡ self.old) × IfSome self.old.stop (λ stop. 0 < length buf.new → AnswersStop stop result) }
+    {
+        self.input.read(buf)
+    }
+
+    /// Takes n bytes, or none where fewer are left: then the source is over.
+    pub fn take_exactly(
+        &mut self,
+        alloc: Global,
+        n: usize,
+    ) -> Result<Option<Vec<u8>>, AllocError>
+        ensures takes { IfOk result (λ body. TakesExactly (λ v. v.items) n self.old.feed self.new.feed body) }
+        ensures over { IfOk result (λ body. body ≡ None → self.new.is_over ≡ true) }
+        ensures goes_on { GoesOn self.old.feed self.new.feed }
+    {
+        self.input.take_exactly(alloc, n)
+    }
+}
+
+impl<R: ReadDevice> ReadDevice for Source<R> {
+    ghost feed = { λ s. s.feed };
+
+    /// Reads some bytes, as `Source::read`.
+    fn read_in(&mut self, buf: &mut [u8]) -> Result<usize, io::Error>
+        ensures bound { IfOk result (λ n. n ≤ length buf.new) }
+        ensures bytes { IfOk result (λ n. self.old.feed ≡ given (take n buf.new) self.new.feed) }
+        ensures end { IfOk result (λ n. n ≡ 0 → 0 < length buf.new → StopsBy Stop.End self.old.feed) }
+        ensures fault { IfErr result (λ e. StopsBy (Stop.Fault (error_kind e)) self.old.feed) }
+        ensures again { OnErr result (self.new.feed ≡ self.old.feed) }
+        ensures empty { length buf.new ≡ 0 → (result ≡ Ok 0) × (self.new ≡ self.old) }
+        ensures once { IsSome self.old.stop → IsSome self.new.stop × (self.new.reader ≡ self.old.reader) }
+        ensures over { IfErr result (λ e. (self.new.is_over ≡ true) × (self.new.stop ≡ Some (Stop.Fault (error_kind e)))) }
+        ensures none { IfOk result (λ n. n ≡ 0 → 0 < length buf.new → (self.new.is_over ≡ true) × (self.new.stop ≡ Some Stop.End)) }
+        ensures stays { self.old.is_over ≡ true → (self.new ≡ self.old) × IfSome self.old.stop (λ stop. 0 < length buf.new → AnswersStop stop result) }
+    {
+        self.input.read(buf)
+    }
+}
+
+impl<R: ReadDevice> Read for Source<R> {
+    ghost use Rattle.std.specs.Io.{ReadsAtMost};
+    ghost use Rattle.std.specs.Io.KnownBytes.{ReadConsumes};
+    ghost use Rattle.tiny_http_device.specs.Device.{bytes_of};
+
+    ghost remaining = { λ s. bytes_of s.feed };
+
+    /// Reads some bytes, as `Source::read`.
+    fn read(&mut self, buf: &mut [u8]) -> io::Result<usize>
+        ensures bound { ReadsAtMost result buf.new }
+        ensures bytes { ReadConsumes (bytes_of self.old.feed) (bytes_of self.new.feed) result buf.new }
+        ensures next { IfOk result (λ n. self.old.feed ≡ given (take n buf.new) self.new.feed) }
+        ensures end { IfOk result (λ n. n ≡ 0 → 0 < length buf.new → StopsBy Stop.End self.old.feed) }
+        ensures fault { IfErr result (λ e. StopsBy (Stop.Fault (error_kind e)) self.old.feed) }
+        ensures again { OnErr result (self.new.feed ≡ self.old.feed) }
+        ensures empty { length buf.new ≡ 0 → (result ≡ Ok 0) × (self.new ≡ self.old) }
+        ensures once { IsSome self.old.stop → IsSome self.new.stop × (self.new.reader ≡ self.old.reader) }
+        ensures over { IfErr result (λ e. (self.new.is_over ≡ true) × (self.new.stop ≡ Some (Stop.Fault (error_kind e)))) }
+        ensures none { IfOk result (λ n. n ≡ 0 → 0 < length buf.new → (self.new.is_over ≡ true) × (self.new.stop ≡ Some Stop.End)) }
+        ensures stays { self.old.is_over ≡ true → (self.new ≡ self.old) × IfSome self.old.stop (λ stop. 0 < length buf.new → AnswersStop stop result) }
+    {
+        self.read_in(buf)
+    }
+}
+
+// A source with its fields in the open: a reader with a buffer, a number of bytes to skip, and why its input ended.
+#[derive(Drop)]
+struct Input<R> {
+    inner: R,
+    held: Buffer,
+    skip: usize,
+    stop: Option<Stop>,
+}
+
+impl<R: ReadDevice> Input<R> {
+    ghost use Rattle.tiny_http_stream.specs.Input.{input_feed, input_stop, input_reader, IsOver};
+    ghost use Rattle.tiny_http_stream.specs.Source.{fault_of, ReadsLine, TakesExactly, GoesOn};
+
+    pub fn new(inner: R) -> Input<R>
+        ensures feed { input_feed R.feed result ≡ R.feed inner }
+        ensures stop { input_stop result ≡ None }
+        ensures reader { input_reader result ≡ inner }
+    {
+        Input {
+            inner,
+            held: Buffer::new(),
+            skip: 0,
+            stop: None,
+        }
+    }
+
+    // Takes off what is held of the bytes to be skipped.
+    fn pass(&mut self)
+        ensures feed { input_feed R.feed self.new ≡ input_feed R.feed self.old }
+        ensures fields { let n = min self.old.skip (length self.old.held) in
+            self.new ≡ record self.old { held = drop n self.old.held; skip = self.old.skip - n } }
+    {
+        let n = self.skip.min(self.held.len());
+        self.held.consume(n);
+        self.skip -= n;
+    }
+
+    // Reads once, into the empty buffer.
+    fn refill(&mut self)
+        requires empty { self.old.held ≡ [] }
+        requires open { self.old.stop ≡ None }
+        ensures feed { input_feed R.feed self.new ≡ input_feed R.feed self.old }
+        ensures skip { self.new.skip ≡ self.old.skip }
+        ensures some { self.new.stop ≡ None → 0 < length self.new.held }
+        ensures none { IsSome self.new.stop → self.new.held ≡ [] }
+    {
+        match self.held.read_from(&mut self.inner) {
+            Ok(0) => self.stop = Some(Stop::End),
+            Ok(_) => {}
+            Err(e) => self.stop = Some(Stop::Fault(e.kind())),
+        }
+    }
+
+    // Holds a byte where one is still to come, and has skipped what was to be skipped.
+    fn fill(&mut self)
+        ensures feed { input_feed R.feed self.new ≡ input_feed R.feed self.old }
+        ensures skip { self.new.skip ≡ 0 }
+        ensures over { self.new.held ≡ [] → IsSome self.new.stop }
+        // After an end or a fault the reader isn't called again.
+        ensures once { IsSome (input_stop self.old) → IsSome (input_stop self.new) × (input_reader self.new ≡ input_reader self.old) }
+        ensures stays { IsOver self.old → self.new ≡ self.old }
+    {
+        self.pass();
+        while self.stop.is_none() && self.held.is_empty() {
+            self.refill();
+            self.pass();
+        }
+        if self.skip > 0 {
+            self.stop = Some(Stop::End);
+            self.skip = 0;
+        }
+    }
+
+    // The bytes of the first line.
+    fn read_text(&mut self, alloc: Global) -> Result<Vec<u8>, LineFault>
+        ensures text { IfOk result (λ text. input_feed R.feed self.old ≡ given (text.items ++ (13 ∷ (10 ∷ []))) (input_feed R.feed self.new)) }
+        ensures first { IfOk result (λ text. Passed text.items (13 ∷ [])) }
+        ensures told { OnErr result (IsSome (input_feed R.feed self.old) → IsSome (input_feed R.feed self.new)) }
+        ensures none { IfErr result (λ fault. fault ≢ LineFault.Memory → (gone : List ℕ) × IsUnfinished gone
+            × (input_feed R.feed self.old ≡ given gone (input_feed R.feed self.new))) }
+        ensures fault { IfErr result (λ fault. fault ≢ LineFault.Memory → IsOver self.new
+            × IfSome (input_stop self.new) (λ stop. (fault ≡ fault_of stop) × StopsBy stop (input_feed R.feed self.new))) }
+        ensures once { IsSome (input_stop self.old) → IsSome (input_stop self.new) × (input_reader self.new ≡ input_reader self.old) }
+        ensures stays { IsOver self.old → (self.new ≡ self.old) × IfSome (input_stop self.old) (λ stop. result ≡ Err (fault_of stop)) }
+    {
+        self.fill();
+        match line_end(self.held.as_slice()) {
+            Some(n) => self.take_line(alloc, n),
+            None => self.read_slowly(alloc),
+        }
+    }
+
+    // Takes n bytes off that are held, and the CR LF behind them.
+    fn take_line(&mut self, alloc: Global, n: usize) -> Result<Vec<u8>, LineFault>
+        requires { n + 2 ≤ length self.old.held }
+        ensures text { IfOk result (λ text. text.items ≡ take n self.old.held) }
+        ensures rest { OnOk result (self.new ≡ record self.old { held = drop (n + 2) self.old.held }) }
+        ensures err { IfErr result (λ fault. (fault ≡ LineFault.Memory) × (self.new ≡ self.old)) }
+    {
+        let Ok(text) = self.held.as_slice()[..n].to_vec(alloc) else {
+            return Err(LineFault::Memory);
+        };
+        self.held.consume(n + 2);
+        Ok(text)
+    }
+
+    // The same, byte by byte.
+    fn read_slowly(&mut self, alloc: Global) -> Result<Vec<u8>, LineFault>
+        ensures text { IfOk result (λ text. input_feed R.feed self.old ≡ given (text.items ++ (13 ∷ (10 ∷ []))) (input_feed R.feed self.new)) }
+        ensures first { IfOk result (λ text. Passed text.items (13 ∷ [])) }
+        ensures told { OnErr result (IsSome (input_feed R.feed self.old) → IsSome (input_feed R.feed self.new)) }
+        ensures none { IfErr result (λ fault. fault ≢ LineFault.Memory → (gone : List ℕ) × IsUnfinished gone
+            × (input_feed R.feed self.old ≡ given gone (input_feed R.feed self.new))) }
+        ensures fault { IfErr result (λ fault. fault ≢ LineFault.Memory → IsOver self.new
+            × IfSome (input_stop self.new) (λ stop. (fault ≡ fault_of stop) × StopsBy stop (input_feed R.feed self.new))) }
+        ensures once { IsSome (input_stop self.old) → IsSome (input_stop self.new) × (input_reader self.new ≡ input_reader self.old) }
+        ensures stays { IsOver self.old → (self.new ≡ self.old) × IfSome (input_stop self.old) (λ stop. result ≡ Err (fault_of stop)) }
+    {
+        let mut text = Vec::new(alloc);
+        let mut after_return = false;
+        while let Some(b) = self.pop_byte() {
+            if after_return && b == b'\n' {
+                return Ok(text);
+            }
+            go_on(&mut text, &mut after_return, b)?;
+        }
+        Err(self.line_fault())
+    }
+
+    /// Lets the input end here.
+    pub fn end(&mut self)
+        ensures feed { input_feed R.feed self.new ≡ option_map (λ _. stopped Stop.End) (input_feed R.feed self.old) }
+        ensures over { IsOver self.new }
+        ensures stop { input_stop self.new ≡ Some Stop.End }
+        ensures reader { input_reader self.new ≡ input_reader self.old }
+    {
+        self.held.clear();
+        self.skip = 0;
+        self.stop = Some(Stop::End);
+    }
+
+    /// Reads the first line, without its CR LF.
+    pub fn read_line(&mut self, alloc: Global) -> Result<AsciiString, LineFault>
+        ensures line { ReadsLine (input_feed R.feed self.old) (input_feed R.feed self.new) result }
+        // After an end or a fault the reader isn't called again.
+        ensures once { IsSome (input_stop self.old) → IsSome (input_stop self.new) × (input_reader self.new ≡ input_reader self.old) }
+        // Whatever the reader tells, an input that is over stays so, and a line's place has its stop.
+        ensures over { IfErr result (λ fault. fault ≢ LineFault.NotAscii → IsOver self.new) }
+        ensures memory { IfErr result (λ fault. fault ≡ LineFault.Memory → input_stop self.new ≡ Some Stop.End) }
+        ensures stop { IfErr result (λ fault. fault ≢ LineFault.NotAscii → fault ≢ LineFault.Memory → IfSome (input_stop self.new) (λ stop. fault ≡ fault_of stop)) }
+        ensures stays { IsOver self.old → (self.new ≡ self.old) × IfSome (input_stop self.old) (λ stop. result ≡ Err (fault_of stop)) }
+    {
+        match self.read_text(alloc) {
+            Ok(text) => match AsciiString::from_ascii(text) {
+                Ok(line) => Ok(line),
+                Err(_) => Err(LineFault::NotAscii),
+            },
+            Err(LineFault::Memory) => {
+                self.end();
+                Err(LineFault::Memory)
+            }
+            Err(fault) => Err(fault),
+        }
+    }
+
+    /// Takes n bytes, or none where fewer are left: then the input is over.
+    pub fn take_exactly(&mut self, alloc: Global, n: usize) -> Result<Option<Vec<u8>>, AllocError>
+        ensures takes { IfOk result (λ body. TakesExactly (λ v. v.items) n (input_feed R.feed self.old) (input_feed R.feed self.new) body) }
+        ensures over { IfOk result (λ body. body ≡ None → IsOver self.new) }
+        ensures goes_on { GoesOn (input_feed R.feed self.old) (input_feed R.feed self.new) }
+    {
+        let mut body = Vec::new(alloc);
+        while body.len() < n {
+            match self.pop_byte() {
+                Some(b) => body.push(b)?,
+                None => return Ok(None),
+            }
+        }
+        Ok(Some(body))
+    }
+
+    // Why there is no line behind the input.
+    fn line_fault(&self) -> LineFault
+        ensures { IfSome (input_stop self.now) (λ stop. result ≡ fault_of stop) }
+    {
+        match self.stop {
+            Some(Stop::Fault(ErrorKind::TimedOut)) => LineFault::TimedOut,
+            Some(Stop::Fault(kind)) => LineFault::Broken(kind),
+            _ => LineFault::End,
+        }
+    }
+
+    /// Skips n bytes more, before the next line or read. Where fewer are left the input ends.
+    pub fn skip(&mut self, n: usize)
+        ensures feed { input_feed R.feed self.new ≡ option_map (skipped n) (input_feed R.feed self.old) }
+        // After an end or a fault the reader isn't called again.
+        ensures once { IsSome (input_stop self.old) → IsSome (input_stop self.new) × (input_reader self.new ≡ input_reader self.old) }
+    {
+        match self.skip.checked_add(n) {
+            Some(sum) => self.skip = sum,
+            None => {
+                self.fill();
+                self.skip = n;
+            }
+        }
+    }
+
+    // Takes the next byte, if there is one.
+    fn pop_byte(&mut self) -> Option<u8>
+        ensures some { IfSome result (λ b. input_feed R.feed self.old ≡ given (b ∷ []) (input_feed R.feed self.new)) }
+        ensures none { IfNone result (input_feed R.feed self.new ≡ input_feed R.feed self.old) }
+        ensures over { IfNone result (IsOver self.new) }
+        ensures stop { IfNone result (IfSome (input_stop self.new) (λ stop. StopsBy stop (input_feed R.feed self.old))) }
+        ensures once { IsSome (input_stop self.old) → IsSome (input_stop self.new) × (input_reader self.new ≡ input_reader self.old) }
+        ensures stays { IsOver self.old → (result ≡ None) × (self.new ≡ self.old) }
+    {
+        self.fill();
+        self.held.pop()
+    }
+
+    /// Reads some bytes. Behind them each call answers how the input stopped.
+    pub fn read(&mut self, buf: &mut [u8]) -> Result<usize, io::Error>
+        ensures bound { IfOk result (λ n. n ≤ length buf.new) }
+        ensures bytes { IfOk result (λ n. input_feed R.feed self.old ≡ given (take n buf.new) (input_feed R.feed self.new)) }
+        ensures end { IfOk result (λ n. n ≡ 0 → 0 < length buf.new → StopsBy Stop.End (input_feed R.feed self.old)) }
+        ensures fault { IfErr result (λ e. StopsBy (Stop.Fault (error_kind e)) (input_feed R.feed self.old)) }
+        ensures again { OnErr result (input_feed R.feed self.new ≡ input_feed R.feed self.old) }
+        ensures empty { length buf.new ≡ 0 → (result ≡ Ok 0) × (self.new ≡ self.old) }
+        // After an end or a fault the reader isn't called again.
+        ensures once { IsSome (input_stop self.old) → IsSome (input_stop self.new) × (input_reader self.new ≡ input_reader self.old) }
+        ensures over { OnErr result (IsOver self.new) }
+        ensures none { IfOk result (λ n. n ≡ 0 → 0 < length buf.new → IsOver self.new × (input_stop self.new ≡ Some Stop.End)) }
+        ensures kind { IfErr result (λ e. input_stop self.new ≡ Some (Stop.Fault (error_kind e))) }
+        ensures stays { IsOver self.old → (self.new ≡ self.old) × IfSome (input_stop self.old) (λ stop. 0 < length buf.new → AnswersStop stop result) }
+    {
+        if buf.is_empty() {
+            return Ok(0);
+        }
+        self.fill();
+        if self.held.is_empty()
+            && let Some(Stop::Fault(kind)) = self.stop
+        {
+            return Err(kind.into());
+        }
+        Ok(self.held.give(buf))
+    }
+}
+
+// Where the first CR LF begins.
+fn line_end(bytes: &[u8]) -> Option<usize>
+    ensures { IfSome result (EndsLine bytes.now) }
+{
+    let mut returned = false;
+    let mut at = 0;
+    while at < bytes.len() {
+        let b = bytes[at];
+        if returned && b == b'\n' {
+            return Some(at - 1);
+        }
+        returned = b == b'\r';
+        at += 1;
+    }
+    None
+}
+
+// Takes a byte that doesn't end the line. A carriage return is kept once the byte behind it is known.
+fn go_on(text: &mut Vec<u8>, after_return: &mut bool, b: u8) -> Result<(), LineFault>
+    requires not_end { after_return.old ≡ true → b ≢ 10 }
+    requires passed { Passed text.old.items (pending after_return.old) }
+    ensures passed { OnOk result (Passed text.new.items (pending after_return.new)) }
+    ensures bytes { OnOk result (text.new.items ++ pending after_return.new ≡ (text.old.items ++ pending after_return.old) ++ b ∷ []) }
+    ensures more { OnOk result (2 * vec_len text.old + length (pending after_return.old) < 2 * vec_len text.new + length (pending after_return.new)) }
+    ensures fault { IfErr result (λ fault. fault ≡ LineFault.Memory) }
+{
+    match (*after_return, b) {
+        (true, b'\r') => keep(text, b'\r'),
+        (false, b'\r') => {
+            *after_return = true;
+            Ok(())
+        }
+        (false, _) => keep(text, b),
+        (true, _) => {
+            *after_return = false;
+            keep(text, b'\r')?;
+            keep(text, b)
+        }
+    }
+}
+
+// One byte more of a line.
+fn keep(text: &mut Vec<u8>, b: u8) -> Result<(), LineFault>
+    ensures ok { OnOk result (text.new.items ≡ text.old.items ++ b ∷ []) }
+    ensures len { OnOk result (vec_len text.new ≡ vec_len text.old + 1) }
+    ensures fault { IfErr result (λ fault. fault ≡ LineFault.Memory) }
+{
+    match text.push(b) {
+        Ok(()) => Ok(()),
+        Err(_) => Err(LineFault::Memory),
+    }
+}
+
+#[cfg(test)]
+mod tests;

@@ -1,0 +1,9 @@
+use Rattle.std.proofs.Common.{◌≡◌, length, ◌-◌, ◌≤◌, drop}
+use Rattle.tiny_http_text.specs.Bytes.{is_blank, skip_while}
+use Rattle.tiny_http_text.proofs.bytes.trim_front.Given as goal
+
+abbrev pub invariant-loop-start : goal.invariant-loop-start
+invariant-loop-start l = record { within : l.start ≤ length l.text; skipped : skip_while is_blank (drop l.start l.text) ≡ skip_while is_blank l.text }
+
+abbrev pub decreases-loop-start : goal.decreases-loop-start
+decreases-loop-start l = length l.text - l.start

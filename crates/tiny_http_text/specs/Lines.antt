@@ -1,0 +1,18 @@
+-- The lines of a text (RFC 9112, section 2.2).
+use Rattle.std.specs.Prelude.{◌≡◌, ℕ, Bool, true, false, ◌&&◌, ◌==◌, List, [], ◌∷◌, ◌++◌, if◌then◌else◌}
+use Rattle.tiny_http_text.specs.Bytes.{crlf}
+
+-- whether a CR LF stands in the bytes
+abbrev pub has_crlf : List ℕ → Bool
+has_crlf [] = false
+has_crlf (a ∷ []) = false
+has_crlf (a ∷ b ∷ bs) = if (a == 13 && b == 10) then true else has_crlf (b ∷ bs)
+
+-- the bytes are a line, CR LF, and the rest; the line has no CR LF
+pub record Line (bytes text rest : List ℕ) : Type 0 where
+  pub joins : bytes ≡ text ++ crlf ++ rest
+  pub first : has_crlf text ≡ false
+
+-- no line is finished in the bytes
+abbrev pub IsUnfinished : List ℕ → Type 0
+IsUnfinished bytes = has_crlf bytes ≡ false

@@ -1,0 +1,230 @@
+//! Texts whose bytes are all below 128.
+ghost use Rattle.std.specs.Prelude.{◌≡◌, ◌==◌, ◌≤◌, ◌<◌, ◌↔◌, ℕ, List, length, map, IsTrue, IsOk, IfOk, IfErr, OnOk, OnErr, string_bytes, IsAscii, nat_eq};
+ghost use Rattle.std.specs.Cmp.Lexicographic.{pointwise};
+ghost use Rattle.std.specs.Cmp.Rules.{comparing, hashing};
+ghost use Rattle.std.specs.Hash as fed;
+ghost use Rattle.std.proofs.Common.{rules};
+ghost use Rattle.std.specs.Char.{to_ascii_lowercase};
+ghost use Rattle.std.specs.Str.{IsNotAscii};
+ghost use Rattle.tiny_http_text.specs.Bytes.{is_blank, trimmed};
+ghost use Rattle.tiny_http_text.specs.Ascii.{IsFirstBad};
+
+use crate::text::trim;
+use std::alloc::{AllocError, Global};
+use std::hash::{Hash, Hasher};
+use std::marker::Model;
+use thiserror::Error;
+
+/// A text that owns its bytes, all below 128. A contract sees it as the list of its bytes.
+#[derive(Debug, Drop)]
+pub struct AsciiString {
+    text: String,
+}
+
+impl Model for AsciiString {
+    ghost Value = { List ℕ };
+
+    ghost view = { λ s. string_bytes s.text };
+
+    ghost invariant = { λ s. IsAscii (string_bytes s.text) };
+}
+
+/// A view of an `AsciiString`, or of a part of one. A contract sees it as the list of its bytes.
+#[derive(Debug, Drop)]
+pub struct AsciiStr<'a> {
+    text: &'a str,
+}
+
+impl<'a> Model for AsciiStr<'a> {
+    ghost Value = { List ℕ };
+
+    ghost view = { λ s. s.text.now };
+
+    ghost invariant = { λ s. IsAscii s.text.now };
+}
+
+/// Bytes that are no ASCII text, and the place of the first one from 128 on.
+#[derive(Debug, Drop, Error)]
+#[error("the byte at place {place} is not ASCII")]
+pub struct FromAsciiError {
+    source: Vec<u8>,
+    place: usize,
+}
+
+impl FromAsciiError {
+    ghost use Rattle.tiny_http_text.specs.Refused.{refused_bytes, bad_place};
+
+    /// Gives the bytes back as they were handed in.
+    pub fn into_source(self) -> Vec<u8>
+        ensures { result.items ≡ refused_bytes self }
+    {
+        self.source
+    }
+
+    /// The place of the first byte from 128 on, counted from 0.
+    pub fn place(&self) -> usize
+        ensures { result ≡ bad_place self.now }
+    {
+        self.place
+    }
+}
+
+// The place of the first byte from 128 on, or the length.
+fn ascii_len(bytes: &[u8]) -> usize
+    ensures bound { result ≤ length bytes.now }
+    ensures found { result < length bytes.now → IsFirstBad bytes.now result }
+    ensures ascii { length bytes.now ≤ result → IsAscii bytes.now }
+{
+    for (i, b) in bytes.iter().enumerate() {
+        if *b >= 128 {
+            return i;
+        }
+    }
+    bytes.len()
+}
+
+impl AsciiString {
+    ghost use Rattle.tiny_http_text.specs.Refused.{refused_bytes, bad_place};
+
+    /// Takes bytes that are all below 128, and no others. A refusal hands them back.
+    pub fn from_ascii(bytes: Vec<u8>) -> Result<AsciiString, FromAsciiError>
+        ensures ok { IfOk result (λ s. s ≡ bytes.items) }
+        ensures succeeds { IsOk result ↔ IsAscii bytes.items }
+        ensures source { IfErr result (λ e. refused_bytes e ≡ bytes.items) }
+        ensures place { IfErr result (λ e. IsFirstBad bytes.items (bad_place e)) }
+        ensures ascii { OnOk result (IsAscii bytes.items) }
+        ensures refused { OnErr result (IsNotAscii bytes.items) }
+    {
+        let place = ascii_len(bytes.as_slice());
+        if place < bytes.len() {
+            return Err(FromAsciiError {
+                source: bytes,
+                place,
+            });
+        }
+        match String::from_utf8(bytes) {
+            Ok(text) => Ok(AsciiString { text }),
+            Err(_) => unreachable!(),
+        }
+    }
+
+    /// The text as a `&str`.
+    pub fn as_str(&self) -> &str
+        ensures value { result.now ≡ self.now }
+        ensures ascii { IsAscii self.now }
+    {
+        self.text.as_str()
+    }
+
+    /// A view of the text.
+    pub fn as_ascii(&self) -> AsciiStr<'_>
+        ensures { result ≡ self.now }
+    {
+        AsciiStr {
+            text: self.as_str(),
+        }
+    }
+
+    /// The number of bytes.
+    pub fn len(&self) -> usize
+        ensures { result ≡ length self.now }
+    {
+        self.as_ascii().len()
+    }
+
+    /// Whether there is no byte.
+    pub fn is_empty(&self) -> bool
+        ensures { result ≡ (length self.now == 0) }
+    {
+        self.as_ascii().is_empty()
+    }
+
+    /// The view without white space (bytes 9 to 13 and 32) at its ends.
+    pub fn trim(&self) -> AsciiStr<'_>
+        ensures { result ≡ trimmed is_blank self.now }
+    {
+        self.as_ascii().trim()
+    }
+
+    /// Whether two texts are equal but for the case of ASCII letters.
+    pub fn eq_ignore_ascii_case(&self, other: &str) -> bool
+        ensures { IsTrue result ↔ (map to_ascii_lowercase self.now ≡ map to_ascii_lowercase other.now) }
+    {
+        self.as_ascii().eq_ignore_ascii_case(other)
+    }
+
+    /// A copy of the text, or an error where there is no memory for it.
+    pub fn try_clone(&self) -> Result<AsciiString, AllocError>
+        ensures { IfOk result (λ s. s ≡ self.now) }
+    {
+        Ok(AsciiString {
+            text: self.text.clone()?,
+        })
+    }
+}
+
+impl PartialEq for AsciiString {
+    ghost eq = { pointwise nat_eq };
+
+    ghost laws = { Prim.search (comparing, rules) };
+
+    /// Whether the two texts are the same, letter case included.
+    fn eq(&self, other: &AsciiString) -> bool {
+        self.as_str() == other.as_str()
+    }
+}
+
+impl Eq for AsciiString {
+    ghost laws = { Prim.search (comparing, rules) };
+}
+
+impl Hash for AsciiString {
+    ghost hash_input = { λ s. fed.str s };
+
+    ghost respects_eq = { Prim.search (hashing, rules) };
+
+    /// Feeds the text to the hasher, as a `&str` does.
+    fn hash<H: Hasher>(&self, state: &mut H) {
+        self.as_str().hash(state);
+    }
+}
+
+impl<'a> AsciiStr<'a> {
+    /// The text as a `&str`.
+    pub fn as_str(&self) -> &'a str
+        ensures value { result.now ≡ self.now }
+        ensures ascii { IsAscii self.now }
+    {
+        self.text
+    }
+
+    /// The number of bytes.
+    pub fn len(&self) -> usize
+        ensures { result ≡ length self.now }
+    {
+        self.text.len()
+    }
+
+    /// Whether there is no byte.
+    pub fn is_empty(&self) -> bool
+        ensures { result ≡ (length self.now == 0) }
+    {
+        self.text.is_empty()
+    }
+
+    /// The view without white space (bytes 9 to 13 and 32) at its ends.
+    pub fn trim(&self) -> AsciiStr<'a>
+        ensures { result ≡ trimmed is_blank self.now }
+    {
+        AsciiStr {
+            text: trim(self.text),
+        }
+    }
+
+    /// Whether two texts are equal but for the case of ASCII letters.
+    pub fn eq_ignore_ascii_case(&self, other: &str) -> bool
+        ensures { IsTrue result ↔ (map to_ascii_lowercase self.now ≡ map to_ascii_lowercase other.now) }
+    {
+        self.text.eq_ignore_ascii_case(other)
+    }
+}

@@ -1,0 +1,94 @@
+//! Bytes of a text, trimmed and cut.
+ghost use Rattle.std.specs.Prelude.{◌≡◌, ℕ, ◌≤◌, ◌<◌, List, ◌∷◌, ◌++◌, length, take, IfSome, IfNone, slice_index, not};
+ghost use Rattle.std.specs.List.{list_all};
+ghost use Rattle.std.specs.Str.{bytes_eq};
+ghost use Rattle.tiny_http_text.specs.Bytes.{HasNo, is_ascii, is_blank, parts, skip_while, skip_end_while, trimmed};
+
+// White space: bytes 9 to 13 and 32.
+fn is_blank(b: u8) -> bool
+    ensures { result ≡ is_blank b }
+{
+    (b >= 9 && b <= 13) || b == 32
+}
+
+/// The text without white space at its end.
+pub fn trim_end(text: &[u8]) -> &[u8]
+    ensures { result.now ≡ skip_end_while is_blank text.now }
+{
+    let mut end = text.len();
+    while end > 0 && is_blank(text[end - 1]) {
+        end -= 1;
+    }
+    &text[..end]
+}
+
+/// The text without white space at its front.
+pub fn trim_front(text: &[u8]) -> &[u8]
+    ensures { result.now ≡ skip_while is_blank text.now }
+{
+    let mut start = 0;
+    while start < text.len() && is_blank(text[start]) {
+        start += 1;
+    }
+    &text[start..]
+}
+
+/// The text without white space at its ends.
+pub fn trim(text: &[u8]) -> &[u8]
+    ensures { result.now ≡ trimmed is_blank text.now }
+{
+    trim_end(trim_front(text))
+}
+
+// Where the byte stands first, or the length.
+fn find(text: &[u8], c: u8) -> usize
+    ensures bound { result ≤ length text.now }
+    ensures first { HasNo c (take result text.now) }
+    ensures there { result < length text.now → slice_index text.now result ≡ c }
+{
+    let mut i = 0;
+    while i < text.len() && text[i] != c {
+        i += 1;
+    }
+    i
+}
+
+/// What stands before the first such byte, and behind it.
+pub fn cut(text: &[u8], c: u8) -> Option<(&[u8], &[u8])>
+    ensures some { IfSome result (λ r. (text.now ≡ r.0.now ++ c ∷ r.1.now) × HasNo c r.0.now) }
+    ensures none { IfNone result (HasNo c text.now) }
+{
+    let i = find(text, c);
+    if i == text.len() {
+        return None;
+    }
+    Some((&text[..i], &text[i + 1..]))
+}
+
+/// Whether the text is this word.
+pub fn is(text: &[u8], word: &str) -> bool
+    ensures { result ≡ bytes_eq text.now word.now }
+{
+    text == word.as_bytes()
+}
+
+/// What stands before the first such byte, or all.
+pub fn first_part(text: &[u8], c: u8) -> &[u8]
+    ensures { (more : List (List ℕ)) × (parts c text.now ≡ result.now ∷ more) }
+{
+    &text[..find(text, c)]
+}
+
+/// Whether all bytes are below 128.
+pub fn is_ascii(text: &[u8]) -> bool
+    ensures { result ≡ list_all is_ascii text.now }
+{
+    text.is_ascii()
+}
+
+/// Whether there is no white space in the text.
+pub fn has_no_blank(text: &[u8]) -> bool
+    ensures { result ≡ list_all (λ b. not (is_blank b)) text.now }
+{
+    text.iter().all(|b| !is_blank(*b))
+}

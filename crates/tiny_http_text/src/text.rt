@@ -1,0 +1,22 @@
+//! Texts trimmed.
+ghost use Rattle.std.specs.Prelude.{◌≡◌};
+ghost use Rattle.tiny_http_text.specs.Bytes.{is_blank, skip_while, trimmed};
+
+use crate::bytes;
+
+/// The text without white space (bytes 9 to 13 and 32) at its front.
+pub fn trim_front(text: &str) -> &str
+    ensures { result.now ≡ skip_while is_blank text.now }
+{
+    let front = bytes::trim_front(text.as_bytes());
+    &text[text.len() - front.len()..]
+}
+
+/// The text without white space (bytes 9 to 13 and 32) at its ends.
+pub fn trim(text: &str) -> &str
+    ensures { result.now ≡ trimmed is_blank text.now }
+{
+    let front = trim_front(text);
+    let core = bytes::trim_end(front.as_bytes());
+    &front[..core.len()]
+}

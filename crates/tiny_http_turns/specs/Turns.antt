@@ -1,0 +1,161 @@
+-- THE TURN MACHINE: numbers that have one item in turn.
+use Prim.Native.Nat.{suc}
+use Rattle.std.specs.Global.{Vec}
+use Rattle.std.specs.Prelude.{◌≡◌, ℕ, Bool, true, false, not, List, [], ◌∷◌, ◌++◌, length, Option, Some, None, is_some, slice_get, slice_set, ◌==◌, if◌then◌else◌}
+use Rattle.tiny_http_turns.specs.declared.turns.Entry.{Entry}
+use Rattle.tiny_http_turns.specs.declared.turns.Entry.TheVariants.{Open as IsOpen, Held as IsHeld, Left as IsLeft, Finished as IsFinished}
+
+-- what is known of one number
+pub data Mark : Type 0 where
+  Open : Mark
+  Held : Mark
+  Left : (text : List ℕ) → Mark
+  Finished : Mark
+
+-- what is stored for it
+abbrev pub mark_of : Entry → Mark
+mark_of IsOpen = Open
+mark_of IsHeld = Held
+mark_of (IsLeft text) = Left text.items
+mark_of IsFinished = Finished
+
+-- the marks of all numbers, and the item where no number holds it
+pub record TurnsState (T : Type 0) : Type 0 where
+  pub marks : List Mark
+  pub slot : Option T
+
+-- the first number that is not finished, or the next to be issued
+abbrev pub first_unfinished : List Mark → ℕ
+first_unfinished [] = 0
+first_unfinished (Open ∷ marks) = 0
+first_unfinished (Held ∷ marks) = 0
+first_unfinished (Left text ∷ marks) = 0
+first_unfinished (Finished ∷ marks) = suc (first_unfinished marks)
+
+-- numbers that are open or left
+abbrev pub AreWaiting : List Mark → Type 0
+AreWaiting [] = Unit {0}
+AreWaiting (Open ∷ marks) = AreWaiting marks
+AreWaiting (Held ∷ marks) = ⊥
+AreWaiting (Left text ∷ marks) = AreWaiting marks
+AreWaiting (Finished ∷ marks) = ⊥
+
+-- finished ones stand in front; of the others only the first may be held, and it is not left
+abbrev pub AreInShape : List Mark → Type 0
+AreInShape [] = Unit {0}
+AreInShape (Open ∷ marks) = AreWaiting marks
+AreInShape (Held ∷ marks) = AreWaiting marks
+AreInShape (Left text ∷ marks) = ⊥
+AreInShape (Finished ∷ marks) = AreInShape marks
+
+-- some number is held
+abbrev pub is_any_held : List Mark → Bool
+is_any_held [] = false
+is_any_held (Open ∷ marks) = is_any_held marks
+is_any_held (Held ∷ marks) = true
+is_any_held (Left text ∷ marks) = is_any_held marks
+is_any_held (Finished ∷ marks) = is_any_held marks
+
+-- the marks have their shape, and the item lies in the slot exactly if no number is held
+pub record IsInOrder {T : Type 0} (turns : TurnsState T) : Type 0 where
+  pub shape : AreInShape turns.marks
+  pub item : is_some turns.slot ≡ not (is_any_held turns.marks)
+
+-- what a call asks
+pub data TurnStep : Type 0 where
+  Issue : TurnStep
+  Take : (number : ℕ) → TurnStep
+  PutBack : (number : ℕ) → TurnStep
+  Finish : (number : ℕ) → TurnStep
+  Leave : (number : ℕ) → (text : List ℕ) → TurnStep
+
+-- what it is told
+pub data TurnAnswer : Type 0 where
+  -- the number was issued
+  Issued : (number : ℕ) → TurnAnswer
+  -- the number is held now, was held and is open now, or is finished now
+  Taken : TurnAnswer
+  Opened : TurnAnswer
+  Passed : TurnAnswer
+  -- the text waits for the number's turn
+  Waits : TurnAnswer
+  -- the number, which was left with this text, is held now
+  Goes : (number : ℕ) → (text : List ℕ) → TurnAnswer
+  -- the number is in another state, its turn hasn't come, or it was never issued; nothing changed
+  Strange : TurnAnswer
+
+-- the marks after a step, with its answer
+abbrev pub TurnOutcome : Type 0
+TurnOutcome = TurnAnswer × List Mark
+
+-- an open number is held if all before it are finished
+abbrev pub take_at : Option Mark → ℕ → List Mark → TurnOutcome
+take_at None k marks = (Strange, marks)
+take_at (Some Open) k marks = if k == first_unfinished marks then (Taken, slice_set marks k Held) else (Strange, marks)
+take_at (Some Held) k marks = (Strange, marks)
+take_at (Some (Left text)) k marks = (Strange, marks)
+take_at (Some Finished) k marks = (Strange, marks)
+
+-- a held number is open again
+abbrev pub put_back_at : Option Mark → ℕ → List Mark → TurnOutcome
+put_back_at None k marks = (Strange, marks)
+put_back_at (Some Open) k marks = (Strange, marks)
+put_back_at (Some Held) k marks = (Opened, slice_set marks k Open)
+put_back_at (Some (Left text)) k marks = (Strange, marks)
+put_back_at (Some Finished) k marks = (Strange, marks)
+
+abbrev pub is_left_mark : Option Mark → Bool
+is_left_mark None = false
+is_left_mark (Some Open) = false
+is_left_mark (Some Held) = false
+is_left_mark (Some (Left text)) = true
+is_left_mark (Some Finished) = false
+
+-- a number that was left is held as its turn comes, and its text comes out
+abbrev pub pass_to : Option Mark → ℕ → List Mark → TurnOutcome
+pass_to None k marks = (Passed, marks)
+pass_to (Some Open) k marks = (Passed, marks)
+pass_to (Some Held) k marks = (Passed, marks)
+pass_to (Some (Left text)) k marks = (Goes k text, slice_set marks k Held)
+pass_to (Some Finished) k marks = (Passed, marks)
+
+-- what is told of that
+abbrev pub Passes : TurnAnswer → ℕ → Option (Vec ℕ) → Type 0
+Passes (Goes number text) at (Some with) = (number ≡ at) × (with.items ≡ text)
+Passes Passed at None = Unit {0}
+Passes _ at result = ⊥
+
+-- a held number is finished, and the turn passes to the next
+abbrev pub finish_at : Option Mark → ℕ → List Mark → TurnOutcome
+finish_at None k marks = (Strange, marks)
+finish_at (Some Open) k marks = (Strange, marks)
+finish_at (Some Held) k marks = pass_to (slice_get marks (suc k)) (suc k) (slice_set marks k Finished)
+finish_at (Some (Left text)) k marks = (Strange, marks)
+finish_at (Some Finished) k marks = (Strange, marks)
+
+-- an open number is left with a text, or is held where its turn has come
+abbrev pub leave_at : Option Mark → ℕ → List ℕ → List Mark → TurnOutcome
+leave_at None k text marks = (Strange, marks)
+leave_at (Some Open) k text marks = if k == first_unfinished marks then (Goes k text, slice_set marks k Held) else (Waits, slice_set marks k (Left text))
+leave_at (Some Held) k text marks = (Strange, marks)
+leave_at (Some (Left was)) k text marks = (Strange, marks)
+leave_at (Some Finished) k text marks = (Strange, marks)
+
+-- one step
+abbrev pub outcome : TurnStep → List Mark → TurnOutcome
+outcome Issue marks = (Issued (length marks), marks ++ Open ∷ [])
+outcome (Take k) marks = take_at (slice_get marks k) k marks
+outcome (PutBack k) marks = put_back_at (slice_get marks k) k marks
+outcome (Finish k) marks = finish_at (slice_get marks k) k marks
+outcome (Leave k text) marks = leave_at (slice_get marks k) k text marks
+
+abbrev pub answer : TurnStep → List Mark → TurnAnswer
+answer step marks = (outcome step marks).0
+
+abbrev pub after : TurnStep → List Mark → List Mark
+after step marks = (outcome step marks).1
+
+-- what is kept beside them: the first unfinished number
+pub record IsKept {T : Type 0} (turn : ℕ) (turns : TurnsState T) : Type 0 where
+  pub in_order : IsInOrder turns
+  pub turn_is : turn ≡ first_unfinished turns.marks

@@ -1,0 +1,45 @@
+-- What the calls of `Turns` answer and leave, by the steps of `Turns`.
+use Rattle.std.specs.Global.{Vec}
+use Rattle.std.specs.Prelude.{◌≡◌, ℕ, [], Option, Some, None, IsSome, Result, Ok, Err}
+use Rattle.tiny_http_turns.specs.Turns.{TurnsState, TurnAnswer, Taken, Opened, Passed, Waits, Goes, Strange}
+use Rattle.tiny_http_turns.specs.declared.turns.Finishing.{Finishing}
+use Rattle.tiny_http_turns.specs.declared.turns.Finishing.TheVariants.{Passed as IsPassed, Go as FinishGo, Strange as FinishStrange}
+use Rattle.tiny_http_turns.specs.declared.turns.Leaving.{Leaving}
+use Rattle.tiny_http_turns.specs.declared.turns.Leaving.TheVariants.{Left as IsLeft, Go as LeaveGo, Strange as LeaveStrange}
+
+module _ {T : Type 0} where
+  -- no number is issued, and the item lies in the slot
+  abbrev pub new_turns : T → TurnsState T
+  new_turns item = record { marks = []; slot = Some item }
+
+  -- the item comes out of the slot exactly if this call holds the number
+  abbrev pub Takes : TurnAnswer → Option T → Option T → Option T → Type 0
+  Takes Taken old result new = (result ≡ old) × IsSome result × (new ≡ None)
+  Takes Strange old result new = (result ≡ None) × (new ≡ old)
+  Takes _ old result new = ⊥
+
+  -- the item lies in the slot exactly if the number is open again; else it comes back
+  abbrev pub PutsBack : {U : Type 0} → TurnAnswer → T → Option T → Result U T → Option T → Type 0
+  PutsBack Opened item old (Ok done) new = new ≡ Some item
+  PutsBack Strange item old (Err back) new = (back ≡ item) × (new ≡ old)
+  PutsBack _ item old result new = ⊥
+
+  -- the item lies in the slot, or goes on with the text of the next number, or comes back
+  abbrev pub Finishes : TurnAnswer → T → Option T → Finishing T → Option T → Type 0
+  Finishes Passed item old IsPassed new = new ≡ Some item
+  Finishes (Goes number text) item old (FinishGo on with) new = (on ≡ item) × (with.items ≡ text) × (new ≡ None)
+  Finishes Strange item old (FinishStrange back) new = (back ≡ item) × (new ≡ old)
+  Finishes _ item old result new = ⊥
+
+  -- the text stays, or comes back with the item where the turn has come, or comes back
+  abbrev pub Leaves : TurnAnswer → Option T → Leaving T → Option T → Type 0
+  Leaves Waits old IsLeft new = new ≡ old
+  Leaves (Goes number text) old (LeaveGo item back) new = (old ≡ Some item) × (back.items ≡ text) × (new ≡ None)
+  Leaves Strange old (LeaveStrange back) new = new ≡ old
+  Leaves _ old result new = ⊥
+
+  -- a text that comes back is the one that was given
+  abbrev pub GivesBack : Leaving T → Vec ℕ → Type 0
+  GivesBack IsLeft given = Unit {0}
+  GivesBack (LeaveGo item back) given = back ≡ given
+  GivesBack (LeaveStrange back) given = back ≡ given

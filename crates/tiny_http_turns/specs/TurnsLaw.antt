@@ -1,0 +1,75 @@
+-- What every list of steps comes to.
+use Prim.Native.Nat.{zero, suc}
+use Rattle.std.specs.Prelude.{ℕ, List, [], ◌∷◌, ◌++◌, Option, Some, None, ◌==◌, if◌then◌else◌}
+use Rattle.std.specs.List.{list_any}
+use Rattle.tiny_http_turns.specs.Turns.{Mark, Open, Held, Left, Finished, TurnStep, Issue, Take, PutBack, Finish, Leave, TurnAnswer, Issued, Taken, Opened, Passed, Waits, Goes, Strange, answer, after}
+
+-- the marks after these steps, one after another
+abbrev pub marks_after : List TurnStep → List Mark → List Mark
+marks_after [] marks = marks
+marks_after (step ∷ steps) marks = marks_after steps (after step marks)
+
+-- the numbers that are held, where the first mark is that of n
+abbrev pub held_from : ℕ → List Mark → List ℕ
+held_from n [] = []
+held_from n (Open ∷ marks) = held_from (suc n) marks
+held_from n (Held ∷ marks) = n ∷ held_from (suc n) marks
+held_from n (Left text ∷ marks) = held_from (suc n) marks
+held_from n (Finished ∷ marks) = held_from (suc n) marks
+
+-- a list, and behind it each of these numbers that is not in it yet
+abbrev pub with_new : List ℕ → List ℕ → List ℕ
+with_new seen [] = seen
+with_new seen (n ∷ ns) = with_new (if list_any (λ m. m == n) seen then seen else seen ++ n ∷ []) ns
+
+-- the numbers that are ever held, in the order in which each is first held, behind those seen before
+abbrev pub first_held : List ℕ → List TurnStep → List Mark → List ℕ
+first_held seen [] marks = seen
+first_held seen (step ∷ steps) marks = first_held (with_new seen (held_from 0 (after step marks))) steps (after step marks)
+
+-- 0, 1, 2 and so on
+abbrev pub numbers_below : ℕ → List ℕ
+numbers_below zero = []
+numbers_below (suc n) = numbers_below n ++ n ∷ []
+
+-- the text that comes out for the number
+abbrev pub text_out : ℕ → TurnAnswer → List (List ℕ)
+text_out n (Issued k) = []
+text_out n Taken = []
+text_out n Opened = []
+text_out n Passed = []
+text_out n Waits = []
+text_out n (Goes k text) = if k == n then text ∷ [] else []
+text_out n Strange = []
+
+-- all of them, in order
+abbrev pub texts_out : ℕ → List TurnStep → List Mark → List (List ℕ)
+texts_out n [] marks = []
+texts_out n (step ∷ steps) marks = text_out n (answer step marks) ++ texts_out n steps (after step marks)
+
+-- the text with which the number is left, if that is not refused
+abbrev pub text_left : ℕ → TurnStep → TurnAnswer → List (List ℕ)
+text_left n Issue told = []
+text_left n (Take k) told = []
+text_left n (PutBack k) told = []
+text_left n (Finish k) told = []
+text_left n (Leave k text) (Issued j) = if k == n then text ∷ [] else []
+text_left n (Leave k text) Taken = if k == n then text ∷ [] else []
+text_left n (Leave k text) Opened = if k == n then text ∷ [] else []
+text_left n (Leave k text) Passed = if k == n then text ∷ [] else []
+text_left n (Leave k text) Waits = if k == n then text ∷ [] else []
+text_left n (Leave k text) (Goes j told) = if k == n then text ∷ [] else []
+text_left n (Leave k text) Strange = []
+
+-- all of them, in order
+abbrev pub texts_left : ℕ → List TurnStep → List Mark → List (List ℕ)
+texts_left n [] marks = []
+texts_left n (step ∷ steps) marks = text_left n step (answer step marks) ++ texts_left n steps (after step marks)
+
+-- the text that waits at a mark
+abbrev pub text_waiting : Option Mark → List (List ℕ)
+text_waiting None = []
+text_waiting (Some Open) = []
+text_waiting (Some Held) = []
+text_waiting (Some (Left text)) = text ∷ []
+text_waiting (Some Finished) = []

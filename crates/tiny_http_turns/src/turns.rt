@@ -1,0 +1,241 @@
+//! One item, and numbers that have it in turn.
+ghost use Rattle.std.specs.Prelude.{◌≡◌, ◌-◌, ◌^◌, ◌<◌, ◌↔◌, length, map, IfOk, OnOk, OnErr, IsSome, IsTrue, slice_get, Some};
+ghost use Rattle.tiny_http_turns.specs.Turns.{Issue, Take, PutBack, Finish, Leave, Issued, Open, Held, first_unfinished, mark_of, after, answer, pass_to, Passes, is_left_mark};
+
+use std::alloc::Global;
+use std::marker::Model;
+use std::mem;
+use thiserror::Error;
+
+/// Why no number is issued.
+#[derive(Clone, Copy, Debug, PartialEq, Eq, Error)]
+pub enum TurnsError {
+    /// There is no memory for its mark.
+    #[error("out of memory")]
+    Memory,
+    /// 2^64 - 1 numbers were issued.
+    #[error("no number is left")]
+    Exhausted,
+}
+
+/// What became of a turn that was to be finished.
+#[derive(Drop)]
+pub enum Finishing<T> {
+    /// It is finished. The item lies in the slot, for the next number that takes it.
+    Passed,
+    /// It is finished, and the next number, which was left, is held: the item, and the text that it was left with, which
+    /// is to be written before that number is finished.
+    Go(T, Vec<u8>),
+    /// The number isn't held. The item comes back, and nothing has changed.
+    Strange(T),
+}
+
+/// What became of a turn that was to be left.
+#[derive(Drop)]
+pub enum Leaving<T> {
+    /// The text waits for the number's turn; who finishes the turn before gets it.
+    Left,
+    /// The number's turn has come, and it is held: the item, and the text, which is to be written before the number is
+    /// finished.
+    Go(T, Vec<u8>),
+    /// The number isn't open. The text comes back, and nothing has changed.
+    Strange(Vec<u8>),
+}
+
+// What is known of one number.
+#[derive(Drop)]
+enum Entry {
+    // It waits for its turn, or may take the item in it.
+    Open,
+    // It has the item.
+    Held,
+    // It is held in its turn by who finishes the turn before, and this text comes out.
+    Left(Vec<u8>),
+    // Its turn is over.
+    Finished,
+}
+
+/// An item, as the output of a connection, that numbers from 0 on have in turn: each once all before it are finished. No
+/// call waits, and but for `issue` none takes memory. A contract sees one mark a number, and the item where it lies in
+/// the slot.
+#[derive(Drop)]
+pub struct Turns<T> {
+    entries: Vec<Entry>,
+    turn: usize,
+    slot: Option<T>,
+}
+
+impl<T> Model for Turns<T> {
+    ghost use Rattle.std.specs.Prelude.{map};
+    ghost use Rattle.tiny_http_turns.specs.Turns.{TurnsState, mark_of, IsKept};
+
+    ghost Value = { TurnsState T };
+
+    ghost view = { λ t. record { marks = map mark_of t.entries.items; slot = t.slot } };
+
+    ghost invariant = { λ t. IsKept t.turn (record { marks = map mark_of t.entries.items; slot = t.slot }) };
+}
+
+impl<T: Drop> Turns<T> {
+    ghost use Rattle.tiny_http_turns.specs.Turns.{IsInOrder};
+    ghost use Rattle.tiny_http_turns.specs.TurnsCalls.{new_turns, Takes, PutsBack, Finishes, Leaves, GivesBack};
+
+    /// No number is issued, and the item lies in the slot.
+    pub fn new(alloc: Global, item: T) -> Turns<T>
+        ensures in_order { IsInOrder result }
+        ensures new { result ≡ new_turns item }
+    {
+        Turns {
+            entries: Vec::new(alloc),
+            turn: 0,
+            slot: Some(item),
+        }
+    }
+
+    /// Issues the next number, from 0. An error changes nothing: `Exhausted` where 2^64 - 1 numbers were issued, and only
+    /// there; `Memory` where room for the number's mark was refused.
+    pub fn issue(&mut self) -> Result<u64, TurnsError>
+        ensures in_order { IsInOrder self.new }
+        ensures number { IfOk result (λ n. answer Issue self.old.marks ≡ Issued n) }
+        ensures marks { OnOk result (self.new.marks ≡ after Issue self.old.marks) }
+        ensures slot { OnOk result (self.new.slot ≡ self.old.slot) }
+        ensures err { OnErr result (self.new ≡ self.old) }
+        ensures exhausted { (result ≡ Err TurnsError.Exhausted) ↔ (length self.old.marks ≡ 2 ^ 64 - 1) }
+    {
+        let number = self.entries.len() as u64;
+        if number == u64::MAX {
+            return Err(TurnsError::Exhausted);
+        }
+        match self.entries.push(Entry::Open) {
+            Ok(()) => Ok(number),
+            Err(_) => Err(TurnsError::Memory),
+        }
+    }
+
+    /// Holds the number, and gives the item, if the number is the first unfinished one and open. `None` else, and nothing
+    /// has changed.
+    pub fn take(&mut self, number: u64) -> Option<T>
+        ensures in_order { IsInOrder self.new }
+        ensures marks { self.new.marks ≡ after (Take number) self.old.marks }
+        ensures item { Takes (answer (Take number) self.old.marks) self.old.slot result self.new.slot }
+        ensures held { IsSome result ↔ ((slice_get self.old.marks number ≡ Some Open) × (number ≡ first_unfinished self.old.marks)) }
+    {
+        let at = number as usize;
+        if at == self.turn && is_open(&self.entries, at) {
+            self.entries[at] = Entry::Held;
+            self.slot.take()
+        } else {
+            None
+        }
+    }
+
+    /// Opens a held number again, and takes the item back. For any other number the item comes back, and nothing has
+    /// changed.
+    pub fn put_back(&mut self, number: u64, item: T) -> Result<(), T>
+        ensures in_order { IsInOrder self.new }
+        ensures marks { self.new.marks ≡ after (PutBack number) self.old.marks }
+        ensures item { PutsBack (answer (PutBack number) self.old.marks) item self.old.slot result self.new.slot }
+    {
+        let at = number as usize;
+        if !is_held(&self.entries, at) {
+            return Err(item);
+        }
+        self.entries[at] = Entry::Open;
+        self.slot = Some(item);
+        Ok(())
+    }
+
+    /// Finishes a held number. If the next one was left, that one is held, and its text comes out.
+    pub fn finish(&mut self, number: u64, item: T) -> Finishing<T>
+        ensures in_order { IsInOrder self.new }
+        ensures marks { self.new.marks ≡ after (Finish number) self.old.marks }
+        ensures item { Finishes (answer (Finish number) self.old.marks) item self.old.slot result self.new.slot }
+        // The number behind it fits.
+        ensures bound { length self.new.marks < 2 ^ 64 }
+    {
+        let at = number as usize;
+        if !is_held(&self.entries, at) {
+            return Finishing::Strange(item);
+        }
+        self.entries[at] = Entry::Finished;
+        self.turn = at + 1;
+        match hold_left(&mut self.entries, at + 1) {
+            Some(text) => Finishing::Go(item, text),
+            None => {
+                self.slot = Some(item);
+                Finishing::Passed
+            }
+        }
+    }
+
+    /// Leaves an open number with a text; or holds it, and gives the text back with the item, where its turn has come.
+    pub fn leave(&mut self, number: u64, text: Vec<u8>) -> Leaving<T>
+        ensures in_order { IsInOrder self.new }
+        ensures marks { self.new.marks ≡ after (Leave number text.items) self.old.marks }
+        ensures item { Leaves (answer (Leave number text.items) self.old.marks) self.old.slot result self.new.slot }
+        ensures back { GivesBack result text }
+    {
+        let at = number as usize;
+        if !is_open(&self.entries, at) {
+            return Leaving::Strange(text);
+        }
+        if at != self.turn {
+            self.entries[at] = Entry::Left(text);
+            return Leaving::Left;
+        }
+        match self.slot.take() {
+            Some(item) => {
+                self.entries[at] = Entry::Held;
+                Leaving::Go(item, text)
+            }
+            None => unreachable!(),
+        }
+    }
+
+    /// The item, if it lies in the slot, that is, if no number is held.
+    pub fn into_item(self) -> Option<T>
+        ensures { result ≡ self.slot }
+    {
+        let Turns {
+            entries: _,
+            turn: _,
+            slot,
+        } = self;
+        slot
+    }
+}
+
+// Whether the number is open.
+fn is_open(entries: &[Entry], at: usize) -> bool
+    ensures { IsTrue result ↔ (slice_get (map mark_of entries.now) at ≡ Some Open) }
+{
+    matches!(entries.get(at), Some(Entry::Open))
+}
+
+// Whether the number is held.
+fn is_held(entries: &[Entry], at: usize) -> bool
+    ensures { IsTrue result ↔ (slice_get (map mark_of entries.now) at ≡ Some Held) }
+{
+    matches!(entries.get(at), Some(Entry::Held))
+}
+
+// Whether the number is left.
+fn is_left(entries: &[Entry], at: usize) -> bool
+    ensures { result ≡ is_left_mark (slice_get (map mark_of entries.now) at) }
+{
+    matches!(entries.get(at), Some(Entry::Left(_)))
+}
+
+// Holds a number that was left, and gives its text.
+fn hold_left(entries: &mut Vec<Entry>, at: usize) -> Option<Vec<u8>>
+    ensures marks { let old = map mark_of entries.old.items in map mark_of entries.new.items ≡ (pass_to (slice_get old at) at old).1 }
+    ensures text { let old = map mark_of entries.old.items in Passes (pass_to (slice_get old at) at old).0 at result }
+{
+    if !is_left(entries, at) {
+        return None;
+    }
+    match mem::replace(&mut entries[at], Entry::Held) {
+        Entry::Left(text) => Some(text),
+        _ => None,
+    }
+}

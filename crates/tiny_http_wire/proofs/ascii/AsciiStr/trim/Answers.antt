@@ -1,6 +1,0 @@
-use Rattle.tiny_http_wire.proofs.TextLemmas.{are-ascii, ascii-at}
-use Rattle.tiny_http_wire.proofs.Parsing.{ascii-trimmed}
-use Rattle.tiny_http_wire.proofs.ascii.AsciiStr.trim.Goals as goal
-
-pub invariant_of-result : goal.invariant_of-result
-invariant_of-result c = λ i. ascii-at c.trim.result.now i (ascii-trimmed c.self.inside.text.now c.trim.result.now c.trim.ensures (are-ascii c.self.inside.text.now c.self.invariant))

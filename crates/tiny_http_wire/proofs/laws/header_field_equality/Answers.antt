@@ -1,7 +1,0 @@
-use Rattle.std.proofs.Common.{rules, ◌≡◌}
-use Rattle.tiny_http_wire.specs.Common.{lowercase}
-use Rattle.tiny_http_wire.proofs.NameLemmas.{names-from, names-to}
-use Rattle.tiny_http_wire.proofs.laws.header_field_equality.Goals as goal
-
-pub returns-clause-ignores_case : goal.returns-clause-ignores_case
-returns-clause-ignores_case c = λ a b. (λ e. names-from a b (search rules), λ same. let e : lowercase a ≡ lowercase b = names-to a b same in search rules)

@@ -1,8 +1,0 @@
-use Rattle.tiny_http_wire.proofs.NameLemmas.{text-back, one-header}
-use Rattle.tiny_http_wire.proofs.laws.header_from_its_text.Goals as goal
-
-pub returns-clause-back : goal.returns-clause-back
-returns-clause-back c = text-back
-
-pub returns-clause-one : goal.returns-clause-one
-returns-clause-one c = one-header
