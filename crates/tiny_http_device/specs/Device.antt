@@ -1,5 +1,5 @@
 -- What a device gives when it is read, and what it tells when it is written.
-use Rattle.std.specs.Prelude.{◌≡◌, ℕ, ◌+◌, ◌-◌, ◌*◌, ◌^◌, ◌<◌, ◌≤◌, min, Bool, true, false, List, [], ◌++◌, length, take, drop, Option, Some, None, Result, Ok, Err, ⊤, ◌⊎◌}
+use Rattle.std.specs.Prelude.{◌≡◌, ℕ, ◌+◌, ◌-◌, ◌*◌, ◌^◌, ◌<◌, ◌≤◌, min, Bool, true, false, List, [], ◌++◌, length, take, drop, Option, Some, None, Result, Ok, Err, IfOk, IfErr, OnErr, ⊤, ◌⊎◌}
 use Rattle.std.specs.Option.{option_map}
 use Rattle.std.specs.IoError.{error_kind}
 use Rattle.std.specs.declared.io.Error.{Error}
@@ -56,6 +56,16 @@ stop_of (Some kind) = Fault kind
 abbrev pub fault_of : Stop → ErrorKind
 fault_of End = UnexpectedEof
 fault_of (Fault kind) = kind
+
+-- ONE READ into a buffer: the bytes that came are the next of the feed and stand in the buffer's front; none of some only
+-- behind the last byte, at the feed's end; an error comes behind the last byte alone, is the feed's fault, and takes nothing.
+-- Nothing is said of the bytes where the feed isn't told.
+pub record Reads (old new : Option Feed) (r : Result ℕ Error) (buf : List ℕ) : Type 0 where
+  pub bound : IfOk r (λ n. n ≤ length buf)
+  pub bytes : IfOk r (λ n. old ≡ given (take n buf) new)
+  pub end : IfOk r (λ n. n ≡ 0 → 0 < length buf → StopsBy End old)
+  pub fault : IfErr r (λ e. StopsBy (Fault (error_kind e)) old)
+  pub again : OnErr r (new ≡ old)
 
 -- One read by cases: it took the bytes that it gave from the front of the feed, none only behind its last byte
 -- at its end. A fault comes behind the last byte alone, and changes nothing.

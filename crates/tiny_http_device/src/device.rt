@@ -2,7 +2,7 @@
 ghost use Rattle.std.specs.Prelude.{◌≡◌, ◌<◌, ◌≤◌, min, false, [], length, take, drop, Option, None, Some, Ok, IfOk, IfErr, OnOk, OnErr, vec_len, flat_map};
 ghost use Rattle.std.specs.IoError.{error_kind};
 ghost use Rattle.tiny_http_device.specs.Cursor.{cursor_bytes};
-ghost use Rattle.tiny_http_device.specs.Device.{Feed, ending, given, StopsBy, stop_of, next_count, Sink, BeginsKnown, HoldsNothing, ReadsFrom, Puts, PutsFront};
+ghost use Rattle.tiny_http_device.specs.Device.{Feed, ending, given, StopsBy, stop_of, next_count, Sink, BeginsKnown, HoldsNothing, Reads, ReadsFrom, Puts, PutsFront};
 
 use std::alloc::Global;
 use std::io;
@@ -26,12 +26,7 @@ pub trait ReadDevice {
     /// Reads some bytes into the front of `buf`, and says how many: 0 at the end, and where `buf`
     /// is empty. Behind the last byte each call answers the stop. An error gives no byte.
     fn read_in(&mut self, buf: &mut [u8]) -> Result<usize, io::Error>
-        ensures bound { IfOk result (λ n. n ≤ length buf.new) }
-        // The bytes that came are the next of the feed.
-        ensures bytes { IfOk result (λ n. feed self.old ≡ given (take n buf.new) (feed self.new)) }
-        ensures end { IfOk result (λ n. n ≡ 0 → 0 < length buf.new → StopsBy Stop.End (feed self.old)) }
-        ensures fault { IfErr result (λ e. StopsBy (Stop.Fault (error_kind e)) (feed self.old)) }
-        ensures again { OnErr result (feed self.new ≡ feed self.old) }
+        ensures reads { Reads (feed self.old) (feed self.new) result buf.new }
         ensures empty { length buf.new ≡ 0 → (result ≡ Ok 0) × (self.new ≡ self.old) };
 }
 

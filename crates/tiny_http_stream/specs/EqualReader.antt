@@ -1,9 +1,10 @@
 -- What clauses read of an `EqualReader`.
-use Rattle.std.specs.Prelude.{ℕ, Option}
+use Rattle.std.specs.Prelude.{◌≡◌, ℕ, ◌+◌, List, length, Option, Result, Ok, IfOk, OnErr}
+use Rattle.std.specs.declared.io.Error.{Error}
 use Rattle.std.specs.Option.{option_map}
-use Rattle.tiny_http_device.specs.Device.{Feed}
+use Rattle.tiny_http_device.specs.Device.{Feed, Reads}
 use Rattle.tiny_http_stream.specs.declared.equal_reader.EqualReader.{EqualReader}
-use Rattle.tiny_http_stream.specs.Parts.{first_part}
+use Rattle.tiny_http_stream.specs.Parts.{first_part, last_part}
 
 -- the reader inside
 abbrev pub equal_inner : {R : Type 0} → EqualReader R → R
@@ -16,3 +17,12 @@ equal_left r = r.left
 -- what it still gives: so many of the inner reader's bytes
 abbrev pub equal_feed : {R : Type 0} → (R → Option Feed) → EqualReader R → Option Feed
 equal_feed feed r = option_map (first_part r.left) (feed r.inner)
+
+-- ONE READ. Of what it still gives it is a read; and whatever the reader inside states: into an empty buffer it changes
+-- nothing, the bytes that came are taken off those that are left, and what stands behind the part stays the same.
+pub record ReadsPart {R : Type 0} (feed : R → Option Feed) (old new : EqualReader R) (r : Result ℕ Error) (buf : List ℕ) : Type 0 where
+  pub reads : Reads (equal_feed feed old) (equal_feed feed new) r buf
+  pub empty : length buf ≡ 0 → (r ≡ Ok 0) × (new ≡ old)
+  pub count : IfOk r (λ n. equal_left old ≡ n + equal_left new)
+  pub kept : OnErr r (equal_left new ≡ equal_left old)
+  pub behind : option_map (last_part (equal_left new)) (feed (equal_inner new)) ≡ option_map (last_part (equal_left old)) (feed (equal_inner old))

@@ -1,8 +1,10 @@
 -- What a `Source` still gives, and what its calls make of it.
-use Rattle.std.specs.Prelude.{ℕ, ◌≡◌, ◌<◌, ◌++◌, length, Bool, true, List, ⊤, Option, None, Some, Result, Ok, Err}
+use Rattle.std.specs.Prelude.{ℕ, ◌≡◌, ◌<◌, ◌++◌, length, Bool, true, List, ⊤, Option, None, Some, Result, Ok, Err, IsSome, IfOk, IfErr, IfSome}
+use Rattle.std.specs.IoError.{error_kind}
+use Rattle.std.specs.declared.io.Error.{Error}
 use Rattle.std.specs.Str.{IsAscii, IsNotAscii}
 use Rattle.std.specs.declared.io.ErrorKind.TheVariants.{TimedOut}
-use Rattle.tiny_http_device.specs.Device.{Feed}
+use Rattle.tiny_http_device.specs.Device.{Feed, Reads, AnswersStop}
 use Rattle.tiny_http_device.specs.declared.device.Stop.{Stop}
 use Rattle.tiny_http_device.specs.declared.device.Stop.TheVariants.{End, Fault}
 use Rattle.tiny_http_text.specs.Lines.{Line, IsUnfinished}
@@ -37,6 +39,17 @@ ReadsLine (Some old) new (Err NotAscii) =
     (text : List ℕ) × (rest : List ℕ) × Line old.bytes text rest × IsNotAscii text × (new ≡ Some (record { bytes = rest; stop = old.stop }))
 ReadsLine (Some old) new (Err Memory) = new ≡ Some (stopped End)
 ReadsLine (Some old) new (Err fault) = IsUnfinished old.bytes × (fault ≡ fault_of old.stop) × (new ≡ Some (stopped old.stop))
+
+-- ONE READ of a source. Of its feed it is a read; and whatever the reader states: into an empty buffer it changes nothing,
+-- after an end or a fault the reader isn't called again, and a source that has reported how it stops is over: it stays so, and
+-- each later read reports the same.
+pub record ReadsSource {R : Type 0} (old new : SourceState R) (r : Result ℕ Error) (buf : List ℕ) : Type 0 where
+  pub reads : Reads old.feed new.feed r buf
+  pub empty : length buf ≡ 0 → (r ≡ Ok 0) × (new ≡ old)
+  pub once : IsSome old.stop → IsSome new.stop × (new.reader ≡ old.reader)
+  pub over : IfErr r (λ e. (new.is_over ≡ true) × (new.stop ≡ Some (Fault (error_kind e))))
+  pub none : IfOk r (λ n. n ≡ 0 → 0 < length buf → (new.is_over ≡ true) × (new.stop ≡ Some End))
+  pub stays : old.is_over ≡ true → (new ≡ old) × IfSome old.stop (λ stop. 0 < length buf → AnswersStop stop r)
 
 -- the feed goes on behind this much
 abbrev pub from : Feed → List ℕ → Option Feed

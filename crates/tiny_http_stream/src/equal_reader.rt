@@ -36,7 +36,7 @@ fn read_away<R: ReadDevice>(inner: &mut R, size: usize)
 }
 
 impl<R: ReadDevice + Drop> EqualReader<R> {
-    ghost use Rattle.tiny_http_stream.specs.EqualReader.{equal_left, equal_inner};
+    ghost use Rattle.tiny_http_stream.specs.EqualReader.{equal_feed, equal_left, equal_inner};
 
     /// The first `size` bytes of `reader`.
     pub fn new(reader: R, size: usize) -> EqualReader<R>
@@ -58,15 +58,9 @@ impl<R: ReadDevice + Drop> EqualReader<R> {
         read_away(&mut inner, left);
         inner
     }
-}
 
-impl<R: ReadDevice + Drop> ReadDevice for EqualReader<R> {
-    ghost use Rattle.tiny_http_stream.specs.EqualReader.{equal_feed, equal_left, equal_inner};
-
-    ghost feed = { equal_feed R.feed };
-
-    /// Reads some of the bytes that are left, straight into `buf`.
-    fn read_in(&mut self, buf: &mut [u8]) -> Result<usize, io::Error>
+    // Reads some of the bytes that are left, straight into `buf`.
+    fn read_part(&mut self, buf: &mut [u8]) -> Result<usize, io::Error>
         ensures bound { IfOk result (λ n. n ≤ length buf.new) }
         ensures bytes { IfOk result (λ n. equal_feed R.feed self.old ≡ given (take n buf.new) (equal_feed R.feed self.new)) }
         ensures end { IfOk result (λ n. n ≡ 0 → 0 < length buf.new → StopsBy Stop.End (equal_feed R.feed self.old)) }
@@ -91,6 +85,19 @@ impl<R: ReadDevice + Drop> ReadDevice for EqualReader<R> {
     }
 }
 
+impl<R: ReadDevice + Drop> ReadDevice for EqualReader<R> {
+    ghost use Rattle.tiny_http_stream.specs.EqualReader.{equal_feed, ReadsPart};
+
+    ghost feed = { equal_feed R.feed };
+
+    /// Reads some of the bytes that are left, straight into `buf`.
+    fn read_in(&mut self, buf: &mut [u8]) -> Result<usize, io::Error>
+        ensures reads { ReadsPart R.feed self.old self.new result buf.new }
+    {
+        self.read_part(buf)
+    }
+}
+
 impl<R: ReadDevice + Drop> Drop for EqualReader<R> {
     fn drop(self) {
         let EqualReader { mut inner, left } = self;
@@ -101,7 +108,7 @@ impl<R: ReadDevice + Drop> Drop for EqualReader<R> {
 impl<R: ReadDevice + Drop> Read for EqualReader<R> {
     ghost use Rattle.std.specs.Io.{ReadsAtMost};
     ghost use Rattle.std.specs.Io.KnownBytes.{ReadConsumes};
-    ghost use Rattle.tiny_http_stream.specs.EqualReader.{equal_feed, equal_left, equal_inner};
+    ghost use Rattle.tiny_http_stream.specs.EqualReader.{equal_feed, ReadsPart};
     ghost use Rattle.tiny_http_device.specs.Device.{bytes_of};
 
     ghost remaining = { λ r. bytes_of (equal_feed R.feed r) };
@@ -110,14 +117,7 @@ impl<R: ReadDevice + Drop> Read for EqualReader<R> {
     fn read(&mut self, buf: &mut [u8]) -> io::Result<usize>
         ensures bound { ReadsAtMost result buf.new }
         ensures bytes { ReadConsumes (bytes_of (equal_feed R.feed self.old)) (bytes_of (equal_feed R.feed self.new)) result buf.new }
-        ensures next { IfOk result (λ n. equal_feed R.feed self.old ≡ given (take n buf.new) (equal_feed R.feed self.new)) }
-        ensures end { IfOk result (λ n. n ≡ 0 → 0 < length buf.new → StopsBy Stop.End (equal_feed R.feed self.old)) }
-        ensures fault { IfErr result (λ e. StopsBy (Stop.Fault (error_kind e)) (equal_feed R.feed self.old)) }
-        ensures again { OnErr result (equal_feed R.feed self.new ≡ equal_feed R.feed self.old) }
-        ensures empty { length buf.new ≡ 0 → (result ≡ Ok 0) × (self.new ≡ self.old) }
-        ensures count { IfOk result (λ n. equal_left self.old ≡ n + equal_left self.new) }
-        ensures kept { OnErr result (equal_left self.new ≡ equal_left self.old) }
-        ensures behind { option_map (last_part (equal_left self.new)) (R.feed (equal_inner self.new)) ≡ option_map (last_part (equal_left self.old)) (R.feed (equal_inner self.old)) }
+        ensures reads { ReadsPart R.feed self.old self.new result buf.new }
     {
         self.read_in(buf)
     }

@@ -40,22 +40,13 @@ impl<R: ReadDevice + Drop> FusedReader<R> {
 }
 
 impl<R: ReadDevice> ReadDevice for FusedReader<R> {
-    ghost use Rattle.tiny_http_stream.specs.FusedReader.{fused_inner, fused_feed};
+    ghost use Rattle.tiny_http_stream.specs.FusedReader.{fused_feed, ReadsFused};
 
     ghost feed = { fused_feed R.feed };
 
     /// Reads some bytes. A read into an empty buffer is no end.
     fn read_in(&mut self, buf: &mut [u8]) -> Result<usize, io::Error>
-        ensures bound { IfOk result (λ n. n ≤ length buf.new) }
-        ensures bytes { IfOk result (λ n. fused_feed R.feed self.old ≡ given (take n buf.new) (fused_feed R.feed self.new)) }
-        ensures end { IfOk result (λ n. n ≡ 0 → 0 < length buf.new → StopsBy Stop.End (fused_feed R.feed self.old)) }
-        ensures fault { IfErr result (λ e. StopsBy (Stop.Fault (error_kind e)) (fused_feed R.feed self.old)) }
-        ensures again { OnErr result (fused_feed R.feed self.new ≡ fused_feed R.feed self.old) }
-        ensures empty { length buf.new ≡ 0 → (result ≡ Ok 0) × (self.new ≡ self.old) }
-        // Whatever the reader tells: it isn't called again behind its end.
-        ensures over { IfOk result (λ n. n ≡ 0 → 0 < length buf.new → fused_inner self.new ≡ None) }
-        ensures kept { IfOk result (λ n. 0 < n → IsSome (fused_inner self.new)) }
-        ensures stays { fused_inner self.old ≡ None → (result ≡ Ok 0) × (self.new ≡ self.old) }
+        ensures reads { ReadsFused R.feed self.old self.new result buf.new }
     {
         if self.over || buf.is_empty() {
             return Ok(0);
@@ -75,7 +66,7 @@ impl<R: ReadDevice> ReadDevice for FusedReader<R> {
 impl<R: ReadDevice> Read for FusedReader<R> {
     ghost use Rattle.std.specs.Io.{ReadsAtMost};
     ghost use Rattle.std.specs.Io.KnownBytes.{ReadConsumes};
-    ghost use Rattle.tiny_http_stream.specs.FusedReader.{fused_inner, fused_feed};
+    ghost use Rattle.tiny_http_stream.specs.FusedReader.{fused_feed, ReadsFused};
     ghost use Rattle.tiny_http_device.specs.Device.{bytes_of};
 
     ghost remaining = { λ r. bytes_of (fused_feed R.feed r) };
@@ -84,14 +75,7 @@ impl<R: ReadDevice> Read for FusedReader<R> {
     fn read(&mut self, buf: &mut [u8]) -> io::Result<usize>
         ensures bound { ReadsAtMost result buf.new }
         ensures bytes { ReadConsumes (bytes_of (fused_feed R.feed self.old)) (bytes_of (fused_feed R.feed self.new)) result buf.new }
-        ensures next { IfOk result (λ n. fused_feed R.feed self.old ≡ given (take n buf.new) (fused_feed R.feed self.new)) }
-        ensures end { IfOk result (λ n. n ≡ 0 → 0 < length buf.new → StopsBy Stop.End (fused_feed R.feed self.old)) }
-        ensures fault { IfErr result (λ e. StopsBy (Stop.Fault (error_kind e)) (fused_feed R.feed self.old)) }
-        ensures again { OnErr result (fused_feed R.feed self.new ≡ fused_feed R.feed self.old) }
-        ensures empty { length buf.new ≡ 0 → (result ≡ Ok 0) × (self.new ≡ self.old) }
-        ensures over { IfOk result (λ n. n ≡ 0 → 0 < length buf.new → fused_inner self.new ≡ None) }
-        ensures kept { IfOk result (λ n. 0 < n → IsSome (fused_inner self.new)) }
-        ensures stays { fused_inner self.old ≡ None → (result ≡ Ok 0) × (self.new ≡ self.old) }
+        ensures reads { ReadsFused R.feed self.old self.new result buf.new }
     {
         self.read_in(buf)
     }

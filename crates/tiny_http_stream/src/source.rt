@@ -48,7 +48,7 @@ impl<R: ReadDevice> Model for Source<R> {
 }
 
 impl<R: ReadDevice> Source<R> {
-    ghost use Rattle.tiny_http_stream.specs.Source.{fault_of, ReadsLine, TakesExactly, GoesOn, IsAtEnd};
+    ghost use Rattle.tiny_http_stream.specs.Source.{fault_of, ReadsLine, ReadsSource, TakesExactly, GoesOn, IsAtEnd};
 
     /// A source over this reader.
     pub fn new(inner: R) -> Source<R>
@@ -98,18 +98,7 @@ impl<R: ReadDevice> Source<R> {
 
     /// Reads some bytes. Behind them each call answers how the reader stopped.
     pub fn read(&mut self, buf: &mut [u8]) -> Result<usize, io::Error>
-        ensures bound { IfOk result (λ n. n ≤ length buf.new) }
-        ensures bytes { IfOk result (λ n. self.old.feed ≡ given (take n buf.new) self.new.feed) }
-        ensures end { IfOk result (λ n. n ≡ 0 → 0 < length buf.new → StopsBy Stop.End self.old.feed) }
-        ensures fault { IfErr result (λ e. StopsBy (Stop.Fault (error_kind e)) self.old.feed) }
-        ensures again { OnErr result (self.new.feed ≡ self.old.feed) }
-        ensures empty { length buf.new ≡ 0 → (result ≡ Ok 0) × (self.new ≡ self.old) }
-
-        // After an end or a fault the reader isn't called again.
-        ensures once { IsSome self.old.stop → IsSome self.new.stop × (self.new.reader ≡ self.old.reader) }
-        ensures over { IfErr result (λ e. (self.new.is_over ≡ true) × (self.new.stop ≡ Some (Stop.Fault (error_kind e)))) }
-        ensures none { IfOk result (λ n. n ≡ 0 → 0 < length buf.new → (self.new.is_over ≡ true) × (self.new.stop ≡ Some Stop.End)) }
-        ensures stays { self.old.is_over ≡ true → (self.new ≡ self.old) × IfSome self.old.stop (λ stop. 0 < length buf.new → AnswersStop stop result) }
+        ensures reads { ReadsSource self.old self.new result buf.new }
     {
         self.input.read(buf)
     }
@@ -129,20 +118,13 @@ impl<R: ReadDevice> Source<R> {
 }
 
 impl<R: ReadDevice> ReadDevice for Source<R> {
+    ghost use Rattle.tiny_http_stream.specs.Source.{ReadsSource};
+
     ghost feed = { λ s. s.feed };
 
     /// Reads some bytes, as `Source::read`.
     fn read_in(&mut self, buf: &mut [u8]) -> Result<usize, io::Error>
-        ensures bound { IfOk result (λ n. n ≤ length buf.new) }
-        ensures bytes { IfOk result (λ n. self.old.feed ≡ given (take n buf.new) self.new.feed) }
-        ensures end { IfOk result (λ n. n ≡ 0 → 0 < length buf.new → StopsBy Stop.End self.old.feed) }
-        ensures fault { IfErr result (λ e. StopsBy (Stop.Fault (error_kind e)) self.old.feed) }
-        ensures again { OnErr result (self.new.feed ≡ self.old.feed) }
-        ensures empty { length buf.new ≡ 0 → (result ≡ Ok 0) × (self.new ≡ self.old) }
-        ensures once { IsSome self.old.stop → IsSome self.new.stop × (self.new.reader ≡ self.old.reader) }
-        ensures over { IfErr result (λ e. (self.new.is_over ≡ true) × (self.new.stop ≡ Some (Stop.Fault (error_kind e)))) }
-        ensures none { IfOk result (λ n. n ≡ 0 → 0 < length buf.new → (self.new.is_over ≡ true) × (self.new.stop ≡ Some Stop.End)) }
-        ensures stays { self.old.is_over ≡ true → (self.new ≡ self.old) × IfSome self.old.stop (λ stop. 0 < length buf.new → AnswersStop stop result) }
+        ensures reads { ReadsSource self.old self.new result buf.new }
     {
         self.input.read(buf)
     }
@@ -152,6 +134,7 @@ impl<R: ReadDevice> Read for Source<R> {
     ghost use Rattle.std.specs.Io.{ReadsAtMost};
     ghost use Rattle.std.specs.Io.KnownBytes.{ReadConsumes};
     ghost use Rattle.tiny_http_device.specs.Device.{bytes_of};
+    ghost use Rattle.tiny_http_stream.specs.Source.{ReadsSource};
 
     ghost remaining = { λ s. bytes_of s.feed };
 
@@ -159,15 +142,7 @@ impl<R: ReadDevice> Read for Source<R> {
     fn read(&mut self, buf: &mut [u8]) -> io::Result<usize>
         ensures bound { ReadsAtMost result buf.new }
         ensures bytes { ReadConsumes (bytes_of self.old.feed) (bytes_of self.new.feed) result buf.new }
-        ensures next { IfOk result (λ n. self.old.feed ≡ given (take n buf.new) self.new.feed) }
-        ensures end { IfOk result (λ n. n ≡ 0 → 0 < length buf.new → StopsBy Stop.End self.old.feed) }
-        ensures fault { IfErr result (λ e. StopsBy (Stop.Fault (error_kind e)) self.old.feed) }
-        ensures again { OnErr result (self.new.feed ≡ self.old.feed) }
-        ensures empty { length buf.new ≡ 0 → (result ≡ Ok 0) × (self.new ≡ self.old) }
-        ensures once { IsSome self.old.stop → IsSome self.new.stop × (self.new.reader ≡ self.old.reader) }
-        ensures over { IfErr result (λ e. (self.new.is_over ≡ true) × (self.new.stop ≡ Some (Stop.Fault (error_kind e)))) }
-        ensures none { IfOk result (λ n. n ≡ 0 → 0 < length buf.new → (self.new.is_over ≡ true) × (self.new.stop ≡ Some Stop.End)) }
-        ensures stays { self.old.is_over ≡ true → (self.new ≡ self.old) × IfSome self.old.stop (λ stop. 0 < length buf.new → AnswersStop stop result) }
+        ensures reads { ReadsSource self.old self.new result buf.new }
     {
         self.read_in(buf)
     }

@@ -1,6 +1,8 @@
 -- What a decoder of a chunked body still gives (RFC 9112, section 7.1).
-use Rattle.std.specs.Prelude.{◌≡◌, ℕ, ◌+◌, ◌<◌, nat_lt, List, [], ◌++◌, length, Option, Some, None, Result, Ok, Err, ⊤}
+use Rattle.std.specs.Prelude.{◌≡◌, ℕ, ◌+◌, ◌<◌, ◌≤◌, nat_lt, List, [], ◌++◌, length, take, Option, Some, None, Result, Ok, Err, IfOk, IfErr, OnErr, IsSome, IfSome, ⊤}
 use Rattle.std.specs.Option.{option_map}
+use Rattle.std.specs.IoError.{error_kind}
+use Rattle.std.specs.declared.io.Error.{Error}
 use Rattle.std.specs.declared.io.ErrorKind.{ErrorKind}
 use Rattle.tiny_http_device.specs.declared.device.Stop.{Stop}
 use Rattle.tiny_http_device.specs.declared.device.Stop.TheVariants.{End, Fault}
@@ -8,7 +10,7 @@ use Rattle.tiny_http_wire.specs.declared.chunked.Next.{Next}
 use Rattle.tiny_http_wire.specs.declared.chunked.Next.TheVariants.{Line, Data, Over, Broken}
 use Rattle.tiny_http_wire.specs.declared.chunked.Decoding.{Decoding}
 use Rattle.tiny_http_wire.specs.declared.chunked.Decoder.{Decoder}
-use Rattle.tiny_http_device.specs.Device.{Feed}
+use Rattle.tiny_http_device.specs.Device.{AnswersStop, Feed, TakesFront}
 use Rattle.tiny_http_wire.specs.ChunkReading.{Decoded, decoded, data_at, trailer_part, broken}
 
 -- the data that are still to come, and what the reader gives behind the body, or the fault
@@ -111,3 +113,19 @@ feed_of c = record { bytes = c.bytes; stop = stop_behind c.behind }
 -- what the decoder gives as a reader
 abbrev pub decoder_feed : {R : Type 0} → (R → Option Feed) → Decoder R → Option Feed
 decoder_feed feed d = option_map feed_of (decoder_coming feed d)
+
+-- ONE READ. The bytes that came are the next of the body's data; none of some only at the body's end, after which the reader
+-- inside stands behind it; an error only where the data break off, and it takes none. And whatever the reader states: into an
+-- empty buffer nothing changes, what was reported once is reported from then on, and of the reader's bytes a front is taken.
+pub record ReadsData {R : Type 0} (feed : R → Option Feed) (old new : Decoder R) (r : Result ℕ Error) (buf : List ℕ) : Type 0 where
+  pub bound : IfOk r (λ n. n ≤ length buf)
+  pub bytes : IfOk r (λ n. decoder_coming feed old ≡ with_front (take n buf) (decoder_coming feed new))
+  pub end : IfOk r (λ n. n ≡ 0 → 0 < length buf → decoder_coming feed old ≡ option_map over_at (feed (decoder_inner new)))
+  pub fault : IfErr r (λ e. BreaksBy (error_kind e) (decoder_coming feed old))
+  pub again : OnErr r (decoder_coming feed new ≡ decoder_coming feed old)
+  pub empty : length buf ≡ 0 → (r ≡ Ok 0) × (new ≡ old)
+  pub ended : IfOk r (λ n. n ≡ 0 → 0 < length buf → decoder_stop new ≡ Some End)
+  pub broken : IfErr r (λ e. decoder_stop new ≡ Some (Fault (error_kind e)))
+  pub stays : IsSome (decoder_stop old) → new ≡ old
+  pub tells : IfSome (decoder_stop old) (λ stop. 0 < length buf → AnswersStop stop r)
+  pub takes : TakesFront (feed (decoder_inner old)) (feed (decoder_inner new))

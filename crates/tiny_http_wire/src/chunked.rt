@@ -2,7 +2,7 @@
 ghost use Rattle.std.specs.Prelude.{◌≡◌, ℕ, ◌<◌, ◌≤◌, List, length, take, Option, None, Some, Ok, Err, IfOk, IfErr, OnOk, OnErr, IsSome, IfSome};
 ghost use Rattle.std.specs.Option.{option_map};
 ghost use Rattle.std.specs.IoError.{error_kind};
-ghost use Rattle.tiny_http_device.specs.Device.{AnswersStop, given, StopsBy, TakesFront};
+ghost use Rattle.tiny_http_device.specs.Device.{AnswersStop, given, Reads, TakesFront};
 ghost use Rattle.tiny_http_wire.specs.Chunks.{WholeChunks, CutChunks};
 ghost use Rattle.tiny_http_wire.specs.ChunkLine.{CutBy};
 ghost use Rattle.tiny_http_wire.specs.Decoding.{comes, trails, IsReady, next_stop, decoding_coming, decoding_stop, with_front, over_at, BreaksBy};
@@ -242,7 +242,7 @@ pub struct Decoder<R> {
 
 impl<R: ReadDevice> Decoder<R> {
     ghost use Rattle.tiny_http_device.specs.Device.{Feed};
-    ghost use Rattle.tiny_http_wire.specs.Decoding.{decoder_coming, decoder_inner, decoder_stop};
+    ghost use Rattle.tiny_http_wire.specs.Decoding.{decoder_coming, decoder_inner, decoder_stop, ReadsData};
 
     /// The data of a body whose first byte is the reader's next one.
     pub fn new(inner: R) -> Decoder<R>
@@ -264,20 +264,7 @@ impl<R: ReadDevice> Decoder<R> {
     /// Reads some data into the front of `buf`, as `Decoding::read`: behind them each call answers
     /// the end, or the fault.
     pub fn read(&mut self, buf: &mut [u8]) -> Result<usize, io::Error>
-        ensures bound { IfOk result (λ n. n ≤ length buf.new) }
-        ensures data { IfOk result (λ n. decoder_coming R.feed self.old ≡ with_front (take n buf.new) (decoder_coming R.feed self.new)) }
-        // The end is told where the reader inside stands behind the body.
-        ensures end { IfOk result (λ n. n ≡ 0 → 0 < length buf.new → decoder_coming R.feed self.old ≡ option_map over_at (R.feed (decoder_inner self.new))) }
-        ensures fault { IfErr result (λ e. BreaksBy (error_kind e) (decoder_coming R.feed self.old)) }
-        ensures again { OnErr result (decoder_coming R.feed self.new ≡ decoder_coming R.feed self.old) }
-        ensures empty { length buf.new ≡ 0 → (result ≡ Ok 0) × (self.new ≡ self.old) }
-        // Whatever the reader inside tells, behind the end or a fault it isn't called again, and the same is answered.
-        ensures ended { IfOk result (λ n. n ≡ 0 → 0 < length buf.new → decoder_stop self.new ≡ Some Stop.End) }
-        ensures broken { IfErr result (λ e. decoder_stop self.new ≡ Some (Stop.Fault (error_kind e))) }
-        ensures stays { IsSome (decoder_stop self.old) → self.new ≡ self.old }
-        ensures tells { IfSome (decoder_stop self.old) (λ stop. 0 < length buf.new → AnswersStop stop result) }
-        // Only bytes at the front of what the reader inside gives are taken.
-        ensures takes { TakesFront (R.feed (decoder_inner self.old)) (R.feed (decoder_inner self.new)) }
+        ensures reads { ReadsData R.feed self.old self.new result buf.new }
     {
         self.decoding.read(&mut self.inner, buf)
     }
@@ -291,27 +278,14 @@ impl<R: ReadDevice> Decoder<R> {
 }
 
 impl<R: ReadDevice> ReadDevice for Decoder<R> {
-    ghost use Rattle.tiny_http_wire.specs.Decoding.{decoder_feed, decoder_coming, decoder_inner, decoder_stop};
+    ghost use Rattle.tiny_http_wire.specs.Decoding.{decoder_feed, ReadsData};
 
     ghost feed = { decoder_feed R.feed };
 
     /// Reads some data.
     fn read_in(&mut self, buf: &mut [u8]) -> Result<usize, io::Error>
-        ensures bound { IfOk result (λ n. n ≤ length buf.new) }
-        ensures bytes { IfOk result (λ n. decoder_feed R.feed self.old ≡ given (take n buf.new) (decoder_feed R.feed self.new)) }
-        ensures end { IfOk result (λ n. n ≡ 0 → 0 < length buf.new → StopsBy Stop.End (decoder_feed R.feed self.old)) }
-        ensures fault { IfErr result (λ e. StopsBy (Stop.Fault (error_kind e)) (decoder_feed R.feed self.old)) }
-        ensures again { OnErr result (decoder_feed R.feed self.new ≡ decoder_feed R.feed self.old) }
-        ensures data { IfOk result (λ n. decoder_coming R.feed self.old ≡ with_front (take n buf.new) (decoder_coming R.feed self.new)) }
-        ensures behind { IfOk result (λ n. n ≡ 0 → 0 < length buf.new → decoder_coming R.feed self.old ≡ option_map over_at (R.feed (decoder_inner self.new))) }
-        ensures breaks { IfErr result (λ e. BreaksBy (error_kind e) (decoder_coming R.feed self.old)) }
-        ensures same { OnErr result (decoder_coming R.feed self.new ≡ decoder_coming R.feed self.old) }
-        ensures empty { length buf.new ≡ 0 → (result ≡ Ok 0) × (self.new ≡ self.old) }
-        ensures ended { IfOk result (λ n. n ≡ 0 → 0 < length buf.new → decoder_stop self.new ≡ Some Stop.End) }
-        ensures broken { IfErr result (λ e. decoder_stop self.new ≡ Some (Stop.Fault (error_kind e))) }
-        ensures stays { IsSome (decoder_stop self.old) → self.new ≡ self.old }
-        ensures tells { IfSome (decoder_stop self.old) (λ stop. 0 < length buf.new → AnswersStop stop result) }
-        ensures takes { TakesFront (R.feed (decoder_inner self.old)) (R.feed (decoder_inner self.new)) }
+        ensures device { Reads (decoder_feed R.feed self.old) (decoder_feed R.feed self.new) result buf.new }
+        ensures reads { ReadsData R.feed self.old self.new result buf.new }
     {
         self.read(buf)
     }
@@ -321,7 +295,7 @@ impl<R: ReadDevice> Read for Decoder<R> {
     ghost use Rattle.std.specs.Io.{ReadsAtMost};
     ghost use Rattle.std.specs.Io.KnownBytes.{ReadConsumes};
     ghost use Rattle.tiny_http_device.specs.Device.{bytes_of};
-    ghost use Rattle.tiny_http_wire.specs.Decoding.{decoder_feed, decoder_coming, decoder_inner, decoder_stop};
+    ghost use Rattle.tiny_http_wire.specs.Decoding.{decoder_feed, ReadsData};
 
     ghost remaining = { λ d. bytes_of (decoder_feed R.feed d) };
 
@@ -329,16 +303,7 @@ impl<R: ReadDevice> Read for Decoder<R> {
     fn read(&mut self, buf: &mut [u8]) -> io::Result<usize>
         ensures bound { ReadsAtMost result buf.new }
         ensures bytes { ReadConsumes (bytes_of (decoder_feed R.feed self.old)) (bytes_of (decoder_feed R.feed self.new)) result buf.new }
-        ensures data { IfOk result (λ n. decoder_coming R.feed self.old ≡ with_front (take n buf.new) (decoder_coming R.feed self.new)) }
-        ensures end { IfOk result (λ n. n ≡ 0 → 0 < length buf.new → decoder_coming R.feed self.old ≡ option_map over_at (R.feed (decoder_inner self.new))) }
-        ensures fault { IfErr result (λ e. BreaksBy (error_kind e) (decoder_coming R.feed self.old)) }
-        ensures again { OnErr result (decoder_coming R.feed self.new ≡ decoder_coming R.feed self.old) }
-        ensures empty { length buf.new ≡ 0 → (result ≡ Ok 0) × (self.new ≡ self.old) }
-        ensures ended { IfOk result (λ n. n ≡ 0 → 0 < length buf.new → decoder_stop self.new ≡ Some Stop.End) }
-        ensures broken { IfErr result (λ e. decoder_stop self.new ≡ Some (Stop.Fault (error_kind e))) }
-        ensures stays { IsSome (decoder_stop self.old) → self.new ≡ self.old }
-        ensures tells { IfSome (decoder_stop self.old) (λ stop. 0 < length buf.new → AnswersStop stop result) }
-        ensures takes { TakesFront (R.feed (decoder_inner self.old)) (R.feed (decoder_inner self.new)) }
+        ensures reads { ReadsData R.feed self.old self.new result buf.new }
     {
         Decoder::read(self, buf)
     }
