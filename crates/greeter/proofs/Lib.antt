@@ -1,1 +1,1 @@
-pub mod TalkLemmas
+pub mod GreetingLemmas

@@ -1,11 +1,11 @@
-//! A server that is no list of steps: what it answers depends on what was asked.
+//! A server over a `Connection`: what it answers depends on what is asked.
 #![tactic(auto)]
 
 ghost use Rattle.std.specs.Prelude.{◌≡◌, Some};
 ghost use Rattle.tiny_http_wire.specs.Device.{Feed};
 ghost use Rattle.tiny_http_core.specs.Conversation.{IsFresh};
 ghost use Rattle.tiny_http_core.specs.Outlet.{outlet_writer, outlet_held, outlet_ended};
-ghost use Rattle.greeter.specs.Talk.{IsStatus, Talks, TalksTo};
+ghost use Rattle.greeter.specs.Greeting.{IsStatus, Greets, GreetsClient};
 
 use httpdate::HttpDate;
 use std::alloc::Global;
@@ -18,7 +18,7 @@ use tiny_http_wire::common::StatusCode;
 use tiny_http_wire::device::{Budget, Canned, ReadDevice, WriteDevice};
 use tiny_http_wire::response::Response;
 
-// How a request is answered.
+// 200 for the root, 404 for any other path.
 fn status_of(head: &Head) -> StatusCode
     ensures { IsStatus head.now.path result.0 }
 {
@@ -28,7 +28,8 @@ fn status_of(head: &Head) -> StatusCode
     StatusCode(404)
 }
 
-/// Answers each request by its path, until there is none.
+/// Answers each request by its path, 200 for the root and 404 for any other, until none is handed out. All answers have this
+/// date. Reader and writer come back within their buffers.
 pub fn serve<R: ReadDevice + Drop, W: WriteDevice + Drop>(
     alloc: Global,
     reader: R,
@@ -36,10 +37,10 @@ pub fn serve<R: ReadDevice + Drop, W: WriteDevice + Drop>(
     now: HttpDate,
 ) -> (Source<R>, Outlet<W>)
     ensures { (client : Feed) → R.feed reader ≡ Some client → IsFresh (W.sink writer)
-        → Talks client (W.sink writer) now (W.sink (outlet_writer result.1)) (outlet_held result.1) (outlet_ended result.1) result.0.feed }
+        → Greets client (W.sink writer) now (W.sink (outlet_writer result.1)) (outlet_held result.1) (outlet_ended result.1) result.0.feed }
 {
     let mut connection = Connection::new(alloc, reader, writer);
-    for _turn in 0..u64::MAX {
+    for _greeting in 0..u64::MAX {
         match connection.ask(alloc, now) {
             Reply::Handed(number, head) => {
                 let response = Response::empty(alloc, status_of(&head));
@@ -51,15 +52,13 @@ pub fn serve<R: ReadDevice + Drop, W: WriteDevice + Drop>(
     connection.into_parts()
 }
 
-/// The same for a client that sends these bytes and ends, over a writer in memory.
+/// The same in memory, for a client that sends these bytes and ends. A fault of kind `OutOfMemory` ends the writer where no
+/// memory for its bytes is found.
 pub fn serve_bytes(alloc: Global, bytes: Vec<u8>, now: HttpDate) -> Outlet<Budget>
-    ensures { TalksTo bytes.items now (outlet_writer result) (outlet_held result) (outlet_ended result) }
+    ensures { GreetsClient bytes.items now (outlet_writer result) (outlet_held result) (outlet_ended result) }
 {
     let reader = Canned::new(bytes, None);
     let writer = Budget::new(alloc, usize::MAX, ErrorKind::OutOfMemory);
     let (_, outlet) = serve(alloc, reader, writer, now);
     outlet
 }
-
-#[cfg(test)]
-mod tests;

@@ -262,7 +262,7 @@ impl<R: ReadDevice, W: WriteDevice> Connection<R, W> {
     }
 
     /// Answers the request of this number by a 500: in its turn, or as it comes. The step has any date.
-    pub fn drop_request(&mut self, alloc: Global, number: u64) -> Reply
+    pub fn drop_request(&mut self, number: u64) -> Reply
         ensures step { (date : Date) → TakesStep self.old self.new date (Step.Drop number) (seen result) }
     {
         let Some(waiting) = self.pending.take(number) else {
@@ -273,7 +273,7 @@ impl<R: ReadDevice, W: WriteDevice> Connection<R, W> {
             mut body,
             ..
         } = waiting;
-        let text = dropped.into_text(alloc);
+        let text = dropped.into_text();
         self.pending.leave(&mut self.outlet, number, text);
         body.give_up(&mut self.source);
         Reply::Done
@@ -312,7 +312,7 @@ impl<R: ReadDevice, W: WriteDevice> Connection<R, W> {
             Step::Ask => self.ask(alloc, now),
             Step::Read(number, count) => self.read(alloc, number, count),
             Step::Respond(number, response) => self.respond(alloc, now, number, response),
-            Step::Drop(number) => self.drop_request(alloc, number),
+            Step::Drop(number) => self.drop_request(number),
         }
     }
 

@@ -125,7 +125,7 @@ impl DropText {
     }
 
     /// The text itself. It takes no memory.
-    pub fn into_text(self, alloc: Global) -> Vec<u8>
+    pub fn into_text(self) -> Vec<u8>
         ensures { result.items ≡ self.items }
     {
         let DropText {
@@ -134,6 +134,7 @@ impl DropText {
             no_body,
             now,
         } = self;
+        let alloc = *room.allocator();
         let _length = date_length(now);
         let mut page = Page {
             bytes: room,
