@@ -5,8 +5,10 @@ use Rattle.tiny_http_wire.specs.Device.{Feed, Sink, ending}
 use Rattle.tiny_http_wire.specs.declared.device.Budget.{Budget}
 use Rattle.tiny_http_wire.specs.Budget.{budget_sink}
 use Rattle.tiny_http_core.specs.declared.exchange.Head.{Head}
+use Rattle.tiny_http_core.specs.declared.driver.Reply.{Reply}
+use Rattle.tiny_http_core.specs.Seen.{seen}
 use Rattle.tiny_http_core.specs.HeadReads.{head_message, head_framing}
-use Rattle.tiny_http_core.specs.Slots.{ResponseValue}
+use Rattle.tiny_http_core.specs.Slots.{own_response}
 use Rattle.tiny_http_core.specs.Steps.{Ask, Respond, Replied, Handed}
 use Rattle.tiny_http_core.specs.Conversation.{Dated, IsConversation}
 
@@ -15,22 +17,22 @@ pub record IsStatus (path : List ℕ) (status : ℕ) : Type 0 where
   pub root : path ≡ 47 ∷ [] → status ≡ 200
   pub other : (path ≡ 47 ∷ [] → ⊥) → status ≡ 404
 
--- a request that was handed out, the response to it, and what the connection replied to that
+-- a request that was handed out, the status by which it was answered, and what the connection replied to that
 pub record Greeting : Type 0 where
   pub number : ℕ
   pub head : Head
-  pub response : ResponseValue
+  pub status : ℕ
   pub reply : Replied
 
 -- each is answered by the status of its path
 abbrev pub AreByPath : List Greeting → Type 0
 AreByPath [] = Unit {0}
-AreByPath (g ∷ greetings) = IsStatus g.head.path g.response.answer.status × AreByPath greetings
+AreByPath (g ∷ greetings) = IsStatus g.head.path g.status × AreByPath greetings
 
--- the steps of these greetings: an Ask and a Respond each
+-- the steps of these greetings: an Ask and a Respond each, by an empty response of this status
 abbrev pub steps_of : HttpDate → List Greeting → List Dated
 steps_of now [] = []
-steps_of now (g ∷ greetings) = (now, Ask) ∷ (now, Respond g.number g.response) ∷ steps_of now greetings
+steps_of now (g ∷ greetings) = (now, Ask) ∷ (now, Respond g.number (own_response g.status [] [])) ∷ steps_of now greetings
 
 -- and their replies
 abbrev pub replies_of : List Greeting → List Replied
@@ -41,25 +43,29 @@ abbrev pub is_handed : Replied → Bool
 is_handed (Handed number message framing) = true
 is_handed _ = false
 
--- After the greetings one Ask hands out no request; there is none only where they are as many as are ever counted.
-abbrev pub Ends : List Greeting → List Replied → Type 0
-Ends greetings [] = length greetings ≡ 2 ^ 64 - 1
-Ends greetings (reply ∷ more) = (is_handed reply ≡ false) × (more ≡ [])
+-- the reply to an Ask behind the greetings, if there was one
+abbrev pub last_reply : Option Reply → List Replied
+last_reply None = []
+last_reply (Some r) = seen r ∷ []
 
--- Some greetings by the path, and after them at most one Ask that hands out no request, are a conversation with this client:
--- the writer took what is its output, but for what is held.
-pub record Greets (client : Feed) (before : Sink) (now : HttpDate) (after : Sink) (held : List ℕ) (ended : Bool) (left : Option Feed) : Type 0 where
+-- That Ask hands out no request. There is none only where the greetings are as many as are ever counted.
+abbrev pub Ends : List Greeting → Option Reply → Type 0
+Ends greetings None = length greetings ≡ 2 ^ 64 - 1
+Ends greetings (Some r) = is_handed (seen r) ≡ false
+
+-- Some greetings by the path, and after them an Ask with this reply, are a conversation with this client: the writer took what
+-- is its output, but for what is held.
+pub record Greets (client : Feed) (before : Sink) (now : HttpDate) (after : Sink) (held : List ℕ) (ended : Bool) (left : Option Feed) (last : Option Reply) : Type 0 where
   pub greetings : List Greeting
   pub by_path : AreByPath greetings
-  pub last : List Replied
   pub ends : Ends greetings last
-  pub conversation : IsConversation client before (steps_of now greetings ++ map (λ _. (now, Ask)) last) (replies_of greetings ++ last) after held ended left
+  pub conversation : IsConversation client before (steps_of now greetings ++ map (λ _. (now, Ask)) (last_reply last)) (replies_of greetings ++ last_reply last) after held ended left
 
 -- a writer that took nothing
 abbrev pub nothing_taken : Sink
 nothing_taken = record { taken = Some []; sent = []; failures = 0; last_kind = None; has_ended = false }
 
 -- The same with a client that sends these bytes and ends, over a writer in memory that took nothing before.
-pub record GreetsClient (client : List ℕ) (now : HttpDate) (writer : Budget) (held : List ℕ) (ended : Bool) : Type 0 where
+pub record GreetsClient (client : List ℕ) (now : HttpDate) (writer : Budget) (held : List ℕ) (ended : Bool) (last : Option Reply) : Type 0 where
   pub left : Option Feed
-  pub greets : Greets (ending client) nothing_taken now (budget_sink writer) held ended left
+  pub greets : Greets (ending client) nothing_taken now (budget_sink writer) held ended left last

@@ -28,16 +28,17 @@ fn status_of(head: &Head) -> StatusCode
     StatusCode(404)
 }
 
-/// Answers each request by its path, 200 for the root and 404 for any other, until none is handed out. All answers have this
-/// date. Reader and writer come back within their buffers.
+/// Answers each request by its path, 200 for the root and 404 for any other, each without a body and on this date, until
+/// none is handed out. What comes back is the reader and the writer within their buffers, and the reply by which the
+/// connection handed out no request: `Ended`, or `Memory` where there was none for a head; or none after 2^64 - 1 requests.
 pub fn serve<R: ReadDevice + Drop, W: WriteDevice + Drop>(
     alloc: Global,
     reader: R,
     writer: W,
     now: HttpDate,
-) -> (Source<R>, Outlet<W>)
+) -> (Source<R>, Outlet<W>, Option<Reply>)
     ensures { (client : Feed) → R.feed reader ≡ Some client → IsFresh (W.sink writer)
-        → Greets client (W.sink writer) now (W.sink (outlet_writer result.1)) (outlet_held result.1) (outlet_ended result.1) result.0.feed }
+        → Greets client (W.sink writer) now (W.sink (outlet_writer result.1)) (outlet_held result.1) (outlet_ended result.1) result.0.feed result.2 }
 {
     let mut connection = Connection::new(alloc, reader, writer);
     for _greeting in 0..u64::MAX {
@@ -46,19 +47,26 @@ pub fn serve<R: ReadDevice + Drop, W: WriteDevice + Drop>(
                 let response = Response::empty(alloc, status_of(&head));
                 connection.respond(alloc, now, number, response);
             }
-            _ => return connection.into_parts(),
+            last => {
+                let (source, outlet) = connection.into_parts();
+                return (source, outlet, Some(last));
+            }
         }
     }
-    connection.into_parts()
+    let (source, outlet) = connection.into_parts();
+    (source, outlet, None)
 }
 
-/// The same in memory, for a client that sends these bytes and ends. A fault of kind `OutOfMemory` ends the writer where no
-/// memory for its bytes is found.
-pub fn serve_bytes(alloc: Global, bytes: Vec<u8>, now: HttpDate) -> Outlet<Budget>
-    ensures { GreetsClient bytes.items now (outlet_writer result) (outlet_held result) (outlet_ended result) }
+/// The same in memory, for a client that sends these bytes and ends. Where there is no memory for the writer's bytes it fails.
+pub fn serve_bytes(
+    alloc: Global,
+    bytes: Vec<u8>,
+    now: HttpDate,
+) -> (Outlet<Budget>, Option<Reply>)
+    ensures { GreetsClient bytes.items now (outlet_writer result.0) (outlet_held result.0) (outlet_ended result.0) result.1 }
 {
     let reader = Canned::new(bytes, None);
     let writer = Budget::new(alloc, usize::MAX, ErrorKind::OutOfMemory);
-    let (_, outlet) = serve(alloc, reader, writer, now);
-    outlet
+    let (_, outlet, last) = serve(alloc, reader, writer, now);
+    (outlet, last)
 }

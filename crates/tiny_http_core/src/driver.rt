@@ -1,4 +1,4 @@
-//! A connection driven by a list of steps, without threads.
+//! A connection driven step by step, or by a list of steps, without threads.
 ghost use Rattle.std.specs.Prelude.{◌≡◌, ◌-◌, ◌<◌, ◌^◌, true, false, List, [], length, Some, map, Ok, IfOk, IfErr, vec_len};
 ghost use Rattle.std.specs.List.{AllZip};
 ghost use Rattle.tiny_http_wire.specs.Device.{Feed, Sink, HoldsNothing};
@@ -94,7 +94,9 @@ pub struct RunError<R, W> {
     pub writer: W,
 }
 
-/// A connection: its input and output, its numbers, whether the last head was read, and whether the asking has ended.
+/// A connection over a reader and a writer, without threads. It hands out the client's requests one after another, reads
+/// their bodies when they are asked for, and sends the answers in the order of the requests, in whatever order they are made
+/// (RFC 9112, section 9.3.2). A program drives it call by call; each call is a step of the connection theorem.
 #[derive(Drop)]
 pub struct Connection<R: ReadDevice, W: WriteDevice> {
     source: Source<R>,
@@ -137,7 +139,7 @@ impl Reply {
     }
 }
 
-// Sends the answer to a request whose turn has come, and says how it is told. An output that has ended sends nothing, and
+// Sends the answer to a request whose turn has come, and says how that is replied. An output that has ended sends nothing, and
 // the data are left unread.
 fn answer<W: WriteDevice, D: ReadDevice + Drop>(
     alloc: Global,
@@ -175,7 +177,7 @@ fn zeros(alloc: Global, count: u16) -> Result<Vec<u8>, AllocError>
 }
 
 impl<R: ReadDevice, W: WriteDevice> Connection<R, W> {
-    /// A connection at its begin.
+    /// A connection on which nothing was asked yet. Its theorem is for a writer that has taken nothing and has not ended.
     pub fn new(alloc: Global, reader: R, writer: W) -> Connection<R, W>
         ensures begins { (client : Feed) → R.feed reader ≡ Some client → IsFresh (W.sink writer) → HasDone client (W.sink writer) result [] [] }
         ensures feed { result.source.feed ≡ R.feed reader }
@@ -190,7 +192,11 @@ impl<R: ReadDevice, W: WriteDevice> Connection<R, W> {
         }
     }
 
-    /// Goes to the next request.
+    /// Goes to the next request, and hands it out with its number: `Handed`. It is `NotYet` while the body of the last request
+    /// holds the reader: until that was read to its end, or the request was answered or dropped. It is `Ended` once the
+    /// connection has no further request, from then on. A refused head is answered under a number of its own, in its turn, and
+    /// ends the asking; so does `Memory`, and a chunked body that was given up before its end. It reads, and so may wait for
+    /// the client. `now` dates the answer to a refused head, and the 500 of this request if it is dropped.
     pub fn ask(&mut self, alloc: Global, now: HttpDate) -> Reply
         ensures step { TakesStep self.old self.new now Step.Ask (seen result) }
     {
@@ -236,7 +242,10 @@ impl<R: ReadDevice, W: WriteDevice> Connection<R, W> {
         }
     }
 
-    /// Reads the body of the request of this number. The step has any date.
+    /// Reads the body of the request of this number, until there are `count` bytes or no more follow: `Given`, without a byte
+    /// once the body has ended. It is `Fault` where the body is cut or broken, at each later read too; `NoSuch` for a number
+    /// that doesn't wait for an answer; and `Memory` where there is none for so many bytes, which changes nothing. It takes no
+    /// date, as it sends nothing.
     pub fn read(&mut self, alloc: Global, number: u64, count: u16) -> Reply
         ensures step { (date : Date) → TakesStep self.old self.new date (Step.Read number count) (seen result) }
     {
@@ -261,7 +270,9 @@ impl<R: ReadDevice, W: WriteDevice> Connection<R, W> {
         }
     }
 
-    /// Answers the request of this number by a 500: in its turn, or as it comes. The step has any date.
+    /// Drops the request of this number, and gives its body up: an empty 500 is its answer, on the date of its `ask`. It is
+    /// sent now, or by the call that finishes the last number before it; it is never `NotYet`. `Done`, or `NoSuch` for a number
+    /// that doesn't wait for an answer. It takes no memory, and a fault of the writer is reported by no reply.
     pub fn drop_request(&mut self, number: u64) -> Reply
         ensures step { (date : Date) → TakesStep self.old self.new date (Step.Drop number) (seen result) }
     {
@@ -279,7 +290,12 @@ impl<R: ReadDevice, W: WriteDevice> Connection<R, W> {
         Reply::Done
     }
 
-    /// Answers the request of this number, in its turn.
+    /// Answers the request of this number, and gives its body up: `Done`, or `Fault` where the writer failed within the answer
+    /// or the response's data broke off, after which nothing more is sent on the connection: later answers are `Done` and
+    /// unsent. A fault by which the client has gone is `Done` too, and data of unknown length for which there is no memory are
+    /// a fault of kind `OutOfMemory`. `now` is the answer's `Date`.
+    /// `NotYet` while a request before it waits for its answer, and `NoSuch` for a number that doesn't wait for one: then the
+    /// response is let go, and nothing has changed.
     pub fn respond<D: ReadDevice + Drop>(
         &mut self,
         alloc: Global,
@@ -303,7 +319,7 @@ impl<R: ReadDevice, W: WriteDevice> Connection<R, W> {
         reply
     }
 
-    /// Does a step on its date.
+    /// Does a step on its date: the call that it names.
     pub fn step<D: ReadDevice + Drop>(&mut self, alloc: Global, timed: Timed<D>) -> Reply
         ensures step { TakesStep self.old self.new timed.now (told_step D.feed timed.step) (seen result) }
     {
@@ -316,7 +332,8 @@ impl<R: ReadDevice, W: WriteDevice> Connection<R, W> {
         }
     }
 
-    /// Reader and writer, within their buffers.
+    /// Reader and writer within their buffers, and the end of the connection: requests that wait for their answers are let go
+    /// without one.
     pub fn into_parts(self) -> (Source<R>, Outlet<W>)
         ensures conversation { (client : Feed) (before : Sink) (steps : List Dated) (replies : List Replied) → HasDone client before self steps replies
             → IsConversation client before steps replies (W.sink (outlet_writer result.1)) (outlet_held result.1) (outlet_ended result.1) result.0.feed }

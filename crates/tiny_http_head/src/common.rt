@@ -9,15 +9,15 @@ ghost use Rattle.tiny_http_head.specs.Number.{code_of};
 ghost use Rattle.tiny_http_head.specs.Heads.{method_of};
 ghost use Rattle.tiny_http_head.specs.Reading.{header_line};
 
-use tiny_http_text::ascii::{AsciiStr, AsciiString, FromAsciiError};
-use tiny_http_text::bytes::{cut, has_no_blank, is, is_ascii, trim};
-use tiny_http_text::copies::owned;
 use itoa::Buffer;
 use std::alloc::{AllocError, Global};
 use std::cmp::Ordering;
 use std::fmt;
 use std::marker::Model;
 use thiserror::Error;
+use tiny_http_text::ascii::{AsciiStr, AsciiString, FromAsciiError};
+use tiny_http_text::bytes::{cut, has_no_blank, is, is_ascii, trim};
+use tiny_http_text::copies::owned;
 
 /// Why a text isn't read.
 #[derive(Clone, Copy, Debug, PartialEq, Eq, Error)]
@@ -291,7 +291,7 @@ impl HeaderField {
         Ok(HeaderField { text })
     }
 
-    /// The name of this text.
+    /// The name of this text, whatever ASCII bytes it has; for the crates above.
     pub fn from_text(text: AsciiString) -> HeaderField
         ensures { result ≡ text }
     {

@@ -4,13 +4,12 @@ ghost use Rattle.tiny_http_text.specs.Bytes.{AreAscii};
 ghost use Rattle.tiny_http_head.specs.Heads.{length_in, version_of};
 ghost use Rattle.tiny_http_head.specs.Reading.{request_line, HasParts};
 
+pub use crate::common::parse_header_line;
 use crate::common::{HTTPVersion, Method, method_of};
 use std::alloc::{AllocError, Global};
 use tiny_http_text::ascii::AsciiString;
 use tiny_http_text::bytes::{cut, first_part, is, trim};
 use tiny_http_text::copies::owned;
-
-pub use crate::common::parse_header_line;
 
 // The version that a text names.
 fn version_of(text: &[u8]) -> Option<HTTPVersion>

@@ -6,8 +6,8 @@ ghost use Rattle.tiny_http_text.specs.Bytes.{HasNo, parts, semicolon};
 ghost use Rattle.tiny_http_head.specs.Qualities.{ListsQualities};
 ghost use Rattle.tiny_http_head.specs.QualityReading.{short_number, thousandths, quality, parameter_quality, first_quality, element};
 
-use tiny_http_text::text::{trim, trim_front};
 use std::alloc::{AllocError, Global};
+use tiny_http_text::text::{trim, trim_front};
 
 // The quality of an element that gives none that can be read.
 const DEFAULT_QUALITY: u32 = 1000;

@@ -7,9 +7,9 @@ ghost use Rattle.tiny_http_stream.specs.Source.{GoesOn, IsAtEnd};
 ghost use Rattle.tiny_http_stream.specs.ToCome.{skipped};
 ghost use Rattle.tiny_http_message.specs.Body.{remaining, counted_left, with_bytes, BodyStops, is_streaming, body_stop, ReadsOn, FillsFromBody, GivesUp};
 
-use tiny_http_stream::source::Source;
 use std::io;
 use std::io::{Cursor, ErrorKind};
+use tiny_http_stream::source::Source;
 use tiny_http_wire::chunked::Decoding;
 use tiny_http_wire::device::{ReadDevice, Stop, read_front};
 

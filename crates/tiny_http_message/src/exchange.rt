@@ -9,6 +9,7 @@ ghost use Rattle.tiny_http_message.specs.HeadReads.{ReadsHead, EndsUnlessHanded,
 ghost use Rattle.tiny_http_message.specs.Exchange.{KeepsHead};
 
 use crate::body::{Body, counted};
+pub use crate::framing::Form;
 use crate::framing::{Framing, framing_of, is_built};
 use crate::heads::{HeadFault, Message, read_message};
 use crate::own_answer::{DropText, own_answer};
@@ -22,8 +23,6 @@ use tiny_http_wire::ascii::AsciiString;
 use tiny_http_wire::chunked::Decoding;
 use tiny_http_wire::common::{HTTPVersion, Header, Method, StatusCode};
 use tiny_http_wire::device::{ReadDevice, Stop};
-
-pub use crate::framing::Form;
 
 /// What a request's head says.
 #[derive(Drop)]
@@ -113,7 +112,7 @@ impl Exchange {
         self.waiting.body.give_up(source)
     }
 
-    /// The head, and what is kept of the request until it is answered, each by itself.
+    /// The head, and what is kept of the request until it is answered, each by itself; for the crates above.
     pub fn into_parts(self) -> (Head, Waiting)
         ensures { self ≡ exchange_of result.0 result.1 }
     {

@@ -3,8 +3,8 @@ ghost use Rattle.std.specs.Prelude.{◌≡◌, None, Err};
 ghost use Rattle.tiny_http_stream.specs.Source.{GoesOn, IsAtEnd};
 ghost use Rattle.tiny_http_message.specs.HeadReads.{ReadsText, ReadsStart, ReadsField, ReadsFields, ReadsMessage, head_fault};
 
-use tiny_http_stream::source::{LineFault, Source};
 use std::alloc::Global;
+use tiny_http_stream::source::{LineFault, Source};
 use tiny_http_wire::ascii::AsciiString;
 use tiny_http_wire::common::{HTTPVersion, Header, Method};
 use tiny_http_wire::device::ReadDevice;

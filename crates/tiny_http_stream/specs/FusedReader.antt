@@ -1,5 +1,5 @@
 -- What clauses read of a `FusedReader`.
-use Rattle.std.specs.Prelude.{◌≡◌, ℕ, ◌<◌, List, length, Bool, true, false, [], Option, Some, None, Result, Ok, IfOk, IsSome}
+use Rattle.std.specs.Prelude.{◌≡◌, ℕ, ◌<◌, List, length, Bool, true, false, [], Option, Some, None, Result, Ok, IfOk, OnErr, IsSome}
 use Rattle.std.specs.declared.io.Error.{Error}
 use Rattle.std.specs.Option.{option_map}
 use Rattle.tiny_http_device.specs.Device.{Feed, ending, Reads}
@@ -22,10 +22,11 @@ abbrev pub fused_feed : {R : Type 0} → (R → Option Feed) → FusedReader R �
 fused_feed feed r = feed_unless r.over (feed r.inner)
 
 -- ONE READ. Of what it still gives it is a read; and whatever the reader inside states: into an empty buffer it changes
--- nothing, and the reader isn't called again after its end.
+-- nothing; a byte or a fault is no end; and the reader isn't called again after its end.
 pub record ReadsFused {R : Type 0} (feed : R → Option Feed) (old new : FusedReader R) (r : Result ℕ Error) (buf : List ℕ) : Type 0 where
   pub reads : Reads (fused_feed feed old) (fused_feed feed new) r buf
   pub empty : length buf ≡ 0 → (r ≡ Ok 0) × (new ≡ old)
   pub over : IfOk r (λ n. n ≡ 0 → 0 < length buf → fused_inner new ≡ None)
   pub kept : IfOk r (λ n. 0 < n → IsSome (fused_inner new))
+  pub failed : OnErr r (IsSome (fused_inner new))
   pub stays : fused_inner old ≡ None → (r ≡ Ok 0) × (new ≡ old)

@@ -1,4 +1,4 @@
--- What an `Outlet` tells.
+-- What a contract sees of an `Outlet`.
 use Rattle.std.specs.Prelude.{◌≡◌, ℕ, Bool, false, ◌||◌, List, [], Result, Ok, Err}
 use Rattle.std.specs.IoError.{error_kind}
 use Rattle.std.specs.declared.io.Error.{Error}

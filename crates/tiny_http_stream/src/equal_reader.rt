@@ -67,6 +67,7 @@ impl<R: ReadDevice + Drop> EqualReader<R> {
         ensures fault { IfErr result (λ e. StopsBy (Stop.Fault (error_kind e)) (equal_feed R.feed self.old)) }
         ensures again { OnErr result (equal_feed R.feed self.new ≡ equal_feed R.feed self.old) }
         ensures empty { length buf.new ≡ 0 → (result ≡ Ok 0) × (self.new ≡ self.old) }
+        ensures past { equal_left self.old ≡ 0 → (result ≡ Ok 0) × (self.new ≡ self.old) }
         ensures count { IfOk result (λ n. equal_left self.old ≡ n + equal_left self.new) }
         ensures kept { OnErr result (equal_left self.new ≡ equal_left self.old) }
         // What is read away, now or later, stays the same.

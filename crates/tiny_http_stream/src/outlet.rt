@@ -129,7 +129,7 @@ impl<W: WriteDevice> Outlet<W> {
         }
     }
 
-    // What is always so.
+    /// Does nothing; for the crates above. Its contract says what always holds between an outlet and its writer.
     pub fn tell(&self)
         ensures tells { self.now.tells ≡ W.sink self.now.writer }
         ensures none { self.now.ended ≡ true → self.now.held ≡ [] }
@@ -137,7 +137,7 @@ impl<W: WriteDevice> Outlet<W> {
         let _ = &self.inner;
     }
 
-    /// Whether the outlet has ended: by `end`, or by the writer's first fault.
+    /// Whether the outlet has ended: by `end` or `abandon`, or by the writer's first fault.
     pub fn is_ended(&self) -> bool
         ensures { result ≡ outlet_ended self.now }
     {
@@ -158,7 +158,7 @@ impl<W: WriteDevice> Outlet<W> {
         sent
     }
 
-    /// The writer's count of failures.
+    /// The writer's count of failures; for the crates above, as `abandon` is.
     pub fn writer_failures(&self) -> u64
         ensures count { result ≡ (output_of self.now).failures }
         ensures sent { let s = self.now.tells in BeginsKnown s.sent s.taken }

@@ -70,7 +70,7 @@ impl<R: ReadDevice> Source<R> {
         self.input.skip(n)
     }
 
-    /// Lets the input end here: what is left of it is passed over.
+    /// Ends the source here: what is left of its input is given up, and the reader isn't called.
     pub fn end(&mut self)
         ensures feed { self.new.feed ≡ option_map (λ _. stopped Stop.End) self.old.feed }
         ensures at_end { IsAtEnd self.new }
@@ -103,12 +103,9 @@ impl<R: ReadDevice> Source<R> {
         self.input.read(buf)
     }
 
-    /// Takes n bytes, or none where fewer are left: then the source is over.
-    pub fn take_exactly(
-        &mut self,
-        alloc: Global,
-        n: usize,
-    ) -> Result<Option<Vec<u8>>, AllocError>
+    /// Takes n bytes; or answers `None` where fewer are left, all of which are taken, and then the source is over. An error where there is no memory for
+    /// them.
+    pub fn take_exactly(&mut self, alloc: Global, n: usize) -> Result<Option<Vec<u8>>, AllocError>
         ensures takes { IfOk result (λ body. TakesExactly (λ v. v.items) n self.old.feed self.new.feed body) }
         ensures over { IfOk result (λ body. body ≡ None → self.new.is_over ≡ true) }
         ensures goes_on { GoesOn self.old.feed self.new.feed }

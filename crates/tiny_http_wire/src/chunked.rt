@@ -11,9 +11,9 @@ mod line;
 mod size;
 
 use crate::chunked::line::{next_byte, next_line};
-use tiny_http_device::device::{ReadDevice, Stop, read_front};
 use std::io;
 use std::io::{ErrorKind, Read};
+use tiny_http_device::device::{ReadDevice, Stop, read_front};
 
 /// What has to come next of a chunked body.
 #[derive(Clone, Copy, Drop)]

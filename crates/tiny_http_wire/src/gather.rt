@@ -2,10 +2,10 @@
 ghost use Rattle.std.specs.Prelude.{◌≡◌, ◌<◌, ◌≤◌, ◌+◌, ◌^◌, length, drop, take, IfOk, IfSome};
 ghost use Rattle.tiny_http_device.specs.Device.{Fills, ReadsFrom, Gathers};
 
-use tiny_http_device::device::{ReadDevice, read_some};
 use std::alloc::Global;
 use std::io;
 use std::io::ErrorKind;
+use tiny_http_device::device::{ReadDevice, read_some};
 
 /// How many bytes of an answer's data are read at a time, at most.
 pub(crate) const PIECE: usize = 8192;

@@ -7,11 +7,11 @@ ghost use Rattle.tiny_http_wire.specs.Top.{head_of};
 ghost use Rattle.tiny_http_wire.specs.Answer.{has_header, status_line, field_line, header_line, protocol_lines, upgrade_lines, server_line, date_line, length_line, framing_line};
 
 use crate::coding::FramingHeader;
-use tiny_http_head::common::{HTTPVersion, Header, StatusCode};
-use tiny_http_device::device::{WriteDevice, put, put_all};
 use httpdate::HttpDate;
 use itoa::Buffer;
 use std::io;
+use tiny_http_device::device::{WriteDevice, put, put_all};
+use tiny_http_head::common::{HTTPVersion, Header, StatusCode};
 
 /// What the head of an answer is made of, beside how it tells the length of the body.
 #[derive(Clone, Copy)]

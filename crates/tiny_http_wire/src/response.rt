@@ -8,16 +8,16 @@ ghost use Rattle.tiny_http_device.specs.Device.{Puts, Uses};
 
 use crate::body::put_exactly;
 use crate::coding::FramingHeader;
-use tiny_http_head::common::{HTTPVersion, Header, HeaderField, StatusCode};
-use tiny_http_device::device::{ReadDevice, WriteDevice, put};
 use crate::gather::gather;
-use tiny_http_text::copies::owned;
 use crate::head::{Top, put_head};
 use httpdate::HttpDate;
 use std::alloc::{AllocError, Global};
 use std::io;
 use std::io::{Cursor, ErrorKind};
 use std::marker::Model;
+use tiny_http_device::device::{ReadDevice, WriteDevice, put};
+use tiny_http_head::common::{HTTPVersion, Header, HeaderField, StatusCode};
+use tiny_http_text::copies::owned;
 
 /// An answer to a request: a status code, headers, and a reader of the data with its length, where
 /// that is known. A contract sees it as the answer and the reader.

@@ -1,11 +1,9 @@
-use Rattle.std.proofs.Common.{arith, refl, sym, ap, subst, lit<, append-nil, [], ◌∷◌, ◌++◌, ℕ}
-use Rattle.tiny_http_wire.specs.Device.{ending}
-use Rattle.tiny_http_wire.specs.Answer.{Answer}
-use Rattle.tiny_http_core.specs.Slots.{ResponseValue}
+use Rattle.std.proofs.Common.{arith, refl, sym, lit<, append-nil, [], ◌∷◌, ◌++◌}
+use Rattle.tiny_http_core.specs.Slots.{ResponseValue, own_response}
 use Rattle.tiny_http_core.specs.Steps.{Ask, Respond, Handed}
 use Rattle.tiny_http_core.specs.HeadReads.{head_message, head_framing}
 use Rattle.tiny_http_core.specs.Seen.{seen}
-use Rattle.greeter.specs.Greeting.{IsStatus, Greeting, steps_of, replies_of}
+use Rattle.greeter.specs.Greeting.{Greeting, steps_of, replies_of}
 use Rattle.greeter.proofs.GreetingLemmas.{greeted-more, unhanded}
 use Rattle.greeter.proofs.serve.Goals as goal
 
@@ -21,9 +19,8 @@ returns-in_default g c client tells fresh =
     record {
       greetings = so_far.greetings;
       by_path = so_far.by_path;
-      last = seen c.ask.result ∷ [];
-      ends = (unhanded c.ask.result c.in_default.not-Handed, refl);
-      conversation = c.into_parts.ensures.conversation client writer (steps_of now so_far.greetings ++ (now, Ask) ∷ []) (replies_of so_far.greetings ++ seen c.ask.result ∷ []) asked;
+      ends = unhanded c.ask.result c.in_default.not-Handed;
+      conversation = c.into_parts-source.ensures.conversation client writer (steps_of now so_far.greetings ++ (now, Ask) ∷ []) (replies_of so_far.greetings ++ seen c.ask.result ∷ []) asked;
     }
 
 pub loop-greeting-preserved : goal.loop-greeting-preserved
@@ -33,12 +30,11 @@ loop-greeting-preserved g c client tells fresh =
     let so_far = c.loop-greeting.invariant client tells fresh in
     let head = c.in-Handed.head in
     let handed = Handed c.in-Handed.number (head_message head) (head_framing head) in
-    let value : ResponseValue = record { answer = c.empty-response.result.answer; content = ending [] } in
+    let value : ResponseValue = own_response c.status_of.result.0 [] [] in
     let asked = c.in-Handed.ensures.step.does client writer (steps_of now so_far.greetings) (replies_of so_far.greetings) Ask tt so_far.done in
-    let answered = c.respond.ensures.step.does client writer (steps_of now so_far.greetings ++ (now, Ask) ∷ []) (replies_of so_far.greetings ++ handed ∷ []) (Respond c.in-Handed.number value) (refl, (refl, refl, lit< tt)) asked in
-    let greeting : Greeting = record { number = c.in-Handed.number; head = head; response = value; reply = seen c.respond.result } in
-    let S : ℕ → Type 0 = λ x. IsStatus head.path x in
-    greeted-more client writer now c.respond.new.self so_far.greetings greeting _ so_far.counted so_far.by_path (subst S (sym (ap (λ (a : Answer). a.status) c.empty-response.ensures)) c.status_of.ensures) answered
+    let answered = c.respond.ensures.step.does client writer (steps_of now so_far.greetings ++ (now, Ask) ∷ []) (replies_of so_far.greetings ++ handed ∷ []) (Respond c.in-Handed.number value) (refl, (sym c.empty-response.ensures, refl, lit< tt)) asked in
+    let greeting : Greeting = record { number = c.in-Handed.number; head = head; status = c.status_of.result.0; reply = seen c.respond.result } in
+    greeted-more client writer now c.respond.new.self so_far.greetings greeting _ so_far.counted so_far.by_path c.status_of.ensures answered
 
 pub returns : goal.returns
 returns g c client tells fresh =
@@ -48,7 +44,6 @@ returns g c client tells fresh =
     record {
       greetings = so_far.greetings;
       by_path = so_far.by_path;
-      last = [];
       ends = omega (arith, so_far.counted, c.loop-greeting-test.false, c.loop-greeting.auto._greeting-end);
-      conversation = rw (append-nil, append-nil) (c.into_parts-2.ensures.conversation client writer (steps_of now so_far.greetings) (replies_of so_far.greetings) so_far.done);
+      conversation = rw (append-nil, append-nil) (c.into_parts-source-2.ensures.conversation client writer (steps_of now so_far.greetings) (replies_of so_far.greetings) so_far.done);
     }

@@ -12,6 +12,7 @@ returns c =
     let none : c.new-writer.result.failures ≡ 0 = ap (λ (s : Sink). s.failures) c.new-writer.ensures.sink in
     let fresh : IsFresh before = record { no_bytes = ap (λ (s : Sink). s.taken) c.new-writer.ensures.sink; goes_on = refl; can_count = rw none (lit< tt) } in
     let outlet = c.serve-outlet.result.1 in
+    let last = c.serve-outlet.result.2 in
     let left = c.serve-outlet.result.0.feed in
-    let P : Sink → Type 0 = λ s. Greets (ending c.args.bytes.items) s c.args.now (budget_sink (outlet_writer outlet)) (outlet_held outlet) (outlet_ended outlet) left in
+    let P : Sink → Type 0 = λ s. Greets (ending c.args.bytes.items) s c.args.now (budget_sink (outlet_writer outlet)) (outlet_held outlet) (outlet_ended outlet) left last in
     record { left = left; greets = subst P c.new-writer.ensures.sink (c.serve-outlet.ensures (ending c.args.bytes.items) (ap Some c.new-reader.ensures) fresh) }

@@ -5,8 +5,8 @@ ghost use Rattle.tiny_http_wire.specs.ChunkSize.{SizeFits};
 ghost use Rattle.tiny_http_wire.specs.ChunkLine.{scan_step, OneLine, NoLine, CutBy};
 
 use crate::chunked::size::Size;
-use tiny_http_device::device::ReadDevice;
 use std::io::ErrorKind;
+use tiny_http_device::device::ReadDevice;
 
 /// A line: the number of its bytes before the CR LF, and what they say of a size.
 #[derive(Clone, Copy, Drop)]

@@ -1,9 +1,9 @@
 //! Answers printed into a writer of bounded room.
 use super::*;
-use tiny_http_text::ascii::AsciiString;
-use tiny_http_device::device::{Budget, Canned};
 use std::process::Abort;
 use std::test::Fail;
+use tiny_http_device::device::{Budget, Canned};
+use tiny_http_text::ascii::AsciiString;
 
 const ROOM: usize = 100_000;
 
