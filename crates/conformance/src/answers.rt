@@ -1,8 +1,14 @@
 //! Answers: which request they go to, and what a writer's fault leaves of them.
 use crate::runs::Deed::{Ask, Drop, Text};
 use crate::runs::{AMPLE, Case, EMPTY, TEXT, Trouble, assert_case, assert_troubled, takes};
+use crate::same::assert_same;
+use httpdate::HttpDate;
+use std::alloc::Global;
 use std::io::ErrorKind;
 use std::test::Fail;
+use tiny_http_wire::common::HTTPVersion;
+use tiny_http_wire::device::Budget;
+use tiny_http_wire::response::Response;
 
 #[test]
 fn a_request_is_answered_once(rt: HostRuntime) -> Result<(), Fail> {
@@ -156,4 +162,38 @@ fn an_answer_is_whole_before_a_readers_fault(rt: HostRuntime) -> Result<(), Fail
         writer: ErrorKind::Other,
     };
     assert_troubled(&rt, rt.alloc(), &case, trouble)
+}
+
+// What an answer with so many bytes of data is printed as.
+fn printed(alloc: Global, count: usize) -> Result<Vec<u8>, Fail> {
+    let mut data = Vec::new(alloc);
+    data.resize(count, b'x')?;
+    let mut writer = Budget::new(alloc, AMPLE, ErrorKind::Other);
+    let now = HttpDate::from_unix_secs(420_895_020)?;
+    let answer = Response::from_data(alloc, data);
+    answer.raw_print(alloc, &mut writer, HTTPVersion(1, 1), &[], false, None, now)?;
+    Ok(writer.into_bytes())
+}
+
+// The head that says so many bytes, and then as many.
+fn is_whole(alloc: Global, bytes: &[u8], count: usize) -> Result<bool, Fail> {
+    let length = format!(in alloc; "\r\nContent-Length: {count}\r\n\r\n")?;
+    let Some(head) = bytes.len().checked_sub(count) else {
+        return Ok(false);
+    };
+    let (head, data) = bytes.split_at(head);
+    Ok(head.ends_with(length.as_bytes()) && data.iter().all(|b| *b == b'x'))
+}
+
+#[test]
+fn data_of_each_size_are_sent_whole(rt: HostRuntime) -> Result<(), Fail> {
+    for count in [0, 1, 1023, 1024, 1025, 8191, 8192, 8193, 20_000] {
+        let bytes = printed(rt.alloc(), count)?;
+        assert_same(
+            &rt,
+            (count, is_whole(rt.alloc(), &bytes, count)?),
+            (count, true),
+        );
+    }
+    Ok(())
 }

@@ -1,5 +1,6 @@
 //! Requests that are read from a source without a driver.
 use crate::runs::{EMPTY, Pieces, SIZES};
+use crate::same::{assert_holds, assert_same};
 use httpdate::HttpDate;
 use std::alloc::Global;
 use std::io::ErrorKind;
@@ -34,14 +35,18 @@ fn request(
     let HeadRead::Request(exchange) = read_head(alloc, source, date()?)? else {
         return Err("no request".into());
     };
-    assert_eq!(rt; exchange.head().path.as_str(), path);
+    assert_same(rt, exchange.head().path.as_str(), path);
     Ok(exchange)
+}
+
+// Whether no request follows.
+fn is_ended(alloc: Global, source: &mut Source<Pieces>) -> Result<bool, Fail> {
+    Ok(matches!(read_head(alloc, source, date()?)?, HeadRead::Ended))
 }
 
 fn assert_ended(rt: &impl Abort, alloc: Global, source: &mut Source<Pieces>) -> Result<(), Fail> {
     for _ in 0..2 {
-        let ended = matches!(read_head(alloc, source, date()?)?, HeadRead::Ended);
-        assert!(rt; ended);
+        assert_holds(rt, "no request follows", is_ended(alloc, source)?);
     }
     Ok(())
 }
@@ -85,25 +90,61 @@ fn assert_body(
     wanted: &[u8],
 ) -> Result<(), Fail> {
     let body = body_of(alloc, exchange, source, count)?;
-    assert_eq!(rt; body.as_slice(), wanted);
+    assert_same(rt, body.as_slice(), wanted);
     Ok(())
 }
 
 const WHOLE: &[u8] =
     b"GET / HTTP/1.1\r\n\r\nPOST /p HTTP/1.1\r\nContent-Length: 2\r\n\r\nokPOST /c HTTP/1.1\r\nTransfer-Encoding: chunked\r\n\r\n2\r\nhi\r\n0\r\n\r\n";
 
+// A request without a body.
+fn assert_no_body(rt: &impl Abort, alloc: Global, source: &mut Source<Pieces>) -> Result<(), Fail> {
+    let mut first = request(rt, alloc, source, "/")?;
+    assert_body(rt, alloc, (&mut first, source), 9, b"")
+}
+
+// The request that is read next, of this target and of a body of this length.
+fn announced(
+    rt: &impl Abort,
+    alloc: Global,
+    source: &mut Source<Pieces>,
+    path: &str,
+    length: Option<usize>,
+) -> Result<Exchange, Fail> {
+    let exchange = request(rt, alloc, source, path)?;
+    assert_same(rt, exchange.head().body_length, length);
+    Ok(exchange)
+}
+
+// A body that was read with its head, and a chunked one behind it.
+fn assert_two_bodies(
+    rt: &impl Abort,
+    alloc: Global,
+    source: &mut Source<Pieces>,
+    held: &mut Exchange,
+    chunked: &mut Exchange,
+) -> Result<(), Fail> {
+    assert_body(rt, alloc, (held, source), 9, b"ok")?;
+    assert_body(rt, alloc, (chunked, source), 9, b"hi")?;
+    assert_body(rt, alloc, (chunked, source), 9, b"")
+}
+
+// Two requests with bodies, of which the second is read before the first's body.
+fn assert_later_bodies(
+    rt: &impl Abort,
+    alloc: Global,
+    source: &mut Source<Pieces>,
+) -> Result<(), Fail> {
+    let mut held = announced(rt, alloc, source, "/p", Some(2))?;
+    let mut chunked = announced(rt, alloc, source, "/c", None)?;
+    assert_two_bodies(rt, alloc, source, &mut held, &mut chunked)
+}
+
 // No body, one that is read with its head, and a chunked one.
 fn assert_bodies(rt: &impl Abort, alloc: Global, most: usize) -> Result<(), Fail> {
     let mut source = source_of(alloc, WHOLE, None, most)?;
-    let mut first = request(rt, alloc, &mut source, "/")?;
-    assert_body(rt, alloc, (&mut first, &mut source), 9, b"")?;
-    let mut held = request(rt, alloc, &mut source, "/p")?;
-    assert_eq!(rt; held.head().body_length, Some(2));
-    let mut chunked = request(rt, alloc, &mut source, "/c")?;
-    assert_eq!(rt; chunked.head().body_length, None);
-    assert_body(rt, alloc, (&mut held, &mut source), 9, b"ok")?;
-    assert_body(rt, alloc, (&mut chunked, &mut source), 9, b"hi")?;
-    assert_body(rt, alloc, (&mut chunked, &mut source), 9, b"")?;
+    assert_no_body(rt, alloc, &mut source)?;
+    assert_later_bodies(rt, alloc, &mut source)?;
     assert_ended(rt, alloc, &mut source)
 }
 
@@ -125,6 +166,42 @@ fn counted(alloc: Global) -> Result<Vec<u8>, Fail> {
     Ok(client)
 }
 
+// So many bytes of the body are read, each an `x`.
+fn assert_letters(
+    rt: &impl Abort,
+    alloc: Global,
+    (exchange, source): (&mut Exchange, &mut Source<Pieces>),
+    count: usize,
+) -> Result<(), Fail> {
+    let body = body_of(alloc, exchange, source, count)?;
+    assert_same(rt, body.len(), count);
+    assert_holds(rt, "each byte is an x", body.iter().all(|b| *b == b'x'));
+    Ok(())
+}
+
+// Of the body of the next request so many bytes are read, and it is given up or not.
+fn assert_first_of_two(
+    rt: &impl Abort,
+    alloc: Global,
+    source: &mut Source<Pieces>,
+    count: usize,
+    gives_up: bool,
+) -> Result<(), Fail> {
+    let mut exchange = request(rt, alloc, source, "/a")?;
+    assert_letters(rt, alloc, (&mut exchange, source), count)?;
+    if gives_up {
+        exchange.give_up(source);
+        assert_body(rt, alloc, (&mut exchange, source), 9, b"")?;
+    }
+    Ok(())
+}
+
+// One request follows, and none behind it.
+fn assert_last(rt: &impl Abort, alloc: Global, source: &mut Source<Pieces>) -> Result<(), Fail> {
+    let _behind = request(rt, alloc, source, "/b")?;
+    assert_ended(rt, alloc, source)
+}
+
 // Of a body of 1500 bytes so many are read, and it is given up or not: the next head follows.
 fn assert_counted(
     rt: &impl Abort,
@@ -133,16 +210,8 @@ fn assert_counted(
     count: usize,
     gives_up: bool,
 ) -> Result<(), Fail> {
-    let mut exchange = request(rt, alloc, source, "/a")?;
-    let body = body_of(alloc, &mut exchange, source, count)?;
-    assert_eq!(rt; body.len(), count);
-    assert!(rt; body.iter().all(|b| *b == b'x'));
-    if gives_up {
-        exchange.give_up(source);
-        assert_body(rt, alloc, (&mut exchange, source), 9, b"")?;
-    }
-    let _behind = request(rt, alloc, source, "/b")?;
-    assert_ended(rt, alloc, source)
+    assert_first_of_two(rt, alloc, source, count, gives_up)?;
+    assert_last(rt, alloc, source)
 }
 
 // The same over pieces of so many bytes.
@@ -166,22 +235,31 @@ fn the_next_head_stands_behind_a_counted_body(rt: HostRuntime) -> Result<(), Fai
 const CHUNKED: &[u8] =
     b"POST /c HTTP/1.1\r\nTransfer-Encoding: chunked\r\n\r\n2\r\nhi\r\n0\r\n\r\nGET /b HTTP/1.1\r\n\r\n";
 
+// Of the next request's body so many bytes are read, and it is given up.
+fn give_up(
+    rt: &impl Abort,
+    alloc: Global,
+    source: &mut Source<Pieces>,
+    count: usize,
+    wanted: &[u8],
+) -> Result<(), Fail> {
+    let mut exchange = request(rt, alloc, source, "/c")?;
+    assert_body(rt, alloc, (&mut exchange, source), count, wanted)?;
+    exchange.give_up(source);
+    Ok(())
+}
+
 // A chunked body is given up before its end was told: no head follows.
-fn assert_given_up(rt: &impl Abort, alloc: Global, most: usize, count: usize) -> Result<(), Fail> {
+fn assert_given_up(rt: &impl Abort, alloc: Global, most: usize, wanted: &[u8]) -> Result<(), Fail> {
     let mut source = source_of(alloc, CHUNKED, None, most)?;
-    let mut exchange = request(rt, alloc, &mut source, "/c")?;
-    let body = body_of(alloc, &mut exchange, &mut source, count)?;
-    assert_eq!(rt; body.len(), count);
-    exchange.give_up(&mut source);
+    give_up(rt, alloc, &mut source, wanted.len(), wanted)?;
     assert_ended(rt, alloc, &mut source)
 }
 
 // A chunked body is given up behind its end: the next head follows.
 fn assert_read_out(rt: &impl Abort, alloc: Global, most: usize) -> Result<(), Fail> {
     let mut source = source_of(alloc, CHUNKED, None, most)?;
-    let mut exchange = request(rt, alloc, &mut source, "/c")?;
-    assert_body(rt, alloc, (&mut exchange, &mut source), 3, b"hi")?;
-    exchange.give_up(&mut source);
+    give_up(rt, alloc, &mut source, 3, b"hi")?;
     let _behind = request(rt, alloc, &mut source, "/b")?;
     Ok(())
 }
@@ -189,9 +267,9 @@ fn assert_read_out(rt: &impl Abort, alloc: Global, most: usize) -> Result<(), Fa
 #[test]
 fn no_head_stands_behind_a_chunked_body_given_up(rt: HostRuntime) -> Result<(), Fail> {
     for most in SIZES {
-        assert_given_up(&rt, rt.alloc(), most, 0)?;
-        assert_given_up(&rt, rt.alloc(), most, 1)?;
-        assert_given_up(&rt, rt.alloc(), most, 2)?;
+        for wanted in ["", "h", "hi"] {
+            assert_given_up(&rt, rt.alloc(), most, wanted.as_bytes())?;
+        }
         assert_read_out(&rt, rt.alloc(), most)?;
     }
     Ok(())
@@ -203,17 +281,17 @@ fn assert_fault(
     exchange: &mut Exchange,
     source: &mut Source<Pieces>,
     kind: ErrorKind,
-) -> Result<(), Fail> {
+) {
     let mut buf = [0u8; 4];
-    let Err(fault) = exchange.read_body(source, &mut buf) else {
-        return Err("no fault".into());
+    let fault = match exchange.read_body(source, &mut buf) {
+        Ok(_) => None,
+        Err(fault) => Some(fault.kind()),
     };
-    assert_eq!(rt; fault.kind(), kind);
-    Ok(())
+    assert_same(rt, fault, Some(kind));
 }
 
-// The body is `abc`, and then each read tells this fault: no head follows.
-fn assert_broken(
+// The body of the next request is `abc`, and then each read tells this fault.
+fn assert_broken_body(
     rt: &impl Abort,
     alloc: Global,
     source: &mut Source<Pieces>,
@@ -221,8 +299,19 @@ fn assert_broken(
 ) -> Result<(), Fail> {
     let mut exchange = request(rt, alloc, source, "/a")?;
     assert_body(rt, alloc, (&mut exchange, source), 3, b"abc")?;
-    assert_fault(rt, &mut exchange, source, kind)?;
-    assert_fault(rt, &mut exchange, source, kind)?;
+    assert_fault(rt, &mut exchange, source, kind);
+    assert_fault(rt, &mut exchange, source, kind);
+    Ok(())
+}
+
+// The body is broken so, and no head follows.
+fn assert_broken(
+    rt: &impl Abort,
+    alloc: Global,
+    source: &mut Source<Pieces>,
+    kind: ErrorKind,
+) -> Result<(), Fail> {
+    assert_broken_body(rt, alloc, source, kind)?;
     assert_ended(rt, alloc, source)
 }
 
@@ -265,16 +354,33 @@ fn no_head_stands_behind_a_fault_of_a_body(rt: HostRuntime) -> Result<(), Fail> 
     Ok(())
 }
 
+// The text that refuses the next head, and whether it is the last.
+fn refusal(alloc: Global, source: &mut Source<Pieces>) -> Result<(Vec<u8>, bool), Fail> {
+    match read_head(alloc, source, date()?)? {
+        HeadRead::Refused { text, last } => Ok((text, last)),
+        _ => Err("not refused".into()),
+    }
+}
+
+// The next head is refused by this text, which is the last.
+fn assert_refusal(
+    rt: &impl Abort,
+    alloc: Global,
+    source: &mut Source<Pieces>,
+    wanted: &str,
+) -> Result<(), Fail> {
+    let (text, last) = refusal(alloc, source)?;
+    assert_same(rt, (text.as_slice(), last), (wanted.as_bytes(), true));
+    Ok(())
+}
+
+const REFUSED: &[u8] = b"qsd qsd qsd\r\nGET / HTTP/1.1\r\n\r\n";
+
 // A head that is refused, and nothing behind it.
 fn assert_refused(rt: &impl Abort, alloc: Global, most: usize) -> Result<(), Fail> {
-    let bad = b"qsd qsd qsd\r\nGET / HTTP/1.1\r\n\r\n";
-    let refusal = format!(in alloc; "HTTP/1.1 400 Bad Request\r\n{EMPTY}")?;
-    let mut source = source_of(alloc, bad, None, most)?;
-    let HeadRead::Refused { text, last } = read_head(alloc, &mut source, date()?)? else {
-        return Err("not refused".into());
-    };
-    assert_eq!(rt; text.as_slice(), refusal.as_str().as_bytes());
-    assert!(rt; last);
+    let mut source = source_of(alloc, REFUSED, None, most)?;
+    let wanted = format!(in alloc; "HTTP/1.1 400 Bad Request\r\n{EMPTY}")?;
+    assert_refusal(rt, alloc, &mut source, wanted.as_str())?;
     assert_ended(rt, alloc, &mut source)
 }
 

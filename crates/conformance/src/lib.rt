@@ -1,5 +1,5 @@
-//! Tests over the libraries: whole connections, where a client's bytes and steps go in and replies and output come out,
-//! and the calls of `tiny_http_wire`, with tables of what they answer.
+//! Tests of `tiny_http_core` and `greeter`: whole connections, where a client's bytes and steps go in and replies and output
+//! come out, and tables of what single calls answer.
 #![tactic(auto)]
 
 #[cfg(test)]
@@ -9,7 +9,11 @@ mod bodies;
 #[cfg(test)]
 mod exchanges;
 #[cfg(test)]
+mod greetings;
+#[cfg(test)]
 mod heads;
+#[cfg(test)]
+mod outlet;
 #[cfg(test)]
 mod persistence;
 #[cfg(test)]
@@ -21,8 +25,10 @@ mod reading;
 #[cfg(test)]
 mod runs;
 #[cfg(test)]
-mod turns;
+mod same;
 #[cfg(test)]
-mod wire;
+mod source;
+#[cfg(test)]
+mod turns;
 #[cfg(test)]
 mod withheld;

@@ -1,6 +1,7 @@
 //! Requests that are handed out while earlier ones are open: their answers leave in the order of the requests.
 use crate::runs::Deed::{Ask, Drop, Text};
 use crate::runs::{Case, Deed, EMPTY, TEXT, assert_case, assert_troubled, steps_of, takes};
+use crate::same::{assert_holds, assert_same};
 use std::alloc::Global;
 use std::io;
 use std::io::{ErrorKind, Write};
@@ -241,8 +242,8 @@ fn deeds_of(alloc: Global, order: &[u64]) -> Result<Vec<Deed<'static>>, Fail> {
     Ok(deeds)
 }
 
-// Drops so many requests in every order, and says how many orders there are.
-fn drop_all(rt: &impl Abort, alloc: Global, count: usize, codes: u64) -> Result<u64, Fail> {
+// So many requests, and the output where each is dropped.
+fn requests(alloc: Global, count: usize) -> Result<(Vec<u8>, Vec<u8>), Fail> {
     let mut client = Vec::new(alloc);
     let mut wanted = Vec::new(alloc);
     for (request, status_line) in REQUESTS.iter().zip(&STATUS_LINES).take(count) {
@@ -250,20 +251,33 @@ fn drop_all(rt: &impl Abort, alloc: Global, count: usize, codes: u64) -> Result<
         wanted.extend_from_slice(status_line.as_bytes())?;
         wanted.extend_from_slice(EMPTY.as_bytes())?;
     }
+    Ok((client, wanted))
+}
+
+// Drops the requests in this order.
+fn assert_dropped(
+    rt: &impl Abort,
+    alloc: Global,
+    order: &[u64],
+    client: &[u8],
+    wanted: &[u8],
+) -> Result<(), Fail> {
+    let deeds = deeds_of(alloc, order)?;
+    let (_failures, writer) = run_faltering(alloc, client, deeds.as_slice(), u64::MAX)?;
+    assert_same(rt, (order, writer.taken.as_slice()), (order, wanted));
+    Ok(())
+}
+
+// Drops so many requests in every order, and says how many orders there are.
+fn drop_all(rt: &impl Abort, alloc: Global, count: usize, codes: u64) -> Result<u64, Fail> {
+    let (client, wanted) = requests(alloc, count)?;
     let mut orders: u64 = 0;
     for code in 0..codes {
-        let Some(order) = order_of(alloc, code, count as u64)? else {
-            continue;
-        };
-        let deeds = deeds_of(alloc, order.as_slice())?;
-        let (_failures, writer) = run_faltering(
-            alloc,
-            client.as_slice(),
-            deeds.as_slice(),
-            u64::MAX,
-        )?;
-        assert_eq!(rt; writer.taken.as_slice(), wanted.as_slice(), "{order:?}");
-        orders = orders.saturating_add(1);
+        if let Some(order) = order_of(alloc, code, count as u64)? {
+            let order = order.as_slice();
+            assert_dropped(rt, alloc, order, client.as_slice(), wanted.as_slice())?;
+            orders = orders.saturating_add(1);
+        }
     }
     Ok(orders)
 }
@@ -283,19 +297,31 @@ fn drops_in_every_order(rt: HostRuntime) -> Result<(), Fail> {
     Ok(())
 }
 
+// Runs the three requests where this call of the writer fails, and says whether there is such a call.
+fn assert_faltered(rt: &impl Abort, alloc: Global, call: u64, whole: &[u8]) -> Result<bool, Fail> {
+    let (failures, writer) = run_faltering(alloc, THREE, OUT_OF_ORDER, call)?;
+    let taken = writer.taken.as_slice();
+    if writer.calls > 0 {
+        assert_same(rt, (failures, taken), (0, whole));
+        return Ok(false);
+    }
+    assert_same(rt, failures, 1);
+    assert_holds(
+        rt,
+        "a front of the whole is taken",
+        whole.starts_with(taken),
+    );
+    Ok(true)
+}
+
 #[test]
 fn each_call_of_the_writer_fails(rt: HostRuntime) -> Result<(), Fail> {
     let (_failures, whole) = run_faltering(rt.alloc(), THREE, OUT_OF_ORDER, u64::MAX)?;
     let mut last = 0;
     for call in 1..100 {
-        let (failures, writer) = run_faltering(rt.alloc(), THREE, OUT_OF_ORDER, call)?;
-        if writer.calls > 0 {
-            assert_eq!(rt; failures, 0);
-            assert_eq!(rt; writer.taken.as_slice(), whole.taken.as_slice());
+        if !assert_faltered(&rt, rt.alloc(), call, whole.taken.as_slice())? {
             break;
         }
-        assert_eq!(rt; failures, 1);
-        assert!(rt; whole.taken.starts_with(writer.taken.as_slice()));
         last = call;
     }
     // Three answers and one text that waited, each written and flushed by at least one call.

@@ -1,4 +1,5 @@
 //! Readers of a part of another one, and readers that stay at their end.
+use crate::same::{assert_holds, assert_same};
 use std::alloc::Global;
 use std::io::{ErrorKind, Read};
 use std::process::Abort;
@@ -15,13 +16,11 @@ fn source_of(alloc: Global, bytes: &[u8]) -> Result<Source<Canned>, Fail> {
 // The next bytes of a reader that has them in one piece are these.
 fn gives<R: ReadDevice>(rt: &impl Abort, reader: &mut R, wanted: &[u8]) {
     let mut buf = [0u8; 16];
-    match reader.read_in(&mut buf) {
-        Ok(n) => {
-            assert!(rt; n <= 16);
-            assert_eq!(rt; &buf[..n], wanted);
-        }
-        Err(_) => assert!(rt; false),
-    }
+    let found = match reader.read_in(&mut buf) {
+        Ok(n) => Some(&buf[..n]),
+        Err(_) => None,
+    };
+    assert_same(rt, found, Some(wanted));
 }
 
 #[test]
@@ -37,39 +36,63 @@ fn a_part_that_is_read_to_its_end(rt: HostRuntime) -> Result<(), Fail> {
     Ok(())
 }
 
+// So many bytes are read into this buffer by the trait of std.
+fn assert_read<R: Read>(rt: &impl Abort, reader: &mut R, buf: &mut [u8], count: usize) {
+    let found = match reader.read(buf) {
+        Ok(n) => Some(n),
+        Err(_) => None,
+    };
+    assert_same(rt, found, Some(count));
+}
+
 #[test]
 fn the_rest_of_a_part_is_read_away(rt: HostRuntime) -> Result<(), Fail> {
     let mut one = [0u8; 1];
     let mut source = source_of(rt.alloc(), b"hello world")?;
     {
         let mut part = EqualReader::new(&mut source, 5);
-        assert!(rt; matches!(part.read(&mut []), Ok(0)));
-        assert!(rt; matches!(part.read(&mut one), Ok(1)));
-        assert_eq!(rt; one[0], b'h');
+        assert_read(&rt, &mut part, &mut [], 0);
+        assert_read(&rt, &mut part, &mut one, 1);
+        assert_same(&rt, one, *b"h");
     }
     gives(&rt, &mut source, b" world");
-    let mut dropped = source_of(rt.alloc(), b"hello world")?;
+    Ok(())
+}
+
+#[test]
+fn a_part_that_is_not_read_is_read_away(rt: HostRuntime) -> Result<(), Fail> {
+    let mut source = source_of(rt.alloc(), b"hello world")?;
     {
-        let _part = EqualReader::new(&mut dropped, 5);
+        let _part = EqualReader::new(&mut source, 5);
     }
-    gives(&rt, &mut dropped, b" world");
+    gives(&rt, &mut source, b" world");
+    Ok(())
+}
+
+#[test]
+fn a_part_that_is_finished_is_read_away(rt: HostRuntime) -> Result<(), Fail> {
     let part = EqualReader::new(source_of(rt.alloc(), b"hello world")?, 5);
     gives(&rt, &mut part.finish(), b" world");
     Ok(())
 }
 
+// A read tells that it comes too late.
+fn assert_late<R: ReadDevice>(rt: &impl Abort, reader: &mut R) {
+    let mut buf = [0u8; 4];
+    let fault = match reader.read_in(&mut buf) {
+        Ok(_) => None,
+        Err(e) => Some(e.kind()),
+    };
+    assert_same(rt, fault, Some(ErrorKind::TimedOut));
+}
+
 #[test]
 fn a_part_that_is_longer_than_its_reader(rt: HostRuntime) -> Result<(), Fail> {
-    let mut buf = [0u8; 4];
     let bytes = b"abc".to_vec(rt.alloc())?;
     let mut part = EqualReader::new(Canned::new(bytes, Some(ErrorKind::TimedOut)), 5);
     gives(&rt, &mut part, b"abc");
-    for _ in 0..2 {
-        match part.read_in(&mut buf) {
-            Ok(_) => assert!(rt; false),
-            Err(e) => assert_eq!(rt; e.kind(), ErrorKind::TimedOut),
-        }
-    }
+    assert_late(&rt, &mut part);
+    assert_late(&rt, &mut part);
     gives(&rt, &mut EqualReader::new(part.finish(), 0), b"");
     Ok(())
 }
@@ -77,13 +100,18 @@ fn a_part_that_is_longer_than_its_reader(rt: HostRuntime) -> Result<(), Fail> {
 #[test]
 fn a_fused_reader_stays_at_its_end(rt: HostRuntime) -> Result<(), Fail> {
     let mut fused = FusedReader::new(source_of(rt.alloc(), b"a")?);
-    assert!(rt; matches!(fused.read(&mut []), Ok(0)));
+    assert_read(&rt, &mut fused, &mut [], 0);
     gives(&rt, &mut fused, b"a");
-    assert!(rt; matches!(fused.read(&mut []), Ok(0)));
+    assert_read(&rt, &mut fused, &mut [], 0);
     gives(&rt, &mut fused, b"");
     gives(&rt, &mut fused, b"");
-    assert!(rt; fused.into_inner().is_none());
-    let open_reader = FusedReader::new(source_of(rt.alloc(), b"a")?);
-    assert!(rt; open_reader.into_inner().is_some());
+    assert_holds(&rt, "no reader is left", fused.into_inner().is_none());
+    Ok(())
+}
+
+#[test]
+fn a_fused_reader_that_is_open_has_its_reader(rt: HostRuntime) -> Result<(), Fail> {
+    let fused = FusedReader::new(source_of(rt.alloc(), b"a")?);
+    assert!(rt; fused.into_inner().is_some());
     Ok(())
 }

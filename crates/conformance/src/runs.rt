@@ -1,4 +1,5 @@
 //! Runs of a connection in memory, and what has to come of them.
+use crate::same::assert_same;
 use httpdate::HttpDate;
 use std::alloc::{AllocError, Global};
 use std::fmt::Write;
@@ -8,6 +9,7 @@ use std::process::Abort;
 use std::test::Fail;
 use tiny_http_core::driver::{Reply, Step, Timed, run};
 use tiny_http_core::exchange::Head;
+use tiny_http_core::outlet::Outlet;
 use tiny_http_wire::common::StatusCode;
 use tiny_http_wire::device::{Budget, Canned, ReadDevice};
 use tiny_http_wire::response::Response;
@@ -194,7 +196,14 @@ fn describe(alloc: Global, replies: &[Reply]) -> Result<String, AllocError> {
     Ok(summary)
 }
 
-// The output is what the writer took, and what is held back behind it.
+// What the writer took, and what is held back behind it.
+fn output_of(alloc: Global, outlet: Outlet<Budget>) -> Result<Vec<u8>, Fail> {
+    let held = outlet.held().to_vec(alloc)?;
+    let mut output = outlet.into_inner().bytes().to_vec(alloc)?;
+    output.extend_from_slice(held.as_slice())?;
+    Ok(output)
+}
+
 fn run_through<R: ReadDevice + Drop>(
     alloc: Global,
     reader: R,
@@ -206,10 +215,31 @@ fn run_through<R: ReadDevice + Drop>(
         return Err("no room for the replies".into());
     };
     let replies = describe(alloc, record.replies.as_slice())?;
-    let held = record.outlet.held().to_vec(alloc)?;
-    let mut output = record.outlet.into_inner().bytes().to_vec(alloc)?;
-    output.extend_from_slice(held.as_slice())?;
+    let output = output_of(alloc, record.outlet)?;
     Ok(Outcome { replies, output })
+}
+
+// The texts are the same, in the run over these bytes.
+fn assert_text(
+    rt: &impl Abort,
+    alloc: Global,
+    client: &[u8],
+    found: &str,
+    wanted: &str,
+) -> Result<(), Fail> {
+    let client = String::from_utf8_lossy(alloc, client)?;
+    let client = client.as_str();
+    assert_same(rt, (client, found), (client, wanted));
+    Ok(())
+}
+
+// The pieces together.
+fn joined(alloc: Global, pieces: &[&str]) -> Result<String, Fail> {
+    let mut text = String::new(alloc);
+    for piece in pieces {
+        text.push_str(piece)?;
+    }
+    Ok(text)
 }
 
 fn assert_outcome(
@@ -218,15 +248,29 @@ fn assert_outcome(
     case: &Case<'_>,
     outcome: &Outcome,
 ) -> Result<(), Fail> {
-    let mut output = String::new(alloc);
-    for piece in case.output {
-        output.push_str(piece)?;
-    }
-    let client = String::from_utf8_lossy(alloc, case.client)?;
-    assert_eq!(rt; outcome.replies.as_str(), case.replies, "{client:?}");
+    assert_text(
+        rt,
+        alloc,
+        case.client,
+        outcome.replies.as_str(),
+        case.replies,
+    )?;
+    let wanted = joined(alloc, case.output)?;
     let written = String::from_utf8_lossy(alloc, outcome.output.as_slice())?;
-    assert_eq!(rt; written.as_str(), output.as_str(), "{client:?}");
-    Ok(())
+    assert_text(rt, alloc, case.client, written.as_str(), wanted.as_str())
+}
+
+// The run comes out so where the bytes come in pieces of this size.
+fn assert_apart(
+    rt: &impl Abort,
+    alloc: Global,
+    case: &Case<'_>,
+    trouble: Trouble,
+    most: usize,
+) -> Result<(), Fail> {
+    let reader = Canned::new(case.client.to_vec(alloc)?, trouble.reader);
+    let apart = run_through(alloc, Pieces::new(reader, most), case.deeds, trouble)?;
+    assert_outcome(rt, alloc, case, &apart)
 }
 
 /// The run comes out so where reader and writer fail so, whether the bytes come together or in pieces.
@@ -240,9 +284,7 @@ pub(crate) fn assert_troubled(
     let together = run_through(alloc, reader, case.deeds, trouble)?;
     assert_outcome(rt, alloc, case, &together)?;
     for most in SIZES {
-        let reader = Canned::new(case.client.to_vec(alloc)?, trouble.reader);
-        let apart = run_through(alloc, Pieces::new(reader, most), case.deeds, trouble)?;
-        assert_outcome(rt, alloc, case, &apart)?;
+        assert_apart(rt, alloc, case, trouble, most)?;
     }
     Ok(())
 }

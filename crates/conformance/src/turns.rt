@@ -1,5 +1,7 @@
 //! Numbers that have a byte in turn.
+use crate::same::{assert_same, assert_shown};
 use std::alloc::Global;
+use std::process::Abort;
 use std::test::Fail;
 use tiny_http_core::turns::{Finishing, Leaving, Turns, TurnsError};
 
@@ -7,8 +9,10 @@ fn text(alloc: Global, text: &[u8]) -> Result<Vec<u8>, Fail> {
     Ok(text.to_vec(alloc)?)
 }
 
-// What became of a turn that was to be finished: the item, if it comes out, and the text.
-fn told(finishing: Finishing<u8>) -> (&'static str, Option<u8>, Option<Vec<u8>>) {
+// What became of a turn, in a word: the item and the text, if they come out.
+type Told = (&'static str, Option<u8>, Option<Vec<u8>>);
+
+fn told(finishing: Finishing<u8>) -> Told {
     match finishing {
         Finishing::Passed => ("passed", None, None),
         Finishing::Go(item, text) => ("go", Some(item), Some(text)),
@@ -16,7 +20,7 @@ fn told(finishing: Finishing<u8>) -> (&'static str, Option<u8>, Option<Vec<u8>>)
     }
 }
 
-fn told_of_leaving(leaving: Leaving<u8>) -> (&'static str, Option<u8>, Option<Vec<u8>>) {
+fn told_of_leaving(leaving: Leaving<u8>) -> Told {
     match leaving {
         Leaving::Left => ("left", None, None),
         Leaving::Go(item, text) => ("go", Some(item), Some(text)),
@@ -24,71 +28,125 @@ fn told_of_leaving(leaving: Leaving<u8>) -> (&'static str, Option<u8>, Option<Ve
     }
 }
 
-fn is(
-    told: (&'static str, Option<u8>, Option<Vec<u8>>),
-    word: &str,
-    item: Option<u8>,
-    text: Option<&[u8]>,
-) -> bool {
-    let (what, given, bytes) = told;
-    let same = match (&bytes, text) {
-        (Some(bytes), Some(text)) => bytes.as_slice() == text,
-        (None, None) => true,
-        _ => false,
+// The same is told, and of this number.
+fn assert_told(
+    rt: &impl Abort,
+    number: u64,
+    told: &Told,
+    wanted: (&str, Option<u8>, Option<&[u8]>),
+) {
+    let text = match &told.2 {
+        Some(text) => Some(text.as_slice()),
+        None => None,
     };
-    what == word && given == item && same
+    assert_same(
+        rt,
+        (number, told.0, told.1, text),
+        (number, wanted.0, wanted.1, wanted.2),
+    );
+}
+
+// Leaves this text at this number, of which that is told.
+fn assert_left(
+    rt: &impl Abort,
+    alloc: Global,
+    turns: &mut Turns<u8>,
+    (number, bytes): (u64, &[u8]),
+    wanted: (&str, Option<u8>, Option<&[u8]>),
+) -> Result<(), Fail> {
+    let leaving = turns.leave(number, text(alloc, bytes)?);
+    assert_told(rt, number, &told_of_leaving(leaving), wanted);
+    Ok(())
+}
+
+// Finishes this number with this item, of which that is told.
+fn assert_finished(
+    rt: &impl Abort,
+    turns: &mut Turns<u8>,
+    (number, item): (u64, u8),
+    wanted: (&str, Option<u8>, Option<&[u8]>),
+) {
+    assert_told(rt, number, &told(turns.finish(number, item)), wanted);
+}
+
+// Issues three numbers; the second waits for the first.
+fn assert_issued(rt: &impl Abort, turns: &mut Turns<u8>) -> Result<(), Fail> {
+    for number in 0..3 {
+        assert_same(rt, turns.issue()?, number);
+    }
+    assert_same(rt, turns.take(1), None);
+    Ok(())
+}
+
+// Texts are left behind the first number, and the first is taken.
+fn assert_texts_wait(rt: &impl Abort, alloc: Global, turns: &mut Turns<u8>) -> Result<(), Fail> {
+    assert_left(rt, alloc, turns, (1, b"b"), ("left", None, None))?;
+    assert_same(rt, turns.take(0), Some(7));
+    assert_left(rt, alloc, turns, (0, b"x"), ("strange", None, Some(b"x")))?;
+    assert_left(rt, alloc, turns, (2, b"c"), ("left", None, None))
+}
+
+// The texts come out, each behind the number before it.
+fn assert_texts_come_out(rt: &impl Abort, turns: &mut Turns<u8>) {
+    assert_finished(rt, turns, (0, 7), ("go", Some(7), Some(b"b")));
+    assert_finished(rt, turns, (1, 7), ("go", Some(7), Some(b"c")));
+    assert_finished(rt, turns, (2, 7), ("passed", None, None));
+    assert_finished(rt, turns, (2, 8), ("strange", Some(8), None));
 }
 
 #[test]
 fn left_texts_come_out_in_turn(rt: HostRuntime) -> Result<(), Fail> {
-    let alloc = rt.alloc();
-    let mut turns = Turns::new(alloc, 7u8);
-    for number in 0..3 {
-        assert_eq!(rt; turns.issue()?, number);
-    }
-    assert!(rt; turns.take(1).is_none());
-    let leaving = turns.leave(1, text(alloc, b"b")?);
-    assert!(rt; is(told_of_leaving(leaving), "left", None, None));
-    assert_eq!(rt; turns.take(0), Some(7));
-    let leaving = turns.leave(0, text(alloc, b"x")?);
-    assert!(rt; is(told_of_leaving(leaving), "strange", None, Some(b"x")));
-    let leaving = turns.leave(2, text(alloc, b"c")?);
-    assert!(rt; is(told_of_leaving(leaving), "left", None, None));
-    assert!(rt; is(told(turns.finish(0, 7)), "go", Some(7), Some(b"b")));
-    assert!(rt; is(told(turns.finish(1, 7)), "go", Some(7), Some(b"c")));
-    assert!(rt; is(told(turns.finish(2, 7)), "passed", None, None));
-    assert!(rt; is(told(turns.finish(2, 8)), "strange", Some(8), None));
-    assert_eq!(rt; turns.issue()?, 3);
-    let leaving = turns.leave(3, text(alloc, b"d")?);
-    assert!(rt; is(told_of_leaving(leaving), "go", Some(7), Some(b"d")));
-    assert!(rt; turns.into_item().is_none());
+    let mut turns = Turns::new(rt.alloc(), 7u8);
+    assert_issued(&rt, &mut turns)?;
+    assert_texts_wait(&rt, rt.alloc(), &mut turns)?;
+    assert_texts_come_out(&rt, &mut turns);
+    assert_same(&rt, turns.issue()?, 3);
+    assert_left(
+        &rt,
+        rt.alloc(),
+        &mut turns,
+        (3, b"d"),
+        ("go", Some(7), Some(b"d")),
+    )?;
+    assert_same(&rt, turns.into_item(), None);
     Ok(())
+}
+
+// Nothing is put back where nothing is out.
+fn assert_not_put_back(rt: &impl Abort, turns: &mut Turns<u8>) -> Result<(), Fail> {
+    assert_same(rt, turns.put_back(0, 9), Err(9));
+    assert_same(rt, turns.issue()?, 0);
+    assert_same(rt, turns.put_back(0, 9), Err(9));
+    Ok(())
+}
+
+// The item is taken once, and once more where it was put back.
+fn assert_put_back(rt: &impl Abort, turns: &mut Turns<u8>) {
+    assert_same(rt, turns.take(0), Some(7));
+    assert_same(rt, turns.take(0), None);
+    assert_same(rt, turns.put_back(0, 8), Ok(()));
+    assert_same(rt, turns.take(0), Some(8));
+}
+
+// Behind its end no number is taken.
+fn assert_past(rt: &impl Abort, turns: &mut Turns<u8>) {
+    assert_finished(rt, turns, (0, 8), ("passed", None, None));
+    assert_same(rt, turns.take(0), None);
+    assert_same(rt, turns.take(u64::MAX), None);
 }
 
 #[test]
 fn a_turn_is_put_back(rt: HostRuntime) -> Result<(), Fail> {
     let mut turns = Turns::new(rt.alloc(), 7u8);
-    assert_eq!(rt; turns.put_back(0, 9), Err(9));
-    let number = turns.issue()?;
-    assert_eq!(rt; turns.put_back(number, 9), Err(9));
-    assert_eq!(rt; turns.take(number), Some(7));
-    assert!(rt; turns.take(number).is_none());
-    assert_eq!(rt; turns.put_back(number, 8), Ok(()));
-    assert_eq!(rt; turns.take(number), Some(8));
-    assert!(rt; is(told(turns.finish(number, 8)), "passed", None, None));
-    assert!(rt; turns.take(number).is_none());
-    assert!(rt; turns.take(u64::MAX).is_none());
-    assert_eq!(rt; turns.into_item(), Some(8));
+    assert_not_put_back(&rt, &mut turns)?;
+    assert_put_back(&rt, &mut turns);
+    assert_past(&rt, &mut turns);
+    assert_same(&rt, turns.into_item(), Some(8));
     Ok(())
 }
 
 #[test]
 fn faults_in_words(rt: HostRuntime) -> Result<(), Fail> {
-    let memory = TurnsError::Memory;
-    let shown = format!(in rt.alloc(); "{memory}")?;
-    assert_eq!(rt; shown.as_str(), "out of memory");
-    let exhausted = TurnsError::Exhausted;
-    let shown = format!(in rt.alloc(); "{exhausted}")?;
-    assert_eq!(rt; shown.as_str(), "no number is left");
-    Ok(())
+    assert_shown(&rt, rt.alloc(), &TurnsError::Memory, "out of memory")?;
+    assert_shown(&rt, rt.alloc(), &TurnsError::Exhausted, "no number is left")
 }

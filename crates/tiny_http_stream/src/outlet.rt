@@ -203,6 +203,3 @@ impl<W: WriteDevice> WriteDevice for Outlet<W> {
         self.flush()
     }
 }
-
-#[cfg(test)]
-mod tests;

@@ -445,6 +445,3 @@ fn keep(text: &mut Vec<u8>, b: u8) -> Result<(), LineFault>
         Err(_) => Err(LineFault::Memory),
     }
 }
-
-#[cfg(test)]
-mod tests;

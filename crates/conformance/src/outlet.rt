@@ -1,0 +1,112 @@
+//! What an outlet holds and sends.
+use crate::same::{assert_holds, assert_same};
+use std::alloc::Global;
+use std::io::ErrorKind;
+use std::process::Abort;
+use std::test::Fail;
+use tiny_http_core::outlet::Outlet;
+use tiny_http_wire::device::{Budget, WriteDevice};
+
+fn outlet_of(alloc: Global, room: usize) -> Outlet<Budget> {
+    Outlet::new(Budget::new(alloc, room, ErrorKind::Other))
+}
+
+// So the outlet stands: what it holds, and whether it is ended.
+fn assert_state(rt: &impl Abort, outlet: &Outlet<Budget>, held: &[u8], is_ended: bool) {
+    assert_same(rt, (outlet.held(), outlet.is_ended()), (held, is_ended));
+}
+
+// These bytes went out.
+fn assert_sent(rt: &impl Abort, outlet: Outlet<Budget>, wanted: &[u8]) {
+    let writer = outlet.into_inner();
+    assert_same(rt, writer.bytes(), wanted);
+}
+
+#[test]
+fn writes_are_held_until_the_flush(rt: HostRuntime) -> Result<(), Fail> {
+    let mut outlet = outlet_of(rt.alloc(), 100);
+    outlet.write(b"hello ")?;
+    outlet.write(b"world")?;
+    assert_state(&rt, &outlet, b"hello world", false);
+    outlet.flush()?;
+    assert_state(&rt, &outlet, b"", false);
+    assert_sent(&rt, outlet, b"hello world");
+    Ok(())
+}
+
+// So many bytes, of all values up to 250.
+fn bytes_of(alloc: Global, length: usize) -> Result<Vec<u8>, Fail> {
+    let mut bytes = Vec::new(alloc);
+    for i in 0..length {
+        bytes.push((i % 251) as u8)?;
+    }
+    Ok(bytes)
+}
+
+// What is written behind a front goes out behind it.
+fn assert_written(rt: &impl Abort, alloc: Global, bytes: &[u8]) -> Result<(), Fail> {
+    let mut outlet = outlet_of(alloc, 10_000);
+    outlet.write(b"front")?;
+    outlet.write(bytes)?;
+    outlet.flush()?;
+    let writer = outlet.into_inner();
+    assert_same(rt, writer.bytes().get(..5), Some(b"front"));
+    assert_same(rt, writer.bytes().get(5..), Some(bytes));
+    Ok(())
+}
+
+#[test]
+fn what_does_not_fit_is_sent(rt: HostRuntime) -> Result<(), Fail> {
+    for length in [1023, 1024, 1025, 3000] {
+        let bytes = bytes_of(rt.alloc(), length)?;
+        assert_written(&rt, rt.alloc(), bytes.as_slice())?;
+    }
+    Ok(())
+}
+
+// An outlet whose flush told a fault behind three bytes.
+fn broken(rt: &impl Abort, alloc: Global) -> Result<Outlet<Budget>, Fail> {
+    let mut outlet = outlet_of(alloc, 3);
+    outlet.write(b"hello")?;
+    let fault = match outlet.flush() {
+        Ok(()) => None,
+        Err(e) => Some(e.kind()),
+    };
+    assert_same(rt, fault, Some(ErrorKind::Other));
+    Ok(outlet)
+}
+
+#[test]
+fn a_fault_ends_it(rt: HostRuntime) -> Result<(), Fail> {
+    let mut outlet = broken(&rt, rt.alloc())?;
+    assert_state(&rt, &outlet, b"", true);
+    outlet.write(b"more")?;
+    outlet.flush()?;
+    assert_state(&rt, &outlet, b"", true);
+    let writer = outlet.into_inner();
+    assert_same(&rt, writer.bytes(), b"hel");
+    assert_same(&rt, writer.failures(), 1);
+    Ok(())
+}
+
+#[test]
+fn it_is_ended_behind_what_it_holds(rt: HostRuntime) -> Result<(), Fail> {
+    let mut outlet = outlet_of(rt.alloc(), 100);
+    outlet.write(b"hello")?;
+    outlet.end()?;
+    assert_holds(&rt, "the outlet is ended", outlet.is_ended());
+    outlet.write(b" world")?;
+    outlet.flush()?;
+    assert_sent(&rt, outlet, b"hello");
+    Ok(())
+}
+
+#[test]
+fn what_is_held_is_dropped_at_the_abandoning(rt: HostRuntime) -> Result<(), Fail> {
+    let mut outlet = outlet_of(rt.alloc(), 100);
+    outlet.write(b"hello")?;
+    outlet.abandon();
+    assert_holds(&rt, "the outlet is ended", outlet.is_ended());
+    assert_sent(&rt, outlet, b"");
+    Ok(())
+}

@@ -1,0 +1,436 @@
+//! Codes, versions, methods and headers, made, shown and compared.
+use crate::same::{assert_holds, assert_same, assert_shown};
+use httpdate::HttpDate;
+use std::alloc::Global;
+use std::cmp::Ordering;
+use std::hash::{DefaultHasher, Hash, Hasher};
+use std::process::Abort;
+use std::test::Fail;
+use tiny_http_wire::ascii::AsciiString;
+use tiny_http_wire::common::{HTTPVersion, Header, HeaderField, Method, ParseError, StatusCode};
+
+fn header(alloc: Global, field: &[u8], value: &[u8]) -> Result<Header, Fail> {
+    match Header::from_bytes(field.to_vec(alloc)?, value.to_vec(alloc)?) {
+        Ok(header) => Ok(header),
+        Err(()) => Err("not ASCII".into()),
+    }
+}
+
+fn name(alloc: Global, bytes: &[u8]) -> Result<HeaderField, Fail> {
+    Ok(HeaderField::from_bytes(bytes.to_vec(alloc)?)?)
+}
+
+// The methods that have a name of their own.
+fn nine_methods() -> [(&'static str, Method); 9] {
+    [
+        ("GET", Method::Get),
+        ("HEAD", Method::Head),
+        ("POST", Method::Post),
+        ("PUT", Method::Put),
+        ("DELETE", Method::Delete),
+        ("CONNECT", Method::Connect),
+        ("OPTIONS", Method::Options),
+        ("TRACE", Method::Trace),
+        ("PATCH", Method::Patch),
+    ]
+}
+
+const PHRASES: &[(u16, &str)] = &[
+    (100, "Continue"),
+    (200, "OK"),
+    (203, "Non-Authoritative Information"),
+    (226, "IM Used"),
+    (299, "Unknown"),
+    (306, "Unknown"),
+    (404, "Not Found"),
+    (408, "Request Timeout"),
+    (417, "Expectation Failed"),
+    (431, "Request Header Fields Too Large"),
+    (505, "HTTP Version Not Supported"),
+    (511, "Network Authentication Required"),
+    (65535, "Unknown"),
+];
+
+#[test]
+fn phrases(rt: HostRuntime) {
+    for (code, phrase) in PHRASES {
+        let found = StatusCode(*code).default_reason_phrase();
+        assert_same(&rt, (*code, found), (*code, *phrase));
+    }
+}
+
+fn code<N>(number: N) -> u16
+where
+    StatusCode: From<N>,
+{
+    StatusCode::from(number).as_u16()
+}
+
+// Codes from numbers of 8 bits, of 16, and of 32.
+fn codes() -> [[u16; 3]; 3] {
+    [
+        [code(-1i8), code(127i8), code(200u8)],
+        [code(-200i16), code(404u16), code(-65536i32)],
+        [code(200i32), code(65736u32), code(204u8)],
+    ]
+}
+
+#[test]
+fn codes_from_numbers(rt: HostRuntime) {
+    assert_same(
+        &rt,
+        codes(),
+        [[65535, 127, 200], [65336, 404, 0], [200, 200, 204]],
+    );
+    assert_holds(
+        &rt,
+        "199 is less than 200",
+        StatusCode(199) < StatusCode(200),
+    );
+    assert_holds(
+        &rt,
+        "204 is 204",
+        StatusCode(204) == StatusCode::from(204u8),
+    );
+}
+
+const CODES_AGAINST_NUMBERS: &[(u16, u16, Ordering)] = &[
+    (200, 200, Ordering::Equal),
+    (199, 200, Ordering::Less),
+    (404, 200, Ordering::Greater),
+    (0, 65535, Ordering::Less),
+];
+
+// The code stands so to the number.
+fn assert_code(rt: &impl Abort, code: u16, number: u16, order: Ordering) {
+    let status = StatusCode(code);
+    assert_same(rt, (code, status.cmp_u16(number)), (code, order));
+    assert_same(
+        rt,
+        (code, status.is(number)),
+        (code, order == Ordering::Equal),
+    );
+    assert_same(rt, (code, status.cmp(&StatusCode(number))), (code, order));
+}
+
+#[test]
+fn codes_against_numbers(rt: HostRuntime) {
+    for (code, number, order) in CODES_AGAINST_NUMBERS {
+        assert_code(&rt, *code, *number, *order);
+    }
+}
+
+const VERSIONS_AGAINST_PAIRS: &[(HTTPVersion, (u8, u8), Ordering)] = &[
+    (HTTPVersion(1, 1), (1, 1), Ordering::Equal),
+    (HTTPVersion(1, 0), (1, 1), Ordering::Less),
+    (HTTPVersion(1, 1), (1, 0), Ordering::Greater),
+    (HTTPVersion(0, 9), (1, 0), Ordering::Less),
+    (HTTPVersion(2, 0), (1, 1), Ordering::Greater),
+];
+
+// The version stands so to the pair.
+fn assert_version(rt: &impl Abort, version: HTTPVersion, pair: (u8, u8), order: Ordering) {
+    assert_same(rt, (version, version.cmp_pair(pair)), (version, order));
+    assert_same(
+        rt,
+        (version, version.is(pair)),
+        (version, order == Ordering::Equal),
+    );
+}
+
+#[test]
+fn versions_against_pairs(rt: HostRuntime) {
+    for (version, pair, order) in VERSIONS_AGAINST_PAIRS {
+        assert_version(&rt, *version, *pair, *order);
+    }
+}
+
+#[test]
+fn versions_are_shown(rt: HostRuntime) -> Result<(), Fail> {
+    for (version, text) in [((1, 1), "1.1"), ((0, 9), "0.9"), ((255, 10), "255.10")] {
+        assert_shown(&rt, rt.alloc(), &HTTPVersion::from(version), text)?;
+    }
+    Ok(())
+}
+
+#[test]
+fn a_version_is_shown_in_a_wide_place(rt: HostRuntime) -> Result<(), Fail> {
+    let version = HTTPVersion(1, 1);
+    let shown = format!(in rt.alloc(); "{version:>9}")?;
+    assert_same(&rt, shown.as_str(), "1.1");
+    Ok(())
+}
+
+#[test]
+fn versions_are_in_order(rt: HostRuntime) {
+    assert_holds(
+        &rt,
+        "0.9 is before 1.0",
+        HTTPVersion(0, 9) < HTTPVersion(1, 0),
+    );
+    assert_holds(
+        &rt,
+        "1.1 is before 2.0",
+        HTTPVersion(1, 1) < HTTPVersion(2, 0),
+    );
+    assert_holds(
+        &rt,
+        "1.0 is before 1.1",
+        HTTPVersion(1, 0) < HTTPVersion(1, 1),
+    );
+    assert_holds(
+        &rt,
+        "1.1 is not 1.0",
+        HTTPVersion(1, 1) != HTTPVersion(1, 0),
+    );
+}
+
+#[test]
+fn headers_are_shown(rt: HostRuntime) -> Result<(), Fail> {
+    let header = header(rt.alloc(), b"Content-type", b"text/html; charset=UTF-8")?;
+    let text = "Content-type: text/html; charset=UTF-8";
+    assert_shown(&rt, rt.alloc(), &header, text)?;
+    assert_shown(&rt, rt.alloc(), &header.field, "Content-type")?;
+    assert_same(&rt, header.field.as_str().as_str(), "Content-type");
+    Ok(())
+}
+
+// Names are equal but for case.
+fn assert_names(rt: &impl Abort, field: &HeaderField, same: &HeaderField, other: &HeaderField) {
+    let told = (field.equiv("content-Type"), field.equiv("Content_type"));
+    assert_same(rt, told, (true, false));
+    assert_same(rt, (field == same, field != other), (true, true));
+}
+
+#[test]
+fn names_are_compared(rt: HostRuntime) -> Result<(), Fail> {
+    let field = name(rt.alloc(), b"Content-type")?;
+    let same = name(rt.alloc(), b"CONTENT-TYPE")?;
+    let other = name(rt.alloc(), b"Content-Typ")?;
+    assert_names(&rt, &field, &same, &other);
+    Ok(())
+}
+
+#[test]
+fn a_name_that_is_not_ascii_is_refused(rt: HostRuntime) -> Result<(), Fail> {
+    let refused = HeaderField::from_bytes(b"Caf\xe9".to_vec(rt.alloc())?);
+    assert!(rt; refused.is_err());
+    Ok(())
+}
+
+// Whether these bytes are no header.
+fn is_refused(alloc: Global, field: &[u8], value: &[u8]) -> Result<bool, Fail> {
+    Ok(Header::from_bytes(field.to_vec(alloc)?, value.to_vec(alloc)?).is_err())
+}
+
+#[test]
+fn headers_that_are_not_ascii_are_refused(rt: HostRuntime) -> Result<(), Fail> {
+    assert!(rt; is_refused(rt.alloc(), b"Caf\xe9", b"b")?);
+    assert!(rt; is_refused(rt.alloc(), b"a", b"Caf\xe9")?);
+    Ok(())
+}
+
+fn assert_host(rt: &impl Abort, field: &HeaderField) {
+    let name = field.as_str();
+    assert_same(rt, name.as_str(), "Host");
+}
+
+#[test]
+fn headers_are_copied(rt: HostRuntime) -> Result<(), Fail> {
+    let header = header(rt.alloc(), b"Host", b"a b")?;
+    let copy = header.try_clone()?;
+    assert_host(&rt, &copy.field);
+    assert_same(&rt, copy.value.as_str(), "a b");
+    let field = header.field.try_clone()?;
+    assert_host(&rt, &field);
+    Ok(())
+}
+
+// The method of this name has a copy that is equal.
+fn assert_copy(rt: &impl Abort, alloc: Global, name: &str) -> Result<(), Fail> {
+    let method = Method::from_str(alloc, name)?;
+    let copy = method.try_clone()?;
+    assert_holds(rt, name, copy == method);
+    assert_same(rt, copy.as_str(), name);
+    Ok(())
+}
+
+#[test]
+fn methods_are_copied(rt: HostRuntime) -> Result<(), Fail> {
+    for name in [
+        "GET", "HEAD", "POST", "PUT", "DELETE", "CONNECT", "OPTIONS", "TRACE", "PATCH", "get", "",
+    ] {
+        assert_copy(&rt, rt.alloc(), name)?;
+    }
+    Ok(())
+}
+
+const HEADERS: &[(&str, &str, &str)] = &[
+    ("Content-Type: text/html", "content-type", "text/html"),
+    ("Time: 20: 34", "time", "20: 34"),
+    ("Transfer-Encoding: chunked", "Transfer-Encoding", "chunked"),
+    (
+        "Transfer-Encoding: chunked ",
+        "Transfer-Encoding",
+        "chunked",
+    ),
+    (
+        "Transfer-Encoding:   chunked ",
+        "Transfer-Encoding",
+        "chunked",
+    ),
+    (":", "", ""),
+    ("a:\t\n\x0b\x0c\r b\t\n\x0b\x0c\r ", "a", "b"),
+    ("a:\x1cb", "a", "\x1cb"),
+];
+
+// The text is read as a header of this name, in any case, and this value.
+fn assert_header(
+    rt: &impl Abort,
+    alloc: Global,
+    text: &str,
+    field: &str,
+    value: &str,
+) -> Result<(), Fail> {
+    let header = Header::from_str(alloc, text)?;
+    assert_holds(rt, text, header.field.equiv(field));
+    assert_same(rt, (text, header.value.as_str()), (text, value));
+    Ok(())
+}
+
+#[test]
+fn headers_read(rt: HostRuntime) -> Result<(), Fail> {
+    for (text, field, value) in HEADERS {
+        assert_header(&rt, rt.alloc(), text, field, value)?;
+    }
+    Ok(())
+}
+
+#[test]
+fn headers_refused(rt: HostRuntime) {
+    for text in [
+        "hello world",
+        "",
+        " Transfer-Encoding: chunked",
+        "Transfer Encoding: chunked",
+        "Transfer-Encoding : chunked",
+        " Transfer\tEncoding : chunked",
+        "a\x0b: b",
+        "é: a",
+        "a: é",
+        "a: b\u{a0}",
+    ] {
+        let refused = Header::from_str(rt.alloc(), text);
+        assert_holds(&rt, text, matches!(refused, Err(ParseError::Refused)));
+    }
+}
+
+#[test]
+fn names_read(rt: HostRuntime) -> Result<(), Fail> {
+    for text in ["Host", "", "a:b", "\x1c"] {
+        let field = HeaderField::from_str(rt.alloc(), text)?;
+        assert_same(&rt, field.as_str().as_str(), text);
+    }
+    Ok(())
+}
+
+#[test]
+fn names_refused(rt: HostRuntime) {
+    for text in ["a b", "a\t", "\x0ba", "é"] {
+        let refused = HeaderField::from_str(rt.alloc(), text);
+        assert_holds(&rt, text, matches!(refused, Err(ParseError::Refused)));
+    }
+}
+
+// The name is read as this method.
+fn assert_read(rt: &impl Abort, alloc: Global, name: &str, wanted: &Method) -> Result<(), Fail> {
+    let method = Method::from_str(alloc, name)?;
+    assert_holds(rt, name, method == *wanted);
+    Ok(())
+}
+
+#[test]
+fn methods_read(rt: HostRuntime) -> Result<(), Fail> {
+    for (name, method) in &nine_methods() {
+        assert_read(&rt, rt.alloc(), name, method)?;
+    }
+    Ok(())
+}
+
+#[test]
+fn methods_of_other_names_read(rt: HostRuntime) -> Result<(), Fail> {
+    for text in ["get", "", "GET ", "Patch"] {
+        let found = Method::from_str(rt.alloc(), text)?;
+        assert_holds(&rt, text, matches!(found, Method::NonStandard(_)));
+        assert_same(&rt, found.as_str(), text);
+    }
+    Ok(())
+}
+
+#[test]
+fn a_method_that_is_not_ascii_is_refused(rt: HostRuntime) {
+    let refused = Method::from_str(rt.alloc(), "gé");
+    assert!(rt; matches!(refused, Err(ParseError::Refused)));
+}
+
+fn hash_of(method: &Method) -> u64 {
+    let mut state = DefaultHasher::new();
+    method.hash(&mut state);
+    state.finish()
+}
+
+fn hash_of_name(alloc: Global, name: &str) -> Result<u64, Fail> {
+    Ok(hash_of(&Method::from_str(alloc, name)?))
+}
+
+#[test]
+fn hashes_of_equal_methods(rt: HostRuntime) -> Result<(), Fail> {
+    let own = Method::from_str(rt.alloc(), "get")?;
+    assert_same(&rt, hash_of(&own), hash_of(&own.try_clone()?));
+    assert_same(&rt, hash_of(&Method::Get), hash_of_name(rt.alloc(), "GET")?);
+    Ok(())
+}
+
+#[test]
+fn hashes_of_other_methods(rt: HostRuntime) -> Result<(), Fail> {
+    let own = hash_of_name(rt.alloc(), "get")?;
+    assert!(rt; own != hash_of_name(rt.alloc(), "gets")?);
+    assert!(rt; hash_of(&Method::Get) != hash_of(&Method::Head));
+    Ok(())
+}
+
+#[test]
+fn faults_in_words(rt: HostRuntime) -> Result<(), Fail> {
+    assert_shown(&rt, rt.alloc(), &ParseError::Refused, "not of the grammar")?;
+    assert_shown(&rt, rt.alloc(), &ParseError::Memory, "out of memory")
+}
+
+#[test]
+fn a_date(rt: HostRuntime) -> Result<(), Fail> {
+    let date = HttpDate::from_unix_secs(420895020)?;
+    assert_shown(&rt, rt.alloc(), &date, "Wed, 04 May 1983 11:17:00 GMT")
+}
+
+// The method has this name, and is shown by it.
+fn assert_named(rt: &impl Abort, alloc: Global, method: &Method, name: &str) -> Result<(), Fail> {
+    assert_same(rt, method.as_str(), name);
+    assert_shown(rt, alloc, method, name)
+}
+
+#[test]
+fn methods(rt: HostRuntime) -> Result<(), Fail> {
+    for (name, method) in &nine_methods() {
+        assert_named(&rt, rt.alloc(), method, name)?;
+    }
+    Ok(())
+}
+
+#[test]
+fn a_method_of_another_name(rt: HostRuntime) -> Result<(), Fail> {
+    let own = Method::NonStandard(AsciiString::from_ascii(b"get".to_vec(rt.alloc())?)?);
+    assert_named(&rt, rt.alloc(), &own, "get")?;
+    let differ = (own != Method::Get, Method::Head != Method::Put);
+    assert_same(&rt, differ, (true, true));
+    assert!(rt; Method::Get == Method::Get);
+    Ok(())
+}

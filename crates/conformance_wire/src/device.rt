@@ -1,0 +1,184 @@
+//! Readers and writers in memory.
+use crate::same::{assert_holds, assert_same};
+use std::alloc::Global;
+use std::io;
+use std::io::{Cursor, ErrorKind, Write};
+use std::process::Abort;
+use std::test::Fail;
+use tiny_http_wire::device::{
+    Budget, Canned, Metered, ReadDevice, WriteDevice, put, put_all, read_front,
+};
+
+// The bytes that are read into this buffer, or the fault.
+fn read<'a, R: ReadDevice>(reader: &mut R, buf: &'a mut [u8]) -> Result<&'a [u8], ErrorKind> {
+    match reader.read_in(buf) {
+        Ok(n) => Ok(&buf[..n]),
+        Err(e) => Err(e.kind()),
+    }
+}
+
+// What the first three reads into four bytes answer.
+fn reads<R: ReadDevice>(rt: &impl Abort, reader: &mut R, wanted: [Result<&[u8], ErrorKind>; 3]) {
+    let mut buf = [0u8; 4];
+    for want in wanted {
+        assert_same(rt, read(reader, &mut buf), want);
+    }
+}
+
+const ALL: [Result<&[u8], ErrorKind>; 3] = [Ok(b"hell"), Ok(b"o"), Ok(b"")];
+
+#[test]
+fn a_canned_reader_ends(rt: HostRuntime) -> Result<(), Fail> {
+    let mut ends = Canned::new(b"hello".to_vec(rt.alloc())?, None);
+    reads(&rt, &mut ends, ALL);
+    Ok(())
+}
+
+#[test]
+fn a_canned_reader_fails(rt: HostRuntime) -> Result<(), Fail> {
+    let late = Err(ErrorKind::TimedOut);
+    let mut fails = Canned::new(b"hello".to_vec(rt.alloc())?, Some(ErrorKind::TimedOut));
+    reads(&rt, &mut fails, [Ok(b"hell"), Ok(b"o"), late]);
+    reads(&rt, &mut &mut fails, [late; 3]);
+    Ok(())
+}
+
+#[test]
+fn readers_of_std_end(rt: HostRuntime) -> Result<(), Fail> {
+    let mut cursor = Cursor::new(b"hello".to_vec(rt.alloc())?);
+    reads(&rt, &mut cursor, ALL);
+    reads(&rt, &mut io::empty(), [Ok(b""); 3]);
+    Ok(())
+}
+
+#[test]
+fn a_metered_reader_ends(rt: HostRuntime) -> Result<(), Fail> {
+    let mut metered = Metered::new(Cursor::new(b"hello".to_vec(rt.alloc())?));
+    reads(&rt, &mut metered, ALL);
+    assert_same(&rt, metered.into_inner().position(), 5);
+    Ok(())
+}
+
+// The fault, if this is one.
+fn kind_of<T: Copy>(outcome: Result<T, io::Error>) -> Option<ErrorKind> {
+    match outcome {
+        Ok(_) => None,
+        Err(e) => Some(e.kind()),
+    }
+}
+
+// Of the front of so many bytes come these, and the rest of the buffer stays; into no room comes none.
+fn assert_front(
+    rt: &impl Abort,
+    reader: &mut Canned,
+    most: usize,
+    (count, wanted): (usize, &[u8; 4]),
+) -> Result<(), Fail> {
+    let mut buf = [b'.'; 4];
+    let n = read_front(reader, most, &mut buf)?;
+    assert_same(rt, (n, &buf), (count, wanted));
+    assert_same(rt, read_front(reader, most, &mut [])?, 0);
+    Ok(())
+}
+
+// Behind the bytes there is the fault alone.
+fn assert_no_front(rt: &impl Abort, reader: &mut Canned) {
+    let mut buf = [0u8; 4];
+    let fault = kind_of(read_front(reader, 1, &mut buf));
+    assert_same(rt, fault, Some(ErrorKind::TimedOut));
+}
+
+#[test]
+fn a_front_is_read_alone(rt: HostRuntime) -> Result<(), Fail> {
+    let mut reader = Canned::new(b"hello".to_vec(rt.alloc())?, Some(ErrorKind::TimedOut));
+    for (most, count, wanted) in [
+        (0, 0, b"...."),
+        (2, 2, b"he.."),
+        (9, 3, b"llo."),
+        (0, 0, b"...."),
+    ] {
+        assert_front(&rt, &mut reader, most, (count, wanted))?;
+    }
+    assert_no_front(&rt, &mut reader);
+    Ok(())
+}
+
+// Takes these bytes without a fault.
+fn assert_taken(rt: &impl Abort, budget: &mut Budget) -> Result<(), Fail> {
+    put(budget, b"hello")?;
+    put_all(budget, &[])?;
+    budget.flush_out()?;
+    assert_same(rt, budget.failures(), 0);
+    Ok(())
+}
+
+// Fails at this, for the time of this count.
+fn assert_failing(rt: &impl Abort, mut budget: &mut Budget, count: u64) {
+    let fault = kind_of(put_all(&mut budget, &[b" ", b"world"]));
+    let told = (fault, WriteDevice::failures(&budget));
+    assert_same(rt, told, (Some(ErrorKind::BrokenPipe), count));
+}
+
+#[test]
+fn a_budget_takes_its_bytes_and_then_fails(rt: HostRuntime) -> Result<(), Fail> {
+    let mut budget = Budget::new(rt.alloc(), 7, ErrorKind::BrokenPipe);
+    assert_taken(&rt, &mut budget)?;
+    assert_failing(&rt, &mut budget, 1);
+    assert_failing(&rt, &mut budget, 2);
+    assert_same(&rt, budget.bytes(), b"hello w");
+    Ok(())
+}
+
+// Takes at most two bytes at a call, and of `!` none. Flushing fails.
+#[derive(Drop)]
+struct Slow(Vec<u8>);
+
+impl Write for Slow {
+    fn write(&mut self, buf: &[u8]) -> io::Result<usize> {
+        if buf.starts_with(b"!") {
+            return Ok(0);
+        }
+        let count = buf.len().min(2);
+        self.0.extend_from_slice(&buf[..count])?;
+        Ok(count)
+    }
+
+    fn flush(&mut self) -> io::Result<()> {
+        Err(ErrorKind::ConnectionReset.into())
+    }
+}
+
+// Takes bytes, and none of none, without a fault.
+fn assert_slowly_taken(rt: &impl Abort, metered: &mut Metered<Slow>) -> Result<(), Fail> {
+    put(metered, b"hello")?;
+    assert_same(rt, metered.failures(), 0);
+    assert_same(rt, metered.write_out(b"")?, 0);
+    Ok(())
+}
+
+// A write and a flush fail, and are counted.
+fn assert_counted(rt: &impl Abort, metered: &mut Metered<Slow>) {
+    let fault = kind_of(metered.write_out(b"!"));
+    assert_same(rt, fault, Some(ErrorKind::WriteZero));
+    assert_same(rt, metered.failures(), 1);
+    let fault = kind_of(metered.flush_out());
+    assert_same(rt, fault, Some(ErrorKind::ConnectionReset));
+}
+
+// A writer that is lent fails, and is counted.
+fn assert_lent(rt: &impl Abort, mut metered: &mut Metered<Slow>) {
+    let lent = (&mut metered).flush_out();
+    assert_holds(rt, "a lent writer fails", lent.is_err());
+    assert_same(rt, metered.failures(), 3);
+}
+
+#[test]
+fn a_metered_writer_counts_its_faults(rt: HostRuntime) -> Result<(), Fail> {
+    let mut metered = Metered::new(Slow(Vec::new(rt.alloc())));
+    assert_slowly_taken(&rt, &mut metered)?;
+    assert_counted(&rt, &mut metered);
+    assert_lent(&rt, &mut metered);
+    let Slow(taken) = metered.into_inner();
+    assert_same(&rt, taken.as_slice(), b"hello");
+    Ok(())
+}
