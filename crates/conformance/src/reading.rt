@@ -4,6 +4,7 @@ use crate::runs::Deed::{Ask, Drop, Read, Text};
 use crate::runs::{AMPLE, Case, Deed, Trouble, assert_case, assert_troubled};
 use std::alloc::{AllocError, Global};
 use std::io::ErrorKind;
+use std::process::Abort;
 use std::test::Fail;
 
 // The head of a chunked request, as the replies tell it.
@@ -17,44 +18,56 @@ fn chunked(alloc: Global, body: &[u8], replies: &str) -> Result<(Vec<u8>, String
     Ok((client, told))
 }
 
+const WHOLE: &[u8] = b"5;x=1\r\nhello\r\n0\r\nT: v\r\n\r\nGET /b HTTP/1.1\r\n\r\n";
+
+// A body, the steps, what those behind the first Ask are answered, and the output.
+type Row<'a> = (&'a [u8], &'a [Deed<'a>], &'a str, &'a [&'a str]);
+
+const BODIES: &[Row<'static>] = &[
+    (
+        WHOLE,
+        &[Ask, Read(0, 5), Ask, Read(0, 1), Ask],
+        "given hello; not yet; given; 1: GET /b 1.1",
+        &[],
+    ),
+    (
+        WHOLE,
+        &[Ask, Read(0, 5), Drop(0), Ask],
+        "given hello; done; ended",
+        ERROR,
+    ),
+    (WHOLE, &[Ask, Text(0, "x"), Ask], "done; ended", ANSWER),
+    (
+        b"5\r\nhelloXY",
+        &[Ask, Read(0, 9), Read(0, 1), Read(0, 1), Ask],
+        "given hello; fault InvalidData; fault InvalidData; ended",
+        &[],
+    ),
+    (
+        b"5\r\nhel",
+        &[Ask, Read(0, 9), Read(0, 9)],
+        "given hel; fault UnexpectedEof",
+        &[],
+    ),
+];
+
+// The run over this chunked body comes out so.
+fn assert_chunked(rt: &impl Abort, alloc: Global, row: Row<'_>) -> Result<(), Fail> {
+    let (body, deeds, replies, output) = row;
+    let (client, told) = chunked(alloc, body, replies)?;
+    let case = Case {
+        client: client.as_slice(),
+        deeds,
+        replies: told.as_str(),
+        output,
+    };
+    assert_case(rt, alloc, &case)
+}
+
 #[test]
 fn a_chunked_body_is_read(rt: HostRuntime) -> Result<(), Fail> {
-    let whole = b"5;x=1\r\nhello\r\n0\r\nT: v\r\n\r\nGET /b HTTP/1.1\r\n\r\n".as_slice();
-    for (body, deeds, replies, output) in [
-        (
-            whole,
-            [Ask, Read(0, 5), Ask, Read(0, 1), Ask].as_slice(),
-            "given hello; not yet; given; 1: GET /b 1.1",
-            [].as_slice(),
-        ),
-        (
-            whole,
-            &[Ask, Read(0, 5), Drop(0), Ask],
-            "given hello; done; ended",
-            ERROR,
-        ),
-        (whole, &[Ask, Text(0, "x"), Ask], "done; ended", ANSWER),
-        (
-            b"5\r\nhelloXY",
-            &[Ask, Read(0, 9), Read(0, 1), Read(0, 1), Ask],
-            "given hello; fault InvalidData; fault InvalidData; ended",
-            &[],
-        ),
-        (
-            b"5\r\nhel",
-            &[Ask, Read(0, 9), Read(0, 9)],
-            "given hel; fault UnexpectedEof",
-            &[],
-        ),
-    ] {
-        let (client, told) = chunked(rt.alloc(), body, replies)?;
-        let case = Case {
-            client: client.as_slice(),
-            deeds,
-            replies: told.as_str(),
-            output,
-        };
-        assert_case(&rt, rt.alloc(), &case)?;
+    for row in BODIES {
+        assert_chunked(&rt, rt.alloc(), *row)?;
     }
     Ok(())
 }
@@ -66,39 +79,35 @@ const TIMES_OUT: Trouble = Trouble {
     writer: ErrorKind::Other,
 };
 
+// The run over this client comes out so where the reader times out; the first reply is the head.
+fn assert_timed_out(rt: &impl Abort, alloc: Global, head: &str, row: Row<'_>) -> Result<(), Fail> {
+    let (client, deeds, rest, output) = row;
+    let replies = format!(in alloc; "{head}; {rest}")?;
+    let case = Case {
+        client,
+        deeds,
+        replies: replies.as_str(),
+        output,
+    };
+    assert_troubled(rt, alloc, &case, TIMES_OUT)
+}
+
+// A body of this client is read, and one is given up.
+fn assert_late(rt: &impl Abort, alloc: Global, client: &[u8], head: &str) -> Result<(), Fail> {
+    let reads = [Ask, Read(0, 10), Read(0, 1), Read(0, 1), Ask];
+    let told = "given abc; fault TimedOut; fault TimedOut; ended";
+    assert_timed_out(rt, alloc, head, (client, &reads, told, &[]))?;
+    let gives_up = [Ask, Text(0, "x"), Ask];
+    assert_timed_out(rt, alloc, head, (client, &gives_up, "done; ended", ANSWER))
+}
+
 #[test]
 fn a_time_out_within_a_body_is_told(rt: HostRuntime) -> Result<(), Fail> {
-    for (client, head) in [
-        (
-            b"GET / HTTP/1.1\r\nContent-Length: 2000\r\n\r\nabc".as_slice(),
-            "0: GET / 1.1 [Content-Length: 2000] length 2000",
-        ),
-        (
-            b"POST / HTTP/1.1\r\nTransfer-Encoding: chunked\r\n\r\n5\r\nabc".as_slice(),
-            CHUNKED,
-        ),
-    ] {
-        let reads = [Ask, Read(0, 10), Read(0, 1), Read(0, 1), Ask];
-        let gives_up = [Ask, Text(0, "x"), Ask];
-        for (deeds, rest, output) in [
-            (
-                reads.as_slice(),
-                "given abc; fault TimedOut; fault TimedOut; ended",
-                [].as_slice(),
-            ),
-            (gives_up.as_slice(), "done; ended", ANSWER),
-        ] {
-            let replies = format!(in rt.alloc(); "{head}; {rest}")?;
-            let case = Case {
-                client,
-                deeds,
-                replies: replies.as_str(),
-                output,
-            };
-            assert_troubled(&rt, rt.alloc(), &case, TIMES_OUT)?;
-        }
-    }
-    Ok(())
+    let counted = b"GET / HTTP/1.1\r\nContent-Length: 2000\r\n\r\nabc";
+    let head = "0: GET / 1.1 [Content-Length: 2000] length 2000";
+    assert_late(&rt, rt.alloc(), counted, head)?;
+    let chunked = b"POST / HTTP/1.1\r\nTransfer-Encoding: chunked\r\n\r\n5\r\nabc";
+    assert_late(&rt, rt.alloc(), chunked, CHUNKED)
 }
 
 // Reads of nothing, before any byte and behind a fault that was told.

@@ -58,11 +58,7 @@ pub fn serve<R: ReadDevice + Drop, W: WriteDevice + Drop>(
 }
 
 /// The same in memory, for a client that sends these bytes and ends. Where there is no memory for the writer's bytes it fails.
-pub fn serve_bytes(
-    alloc: Global,
-    bytes: Vec<u8>,
-    now: HttpDate,
-) -> (Outlet<Budget>, Option<Reply>)
+pub fn serve_bytes(alloc: Global, bytes: Vec<u8>, now: HttpDate) -> (Outlet<Budget>, Option<Reply>)
     ensures { GreetsClient bytes.items now (outlet_writer result.0) (outlet_held result.0) (outlet_ended result.0) result.1 }
 {
     let reader = Canned::new(bytes, None);
