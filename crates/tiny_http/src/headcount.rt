@@ -58,6 +58,3 @@ impl Headcount {
         self.present
     }
 }
-
-#[cfg(test)]
-mod tests;

@@ -97,6 +97,3 @@ impl<L: Ledger> Roster<L> {
         entries.total(all)
     }
 }
-
-#[cfg(test)]
-mod tests;

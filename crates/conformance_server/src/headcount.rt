@@ -1,4 +1,5 @@
-use super::*;
+//! A number of those who are in.
+use tiny_http::headcount::Headcount;
 
 #[test]
 fn three_enter_and_leave(rt: HostRuntime) {

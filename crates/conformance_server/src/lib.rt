@@ -1,0 +1,11 @@
+//! Tests of `tiny_http`: what its public calls do, over threads.
+#![tactic(auto)]
+
+#[cfg(test)]
+mod headcount;
+#[cfg(test)]
+mod messages_queue;
+#[cfg(test)]
+mod roster;
+#[cfg(test)]
+mod task_pool;

@@ -1,0 +1,202 @@
+//! A queue that threads share.
+use std::alloc::{AllocError, Global};
+use std::sync::{Arc, Wait};
+use std::test::Fail;
+use std::thread;
+use std::thread::{JoinHandle, Threads};
+use std::time::Duration;
+use tiny_http::messages_queue::{MessagesQueue, Popped, QueueState};
+
+// So many threads push, and as many pop.
+const THREADS: usize = 8;
+
+// So many values each of them pushes.
+const VALUES: usize = 10_000;
+
+// A value: who pushed it, and its number.
+type Numbered = (usize, usize);
+
+#[test]
+fn marks_come_in_order(rt: HostRuntime) -> Result<(), Fail> {
+    let queue = MessagesQueue::with_capacity(rt.alloc(), 8)?;
+    assert_eq!(rt; queue.push(&rt, 1u8), Ok(()));
+    queue.unblock(&rt)?;
+    assert_eq!(rt; queue.push(&rt, 2), Ok(()));
+    for want in [Some(1), None, Some(2), None] {
+        assert_eq!(rt; queue.try_pop(&rt), want);
+    }
+    Ok(())
+}
+
+#[test]
+fn a_mark_is_told_from_an_empty_queue(rt: HostRuntime) -> Result<(), Fail> {
+    let mut queue = QueueState::new(rt.alloc());
+    assert_eq!(rt; queue.pop(), Popped::Empty);
+    queue.unblock()?;
+    assert_eq!(rt; queue.push(1u8), Ok(()));
+    assert_eq!(rt; queue.pop(), Popped::Unblocked);
+    assert_eq!(rt; queue.pop(), Popped::Value(1));
+    assert_eq!(rt; queue.pop(), Popped::Empty);
+    Ok(())
+}
+
+#[test]
+fn room_past_all_memory_is_refused(rt: HostRuntime) {
+    let refused = MessagesQueue::<u64>::with_capacity(rt.alloc(), usize::MAX);
+    assert!(rt; refused.is_err());
+}
+
+// Run with each allocation failing in turn it shows what a refused push or mark leaves.
+#[test]
+fn a_refusal_changes_nothing(rt: HostRuntime) {
+    let mut queue = QueueState::new(rt.alloc());
+    let mut values = [false; 64];
+    let mut marks = [false; 64];
+    for (number, (value, mark)) in values.iter_mut().zip(&mut marks).enumerate() {
+        match queue.push(number) {
+            Ok(()) => *value = true,
+            Err(back) => assert_eq!(rt; back, number),
+        }
+        *mark = queue.unblock().is_ok();
+    }
+    for (number, (value, mark)) in values.iter().zip(&marks).enumerate() {
+        if *value {
+            assert_eq!(rt; queue.pop(), Popped::Value(number));
+        }
+        if *mark {
+            assert_eq!(rt; queue.pop(), Popped::Unblocked);
+        }
+    }
+    assert_eq!(rt; queue.pop(), Popped::Empty);
+}
+
+#[test]
+fn a_pop_waits_for_so_long_at_most(rt: HostRuntime) -> Result<(), Fail> {
+    let queue = MessagesQueue::with_capacity(rt.alloc(), 8)?;
+    for micros in [0, 999, 1_000, 20_000] {
+        let time = Duration::from_micros(micros);
+        assert_eq!(rt; queue.pop_timeout(&rt, time), None);
+        assert_eq!(rt; queue.push(&rt, 7u8), Ok(()));
+        assert_eq!(rt; queue.pop_timeout(&rt, time), Some(7));
+        queue.unblock(&rt)?;
+        assert_eq!(rt; queue.push(&rt, 8), Ok(()));
+        assert_eq!(rt; queue.pop_timeout(&rt, time), None);
+        assert_eq!(rt; queue.pop_timeout(&rt, time), Some(8));
+    }
+    Ok(())
+}
+
+#[test]
+fn one_who_waits_is_woken(rt: HostRuntime) -> Result<(), Fail> {
+    let queue = MessagesQueue::with_capacity(rt.alloc(), 8)?;
+    let theirs = Arc::try_clone(&queue)?;
+    let waits = move || {
+        let hour = Duration::from_secs(3_600);
+        (
+            theirs.pop(&rt),
+            theirs.pop_timeout(&rt, hour),
+            theirs.pop(&rt),
+        )
+    };
+    let popper = thread::spawn(&rt, waits).map_err(|_| "no thread")?;
+    for value in [1u8, 2] {
+        thread::sleep(&rt, Duration::from_millis(20));
+        assert_eq!(rt; queue.push(&rt, value), Ok(()));
+    }
+    thread::sleep(&rt, Duration::from_millis(20));
+    queue.unblock(&rt)?;
+    assert_eq!(rt; popper.join(&rt), (Some(1), Some(2), None));
+    Ok(())
+}
+
+// Pushes all values of one thread. The number of those that came back.
+fn push_all<R: Wait>(rt: &R, queue: &MessagesQueue<Numbered>, pusher: usize) -> usize {
+    let mut refused = 0usize;
+    for number in 0..VALUES {
+        if queue.push(rt, (pusher, number)).is_err() {
+            refused = refused.saturating_add(1);
+        }
+    }
+    refused
+}
+
+// What came up to the first mark, in the order in which it came. `None` where there is no memory to keep it.
+fn pop_all<R: Wait>(
+    rt: &R,
+    alloc: Global,
+    queue: &MessagesQueue<Numbered>,
+) -> Option<Vec<Numbered>> {
+    let mut came = Vec::new(alloc);
+    for _ in rt.forever() {
+        match queue.pop(rt) {
+            Some(value) => came.push(value).ok()?,
+            None => return Some(came),
+        }
+    }
+    unreachable!()
+}
+
+// Whether each pusher's values stand in their order.
+fn is_in_order(came: &[Numbered]) -> bool {
+    let mut least = [0usize; THREADS];
+    for (pusher, number) in came {
+        let Some(least) = least.get_mut(*pusher) else {
+            return false;
+        };
+        if *number < *least {
+            return false;
+        }
+        *least = number.saturating_add(1);
+    }
+    true
+}
+
+// Counts each value where it stands among all.
+fn count_in(seen: &mut [u8], came: &[Numbered]) {
+    for (pusher, number) in came {
+        let at = pusher.saturating_mul(VALUES).saturating_add(*number);
+        if let Some(times) = seen.get_mut(at) {
+            *times = times.saturating_add(1);
+        }
+    }
+}
+
+fn start_pushers<R: Threads + Wait + Copy + Send + 'static>(
+    rt: R,
+    alloc: Global,
+    queue: &Arc<MessagesQueue<Numbered>>,
+) -> Result<Vec<JoinHandle<usize>>, AllocError> {
+    let mut pushers = Vec::new(alloc);
+    for pusher in 0..THREADS {
+        let theirs = Arc::try_clone(queue)?;
+        pushers.push(thread::spawn(&rt, move || push_all(&rt, &theirs, pusher))?)?;
+    }
+    Ok(pushers)
+}
+
+#[test]
+fn eight_push_and_eight_pop(rt: HostRuntime) -> Result<(), Fail> {
+    let alloc = rt.alloc();
+    let queue = MessagesQueue::with_capacity(alloc, 8)?;
+    let mut poppers = Vec::new(alloc);
+    for _ in 0..THREADS {
+        let theirs = Arc::try_clone(&queue)?;
+        let handle = thread::spawn(&rt, move || pop_all(&rt, alloc, &theirs));
+        poppers.push(handle.map_err(|_| "no thread")?)?;
+    }
+    for pusher in start_pushers(rt, alloc, &queue)? {
+        assert_eq!(rt; pusher.join(&rt), 0);
+    }
+    for _ in 0..THREADS {
+        queue.unblock(&rt)?;
+    }
+    let mut seen = vec![in alloc; 0u8; THREADS * VALUES]?;
+    for popper in poppers {
+        let came = popper.join(&rt).ok_or("no memory")?;
+        assert!(rt; is_in_order(&came));
+        count_in(&mut seen, &came);
+    }
+    assert!(rt; seen.iter().all(|times| *times == 1));
+    assert_eq!(rt; queue.try_pop(&rt), None);
+    Ok(())
+}
