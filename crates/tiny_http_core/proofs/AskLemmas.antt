@@ -1,5 +1,5 @@
 -- An Ask: from where the connection stands to where it stands behind it.
-use Rattle.std.proofs.Common.{◌≡◌, refl, sym, ap, ◌∙◌, subst, ℕ, ◌-◌, ◌<◌, ◌^◌, ◌⊎◌, inl, inr, Bool, true, false, not, List, [], ◌∷◌, ◌++◌, length, Option, Some, None, Ok, append-nil, arith, eq-eqb, ⊎_elim}
+use Rattle.std.proofs.Common.{◌≡◌, refl, sym, ap, ◌∙◌, subst, ℕ, ◌-◌, ◌<◌, ◌^◌, ◌⊎◌, inl, inr, Bool, true, false, not, ◌&&◌, List, [], ◌∷◌, ◌++◌, length, Option, Some, None, Ok, append-nil, arith, eq-eqb, ⊎_elim}
 use Rattle.std.proofs.lemmas.Bool.{ne_eqb}
 use Rattle.std.proofs.lemmas.List.{take_all}
 use Rattle.std.specs.Prelude.{MatchBool, ◌==◌, if◌then◌else◌}
@@ -21,7 +21,11 @@ use Rattle.tiny_http_message.specs.declared.waiting.Waiting.{Waiting}
 use Rattle.tiny_http_message.specs.Framing.{is_built}
 use Rattle.tiny_http_stream.specs.Source.{GoesOn}
 use Rattle.tiny_http_message.specs.Pipeline.{Item, Asks, Refuses, Request, Place, Heading, Ends, Heads, OneHead, FoundAt, served, served_answer, is_head_method, Pipeline}
-use Rattle.tiny_http_message.specs.HeadReads.{ReadsHead, place_after, place_feed, request_of, refused, head_message, head_framing}
+use Rattle.tiny_http_message.specs.HeadReads.{ReadsHead, IsBeforeHead, standing_of, place_after, place_feed, request_of, refused, head_message, head_framing}
+use Rattle.tiny_http_message.specs.declared.exchange.EndOfRequests.{EndOfRequests}
+use Rattle.tiny_http_stream.specs.declared.source.Standing.{Standing}
+use Rattle.tiny_http_stream.specs.declared.source.Standing.TheVariants as in_place
+use Rattle.tiny_http_wire.specs.declared.common.StatusCode.{StatusCode}
 use Rattle.tiny_http_message.specs.Exchange.{KeepsRequest}
 use Rattle.tiny_http_message.specs.Body.{Remaining, remaining, taken_left, is_streaming}
 use Rattle.tiny_http_core.specs.Slots.{Slot, is_finished, is_broken, is_slot_broken, segment, joined, new_slot, turn_has_come, is_chunked, last_slot, reader_is_held, reader_is_lost, is_last_slot}
@@ -31,7 +35,7 @@ use Rattle.tiny_http_core.specs.Conversation.{Failure, State, PlaceAt, FailsBetw
 use Rattle.tiny_http_core.specs.Sending.{IsFlushed, SendsUnlessEnded}
 use Rattle.tiny_http_turns.specs.Turns.{Mark, Open, Left, Finished, AreInShape, first_unfinished}
 use Rattle.tiny_http_core.specs.Pending.{LeavesText, last_body, streams}
-use Rattle.tiny_http_core.specs.Connection.{Kept, dropped, IsWaiting, AreKept, OutputAt, behind_body, GivesRest, InputEnded, NextHead, Reader, Stands}
+use Rattle.tiny_http_core.specs.Connection.{Kept, dropped, IsWaiting, AreKept, OutputAt, behind_body, GivesRest, InputEnded, is_past_last, is_in_body, NextHead, Reader, Stands}
 use Rattle.tiny_http_message.proofs.HeadServing.{built-parts}
 use Rattle.tiny_http_stream.proofs.GoingOn.{goes-on_more}
 use Rattle.tiny_http_message.proofs.PipelineLemmas.{pipeline-first, pipeline-none, feed-pipeline}
@@ -111,7 +115,7 @@ last-of client before k s h = last-kept s.reached.slots k.marks k.requests h.num
 unheld : (client : Feed) (before : Sink) (k : Kept) (s : State) → Stands client before k s → streams (last_body k.requests) ≡ false → reader_is_held (last_slot s.reached.slots) ≡ false
 unheld client before k s h quiet = held-by (last_slot s.reached.slots) (last_body k.requests) (last-of client before k s h) ∙ rw quiet (and-false (not (is_last_slot (last_slot s.reached.slots))))
 
-going : (client : Feed) (before : Sink) (k : Kept) (s : State) → Stands client before k s → k.ended ≡ false → k.over ≡ false → streams (last_body k.requests) ≡ false → (InputEnded k → ⊥) → Going k s
+going : (client : Feed) (before : Sink) (k : Kept) (s : State) → Stands client before k s → k.ended ≡ false → is_past_last k.standing ≡ false → streams (last_body k.requests) ≡ false → (InputEnded k → ⊥) → Going k s
 going client before k s h e o quiet open_input =
     let f = told-feed client k.feed h.reader.source in
     let next = h.reader.next e in
@@ -190,43 +194,60 @@ handed-place false stop None more items = let P : List Item → Type 0 = λ x. P
 handed-place false stop (Some bytes) more items = items
 
 -- the input as it stands now
-abbrev pub with_input : Kept → Option Feed → Option Stop → Bool → Kept
-with_input k p stop over = record k { feed = p; stop = stop; is_over = over }
+abbrev pub with_input : Kept → Option Feed → Option Stop → Bool → Standing → Kept
+with_input k p stop over at = record k { feed = p; stop = stop; is_over = over; standing = at }
 
-abbrev pub after_handed : Kept → Waiting → Bool → Option Feed → Option Stop → Bool → Kept
-after_handed k w last p stop over = record k { marks = k.marks ++ (Open ∷ []); requests = k.requests ++ (Some w ∷ []); over = last; feed = p; stop = stop; is_over = over }
+abbrev pub after_handed : Kept → Waiting → Option Feed → Option Stop → Bool → Standing → Kept
+after_handed k w p stop over at = record k { marks = k.marks ++ (Open ∷ []); requests = k.requests ++ (Some w ∷ []); feed = p; stop = stop; is_over = over; standing = at }
 
-handed-reader : (client : Feed) (k : Kept) (slots : List Slot) (rest more : List Item) (date : HttpDate) (r : Request) (w : Waiting) (p : Option Feed) (stop : Option Stop) (over : Bool) (close : Stop) (next : Place) → Reader client k slots rest → streams (last_body k.requests) ≡ false
-    → remaining w.body p ≡ Some (record { body = r.body; behind = place_feed close next }) → Pipeline (place_after r.framing.is_last next) close more → GoesOn (Some client) p
-    → Reader client (after_handed k w r.framing.is_last p stop over) (slots ++ (handed_slot date r ∷ [])) more
-handed-reader client k slots rest more date r w p stop over close next old quiet left items source =
+-- where the input stands after the head of a request
+pub record StandsFor (r : Request) (w : Waiting) (at : Standing) : Type 0 where
+  pub past : is_past_last at ≡ r.framing.is_last
+  pub within : is_in_body at ≡ (not r.framing.is_last && is_streaming w.body)
+
+pub stands-for : (x : Exchange) (content : Feed) (at : Standing) → at ≡ standing_of x → StandsFor (request_of x.head content) x.waiting at
+stands-for x content at e =
+    let S : Standing → Type 0 = λ y. StandsFor (request_of x.head content) x.waiting y in
+    subst S (sym e) (by x.head.is_last (is_streaming x.waiting.body) refl refl)
+  where
+    by : (last streaming : Bool) → x.head.is_last ≡ last → is_streaming x.waiting.body ≡ streaming → StandsFor (request_of x.head content) x.waiting (standing_of x)
+    by true streaming l t = record { past = rw l refl; within = rw l refl }
+    by false true l t = record { past = rw (l, t) refl; within = rw (l, t) refl }
+    by false false l t = record { past = rw (l, t) refl; within = rw (l, t) refl }
+
+handed-reader : (client : Feed) (k : Kept) (slots : List Slot) (rest more : List Item) (date : HttpDate) (r : Request) (w : Waiting) (p : Option Feed) (stop : Option Stop) (over : Bool) (at : Standing) (close : Stop) (next : Place) → Reader client k slots rest → streams (last_body k.requests) ≡ false
+    → remaining w.body p ≡ Some (record { body = r.body; behind = place_feed close next }) → Pipeline (place_after r.framing.is_last next) close more → GoesOn (Some client) p → StandsFor r w at
+    → Reader client (after_handed k w p stop over at) (slots ++ (handed_slot date r ∷ [])) more
+handed-reader client k slots rest more date r w p stop over at close next old quiet left items source stands =
     let x = handed_slot date r in
     let last : last_slot (slots ++ (x ∷ [])) ≡ Some x = last-snoc None slots x in
     let content : last_body (k.requests ++ (Some w ∷ [])) ≡ Some w.body = body-snoc k.requests (Some w) in
     let B : Option Remaining → Option Feed = λ o. option_map (λ (y : Remaining). y.body) o in
     let P : Option Slot → Option Body → Type 0 = λ o b. GivesRest b o p in
     let here : P (Some x) (Some w.body) = ap B left in
-    let Q : Option Body → Type 0 = λ b. PlaceAt r.framing.is_last (behind_body b p) more in
+    let Q : Bool → Option Body → Type 0 = λ y b. PlaceAt y (behind_body b p) more in
+    let W : Option Slot → Option Body → Bool = λ o b. not (is_last_slot o) && streams b in
     let F : Option Feed → Type 0 = λ o. PlaceAt r.framing.is_last o more in
     let behind : behind_body (Some w.body) p ≡ Some (place_feed close next) = ap (λ (o : Option Remaining). option_map (λ (y : Remaining). y.behind) o) left in
-    let k2 : Kept = after_handed k w r.framing.is_last p stop over in
+    let k2 : Kept = after_handed k w p stop over at in
     record {
       settled = settled-snoc k.requests (Some w) old.settled quiet;
       gives = subst (λ o. P o (last_body (k.requests ++ (Some w ∷ [])))) (sym last) (subst (λ b. P (Some x) b) (sym content) here);
       next = λ e. record {
-        is_last = ap is_last_slot (sym last);
+        is_last = stands.past ∙ ap is_last_slot (sym last);
+        within = stands.within ∙ ap (λ b. W (Some x) b) (sym content) ∙ ap (λ o. W o (last_body (k.requests ++ (Some w ∷ [])))) (sym last);
         lost = λ lost. (let no : true ≡ false = sym lost ∙ (ap reader_is_lost last ∙ and-false (is_chunked r.framing.form)) in cc);
-        place = λ e. subst Q (sym content) (subst F (sym behind) (handed-place r.framing.is_last close next more items));
+        place = λ e. subst (λ y. Q y (last_body (k.requests ++ (Some w ∷ [])))) (sym stands.past) (subst (λ y. Q r.framing.is_last y) (sym content) (subst F (sym behind) (handed-place r.framing.is_last close next more items)));
       };
       source = source;
     }
 
-pub ask-handed : (client : Feed) (before : Sink) (k : Kept) (s : State) (date : HttpDate) (x : Exchange) (p : Option Feed) (stop : Option Stop) (over : Bool) (n : ℕ) → Stands client before k s → k.ended ≡ false → k.over ≡ false → streams (last_body k.requests) ≡ false
-    → (InputEnded k → ⊥) → ReadsHead date k.feed p (Ok (read.Request x)) → GoesOn k.feed p → n ≡ length k.marks → AreInShape (k.marks ++ (Open ∷ []))
-    → Answered client before (after_handed k x.waiting x.head.is_last p stop over) s date Ask (Handed n (head_message x.head) (head_framing x.head))
-ask-handed client before k s date x p stop over n st e o quiet open_input reads goes number shape =
+pub ask-handed : (client : Feed) (before : Sink) (k : Kept) (s : State) (date : HttpDate) (x : Exchange) (from_here : Standing) (p : Option Feed) (stop : Option Stop) (over : Bool) (at : Standing) (n : ℕ) → Stands client before k s → k.ended ≡ false → is_past_last k.standing ≡ false → streams (last_body k.requests) ≡ false
+    → (InputEnded k → ⊥) → ReadsHead from_here date k.feed p (Ok (read.Request x)) → GoesOn k.feed p → n ≡ length k.marks → AreInShape (k.marks ++ (Open ∷ [])) → at ≡ standing_of x
+    → Answered client before (after_handed k x.waiting p stop over at) s date Ask (Handed n (head_message x.head) (head_framing x.head))
+ask-handed client before k s date x from_here p stop over at n st e o quiet open_input reads goes number shape stands =
     let g = going client before k s st e o quiet open_input in
-    let P : Option Feed → Type 0 = λ y. ReadsHead date y p (Ok (read.Request x)) in
+    let P : Option Feed → Type 0 = λ y. ReadsHead from_here date y p (Ok (read.Request x)) in
     let found = subst P g.told reads in
     let h = x.head in
     let r = request_of h found.0 in
@@ -245,31 +266,58 @@ ask-handed client before k s date x p stop over n st e o quiet open_input reads 
         numbers = kept-append s.reached.slots k.marks k.requests (y ∷ []) (Open ∷ []) (Some x.waiting ∷ []) st.numbers (waits, tt);
         shape = shape;
         ended = sym e;
-        reader = handed-reader client k s.reached.slots s.reached.rest first.0 date r x.waiting p stop over g.feed.stop found.1 st.reader quiet found.3 first.2 (goes-on_more (Some client) k.feed p st.reader.source goes);
+        reader = handed-reader client k s.reached.slots s.reached.rest first.0 date r x.waiting p stop over at g.feed.stop found.1 st.reader quiet found.3 first.2 (goes-on_more (Some client) k.feed p st.reader.source goes) (stands-for x found.0 at stands);
         output = output-waiting before k.sink k.output_ended s.reached.slots date r s.failure st.output;
       },
       inl (true, tt, subst G (sym is) (refl, (ap (λ z. Handed z (head_message h) (head_framing h)) told, refl))),
     )
 
 -- the body of the last request holds the reader
-pub ask-not_yet : (client : Feed) (before : Sink) (k : Kept) (s : State) (date : HttpDate) → Stands client before k s → k.ended ≡ false → k.over ≡ false → streams (last_body k.requests) ≡ true → Answered client before k s date Ask NotYet
-ask-not_yet client before k s date st e o held =
+pub ask-not_yet : (client : Feed) (before : Sink) (k : Kept) (s : State) (date : HttpDate) → Stands client before k s → k.ended ≡ false → k.standing ≡ in_place.Body → Answered client before k s date Ask NotYet
+ask-not_yet client before k s date st e held =
     let slots = s.reached.slots in
-    let last : is_last_slot (last_slot slots) ≡ false = sym (st.reader.next e).is_last ∙ o in
-    let is : reader_is_held (last_slot slots) ≡ true = held-by (last_slot slots) (last_body k.requests) (last-of client before k s st) ∙ rw (last, held) refl in
+    let is : reader_is_held (last_slot slots) ≡ true = held-by (last_slot slots) (last_body k.requests) (last-of client before k s st) ∙ sym (st.reader.next e).within ∙ ap is_in_body held in
     step-unchanged client before k s date Ask NotYet st (ask-held date s.reached (st.ended ∙ e) is)
+
+-- in front of a head the last body isn't read from the input, and the last head wasn't read
+pub record BeforeHead (k : Kept) : Type 0 where
+  pub unread : is_past_last k.standing ≡ false
+  pub quiet : streams (last_body k.requests) ≡ false
+
+pub before-head : (client : Feed) (before : Sink) (k : Kept) (s : State) → Stands client before k s → k.ended ≡ false → IsBeforeHead k.standing → BeforeHead k
+before-head client before k s st e here =
+    let n = st.reader.next e in
+    let past = not-past k.standing here in
+    let last : is_last_slot (last_slot s.reached.slots) ≡ false = sym n.is_last ∙ past in
+    let within : (not (is_last_slot (last_slot s.reached.slots)) && streams (last_body k.requests)) ≡ false = sym n.within ∙ not-within k.standing here in
+    let U : Bool → Bool = λ x. not x && streams (last_body k.requests) in
+    record { unread = past; quiet = ap U (sym last) ∙ within }
+  where
+    not-past : (x : Standing) → IsBeforeHead x → is_past_last x ≡ false
+    not-past in_place.Head h = refl
+    not-past in_place.Lost h = refl
+    not-past (in_place.Broken kind) h = refl
+    not-past in_place.Body h = elim h [ ]
+    not-past in_place.Last h = elim h [ ]
+
+    not-within : (x : Standing) → IsBeforeHead x → is_in_body x ≡ false
+    not-within in_place.Head h = refl
+    not-within in_place.Lost h = refl
+    not-within (in_place.Broken kind) h = refl
+    not-within in_place.Body h = elim h [ ]
+    not-within in_place.Last h = elim h [ ]
 
 -- the pipeline has ended
 abbrev ends_with : Reached → Outcome
 ends_with old = record { reply = Ended; slots = old.slots; rest = []; ended = true; writer = Unused }
 
-abbrev pub after_end : Kept → Option Feed → Option Stop → Bool → Kept
-after_end k p stop over = record k { ended = true; feed = p; stop = stop; is_over = over }
+abbrev pub after_end : Kept → Option Feed → Option Stop → Bool → Standing → Kept
+after_end k p stop over at = record k { ended = true; feed = p; stop = stop; is_over = over; standing = at }
 
 -- the input was read, and the last body isn't read from it
-end-reader : (client : Feed) (before : Sink) (k : Kept) (s : State) (p : Option Feed) (stop : Option Stop) (over : Bool) (rest : List Item) → Stands client before k s → streams (last_body k.requests) ≡ false → GoesOn k.feed p
-    → Reader client (after_end k p stop over) s.reached.slots rest
-end-reader client before k s p stop over rest st quiet goes =
+end-reader : (client : Feed) (before : Sink) (k : Kept) (s : State) (p : Option Feed) (stop : Option Stop) (over : Bool) (at : Standing) (rest : List Item) → Stands client before k s → streams (last_body k.requests) ≡ false → GoesOn k.feed p
+    → Reader client (after_end k p stop over at) s.reached.slots rest
+end-reader client before k s p stop over at rest st quiet goes =
     let source = goes-on_more (Some client) k.feed p st.reader.source goes in
     let f = told-feed client p source in
     let P : Option Feed → Type 0 = λ y. GivesRest (last_body k.requests) (last_slot s.reached.slots) y in
@@ -279,8 +327,8 @@ pub same-feed : (x : Option Feed) → GoesOn x x
 same-feed None = tt
 same-feed (Some f) = record { gone = []; joins = refl }
 
-pub ask-over : (client : Feed) (before : Sink) (k : Kept) (s : State) (date : HttpDate) → Stands client before k s → k.ended ≡ false → k.over ≡ true
-    → Answered client before (after_end k k.feed k.stop k.is_over) s date Ask Ended
+pub ask-over : (client : Feed) (before : Sink) (k : Kept) (s : State) (date : HttpDate) → Stands client before k s → k.ended ≡ false → is_past_last k.standing ≡ true
+    → Answered client before (after_end k k.feed k.stop k.is_over k.standing) s date Ask Ended
 ask-over client before k s date st e o = by (reader_is_lost (last_slot s.reached.slots)) refl
   where
     slots : List Slot
@@ -294,10 +342,10 @@ ask-over client before k s date st e o = by (reader_is_lost (last_slot s.reached
         let last : is_last_slot (last_slot slots) ≡ true = sym next.is_last ∙ o in
         held-by (last_slot slots) (last_body k.requests) (last-of client before k s st) ∙ rw last refl
 
-    ended_reader : (rest : List Item) → Reader client (after_end k k.feed k.stop k.is_over) slots rest
+    ended_reader : (rest : List Item) → Reader client (after_end k k.feed k.stop k.is_over k.standing) slots rest
     ended_reader rest = record { settled = st.reader.settled; gives = st.reader.gives; next = λ z. cc; source = st.reader.source }
 
-    by : (t : Bool) → reader_is_lost (last_slot slots) ≡ t → Answered client before (after_end k k.feed k.stop k.is_over) s date Ask Ended
+    by : (t : Bool) → reader_is_lost (last_slot slots) ≡ t → Answered client before (after_end k k.feed k.stop k.is_over k.standing) s date Ask Ended
     by true l =
         let new : State = record { reached = record { slots = slots; rest = s.reached.rest; ended = true }; failure = s.failure } in
         let G : Outcome → Type 0 = λ x. Has x s Ended new in (
@@ -318,10 +366,10 @@ ask-over client before k s date st e o = by (reader_is_lost (last_slot s.reached
         )
 
 -- no head follows
-pub ask-none : (client : Feed) (before : Sink) (k : Kept) (s : State) (date : HttpDate) (p : Option Feed) (stop : Option Stop) (over : Bool) → Stands client before k s → k.ended ≡ false → k.over ≡ false → streams (last_body k.requests) ≡ false
-    → ReadsHead date k.feed p (Ok read.Ended) → GoesOn k.feed p
-    → Answered client before (after_end k p stop over) s date Ask Ended
-ask-none client before k s date p stop over st e o quiet reads goes = by (reader_is_lost (last_slot s.reached.slots)) refl
+pub ask-none : (client : Feed) (before : Sink) (k : Kept) (s : State) (date : HttpDate) (from_here : Standing) (why : EndOfRequests) (p : Option Feed) (stop : Option Stop) (over : Bool) (at : Standing) → Stands client before k s → k.ended ≡ false → is_past_last k.standing ≡ false → streams (last_body k.requests) ≡ false
+    → ReadsHead from_here date k.feed p (Ok (read.Ended why)) → GoesOn k.feed p
+    → Answered client before (after_end k p stop over at) s date Ask Ended
+ask-none client before k s date from_here why p stop over at st e o quiet reads goes = by (reader_is_lost (last_slot s.reached.slots)) refl
   where
     slots : List Slot
     slots = s.reached.slots
@@ -329,12 +377,12 @@ ask-none client before k s date p stop over st e o quiet reads goes = by (reader
     quiet_now : reader_is_held (last_slot slots) ≡ false
     quiet_now = unheld client before k s st quiet
 
-    by : (t : Bool) → reader_is_lost (last_slot slots) ≡ t → Answered client before (after_end k p stop over) s date Ask Ended
+    by : (t : Bool) → reader_is_lost (last_slot slots) ≡ t → Answered client before (after_end k p stop over at) s date Ask Ended
     by true l =
         let new : State = record { reached = record { slots = slots; rest = s.reached.rest; ended = true }; failure = s.failure } in
         let G : Outcome → Type 0 = λ x. Has x s Ended new in (
           new,
-          record { numbers = st.numbers; shape = st.shape; ended = refl; reader = end-reader client before k s p stop over s.reached.rest st quiet goes; output = st.output },
+          record { numbers = st.numbers; shape = st.shape; ended = refl; reader = end-reader client before k s p stop over at s.reached.rest st quiet goes; output = st.output },
           inl (true, tt, subst G (sym (ask-lost date s.reached (st.ended ∙ e) quiet_now l)) (refl, (refl, refl))),
         )
     by false l =
@@ -342,26 +390,26 @@ ask-none client before k s date p stop over st e o quiet reads goes = by (reader
         let here : behind_body (last_body k.requests) k.feed ≡ Some f.0 = ap (behind_body (last_body k.requests)) f.1 ∙ behind-settled (last_slot slots) (last_body k.requests) f.0 (last-of client before k s st) quiet in
         let P : Bool → Type 0 = λ x. PlaceAt x (behind_body (last_body k.requests) k.feed) s.reached.rest in
         let Q : Option Feed → Type 0 = λ x. PlaceAt false x s.reached.rest in
-        let R : Option Feed → Type 0 = λ x. ReadsHead date x p (Ok read.Ended) in
-        let none = pipeline-none f.0.bytes f.0.stop s.reached.rest (subst R f.1 reads) (subst Q here (subst P o ((st.reader.next e).place l))) in
+        let R : Option Feed → Type 0 = λ x. ReadsHead from_here date x p (Ok (read.Ended why)) in
+        let none = pipeline-none f.0.bytes f.0.stop s.reached.rest (subst R f.1 reads).0 (subst Q here (subst P o ((st.reader.next e).place l))) in
         let F : List Item → Outcome = λ x. asks_from date Unused slots x in
         let is : ask date s.reached ≡ ends_with s.reached = ask-goes date s.reached (st.ended ∙ e) quiet_now l ∙ ap F none in
         let new : State = record { reached = record { slots = slots; rest = []; ended = true }; failure = s.failure } in
         let G : Outcome → Type 0 = λ x. Has x s Ended new in (
           new,
-          record { numbers = st.numbers; shape = st.shape; ended = refl; reader = end-reader client before k s p stop over [] st quiet goes; output = st.output },
+          record { numbers = st.numbers; shape = st.shape; ended = refl; reader = end-reader client before k s p stop over at [] st quiet goes; output = st.output },
           inl (true, tt, subst G (sym is) (refl, (refl, refl))),
         )
 
 -- no memory was found
-pub ask-memory : (client : Feed) (before : Sink) (k : Kept) (s : State) (date : HttpDate) (p : Option Feed) (stop : Option Stop) (over : Bool) → Stands client before k s → k.ended ≡ false → k.over ≡ false → streams (last_body k.requests) ≡ false → (InputEnded k → ⊥) → GoesOn k.feed p
-    → Answered client before (after_end k p stop over) s date Ask Memory
-ask-memory client before k s date p stop over st e o quiet open_input goes =
+pub ask-memory : (client : Feed) (before : Sink) (k : Kept) (s : State) (date : HttpDate) (p : Option Feed) (stop : Option Stop) (over : Bool) (at : Standing) → Stands client before k s → k.ended ≡ false → is_past_last k.standing ≡ false → streams (last_body k.requests) ≡ false → (InputEnded k → ⊥) → GoesOn k.feed p
+    → Answered client before (after_end k p stop over at) s date Ask Memory
+ask-memory client before k s date p stop over at st e o quiet open_input goes =
     let g = going client before k s st e o quiet open_input in
     let new : State = record { reached = record { slots = s.reached.slots; rest = s.reached.rest; ended = true }; failure = s.failure } in
     let R : List Slot → Reached = λ x. record { slots = x; rest = s.reached.rest; ended = true } in (
       new,
-      record { numbers = st.numbers; shape = st.shape; ended = refl; reader = end-reader client before k s p stop over s.reached.rest st quiet goes; output = st.output },
+      record { numbers = st.numbers; shape = st.shape; ended = refl; reader = end-reader client before k s p stop over at s.reached.rest st quiet goes; output = st.output },
       inr (
         st.ended ∙ e,
         g.unheld,
@@ -375,8 +423,8 @@ ask-memory client before k s date p stop over st e o quiet open_input goes =
     )
 
 -- a refused head has its number, and its answer was sent, or waits for its turn
-abbrev pub after_refused : Kept → List Mark → Option Feed → Option Stop → Bool → Sink → Bool → Kept
-after_refused k marks p stop over sink ended = record k { marks = marks; requests = k.requests ++ (None ∷ []); ended = true; feed = p; stop = stop; is_over = over; sink = sink; output_ended = ended }
+abbrev pub after_refused : Kept → List Mark → Option Feed → Option Stop → Bool → Standing → Sink → Bool → Kept
+after_refused k marks p stop over at sink ended = record k { marks = marks; requests = k.requests ++ (None ∷ []); ended = true; feed = p; stop = stop; is_over = over; standing = at; sink = sink; output_ended = ended }
 
 refused-output : (before sink new : Sink) (e ended : Bool) (slots : List Slot) (n : Slot) (s : State) → OutputAt before sink e slots s.failure → s.reached.slots ≡ slots → list_all is_finished slots ≡ true → is_finished n ≡ true → is_slot_broken n ≡ false
     → before.failures < 2 ^ 64 - 1 → SendsUnlessEnded e sink new ended (segment n ++ []) → IsFlushed new → Goes before new e ended slots (slots ++ (n ∷ [])) s.failure
@@ -435,13 +483,13 @@ refuses before sink new e ended s marks final requests n text h kept shape over 
     })
     (turn-at slots marks requests [] kept (shape-issued marks shape))
 
-pub ask-refused : (client : Feed) (before : Sink) (k : Kept) (s : State) (date : HttpDate) (text : Vec ℕ) (is_last : Bool) (p : Option Feed) (stop : Option Stop) (over : Bool) (marks : List Mark) (sink : Sink) (ended : Bool) → Stands client before k s → before.failures < 2 ^ 64 - 1
-    → k.ended ≡ false → k.over ≡ false → streams (last_body k.requests) ≡ false → (InputEnded k → ⊥) → ReadsHead date k.feed p (Ok (read.Refused text is_last)) → GoesOn k.feed p
+pub ask-refused : (client : Feed) (before : Sink) (k : Kept) (s : State) (date : HttpDate) (from_here : Standing) (status : StatusCode) (text : Vec ℕ) (is_last : Bool) (p : Option Feed) (stop : Option Stop) (over : Bool) (at : Standing) (marks : List Mark) (sink : Sink) (ended : Bool) → Stands client before k s → before.failures < 2 ^ 64 - 1
+    → k.ended ≡ false → is_past_last k.standing ≡ false → streams (last_body k.requests) ≡ false → (InputEnded k → ⊥) → ReadsHead from_here date k.feed p (Ok (read.Refused status text is_last)) → GoesOn k.feed p
     → LeavesText (length k.marks == first_unfinished k.marks) k.marks [] marks text.items k.output_ended k.sink sink ended
-    → Answered client before (after_refused k marks p stop over sink ended) s date Ask Ended
-ask-refused client before k s date text is_last p stop over marks sink ended st low e o quiet open_input reads goes leaves =
+    → Answered client before (after_refused k marks p stop over at sink ended) s date Ask Ended
+ask-refused client before k s date from_here status text is_last p stop over at marks sink ended st low e o quiet open_input reads goes leaves =
     let g = going client before k s st e o quiet open_input in
-    let P : Option Feed → Type 0 = λ y. ReadsHead date y p (Ok (read.Refused text is_last)) in
+    let P : Option Feed → Type 0 = λ y. ReadsHead from_here date y p (Ok (read.Refused status text is_last)) in
     let found = subst P g.told reads in
     let v = found.0 in
     let first = pipeline-first g.feed.bytes g.feed.stop (refused v) None s.reached.rest found.1 g.pipeline in
@@ -472,3 +520,33 @@ ask-refused client before k s date text is_last p stop over marks sink ended st 
 
 pub ask-ended : (client : Feed) (before : Sink) (k : Kept) (s : State) (date : HttpDate) → Stands client before k s → k.ended ≡ true → Answered client before k s date Ask Ended
 ask-ended client before k s date st e = step-unchanged client before k s date Ask Ended st (ask-ends date s.reached (st.ended ∙ e))
+
+-- no request follows: the last one was read, or none stands in front of the input
+pub ask-final : (client : Feed) (before : Sink) (k : Kept) (s : State) (date : HttpDate) (why : EndOfRequests) (p : Option Feed) (stop : Option Stop) (over : Bool) (at : Standing) → Stands client before k s → k.ended ≡ false → (k.standing ≡ in_place.Body → ⊥)
+    → (k.standing ≡ in_place.Last → (p ≡ k.feed) × (stop ≡ k.stop) × (over ≡ k.is_over) × (at ≡ k.standing)) → (IsBeforeHead k.standing → ReadsHead k.standing date k.feed p (Ok (read.Ended why))) → GoesOn k.feed p
+    → Answered client before (after_end k p stop over at) s date Ask Ended
+ask-final client before k s date why p stop over at st e outside left reads goes = by k.standing refl
+  where
+    none : IsBeforeHead k.standing → Answered client before (after_end k p stop over at) s date Ask Ended
+    none here =
+        let h = before-head client before k s st e here in
+        ask-none client before k s date k.standing why p stop over at st e h.unread h.quiet (reads here) goes
+
+    by : (x : Standing) → k.standing ≡ x → Answered client before (after_end k p stop over at) s date Ask Ended
+    by in_place.Head i = none (let P : Standing → Type 0 = λ y. IsBeforeHead y in subst P (sym i) tt)
+    by in_place.Lost i = none (let P : Standing → Type 0 = λ y. IsBeforeHead y in subst P (sym i) tt)
+    by (in_place.Broken kind) i = none (let P : Standing → Type 0 = λ y. IsBeforeHead y in subst P (sym i) tt)
+    by in_place.Body i = absurd (outside i)
+    by in_place.Last i =
+        let h = left i in
+        let P : Option Feed → Option Stop → Bool → Standing → Type 0 = λ a b c d. Answered client before (after_end k a b c d) s date Ask Ended in
+        subst (λ a. P a stop over at) (sym h.0) (subst (λ b. P k.feed b over at) (sym h.1) (subst (λ c. P k.feed k.stop c at) (sym h.2) (subst (λ d. P k.feed k.stop k.is_over d) (sym h.3)
+        (ask-over client before k s date st e (ap is_past_last i)))))
+
+-- neither within a body nor after the last request the input stands in front of a head
+pub stands-before : (at : Standing) → (at ≡ in_place.Body → ⊥) → (at ≡ in_place.Last → ⊥) → IsBeforeHead at
+stands-before in_place.Head b l = tt
+stands-before in_place.Lost b l = tt
+stands-before (in_place.Broken kind) b l = tt
+stands-before in_place.Body b l = absurd (b refl)
+stands-before in_place.Last b l = absurd (l refl)

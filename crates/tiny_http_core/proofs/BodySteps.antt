@@ -1,7 +1,11 @@
 -- A step on a request's body: from where the reader stands to where it stands behind it.
 use Rattle.std.proofs.Common.{◌≡◌, refl, sym, ap, ◌∙◌, subst, ℕ, inl, Bool, true, false, not, ◌&&◌, List, [], ◌∷◌, ◌++◌, length, Option, Some, None, arith}
 use Rattle.std.specs.Option.{option_map}
-use Rattle.tiny_http_wire.specs.declared.device.Stop.TheVariants.{End}
+use Rattle.std.specs.declared.io.ErrorKind.{ErrorKind}
+use Rattle.tiny_http_wire.specs.declared.device.Stop.TheVariants.{End, Fault as Faults}
+use Rattle.tiny_http_stream.specs.declared.source.Standing.{Standing}
+use Rattle.tiny_http_stream.specs.declared.source.Standing.TheVariants as at
+use Rattle.tiny_http_stream.specs.Standing.{after_body, after_fault, after_loss}
 use Rattle.tiny_http_wire.specs.Device.{Feed}
 use Rattle.tiny_http_message.specs.declared.waiting.Waiting.{Waiting}
 use Rattle.tiny_http_message.specs.declared.framing.Form.{Form}
@@ -15,17 +19,17 @@ use Rattle.tiny_http_core.specs.Slots.{Slot, Stage, is_chunked, last_slot, reade
 use Rattle.tiny_http_message.specs.Body.{body_finished}
 use Rattle.tiny_http_core.specs.Steps.{finished}
 use Rattle.tiny_http_core.specs.Conversation.{PlaceAt}
-use Rattle.tiny_http_message.specs.Body.{Remaining, remaining, is_streaming, Fits, GivesUp}
-use Rattle.tiny_http_core.specs.Pending.{last_body}
-use Rattle.tiny_http_core.specs.Connection.{Kept, open_slot, IsWaiting, IsSettled, AreSettled, behind_body, slot_rest, GivesRest, NextHead, Reader}
+use Rattle.tiny_http_message.specs.Body.{Remaining, remaining, is_streaming, body_standing, Fits, GivesUp}
+use Rattle.tiny_http_core.specs.Pending.{last_body, streams}
+use Rattle.tiny_http_core.specs.Connection.{Kept, open_slot, IsWaiting, IsSettled, AreSettled, behind_body, slot_rest, GivesRest, is_past_last, is_in_body, NextHead, Reader}
 use Rattle.tiny_http_stream.proofs.GoingOn.{goes-on_more}
 use Rattle.tiny_http_core.proofs.AskLemmas.{told-feed}
 use Rattle.tiny_http_message.proofs.BodyReads.{gives-up}
-use Rattle.tiny_http_core.proofs.ReaderLemmas.{last-snoc, body-snoc, last-within, body-within, settled-place, settled-set, waiting-kept}
+use Rattle.tiny_http_core.proofs.ReaderLemmas.{last-snoc, body-snoc, last-within, body-within, settled-place, settled-set, waiting-kept, and-false}
 
 -- the input and the bodies, behind a step of a number
 abbrev pub with_reader : Kept → List (Option Waiting) → {R : Type 0} → SourceState R → Kept
-with_reader k requests source = record k { requests = requests; feed = source.feed; stop = source.stop; is_over = source.is_over }
+with_reader k requests source = record k { requests = requests; standing = source.standing; feed = source.feed; stop = source.stop; is_over = source.is_over }
 
 over-kept : (form : Form) (n given : ℕ) (told : Bool) → body_finished form n given told ≡ true → (is_chunked form && not told) ≡ true → ⊥
 over-kept Chunked n given told h lost = let no : true ≡ false = sym lost ∙ rw h refl in cc
@@ -55,9 +59,86 @@ given-place {R = R} (body.Held bytes) old new f r given told false rest fits h e
 given-place {R = R} (body.Counted left) old new f r given told false rest fits h e quiet kept place =
     let P : Option Feed → Type 0 = λ o. PlaceAt false o rest in
     let skips : behind_body (Some (body.Counted left)) old.feed ≡ option_map (skipped left) old.feed = rw e refl in
-    subst P (skips ∙ sym h) place
+    subst P (skips ∙ sym h.0) place
 given-place {R = R} (body.Chunked d) old new f r given told false rest fits h e quiet kept place =
     let no : true ≡ false = rw (fits.0, fits.1) refl ∙ kept in cc
+
+-- where the input stands after a body, whether the last head was read is the same, and it isn't within a body
+past-body : (p : Standing) → is_past_last (after_body p) ≡ is_past_last p
+past-body at.Head = refl
+past-body at.Body = refl
+past-body at.Last = refl
+past-body at.Lost = refl
+past-body (at.Broken kind) = refl
+
+past-loss : (p : Standing) → is_past_last (after_loss p) ≡ is_past_last p
+past-loss at.Head = refl
+past-loss at.Body = refl
+past-loss at.Last = refl
+past-loss at.Lost = refl
+past-loss (at.Broken kind) = refl
+
+past-fault : (kind : ErrorKind) (p : Standing) → is_past_last (after_fault kind p) ≡ is_past_last p
+past-fault kind at.Head = refl
+past-fault kind at.Body = refl
+past-fault kind at.Last = refl
+past-fault kind at.Lost = refl
+past-fault kind (at.Broken k) = refl
+
+out-body : (p : Standing) → is_in_body (after_body p) ≡ false
+out-body at.Head = refl
+out-body at.Body = refl
+out-body at.Last = refl
+out-body at.Lost = refl
+out-body (at.Broken kind) = refl
+
+out-loss : (p : Standing) → is_in_body (after_loss p) ≡ false
+out-loss at.Head = refl
+out-loss at.Body = refl
+out-loss at.Last = refl
+out-loss at.Lost = refl
+out-loss (at.Broken kind) = refl
+
+out-fault : (kind : ErrorKind) (p : Standing) → is_in_body (after_fault kind p) ≡ false
+out-fault kind at.Head = refl
+out-fault kind at.Body = refl
+out-fault kind at.Last = refl
+out-fault kind at.Lost = refl
+out-fault kind (at.Broken k) = refl
+
+given-past : {R : Type 0} (b : Body) (old new : SourceState R) → GivesUp b old new → is_past_last new.standing ≡ is_past_last old.standing
+given-past {R = R} (body.Over stop) old new h = ap (λ (x : SourceState R). is_past_last x.standing) h
+given-past {R = R} (body.Held bytes) old new h = ap (λ (x : SourceState R). is_past_last x.standing) h
+given-past (body.Counted left) old new h = ap is_past_last h.1 ∙ past-body old.standing
+given-past (body.Chunked d) old new h = ap is_past_last h.2 ∙ past-loss old.standing
+
+given-within : {R : Type 0} (b : Body) (old new : SourceState R) (last : Bool) → GivesUp b old new → is_in_body old.standing ≡ (not last && is_streaming b) → is_in_body new.standing ≡ false
+given-within {R = R} (body.Over stop) old new last h e = ap (λ (x : SourceState R). is_in_body x.standing) h ∙ e ∙ and-false (not last)
+given-within {R = R} (body.Held bytes) old new last h e = ap (λ (x : SourceState R). is_in_body x.standing) h ∙ e ∙ and-false (not last)
+given-within (body.Counted left) old new last h e = ap is_in_body h.1 ∙ out-body old.standing
+given-within (body.Chunked d) old new last h e = ap is_in_body h.2 ∙ out-loss old.standing
+
+-- the same after a read
+pub record StandsOn (c : Body) (p q : Standing) (last : Bool) : Type 0 where
+  pub past : is_past_last q ≡ is_past_last p
+  pub within : is_in_body q ≡ (not last && is_streaming c)
+
+stands-by : (c : Body) (p : Standing) (last : Bool) → is_in_body p ≡ (not last && true) → StandsOn c p (body_standing c p) last
+stands-by (body.Over End) p last e = record { past = past-body p; within = out-body p ∙ sym (and-false (not last)) }
+stands-by (body.Over (Faults kind)) p last e = record { past = past-fault kind p; within = out-fault kind p ∙ sym (and-false (not last)) }
+stands-by (body.Held bytes) p last e = record { past = past-body p; within = out-body p ∙ sym (and-false (not last)) }
+stands-by (body.Counted left) p last e = record { past = refl; within = e }
+stands-by (body.Chunked d) p last e = record { past = refl; within = e }
+
+pub stands-on : (b c : Body) (p q : Standing) (last : Bool) → (is_streaming b ≡ true → q ≡ body_standing c p) → (is_streaming b ≡ false → q ≡ p) → (is_streaming b ≡ false → is_streaming c ≡ false) → is_in_body p ≡ (not last && is_streaming b) → StandsOn c p q last
+stands-on b c p q last goes settled stays e = by (is_streaming b) refl
+  where
+    S : Standing → Type 0
+    S x = StandsOn c p x last
+
+    by : (t : Bool) → is_streaming b ≡ t → StandsOn c p q last
+    by true t = subst S (sym (goes t)) (stands-by c p last (e ∙ ap (λ x. not last && x) t))
+    by false t = subst S (sym (settled t)) (record { past = refl; within = e ∙ ap (λ x. not last && x) (t ∙ sym (stays t)) })
 
 -- a body that isn't read from the input leaves it
 given-same : {R : Type 0} (b : Body) (old new : SourceState R) → GivesUp b old new → is_streaming b ≡ false → new ≡ old
@@ -67,13 +148,16 @@ given-same (body.Counted left) old new h e = cc
 given-same (body.Chunked d) old new h e = cc
 
 -- where the last number and its body are the same, the next head is read at the same place
-pub next-same : (k q : Kept) (o u : Option Slot) (rest : List Item) → q.over ≡ k.over → u ≡ o → last_body q.requests ≡ last_body k.requests → q.feed ≡ k.feed → q.stop ≡ k.stop → q.is_over ≡ k.is_over → NextHead k o rest → NextHead q u rest
-next-same k q o u rest over last content feed stop ends n =
+pub next-same : (k q : Kept) (o u : Option Slot) (rest : List Item) → q.standing ≡ k.standing → u ≡ o → last_body q.requests ≡ last_body k.requests → q.feed ≡ k.feed → q.stop ≡ k.stop → q.is_over ≡ k.is_over → NextHead k o rest → NextHead q u rest
+next-same k q o u rest standing last content feed stop ends n =
     let P : Bool → Option Body → Option Feed → Type 0 = λ x y z. PlaceAt x (behind_body y z) rest in
+    let over : is_past_last q.standing ≡ is_past_last k.standing = ap is_past_last standing in
+    let W : Option Slot → Option Body → Bool = λ x y. not (is_last_slot x) && streams y in
     record {
       is_last = over ∙ n.is_last ∙ ap is_last_slot (sym last);
+      within = ap is_in_body standing ∙ n.within ∙ ap (λ y. W o y) (sym content) ∙ ap (λ x. W x (last_body q.requests)) (sym last);
       lost = λ l. (let m = n.lost (ap reader_is_lost (sym last) ∙ l) in ((ends ∙ m.0.0, stop ∙ m.0.1), feed ∙ m.1));
-      place = λ l. subst (λ x. P x (last_body q.requests) q.feed) (sym over) (subst (λ y. P k.over y q.feed) (sym content) (subst (λ z. P k.over (last_body k.requests) z) (sym feed) (n.place (ap reader_is_lost (sym last) ∙ l))));
+      place = λ l. subst (λ x. P x (last_body q.requests) q.feed) (sym over) (subst (λ y. P (is_past_last k.standing) y q.feed) (sym content) (subst (λ z. P (is_past_last k.standing) (last_body k.requests) z) (sym feed) (n.place (ap reader_is_lost (sym last) ∙ l))));
     }
 
 -- the connection's input is this source
@@ -81,6 +165,7 @@ pub record ReadsFrom {R : Type 0} (k : Kept) (source : SourceState R) : Type 0 w
   pub feed : k.feed ≡ source.feed
   pub stop : k.stop ≡ source.stop
   pub ends : k.is_over ≡ source.is_over
+  pub standing : k.standing ≡ source.standing
 
 -- a step of a number that isn't the last, which leaves the input
 pub reader-within : {R : Type 0} (client : Feed) (k : Kept) (source : SourceState R) (bs cs : List Slot) (us vs : List (Option Waiting)) (rest : List Item) (s t c : Slot) (v x u : Option Waiting) → ReadsFrom k source → Reader client k (bs ++ (s ∷ (c ∷ cs))) rest
@@ -94,7 +179,7 @@ reader-within client k source bs cs us vs rest s t c v x u from reader is quiet 
     record {
       settled = settled-set us u x (v ∷ vs) (subst A is reader.settled) (inl quiet);
       gives = subst (λ b. G b (last_slot (bs ++ (t ∷ (c ∷ cs)))) source.feed) (sym content) (subst (λ o. G (last_body k.requests) o source.feed) (sym last) (subst (λ f. G (last_body k.requests) (last_slot (bs ++ (s ∷ (c ∷ cs)))) f) from.feed reader.gives));
-      next = λ e. next-same k (with_reader k (us ++ (x ∷ (v ∷ vs))) source) (last_slot (bs ++ (s ∷ (c ∷ cs)))) (last_slot (bs ++ (t ∷ (c ∷ cs)))) rest refl last content (sym from.feed) (sym from.stop) (sym from.ends) (reader.next e);
+      next = λ e. next-same k (with_reader k (us ++ (x ∷ (v ∷ vs))) source) (last_slot (bs ++ (s ∷ (c ∷ cs)))) (last_slot (bs ++ (t ∷ (c ∷ cs)))) rest (sym from.standing) last content (sym from.feed) (sym from.stop) (sym from.ends) (reader.next e);
       source = subst S from.feed reader.source;
     }
 
@@ -104,8 +189,9 @@ pub record LastWaits {R : Type 0} (k : Kept) (source : SourceState R) (bs : List
   pub told : source.feed ≡ Some feed
   pub content : last_body k.requests ≡ Some w.body
   pub gives : option_map (λ (x : Remaining). x.body) (remaining w.body source.feed) ≡ Some (slot_rest s)
-  pub is_last : k.ended ≡ false → k.over ≡ is_last_item s.item
-  pub place : k.ended ≡ false → PlaceAt k.over (behind_body (Some w.body) source.feed) rest
+  pub is_last : k.ended ≡ false → is_past_last source.standing ≡ is_last_item s.item
+  pub within : k.ended ≡ false → is_in_body source.standing ≡ (not (is_last_item s.item) && is_streaming w.body)
+  pub place : k.ended ≡ false → PlaceAt (is_past_last source.standing) (behind_body (Some w.body) source.feed) rest
 
 pub last-waits : {R : Type 0} (client : Feed) (k : Kept) (source : SourceState R) (bs : List Slot) (us : List (Option Waiting)) (rest : List Item) (s : Slot) (w : Waiting) → IsWaiting s w → ReadsFrom k source → Reader client k (bs ++ (s ∷ [])) rest → k.requests ≡ us ++ (Some w ∷ [])
     → LastWaits k source bs s w rest
@@ -114,14 +200,17 @@ last-waits client k source bs us rest s w h from reader is =
     let last : last_slot (bs ++ (s ∷ [])) ≡ Some s = last-snoc None bs s in
     let content : last_body k.requests ≡ Some w.body = ap last_body is ∙ body-snoc us (Some w) in
     let G : Option Body → Option Slot → Option Feed → Type 0 = λ b o z. GivesRest b o z in
-    let P : Option Body → Option Feed → Type 0 = λ y z. PlaceAt k.over (behind_body y z) rest in
+    let P : Bool → Option Body → Option Feed → Type 0 = λ x y z. PlaceAt x (behind_body y z) rest in
+    let over : is_past_last k.standing ≡ is_past_last source.standing = ap is_past_last from.standing in
+    let W : Option Slot → Option Body → Bool = λ x y. not (is_last_slot x) && streams y in
     record {
       feed = f.0;
       told = sym from.feed ∙ f.1;
       content = content;
       gives = subst (λ b. G b (Some s) source.feed) content (subst (λ o. G (last_body k.requests) o source.feed) last (subst (λ z. G (last_body k.requests) (last_slot (bs ++ (s ∷ []))) z) from.feed reader.gives));
-      is_last = λ e. (reader.next e).is_last ∙ ap is_last_slot last;
-      place = λ e. subst (λ z. P (Some w.body) z) from.feed (subst (λ y. P y k.feed) content ((reader.next e).place (ap reader_is_lost last ∙ waiting-kept s w h)));
+      is_last = λ e. sym over ∙ (reader.next e).is_last ∙ ap is_last_slot last;
+      within = λ e. ap is_in_body (sym from.standing) ∙ (reader.next e).within ∙ ap (λ x. W x (last_body k.requests)) last ∙ ap (λ y. W (Some s) y) content;
+      place = λ e. subst (λ x. P x (Some w.body) source.feed) over (subst (λ z. P (is_past_last k.standing) (Some w.body) z) from.feed (subst (λ y. P (is_past_last k.standing) y k.feed) content ((reader.next e).place (ap reader_is_lost last ∙ waiting-kept s w h))));
     }
 
 -- the last number's body is given up
@@ -136,17 +225,20 @@ reader-last client k old new bs us rest s w stage h from reader is gives =
     let l = last-waits client k old bs us rest s w h from reader is in
     let A : List (Option Waiting) → Type 0 = λ x. AreSettled x in
     let G : Option Body → Type 0 = λ b. GivesRest b (last_slot (bs ++ (t ∷ []))) new.feed in
-    let P : Option Body → Type 0 = λ b. PlaceAt k.over (behind_body b new.feed) rest in
+    let P : Bool → Option Body → Type 0 = λ x b. PlaceAt x (behind_body b new.feed) rest in
+    let W : Option Body → Bool = λ y. not (is_last_slot (last_slot (bs ++ (t ∷ [])))) && streams y in
+    let past : is_past_last new.standing ≡ is_past_last old.standing = given-past w.body old new gives in
     let S : Option Feed → Type 0 = λ f. GoesOn f new.feed in
     let B : Option Remaining → Option Feed = λ o. option_map (λ (x : Remaining). x.behind) o in
     record {
       settled = settled-set us (Some w) None [] (subst A is reader.settled) (inl tt);
       gives = subst G (sym content) tt;
       next = λ e. record {
-        is_last = l.is_last e ∙ ap (λ (x : Slot). is_last_item x.item) h.is ∙ ap is_last_slot (sym last);
+        is_last = past ∙ l.is_last e ∙ ap (λ (x : Slot). is_last_item x.item) h.is ∙ ap is_last_slot (sym last);
+        within = given-within w.body old new (is_last_item s.item) gives (l.within e) ∙ sym (ap W content ∙ and-false (not (is_last_slot (last_slot (bs ++ (t ∷ []))))));
         lost = λ lost. lost-chunked w.body old new l.feed r h.given h.told h.fits gives l.told (sym (ap reader_is_lost last) ∙ lost);
-        place = λ kept. subst P (sym content)
-            (given-place w.body old new l.feed r h.given h.told k.over rest h.fits gives l.told (λ quiet f. ap B (h.settled quiet f)) (sym (ap reader_is_lost last) ∙ kept) (l.place e));
+        place = λ kept. subst (λ x. P x (last_body (us ++ (None ∷ [])))) (sym past) (subst (λ y. P (is_past_last old.standing) y) (sym content)
+            (given-place w.body old new l.feed r h.given h.told (is_past_last old.standing) rest h.fits gives l.told (λ quiet f. ap B (h.settled quiet f)) (sym (ap reader_is_lost last) ∙ kept) (l.place e)));
       };
       source = goes-on_more (Some client) k.feed new.feed reader.source (subst S (sym from.feed) (gives-up w.body old new gives));
     }

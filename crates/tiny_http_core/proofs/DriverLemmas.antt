@@ -1,5 +1,5 @@
 -- The calls of a `Connection`, as steps.
-use Rattle.std.proofs.Common.{◌≡◌, refl, sym, ap, ◌∙◌, subst, ℕ, ◌-◌, ◌<◌, ◌^◌, inl, inr, Bool, true, false, List, [], ◌∷◌, ◌++◌, Option, Some, None}
+use Rattle.std.proofs.Common.{◌≡◌, refl, sym, ap, ◌∙◌, subst, ℕ, ◌-◌, ◌<◌, ◌^◌, inl, inr, Bool, true, false, List, [], ◌∷◌, ◌++◌, Option, Some, None, Ok}
 use Rattle.std.specs.declared.io.ErrorKind.{ErrorKind}
 use Rattle.httpdate.specs.declared.date.HttpDate.{HttpDate}
 use Rattle.tiny_http_wire.specs.Device.{Feed, Sink}
@@ -20,19 +20,65 @@ use Rattle.tiny_http_core.specs.Conversation.{State, Dated, IsFresh, start}
 use Rattle.tiny_http_core.specs.Sending.{FailsOnceUnlessEnded, IsHonest}
 use Rattle.tiny_http_core.specs.Seen.{seen, IsResponse, IsStep, IsTold, MayFail, TellsHonestly}
 use Rattle.tiny_http_core.specs.Connection.{Kept, ConnectionState, kept, Stands}
-use Rattle.tiny_http_core.specs.Driving.{HasDone, TakesStep, told_response, told_step}
+use Rattle.tiny_http_core.specs.Driving.{HasDone, TakesStep, AskEnds, StepEnds, IsDeclined, told_response, told_step}
 use Rattle.tiny_http_core.proofs.AskLemmas.{Answered}
 use Rattle.tiny_http_stream.proofs.GoingOn.{goes-on_same}
 use Rattle.tiny_http_core.proofs.StepLemmas.{is-ask, is-read, is-respond, is-drop, step-ask, step-read, step-respond, step-drop}
 use Rattle.tiny_http_turns.specs.Turns.{Mark}
+use Rattle.std.specs.Prelude.{is_some}
+use Rattle.tiny_http_message.specs.declared.exchange.EndOfRequests.{EndOfRequests}
+use Rattle.tiny_http_stream.specs.declared.source.Standing.{Standing}
+use Rattle.tiny_http_stream.specs.declared.source.Standing.TheVariants as place
+use Rattle.std.specs.Global.{Vec}
+use Rattle.tiny_http_wire.specs.declared.common.StatusCode.{StatusCode}
+use Rattle.tiny_http_message.specs.declared.exchange.HeadRead.TheVariants as read
+use Rattle.tiny_http_message.specs.declared.exchange.EndOfRequests.TheVariants as because
+use Rattle.tiny_http_message.specs.HeadReads.{ReadsHead, EndsAt, IsBeforeHead}
+use Rattle.tiny_http_message.specs.Pipeline.{Refuses, OneHead}
+use Rattle.tiny_http_core.specs.Driving.{IsRefusal, IsEndAt}
 use Rattle.tiny_http_message.specs.PipelineReading.{items_of}
 use Rattle.tiny_http_message.proofs.PipelineLemmas.{feed-pipeline}
 use Rattle.tiny_http_core.proofs.RunLemmas.{run-more, stands-begun, fails-step, split}
 
 -- the fields as they are seen
-abbrev pub viewed : {R W : Type 0} → SourceState R → OutletState W → Pending → Bool → Bool → ConnectionState R W
-viewed source outlet pending over ended =
-    record { marks = pending.turns.marks; requests = pending.requests.items; over = over; ended = ended; source = source; outlet = outlet }
+abbrev pub viewed : {R W : Type 0} → SourceState R → OutletState W → Pending → Option EndOfRequests → ConnectionState R W
+viewed source outlet pending end =
+    record { marks = pending.turns.marks; requests = pending.requests.items; end = end; source = source; outlet = outlet }
+
+-- the same numbers, and the same kept of them
+pub same-view : {R W : Type 0} (source : SourceState R) (outlet : OutletState W) (p q : Pending) (end : Option EndOfRequests) → p.turns.marks ≡ q.turns.marks → p.requests.items ≡ q.requests.items → viewed source outlet p end ≡ viewed source outlet q end
+same-view {R = R} {W = W} source outlet p q end marks requests =
+    let V : List Mark → List (Option Waiting) → ConnectionState R W = λ m r. record { marks = m; requests = r; end = end; source = source; outlet = outlet } in
+    ap (λ m. V m p.requests.items) marks ∙ ap (λ r. V q.turns.marks r) requests
+
+pub none-of : {X : Type 0} (o : Option X) → is_some o ≡ false → o ≡ None
+none-of None e = refl
+none-of (Some x) e = cc
+
+-- why the requests end at a head that was refused, or at none
+refusal-at : (at : Standing) (date : HttpDate) (o p : Option Feed) (status : StatusCode) (text : Vec ℕ) (last : Bool) → ReadsHead at date o p (Ok (read.Refused status text last)) → (f : Feed) → o ≡ Some f → IsRefusal f (because.Refused status)
+refusal-at at date o p status text last h f e =
+    let P : Option Feed → Type 0 = λ y. ReadsHead at date y p (Ok (read.Refused status text last)) in
+    let r = subst P e h in
+    let Q : ℕ → Type 0 = λ n. OneHead f.bytes f.stop (Some (Refuses n r.0 false)) None in
+    (status, r.0, subst Q (sym r.4) r.1, refl)
+
+end-at : (at : Standing) (date : HttpDate) (o p : Option Feed) (why : EndOfRequests) → ReadsHead at date o p (Ok (read.Ended why)) → (f : Feed) → o ≡ Some f → EndsAt at f.bytes f.stop why
+end-at at date o p why h f e = let P : Option Feed → Type 0 = λ y. ReadsHead at date y p (Ok (read.Ended why)) in (subst P e h).1
+
+pub end-refused : (at : Standing) (date : HttpDate) (o p : Option Feed) (status : StatusCode) (text : Vec ℕ) (last : Bool) → IsBeforeHead at → ReadsHead at date o p (Ok (read.Refused status text last)) → IsEndAt at o (because.Refused status)
+end-refused place.Head date o p status text last here h = λ f e. inl (refusal-at place.Head date o p status text last h f e)
+end-refused place.Lost date o p status text last here h = λ f e. inl (refusal-at place.Lost date o p status text last h f e)
+end-refused (place.Broken kind) date o p status text last here h = λ f e. inl (refusal-at (place.Broken kind) date o p status text last h f e)
+end-refused place.Body date o p status text last here h = elim here [ ]
+end-refused place.Last date o p status text last here h = elim here [ ]
+
+pub end-final : (at : Standing) (date : HttpDate) (o p : Option Feed) (why : EndOfRequests) → (at ≡ place.Body → ⊥) → (at ≡ place.Last → why ≡ because.LastRequest) → (IsBeforeHead at → ReadsHead at date o p (Ok (read.Ended why))) → IsEndAt at o why
+end-final place.Head date o p why outside last h = λ f e. inr (end-at place.Head date o p why (h tt) f e)
+end-final place.Lost date o p why outside last h = λ f e. inr (end-at place.Lost date o p why (h tt) f e)
+end-final (place.Broken kind) date o p why outside last h = λ f e. inr (end-at (place.Broken kind) date o p why (h tt) f e)
+end-final place.Body date o p why outside last h = absurd (outside refl)
+end-final place.Last date o p why outside last h = last refl
 
 -- what a step does to input and output, whatever they tell
 pub record Moves {R W : Type 0} (old new : ConnectionState R W) : Type 0 where
@@ -61,12 +107,14 @@ stays c = reads-on c c refl (goes-on_same c.source.feed)
 
 pub takes : {R W : Type 0} (old new : ConnectionState R W) (now : HttpDate) (x : Step (Option Feed)) (reply : Replied)
     → ((client : Feed) (before : Sink) (s : State) (asked : Asked) → before.failures < 2 ^ 64 - 1 → IsStep (λ f. f) x asked → Stands client before (kept old) s → Answered client before (kept new) s now asked reply)
-    → Moves old new → ((kind : ErrorKind) → reply ≡ Fault kind → MayFail (λ f. f) (output_of old.outlet) (output_of new.outlet) x kind) → TakesStep old new now x reply
-takes old new now x reply answers moves honest =
+    → (IsDeclined x reply → new ≡ old) → StepEnds x old new reply → Moves old new → ((kind : ErrorKind) → reply ≡ Fault kind → MayFail (λ f. f) (output_of old.outlet) (output_of new.outlet) x kind) → TakesStep old new now x reply
+takes old new now x reply answers declined ends moves honest =
     record {
       does = λ client before steps replies asked is done.
           let a = answers client before done.at asked done.fresh.can_count is done.stands in
           record { fresh = done.fresh; items = done.items; pipeline = done.pipeline; at = a.0; run = run-more _ done.at a.0 steps replies (now, asked) reply done.run a.2; stands = a.1 };
+      declined = declined;
+      ends = ends;
       goes_on = moves.goes_on;
       fails_once = moves.fails_once;
       flushed = moves.flushed;
@@ -80,52 +128,52 @@ TellsNone reply = (kind : ErrorKind) → reply ≡ Fault kind → ⊥
 
 pub takes-ask : {R W : Type 0} (old new : ConnectionState R W) (now : HttpDate) (reply : Replied)
     → ((client : Feed) (before : Sink) (s : State) → before.failures < 2 ^ 64 - 1 → Stands client before (kept old) s → Answered client before (kept new) s now Ask reply)
-    → Moves old new → TellsNone reply → TakesStep old new now step.Ask reply
-takes-ask old new now reply answers moves none =
+    → (IsDeclined step.Ask reply → new ≡ old) → AskEnds old new reply → Moves old new → TellsNone reply → TakesStep old new now step.Ask reply
+takes-ask old new now reply answers declined ends moves none =
     takes old new now step.Ask reply
     (λ client before s asked low is st. step-ask {D = Option Feed} (λ f. f) client before (kept new) s now (now, asked) step.Ask reply refl refl is (answers client before s low st))
-    moves (λ kind e. absurd (none kind e))
+    declined ends moves (λ kind e. absurd (none kind e))
 
 pub takes-drop : {R W : Type 0} (old new : ConnectionState R W) (now : HttpDate) (n : ℕ) (reply : Replied)
     → ((client : Feed) (before : Sink) (s : State) → before.failures < 2 ^ 64 - 1 → Stands client before (kept old) s → Answered client before (kept new) s now (Drop n) reply)
-    → Moves old new → TellsNone reply → TakesStep old new now (step.Drop n) reply
-takes-drop old new now n reply answers moves none =
+    → (IsDeclined (step.Drop n) reply → new ≡ old) → new.end ≡ old.end → Moves old new → TellsNone reply → TakesStep old new now (step.Drop n) reply
+takes-drop old new now n reply answers declined ends moves none =
     takes old new now (step.Drop n) reply
     (λ client before s asked low is st. step-drop {D = Option Feed} (λ f. f) client before (kept new) s (now, asked) (step.Drop n) n reply refl is (answers client before s low st))
-    moves (λ kind e. absurd (none kind e))
+    declined ends moves (λ kind e. absurd (none kind e))
 
 pub takes-read : {R W : Type 0} (old new : ConnectionState R W) (now : HttpDate) (n m : ℕ) (reply : Replied)
     → ((client : Feed) (before : Sink) (s : State) → Stands client before (kept old) s → Answered client before (kept new) s now (Read n m) reply)
-    → Moves old new → TakesStep old new now (step.Read n m) reply
-takes-read old new now n m reply answers moves =
+    → (IsDeclined (step.Read n m) reply → new ≡ old) → new.end ≡ old.end → Moves old new → TakesStep old new now (step.Read n m) reply
+takes-read old new now n m reply answers declined ends moves =
     takes old new now (step.Read n m) reply
     (λ client before s asked low is st. step-read {D = Option Feed} (λ f. f) client before (kept new) s (now, asked) (step.Read n m) n m reply refl is (answers client before s st))
-    moves (λ kind e. tt)
+    declined ends moves (λ kind e. tt)
 
 pub takes-respond : {R W D : Type 0} (feed : D → Option Feed) (old new : ConnectionState R W) (now : HttpDate) (n : ℕ) (r : ResponseState D) (reply : Replied)
     → ((client : Feed) (before : Sink) (s : State) (value : ResponseValue) → before.failures < 2 ^ 64 - 1 → IsResponse feed r value → Stands client before (kept old) s → Answered client before (kept new) s now (Respond n value) reply)
-    → Moves old new → ((kind : ErrorKind) → reply ≡ Fault kind → MayFail (λ f. f) (output_of old.outlet) (output_of new.outlet) (step.Respond n (told_response feed r)) kind)
+    → (IsDeclined (step.Respond n (told_response feed r)) reply → new ≡ old) → new.end ≡ old.end → Moves old new → ((kind : ErrorKind) → reply ≡ Fault kind → MayFail (λ f. f) (output_of old.outlet) (output_of new.outlet) (step.Respond n (told_response feed r)) kind)
     → TakesStep old new now (step.Respond n (told_response feed r)) reply
-takes-respond feed old new now n r reply answers moves honest =
+takes-respond feed old new now n r reply answers declined ends moves honest =
     takes old new now (step.Respond n (told_response feed r)) reply
     (λ client before s asked low is st. step-respond {D = Option Feed} (λ f. f) client before (kept new) s now (now, asked) (step.Respond n (told_response feed r)) n (told_response feed r) reply refl refl is (λ v h. answers client before s v low h st))
-    moves honest
+    declined ends moves honest
 
 -- a connection at its begin
-pub begins : {R W : Type 0} (client : Feed) (before : Sink) (writer : W) (c : ConnectionState R W) → c.marks ≡ [] → c.requests ≡ [] → c.over ≡ false → c.ended ≡ false → c.source.feed ≡ Some client → c.source.stop ≡ None
+pub begins : {R W : Type 0} (client : Feed) (before : Sink) (writer : W) (c : ConnectionState R W) → c.marks ≡ [] → c.requests ≡ [] → c.source.standing ≡ place.Head → c.end ≡ None → c.source.feed ≡ Some client → c.source.stop ≡ None
     → c.outlet ≡ record { held = []; ended = false; writer = writer; tells = before } → IsFresh before → HasDone client before c [] []
 begins {W = W} client before writer c m r o e feed stop outlet fresh =
-    let K : List Mark → List (Option Waiting) → Bool → Bool → Option Stop → OutletState W → Kept = λ m r o e s w.
-    record { marks = m; requests = r; over = o; ended = e; feed = c.source.feed; stop = s; is_over = c.source.is_over; sink = output_of w; output_ended = w.ended } in
+    let K : List Mark → List (Option Waiting) → Standing → Option EndOfRequests → Option Stop → OutletState W → Kept = λ m r o e s w.
+    record { marks = m; requests = r; standing = o; ended = is_some e; feed = c.source.feed; stop = s; is_over = c.source.is_over; sink = output_of w; output_ended = w.ended } in
     let S : Kept → Type 0 = λ k. Stands client before k (start (items_of client)) in
     let none : OutletState W = record { held = []; ended = false; writer = writer; tells = before } in
     let st = stands-begun client c.source.feed c.source.is_over before (items_of client) feed fresh (feed-pipeline client) in
-    let st1 = subst (λ w. S (K [] [] false false None w)) (sym outlet) st in
-    let st2 = subst (λ s. S (K [] [] false false s c.outlet)) (sym stop) st1 in
-    let st3 = subst (λ x. S (K [] [] false x c.source.stop c.outlet)) (sym e) st2 in
-    let st4 = subst (λ x. S (K [] [] x c.ended c.source.stop c.outlet)) (sym o) st3 in
-    let st5 = subst (λ x. S (K [] x c.over c.ended c.source.stop c.outlet)) (sym r) st4 in
-    let st6 = subst (λ x. S (K x c.requests c.over c.ended c.source.stop c.outlet)) (sym m) st5 in
+    let st1 = subst (λ w. S (K [] [] place.Head None None w)) (sym outlet) st in
+    let st2 = subst (λ s. S (K [] [] place.Head None s c.outlet)) (sym stop) st1 in
+    let st3 = subst (λ x. S (K [] [] place.Head x c.source.stop c.outlet)) (sym e) st2 in
+    let st4 = subst (λ x. S (K [] [] x c.end c.source.stop c.outlet)) (sym o) st3 in
+    let st5 = subst (λ x. S (K [] x c.source.standing c.end c.source.stop c.outlet)) (sym r) st4 in
+    let st6 = subst (λ x. S (K x c.requests c.source.standing c.end c.source.stop c.outlet)) (sym m) st5 in
     record { fresh = fresh; items = items_of client; pipeline = feed-pipeline client; at = start (items_of client); run = refl; stands = st6 }
 
 -- two calls, where behind a fault of the first the output has ended

@@ -1,5 +1,5 @@
 -- A Read: from where the connection stands to where it stands behind it.
-use Rattle.std.proofs.Common.{◌≡◌, refl, sym, ap, ◌∙◌, subst, ℕ, ◌+◌, ◌-◌, ◌<◌, ◌≤◌, ◌⊎◌, inl, inr, Bool, true, false, ◌||◌, List, [], ◌∷◌, ◌++◌, length, take, drop, Option, Some, None, Result, Ok, Err, arith, length-append, eq-eqb, append-nil}
+use Rattle.std.proofs.Common.{not, ◌&&◌, ◌≡◌, refl, sym, ap, ◌∙◌, subst, ℕ, ◌+◌, ◌-◌, ◌<◌, ◌≤◌, ◌⊎◌, inl, inr, Bool, true, false, ◌||◌, List, [], ◌∷◌, ◌++◌, length, take, drop, Option, Some, None, Result, Ok, Err, arith, length-append, eq-eqb, append-nil}
 use Rattle.std.specs.Prelude.{MatchBool, ◌==◌, nat_lt, slice_get, slice_set, ⊤, if◌then◌else◌}
 use Rattle.std.specs.Option.{option_map}
 use Rattle.std.proofs.lemmas.Bool.{lt-ltb, le-ltb, cases_lt, eqb-true, ne_eqb}
@@ -22,14 +22,14 @@ use Rattle.tiny_http_core.specs.Slots.{Slot, Waits, Answered as AnsweredBy, BySe
 use Rattle.tiny_http_message.specs.Body.{body_finished}
 use Rattle.tiny_http_core.specs.Steps.{Read, Replied, Given, Fault, Memory, NoSuch, Unused, Outcome, Reached, changes, read_reply, effect, at_slot, at_number}
 use Rattle.tiny_http_core.specs.Conversation.{State, PlaceAt, Has}
-use Rattle.tiny_http_message.specs.Body.{Remaining, remaining, taken_left, after_bytes, with_bytes, BodyStops, NoneLeft, is_streaming, IsOver, ReadsOn, Fits, FillsFromBody}
+use Rattle.tiny_http_message.specs.Body.{Remaining, remaining, taken_left, after_bytes, with_bytes, BodyStops, NoneLeft, is_streaming, body_standing, IsOver, ReadsOn, Fits, FillsFromBody}
 use Rattle.tiny_http_turns.specs.Turns.{Mark, Open}
-use Rattle.tiny_http_core.specs.Pending.{last_body}
-use Rattle.tiny_http_core.specs.Connection.{Kept, open_slot, IsWaiting, AreKept, AreSettled, behind_body, slot_rest, GivesRest, Reader, Stands}
+use Rattle.tiny_http_core.specs.Pending.{last_body, streams}
+use Rattle.tiny_http_core.specs.Connection.{Kept, open_slot, IsWaiting, AreKept, AreSettled, behind_body, slot_rest, GivesRest, is_past_last, Reader, Stands}
 use Rattle.tiny_http_stream.proofs.GoingOn.{goes-on_more}
 use Rattle.tiny_http_core.proofs.AskLemmas.{Answered, step-unchanged, settled-any, told-feed}
 use Rattle.tiny_http_message.proofs.BodyReads.{stays-settled}
-use Rattle.tiny_http_core.proofs.BodySteps.{ReadsFrom, last-waits, with_reader, reader-within}
+use Rattle.tiny_http_core.proofs.BodySteps.{ReadsFrom, StandsOn, stands-on, last-waits, with_reader, reader-within}
 use Rattle.tiny_http_core.proofs.KeptLemmas.{Place, place-of, kept-append, kept-many}
 use Rattle.tiny_http_core.proofs.OutputLemmas.{output-same}
 use Rattle.tiny_http_core.proofs.ReaderLemmas.{last-snoc, body-snoc, settled-place, settled-set, and-false}
@@ -274,37 +274,42 @@ still-waiting s w h c old new n reply k = record {
 
 -- the last number's body is read
 read-last : {R : Type 0} (client : Feed) (k : Kept) (old new : SourceState R) (bs : List Slot) (us : List (Option Waiting)) (rest : List Item) (s : Slot) (w : Waiting) (c : Body) (n : ℕ) (reply : Replied) → (h : IsWaiting s w) → ReadsFrom k old → Reader client k (bs ++ (s ∷ [])) rest
-    → k.requests ≡ us ++ (Some w ∷ []) → ReadOn w.body c old.feed new.feed h.request h.given h.told n reply → GoesOn old.feed new.feed
+    → k.requests ≡ us ++ (Some w ∷ []) → ReadOn w.body c old.feed new.feed h.request h.given h.told n reply → (is_streaming w.body ≡ false → new ≡ old) → (is_streaming w.body ≡ true → new.standing ≡ body_standing c old.standing) → GoesOn old.feed new.feed
     → Reader client (with_reader k (us ++ (Some (with_body w c) ∷ [])) new) (bs ++ (read_slot s w h n ∷ [])) rest
-read-last client k old new bs us rest s w c n reply h from reader is on goes =
+read-last {R = R} client k old new bs us rest s w c n reply h from reader is on leaves stands goes =
     let t = read_slot s w h n in
     let last : last_slot (bs ++ (t ∷ [])) ≡ Some t = last-snoc None bs t in
     let content : last_body (us ++ (Some (with_body w c) ∷ [])) ≡ Some c = body-snoc us (Some (with_body w c)) in
     let l = last-waits client k old bs us rest s w h from reader is in
     let A : List (Option Waiting) → Type 0 = λ x. AreSettled x in
     let G : Option Body → Option Slot → Type 0 = λ b o. GivesRest b o new.feed in
-    let P : Option Body → Type 0 = λ b. PlaceAt k.over (behind_body b new.feed) rest in
-    let Q : Option Feed → Type 0 = λ f. PlaceAt k.over f rest in
+    let P : Bool → Option Body → Type 0 = λ x b. PlaceAt x (behind_body b new.feed) rest in
+    let Q : Option Feed → Type 0 = λ f. PlaceAt (is_past_last old.standing) f rest in
+    let W : Option Slot → Option Body → Bool = λ x y. not (is_last_slot x) && streams y in
+    let same : (e : k.ended ≡ false) → StandsOn c old.standing new.standing (is_last_item s.item) =
+    λ e. stands-on w.body c old.standing new.standing (is_last_item s.item) stands (λ quiet. ap (λ (x : SourceState R). x.standing) (leaves quiet)) on.stays (l.within e) in
+    let item : is_last_item s.item ≡ is_last_item t.item = ap (λ (x : Slot). is_last_item x.item) h.is in
     let S : Option Feed → Type 0 = λ f. GoesOn f new.feed in
     let C : Option Remaining → Option Feed = λ o. option_map (λ (x : Remaining). x.body) o in
     record {
       settled = settled-set us (Some w) (Some (with_body w c)) [] (subst A is reader.settled) (inr refl);
       gives = subst (λ o. G (last_body (us ++ (Some (with_body w c) ∷ []))) o) (sym last) (subst (λ b. G b (Some t)) (sym content) (ap C on.is ∙ ap Some on.rest));
       next = λ e. record {
-        is_last = l.is_last e ∙ ap (λ (x : Slot). is_last_item x.item) h.is ∙ ap is_last_slot (sym last);
+        is_last = (same e).past ∙ l.is_last e ∙ item ∙ ap is_last_slot (sym last);
+        within = (same e).within ∙ ap (λ x. not x && is_streaming c) item ∙ ap (λ y. W (Some t) y) (sym content) ∙ ap (λ x. W x (last_body (us ++ (Some (with_body w c) ∷ [])))) (sym last);
         lost = λ lost. (let no : true ≡ false = sym lost ∙ (ap reader_is_lost last ∙ and-false (is_chunked h.request.framing.form)) in cc);
-        place = λ kept. subst P (sym content) (subst Q (sym on.behind) (l.place e));
+        place = λ kept. subst (λ x. P x (last_body (us ++ (Some (with_body w c) ∷ [])))) (sym (same e).past) (subst (λ y. P (is_past_last old.standing) y) (sym content) (subst Q (sym on.behind) (l.place e)));
       };
       source = goes-on_more (Some client) k.feed new.feed reader.source (subst S (sym from.feed) goes);
     }
 
 reader-read : {R : Type 0} (client : Feed) (k : Kept) (old new : SourceState R) (bs cs : List Slot) (us vs : List (Option Waiting)) (rest : List Item) (s : Slot) (w : Waiting) (c : Body) (n : ℕ) (reply : Replied) → (h : IsWaiting s w) → ReadsFrom k old → Reader client k (bs ++ (s ∷ cs)) rest
-    → k.requests ≡ us ++ (Some w ∷ vs) → length cs ≡ length vs → ReadOn w.body c old.feed new.feed h.request h.given h.told n reply → (is_streaming w.body ≡ false → new ≡ old) → GoesOn old.feed new.feed
+    → k.requests ≡ us ++ (Some w ∷ vs) → length cs ≡ length vs → ReadOn w.body c old.feed new.feed h.request h.given h.told n reply → (is_streaming w.body ≡ false → new ≡ old) → (is_streaming w.body ≡ true → new.standing ≡ body_standing c old.standing) → GoesOn old.feed new.feed
     → Reader client (with_reader k (us ++ (Some (with_body w c) ∷ vs)) new) (bs ++ (read_slot s w h n ∷ cs)) rest
-reader-read client k old new bs [] us [] rest s w c n reply h from reader is same on leaves goes = read-last client k old new bs us rest s w c n reply h from reader is on goes
-reader-read client k old new bs [] us (v ∷ vs) rest s w c n reply h from reader is same on leaves goes = absurd (omega (arith, same))
-reader-read client k old new bs (d ∷ cs) us [] rest s w c n reply h from reader is same on leaves goes = absurd (omega (arith, same))
-reader-read {R = R} client k old new bs (d ∷ cs) us (v ∷ vs) rest s w c n reply h from reader is same on leaves goes =
+reader-read client k old new bs [] us [] rest s w c n reply h from reader is same on leaves stands goes = read-last client k old new bs us rest s w c n reply h from reader is on leaves stands goes
+reader-read client k old new bs [] us (v ∷ vs) rest s w c n reply h from reader is same on leaves stands goes = absurd (omega (arith, same))
+reader-read client k old new bs (d ∷ cs) us [] rest s w c n reply h from reader is same on leaves stands goes = absurd (omega (arith, same))
+reader-read {R = R} client k old new bs (d ∷ cs) us (v ∷ vs) rest s w c n reply h from reader is same on leaves stands goes =
     let A : List (Option Waiting) → Type 0 = λ x. AreSettled x in
     let quiet = settled-place us (Some w) v vs (subst A is reader.settled) in
     let t = read_slot s w h n in
@@ -370,9 +375,9 @@ read-memory client before k s date j n w st e some =
 
 -- the body was read
 pub read-done : {R : Type 0} (client : Feed) (before : Sink) (k : Kept) (s : State) (date : HttpDate) (j n : ℕ) (w : Waiting) (c : Body) (old new : SourceState R) (requests : List (Option Waiting)) (result : Result ℕ ErrorKind) (buf : List ℕ) → Stands client before k s → slice_get k.requests j ≡ Some (Some w)
-    → requests ≡ slice_set k.requests j (Some (with_body w c)) → ReadsFrom k old → IfBound result buf → length buf ≡ n → 0 < n → FillsFromBody w.body old.feed c new.feed result buf → (is_streaming w.body ≡ false → new ≡ old) → GoesOn old.feed new.feed
+    → requests ≡ slice_set k.requests j (Some (with_body w c)) → ReadsFrom k old → IfBound result buf → length buf ≡ n → 0 < n → FillsFromBody w.body old.feed c new.feed result buf → (is_streaming w.body ≡ false → new ≡ old) → (is_streaming w.body ≡ true → new.standing ≡ body_standing c old.standing) → GoesOn old.feed new.feed
     → Answered client before (with_reader k requests new) s date (Read j n) (reply_for result buf)
-read-done {R = R} client before k s date j n w c old new requests result buf st e requests_are from bound size some fills leaves goes =
+read-done {R = R} client before k s date j n w c old new requests result buf st e requests_are from bound size some fills leaves stands goes =
     let R : List (Option Waiting) → Type 0 = λ l. Answered client before (with_reader k l new) s date (Read j n) (reply_for result buf) in
     subst R (sym set) (
       state,
@@ -380,7 +385,7 @@ read-done {R = R} client before k s date j n w c old new requests result buf st 
         numbers = subst M (sym p.marks_are) (kept-append p.bs p.fs p.us (s1 ∷ p.cs) (Open ∷ p.rs) (Some (with_body w c) ∷ p.vs) p.before (still-waiting p.s w h c old.feed new.feed n (reply_for result buf) on, p.behind));
         shape = st.shape;
         ended = st.ended;
-        reader = reader-read client k old new p.bs p.cs p.us p.vs s.reached.rest p.s w c n (reply_for result buf) h from (subst P p.slots_are st.reader) p.requests_are many on leaves goes;
+        reader = reader-read client k old new p.bs p.cs p.us p.vs s.reached.rest p.s w c n (reply_for result buf) h from (subst P p.slots_are st.reader) p.requests_are many on leaves stands goes;
         output = output-same before k.sink k.output_ended s.reached.slots slots s.failure joined_same breaks_same st.output;
       },
       inl (true, tt, subst G (sym is) (ap L (sym (at.set s1)), (on.reply_is, refl))),

@@ -406,7 +406,7 @@ output-before client before k s bs cs asked r given told st e =
 -- what the connection keeps behind a step of a number
 abbrev pub after_number : Kept → List Mark → List (Option Waiting) → {R : Type 0} → SourceState R → Sink → Bool → Kept
 after_number k marks requests source sink ended =
-    record k { marks = marks; requests = requests; feed = source.feed; stop = source.stop; is_over = source.is_over; sink = sink; output_ended = ended }
+    record k { marks = marks; requests = requests; standing = source.standing; feed = source.feed; stop = source.stop; is_over = source.is_over; sink = sink; output_ended = ended }
 
 -- the reader doesn't see the turns and the output
 pub reader-after : {R : Type 0} (client : Feed) (k : Kept) (marks : List Mark) (requests : List (Option Waiting)) (source : SourceState R) (sink : Sink) (ended : Bool) (slots : List Slot) (rest : List Item) → Reader client (with_reader k requests source) slots rest

@@ -1,4 +1,5 @@
 -- A run goes on by one step.
+use Rattle.tiny_http_stream.specs.declared.source.Standing.TheVariants as at
 use Rattle.std.proofs.Common.{◌≡◌, refl, sym, ap, ◌∙◌, subst, ℕ, ◌<◌, ◌≤◌, Bool, true, false, List, [], ◌∷◌, ◌++◌, length, Option, Some, None, arith, append-nil, inl, inr}
 use Rattle.std.specs.Prelude.{MatchBool}
 use Rattle.std.specs.Option.{option_map}
@@ -65,7 +66,7 @@ joins-end all done (x ∷ rest) joins len = absurd (omega arith)
 
 -- the connection at its begin
 abbrev pub begun : Option Feed → Bool → Sink → Kept
-begun feed is_over sink = record { marks = []; requests = []; over = false; ended = false; feed = feed; stop = None; is_over = is_over; sink = holding sink [] false; output_ended = false }
+begun feed is_over sink = record { marks = []; requests = []; standing = at.Head; ended = false; feed = feed; stop = None; is_over = is_over; sink = holding sink [] false; output_ended = false }
 
 pub stands-begun : (client : Feed) (feed : Option Feed) (is_over : Bool) (sink : Sink) (items : List Item) → feed ≡ Some client → IsFresh sink → Pipeline (Some client.bytes) client.stop items → Stands client sink (begun feed is_over sink) (start items)
 stands-begun client feed is_over sink items e fresh h =
@@ -78,7 +79,7 @@ stands-begun client feed is_over sink items e fresh h =
       reader = record {
         settled = tt;
         gives = tt;
-        next = λ z. record { is_last = refl; lost = λ l. cc; place = λ l. subst P (sym e) h };
+        next = λ z. record { is_last = refl; within = refl; lost = λ l. cc; place = λ l. subst P (sym e) h };
         source = subst G (sym e) (same-feed (Some client));
       };
       output = (grown-none sink.has_ended sink.taken ∙ fresh.no_bytes, refl, fresh.goes_on, refl, λ z. (sink.sent, refl));

@@ -1,5 +1,5 @@
 -- How the driver's connection stands to a state of the definitions.
-use Rattle.std.specs.Prelude.{◌≡◌, ℕ, ◌+◌, Bool, true, false, List, [], ◌∷◌, Option, Some, None, ⊤}
+use Rattle.std.specs.Prelude.{◌≡◌, ℕ, ◌+◌, Bool, true, false, not, ◌&&◌, List, [], ◌∷◌, Option, Some, None, is_some, ⊤}
 use Rattle.std.specs.Option.{option_map}
 use Rattle.httpdate.specs.declared.date.HttpDate.{HttpDate}
 use Rattle.tiny_http_wire.specs.declared.device.Stop.{Stop}
@@ -11,7 +11,10 @@ use Rattle.tiny_http_message.specs.declared.waiting.Waiting.{Waiting}
 use Rattle.tiny_http_stream.specs.Source.{SourceState, GoesOn}
 use Rattle.tiny_http_stream.specs.ToCome.{stopped}
 use Rattle.tiny_http_message.specs.Body.{Remaining, remaining, taken_left, is_streaming, Fits}
-use Rattle.tiny_http_core.specs.Pending.{last_body}
+use Rattle.tiny_http_core.specs.Pending.{last_body, streams}
+use Rattle.tiny_http_message.specs.declared.exchange.EndOfRequests.{EndOfRequests}
+use Rattle.tiny_http_stream.specs.declared.source.Standing.{Standing}
+use Rattle.tiny_http_stream.specs.declared.source.Standing.TheVariants as at
 use Rattle.tiny_http_stream.specs.Outlet.{OutletState, output_of}
 use Rattle.tiny_http_message.specs.Pipeline.{Item, Asks, Refuses, Request, is_head_method, said_length}
 use Rattle.tiny_http_core.specs.Slots.{Slot, ByServer, is_finished, is_slot_broken, segment, joined, breaks_off, new_slot, last_slot, is_last_slot, reader_is_lost, rest_of}
@@ -19,13 +22,13 @@ use Rattle.tiny_http_core.specs.Steps.{finished}
 use Rattle.tiny_http_turns.specs.Turns.{Mark, Open, Left, Finished, AreInShape}
 use Rattle.tiny_http_core.specs.Conversation.{State, Failure, PlaceAt}
 
--- What the program keeps of a connection: the turns of its numbers, the requests that wait for their answers, whether the
--- last head was read, whether the asking has ended, what is still to come of the input, how it stopped and whether it is
--- over, what the writer tells with what is held, and whether the output has ended.
+-- What the program keeps of a connection: the turns of its numbers, the requests that wait for their answers, where the
+-- input stands among heads and bodies, whether the asking has ended, what is still to come of the input, how it stopped and
+-- whether it is over, what the writer states with what is held, and whether the output has ended.
 pub record Kept : Type 0 where
   pub marks : List Mark
   pub requests : List (Option Waiting)
-  pub over : Bool
+  pub standing : Standing
   pub ended : Bool
   pub feed : Option Feed
   pub stop : Option Stop
@@ -33,19 +36,18 @@ pub record Kept : Type 0 where
   pub sink : Sink
   pub output_ended : Bool
 
--- What a clause sees of a `Connection`: the turns of its numbers, the requests that wait for their answers, whether the
--- last head was read, whether the asking has ended, its input and its output.
+-- What a clause sees of a `Connection`: the turns of its numbers, the requests that wait for their answers, why the asking
+-- has ended, if it has, its input and its output.
 pub record ConnectionState (R W : Type 0) : Type 0 where
   pub marks : List Mark
   pub requests : List (Option Waiting)
-  pub over : Bool
-  pub ended : Bool
+  pub end : Option EndOfRequests
   pub source : SourceState R
   pub outlet : OutletState W
 
 abbrev pub kept : {R W : Type 0} → ConnectionState R W → Kept
 kept c =
-    record { marks = c.marks; requests = c.requests; over = c.over; ended = c.ended; feed = c.source.feed; stop = c.source.stop; is_over = c.source.is_over; sink = output_of c.outlet; output_ended = c.outlet.ended }
+    record { marks = c.marks; requests = c.requests; standing = c.source.standing; ended = is_some c.end; feed = c.source.feed; stop = c.source.stop; is_over = c.source.is_over; sink = output_of c.outlet; output_ended = c.outlet.ended }
 
 -- how a request is answered
 abbrev pub form_of : Request → AnswerForm
@@ -129,12 +131,29 @@ GivesRest (Some b) (Some s) feed = option_map (λ (r : Remaining). r.body) (rema
 abbrev pub InputEnded : Kept → Type 0
 InputEnded k = (k.is_over ≡ true) × (k.stop ≡ Some End)
 
--- Where the next head is read, while the asking hasn't ended: behind the last body; and nowhere behind the last head, or
--- behind a chunked body that was given up before its end.
+-- the last request's head was read
+abbrev pub is_past_last : Standing → Bool
+is_past_last at.Last = true
+is_past_last at.Head = false
+is_past_last at.Body = false
+is_past_last at.Lost = false
+is_past_last (at.Broken kind) = false
+
+-- bytes of a body come before the next head
+abbrev pub is_in_body : Standing → Bool
+is_in_body at.Body = true
+is_in_body at.Head = false
+is_in_body at.Last = false
+is_in_body at.Lost = false
+is_in_body (at.Broken kind) = false
+
+-- Where the next head is read, while the asking hasn't ended: after the last body; and nowhere after the last head, or
+-- after a chunked body that was given up before its end. The input knows whether it stands within that body.
 pub record NextHead (k : Kept) (last : Option Slot) (rest : List Item) : Type 0 where
-  pub is_last : k.over ≡ is_last_slot last
+  pub is_last : is_past_last k.standing ≡ is_last_slot last
+  pub within : is_in_body k.standing ≡ (not (is_last_slot last) && streams (last_body k.requests))
   pub lost : reader_is_lost last ≡ true → InputEnded k × (k.feed ≡ Some (stopped End))
-  pub place : reader_is_lost last ≡ false → PlaceAt k.over (behind_body (last_body k.requests) k.feed) rest
+  pub place : reader_is_lost last ≡ false → PlaceAt (is_past_last k.standing) (behind_body (last_body k.requests) k.feed) rest
 
 -- how the input stands to the bodies and to the rest of the pipeline, behind this much of the client's feed
 pub record Reader (client : Feed) (k : Kept) (slots : List Slot) (rest : List Item) : Type 0 where

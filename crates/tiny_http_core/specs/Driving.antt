@@ -1,5 +1,5 @@
 -- What the calls of a `Connection` come to.
-use Rattle.std.specs.Prelude.{◌≡◌, List, [], ◌∷◌, ◌++◌, Option, Some}
+use Rattle.std.specs.Prelude.{◌≡◌, ◌⊎◌, false, List, [], ◌∷◌, ◌++◌, Option, Some, None, IsSome}
 use Rattle.std.specs.declared.io.ErrorKind.{ErrorKind}
 use Rattle.httpdate.specs.declared.date.HttpDate.{HttpDate}
 use Rattle.tiny_http_wire.specs.Device.{Feed, Sink}
@@ -7,9 +7,17 @@ use Rattle.tiny_http_wire.specs.Answer.{ResponseState}
 use Rattle.tiny_http_core.specs.declared.driver.Step.{Step}
 use Rattle.tiny_http_core.specs.declared.driver.Step.TheVariants as step
 use Rattle.tiny_http_stream.specs.Source.{GoesOn}
+use Rattle.tiny_http_stream.specs.ToCome.{HasByte}
+use Rattle.tiny_http_stream.specs.declared.source.Standing.{Standing}
+use Rattle.tiny_http_stream.specs.declared.source.Standing.TheVariants as at
+use Rattle.tiny_http_wire.specs.declared.common.HTTPVersion.{HTTPVersion}
+use Rattle.tiny_http_wire.specs.declared.common.StatusCode.{StatusCode}
+use Rattle.tiny_http_message.specs.declared.exchange.EndOfRequests.{EndOfRequests}
+use Rattle.tiny_http_message.specs.declared.exchange.EndOfRequests.TheVariants as because
+use Rattle.tiny_http_message.specs.HeadReads.{EndsAt}
 use Rattle.tiny_http_stream.specs.Outlet.{output_of, SentOn}
-use Rattle.tiny_http_message.specs.Pipeline.{Item, Pipeline}
-use Rattle.tiny_http_core.specs.Steps.{Asked, Replied, Fault}
+use Rattle.tiny_http_message.specs.Pipeline.{Item, Refuses, OneHead, Pipeline}
+use Rattle.tiny_http_core.specs.Steps.{Asked, Replied, Handed, Ended, NotYet, NoSuch, Memory, Fault}
 use Rattle.tiny_http_core.specs.Conversation.{State, Dated, Run, start, IsFresh}
 use Rattle.tiny_http_core.specs.Sending.{FailsOnceUnlessEnded}
 use Rattle.tiny_http_core.specs.Seen.{IsStep, MayFail}
@@ -35,11 +43,48 @@ told_step feed (step.Read k n) = step.Read k n
 told_step feed (step.Respond k r) = step.Respond k (told_response feed r)
 told_step feed (step.Drop k) = step.Drop k
 
+-- the head that stands there is refused, with this status
+abbrev pub IsRefusal : Feed → EndOfRequests → Type 0
+IsRefusal f why = (status : StatusCode) × (version : HTTPVersion) × OneHead f.bytes f.stop (Some (Refuses status.0 version false)) None × (why ≡ because.Refused status)
+
+-- WHY THE REQUESTS END where the source stands: the last one was read; or no request stands in the bytes that come.
+abbrev pub IsEndAt : Standing → Option Feed → EndOfRequests → Type 0
+IsEndAt at.Last feed why = why ≡ because.LastRequest
+IsEndAt standing feed why = (f : Feed) → feed ≡ Some f → IsRefusal f why ⊎ EndsAt standing f.bytes f.stop why
+
+-- What an Ask says of the end of the requests, by its reply: it ends them for a reason that stands in the client's bytes, or
+-- where memory for a head was refused; after the end it changes nothing, and after the last request the source is left alone.
+abbrev pub AskEnds : {R W : Type 0} → ConnectionState R W → ConnectionState R W → Replied → Type 0
+AskEnds old new (Handed k message framing) = (old.end ≡ None) × (new.end ≡ None) × (new.source.stop ≡ old.source.stop)
+AskEnds old new NotYet = old.end ≡ None
+AskEnds old new Ended =
+    (IsSome old.end → new ≡ old) × (old.source.standing ≡ at.Last → new.source ≡ old.source)
+    × (old.end ≡ None → (why : EndOfRequests) × (new.end ≡ Some why) × IsEndAt old.source.standing old.source.feed why)
+AskEnds old new Memory = (old.end ≡ None) × (new.end ≡ Some because.Memory) × HasByte old.source.feed
+AskEnds old new _ = ⊥
+
+-- what a step says of the end of the requests
+abbrev pub StepEnds : {R W : Type 0} → Step (Option Feed) → ConnectionState R W → ConnectionState R W → Replied → Type 0
+StepEnds step.Ask old new reply = AskEnds old new reply
+StepEnds (step.Read k n) old new reply = new.end ≡ old.end
+StepEnds (step.Respond k r) old new reply = new.end ≡ old.end
+StepEnds (step.Drop k) old new reply = new.end ≡ old.end
+
+-- the step was not done: it came too early, or no request takes it, or memory for a read was refused
+abbrev pub IsDeclined : Step (Option Feed) → Replied → Type 0
+IsDeclined _ NotYet = Unit {0}
+IsDeclined _ NoSuch = Unit {0}
+IsDeclined (step.Read k n) Memory = Unit {0}
+IsDeclined _ _ = ⊥
+
 -- One step on a date: what was done is done with this step and its reply behind it. And whatever reader, writer and data
--- tell: the source goes on, the writer fails once at most, what is written is flushed, and a fault that is told is one.
+-- state: a step that was not done changes nothing, why the requests end is kept, the source goes on, the writer fails once at
+-- most, what is written is flushed, and a fault that is reported is one.
 pub record TakesStep {R W : Type 0} (old new : ConnectionState R W) (now : HttpDate) (step : Step (Option Feed)) (reply : Replied) : Type 0 where
   pub does : (client : Feed) (before : Sink) (steps : List Dated) (replies : List Replied) (asked : Asked) → IsStep (λ f. f) step asked
       → HasDone client before old steps replies → HasDone client before new (steps ++ (now, asked) ∷ []) (replies ++ reply ∷ [])
+  pub declined : IsDeclined step reply → new ≡ old
+  pub ends : StepEnds step old new reply
   pub goes_on : GoesOn old.source.feed new.source.feed
   pub fails_once : FailsOnceUnlessEnded old.outlet.ended (output_of old.outlet) (output_of new.outlet) new.outlet.ended
   pub flushed : old.outlet.held ≡ [] → new.outlet.held ≡ []

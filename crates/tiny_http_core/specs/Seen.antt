@@ -74,6 +74,12 @@ abbrev pub reply_to : {T : Type 0} → Result T Error → Replied
 reply_to (Ok x) = Done
 reply_to (Err e) = fault_of_answer (error_kind e)
 
+-- what an answer that was made is replied
+abbrev pub IsAnswered : Replied → Type 0
+IsAnswered Done = Unit {0}
+IsAnswered (Fault kind) = Unit {0}
+IsAnswered _ = ⊥
+
 -- an answer with this data was sent and flushed, and the reply tells how that went
 abbrev pub Answers : Sink → Sink → Bool → Replied → Answer → Feed → Printing → Type 0
 Answers old new ended reply answer content p = (r : Result (Unit {0}) Error) × (reply ≡ reply_to r) × Sends old new ended r answer content p × IsFlushed new

@@ -10,7 +10,7 @@ ghost use Rattle.tiny_http_core.specs.Steps.{Replied, Done, Fault, is_closed_cli
 ghost use Rattle.std.specs.declared.io.ErrorKind.{ErrorKind};
 ghost use Rattle.tiny_http_stream.specs.Source.{GoesOn};
 ghost use Rattle.tiny_http_core.specs.Driving.{HasDone, TakesStep, told_response, told_step};
-ghost use Rattle.tiny_http_core.specs.Seen.{seen, Answers, printed_as, IsResponse, IsTold, TellsHonestly, TellHonestly};
+ghost use Rattle.tiny_http_core.specs.Seen.{seen, Answers, IsAnswered, printed_as, IsResponse, IsTold, TellsHonestly, TellHonestly};
 ghost use Rattle.tiny_http_stream.specs.Outlet.{output_of, outlet_ended, outlet_held, outlet_writer, SentOn};
 ghost use Rattle.tiny_http_core.specs.Sending.{CanSend, FailsOnceUnlessEnded, FailsAtMostOnce, IsHonest};
 
@@ -20,10 +20,10 @@ use httpdate::HttpDate;
 use std::alloc::{AllocError, Global};
 use std::io::ErrorKind;
 use std::marker::Model;
-use tiny_http_message::exchange::{Head, HeadRead, read_head};
+use tiny_http_message::exchange::{EndOfRequests, Head, HeadRead, read_head};
 use tiny_http_message::waiting::{AnswerForm, Waiting};
 use tiny_http_stream::outlet::Outlet;
-use tiny_http_stream::source::Source;
+use tiny_http_stream::source::{Source, Standing};
 use tiny_http_wire::device::{ReadDevice, WriteDevice};
 use tiny_http_wire::response::Response;
 
@@ -102,8 +102,7 @@ pub struct Connection<R: ReadDevice, W: WriteDevice> {
     source: Source<R>,
     outlet: Outlet<W>,
     pending: Pending,
-    over: bool,
-    ended: bool,
+    end: Option<EndOfRequests>,
 }
 
 impl<R: ReadDevice, W: WriteDevice> Model for Connection<R, W> {
@@ -111,7 +110,7 @@ impl<R: ReadDevice, W: WriteDevice> Model for Connection<R, W> {
 
     ghost Value = { ConnectionState R W };
 
-    ghost view = { λ c. record { marks = c.pending.turns.marks; requests = c.pending.requests.items; over = c.over; ended = c.ended; source = c.source; outlet = c.outlet } };
+    ghost view = { λ c. record { marks = c.pending.turns.marks; requests = c.pending.requests.items; end = c.end; source = c.source; outlet = c.outlet } };
 }
 
 // The kinds of fault of a client that has closed the connection: an answer to it is no failure.
@@ -155,6 +154,7 @@ fn answer<W: WriteDevice, D: ReadDevice + Drop>(
     ensures fails_once { FailsOnceUnlessEnded (outlet_ended outlet.old) (output_of outlet.old) (output_of outlet.new) (outlet_ended outlet.new) }
     ensures flushed { outlet_held outlet.old ≡ [] → outlet_held outlet.new ≡ [] }
     ensures sent_on { SentOn outlet.old → SentOn outlet.new }
+    ensures done { IsAnswered (seen result) }
     ensures honest { (kind : ErrorKind) → seen result ≡ Fault kind → (outlet_ended outlet.new ≡ true)
         × IsHonest (output_of outlet.old) (output_of outlet.new) response.answer.length (D.feed response.data_reader) kind }
 {
@@ -187,8 +187,7 @@ impl<R: ReadDevice, W: WriteDevice> Connection<R, W> {
             source: Source::new(reader),
             outlet: Outlet::new(writer),
             pending: Pending::new(alloc),
-            over: false,
-            ended: false,
+            end: None,
         }
     }
 
@@ -200,43 +199,41 @@ impl<R: ReadDevice, W: WriteDevice> Connection<R, W> {
     pub fn ask(&mut self, alloc: Global, now: HttpDate) -> Reply
         ensures step { TakesStep self.old self.new now Step.Ask (seen result) }
     {
-        if self.ended {
+        if self.end.is_some() {
             return Reply::Ended;
         }
-        if self.over {
-            self.ended = true;
-            return Reply::Ended;
-        }
-        if self.pending.holds_reader() {
+        if matches!(self.source.standing(), Standing::Body) {
             return Reply::NotYet;
         }
         match read_head(alloc, &mut self.source, now) {
             Ok(HeadRead::Request(exchange)) => {
                 let (head, waiting) = exchange.into_parts();
                 match self.pending.issue(Some(waiting)) {
-                    Ok(number) => {
-                        self.over = head.is_last;
-                        Reply::Handed(number, head)
-                    }
+                    Ok(number) => Reply::Handed(number, head),
                     Err(_) => {
-                        self.ended = true;
+                        self.end = Some(EndOfRequests::Memory);
                         Reply::Memory
                     }
                 }
             }
-            Ok(HeadRead::Refused { text, .. }) => {
-                self.ended = true;
+            Ok(HeadRead::Refused { status, text, .. }) => {
                 match self.pending.refuse(&mut self.outlet, text) {
-                    Ok(()) => Reply::Ended,
-                    Err(_) => Reply::Memory,
+                    Ok(()) => {
+                        self.end = Some(EndOfRequests::Refused(status));
+                        Reply::Ended
+                    }
+                    Err(_) => {
+                        self.end = Some(EndOfRequests::Memory);
+                        Reply::Memory
+                    }
                 }
             }
-            Ok(HeadRead::Ended) => {
-                self.ended = true;
+            Ok(HeadRead::Ended(why)) => {
+                self.end = Some(why);
                 Reply::Ended
             }
             Err(_) => {
-                self.ended = true;
+                self.end = Some(EndOfRequests::Memory);
                 Reply::Memory
             }
         }

@@ -1,12 +1,12 @@
 //! Requests that wait for their answers, and texts that wait for their turn.
-ghost use Rattle.std.specs.Prelude.{◌≡◌, ◌↔◌, ◌≤◌, ◌++◌, ◌∷◌, false, List, [], length, Some, None, IfOk, IfSome, IfNone, OnOk, OnErr, IsTrue, ◌==◌, slice_get, slice_set};
+ghost use Rattle.std.specs.Prelude.{◌≡◌, ◌↔◌, ◌≤◌, ◌++◌, ◌∷◌, true, false, List, [], length, Some, None, IfOk, IfSome, IfNone, OnOk, OnErr, IsTrue, ◌==◌, slice_get, slice_set};
 ghost use Rattle.tiny_http_turns.specs.Turns.{Mark, Open, Held, AreInShape, first_unfinished};
 ghost use Rattle.tiny_http_stream.specs.Outlet.{output_of, outlet_ended, outlet_held, SentOn};
 ghost use Rattle.tiny_http_core.specs.Sending.{CanSend, IsFlushed, SendsUnlessEnded, FailsOnceUnlessEnded};
 ghost use Rattle.tiny_http_message.specs.declared.body.Body.{Body};
 ghost use Rattle.tiny_http_stream.specs.Source.{GoesOn};
-ghost use Rattle.tiny_http_message.specs.Body.{is_streaming, FillsFromBody};
-ghost use Rattle.tiny_http_core.specs.Pending.{left_text, SendsLeft, Passes, LeavesText, waiting_form, last_body, streams};
+ghost use Rattle.tiny_http_message.specs.Body.{is_streaming, body_standing, FillsFromBody};
+ghost use Rattle.tiny_http_core.specs.Pending.{left_text, SendsLeft, Passes, LeavesText, waiting_form};
 
 use crate::sending::{flush_quietly, write_quietly};
 use std::alloc::Global;
@@ -92,7 +92,8 @@ impl Pending {
         ensures bound { IfOk result (λ n. n ≤ length buf.new) }
         ensures fills { (w : Waiting) → slice_get self.old.requests.items number ≡ Some (Some w)
             → (body : Body) × (self.new.requests.items ≡ slice_set self.old.requests.items number (Some (record w { body = body })))
-            × FillsFromBody w.body source.old.feed body source.new.feed result buf.new × (is_streaming w.body ≡ false → source.new ≡ source.old) }
+            × FillsFromBody w.body source.old.feed body source.new.feed result buf.new × (is_streaming w.body ≡ false → source.new ≡ source.old)
+            × (is_streaming w.body ≡ true → source.new.standing ≡ body_standing body source.old.standing) }
         ensures turns { self.new.turns ≡ self.old.turns }
         ensures goes_on { GoesOn source.old.feed source.new.feed }
     {
@@ -102,20 +103,6 @@ impl Pending {
         match entry {
             Some(waiting) => waiting.body.fill(source, buf),
             None => Ok(0),
-        }
-    }
-
-    /// Whether the last request that was handed out waits, and the next head stands behind bytes of its body that were not
-    /// read.
-    pub fn holds_reader(&self) -> bool
-        ensures { result ≡ streams (last_body self.now.requests.items) }
-    {
-        let Some(last) = self.requests.last() else {
-            return false;
-        };
-        match last {
-            Some(waiting) => waiting.body.holds_reader(),
-            None => false,
         }
     }
 

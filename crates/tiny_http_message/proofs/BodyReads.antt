@@ -12,7 +12,8 @@ use Rattle.tiny_http_message.specs.declared.body.Body.{Body}
 use Rattle.tiny_http_message.specs.declared.body.Body.TheVariants.{Over, Held, Counted, Chunked}
 use Rattle.tiny_http_stream.specs.ToCome.{skipped, stopped}
 use Rattle.tiny_http_stream.specs.Parts.{first_part}
-use Rattle.tiny_http_message.specs.Body.{Remaining, remaining, counted_left, taken_left, after_bytes, with_bytes, BodyStops, NoneLeft, is_streaming, IsOver, ReadsOn, GivesUp}
+use Rattle.tiny_http_message.specs.Body.{Remaining, remaining, counted_left, taken_left, after_bytes, with_bytes, BodyStops, NoneLeft, is_streaming, body_standing, IsOver, ReadsOn, GivesUp}
+use Rattle.tiny_http_stream.specs.declared.source.Standing.{Standing}
 use Rattle.tiny_http_stream.specs.Source.{SourceState, GoesOn, IsRestOf}
 use Rattle.tiny_http_stream.proofs.GoingOn.{goes-on_same}
 use Rattle.tiny_http_stream.proofs.Inputs.{skipped-skipped, skipped-prepend, skipped-within, skipped-beyond}
@@ -194,7 +195,7 @@ gives-up (Held bytes) old new h = ap-goes old new h
   where
     ap-goes : {R : Type 0} (old new : SourceState R) → new ≡ old → GoesOn old.feed new.feed
     ap-goes {R = R} old new e = let P : SourceState R → Type 0 = λ x. GoesOn old.feed x.feed in subst P (sym e) (goes-on_same old.feed)
-gives-up (Counted left) old new h = let P : Option Feed → Type 0 = λ x. GoesOn old.feed x in subst P (sym h) (skips old.feed)
+gives-up (Counted left) old new h = let P : Option Feed → Type 0 = λ x. GoesOn old.feed x in subst P (sym h.0) (skips old.feed)
   where
     skips : (o : Option Feed) → GoesOn o (option_map (skipped left) o)
     skips None = tt
@@ -224,3 +225,16 @@ goes-on_end old new e = let P : Option Feed → Type 0 = λ x. GoesOn old x in s
     ends : (o : Option Feed) → GoesOn o (option_map (λ _. stopped End) o)
     ends None = tt
     ends (Some f) = record { gone = f.bytes; joins = sym (append-nil f.bytes) }
+
+-- a read after another, from a body that was read from the input
+pub standing-more : {R : Type 0} (b c : Body) (n : ℕ) (told : Bool) (first : Standing) (mid new : SourceState R) → ReadsOn b n told c → (is_streaming b ≡ false → new ≡ mid) → (is_streaming b ≡ true → new.standing ≡ body_standing c mid.standing)
+    → mid.standing ≡ body_standing b first → new.standing ≡ body_standing c first
+standing-more {R = R} (Over stop) c n told first mid new on settled goes was =
+    let P : Body → Type 0 = λ x. new.standing ≡ body_standing x first in
+    subst P (sym on.0) (ap (λ (s : SourceState R). s.standing) (settled refl) ∙ was)
+standing-more {R = R} (Held bytes) (Held more) n told first mid new on settled goes was = ap (λ (s : SourceState R). s.standing) (settled refl) ∙ was
+standing-more (Held bytes) (Over stop) n told first mid new on settled goes was = absurd on
+standing-more (Held bytes) (Counted left) n told first mid new on settled goes was = absurd on
+standing-more (Held bytes) (Chunked d) n told first mid new on settled goes was = absurd on
+standing-more (Counted left) c n told first mid new on settled goes was = goes refl ∙ ap (body_standing c) was
+standing-more (Chunked d) c n told first mid new on settled goes was = goes refl ∙ ap (body_standing c) was

@@ -1,5 +1,5 @@
 -- From a head read to the item that stands there.
-use Rattle.std.proofs.Common.{◌≡◌, refl, sym, ap, ◌∙◌, subst, ℕ, ◌-◌, ◌<◌, ◌≤◌, Bool, true, false, not, ◌&&◌, List, [], ◌+◌, length, take, drop, length-append, Option, Some, None, Result, Ok, Err, inl, inr, arith}
+use Rattle.std.proofs.Common.{◌≡◌, refl, sym, ap, ◌∙◌, subst, ℕ, ◌-◌, ◌<◌, ◌≤◌, Bool, true, false, not, ◌&&◌, List, [], ◌∷◌, ◌++◌, ◌+◌, length, take, drop, length-append, Option, Some, None, Result, Ok, Err, inl, inr, arith}
 use Rattle.std.specs.Prelude.{nat_lt, unwrap_or, MatchResult, MatchBool, ◌==◌, if◌then◌else◌}
 use Rattle.std.specs.Option.{option_map}
 use Rattle.std.specs.Global.{Vec}
@@ -19,7 +19,7 @@ use Rattle.tiny_http_wire.specs.Chunks.{WholeChunks, CutChunks}
 use Rattle.tiny_http_wire.specs.ChunkReading.{decoded}
 use Rattle.tiny_http_wire.specs.Decoding.{Coming, decoding_coming}
 use Rattle.tiny_http_wire.proofs.ChunkLemmas.{decoded-is}
-use Rattle.tiny_http_wire.specs.Heads.{Message as Texted, HeadText, Cut, NotAscii, Malformed, version, is_too_new}
+use Rattle.tiny_http_wire.specs.Heads.{Message as Texted, HeadText, FaultyHead, Cut, NotAscii, Malformed, version, is_too_new}
 use Rattle.tiny_http_message.specs.declared.heads.Message.{Message}
 use Rattle.tiny_http_message.specs.declared.framing.Form.{Form}
 use Rattle.tiny_http_message.specs.declared.framing.Form.TheVariants.{Rest, Nothing, Held, Counted, Chunked}
@@ -39,7 +39,16 @@ use Rattle.tiny_http_message.specs.Body.{Remaining, remaining, counted_left, com
 use Rattle.tiny_http_message.specs.Exchange.{KeepsHead}
 use Rattle.tiny_http_stream.specs.Source.{TakesExactly, from}
 use Rattle.tiny_http_message.specs.Pipeline.{Item, Asks, Refuses, Place, Heading, Ends, Heads, IsCutHeld, cut_answer, is_timed_out, said_length, served, served_answer, BodyAt, FoundAt, OneHead, item_of, goes_on}
-use Rattle.tiny_http_message.specs.HeadReads.{ReadsMessage, ReadsHead, RefusesBy, Begins, ComesWith, place_after, message_of, head_message, head_framing}
+use Rattle.tiny_http_message.specs.HeadReads.{ReadsMessage, ReadsHead, RefusesBy, Begins, ComesWith, IsCutOff, IsUnserved, IsBeforeHead, cut_end, end_at, place_after, message_of, head_message, head_framing}
+use Rattle.tiny_http_message.specs.declared.exchange.EndOfRequests.{EndOfRequests}
+use Rattle.tiny_http_message.specs.declared.exchange.EndOfRequests.TheVariants as because
+use Rattle.tiny_http_stream.specs.declared.source.Standing.{Standing}
+use Rattle.tiny_http_stream.specs.declared.source.Standing.TheVariants as at
+use Rattle.tiny_http_stream.specs.Source.{SourceState}
+use Rattle.tiny_http_stream.specs.ToCome.{HasByte, HasNoByte}
+use Rattle.tiny_http_wire.specs.Device.{StopsBy}
+use Rattle.tiny_http_wire.specs.Bytes.{crlf}
+use Rattle.std.specs.Prelude.{IfSome, IsSome}
 use Rattle.tiny_http_stream.proofs.Inputs.{skipped-within, skipped-beyond}
 use Rattle.tiny_http_message.proofs.PipelineLemmas.{sized-is}
 
@@ -51,26 +60,29 @@ not_served false = refl
 cut-unanswered : (stop : Stop) → ◌≡◌ {A = Option Item} None (served_answer (cut_answer stop))
 cut-unanswered stop = not_served (is_timed_out stop)
 
--- a faulty head
-pub head-refused : (date : HttpDate) (o p : Option Feed) (v : Option HTTPVersion) (e : HeadFault) (r : Result HeadRead AllocError) → ReadsMessage o p (Err (v, e)) → RefusesBy v e date r → ReadsHead date o p r
-head-refused date None p v e r h k = tt
-head-refused date (Some f) p v e (Err x) h k = tt
-head-refused date (Some f) p v fault.Cut (Ok read.Ended) h k = (Ends (cut_answer f.stop), inl (v, Cut, h, refl), (cut-unanswered f.stop, refl))
-head-refused date (Some f) p v fault.Cut (Ok (read.Request x)) h k = absurd k
-head-refused date (Some f) p v fault.Cut (Ok (read.Refused text last)) h k = absurd k
-head-refused date (Some f) p v fault.NotAscii (Ok read.Ended) h k = (Ends None, inl (v, NotAscii, h, refl), (refl, refl))
-head-refused date (Some f) p v fault.NotAscii (Ok (read.Request x)) h k = absurd k
-head-refused date (Some f) p v fault.NotAscii (Ok (read.Refused text last)) h k = absurd k
-head-refused date (Some f) p v fault.Malformed (Ok read.Ended) h k = absurd k
-head-refused date (Some f) p v fault.Malformed (Ok (read.Request x)) h k = absurd k
-head-refused date (Some f) p v fault.Malformed (Ok (read.Refused text last)) h k =
-    (unwrap_or v (version 1 1), (Ends (Some (Refuses 400 (unwrap_or v (version 1 1)) false)), inl (v, Malformed, h, refl), (refl, refl)), k.0, k.1)
-head-refused date (Some f) p v fault.Memory (Ok x) h k = absurd k
+-- a faulty head: where it is cut, it ends the requests for this reason
+pub head-refused : (date : HttpDate) (o p : Option Feed) (v : Option HTTPVersion) (e : HeadFault) (cut : EndOfRequests) (r : Result HeadRead AllocError) → ReadsMessage o p (Err (v, e)) → RefusesBy v e cut date r
+    → ((f : Feed) → o ≡ Some f → e ≡ fault.Cut → cut ≡ cut_end f.stop (nat_lt 0 (length f.bytes))) → ReadsHead at.Head date o p r
+head-refused date None p v e cut r h k why = tt
+head-refused date (Some f) p v e cut (Err x) h k why = tt
+head-refused date (Some f) p v fault.Cut cut (Ok (read.Ended x)) h k why = ((Ends (cut_answer f.stop), inl (v, Cut, h, refl), (cut-unanswered f.stop, refl)), inl (inl (v, h), k ∙ why f refl refl))
+head-refused date (Some f) p v fault.Cut cut (Ok (read.Request x)) h k why = absurd k
+head-refused date (Some f) p v fault.Cut cut (Ok (read.Refused status text last)) h k why = absurd k
+head-refused date (Some f) p v fault.NotAscii cut (Ok (read.Ended x)) h k why = ((Ends None, inl (v, NotAscii, h, refl), (refl, refl)), inr (inl (v, h, k)))
+head-refused date (Some f) p v fault.NotAscii cut (Ok (read.Request x)) h k why = absurd k
+head-refused date (Some f) p v fault.NotAscii cut (Ok (read.Refused status text last)) h k why = absurd k
+head-refused date (Some f) p v fault.Malformed cut (Ok (read.Ended x)) h k why = absurd k
+head-refused date (Some f) p v fault.Malformed cut (Ok (read.Request x)) h k why = absurd k
+head-refused date (Some f) p v fault.Malformed cut (Ok (read.Refused status text last)) h k why =
+    (unwrap_or v (version 1 1), (Ends (Some (Refuses 400 (unwrap_or v (version 1 1)) false)), inl (v, Malformed, h, refl), (refl, refl)), k.1, k.2, k.0)
+head-refused date (Some f) p v fault.Memory cut (Ok x) h k why = absurd k
 
 -- an expectation that can't be met
-pub head-unframed : (date : HttpDate) (o p : Option Feed) (m : Message) → ReadsMessage o p (Ok m) → framing m.version m.headers.items ≡ None → ReadsHead date o p (Ok read.Ended)
+pub head-unframed : (date : HttpDate) (o p : Option Feed) (m : Message) → ReadsMessage o p (Ok m) → framing m.version m.headers.items ≡ None → ReadsHead at.Head date o p (Ok (read.Ended because.NotServed))
 head-unframed date None p m h e = tt
-head-unframed date (Some f) p m h e = (Ends (Some (Refuses 417 m.version false)), inr (inl (message_of m, h.0, h.1, e, refl)), (refl, refl))
+head-unframed date (Some f) p m h e =
+    let P : Option Framing → Type 0 = λ x. IsUnserved x m.version in
+    ((Ends (Some (Refuses 417 m.version false)), inr (inl (message_of m, h.0, h.1, e, refl)), (refl, refl)), inr (inr (message_of m, h.0, h.1, subst P (sym e) tt, refl)))
 
 abbrev pub is_cut_held : Form → ℕ → List ℕ → Bool
 is_cut_held Held n after = nat_lt (length after) n
@@ -100,9 +112,11 @@ unbuilt bytes stop m f after h e b false c =
     let same : Ends None ≡ served (Heads m f after) = rw b refl in
     (Heads m f after, (h, e, not_cut), subst P same (refl, refl))
 
-pub head-unbuilt : (date : HttpDate) (o p : Option Feed) (m : Message) (f : Framing) → ReadsMessage o p (Ok m) → framing m.version m.headers.items ≡ Some f → is_built m.version f ≡ false → ReadsHead date o p (Ok read.Ended)
+pub head-unbuilt : (date : HttpDate) (o p : Option Feed) (m : Message) (f : Framing) → ReadsMessage o p (Ok m) → framing m.version m.headers.items ≡ Some f → is_built m.version f ≡ false → ReadsHead at.Head date o p (Ok (read.Ended because.NotServed))
 head-unbuilt date None p m f h e b = tt
-head-unbuilt date (Some x) p m f h e b = unbuilt x.bytes x.stop (message_of m) f h.0 h.1 e b (is_cut_held f.form (said_length f) h.0) refl
+head-unbuilt date (Some x) p m f h e b =
+    let P : Option Framing → Type 0 = λ y. IsUnserved y m.version in
+    (unbuilt x.bytes x.stop (message_of m) f h.0 h.1 e b (is_cut_held f.form (said_length f) h.0) refl, inr (inr (message_of m, h.0, h.1, subst P (sym e) b, refl)))
 
 -- what is built is no version above 1.1, owes no 100, and names no upgrade
 pub record Built (v : HTTPVersion) (f : Framing) : Type 0 where
@@ -214,7 +228,7 @@ pub begins-cut : (f : Framing) (o new : Option Feed) (n : ℕ) → f.form ≡ He
 begins-cut f None new n e is h = tt
 begins-cut f (Some x) new n e is h =
     let P : Form → Type 0 = λ y. IsCutHeld y (said_length f) x.bytes in
-    subst P (sym e) (omega (arith, h, is))
+    subst P (sym e) (omega (arith, h.0, is))
 
 -- a head with its body
 head-whole : (x : Feed) (q : Option Feed) (m : Texted) (f : Framing) (after : List ℕ) (b : Body) → HeadText x.bytes m after → framing m.version m.headers ≡ Some f → is_built m.version f ≡ true → Begins f (from x after) q (Some b)
@@ -241,7 +255,7 @@ Handed x q b m f =
     (content : Feed) × (next : Place) × OneHead x.bytes x.stop (Some (Asks (record { message = m; framing = f; body = content }))) (place_after f.is_last next) × ComesWith (remaining b q) x.stop content next × Fits b f.form (said_length f) 0 false
 
 pub head-handed : (date : HttpDate) (o p q : Option Feed) (m : Message) (f : Framing) (h : Head) (b : Body) (y : Exchange) → head_message h ≡ message_of m → head_framing h ≡ f → ReadsMessage o p (Ok m) → framing m.version m.headers.items ≡ Some f → is_built m.version f ≡ true
-    → Begins f p q (Some b) → y.head ≡ h → y.waiting.body ≡ b → KeepsHead y.waiting h date → ReadsHead date o q (Ok (read.Request y))
+    → Begins f p q (Some b) → y.head ≡ h → y.waiting.body ≡ b → KeepsHead y.waiting h date → ReadsHead at.Head date o q (Ok (read.Request y))
 head-handed date None p q m f h b y u v r e t begins heads bodies keeps = tt
 head-handed date (Some x) p q m f h b y u v r e t begins heads bodies keeps =
     let P : Option Feed → Type 0 = λ z. Begins f z q (Some b) in
@@ -254,9 +268,58 @@ head-handed date (Some x) p q m f h b y u v r e t begins heads bodies keeps =
     let all = subst T (sym heads) (subst S (sym bodies) (subst R (sym v) (subst Q (sym u) found))) in
     (all.0, all.1, all.2, all.3, record { answer = subst K (sym heads) keeps; body = all.4 })
 
--- a body that is read with its head, and cut
-pub head-cut : (date : HttpDate) (o p q : Option Feed) (m : Message) (f : Framing) → ReadsMessage o p (Ok m) → framing m.version m.headers.items ≡ Some f → Begins f p q None → ReadsHead date o q (Ok read.Ended)
-head-cut date None p q m f h e t = tt
-head-cut date (Some x) p q m f h e t =
+line-some : (text rest : List ℕ) → 0 < length (text ++ crlf ++ rest)
+line-some [] rest = omega arith
+line-some (b ∷ bs) rest = omega arith
+
+-- a body that is read with its head, and cut: it ends the requests by the input's stop
+pub head-cut : (date : HttpDate) (o p q : Option Feed) (m : Message) (f : Framing) (why : EndOfRequests) → ReadsMessage o p (Ok m) → framing m.version m.headers.items ≡ Some f → Begins f p q None
+    → ((x : Feed) → p ≡ Some x → why ≡ cut_end x.stop true) → ReadsHead at.Head date o q (Ok (read.Ended why))
+head-cut date None p q m f why h e t ends = tt
+head-cut date (Some x) p q m f why h e t ends =
     let P : Option Feed → Type 0 = λ y. Begins f y q None in
-    (Ends (cut_answer x.stop), inr (inr (message_of m, h.0, f, h.1, e, subst P h.2 t, refl)), (cut-unanswered x.stop, refl))
+    let cut = subst P h.2 t in
+    let begun : true ≡ nat_lt 0 (length x.bytes) = sym (lt-ltb 0 (length x.bytes) (head-some x.bytes (message_of m) h.0 h.1)) in
+    ((Ends (cut_answer x.stop), inr (inr (message_of m, h.0, f, h.1, e, cut, refl)), (cut-unanswered x.stop, refl)), inl (inr (message_of m, h.0, f, h.1, e, cut), ends (record { bytes = h.0; stop = x.stop }) h.2 ∙ ap (cut_end x.stop) begun))
+  where
+    head-some : (bytes : List ℕ) (m : Texted) (after : List ℕ) → HeadText bytes m after → 0 < length bytes
+    head-some bytes m after t = let P : List ℕ → Type 0 = λ x. 0 < length x in let line = t.2.1 in subst P (sym line.joins) (line-some t.2.0 t.0)
+
+-- the reason at the place where a source that was cut stood
+pub cut-reason : {R : Type 0} (old new : SourceState R) (stop : Option Stop) (begun : Bool) (why : EndOfRequests) (f : Feed) → old.feed ≡ Some f → IsCutOff old new → (new.is_over ≡ true → IsSome stop × IfSome stop (λ s. StopsBy s new.feed))
+    → IfSome stop (λ s. why ≡ cut_end s begun) → why ≡ cut_end f.stop begun
+cut-reason old new None begun why f e cut over h = let no : false ≡ true = (over cut.over).0 in cc
+cut-reason old new (Some stop) begun why f e cut over h =
+    let P : Option Feed → Type 0 = λ x. StopsBy stop x in
+    let stops = subst P (cut.left f e) (over cut.over).1 in
+    h ∙ ap (λ s. cut_end s begun) (sym stops.1)
+
+-- no byte of a head has come
+pub head-closed : {R : Type 0} (date : HttpDate) (o : Option Feed) (new : SourceState R) (stop : Option Stop) (why : EndOfRequests) → HasNoByte o → new.feed ≡ o → new.is_over ≡ true → (new.is_over ≡ true → IsSome stop × IfSome stop (λ s. StopsBy s new.feed))
+    → IfSome stop (λ s. why ≡ cut_end s false) → ReadsHead at.Head date o new.feed (Ok (read.Ended why))
+head-closed date None new stop why none same is over h = tt
+head-closed date (Some f) new None why none same is over h = let no : false ≡ true = (over is).0 in cc
+head-closed date (Some f) new (Some stop) why none same is over h =
+    let P : Option Feed → Type 0 = λ x. StopsBy stop x in
+    let stops = subst P same (over is).1 in
+    let Q : List ℕ → Type 0 = λ x. FaultyHead x None Cut in
+    let cut : FaultyHead f.bytes None Cut = subst Q (sym none) refl in
+    let begun : false ≡ nat_lt 0 (length f.bytes) = sym (ap (λ (x : List ℕ). nat_lt 0 (length x)) none) in
+    ((Ends (cut_answer f.stop), inl (None, Cut, cut, refl), (cut-unanswered f.stop, refl)), inl (inl (None, cut), h ∙ ap (λ s. cut_end s false) (sym stops.1) ∙ ap (cut_end f.stop) begun))
+
+-- a byte of a head has come
+pub begun-is : (o : Option Feed) (f : Feed) → o ≡ Some f → HasByte o → true ≡ nat_lt 0 (length f.bytes)
+begun-is o f e some = let P : Option Feed → Type 0 = λ x. HasByte x in sym (lt-ltb 0 (length f.bytes) (more f.bytes (subst P e some)))
+  where
+    more : (bytes : List ℕ) → (bytes ≡ [] → ⊥) → 0 < length bytes
+    more [] h = absurd (h refl)
+    more (b ∷ bs) h = omega arith
+
+-- an end at its place is one after a body that was given up, or broke off, but for its reason
+pub head-end : (s : Standing) (date : HttpDate) (o p q : Option Feed) (why : EndOfRequests) → IsBeforeHead s → ReadsHead at.Head date o p (Ok (read.Ended why)) → ReadsHead s date o q (Ok (read.Ended (end_at s why)))
+head-end s date None p q why here h = tt
+head-end at.Head date (Some f) p q why here h = h
+head-end at.Lost date (Some f) p q why here h = (h.0, refl)
+head-end (at.Broken kind) date (Some f) p q why here h = (h.0, refl)
+head-end at.Body date (Some f) p q why here h = elim here [ ]
+head-end at.Last date (Some f) p q why here h = elim here [ ]

@@ -1,5 +1,5 @@
 -- What is still to come of a request's body, and where the input stands behind it.
-use Rattle.std.specs.Prelude.{◌≡◌, ℕ, ◌+◌, ◌-◌, ◌<◌, Bool, true, false, ◌||◌, ◌==◌, nat_lt, List, [], length, take, Option, Some, None, Result, Ok, Err, MatchBool, ⊤}
+use Rattle.std.specs.Prelude.{◌≡◌, ℕ, ◌+◌, ◌-◌, ◌^◌, ◌<◌, Bool, true, false, ◌||◌, ◌==◌, nat_lt, List, [], length, take, Option, Some, None, Result, Ok, Err, MatchBool, ⊤}
 use Rattle.std.specs.Option.{option_map}
 use Rattle.std.specs.declared.io.ErrorKind.{ErrorKind}
 use Rattle.tiny_http_wire.specs.declared.device.Stop.{Stop}
@@ -14,6 +14,8 @@ use Rattle.tiny_http_message.specs.declared.framing.Form.TheVariants as form
 use Rattle.tiny_http_stream.specs.ToCome.{skipped, stopped}
 use Rattle.tiny_http_stream.specs.Parts.{first_part}
 use Rattle.tiny_http_stream.specs.Source.{SourceState, IsAtEnd}
+use Rattle.tiny_http_stream.specs.declared.source.Standing.{Standing}
+use Rattle.tiny_http_stream.specs.Standing.{after_body, after_fault, after_loss}
 
 -- What is still to come of a body, and the feed behind it; a feed without a byte, where no head follows.
 pub record Remaining : Type 0 where
@@ -118,9 +120,21 @@ FillsFromBody old from new to (Ok n) buf =
 FillsFromBody old from new to (Err kind) buf =
     (remaining new to ≡ remaining old from) × ReadsOn old 0 true new × BodyStops (Fault kind) (remaining old from)
 
--- A body is given up: the rest of a counted one is skipped; behind a chunked one no head follows; else nothing changes.
+-- Where a source stands after a read that left this of the body.
+abbrev pub body_standing : Body → Standing → Standing
+body_standing (Over End) standing = after_body standing
+body_standing (Over (Fault kind)) standing = after_fault kind standing
+body_standing (Held bytes) standing = after_body standing
+body_standing (Counted n) standing = standing
+body_standing (Chunked decoding) standing = standing
+
+-- A body is given up: the rest of a counted one is skipped, and the reader isn't called for it; after a chunked one no head
+-- follows; else nothing changes.
 abbrev pub GivesUp : {R : Type 0} → Body → SourceState R → SourceState R → Type 0
 GivesUp (Over stop) old new = new ≡ old
 GivesUp (Held bytes) old new = new ≡ old
-GivesUp (Counted left) old new = new.feed ≡ option_map (skipped left) old.feed
-GivesUp (Chunked decoding) old new = (new.feed ≡ option_map (λ _. stopped End) old.feed) × IsAtEnd new
+GivesUp (Counted left) old new =
+    (new.feed ≡ option_map (skipped left) old.feed) × (new.standing ≡ after_body old.standing)
+    × (old.skip + left < 2 ^ 64 → (new.reader ≡ old.reader) × (new.stop ≡ old.stop))
+GivesUp (Chunked decoding) old new =
+    (new.feed ≡ option_map (λ _. stopped End) old.feed) × IsAtEnd new × (new.standing ≡ after_loss old.standing) × (new.reader ≡ old.reader)

@@ -7,9 +7,10 @@ use Rattle.tiny_http_message.specs.declared.exchange.Head.{Head}
 use Rattle.tiny_http_message.specs.declared.waiting.Waiting.{Waiting}
 use Rattle.tiny_http_message.specs.declared.exchange.Exchange.{Exchange}
 use Rattle.tiny_http_stream.specs.Source.{SourceState}
+use Rattle.tiny_http_stream.specs.declared.source.Standing.{Standing}
 use Rattle.tiny_http_message.specs.Pipeline.{is_head_method}
 use Rattle.tiny_http_message.specs.OwnAnswer.{own_text}
-use Rattle.tiny_http_message.specs.Body.{Remaining, remaining, body_stop, is_streaming, ReadsOn, Fits, GivesUp}
+use Rattle.tiny_http_message.specs.Body.{Remaining, remaining, body_stop, body_standing, is_streaming, ReadsOn, Fits, GivesUp}
 
 -- a request of this head, of which this is kept
 abbrev pub exchange_of : Head → Waiting → Exchange
@@ -30,6 +31,10 @@ exchange_stop x = body_stop x.waiting.body
 -- its body is read from the input, which has to stand behind it before the next head is read
 abbrev pub exchange_streams : Exchange → Bool
 exchange_streams x = is_streaming x.waiting.body
+
+-- where a source stands after a read that left this of the exchange
+abbrev pub exchange_standing : Exchange → Standing → Standing
+exchange_standing x standing = body_standing x.waiting.body standing
 
 -- so many bytes of its body were read, and the end or the fault was told or not
 abbrev pub ExchangeReadsOn : Exchange → ℕ → Bool → Exchange → Type 0

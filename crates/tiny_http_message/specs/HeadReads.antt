@@ -1,11 +1,13 @@
 -- What the calls that read a head make of the input.
-use Rattle.std.specs.Prelude.{◌≡◌, ℕ, ⊤, List, [], Option, Some, None, Result, Ok, Err, unwrap_or, Bool, true, false}
+use Rattle.std.specs.Prelude.{◌≡◌, ℕ, ⊤, ◌⊎◌, List, [], length, nat_lt, Option, Some, None, Result, Ok, Err, unwrap_or, Bool, true, false, if◌then◌else◌}
+use Rattle.std.specs.declared.io.ErrorKind.TheVariants.{TimedOut}
 use Rattle.std.specs.declared.alloc.AllocError.{AllocError}
 use Rattle.httpdate.specs.declared.date.HttpDate.{HttpDate}
 use Rattle.tiny_http_wire.specs.declared.common.Method.{Method}
 use Rattle.tiny_http_wire.specs.declared.common.HTTPVersion.{HTTPVersion}
 use Rattle.tiny_http_wire.specs.declared.common.Header.{Header}
 use Rattle.tiny_http_wire.specs.declared.device.Stop.{Stop}
+use Rattle.tiny_http_wire.specs.declared.device.Stop.TheVariants.{End, Fault}
 use Rattle.tiny_http_wire.specs.Device.{Feed, ending}
 use Rattle.tiny_http_wire.specs.Bytes.{AreAscii}
 use Rattle.tiny_http_wire.specs.Lines.{Line, IsUnfinished}
@@ -13,6 +15,12 @@ use Rattle.tiny_http_wire.specs.Heads.{Message as Texted, Starts, Fields, Header
 use Rattle.tiny_http_message.specs.declared.heads.Message.{Message}
 use Rattle.tiny_http_message.specs.declared.framing.Framing.{Framing}
 use Rattle.tiny_http_message.specs.declared.exchange.Head.{Head}
+use Rattle.tiny_http_message.specs.declared.exchange.Exchange.{Exchange}
+use Rattle.tiny_http_message.specs.declared.exchange.EndOfRequests.{EndOfRequests}
+use Rattle.tiny_http_message.specs.declared.exchange.EndOfRequests.TheVariants as because
+use Rattle.tiny_http_stream.specs.declared.source.Standing.{Standing}
+use Rattle.tiny_http_stream.specs.declared.source.Standing.TheVariants as at
+use Rattle.tiny_http_stream.specs.ToCome.{stopped}
 use Rattle.tiny_http_message.specs.declared.exchange.HeadRead.{HeadRead}
 use Rattle.tiny_http_message.specs.declared.exchange.HeadRead.TheVariants as read
 use Rattle.tiny_http_stream.specs.declared.source.LineFault.{LineFault}
@@ -20,12 +28,12 @@ use Rattle.tiny_http_stream.specs.declared.source.LineFault.TheVariants as linef
 use Rattle.tiny_http_message.specs.declared.heads.HeadFault.{HeadFault}
 use Rattle.tiny_http_message.specs.declared.heads.HeadFault.TheVariants as fault
 use Rattle.tiny_http_message.specs.declared.body.Body.{Body}
-use Rattle.tiny_http_message.specs.Framing.{is_rest}
+use Rattle.tiny_http_message.specs.Framing.{framing, is_built, is_rest}
 use Rattle.tiny_http_stream.specs.Source.{SourceState, from, IsAtEnd}
 use Rattle.tiny_http_message.specs.Pipeline.{Request, Item, Asks, Refuses, Place, IsCutHeld, BodyAt, OneHead, said_length}
 use Rattle.tiny_http_message.specs.OwnAnswer.{own_text}
 use Rattle.tiny_http_message.specs.Body.{Remaining, remaining, Fits}
-use Rattle.tiny_http_message.specs.Exchange.{exchange_head, exchange_left, KeepsRequest}
+use Rattle.tiny_http_message.specs.Exchange.{exchange_head, exchange_left, exchange_streams, KeepsRequest}
 
 -- what is wrong with a head whose next line isn't read
 abbrev pub head_fault : LineFault → HeadFault
@@ -104,15 +112,61 @@ ReadsMessage (Some f) new (Err e) = IsFaultyHead f.bytes e.0 e.1
 abbrev pub refused : HTTPVersion → Item
 refused v = Refuses 400 v false
 
--- what a faulty head is answered so far, under the version if that was read; no memory is found for its line or its answer
-abbrev pub RefusesBy : Option HTTPVersion → HeadFault → HttpDate → Result HeadRead AllocError → Type 0
-RefusesBy v fault.Malformed date (Ok (read.Refused text last)) = (text.items ≡ own_text 400 (unwrap_or v (version 1 1)) false date) × (last ≡ true)
-RefusesBy v fault.Malformed date (Ok _) = ⊥
-RefusesBy v fault.Malformed date (Err e) = ⊤
-RefusesBy v fault.Memory date (Ok x) = ⊥
-RefusesBy v fault.Memory date (Err e) = ⊤
-RefusesBy v _ date (Ok read.Ended) = ⊤
-RefusesBy v _ date _ = ⊥
+-- nothing is left of the input, and it stopped as its feed does
+pub record IsCutOff {R : Type 0} (old new : SourceState R) : Type 0 where
+  pub over : new.is_over ≡ true
+  pub left : (f : Feed) → old.feed ≡ Some f → new.feed ≡ Some (stopped f.stop)
+
+-- why no request comes where the input stopped so, in front of a head or after bytes of one
+abbrev pub cut_end : Stop → Bool → EndOfRequests
+cut_end (Fault TimedOut) has_begun = because.TimedOut
+cut_end (Fault kind) has_begun = because.Fault kind
+cut_end End true = because.Cut
+cut_end End false = because.Closed
+
+-- the head, or a body that is read with it, is cut
+abbrev pub IsCutHead : List ℕ → Type 0
+IsCutHead bytes =
+    ((v : Option HTTPVersion) × FaultyHead bytes v Cut)
+    ⊎ ((m : Texted) × (after : List ℕ) × (f : Framing) × HeadText bytes m after × (framing m.version m.headers ≡ Some f) × IsCutHeld f.form (said_length f) after)
+
+-- a head that isn't served yet
+abbrev pub IsUnserved : Option Framing → HTTPVersion → Type 0
+IsUnserved None v = Unit {0}
+IsUnserved (Some f) v = is_built v f ≡ false
+
+-- WHY NO REQUEST comes from these bytes, which are answered by nothing: the head is cut; or a line of it isn't ASCII; or it
+-- asks for what isn't served yet.
+abbrev pub EndsBy : List ℕ → Stop → EndOfRequests → Type 0
+EndsBy bytes stop why =
+    (IsCutHead bytes × (why ≡ cut_end stop (nat_lt 0 (length bytes))))
+    ⊎ (((v : Option HTTPVersion) × FaultyHead bytes v NotAscii × (why ≡ because.NotAscii))
+    ⊎ ((m : Texted) × (after : List ℕ) × HeadText bytes m after × IsUnserved (framing m.version m.headers) m.version × (why ≡ because.NotServed)))
+
+-- the same at a place: after a body that was given up, or broke off, that is the reason
+abbrev pub EndsAt : Standing → List ℕ → Stop → EndOfRequests → Type 0
+EndsAt at.Lost bytes stop why = why ≡ because.AbandonedBody
+EndsAt (at.Broken kind) bytes stop why = why ≡ because.Fault kind
+EndsAt _ bytes stop why = EndsBy bytes stop why
+
+-- the reason at a place, where the input alone gives this one
+abbrev pub end_at : Standing → EndOfRequests → EndOfRequests
+end_at at.Lost why = because.AbandonedBody
+end_at (at.Broken kind) why = because.Fault kind
+end_at _ why = why
+
+-- What a faulty head is answered so far, under the version if that was read, or why it ends the requests; memory for its
+-- line or its answer was refused.
+abbrev pub RefusesBy : Option HTTPVersion → HeadFault → EndOfRequests → HttpDate → Result HeadRead AllocError → Type 0
+RefusesBy v fault.Malformed cut date (Ok (read.Refused status text last)) =
+    (status.0 ≡ 400) × (text.items ≡ own_text 400 (unwrap_or v (version 1 1)) false date) × (last ≡ true)
+RefusesBy v fault.Malformed cut date (Ok _) = ⊥
+RefusesBy v fault.Malformed cut date (Err e) = ⊤
+RefusesBy v fault.Memory cut date (Ok x) = ⊥
+RefusesBy v fault.Memory cut date (Err e) = ⊤
+RefusesBy v fault.Cut cut date (Ok (read.Ended why)) = why ≡ cut
+RefusesBy v fault.NotAscii cut date (Ok (read.Ended why)) = why ≡ because.NotAscii
+RefusesBy v _ cut date _ = ⊥
 
 -- the feed at a place; nothing where no head follows
 abbrev pub place_feed : Stop → Place → Feed
@@ -136,19 +190,46 @@ abbrev pub place_after : Bool → Place → Place
 place_after true next = None
 place_after false next = next
 
--- ONE HEAD, read: the item that stands at the input's place, what is still to come of its body, and where the next head
--- begins behind that, unless the request is the last.
-abbrev pub ReadsHead : HttpDate → Option Feed → Option Feed → Result HeadRead AllocError → Type 0
-ReadsHead date None new r = ⊤
-ReadsHead date (Some f) new (Ok (read.Request x)) =
+-- ONE HEAD, read at a place: the item that stands there, what is still to come of its body, and where the next head begins
+-- after that, unless the request is the last; or why no request comes.
+abbrev pub ReadsHead : Standing → HttpDate → Option Feed → Option Feed → Result HeadRead AllocError → Type 0
+ReadsHead from_here date None new r = ⊤
+ReadsHead from_here date (Some f) new (Ok (read.Request x)) =
     (body : Feed) × (next : Place) × OneHead f.bytes f.stop (Some (Asks (request_of (exchange_head x) body))) (place_after (exchange_head x).is_last next)
     × ComesWith (exchange_left x new) f.stop body next × KeepsRequest x date
-ReadsHead date (Some f) new (Ok (read.Refused text last)) =
-    (v : HTTPVersion) × OneHead f.bytes f.stop (Some (refused v)) None × (text.items ≡ own_text 400 v false date) × (last ≡ true)
-ReadsHead date (Some f) new (Ok read.Ended) = OneHead f.bytes f.stop None None
-ReadsHead date (Some f) new (Err e) = ⊤
+ReadsHead from_here date (Some f) new (Ok (read.Refused status text last)) =
+    (v : HTTPVersion) × OneHead f.bytes f.stop (Some (refused v)) None × (text.items ≡ own_text 400 v false date) × (last ≡ true) × (status.0 ≡ 400)
+ReadsHead from_here date (Some f) new (Ok (read.Ended why)) = OneHead f.bytes f.stop None None × EndsAt from_here f.bytes f.stop why
+ReadsHead from_here date (Some f) new (Err e) = ⊤
 
 -- behind anything but a request the source has ended
 abbrev pub EndsUnlessHanded : {R : Type 0} → Result HeadRead AllocError → SourceState R → Type 0
 EndsUnlessHanded (Ok (read.Request x)) s = ⊤
 EndsUnlessHanded _ s = IsAtEnd s
+
+-- a source stands in front of a head, or where one would begin
+abbrev pub IsBeforeHead : Standing → Type 0
+IsBeforeHead at.Head = Unit {0}
+IsBeforeHead at.Lost = Unit {0}
+IsBeforeHead (at.Broken kind) = Unit {0}
+IsBeforeHead at.Body = ⊥
+IsBeforeHead at.Last = ⊥
+
+-- the answer is the end
+abbrev pub IsOkEnd : Result HeadRead AllocError → Type 0
+IsOkEnd (Ok (read.Ended why)) = ⊤
+IsOkEnd _ = ⊥
+
+-- a request was read
+abbrev pub IsRequest : HeadRead → Type 0
+IsRequest (read.Request x) = ⊤
+IsRequest _ = ⊥
+
+-- where a source stands after the head of this request
+abbrev pub standing_of : Exchange → Standing
+standing_of x = if (exchange_head x).is_last then at.Last else if exchange_streams x then at.Body else at.Head
+
+-- and after a head was read, or none
+abbrev pub standing_read : Result HeadRead AllocError → Standing → Standing
+standing_read (Ok (read.Request x)) old = standing_of x
+standing_read _ old = old

@@ -5,11 +5,11 @@ ghost use Rattle.std.specs.IoError.{error_kind};
 ghost use Rattle.tiny_http_wire.specs.Device.{AnswersStop, Feed};
 ghost use Rattle.tiny_http_stream.specs.Source.{GoesOn, IsAtEnd};
 ghost use Rattle.tiny_http_stream.specs.ToCome.{skipped};
-ghost use Rattle.tiny_http_message.specs.Body.{remaining, counted_left, with_bytes, BodyStops, is_streaming, body_stop, ReadsOn, FillsFromBody, GivesUp};
+ghost use Rattle.tiny_http_message.specs.Body.{remaining, counted_left, with_bytes, BodyStops, is_streaming, body_stop, body_standing, ReadsOn, FillsFromBody, GivesUp};
 
 use std::io;
 use std::io::{Cursor, ErrorKind};
-use tiny_http_stream::source::Source;
+use tiny_http_stream::source::{Standing, Source};
 use tiny_http_wire::chunked::Decoding;
 use tiny_http_wire::device::{ReadDevice, Stop, read_front};
 
@@ -146,13 +146,15 @@ impl Body {
         ensures at_end { OnErr result (body_stop self.old ≡ None → IsAtEnd source.new) }
         ensures tells { IfSome (body_stop self.old) (λ stop. 0 < length buf.new → AnswersStop stop result × (self.new ≡ self.old)) }
         ensures goes_on { GoesOn source.old.feed source.new.feed }
+        ensures standing { is_streaming self.old ≡ true → source.new.standing ≡ body_standing self.new source.old.standing }
     {
         if buf.is_empty() {
             return Ok(0);
         }
-        match self {
-            Body::Over(stop) => told(*stop),
-            Body::Held(bytes) => bytes.read_in(buf),
+        let standing = source.standing();
+        let read = match self {
+            Body::Over(stop) => return told(*stop),
+            Body::Held(bytes) => return bytes.read_in(buf),
             Body::Counted(left) => {
                 let left = *left;
                 self.read_counted(source, left, buf)
@@ -161,6 +163,19 @@ impl Body {
                 let decoding = *decoding;
                 self.read_chunked(source, decoding, buf)
             }
+        };
+        source.stand_at(self.standing_after(standing));
+        read
+    }
+
+    // Where a source stands after a read that left this of the body.
+    fn standing_after(&self, standing: Standing) -> Standing
+        ensures { result ≡ body_standing self.now standing }
+    {
+        match self {
+            Body::Over(Stop::End) | Body::Held(_) => standing.after_body(),
+            Body::Over(Stop::Fault(kind)) => standing.after_fault(*kind),
+            Body::Counted(_) | Body::Chunked(_) => standing,
         }
     }
 
@@ -183,6 +198,7 @@ impl Body {
         ensures broken { OnErr result (ReadsOn self.old 0 true self.new) }
         ensures settled { is_streaming self.old ≡ false → source.new ≡ source.old }
         ensures goes_on { GoesOn source.old.feed source.new.feed }
+        ensures standing { is_streaming self.old ≡ true → source.new.standing ≡ body_standing self.new source.old.standing }
     {
         self.read(source, &mut buf[at..])
     }
@@ -198,6 +214,7 @@ impl Body {
         ensures fills { FillsFromBody self.old source.old.feed self.new source.new.feed result buf.new }
         ensures settled { is_streaming self.old ≡ false → source.new ≡ source.old }
         ensures goes_on { GoesOn source.old.feed source.new.feed }
+        ensures standing { is_streaming self.old ≡ true → source.new.standing ≡ body_standing self.new source.old.standing }
     {
         let mut at = 0;
         while at < buf.len() {
@@ -228,10 +245,18 @@ impl Body {
         ensures over { self.new ≡ Body.Over Stop.End }
         ensures gives_up { GivesUp self.old source.old source.new }
     {
+        let standing = source.standing();
         match self {
-            Body::Counted(left) => source.skip(*left),
-            Body::Chunked(_) => source.end(),
-            Body::Over(_) | Body::Held(_) => {}
+            Body::Counted(left) => {
+                source.skip(*left);
+                source.stand_at(standing.after_body());
+            }
+            Body::Chunked(_) => {
+                source.end();
+                source.stand_at(standing.after_loss());
+            }
+            Body::Over(_) => {}
+            Body::Held(_) => {}
         }
         *self = Body::Over(Stop::End);
     }

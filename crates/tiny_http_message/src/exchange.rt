@@ -1,11 +1,12 @@
 //! A request without locks: its head, its body on the connection's input, and what becomes of both.
-ghost use Rattle.std.specs.Prelude.{◌≡◌, ◌<◌, ◌≤◌, ◌==◌, false, length, take, Ok, IfOk, IfErr, IfSome, OnErr};
+ghost use Rattle.std.specs.Prelude.{◌≡◌, ◌<◌, ◌≤◌, ◌==◌, true, false, length, take, None, Ok, IfOk, IfErr, IfSome, IsSome, OnErr};
 ghost use Rattle.std.specs.IoError.{error_kind};
 ghost use Rattle.tiny_http_wire.specs.Device.{AnswersStop};
 ghost use Rattle.tiny_http_stream.specs.Source.{GoesOn, IsAtEnd};
+ghost use Rattle.tiny_http_stream.specs.ToCome.{HasByte};
 ghost use Rattle.tiny_http_message.specs.Pipeline.{is_head_method};
 ghost use Rattle.tiny_http_message.specs.Body.{with_bytes, BodyStops};
-ghost use Rattle.tiny_http_message.specs.HeadReads.{ReadsHead, EndsUnlessHanded, RefusesBy, Begins, message_of, head_message, head_framing};
+ghost use Rattle.tiny_http_message.specs.HeadReads.{ReadsHead, EndsUnlessHanded, RefusesBy, Begins, IsCutOff, IsRequest, IsOkEnd, IsBeforeHead, cut_end, end_at, standing_of, standing_read, message_of, head_message, head_framing};
 ghost use Rattle.tiny_http_message.specs.Exchange.{KeepsHead};
 
 use crate::body::{Body, counted};
@@ -17,8 +18,8 @@ use crate::waiting::{AnswerForm, Waiting};
 use httpdate::HttpDate;
 use std::alloc::{AllocError, Global};
 use std::io;
-use std::io::Cursor;
-use tiny_http_stream::source::Source;
+use std::io::{Cursor, ErrorKind};
+use tiny_http_stream::source::{Standing, Source};
 use tiny_http_wire::ascii::AsciiString;
 use tiny_http_wire::chunked::Decoding;
 use tiny_http_wire::common::{HTTPVersion, Header, Method, StatusCode};
@@ -49,19 +50,51 @@ pub struct Exchange {
     waiting: Waiting,
 }
 
+/// Why no further request comes.
+#[derive(Clone, Copy, Debug, PartialEq, Eq)]
+pub enum EndOfRequests {
+    /// The last request was read: its version or its `Connection` header ends the connection after it.
+    LastRequest,
+    /// The client's bytes ended where a head would begin.
+    Closed,
+    /// They ended within a head, or within a body that is read with its head.
+    Cut,
+    /// A line of the head has a byte from 128 on.
+    NotAscii,
+    /// The head was refused with this status.
+    Refused(StatusCode),
+    /// The reader timed out before the head, and a body that is read with it, had come.
+    TimedOut,
+    /// The reader failed so before that, or the body before broke off so.
+    Fault(ErrorKind),
+    /// The chunked body before was given up before its end was read, so where the head begins isn't known.
+    AbandonedBody,
+    /// The body before was neither read to its end nor given up.
+    UnreadBody,
+    /// The head asks for what isn't served yet: a version above 1.1, an expectation, or an upgrade.
+    NotServed,
+    /// Memory for the head or its answer was refused.
+    Memory,
+}
+
 /// What stands at the place of a head.
 #[derive(Drop)]
 pub enum HeadRead {
     /// A request.
     Request(Exchange),
-    /// A head that is refused: the whole text of its answer, to be sent in its turn. If it is the last, no head follows.
-    Refused { text: Vec<u8>, last: bool },
-    /// The connection has no further request.
-    Ended,
+    /// A head that is refused with this status: the whole text of its answer, to be sent in its turn. If it is the last, no
+    /// head follows.
+    Refused {
+        status: StatusCode,
+        text: Vec<u8>,
+        last: bool,
+    },
+    /// The connection has no further request, for this reason.
+    Ended(EndOfRequests),
 }
 
 impl Exchange {
-    ghost use Rattle.tiny_http_message.specs.Exchange.{exchange_of, exchange_head, exchange_left, exchange_stop, exchange_streams, ExchangeReadsOn, GivesUpBody};
+    ghost use Rattle.tiny_http_message.specs.Exchange.{exchange_of, exchange_head, exchange_left, exchange_stop, exchange_streams, exchange_standing, ExchangeReadsOn, GivesUpBody};
 
     /// What the request's head says.
     pub fn head(&self) -> &Head
@@ -97,6 +130,8 @@ impl Exchange {
         ensures tells { IfSome (exchange_stop self.old) (λ stop. 0 < length buf.new → AnswersStop stop result × (exchange_stop self.new ≡ Some stop) × (source.new ≡ source.old)) }
         ensures head { exchange_head self.new ≡ exchange_head self.old }
         ensures goes_on { GoesOn source.old.feed source.new.feed }
+        // The source stands at the next head once the body is over.
+        ensures standing { exchange_streams self.old ≡ true → source.new.standing ≡ exchange_standing self.new source.old.standing }
     {
         self.waiting.body.read(source, buf)
     }
@@ -120,23 +155,42 @@ impl Exchange {
     }
 }
 
-// What a faulty head is answered.
+// Why no request comes from a source that stopped so before the head, or a body that is read with it, had come.
+fn cut_end(stop: Option<Stop>, has_begun: bool) -> EndOfRequests
+    ensures { IfSome stop (λ stop. result ≡ cut_end stop has_begun) }
+{
+    match stop {
+        Some(Stop::Fault(ErrorKind::TimedOut)) => EndOfRequests::TimedOut,
+        Some(Stop::Fault(kind)) => EndOfRequests::Fault(kind),
+        _ if has_begun => EndOfRequests::Cut,
+        _ => EndOfRequests::Closed,
+    }
+}
+
+// What a faulty head is answered, or why it ends the requests: one that is cut for this reason.
 fn refuse(
     alloc: Global,
     version: Option<HTTPVersion>,
     fault: HeadFault,
+    cut: EndOfRequests,
     now: HttpDate,
 ) -> Result<HeadRead, AllocError>
-    ensures { RefusesBy version fault now result }
+    ensures { RefusesBy version fault cut now result }
 {
     match fault {
         HeadFault::Malformed => {
+            let status = StatusCode(400);
             let version = version.unwrap_or(HTTPVersion(1, 1));
-            let text = own_answer(alloc, StatusCode(400), version, false, now)?;
-            Ok(HeadRead::Refused { text, last: true })
+            let text = own_answer(alloc, status, version, false, now)?;
+            Ok(HeadRead::Refused {
+                status,
+                text,
+                last: true,
+            })
         }
         HeadFault::Memory => Err(AllocError),
-        HeadFault::Cut | HeadFault::NotAscii => Ok(HeadRead::Ended),
+        HeadFault::Cut => Ok(HeadRead::Ended(cut)),
+        HeadFault::NotAscii => Ok(HeadRead::Ended(EndOfRequests::NotAscii)),
     }
 }
 
@@ -188,6 +242,9 @@ fn begin_body<R: ReadDevice>(
 ) -> Result<Option<Body>, AllocError>
     ensures begins { IfOk result (Begins framing source.old.feed source.new.feed) }
     ensures goes_on { GoesOn source.old.feed source.new.feed }
+    ensures lazy { IfOk result (λ body. IsSome body → source.new.stop ≡ source.old.stop) }
+    ensures cut { IfOk result (λ body. body ≡ None → IsCutOff source.old source.new) }
+    ensures standing { source.new.standing ≡ source.old.standing }
 {
     let length = framing.body_length.unwrap_or(0);
     match framing.form {
@@ -204,58 +261,119 @@ fn begin_body<R: ReadDevice>(
     }
 }
 
-// What stands at the source's place. Behind anything but a request the source may stand within a head or its body.
+// What stands at the source's standing. After anything but a request the source may stand within a head or its body.
 fn read_item<R: ReadDevice>(
     alloc: Global,
     source: &mut Source<R>,
     now: HttpDate,
 ) -> Result<HeadRead, AllocError>
-    ensures reads { ReadsHead now source.old.feed source.new.feed result }
+    ensures reads { ReadsHead Standing.Head now source.old.feed source.new.feed result }
     ensures goes_on { GoesOn source.old.feed source.new.feed }
-    ensures at_end { IsAtEnd source.old → (result ≡ Ok HeadRead.Ended) × (source.new ≡ source.old) }
+    ensures at_end { IsAtEnd source.old → IsOkEnd result × (source.new ≡ source.old) }
+    ensures begun { (IsOkEnd result → ⊥) → HasByte source.old.feed }
+    ensures lazy { IfOk result (λ read. IsRequest read → source.new.stop ≡ source.old.stop) }
+    ensures standing { source.new.standing ≡ source.old.standing }
 {
+    if !source.has_byte() {
+        return Ok(HeadRead::Ended(cut_end(source.stop(), false)));
+    }
     let message = match read_message(alloc, source) {
         Ok(message) => message,
-        Err((version, fault)) => return refuse(alloc, version, fault, now),
+        Err((version, fault)) => {
+            let cut = cut_end(source.stop(), true);
+            return refuse(alloc, version, fault, cut, now);
+        }
     };
     let Some(framing) = framing_of(message.version, message.headers.as_slice()) else {
-        return Ok(HeadRead::Ended);
+        return Ok(HeadRead::Ended(EndOfRequests::NotServed));
     };
     if !is_built(message.version, framing) {
-        return Ok(HeadRead::Ended);
+        return Ok(HeadRead::Ended(EndOfRequests::NotServed));
     }
     match begin_body(alloc, source, framing) {
         Ok(Some(body)) => match hand_out(alloc, head_of(message, framing), body, now) {
             Ok(exchange) => Ok(HeadRead::Request(exchange)),
             Err(e) => Err(e),
         },
-        Ok(None) => Ok(HeadRead::Ended),
+        Ok(None) => Ok(HeadRead::Ended(cut_end(source.stop(), true))),
         Err(e) => Err(e),
     }
 }
 
+// Where a source stands after the head of this request.
+fn standing_of(exchange: &Exchange) -> Standing
+    ensures { result ≡ standing_of exchange.now }
+{
+    if exchange.head.is_last {
+        return Standing::Last;
+    }
+    if exchange.waiting.body.holds_reader() {
+        return Standing::Body;
+    }
+    Standing::Head
+}
+
+// Why no request comes from this standing, where the input at that standing ends for this reason.
+fn end_at(standing: Standing, why: EndOfRequests) -> EndOfRequests
+    ensures { result ≡ end_at standing why }
+{
+    match standing {
+        Standing::Lost => EndOfRequests::AbandonedBody,
+        Standing::Broken(kind) => EndOfRequests::Fault(kind),
+        _ => why,
+    }
+}
+
 /// Reads one head, and with it a body of up to 1024 bytes (RFC 9112, sections 2 to 6): a request, whose body is then read
-/// from the source; or a head that is refused; or the end. `now` dates the answer to a refused head, and the 500 of a
-/// request that is dropped. An error for want of memory. Behind anything but a request the source has ended.
+/// from the source; or a head that is refused; or the end, with its reason. `now` dates the answer to a refused head, and
+/// the 500 of a request that is dropped. An error where memory was refused. After anything but a request the source has
+/// ended, but after the last request: then nothing is read, and its body can be read on.
 ///
-/// The body of the request before has to be read to its end, or given up. No head should be read behind a request whose
-/// head `is_last`: what stands there isn't one.
+/// Bytes of a body are never read as a head. Where the body of the request before was neither read to its end nor given up
+/// the answer is `UnreadBody`, and the source ends there.
 pub fn read_head<R: ReadDevice>(
     alloc: Global,
     source: &mut Source<R>,
     now: HttpDate,
 ) -> Result<HeadRead, AllocError>
-    ensures reads { ReadsHead now source.old.feed source.new.feed result }
+    ensures reads { IsBeforeHead source.old.standing → ReadsHead source.old.standing now source.old.feed source.new.feed result }
+    ensures ends { IsBeforeHead source.old.standing → EndsUnlessHanded result source.new }
+    ensures last { source.old.standing ≡ Standing.Last → (result ≡ Ok (HeadRead.Ended EndOfRequests.LastRequest)) × (source.new ≡ source.old) }
+    ensures unread { source.old.standing ≡ Standing.Body → (result ≡ Ok (HeadRead.Ended EndOfRequests.UnreadBody)) × IsAtEnd source.new × (source.new.reader ≡ source.old.reader) }
     ensures goes_on { GoesOn source.old.feed source.new.feed }
-    // Whatever the reader tells: behind the end no head follows, and the reader isn't called.
-    ensures at_end { IsAtEnd source.old → (result ≡ Ok HeadRead.Ended) × (source.new.reader ≡ source.old.reader) }
-    ensures ends { EndsUnlessHanded result source.new }
+    // Whatever the reader states: after the end no head follows, and the reader isn't called.
+    ensures at_end { IsAtEnd source.old → IsOkEnd result × (source.new.reader ≡ source.old.reader) }
+    // Unless it is the end, a byte of a head has come: memory isn't refused in place of the end.
+    ensures begun { (IsOkEnd result → ⊥) → HasByte source.old.feed }
+    // Nothing is read ahead: the reader has not stopped within this call where it gave a request.
+    ensures lazy { IfOk result (λ read. IsRequest read → source.new.stop ≡ source.old.stop) }
+    ensures standing { source.new.standing ≡ standing_read result source.old.standing }
 {
-    match read_item(alloc, source, now) {
-        Ok(HeadRead::Request(exchange)) => Ok(HeadRead::Request(exchange)),
-        other => {
+    let standing = source.standing();
+    match standing {
+        Standing::Last => return Ok(HeadRead::Ended(EndOfRequests::LastRequest)),
+        Standing::Body => {
             source.end();
-            other
+            return Ok(HeadRead::Ended(EndOfRequests::UnreadBody));
+        }
+        Standing::Head | Standing::Lost | Standing::Broken(_) => {}
+    }
+    match read_item(alloc, source, now) {
+        Ok(HeadRead::Request(exchange)) => {
+            source.stand_at(standing_of(&exchange));
+            Ok(HeadRead::Request(exchange))
+        }
+        Ok(HeadRead::Ended(why)) => {
+            source.end();
+            Ok(HeadRead::Ended(end_at(standing, why)))
+        }
+        Ok(HeadRead::Refused { status, text, last }) => {
+            source.end();
+            Ok(HeadRead::Refused { status, text, last })
+        }
+        Err(e) => {
+            source.end();
+            Err(e)
         }
     }
 }

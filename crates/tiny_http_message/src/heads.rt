@@ -1,7 +1,7 @@
 //! The lines of a head.
-ghost use Rattle.std.specs.Prelude.{◌≡◌, None, Err};
+ghost use Rattle.std.specs.Prelude.{◌≡◌, None, Err, OnOk, IfErr};
 ghost use Rattle.tiny_http_stream.specs.Source.{GoesOn, IsAtEnd};
-ghost use Rattle.tiny_http_message.specs.HeadReads.{ReadsText, ReadsStart, ReadsField, ReadsFields, ReadsMessage, head_fault};
+ghost use Rattle.tiny_http_message.specs.HeadReads.{ReadsText, ReadsStart, ReadsField, ReadsFields, ReadsMessage, IsCutOff, head_fault};
 
 use std::alloc::Global;
 use tiny_http_stream::source::{LineFault, Source};
@@ -42,6 +42,9 @@ fn head_fault(fault: LineFault) -> HeadFault
 fn read_text<R: ReadDevice>(alloc: Global, source: &mut Source<R>) -> Result<AsciiString, HeadFault>
     ensures reads { ReadsText source.old.feed source.new.feed result }
     ensures goes_on { GoesOn source.old.feed source.new.feed }
+    ensures cut { result ≡ Err HeadFault.Cut → IsCutOff source.old source.new }
+    ensures lazy { OnOk result (source.new.stop ≡ source.old.stop) }
+    ensures standing { source.new.standing ≡ source.old.standing }
     ensures at_end { IsAtEnd source.old → (result ≡ Err HeadFault.Cut) × (source.new ≡ source.old) }
 {
     match source.read_line(alloc) {
@@ -57,6 +60,9 @@ fn read_start<R: ReadDevice>(
 ) -> Result<(Method, AsciiString, HTTPVersion), HeadFault>
     ensures reads { ReadsStart source.old.feed source.new.feed result }
     ensures goes_on { GoesOn source.old.feed source.new.feed }
+    ensures cut { result ≡ Err HeadFault.Cut → IsCutOff source.old source.new }
+    ensures lazy { OnOk result (source.new.stop ≡ source.old.stop) }
+    ensures standing { source.new.standing ≡ source.old.standing }
     ensures at_end { IsAtEnd source.old → (result ≡ Err HeadFault.Cut) × (source.new ≡ source.old) }
 {
     let text = read_text(alloc, source)?;
@@ -74,6 +80,9 @@ fn read_field<R: ReadDevice>(
 ) -> Result<Option<Header>, HeadFault>
     ensures reads { ReadsField source.old.feed source.new.feed result }
     ensures goes_on { GoesOn source.old.feed source.new.feed }
+    ensures cut { result ≡ Err HeadFault.Cut → IsCutOff source.old source.new }
+    ensures lazy { OnOk result (source.new.stop ≡ source.old.stop) }
+    ensures standing { source.new.standing ≡ source.old.standing }
 {
     let text = read_text(alloc, source)?;
     if text.is_empty() {
@@ -93,6 +102,9 @@ fn read_fields<R: ReadDevice>(
 ) -> Result<Vec<Header>, HeadFault>
     ensures reads { ReadsFields (λ hs. hs.items) source.old.feed source.new.feed result }
     ensures goes_on { GoesOn source.old.feed source.new.feed }
+    ensures cut { result ≡ Err HeadFault.Cut → IsCutOff source.old source.new }
+    ensures lazy { OnOk result (source.new.stop ≡ source.old.stop) }
+    ensures standing { source.new.standing ≡ source.old.standing }
 {
     let mut headers = Vec::new(alloc);
     loop {
@@ -115,6 +127,9 @@ pub(crate) fn read_message<R: ReadDevice>(
 ) -> Result<Message, (Option<HTTPVersion>, HeadFault)>
     ensures reads { ReadsMessage source.old.feed source.new.feed result }
     ensures goes_on { GoesOn source.old.feed source.new.feed }
+    ensures cut { IfErr result (λ e. e.1 ≡ HeadFault.Cut → IsCutOff source.old source.new) }
+    ensures lazy { OnOk result (source.new.stop ≡ source.old.stop) }
+    ensures standing { source.new.standing ≡ source.old.standing }
     ensures at_end { IsAtEnd source.old → (result ≡ Err (None, HeadFault.Cut)) × (source.new ≡ source.old) }
 {
     let (method, path, version) = match read_start(alloc, source) {

@@ -1,8 +1,10 @@
 -- Lemmas on the search for the first CR LF.
-use Rattle.std.proofs.Common.{◌≡◌, ◌≢◌, ℕ, suc, ◌+◌, ◌-◌, ◌<◌, ◌≤◌, Bool, true, false, List, [], ◌∷◌, ◌++◌, length, take, drop, refl, sym, ap, ◌∙◌, subst, arith, append_assoc, Option, Some, None, eqb-true, slice_index_or, ◌⊎◌, inl, inr, Result, Ok, Err}
+use Rattle.std.proofs.Common.{◌≡◌, ◌≢◌, ℕ, suc, ◌+◌, ◌-◌, ◌<◌, ◌≤◌, Bool, true, false, List, [], ◌∷◌, ◌++◌, length, take, drop, refl, sym, ap, ◌∙◌, subst, arith, append_assoc, append-nil, Option, Some, None, eqb-true, slice_index_or, ◌⊎◌, inl, inr, Result, Ok, Err}
 use Rattle.std.specs.Prelude.{◌==◌}
 use Rattle.std.proofs.Math.Seq.{take-suc}
-use Rattle.std.proofs.lemmas.List.{take-append-drop}
+use Rattle.std.proofs.lemmas.List.{take-append-drop, take_all, drop_all}
+use Rattle.std.proofs.lemmas.Bool.{cases_lt}
+use Rattle.tiny_http_text.specs.Lines.{has_crlf}
 use Rattle.tiny_http_device.specs.Device.{Feed, given, prepend}
 use Rattle.std.specs.Prelude.{IfOk, OnOk}
 use Rattle.tiny_http_stream.specs.declared.source.Input.{Input}
@@ -56,6 +58,18 @@ scans-end true bytes at e within b s =
       ends = rw k (take-suc bytes at 0 within ∙ rw (b, s.1) (append_assoc (take (at - 1) bytes) (13 ∷ []) (10 ∷ [])));
       first = s.2;
     }
+
+-- the flag was never followed by a line feed up to the end
+pub scans-none : (flag : Bool) (bytes : List ℕ) (at : ℕ) → length bytes ≤ at → Scans flag bytes at → has_crlf bytes ≡ false
+scans-none false bytes at le s = let P : List ℕ → Type 0 = λ x. has_crlf x ≡ false in subst P (append-nil (take at bytes) ∙ take_all at bytes le) (s.goes_on [])
+scans-none true bytes at le s = let P : List ℕ → Type 0 = λ x. has_crlf x ≡ false in subst P (sym s.1 ∙ take_all at bytes le) (s.2.goes_on [])
+
+-- where a line lies in what is held behind the bytes to be skipped, more is held than these
+pub crlf-held : (n : ℕ) (bytes : List ℕ) → has_crlf (drop n bytes) ≡ true → n < length bytes
+crlf-held n bytes h = elim (cases_lt n (length bytes)) [ inl less ↦ less | inr le ↦ absurd (none (drop_all n bytes le) h) ]
+  where
+    none : drop n bytes ≡ [] → has_crlf (drop n bytes) ≡ true → ⊥
+    none e t = let no : false ≡ true = ap has_crlf (sym e) ∙ t in cc
 
 pub not-end : {B : Type 0} (flag : Bool) → ((flag ≡ true) × B) ⊎ (flag ≡ false) → flag ≡ true → B
 not-end flag (inl p) e = p.1

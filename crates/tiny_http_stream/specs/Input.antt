@@ -1,5 +1,5 @@
 -- What an `Input` still gives.
-use Rattle.std.specs.Prelude.{◌≡◌, ◌&&◌, ◌==◌, Bool, is_some, length, [], Option, IsSome}
+use Rattle.std.specs.Prelude.{◌≡◌, ◌&&◌, ◌==◌, ℕ, Bool, is_some, List, length, drop, [], Option, IsSome}
 use Rattle.tiny_http_device.specs.Device.{Feed}
 use Rattle.tiny_http_device.specs.declared.device.Stop.{Stop}
 use Rattle.tiny_http_stream.specs.ToCome.{behind, to_come}
@@ -16,6 +16,18 @@ input_stop s = s.stop
 -- the reader inside
 abbrev pub input_reader : {R : Type 0} → Input R → R
 input_reader s = s.inner
+
+-- the bytes that are held
+abbrev pub input_held : {R : Type 0} → Input R → List ℕ
+input_held s = s.held
+
+-- how many bytes are to be skipped
+abbrev pub input_skip : {R : Type 0} → Input R → ℕ
+input_skip s = s.skip
+
+-- the bytes to be skipped are taken off, and nothing else has changed
+abbrev pub Leaves : {R : Type 0} → Input R → Input R → Type 0
+Leaves old new = new ≡ record old { held = drop old.skip old.held; skip = 0 }
 
 -- the reader has stopped, and no byte that it gave is left
 abbrev pub IsOver : {R : Type 0} → Input R → Type 0

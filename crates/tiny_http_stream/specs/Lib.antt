@@ -1,6 +1,7 @@
 pub mod Line
 pub mod ToCome
 pub mod Input
+pub mod Standing
 pub mod Source
 pub mod Outlet
 pub mod Parts

@@ -1,5 +1,5 @@
 -- What a `Source` still gives, and what its calls make of it.
-use Rattle.std.specs.Prelude.{ℕ, ◌≡◌, ◌<◌, ◌++◌, length, Bool, true, List, ⊤, Option, None, Some, Result, Ok, Err, IsSome, IfOk, IfErr, IfSome}
+use Rattle.std.specs.Prelude.{ℕ, ◌≡◌, ◌<◌, ◌++◌, length, drop, Bool, true, List, ⊤, Option, None, Some, Result, Ok, Err, IsSome, IfOk, IfErr, IfSome}
 use Rattle.std.specs.IoError.{error_kind}
 use Rattle.std.specs.declared.io.Error.{Error}
 use Rattle.std.specs.Str.{IsAscii, IsNotAscii}
@@ -7,18 +7,27 @@ use Rattle.std.specs.declared.io.ErrorKind.TheVariants.{TimedOut}
 use Rattle.tiny_http_device.specs.Device.{Feed, Reads, AnswersStop}
 use Rattle.tiny_http_device.specs.declared.device.Stop.{Stop}
 use Rattle.tiny_http_device.specs.declared.device.Stop.TheVariants.{End, Fault}
-use Rattle.tiny_http_text.specs.Lines.{Line, IsUnfinished}
+use Rattle.tiny_http_text.specs.Lines.{Line, IsUnfinished, has_crlf}
 use Rattle.tiny_http_stream.specs.ToCome.{stopped}
+use Rattle.tiny_http_stream.specs.declared.source.Standing.{Standing}
 use Rattle.tiny_http_stream.specs.declared.source.LineFault.{LineFault}
 use Rattle.tiny_http_stream.specs.declared.source.LineFault.TheVariants.{NotAscii, Broken, Memory, End as EndOfLines, TimedOut as LineTimedOut}
 
--- What a clause sees of a `Source`: what is still to come, where the reader tells it; how the reader stopped, if it has;
--- whether, behind that stop, nothing is left of what it gave; and the reader.
+-- What a clause sees of a `Source`: what is still to come, where the reader states it; how the reader stopped, if it has;
+-- whether, after that stop, nothing is left of what it gave; the reader; the bytes that are held, and how many bytes are to
+-- be skipped first; and where it stands among heads and bodies.
 pub record SourceState (R : Type 0) : Type 0 where
   pub feed : Option Feed
   pub stop : Option Stop
   pub is_over : Bool
   pub reader : R
+  pub held : List ℕ
+  pub skip : ℕ
+  pub standing : Standing
+
+-- a whole line lies in the held bytes
+abbrev pub HoldsLine : {R : Type 0} → SourceState R → Type 0
+HoldsLine s = has_crlf (drop s.skip s.held) ≡ true
 
 -- the input has ended, or was made to end, and nothing is left of it: each line from now on is the end
 abbrev pub IsAtEnd : {R : Type 0} → SourceState R → Type 0
@@ -42,7 +51,8 @@ ReadsLine (Some old) new (Err fault) = IsUnfinished old.bytes × (fault ≡ faul
 
 -- ONE READ of a source. Of its feed it is a read; and whatever the reader states: into an empty buffer it changes nothing,
 -- after an end or a fault the reader isn't called again, and a source that has reported how it stops is over: it stays so, and
--- each later read reports the same.
+-- each later read reports the same. Nothing is read ahead: where bytes came the reader hasn't stopped in this call, and where
+-- a byte was held it isn't called.
 pub record ReadsSource {R : Type 0} (old new : SourceState R) (r : Result ℕ Error) (buf : List ℕ) : Type 0 where
   pub reads : Reads old.feed new.feed r buf
   pub empty : length buf ≡ 0 → (r ≡ Ok 0) × (new ≡ old)
@@ -50,6 +60,9 @@ pub record ReadsSource {R : Type 0} (old new : SourceState R) (r : Result ℕ Er
   pub over : IfErr r (λ e. (new.is_over ≡ true) × (new.stop ≡ Some (Fault (error_kind e))))
   pub none : IfOk r (λ n. n ≡ 0 → 0 < length buf → (new.is_over ≡ true) × (new.stop ≡ Some End))
   pub stays : old.is_over ≡ true → (new ≡ old) × IfSome old.stop (λ stop. 0 < length buf → AnswersStop stop r)
+  pub lazy : IfOk r (λ n. 0 < n → new.stop ≡ old.stop)
+  pub held : old.skip < length old.held → new.reader ≡ old.reader
+  pub standing : new.standing ≡ old.standing
 
 -- the feed goes on behind this much
 abbrev pub from : Feed → List ℕ → Option Feed
@@ -59,7 +72,7 @@ from f rest = Some (record { bytes = rest; stop = f.stop })
 abbrev pub TakesExactly : {T : Type 0} → (T → List ℕ) → ℕ → Option Feed → Option Feed → Option T → Type 0
 TakesExactly items n None new r = ⊤
 TakesExactly items n (Some f) new (Some body) = (rest : List ℕ) × (f.bytes ≡ items body ++ rest) × (length (items body) ≡ n) × (new ≡ from f rest)
-TakesExactly items n (Some f) new None = length f.bytes < n
+TakesExactly items n (Some f) new None = (length f.bytes < n) × (new ≡ Some (stopped f.stop))
 
 -- only bytes at the front were taken: what is still to come is the feed from some place on
 pub record IsRestOf (old new : Feed) : Type 0 where

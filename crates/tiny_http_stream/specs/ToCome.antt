@@ -1,5 +1,5 @@
 -- What is still to come of an input, some of which is held or to be skipped.
-use Rattle.std.specs.Prelude.{ℕ, nat_le, if◌then◌else◌, List, [], length, drop, Option, None, Some}
+use Rattle.std.specs.Prelude.{◌≡◌, ℕ, nat_le, if◌then◌else◌, List, [], length, drop, Option, None, Some, ⊤}
 use Rattle.std.specs.Option.{option_map}
 use Rattle.tiny_http_device.specs.Device.{Feed, given}
 use Rattle.tiny_http_device.specs.declared.device.Stop.{Stop}
@@ -21,3 +21,13 @@ skipped n feed = if nat_le n (length feed.bytes) then record { bytes = drop n fe
 -- what is still to come, after n bytes are skipped of those that are held and those behind them
 abbrev pub to_come : ℕ → List ℕ → Option Feed → Option Feed
 to_come n held feed = option_map (skipped n) (given held feed)
+
+-- a byte is still to come, where that is told
+abbrev pub HasByte : Option Feed → Type 0
+HasByte None = ⊤
+HasByte (Some feed) = feed.bytes ≡ [] → ⊥
+
+-- no byte is still to come, where that is told
+abbrev pub HasNoByte : Option Feed → Type 0
+HasNoByte None = ⊤
+HasNoByte (Some feed) = feed.bytes ≡ []

@@ -1,11 +1,11 @@
 //! A connection's input, seen as what is still to come of it: lines and bytes through a buffer.
-ghost use Rattle.std.specs.Prelude.{◌≡◌, ◌≢◌, ℕ, true, false, vec_len, ◌*◌, ◌+◌, ◌-◌, ◌<◌, ◌≤◌, min, List, [], ◌∷◌, ◌++◌, length, take, drop, Option, None, Some, Ok, Err, IfOk, IfErr, OnOk, OnErr, IsSome, IfSome, IfNone};
+ghost use Rattle.std.specs.Prelude.{◌≡◌, ◌≢◌, ℕ, true, false, vec_len, ◌*◌, ◌+◌, ◌-◌, ◌^◌, ◌<◌, ◌≤◌, min, List, [], ◌∷◌, ◌++◌, length, take, drop, Option, None, Some, Ok, Err, IfOk, IfErr, OnOk, OnErr, IsSome, IfSome, IfNone, IsTrue};
 ghost use Rattle.std.specs.Option.{option_map};
 ghost use Rattle.std.specs.IoError.{error_kind};
 ghost use Rattle.tiny_http_device.specs.Device.{AnswersStop, given, StopsBy};
-ghost use Rattle.tiny_http_text.specs.Lines.{IsUnfinished};
+ghost use Rattle.tiny_http_text.specs.Lines.{IsUnfinished, has_crlf};
 ghost use Rattle.tiny_http_stream.specs.Line.{pending, Passed, EndsLine};
-ghost use Rattle.tiny_http_stream.specs.ToCome.{skipped, stopped};
+ghost use Rattle.tiny_http_stream.specs.ToCome.{skipped, stopped, HasByte, HasNoByte};
 
 use crate::buffer::Buffer;
 use std::alloc::{AllocError, Global};
@@ -30,11 +30,62 @@ pub enum LineFault {
     Memory,
 }
 
-/// A reader with a buffer of 1024 bytes, and a number of bytes to skip. After its first end or fault the reader isn't
-/// called again.
+/// Where a source stands among the heads and bodies of its connection.
+#[derive(Clone, Copy, Debug, PartialEq, Eq)]
+pub enum Standing {
+    /// A head comes next.
+    Head,
+    /// The rest of a body comes next. A head follows once that was read or given up.
+    Body,
+    /// The last request's head was read: its body may come next, and no head follows.
+    Last,
+    /// A chunked body was given up before its end was read, so where a head would begin isn't known.
+    Lost,
+    /// A body broke off by this fault.
+    Broken(ErrorKind),
+}
+
+impl Standing {
+    ghost use Rattle.tiny_http_stream.specs.Standing.{after_body, after_fault, after_loss};
+
+    /// The standing after a body that was read or given up whole.
+    pub fn after_body(self) -> Standing
+        ensures { result ≡ after_body self }
+    {
+        match self {
+            Standing::Body => Standing::Head,
+            standing => standing,
+        }
+    }
+
+    /// The standing after a body that broke off by this fault.
+    pub fn after_fault(self, kind: ErrorKind) -> Standing
+        ensures { result ≡ after_fault kind self }
+    {
+        match self {
+            Standing::Body => Standing::Broken(kind),
+            standing => standing,
+        }
+    }
+
+    /// The standing after a chunked body that was given up before its end was read.
+    pub fn after_loss(self) -> Standing
+        ensures { result ≡ after_loss self }
+    {
+        match self {
+            Standing::Body => Standing::Lost,
+            standing => standing,
+        }
+    }
+}
+
+/// A reader with a buffer of 1024 bytes, a number of bytes to skip, and its standing among the requests. After its first end or
+/// fault the reader isn't called again. It is called only where the buffer is empty: nothing is read ahead of what is asked
+/// for but what one call of the reader gives.
 #[derive(Drop)]
 pub struct Source<R: ReadDevice> {
     input: Input<R>,
+    standing: Standing,
 }
 
 impl<R: ReadDevice> Model for Source<R> {
@@ -42,30 +93,72 @@ impl<R: ReadDevice> Model for Source<R> {
 
     ghost Value = { SourceState R };
 
-    ghost use Rattle.tiny_http_stream.specs.Input.{input_feed, input_stop, input_reader, is_input_over};
+    ghost use Rattle.tiny_http_stream.specs.Input.{input_feed, input_stop, input_reader, input_held, input_skip, is_input_over};
 
-    ghost view = { λ s. record { feed = input_feed R.feed s.input; stop = input_stop s.input; is_over = is_input_over s.input; reader = input_reader s.input } };
+    ghost view = { λ s. record { feed = input_feed R.feed s.input; stop = input_stop s.input; is_over = is_input_over s.input; reader = input_reader s.input; held = input_held s.input; skip = input_skip s.input; standing = s.standing } };
 }
 
 impl<R: ReadDevice> Source<R> {
-    ghost use Rattle.tiny_http_stream.specs.Source.{fault_of, ReadsLine, ReadsSource, TakesExactly, GoesOn, IsAtEnd};
+    ghost use Rattle.tiny_http_stream.specs.Source.{fault_of, ReadsLine, ReadsSource, TakesExactly, GoesOn, IsAtEnd, HoldsLine};
 
-    /// A source over this reader.
+    /// A source over this reader. A head comes first.
     pub fn new(inner: R) -> Source<R>
         ensures feed { result.feed ≡ R.feed inner }
         ensures stop { result.stop ≡ None }
         ensures reader { result.reader ≡ inner }
+        ensures held { (result.held ≡ []) × (result.skip ≡ 0) }
+        ensures standing { result.standing ≡ Standing.Head }
     {
         Source {
             input: Input::new(inner),
+            standing: Standing::Head,
         }
     }
 
-    /// Skips n bytes more, before the next line or read. Where fewer are left the input ends.
+    /// Where the source stands.
+    pub fn standing(&self) -> Standing
+        ensures { result ≡ self.now.standing }
+    {
+        self.standing
+    }
+
+    /// Says where the source stands from now on; for the crates above, which read heads and bodies from it.
+    pub fn stand_at(&mut self, standing: Standing)
+        ensures { self.new ≡ record self.old { standing = standing } }
+    {
+        self.standing = standing;
+    }
+
+    /// How the reader stopped, if it has.
+    pub fn stop(&self) -> Option<Stop>
+        ensures stop { result ≡ self.now.stop }
+        ensures over { self.now.is_over ≡ true → IsSome result × IfSome result (λ stop. StopsBy stop self.now.feed) }
+    {
+        self.input.stop()
+    }
+
+    /// Whether a byte is still to come. It waits for one, or for the end.
+    pub fn has_byte(&mut self) -> bool
+        ensures some { IsTrue result → HasByte self.old.feed × (self.new.stop ≡ self.old.stop) }
+        ensures none { result ≡ false → HasNoByte self.old.feed × (self.new.is_over ≡ true) }
+        ensures feed { self.new.feed ≡ self.old.feed }
+        // After an end or a fault the reader isn't called again; nor where a byte is held.
+        ensures once { IsSome self.old.stop → IsSome self.new.stop × (self.new.reader ≡ self.old.reader) }
+        ensures held { self.old.skip < length self.old.held → self.new.reader ≡ self.old.reader }
+        ensures stays { self.old.is_over ≡ true → (result ≡ false) × (self.new ≡ self.old) }
+        ensures standing { self.new.standing ≡ self.old.standing }
+    {
+        self.input.has_byte()
+    }
+
+    /// Skips n bytes more, before the next line or read. Where fewer are left the input ends. The reader isn't called, but
+    /// where 2^64 bytes and more are to be skipped together.
     pub fn skip(&mut self, n: usize)
         ensures feed { self.new.feed ≡ option_map (skipped n) self.old.feed }
+        ensures alone { self.old.skip + n < 2 ^ 64 → (self.new.reader ≡ self.old.reader) × (self.new.stop ≡ self.old.stop) }
         // After an end or a fault the reader isn't called again.
         ensures once { IsSome self.old.stop → IsSome self.new.stop × (self.new.reader ≡ self.old.reader) }
+        ensures standing { self.new.standing ≡ self.old.standing }
     {
         self.input.skip(n)
     }
@@ -75,6 +168,7 @@ impl<R: ReadDevice> Source<R> {
         ensures feed { self.new.feed ≡ option_map (λ _. stopped Stop.End) self.old.feed }
         ensures at_end { IsAtEnd self.new }
         ensures reader { self.new.reader ≡ self.old.reader }
+        ensures standing { self.new.standing ≡ self.old.standing }
     {
         self.input.end()
     }
@@ -92,6 +186,10 @@ impl<R: ReadDevice> Source<R> {
         ensures stop { IfErr result (λ fault. fault ≢ LineFault.NotAscii → fault ≢ LineFault.Memory → IfSome self.new.stop (λ stop. fault ≡ fault_of stop)) }
         // A source that is over stays so, and each line is its stop.
         ensures stays { self.old.is_over ≡ true → (self.new ≡ self.old) × IfSome self.old.stop (λ stop. result ≡ Err (fault_of stop)) }
+        // Nothing is read ahead: for a whole line the reader was called while the line went on, and not where it is held.
+        ensures lazy { OnOk result (self.new.stop ≡ self.old.stop) }
+        ensures held { HoldsLine self.old → self.new.reader ≡ self.old.reader }
+        ensures standing { self.new.standing ≡ self.old.standing }
     {
         self.input.read_line(alloc)
     }
@@ -103,12 +201,18 @@ impl<R: ReadDevice> Source<R> {
         self.input.read(buf)
     }
 
-    /// Takes n bytes; or answers `None` where fewer are left, all of which are taken, and then the source is over. An error where there is no memory for
-    /// them.
+    /// Takes n bytes; or answers `None` where fewer are left, all of which are taken, and then the source is over. An error
+    /// where there is no memory for them; then nothing has changed.
     pub fn take_exactly(&mut self, alloc: Global, n: usize) -> Result<Option<Vec<u8>>, AllocError>
         ensures takes { IfOk result (λ body. TakesExactly (λ v. v.items) n self.old.feed self.new.feed body) }
         ensures over { IfOk result (λ body. body ≡ None → self.new.is_over ≡ true) }
+        ensures err { OnErr result (self.new ≡ self.old) }
+        // After an end or a fault the reader isn't called again; nor where the bytes are held. Nothing is read ahead.
+        ensures once { IsSome self.old.stop → IsSome self.new.stop × (self.new.reader ≡ self.old.reader) }
+        ensures lazy { IfOk result (λ body. IsSome body → self.new.stop ≡ self.old.stop) }
+        ensures held { self.old.skip + n ≤ length self.old.held → self.new.reader ≡ self.old.reader }
         ensures goes_on { GoesOn self.old.feed self.new.feed }
+        ensures standing { self.new.standing ≡ self.old.standing }
     {
         self.input.take_exactly(alloc, n)
     }
@@ -155,13 +259,14 @@ struct Input<R> {
 }
 
 impl<R: ReadDevice> Input<R> {
-    ghost use Rattle.tiny_http_stream.specs.Input.{input_feed, input_stop, input_reader, IsOver};
+    ghost use Rattle.tiny_http_stream.specs.Input.{input_feed, input_stop, input_reader, input_held, input_skip, IsOver, Leaves};
     ghost use Rattle.tiny_http_stream.specs.Source.{fault_of, ReadsLine, TakesExactly, GoesOn};
 
     pub fn new(inner: R) -> Input<R>
         ensures feed { input_feed R.feed result ≡ R.feed inner }
         ensures stop { input_stop result ≡ None }
         ensures reader { input_reader result ≡ inner }
+        ensures held { (input_held result ≡ []) × (input_skip result ≡ 0) }
     {
         Input {
             inner,
@@ -169,6 +274,27 @@ impl<R: ReadDevice> Input<R> {
             skip: 0,
             stop: None,
         }
+    }
+
+    /// How the reader stopped, if it has.
+    pub fn stop(&self) -> Option<Stop>
+        ensures stop { result ≡ input_stop self.now }
+        ensures over { IsOver self.now → IsSome result × IfSome result (λ stop. StopsBy stop (input_feed R.feed self.now)) }
+    {
+        self.stop
+    }
+
+    /// Whether a byte is still to come.
+    pub fn has_byte(&mut self) -> bool
+        ensures some { IsTrue result → HasByte (input_feed R.feed self.old) × (input_stop self.new ≡ input_stop self.old) }
+        ensures none { result ≡ false → HasNoByte (input_feed R.feed self.old) × IsOver self.new }
+        ensures feed { input_feed R.feed self.new ≡ input_feed R.feed self.old }
+        ensures once { IsSome (input_stop self.old) → IsSome (input_stop self.new) × (input_reader self.new ≡ input_reader self.old) }
+        ensures held { input_skip self.old < length (input_held self.old) → input_reader self.new ≡ input_reader self.old }
+        ensures stays { IsOver self.old → (result ≡ false) × (self.new ≡ self.old) }
+    {
+        self.fill();
+        !self.held.is_empty()
     }
 
     // Takes off what is held of the bytes to be skipped.
@@ -203,9 +329,11 @@ impl<R: ReadDevice> Input<R> {
         ensures feed { input_feed R.feed self.new ≡ input_feed R.feed self.old }
         ensures skip { self.new.skip ≡ 0 }
         ensures over { self.new.held ≡ [] → IsSome self.new.stop }
-        // After an end or a fault the reader isn't called again.
+        // After an end or a fault the reader isn't called again; nor where a byte is held.
         ensures once { IsSome (input_stop self.old) → IsSome (input_stop self.new) × (input_reader self.new ≡ input_reader self.old) }
         ensures stays { IsOver self.old → self.new ≡ self.old }
+        ensures lazy { 0 < length self.new.held → input_stop self.new ≡ input_stop self.old }
+        ensures held { input_skip self.old < length (input_held self.old) → Leaves self.old self.new }
     {
         self.pass();
         while self.stop.is_none() && self.held.is_empty() {
@@ -229,6 +357,8 @@ impl<R: ReadDevice> Input<R> {
             × IfSome (input_stop self.new) (λ stop. (fault ≡ fault_of stop) × StopsBy stop (input_feed R.feed self.new))) }
         ensures once { IsSome (input_stop self.old) → IsSome (input_stop self.new) × (input_reader self.new ≡ input_reader self.old) }
         ensures stays { IsOver self.old → (self.new ≡ self.old) × IfSome (input_stop self.old) (λ stop. result ≡ Err (fault_of stop)) }
+        ensures lazy { OnOk result (input_stop self.new ≡ input_stop self.old) }
+        ensures held { has_crlf (drop (input_skip self.old) (input_held self.old)) ≡ true → input_reader self.new ≡ input_reader self.old }
     {
         self.fill();
         match line_end(self.held.as_slice()) {
@@ -243,6 +373,7 @@ impl<R: ReadDevice> Input<R> {
         ensures text { IfOk result (λ text. text.items ≡ take n self.old.held) }
         ensures rest { OnOk result (self.new ≡ record self.old { held = drop (n + 2) self.old.held }) }
         ensures err { IfErr result (λ fault. (fault ≡ LineFault.Memory) × (self.new ≡ self.old)) }
+        ensures reader { input_reader self.new ≡ input_reader self.old }
     {
         let Ok(text) = self.held.as_slice()[..n].to_vec(alloc) else {
             return Err(LineFault::Memory);
@@ -262,6 +393,7 @@ impl<R: ReadDevice> Input<R> {
             × IfSome (input_stop self.new) (λ stop. (fault ≡ fault_of stop) × StopsBy stop (input_feed R.feed self.new))) }
         ensures once { IsSome (input_stop self.old) → IsSome (input_stop self.new) × (input_reader self.new ≡ input_reader self.old) }
         ensures stays { IsOver self.old → (self.new ≡ self.old) × IfSome (input_stop self.old) (λ stop. result ≡ Err (fault_of stop)) }
+        ensures lazy { OnOk result (input_stop self.new ≡ input_stop self.old) }
     {
         let mut text = Vec::new(alloc);
         let mut after_return = false;
@@ -296,6 +428,8 @@ impl<R: ReadDevice> Input<R> {
         ensures memory { IfErr result (λ fault. fault ≡ LineFault.Memory → input_stop self.new ≡ Some Stop.End) }
         ensures stop { IfErr result (λ fault. fault ≢ LineFault.NotAscii → fault ≢ LineFault.Memory → IfSome (input_stop self.new) (λ stop. fault ≡ fault_of stop)) }
         ensures stays { IsOver self.old → (self.new ≡ self.old) × IfSome (input_stop self.old) (λ stop. result ≡ Err (fault_of stop)) }
+        ensures lazy { OnOk result (input_stop self.new ≡ input_stop self.old) }
+        ensures held { has_crlf (drop (input_skip self.old) (input_held self.old)) ≡ true → input_reader self.new ≡ input_reader self.old }
     {
         match self.read_text(alloc) {
             Ok(text) => match AsciiString::from_ascii(text) {
@@ -310,16 +444,20 @@ impl<R: ReadDevice> Input<R> {
         }
     }
 
-    /// Takes n bytes, or none where fewer are left: then the input is over.
+    /// Takes n bytes, or none where fewer are left: then the input is over. Without memory for them nothing has changed.
     pub fn take_exactly(&mut self, alloc: Global, n: usize) -> Result<Option<Vec<u8>>, AllocError>
         ensures takes { IfOk result (λ body. TakesExactly (λ v. v.items) n (input_feed R.feed self.old) (input_feed R.feed self.new) body) }
         ensures over { IfOk result (λ body. body ≡ None → IsOver self.new) }
+        ensures err { OnErr result (self.new ≡ self.old) }
+        ensures once { IsSome (input_stop self.old) → IsSome (input_stop self.new) × (input_reader self.new ≡ input_reader self.old) }
+        ensures lazy { IfOk result (λ body. IsSome body → input_stop self.new ≡ input_stop self.old) }
+        ensures held { input_skip self.old + n ≤ length (input_held self.old) → input_reader self.new ≡ input_reader self.old }
         ensures goes_on { GoesOn (input_feed R.feed self.old) (input_feed R.feed self.new) }
     {
-        let mut body = Vec::new(alloc);
+        let mut body = Vec::with_capacity(alloc, n)?;
         while body.len() < n {
             match self.pop_byte() {
-                Some(b) => body.push(b)?,
+                Some(b) => body.push_reserved(b),
                 None => return Ok(None),
             }
         }
@@ -340,6 +478,7 @@ impl<R: ReadDevice> Input<R> {
     /// Skips n bytes more, before the next line or read. Where fewer are left the input ends.
     pub fn skip(&mut self, n: usize)
         ensures feed { input_feed R.feed self.new ≡ option_map (skipped n) (input_feed R.feed self.old) }
+        ensures alone { input_skip self.old + n < 2 ^ 64 → (input_reader self.new ≡ input_reader self.old) × (input_stop self.new ≡ input_stop self.old) }
         // After an end or a fault the reader isn't called again.
         ensures once { IsSome (input_stop self.old) → IsSome (input_stop self.new) × (input_reader self.new ≡ input_reader self.old) }
     {
@@ -360,6 +499,9 @@ impl<R: ReadDevice> Input<R> {
         ensures stop { IfNone result (IfSome (input_stop self.new) (λ stop. StopsBy stop (input_feed R.feed self.old))) }
         ensures once { IsSome (input_stop self.old) → IsSome (input_stop self.new) × (input_reader self.new ≡ input_reader self.old) }
         ensures stays { IsOver self.old → (result ≡ None) × (self.new ≡ self.old) }
+        ensures lazy { IsSome result → input_stop self.new ≡ input_stop self.old }
+        ensures held { input_skip self.old < length (input_held self.old) → (input_reader self.new ≡ input_reader self.old) × (input_skip self.new ≡ 0)
+            × (length (input_held self.new) + input_skip self.old + 1 ≡ length (input_held self.old)) }
     {
         self.fill();
         self.held.pop()
@@ -379,6 +521,8 @@ impl<R: ReadDevice> Input<R> {
         ensures none { IfOk result (λ n. n ≡ 0 → 0 < length buf.new → IsOver self.new × (input_stop self.new ≡ Some Stop.End)) }
         ensures kind { IfErr result (λ e. input_stop self.new ≡ Some (Stop.Fault (error_kind e))) }
         ensures stays { IsOver self.old → (self.new ≡ self.old) × IfSome (input_stop self.old) (λ stop. 0 < length buf.new → AnswersStop stop result) }
+        ensures lazy { IfOk result (λ n. 0 < n → input_stop self.new ≡ input_stop self.old) }
+        ensures held { input_skip self.old < length (input_held self.old) → input_reader self.new ≡ input_reader self.old }
     {
         if buf.is_empty() {
             return Ok(0);
@@ -395,7 +539,8 @@ impl<R: ReadDevice> Input<R> {
 
 // Where the first CR LF begins.
 fn line_end(bytes: &[u8]) -> Option<usize>
-    ensures { IfSome result (EndsLine bytes.now) }
+    ensures some { IfSome result (EndsLine bytes.now) }
+    ensures none { IfNone result (has_crlf bytes.now ≡ false) }
 {
     let mut returned = false;
     let mut at = 0;

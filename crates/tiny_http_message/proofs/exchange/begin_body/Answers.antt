@@ -1,4 +1,6 @@
-use Rattle.std.proofs.Common.{rules, ap, ◌∙◌, ℕ, drop}
+use Rattle.std.proofs.Common.{rules, refl, subst, ap, ◌∙◌, ℕ, List, Option, None, drop}
+use Rattle.tiny_http_wire.specs.Device.{Feed}
+use Rattle.tiny_http_stream.specs.Source.{TakesExactly}
 use Rattle.std.specs.Global.{Vec}
 use Rattle.std.specs.Io.Cursor.{cursor_inner}
 use Rattle.tiny_http_message.proofs.HeadServing.{begins-rest, begins-nothing, begins-counted, begins-chunked, begins-held, begins-cut}
@@ -26,3 +28,12 @@ pub returns-in-Ok-None-clause-begins : goal.returns-in-Ok-None-clause-begins
 returns-in-Ok-None-clause-begins g c =
     let taken = rw c.in-Ok-None.field-0-is at c.in-Ok-None.ensures in
     begins-cut c.args.framing c.args.source.now.feed c.take_exactly.new.self.feed c.unwrap_or-length.result (search rules) (search rules) taken.takes
+
+pub returns-in-Ok-None-clause-cut : goal.returns-in-Ok-None-clause-cut
+returns-in-Ok-None-clause-cut g c none =
+    let taken = rw c.in-Ok-None.field-0-is at c.in-Ok-None.ensures in
+    let items : Vec ℕ → List ℕ = λ v. v.items in
+    record {
+      over = taken.over refl;
+      left = λ f e. let P : Option Feed → Type 0 = λ o. TakesExactly items c.unwrap_or-length.result o c.take_exactly.new.self.feed None in (subst P e taken.takes).1;
+    }

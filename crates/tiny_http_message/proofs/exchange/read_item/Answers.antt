@@ -1,38 +1,79 @@
-use Rattle.std.proofs.Common.{rules}
-use Rattle.tiny_http_message.proofs.HeadServing.{head-refused, head-unframed, head-unbuilt, head-cut, head-handed}
+use Rattle.std.proofs.Common.{rules, refl, sym, ap, ◌∙◌, subst, true, Option, Ok}
+use Rattle.tiny_http_wire.specs.Device.{Feed}
+use Rattle.tiny_http_stream.specs.Source.{GoesOn}
+use Rattle.tiny_http_stream.specs.declared.source.Standing.TheVariants as at
+use Rattle.tiny_http_message.specs.declared.exchange.HeadRead.TheVariants as read
+use Rattle.tiny_http_message.specs.declared.exchange.EndOfRequests.TheVariants as because
+use Rattle.tiny_http_message.specs.HeadReads.{ReadsHead, cut_end}
+use Rattle.tiny_http_message.proofs.HeadServing.{head-closed, head-refused, head-unframed, head-unbuilt, head-cut, head-handed, cut-reason, begun-is}
 use Rattle.tiny_http_stream.proofs.GoingOn.{goes-on_more}
 use Rattle.tiny_http_message.proofs.exchange.read_item.Goals as goal
 
+pub returns-then-not-has_byte-clause-reads : goal.returns-then-not-has_byte-clause-reads
+returns-then-not-has_byte-clause-reads g c =
+    let first = c.if-not-has_byte.ensures in
+    head-closed c.args.now c.args.source.now.feed c.has_byte.new.self c.stop.result c.cut_end.result (first.none refl).0 first.feed (first.none refl).1 c.stop.ensures.over c.cut_end.ensures
+
 pub returns-in-Err-clause-reads : goal.returns-in-Err-clause-reads
-returns-in-Err-clause-reads g c = head-refused _ _ _ c.in-Err.version c.in-Err.fault c.refuse.result c.in-Err.ensures.reads c.refuse.ensures
+returns-in-Err-clause-reads g c =
+    let first = c.has_byte in
+    let mid = first.new.self in
+    let new = c.read_message.new.source in
+    let P : Option Feed → Type 0 = λ o. ReadsHead at.Head c.args.now o new.feed c.refuse.result in
+    subst P first.ensures.feed
+    (head-refused c.args.now mid.feed new.feed c.in-Err.version c.in-Err.fault c.cut_end-cut.result c.refuse.result c.in-Err.ensures.reads c.refuse.ensures
+    (λ f e cut. cut-reason mid new c.stop-in-Err.result true c.cut_end-cut.result f e (c.in-Err.ensures.cut cut) c.stop-in-Err.ensures.over c.cut_end-cut.ensures
+    ∙ ap (cut_end f.stop) (begun-is c.args.source.now.feed f (sym first.ensures.feed ∙ e) (c.if-not-has_byte.ensures.some refl).0)))
 
 pub returns-in_default-clause-reads : goal.returns-in_default-clause-reads
-returns-in_default-clause-reads g c = head-unframed _ _ _ c.in-Ok.message c.in-Ok.ensures.reads (search (rules, c.as_slice.ensures.value, c.framing_of.ensures))
+returns-in_default-clause-reads g c =
+    let P : Option Feed → Type 0 = λ o. ReadsHead at.Head c.args.now o c.read_message.new.source.feed (Ok (read.Ended because.NotServed)) in
+    subst P c.has_byte.ensures.feed (head-unframed _ _ _ c.in-Ok.message c.in-Ok.ensures.reads (search (rules, c.as_slice.ensures.value, c.framing_of.ensures)))
 
 pub returns-then-not-is_built-clause-reads : goal.returns-then-not-is_built-clause-reads
 returns-then-not-is_built-clause-reads g c =
-    head-unbuilt _ _ _ c.in-Ok.message c.in-Some.framing c.in-Ok.ensures.reads (search (rules, c.as_slice.ensures.value, c.in-Some.ensures)) (search (rules, c.if-not-is_built.ensures))
+    let P : Option Feed → Type 0 = λ o. ReadsHead at.Head c.args.now o c.read_message.new.source.feed (Ok (read.Ended because.NotServed)) in
+    subst P c.has_byte.ensures.feed
+    (head-unbuilt _ _ _ c.in-Ok.message c.in-Some.framing c.in-Ok.ensures.reads (search (rules, c.as_slice.ensures.value, c.in-Some.ensures)) (search (rules, c.if-not-is_built.ensures)))
 
 pub returns-in-Ok-hand_out-clause-reads : goal.returns-in-Ok-hand_out-clause-reads
 returns-in-Ok-hand_out-clause-reads g c =
     let taken = rw c.in-Ok-Some.field-0-is at c.in-Ok-Some.ensures in
     let y = c.in-Ok-hand_out.ensures in
-    head-handed _ _ _ _ c.in-Ok.message c.in-Some.framing c.head_of.result c.in-Ok-Some.body c.in-Ok-hand_out.exchange c.head_of.ensures.message c.head_of.ensures.framing c.in-Ok.ensures.reads
-    (search (rules, c.as_slice.ensures.value, c.in-Some.ensures)) (search (rules, c.if-not-is_built.ensures)) taken.begins y.0 y.1 y.2
+    let P : Option Feed → Type 0 = λ o. ReadsHead at.Head c.args.now o c.begin_body.new.source.feed (Ok (read.Request c.in-Ok-hand_out.exchange)) in
+    subst P c.has_byte.ensures.feed
+    (head-handed _ _ _ _ c.in-Ok.message c.in-Some.framing c.head_of.result c.in-Ok-Some.body c.in-Ok-hand_out.exchange c.head_of.ensures.message c.head_of.ensures.framing c.in-Ok.ensures.reads
+    (search (rules, c.as_slice.ensures.value, c.in-Some.ensures)) (search (rules, c.if-not-is_built.ensures)) taken.begins y.0 y.1 y.2)
 
 pub returns-in-Ok-None-clause-reads : goal.returns-in-Ok-None-clause-reads
 returns-in-Ok-None-clause-reads g c =
     let taken = rw c.in-Ok-None.field-0-is at c.in-Ok-None.ensures in
-    head-cut _ _ _ _ c.in-Ok.message c.in-Some.framing c.in-Ok.ensures.reads (search (rules, c.as_slice.ensures.value, c.in-Some.ensures)) taken.begins
+    let P : Option Feed → Type 0 = λ o. ReadsHead at.Head c.args.now o c.begin_body.new.source.feed (Ok (read.Ended c.cut_end-in-Ok-None.result)) in
+    subst P c.has_byte.ensures.feed
+    (head-cut _ _ _ _ c.in-Ok.message c.in-Some.framing c.cut_end-in-Ok-None.result c.in-Ok.ensures.reads (search (rules, c.as_slice.ensures.value, c.in-Some.ensures)) taken.begins
+    (λ x e. cut-reason c.read_message.new.source c.begin_body.new.source c.stop-in-Ok-None.result true c.cut_end-in-Ok-None.result x e (taken.cut refl) c.stop-in-Ok-None.ensures.over c.cut_end-in-Ok-None.ensures))
 
 pub returns-in-Ok-hand_out-clause-goes_on : goal.returns-in-Ok-hand_out-clause-goes_on
-returns-in-Ok-hand_out-clause-goes_on g c = goes-on_more _ _ _ c.in-Ok.ensures.goes_on c.begin_body.ensures.goes_on
+returns-in-Ok-hand_out-clause-goes_on g c =
+    let P : Option Feed → Type 0 = λ o. GoesOn o c.begin_body.new.source.feed in
+    subst P c.has_byte.ensures.feed (goes-on_more _ _ _ c.in-Ok.ensures.goes_on c.begin_body.ensures.goes_on)
 
 pub returns-in-Err-hand_out-clause-goes_on : goal.returns-in-Err-hand_out-clause-goes_on
-returns-in-Err-hand_out-clause-goes_on g c = goes-on_more _ _ _ c.in-Ok.ensures.goes_on c.begin_body.ensures.goes_on
+returns-in-Err-hand_out-clause-goes_on g c =
+    let P : Option Feed → Type 0 = λ o. GoesOn o c.begin_body.new.source.feed in
+    subst P c.has_byte.ensures.feed (goes-on_more _ _ _ c.in-Ok.ensures.goes_on c.begin_body.ensures.goes_on)
 
 pub returns-in-Ok-None-clause-goes_on : goal.returns-in-Ok-None-clause-goes_on
-returns-in-Ok-None-clause-goes_on g c = goes-on_more _ _ _ c.in-Ok.ensures.goes_on c.begin_body.ensures.goes_on
+returns-in-Ok-None-clause-goes_on g c =
+    let P : Option Feed → Type 0 = λ o. GoesOn o c.begin_body.new.source.feed in
+    subst P c.has_byte.ensures.feed (goes-on_more _ _ _ c.in-Ok.ensures.goes_on c.begin_body.ensures.goes_on)
 
 pub returns-in-Err-begin_body-clause-goes_on : goal.returns-in-Err-begin_body-clause-goes_on
-returns-in-Err-begin_body-clause-goes_on g c = goes-on_more _ _ _ c.in-Ok.ensures.goes_on c.begin_body.ensures.goes_on
+returns-in-Err-begin_body-clause-goes_on g c =
+    let P : Option Feed → Type 0 = λ o. GoesOn o c.begin_body.new.source.feed in
+    subst P c.has_byte.ensures.feed (goes-on_more _ _ _ c.in-Ok.ensures.goes_on c.begin_body.ensures.goes_on)
+
+pub returns-in-Ok-hand_out-clause-lazy : goal.returns-in-Ok-hand_out-clause-lazy
+returns-in-Ok-hand_out-clause-lazy g c is =
+    let taken = rw c.in-Ok-Some.field-0-is at c.in-Ok-Some.ensures in
+    taken.lazy refl ∙ c.in-Ok.ensures.lazy ∙ (c.if-not-has_byte.ensures.some refl).1

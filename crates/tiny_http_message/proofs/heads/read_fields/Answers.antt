@@ -1,4 +1,4 @@
-use Rattle.std.proofs.Common.{rules, ◌≡◌, true}
+use Rattle.std.proofs.Common.{rules, ◌≡◌, refl, ◌∙◌, true}
 use Rattle.std.specs.Result.{is_ok}
 use Rattle.tiny_http_message.proofs.HeadReading.{fields-none, fields-more}
 use Rattle.tiny_http_stream.proofs.GoingOn.{goes-on_same, goes-on_more}
@@ -8,6 +8,8 @@ pub loop-header-init : goal.loop-header-init
 loop-header-init g c = record {
   fields = rw c.new-headers.ensures.items (fields-none c.args.source.now.feed);
   goes_on = goes-on_same c.args.source.now.feed;
+  lazy = refl;
+  standing = refl;
 }
 
 pub loop-header-preserved : goal.loop-header-preserved
@@ -17,6 +19,8 @@ loop-header-preserved g c =
     record {
       fields = rw (c.push.ensures.items, ok) (fields-more _ c.loop-header.source.feed _ c.loop-header.headers.items c.in-Ok-Some.header c.loop-header.invariant.fields read.reads);
       goes_on = goes-on_more _ _ _ c.loop-header.invariant.goes_on read.goes_on;
+      lazy = read.lazy ∙ c.loop-header.invariant.lazy;
+      standing = read.standing ∙ c.loop-header.invariant.standing;
     }
 
 pub returns-then-is_err-clause-goes_on : goal.returns-then-is_err-clause-goes_on

@@ -1,8 +1,8 @@
-use Rattle.std.proofs.Common.{refl, ◌∙◌, false}
+use Rattle.std.proofs.Common.{refl, ◌∙◌, None}
 use Rattle.tiny_http_core.proofs.DriverLemmas.{viewed, begins}
 use Rattle.tiny_http_core.proofs.driver.Connection.new.Goals as goal
 
 pub returns-clause-begins : goal.returns-clause-begins
 returns-clause-begins g c client tells fresh =
-    begins client (g.W.WriteDevice.sink c.args.writer) c.args.writer (viewed c.new.result c.new-2.result c.new-3.result false false)
-    c.new-3.ensures.marks c.new-3.ensures.requests refl refl (c.new.ensures.feed ∙ tells) c.new.ensures.stop (rw (← c.new-2.ensures.tells, ← c.new-2.ensures.writer, ← c.new-2.ensures.held, ← c.new-2.ensures.open) refl) fresh
+    begins client (g.W.WriteDevice.sink c.args.writer) c.args.writer (viewed c.new.result c.new-2.result c.new-3.result None)
+    c.new-3.ensures.marks c.new-3.ensures.requests c.new.ensures.standing refl (c.new.ensures.feed ∙ tells) c.new.ensures.stop (rw (← c.new-2.ensures.tells, ← c.new-2.ensures.writer, ← c.new-2.ensures.held, ← c.new-2.ensures.open) refl) fresh

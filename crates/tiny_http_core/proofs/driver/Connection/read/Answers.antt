@@ -25,45 +25,45 @@ pub returns-in_default : goal.returns-in_default
 returns-in_default g c =
     let n = c.args.number in
     let q = c.self.inside in
-    let old = viewed q.source q.outlet q.pending q.over q.ended in
+    let old = viewed q.source q.outlet q.pending q.end in
     record {
       step = λ date. rw (← c.self.view_is) (takes-read old old date n c.args.count NoSuch
-          (λ client before s st. no-such client before (kept old) s date n (Read n c.args.count) refl (read-not_taken n c.args.count) st (sym c.form_at.ensures ∙ c.in_default.is)) (stays old));
+          (λ client before s st. no-such client before (kept old) s date n (Read n c.args.count) refl (read-not_taken n c.args.count) st (sym c.form_at.ensures ∙ c.in_default.is)) (λ no. refl) refl (stays old));
     }
 
 pub returns-then-count-eq0 : goal.returns-then-count-eq0
 returns-then-count-eq0 g c =
     let n = c.args.number in
     let q = c.self.inside in
-    let old = viewed q.source q.outlet q.pending q.over q.ended in
+    let old = viewed q.source q.outlet q.pending q.end in
     let k : Kept = kept old in
     record {
       step = λ date. rw (← c.self.view_is) (takes-read old old date n c.args.count (Given c.new.result.items)
           (λ client before s st.
           let w = form-some (slice_get k.requests n) c.in-Some.field-0 (sym c.form_at.ensures ∙ c.in-Some.is) in
           let P : List ℕ → Type 0 = λ l. Answered client before k s date (Read n c.args.count) (Given l) in
-          subst P (none _ (search rules)) (read-none client before k s date n c.args.count w.0 st w.1 c.if-count-eq0.true)) (stays old));
+          subst P (none _ (search rules)) (read-none client before k s date n c.args.count w.0 st w.1 c.if-count-eq0.true)) (λ no. refl) refl (stays old));
     }
 
 pub returns-in_default-zeros : goal.returns-in_default-zeros
 returns-in_default-zeros g c =
     let n = c.args.number in
     let q = c.self.inside in
-    let old = viewed q.source q.outlet q.pending q.over q.ended in
+    let old = viewed q.source q.outlet q.pending q.end in
     let k : Kept = kept old in
     record {
       step = λ date. rw (← c.self.view_is) (takes-read old old date n c.args.count Memory
           (λ client before s st.
           let w = form-some (slice_get k.requests n) c.in-Some.field-0 (sym c.form_at.ensures ∙ c.in-Some.is) in
-          read-memory client before k s date n c.args.count w.0 st w.1 (omega (arith, c.if-count-eq0.false))) (stays old));
+          read-memory client before k s date n c.args.count w.0 st w.1 (omega (arith, c.if-count-eq0.false))) (λ no. refl) refl (stays old));
     }
 
 pub returns : goal.returns
 returns g c =
     let n = c.args.number in
     let q = c.self.inside in
-    let old = viewed q.source q.outlet q.pending q.over q.ended in
-    let new = viewed c.fill.new.source q.outlet c.fill.new.self q.over q.ended in
+    let old = viewed q.source q.outlet q.pending q.end in
+    let new = viewed c.fill.new.source q.outlet c.fill.new.self q.end in
     let k : Kept = kept old in
     let w = form-some (slice_get k.requests n) c.in-Some.field-0 (sym c.form_at.ensures ∙ c.in-Some.is) in
     let size : length c.fill.new.buf ≡ c.args.count = search (rules, c.in-Ok.ensures) in
@@ -72,14 +72,15 @@ returns g c =
           (λ client before s st. elim c.match-fill.branch [
             | in-Ok-fill b ↦
                 let fills = b.in-Ok-fill.ensures.fills w.0 w.1 in
-                let done = read-done client before k s date n c.args.count w.0 fills.0 q.source c.fill.new.source c.fill.new.self.requests.items (Ok b.in-Ok-fill.n) c.fill.new.buf st w.1 fills.1 (record { feed = refl; stop = refl; ends = refl }) b.in-Ok-fill.ensures.bound size (omega (arith, c.if-count-eq0.false)) fills.2 fills.3 c.fill.ensures.goes_on in
+                let done = read-done client before k s date n c.args.count w.0 fills.0 q.source c.fill.new.source c.fill.new.self.requests.items (Ok b.in-Ok-fill.n) c.fill.new.buf st w.1 fills.1 (record { feed = refl; stop = refl; ends = refl; standing = refl }) b.in-Ok-fill.ensures.bound size (omega (arith, c.if-count-eq0.false)) fills.2 fills.3 fills.4 c.fill.ensures.goes_on in
                 let P : List Mark → List ℕ → Type 0 = λ m l. Answered client before (record (with_reader k c.fill.new.self.requests.items c.fill.new.source) { marks = m }) s date (Read n c.args.count) (Given l) in
                 rw b.result-is (subst (λ l. P c.fill.new.self.turns.marks l) (ap (take b.in-Ok-fill.n) (sym (whole c.fill.new.buf c.in-Ok.bytes.items c.in-Ok.bytes.len (search (rules, c.in-Ok.ensures)) size c.in-Ok.ensures)) ∙ sym b.truncate.ensures.items) (subst (λ m. P m (take b.in-Ok-fill.n c.fill.new.buf)) (ap (λ t. t.marks) (sym c.fill.ensures.turns)) done))
             | in-Err b ↦
                 let fills = b.in-Err.ensures.fills w.0 w.1 in
-                let done = read-done client before k s date n c.args.count w.0 fills.0 q.source c.fill.new.source c.fill.new.self.requests.items (Err b.in-Err.kind) c.fill.new.buf st w.1 fills.1 (record { feed = refl; stop = refl; ends = refl }) tt size (omega (arith, c.if-count-eq0.false)) fills.2 fills.3 c.fill.ensures.goes_on in
+                let done = read-done client before k s date n c.args.count w.0 fills.0 q.source c.fill.new.source c.fill.new.self.requests.items (Err b.in-Err.kind) c.fill.new.buf st w.1 fills.1 (record { feed = refl; stop = refl; ends = refl; standing = refl }) tt size (omega (arith, c.if-count-eq0.false)) fills.2 fills.3 fills.4 c.fill.ensures.goes_on in
                 let P : List Mark → Type 0 = λ m. Answered client before (record (with_reader k c.fill.new.self.requests.items c.fill.new.source) { marks = m }) s date (Read n c.args.count) (Fault b.in-Err.kind) in
                 rw b.result-is (subst P (ap (λ t. t.marks) (sym c.fill.ensures.turns)) done)
           ])
+          (elim c.match-fill.branch [ in-Ok-fill b ↦ rw b.result-is (λ no. elim no [ ]) | in-Err b ↦ rw b.result-is (λ no. elim no [ ]) ]) refl
           (reads-on old new refl c.fill.ensures.goes_on));
     }

@@ -4,7 +4,7 @@ use Rattle.std.specs.Prelude.{◌==◌}
 use Rattle.tiny_http_wire.specs.declared.device.Stop.TheVariants.{End}
 use Rattle.tiny_http_message.specs.Body.{Remaining, remaining, with_bytes, BodyStops, NoneLeft, ReadsOn}
 use Rattle.tiny_http_stream.proofs.GoingOn.{goes-on_more}
-use Rattle.tiny_http_message.proofs.BodyReads.{read-more, moves-more, stays-settled, bytes-none, stops-none-left}
+use Rattle.tiny_http_message.proofs.BodyReads.{read-more, moves-more, stays-settled, bytes-none, stops-none-left, standing-more}
 use Rattle.tiny_http_message.proofs.body.Body.fill.Goals as goal
 
 pub loop-at-preserved : goal.loop-at-preserved
@@ -22,6 +22,7 @@ loop-at-preserved g c =
       moves = λ some. moves-more _ _ _ c.loop-at.at n false inv.start inv.moves moves;
       settled = λ e. (h.settled (inv.settled e).1 ∙ (inv.settled e).0, stays-settled _ _ n false moves (inv.settled e).1);
       goes_on = goes-on_more _ _ _ inv.goes_on h.goes_on;
+      standing = λ e. standing-more c.loop-at.self c.read_behind.new.self n false c.args.source.now.standing c.loop-at.source c.read_behind.new.source moves h.settled h.standing (inv.standing e);
     }
 
 pub returns-then-at-eq0-clause-goes_on : goal.returns-then-at-eq0-clause-goes_on
@@ -62,3 +63,16 @@ returns-in-Ok-eq0-clause-goes_on g c = goes-on_more _ _ _ c.loop-at.invariant.go
 
 pub returns-else-at-eq0-clause-goes_on : goal.returns-else-at-eq0-clause-goes_on
 returns-else-at-eq0-clause-goes_on g c = goes-on_more _ _ _ c.loop-at.invariant.goes_on c.in-Err.ensures.goes_on
+
+pub returns-then-at-eq0-clause-standing : goal.returns-then-at-eq0-clause-standing
+returns-then-at-eq0-clause-standing g c e =
+    standing-more c.loop-at.self c.read_behind.new.self 0 true c.args.source.now.standing c.loop-at.source c.read_behind.new.source c.in-Err.ensures.broken c.in-Err.ensures.settled c.in-Err.ensures.standing (c.loop-at.invariant.standing e)
+
+pub returns-in-Ok-eq0-clause-standing : goal.returns-in-Ok-eq0-clause-standing
+returns-in-Ok-eq0-clause-standing g c e =
+    let h = c.in-Ok-eq0.ensures in
+    standing-more c.loop-at.self c.read_behind.new.self c.in-Ok-eq0.field-0 (c.in-Ok-eq0.field-0 == 0) c.args.source.now.standing c.loop-at.source c.read_behind.new.source h.moves h.settled h.standing (c.loop-at.invariant.standing e)
+
+pub returns-else-at-eq0-clause-standing : goal.returns-else-at-eq0-clause-standing
+returns-else-at-eq0-clause-standing g c e =
+    standing-more c.loop-at.self c.read_behind.new.self 0 true c.args.source.now.standing c.loop-at.source c.read_behind.new.source c.in-Err.ensures.broken c.in-Err.ensures.settled c.in-Err.ensures.standing (c.loop-at.invariant.standing e)

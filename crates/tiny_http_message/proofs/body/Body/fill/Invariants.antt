@@ -1,6 +1,6 @@
-use Rattle.std.proofs.Common.{◌≡◌, ◌-◌, ◌<◌, ◌≤◌, false, length, take}
+use Rattle.std.proofs.Common.{◌≡◌, ◌-◌, ◌<◌, ◌≤◌, true, false, length, take}
 use Rattle.tiny_http_stream.specs.Source.{GoesOn}
-use Rattle.tiny_http_message.specs.Body.{remaining, with_bytes, is_streaming, ReadsOn}
+use Rattle.tiny_http_message.specs.Body.{remaining, with_bytes, is_streaming, body_standing, ReadsOn}
 use Rattle.tiny_http_message.proofs.body.Body.fill.Given as goal
 
 abbrev pub invariant-loop-at : goal.invariant-loop-at
@@ -11,6 +11,7 @@ invariant-loop-at g l = record {
   moves : 0 < l.at → ReadsOn l.initial.self l.at false l.self;
   settled : is_streaming l.initial.self ≡ false → (l.source ≡ l.initial.source) × (is_streaming l.self ≡ false);
   goes_on : GoesOn l.initial.source.feed l.source.feed;
+  standing : is_streaming l.initial.self ≡ true → l.source.standing ≡ body_standing l.self l.initial.source.standing;
 }
 
 abbrev pub decreases-loop-at : goal.decreases-loop-at

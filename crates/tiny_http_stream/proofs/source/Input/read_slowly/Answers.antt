@@ -15,6 +15,7 @@ loop-b-preserved g c =
       passed = c.in_ok-go_on.ensures.passed;
       once = search rules;
       stays = search rules;
+      lazy = search rules;
     }
 
 pub returns-clause-none : goal.returns-clause-none

@@ -11,6 +11,7 @@ invariant-loop-b g l = record {
   passed : Passed l.text.items (pending l.after_return);
   once : IsSome (input_stop l.fn.self) → IsSome (input_stop l.self) × (input_reader l.self ≡ input_reader l.fn.self);
   stays : IsOver l.fn.self → l.self ≡ l.fn.self;
+  lazy : input_stop l.self ≡ input_stop l.fn.self;
 }
 
 abbrev pub decreases-loop-b : goal.decreases-loop-b

@@ -1,0 +1,19 @@
+-- Where a source stands after a body.
+use Rattle.std.specs.declared.io.ErrorKind.{ErrorKind}
+use Rattle.tiny_http_stream.specs.declared.source.Standing.{Standing}
+use Rattle.tiny_http_stream.specs.declared.source.Standing.TheVariants.{Head, Body, Lost, Broken}
+
+-- the body was read or given up whole: a head comes next, unless the last head was read
+abbrev pub after_body : Standing → Standing
+after_body Body = Head
+after_body standing = standing
+
+-- the body broke off so
+abbrev pub after_fault : ErrorKind → Standing → Standing
+after_fault kind Body = Broken kind
+after_fault kind standing = standing
+
+-- the body was given up before its end was read, and where it ends isn't known
+abbrev pub after_loss : Standing → Standing
+after_loss Body = Lost
+after_loss standing = standing
