@@ -41,7 +41,8 @@ fn request(
 
 // Whether no request follows.
 fn is_ended(alloc: Global, source: &mut Source<Pieces>) -> Result<bool, Fail> {
-    Ok(matches!(read_head(alloc, source, date()?)?, HeadRead::Ended))
+    let read = read_head(alloc, source, date()?)?;
+    Ok(matches!(read, HeadRead::Ended(_)))
 }
 
 fn assert_ended(rt: &impl Abort, alloc: Global, source: &mut Source<Pieces>) -> Result<(), Fail> {
@@ -357,7 +358,7 @@ fn no_head_stands_behind_a_fault_of_a_body(rt: HostRuntime) -> Result<(), Fail> 
 // The text that refuses the next head, and whether it is the last.
 fn refusal(alloc: Global, source: &mut Source<Pieces>) -> Result<(Vec<u8>, bool), Fail> {
     match read_head(alloc, source, date()?)? {
-        HeadRead::Refused { text, last } => Ok((text, last)),
+        HeadRead::Refused { text, last, .. } => Ok((text, last)),
         _ => Err("not refused".into()),
     }
 }

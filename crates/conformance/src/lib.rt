@@ -7,11 +7,15 @@ mod answers;
 #[cfg(test)]
 mod bodies;
 #[cfg(test)]
+mod ends;
+#[cfg(test)]
 mod exchanges;
 #[cfg(test)]
 mod greetings;
 #[cfg(test)]
 mod heads;
+#[cfg(test)]
+mod laziness;
 #[cfg(test)]
 mod outlet;
 #[cfg(test)]

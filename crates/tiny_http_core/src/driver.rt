@@ -1,5 +1,5 @@
 //! A connection driven step by step, or by a list of steps, without threads.
-ghost use Rattle.std.specs.Prelude.{◌≡◌, ◌-◌, ◌<◌, ◌^◌, true, false, List, [], length, Some, map, Ok, IfOk, IfErr, vec_len};
+ghost use Rattle.std.specs.Prelude.{◌≡◌, ◌-◌, ◌<◌, ◌^◌, true, false, List, [], length, Some, map, Ok, IfOk, IfErr, vec_len, is_some, slice_get};
 ghost use Rattle.std.specs.List.{AllZip};
 ghost use Rattle.tiny_http_wire.specs.Device.{Feed, Sink, HoldsNothing};
 ghost use Rattle.tiny_http_core.specs.Slots.{ResponseValue};
@@ -9,6 +9,7 @@ ghost use Rattle.httpdate.specs.declared.date.HttpDate.{HttpDate as Date};
 ghost use Rattle.tiny_http_core.specs.Steps.{Replied, Done, Fault, is_closed_client, fault_of_answer};
 ghost use Rattle.std.specs.declared.io.ErrorKind.{ErrorKind};
 ghost use Rattle.tiny_http_stream.specs.Source.{GoesOn};
+ghost use Rattle.tiny_http_core.specs.Pending.{waiting_form};
 ghost use Rattle.tiny_http_core.specs.Driving.{HasDone, TakesStep, told_response, told_step};
 ghost use Rattle.tiny_http_core.specs.Seen.{seen, Answers, IsAnswered, printed_as, IsResponse, IsTold, TellsHonestly, TellHonestly};
 ghost use Rattle.tiny_http_stream.specs.Outlet.{output_of, outlet_ended, outlet_held, outlet_writer, SentOn};
@@ -191,11 +192,34 @@ impl<R: ReadDevice, W: WriteDevice> Connection<R, W> {
         }
     }
 
+    /// Why no further request is handed out, once an `ask` was answered `Ended` or `Memory`.
+    pub fn end_of_requests(&self) -> Option<EndOfRequests>
+        ensures { result ≡ self.now.end }
+    {
+        self.end
+    }
+
+    /// The number that the next request or refused head takes. They are numbered from 0.
+    pub fn next_number(&self) -> u64
+        ensures { result ≡ length self.now.requests }
+    {
+        self.pending.requests.len() as u64
+    }
+
+    /// Whether the request of this number waits for its answer.
+    pub fn is_open(&self, number: u64) -> bool
+        ensures { result ≡ is_some (waiting_form (slice_get self.now.requests number)) }
+    {
+        self.pending.form_at(number).is_some()
+    }
+
     /// Goes to the next request, and hands it out with its number: `Handed`. It is `NotYet` while the body of the last request
     /// holds the reader: until that was read to its end, or the request was answered or dropped. It is `Ended` once the
-    /// connection has no further request, from then on. A refused head is answered under a number of its own, in its turn, and
-    /// ends the asking; so does `Memory`, and a chunked body that was given up before its end. It reads, and so may wait for
-    /// the client. `now` dates the answer to a refused head, and the 500 of this request if it is dropped.
+    /// connection has no further request, from then on, and `end_of_requests` says why. A refused head is answered under a
+    /// number of its own, in its turn, and ends the asking; so does `Memory`, and a chunked body that was given up before its
+    /// end. It reads no further than the head, and a body of up to 1024 bytes, and so waits for the client only while these
+    /// have not come. After the last request the reader isn't called. `now` dates the answer to a refused head, and the 500 of
+    /// this request if it is dropped.
     pub fn ask(&mut self, alloc: Global, now: HttpDate) -> Reply
         ensures step { TakesStep self.old self.new now Step.Ask (seen result) }
     {

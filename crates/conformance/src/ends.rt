@@ -1,0 +1,220 @@
+//! Why no further request comes.
+use crate::runs::Deed::{Ask, Drop, Read, Text};
+use crate::runs::{Deed, steps_of};
+use crate::same::assert_same;
+use httpdate::HttpDate;
+use std::alloc::Global;
+use std::io::ErrorKind;
+use std::process::Abort;
+use std::test::Fail;
+use tiny_http_core::driver::Connection;
+use tiny_http_core::exchange::{EndOfRequests, Exchange, HeadRead, read_head};
+use tiny_http_core::source::Source;
+use tiny_http_wire::common::StatusCode;
+use tiny_http_wire::device::{Canned, Metered};
+
+type Row = (
+    &'static [u8],
+    Option<ErrorKind>,
+    &'static [Deed<'static>],
+    Option<EndOfRequests>,
+);
+
+// Why the requests end after these steps, over a client that fails so in the end.
+fn end_of(
+    alloc: Global,
+    client: &[u8],
+    fault: Option<ErrorKind>,
+    deeds: &[Deed<'_>],
+) -> Result<Option<EndOfRequests>, Fail> {
+    let reader = Canned::new(client.to_vec(alloc)?, fault);
+    let mut connection = Connection::new(alloc, reader, Metered::new(Vec::new(alloc)));
+    for timed in steps_of(alloc, deeds)? {
+        drop(connection.step(alloc, timed));
+    }
+    Ok(connection.end_of_requests())
+}
+
+const ROWS: &[Row] = &[
+    (b"GET / HTTP/1.1\r\n\r\n", None, &[Ask], None),
+    (
+        b"GET / HTTP/1.1\r\n\r\n",
+        None,
+        &[Ask, Ask],
+        Some(EndOfRequests::Closed),
+    ),
+    (
+        b"",
+        Some(ErrorKind::TimedOut),
+        &[Ask],
+        Some(EndOfRequests::TimedOut),
+    ),
+    (
+        b"",
+        Some(ErrorKind::ConnectionReset),
+        &[Ask],
+        Some(EndOfRequests::Fault(ErrorKind::ConnectionReset)),
+    ),
+    (b"G", None, &[Ask], Some(EndOfRequests::Cut)),
+    (
+        b"GET / HTTP/1.1\r\nHost: a",
+        None,
+        &[Ask, Ask],
+        Some(EndOfRequests::Cut),
+    ),
+    (
+        b"GET / HTTP/1.1\r\nHost: a",
+        Some(ErrorKind::TimedOut),
+        &[Ask],
+        Some(EndOfRequests::TimedOut),
+    ),
+    (
+        b"POST / HTTP/1.1\r\nContent-Length: 3\r\n\r\nab",
+        None,
+        &[Ask],
+        Some(EndOfRequests::Cut),
+    ),
+    (
+        b"POST / HTTP/1.1\r\nContent-Length: 3\r\n\r\nab",
+        Some(ErrorKind::Other),
+        &[Ask],
+        Some(EndOfRequests::Fault(ErrorKind::Other)),
+    ),
+    (
+        b"GET /\xff HTTP/1.1\r\n\r\n",
+        None,
+        &[Ask],
+        Some(EndOfRequests::NotAscii),
+    ),
+    (
+        b"bad\r\n\r\n",
+        None,
+        &[Ask, Ask],
+        Some(EndOfRequests::Refused(StatusCode(400))),
+    ),
+    (
+        b"GET / HTTP/1.0\r\n\r\nGET / HTTP/1.1\r\n\r\n",
+        None,
+        &[Ask, Ask],
+        Some(EndOfRequests::LastRequest),
+    ),
+    (
+        b"GET / HTTP/1.1\r\nConnection: close\r\n\r\n",
+        None,
+        &[Ask, Text(0, "a"), Ask],
+        Some(EndOfRequests::LastRequest),
+    ),
+    (
+        b"POST / HTTP/1.1\r\nTransfer-Encoding: chunked\r\n\r\n3\r\nabc\r\n0\r\n\r\n",
+        None,
+        &[Ask, Read(0, 3), Drop(0), Ask],
+        Some(EndOfRequests::AbandonedBody),
+    ),
+    (
+        b"POST / HTTP/1.1\r\nTransfer-Encoding: chunked\r\n\r\n3\r\nabc\r\n0\r\n\r\n",
+        None,
+        &[Ask, Read(0, 4), Drop(0), Ask],
+        Some(EndOfRequests::Closed),
+    ),
+    (
+        b"POST / HTTP/1.1\r\nTransfer-Encoding: chunked\r\n\r\n3\r\nabcd",
+        None,
+        &[Ask, Read(0, 9), Read(0, 9), Ask],
+        Some(EndOfRequests::Fault(ErrorKind::InvalidData)),
+    ),
+    (
+        b"GET / HTTP/2.0\r\n\r\n",
+        None,
+        &[Ask],
+        Some(EndOfRequests::NotServed),
+    ),
+];
+
+#[test]
+fn reasons(rt: HostRuntime) -> Result<(), Fail> {
+    for (number, (client, fault, deeds, wanted)) in ROWS.iter().enumerate() {
+        let end = end_of(rt.alloc(), client, *fault, deeds)?;
+        assert_same(&rt, (number, end), (number, *wanted));
+    }
+    Ok(())
+}
+
+// Numbers, and which of them wait for their answers.
+#[test]
+fn numbers_that_are_open(rt: HostRuntime) -> Result<(), Fail> {
+    let alloc = rt.alloc();
+    let client = b"GET / HTTP/1.1\r\n\r\nGET / HTTP/1.1\r\n\r\n";
+    let reader = Canned::new(client.to_vec(alloc)?, None);
+    let mut connection = Connection::new(alloc, reader, Metered::new(Vec::new(alloc)));
+    for timed in steps_of(alloc, &[Ask, Ask, Drop(0)])? {
+        drop(connection.step(alloc, timed));
+    }
+    assert_same(&rt, connection.next_number(), 2);
+    let open = [0, 1, 2].map(|number| connection.is_open(number));
+    assert_same(&rt, open, [false, true, false]);
+    Ok(())
+}
+
+// Bodies that hold what would pass for a head, each in front of one.
+const BODIES: [&[u8]; 2] = [
+    b"POST /a HTTP/1.1\r\nContent-Length: 2000\r\n\r\nGET /no HTTP/1.1\r\n\r\n",
+    b"POST /a HTTP/1.1\r\nTransfer-Encoding: chunked\r\n\r\nGET /no HTTP/1.1\r\n\r\n",
+];
+
+fn date() -> Result<HttpDate, Fail> {
+    Ok(HttpDate::from_unix_secs(420_895_020)?)
+}
+
+fn reason(alloc: Global, source: &mut Source<Canned>) -> Result<Option<EndOfRequests>, Fail> {
+    match read_head(alloc, source, date()?)? {
+        HeadRead::Ended(why) => Ok(Some(why)),
+        _ => Ok(None),
+    }
+}
+
+fn request(alloc: Global, source: &mut Source<Canned>) -> Result<Exchange, Fail> {
+    match read_head(alloc, source, date()?)? {
+        HeadRead::Request(exchange) => Ok(exchange),
+        _ => Err("no request".into()),
+    }
+}
+
+// No head is read in a body that was not read, nor in one of which some bytes were.
+fn assert_unread(rt: &impl Abort, alloc: Global, client: &[u8], count: usize) -> Result<(), Fail> {
+    let mut source = Source::new(Canned::new(client.to_vec(alloc)?, None));
+    let mut exchange = request(alloc, &mut source)?;
+    let mut buf = [0u8; 4];
+    let read = exchange
+        .read_body(&mut source, &mut buf[..count])
+        .unwrap_or(4);
+    assert_same(rt, read <= 4, true);
+    let first = reason(alloc, &mut source)?;
+    let second = reason(alloc, &mut source)?;
+    let unread = Some(EndOfRequests::UnreadBody);
+    assert_same(rt, (first, second), (unread, unread));
+    Ok(())
+}
+
+#[test]
+fn bytes_of_a_body_are_no_head(rt: HostRuntime) -> Result<(), Fail> {
+    for client in BODIES {
+        assert_unread(&rt, rt.alloc(), client, 0)?;
+    }
+    assert_unread(&rt, rt.alloc(), BODIES[0], 4)
+}
+
+// After the last head its body is read on, whatever was asked for between.
+#[test]
+fn the_last_body_is_read_on(rt: HostRuntime) -> Result<(), Fail> {
+    let alloc = rt.alloc();
+    let client = b"POST / HTTP/1.0\r\nContent-Length: 2000\r\n\r\nabc";
+    let mut source = Source::new(Canned::new(client.to_vec(alloc)?, None));
+    let mut exchange = request(alloc, &mut source)?;
+    let last = Some(EndOfRequests::LastRequest);
+    assert_same(&rt, reason(alloc, &mut source)?, last);
+    let mut buf = [0u8; 4];
+    let read = exchange.read_body(&mut source, &mut buf)?;
+    assert_same(&rt, &buf[..read], b"abc".as_slice());
+    assert_same(&rt, reason(alloc, &mut source)?, last);
+    Ok(())
+}
