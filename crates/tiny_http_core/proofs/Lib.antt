@@ -13,3 +13,4 @@ pub mod StepLemmas
 pub mod RunLemmas
 pub mod DriverLemmas
 pub mod Rows
+pub mod ClientRows

@@ -7,6 +7,8 @@ pub mod Pending
 pub mod Connection
 pub mod Driving
 pub mod Reading
+pub mod ClientAnswer
+pub mod ClientReading
 pub use Rattle.tiny_http_stream.specs.ToCome
 pub use Rattle.tiny_http_stream.specs.Input
 pub use Rattle.tiny_http_stream.specs.Source
