@@ -1,12 +1,17 @@
 -- The definition tried out: answers as a client reads them, computed.
-use Rattle.std.proofs.Common.{◌≡◌, refl, ℕ, List, [], ◌∷◌, ◌++◌, Ok, Err, take}
+use Rattle.std.proofs.Common.{◌≡◌, refl, subst, ℕ, inl, inr, List, [], ◌∷◌, ◌++◌, Ok, Err, take}
 use Rattle.std.specs.Prelude.{codes}
 use Rattle.std.specs.Fmt.{digits}
 use Rattle.tiny_http_wire.specs.declared.common.Header.{Header}
+use Rattle.tiny_http_wire.specs.declared.common.HTTPVersion.{HTTPVersion}
+use Rattle.tiny_http_wire.specs.declared.common.Method.{Method}
 use Rattle.tiny_http_wire.specs.declared.common.Method.TheVariants.{Get, Head}
+use Rattle.tiny_http_wire.specs.Lines.{IsUnfinished}
 use Rattle.tiny_http_wire.specs.Heads.{version}
-use Rattle.tiny_http_core.specs.ClientAnswer.{says_chunked, content_length, Unfinished, Invalid}
+use Rattle.tiny_http_core.specs.ClientAnswer.{says_chunked, content_length, BeginsWithStatusLine, BeginsWithFieldLines, ReadsAnswer, Unfinished, Invalid, UnfinishedAnswer, MalformedAnswer}
 use Rattle.tiny_http_core.specs.ClientReading.{decimal_read, AnswerRead, answer_read}
+use Rattle.tiny_http_core.proofs.ClientLemmas.{AnswerIs, answer-is}
+use Rattle.tiny_http_core.proofs.ClientLaws.{lack-one}
 
 abbrev header : List ℕ → List ℕ → Header
 header field value = record { field = field; value = value }
@@ -178,3 +183,23 @@ too_great_status = refl
 no_phrase : answer_read Get (codes "HTTP/1.1 204 \r\n\r\n") ≡ gives 204 [] [] []
 unfolding says_chunked content_length decimal_read digits
 no_phrase = refl
+
+-- The same of the definition itself: what stands there by the reading, stands there.
+by_length_read : ReadsAnswer Get hello (record { head = record { version = version 1 1; status = 200; headers = hello_headers }; body = codes "hello world" }) []
+by_length_read = subst (AnswerIs Get hello) by_length (answer-is Get hello)
+
+in_chunks_read : ReadsAnswer Get hello_in_chunks (record { head = record { version = version 1 1; status = 200; headers = chunked_header }; body = codes "hello world" }) []
+in_chunks_read = subst (AnswerIs Get hello_in_chunks) in_chunks (answer-is Get hello_in_chunks)
+
+two_spaces_malformed : MalformedAnswer Get (codes "HTTP/1.1 200 OK\r\nX:  y\r\n")
+two_spaces_malformed = subst (AnswerIs Get (codes "HTTP/1.1 200 OK\r\nX:  y\r\n")) two_spaces (answer-is Get (codes "HTTP/1.1 200 OK\r\nX:  y\r\n"))
+
+-- whatever stands in a line that isn't finished, the answer is unfinished and not malformed: a status-line
+line_unfinished : (method : Method) (bytes : List ℕ) → IsUnfinished bytes → UnfinishedAnswer method bytes × (MalformedAnswer method bytes → ⊥)
+line_unfinished method bytes h = let u : UnfinishedAnswer method bytes = ([], bytes, refl, inl (inl h)) in (u, lack-one method bytes u)
+
+-- and a line behind it
+field_line_unfinished : (method : Method) (v : HTTPVersion) (status : ℕ) (bytes fields rest : List ℕ) (headers : List Header)
+    → BeginsWithStatusLine bytes v status fields → BeginsWithFieldLines fields headers rest → IsUnfinished rest → UnfinishedAnswer method bytes × (MalformedAnswer method bytes → ⊥)
+field_line_unfinished method v status bytes fields rest headers s f h =
+    let u : UnfinishedAnswer method bytes = ([], bytes, refl, inl (inr (v, status, fields, headers, rest, s, f, h))) in (u, lack-one method bytes u)

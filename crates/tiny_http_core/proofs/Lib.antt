@@ -14,3 +14,6 @@ pub mod RunLemmas
 pub mod DriverLemmas
 pub mod Rows
 pub mod ClientRows
+pub mod ClientLines
+pub mod ClientLemmas
+pub mod ClientLaws

@@ -109,9 +109,9 @@ pub record ReadsAnswer (method : Method) (bytes : List ℕ) (answer : ClientAnsw
   pub start : List ℕ
   pub after : List ℕ
   pub passes : PassesOver bytes interim start
-  pub heads : BeginsWithHead start answer.head after
+  pub has_head : BeginsWithHead start answer.head after
   pub is_final : is_interim answer.head.status ≡ false
-  pub bodies : BeginsWithBody (extent method answer.head) after answer.body rest
+  pub has_body : BeginsWithBody (extent method answer.head) after answer.body rest
 
 -- why the bytes begin with no answer: they end before it does, or they break a rule
 pub data Lack : Type 0 where
