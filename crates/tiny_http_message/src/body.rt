@@ -9,7 +9,7 @@ ghost use Rattle.tiny_http_message.specs.Body.{remaining, counted_left, with_byt
 
 use std::io;
 use std::io::{Cursor, ErrorKind};
-use tiny_http_stream::source::{Standing, Source};
+use tiny_http_stream::source::{Source, Standing};
 use tiny_http_wire::chunked::Decoding;
 use tiny_http_wire::device::{ReadDevice, Stop, read_front};
 

@@ -19,7 +19,7 @@ use httpdate::HttpDate;
 use std::alloc::{AllocError, Global};
 use std::io;
 use std::io::{Cursor, ErrorKind};
-use tiny_http_stream::source::{Standing, Source};
+use tiny_http_stream::source::{Source, Standing};
 use tiny_http_wire::ascii::AsciiString;
 use tiny_http_wire::chunked::Decoding;
 use tiny_http_wire::common::{HTTPVersion, Header, Method, StatusCode};
