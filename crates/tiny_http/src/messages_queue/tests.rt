@@ -28,3 +28,18 @@ fn a_pop_that_is_woken_for_nothing_comes_back(rt: HostRuntime) -> Result<(), Fai
     assert_eq!(rt; popper.join(&rt), None);
     Ok(())
 }
+
+// A try that gave up at a lock that is held would miss the value.
+#[test]
+fn a_try_waits_for_the_lock(rt: HostRuntime) -> Result<(), Fail> {
+    let queue: Arc<MessagesQueue<u8>> = MessagesQueue::with_capacity(rt.alloc(), 8)?;
+    let theirs = Arc::try_clone(&queue)?;
+    let mut state = queue.state.lock(&rt);
+    let popper = thread::spawn(&rt, move || theirs.try_pop(&rt)).map_err(|_| "no thread")?;
+    thread::sleep(&rt, Duration::from_millis(20));
+    let pushed = state.push(7);
+    drop(state);
+    assert_eq!(rt; pushed, Ok(()));
+    assert_eq!(rt; popper.join(&rt), Some(7));
+    Ok(())
+}
