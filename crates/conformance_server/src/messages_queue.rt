@@ -1,10 +1,11 @@
 //! A queue that threads share.
 use std::alloc::{AllocError, Global};
+use std::sync::atomic::{AtomicU64, Ordering};
 use std::sync::{Arc, Wait};
 use std::test::Fail;
 use std::thread;
 use std::thread::{JoinHandle, Threads};
-use std::time::Duration;
+use std::time::{Clock, Duration};
 use tiny_http::messages_queue::{MessagesQueue, Popped, QueueState};
 
 // So many threads push, and as many pop.
@@ -86,26 +87,82 @@ fn a_pop_waits_for_so_long_at_most(rt: HostRuntime) -> Result<(), Fail> {
     Ok(())
 }
 
+// Waits until there is such a count, 10,000 turns of 1 ms at most, and says whether there is.
+fn is_reached<R: Clock>(rt: &R, count: &AtomicU64, want: u64) -> bool {
+    for _ in 0..10_000u32 {
+        if count.load(Ordering::SeqCst) >= want {
+            return true;
+        }
+        thread::sleep(rt, Duration::from_millis(1));
+    }
+    false
+}
+
+// Waits by each call that waits, and counts those that came back.
+fn pop_three<R: Wait + Clock>(
+    rt: &R,
+    queue: &MessagesQueue<u8>,
+    came: &AtomicU64,
+) -> [Option<u8>; 3] {
+    let first = queue.pop(rt);
+    came.fetch_add(1, Ordering::SeqCst);
+    let second = queue.pop_timeout(rt, Duration::from_secs(3_600));
+    came.fetch_add(1, Ordering::SeqCst);
+    let third = queue.pop(rt);
+    came.fetch_add(1, Ordering::SeqCst);
+    [first, second, third]
+}
+
+// Each of the three wakes is looked for by itself, as the next one would make up for one that was left out.
 #[test]
 fn one_who_waits_is_woken(rt: HostRuntime) -> Result<(), Fail> {
-    let queue = MessagesQueue::with_capacity(rt.alloc(), 8)?;
+    let alloc = rt.alloc();
+    let queue = MessagesQueue::with_capacity(alloc, 8)?;
+    let came = Arc::new(alloc, AtomicU64::new(0))?;
     let theirs = Arc::try_clone(&queue)?;
-    let waits = move || {
-        let hour = Duration::from_secs(3_600);
-        (
-            theirs.pop(&rt),
-            theirs.pop_timeout(&rt, hour),
-            theirs.pop(&rt),
-        )
-    };
+    let counted = Arc::try_clone(&came)?;
+    let waits = move || pop_three(&rt, &theirs, &counted);
     let popper = thread::spawn(&rt, waits).map_err(|_| "no thread")?;
     for value in [1u8, 2] {
         thread::sleep(&rt, Duration::from_millis(20));
         assert_eq!(rt; queue.push(&rt, value), Ok(()));
+        assert!(rt; is_reached(&rt, &came, value as u64));
     }
     thread::sleep(&rt, Duration::from_millis(20));
     queue.unblock(&rt)?;
-    assert_eq!(rt; popper.join(&rt), (Some(1), Some(2), None));
+    assert!(rt; is_reached(&rt, &came, 3));
+    assert_eq!(rt; popper.join(&rt), [Some(1), Some(2), None]);
+    Ok(())
+}
+
+// Pops once, and counts it.
+fn pop_one<R: Wait>(rt: &R, queue: &MessagesQueue<usize>, came: &AtomicU64) -> Option<usize> {
+    let found = queue.pop(rt);
+    came.fetch_add(1, Ordering::SeqCst);
+    found
+}
+
+// Eight wait, and eight values come at once. A push that woke only where the queue was empty would leave some of them.
+#[test]
+fn each_push_wakes_one(rt: HostRuntime) -> Result<(), Fail> {
+    let alloc = rt.alloc();
+    let queue = MessagesQueue::with_capacity(alloc, 8)?;
+    let came = Arc::new(alloc, AtomicU64::new(0))?;
+    let mut poppers = Vec::new(alloc);
+    for _ in 0..THREADS {
+        let theirs = Arc::try_clone(&queue)?;
+        let counted = Arc::try_clone(&came)?;
+        let handle = thread::spawn(&rt, move || pop_one(&rt, &theirs, &counted));
+        poppers.push(handle.map_err(|_| "no thread")?)?;
+    }
+    thread::sleep(&rt, Duration::from_millis(50));
+    for value in 0..THREADS {
+        assert_eq!(rt; queue.push(&rt, value), Ok(()));
+    }
+    assert!(rt; is_reached(&rt, &came, 8));
+    for popper in poppers {
+        assert!(rt; popper.join(&rt).is_some());
+    }
     Ok(())
 }
 
