@@ -171,8 +171,16 @@ impl<S> Metered<S> {
 }
 
 impl<S: Read> ReadDevice for Metered<S> {
+    ghost use Rattle.std.specs.Io.KnownBytes.{ReadConsumes};
+    ghost use Rattle.tiny_http_device.specs.Metered.{metered_inner};
+
     /// Reads once from the stream, and not at all into an empty buffer.
-    fn read_in(&mut self, buf: &mut [u8]) -> Result<usize, io::Error> {
+    fn read_in(&mut self, buf: &mut [u8]) -> Result<usize, io::Error>
+        ensures reads { Reads None None result buf.new }
+        ensures empty { length buf.new ≡ 0 → (result ≡ Ok 0) × (self.new ≡ self.old) }
+        // What came is the stream's, if it tells what it still gives.
+        ensures stream { ReadConsumes (S.remaining (metered_inner self.old)) (S.remaining (metered_inner self.new)) result buf.new }
+    {
         if buf.is_empty() {
             return Ok(0);
         }
@@ -181,7 +189,8 @@ impl<S: Read> ReadDevice for Metered<S> {
 }
 
 impl<S: Write> WriteDevice for Metered<S> {
-    ghost use Rattle.tiny_http_device.specs.Metered.{metered_sink};
+    ghost use Rattle.std.specs.Io.KnownBytes.{Keeps, WriteAppends};
+    ghost use Rattle.tiny_http_device.specs.Metered.{metered_inner, metered_sink};
 
     ghost sink = { metered_sink };
 
@@ -191,7 +200,11 @@ impl<S: Write> WriteDevice for Metered<S> {
     }
 
     /// Writes once to the stream. That it takes no byte of some is a fault of kind `WriteZero`.
-    fn write_out(&mut self, buf: &[u8]) -> Result<usize, io::Error> {
+    fn write_out(&mut self, buf: &[u8]) -> Result<usize, io::Error>
+        ensures puts { PutsFront (metered_sink self.old) (metered_sink self.new) result buf.now }
+        // The stream took what was taken, and nothing at a fault, if it tells its bytes.
+        ensures stream { WriteAppends (S.contents (metered_inner self.old)) (S.contents (metered_inner self.new)) result buf.now }
+    {
         let outcome = match self.inner.write(buf) {
             Ok(0) if !buf.is_empty() => Err(ErrorKind::WriteZero.into()),
             outcome => outcome,
@@ -202,8 +215,13 @@ impl<S: Write> WriteDevice for Metered<S> {
         outcome
     }
 
-    /// Flushes the stream.
-    fn flush_out(&mut self) -> Result<(), io::Error> {
+    /// Flushes the stream. No contract says so, as std's words for a flush say only that the bytes stay.
+    fn flush_out(&mut self) -> Result<(), io::Error>
+        ensures puts { Puts (metered_sink self.old) (metered_sink self.new) result [] }
+        ensures sent { OnOk result ((metered_sink self.new).has_ended ≡ false → HoldsNothing (metered_sink self.new)) }
+        // The stream's bytes stay, if it tells them.
+        ensures stream { Keeps (S.contents (metered_inner self.old)) (S.contents (metered_inner self.new)) }
+    {
         let outcome = self.inner.flush();
         if let Err(e) = &outcome {
             self.count(e.kind());
@@ -285,7 +303,8 @@ impl Budget {
 }
 
 impl WriteDevice for Budget {
-    ghost use Rattle.tiny_http_device.specs.Budget.{budget_sink};
+    ghost use Rattle.std.specs.Prelude.{◌+◌, IsOk};
+    ghost use Rattle.tiny_http_device.specs.Budget.{budget_bytes, budget_room, budget_kind, budget_sink};
 
     ghost sink = { budget_sink };
 
@@ -294,11 +313,25 @@ impl WriteDevice for Budget {
         self.failures
     }
 
-    /// Takes as many bytes as there is room for.
-    fn write_out(&mut self, buf: &[u8]) -> Result<usize, io::Error> {
+    /// Takes as many bytes as there is room for. It fails where there is room for none, or where memory was refused, and
+    /// then takes none.
+    fn write_out(&mut self, buf: &[u8]) -> Result<usize, io::Error>
+        ensures puts { PutsFront (budget_sink self.old) (budget_sink self.new) result buf.now }
+        ensures count { IfOk result (λ n. n ≡ min (length buf.now) (budget_room self.old)) }
+        ensures room { IfOk result (λ n. budget_room self.old ≡ n + budget_room self.new) }
+        ensures empty { length buf.now ≡ 0 → (result ≡ Ok 0) × (self.new ≡ self.old) }
+        ensures full { budget_room self.old ≡ 0 → IfErr result (λ e. error_kind e ≡ budget_kind self.old) }
+        ensures memory { 0 < budget_room self.old → IfErr result (λ e. error_kind e ≡ ErrorKind.OutOfMemory) }
+        ensures none { OnErr result ((budget_bytes self.new ≡ budget_bytes self.old) × (budget_room self.new ≡ budget_room self.old)) }
+        ensures kind { budget_kind self.new ≡ budget_kind self.old }
+    {
         let n = buf.len().min(self.room);
-        if n == 0 && !buf.is_empty() {
-            return Err(self.fail(self.kind));
+        if n == 0 {
+            return if buf.is_empty() {
+                Ok(0)
+            } else {
+                Err(self.fail(self.kind))
+            };
         }
         match self.bytes.extend_from_slice(&buf[..n]) {
             Ok(()) => {
@@ -310,7 +343,12 @@ impl WriteDevice for Budget {
     }
 
     /// Nothing is held back.
-    fn flush_out(&mut self) -> Result<(), io::Error> {
+    fn flush_out(&mut self) -> Result<(), io::Error>
+        ensures puts { Puts (budget_sink self.old) (budget_sink self.new) result [] }
+        ensures sent { OnOk result ((budget_sink self.new).has_ended ≡ false → HoldsNothing (budget_sink self.new)) }
+        ensures ok { IsOk result }
+        ensures unchanged { self.new ≡ self.old }
+    {
         Ok(())
     }
 }
