@@ -31,6 +31,36 @@ fn a_request_is_answered_once(rt: HostRuntime) -> Result<(), Fail> {
     assert_case(&rt, rt.alloc(), &case)
 }
 
+// A text of 5,000 bytes.
+fn long_text(alloc: Global) -> Result<String, Fail> {
+    let mut text = String::new(alloc);
+    for _ in 0..500u16 {
+        text.push_str("0123456789")?;
+    }
+    Ok(text)
+}
+
+// Its text is longer than what is held back at a time.
+#[test]
+fn a_long_answer_is_sent_whole(rt: HostRuntime) -> Result<(), Fail> {
+    let text = long_text(rt.alloc())?;
+    let case = Case {
+        client: b"GET / HTTP/1.1\r\n\r\nGET /b HTTP/1.1\r\n\r\n",
+        deeds: &[Ask, Text(0, text.as_str()), Ask, Text(1, "b")],
+        replies: "0: GET / 1.1; done; 1: GET /b 1.1; done",
+        output: &[
+            "HTTP/1.1 200 OK\r\n",
+            TEXT,
+            "Content-Length: 5000\r\n\r\n",
+            text.as_str(),
+            "HTTP/1.1 200 OK\r\n",
+            TEXT,
+            "Content-Length: 1\r\n\r\nb",
+        ],
+    };
+    assert_case(&rt, rt.alloc(), &case)
+}
+
 #[test]
 fn a_dropped_request_is_answered_500(rt: HostRuntime) -> Result<(), Fail> {
     let case = Case {

@@ -183,6 +183,32 @@ fn a_longer_body_holds_the_next_head(rt: HostRuntime) -> Result<(), Fail> {
     Ok(())
 }
 
+// A step reads at most 65,535 bytes; the body is twice as long.
+#[test]
+fn the_largest_read_of_a_body(rt: HostRuntime) -> Result<(), Fail> {
+    let alloc = rt.alloc();
+    let client = followed(alloc, 131_070, 131_070)?;
+    let replies = replies_of(
+        alloc,
+        "0: POST / 1.1 [Content-Length: 131070] length 131070; given *; not yet; given *; 1: GET /b 1.1; given",
+        65_535,
+    )?;
+    let case = Case {
+        client: client.as_slice(),
+        deeds: &[
+            Ask,
+            Read(0, 65_535),
+            Ask,
+            Read(0, 65_535),
+            Ask,
+            Read(0, 65_535),
+        ],
+        replies: replies.as_str(),
+        output: &[],
+    };
+    assert_case(&rt, alloc, &case)
+}
+
 #[test]
 fn a_body_without_an_end_is_cut_by_the_end(rt: HostRuntime) -> Result<(), Fail> {
     let client = b"GET / HTTP/1.1\r\nContent-Length: 18446744073709551615\r\n\r\nabc";

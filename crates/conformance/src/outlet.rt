@@ -57,7 +57,7 @@ fn assert_written(rt: &impl Abort, alloc: Global, bytes: &[u8]) -> Result<(), Fa
 
 #[test]
 fn what_does_not_fit_is_sent(rt: HostRuntime) -> Result<(), Fail> {
-    for length in [1023, 1024, 1025, 3000] {
+    for length in [1023, 1024, 1025, 3000, 4096, 4097, 9_000] {
         let bytes = bytes_of(rt.alloc(), length)?;
         assert_written(&rt, rt.alloc(), bytes.as_slice())?;
     }
