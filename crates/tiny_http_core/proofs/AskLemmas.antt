@@ -20,7 +20,7 @@ use Rattle.tiny_http_message.specs.declared.waiting.AnswerForm.{AnswerForm}
 use Rattle.tiny_http_message.specs.declared.waiting.Waiting.{Waiting}
 use Rattle.tiny_http_message.specs.Framing.{is_built}
 use Rattle.tiny_http_stream.specs.Source.{GoesOn}
-use Rattle.tiny_http_message.specs.Pipeline.{Item, Asks, Refuses, Request, Place, Heading, Ends, Heads, OneHead, FoundAt, served, served_answer, is_head_method, Pipeline}
+use Rattle.tiny_http_message.specs.Pipeline.{Item, Asks, Refuses, BadRequest, RequestTimeout, ExpectationFailed, VersionNotSupported, Request, Place, Heading, Ends, Heads, OneHead, FoundAt, served, served_answer, is_head_method, Pipeline}
 use Rattle.tiny_http_message.specs.HeadReads.{ReadsHead, IsBeforeHead, standing_of, place_after, place_feed, request_of, refused, head_message, head_framing}
 use Rattle.tiny_http_message.specs.declared.exchange.EndOfRequests.{EndOfRequests}
 use Rattle.tiny_http_stream.specs.declared.source.Standing.{Standing}
@@ -76,11 +76,10 @@ ask-goes date old e h l = rw (e, h, l) refl
 served-unowed : (o : Option Item) (r : Request) → Some (Asks r) ≡ served_answer o → r.framing.owes_continue ≡ false
 served-unowed None r e = cc
 served-unowed (Some (Asks q)) r e = cc
-served-unowed (Some (Refuses status v w)) r e = by-status (status == 400) e
-  where
-    by-status : (t : Bool) → Some (Asks r) ≡ (if t then Some (Refuses status v w) else None) → r.framing.owes_continue ≡ false
-    by-status true e = cc
-    by-status false e = cc
+served-unowed (Some (Refuses BadRequest v w l)) r e = cc
+served-unowed (Some (Refuses RequestTimeout v w l)) r e = cc
+served-unowed (Some (Refuses ExpectationFailed v w l)) r e = cc
+served-unowed (Some (Refuses VersionNotSupported v w l)) r e = cc
 
 found-unowed : (stop : Stop) (heading : Heading) (r : Request) (next : Place) → FoundAt stop (served heading) (Some (Asks r)) next → r.framing.owes_continue ≡ false
 found-unowed stop (Ends answer) r next h = served-unowed answer r h.0

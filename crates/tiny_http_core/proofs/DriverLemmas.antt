@@ -34,7 +34,7 @@ use Rattle.tiny_http_wire.specs.declared.common.StatusCode.{StatusCode}
 use Rattle.tiny_http_message.specs.declared.exchange.HeadRead.TheVariants as read
 use Rattle.tiny_http_message.specs.declared.exchange.EndOfRequests.TheVariants as because
 use Rattle.tiny_http_message.specs.HeadReads.{ReadsHead, EndsAt, IsBeforeHead}
-use Rattle.tiny_http_message.specs.Pipeline.{Refuses, OneHead}
+use Rattle.tiny_http_message.specs.Pipeline.{BadRequest}
 use Rattle.tiny_http_core.specs.Driving.{IsRefusal, IsEndAt}
 use Rattle.tiny_http_message.specs.PipelineReading.{items_of}
 use Rattle.tiny_http_message.proofs.PipelineLemmas.{feed-pipeline}
@@ -60,8 +60,7 @@ refusal-at : (at : Standing) (date : HttpDate) (o p : Option Feed) (status : Sta
 refusal-at at date o p status text last h f e =
     let P : Option Feed → Type 0 = λ y. ReadsHead at date y p (Ok (read.Refused status text last)) in
     let r = subst P e h in
-    let Q : ℕ → Type 0 = λ n. OneHead f.bytes f.stop (Some (Refuses n r.0 false)) None in
-    (status, r.0, subst Q (sym r.4) r.1, refl)
+    (status, BadRequest, r.0, false, r.1, r.4, refl)
 
 end-at : (at : Standing) (date : HttpDate) (o p : Option Feed) (why : EndOfRequests) → ReadsHead at date o p (Ok (read.Ended why)) → (f : Feed) → o ≡ Some f → EndsAt at f.bytes f.stop why
 end-at at date o p why h f e = let P : Option Feed → Type 0 = λ y. ReadsHead at date y p (Ok (read.Ended why)) in (subst P e h).1

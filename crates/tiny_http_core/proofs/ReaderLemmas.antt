@@ -135,7 +135,7 @@ done-open s d = at s.item
 
     at : (item : Item) → body_is_open s item ≡ false
     at (Asks r) = rw (d.given_up, or-true (is_body_finished r s)) (and-false (is_streamed r.framing.form))
-    at (Refuses a b c) = refl
+    at (Refuses a b c d) = refl
 
 pub open-by : (o : Option Slot) (b : Option Body) → LastKept o b → last_is_open o ≡ streams b
 open-by o b (inl h) = rw (h.0, h.1) refl

@@ -45,7 +45,7 @@ nothing-at : (date : HttpDate) (old : Reached) (n : ℕ) (step : Asked) → Take
 nothing-at date old n step free h = at (slice_get old.slots n) refl
   where
     of : (x : Slot) (item : Item) → is_finished x ≡ true → at_item true date old n step x item ≡ unchanged old NoSuch
-    of x (Refuses a b c) f = refl
+    of x (Refuses a b c d) f = refl
     of x (Asks r) f = rw (free x.stage x.owed f) refl
 
     at : (o : Option Slot) → slice_get old.slots n ≡ o → at_slot true date old n step o ≡ unchanged old NoSuch

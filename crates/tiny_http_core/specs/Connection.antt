@@ -116,7 +116,7 @@ behind_body (Some b) feed = option_map (λ (r : Remaining). r.behind) (remaining
 -- what is left of a number's body
 abbrev pub rest_in : ℕ → Item → Feed
 rest_in given (Asks r) = rest_of r given
-rest_in given (Refuses status version withheld) = ending []
+rest_in given (Refuses refusal version withheld last) = ending []
 
 abbrev pub slot_rest : Slot → Feed
 slot_rest s = rest_in s.given s.item

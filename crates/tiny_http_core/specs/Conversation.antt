@@ -72,7 +72,7 @@ Has o old reply new = (new.reached ≡ reached_by o) × Writes o.writer old o.re
 -- the response's data are read whole before its head
 abbrev pub GathersFor : HttpDate → ResponseValue → Item → Type 0
 GathersFor date response (Asks r) = IsGathered response.answer (to_request r date)
-GathersFor date response (Refuses status version withheld) = ⊥
+GathersFor date response (Refuses refusal version withheld last) = ⊥
 
 abbrev pub GathersAt : HttpDate → ResponseValue → Option Slot → Type 0
 GathersAt date response None = ⊥
@@ -87,7 +87,7 @@ MayLack false date old _ = ⊥
 -- the item is a head that is refused
 abbrev pub IsRefused : Item → Type 0
 IsRefused (Asks r) = ⊥
-IsRefused (Refuses status version withheld) = Unit {0}
+IsRefused (Refuses refusal version withheld last) = Unit {0}
 
 -- the heads that were refused on the way are answered, if the turn of the first has come
 abbrev pub answers_to : List Slot → List Item → Use
@@ -146,7 +146,7 @@ WithinBody s (Asks r) left rest =
     (b : Body) × (behind : Feed) × Fits b r.framing.form (said_length r.framing) s.given s.told
     × (remaining b (Some left) ≡ Some (record { body = rest_of r s.given; behind = behind }))
     × PlaceAt r.framing.is_last (Some behind) rest
-WithinBody s (Refuses status version withheld) left rest = ⊥
+WithinBody s (Refuses refusal version withheld last) left rest = ⊥
 
 abbrev pub WithinLast : Option Slot → Option Feed → List Item → Type 0
 WithinLast (Some s) (Some left) rest = WithinBody s s.item left rest

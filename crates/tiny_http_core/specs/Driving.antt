@@ -1,5 +1,5 @@
 -- What the calls of a `Connection` come to.
-use Rattle.std.specs.Prelude.{◌≡◌, ◌⊎◌, false, List, [], ◌∷◌, ◌++◌, Option, Some, None, IsSome}
+use Rattle.std.specs.Prelude.{◌≡◌, ◌⊎◌, Bool, true, List, [], ◌∷◌, ◌++◌, Option, Some, None, IsSome}
 use Rattle.std.specs.declared.io.ErrorKind.{ErrorKind}
 use Rattle.httpdate.specs.declared.date.HttpDate.{HttpDate}
 use Rattle.tiny_http_wire.specs.Device.{Feed, Sink}
@@ -16,7 +16,7 @@ use Rattle.tiny_http_message.specs.declared.exchange.EndOfRequests.{EndOfRequest
 use Rattle.tiny_http_message.specs.declared.exchange.EndOfRequests.TheVariants as because
 use Rattle.tiny_http_message.specs.HeadReads.{EndsAt}
 use Rattle.tiny_http_stream.specs.Outlet.{output_of, SentOn}
-use Rattle.tiny_http_message.specs.Pipeline.{Item, Refuses, OneHead, Pipeline}
+use Rattle.tiny_http_message.specs.Pipeline.{Item, Refuses, Refusal, refusal_status, OneHead, Pipeline}
 use Rattle.tiny_http_core.specs.Steps.{Asked, Replied, Handed, Ended, NotYet, NoSuch, Memory, Fault}
 use Rattle.tiny_http_core.specs.Conversation.{State, Dated, Run, start, IsFresh}
 use Rattle.tiny_http_core.specs.Sending.{FailsOnceUnlessEnded}
@@ -45,7 +45,9 @@ told_step feed (step.Drop k) = step.Drop k
 
 -- the head that stands there is refused, with this status
 abbrev pub IsRefusal : Feed → EndOfRequests → Type 0
-IsRefusal f why = (status : StatusCode) × (version : HTTPVersion) × OneHead f.bytes f.stop (Some (Refuses status.0 version false)) None × (why ≡ because.Refused status)
+IsRefusal f why =
+    (status : StatusCode) × (refusal : Refusal) × (version : HTTPVersion) × (withheld : Bool) × OneHead f.bytes f.stop (Some (Refuses refusal version withheld true)) None
+    × (status.0 ≡ refusal_status refusal) × (why ≡ because.Refused status)
 
 -- WHY THE REQUESTS END where the source stands: the last one was read; or no request stands in the bytes that come.
 abbrev pub IsEndAt : Standing → Option Feed → EndOfRequests → Type 0

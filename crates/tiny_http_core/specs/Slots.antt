@@ -1,5 +1,5 @@
 -- The numbers of a connection: what stands under each, and what each sends.
-use Rattle.std.specs.Prelude.{◌≡◌, ℕ, Bool, true, false, not, ◌&&◌, ◌||◌, ◌==◌, List, [], ◌∷◌, ◌++◌, length, take, drop, Option, Some, None, codes, if◌then◌else◌}
+use Rattle.std.specs.Prelude.{◌≡◌, ℕ, Bool, true, false, not, ◌&&◌, ◌||◌, List, [], ◌∷◌, ◌++◌, length, take, drop, Option, Some, None, codes, if◌then◌else◌}
 use Rattle.std.specs.List.{list_all, last_or}
 use Rattle.std.specs.declared.io.ErrorKind.TheVariants.{OutOfMemory}
 use Rattle.httpdate.specs.declared.date.HttpDate.{HttpDate}
@@ -9,7 +9,7 @@ use Rattle.tiny_http_wire.specs.Device.{Feed, ending}
 use Rattle.tiny_http_wire.specs.Answer.{Answer, Text, Ending, Whole, Broken, Printing, text_of, coding_for, behind, whole, nothing}
 use Rattle.tiny_http_message.specs.declared.framing.Form.{Form}
 use Rattle.tiny_http_message.specs.declared.framing.Form.TheVariants.{Counted, Chunked}
-use Rattle.tiny_http_message.specs.Pipeline.{Item, Asks, Refuses, Request, is_head_method, said_length}
+use Rattle.tiny_http_message.specs.Pipeline.{Item, Asks, Refuses, Refusal, VersionNotSupported, refusal_status, Request, is_head_method, said_length}
 use Rattle.tiny_http_message.specs.OwnAnswer.{own_printing}
 use Rattle.tiny_http_message.specs.Body.{body_finished}
 
@@ -56,8 +56,9 @@ abbrev pub text_type : List Header
 text_type = record { field = codes "Content-Type"; value = codes "text/plain; charset=UTF-8" } ∷ []
 
 -- what a refused head is answered: a text for a version that is too new, else nothing but the status
-abbrev pub refusal_response : ℕ → ResponseValue
-refusal_response status = if status == 505 then own_response 505 text_type too_new_text else own_response status [] []
+abbrev pub refusal_response : Refusal → ResponseValue
+refusal_response VersionNotSupported = own_response (refusal_status VersionNotSupported) text_type too_new_text
+refusal_response refusal = own_response (refusal_status refusal) [] []
 
 -- what a dropped request is answered
 abbrev pub drop_response : ResponseValue
@@ -74,11 +75,11 @@ to_request r date = record { version = r.message.version; request_headers = r.me
 -- how an answer under an item is printed
 abbrev pub printing_for : Item → HttpDate → Printing
 printing_for (Asks r) date = to_request r date
-printing_for (Refuses status version withheld) date = own_printing version withheld date
+printing_for (Refuses refusal version withheld last) date = own_printing version withheld date
 
 abbrev pub own_answer : Item → ResponseValue
 own_answer (Asks r) = drop_response
-own_answer (Refuses status version withheld) = refusal_response status
+own_answer (Refuses refusal version withheld last) = refusal_response refusal
 
 abbrev pub response_text : ResponseValue → Printing → Text
 response_text r p = text_of r.answer r.content p
@@ -149,8 +150,8 @@ breaks_off (s ∷ slots) = is_slot_broken s || (is_finished s && breaks_off slot
 abbrev pub new_slot : HttpDate → Item → Slot
 new_slot date (Asks r) =
     record { item = Asks r; date = date; continued = None; owed = r.framing.owes_continue; given = 0; told = false; given_up = false; stage = Waits }
-new_slot date (Refuses status version withheld) =
-    record { item = Refuses status version withheld; date = date; continued = None; owed = false; given = 0; told = false; given_up = true; stage = ByServer }
+new_slot date (Refuses refusal version withheld last) =
+    record { item = Refuses refusal version withheld last; date = date; continued = None; owed = false; given = 0; told = false; given_up = true; stage = ByServer }
 
 -- the bytes that the body's reader still has
 abbrev pub body_left : Slot → Request → List ℕ
@@ -172,12 +173,12 @@ is_streamed _ = false
 -- the number has the last head
 abbrev pub is_last_item : Item → Bool
 is_last_item (Asks r) = r.framing.is_last
-is_last_item (Refuses status version withheld) = true
+is_last_item (Refuses refusal version withheld last) = last
 
 -- the body is read from the stream, isn't finished and wasn't given up
 abbrev pub body_is_open : Slot → Item → Bool
 body_is_open s (Asks r) = is_streamed r.framing.form && not (is_body_finished r s || s.given_up)
-body_is_open s (Refuses status version withheld) = false
+body_is_open s (Refuses refusal version withheld last) = false
 
 abbrev pub is_chunked : Form → Bool
 is_chunked Chunked = true
@@ -186,7 +187,7 @@ is_chunked _ = false
 -- a chunked body was given up before its end was told: where the next head begins isn't known
 abbrev pub body_was_abandoned : Slot → Item → Bool
 body_was_abandoned s (Asks r) = is_chunked r.framing.form && (s.given_up && not s.told)
-body_was_abandoned s (Refuses status version withheld) = false
+body_was_abandoned s (Refuses refusal version withheld last) = false
 
 abbrev pub last_slot : List Slot → Option Slot
 last_slot slots = last_or None slots

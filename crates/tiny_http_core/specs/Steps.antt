@@ -82,8 +82,8 @@ abbrev pub asks_from : HttpDate → Use → List Slot → List Item → Outcome
 asks_from date writer slots [] = record { reply = Ended; slots = slots; rest = []; ended = true; writer = writer }
 asks_from date writer slots (Asks r ∷ items) =
     record { reply = Handed (length slots) r.message r.framing; slots = slots ++ new_slot date (Asks r) ∷ []; rest = items; ended = false; writer = writer }
-asks_from date writer slots (Refuses status version withheld ∷ items) =
-    asks_from date (if turn_has_come (length slots) slots then Unreported else writer) (slots ++ new_slot date (Refuses status version withheld) ∷ []) items
+asks_from date writer slots (Refuses refusal version withheld last ∷ items) =
+    asks_from date (if turn_has_come (length slots) slots then Unreported else writer) (slots ++ new_slot date (Refuses refusal version withheld last) ∷ []) items
 
 -- The answer to an Ask: Ended once it was; NotYet while the last body handed out holds the reader; Ended behind a chunked
 -- body that was given up before its end; else the next request of the pipeline, or its end.
@@ -180,7 +180,7 @@ effect found date old r s turn (Drop k) = changes old k (finished s ByServer) Do
 effect found date old r s turn Ask = unchanged old NoSuch
 
 abbrev pub at_item : Bool → HttpDate → Reached → ℕ → Asked → Slot → Item → Outcome
-at_item found date old k step s (Refuses status version withheld) = unchanged old NoSuch
+at_item found date old k step s (Refuses refusal version withheld last) = unchanged old NoSuch
 at_item found date old k step s (Asks r) =
     if not (takes s.stage s.owed step) then unchanged old NoSuch else
     if (waits s.owed step && not (turn_has_come k old.slots)) then unchanged old NotYet else

@@ -38,7 +38,7 @@ use Rattle.tiny_http_stream.specs.ToCome.{skipped}
 use Rattle.tiny_http_message.specs.Body.{Remaining, remaining, counted_left, coming_left, Fits, IsOver, ReadsOn}
 use Rattle.tiny_http_message.specs.Exchange.{KeepsHead}
 use Rattle.tiny_http_stream.specs.Source.{TakesExactly, from}
-use Rattle.tiny_http_message.specs.Pipeline.{Item, Asks, Refuses, Place, Heading, Ends, Heads, IsCutHeld, cut_answer, is_timed_out, said_length, served, served_answer, BodyAt, FoundAt, OneHead, item_of, goes_on}
+use Rattle.tiny_http_message.specs.Pipeline.{Item, Asks, Refuses, BadRequest, RequestTimeout, ExpectationFailed, Place, Heading, Ends, Heads, IsCutHeld, cut_answer, is_timed_out, said_length, served, served_answer, BodyAt, FoundAt, OneHead, item_of, goes_on}
 use Rattle.tiny_http_message.specs.HeadReads.{ReadsMessage, ReadsHead, RefusesBy, Begins, ComesWith, IsCutOff, IsUnserved, IsBeforeHead, cut_end, end_at, place_after, message_of, head_message, head_framing}
 use Rattle.tiny_http_message.specs.declared.exchange.EndOfRequests.{EndOfRequests}
 use Rattle.tiny_http_message.specs.declared.exchange.EndOfRequests.TheVariants as because
@@ -52,7 +52,7 @@ use Rattle.std.specs.Prelude.{IfSome, IsSome}
 use Rattle.tiny_http_stream.proofs.Inputs.{skipped-within, skipped-beyond}
 use Rattle.tiny_http_message.proofs.PipelineLemmas.{sized-is}
 
-not_served : (t : Bool) → ◌≡◌ {A = Option Item} None (served_answer (if t then Some (Refuses 408 (version 1 1) false) else None))
+not_served : (t : Bool) → ◌≡◌ {A = Option Item} None (served_answer (if t then Some (Refuses RequestTimeout (version 1 1) false true) else None))
 not_served true = refl
 not_served false = refl
 
@@ -74,7 +74,7 @@ head-refused date (Some f) p v fault.NotAscii cut (Ok (read.Refused status text 
 head-refused date (Some f) p v fault.Malformed cut (Ok (read.Ended x)) h k why = absurd k
 head-refused date (Some f) p v fault.Malformed cut (Ok (read.Request x)) h k why = absurd k
 head-refused date (Some f) p v fault.Malformed cut (Ok (read.Refused status text last)) h k why =
-    (unwrap_or v (version 1 1), (Ends (Some (Refuses 400 (unwrap_or v (version 1 1)) false)), inl (v, Malformed, h, refl), (refl, refl)), k.1, k.2, k.0)
+    (unwrap_or v (version 1 1), (Ends (Some (Refuses BadRequest (unwrap_or v (version 1 1)) false true)), inl (v, Malformed, h, refl), (refl, refl)), k.1, k.2, k.0)
 head-refused date (Some f) p v fault.Memory cut (Ok x) h k why = absurd k
 
 -- an expectation that can't be met
@@ -82,7 +82,7 @@ pub head-unframed : (date : HttpDate) (o p : Option Feed) (m : Message) → Read
 head-unframed date None p m h e = tt
 head-unframed date (Some f) p m h e =
     let P : Option Framing → Type 0 = λ x. IsUnserved x m.version in
-    ((Ends (Some (Refuses 417 m.version false)), inr (inl (message_of m, h.0, h.1, e, refl)), (refl, refl)), inr (inr (message_of m, h.0, h.1, subst P (sym e) tt, refl)))
+    ((Ends (Some (Refuses ExpectationFailed m.version false true)), inr (inl (message_of m, h.0, h.1, e, refl)), (refl, refl)), inr (inr (message_of m, h.0, h.1, subst P (sym e) tt, refl)))
 
 abbrev pub is_cut_held : Form → ℕ → List ℕ → Bool
 is_cut_held Held n after = nat_lt (length after) n

@@ -30,7 +30,7 @@ use Rattle.tiny_http_message.specs.declared.heads.HeadFault.TheVariants as fault
 use Rattle.tiny_http_message.specs.declared.body.Body.{Body}
 use Rattle.tiny_http_message.specs.Framing.{framing, is_built, is_rest}
 use Rattle.tiny_http_stream.specs.Source.{SourceState, from, IsAtEnd}
-use Rattle.tiny_http_message.specs.Pipeline.{Request, Item, Asks, Refuses, Place, IsCutHeld, BodyAt, OneHead, said_length}
+use Rattle.tiny_http_message.specs.Pipeline.{Request, Item, Asks, Refuses, BadRequest, Place, IsCutHeld, BodyAt, OneHead, said_length}
 use Rattle.tiny_http_message.specs.OwnAnswer.{own_text}
 use Rattle.tiny_http_message.specs.Body.{Remaining, remaining, Fits}
 use Rattle.tiny_http_message.specs.Exchange.{exchange_head, exchange_left, exchange_streams, KeepsRequest}
@@ -110,7 +110,7 @@ ReadsMessage (Some f) new (Err e) = IsFaultyHead f.bytes e.0 e.1
 
 -- the item of a head that is refused by a 400 in this version
 abbrev pub refused : HTTPVersion → Item
-refused v = Refuses 400 v false
+refused v = Refuses BadRequest v false true
 
 -- nothing is left of the input, and it stopped as its feed does
 pub record IsCutOff {R : Type 0} (old new : SourceState R) : Type 0 where
@@ -202,9 +202,10 @@ ReadsHead from_here date (Some f) new (Ok (read.Refused status text last)) =
 ReadsHead from_here date (Some f) new (Ok (read.Ended why)) = OneHead f.bytes f.stop None None × EndsAt from_here f.bytes f.stop why
 ReadsHead from_here date (Some f) new (Err e) = ⊤
 
--- behind anything but a request the source has ended
+-- after anything but a request, or a refused head after which another follows, the source has ended
 abbrev pub EndsUnlessHanded : {R : Type 0} → Result HeadRead AllocError → SourceState R → Type 0
 EndsUnlessHanded (Ok (read.Request x)) s = ⊤
+EndsUnlessHanded (Ok (read.Refused status text false)) s = ⊤
 EndsUnlessHanded _ s = IsAtEnd s
 
 -- a source stands in front of a head, or where one would begin

@@ -1,5 +1,5 @@
 -- What a connection's bytes ask: requests with their bodies, and heads that are refused.
-use Rattle.std.specs.Prelude.{◌≡◌, ℕ, ◌<◌, ◌⊎◌, Bool, true, false, ◌==◌, List, [], ◌∷◌, ◌++◌, length, Option, Some, None, unwrap_or, if◌then◌else◌}
+use Rattle.std.specs.Prelude.{◌≡◌, ℕ, ◌<◌, ◌⊎◌, Bool, true, false, List, [], ◌∷◌, ◌++◌, length, Option, Some, None, unwrap_or, if◌then◌else◌}
 use Rattle.std.specs.declared.io.ErrorKind.{ErrorKind}
 use Rattle.std.specs.declared.io.ErrorKind.TheVariants.{TimedOut}
 use Rattle.tiny_http_wire.specs.declared.common.Method.{Method}
@@ -21,10 +21,29 @@ pub record Request : Type 0 where
   pub framing : Framing
   pub body : Feed
 
--- a head of the connection: handed out, or refused
+-- why a head is refused
+pub data Refusal : Type 0 where
+  -- it is no head by the grammar
+  BadRequest : Refusal
+  -- the reader timed out before it had come
+  RequestTimeout : Refusal
+  -- what it expects can't be met
+  ExpectationFailed : Refusal
+  -- its version is above 1.1
+  VersionNotSupported : Refusal
+
+-- the status that says so (RFC 9110, sections 15.5.1, 15.5.9, 15.5.18 and 15.6.6)
+abbrev pub refusal_status : Refusal → ℕ
+refusal_status BadRequest = 400
+refusal_status RequestTimeout = 408
+refusal_status ExpectationFailed = 417
+refusal_status VersionNotSupported = 505
+
+-- a head of the connection: handed out, or refused, in this version, with its body withheld or not; if it is the last no
+-- head follows
 pub data Item : Type 0 where
   Asks : (request : Request) → Item
-  Refuses : (status : ℕ) (version : HTTPVersion) (withheld : Bool) → Item
+  Refuses : (refusal : Refusal) (version : HTTPVersion) (withheld last : Bool) → Item
 
 -- where the next head begins; or None: the connection has ended
 abbrev pub Place : Type 0
@@ -40,13 +59,13 @@ is_head_method _ = false
 
 -- an unfinished head is answered only where the reader timed out
 abbrev pub cut_answer : Stop → Option Item
-cut_answer stop = if is_timed_out stop then Some (Refuses 408 (version 1 1) false) else None
+cut_answer stop = if is_timed_out stop then Some (Refuses RequestTimeout (version 1 1) false true) else None
 
 -- the answer to the first faulty line
 abbrev pub fault_answer : Option HTTPVersion → Fault → Stop → Option Item
 fault_answer v Cut stop = cut_answer stop
 fault_answer v NotAscii stop = None
-fault_answer v Malformed stop = Some (Refuses 400 (unwrap_or v (version 1 1)) false)
+fault_answer v Malformed stop = Some (Refuses BadRequest (unwrap_or v (version 1 1)) false true)
 
 abbrev pub said_length : Framing → ℕ
 said_length f = unwrap_or f.body_length 0
@@ -65,7 +84,7 @@ pub data Heading : Type 0 where
 abbrev pub HeadAt : List ℕ → Stop → Heading → Type 0
 HeadAt bytes stop (Ends answer) =
     ((v : Option HTTPVersion) × (fault : Fault) × FaultyHead bytes v fault × (answer ≡ fault_answer v fault stop))
-    ⊎ (((m : Message) × (after : List ℕ) × HeadText bytes m after × (framing m.version m.headers ≡ None) × (answer ≡ Some (Refuses 417 m.version false)))
+    ⊎ (((m : Message) × (after : List ℕ) × HeadText bytes m after × (framing m.version m.headers ≡ None) × (answer ≡ Some (Refuses ExpectationFailed m.version false true)))
     ⊎ ((m : Message) × (after : List ℕ) × (f : Framing) × HeadText bytes m after × (framing m.version m.headers ≡ Some f) × IsCutHeld f.form (said_length f) after × (answer ≡ cut_answer stop)))
 HeadAt bytes stop (Heads m f after) =
     HeadText bytes m after × (framing m.version m.headers ≡ Some f) × (IsCutHeld f.form (said_length f) after → ⊥)
@@ -74,7 +93,10 @@ HeadAt bytes stop (Heads m f after) =
 abbrev pub served_answer : Option Item → Option Item
 served_answer None = None
 served_answer (Some (Asks r)) = None
-served_answer (Some (Refuses status v withheld)) = if status == 400 then Some (Refuses status v withheld) else None
+served_answer (Some (Refuses BadRequest v withheld last)) = Some (Refuses BadRequest v withheld last)
+served_answer (Some (Refuses RequestTimeout v withheld last)) = None
+served_answer (Some (Refuses ExpectationFailed v withheld last)) = None
+served_answer (Some (Refuses VersionNotSupported v withheld last)) = None
 
 abbrev pub served : Heading → Heading
 served (Ends answer) = Ends (served_answer answer)
@@ -103,7 +125,7 @@ ends_too_new _ = false
 
 abbrev pub item_of : Message → Framing → Feed → Item
 item_of m f body =
-    if is_too_new m.version then Refuses 505 (version 1 1) (is_head_method m.method) else Asks (record { message = m; framing = f; body = body })
+    if is_too_new m.version then Refuses VersionNotSupported (version 1 1) (is_head_method m.method) (ends_too_new f.form) else Asks (record { message = m; framing = f; body = body })
 
 abbrev pub goes_on : Message → Framing → Place → Place
 goes_on m f next = if (if is_too_new m.version then ends_too_new f.form else f.is_last) then None else next

@@ -1,5 +1,5 @@
 -- The pipeline of a feed, computed: one plain reading, by which its law is proved.
-use Rattle.std.specs.Prelude.{ℕ, zero, suc, ◌+◌, Bool, false, nat_lt, List, [], ◌∷◌, length, take, drop, Option, Some, None, Ok, Err, if◌then◌else◌}
+use Rattle.std.specs.Prelude.{ℕ, zero, suc, ◌+◌, Bool, true, false, nat_lt, List, [], ◌∷◌, length, take, drop, Option, Some, None, Ok, Err, if◌then◌else◌}
 use Rattle.tiny_http_wire.specs.declared.device.Stop.{Stop}
 use Rattle.tiny_http_wire.specs.declared.device.Stop.TheVariants.{End, Fault as Faults}
 use Rattle.tiny_http_wire.specs.Device.{Feed}
@@ -10,7 +10,7 @@ use Rattle.tiny_http_message.specs.declared.framing.Form.{Form}
 use Rattle.tiny_http_message.specs.declared.framing.Form.TheVariants.{Rest, Nothing, Held, Counted, Chunked}
 use Rattle.tiny_http_message.specs.declared.framing.Framing.{Framing}
 use Rattle.tiny_http_message.specs.Framing.{framing}
-use Rattle.tiny_http_message.specs.Pipeline.{Item, Refuses, Place, Heading, Ends, Heads, fault_answer, cut_answer, said_length, served, item_of, goes_on}
+use Rattle.tiny_http_message.specs.Pipeline.{Item, Refuses, ExpectationFailed, Place, Heading, Ends, Heads, fault_answer, cut_answer, said_length, served, item_of, goes_on}
 
 -- a body and where the next head begins
 pub record BodyRead : Type 0 where
@@ -41,7 +41,7 @@ is_cut_held Rest n after = false
 is_cut_held Chunked n after = false
 
 abbrev pub framed : Message → List ℕ → Stop → Option Framing → Heading
-framed m after stop None = Ends (Some (Refuses 417 m.version false))
+framed m after stop None = Ends (Some (Refuses ExpectationFailed m.version false true))
 framed m after stop (Some f) = if is_cut_held f.form (said_length f) after then Ends (cut_answer stop) else Heads m f after
 
 abbrev pub heading : Stop → HeadRead → Heading
