@@ -120,13 +120,31 @@ const ROWS: &[Row] = &[
         b"POST / HTTP/1.1\r\nTransfer-Encoding: chunked\r\n\r\n3\r\nabcd",
         None,
         &[Ask, Read(0, 9), Read(0, 9), Ask],
-        Some(EndOfRequests::Fault(ErrorKind::InvalidData)),
+        Some(EndOfRequests::BrokenBody(ErrorKind::InvalidData)),
     ),
     (
         b"GET / HTTP/2.0\r\n\r\n",
         None,
         &[Ask],
         Some(EndOfRequests::NotServed),
+    ),
+    (
+        b"POST / HTTP/2.0\r\nContent-Length: 3\r\n\r\nab",
+        None,
+        &[Ask],
+        Some(EndOfRequests::Cut),
+    ),
+    (
+        b"POST / HTTP/1.1\r\nContent-Length: 2000\r\n\r\nabc",
+        Some(ErrorKind::TimedOut),
+        &[Ask, Drop(0), Ask],
+        Some(EndOfRequests::Closed),
+    ),
+    (
+        b"POST / HTTP/1.1\r\nContent-Length: 2000\r\n\r\nabc",
+        Some(ErrorKind::TimedOut),
+        &[Ask, Read(0, 4), Read(0, 4), Drop(0), Ask],
+        Some(EndOfRequests::BrokenBody(ErrorKind::TimedOut)),
     ),
 ];
 

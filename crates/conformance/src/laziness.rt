@@ -4,6 +4,7 @@ use crate::runs::{Deed, steps_of};
 use crate::same::assert_same;
 use std::alloc::Global;
 use std::io;
+use std::io::{Cursor, ErrorKind};
 use std::process::Abort;
 use std::test::Fail;
 use tiny_http_core::driver::run;
@@ -23,6 +24,20 @@ impl ReadDevice for Client {
         buf[..n].copy_from_slice(&piece[..n]);
         self.calls = self.calls.saturating_add(1);
         Ok(n)
+    }
+}
+
+// A client that gives its bytes as fast as they are taken. It counts the calls.
+#[derive(Drop)]
+struct Counted {
+    bytes: Cursor<Vec<u8>>,
+    calls: usize,
+}
+
+impl ReadDevice for Counted {
+    fn read_in(&mut self, buf: &mut [u8]) -> Result<usize, io::Error> {
+        self.calls = self.calls.saturating_add(1);
+        self.bytes.read_in(buf)
     }
 }
 
@@ -95,6 +110,89 @@ fn a_chunk_is_given_before_the_next(rt: HostRuntime) -> Result<(), Fail> {
     let deeds = &[Ask, Read(0, 3), Read(0, 2), Read(0, 1), Read(0, 1), Ask];
     let wanted = [0, 1, 1, 1, 2, 2, 3];
     assert_calls(&rt, rt.alloc(), CHUNKS, deeds, &wanted)
+}
+
+// A body that is longer than what is read with a head, and whole.
+fn whole_body(alloc: Global) -> Result<Vec<u8>, Fail> {
+    let mut bytes = b"POST / HTTP/1.1\r\nContent-Length: 1025\r\n\r\n".to_vec(alloc)?;
+    for _ in 0..1025u16 {
+        bytes.push(b'x')?;
+    }
+    Ok(bytes)
+}
+
+// How often a client that gives its bytes as fast as they are taken is called by these steps.
+fn calls_for(alloc: Global, deeds: &[Deed<'_>]) -> Result<usize, Fail> {
+    let bytes = Cursor::new(whole_body(alloc)?);
+    let mut client = Counted { bytes, calls: 0 };
+    let steps = steps_of(alloc, deeds)?;
+    match run(alloc, &mut client, Metered::new(Vec::new(alloc)), steps) {
+        Ok(done) => drop(done),
+        Err(_) => return Err("no memory".into()),
+    }
+    Ok(client.calls)
+}
+
+// The head and the first bytes come by one call, the others by a second.
+#[test]
+fn a_body_waits_for_no_byte_after_it(rt: HostRuntime) -> Result<(), Fail> {
+    let read = calls_for(rt.alloc(), &[Ask, Read(0, 1025)])?;
+    let answered = calls_for(rt.alloc(), &[Ask, Read(0, 1025), Text(0, "a")])?;
+    assert_same(&rt, (read, answered), (2, 2));
+    Ok(())
+}
+
+// Heads that are answered or passed over, each in one piece.
+const NO_REQUESTS: &[&[&[u8]]] = &[
+    &[b"bad\r\n"],
+    &[b"GET / HTTP/1.1\r\nbad\r\n"],
+    &[b"GET /\xff HTTP/1.1\r\n"],
+    &[b"GET / HTTP/2.0\r\n\r\n"],
+];
+
+#[test]
+fn a_head_that_is_no_request_waits_for_no_more(rt: HostRuntime) -> Result<(), Fail> {
+    for pieces in NO_REQUESTS {
+        assert_calls(&rt, rt.alloc(), pieces, &[Ask, Ask], &[0, 1, 1])?;
+    }
+    Ok(())
+}
+
+// A reader that fails once, and then gives a request.
+#[derive(Drop)]
+struct Recovering {
+    calls: usize,
+}
+
+impl ReadDevice for Recovering {
+    fn read_in(&mut self, buf: &mut [u8]) -> Result<usize, io::Error> {
+        self.calls = self.calls.saturating_add(1);
+        if self.calls == 1 {
+            return Err(ErrorKind::TimedOut.into());
+        }
+        let request = b"GET / HTTP/1.1\r\n\r\n".as_slice();
+        let n = request.len().min(buf.len());
+        buf[..n].copy_from_slice(&request[..n]);
+        Ok(n)
+    }
+}
+
+// How often such a reader is called by these steps.
+fn calls_of_recovering(alloc: Global, deeds: &[Deed<'_>]) -> Result<usize, Fail> {
+    let mut reader = Recovering { calls: 0 };
+    let steps = steps_of(alloc, deeds)?;
+    match run(alloc, &mut reader, Metered::new(Vec::new(alloc)), steps) {
+        Ok(done) => drop(done),
+        Err(_) => return Err("no memory".into()),
+    }
+    Ok(reader.calls)
+}
+
+#[test]
+fn a_reader_that_failed_is_not_called_again(rt: HostRuntime) -> Result<(), Fail> {
+    let calls = calls_of_recovering(rt.alloc(), &[Ask, Ask, Ask])?;
+    assert_same(&rt, calls, 1);
+    Ok(())
 }
 
 // The last request, whose body comes after.

@@ -1,5 +1,5 @@
 //! A connection driven step by step, or by a list of steps, without threads.
-ghost use Rattle.std.specs.Prelude.{◌≡◌, ◌-◌, ◌<◌, ◌^◌, true, false, List, [], length, Some, map, Ok, IfOk, IfErr, vec_len, is_some, slice_get};
+ghost use Rattle.std.specs.Prelude.{◌≡◌, ◌-◌, ◌<◌, ◌^◌, true, false, List, [], length, Some, None, map, Ok, IfOk, IfErr, vec_len, is_some, slice_get};
 ghost use Rattle.std.specs.List.{AllZip};
 ghost use Rattle.tiny_http_wire.specs.Device.{Feed, Sink, HoldsNothing};
 ghost use Rattle.tiny_http_core.specs.Slots.{ResponseValue};
@@ -31,7 +31,7 @@ use tiny_http_wire::response::Response;
 /// What is done next on a connection.
 #[derive(Drop)]
 pub enum Step<D> {
-    /// Reads the next head and hands it out. It waits while the body of the last request that was handed out holds the
+    /// Reads the next head and hands it out. It is `NotYet` while the body of the last request that was handed out holds the
     /// reader: one that is counted or chunked, neither read to its end nor given up, of a request that isn't the
     /// connection's last. Behind a chunked body that was given up before its end was told no head follows.
     Ask,
@@ -80,7 +80,7 @@ pub enum Reply {
 pub struct Record<R: ReadDevice, W: WriteDevice> {
     /// What each step was answered.
     pub replies: Vec<Reply>,
-    /// The reader, with what was read ahead. It stands behind the last head that was read and what was read of its body.
+    /// The reader, with the bytes that are held. It stands behind the last head that was read and what was read of its body.
     pub source: Source<R>,
     /// The writer, with what is held back. Its bytes and then those held are the output.
     pub outlet: Outlet<W>,
@@ -181,6 +181,7 @@ impl<R: ReadDevice, W: WriteDevice> Connection<R, W> {
     /// A connection on which nothing was asked yet. Its theorem is for a writer that has taken nothing and has not ended.
     pub fn new(alloc: Global, reader: R, writer: W) -> Connection<R, W>
         ensures begins { (client : Feed) → R.feed reader ≡ Some client → IsFresh (W.sink writer) → HasDone client (W.sink writer) result [] [] }
+        ensures open { (result.end ≡ None) × (result.requests ≡ []) }
         ensures feed { result.source.feed ≡ R.feed reader }
         ensures outlet { result.outlet ≡ record { held = []; ended = false; writer = writer; tells = W.sink writer } }
     {
@@ -217,8 +218,8 @@ impl<R: ReadDevice, W: WriteDevice> Connection<R, W> {
     /// holds the reader: until that was read to its end, or the request was answered or dropped. It is `Ended` once the
     /// connection has no further request, from then on, and `end_of_requests` says why. A refused head is answered under a
     /// number of its own, in its turn, and ends the asking; so does `Memory`, and a chunked body that was given up before its
-    /// end. It reads no further than the head, and a body of up to 1024 bytes, and so waits for the client only while these
-    /// have not come. After the last request the reader isn't called. `now` dates the answer to a refused head, and the 500 of
+    /// end. It reads no further than the head, and a body of up to 1024 bytes, and so waits for the client only while these,
+    /// and what was left of a counted body that was given up, have not come. After the last request the reader isn't called. `now` dates the answer to a refused head, and the 500 of
     /// this request if it is dropped.
     pub fn ask(&mut self, alloc: Global, now: HttpDate) -> Reply
         ensures step { TakesStep self.old self.new now Step.Ask (seen result) }

@@ -81,7 +81,7 @@ head-refused date (Some f) p v fault.Memory cut (Ok x) h k why = absurd k
 pub head-unframed : (date : HttpDate) (o p : Option Feed) (m : Message) → ReadsMessage o p (Ok m) → framing m.version m.headers.items ≡ None → ReadsHead at.Head date o p (Ok (read.Ended because.NotServed))
 head-unframed date None p m h e = tt
 head-unframed date (Some f) p m h e =
-    let P : Option Framing → Type 0 = λ x. IsUnserved x m.version in
+    let P : Option Framing → Type 0 = λ x. IsUnserved x m.version h.0 in
     ((Ends (Some (Refuses ExpectationFailed m.version false true)), inr (inl (message_of m, h.0, h.1, e, refl)), (refl, refl)), inr (inr (message_of m, h.0, h.1, subst P (sym e) tt, refl)))
 
 abbrev pub is_cut_held : Form → ℕ → List ℕ → Bool
@@ -112,11 +112,22 @@ unbuilt bytes stop m f after h e b false c =
     let same : Ends None ≡ served (Heads m f after) = rw b refl in
     (Heads m f after, (h, e, not_cut), subst P same (refl, refl))
 
-pub head-unbuilt : (date : HttpDate) (o p : Option Feed) (m : Message) (f : Framing) → ReadsMessage o p (Ok m) → framing m.version m.headers.items ≡ Some f → is_built m.version f ≡ false → ReadsHead at.Head date o p (Ok (read.Ended because.NotServed))
-head-unbuilt date None p m f h e b = tt
-head-unbuilt date (Some x) p m f h e b =
-    let P : Option Framing → Type 0 = λ y. IsUnserved y m.version in
-    (unbuilt x.bytes x.stop (message_of m) f h.0 h.1 e b (is_cut_held f.form (said_length f) h.0) refl, inr (inr (message_of m, h.0, h.1, subst P (sym e) b, refl)))
+-- a body that begins isn't cut
+uncut : (form : Form) (n : ℕ) (after : List ℕ) → (is_rest form ≡ false → IsCutHeld form n after → ⊥) → IsCutHeld form n after → ⊥
+uncut Held n after h k = h refl k
+uncut Rest n after h k = elim k [ ]
+uncut Nothing n after h k = elim k [ ]
+uncut Counted n after h k = elim k [ ]
+uncut Chunked n after h k = elim k [ ]
+
+pub head-unbuilt : (date : HttpDate) (o p q : Option Feed) (m : Message) (f : Framing) (b : Body) → ReadsMessage o p (Ok m) → framing m.version m.headers.items ≡ Some f → Begins f p q (Some b) → is_built m.version f ≡ false → ReadsHead at.Head date o q (Ok (read.Ended because.NotServed))
+head-unbuilt date None p q m f y h e begins b = tt
+head-unbuilt date (Some x) p q m f y h e begins b =
+    let P : Option Framing → Type 0 = λ z. IsUnserved z m.version h.0 in
+    let B : Option Feed → Type 0 = λ z. Begins f z q (Some y) in
+    let started = subst B h.2 begins in
+    let whole : IsCutHeld f.form (said_length f) h.0 → ⊥ = uncut f.form (said_length f) h.0 (λ r. (started r).0) in
+    (unbuilt x.bytes x.stop (message_of m) f h.0 h.1 e b (is_cut_held f.form (said_length f) h.0) refl, inr (inr (message_of m, h.0, h.1, subst P (sym e) (b, whole), refl)))
 
 -- what is built is no version above 1.1, owes no 100, and names no upgrade
 pub record Built (v : HTTPVersion) (f : Framing) : Type 0 where

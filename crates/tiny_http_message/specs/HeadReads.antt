@@ -130,10 +130,10 @@ IsCutHead bytes =
     ((v : Option HTTPVersion) × FaultyHead bytes v Cut)
     ⊎ ((m : Texted) × (after : List ℕ) × (f : Framing) × HeadText bytes m after × (framing m.version m.headers ≡ Some f) × IsCutHeld f.form (said_length f) after)
 
--- a head that isn't served yet
-abbrev pub IsUnserved : Option Framing → HTTPVersion → Type 0
-IsUnserved None v = Unit {0}
-IsUnserved (Some f) v = is_built v f ≡ false
+-- a head that isn't served yet, and a body that is read with it isn't cut
+abbrev pub IsUnserved : Option Framing → HTTPVersion → List ℕ → Type 0
+IsUnserved None v after = Unit {0}
+IsUnserved (Some f) v after = (is_built v f ≡ false) × (IsCutHeld f.form (said_length f) after → ⊥)
 
 -- WHY NO REQUEST comes from these bytes, which are answered by nothing: the head is cut; or a line of it isn't ASCII; or it
 -- asks for what isn't served yet.
@@ -141,18 +141,18 @@ abbrev pub EndsBy : List ℕ → Stop → EndOfRequests → Type 0
 EndsBy bytes stop why =
     (IsCutHead bytes × (why ≡ cut_end stop (nat_lt 0 (length bytes))))
     ⊎ (((v : Option HTTPVersion) × FaultyHead bytes v NotAscii × (why ≡ because.NotAscii))
-    ⊎ ((m : Texted) × (after : List ℕ) × HeadText bytes m after × IsUnserved (framing m.version m.headers) m.version × (why ≡ because.NotServed)))
+    ⊎ ((m : Texted) × (after : List ℕ) × HeadText bytes m after × IsUnserved (framing m.version m.headers) m.version after × (why ≡ because.NotServed)))
 
 -- the same at a place: after a body that was given up, or broke off, that is the reason
 abbrev pub EndsAt : Standing → List ℕ → Stop → EndOfRequests → Type 0
 EndsAt at.Lost bytes stop why = why ≡ because.AbandonedBody
-EndsAt (at.Broken kind) bytes stop why = why ≡ because.Fault kind
+EndsAt (at.Broken kind) bytes stop why = why ≡ because.BrokenBody kind
 EndsAt _ bytes stop why = EndsBy bytes stop why
 
 -- the reason at a place, where the input alone gives this one
 abbrev pub end_at : Standing → EndOfRequests → EndOfRequests
 end_at at.Lost why = because.AbandonedBody
-end_at (at.Broken kind) why = because.Fault kind
+end_at (at.Broken kind) why = because.BrokenBody kind
 end_at _ why = why
 
 -- What a faulty head is answered so far, under the version if that was read, or why it ends the requests; memory for its

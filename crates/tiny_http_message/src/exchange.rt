@@ -55,7 +55,8 @@ pub struct Exchange {
 pub enum EndOfRequests {
     /// The last request was read: its version or its `Connection` header ends the connection after it.
     LastRequest,
-    /// The client's bytes ended where a head would begin.
+    /// The client's bytes ended, and no byte of a further head had come. So it is too where they ended within a body of a known
+    /// length, or, by an end or a fault, within what was left of one that was given up.
     Closed,
     /// They ended within a head, or within a body that is read with its head.
     Cut,
@@ -65,8 +66,10 @@ pub enum EndOfRequests {
     Refused(StatusCode),
     /// The reader timed out before the head, and a body that is read with it, had come.
     TimedOut,
-    /// The reader failed so before that, or the body before broke off so.
+    /// The reader failed so before that.
     Fault(ErrorKind),
+    /// The body before was read to this fault, the reader's or the body's own.
+    BrokenBody(ErrorKind),
     /// The chunked body before was given up before its end was read, so where the head begins isn't known.
     AbandonedBody,
     /// The body before was neither read to its end nor given up.
@@ -287,14 +290,16 @@ fn read_item<R: ReadDevice>(
     let Some(framing) = framing_of(message.version, message.headers.as_slice()) else {
         return Ok(HeadRead::Ended(EndOfRequests::NotServed));
     };
-    if !is_built(message.version, framing) {
-        return Ok(HeadRead::Ended(EndOfRequests::NotServed));
-    }
     match begin_body(alloc, source, framing) {
-        Ok(Some(body)) => match hand_out(alloc, head_of(message, framing), body, now) {
-            Ok(exchange) => Ok(HeadRead::Request(exchange)),
-            Err(e) => Err(e),
-        },
+        Ok(Some(body)) => {
+            if !is_built(message.version, framing) {
+                return Ok(HeadRead::Ended(EndOfRequests::NotServed));
+            }
+            match hand_out(alloc, head_of(message, framing), body, now) {
+                Ok(exchange) => Ok(HeadRead::Request(exchange)),
+                Err(e) => Err(e),
+            }
+        }
         Ok(None) => Ok(HeadRead::Ended(cut_end(source.stop(), true))),
         Err(e) => Err(e),
     }
@@ -319,7 +324,7 @@ fn end_at(standing: Standing, why: EndOfRequests) -> EndOfRequests
 {
     match standing {
         Standing::Lost => EndOfRequests::AbandonedBody,
-        Standing::Broken(kind) => EndOfRequests::Fault(kind),
+        Standing::Broken(kind) => EndOfRequests::BrokenBody(kind),
         _ => why,
     }
 }
@@ -329,7 +334,7 @@ fn end_at(standing: Standing, why: EndOfRequests) -> EndOfRequests
 /// the 500 of a request that is dropped. An error where memory was refused. After anything but a request the source has
 /// ended, but after the last request: then nothing is read, and its body can be read on.
 ///
-/// Bytes of a body are never read as a head. Where the body of the request before was neither read to its end nor given up
+/// By `read_head`, `read_body` and `give_up` on one source bytes of a body are never read as a head. Where the body of the request before was neither read to its end nor given up
 /// the answer is `UnreadBody`, and the source ends there.
 pub fn read_head<R: ReadDevice>(
     alloc: Global,
@@ -345,7 +350,7 @@ pub fn read_head<R: ReadDevice>(
     ensures at_end { IsAtEnd source.old → IsOkEnd result × (source.new.reader ≡ source.old.reader) }
     // Unless it is the end, a byte of a head has come: memory isn't refused in place of the end.
     ensures begun { (IsOkEnd result → ⊥) → HasByte source.old.feed }
-    // Nothing is read ahead: the reader has not stopped within this call where it gave a request.
+    // Nothing is read ahead: where a request was read no end or fault of the reader was met.
     ensures lazy { IfOk result (λ read. IsRequest read → source.new.stop ≡ source.old.stop) }
     ensures standing { source.new.standing ≡ standing_read result source.old.standing }
 {

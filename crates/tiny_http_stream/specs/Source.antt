@@ -51,8 +51,8 @@ ReadsLine (Some old) new (Err fault) = IsUnfinished old.bytes × (fault ≡ faul
 
 -- ONE READ of a source. Of its feed it is a read; and whatever the reader states: into an empty buffer it changes nothing,
 -- after an end or a fault the reader isn't called again, and a source that has reported how it stops is over: it stays so, and
--- each later read reports the same. Nothing is read ahead: where bytes came the reader hasn't stopped in this call, and where
--- a byte was held it isn't called.
+-- each later read reports the same. Nothing is read ahead: where bytes came no end or fault was met in this
+-- call, and where a byte was held the reader isn't called.
 pub record ReadsSource {R : Type 0} (old new : SourceState R) (r : Result ℕ Error) (buf : List ℕ) : Type 0 where
   pub reads : Reads old.feed new.feed r buf
   pub empty : length buf ≡ 0 → (r ≡ Ok 0) × (new ≡ old)

@@ -79,9 +79,10 @@ impl Standing {
     }
 }
 
-/// A reader with a buffer of 1024 bytes, a number of bytes to skip, and its standing among the requests. After its first end or
-/// fault the reader isn't called again. It is called only where the buffer is empty: nothing is read ahead of what is asked
-/// for but what one call of the reader gives.
+/// A reader with a buffer of 1024 bytes, a number of bytes to skip, and where it stands among heads and bodies. After its
+/// first end or fault the reader isn't called again. It is called only where the buffer is empty and a byte is wanted: nothing
+/// is read ahead but what one call of the reader gives. (The clauses `lazy` say that no end or fault of the reader was met in
+/// a call that gave what was asked for.)
 #[derive(Drop)]
 pub struct Source<R: ReadDevice> {
     input: Input<R>,
@@ -129,7 +130,7 @@ impl<R: ReadDevice> Source<R> {
         self.standing = standing;
     }
 
-    /// How the reader stopped, if it has.
+    /// How the input stopped, or was made to end, if it has.
     pub fn stop(&self) -> Option<Stop>
         ensures stop { result ≡ self.now.stop }
         ensures over { self.now.is_over ≡ true → IsSome result × IfSome result (λ stop. StopsBy stop self.now.feed) }
@@ -137,7 +138,7 @@ impl<R: ReadDevice> Source<R> {
         self.input.stop()
     }
 
-    /// Whether a byte is still to come. It waits for one, or for the end.
+    /// Whether a byte is still to come. It waits for one, or for the end or a fault.
     pub fn has_byte(&mut self) -> bool
         ensures some { IsTrue result → HasByte self.old.feed × (self.new.stop ≡ self.old.stop) }
         ensures none { result ≡ false → HasNoByte self.old.feed × (self.new.is_over ≡ true) }
@@ -145,10 +146,18 @@ impl<R: ReadDevice> Source<R> {
         // After an end or a fault the reader isn't called again; nor where a byte is held.
         ensures once { IsSome self.old.stop → IsSome self.new.stop × (self.new.reader ≡ self.old.reader) }
         ensures held { self.old.skip < length self.old.held → self.new.reader ≡ self.old.reader }
+        ensures holds { IsTrue result → self.new.skip < length self.new.held }
         ensures stays { self.old.is_over ≡ true → (result ≡ false) × (self.new ≡ self.old) }
         ensures standing { self.new.standing ≡ self.old.standing }
     {
         self.input.has_byte()
+    }
+
+    /// The reader. What is held of its bytes is lost.
+    pub fn into_inner(self) -> R
+        ensures { result ≡ self.reader }
+    {
+        self.input.into_inner()
     }
 
     /// Skips n bytes more, before the next line or read. Where fewer are left the input ends. The reader isn't called, but
@@ -156,6 +165,7 @@ impl<R: ReadDevice> Source<R> {
     pub fn skip(&mut self, n: usize)
         ensures feed { self.new.feed ≡ option_map (skipped n) self.old.feed }
         ensures alone { self.old.skip + n < 2 ^ 64 → (self.new.reader ≡ self.old.reader) × (self.new.stop ≡ self.old.stop) }
+        ensures adds { self.old.skip + n < 2 ^ 64 → (self.new.skip ≡ self.old.skip + n) × (self.new.held ≡ self.old.held) }
         // After an end or a fault the reader isn't called again.
         ensures once { IsSome self.old.stop → IsSome self.new.stop × (self.new.reader ≡ self.old.reader) }
         ensures standing { self.new.standing ≡ self.old.standing }
@@ -186,7 +196,7 @@ impl<R: ReadDevice> Source<R> {
         ensures stop { IfErr result (λ fault. fault ≢ LineFault.NotAscii → fault ≢ LineFault.Memory → IfSome self.new.stop (λ stop. fault ≡ fault_of stop)) }
         // A source that is over stays so, and each line is its stop.
         ensures stays { self.old.is_over ≡ true → (self.new ≡ self.old) × IfSome self.old.stop (λ stop. result ≡ Err (fault_of stop)) }
-        // Nothing is read ahead: for a whole line the reader was called while the line went on, and not where it is held.
+        // Nothing is read ahead: where a line was given no end or fault was met, and where it is held the reader isn't called.
         ensures lazy { OnOk result (self.new.stop ≡ self.old.stop) }
         ensures held { HoldsLine self.old → self.new.reader ≡ self.old.reader }
         ensures standing { self.new.standing ≡ self.old.standing }
@@ -276,6 +286,13 @@ impl<R: ReadDevice> Input<R> {
         }
     }
 
+    /// The reader inside.
+    pub fn into_inner(self) -> R
+        ensures { result ≡ input_reader self }
+    {
+        self.inner
+    }
+
     /// How the reader stopped, if it has.
     pub fn stop(&self) -> Option<Stop>
         ensures stop { result ≡ input_stop self.now }
@@ -291,6 +308,7 @@ impl<R: ReadDevice> Input<R> {
         ensures feed { input_feed R.feed self.new ≡ input_feed R.feed self.old }
         ensures once { IsSome (input_stop self.old) → IsSome (input_stop self.new) × (input_reader self.new ≡ input_reader self.old) }
         ensures held { input_skip self.old < length (input_held self.old) → input_reader self.new ≡ input_reader self.old }
+        ensures holds { IsTrue result → input_skip self.new < length (input_held self.new) }
         ensures stays { IsOver self.old → (result ≡ false) × (self.new ≡ self.old) }
     {
         self.fill();
@@ -479,6 +497,7 @@ impl<R: ReadDevice> Input<R> {
     pub fn skip(&mut self, n: usize)
         ensures feed { input_feed R.feed self.new ≡ option_map (skipped n) (input_feed R.feed self.old) }
         ensures alone { input_skip self.old + n < 2 ^ 64 → (input_reader self.new ≡ input_reader self.old) × (input_stop self.new ≡ input_stop self.old) }
+        ensures adds { input_skip self.old + n < 2 ^ 64 → (input_skip self.new ≡ input_skip self.old + n) × (input_held self.new ≡ input_held self.old) }
         // After an end or a fault the reader isn't called again.
         ensures once { IsSome (input_stop self.old) → IsSome (input_stop self.new) × (input_reader self.new ≡ input_reader self.old) }
     {

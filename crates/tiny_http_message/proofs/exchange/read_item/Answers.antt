@@ -32,9 +32,15 @@ returns-in_default-clause-reads g c =
 
 pub returns-then-not-is_built-clause-reads : goal.returns-then-not-is_built-clause-reads
 returns-then-not-is_built-clause-reads g c =
-    let P : Option Feed → Type 0 = λ o. ReadsHead at.Head c.args.now o c.read_message.new.source.feed (Ok (read.Ended because.NotServed)) in
+    let taken = rw c.in-Ok-Some.field-0-is at c.in-Ok-Some.ensures in
+    let P : Option Feed → Type 0 = λ o. ReadsHead at.Head c.args.now o c.begin_body.new.source.feed (Ok (read.Ended because.NotServed)) in
     subst P c.has_byte.ensures.feed
-    (head-unbuilt _ _ _ c.in-Ok.message c.in-Some.framing c.in-Ok.ensures.reads (search (rules, c.as_slice.ensures.value, c.in-Some.ensures)) (search (rules, c.if-not-is_built.ensures)))
+    (head-unbuilt _ _ _ _ c.in-Ok.message c.in-Some.framing c.in-Ok-Some.body c.in-Ok.ensures.reads (search (rules, c.as_slice.ensures.value, c.in-Some.ensures)) taken.begins (search (rules, c.if-not-is_built.ensures)))
+
+pub returns-then-not-is_built-clause-goes_on : goal.returns-then-not-is_built-clause-goes_on
+returns-then-not-is_built-clause-goes_on g c =
+    let P : Option Feed → Type 0 = λ o. GoesOn o c.begin_body.new.source.feed in
+    subst P c.has_byte.ensures.feed (goes-on_more _ _ _ c.in-Ok.ensures.goes_on c.begin_body.ensures.goes_on)
 
 pub returns-in-Ok-hand_out-clause-reads : goal.returns-in-Ok-hand_out-clause-reads
 returns-in-Ok-hand_out-clause-reads g c =
