@@ -198,14 +198,15 @@ fn request(alloc: Global, source: &mut Source<Canned>) -> Result<Exchange, Fail>
 }
 
 // No head is read in a body that was not read, nor in one of which some bytes were.
-fn assert_unread(rt: &impl Abort, alloc: Global, client: &[u8], count: usize) -> Result<(), Fail> {
+fn assert_unread(
+    rt: &impl Abort,
+    alloc: Global,
+    client: &[u8],
+    buf: &mut [u8],
+) -> Result<(), Fail> {
     let mut source = Source::new(Canned::new(client.to_vec(alloc)?, None));
     let mut exchange = request(alloc, &mut source)?;
-    let mut buf = [0u8; 4];
-    let read = exchange
-        .read_body(&mut source, &mut buf[..count])
-        .unwrap_or(4);
-    assert_same(rt, read <= 4, true);
+    exchange.read_body(&mut source, buf)?;
     let first = reason(alloc, &mut source)?;
     let second = reason(alloc, &mut source)?;
     let unread = Some(EndOfRequests::UnreadBody);
@@ -216,9 +217,9 @@ fn assert_unread(rt: &impl Abort, alloc: Global, client: &[u8], count: usize) ->
 #[test]
 fn bytes_of_a_body_are_no_head(rt: HostRuntime) -> Result<(), Fail> {
     for client in BODIES {
-        assert_unread(&rt, rt.alloc(), client, 0)?;
+        assert_unread(&rt, rt.alloc(), client, &mut [])?;
     }
-    assert_unread(&rt, rt.alloc(), BODIES[0], 4)
+    assert_unread(&rt, rt.alloc(), BODIES[0], &mut [0; 4])
 }
 
 // After the last head its body is read on, whatever was asked for between.

@@ -4,7 +4,7 @@ use crate::runs::{Deed, steps_of};
 use crate::same::assert_same;
 use std::alloc::Global;
 use std::io;
-use std::io::{Cursor, ErrorKind};
+use std::io::ErrorKind;
 use std::process::Abort;
 use std::test::Fail;
 use tiny_http_core::driver::run;
@@ -19,25 +19,14 @@ struct Client {
 
 impl ReadDevice for Client {
     fn read_in(&mut self, buf: &mut [u8]) -> Result<usize, io::Error> {
+        if buf.is_empty() {
+            return Ok(0);
+        }
         let piece = self.pieces.get(self.calls).copied().unwrap_or_default();
         let n = piece.len().min(buf.len());
         buf[..n].copy_from_slice(&piece[..n]);
         self.calls = self.calls.saturating_add(1);
         Ok(n)
-    }
-}
-
-// A client that gives its bytes as fast as they are taken. It counts the calls.
-#[derive(Drop)]
-struct Counted {
-    bytes: Cursor<Vec<u8>>,
-    calls: usize,
-}
-
-impl ReadDevice for Counted {
-    fn read_in(&mut self, buf: &mut [u8]) -> Result<usize, io::Error> {
-        self.calls = self.calls.saturating_add(1);
-        self.bytes.read_in(buf)
     }
 }
 
@@ -112,34 +101,14 @@ fn a_chunk_is_given_before_the_next(rt: HostRuntime) -> Result<(), Fail> {
     assert_calls(&rt, rt.alloc(), CHUNKS, deeds, &wanted)
 }
 
-// A body that is longer than what is read with a head, and whole.
-fn whole_body(alloc: Global) -> Result<Vec<u8>, Fail> {
-    let mut bytes = b"POST / HTTP/1.1\r\nContent-Length: 1025\r\n\r\n".to_vec(alloc)?;
-    for _ in 0..1025u16 {
-        bytes.push(b'x')?;
-    }
-    Ok(bytes)
-}
+// A body that is longer than what is read with a head.
+const BODY: &[u8] = &[b'x'; 1024];
+const LONG: &[&[u8]] = &[b"POST / HTTP/1.1\r\nContent-Length: 1025\r\n\r\n", BODY, b"x"];
 
-// How often a client that gives its bytes as fast as they are taken is called by these steps.
-fn calls_for(alloc: Global, deeds: &[Deed<'_>]) -> Result<usize, Fail> {
-    let bytes = Cursor::new(whole_body(alloc)?);
-    let mut client = Counted { bytes, calls: 0 };
-    let steps = steps_of(alloc, deeds)?;
-    match run(alloc, &mut client, Metered::new(Vec::new(alloc)), steps) {
-        Ok(done) => drop(done),
-        Err(_) => return Err("no memory".into()),
-    }
-    Ok(client.calls)
-}
-
-// The head and the first bytes come by one call, the others by a second.
 #[test]
 fn a_body_waits_for_no_byte_after_it(rt: HostRuntime) -> Result<(), Fail> {
-    let read = calls_for(rt.alloc(), &[Ask, Read(0, 1025)])?;
-    let answered = calls_for(rt.alloc(), &[Ask, Read(0, 1025), Text(0, "a")])?;
-    assert_same(&rt, (read, answered), (2, 2));
-    Ok(())
+    let deeds = &[Ask, Read(0, 1025), Text(0, "a")];
+    assert_calls(&rt, rt.alloc(), LONG, deeds, &[0, 1, 3, 3])
 }
 
 // Heads that are answered or passed over, each in one piece.
@@ -166,6 +135,9 @@ struct Recovering {
 
 impl ReadDevice for Recovering {
     fn read_in(&mut self, buf: &mut [u8]) -> Result<usize, io::Error> {
+        if buf.is_empty() {
+            return Ok(0);
+        }
         self.calls = self.calls.saturating_add(1);
         if self.calls == 1 {
             return Err(ErrorKind::TimedOut.into());

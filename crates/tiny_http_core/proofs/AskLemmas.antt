@@ -31,7 +31,8 @@ use Rattle.tiny_http_message.specs.Body.{Remaining, remaining, taken_left, is_st
 use Rattle.tiny_http_core.specs.Slots.{Slot, is_finished, is_broken, is_slot_broken, segment, joined, new_slot, turn_has_come, is_chunked, last_slot, reader_is_held, reader_is_lost, is_last_slot}
 use Rattle.tiny_http_message.specs.OwnAnswer.{own_text}
 use Rattle.tiny_http_core.specs.Steps.{Asked, Ask, Replied, Handed, Ended, NotYet, Memory, Unused, Unreported, Outcome, Reached, unchanged, ask, asks_from, outcome}
-use Rattle.tiny_http_core.specs.Conversation.{Failure, State, PlaceAt, FailsBetween, Writes, Has, StepsTo}
+use Rattle.tiny_http_core.specs.Conversation.{Failure, State, PlaceAt, Writes, flushed_after, Has, StepsTo}
+use Rattle.tiny_http_core.proofs.WritingLemmas.{IsAllFlushed, unreported, still-flushed}
 use Rattle.tiny_http_core.specs.Sending.{IsFlushed, SendsUnlessEnded}
 use Rattle.tiny_http_turns.specs.Turns.{Mark, Open, Left, Finished, AreInShape, first_unfinished}
 use Rattle.tiny_http_core.specs.Pending.{LeavesText, last_body, streams}
@@ -55,7 +56,7 @@ pub step-unchanged : (client : Feed) (before : Sink) (k : Kept) (s : State) (dat
     → Answered client before k s date step reply
 step-unchanged client before k s date step reply h e =
     let P : Outcome → Type 0 = λ o. Has o s reply s in
-    (s, h, inl (true, tt, subst P (sym e) (refl, (refl, refl))))
+    (s, h, inl (true, tt, subst P (sym e) (refl, refl, (refl, refl))))
 
 -- what an Ask comes to
 ask-ends : (date : HttpDate) (old : Reached) → old.ended ≡ true → ask date old ≡ unchanged old Ended
@@ -256,7 +257,7 @@ ask-handed client before k s date x from_here p stop over at n st e o quiet open
     let ends : s.reached.ended ≡ false = st.ended ∙ e in
     let F : List Item → Outcome = λ z. asks_from date Unused s.reached.slots z in
     let is : ask date s.reached ≡ asks_from date Unused s.reached.slots (Asks r ∷ first.0) = ask-goes date s.reached ends g.unheld g.kept ∙ ap F first.1 in
-    let new : State = record { reached = record { slots = slots; rest = first.0; ended = false }; failure = s.failure } in
+    let new : State = record { reached = record { slots = slots; rest = first.0; ended = false }; flushed = s.flushed; failure = s.failure } in
     let G : Outcome → Type 0 = λ z. Has z s (Handed n (head_message h) (head_framing h)) new in
     let told : n ≡ length s.reached.slots = number ∙ sym (kept-length s.reached.slots k.marks k.requests st.numbers) in
     let waits = kept-handed date x p found.0 (place_feed g.feed.stop found.1) found.4 found.3 (one-head-unowed g.feed.bytes g.feed.stop r (place_after h.is_last found.1) found.2) in (
@@ -265,10 +266,11 @@ ask-handed client before k s date x from_here p stop over at n st e o quiet open
         numbers = kept-append s.reached.slots k.marks k.requests (y ∷ []) (Open ∷ []) (Some x.waiting ∷ []) st.numbers (waits, tt);
         shape = shape;
         ended = sym e;
+        flushed = λ none. st.flushed none ∙ sym (joined-waits s.reached.slots y [] refl refl);
         reader = handed-reader client k s.reached.slots s.reached.rest first.0 date r x.waiting p stop over at g.feed.stop found.1 st.reader quiet found.3 first.2 (goes-on_more (Some client) k.feed p st.reader.source goes) (stands-for x found.0 at stands);
         output = output-waiting before k.sink k.output_ended s.reached.slots date r s.failure st.output;
       },
-      inl (true, tt, subst G (sym is) (refl, (ap (λ z. Handed z (head_message h) (head_framing h)) told, refl))),
+      inl (true, tt, subst G (sym is) (refl, refl, (ap (λ z. Handed z (head_message h) (head_framing h)) told, refl))),
     )
 
 -- the body of the last request holds the reader
@@ -346,22 +348,22 @@ ask-over client before k s date st e o = by (reader_is_lost (last_slot s.reached
 
     by : (t : Bool) → reader_is_lost (last_slot slots) ≡ t → Answered client before (after_end k k.feed k.stop k.is_over k.standing) s date Ask Ended
     by true l =
-        let new : State = record { reached = record { slots = slots; rest = s.reached.rest; ended = true }; failure = s.failure } in
+        let new : State = record { reached = record { slots = slots; rest = s.reached.rest; ended = true }; flushed = s.flushed; failure = s.failure } in
         let G : Outcome → Type 0 = λ x. Has x s Ended new in (
           new,
-          record { numbers = st.numbers; shape = st.shape; ended = refl; reader = ended_reader s.reached.rest; output = st.output },
-          inl (true, tt, subst G (sym (ask-lost date s.reached (st.ended ∙ e) unheld_now l)) (refl, (refl, refl))),
+          record { numbers = st.numbers; shape = st.shape; ended = refl; flushed = st.flushed; reader = ended_reader s.reached.rest; output = st.output },
+          inl (true, tt, subst G (sym (ask-lost date s.reached (st.ended ∙ e) unheld_now l)) (refl, refl, (refl, refl))),
         )
     by false l =
         let P : Bool → Type 0 = λ x. PlaceAt x (behind_body (last_body k.requests) k.feed) s.reached.rest in
         let none : s.reached.rest ≡ [] = subst P o (next.place l) in
         let F : List Item → Outcome = λ x. asks_from date Unused slots x in
         let is : ask date s.reached ≡ ends_with s.reached = ask-goes date s.reached (st.ended ∙ e) unheld_now l ∙ ap F none in
-        let new : State = record { reached = record { slots = slots; rest = []; ended = true }; failure = s.failure } in
+        let new : State = record { reached = record { slots = slots; rest = []; ended = true }; flushed = s.flushed; failure = s.failure } in
         let G : Outcome → Type 0 = λ x. Has x s Ended new in (
           new,
-          record { numbers = st.numbers; shape = st.shape; ended = refl; reader = ended_reader []; output = st.output },
-          inl (true, tt, subst G (sym is) (refl, (refl, refl))),
+          record { numbers = st.numbers; shape = st.shape; ended = refl; flushed = st.flushed; reader = ended_reader []; output = st.output },
+          inl (true, tt, subst G (sym is) (refl, refl, (refl, refl))),
         )
 
 -- no head follows
@@ -378,11 +380,11 @@ ask-none client before k s date from_here why p stop over at st e o quiet reads 
 
     by : (t : Bool) → reader_is_lost (last_slot slots) ≡ t → Answered client before (after_end k p stop over at) s date Ask Ended
     by true l =
-        let new : State = record { reached = record { slots = slots; rest = s.reached.rest; ended = true }; failure = s.failure } in
+        let new : State = record { reached = record { slots = slots; rest = s.reached.rest; ended = true }; flushed = s.flushed; failure = s.failure } in
         let G : Outcome → Type 0 = λ x. Has x s Ended new in (
           new,
-          record { numbers = st.numbers; shape = st.shape; ended = refl; reader = end-reader client before k s p stop over at s.reached.rest st quiet goes; output = st.output },
-          inl (true, tt, subst G (sym (ask-lost date s.reached (st.ended ∙ e) quiet_now l)) (refl, (refl, refl))),
+          record { numbers = st.numbers; shape = st.shape; ended = refl; flushed = st.flushed; reader = end-reader client before k s p stop over at s.reached.rest st quiet goes; output = st.output },
+          inl (true, tt, subst G (sym (ask-lost date s.reached (st.ended ∙ e) quiet_now l)) (refl, refl, (refl, refl))),
         )
     by false l =
         let f = told-feed client k.feed st.reader.source in
@@ -393,11 +395,11 @@ ask-none client before k s date from_here why p stop over at st e o quiet reads 
         let none = pipeline-none f.0.bytes f.0.stop s.reached.rest (subst R f.1 reads).0 (subst Q here (subst P o ((st.reader.next e).place l))) in
         let F : List Item → Outcome = λ x. asks_from date Unused slots x in
         let is : ask date s.reached ≡ ends_with s.reached = ask-goes date s.reached (st.ended ∙ e) quiet_now l ∙ ap F none in
-        let new : State = record { reached = record { slots = slots; rest = []; ended = true }; failure = s.failure } in
+        let new : State = record { reached = record { slots = slots; rest = []; ended = true }; flushed = s.flushed; failure = s.failure } in
         let G : Outcome → Type 0 = λ x. Has x s Ended new in (
           new,
-          record { numbers = st.numbers; shape = st.shape; ended = refl; reader = end-reader client before k s p stop over at [] st quiet goes; output = st.output },
-          inl (true, tt, subst G (sym is) (refl, (refl, refl))),
+          record { numbers = st.numbers; shape = st.shape; ended = refl; flushed = st.flushed; reader = end-reader client before k s p stop over at [] st quiet goes; output = st.output },
+          inl (true, tt, subst G (sym is) (refl, refl, (refl, refl))),
         )
 
 -- no memory was found
@@ -405,10 +407,10 @@ pub ask-memory : (client : Feed) (before : Sink) (k : Kept) (s : State) (date : 
     → Answered client before (after_end k p stop over at) s date Ask Memory
 ask-memory client before k s date p stop over at st e o quiet open_input goes =
     let g = going client before k s st e o quiet open_input in
-    let new : State = record { reached = record { slots = s.reached.slots; rest = s.reached.rest; ended = true }; failure = s.failure } in
+    let new : State = record { reached = record { slots = s.reached.slots; rest = s.reached.rest; ended = true }; flushed = s.flushed; failure = s.failure } in
     let R : List Slot → Reached = λ x. record { slots = x; rest = s.reached.rest; ended = true } in (
       new,
-      record { numbers = st.numbers; shape = st.shape; ended = refl; reader = end-reader client before k s p stop over at s.reached.rest st quiet goes; output = st.output },
+      record { numbers = st.numbers; shape = st.shape; ended = refl; flushed = st.flushed; reader = end-reader client before k s p stop over at s.reached.rest st quiet goes; output = st.output },
       inr (
         st.ended ∙ e,
         g.unheld,
@@ -417,7 +419,7 @@ ask-memory client before k s date p stop over at st e o quiet open_input goes =
         s.reached.rest,
         refl,
         tt,
-        (ap R (sym (append-nil s.reached.slots)), (refl, refl)),
+        (ap R (sym (append-nil s.reached.slots)), refl, (refl, refl)),
       ),
     )
 
@@ -438,6 +440,7 @@ record RefusedOutput (before new : Sink) (ended : Bool) (slots : List Slot) (n :
   pub failure : Option Failure
   pub output : OutputAt before new ended (slots ++ (n ∷ [])) failure
   pub writes : Writes (if turn_has_come (length s.reached.slots) s.reached.slots then Unreported else Unused) s Ended (slots ++ (n ∷ [])) Ended failure
+  pub flushed : failure ≡ None → flushed_after (if turn_has_come (length s.reached.slots) s.reached.slots then Unreported else Unused) s (slots ++ (n ∷ [])) ≡ joined (slots ++ (n ∷ []))
   pub numbers : AreKept (slots ++ (n ∷ [])) marks requests
   pub shape : AreInShape marks
 
@@ -445,14 +448,14 @@ record RefusedOutput (before new : Sink) (ended : Bool) (slots : List Slot) (n :
 turn-next : (slots : List Slot) → turn_has_come (length slots) slots ≡ list_all is_finished slots
 turn-next slots = ap (list_all is_finished) (take_all (length slots) slots (omega arith))
 
-refuses : (before sink new : Sink) (e ended : Bool) (s : State) (marks final : List Mark) (requests : List (Option Waiting)) (n : Slot) (text : List ℕ) → OutputAt before sink e s.reached.slots s.failure → AreKept s.reached.slots marks requests → AreInShape marks
+refuses : (before sink new : Sink) (e ended : Bool) (s : State) (marks final : List Mark) (requests : List (Option Waiting)) (n : Slot) (text : List ℕ) → OutputAt before sink e s.reached.slots s.failure → IsAllFlushed s → AreKept s.reached.slots marks requests → AreInShape marks
     → is_finished n ≡ true → n.given_up ≡ true → is_slot_broken n ≡ false → segment n ≡ text → before.failures < 2 ^ 64 - 1 → LeavesText (length marks == first_unfinished marks) marks [] final text e sink new ended
     → RefusedOutput before new ended s.reached.slots n s final (requests ++ (None ∷ []))
-refuses before sink new e ended s marks final requests n text h kept shape over given_up whole same low leaves =
+refuses before sink new e ended s marks final requests n text h firm kept shape over given_up whole same low leaves =
     let slots = s.reached.slots in
     let over_is = ended-is before sink e slots s.failure h in
     let U : Bool → Option Failure → Type 0 = λ t f. Writes (if t then Unreported else Unused) s Ended (slots ++ (n ∷ [])) Ended f in
-    let W : Bool → Option Failure → Type 0 = λ t f. MatchBool t (f ≡ s.failure) ((f ≡ None) ⊎ FailsBetween (joined slots) (joined (slots ++ (n ∷ []))) f) in
+    let L : Bool → Type 0 = λ t. flushed_after (if t then Unreported else Unused) s (slots ++ (n ∷ [])) ≡ joined (slots ++ (n ∷ [])) in
     ⊎_elim
     (λ (t : InTurn slots marks []).
     let come : (length marks == first_unfinished marks) ≡ true = eq-eqb (length marks) (first_unfinished marks) (t.turn ∙ first-issued marks) in
@@ -464,7 +467,8 @@ refuses before sink new e ended s marks final requests n text h kept shape over 
     record {
       failure = go.failure;
       output = go.output;
-      writes = subst (λ (b : Bool). U b go.failure) (sym (turn-next slots ∙ t.finished)) (refl, subst (λ (b : Bool). W b go.failure) (sym over_is) go.writes);
+      writes = subst (λ (b : Bool). U b go.failure) (sym (turn-next slots ∙ t.finished)) (unreported s e Ended (slots ++ (n ∷ [])) go.failure over_is firm go.writes);
+      flushed = λ none. subst L (sym (turn-next slots ∙ t.finished)) (still-flushed s e (slots ++ (n ∷ [])) go.failure over_is firm go.same none);
       numbers = subst M (sym l.0) (kept-append slots marks requests (n ∷ []) (Finished ∷ []) (None ∷ []) kept (record { finished = over; given_up = given_up }, tt));
       shape = subst A (sym l.0) t.shape;
     })
@@ -477,6 +481,7 @@ refuses before sink new e ended s marks final requests n text h kept shape over 
       failure = s.failure;
       output = subst (λ (b : Bool). O new b) (sym l.3) (subst (λ (x : Sink). O x e) (sym l.2) (refused-waits before sink e slots n s.failure h t.unfinished));
       writes = subst (λ (b : Bool). U b s.failure) (sym (turn-next slots ∙ t.unfinished)) (refl, refl);
+      flushed = λ none. subst L (sym (turn-next slots ∙ t.unfinished)) (firm none ∙ sym (joined-hidden slots (n ∷ []) t.unfinished));
       numbers = subst M (sym l.0) (kept-append slots marks requests (n ∷ []) (Left text ∷ []) (None ∷ []) kept (record { done = record { finished = over; given_up = given_up }; whole = whole; same = same }, tt));
       shape = l.1;
     })
@@ -497,8 +502,8 @@ ask-refused client before k s date from_here status text is_last p stop over at 
     let slots = s.reached.slots ++ (n ∷ []) in
     let F : List Item → Outcome = λ y. asks_from date Unused s.reached.slots y in
     let is : ask date s.reached ≡ asks_from date Unused s.reached.slots (refused v ∷ []) = ask-goes date s.reached (st.ended ∙ e) g.unheld g.kept ∙ ap F (first.1 ∙ ap (λ y. refused v ∷ y) none) in
-    let out = refuses before k.sink sink k.output_ended ended s k.marks marks k.requests n text.items st.output st.numbers st.shape refl refl (refused-whole date v) (refused-text date v ∙ sym found.2) low leaves in
-    let new : State = record { reached = record { slots = slots; rest = []; ended = true }; failure = out.failure } in
+    let out = refuses before k.sink sink k.output_ended ended s k.marks marks k.requests n text.items st.output st.flushed st.numbers st.shape refl refl (refused-whole date v) (refused-text date v ∙ sym found.2) low leaves in
+    let new : State = record { reached = record { slots = slots; rest = []; ended = true }; flushed = flushed_after (if turn_has_come (length s.reached.slots) s.reached.slots then Unreported else Unused) s slots; failure = out.failure } in
     let G : Outcome → Type 0 = λ y. Has y s Ended new in
     let B : Option Body → Type 0 = λ b. GivesRest b (last_slot slots) p in (
       new,
@@ -506,6 +511,7 @@ ask-refused client before k s date from_here status text is_last p stop over at 
         numbers = out.numbers;
         shape = out.shape;
         ended = refl;
+        flushed = out.flushed;
         reader = record {
           settled = settled-snoc k.requests None st.reader.settled quiet;
           gives = subst B (sym (body-snoc k.requests None)) tt;
@@ -514,7 +520,7 @@ ask-refused client before k s date from_here status text is_last p stop over at 
         };
         output = out.output;
       },
-      inl (true, tt, subst G (sym is) (refl, out.writes)),
+      inl (true, tt, subst G (sym is) (refl, refl, out.writes)),
     )
 
 pub ask-ended : (client : Feed) (before : Sink) (k : Kept) (s : State) (date : HttpDate) → Stands client before k s → k.ended ≡ true → Answered client before k s date Ask Ended

@@ -17,10 +17,12 @@ use Rattle.tiny_http_stream.specs.Outlet.{OutletState, output_of, SentOn}
 use Rattle.tiny_http_core.specs.Slots.{ResponseValue}
 use Rattle.tiny_http_core.specs.Steps.{Asked, Ask, Read, Respond, Drop, Replied, Fault}
 use Rattle.tiny_http_core.specs.Conversation.{State, Dated, IsFresh, start}
+use Rattle.tiny_http_wire.specs.declared.coding.Coding.{Coding}
 use Rattle.tiny_http_core.specs.Sending.{FailsOnceUnlessEnded, IsHonest}
-use Rattle.tiny_http_core.specs.Seen.{seen, IsResponse, IsStep, IsTold, MayFail, TellsHonestly}
+use Rattle.tiny_http_core.specs.Seen.{seen, IsResponse, IsStep, IsTold, MayFail, TellsHonestly, IsAnswered}
+use Rattle.tiny_http_message.specs.Body.{GivesUp}
 use Rattle.tiny_http_core.specs.Connection.{Kept, ConnectionState, kept, Stands}
-use Rattle.tiny_http_core.specs.Driving.{HasDone, TakesStep, AskEnds, StepEnds, IsDeclined, told_response, told_step}
+use Rattle.tiny_http_core.specs.Driving.{HasDone, TakesStep, AskEnds, StepEnds, IsDeclined, told_response, told_step, StepLeaves, AskLeaves, LetsGo}
 use Rattle.tiny_http_core.proofs.AskLemmas.{Answered}
 use Rattle.tiny_http_stream.proofs.GoingOn.{goes-on_same}
 use Rattle.tiny_http_core.proofs.StepLemmas.{is-ask, is-read, is-respond, is-drop, step-ask, step-read, step-respond, step-drop}
@@ -106,14 +108,15 @@ stays c = reads-on c c refl (goes-on_same c.source.feed)
 
 pub takes : {R W : Type 0} (old new : ConnectionState R W) (now : HttpDate) (x : Step (Option Feed)) (reply : Replied)
     → ((client : Feed) (before : Sink) (s : State) (asked : Asked) → before.failures < 2 ^ 64 - 1 → IsStep (λ f. f) x asked → Stands client before (kept old) s → Answered client before (kept new) s now asked reply)
-    → (IsDeclined x reply → new ≡ old) → StepEnds x old new reply → Moves old new → ((kind : ErrorKind) → reply ≡ Fault kind → MayFail (λ f. f) (output_of old.outlet) (output_of new.outlet) x kind) → TakesStep old new now x reply
-takes old new now x reply answers declined ends moves honest =
+    → (IsDeclined x reply → new ≡ old) → StepEnds x old new reply → StepLeaves x old new reply → Moves old new → ((kind : ErrorKind) → reply ≡ Fault kind → MayFail (λ f. f) (output_of old.outlet) (output_of new.outlet) x kind) → TakesStep old new now x reply
+takes old new now x reply answers declined ends leaves moves honest =
     record {
       does = λ client before steps replies asked is done.
           let a = answers client before done.at asked done.fresh.can_count is done.stands in
           record { fresh = done.fresh; items = done.items; pipeline = done.pipeline; at = a.0; run = run-more _ done.at a.0 steps replies (now, asked) reply done.run a.2; stands = a.1 };
       declined = declined;
       ends = ends;
+      leaves = leaves;
       goes_on = moves.goes_on;
       fails_once = moves.fails_once;
       flushed = moves.flushed;
@@ -121,42 +124,50 @@ takes old new now x reply answers declined ends moves honest =
       honest = honest;
     }
 
+-- the body of the one request that is kept under a number was given up
+pub gives-up-kept : {R : Type 0} (old new : SourceState R) (o : Option (Option Waiting)) (w : Waiting) → o ≡ Some (Some w) → GivesUp w.body old new → (x : Waiting) → o ≡ Some (Some x) → GivesUp x.body old new
+gives-up-kept old new o w e h x f =
+    let U : Waiting → Type 0 = λ y. GivesUp y.body old new in
+    let same : ◌≡◌ {A = Option (Option Waiting)} (Some (Some w)) (Some (Some x)) = sym e ∙ f in
+    let is : w ≡ x = cc in
+    subst U is h
+
 -- no fault is told
 abbrev pub TellsNone : Replied → Type 0
 TellsNone reply = (kind : ErrorKind) → reply ≡ Fault kind → ⊥
 
 pub takes-ask : {R W : Type 0} (old new : ConnectionState R W) (now : HttpDate) (reply : Replied)
     → ((client : Feed) (before : Sink) (s : State) → before.failures < 2 ^ 64 - 1 → Stands client before (kept old) s → Answered client before (kept new) s now Ask reply)
-    → (IsDeclined step.Ask reply → new ≡ old) → AskEnds old new reply → Moves old new → TellsNone reply → TakesStep old new now step.Ask reply
-takes-ask old new now reply answers declined ends moves none =
+    → (IsDeclined step.Ask reply → new ≡ old) → AskEnds old new reply → AskLeaves old new reply → Moves old new → TellsNone reply → TakesStep old new now step.Ask reply
+takes-ask old new now reply answers declined ends leaves moves none =
     takes old new now step.Ask reply
     (λ client before s asked low is st. step-ask {D = Option Feed} (λ f. f) client before (kept new) s now (now, asked) step.Ask reply refl refl is (answers client before s low st))
-    declined ends moves (λ kind e. absurd (none kind e))
+    declined ends leaves moves (λ kind e. absurd (none kind e))
 
 pub takes-drop : {R W : Type 0} (old new : ConnectionState R W) (now : HttpDate) (n : ℕ) (reply : Replied)
     → ((client : Feed) (before : Sink) (s : State) → before.failures < 2 ^ 64 - 1 → Stands client before (kept old) s → Answered client before (kept new) s now (Drop n) reply)
-    → (IsDeclined (step.Drop n) reply → new ≡ old) → new.end ≡ old.end → Moves old new → TellsNone reply → TakesStep old new now (step.Drop n) reply
-takes-drop old new now n reply answers declined ends moves none =
+    → (IsDeclined (step.Drop n) reply → new ≡ old) → new.end ≡ old.end → (IsAnswered reply → LetsGo n old new) → Moves old new → TellsNone reply → TakesStep old new now (step.Drop n) reply
+takes-drop old new now n reply answers declined ends leaves moves none =
     takes old new now (step.Drop n) reply
     (λ client before s asked low is st. step-drop {D = Option Feed} (λ f. f) client before (kept new) s (now, asked) (step.Drop n) n reply refl is (answers client before s low st))
-    declined ends moves (λ kind e. absurd (none kind e))
+    declined ends leaves moves (λ kind e. absurd (none kind e))
 
 pub takes-read : {R W : Type 0} (old new : ConnectionState R W) (now : HttpDate) (n m : ℕ) (reply : Replied)
     → ((client : Feed) (before : Sink) (s : State) → Stands client before (kept old) s → Answered client before (kept new) s now (Read n m) reply)
-    → (IsDeclined (step.Read n m) reply → new ≡ old) → new.end ≡ old.end → Moves old new → TakesStep old new now (step.Read n m) reply
-takes-read old new now n m reply answers declined ends moves =
+    → (IsDeclined (step.Read n m) reply → new ≡ old) → new.end ≡ old.end → StepLeaves (step.Read n m) old new reply → Moves old new → TakesStep old new now (step.Read n m) reply
+takes-read old new now n m reply answers declined ends leaves moves =
     takes old new now (step.Read n m) reply
     (λ client before s asked low is st. step-read {D = Option Feed} (λ f. f) client before (kept new) s (now, asked) (step.Read n m) n m reply refl is (answers client before s st))
-    declined ends moves (λ kind e. tt)
+    declined ends leaves moves (λ kind e. tt)
 
 pub takes-respond : {R W D : Type 0} (feed : D → Option Feed) (old new : ConnectionState R W) (now : HttpDate) (n : ℕ) (r : ResponseState D) (reply : Replied)
     → ((client : Feed) (before : Sink) (s : State) (value : ResponseValue) → before.failures < 2 ^ 64 - 1 → IsResponse feed r value → Stands client before (kept old) s → Answered client before (kept new) s now (Respond n value) reply)
-    → (IsDeclined (step.Respond n (told_response feed r)) reply → new ≡ old) → new.end ≡ old.end → Moves old new → ((kind : ErrorKind) → reply ≡ Fault kind → MayFail (λ f. f) (output_of old.outlet) (output_of new.outlet) (step.Respond n (told_response feed r)) kind)
+    → (IsDeclined (step.Respond n (told_response feed r)) reply → new ≡ old) → new.end ≡ old.end → (IsAnswered reply → LetsGo n old new) → Moves old new → ((kind : ErrorKind) → reply ≡ Fault kind → MayFail (λ f. f) (output_of old.outlet) (output_of new.outlet) (step.Respond n (told_response feed r)) kind)
     → TakesStep old new now (step.Respond n (told_response feed r)) reply
-takes-respond feed old new now n r reply answers declined ends moves honest =
+takes-respond feed old new now n r reply answers declined ends leaves moves honest =
     takes old new now (step.Respond n (told_response feed r)) reply
     (λ client before s asked low is st. step-respond {D = Option Feed} (λ f. f) client before (kept new) s now (now, asked) (step.Respond n (told_response feed r)) n (told_response feed r) reply refl refl is (λ v h. answers client before s v low h st))
-    declined ends moves honest
+    declined ends leaves moves honest
 
 -- a connection at its begin
 pub begins : {R W : Type 0} (client : Feed) (before : Sink) (writer : W) (c : ConnectionState R W) → c.marks ≡ [] → c.requests ≡ [] → c.source.standing ≡ place.Head → c.end ≡ None → c.source.feed ≡ Some client → c.source.stop ≡ None
@@ -181,10 +192,10 @@ fails-more true true ended a b c h k = (k.0 ∙ h.0, k.1)
 fails-more true false ended a b c h k = let no : false ≡ true = h.1 in cc
 fails-more false mid ended a b c h k = fails-step a b c mid ended h k
 
-pub honest-more : (mid ended : Bool) (a b c : Sink) (known : Option ℕ) (feed : Option Feed) (kind : ErrorKind) → mid ≡ true → FailsOnceUnlessEnded mid b c ended → IsHonest a b known feed kind → IsHonest a c known feed kind
-honest-more true ended a b c known feed kind e k (inl h) = inl (k.0 ∙ h)
-honest-more true ended a b c known feed kind e k (inr h) = inr h
-honest-more false ended a b c known feed kind e k h = let no : false ≡ true = e in cc
+pub honest-more : (mid ended : Bool) (a b c : Sink) (coding : Coding) (known : Option ℕ) (feed : Option Feed) (kind : ErrorKind) → mid ≡ true → FailsOnceUnlessEnded mid b c ended → IsHonest a b coding known feed kind → IsHonest a c coding known feed kind
+honest-more true ended a b c coding known feed kind e k (inl h) = inl (k.0 ∙ h)
+honest-more true ended a b c coding known feed kind e k (inr h) = inr h
+honest-more false ended a b c coding known feed kind e k h = let no : false ≡ true = e in cc
 
 -- a step, and what it is in place of its data
 is-told : {D : Type 0} (feed : D → Option Feed) (x : Step D) (asked : Asked) → IsStep feed x asked → IsStep (λ f. f) (told_step feed x) asked

@@ -9,7 +9,8 @@ use Rattle.tiny_http_message.specs.declared.waiting.Waiting.{Waiting}
 use Rattle.tiny_http_message.specs.Pipeline.{Request}
 use Rattle.tiny_http_core.specs.Slots.{Slot, Waits, Answered as AnsweredBy, ByServer, Raw, Upgraded, is_finished, joined, breaks_off, turn_has_come}
 use Rattle.tiny_http_core.specs.Steps.{Drop, Done, Outcome, Reached, changes, use_in_turn, at_slot, at_number}
-use Rattle.tiny_http_core.specs.Conversation.{Failure, State, FailsBetween, Writes, Has}
+use Rattle.tiny_http_core.specs.Conversation.{Failure, State, flushed_after, Writes, Has}
+use Rattle.tiny_http_core.proofs.WritingLemmas.{FailsBetween, unreported, still-flushed}
 use Rattle.tiny_http_core.specs.Sending.{CanSend}
 use Rattle.tiny_http_turns.specs.Turns.{Mark, Open, Left, Finished, AreInShape, first_unfinished}
 use Rattle.tiny_http_core.specs.Pending.{left_text, passed, LeavesText}
@@ -40,6 +41,7 @@ record DropSaid (before new : Sink) (ended : Bool) (slots : List Slot) (old : St
   pub failure : Option Failure
   pub output : OutputAt before new ended slots failure
   pub writes : Writes (use_in_turn t) old Done slots Done failure
+  pub flushed : failure ≡ None → flushed_after (use_in_turn t) old slots ≡ joined slots
   pub numbers : AreKept slots final requests
   pub shape : AreInShape final
 
@@ -51,7 +53,7 @@ drop-stands client before k s date asked n r given told new ended final requests
     let s1 = dropped asked r given told in
     let slots = bs ++ (s1 ∷ cs) in
     let is = at-drop date asked s.reached n r given told t at.get (at.turn ∙ turn) in
-    let new_state : State = record { reached = record { slots = slots; rest = s.reached.rest; ended = s.reached.ended }; failure = said.failure } in
+    let new_state : State = record { reached = record { slots = slots; rest = s.reached.rest; ended = s.reached.ended }; flushed = flushed_after (use_in_turn t) s slots; failure = said.failure } in
     let R : List Slot → Reached = λ l. record { slots = l; rest = s.reached.rest; ended = s.reached.ended } in
     let W : List Slot → Type 0 = λ l. Writes (use_in_turn t) s Done l Done said.failure in
     let G : Outcome → Type 0 = λ x. Has x s Done new_state in (
@@ -60,10 +62,11 @@ drop-stands client before k s date asked n r given told new ended final requests
         numbers = said.numbers;
         shape = said.shape;
         ended = st.ended;
+        flushed = said.flushed;
         reader = reader-after client k final requests source new ended slots s.reached.rest reader;
         output = said.output;
       },
-      inl (true, tt, subst G (sym is) (ap R (sym (at.set s1)), subst W (sym (at.set s1)) said.writes)),
+      inl (true, tt, subst G (sym is) (ap R (sym (at.set s1)), ap (flushed_after (use_in_turn t) s) (sym (at.set s1)), subst W (sym (at.set s1)) said.writes)),
     )
 
 pub drop-done : {R : Type 0} (client : Feed) (before : Sink) (k : Kept) (s : State) (date : HttpDate) (n : ℕ) (w : Waiting) (new : Sink) (ended : Bool) (final : List Mark) (requests : List (Option Waiting)) (old source : SourceState R) → Stands client before k s → ReadsFrom k old → GivesUp w.body old source → before.failures < 2 ^ 64 - 1
@@ -127,12 +130,13 @@ drop-done {R = R} client before k s date n w new ended final requests old source
         let go = output-more before k.sink new k.output_ended ended p.bs (s1 ∷ p.cs) (w.dropped.items ++ left_text p.rs) s.failure out t.finished text (rw whole b.1) low l.1 l.2 in
         let over = ended-is before k.sink k.output_ended s.reached.slots s.failure st.output in
         let known : joined s.reached.slots ≡ joined p.bs = ap joined slots_are ∙ joined-waits p.bs s0 p.cs refl refl in
-        let W : Bool → List ℕ → Type 0 = λ x y. MatchBool x (go.failure ≡ s.failure) ((go.failure ≡ None) ⊎ FailsBetween y (joined (p.bs ++ (s1 ∷ p.cs))) go.failure) in
+        let W : List ℕ → Type 0 = λ y. MatchBool k.output_ended (go.failure ≡ s.failure) ((go.failure ≡ None) ⊎ FailsBetween y (joined (p.bs ++ (s1 ∷ p.cs))) go.failure) in
         let K : List Mark → Type 0 = λ y. AreInShape y in
         ends true t.finished (record {
           failure = go.failure;
           output = go.output;
-          writes = (refl, subst (λ y. W (is_some s.failure || breaks_off s.reached.slots) y) (sym known) (subst (λ x. W x (joined p.bs)) (sym over) go.writes));
+          writes = unreported s k.output_ended Done (p.bs ++ (s1 ∷ p.cs)) go.failure over st.flushed (subst W (sym known) go.writes);
+          flushed = still-flushed s k.output_ended (p.bs ++ (s1 ∷ p.cs)) go.failure over st.flushed (λ none z. (let m = go.same none z in (m.0, known ∙ m.1)));
           numbers = kept Finished (passed p.rs) l.0 (kept-append p.bs p.fs p.us (s1 ∷ p.cs) (Finished ∷ passed p.rs) (None ∷ p.vs) p.before (record { finished = refl; given_up = refl }, kept-passed p.cs p.rs p.vs p.behind));
           shape = subst K (sym l.0) t.shape;
         })
@@ -147,6 +151,7 @@ drop-done {R = R} client before k s date n w new ended final requests old source
           failure = s.failure;
           output = subst (λ y. O new y) (sym l.3) (subst (λ x. O x k.output_ended) (sym l.2) hidden);
           writes = (refl, refl);
+          flushed = λ none. st.flushed none ∙ ap joined slots_are ∙ joined-waits p.bs s0 p.cs refl refl ∙ sym (joined-hidden p.bs (s1 ∷ p.cs) t.unfinished);
           numbers = kept (Left w.dropped.items) p.rs l.0 (kept-append p.bs p.fs p.us (s1 ∷ p.cs) (Left w.dropped.items ∷ p.rs) (None ∷ p.vs) p.before (record { done = record { finished = refl; given_up = refl }; whole = dropped-whole asked r p.waiting.given p.waiting.told; same = sym p.waiting.text }, p.behind));
           shape = l.1;
         })

@@ -2,6 +2,7 @@ pub mod SendLemmas
 pub mod SlotLemmas
 pub mod ReaderLemmas
 pub mod KeptLemmas
+pub mod WritingLemmas
 pub mod OutputLemmas
 pub mod BodySteps
 pub mod AskLemmas

@@ -9,7 +9,8 @@ use Rattle.tiny_http_wire.specs.Device.{Sink, IsFront, IsFrontOf, BeginsKnown, I
 use Rattle.tiny_http_device.proofs.DeviceLemmas.{IsFront-append}
 use Rattle.tiny_http_message.specs.declared.waiting.Waiting.{Waiting}
 use Rattle.tiny_http_core.specs.Slots.{Slot, is_finished, joined, breaks_off}
-use Rattle.tiny_http_core.specs.Conversation.{Failure, FailsBetween, finished_front}
+use Rattle.tiny_http_core.specs.Conversation.{Failure, finished_front}
+use Rattle.tiny_http_core.proofs.WritingLemmas.{FailsBetween}
 use Rattle.tiny_http_core.specs.Sending.{CanSend, IsFlushed, Lost, Idles, SendsUnlessEnded}
 use Rattle.tiny_http_turns.specs.Turns.{Mark, Open, Held, Left, Finished, AreWaiting}
 use Rattle.tiny_http_core.specs.Pending.{left_text, begins_left}
@@ -121,16 +122,17 @@ pub record Goes (before new : Sink) (was ended : Bool) (old slots : List Slot) (
   pub failure : Option Failure
   pub output : OutputAt before new ended slots failure
   pub writes : MatchBool was (failure ≡ failed) ((failure ≡ None) ⊎ FailsBetween (joined old) (joined slots) failure)
+  pub same : failure ≡ None → was ≡ true → (failed ≡ None) × (joined old ≡ joined slots)
 
 goes-idle : (before sink new : Sink) (ended : Bool) (bs xs : List Slot) (failure : Option Failure) → OutputAt before sink true bs failure → list_all is_finished bs ≡ true → Idles sink new → ended ≡ true → Goes before new true ended bs (bs ++ xs) failure
 goes-idle before sink new ended bs xs None h fin i z =
     let breaks : breaks_off bs ≡ true = sym h.3 in
     let all : breaks_off (bs ++ xs) ≡ breaks_off bs = breaks-front bs xs fin ∙ rw breaks refl in
     let P : Bool → Type 0 = λ x. OutputAt before new x (bs ++ xs) None in
-    record { failure = None; output = subst P (sym z) (output-same before new true bs (bs ++ xs) None (sym (joined-broken bs xs breaks)) (sym all) (output-idle before sink new bs None h i)); writes = refl }
+    record { failure = None; output = subst P (sym z) (output-same before new true bs (bs ++ xs) None (sym (joined-broken bs xs breaks)) (sym all) (output-idle before sink new bs None h i)); writes = refl; same = λ n z. (refl, sym (joined-broken bs xs breaks)) }
 goes-idle before sink new ended bs xs (Some f) h fin i z =
     let P : Bool → Type 0 = λ x. OutputAt before new x (bs ++ xs) (Some f) in
-    record { failure = Some f; output = subst P (sym z) (output-idle before sink new bs (Some f) h i); writes = refl }
+    record { failure = Some f; output = subst P (sym z) (output-idle before sink new bs (Some f) h i); writes = refl; same = λ n z. (let no : Some f ≡ None = n in cc) }
 
 pub output-more : (before sink new : Sink) (e ended : Bool) (bs xs : List Slot) (text : List ℕ) (failure : Option Failure) → OutputAt before sink e bs failure → list_all is_finished bs ≡ true → joined xs ≡ text → breaks_off xs ≡ false
     → before.failures < 2 ^ 64 - 1 → SendsUnlessEnded e sink new ended text → IsFlushed new → Goes before new e ended bs (bs ++ xs) failure
@@ -147,6 +149,7 @@ output-more before sink new false ended bs xs text None h fin is whole low sends
       failure = None;
       output = (taken, k.2.failures ∙ h.1, k.1 ∙ sym k.0, k.0 ∙ sym breaks, λ z. all-firm new (joined (bs ++ xs)) taken (firm k.1));
       writes = inl refl;
+      same = λ n z. (let no : false ≡ true = z in cc);
     })
     (λ k.
     let z = lost-output before sink new (joined bs) text k.2 h.0 h.1 (h.4 refl) low k.3 in
@@ -156,6 +159,7 @@ output-more before sink new false ended bs xs text None h fin is whole low sends
       failure = Some f;
       output = (z.taken, z.failures, z.told, k.0);
       writes = inr (f, refl, z.begins, subst S longer z.front);
+      same = λ n z. (let no : false ≡ true = z in cc);
     })
     sends
 

@@ -385,10 +385,11 @@ read-done {R = R} client before k s date j n w c old new requests result buf st 
         numbers = subst M (sym p.marks_are) (kept-append p.bs p.fs p.us (s1 ∷ p.cs) (Open ∷ p.rs) (Some (with_body w c) ∷ p.vs) p.before (still-waiting p.s w h c old.feed new.feed n (reply_for result buf) on, p.behind));
         shape = st.shape;
         ended = st.ended;
+        flushed = λ none. st.flushed none ∙ joined_same;
         reader = reader-read client k old new p.bs p.cs p.us p.vs s.reached.rest p.s w c n (reply_for result buf) h from (subst P p.slots_are st.reader) p.requests_are many on leaves stands goes;
         output = output-same before k.sink k.output_ended s.reached.slots slots s.failure joined_same breaks_same st.output;
       },
-      inl (true, tt, subst G (sym is) (ap L (sym (at.set s1)), (on.reply_is, refl))),
+      inl (true, tt, subst G (sym is) (ap L (sym (at.set s1)), refl, (on.reply_is, refl))),
     )
   where
     p : Place s.reached.slots k.marks k.requests j w
@@ -433,7 +434,7 @@ read-done {R = R} client before k s date j n w c old new requests result buf st 
     breaks_same = ap breaks_off open_is ∙ breaks-waits p.bs (open_slot h.date h.request h.given h.told) p.cs refl refl ∙ sym (breaks-waits p.bs s1 p.cs refl refl)
 
     state : State
-    state = record { reached = record { slots = slots; rest = s.reached.rest; ended = s.reached.ended }; failure = s.failure }
+    state = record { reached = record { slots = slots; rest = s.reached.rest; ended = s.reached.ended }; flushed = s.flushed; failure = s.failure }
 
     L : List Slot → Reached
     L l = record { slots = l; rest = s.reached.rest; ended = s.reached.ended }

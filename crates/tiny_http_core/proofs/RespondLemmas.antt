@@ -8,14 +8,15 @@ use Rattle.std.specs.declared.io.Error.{Error}
 use Rattle.std.specs.declared.io.ErrorKind.{ErrorKind}
 use Rattle.httpdate.specs.declared.date.HttpDate.{HttpDate}
 use Rattle.tiny_http_wire.specs.Device.{Feed, Sink}
-use Rattle.tiny_http_wire.specs.Answer.{Text, Ending, Whole, Broken, text_of}
+use Rattle.tiny_http_wire.specs.Answer.{Text, Ending, Whole, Broken, Printing}
 use Rattle.tiny_http_message.specs.declared.waiting.AnswerForm.{AnswerForm}
 use Rattle.tiny_http_message.specs.declared.waiting.Waiting.{Waiting}
 use Rattle.tiny_http_message.specs.Pipeline.{Item, Asks, Refuses, Request}
 use Rattle.tiny_http_core.specs.Slots.{ResponseValue, Slot, Stage, Waits, Answered as AnsweredBy, ByServer, Raw, Upgraded, is_over, is_finished, is_broken, is_slot_broken, segment, joined, breaks_off, last_slot, turn_has_come, to_request, text_if, IsGathered}
 use Rattle.tiny_http_core.specs.Steps.{Asked, outcome, Respond, Replied, Done, NoSuch, NotYet, Use, Reported, Outcome, Reached, unchanged, changes, finished, takes, fault_in, fault_of_answer, at_item, at_slot, at_number}
-use Rattle.tiny_http_core.specs.Conversation.{Failure, State, has_output_ended, finished_front, FailsBetween, FailsTold, FailsBehind, broken_reply, Writes, Has, GathersAt, MayLack}
-use Rattle.tiny_http_core.specs.Seen.{printed_as, reply_to}
+use Rattle.tiny_http_core.specs.Conversation.{Failure, State, has_output_ended, finished_front, flushed_after, Writes, Has, GathersAt, MayLack}
+use Rattle.tiny_http_core.proofs.WritingLemmas.{FailsBetween, FailsTold, FailsBehind, broken_reply, used, WritesIf, IsAllFlushed, reported, still-flushed}
+use Rattle.tiny_http_core.specs.Seen.{PrintedFor, Answers, reply_to}
 use Rattle.tiny_http_core.specs.Sending.{CanSend, Wrote, Lost, IsFlushed, SendsText, Sends, SendsUnlessEnded}
 use Rattle.tiny_http_turns.specs.Turns.{Mark, Open, Held, Finished, AreInShape, first_unfinished}
 use Rattle.tiny_http_core.specs.Pending.{left_text, passed, begins_left, SendsLeft, Passes, waiting_form}
@@ -100,17 +101,13 @@ answered_slot asked r given told v date found = finished (open_slot asked r give
 abbrev pub response_sent : Bool → ResponseValue → Request → HttpDate → Text
 response_sent found v r date = text_if found v (to_request r date)
 
-abbrev pub used : Text → Use
-used text = Reported text.bytes (fault_in text.ending) fault_of_answer
-
 at-turn : (date asked : HttpDate) (old : Reached) (n : ℕ) (v : ResponseValue) (r : Request) (given : ℕ) (told found : Bool) → slice_get old.slots n ≡ Some (open_slot asked r given told) → turn_has_come n old.slots ≡ true
     → at_number found date old n (Respond n v) ≡ changes old n (answered_slot asked r given told v date found) Done (used (response_sent found v r date))
 at-turn date asked old n v r given told found e t = ap (at_slot found date old n (Respond n v)) e ∙ rw t refl
 
--- the texts of the response itself
-same-text : (v : ResponseValue) (r : Request) (form : AnswerForm) (date : HttpDate) → form ≡ form_of r → text_of v.answer v.content (printed_as form date) ≡ text_of v.answer v.content (to_request r date)
-unfolding text_of
-same-text v r form date e = let P : AnswerForm → Text = λ x. text_of v.answer v.content (printed_as x date) in ap P e
+-- how the response is printed
+printed-for : (r : Request) (form : AnswerForm) (date : HttpDate) → form ≡ form_of r → PrintedFor form date (to_request r date)
+printed-for r form date e = record { version = ap (λ (x : AnswerForm). x.version) (sym e); no_body = ap (λ (x : AnswerForm). x.no_body) (sym e); no_upgrade = refl; dated = refl }
 
 -- what becomes of the response's own text, with the step's reply: it was sent, or broke off, or the writer failed in it
 abbrev pub OwnWrites : Bool → Option Failure → List ℕ → Text → Replied → Option Failure → Type 0
@@ -202,16 +199,7 @@ pub record Said (before new : Sink) (ended : Bool) (slots : List Slot) (was : St
   pub failure : Option Failure
   pub output : OutputAt before new ended slots failure
   pub writes : Writes (used text) was Done slots reply failure
-
--- what the writer did, by whether the output had ended
-abbrev Alternatives : List Slot → Text → List Slot → Replied → Option Failure → Type 0
-Alternatives old text slots reply failure =
-    ((reply ≡ broken_reply fault_of_answer Done (fault_in text.ending)) × (failure ≡ None))
-    ⊎ (FailsTold fault_of_answer reply (joined old) (joined old ++ text.bytes) failure
-    ⊎ ((reply ≡ broken_reply fault_of_answer Done (fault_in text.ending)) × FailsBehind old text.bytes (fault_in text.ending) slots failure))
-
-abbrev WritesIf : Bool → Option Failure → List Slot → Text → List Slot → Replied → Option Failure → Type 0
-WritesIf t failed old text slots reply failure = MatchBool t ((reply ≡ Done) × (failure ≡ failed)) (Alternatives old text slots reply failure)
+  pub same : failure ≡ None → has_output_ended was ≡ true → (was.failure ≡ None) × (joined was.reached.slots ≡ joined slots)
 
 -- where nothing is written behind the response, it is as it was
 own-alternatives : (was : Bool) (failed : Option Failure) (old : List Slot) (text : Text) (slots : List Slot) (reply : Replied) (failure : Option Failure) → OwnWrites was failed (joined old) text reply failure → WritesIf was failed old text slots reply failure
@@ -258,10 +246,10 @@ open-whole before mid was bs s1 text failed reply fin broken over o =
         sym over ∙ ap (λ f. is_some f || breaks_off bs) (sym kept.1) ∙ ap (λ b. b || breaks_off bs) parts.0 ∙ two.0
 
 pub respond-left : (before mid new : Sink) (was mid_ended ended : Bool) (bs : List Slot) (s0 s1 : Slot) (cs : List Slot) (fs rs : List Mark) (vs : List (Option Waiting)) (old : State) (text : Text) (reply : Replied)
-    → old.reached.slots ≡ bs ++ (s0 ∷ cs) → has_output_ended old ≡ was → list_all is_finished bs ≡ true → is_finished s0 ≡ false → segment s0 ≡ [] → is_finished s1 ≡ true → is_slot_broken s1 ≡ is_broken text.ending → segment s1 ≡ text.bytes
+    → old.reached.slots ≡ bs ++ (s0 ∷ cs) → has_output_ended old ≡ was → IsAllFlushed old → list_all is_finished bs ≡ true → is_finished s0 ≡ false → segment s0 ≡ [] → is_finished s1 ≡ true → is_slot_broken s1 ≡ is_broken text.ending → segment s1 ≡ text.bytes
     → (is_some old.failure || breaks_off bs) ≡ was → OwnSaid before mid was mid_ended bs s1 text old.failure reply → InTurn bs fs rs → AreKept cs rs vs → before.failures < 2 ^ 64 - 1 → SendsLeft rs mid_ended mid new ended
     → Said before new ended (bs ++ (s1 ∷ cs)) old text reply
-respond-left before mid new was mid_ended ended bs s0 s1 cs fs rs vs old text reply slots_are over fin open_is none_sent done broken own over2 o t kept low sends = by-left (begins_left rs) refl sends
+respond-left before mid new was mid_ended ended bs s0 s1 cs fs rs vs old text reply slots_are over firm fin open_is none_sent done broken own over2 o t kept low sends = by-left (begins_left rs) refl sends
   where
     all : List Slot
     all = bs ++ (s1 ∷ cs)
@@ -276,7 +264,14 @@ respond-left before mid new was mid_ended ended bs s0 s1 cs fs rs vs old text re
     all-finished = all-snoc is_finished bs s1 fin done
 
     by-has_ended : (reply : Replied) (failure : Option Failure) → WritesIf was old.failure old.reached.slots text all reply failure → Writes (used text) old Done all reply failure
-    by-has_ended reply failure h = let P : Bool → Type 0 = λ b. WritesIf b old.failure old.reached.slots text all reply failure in subst P (sym over) h
+    by-has_ended reply failure h = reported old was text all reply failure over firm h
+
+    same_output : (reply : Replied) (failure : Option Failure) → WritesIf was old.failure old.reached.slots text all reply failure → failure ≡ None → has_output_ended old ≡ true → (old.failure ≡ None) × (joined old.reached.slots ≡ joined all)
+    same_output reply failure h none z =
+        let M : Bool → Type 0 = λ b. WritesIf b old.failure old.reached.slots text all reply failure in
+        let kept : old.failure ≡ None = sym (subst M (sym over ∙ z) h).1 ∙ none in
+        let breaks : breaks_off bs ≡ true = ap (λ f. is_some f || breaks_off bs) (sym kept) ∙ over2 ∙ sym over ∙ z in
+        (kept, known ∙ sym (joined-broken bs (s1 ∷ cs) breaks))
 
     writes-known : (failure : Option Failure) → OwnWrites was old.failure (joined bs) text reply failure → OwnWrites was old.failure (joined old.reached.slots) text reply failure
     writes-known failure h = let P : List ℕ → Type 0 = λ j. OwnWrites was old.failure j text reply failure in subst P (sym known) h
@@ -292,6 +287,7 @@ respond-left before mid new was mid_ended ended bs s0 s1 cs fs rs vs old text re
           failure = o.failure;
           output = subst (λ y. S new y) (sym z) (subst (λ x. S x mid_ended) (sym n) (subst P same out));
           writes = by-has_ended reply o.failure (own-alternatives was old.failure old.reached.slots text all reply o.failure (writes-known o.failure o.writes));
+          same = same_output reply o.failure (own-alternatives was old.failure old.reached.slots text all reply o.failure (writes-known o.failure o.writes));
         }
 
     left-behind : begins_left rs ≡ true → SendsUnlessEnded mid_ended mid new ended (left_text rs) → IsFlushed new → Said before new ended all old text reply
@@ -303,6 +299,7 @@ respond-left before mid new was mid_ended ended bs s0 s1 cs fs rs vs old text re
           failure = go.failure;
           output = subst P same go.output;
           writes = by-has_ended reply go.failure (by-mid mid_ended refl go.failure go.writes);
+          same = same_output reply go.failure (by-mid mid_ended refl go.failure go.writes);
         }
       where
         more : finished_front old.reached.slots + 1 < finished_front all
@@ -423,14 +420,14 @@ respond-stands client before k s date n v form found mid new mid_ended ended fin
     let s1 = answered_slot a.waits.date a.waits.request a.waits.given a.waits.told v date found in
     let text = response_sent found v a.waits.request date in
     let over = ended-is before k.sink k.output_ended a.bs s.failure (output-before client before k s a.bs a.cs a.waits.date a.waits.request a.waits.given a.waits.told st a.slots_are) in
-    let said = respond-left before mid new k.output_ended mid_ended ended a.bs s0 s1 a.cs a.fs a.rs a.vs s text reply a.slots_are (ended-is before k.sink k.output_ended s.reached.slots s.failure st.output) a.turn.finished refl refl refl refl refl over own a.turn a.behind low sends in
+    let said = respond-left before mid new k.output_ended mid_ended ended a.bs s0 s1 a.cs a.fs a.rs a.vs s text reply a.slots_are (ended-is before k.sink k.output_ended s.reached.slots s.failure st.output) st.flushed a.turn.finished refl refl refl refl refl over own a.turn a.behind low sends in
     let is = at-turn date a.waits.date s.reached n v a.waits.request a.waits.given a.waits.told found a.at.get (a.at.turn ∙ a.turn.finished) in
     let slots = a.bs ++ (s1 ∷ a.cs) in
-    let new_state : State = record { reached = record { slots = slots; rest = s.reached.rest; ended = s.reached.ended }; failure = said.failure } in
+    let new_state : State = record { reached = record { slots = slots; rest = s.reached.rest; ended = s.reached.ended }; flushed = flushed_after (used text) s slots; failure = said.failure } in
     let R : List Slot → Reached = λ l. record { slots = l; rest = s.reached.rest; ended = s.reached.ended } in
     let W : List Slot → Type 0 = λ l. Writes (used text) s Done l reply said.failure in
     let G : Outcome → Type 0 = λ x. Has x s reply new_state in
-    let has = subst G (sym is) (ap R (sym (a.at.set s1)), subst W (sym (a.at.set s1)) said.writes) in
+    let has = subst G (sym is) (ap R (sym (a.at.set s1)), ap (flushed_after (used text) s) (sym (a.at.set s1)), subst W (sym (a.at.set s1)) said.writes) in
     let M : List Mark → Type 0 = λ y. AreKept slots y requests in
     let Q : List (Option Waiting) → Type 0 = λ y. AreKept slots (a.fs ++ (Finished ∷ passed a.rs)) y in
     let K : List Mark → Type 0 = λ y. AreInShape y in (
@@ -439,6 +436,7 @@ respond-stands client before k s date n v form found mid new mid_ended ended fin
         numbers = subst M (sym passes) (subst Q (sym (requests_are ∙ a.requests_set)) (kept-append a.bs a.fs a.us (s1 ∷ a.cs) (Finished ∷ passed a.rs) (None ∷ a.vs) a.before (record { finished = refl; given_up = refl }, kept-passed a.cs a.rs a.vs a.behind)));
         shape = subst K (sym passes) a.turn.shape;
         ended = st.ended;
+        flushed = still-flushed s k.output_ended slots said.failure (ended-is before k.sink k.output_ended s.reached.slots s.failure st.output) st.flushed (λ none z. said.same none (ended-is before k.sink k.output_ended s.reached.slots s.failure st.output ∙ z));
         reader = reader-after client k final requests source new ended slots s.reached.rest (subst (λ q. Reader client (with_reader k q source) slots s.reached.rest) (sym (requests_are ∙ a.requests_set)) reader);
         output = said.output;
       },
@@ -454,7 +452,7 @@ respond-stands client before k s date n v form found mid new mid_ended ended fin
 pub RespondsBy : Kept → Sink → Bool → Replied → ResponseValue → AnswerForm → HttpDate → Type 0
 RespondsBy k mid mid_ended reply v form date =
     ((k.output_ended ≡ true) × (mid ≡ k.sink) × (mid_ended ≡ k.output_ended) × (reply ≡ Done))
-    ⊎ ((k.output_ended ≡ false) × (r : Result (Unit {0}) Error) × (reply ≡ reply_to r) × Sends k.sink mid mid_ended r v.answer v.content (printed_as form date) × IsFlushed mid)
+    ⊎ ((k.output_ended ≡ false) × ((p : Printing) → PrintedFor form date p → Answers k.sink mid mid_ended reply v.answer v.content p))
 
 pub respond-done : {R : Type 0} (client : Feed) (before : Sink) (k : Kept) (s : State) (date : HttpDate) (n : ℕ) (v : ResponseValue) (form : AnswerForm) (mid new : Sink) (mid_ended ended : Bool) (marks final : List Mark) (requests : List (Option Waiting)) (old source : SourceState R) (reply : Replied)
     → Stands client before k s → ReadsFrom k old → ((w : Waiting) → slice_get k.requests n ≡ Some (Some w) → GivesUp w.body old source) → before.failures < 2 ^ 64 - 1 → waiting_form (slice_get k.requests n) ≡ Some form → n ≡ first_unfinished k.marks → marks ≡ slice_set k.marks n Held → requests ≡ slice_set k.requests n None
@@ -492,21 +490,21 @@ respond-done {R = R} client before k s date n v form mid new mid_ended ended mar
         let P : Sink → Bool → Replied → Type 0 = λ x y z. OwnSaid before x k.output_ended y a.bs s1 (response_sent true v a.waits.request date) s.failure z in
         answered true (inl refl) (subst (λ x. P x mid_ended reply) (sym h.1) (subst (λ y. P k.sink y reply) (sym h.2) (subst (λ z. P k.sink k.output_ended z) (sym h.3) o)))
     by-own (inr h) =
-        let r = h.1 in
-        let Q : Text → Type 0 = λ t. SendsText {T = Unit {0}} k.sink mid mid_ended r t in
+        let own = h.1 (to_request a.waits.request date) (printed-for a.waits.request form date a.form_is) in
+        let r = own.0 in
         ⊎_elim
         (λ x. answered true (inl refl)
         (own-sent {T = Unit {0}} before k.sink mid k.output_ended mid_ended a.bs (answered_slot a.waits.date a.waits.request a.waits.given a.waits.told v date true) (response_sent true v a.waits.request date) s.failure r reply out a.turn.finished refl refl refl low h.0
-        (subst Q (same-text v a.waits.request form date a.form_is) x) h.4 h.2))
+        x own.3 own.1))
         (λ x. answered false (inr (refl, refl, x.0.2))
-        (own-sent {T = Unit {0}} before k.sink mid k.output_ended mid_ended a.bs (answered_slot a.waits.date a.waits.request a.waits.given a.waits.told v date false) (response_sent false v a.waits.request date) s.failure r reply out a.turn.finished refl refl refl low h.0 x.1 h.4 h.2))
-        h.3
+        (own-sent {T = Unit {0}} before k.sink mid k.output_ended mid_ended a.bs (answered_slot a.waits.date a.waits.request a.waits.given a.waits.told v date false) (response_sent false v a.waits.request date) s.failure r reply out a.turn.finished refl refl refl low h.0 x.1 own.3 own.1))
+        own.2
 
 pub responds-by : (k : Kept) (mid : Sink) (mid_ended : Bool) (reply : Replied) (v : ResponseValue) (form : AnswerForm) (date : HttpDate) → (k.output_ended ≡ true → (mid ≡ k.sink) × (mid_ended ≡ k.output_ended) × (reply ≡ Done))
-    → (k.output_ended ≡ false → (r : Result (Unit {0}) Error) × (reply ≡ reply_to r) × Sends k.sink mid mid_ended r v.answer v.content (printed_as form date) × IsFlushed mid) → RespondsBy k mid mid_ended reply v form date
+    → (k.output_ended ≡ false → (p : Printing) → PrintedFor form date p → Answers k.sink mid mid_ended reply v.answer v.content p) → RespondsBy k mid mid_ended reply v form date
 unfolding RespondsBy
 responds-by k mid mid_ended reply v form date past open_is = by k.output_ended refl
   where
     by : (t : Bool) → k.output_ended ≡ t → RespondsBy k mid mid_ended reply v form date
     by true e = let h = past e in inl (e, h.0, h.1, h.2)
-    by false e = let h = open_is e in inr (e, h.0, h.1, h.2, h.3)
+    by false e = inr (e, open_is e)

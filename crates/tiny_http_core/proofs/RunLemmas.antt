@@ -6,7 +6,9 @@ use Rattle.std.specs.Option.{option_map}
 use Rattle.std.specs.List.{AllZip}
 use Rattle.std.specs.Io.KnownBytes.{append_known}
 use Rattle.std.proofs.lemmas.Grind.{common_steps}
-use Rattle.tiny_http_wire.specs.Device.{Feed, Sink, grown, next_count}
+use Rattle.tiny_http_wire.specs.Device.{Feed, Sink, IsFront, BeginsKnown, grown, next_count}
+use Rattle.tiny_http_device.proofs.DeviceLemmas.{IsFront-append}
+use Rattle.tiny_http_core.proofs.WritingLemmas.{IsAllFlushed}
 use Rattle.tiny_http_stream.specs.Outlet.{holding}
 use Rattle.tiny_http_stream.specs.Source.{GoesOn}
 use Rattle.tiny_http_message.specs.Pipeline.{Item, Pipeline}
@@ -76,6 +78,7 @@ stands-begun client feed is_over sink items e fresh h =
       numbers = tt;
       shape = tt;
       ended = refl;
+      flushed = λ none. refl;
       reader = record {
         settled = tt;
         gives = tt;
@@ -150,31 +153,38 @@ sent-held held None whole e = let no : None ≡ Some whole = e in cc
 sent-held held (Some xs) whole e = (xs, refl, (let same : Some (xs ++ held) ≡ Some whole = e in cc))
 
 -- the output at the end: an outlet that has ended holds nothing
-pub output-end : (before sink : Sink) (held : List ℕ) (ended : Bool) (s : State) → (ended ≡ true → held ≡ []) → OutputAt before (holding sink held ended) ended s.reached.slots s.failure → IsOutput s.reached.slots s.failure before sink held ended
-output-end before sink held ended s empty h = by-failure s.failure h
+pub output-end : (before sink : Sink) (held : List ℕ) (ended : Bool) (s : State) → (ended ≡ true → held ≡ []) → BeginsKnown sink.sent sink.taken → IsAllFlushed s → OutputAt before (holding sink held ended) ended s.reached.slots s.failure
+    → IsOutput s.reached.slots s.flushed s.failure before sink held ended
+output-end before sink held ended s empty begins firm h = by-failure s.failure firm h
   where
-    whole : (e : Bool) (slots : _) → (e ≡ true → held ≡ []) → OutputAt before (holding sink held e) e slots None → IsOutput slots None before sink held e
-    whole true slots empty h =
+    begun-by : (slots : List Slot) (taken : List ℕ) → sink.taken ≡ Some taken → IsFront (joined slots) sink.sent → IsFront (joined slots) taken
+    begun-by slots taken is front =
+        let P : Option (List ℕ) → Type 0 = λ x. BeginsKnown sink.sent x in
+        IsFront-append (joined slots) sink.sent taken front (subst P is begins)
+
+    whole : (e : Bool) (slots : List Slot) → s.flushed ≡ joined slots → (e ≡ true → held ≡ []) → OutputAt before (holding sink held e) e slots None → IsOutput slots s.flushed None before sink held e
+    whole true slots all empty h =
         let none = empty refl in
         let bare : sink.taken ≡ Some (joined slots) = sym (grown-none sink.has_ended sink.taken) ∙ ap (grown sink.has_ended sink.taken) (sym none) ∙ h.0 in
-        (h.1, joined slots, bare, ap (λ x. joined slots ++ x) none ∙ append-nil (joined slots), h.3)
-    whole false slots empty h =
+        (h.1, joined slots, bare, ap (λ x. joined slots ++ x) none ∙ append-nil (joined slots), ([], sym all ∙ sym (append-nil s.flushed)), h.3)
+    whole false slots all empty h =
         let z = sent-held held sink.taken (joined slots) (ap (λ x. grown x sink.taken held) (sym h.2) ∙ h.0) in
-        (h.1, z.0, z.1, z.2, h.3)
+        let F : List ℕ → Type 0 = λ x. IsFront x z.0 in
+        (h.1, z.0, z.1, z.2, subst F (sym all) (begun-by slots z.0 z.1 (h.4 refl)), h.3)
 
-    by-failure : (failure : Option Failure) → OutputAt before (holding sink held ended) ended s.reached.slots failure → IsOutput s.reached.slots failure before sink held ended
-    by-failure None h = whole ended s.reached.slots empty h
-    by-failure (Some f) h =
+    by-failure : (failure : Option Failure) → (failure ≡ None → s.flushed ≡ joined s.reached.slots) → OutputAt before (holding sink held ended) ended s.reached.slots failure → IsOutput s.reached.slots s.flushed failure before sink held ended
+    by-failure None firm h = whole ended s.reached.slots (firm refl) empty h
+    by-failure (Some f) firm h =
         let none = empty h.3 in
         (h.1, h.2, sym (grown-none sink.has_ended sink.taken) ∙ ap (grown sink.has_ended sink.taken) (sym none) ∙ h.0, none, h.3)
 
 -- a run to where the connection stands is a conversation, with what is then held and left
-pub conversation : (client : Feed) (before sink : Sink) (held : List ℕ) (k : Kept) (ended : Bool) (items : List Item) (end : State) (replies : List Replied) (dated : List Dated) → k.sink ≡ holding sink held ended → k.output_ended ≡ ended → (ended ≡ true → held ≡ [])
+pub conversation : (client : Feed) (before sink : Sink) (held : List ℕ) (k : Kept) (ended : Bool) (items : List Item) (end : State) (replies : List Replied) (dated : List Dated) → k.sink ≡ holding sink held ended → k.output_ended ≡ ended → (ended ≡ true → held ≡ []) → BeginsKnown sink.sent sink.taken
     → Pipeline (Some client.bytes) client.stop items → Run (start items) dated replies end → Stands client before k end → IsConversation client before dated replies sink held ended k.feed
-conversation client before sink held k ended items end replies dated same same_end empty pipeline run st =
+conversation client before sink held k ended items end replies dated same same_end empty begins pipeline run st =
     let P : Sink → Bool → Type 0 = λ x y. OutputAt before x y end.reached.slots end.failure in
     let out : P (holding sink held ended) ended = subst (λ y. P (holding sink held ended) y) same_end (subst (λ x. P x k.output_ended) same st.output) in
-    record { items = items; end = end; pipeline = pipeline; run = run; output = output-end before sink held ended end empty out; input = input-end client before k end st }
+    record { items = items; end = end; pipeline = pipeline; run = run; output = output-end before sink held ended end empty begins st.flushed out; input = input-end client before k end st }
 
 -- the writer's count over the steps
 pub fails-step : (writer old new : Sink) (was ended : Bool) → FailsOnce writer old was → FailsOnceUnlessEnded was old new ended → FailsOnce writer new ended
@@ -193,8 +203,8 @@ fail-along : {D : Type 0} (feed : D → Option Feed) (a b c : Sink) (s : Step D)
 fail-along feed a b c step.Ask kind e h = h
 fail-along feed a b c (step.Read n m) kind e h = h
 fail-along {D = D} feed a b c (step.Drop n) kind e h = elim h [ ]
-fail-along feed a b c (step.Respond n r) kind e (inl h) = inl (h ∙ ap next_count e)
-fail-along feed a b c (step.Respond n r) kind e (inr h) = inr h
+fail-along feed a b c (step.Respond n r) kind e (p, inl h) = (p, inl (h ∙ ap next_count e))
+fail-along feed a b c (step.Respond n r) kind e (p, inr h) = (p, inr h)
 
 -- one step more
 pub honest-snoc : {D : Type 0} (feed : D → Option Feed) (a b c : Sink) (steps : List (Timed D)) (replies : List Reply) (t : Timed D) (r : Reply) → TellHonestly feed a steps replies b → FailsAtMostOnce b c → TellsHonestly feed b c t r

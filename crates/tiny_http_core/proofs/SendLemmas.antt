@@ -16,7 +16,10 @@ use Rattle.httpdate.specs.declared.date.HttpDate.{HttpDate}
 use Rattle.tiny_http_wire.specs.declared.common.HTTPVersion.{HTTPVersion}
 use Rattle.tiny_http_wire.specs.declared.coding.FramingHeader.{FramingHeader}
 use Rattle.tiny_http_wire.specs.declared.coding.FramingHeader.TheVariants.{ContentLength}
+use Rattle.tiny_http_wire.specs.declared.coding.Coding.TheVariants.{Identity}
 use Rattle.tiny_http_wire.specs.declared.device.Stop.{Stop}
+use Rattle.tiny_http_message.specs.declared.waiting.AnswerForm.{AnswerForm}
+use Rattle.tiny_http_core.specs.Seen.{PrintedFor}
 use Rattle.tiny_http_wire.specs.declared.device.Stop.TheVariants.{End, Fault}
 use Rattle.tiny_http_core.specs.Sending.{CanSend, Wrote, Lost, Idles, EndsQuietly, Abandons, SendsText, Sends, SendsQuietly, IsFlushed, SendsUnlessEnded, FailsOnce, FailsOnceUnlessEnded, BreakOff, IsHonest}
 
@@ -175,18 +178,18 @@ identity-breaks : (n m : ℕ) (t : Bool) (k kind : ErrorKind) → nat_le n m ≡
 identity-breaks n m true k kind le e = cc
 identity-breaks n m false k kind le e = (leb-false n m le, cc)
 
-sized-breaks : (withheld : Bool) (n : ℕ) (f : Feed) (kind : ErrorKind) → (unless withheld (identity_body n f)).ending ≡ Broken kind → BreakOff (Some n) f kind
+sized-breaks : (withheld : Bool) (n : ℕ) (f : Feed) (kind : ErrorKind) → (unless withheld (identity_body n f)).ending ≡ Broken kind → BreakOff Identity (Some n) f kind
 sized-breaks true n f kind e = cc
 sized-breaks false n f kind e = identity-breaks n (length f.bytes) (nat_le n (length f.bytes)) (fault_of f.stop) kind refl e
 
-uncoded-breaks : (len : Option ℕ) (top : FramingHeader → List ℕ) (withheld : Bool) (f : Feed) (kind : ErrorKind) → (as_it_is len top withheld f).ending ≡ Broken kind → BreakOff len f kind
+uncoded-breaks : (len : Option ℕ) (top : FramingHeader → List ℕ) (withheld : Bool) (f : Feed) (kind : ErrorKind) → (as_it_is len top withheld f).ending ≡ Broken kind → BreakOff Identity len f kind
 uncoded-breaks (Some n) top withheld f kind e = sized-breaks withheld n f kind e
 uncoded-breaks None top withheld f kind e = inl (gathered-breaks f.stop (top (ContentLength (length f.bytes))) withheld f.bytes kind e)
 
 abbrev pub plainly : HTTPVersion → Bool → HttpDate → Printing
 plainly v no_body date = record { version = v; request_headers = []; no_body = no_body; upgrade = None; date = date }
 
-text-breaks : (a : Answer) (f : Feed) (v : HTTPVersion) (no_body : Bool) (date : HttpDate) (kind : ErrorKind) → (text_of a f (plainly v no_body date)).ending ≡ Broken kind → BreakOff a.length f kind
+text-breaks : (a : Answer) (f : Feed) (v : HTTPVersion) (no_body : Bool) (date : HttpDate) (kind : ErrorKind) → (text_of a f (plainly v no_body date)).ending ≡ Broken kind → BreakOff Identity a.length f kind
 unfolding text_of
 text-breaks a f v no_body date kind e = uncoded-breaks a.length _ (is_withheld no_body a.status) f kind e
 
@@ -194,11 +197,11 @@ nothing-breaks : (kind sort : ErrorKind) → (nothing sort).ending ≡ Broken ki
 nothing-breaks kind sort e = cc
 
 data-breaks : (T : Type 0) (a b : Sink) (e : Error) (ans : Answer) (f : Feed) (v : HTTPVersion) (no_body : Bool) (date : HttpDate) → (b.failures ≡ next_count a.failures → ⊥) → PrintsAnswer {T = T} a b (Err e) ans f (plainly v no_body date)
-    → BreakOff ans.length f (error_kind e)
+    → BreakOff Identity ans.length f (error_kind e)
 data-breaks T a b e ans f v no_body date same (inl (inl h)) = text-breaks ans f v no_body date (error_kind e) h.0
 data-breaks T a b e ans f v no_body date same (inl (inr h)) = absurd (same h.failures)
 data-breaks T a b e ans f v no_body date same (inr k) =
-    let P : Option ℕ → Type 0 = λ known. BreakOff known f (error_kind e) in
+    let P : Option ℕ → Type 0 = λ known. BreakOff Identity known f (error_kind e) in
     subst P (sym k.2) (⊎_elim (λ h. inr (nothing-breaks (error_kind e) OutOfMemory h.0)) (λ h. absurd (same h.failures)) k.3)
 
 -- the count behind the outlet's end, where printing raised it, or where it stands at its greatest
@@ -208,7 +211,7 @@ rose a b c n true e same u (inr l) = l.1.failures ∙ ap next_count (eqb-true b.
 rose a b c n false e same u m = m.failures ∙ u
 
 honest-by : (T : Type 0) (o : Option Feed) (a b c : Sink) (n : ℕ) (e : Error) (ans : Answer) (v : HTTPVersion) (no_body : Bool) (date : HttpDate) (t : Bool) → (next_count a.failures == a.failures) ≡ t → b.failures ≡ a.failures
-    → IfSome o (λ feed. length feed.bytes < 2 ^ 63 → PrintsAnswer {T = T} a b (Err e) ans feed (plainly v no_body date)) → n ≡ a.failures → MatchBool (b.failures == n) (EndsQuietly b c) (Abandons b c) → IsHonest a c ans.length o (error_kind e)
+    → IfSome o (λ feed. length feed.bytes < 2 ^ 63 → PrintsAnswer {T = T} a b (Err e) ans feed (plainly v no_body date)) → n ≡ a.failures → MatchBool (b.failures == n) (EndsQuietly b c) (Abandons b c) → IsHonest a c Identity ans.length o (error_kind e)
 honest-by T o a b c n e ans v no_body date true top u h same m = inl (rose a b c n (b.failures == n) refl same (u ∙ sym (eqb-true (next_count a.failures) a.failures top)) m)
 honest-by T None a b c n e ans v no_body date false top u h same m = inr tt
 honest-by T (Some f) a b c n e ans v no_body date false top u h same m =
@@ -216,9 +219,19 @@ honest-by T (Some f) a b c n e ans v no_body date false top u h same m =
     inr (λ few. data-breaks T a b e ans f v no_body date low (h few))
 
 pub printed-honest : (T : Type 0) (o : Option Feed) (a b c : Sink) (n : ℕ) (e : Error) (ans : Answer) (v : HTTPVersion) (no_body : Bool) (date : HttpDate) → IfSome o (λ feed. length feed.bytes < 2 ^ 63 → PrintsAnswer {T = T} a b (Err e) ans feed (plainly v no_body date))
-    → Uses {T = T} a b (Err e) → n ≡ a.failures → MatchBool (b.failures == n) (EndsQuietly b c) (Abandons b c) → IsHonest a c ans.length o (error_kind e)
+    → Uses {T = T} a b (Err e) → n ≡ a.failures → MatchBool (b.failures == n) (EndsQuietly b c) (Abandons b c) → IsHonest a c Identity ans.length o (error_kind e)
 printed-honest T o a b c n e ans v no_body date h (inl u) same m = honest-by T o a b c n e ans v no_body date (next_count a.failures == a.failures) refl u.failures h same m
 printed-honest T o a b c n e ans v no_body date h (inr u) same m = inl (rose a b c n (b.failures == n) refl same u.failures m)
+
+-- the same for a request of the form that the driver keeps
+same-text : (a : Answer) (f : Feed) (form : AnswerForm) (date : HttpDate) (p : Printing) → PrintedFor form date p → text_of a f p ≡ text_of a f (plainly form.version form.no_body date)
+unfolding text_of
+same-text a f form date p h = rw (h.version, h.no_body, h.no_upgrade, h.dated) refl
+
+pub sends-for : (T : Type 0) (old new : Sink) (ended : Bool) (r : Result T Error) (a : Answer) (f : Feed) (form : AnswerForm) (date : HttpDate) (p : Printing) → PrintedFor form date p → Sends {T = T} old new ended r a f (plainly form.version form.no_body date) → Sends {T = T} old new ended r a f p
+sends-for T old new ended r a f form date p h s =
+    let P : Text → Type 0 = λ t. SendsText {T = T} old new ended r t in
+    ⊎_elim (λ x. inl (subst P (sym (same-text a f form date p h)) x)) (λ x. inr ((h.no_upgrade, refl, x.0.2), x.1)) s
 
 -- one text after another, each sent quietly
 known-append : (known : Option (List ℕ)) (s t : List ℕ) → append_known (append_known known s) t ≡ append_known known (s ++ t)

@@ -1,5 +1,8 @@
 -- What a client reads that knows only the method of its request (RFC 9112, sections 2.2, 4, 5, 6.3 and 7.1; RFC 9110,
--- section 15.2).
+-- section 15.2). Chosen where the RFCs leave it open, or where the server never sends it: a 101 is passed over like any other
+-- head below 200; there is no rule for CONNECT, none for a body that ends with the connection, and none for transfer codings
+-- but `chunked`; of two Content-Length the first is read; a status may have any number of digits, up to 65535; and a field's name may be
+-- empty.
 use Rattle.std.specs.Prelude.{◌≡◌, ℕ, ◌<◌, ◌≤◌, ◌⊎◌, Bool, true, false, ◌&&◌, ◌||◌, ◌==◌, nat_lt, nat_le, List, [], ◌∷◌, ◌++◌, length, Option, Some, None, option_and_then, if◌then◌else◌, codes, decimal, IsTrue}
 use Rattle.std.specs.List.{list_any}
 use Rattle.std.specs.declared.io.ErrorKind.TheVariants.{InvalidData, UnexpectedEof}

@@ -175,5 +175,6 @@ pub record Stands (client : Feed) (before : Sink) (k : Kept) (s : State) : Type 
   pub numbers : AreKept s.reached.slots k.marks k.requests
   pub shape : AreInShape k.marks
   pub ended : s.reached.ended ≡ k.ended
+  pub flushed : s.failure ≡ None → s.flushed ≡ joined s.reached.slots
   pub reader : Reader client k s.reached.slots s.reached.rest
   pub output : OutputAt before k.sink k.output_ended s.reached.slots s.failure

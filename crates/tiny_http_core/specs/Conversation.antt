@@ -1,5 +1,5 @@
 -- Whole conversations: which replies and which output a list of steps may have.
-use Rattle.std.specs.Prelude.{◌≡◌, ℕ, ◌+◌, ◌-◌, ◌^◌, ◌<◌, ◌⊎◌, Bool, true, false, ◌||◌, List, [], ◌∷◌, ◌++◌, map, length, Option, Some, None, is_some, MatchBool, slice_get, if◌then◌else◌}
+use Rattle.std.specs.Prelude.{◌≡◌, ℕ, ◌+◌, ◌-◌, ◌^◌, ◌<◌, ◌⊎◌, Bool, true, false, not, ◌&&◌, ◌||◌, List, [], ◌∷◌, ◌++◌, map, length, Option, Some, None, is_some, unwrap_or, option_map, MatchBool, slice_get, if◌then◌else◌}
 use Rattle.std.specs.List.{AllByRecursion}
 use Rattle.std.specs.declared.io.ErrorKind.{ErrorKind}
 use Rattle.httpdate.specs.declared.date.HttpDate.{HttpDate}
@@ -17,9 +17,11 @@ pub record Failure : Type 0 where
   pub kind : ErrorKind
   pub output : List ℕ
 
--- where a conversation stands: what is reached, and how the writer failed, if it did
+-- Where a conversation stands: what is reached; the output as of the last step that flushed it, while the writer has not
+-- failed; and how the writer failed, if it did.
 pub record State : Type 0 where
   pub reached : Reached
+  pub flushed : List ℕ
   pub failure : Option Failure
 
 -- nothing is written any more
@@ -31,43 +33,67 @@ abbrev pub finished_front : List Slot → ℕ
 finished_front [] = 0
 finished_front (s ∷ slots) = if is_finished s then finished_front slots + 1 else 0
 
--- a fault of the response's data is told
-abbrev pub broken_reply : (ErrorKind → Replied) → Replied → Option ErrorKind → Replied
-broken_reply tell reply None = reply
-broken_reply tell reply (Some kind) = tell kind
+-- HOW THE WRITER FARES in a step: without a fault; or it fails in the step's own text; or after that, in a text that was left
+-- or, where the data broke off, in what was held.
+pub data Fares : Type 0 where
+  Well : Fares
+  FailsWithin : (failure : Failure) → Fares
+  FailsAfter : (failure : Failure) → Fares
 
--- the writer failed while the output grew from one text to another: it took the first, and a front of the other
-abbrev pub FailsBetween : List ℕ → List ℕ → Option Failure → Type 0
-FailsBetween from to failure = (f : Failure) × (failure ≡ Some f) × IsFront from f.output × IsFront f.output to
+-- the writer took all of one text, and a front of the other
+abbrev pub FallsBetween : List ℕ → List ℕ → Failure → Type 0
+FallsBetween from to f = IsFront from f.output × IsFront f.output to
 
--- the same, and the fault is told
-abbrev pub FailsTold : (ErrorKind → Replied) → Replied → List ℕ → List ℕ → Option Failure → Type 0
-FailsTold tell reply from to failure = (f : Failure) × (failure ≡ Some f) × (reply ≡ tell f.kind) × IsFront from f.output × IsFront f.output to
+-- how it may fare: a fault falls after what was flushed, and within what the step leaves to send
+abbrev pub MayFare : Use → State → List Slot → Fares → Type 0
+MayFare writer old slots Well = Unit {0}
+MayFare Unused old slots (FailsWithin f) = ⊥
+MayFare Unused old slots (FailsAfter f) = ⊥
+MayFare Unreported old slots (FailsWithin f) = ⊥
+MayFare Unreported old slots (FailsAfter f) = FallsBetween old.flushed (joined slots) f
+MayFare (Reported own broken flushes tell) old slots (FailsWithin f) = FallsBetween old.flushed (joined old.reached.slots ++ own) f
+MayFare (Reported own None flushes tell) old slots (FailsAfter f) =
+    (finished_front old.reached.slots + 1 < finished_front slots) × FallsBetween (joined old.reached.slots ++ own) (joined slots) f
+MayFare (Reported own (Some kind) flushes tell) old slots (FailsAfter f) = FallsBetween old.flushed (joined old.reached.slots ++ own) f
 
--- the writer failed behind the step's own text: in a text that was left; or, where the data broke off, in what was held
-abbrev pub FailsBehind : List Slot → List ℕ → Option ErrorKind → List Slot → Option Failure → Type 0
-FailsBehind before own None slots failure =
-    (finished_front before + 1 < finished_front slots) × FailsBetween (joined before ++ own) (joined slots) failure
-FailsBehind before own (Some kind) slots failure = FailsBetween (joined before) (joined before ++ own) failure
+-- the reply: the fault in the step's own text, or that of its data; else what was planned
+abbrev pub reply_in : Use → Replied → Fares → Replied
+reply_in (Reported own broken flushes tell) planned (FailsWithin f) = tell f.kind
+reply_in (Reported own broken flushes tell) planned _ = unwrap_or (option_map tell broken) planned
+reply_in _ planned _ = planned
 
--- The writer's part of a step: its reply, and the writer's failure behind it.
+abbrev pub failure_in : Fares → Option Failure
+failure_in Well = None
+failure_in (FailsWithin f) = Some f
+failure_in (FailsAfter f) = Some f
+
+-- the step writes nothing
+abbrev pub is_silent : Use → State → Bool
+is_silent Unused old = true
+is_silent writer old = has_output_ended old
+
+-- THE WRITER'S PART of a step: its reply, and the writer's failure after it
 abbrev pub Writes : Use → State → Replied → List Slot → Replied → Option Failure → Type 0
-Writes Unused old planned slots reply failure = (reply ≡ planned) × (failure ≡ old.failure)
-Writes Unreported old planned slots reply failure =
-    (reply ≡ planned) × MatchBool (has_output_ended old) (failure ≡ old.failure) ((failure ≡ None) ⊎ FailsBetween (joined old.reached.slots) (joined slots) failure)
-Writes (Reported own broken tell) old planned slots reply failure =
-    MatchBool (has_output_ended old)
+Writes writer old planned slots reply failure =
+    MatchBool (is_silent writer old)
     ((reply ≡ planned) × (failure ≡ old.failure))
-    (((reply ≡ broken_reply tell planned broken) × (failure ≡ None))
-    ⊎ (FailsTold tell reply (joined old.reached.slots) (joined old.reached.slots ++ own) failure
-    ⊎ ((reply ≡ broken_reply tell planned broken) × FailsBehind old.reached.slots own broken slots failure)))
+    ((fares : Fares) × MayFare writer old slots fares × (reply ≡ reply_in writer planned fares) × (failure ≡ failure_in fares))
+
+abbrev pub flushes : Use → Bool
+flushes Unused = false
+flushes Unreported = true
+flushes (Reported own broken flushed tell) = flushed
+
+-- what has been flushed after a step
+abbrev pub flushed_after : Use → State → List Slot → List ℕ
+flushed_after writer old slots = if (flushes writer && not (is_silent writer old)) then joined slots else old.flushed
 
 abbrev pub reached_by : Outcome → Reached
 reached_by o = record { slots = o.slots; rest = o.rest; ended = o.ended }
 
 -- the step has this outcome
 abbrev pub Has : Outcome → State → Replied → State → Type 0
-Has o old reply new = (new.reached ≡ reached_by o) × Writes o.writer old o.reply o.slots reply new.failure
+Has o old reply new = (new.reached ≡ reached_by o) × (new.flushed ≡ flushed_after o.writer old o.slots) × Writes o.writer old o.reply o.slots reply new.failure
 
 -- the response's data are read whole before its head
 abbrev pub GathersFor : HttpDate → ResponseValue → Item → Type 0
@@ -123,15 +149,15 @@ Run old (s ∷ steps) [] new = ⊥
 
 -- nothing is reached of a pipeline
 abbrev pub start : List Item → State
-start items = record { reached = record { slots = []; rest = items; ended = false }; failure = None }
+start items = record { reached = record { slots = []; rest = items; ended = false }; flushed = []; failure = None }
 
--- The output: what the writer took and what is held are the joined segments, it did not fail, and the output has ended
--- exactly if one of them broke off. Or the writer failed once: it tells that kind and those bytes, nothing is held, and the
--- output has ended.
-abbrev pub IsOutput : List Slot → Option Failure → Sink → Sink → List ℕ → Bool → Type 0
-IsOutput slots None before after held ended =
-    (after.failures ≡ before.failures) × (taken : List ℕ) × (after.taken ≡ Some taken) × (taken ++ held ≡ joined slots) × (ended ≡ breaks_off slots)
-IsOutput slots (Some f) before after held ended =
+-- The output: what the writer took and what is held are the joined segments, it took all that was flushed, it did not fail, and
+-- the output has ended exactly if one of them broke off. Or the writer failed once: it tells that kind and those bytes,
+-- nothing is held, and the output has ended.
+abbrev pub IsOutput : List Slot → List ℕ → Option Failure → Sink → Sink → List ℕ → Bool → Type 0
+IsOutput slots flushed None before after held ended =
+    (after.failures ≡ before.failures) × (taken : List ℕ) × (after.taken ≡ Some taken) × (taken ++ held ≡ joined slots) × IsFront flushed taken × (ended ≡ breaks_off slots)
+IsOutput slots flushed (Some f) before after held ended =
     (after.failures ≡ before.failures + 1) × Tells after.last_kind f.kind × (after.taken ≡ Some f.output) × (held ≡ []) × (ended ≡ true)
 
 -- what the bytes still ask: nothing behind the last head, else the pipeline from where the input stands
@@ -167,7 +193,7 @@ pub record IsConversation (feed : Feed) (before : Sink) (steps : List Dated) (re
   pub end : State
   pub pipeline : Pipeline (Some feed.bytes) feed.stop items
   pub run : Run (start items) steps replies end
-  pub output : IsOutput end.reached.slots end.failure before after held ended
+  pub output : IsOutput end.reached.slots end.flushed end.failure before after held ended
   pub input : InputAt end.reached left
 
 -- the writer as a run takes it: it tells that it took no bytes, it has not ended, and its count can rise

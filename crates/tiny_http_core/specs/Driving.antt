@@ -1,5 +1,5 @@
 -- What the calls of a `Connection` come to.
-use Rattle.std.specs.Prelude.{◌≡◌, ◌⊎◌, Bool, true, List, [], ◌∷◌, ◌++◌, Option, Some, None, IsSome}
+use Rattle.std.specs.Prelude.{◌≡◌, ◌⊎◌, ℕ, Bool, true, List, [], ◌∷◌, ◌++◌, length, Option, Some, None, IsSome, slice_get, slice_set}
 use Rattle.std.specs.declared.io.ErrorKind.{ErrorKind}
 use Rattle.httpdate.specs.declared.date.HttpDate.{HttpDate}
 use Rattle.tiny_http_wire.specs.Device.{Feed, Sink}
@@ -20,7 +20,10 @@ use Rattle.tiny_http_message.specs.Pipeline.{Item, Refuses, Refusal, refusal_sta
 use Rattle.tiny_http_core.specs.Steps.{Asked, Replied, Handed, Ended, NotYet, NoSuch, Memory, Fault}
 use Rattle.tiny_http_core.specs.Conversation.{State, Dated, Run, start, IsFresh}
 use Rattle.tiny_http_core.specs.Sending.{FailsOnceUnlessEnded}
-use Rattle.tiny_http_core.specs.Seen.{IsStep, MayFail}
+use Rattle.tiny_http_message.specs.declared.body.Body.{Body}
+use Rattle.tiny_http_message.specs.declared.waiting.Waiting.{Waiting}
+use Rattle.tiny_http_message.specs.Body.{GivesUp}
+use Rattle.tiny_http_core.specs.Seen.{IsStep, MayFail, IsAnswered}
 use Rattle.tiny_http_core.specs.Connection.{ConnectionState, kept, Stands}
 
 -- Over this client's feed and a fresh writer, these steps were done, with these replies: they are a run over the pipeline
@@ -72,6 +75,32 @@ StepEnds (step.Read k n) old new reply = new.end ≡ old.end
 StepEnds (step.Respond k r) old new reply = new.end ≡ old.end
 StepEnds (step.Drop k) old new reply = new.end ≡ old.end
 
+-- the request of this number waits no more, and its body was given up
+abbrev pub LetsGo : {R W : Type 0} → ℕ → ConnectionState R W → ConnectionState R W → Type 0
+LetsGo k old new =
+    (new.requests ≡ slice_set old.requests k None) × ((w : Waiting) → slice_get old.requests k ≡ Some (Some w) → GivesUp w.body old.source new.source)
+
+-- What an Ask leaves of requests and output, by its reply: a request was added; or none was, and nothing is sent where memory
+-- was refused; or a refused head has its number.
+abbrev pub AskLeaves : {R W : Type 0} → ConnectionState R W → ConnectionState R W → Replied → Type 0
+AskLeaves old new (Handed k message framing) =
+    (k ≡ length old.marks) × ((w : Waiting) × (new.requests ≡ old.requests ++ Some w ∷ [])) × (new.outlet ≡ old.outlet)
+AskLeaves old new Memory = (new.requests ≡ old.requests) × (new.marks ≡ old.marks) × (new.outlet ≡ old.outlet)
+AskLeaves old new Ended =
+    ((new.requests ≡ old.requests) × (new.marks ≡ old.marks) × (new.outlet ≡ old.outlet)) ⊎ (new.requests ≡ old.requests ++ None ∷ [])
+AskLeaves old new NotYet = Unit {0}
+AskLeaves old new _ = ⊥
+
+-- What a step leaves of requests and output: a read changes no more than the body of its request; an answer, and a drop, let
+-- their request go.
+abbrev pub StepLeaves : {R W : Type 0} → Step (Option Feed) → ConnectionState R W → ConnectionState R W → Replied → Type 0
+StepLeaves step.Ask old new reply = AskLeaves old new reply
+StepLeaves (step.Read k n) old new reply =
+    (new.outlet ≡ old.outlet) × (new.marks ≡ old.marks)
+    × ((new.requests ≡ old.requests) ⊎ ((w : Waiting) × (body : Body) × (slice_get old.requests k ≡ Some (Some w)) × (new.requests ≡ slice_set old.requests k (Some (record w { body = body })))))
+StepLeaves (step.Respond k r) old new reply = IsAnswered reply → LetsGo k old new
+StepLeaves (step.Drop k) old new reply = IsAnswered reply → LetsGo k old new
+
 -- the step was not done: it came too early, or no request takes it, or memory for a read was refused
 abbrev pub IsDeclined : Step (Option Feed) → Replied → Type 0
 IsDeclined _ NotYet = Unit {0}
@@ -80,13 +109,14 @@ IsDeclined (step.Read k n) Memory = Unit {0}
 IsDeclined _ _ = ⊥
 
 -- One step on a date: what was done is done with this step and its reply behind it. And whatever reader, writer and data
--- state: a step that was not done changes nothing, why the requests end is kept, the source goes on, the writer fails once at
--- most, what is written is flushed, and a fault that is reported is one.
+-- state: a step that was not done changes nothing, why the requests end is kept, the other requests are left alone, the source
+-- goes on, the writer fails once at most, what is written is flushed, and a fault that is reported is one.
 pub record TakesStep {R W : Type 0} (old new : ConnectionState R W) (now : HttpDate) (step : Step (Option Feed)) (reply : Replied) : Type 0 where
   pub does : (client : Feed) (before : Sink) (steps : List Dated) (replies : List Replied) (asked : Asked) → IsStep (λ f. f) step asked
       → HasDone client before old steps replies → HasDone client before new (steps ++ (now, asked) ∷ []) (replies ++ reply ∷ [])
   pub declined : IsDeclined step reply → new ≡ old
   pub ends : StepEnds step old new reply
+  pub leaves : StepLeaves step old new reply
   pub goes_on : GoesOn old.source.feed new.source.feed
   pub fails_once : FailsOnceUnlessEnded old.outlet.ended (output_of old.outlet) (output_of new.outlet) new.outlet.ended
   pub flushed : old.outlet.held ≡ [] → new.outlet.held ≡ []

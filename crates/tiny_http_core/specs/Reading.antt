@@ -4,14 +4,12 @@ use Rattle.std.specs.Prelude.{false}
 use Rattle.tiny_http_wire.specs.Device.{Feed}
 use Rattle.tiny_http_message.specs.PipelineReading.{items_of}
 use Rattle.tiny_http_core.specs.Slots.{joined, breaks_off}
-use Rattle.tiny_http_core.specs.Steps.{Replied, Use, Unused, Unreported, Reported, Reached, outcome}
-use Rattle.tiny_http_core.specs.Conversation.{Dated, reached_by, broken_reply}
+use Rattle.tiny_http_core.specs.Steps.{Replied, Use, Reached, outcome}
+use Rattle.tiny_http_core.specs.Conversation.{Dated, Well, reply_in, reached_by}
 
--- the reply, where the writer takes all
+-- the reply, where the writer takes all, or the output has ended
 abbrev pub reply_of : Use → Bool → Replied → Replied
-reply_of Unused over reply = reply
-reply_of Unreported over reply = reply
-reply_of (Reported own broken tell) over reply = if over then reply else broken_reply tell reply broken
+reply_of writer over planned = if over then planned else reply_in writer planned Well
 
 -- the replies, and what is reached in the end
 pub record Reading : Type 0 where

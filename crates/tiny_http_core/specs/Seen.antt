@@ -5,7 +5,7 @@ use Rattle.std.specs.declared.io.Error.{Error}
 use Rattle.std.specs.declared.io.ErrorKind.{ErrorKind}
 use Rattle.httpdate.specs.declared.date.HttpDate.{HttpDate}
 use Rattle.tiny_http_wire.specs.Device.{Feed, Sink}
-use Rattle.tiny_http_wire.specs.Answer.{Answer, Printing, ResponseState}
+use Rattle.tiny_http_wire.specs.Answer.{Answer, Printing, coding_for, ResponseState}
 use Rattle.tiny_http_core.specs.declared.driver.Step.{Step}
 use Rattle.tiny_http_core.specs.declared.driver.Step.TheVariants as step
 use Rattle.tiny_http_core.specs.declared.driver.Timed.{Timed}
@@ -45,13 +45,13 @@ seen reply.Done = Done
 seen reply.NoSuch = NoSuch
 seen reply.Memory = Memory
 
--- the step may fail by this kind, by the writer or by its own data, or by that of the body that it reads; an Ask and a Drop
--- tell no fault
+-- the step may fail by this kind, by the writer or by its own data, in the coding of some request, or by that of the body that
+-- it reads; an Ask and a Drop tell no fault
 abbrev pub MayFail : {D : Type 0} → (D → Option Feed) → Sink → Sink → Step D → ErrorKind → Type 0
 MayFail feed old new step.Ask kind = ⊥
 MayFail feed old new (step.Read k n) kind = Unit {0}
 MayFail feed old new (step.Drop k) kind = ⊥
-MayFail feed old new (step.Respond k r) kind = IsHonest old new r.answer.length (feed r.data_reader) kind
+MayFail feed old new (step.Respond k r) kind = (p : Printing) × IsHonest old new (coding_for r.answer p) r.answer.length (feed r.data_reader) kind
 
 -- a fault that an answer tells is the writer's, whose count rose, or that of the step's own data; of a body's nothing is said
 abbrev pub TellsHonestly : {D : Type 0} → (D → Option Feed) → Sink → Sink → Timed D → Reply → Type 0
@@ -65,9 +65,12 @@ TellHonestly feed old (t ∷ steps) (r ∷ replies) new =
 TellHonestly feed old [] (r ∷ replies) new = ⊥
 TellHonestly feed old (t ∷ steps) [] new = ⊥
 
--- how the driver prints an answer: the coding isn't chosen yet, so that it needs no request header
-abbrev pub printed_as : AnswerForm → HttpDate → Printing
-printed_as form date = record { version = form.version; request_headers = []; no_body = form.no_body; upgrade = None; date = date }
+-- how an answer to a request of this form is printed; the headers, by which the coding will be chosen, are the request's
+pub record PrintedFor (form : AnswerForm) (date : HttpDate) (p : Printing) : Type 0 where
+  pub version : p.version ≡ form.version
+  pub no_body : p.no_body ≡ form.no_body
+  pub no_upgrade : p.upgrade ≡ None
+  pub dated : p.date ≡ date
 
 -- what a call that sends an answer is told as
 abbrev pub reply_to : {T : Type 0} → Result T Error → Replied

@@ -7,6 +7,8 @@ use Rattle.std.specs.declared.io.ErrorKind.TheVariants.{OutOfMemory}
 use Rattle.std.specs.Io.KnownBytes.{append_known}
 use Rattle.tiny_http_wire.specs.declared.device.Stop.TheVariants.{Fault}
 use Rattle.tiny_http_wire.specs.Device.{Feed, Sink, IsFront, BeginsKnown, HoldsNothing, IsFrontOf, Tells, next_count, fault_of}
+use Rattle.tiny_http_wire.specs.declared.coding.Coding.{Coding}
+use Rattle.tiny_http_wire.specs.declared.coding.Coding.TheVariants.{Identity, Chunked}
 use Rattle.tiny_http_wire.specs.Answer.{Answer, Text, Whole, Broken, Printing, text_of, nothing}
 use Rattle.tiny_http_core.specs.Slots.{IsGathered}
 
@@ -85,17 +87,18 @@ FailsOnceUnlessEnded was old new ended = MatchBool was ((new.failures ≡ old.fa
 abbrev pub FailsAtMostOnce : Sink → Sink → Type 0
 FailsAtMostOnce old new = (new.failures ≡ old.failures) ⊎ (new.failures ≡ next_count old.failures)
 
--- data break off by this kind: they close short of their length; or, where it isn't known, by a fault, or no memory to
--- gather them was found
-abbrev pub BreakOff : Option ℕ → Feed → ErrorKind → Type 0
-BreakOff (Some n) f kind = (length f.bytes < n) × (kind ≡ fault_of f.stop)
-BreakOff None f kind = (f.stop ≡ Fault kind) ⊎ (kind ≡ OutOfMemory)
+-- Data that are sent in this coding break off by this kind. As they are: they close short of their length; or, where it isn't
+-- known, by a fault, or no memory to gather them was found. In chunks: by a fault, whatever their length.
+abbrev pub BreakOff : Coding → Option ℕ → Feed → ErrorKind → Type 0
+BreakOff Identity (Some n) f kind = (length f.bytes < n) × (kind ≡ fault_of f.stop)
+BreakOff Identity None f kind = (f.stop ≡ Fault kind) ⊎ (kind ≡ OutOfMemory)
+BreakOff Chunked known f kind = f.stop ≡ Fault kind
 
 -- the same; nothing is said of data that tell nothing
-abbrev pub MayBreakOff : Option ℕ → Option Feed → ErrorKind → Type 0
-MayBreakOff known None kind = Unit {0}
-MayBreakOff known (Some f) kind = length f.bytes < 2 ^ 63 → BreakOff known f kind
+abbrev pub MayBreakOff : Coding → Option ℕ → Option Feed → ErrorKind → Type 0
+MayBreakOff coding known None kind = Unit {0}
+MayBreakOff coding known (Some f) kind = length f.bytes < 2 ^ 63 → BreakOff coding known f kind
 
--- a fault is the writer's, whose count rose, or the data's, of which so many are to be sent
-abbrev pub IsHonest : Sink → Sink → Option ℕ → Option Feed → ErrorKind → Type 0
-IsHonest old new known feed kind = (new.failures ≡ next_count old.failures) ⊎ MayBreakOff known feed kind
+-- a fault is the writer's, whose count rose, or the data's, of which so many are to be sent in this coding
+abbrev pub IsHonest : Sink → Sink → Coding → Option ℕ → Option Feed → ErrorKind → Type 0
+IsHonest old new coding known feed kind = (new.failures ≡ next_count old.failures) ⊎ MayBreakOff coding known feed kind

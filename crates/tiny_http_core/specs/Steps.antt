@@ -49,12 +49,13 @@ is_closed_client _ = false
 abbrev pub fault_of_answer : ErrorKind → Replied
 fault_of_answer kind = if is_closed_client kind then Done else Fault kind
 
--- How a step uses the writer: not at all; or its faults are told by no reply; or a fault of the writer that is met in the
--- step's own text is told, or the fault of its response's data, if any. Where both fail, either may be told.
+-- How a step uses the writer: not at all; or its texts are written and flushed, and no reply reports a fault; or its own text
+-- is written, and flushed or not, and a fault of the writer in it is reported, or else that of its response's data, if any.
+-- Where both fail, either may be reported.
 pub data Use : Type 0 where
   Unused : Use
   Unreported : Use
-  Reported : (own : List ℕ) (broken : Option ErrorKind) (tell : ErrorKind → Replied) → Use
+  Reported : (own : List ℕ) (broken : Option ErrorKind) (flushes : Bool) (tell : ErrorKind → Replied) → Use
 
 -- What a step answers and leaves, so far as the writer has no say in it.
 pub record Outcome : Type 0 where
@@ -167,10 +168,10 @@ effect found date old r s turn (Read k n) =
     (read_reply n (body_left s r) r.body.stop) Unused
 effect found date old r s turn (Respond k response) =
     let text = text_if found response (to_request r date) in
-    changes old k (finished s (Answered response date found)) Done (Reported text.bytes (fault_in text.ending) fault_of_answer)
+    changes old k (finished s (Answered response date found)) Done (Reported text.bytes (fault_in text.ending) true fault_of_answer)
 effect found date old r s turn (IntoWriter k) = changes old k (record s { stage = Raw [] false; given_up = true; owed = false }) Done Unused
-effect found date old r s turn (Write k bytes) = changes old k (record s { stage = written_to bytes s.stage }) Done (Reported bytes None Fault)
-effect found date old r s turn (Flush k) = changes old k s Done (Reported [] None Fault)
+effect found date old r s turn (Write k bytes) = changes old k (record s { stage = written_to bytes s.stage }) Done (Reported bytes None false Fault)
+effect found date old r s turn (Flush k) = changes old k s Done (Reported [] None true Fault)
 effect found date old r s turn (Upgrade k protocol response) =
     if list_all is_ascii protocol
     then changes old k (record s { stage = Upgraded protocol response date [] false; owed = false }) Done Unreported

@@ -2,6 +2,7 @@
 ghost use Rattle.std.specs.Prelude.{◌≡◌, ◌-◌, ◌<◌, ◌^◌, true, false, List, [], length, Some, None, map, Ok, IfOk, IfErr, vec_len, is_some, slice_get};
 ghost use Rattle.std.specs.List.{AllZip};
 ghost use Rattle.tiny_http_wire.specs.Device.{Feed, Sink, HoldsNothing};
+ghost use Rattle.tiny_http_wire.specs.Answer.{Printing, coding_for};
 ghost use Rattle.tiny_http_core.specs.Slots.{ResponseValue};
 ghost use Rattle.tiny_http_message.specs.Pipeline.{Item, Pipeline};
 ghost use Rattle.tiny_http_core.specs.Conversation.{IsConversation, IsFresh, Dated};
@@ -11,7 +12,7 @@ ghost use Rattle.std.specs.declared.io.ErrorKind.{ErrorKind};
 ghost use Rattle.tiny_http_stream.specs.Source.{GoesOn};
 ghost use Rattle.tiny_http_core.specs.Pending.{waiting_form};
 ghost use Rattle.tiny_http_core.specs.Driving.{HasDone, TakesStep, told_response, told_step};
-ghost use Rattle.tiny_http_core.specs.Seen.{seen, Answers, IsAnswered, printed_as, IsResponse, IsTold, TellsHonestly, TellHonestly};
+ghost use Rattle.tiny_http_core.specs.Seen.{seen, Answers, IsAnswered, PrintedFor, IsResponse, IsTold, TellsHonestly, TellHonestly};
 ghost use Rattle.tiny_http_stream.specs.Outlet.{output_of, outlet_ended, outlet_held, outlet_writer, SentOn};
 ghost use Rattle.tiny_http_core.specs.Sending.{CanSend, FailsOnceUnlessEnded, FailsAtMostOnce, IsHonest};
 
@@ -150,19 +151,19 @@ fn answer<W: WriteDevice, D: ReadDevice + Drop>(
 ) -> Reply
     ensures past { outlet_ended outlet.old ≡ true → (outlet.new ≡ outlet.old) × (seen result ≡ Done) }
     ensures sends { (content : Feed) → D.feed response.data_reader ≡ Some content → length content.bytes < 2 ^ 63
-        → outlet_ended outlet.old ≡ false → CanSend (output_of outlet.old)
-        → Answers (output_of outlet.old) (output_of outlet.new) (outlet_ended outlet.new) (seen result) response.answer content (printed_as form now) }
+        → outlet_ended outlet.old ≡ false → CanSend (output_of outlet.old) → (p : Printing) → PrintedFor form now p
+        → Answers (output_of outlet.old) (output_of outlet.new) (outlet_ended outlet.new) (seen result) response.answer content p }
     ensures fails_once { FailsOnceUnlessEnded (outlet_ended outlet.old) (output_of outlet.old) (output_of outlet.new) (outlet_ended outlet.new) }
     ensures flushed { outlet_held outlet.old ≡ [] → outlet_held outlet.new ≡ [] }
     ensures sent_on { SentOn outlet.old → SentOn outlet.new }
     ensures done { IsAnswered (seen result) }
     ensures honest { (kind : ErrorKind) → seen result ≡ Fault kind → (outlet_ended outlet.new ≡ true)
-        × IsHonest (output_of outlet.old) (output_of outlet.new) response.answer.length (D.feed response.data_reader) kind }
+        × ((p : Printing) → PrintedFor form now p → IsHonest (output_of outlet.old) (output_of outlet.new) (coding_for response.answer p) response.answer.length (D.feed response.data_reader) kind) }
 {
     if outlet.is_ended() {
         return Reply::Done;
     }
-    match send(alloc, outlet, response, form.version, form.no_body, now) {
+    match send(alloc, outlet, response, form, now) {
         Ok(()) => Reply::Done,
         Err(fault) => Reply::fault_of_answer(fault.kind()),
     }

@@ -2,14 +2,16 @@
 ghost use Rattle.std.specs.Prelude.{◌≡◌, ◌<◌, ◌^◌, ◌==◌, true, false, [], length, Some, None, IfErr, OnErr, MatchBool};
 ghost use Rattle.std.specs.IoError.{error_kind};
 ghost use Rattle.tiny_http_wire.specs.Device.{Feed};
+ghost use Rattle.tiny_http_wire.specs.Answer.{Printing, coding_for};
+ghost use Rattle.tiny_http_core.specs.Seen.{PrintedFor};
 ghost use Rattle.tiny_http_stream.specs.Outlet.{output_of, outlet_ended, outlet_held, SentOn};
 ghost use Rattle.tiny_http_core.specs.Sending.{Sends, SendsUnlessEnded, EndsQuietly, Abandons, CanSend, FailsOnce, FailsOnceUnlessEnded, IsHonest};
 
 use httpdate::HttpDate;
 use std::alloc::Global;
 use std::io;
+use tiny_http_message::waiting::AnswerForm;
 use tiny_http_stream::outlet::Outlet;
-use tiny_http_wire::common::HTTPVersion;
 use tiny_http_wire::device::{ReadDevice, WriteDevice};
 use tiny_http_wire::response::Response;
 
@@ -36,22 +38,21 @@ pub(crate) fn send<W: WriteDevice, D: ReadDevice + Drop>(
     alloc: Global,
     outlet: &mut Outlet<W>,
     response: Response<D>,
-    version: HTTPVersion,
-    no_body: bool,
+    form: AnswerForm,
     now: HttpDate,
 ) -> Result<(), io::Error>
     ensures sends { (content : Feed) → D.feed response.data_reader ≡ Some content → length content.bytes < 2 ^ 63
-        → CanSend (output_of outlet.old)
-        → Sends (output_of outlet.old) (output_of outlet.new) (outlet_ended outlet.new) result response.answer content
-        (record { version = version; request_headers = []; no_body = no_body; upgrade = None; date = now }) }
+        → CanSend (output_of outlet.old) → (p : Printing) → PrintedFor form now p
+        → Sends (output_of outlet.old) (output_of outlet.new) (outlet_ended outlet.new) result response.answer content p }
     ensures fails_once { FailsOnce (output_of outlet.old) (output_of outlet.new) (outlet_ended outlet.new) }
-    ensures honest { IfErr result (λ e. IsHonest (output_of outlet.old) (output_of outlet.new) response.answer.length (D.feed response.data_reader) (error_kind e)) }
+    ensures honest { IfErr result (λ e. (p : Printing) → PrintedFor form now p
+        → IsHonest (output_of outlet.old) (output_of outlet.new) (coding_for response.answer p) response.answer.length (D.feed response.data_reader) (error_kind e)) }
     ensures ended { OnErr result (outlet_ended outlet.new ≡ true) }
     ensures flushed { outlet_held outlet.new ≡ [] }
     ensures sent_on { SentOn outlet.new }
 {
     let failures = outlet.failures();
-    let printed = response.raw_print(alloc, outlet, version, &[], no_body, None, now);
+    let printed = response.raw_print(alloc, outlet, form.version, &[], form.no_body, None, now);
     if let Err(fault) = printed {
         end_behind_fault(outlet, failures);
         return Err(fault);

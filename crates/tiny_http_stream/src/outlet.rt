@@ -133,8 +133,9 @@ impl<W: WriteDevice> Outlet<W> {
     pub fn tell(&self)
         ensures tells { self.now.tells ≡ W.sink self.now.writer }
         ensures none { self.now.ended ≡ true → self.now.held ≡ [] }
+        ensures begins { BeginsKnown self.now.tells.sent self.now.tells.taken }
     {
-        let _ = &self.inner;
+        let _ = self.inner.failures();
     }
 
     /// Whether the outlet has ended: by `end` or `abandon`, or by the writer's first fault.

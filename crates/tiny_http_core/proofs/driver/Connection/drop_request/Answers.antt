@@ -1,5 +1,5 @@
 use Rattle.std.proofs.Common.{ℕ, refl, sym, ap, ◌∙◌, subst, List, Option}
-use Rattle.std.specs.Prelude.{◌==◌}
+use Rattle.std.specs.Prelude.{◌==◌, slice_get}
 use Rattle.tiny_http_message.specs.declared.waiting.Waiting.{Waiting}
 use Rattle.tiny_http_core.specs.Steps.{Drop, NoSuch, Done}
 use Rattle.tiny_http_turns.specs.Turns.{Mark, first_unfinished}
@@ -10,7 +10,7 @@ use Rattle.tiny_http_core.proofs.AskLemmas.{Answered}
 use Rattle.tiny_http_stream.proofs.GoingOn.{goes-on_same}
 use Rattle.tiny_http_core.proofs.RespondLemmas.{no-such}
 use Rattle.tiny_http_core.proofs.DropLemmas.{drop-not_taken, drop-done}
-use Rattle.tiny_http_core.proofs.DriverLemmas.{viewed, same-view, takes-drop, reads-on}
+use Rattle.tiny_http_core.proofs.DriverLemmas.{viewed, same-view, takes-drop, reads-on, gives-up-kept}
 use Rattle.tiny_http_message.proofs.BodyReads.{gives-up}
 use Rattle.tiny_http_core.proofs.driver.Connection.drop_request.Goals as goal
 
@@ -28,7 +28,7 @@ returns-in_default g c =
           let P : List Mark → List (Option Waiting) → Type 0 = λ m r. Answered client before (record k { marks = m; requests = r }) s date (Drop n) NoSuch in
           let done = no-such client before k s date n (Drop n) refl (drop-not_taken n) st none.0 in
           subst (λ m. P m c.take.new.self.requests.items) (ap (λ t. t.marks) (sym c.take.ensures.turns)) (subst (λ r. P k.marks r) (sym none.1) done))
-          (λ no. same-view q.source q.outlet c.take.new.self q.pending q.end (ap (λ t. t.marks) c.take.ensures.turns) none.1) refl (reads-on old new refl (goes-on_same q.source.feed)) (λ kind e. cc));
+          (λ no. same-view q.source q.outlet c.take.new.self q.pending q.end (ap (λ t. t.marks) c.take.ensures.turns) none.1) refl (λ no. elim no [ ]) (reads-on old new refl (goes-on_same q.source.feed)) (λ kind e. cc));
     }
 
 pub returns : goal.returns
@@ -53,6 +53,7 @@ returns g c =
           let L : List ℕ → Type 0 = λ x. LeavesText (n == first_unfinished c.take.new.self.turns.marks) front rest left.self.turns.marks x k.output_ended k.sink (output_of left.outlet) (outlet_ended left.outlet) in
           subst T (ap (λ t. t.marks) turns) (subst L c.into_text-text.ensures (c.leave.ensures.leaves front rest (ap (λ t. t.marks) turns ∙ e) place can))))
           (λ no. elim no [ ]) refl
+          (λ done. (ap (λ v. v.items) c.leave.ensures.requests ∙ some.1, gives-up-kept q.source c.give_up.new.source (slice_get k.requests n) w some.0 c.give_up.ensures.gives_up))
           (record { goes_on = gives-up w.body q.source c.give_up.new.source c.give_up.ensures.gives_up; fails_once = c.leave.ensures.fails_once; flushed = c.leave.ensures.flushed; sent_on = c.leave.ensures.sent_on })
           (λ kind e. cc));
     }

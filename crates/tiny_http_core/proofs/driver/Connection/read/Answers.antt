@@ -1,4 +1,4 @@
-use Rattle.std.proofs.Common.{rules, ◌≡◌, refl, sym, ap, ◌∙◌, subst, List, [], ◌∷◌, Ok, Err, ℕ, ◌++◌, length, take, drop, arith}
+use Rattle.std.proofs.Common.{rules, ◌≡◌, refl, sym, ap, ◌∙◌, subst, List, [], ◌∷◌, Ok, Err, ℕ, ◌++◌, length, take, drop, arith, inl, inr}
 use Rattle.std.proofs.lemmas.Grind.{common_steps}
 use Rattle.std.specs.Prelude.{slice_get}
 use Rattle.tiny_http_core.specs.Steps.{Read, Given, Fault, NoSuch, Memory}
@@ -28,7 +28,7 @@ returns-in_default g c =
     let old = viewed q.source q.outlet q.pending q.end in
     record {
       step = λ date. rw (← c.self.view_is) (takes-read old old date n c.args.count NoSuch
-          (λ client before s st. no-such client before (kept old) s date n (Read n c.args.count) refl (read-not_taken n c.args.count) st (sym c.form_at.ensures ∙ c.in_default.is)) (λ no. refl) refl (stays old));
+          (λ client before s st. no-such client before (kept old) s date n (Read n c.args.count) refl (read-not_taken n c.args.count) st (sym c.form_at.ensures ∙ c.in_default.is)) (λ no. refl) refl (refl, refl, inl refl) (stays old));
     }
 
 pub returns-then-count-eq0 : goal.returns-then-count-eq0
@@ -42,7 +42,7 @@ returns-then-count-eq0 g c =
           (λ client before s st.
           let w = form-some (slice_get k.requests n) c.in-Some.field-0 (sym c.form_at.ensures ∙ c.in-Some.is) in
           let P : List ℕ → Type 0 = λ l. Answered client before k s date (Read n c.args.count) (Given l) in
-          subst P (none _ (search rules)) (read-none client before k s date n c.args.count w.0 st w.1 c.if-count-eq0.true)) (λ no. refl) refl (stays old));
+          subst P (none _ (search rules)) (read-none client before k s date n c.args.count w.0 st w.1 c.if-count-eq0.true)) (λ no. refl) refl (refl, refl, inl refl) (stays old));
     }
 
 pub returns-in_default-zeros : goal.returns-in_default-zeros
@@ -55,7 +55,7 @@ returns-in_default-zeros g c =
       step = λ date. rw (← c.self.view_is) (takes-read old old date n c.args.count Memory
           (λ client before s st.
           let w = form-some (slice_get k.requests n) c.in-Some.field-0 (sym c.form_at.ensures ∙ c.in-Some.is) in
-          read-memory client before k s date n c.args.count w.0 st w.1 (omega (arith, c.if-count-eq0.false))) (λ no. refl) refl (stays old));
+          read-memory client before k s date n c.args.count w.0 st w.1 (omega (arith, c.if-count-eq0.false))) (λ no. refl) refl (refl, refl, inl refl) (stays old));
     }
 
 pub returns : goal.returns
@@ -82,5 +82,6 @@ returns g c =
                 rw b.result-is (subst P (ap (λ t. t.marks) (sym c.fill.ensures.turns)) done)
           ])
           (elim c.match-fill.branch [ in-Ok-fill b ↦ rw b.result-is (λ no. elim no [ ]) | in-Err b ↦ rw b.result-is (λ no. elim no [ ]) ]) refl
+          (let fills = c.fill.ensures.fills w.0 w.1 in (refl, ap (λ t. t.marks) c.fill.ensures.turns, inr (w.0, fills.0, w.1, fills.1)))
           (reads-on old new refl c.fill.ensures.goes_on));
     }

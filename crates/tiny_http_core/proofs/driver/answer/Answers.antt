@@ -1,0 +1,36 @@
+use Rattle.std.proofs.Common.{rules, ◌≡◌, sym, ◌∙◌, subst, true, false, Bool, Ok, Err}
+use Rattle.std.specs.Prelude.{if◌then◌else◌}
+use Rattle.std.specs.declared.io.ErrorKind.{ErrorKind}
+use Rattle.std.specs.IoError.{error_kind}
+use Rattle.tiny_http_wire.specs.Answer.{coding_for}
+use Rattle.tiny_http_stream.specs.Outlet.{output_of}
+use Rattle.tiny_http_core.specs.Steps.{Replied, Done, Fault, is_closed_client, fault_of_answer}
+use Rattle.tiny_http_core.specs.Seen.{seen}
+use Rattle.tiny_http_core.specs.Sending.{IsHonest}
+use Rattle.tiny_http_core.proofs.SendLemmas.{or-false}
+use Rattle.tiny_http_core.proofs.driver.answer.Goals as goal
+
+-- the fault that is reported is the one that was met
+same-kind : (met kind : ErrorKind) → fault_of_answer met ≡ Fault kind → met ≡ kind
+same-kind met kind e = by (is_closed_client met) e
+  where
+    by : (t : Bool) → (if t then Done else Fault met) ≡ Fault kind → met ≡ kind
+    by true e = let no : Done ≡ Fault kind = e in cc
+    by false e = let same : Fault met ≡ Fault kind = e in cc
+
+pub returns-in-Err-clause-sends : goal.returns-in-Err-clause-sends
+returns-in-Err-clause-sends g c content told few open_is can p is =
+    let new = c.send.new.outlet in (
+      Err c.in-Err.fault,
+      search (rules, c.fault_of_answer.ensures, c.kind.ensures),
+      c.in-Err.ensures.sends content told few can p is,
+      λ z. (let no : true ≡ false = sym c.in-Err.ensures.ended ∙ (or-false new.ended new.tells.has_ended z).0 in cc),
+    )
+
+pub returns-in-Err-clause-honest : goal.returns-in-Err-clause-honest
+returns-in-Err-clause-honest g c kind e =
+    let met : error_kind c.in-Err.fault ≡ kind = same-kind (error_kind c.in-Err.fault) kind (search (rules, e, c.fault_of_answer.ensures, c.kind.ensures)) in (
+      c.in-Err.ensures.ended,
+      λ p is. (let H : ErrorKind → Type 0 = λ k. IsHonest (output_of c.args.outlet.now) (output_of c.send.new.outlet) (coding_for c.args.response.answer p) c.args.response.answer.length (g.D.ReadDevice.feed c.args.response.data_reader) k in
+          subst H met (c.in-Err.ensures.honest p is)),
+    )
