@@ -29,7 +29,7 @@ use Rattle.tiny_http_wire.specs.declared.common.StatusCode.{StatusCode}
 use Rattle.tiny_http_message.specs.Exchange.{KeepsRequest}
 use Rattle.tiny_http_message.specs.Body.{Remaining, remaining, taken_left, is_streaming}
 use Rattle.tiny_http_core.specs.Slots.{Slot, is_finished, is_broken, is_slot_broken, segment, joined, new_slot, turn_has_come, is_chunked, last_slot, reader_is_held, reader_is_lost, is_last_slot}
-use Rattle.tiny_http_message.specs.OwnAnswer.{own_text}
+use Rattle.tiny_http_message.specs.OwnAnswer.{own_text, own_text_by, own_printing_to}
 use Rattle.tiny_http_core.specs.Steps.{Asked, Ask, Replied, Handed, Ended, NotYet, Memory, Unused, Unreported, Outcome, Reached, unchanged, ask, asks_from, outcome}
 use Rattle.tiny_http_core.specs.Conversation.{Failure, State, PlaceAt, Writes, flushed_after, Has, StepsTo}
 use Rattle.tiny_http_core.proofs.WritingLemmas.{IsAllFlushed, unreported, still-flushed}
@@ -130,7 +130,7 @@ going client before k s h e o quiet open_input =
     by next false z = refl
 
 -- the texts of the server's own
-pub dropped-text : (asked : HttpDate) (r : Request) (given : ℕ) (told : Bool) → own_text 500 r.message.version (is_head_method r.message.method) asked ≡ segment (dropped asked r given told)
+pub dropped-text : (asked : HttpDate) (r : Request) (given : ℕ) (told : Bool) → own_text_by 500 (own_printing_to r.message.headers r.message.version (is_head_method r.message.method) asked) ≡ segment (dropped asked r given told)
 unfolding text_of
 dropped-text asked r given told = refl
 

@@ -12,7 +12,8 @@ use Rattle.tiny_http_wire.specs.declared.coding.FramingHeader.TheVariants.{Conte
 use Rattle.tiny_http_wire.specs.Common.{reason_phrase}
 use Rattle.tiny_http_wire.specs.Device.{Sink, Failed, ending}
 use Rattle.tiny_http_wire.specs.Answer.{Answer, answer_with, Ending, Whole, Broken, PrintsAnswer, text_of, unless, identity_body, is_withheld, head, status_line, field_line, upgrade_lines, server_line, date_line, framing_line}
-use Rattle.tiny_http_message.specs.OwnAnswer.{own_text, own_printing}
+use Rattle.tiny_http_wire.specs.declared.common.Header.{Header}
+use Rattle.tiny_http_message.specs.OwnAnswer.{own_text, own_text_by, own_printing, own_printing_to}
 
 -- an answer of the server's own is whole
 pub own-whole : (status : ℕ) (v : HTTPVersion) (withheld : Bool) (date : HttpDate) → (text_of (answer_with status [] 0) (ending []) (own_printing v withheld date)).ending ≡ Whole
@@ -61,3 +62,8 @@ no-fault old new e a v withheld d bytes same o n z full fits (inl (inr f)) =
 no-fault old new e a v withheld d bytes same o n z full fits (inr k) =
     let none : Some 0 ≡ None = sym (ap (λ (x : Answer). x.length) same) ∙ k.2 in
     cc
+
+-- the request's headers make no difference so far
+pub own-text-any : (headers : List Header) (status : ℕ) (v : HTTPVersion) (withheld : Bool) (d : HttpDate) → own_text status v withheld d ≡ own_text_by status (own_printing_to headers v withheld d)
+unfolding text_of
+own-text-any headers status v withheld d = refl

@@ -9,7 +9,7 @@ use Rattle.tiny_http_message.specs.declared.exchange.Exchange.{Exchange}
 use Rattle.tiny_http_stream.specs.Source.{SourceState}
 use Rattle.tiny_http_stream.specs.declared.source.Standing.{Standing}
 use Rattle.tiny_http_message.specs.Pipeline.{is_head_method}
-use Rattle.tiny_http_message.specs.OwnAnswer.{own_text}
+use Rattle.tiny_http_message.specs.OwnAnswer.{own_printing_to, own_text_by}
 use Rattle.tiny_http_message.specs.Body.{Remaining, remaining, body_stop, body_standing, is_streaming, ReadsOn, Fits, GivesUp}
 
 -- a request of this head, of which this is kept
@@ -48,7 +48,7 @@ GivesUpBody x old new = GivesUp x.waiting.body old new
 pub record KeepsHead (w : Waiting) (h : Head) (date : HttpDate) : Type 0 where
   pub version : w.form.version ≡ h.version
   pub no_body : w.form.no_body ≡ is_head_method h.method
-  pub text : w.dropped.items ≡ own_text 500 h.version (is_head_method h.method) date
+  pub text : w.dropped.items ≡ own_text_by 500 (own_printing_to h.headers.items h.version (is_head_method h.method) date)
 
 -- what is kept of a request that was read on this date, of whose body nothing was read yet
 pub record KeepsRequest (x : Exchange) (date : HttpDate) : Type 0 where

@@ -1,7 +1,8 @@
 //! Answers of the server's own: the text of a refused head, and the text of a dropped request, which is printed as it is dropped.
-ghost use Rattle.std.specs.Prelude.{◌≡◌, ◌<◌, ◌≤◌, [], IfOk, length, vec_len, vec_capacity};
+ghost use Rattle.std.specs.Prelude.{◌≡◌, ◌<◌, ◌≤◌, List, [], IfOk, length, vec_len, vec_capacity};
 ghost use Rattle.httpdate.specs.Date.{date_text};
-ghost use Rattle.tiny_http_message.specs.OwnAnswer.{own_text};
+ghost use Rattle.tiny_http_wire.specs.declared.common.Header.{Header};
+ghost use Rattle.tiny_http_message.specs.OwnAnswer.{own_text, own_text_by, own_printing_to};
 
 use httpdate::HttpDate;
 use std::alloc::{AllocError, Global};
@@ -106,14 +107,14 @@ impl Model for DropText {
 }
 
 impl DropText {
-    /// An error where there is no memory for it.
+    /// An error where there is no memory for it. So far the request's headers make no difference to the text.
     pub fn new(
         alloc: Global,
         version: HTTPVersion,
         no_body: bool,
         now: HttpDate,
     ) -> Result<DropText, AllocError>
-        ensures { IfOk result (λ text. text.items ≡ own_text 500 version no_body now) }
+        ensures { IfOk result (λ text. (headers : List Header) → text.items ≡ own_text_by 500 (own_printing_to headers version no_body now)) }
     {
         let room = Vec::with_capacity(alloc, OWN_ANSWER)?;
         Ok(DropText {
