@@ -36,14 +36,12 @@ fn calls_of(
     pieces: &'static [&'static [u8]],
     deeds: &[Deed<'_>],
 ) -> Result<usize, Fail> {
-    let mut client = Client { pieces, calls: 0 };
+    let client = Client { pieces, calls: 0 };
     let steps = steps_of(alloc, deeds)?;
-    let writer = Metered::new(Vec::new(alloc));
-    match run(alloc, &mut client, writer, steps) {
-        Ok(done) => drop(done),
-        Err(_) => return Err("no memory".into()),
+    match run(alloc, client, Metered::new(Vec::new(alloc)), steps) {
+        Ok(done) => Ok(done.source.into_inner().calls),
+        Err(_) => Err("no memory".into()),
     }
-    Ok(client.calls)
 }
 
 // So often the client is called by none of the steps, by the first, by the first two, and so on.
@@ -151,13 +149,12 @@ impl ReadDevice for Recovering {
 
 // How often such a reader is called by these steps.
 fn calls_of_recovering(alloc: Global, deeds: &[Deed<'_>]) -> Result<usize, Fail> {
-    let mut reader = Recovering { calls: 0 };
+    let reader = Recovering { calls: 0 };
     let steps = steps_of(alloc, deeds)?;
-    match run(alloc, &mut reader, Metered::new(Vec::new(alloc)), steps) {
-        Ok(done) => drop(done),
-        Err(_) => return Err("no memory".into()),
+    match run(alloc, reader, Metered::new(Vec::new(alloc)), steps) {
+        Ok(done) => Ok(done.source.into_inner().calls),
+        Err(_) => Err("no memory".into()),
     }
-    Ok(reader.calls)
 }
 
 #[test]

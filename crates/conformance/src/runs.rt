@@ -180,6 +180,7 @@ fn describe_reply(summary: &mut String, reply: &Reply) -> Result<(), AllocError>
         Reply::Ended => summary.push_str("ended"),
         Reply::NotYet => summary.push_str("not yet"),
         Reply::Done => summary.push_str("done"),
+        Reply::Refused => summary.push_str("refused"),
         Reply::NoSuch => summary.push_str("no such"),
         Reply::Memory => summary.push_str("memory"),
     }

@@ -47,5 +47,6 @@ unhanded (reply.Given bytes) other = refl
 unhanded (reply.Fault kind) other = refl
 unhanded reply.NotYet other = refl
 unhanded reply.Done other = refl
+unhanded reply.Refused other = refl
 unhanded reply.NoSuch other = refl
 unhanded reply.Memory other = refl

@@ -33,7 +33,7 @@ abbrev pub bytes_text : List ℕ → List ℕ
 bytes_text [] = []
 bytes_text (b ∷ bytes) = codes " " ++ flat_map hex_byte (b ∷ bytes)
 
--- a reply without the end of its line; nothing for the one that no step of a script has
+-- a reply without the end of its line
 abbrev pub reply_text : Replied → List ℕ
 reply_text (Handed k message framing) = handed_text k message framing.body_length
 reply_text (Fault kind) = codes "fault " ++ kind_name kind
@@ -43,7 +43,7 @@ reply_text (Given bytes) = codes "given" ++ bytes_text bytes
 reply_text Done = codes "done"
 reply_text NoSuch = codes "nosuch"
 reply_text Memory = codes "memory"
-reply_text Refused = []
+reply_text Refused = codes "refused"
 
 -- a reply's line, with the LF that ends it
 abbrev pub reply_line : Replied → List ℕ

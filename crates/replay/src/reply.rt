@@ -94,6 +94,7 @@ impl fmt::Display for ReplyLine<'_> {
             Reply::Given(bytes) => write!(f, "given{}", Bytes(bytes.as_slice())),
             Reply::Ended => write!(f, "ended"),
             Reply::Done => write!(f, "done"),
+            Reply::Refused => write!(f, "refused"),
             Reply::NoSuch => write!(f, "nosuch"),
             Reply::Memory => write!(f, "memory"),
         }

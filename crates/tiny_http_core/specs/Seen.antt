@@ -14,7 +14,7 @@ use Rattle.tiny_http_core.specs.declared.driver.Reply.{Reply}
 use Rattle.tiny_http_core.specs.declared.driver.Reply.TheVariants as reply
 use Rattle.tiny_http_message.specs.HeadReads.{head_message, head_framing}
 use Rattle.tiny_http_core.specs.Slots.{ResponseValue}
-use Rattle.tiny_http_core.specs.Steps.{Asked, Ask, Read, Respond, Drop, Replied, Handed, Ended, Given, Fault, NotYet, Done, NoSuch, Memory, fault_of_answer}
+use Rattle.tiny_http_core.specs.Steps.{Asked, Ask, Read, Respond, Drop, Replied, Handed, Ended, Given, Fault, NotYet, Done, Refused, NoSuch, Memory, fault_of_answer}
 use Rattle.tiny_http_core.specs.Conversation.{Dated}
 use Rattle.tiny_http_core.specs.Sending.{Sends, IsFlushed, IsHonest, FailsAtMostOnce}
 
@@ -42,6 +42,7 @@ seen (reply.Given bytes) = Given bytes.items
 seen (reply.Fault kind) = Fault kind
 seen reply.NotYet = NotYet
 seen reply.Done = Done
+seen reply.Refused = Refused
 seen reply.NoSuch = NoSuch
 seen reply.Memory = Memory
 

@@ -70,6 +70,8 @@ pub enum Reply {
     NotYet,
     /// The step was done, and met no fault that is told.
     Done,
+    /// An upgrade was refused, as its protocol isn't ASCII, and the request was dropped. No step of today is answered so.
+    Refused,
     /// No request of this number takes the step; nothing has changed.
     NoSuch,
     /// No memory was found. A `Read` has changed nothing; behind an `Ask` every later one is answered `Ended`.
