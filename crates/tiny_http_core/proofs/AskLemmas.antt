@@ -185,7 +185,7 @@ no-items stop [] h = refl
 no-items stop (x ∷ xs) h = elim h [ ]
 
 -- no head stands in front of no byte
-pipeline-empty : Pipeline (Some []) End []
+pub pipeline-empty : Pipeline (Some []) End []
 pipeline-empty = feed-pipeline (ending [])
 
 handed-place : (last : Bool) (stop : Stop) (next : Place) (more : List Item) → Pipeline (place_after last next) stop more → PlaceAt last (Some (place_feed stop next)) more

@@ -121,7 +121,7 @@ pub waiting-kept : (s : Slot) (w : Waiting) (h : IsWaiting s w) → reader_is_lo
 waiting-kept s w h = let P : Slot → Type 0 = λ x. reader_is_lost (Some x) ≡ false in subst P (sym h.is) (and-false (is_chunked h.request.framing.form))
 
 -- whether the last body is open, and the program's sight of it
-waiting-open : (s : Slot) (w : Waiting) (h : IsWaiting s w) → last_is_open (Some s) ≡ is_streaming w.body
+pub waiting-open : (s : Slot) (w : Waiting) (h : IsWaiting s w) → last_is_open (Some s) ≡ is_streaming w.body
 waiting-open s w h =
     let P : Slot → Type 0 = λ x. last_is_open (Some x) ≡ is_streaming w.body in
     subst P (sym h.is) (fits-streams w.body h.request.framing.form (said_length h.request.framing) h.given h.told h.fits)

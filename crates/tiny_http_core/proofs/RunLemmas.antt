@@ -1,6 +1,6 @@
 -- A run goes on by one step.
 use Rattle.tiny_http_stream.specs.declared.source.Standing.TheVariants as at
-use Rattle.std.proofs.Common.{◌≡◌, refl, sym, ap, ◌∙◌, subst, ℕ, ◌<◌, ◌≤◌, Bool, true, false, List, [], ◌∷◌, ◌++◌, length, Option, Some, None, arith, append-nil, inl, inr}
+use Rattle.std.proofs.Common.{◌≡◌, refl, sym, ap, ◌∙◌, subst, ℕ, ◌-◌, ◌<◌, ◌≤◌, Bool, true, false, List, [], ◌∷◌, ◌++◌, length, Option, Some, None, arith, append-nil, inl, inr}
 use Rattle.std.specs.Prelude.{MatchBool}
 use Rattle.std.specs.Option.{option_map}
 use Rattle.std.specs.List.{AllZip}
@@ -11,18 +11,23 @@ use Rattle.tiny_http_device.proofs.DeviceLemmas.{IsFront-append}
 use Rattle.tiny_http_core.proofs.WritingLemmas.{IsAllFlushed}
 use Rattle.tiny_http_stream.specs.Outlet.{holding}
 use Rattle.tiny_http_stream.specs.Source.{GoesOn}
-use Rattle.tiny_http_message.specs.Pipeline.{Item, Pipeline}
+use Rattle.tiny_http_message.specs.Pipeline.{Item, Place, Pipeline, said_length}
+use Rattle.tiny_http_message.specs.BodyLeft.{LeftAt}
+use Rattle.tiny_http_message.specs.HeadReads.{place_feed, place_after}
+use Rattle.tiny_http_message.proofs.LeftLemmas.{left-of}
+use Rattle.tiny_http_message.proofs.PipelineLemmas.{pipeline-none}
+use Rattle.tiny_http_wire.specs.declared.device.Stop.{Stop}
 use Rattle.tiny_http_core.specs.Slots.{Slot, joined, last_slot, last_is_open, reader_is_lost, is_last_item, is_last_slot}
 use Rattle.tiny_http_core.specs.Steps.{Replied}
 use Rattle.tiny_http_core.specs.Conversation.{State, Failure, StepsTo, Run, Dated, start, IsFresh, PlaceAt, WithinBody, WithinLast, InputAt, IsOutput, IsConversation}
 use Rattle.tiny_http_core.specs.Connection.{Kept, OutputAt, IsWaiting, behind_body, slot_rest, GivesRest, Stands}
 use Rattle.tiny_http_stream.specs.ToCome.{stopped}
-use Rattle.tiny_http_message.specs.Body.{Remaining, remaining}
+use Rattle.tiny_http_message.specs.Body.{Remaining, remaining, is_streaming}
 use Rattle.tiny_http_core.specs.Pending.{last_body, streams}
 use Rattle.tiny_http_message.specs.declared.waiting.Waiting.{Waiting}
 use Rattle.tiny_http_message.specs.declared.body.Body.{Body}
 use Rattle.tiny_http_wire.specs.declared.device.Stop.TheVariants.{End}
-use Rattle.tiny_http_core.proofs.ReaderLemmas.{LastKept, done-open, open-by, behind-settled}
+use Rattle.tiny_http_core.proofs.ReaderLemmas.{LastKept, done-open, waiting-open, open-by, behind-settled}
 use Rattle.tiny_http_core.specs.declared.driver.Timed.{Timed}
 use Rattle.tiny_http_core.specs.declared.driver.Reply.{Reply}
 use Rattle.std.specs.declared.io.ErrorKind.{ErrorKind}
@@ -31,7 +36,7 @@ use Rattle.tiny_http_core.specs.declared.driver.Step.TheVariants as step
 use Rattle.tiny_http_core.specs.Seen.{TellsHonestly, TellHonestly, MayFail}
 use Rattle.tiny_http_core.specs.Sending.{FailsOnce, FailsOnceUnlessEnded, FailsAtMostOnce}
 use Rattle.tiny_http_core.proofs.SendLemmas.{grown-none}
-use Rattle.tiny_http_core.proofs.AskLemmas.{same-feed, told-feed, last-of}
+use Rattle.tiny_http_core.proofs.AskLemmas.{pipeline-empty, same-feed, told-feed, last-of}
 
 pub run-more : (a mid new : State) (xs : List Dated) (rs : List Replied) (d : Dated) (r : Replied) → Run a xs rs mid → StepsTo mid d.0 d.1 r new → Run a (xs ++ d ∷ []) (rs ++ r ∷ []) new
 run-more a mid new [] [] d r run step = (new, (let P : State → Type 0 = λ s. StepsTo s d.0 d.1 r new in subst P run step), refl)
@@ -88,15 +93,25 @@ stands-begun client feed is_over sink items e fresh h =
       output = (grown-none sink.has_ended sink.taken ∙ fresh.no_bytes, refl, fresh.goes_on, refl, λ z. (sink.sent, refl));
     }
 
+-- what the bytes still ask from a place on
+place-pipeline : (last : Bool) (stop : Stop) (next : Place) (rest : List Item) → PlaceAt last (Some (place_feed stop next)) rest → Pipeline (place_after last next) stop rest
+place-pipeline true stop next rest h = let P : List Item → Type 0 = λ x. Pipeline None stop x in subst P (sym h) tt
+place-pipeline false stop None rest h = let P : List Item → Type 0 = λ x. Pipeline None stop x in subst P (sym (pipeline-none [] End rest pipeline-empty h)) tt
+place-pipeline false stop (Some bytes) rest h = h
+
 -- the input within the last body
-within : (s : Slot) (w : Waiting) (f : Feed) (rest : List Item) (o : Option Remaining) → IsWaiting s w → remaining w.body (Some f) ≡ o → option_map (λ (r : Remaining). r.body) o ≡ Some (slot_rest s)
+within : (s : Slot) (w : Waiting) (f : Feed) (rest : List Item) (o : Option Remaining) → IsWaiting s w → is_streaming w.body ≡ true → remaining w.body (Some f) ≡ o → option_map (λ (r : Remaining). r.body) o ≡ Some (slot_rest s)
     → PlaceAt (is_last_item s.item) (option_map (λ (r : Remaining). r.behind) o) rest → WithinBody s s.item f rest
-within s w f rest None h e g p = let no : None ≡ Some (slot_rest s) = g in cc
-within s w f rest (Some x) h e g p =
+within s w f rest None h streams e g p = let no : None ≡ Some (slot_rest s) = g in cc
+within s w f rest (Some x) h streams e g p =
     let same : x.body ≡ slot_rest s = cc in
-    let R : Feed → Remaining = λ b. record { body = b; behind = x.behind } in
+    let k = left-of w.body h.request.framing.form (said_length h.request.framing) h.given h.told f x h.fits streams e in
+    let content : x.body ≡ k.content = ap (λ (r : Remaining). r.body) k.is in
+    let behind : x.behind ≡ place_feed f.stop k.next = ap (λ (r : Remaining). r.behind) k.is in
     let P : Slot → Type 0 = λ y. x.body ≡ slot_rest y → PlaceAt (is_last_item y.item) (Some x.behind) rest → WithinBody y y.item f rest in
-    subst P (sym h.is) (λ is place. (w.body, x.behind, h.fits, e ∙ ap (λ b. Some (R b)) is, place)) same p
+    let A : Feed → Type 0 = λ b. LeftAt h.request.framing.form (said_length h.request.framing - h.given) f.bytes f.stop b k.next in
+    let B : Feed → Type 0 = λ b. PlaceAt h.request.framing.is_last (Some b) rest in
+    subst P (sym h.is) (λ is place. (k.next, subst A (sym content ∙ is) k.stands, place-pipeline h.request.framing.is_last f.stop k.next rest (subst B behind place))) same p
 
 within-last : (last : Option Slot) (b : Option Body) (feed : Option Feed) (f : Feed) (rest : List Item) → feed ≡ Some f → LastKept last b → last_is_open last ≡ true → GivesRest b last feed → PlaceAt (is_last_slot last) (behind_body b feed) rest → WithinLast last feed rest
 within-last last b feed f rest told (inl n) h g p = let no : false ≡ true = ap last_is_open (sym n.0) ∙ h in cc
@@ -107,7 +122,7 @@ within-last last b feed f rest told (inr (inr w)) h g p =
     let Q : Option Slot → Option Feed → Type 0 = λ x z. WithinLast x z rest in
     let gives = subst (λ z. G (Some w.0) (Some w.1.body) z) told (subst (λ y. G (Some w.0) y feed) w.3 (subst (λ x. G x b feed) w.2 g)) in
     let place = subst (λ z. P (Some w.0) (Some w.1.body) z) told (subst (λ y. P (Some w.0) y feed) w.3 (subst (λ x. P x b feed) w.2 p)) in
-    let inside = within w.0 w.1 f rest (remaining w.1.body (Some f)) w.4 refl gives place in
+    let inside = within w.0 w.1 f rest (remaining w.1.body (Some f)) w.4 (sym (waiting-open w.0 w.1 w.4) ∙ ap last_is_open (sym w.2) ∙ h) refl gives place in
     subst (λ z. Q last z) (sym told) (subst (λ x. Q x (Some f)) (sym w.2) inside)
 
 -- how the input stands at the end

@@ -4,9 +4,9 @@ use Rattle.std.specs.List.{AllByRecursion}
 use Rattle.std.specs.declared.io.ErrorKind.{ErrorKind}
 use Rattle.httpdate.specs.declared.date.HttpDate.{HttpDate}
 use Rattle.tiny_http_wire.specs.Device.{Feed, Sink, IsFront, Tells}
-use Rattle.tiny_http_message.specs.declared.body.Body.{Body}
-use Rattle.tiny_http_message.specs.Body.{remaining, Fits}
-use Rattle.tiny_http_message.specs.Pipeline.{Item, Asks, Refuses, said_length, Pipeline}
+use Rattle.tiny_http_message.specs.Pipeline.{Item, Asks, Refuses, Place, said_length, Pipeline}
+use Rattle.tiny_http_message.specs.BodyLeft.{LeftAt}
+use Rattle.tiny_http_message.specs.HeadReads.{place_after}
 use Rattle.tiny_http_wire.specs.declared.device.Stop.TheVariants.{End}
 use Rattle.tiny_http_stream.specs.ToCome.{stopped}
 use Rattle.tiny_http_core.specs.Slots.{ResponseValue, Slot, is_finished, joined, breaks_off, new_slot, rest_of, last_slot, last_is_open, is_last_slot, reader_is_held, reader_is_lost, turn_has_come, IsGathered, to_request}
@@ -169,9 +169,8 @@ PlaceAt false (Some f) rest = Pipeline (Some f.bytes) f.stop rest
 -- The input stands within this number's body: what is left of the body comes next, and behind it what the pipeline still has.
 abbrev pub WithinBody : Slot → Item → Feed → List Item → Type 0
 WithinBody s (Asks r) left rest =
-    (b : Body) × (behind : Feed) × Fits b r.framing.form (said_length r.framing) s.given s.told
-    × (remaining b (Some left) ≡ Some (record { body = rest_of r s.given; behind = behind }))
-    × PlaceAt r.framing.is_last (Some behind) rest
+    (next : Place) × LeftAt r.framing.form (said_length r.framing - s.given) left.bytes left.stop (rest_of r s.given) next
+    × Pipeline (place_after r.framing.is_last next) left.stop rest
 WithinBody s (Refuses refusal version withheld last) left rest = ⊥
 
 abbrev pub WithinLast : Option Slot → Option Feed → List Item → Type 0

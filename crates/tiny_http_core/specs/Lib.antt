@@ -24,6 +24,7 @@ pub use Rattle.tiny_http_message.specs.TextState
 pub use Rattle.tiny_http_message.specs.Pipeline
 pub use Rattle.tiny_http_message.specs.PipelineReading
 pub use Rattle.tiny_http_message.specs.Body
+pub use Rattle.tiny_http_message.specs.BodyLeft
 pub use Rattle.tiny_http_message.specs.Exchange
 pub use Rattle.tiny_http_message.specs.HeadReads
 pub use Rattle.tiny_http_turns.specs.Turns

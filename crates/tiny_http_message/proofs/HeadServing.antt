@@ -39,7 +39,7 @@ use Rattle.tiny_http_message.specs.Body.{Remaining, remaining, counted_left, com
 use Rattle.tiny_http_message.specs.Exchange.{KeepsHead}
 use Rattle.tiny_http_stream.specs.Source.{TakesExactly, from}
 use Rattle.tiny_http_message.specs.Pipeline.{Item, Asks, Refuses, BadRequest, RequestTimeout, ExpectationFailed, Place, Heading, Ends, Heads, IsCutHeld, cut_answer, is_timed_out, said_length, served, served_answer, BodyAt, FoundAt, OneHead, item_of, goes_on}
-use Rattle.tiny_http_message.specs.HeadReads.{ReadsMessage, ReadsHead, RefusesBy, Begins, ComesWith, IsCutOff, IsUnserved, IsBeforeHead, cut_end, end_at, place_after, message_of, head_message, head_framing}
+use Rattle.tiny_http_message.specs.HeadReads.{ReadsMessage, ReadsHead, RefusesBy, Begins, ComesWith, IsCutOff, IsUnserved, IsBeforeHead, cut_end, end_at, place_feed, place_after, message_of, head_message, head_framing}
 use Rattle.tiny_http_message.specs.declared.exchange.EndOfRequests.{EndOfRequests}
 use Rattle.tiny_http_message.specs.declared.exchange.EndOfRequests.TheVariants as because
 use Rattle.tiny_http_stream.specs.declared.source.Standing.{Standing}
@@ -195,6 +195,14 @@ counted-at n x b left fits = by (nat_lt (length x.bytes) n) refl
     by : (t : Bool) → nat_lt (length x.bytes) n ≡ t → BeginsAt Counted n x (Some x) b
     by true e = (λ k. k, x, None, sized-is n x.bytes x.stop true e, left ∙ ap Some (all-of n x (ltb-true (length x.bytes) n e)), fits)
     by false e = (λ k. k, ending (take n x.bytes), Some (drop n x.bytes), sized-is n x.bytes x.stop false e, left ∙ ap Some (front-of n x (ltb-false (length x.bytes) n e)), fits)
+
+-- what is left of a counted body
+pub left-counted : (n : ℕ) (x : Feed) → (content : Feed) × (next : Place) × BodyAt Counted n x.bytes x.stop content next × (counted_left n x ≡ pair content (place_feed x.stop next))
+left-counted n x = by (nat_lt (length x.bytes) n) refl
+  where
+    by : (t : Bool) → nat_lt (length x.bytes) n ≡ t → (content : Feed) × (next : Place) × BodyAt Counted n x.bytes x.stop content next × (counted_left n x ≡ pair content (place_feed x.stop next))
+    by true e = (x, None, sized-is n x.bytes x.stop true e, all-of n x (ltb-true (length x.bytes) n e))
+    by false e = (ending (take n x.bytes), Some (drop n x.bytes), sized-is n x.bytes x.stop false e, front-of n x (ltb-false (length x.bytes) n e))
 
 pub begins-counted : (f : Framing) (o : Option Feed) (b : Body) (n : ℕ) → f.form ≡ Counted → n ≡ said_length f → ((feed : Option Feed) → remaining b feed ≡ option_map (counted_left n) feed) → ReadsOn (body.Counted n) 0 false b → Begins f o o (Some b)
 begins-counted f o b n e is left moves =

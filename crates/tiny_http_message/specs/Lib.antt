@@ -5,5 +5,6 @@ pub mod TextState
 pub mod Pipeline
 pub mod PipelineReading
 pub mod Body
+pub mod BodyLeft
 pub mod Exchange
 pub mod HeadReads

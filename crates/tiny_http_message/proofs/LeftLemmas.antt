@@ -1,0 +1,111 @@
+-- What is left of a body, by how far it was read.
+use Rattle.std.proofs.Common.{◌≡◌, refl, sym, ap, ◌∙◌, subst, ℕ, ◌+◌, ◌-◌, ◌<◌, ◌≤◌, inl, inr, Bool, true, false, List, [], ◌++◌, length, take, drop, Option, Some, None, Result, Ok, Err, arith}
+use Rattle.std.specs.Prelude.{nat_lt, MatchResult}
+use Rattle.std.specs.Option.{option_map}
+use Rattle.std.specs.declared.io.ErrorKind.{ErrorKind}
+use Rattle.std.proofs.lemmas.Bool.{ltb-true, ltb-false}
+use Rattle.std.proofs.lemmas.List.{take-append-drop, length-take-le}
+use Rattle.tiny_http_wire.specs.declared.device.Stop.{Stop}
+use Rattle.tiny_http_wire.specs.declared.chunked.Decoding.{Decoding}
+use Rattle.tiny_http_wire.specs.declared.chunked.Next.{Next}
+use Rattle.tiny_http_wire.specs.declared.chunked.Next.TheVariants.{Line, Data, Over, Broken}
+use Rattle.tiny_http_wire.specs.Device.{Feed, ending, prepend, fault_of}
+use Rattle.tiny_http_wire.specs.Bytes.{crlf}
+use Rattle.tiny_http_wire.specs.Chunks.{WholeChunks, CutChunks, CloseFault}
+use Rattle.tiny_http_wire.specs.ChunkReading.{Decoded, after_data, decoded, with_data, closed, data_at, broken}
+use Rattle.tiny_http_wire.specs.Decoding.{Coming, body_at, decoded_from, rest_at, coming_of, decoding_coming}
+use Rattle.tiny_http_wire.proofs.ChunkLemmas.{decoded-is, close-is}
+use Rattle.tiny_http_message.specs.declared.body.Body.{Body}
+use Rattle.tiny_http_message.specs.declared.body.Body.TheVariants as body
+use Rattle.tiny_http_message.specs.declared.framing.Form.{Form}
+use Rattle.tiny_http_message.specs.declared.framing.Form.TheVariants.{Counted, Chunked}
+use Rattle.tiny_http_message.specs.Pipeline.{Place, BodyAt}
+use Rattle.tiny_http_message.specs.HeadReads.{place_feed}
+use Rattle.tiny_http_message.specs.Body.{Remaining, remaining, counted_left, chunks_left, coming_left, is_streaming, Fits}
+use Rattle.tiny_http_message.specs.BodyLeft.{breaking, InChunk, LeftAt}
+use Rattle.tiny_http_message.proofs.HeadServing.{left-counted}
+
+-- a chunked body from here on
+pub record ChunkedFrom (n : ℕ) (x : Feed) (left : Remaining) : Type 0 where
+  pub content : Feed
+  pub next : Place
+  pub stands : BodyAt Chunked n x.bytes x.stop content next
+  pub is : left ≡ record { body = content; behind = place_feed x.stop next }
+
+chunked-from : (n : ℕ) (x : Feed) → ChunkedFrom n x (coming_left (coming_of x.stop (body_at x.stop x.bytes)))
+chunked-from n x = by (body_at x.stop x.bytes).body (body_at x.stop x.bytes).ends (decoded-is (length x.bytes + 1) x.bytes x.stop (omega arith))
+  where
+    by : (content : List ℕ) (r : Result (List ℕ) ErrorKind) → MatchResult r (λ rest. WholeChunks x.bytes content rest) (λ kind. CutChunks x.bytes x.stop content kind) → ChunkedFrom n x (chunks_left content (rest_at x.stop r))
+    by content (Ok rest) h = record { content = ending content; next = Some rest; stands = inl (rest, h, refl, refl); is = refl }
+    by content (Err kind) h = record { content = breaking content kind; next = None; stands = inr (kind, h, refl, refl); is = refl }
+
+-- the same behind some data
+behind-data : (front content : List ℕ) (r : Result Feed ErrorKind) (b : Feed) (after : Feed) → chunks_left content r ≡ record { body = b; behind = after } → chunks_left (front ++ content) r ≡ record { body = prepend front b; behind = after }
+behind-data front content r b after e =
+    let P : Remaining → Remaining = λ x. record { body = prepend front x.body; behind = x.behind } in
+    by r ∙ ap P e
+  where
+    by : (r : Result Feed ErrorKind) → chunks_left (front ++ content) r ≡ (let x = chunks_left content r in record { body = prepend front x.body; behind = x.behind })
+    by (Ok feed) = refl
+    by (Err kind) = refl
+
+-- what is left, by where the decoding stands
+pub record LeftFrom (form : Form) (n : ℕ) (x : Feed) (left : Remaining) : Type 0 where
+  pub content : Feed
+  pub next : Place
+  pub stands : LeftAt form n x.bytes x.stop content next
+  pub is : left ≡ record { body = content; behind = place_feed x.stop next }
+
+left-data : (n size : ℕ) (x : Feed) → LeftFrom Chunked n x (coming_left (coming_of x.stop (data_at (body_at x.stop) x.stop size x.bytes (nat_lt (length x.bytes) size))))
+left-data n size x = by (nat_lt (length x.bytes) size) refl
+  where
+    L : Decoded → Type 0
+    L d = LeftFrom Chunked n x (coming_left (coming_of x.stop d))
+
+    split : x.bytes ≡ take size x.bytes ++ drop size x.bytes
+    split = sym (take-append-drop size x.bytes)
+
+    by-close : size ≤ length x.bytes → (r : Result (List ℕ) ErrorKind) → MatchResult r (λ rest. drop size x.bytes ≡ crlf ++ rest) (λ kind. CloseFault (drop size x.bytes) x.stop kind) → L (closed (body_at x.stop) (take size x.bytes) r)
+    by-close le (Err kind) h =
+        record {
+          content = breaking (take size x.bytes) kind;
+          next = None;
+          stands = inr (inl (size, inr (inl (take size x.bytes, drop size x.bytes, kind, split, length-take-le size x.bytes le, h, refl, refl))));
+          is = refl;
+        }
+    by-close le (Ok rest) h =
+        let k = chunked-from size (record { bytes = rest; stop = x.stop }) in
+        record {
+          content = prepend (take size x.bytes) k.content;
+          next = k.next;
+          stands = inr (inl (size, inl (take size x.bytes, rest, k.content, split ∙ ap (λ y. take size x.bytes ++ y) h, length-take-le size x.bytes le, k.stands, refl)));
+          is = behind-data (take size x.bytes) (body_at x.stop rest).body (rest_at x.stop (body_at x.stop rest).ends) k.content (place_feed x.stop k.next) k.is;
+        }
+
+    by : (t : Bool) → nat_lt (length x.bytes) size ≡ t → L (data_at (body_at x.stop) x.stop size x.bytes t)
+    by true e = record { content = breaking x.bytes (fault_of x.stop); next = None; stands = inr (inl (size, inr (inr (ltb-true (length x.bytes) size e, refl, refl)))); is = refl }
+    by false e = by-close (ltb-false (length x.bytes) size e) (after_data x.stop (drop size x.bytes)) (close-is x.stop (drop size x.bytes))
+
+left-next : (n : ℕ) (next : Next) (x : Feed) → LeftFrom Chunked n x (coming_left (coming_of x.stop (decoded_from next x)))
+unfolding decoded_from
+left-next n Line x = let k = chunked-from n x in record { content = k.content; next = k.next; stands = inl k.stands; is = k.is }
+left-next n (Data size) x = left-data n size x
+left-next n Over x = record { content = ending []; next = Some x.bytes; stands = inr (inr (inl (refl, refl))); is = refl }
+left-next n (Broken kind) x = record { content = breaking [] kind; next = None; stands = inr (inr (inr (kind, refl, refl))); is = refl }
+
+-- what is left of a body that is read from the input
+pub left-of : (b : Body) (form : Form) (n given : ℕ) (told : Bool) (x : Feed) (left : Remaining) → Fits b form n given told → is_streaming b ≡ true → remaining b (Some x) ≡ Some left → LeftFrom form (n - given) x left
+left-of (body.Over stop) form n given told x left fits streams e = cc
+left-of (body.Held bytes) form n given told x left fits streams e = cc
+left-of (body.Counted count) form n given told x left fits streams e =
+    let k = left-counted count x in
+    let F : Form → Type 0 = λ f. LeftFrom f (n - given) x left in
+    let N : ℕ → Type 0 = λ m. LeftFrom Counted m x left in
+    let same : counted_left count x ≡ left = cc in
+    let some : count ≡ n - given = omega (arith, fits.1) in
+    subst F (sym fits.0) (subst N some (record { content = k.0; next = k.1; stands = k.2; is = sym same ∙ k.3 }))
+left-of (body.Chunked d) form n given told x left fits streams e =
+    let k = left-next (n - given) d.next x in
+    let F : Form → Type 0 = λ f. LeftFrom f (n - given) x left in
+    let same : coming_left (coming_of x.stop (decoded_from d.next x)) ≡ left = cc in
+    subst F (sym fits.0) (record { content = k.content; next = k.next; stands = k.stands; is = sym same ∙ k.is })
