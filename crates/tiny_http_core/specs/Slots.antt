@@ -8,7 +8,7 @@ use Rattle.tiny_http_wire.specs.declared.coding.Coding.TheVariants as coding
 use Rattle.tiny_http_wire.specs.Device.{Feed, ending}
 use Rattle.tiny_http_wire.specs.Answer.{Answer, Text, Ending, Whole, Broken, Printing, text_of, coding_for, behind, whole, nothing}
 use Rattle.tiny_http_message.specs.declared.framing.Form.{Form}
-use Rattle.tiny_http_message.specs.declared.framing.Form.TheVariants.{Counted, Chunked}
+use Rattle.tiny_http_message.specs.declared.framing.Form.TheVariants.{Rest, Nothing, Held, Counted, Chunked}
 use Rattle.tiny_http_message.specs.Pipeline.{Item, Asks, Refuses, Refusal, VersionNotSupported, refusal_status, Request, is_head_method, said_length}
 use Rattle.tiny_http_message.specs.OwnAnswer.{own_printing}
 use Rattle.tiny_http_message.specs.Body.{body_finished}
@@ -164,11 +164,13 @@ rest_of r given = record { bytes = drop given r.body.bytes; stop = r.body.stop }
 abbrev pub is_body_finished : Request → Slot → Bool
 is_body_finished r s = body_finished r.framing.form (said_length r.framing) s.given s.told
 
--- forms whose body is read from the stream, up to where the next head begins
+-- forms whose body is read from the stream, up to where the next head begins, or to its end
 abbrev pub is_streamed : Form → Bool
 is_streamed Counted = true
 is_streamed Chunked = true
-is_streamed _ = false
+is_streamed Rest = true
+is_streamed Nothing = false
+is_streamed Held = false
 
 -- the number has the last head
 abbrev pub is_last_item : Item → Bool
