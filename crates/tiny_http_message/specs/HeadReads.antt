@@ -41,6 +41,13 @@ head_fault linefault.NotAscii = fault.NotAscii
 head_fault linefault.Memory = fault.Memory
 head_fault _ = fault.Cut
 
+-- a line was read that is no good
+abbrev pub IsBadLine : HeadFault → Type 0
+IsBadLine fault.NotAscii = ⊤
+IsBadLine fault.Malformed = ⊤
+IsBadLine fault.Cut = ⊥
+IsBadLine fault.Memory = ⊥
+
 -- a line of ASCII text
 abbrev pub ReadsText : Option Feed → Option Feed → Result (List ℕ) HeadFault → Type 0
 ReadsText None new r = ⊤
@@ -225,6 +232,11 @@ IsOkEnd _ = ⊥
 abbrev pub IsRequest : HeadRead → Type 0
 IsRequest (read.Request x) = ⊤
 IsRequest _ = ⊥
+
+-- a head was refused
+abbrev pub IsRefusedHead : HeadRead → Type 0
+IsRefusedHead (read.Refused status text last) = ⊤
+IsRefusedHead _ = ⊥
 
 -- where a source stands after the head of this request
 abbrev pub standing_of : Exchange → Standing

@@ -6,7 +6,7 @@ ghost use Rattle.tiny_http_stream.specs.Source.{GoesOn, IsAtEnd};
 ghost use Rattle.tiny_http_stream.specs.ToCome.{HasByte};
 ghost use Rattle.tiny_http_message.specs.Pipeline.{is_head_method};
 ghost use Rattle.tiny_http_message.specs.Body.{with_bytes, BodyStops};
-ghost use Rattle.tiny_http_message.specs.HeadReads.{ReadsHead, EndsUnlessHanded, RefusesBy, Begins, IsCutOff, IsRequest, IsOkEnd, IsBeforeHead, cut_end, end_at, standing_of, standing_read, message_of, head_message, head_framing};
+ghost use Rattle.tiny_http_message.specs.HeadReads.{ReadsHead, EndsUnlessHanded, RefusesBy, Begins, IsCutOff, IsRequest, IsRefusedHead, IsOkEnd, IsBeforeHead, cut_end, end_at, standing_of, standing_read, message_of, head_message, head_framing};
 ghost use Rattle.tiny_http_message.specs.Exchange.{KeepsHead};
 
 use crate::body::{Body, counted};
@@ -275,6 +275,7 @@ fn read_item<R: ReadDevice>(
     ensures at_end { IsAtEnd source.old → IsOkEnd result × (source.new ≡ source.old) }
     ensures begun { (IsOkEnd result → ⊥) → HasByte source.old.feed }
     ensures lazy { IfOk result (λ read. IsRequest read → source.new.stop ≡ source.old.stop) }
+    ensures passed { IfOk result (λ read. IsRefusedHead read → source.new.stop ≡ source.old.stop) }
     ensures standing { source.new.standing ≡ source.old.standing }
 {
     if !source.has_byte() {

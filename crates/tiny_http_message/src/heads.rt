@@ -1,7 +1,7 @@
 //! The lines of a head.
 ghost use Rattle.std.specs.Prelude.{◌≡◌, None, Err, OnOk, IfErr};
 ghost use Rattle.tiny_http_stream.specs.Source.{GoesOn, IsAtEnd};
-ghost use Rattle.tiny_http_message.specs.HeadReads.{ReadsText, ReadsStart, ReadsField, ReadsFields, ReadsMessage, IsCutOff, head_fault};
+ghost use Rattle.tiny_http_message.specs.HeadReads.{IsBadLine, ReadsText, ReadsStart, ReadsField, ReadsFields, ReadsMessage, IsCutOff, head_fault};
 
 use std::alloc::Global;
 use tiny_http_stream::source::{LineFault, Source};
@@ -44,6 +44,7 @@ fn read_text<R: ReadDevice>(alloc: Global, source: &mut Source<R>) -> Result<Asc
     ensures goes_on { GoesOn source.old.feed source.new.feed }
     ensures cut { result ≡ Err HeadFault.Cut → IsCutOff source.old source.new }
     ensures lazy { OnOk result (source.new.stop ≡ source.old.stop) }
+    ensures passed { IfErr result (λ fault. IsBadLine fault → source.new.stop ≡ source.old.stop) }
     ensures standing { source.new.standing ≡ source.old.standing }
     ensures at_end { IsAtEnd source.old → (result ≡ Err HeadFault.Cut) × (source.new ≡ source.old) }
 {
@@ -62,6 +63,7 @@ fn read_start<R: ReadDevice>(
     ensures goes_on { GoesOn source.old.feed source.new.feed }
     ensures cut { result ≡ Err HeadFault.Cut → IsCutOff source.old source.new }
     ensures lazy { OnOk result (source.new.stop ≡ source.old.stop) }
+    ensures passed { IfErr result (λ fault. IsBadLine fault → source.new.stop ≡ source.old.stop) }
     ensures standing { source.new.standing ≡ source.old.standing }
     ensures at_end { IsAtEnd source.old → (result ≡ Err HeadFault.Cut) × (source.new ≡ source.old) }
 {
@@ -82,6 +84,7 @@ fn read_field<R: ReadDevice>(
     ensures goes_on { GoesOn source.old.feed source.new.feed }
     ensures cut { result ≡ Err HeadFault.Cut → IsCutOff source.old source.new }
     ensures lazy { OnOk result (source.new.stop ≡ source.old.stop) }
+    ensures passed { IfErr result (λ fault. IsBadLine fault → source.new.stop ≡ source.old.stop) }
     ensures standing { source.new.standing ≡ source.old.standing }
 {
     let text = read_text(alloc, source)?;
@@ -104,6 +107,7 @@ fn read_fields<R: ReadDevice>(
     ensures goes_on { GoesOn source.old.feed source.new.feed }
     ensures cut { result ≡ Err HeadFault.Cut → IsCutOff source.old source.new }
     ensures lazy { OnOk result (source.new.stop ≡ source.old.stop) }
+    ensures passed { IfErr result (λ fault. IsBadLine fault → source.new.stop ≡ source.old.stop) }
     ensures standing { source.new.standing ≡ source.old.standing }
 {
     let mut headers = Vec::new(alloc);
@@ -129,6 +133,7 @@ pub(crate) fn read_message<R: ReadDevice>(
     ensures goes_on { GoesOn source.old.feed source.new.feed }
     ensures cut { IfErr result (λ e. e.1 ≡ HeadFault.Cut → IsCutOff source.old source.new) }
     ensures lazy { OnOk result (source.new.stop ≡ source.old.stop) }
+    ensures passed { IfErr result (λ e. IsBadLine e.1 → source.new.stop ≡ source.old.stop) }
     ensures standing { source.new.standing ≡ source.old.standing }
     ensures at_end { IsAtEnd source.old → (result ≡ Err (None, HeadFault.Cut)) × (source.new ≡ source.old) }
 {

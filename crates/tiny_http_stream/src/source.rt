@@ -196,8 +196,10 @@ impl<R: ReadDevice> Source<R> {
         ensures stop { IfErr result (λ fault. fault ≢ LineFault.NotAscii → fault ≢ LineFault.Memory → IfSome self.new.stop (λ stop. fault ≡ fault_of stop)) }
         // A source that is over stays so, and each line is its stop.
         ensures stays { self.old.is_over ≡ true → (self.new ≡ self.old) × IfSome self.old.stop (λ stop. result ≡ Err (fault_of stop)) }
-        // Nothing is read ahead: where a line was given no end or fault was met, and where it is held the reader isn't called.
+        // Nothing is read ahead: where a line was given, or passed over, no end or fault was met, and where it is held the
+        // reader isn't called.
         ensures lazy { OnOk result (self.new.stop ≡ self.old.stop) }
+        ensures passed { result ≡ Err LineFault.NotAscii → self.new.stop ≡ self.old.stop }
         ensures held { HoldsLine self.old → self.new.reader ≡ self.old.reader }
         ensures standing { self.new.standing ≡ self.old.standing }
     {
@@ -447,6 +449,7 @@ impl<R: ReadDevice> Input<R> {
         ensures stop { IfErr result (λ fault. fault ≢ LineFault.NotAscii → fault ≢ LineFault.Memory → IfSome (input_stop self.new) (λ stop. fault ≡ fault_of stop)) }
         ensures stays { IsOver self.old → (self.new ≡ self.old) × IfSome (input_stop self.old) (λ stop. result ≡ Err (fault_of stop)) }
         ensures lazy { OnOk result (input_stop self.new ≡ input_stop self.old) }
+        ensures passed { result ≡ Err LineFault.NotAscii → input_stop self.new ≡ input_stop self.old }
         ensures held { has_crlf (drop (input_skip self.old) (input_held self.old)) ≡ true → input_reader self.new ≡ input_reader self.old }
     {
         match self.read_text(alloc) {
