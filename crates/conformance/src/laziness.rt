@@ -101,7 +101,12 @@ fn a_chunk_is_given_before_the_next(rt: HostRuntime) -> Result<(), Fail> {
 
 // A body that is longer than what is read with a head.
 const BODY: &[u8] = &[b'x'; 1024];
-const LONG: &[&[u8]] = &[b"POST / HTTP/1.1\r\nContent-Length: 1025\r\n\r\n", BODY, b"x"];
+
+const LONG: &[&[u8]] = &[
+    b"POST / HTTP/1.1\r\nContent-Length: 1025\r\n\r\n",
+    BODY,
+    b"x",
+];
 
 #[test]
 fn a_body_waits_for_no_byte_after_it(rt: HostRuntime) -> Result<(), Fail> {

@@ -114,6 +114,29 @@ fn data_that_are_withheld_are_not_read(rt: HostRuntime) -> Result<(), Fail> {
     prints_data(&rt, rt.alloc(), fails, true, wanted)
 }
 
+// What an answer that says 3 bytes leaves of its data.
+fn assert_left(rt: &impl Abort, alloc: Global, no_body: bool, left: &[u8]) -> Result<(), Fail> {
+    let mut data = Canned::new(b"hello".to_vec(alloc)?, None);
+    let answer = Response {
+        reader: &mut data,
+        status: StatusCode(200),
+        headers: Vec::new(alloc),
+        data_length: Some(3),
+        threshold: THRESHOLD,
+    };
+    let (_, fault) = print(alloc, answer, HTTPVersion(1, 1), no_body)?;
+    let mut rest = [0; 8];
+    let count = data.read_in(&mut rest)?;
+    assert_eq!(rt; (fault, &rest[..count]), (None, left));
+    Ok(())
+}
+
+#[test]
+fn data_past_the_length_are_left(rt: HostRuntime) -> Result<(), Fail> {
+    assert_left(&rt, rt.alloc(), false, b"lo")?;
+    assert_left(&rt, rt.alloc(), true, b"hello")
+}
+
 #[test]
 fn data_of_unknown_length_that_fails_leaves_nothing_written(rt: HostRuntime) -> Result<(), Fail> {
     for no_body in [false, true] {
