@@ -14,7 +14,7 @@ use Rattle.tiny_http_text.specs.Lines.{Line, has_crlf}
 use Rattle.tiny_http_head.specs.Heads.{method_of, version_of, RequestLine, HeaderLine, IsHeader, Fields, Message, HeadText, Fault, Cut, NotAscii, Malformed, FaultyLine, FaultyHead, IsRequestLine, IsFieldOrEnd}
 use Rattle.tiny_http_head.specs.Reading.{front_while, line, three_parts, request_line, header_line, is_colon, FieldsRead, with_header, field_checked, field_at, field_in, fields, HeadRead, Whole, Faulty, with_fields, start_checked, start_in, head}
 use Rattle.tiny_http_head.proofs.LineLemmas.{line-is, line-one, line-none}
-use Rattle.tiny_http_text.proofs.TextLemmas.{trims-is, trims-one, ArePartsOf, parts-are, parts-word, parts-last}
+use Rattle.tiny_http_text.proofs.TextLemmas.{not_true, trims-is, trims-one, ArePartsOf, parts-are, parts-word, parts-last}
 
 absurd_cons : {A : Type 0} (x : A) (xs : List A) (G : Type 0) → x ∷ xs ≡ [] → G
 absurd_cons x xs G h = cc
@@ -194,10 +194,6 @@ field-one go (b ∷ bs) rest h hs after a l k = rw (a, header-line-one (b ∷ bs
 field-one-err : (go : List ℕ → FieldsRead) (text rest : List ℕ) (h : Header) (fault : Fault) → AreAscii text → HeaderLine text h.field h.value → go rest ≡ Err fault → field_at go text rest ≡ Err fault
 field-one-err go [] rest h fault a l k = cons_not_nil colon h.field l.padded l.joins
 field-one-err go (b ∷ bs) rest h fault a l k = rw (a, header-line-one (b ∷ bs) h.field h.value l, k) refl
-
-pub not_true : (t : Bool) → (t ≡ true → ⊥) → t ≡ false
-not_true true h = absurd (h refl)
-not_true false h = refl
 
 not-header : (text : List ℕ) (o : Option Header) → header_line text ≡ o → (IsFieldOrEnd text → ⊥) → o ≡ None
 not-header text None e h = refl

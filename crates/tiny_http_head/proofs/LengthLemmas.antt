@@ -6,16 +6,13 @@ use Rattle.std.proofs.lemmas.Bool.{false≢true}
 use Rattle.std.specs.Str.{all_ascii_digits}
 use Rattle.std.specs.Str.Parse.{IsNumeral, digits_value}
 use Rattle.std.proofs.lemmas.Str.Parse.{IsNumeralModel, numerals_by_value, tells_all_ascii_digits}
+use Rattle.tiny_http_text.proofs.TextLemmas.{none-from}
 use Rattle.tiny_http_head.specs.Heads.{length_of}
 
 both : (a b : Bool) → (a && b) ≡ true → (a ≡ true) × (b ≡ true)
 both true true h = (refl, refl)
 both true false h = (refl, h)
 both false b h = absurd (false≢true h)
-
-pub none-from : (b : Bool) (n : ℕ) → (b ≡ true → ⊥) → None ≡ (if b then Some n else None)
-none-from true n h = absurd (h refl)
-none-from false n h = refl
 
 own : IsNumeralModel (λ ds. all_ascii_digits ds ≡ true) (digits_value 10)
 own = numerals_by_value _ tells_all_ascii_digits

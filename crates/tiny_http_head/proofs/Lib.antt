@@ -4,5 +4,3 @@ pub mod Parsing
 pub mod LengthLemmas
 pub mod FmtLemmas
 pub mod NameLemmas
-pub mod QualityLemmas
-pub mod QualityForms

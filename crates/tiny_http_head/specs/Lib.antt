@@ -2,5 +2,3 @@ pub mod Common
 pub mod Number
 pub mod Heads
 pub mod Reading
-pub mod Qualities
-pub mod QualityReading

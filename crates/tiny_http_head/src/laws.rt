@@ -10,7 +10,6 @@ ghost use Rattle.tiny_http_text.specs.Bytes.{AreAscii, HasNo, IsTrimmed, IsWord,
 ghost use Rattle.tiny_http_head.specs.Common.{IsSameButForCase, same_name, is_code, code_order, is_version, version_order, IsBefore, HasItsOwnName, method_text, header_text};
 ghost use Rattle.tiny_http_head.specs.Heads.{IsHeader, method_of, RequestLine, HeaderLine};
 ghost use Rattle.tiny_http_head.specs.Reading.{request_line, header_line};
-ghost use Rattle.tiny_http_head.specs.Qualities.{ListsQualities};
 
 use crate::common::{HTTPVersion, HeaderField, Method, StatusCode};
 use std::hash::Hash;
@@ -68,10 +67,4 @@ pub fn header_from_its_text()
 pub fn lines_by_the_grammar()
     ensures request { (text path : List ℕ) (method : AnyMethod) (version : Version) → (request_line text ≡ Some (method, path, version)) ↔ RequestLine text method path version }
     ensures header { (text : List ℕ) (h : Header) → (header_line text ≡ Some h) ↔ HeaderLine text h.field h.value }
-{}
-
-/// Each value lists names with qualities in one way.
-pub fn one_quality_list()
-    ensures some { (value : List ℕ) → (list : List (List ℕ × ℕ)) × ListsQualities value list }
-    ensures one { (value : List ℕ) (list other : List (List ℕ × ℕ)) → ListsQualities value list → ListsQualities value other → list ≡ other }
 {}

@@ -3,5 +3,4 @@
 
 pub mod common;
 pub mod grammar;
-pub mod header_value;
 pub mod laws;

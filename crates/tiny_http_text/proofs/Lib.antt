@@ -1,2 +1,4 @@
 pub mod TextLemmas
 pub mod Trimming
+pub mod QualityLemmas
+pub mod QualityForms

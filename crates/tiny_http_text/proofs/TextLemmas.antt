@@ -1,5 +1,5 @@
 -- Trimming and splitting, computed, are those of the definitions.
-use Rattle.std.proofs.Common.{◌≡◌, refl, sym, ap, ◌∙◌, ℕ, zero, suc, ◌<◌, arith, Bool, true, false, cond, not, ◌&&◌, ◌⊎◌, inl, inr, List, [], ◌∷◌, ◌++◌, append_assoc, eq-eqb, eqb-true, ⊎_elim}
+use Rattle.std.proofs.Common.{◌≡◌, refl, sym, ap, ◌∙◌, ℕ, zero, suc, ◌<◌, arith, Bool, true, false, cond, not, ◌&&◌, ◌⊎◌, inl, inr, List, [], ◌∷◌, ◌++◌, append_assoc, eq-eqb, eqb-true, ⊎_elim, Some, None, if◌then◌else◌}
 use Rattle.std.specs.Prelude.{◌==◌, slice_index}
 use Rattle.std.specs.Bool.{MatchBool}
 use Rattle.std.specs.Str.{IsAscii, IsNotAscii}
@@ -154,3 +154,12 @@ is-all-ascii text false h e = refl
 pub ascii-told : (text : List ℕ) (told : Bool) → MatchBool told (IsAscii text) (IsNotAscii text) → told ≡ list_all is_ascii text
 ascii-told text true h = sym (are-ascii text h)
 ascii-told text false h = is-all-ascii text (list_all is_ascii text) (not-ascii text h) refl
+
+-- what isn't true is false
+pub not_true : (t : Bool) → (t ≡ true → ⊥) → t ≡ false
+not_true true h = absurd (h refl)
+not_true false h = refl
+
+pub none-from : (b : Bool) (n : ℕ) → (b ≡ true → ⊥) → None ≡ (if b then Some n else None)
+none-from true n h = absurd (h refl)
+none-from false n h = refl

@@ -3,7 +3,7 @@ use Rattle.std.proofs.Common.{◌≡◌, refl, ℕ, List, [], ◌∷◌, Option,
 use Rattle.std.specs.Prelude.{codes}
 use Rattle.tiny_http_head.specs.declared.common.Header.{Header}
 use Rattle.tiny_http_head.specs.Heads.{version}
-use Rattle.tiny_http_head.specs.QualityReading.{short_number, thousandths, quality, parameter_quality, first_quality, element, qualities}
+use Rattle.tiny_http_text.specs.QualityReading.{short_number, thousandths, quality, parameter_quality, first_quality, element, qualities}
 use Rattle.tiny_http_wire.specs.declared.coding.Coding.{Coding}
 use Rattle.tiny_http_wire.specs.declared.coding.Coding.TheVariants.{Identity, Chunked}
 use Rattle.tiny_http_wire.specs.Coding.{coding_of, coding_asked}

@@ -6,8 +6,9 @@ ghost use Rattle.tiny_http_wire.specs.Chunks.{WholeChunks, CutChunks};
 
 pub use tiny_http_head::laws::{
     header_field_equality, header_from_its_text, http_version_order, lines_by_the_grammar,
-    method_from_its_name, method_hash, one_quality_list, status_code_order,
+    method_from_its_name, method_hash, status_code_order,
 };
+pub use tiny_http_text::laws::one_quality_list;
 
 /// All bytes with their stop are a chunked body and a rest, or a cut one: one of the two, in one way (RFC 9112, section 7.1).
 pub fn one_chunked_body()

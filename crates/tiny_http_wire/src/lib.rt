@@ -10,5 +10,5 @@ pub mod laws;
 pub mod response;
 
 pub use tiny_http_device::device;
-pub use tiny_http_head::{common, grammar, header_value};
-pub use tiny_http_text::ascii;
+pub use tiny_http_head::{common, grammar};
+pub use tiny_http_text::{ascii, header_value};

@@ -34,3 +34,6 @@ returns-in-Err-clause-honest g c kind e =
       λ p is. (let H : ErrorKind → Type 0 = λ k. IsHonest (output_of c.args.outlet.now) (output_of c.send.new.outlet) (coding_for c.args.response.answer p) c.args.response.answer.length (g.D.ReadDevice.feed c.args.response.data_reader) k in
           subst H met (c.in-Err.ensures.honest p is)),
     )
+
+pub returns-in-Ok-clause-honest : goal.returns-in-Ok-clause-honest
+returns-in-Ok-clause-honest g c kind e = let no : Done ≡ Fault kind = e in cc

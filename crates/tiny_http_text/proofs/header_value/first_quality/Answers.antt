@@ -2,8 +2,8 @@ use Rattle.std.proofs.Common.{◌∙◌, lit<}
 use Rattle.std.specs.Prelude.{unwrap_or}
 use Rattle.std.proofs.Common.{ap, ℕ, Option}
 use Rattle.tiny_http_text.specs.Bytes.{semicolon}
-use Rattle.tiny_http_head.proofs.QualityLemmas.{first-found, first-later, first-last, utf8-after}
-use Rattle.tiny_http_head.proofs.header_value.first_quality.Goals as goal
+use Rattle.tiny_http_text.proofs.QualityLemmas.{first-found, first-later, first-last, utf8-after}
+use Rattle.tiny_http_text.proofs.header_value.first_quality.Goals as goal
 
 pub returns-in-Some-parameter_quality : goal.returns-in-Some-parameter_quality
 returns-in-Some-parameter_quality c =

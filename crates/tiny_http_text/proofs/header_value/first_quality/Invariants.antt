@@ -1,8 +1,8 @@
 use Rattle.std.proofs.Common.{◌≡◌, length}
 use Rattle.std.specs.Str.{IsUtf8}
 use Rattle.tiny_http_text.specs.Bytes.{parts, semicolon}
-use Rattle.tiny_http_head.specs.QualityReading.{first_quality}
-use Rattle.tiny_http_head.proofs.header_value.first_quality.Given as goal
+use Rattle.tiny_http_text.specs.QualityReading.{first_quality}
+use Rattle.tiny_http_text.proofs.header_value.first_quality.Given as goal
 
 abbrev pub invariant-loop-parameter : goal.invariant-loop-parameter
 invariant-loop-parameter l = record { utf8 : IsUtf8 l.rest; first : first_quality (parts semicolon l.rest) ≡ first_quality (parts semicolon l.fn.parameters) }

@@ -3,10 +3,10 @@ use Rattle.std.proofs.lemmas.Iterator.{YieldsList-from_map_by}
 use Rattle.std.proofs.lemmas.Iterator.Consumers.{map_from_collect, YieldsList-at}
 use Rattle.std.proofs.lemmas.Iterator.Splits.{YieldsList-from_str_split}
 use Rattle.std.proofs.lemmas.Result.{IfOk-weaker}
-use Rattle.tiny_http_head.specs.Qualities.{ListsQualities}
-use Rattle.tiny_http_head.specs.QualityReading.{element, qualities}
-use Rattle.tiny_http_head.proofs.QualityForms.{lists-is}
-use Rattle.tiny_http_head.proofs.header_value.parse_header_value.Goals as goal
+use Rattle.tiny_http_text.specs.Qualities.{ListsQualities}
+use Rattle.tiny_http_text.specs.QualityReading.{element, qualities}
+use Rattle.tiny_http_text.proofs.QualityForms.{lists-is}
+use Rattle.tiny_http_text.proofs.header_value.parse_header_value.Goals as goal
 
 abbrev seen : Bor (List ℕ) × ℕ → List ℕ × ℕ
 seen e = (e.0.now, e.1)

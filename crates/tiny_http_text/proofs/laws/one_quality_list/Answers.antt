@@ -1,7 +1,7 @@
 use Rattle.std.proofs.Common.{sym, ◌∙◌}
-use Rattle.tiny_http_head.specs.QualityReading.{qualities}
-use Rattle.tiny_http_head.proofs.QualityForms.{lists-is, lists-one}
-use Rattle.tiny_http_head.proofs.laws.one_quality_list.Goals as goal
+use Rattle.tiny_http_text.specs.QualityReading.{qualities}
+use Rattle.tiny_http_text.proofs.QualityForms.{lists-is, lists-one}
+use Rattle.tiny_http_text.proofs.laws.one_quality_list.Goals as goal
 
 pub returns-clause-some : goal.returns-clause-some
 returns-clause-some c = λ value. (qualities value, lists-is value)

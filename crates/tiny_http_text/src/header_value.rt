@@ -3,11 +3,11 @@ ghost use Rattle.std.specs.Prelude.{◌≡◌, ◌-◌, ◌^◌, ◌<◌, ◌≤
 ghost use Rattle.std.specs.Option.{SomeIff};
 ghost use Rattle.std.specs.Str.Parse.{IsNumeral, digits_value};
 ghost use Rattle.tiny_http_text.specs.Bytes.{HasNo, parts, semicolon};
-ghost use Rattle.tiny_http_head.specs.Qualities.{ListsQualities};
-ghost use Rattle.tiny_http_head.specs.QualityReading.{short_number, thousandths, quality, parameter_quality, first_quality, element};
+ghost use Rattle.tiny_http_text.specs.Qualities.{ListsQualities};
+ghost use Rattle.tiny_http_text.specs.QualityReading.{short_number, thousandths, quality, parameter_quality, first_quality, element};
 
+use crate::text::{trim, trim_front};
 use std::alloc::{AllocError, Global};
-use tiny_http_text::text::{trim, trim_front};
 
 // The quality of an element that gives none that can be read.
 const DEFAULT_QUALITY: u32 = 1000;

@@ -1,6 +1,6 @@
 use Rattle.std.proofs.Common.{rules}
-use Rattle.tiny_http_head.proofs.QualityLemmas.{short_number-long, short_number-short, short_number-bound}
-use Rattle.tiny_http_head.proofs.header_value.short_number.Goals as goal
+use Rattle.tiny_http_text.proofs.QualityLemmas.{short_number-long, short_number-short, short_number-bound}
+use Rattle.tiny_http_text.proofs.header_value.short_number.Goals as goal
 
 pub returns-then-digits-gt6-clause-value : goal.returns-then-digits-gt6-clause-value
 returns-then-digits-gt6-clause-value c = short_number-long c.args.digits.now (search rules)

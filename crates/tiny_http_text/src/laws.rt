@@ -1,0 +1,9 @@
+//! Laws of the definitions, each the contract of a function that does nothing.
+ghost use Rattle.std.specs.Prelude.{◌≡◌, ℕ, List};
+ghost use Rattle.tiny_http_text.specs.Qualities.{ListsQualities};
+
+/// Each value lists names with qualities in one way.
+pub fn one_quality_list()
+    ensures some { (value : List ℕ) → (list : List (List ℕ × ℕ)) × ListsQualities value list }
+    ensures one { (value : List ℕ) (list other : List (List ℕ × ℕ)) → ListsQualities value list → ListsQualities value other → list ≡ other }
+{}
