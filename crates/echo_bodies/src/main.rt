@@ -1,0 +1,91 @@
+//! Sends each posted body back, and drops any other request. Requests come on standard input, answers leave on standard
+//! output.
+#![tactic(auto)]
+
+use httpdate::HttpDate;
+use std::alloc::Global;
+use std::io;
+use std::io::ErrorKind;
+use tiny_http_core::driver::{Connection, Reply};
+use tiny_http_wire::common::{Method, StatusCode};
+use tiny_http_wire::device::{Metered, ReadDevice, WriteDevice};
+use tiny_http_wire::response::Response;
+
+/// How many bytes one read asks for.
+const PIECE: u16 = 1024;
+
+/// How many reads a body may take. A read gives fewer bytes than it asks for only before the end.
+const PIECES: u16 = 1024;
+
+// The whole body of a request; or none where it takes too many reads.
+fn read_body<R: ReadDevice + Drop, W: WriteDevice + Drop>(
+    alloc: Global,
+    connection: &mut Connection<R, W>,
+    number: u64,
+) -> io::Result<Option<Vec<u8>>> {
+    let mut body = Vec::new(alloc);
+    for _ in 0..PIECES {
+        match connection.read(alloc, number, PIECE) {
+            Reply::Given(bytes) if bytes.is_empty() => return Ok(Some(body)),
+            Reply::Given(bytes) => body.extend_from_slice(bytes.as_slice())?,
+            Reply::Fault(kind) => return Err(kind.into()),
+            Reply::Memory => return Err(ErrorKind::OutOfMemory.into()),
+            _ => return Err(ErrorKind::Other.into()),
+        }
+    }
+    Ok(None)
+}
+
+// Answers a request by its body, or by 413 where that is too long.
+fn echo<R: ReadDevice + Drop, W: WriteDevice + Drop>(
+    alloc: Global,
+    connection: &mut Connection<R, W>,
+    number: u64,
+    now: HttpDate,
+) -> io::Result<()> {
+    let reply = match read_body(alloc, connection, number)? {
+        Some(body) => connection.respond(alloc, now, number, Response::from_data(alloc, body)),
+        None => connection.respond(alloc, now, number, Response::empty(alloc, StatusCode(413))),
+    };
+    match reply {
+        Reply::Fault(kind) => Err(kind.into()),
+        _ => Ok(()),
+    }
+}
+
+// Goes through the requests of a client, until it has no more.
+fn serve<R: ReadDevice + Drop, W: WriteDevice + Drop>(
+    alloc: Global,
+    reader: R,
+    writer: W,
+    now: HttpDate,
+) -> io::Result<()> {
+    let mut connection = Connection::new(alloc, reader, writer);
+    for _ in 0..u64::MAX {
+        match connection.ask(alloc, now) {
+            Reply::Handed(number, head) => {
+                if head.method == Method::Post {
+                    echo(alloc, &mut connection, number, now)?;
+                } else {
+                    connection.drop_request(number);
+                }
+            }
+            Reply::Memory => return Err(ErrorKind::OutOfMemory.into()),
+            _ => break,
+        }
+    }
+    Ok(())
+}
+
+fn main(rt: HostRuntime) -> io::Result<()> {
+    // Seconds since the beginning of 1970: Wed, 04 May 1983 11:17:00 GMT.
+    let Ok(now) = HttpDate::from_unix_secs(420_895_020) else {
+        return Err(ErrorKind::InvalidInput.into());
+    };
+    serve(
+        rt.alloc(),
+        Metered::new(rt.stdin()),
+        Metered::new(rt.stdout()),
+        now,
+    )
+}
