@@ -9,8 +9,8 @@ use Rattle.tiny_http_core.specs.declared.driver.Reply.{Reply}
 use Rattle.tiny_http_core.specs.Seen.{seen}
 use Rattle.tiny_http_core.specs.HeadReads.{head_message, head_framing}
 use Rattle.tiny_http_core.specs.Slots.{own_response}
-use Rattle.tiny_http_core.specs.Steps.{Ask, Respond, Replied, Handed}
-use Rattle.tiny_http_core.specs.Conversation.{Dated, IsConversation}
+use Rattle.tiny_http_core.specs.Steps.{Ask, Respond, ReplyValue, Handed}
+use Rattle.tiny_http_core.specs.Conversation.{TimedValue, IsConversation}
 
 -- the root is found, and nothing else
 pub record IsStatus (path : List ℕ) (status : ℕ) : Type 0 where
@@ -22,7 +22,7 @@ pub record Greeting : Type 0 where
   pub number : ℕ
   pub head : Head
   pub status : ℕ
-  pub reply : Replied
+  pub reply : ReplyValue
 
 -- each is answered by the status of its path
 abbrev pub AreByPath : List Greeting → Type 0
@@ -30,35 +30,35 @@ AreByPath [] = Unit {0}
 AreByPath (g ∷ greetings) = IsStatus g.head.path g.status × AreByPath greetings
 
 -- the steps of these greetings: an Ask and a Respond each, by an empty response of this status
-abbrev pub steps_of : HttpDate → List Greeting → List Dated
+abbrev pub steps_of : HttpDate → List Greeting → List TimedValue
 steps_of now [] = []
 steps_of now (g ∷ greetings) = (now, Ask) ∷ (now, Respond g.number (own_response g.status [] [])) ∷ steps_of now greetings
 
 -- and their replies
-abbrev pub replies_of : List Greeting → List Replied
+abbrev pub replies_of : List Greeting → List ReplyValue
 replies_of [] = []
 replies_of (g ∷ greetings) = Handed g.number (head_message g.head) (head_framing g.head) ∷ g.reply ∷ replies_of greetings
 
-abbrev pub is_handed : Replied → Bool
+abbrev pub is_handed : ReplyValue → Bool
 is_handed (Handed number message framing) = true
 is_handed _ = false
 
 -- the reply to an Ask behind the greetings, if there was one
-abbrev pub last_reply : Option Reply → List Replied
+abbrev pub last_reply : Option Reply → List ReplyValue
 last_reply None = []
 last_reply (Some r) = seen r ∷ []
 
 -- That Ask hands out no request. There is none only where the greetings are as many as are ever counted.
-abbrev pub Ends : List Greeting → Option Reply → Type 0
-Ends greetings None = length greetings ≡ 2 ^ 64 - 1
-Ends greetings (Some r) = is_handed (seen r) ≡ false
+abbrev pub EndsGreetings : List Greeting → Option Reply → Type 0
+EndsGreetings greetings None = length greetings ≡ 2 ^ 64 - 1
+EndsGreetings greetings (Some r) = is_handed (seen r) ≡ false
 
 -- Some greetings by the path, and after them an Ask with this reply, are a conversation with this client: the writer took what
 -- is its output, but for what is held.
 pub record Greets (client : Feed) (before : Sink) (now : HttpDate) (after : Sink) (held : List ℕ) (ended : Bool) (left : Option Feed) (last : Option Reply) : Type 0 where
   pub greetings : List Greeting
   pub by_path : AreByPath greetings
-  pub ends : Ends greetings last
+  pub ends : EndsGreetings greetings last
   pub conversation : IsConversation client before (steps_of now greetings ++ map (λ _. (now, Ask)) (last_reply last)) (replies_of greetings ++ last_reply last) after held ended left
 
 -- a writer that took nothing

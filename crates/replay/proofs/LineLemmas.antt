@@ -68,14 +68,14 @@ only_drop text rest e (Empty number status, h) = absurd (no_respond_drop text re
 only_drop text rest e (Drop number, h) = let same : rest ≡ h.0 = ap (drop 5) (sym e ∙ h.1) in (number, rw same h.2, h.3)
 
 -- the words are some read
-abbrev pub IsRead : List ℕ → Type 0
-IsRead words = (number : ℕ) × (count : ℕ) × WritesRead words number count
+abbrev pub IsReadWords : List ℕ → Type 0
+IsReadWords words = (number : ℕ) × (count : ℕ) × WritesRead words number count
 
 no_respond_read : (text rest words : List ℕ) → text ≡ codes "read " ++ rest → text ≡ codes "respond " ++ words → ⊥
 no_respond_read text rest words e h = let third : ◌≡◌ {A = ℕ} 97 115 = ap (λ bs. get_or bs 2 0) (sym e ∙ h) in omega arith
 
 -- a line that begins by `read` says a read, if it says anything
-pub only_read : (text rest : List ℕ) → text ≡ codes "read " ++ rest → SaysSome text → IsRead rest
+pub only_read : (text rest : List ℕ) → text ≡ codes "read " ++ rest → SaysSome text → IsReadWords rest
 only_read text rest e (Blank, inl h) = absurd (let first : ◌≡◌ {A = ℕ} 114 0 = ap (λ bs. get_or bs 0 0) (sym e ∙ h) in omega arith)
 only_read text rest e (Blank, inr h) = absurd (let first : ◌≡◌ {A = ℕ} 114 35 = ap (λ bs. get_or bs 0 0) (sym e ∙ h.1) in omega arith)
 only_read text rest e (Now date, h) = absurd (let first : ◌≡◌ {A = ℕ} 114 110 = ap (λ bs. get_or bs 0 0) (sym e ∙ h.1) in omega arith)

@@ -3,8 +3,8 @@ use Rattle.std.proofs.Common.{◌≡◌, refl, sym, ap, subst, ◌∙◌, rules,
 use Rattle.std.proofs.lemmas.List.{take-append-drop, take_more, map_more, map-append, length-map, length-take-le, length-drop}
 use Rattle.std.specs.List.{AllZip, AllByRecursion}
 use Rattle.httpdate.specs.declared.date.HttpDate.{HttpDate}
-use Rattle.tiny_http_core.specs.Conversation.{Dated}
-use Rattle.tiny_http_core.specs.Seen.{IsTold, IsStep}
+use Rattle.tiny_http_core.specs.Conversation.{TimedValue}
+use Rattle.tiny_http_core.specs.Seen.{IsTimedStep, IsStep}
 use Rattle.tiny_http_core.specs.declared.driver.Step.{Step}
 use Rattle.tiny_http_core.specs.declared.driver.Step.TheVariants.{Ask as AskStep, Read as ReadStep, Respond as RespondStep, Drop as DropStep}
 use Rattle.tiny_http_core.specs.declared.driver.Timed.{Timed}
@@ -13,7 +13,7 @@ use Rattle.tiny_http_wire.specs.Cursor.{cursor_bytes}
 use Rattle.std.specs.declared.io.Cursor.{Cursor}
 use Rattle.std.specs.Io.Cursor.{cursor_position, cursor_inner}
 use Rattle.replay.specs.Line.{IsLine, IsGood}
-use Rattle.replay.specs.Script.{IsFirstBad, IsScript, script_lines, said_step, date_behind, on_date, steps_from, timed_value, step_value}
+use Rattle.replay.specs.Script.{IsFirstBadLine, IsScript, script_lines, said_step, date_behind, on_date, steps_from, timed_value, step_value}
 use Rattle.replay.specs.declared.line.Line.{Line}
 
 -- the date behind lines
@@ -49,7 +49,7 @@ abbrev pub texts : List (Bor (List ℕ)) → List (List ℕ)
 texts lines = map (λ line. line.now) lines
 
 -- the line behind good ones is the first bad one
-pub first_bad : (lines : List (Bor (List ℕ))) (i : ℕ) (none : Bor (List ℕ)) → i < length lines → AllByRecursion IsGood (texts (take i lines)) → ¬ (IsGood (get_or lines i none).now) → IsFirstBad (texts lines) (i + 1)
+pub first_bad : (lines : List (Bor (List ℕ))) (i : ℕ) (none : Bor (List ℕ)) → i < length lines → AllByRecursion IsGood (texts (take i lines)) → ¬ (IsGood (get_or lines i none).now) → IsFirstBadLine (texts lines) (i + 1)
 first_bad lines i none l good bad =
     let cut : lines ≡ take i lines ++ get_or lines i none ∷ drop (suc i) lines = sym (take-append-drop i lines) ∙ ap (λ rest. take i lines ++ rest) (drop-cons lines i none l) in
     (texts (take i lines), (get_or lines i none).now, texts (drop (suc i) lines), ap texts cut ∙ map-append (λ (b : Bor (List ℕ)). b.now) (take i lines) (get_or lines i none ∷ drop (suc i) lines), ap (λ n. n + 1) (length-map (take i lines) (λ (b : Bor (List ℕ)). b.now) ∙ length-take-le i lines (omega arith)), good, bad)
@@ -59,7 +59,7 @@ pub read_on : (lines : List (Bor (List ℕ))) (i : ℕ) (none : Bor (List ℕ)) 
 read_on lines i none said line l z h = rw (map_more (λ (b : Bor (List ℕ)). b.now) lines i none l) (all_zip-push (texts (take i lines)) said (get_or lines i none).now line z h)
 
 -- one line's step more
-pub step_on : (first : HttpDate) (lines : List Line) (i : ℕ) (line : Line) (now date : HttpDate) (before after : List Dated)
+pub step_on : (first : HttpDate) (lines : List Line) (i : ℕ) (line : Line) (now date : HttpDate) (before after : List TimedValue)
     → i < length lines → line ≡ get_or lines i line
     → before ≡ steps_from first (take i lines) → now ≡ date_after first (take i lines)
     → date ≡ date_behind now line → after ≡ before ++ on_date date (said_step line)
@@ -78,7 +78,7 @@ good_at [] bytes rest h = h.0
 good_at (l ∷ front) bytes rest h = good_at front bytes rest h.1
 
 -- a script that names steps has no bad line
-pub no_bad : (script : List ℕ) (steps : List Dated) (n : ℕ) → IsScript script steps → IsFirstBad (script_lines script) n → ⊥
+pub no_bad : (script : List ℕ) (steps : List TimedValue) (n : ℕ) → IsScript script steps → IsFirstBadLine (script_lines script) n → ⊥
 no_bad script steps n s b =
     let good : AllByRecursion IsGood (b.0 ++ b.1 ∷ b.2) = subst (AllByRecursion IsGood) b.3 (all_good (script_lines script) s.0 s.2) in
     b.6 (good_at b.0 b.1 b.2 good)
@@ -94,6 +94,6 @@ step_told (ReadStep number count) = (refl, refl)
 step_told (RespondStep number response) = (refl, (refl, refl, few (cursor_inner response.data_reader) (cursor_position response.data_reader)))
 step_told (DropStep number) = refl
 
-pub told : {A : Type 0} (steps : List (Timed (Cursor (Vec ℕ A)))) → AllZip (IsTold (λ c. Some (ending (cursor_bytes c)))) steps (map timed_value steps)
+pub told : {A : Type 0} (steps : List (Timed (Cursor (Vec ℕ A)))) → AllZip (IsTimedStep (λ c. Some (ending (cursor_bytes c)))) steps (map timed_value steps)
 told [] = tt
 told (t ∷ steps) = ((refl, step_told t.step), told steps)

@@ -51,22 +51,22 @@ WritesRead words number count =
     (digits : List ℕ) × BeginsByNumber words number digits × WritesNumber digits count × (number < 2 ^ 64) × (count < 2 ^ 16)
 
 -- the grammar of a line: which text says what
-abbrev pub Writes : List ℕ → Line → Type 0
-Writes text Blank = (text ≡ []) ⊎ ((comment : List ℕ) × (text ≡ codes "#" ++ comment))
-Writes text (Now date) = (digits : List ℕ) × (text ≡ codes "now " ++ digits) × WritesDate digits date
-Writes text Ask = text ≡ codes "ask"
-Writes text (Read number count) = (words : List ℕ) × (text ≡ codes "read " ++ words) × WritesRead words number count
-Writes text (Text number status words) = WritesRespond text (Text number status words)
-Writes text (Empty number status) = WritesRespond text (Empty number status)
-Writes text (Drop number) = (digits : List ℕ) × (text ≡ codes "drop " ++ digits) × WritesNumber digits number × (number < 2 ^ 64)
+abbrev pub SaysLine : List ℕ → Line → Type 0
+SaysLine text Blank = (text ≡ []) ⊎ ((comment : List ℕ) × (text ≡ codes "#" ++ comment))
+SaysLine text (Now date) = (digits : List ℕ) × (text ≡ codes "now " ++ digits) × WritesDate digits date
+SaysLine text Ask = text ≡ codes "ask"
+SaysLine text (Read number count) = (words : List ℕ) × (text ≡ codes "read " ++ words) × WritesRead words number count
+SaysLine text (Text number status words) = WritesRespond text (Text number status words)
+SaysLine text (Empty number status) = WritesRespond text (Empty number status)
+SaysLine text (Drop number) = (digits : List ℕ) × (text ≡ codes "drop " ++ digits) × WritesNumber digits number × (number < 2 ^ 64)
 
 -- the text says something
 abbrev pub SaysSome : List ℕ → Type 0
-SaysSome text = (line : Line) × Writes text line
+SaysSome text = (line : Line) × SaysLine text line
 
 -- the line is ASCII and says this
 abbrev pub IsLine : List ℕ → Line → Type 0
-IsLine bytes line = IsAscii bytes × Writes bytes line
+IsLine bytes line = IsAscii bytes × SaysLine bytes line
 
 -- the line is ASCII and says something
 abbrev pub IsGood : List ℕ → Type 0

@@ -4,7 +4,7 @@ use Rattle.std.specs.declared.io.ErrorKind.{ErrorKind}
 use Rattle.std.specs.declared.io.ErrorKind.TheVariants.{InvalidData, UnexpectedEof, OutOfMemory}
 use Rattle.tiny_http_wire.specs.Common.{version_text, method_text}
 use Rattle.tiny_http_wire.specs.Heads.{Message}
-use Rattle.tiny_http_core.specs.Steps.{Replied, Handed, Ended, Given, Fault, NotYet, Done, Refused, NoSuch, Memory}
+use Rattle.tiny_http_core.specs.Steps.{ReplyValue, Handed, Ended, Given, Fault, NotYet, Done, Refused, NoSuch, Memory}
 
 -- the name of a kind of fault
 abbrev pub kind_name : ErrorKind → List ℕ
@@ -34,7 +34,7 @@ bytes_text [] = []
 bytes_text (b ∷ bytes) = codes " " ++ flat_map hex_byte (b ∷ bytes)
 
 -- a reply without the end of its line
-abbrev pub reply_text : Replied → List ℕ
+abbrev pub reply_text : ReplyValue → List ℕ
 reply_text (Handed k message framing) = handed_text k message framing.body_length
 reply_text (Fault kind) = codes "fault " ++ kind_name kind
 reply_text NotYet = codes "notyet"
@@ -46,5 +46,5 @@ reply_text Memory = codes "memory"
 reply_text Refused = codes "refused"
 
 -- a reply's line, with the LF that ends it
-abbrev pub reply_line : Replied → List ℕ
+abbrev pub reply_line : ReplyValue → List ℕ
 reply_line reply = reply_text reply ++ codes "\n"

@@ -9,8 +9,8 @@ use Rattle.tiny_http_wire.specs.Answer.{answer_with, text_plain}
 use Rattle.tiny_http_wire.specs.Cursor.{cursor_bytes}
 use Rattle.tiny_http_wire.specs.Device.{Feed, Sink, ending}
 use Rattle.tiny_http_core.specs.Slots.{ResponseValue}
-use Rattle.tiny_http_core.specs.Steps.{Asked, Ask, Read, Respond, Drop, Replied}
-use Rattle.tiny_http_core.specs.Conversation.{Dated, IsFresh, IsConversation}
+use Rattle.tiny_http_core.specs.Steps.{StepValue, Ask, Read, Respond, Drop, ReplyValue}
+use Rattle.tiny_http_core.specs.Conversation.{TimedValue, IsFresh, IsConversation}
 use Rattle.tiny_http_core.specs.declared.driver.Step.{Step}
 use Rattle.tiny_http_core.specs.declared.driver.Step.TheVariants.{Ask as AskStep, Read as ReadStep, Respond as RespondStep, Drop as DropStep}
 use Rattle.tiny_http_core.specs.declared.driver.Timed.{Timed}
@@ -24,8 +24,8 @@ abbrev pub script_lines : List ℕ → List (List ℕ)
 script_lines script = slice_split (λ b. b == 10) script
 
 -- the n-th line, counted from 1, is the first that says nothing
-abbrev pub IsFirstBad : List (List ℕ) → ℕ → Type 0
-IsFirstBad lines n =
+abbrev pub IsFirstBadLine : List (List ℕ) → ℕ → Type 0
+IsFirstBadLine lines n =
     (front : List (List ℕ)) × (bad : List ℕ) × (rest : List (List ℕ))
     × (lines ≡ front ++ bad ∷ rest) × (length front + 1 ≡ n) × AllByRecursion IsGood front × ¬ (IsGood bad)
 
@@ -38,7 +38,7 @@ abbrev pub empty_response : ℕ → ResponseValue
 empty_response status = record { answer = answer_with status [] 0; content = ending [] }
 
 -- the step that a line names, if it names one
-abbrev pub said_step : Line → Option Asked
+abbrev pub said_step : Line → Option StepValue
 said_step Blank = None
 said_step (Now date) = None
 said_step AskLine = Some Ask
@@ -58,34 +58,34 @@ date_behind now (Empty number status) = now
 date_behind now (DropLine number) = now
 
 -- at most one step, on its date
-abbrev pub on_date : HttpDate → Option Asked → List Dated
+abbrev pub on_date : HttpDate → Option StepValue → List TimedValue
 on_date now None = []
 on_date now (Some step) = (now, step) ∷ []
 
 -- the steps of lines, from a date on
-abbrev pub steps_from : HttpDate → List Line → List Dated
+abbrev pub steps_from : HttpDate → List Line → List TimedValue
 steps_from now [] = []
 steps_from now (line ∷ lines) = on_date (date_behind now line) (said_step line) ++ steps_from (date_behind now line) lines
 
 -- these are the steps of a script; until a date is set it is second 420895020
-abbrev pub IsScript : List ℕ → List Dated → Type 0
+abbrev pub IsScript : List ℕ → List TimedValue → Type 0
 IsScript script steps =
     (lines : List Line) × (first : HttpDate)
     × AllZip IsLine (script_lines script) lines × (unix_secs first ≡ 420_895_020) × (steps ≡ steps_from first lines)
 
 -- a step over data in memory, as a value
-abbrev pub step_value : {A : Type 0} → Step (Cursor (Vec ℕ A)) → Asked
+abbrev pub step_value : {A : Type 0} → Step (Cursor (Vec ℕ A)) → StepValue
 step_value AskStep = Ask
 step_value (ReadStep number count) = Read number count
 step_value (RespondStep number response) = Respond number (record { answer = response.answer; content = ending (cursor_bytes response.data_reader) })
 step_value (DropStep number) = Drop number
 
 -- the same on its date
-abbrev pub timed_value : {A : Type 0} → Timed (Cursor (Vec ℕ A)) → Dated
+abbrev pub timed_value : {A : Type 0} → Timed (Cursor (Vec ℕ A)) → TimedValue
 timed_value timed = (timed.now, step_value timed.step)
 
 -- The client sends these bytes and ends: the steps have these replies, and this is the output, all of it taken or held.
-pub record HasRun (client : List ℕ) (steps : List Dated) (replies : List Replied) (output : List ℕ) : Type 0 where
+pub record HasRun (client : List ℕ) (steps : List TimedValue) (replies : List ReplyValue) (output : List ℕ) : Type 0 where
   pub before : Sink
   pub after : Sink
   pub taken : List ℕ
@@ -99,12 +99,12 @@ pub record HasRun (client : List ℕ) (steps : List Dated) (replies : List Repli
   pub output_is : output ≡ taken ++ held
 
 -- a replay of a script over a client's bytes has these replies and this output
-abbrev pub IsReplay : List ℕ → List ℕ → List Replied → List ℕ → Type 0
-IsReplay client script replies output = (steps : List Dated) × IsScript script steps × HasRun client steps replies output
+abbrev pub IsReplay : List ℕ → List ℕ → List ReplyValue → List ℕ → Type 0
+IsReplay client script replies output = (steps : List TimedValue) × IsScript script steps × HasRun client steps replies output
 
 -- Of such a replay one writer's known bytes grow by the output, and the other's by the lines of the replies.
 pub record WritesReplay (client script : List ℕ) (out_old out_new err_old err_new : Option (List ℕ)) : Type 0 where
-  pub replies : List Replied
+  pub replies : List ReplyValue
   pub output : List ℕ
   pub replay : IsReplay client script replies output
   pub out : Appends out_old out_new output

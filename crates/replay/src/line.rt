@@ -2,7 +2,7 @@
 ghost use Rattle.std.specs.Prelude.{◌≡◌, ◌<◌, ◌^◌, ℕ, List, ◌↔◌, IfSome, IsSomeAnd, IsSome};
 ghost use Rattle.std.specs.Option.{SomeIff};
 ghost use Rattle.std.specs.Str.Parse.{IsNumeral, digits_value};
-ghost use Rattle.replay.specs.Line.{BeginsByNumber, WritesDate, IsDate, WritesAnswer, IsAnswer, WritesRead, Writes, SaysSome, IsLine, IsGood};
+ghost use Rattle.replay.specs.Line.{BeginsByNumber, WritesDate, IsDate, WritesAnswer, IsAnswer, WritesRead, SaysLine, SaysSome, IsLine, IsGood};
 
 use httpdate::HttpDate;
 
@@ -81,7 +81,7 @@ fn count_in(words: &str) -> Option<(u64, u16)>
 
 // What a text says; None where it says nothing known.
 fn text_in(text: &str) -> Option<Line<'_>>
-    ensures some { IfSome result (λ line. Writes text.now line) }
+    ensures some { IfSome result (λ line. SaysLine text.now line) }
     ensures found { SaysSome text.now → IsSome result }
 {
     if text.is_empty() || text.starts_with('#') {

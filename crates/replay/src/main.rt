@@ -3,7 +3,7 @@
 
 ghost use Rattle.std.specs.Prelude.{◌≡◌, ◌<◌, ◌≤◌, ◌⊎◌, ℕ, ◌++◌, map, Err, IsErrAnd, IfOk, IfErr, OnOk};
 ghost use Rattle.replay.specs.Fault.{exit_status};
-ghost use Rattle.replay.specs.Script.{script_lines, IsFirstBad, timed_value, HasRun, WritesReplay};
+ghost use Rattle.replay.specs.Script.{script_lines, IsFirstBadLine, timed_value, HasRun, WritesReplay};
 ghost use Rattle.std.specs.Io.KnownBytes.{Appends};
 ghost use Rattle.std.specs.List.{flat_map};
 ghost use Rattle.replay.specs.Reply.{reply_line};
@@ -97,9 +97,9 @@ fn replay<O: Write, E: Write>(
     ensures runs { OnOk result (WritesReplay bytes.items script.now (O.contents out.old) (O.contents out.new)
         (E.contents err.old) (E.contents err.new)) }
     // Behind a bad line nothing is run.
-    ensures refused { (n : ℕ) → IsFirstBad (script_lines script.now) n
+    ensures refused { (n : ℕ) → IsFirstBadLine (script_lines script.now) n
         → IsErrAnd result (λ fault. (exit_status fault ≡ 2) ⊎ (fault ≡ Fault.OutOfMemory)) × (out.new ≡ out.old) }
-    ensures bad { (n : ℕ) → result ≡ Err (Fault.BadLine n) → IsFirstBad (script_lines script.now) n }
+    ensures bad { (n : ℕ) → result ≡ Err (Fault.BadLine n) → IsFirstBadLine (script_lines script.now) n }
     ensures kinds { IfErr result (λ fault. exit_status fault ≡ 2 → (n : ℕ) × (fault ≡ Fault.BadLine n)) }
 {
     let steps = match read_script(alloc, script) {
@@ -140,8 +140,8 @@ pub fn replay_on<O: Write, E: Write>(
         (E.contents err.old) (E.contents err.new) }
     ensures bound { result ≤ 2 }
     // Behind a bad line nothing is run.
-    ensures refused { (n : ℕ) → IsFirstBad (script_lines script.now) n → (0 < result) × (out.new ≡ out.old) }
-    ensures two { result ≡ 2 → (n : ℕ) × IsFirstBad (script_lines script.now) n }
+    ensures refused { (n : ℕ) → IsFirstBadLine (script_lines script.now) n → (0 < result) × (out.new ≡ out.old) }
+    ensures two { result ≡ 2 → (n : ℕ) × IsFirstBadLine (script_lines script.now) n }
 {
     match replay(alloc, bytes, script, out, err) {
         Ok(()) => 0,

@@ -4,7 +4,7 @@ ghost use Rattle.std.specs.Option.{option_map};
 ghost use Rattle.std.specs.List.{AllZip};
 ghost use Rattle.httpdate.specs.Date.{unix_secs};
 ghost use Rattle.replay.specs.Line.{IsLine};
-ghost use Rattle.replay.specs.Script.{script_lines, IsFirstBad, said_step, date_behind, on_date, steps_from, IsScript, step_value, timed_value};
+ghost use Rattle.replay.specs.Script.{script_lines, IsFirstBadLine, said_step, date_behind, on_date, steps_from, IsScript, step_value, timed_value};
 
 use crate::line::{Line, line_in};
 use httpdate::HttpDate;
@@ -46,7 +46,7 @@ fn split_lines(alloc: Global, script: &[u8]) -> Result<Vec<&[u8]>, AllocError>
 fn read_lines<'a>(alloc: Global, lines: &[&'a [u8]]) -> Result<Vec<Line<'a>>, ScriptFault>
     ensures says { IfOk result (λ said. AllZip IsLine (map (λ line. line.now) lines.now) said.items) }
     ensures bad { (n : ℕ) → result ≡ Err (ScriptFault.BadLine n)
-        → IsFirstBad (map (λ line. line.now) lines.now) n }
+        → IsFirstBadLine (map (λ line. line.now) lines.now) n }
 {
     let mut said = Vec::new(alloc);
     for (i, bytes) in lines.iter().enumerate() {
@@ -129,7 +129,7 @@ fn read_steps(
 /// The steps that a script names, each with its date; or its first bad line.
 pub(crate) fn read_script(alloc: Global, script: &[u8]) -> Result<Vec<Timed<Data>>, ScriptFault>
     ensures steps { IfOk result (λ steps. IsScript script.now (map timed_value steps.items)) }
-    ensures bad { (n : ℕ) → result ≡ Err (ScriptFault.BadLine n) → IsFirstBad (script_lines script.now) n }
+    ensures bad { (n : ℕ) → result ≡ Err (ScriptFault.BadLine n) → IsFirstBadLine (script_lines script.now) n }
 {
     let Ok(lines) = split_lines(alloc, script) else {
         return Err(ScriptFault::OutOfMemory);

@@ -2,11 +2,11 @@
 use Rattle.std.specs.Prelude.{◌≡◌, ℕ, ◌+◌, ◌-◌, ◌^◌, ◌<◌, Bool, true, false}
 
 -- one more; none only at the greatest number
-abbrev pub Enters : ℕ → Bool → ℕ → Type 0
-Enters old true new = (old < 2 ^ 64 - 1) × (new ≡ old + 1)
-Enters old false new = (old ≡ 2 ^ 64 - 1) × (new ≡ old)
+abbrev pub CountsIn : ℕ → Bool → ℕ → Type 0
+CountsIn old true new = (old < 2 ^ 64 - 1) × (new ≡ old + 1)
+CountsIn old false new = (old ≡ 2 ^ 64 - 1) × (new ≡ old)
 
 -- one less; none only at 0
-abbrev pub Leaves : ℕ → Bool → ℕ → Type 0
-Leaves old true new = (0 < old) × (new ≡ old - 1)
-Leaves old false new = (old ≡ 0) × (new ≡ old)
+abbrev pub CountsOut : ℕ → Bool → ℕ → Type 0
+CountsOut old true new = (0 < old) × (new ≡ old - 1)
+CountsOut old false new = (old ≡ 0) × (new ≡ old)

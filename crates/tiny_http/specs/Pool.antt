@@ -32,9 +32,9 @@ module _ {J : Type 0} where
   NotStarted old new = (old.idle < old.running → new ≡ record old { running = old.running - 1 }) × (old.running ≤ old.idle → new ≡ old)
 
   -- a worker that isn't idle takes the job at the front, if one waits
-  abbrev pub Takes : Pool J → Option J → Pool J → Type 0
-  Takes old None new = (old.jobs ≡ []) × (new ≡ old)
-  Takes old (Some job) new = (old.jobs ≡ job ∷ new.jobs) × (new ≡ record old { jobs = new.jobs })
+  abbrev pub TakesJob : Pool J → Option J → Pool J → Type 0
+  TakesJob old None new = (old.jobs ≡ []) × (new ≡ old)
+  TakesJob old (Some job) new = (old.jobs ≡ job ∷ new.jobs) × (new ≡ record old { jobs = new.jobs })
 
   -- a worker becomes idle, where nothing waits and not all that run are idle
   abbrev pub Rests : Pool J → Bool → Pool J → Type 0
@@ -47,6 +47,6 @@ module _ {J : Type 0} where
   Wakes old (Some job) new = (old.jobs ≡ job ∷ new.jobs) × (0 < old.idle) × (new ≡ record old { jobs = new.jobs; idle = old.idle - 1 })
 
   -- an idle worker ends, where nothing waits, and more than four run or the pool is closed
-  abbrev pub GivesUp : Pool J → Bool → Pool J → Type 0
-  GivesUp old true new = (0 < old.idle) × (old.jobs ≡ []) × ((4 < old.running) ⊎ (old.closed ≡ true)) × (new ≡ record old { idle = old.idle - 1; running = old.running - 1 })
-  GivesUp old false new = (0 < old.idle → old.jobs ≡ [] → (old.running ≤ 4) × (old.closed ≡ false)) × (new ≡ old)
+  abbrev pub EndsIdle : Pool J → Bool → Pool J → Type 0
+  EndsIdle old true new = (0 < old.idle) × (old.jobs ≡ []) × ((4 < old.running) ⊎ (old.closed ≡ true)) × (new ≡ record old { idle = old.idle - 1; running = old.running - 1 })
+  EndsIdle old false new = (0 < old.idle → old.jobs ≡ [] → (old.running ≤ 4) × (old.closed ≡ false)) × (new ≡ old)

@@ -11,7 +11,7 @@ module _ {T : Type 0} where
   Pops old Empty new = (old ≡ []) × (new ≡ [])
 
   -- what the pop of a queue that threads share answers
-  abbrev pub answer_of : Popped T → Option T
-  answer_of (Value x) = Some x
-  answer_of Unblocked = None
-  answer_of Empty = None
+  abbrev pub popped_value : Popped T → Option T
+  popped_value (Value x) = Some x
+  popped_value Unblocked = None
+  popped_value Empty = None

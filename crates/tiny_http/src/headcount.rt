@@ -1,5 +1,5 @@
 //! How many are in.
-ghost use Rattle.tiny_http.specs.Headcount.{Enters, Leaves};
+ghost use Rattle.tiny_http.specs.Headcount.{CountsIn, CountsOut};
 
 use std::marker::Model;
 
@@ -29,7 +29,7 @@ impl Headcount {
 
     /// One more. False, and nothing has changed, exactly where 2^64 - 1 are in.
     pub fn enter(&mut self) -> bool
-        ensures { Enters self.old result self.new }
+        ensures { CountsIn self.old result self.new }
     {
         let Headcount { present } = self;
         if *present == usize::MAX {
@@ -41,7 +41,7 @@ impl Headcount {
 
     /// One less. False, and nothing has changed, exactly where nobody is in.
     pub fn leave(&mut self) -> bool
-        ensures { Leaves self.old result self.new }
+        ensures { CountsOut self.old result self.new }
     {
         let Headcount { present } = self;
         if *present == 0 {

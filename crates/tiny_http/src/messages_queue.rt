@@ -1,7 +1,7 @@
 //! A queue that threads share, and that can be told to wake one who waits.
 ghost use Rattle.std.specs.Prelude.{◌≡◌, ◌++◌, ◌∷◌, [], Some, None, OnOk, OnErr, IfOk, IfErr, IfSome, IsSome, IsSomeAnd, ◌↔◌, ◌+◌, ◌≤◌};
 ghost use Rattle.std.specs.Duration.{as_nanos};
-ghost use Rattle.tiny_http.specs.Queue.{answer_of};
+ghost use Rattle.tiny_http.specs.Queue.{popped_value};
 
 use std::alloc::{AllocError, Global};
 use std::collections::VecDeque;
@@ -144,7 +144,7 @@ impl<T> MessagesQueue<T> {
         for _ in rt.forever() {
             match state.pop() {
                 Popped::Empty => state = self.woken.wait(rt, state),
-                found => return answer(found),
+                found => return popped_value(found),
             }
         }
         unreachable!()
@@ -153,7 +153,7 @@ impl<T> MessagesQueue<T> {
     /// Takes what is at the front: a value, or `None` for an unblock mark. `None` too where the queue is empty.
     pub fn try_pop<R: Wait>(&self, rt: &R) -> Option<T> {
         let found = self.state.lock(rt).pop();
-        answer(found)
+        popped_value(found)
     }
 
     /// As `pop`, for so long at most, and then `None`. Each wait is for what remains of that time. Less than a
@@ -163,16 +163,16 @@ impl<T> MessagesQueue<T> {
         let mut state = self.state.lock(rt);
         match state.pop() {
             Popped::Empty => {}
-            found => return answer(found),
+            found => return popped_value(found),
         }
         let start = Instant::now(rt).ok();
         for _ in rt.forever() {
             let elapsed = start.and_then(|start| start.elapsed(rt).ok());
-            let left = remaining(timeout, elapsed)?;
+            let left = time_left(timeout, elapsed)?;
             state = self.woken.wait_timeout(rt, state, left).0;
             match state.pop() {
                 Popped::Empty => {}
-                found => return answer(found),
+                found => return popped_value(found),
             }
         }
         unreachable!()
@@ -180,8 +180,8 @@ impl<T> MessagesQueue<T> {
 }
 
 // What is told of what a pop found.
-fn answer<T>(found: Popped<T>) -> Option<T>
-    ensures { result ≡ answer_of found }
+fn popped_value<T>(found: Popped<T>) -> Option<T>
+    ensures { result ≡ popped_value found }
 {
     match found {
         Popped::Value(value) => Some(value),
@@ -190,7 +190,7 @@ fn answer<T>(found: Popped<T>) -> Option<T>
 }
 
 // What remains of a time, if it is a millisecond or more and it is known how much has elapsed.
-fn remaining(timeout: Duration, elapsed: Option<Duration>) -> Option<Duration>
+fn time_left(timeout: Duration, elapsed: Option<Duration>) -> Option<Duration>
     ensures enough { IsSome result ↔ IsSomeAnd elapsed (λ spent. as_nanos spent + 1_000_000 ≤ as_nanos timeout) }
     ensures rest { IfSome result (λ left. IsSomeAnd elapsed (λ spent. as_nanos left + as_nanos spent ≡ as_nanos timeout)) }
 {

@@ -1,6 +1,6 @@
 //! How many entries any number of threads made.
 ghost use Rattle.std.specs.Prelude.{◌≡◌, ◌+◌, ◌-◌, ◌^◌, ◌<◌, false, if◌then◌else◌};
-ghost use Rattle.tiny_http.specs.Headcount.{Enters};
+ghost use Rattle.tiny_http.specs.Headcount.{CountsIn};
 
 use std::sync::ledger::{Book, Ledger, Share};
 use std::sync::{Mutex, Wait};
@@ -17,7 +17,7 @@ impl<L: Ledger> Entries<L> {
     // One more in the number and in the share; false, with nothing changed, only at 2^64 - 1.
     fn enter(&mut self, mine: &mut Share<L>) -> bool
         requires { 0 < mine.old.parts }
-        ensures number { Enters self.old.book.total result self.new.book.total }
+        ensures number { CountsIn self.old.book.total result self.new.book.total }
         ensures share { mine.new.amount + self.old.book.total ≡ mine.old.amount + self.new.book.total }
         ensures parts { mine.new.parts ≡ mine.old.parts }
         ensures whole { mine.old.parts ≡ L.parts → mine.old.amount ≡ self.old.book.total }

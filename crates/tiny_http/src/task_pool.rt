@@ -57,7 +57,7 @@ impl<J> Model for PoolState<J> {
 
 impl<J> PoolState<J> {
     ghost use Rattle.std.specs.Prelude.{true};
-    ghost use Rattle.tiny_http.specs.Pool.{IsSound, new_pool, Offers, NotStarted, Takes, Rests, Wakes, GivesUp};
+    ghost use Rattle.tiny_http.specs.Pool.{IsSound, new_pool, Offers, NotStarted, TakesJob, Rests, Wakes, EndsIdle};
 
     /// A pool of `running` workers, none of them idle. Nothing waits.
     pub fn new(alloc: Global, running: usize) -> PoolState<J>
@@ -103,7 +103,7 @@ impl<J> PoolState<J> {
     /// Takes the front job for a worker that isn't idle. `None`, and nothing has changed, where no job waits.
     pub fn take(&mut self) -> Option<J>
         ensures sound { IsSound self.new }
-        ensures takes { Takes self.old result self.new }
+        ensures takes { TakesJob self.old result self.new }
     {
         self.jobs.pop_front()
     }
@@ -135,7 +135,7 @@ impl<J> PoolState<J> {
     /// isn't closed.
     pub fn give_up(&mut self) -> bool
         ensures sound { IsSound self.new }
-        ensures gives_up { GivesUp self.old result self.new }
+        ensures gives_up { EndsIdle self.old result self.new }
     {
         let may_end = self.idle > 0
             && self.jobs.is_empty()

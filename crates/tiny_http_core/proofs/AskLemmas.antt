@@ -21,22 +21,22 @@ use Rattle.tiny_http_message.specs.declared.waiting.Waiting.{Waiting}
 use Rattle.tiny_http_message.specs.Framing.{is_built}
 use Rattle.tiny_http_stream.specs.Source.{GoesOn}
 use Rattle.tiny_http_message.specs.Pipeline.{Item, Asks, Refuses, BadRequest, RequestTimeout, ExpectationFailed, VersionNotSupported, Request, Place, Heading, Ends, Heads, OneHead, FoundAt, served, served_answer, is_head_method, Pipeline}
-use Rattle.tiny_http_message.specs.HeadReads.{ReadsHead, IsBeforeHead, standing_of, place_after, place_feed, request_of, refused, head_message, head_framing}
+use Rattle.tiny_http_message.specs.HeadReads.{ReadsHead, IsBeforeHead, standing_of, place_after, place_feed, request_of, bad_request_item, head_message, head_framing}
 use Rattle.tiny_http_message.specs.declared.exchange.EndOfRequests.{EndOfRequests}
 use Rattle.tiny_http_stream.specs.declared.source.Standing.{Standing}
 use Rattle.tiny_http_stream.specs.declared.source.Standing.TheVariants as in_place
 use Rattle.tiny_http_wire.specs.declared.common.StatusCode.{StatusCode}
 use Rattle.tiny_http_message.specs.Exchange.{KeepsRequest}
 use Rattle.tiny_http_message.specs.Body.{Remaining, remaining, taken_left, is_streaming}
-use Rattle.tiny_http_core.specs.Slots.{Slot, is_finished, is_broken, is_slot_broken, segment, joined, new_slot, turn_has_come, is_chunked, last_slot, reader_is_held, reader_is_lost, is_last_slot}
+use Rattle.tiny_http_core.specs.Slots.{Slot, is_finished, is_broken, is_slot_broken, segment, joined, new_slot, turn_has_come, is_chunked, last_slot, last_holds_reader, last_was_abandoned, is_last_slot}
 use Rattle.tiny_http_message.specs.OwnAnswer.{own_text, own_text_by, own_printing_to}
-use Rattle.tiny_http_core.specs.Steps.{Asked, Ask, Replied, Handed, Ended, NotYet, Memory, Unused, Unreported, Outcome, Reached, unchanged, ask, asks_from, outcome}
-use Rattle.tiny_http_core.specs.Conversation.{Failure, State, PlaceAt, Writes, flushed_after, Has, StepsTo}
+use Rattle.tiny_http_core.specs.Steps.{StepValue, Ask, ReplyValue, Handed, Ended, NotYet, Memory, Unused, Unreported, Outcome, Reached, unchanged, ask, asks_from, outcome}
+use Rattle.tiny_http_core.specs.Conversation.{Failure, State, PlaceAt, WriterPart, flushed_after, HasOutcome, StepsTo}
 use Rattle.tiny_http_core.proofs.WritingLemmas.{IsAllFlushed, unreported, still-flushed}
 use Rattle.tiny_http_core.specs.Sending.{IsFlushed, SendsUnlessEnded}
 use Rattle.tiny_http_turns.specs.Turns.{Mark, Open, Left, Finished, AreInShape, first_unfinished}
-use Rattle.tiny_http_core.specs.Pending.{LeavesText, last_body, streams}
-use Rattle.tiny_http_core.specs.Connection.{Kept, dropped, IsWaiting, AreKept, OutputAt, behind_body, GivesRest, InputEnded, is_past_last, is_in_body, NextHead, Reader, Stands}
+use Rattle.tiny_http_core.specs.Pending.{LeavesText, last_body, is_streaming_body}
+use Rattle.tiny_http_core.specs.Connection.{Kept, dropped, IsWaiting, AreKept, OutputAt, behind_body, GivesRest, InputEnded, is_past_last, is_in_body, NextHead, InputStands, Stands}
 use Rattle.tiny_http_message.proofs.HeadServing.{built-parts}
 use Rattle.tiny_http_stream.proofs.GoingOn.{goes-on_more}
 use Rattle.tiny_http_message.proofs.PipelineLemmas.{pipeline-first, pipeline-none, feed-pipeline}
@@ -48,28 +48,28 @@ use Rattle.tiny_http_core.proofs.OutputLemmas.{ended-is, output-same, Goes, outp
 use Rattle.tiny_http_core.proofs.PassLemmas.{first-issued}
 
 -- the step was answered so
-abbrev pub Answered : Feed → Sink → Kept → State → HttpDate → Asked → Replied → Type 0
-Answered client before k s date step reply = (new : State) × Stands client before k new × StepsTo s date step reply new
+abbrev pub StepIsAnswered : Feed → Sink → Kept → State → HttpDate → StepValue → ReplyValue → Type 0
+StepIsAnswered client before k s date step reply = (new : State) × Stands client before k new × StepsTo s date step reply new
 
 -- A step that changes nothing.
-pub step-unchanged : (client : Feed) (before : Sink) (k : Kept) (s : State) (date : HttpDate) (step : Asked) (reply : Replied) → Stands client before k s → outcome true date s.reached step ≡ unchanged s.reached reply
-    → Answered client before k s date step reply
+pub step-unchanged : (client : Feed) (before : Sink) (k : Kept) (s : State) (date : HttpDate) (step : StepValue) (reply : ReplyValue) → Stands client before k s → outcome true date s.reached step ≡ unchanged s.reached reply
+    → StepIsAnswered client before k s date step reply
 step-unchanged client before k s date step reply h e =
-    let P : Outcome → Type 0 = λ o. Has o s reply s in
+    let P : Outcome → Type 0 = λ o. HasOutcome o s reply s in
     (s, h, inl (true, tt, subst P (sym e) (refl, refl, (refl, refl))))
 
 -- what an Ask comes to
 ask-ends : (date : HttpDate) (old : Reached) → old.ended ≡ true → ask date old ≡ unchanged old Ended
 ask-ends date old e = rw e refl
 
-ask-held : (date : HttpDate) (old : Reached) → old.ended ≡ false → reader_is_held (last_slot old.slots) ≡ true → ask date old ≡ unchanged old NotYet
+ask-held : (date : HttpDate) (old : Reached) → old.ended ≡ false → last_holds_reader (last_slot old.slots) ≡ true → ask date old ≡ unchanged old NotYet
 ask-held date old e h = rw (e, h) refl
 
-ask-lost : (date : HttpDate) (old : Reached) → old.ended ≡ false → reader_is_held (last_slot old.slots) ≡ false → reader_is_lost (last_slot old.slots) ≡ true
+ask-lost : (date : HttpDate) (old : Reached) → old.ended ≡ false → last_holds_reader (last_slot old.slots) ≡ false → last_was_abandoned (last_slot old.slots) ≡ true
     → ask date old ≡ record { reply = Ended; slots = old.slots; rest = old.rest; ended = true; writer = Unused }
 ask-lost date old e h l = rw (e, h, l) refl
 
-ask-goes : (date : HttpDate) (old : Reached) → old.ended ≡ false → reader_is_held (last_slot old.slots) ≡ false → reader_is_lost (last_slot old.slots) ≡ false
+ask-goes : (date : HttpDate) (old : Reached) → old.ended ≡ false → last_holds_reader (last_slot old.slots) ≡ false → last_was_abandoned (last_slot old.slots) ≡ false
     → ask date old ≡ asks_from date Unused old.slots old.rest
 ask-goes date old e h l = rw (e, h, l) refl
 
@@ -101,8 +101,8 @@ one-head-unowed bytes stop r next h = found-unowed stop h.0 r next h.2
 pub record Going (k : Kept) (s : State) : Type 0 where
   pub feed : Feed
   pub told : k.feed ≡ Some feed
-  pub unheld : reader_is_held (last_slot s.reached.slots) ≡ false
-  pub kept : reader_is_lost (last_slot s.reached.slots) ≡ false
+  pub unheld : last_holds_reader (last_slot s.reached.slots) ≡ false
+  pub kept : last_was_abandoned (last_slot s.reached.slots) ≡ false
   pub pipeline : Pipeline (Some feed.bytes) feed.stop s.reached.rest
 
 pub told-feed : (client : Feed) (o : Option Feed) → GoesOn (Some client) o → (f : Feed) × (o ≡ Some f)
@@ -112,20 +112,20 @@ told-feed client (Some f) h = (f, refl)
 pub last-of : (client : Feed) (before : Sink) (k : Kept) (s : State) → Stands client before k s → LastKept (last_slot s.reached.slots) (last_body k.requests)
 last-of client before k s h = last-kept s.reached.slots k.marks k.requests h.numbers
 
-unheld : (client : Feed) (before : Sink) (k : Kept) (s : State) → Stands client before k s → streams (last_body k.requests) ≡ false → reader_is_held (last_slot s.reached.slots) ≡ false
+unheld : (client : Feed) (before : Sink) (k : Kept) (s : State) → Stands client before k s → is_streaming_body (last_body k.requests) ≡ false → last_holds_reader (last_slot s.reached.slots) ≡ false
 unheld client before k s h quiet = held-by (last_slot s.reached.slots) (last_body k.requests) (last-of client before k s h) ∙ rw quiet (and-false (not (is_last_slot (last_slot s.reached.slots))))
 
-going : (client : Feed) (before : Sink) (k : Kept) (s : State) → Stands client before k s → k.ended ≡ false → is_past_last k.standing ≡ false → streams (last_body k.requests) ≡ false → (InputEnded k → ⊥) → Going k s
+going : (client : Feed) (before : Sink) (k : Kept) (s : State) → Stands client before k s → k.ended ≡ false → is_past_last k.standing ≡ false → is_streaming_body (last_body k.requests) ≡ false → (InputEnded k → ⊥) → Going k s
 going client before k s h e o quiet open_input =
     let f = told-feed client k.feed h.reader.source in
     let next = h.reader.next e in
-    let kept : reader_is_lost (last_slot s.reached.slots) ≡ false = by next (reader_is_lost (last_slot s.reached.slots)) refl in
+    let kept : last_was_abandoned (last_slot s.reached.slots) ≡ false = by next (last_was_abandoned (last_slot s.reached.slots)) refl in
     let here : behind_body (last_body k.requests) k.feed ≡ Some f.0 = ap (behind_body (last_body k.requests)) f.1 ∙ behind-settled (last_slot s.reached.slots) (last_body k.requests) f.0 (last-of client before k s h) quiet in
     let P : Bool → Type 0 = λ x. PlaceAt x (behind_body (last_body k.requests) k.feed) s.reached.rest in
     let Q : Option Feed → Type 0 = λ x. PlaceAt false x s.reached.rest in
     record { feed = f.0; told = f.1; unheld = unheld client before k s h quiet; kept = kept; pipeline = subst Q here (subst P o (next.place kept)) }
   where
-    by : NextHead k (last_slot s.reached.slots) s.reached.rest → (t : Bool) → reader_is_lost (last_slot s.reached.slots) ≡ t → t ≡ false
+    by : NextHead k (last_slot s.reached.slots) s.reached.rest → (t : Bool) → last_was_abandoned (last_slot s.reached.slots) ≡ t → t ≡ false
     by next true z = absurd (open_input (next.lost z).0)
     by next false z = refl
 
@@ -138,11 +138,11 @@ pub dropped-whole : (asked : HttpDate) (r : Request) (given : ℕ) (told : Bool)
 unfolding text_of
 dropped-whole asked r given told = ap is_broken (own-whole 500 r.message.version (is_head_method r.message.method) asked)
 
-refused-whole : (date : HttpDate) (v : HTTPVersion) → is_slot_broken (new_slot date (refused v)) ≡ false
+refused-whole : (date : HttpDate) (v : HTTPVersion) → is_slot_broken (new_slot date (bad_request_item v)) ≡ false
 unfolding text_of
 refused-whole date v = refl
 
-refused-text : (date : HttpDate) (v : HTTPVersion) → segment (new_slot date (refused v)) ≡ own_text 400 v false date
+refused-text : (date : HttpDate) (v : HTTPVersion) → segment (new_slot date (bad_request_item v)) ≡ own_text 400 v false date
 unfolding text_of
 refused-text date v = refl
 
@@ -159,8 +159,8 @@ output-waiting before sink e slots date r failure h =
 pub settled-any : (b : Body) (p : Option Feed) (content behind : Feed) → remaining b p ≡ Some (record { body = content; behind = behind }) → is_streaming b ≡ false → (f : Feed) → remaining b (Some f) ≡ Some (taken_left content f)
 settled-any (body.Over stop) None content behind h e f = cc
 settled-any (body.Over stop) (Some g) content behind h e f = ap (λ (x : Option Remaining). option_map (λ (r : Remaining). taken_left r.body f) x) h
-settled-any (body.Held bytes) None content behind h e f = cc
-settled-any (body.Held bytes) (Some g) content behind h e f = ap (λ (x : Option Remaining). option_map (λ (r : Remaining). taken_left r.body f) x) h
+settled-any (body.WithHead bytes) None content behind h e f = cc
+settled-any (body.WithHead bytes) (Some g) content behind h e f = ap (λ (x : Option Remaining). option_map (λ (r : Remaining). taken_left r.body f) x) h
 settled-any (body.Counted left) p content behind h e f = cc
 settled-any (body.Chunked d) p content behind h e f = cc
 
@@ -215,9 +215,9 @@ stands-for x content at e =
     by false true l t = record { past = rw (l, t) refl; within = rw (l, t) refl }
     by false false l t = record { past = rw (l, t) refl; within = rw (l, t) refl }
 
-handed-reader : (client : Feed) (k : Kept) (slots : List Slot) (rest more : List Item) (date : HttpDate) (r : Request) (w : Waiting) (p : Option Feed) (stop : Option Stop) (over : Bool) (at : Standing) (close : Stop) (next : Place) → Reader client k slots rest → streams (last_body k.requests) ≡ false
+handed-reader : (client : Feed) (k : Kept) (slots : List Slot) (rest more : List Item) (date : HttpDate) (r : Request) (w : Waiting) (p : Option Feed) (stop : Option Stop) (over : Bool) (at : Standing) (close : Stop) (next : Place) → InputStands client k slots rest → is_streaming_body (last_body k.requests) ≡ false
     → remaining w.body p ≡ Some (record { body = r.body; behind = place_feed close next }) → Pipeline (place_after r.framing.is_last next) close more → GoesOn (Some client) p → StandsFor r w at
-    → Reader client (after_handed k w p stop over at) (slots ++ (handed_slot date r ∷ [])) more
+    → InputStands client (after_handed k w p stop over at) (slots ++ (handed_slot date r ∷ [])) more
 handed-reader client k slots rest more date r w p stop over at close next old quiet left items source stands =
     let x = handed_slot date r in
     let last : last_slot (slots ++ (x ∷ [])) ≡ Some x = last-snoc None slots x in
@@ -226,7 +226,7 @@ handed-reader client k slots rest more date r w p stop over at close next old qu
     let P : Option Slot → Option Body → Type 0 = λ o b. GivesRest b o p in
     let here : P (Some x) (Some w.body) = ap B left in
     let Q : Bool → Option Body → Type 0 = λ y b. PlaceAt y (behind_body b p) more in
-    let W : Option Slot → Option Body → Bool = λ o b. not (is_last_slot o) && streams b in
+    let W : Option Slot → Option Body → Bool = λ o b. not (is_last_slot o) && is_streaming_body b in
     let F : Option Feed → Type 0 = λ o. PlaceAt r.framing.is_last o more in
     let behind : behind_body (Some w.body) p ≡ Some (place_feed close next) = ap (λ (o : Option Remaining). option_map (λ (y : Remaining). y.behind) o) left in
     let k2 : Kept = after_handed k w p stop over at in
@@ -236,15 +236,15 @@ handed-reader client k slots rest more date r w p stop over at close next old qu
       next = λ e. record {
         is_last = stands.past ∙ ap is_last_slot (sym last);
         within = stands.within ∙ ap (λ b. W (Some x) b) (sym content) ∙ ap (λ o. W o (last_body (k.requests ++ (Some w ∷ [])))) (sym last);
-        lost = λ lost. (let no : true ≡ false = sym lost ∙ (ap reader_is_lost last ∙ and-false (is_chunked r.framing.form)) in cc);
+        lost = λ lost. (let no : true ≡ false = sym lost ∙ (ap last_was_abandoned last ∙ and-false (is_chunked r.framing.form)) in cc);
         place = λ e. subst (λ y. Q y (last_body (k.requests ++ (Some w ∷ [])))) (sym stands.past) (subst (λ y. Q r.framing.is_last y) (sym content) (subst F (sym behind) (handed-place r.framing.is_last close next more items)));
       };
       source = source;
     }
 
-pub ask-handed : (client : Feed) (before : Sink) (k : Kept) (s : State) (date : HttpDate) (x : Exchange) (from_here : Standing) (p : Option Feed) (stop : Option Stop) (over : Bool) (at : Standing) (n : ℕ) → Stands client before k s → k.ended ≡ false → is_past_last k.standing ≡ false → streams (last_body k.requests) ≡ false
+pub ask-handed : (client : Feed) (before : Sink) (k : Kept) (s : State) (date : HttpDate) (x : Exchange) (from_here : Standing) (p : Option Feed) (stop : Option Stop) (over : Bool) (at : Standing) (n : ℕ) → Stands client before k s → k.ended ≡ false → is_past_last k.standing ≡ false → is_streaming_body (last_body k.requests) ≡ false
     → (InputEnded k → ⊥) → ReadsHead from_here date k.feed p (Ok (read.Request x)) → GoesOn k.feed p → n ≡ length k.marks → AreInShape (k.marks ++ (Open ∷ [])) → at ≡ standing_of x
-    → Answered client before (after_handed k x.waiting p stop over at) s date Ask (Handed n (head_message x.head) (head_framing x.head))
+    → StepIsAnswered client before (after_handed k x.waiting p stop over at) s date Ask (Handed n (head_message x.head) (head_framing x.head))
 ask-handed client before k s date x from_here p stop over at n st e o quiet open_input reads goes number shape stands =
     let g = going client before k s st e o quiet open_input in
     let P : Option Feed → Type 0 = λ y. ReadsHead from_here date y p (Ok (read.Request x)) in
@@ -258,7 +258,7 @@ ask-handed client before k s date x from_here p stop over at n st e o quiet open
     let F : List Item → Outcome = λ z. asks_from date Unused s.reached.slots z in
     let is : ask date s.reached ≡ asks_from date Unused s.reached.slots (Asks r ∷ first.0) = ask-goes date s.reached ends g.unheld g.kept ∙ ap F first.1 in
     let new : State = record { reached = record { slots = slots; rest = first.0; ended = false }; flushed = s.flushed; failure = s.failure } in
-    let G : Outcome → Type 0 = λ z. Has z s (Handed n (head_message h) (head_framing h)) new in
+    let G : Outcome → Type 0 = λ z. HasOutcome z s (Handed n (head_message h) (head_framing h)) new in
     let told : n ≡ length s.reached.slots = number ∙ sym (kept-length s.reached.slots k.marks k.requests st.numbers) in
     let waits = kept-handed date x p found.0 (place_feed g.feed.stop found.1) found.4 found.3 (one-head-unowed g.feed.bytes g.feed.stop r (place_after h.is_last found.1) found.2) in (
       new,
@@ -274,36 +274,37 @@ ask-handed client before k s date x from_here p stop over at n st e o quiet open
     )
 
 -- the body of the last request holds the reader
-pub ask-not_yet : (client : Feed) (before : Sink) (k : Kept) (s : State) (date : HttpDate) → Stands client before k s → k.ended ≡ false → k.standing ≡ in_place.Body → Answered client before k s date Ask NotYet
+pub ask-not_yet : (client : Feed) (before : Sink) (k : Kept) (s : State) (date : HttpDate) → Stands client before k s → k.ended ≡ false → k.standing ≡ in_place.Body → StepIsAnswered client before k s date Ask NotYet
 ask-not_yet client before k s date st e held =
     let slots = s.reached.slots in
-    let is : reader_is_held (last_slot slots) ≡ true = held-by (last_slot slots) (last_body k.requests) (last-of client before k s st) ∙ sym (st.reader.next e).within ∙ ap is_in_body held in
+    let is : last_holds_reader (last_slot slots) ≡ true = held-by (last_slot slots) (last_body k.requests) (last-of client before k s st) ∙ sym (st.reader.next e).within ∙ ap is_in_body held in
     step-unchanged client before k s date Ask NotYet st (ask-held date s.reached (st.ended ∙ e) is)
 
 -- in front of a head the last body isn't read from the input, and the last head wasn't read
-pub record BeforeHead (k : Kept) : Type 0 where
+pub record BeforeHead (k : Kept) (s : State) : Type 0 where
   pub unread : is_past_last k.standing ≡ false
-  pub quiet : streams (last_body k.requests) ≡ false
+  pub more : is_last_slot (last_slot s.reached.slots) ≡ false
+  pub quiet : is_streaming_body (last_body k.requests) ≡ false
 
-pub before-head : (client : Feed) (before : Sink) (k : Kept) (s : State) → Stands client before k s → k.ended ≡ false → IsBeforeHead k.standing → BeforeHead k
+pub before-head : (client : Feed) (before : Sink) (k : Kept) (s : State) → Stands client before k s → k.ended ≡ false → IsBeforeHead k.standing → BeforeHead k s
 before-head client before k s st e here =
     let n = st.reader.next e in
     let past = not-past k.standing here in
     let last : is_last_slot (last_slot s.reached.slots) ≡ false = sym n.is_last ∙ past in
-    let within : (not (is_last_slot (last_slot s.reached.slots)) && streams (last_body k.requests)) ≡ false = sym n.within ∙ not-within k.standing here in
-    let U : Bool → Bool = λ x. not x && streams (last_body k.requests) in
-    record { unread = past; quiet = ap U (sym last) ∙ within }
+    let within : (not (is_last_slot (last_slot s.reached.slots)) && is_streaming_body (last_body k.requests)) ≡ false = sym n.within ∙ not-within k.standing here in
+    let U : Bool → Bool = λ x. not x && is_streaming_body (last_body k.requests) in
+    record { unread = past; more = last; quiet = ap U (sym last) ∙ within }
   where
     not-past : (x : Standing) → IsBeforeHead x → is_past_last x ≡ false
     not-past in_place.Head h = refl
-    not-past in_place.Lost h = refl
+    not-past in_place.Abandoned h = refl
     not-past (in_place.Broken kind) h = refl
     not-past in_place.Body h = elim h [ ]
     not-past in_place.Last h = elim h [ ]
 
     not-within : (x : Standing) → IsBeforeHead x → is_in_body x ≡ false
     not-within in_place.Head h = refl
-    not-within in_place.Lost h = refl
+    not-within in_place.Abandoned h = refl
     not-within (in_place.Broken kind) h = refl
     not-within in_place.Body h = elim h [ ]
     not-within in_place.Last h = elim h [ ]
@@ -316,8 +317,8 @@ abbrev pub after_end : Kept → Option Feed → Option Stop → Bool → Standin
 after_end k p stop over at = record k { ended = true; feed = p; stop = stop; is_over = over; standing = at }
 
 -- the input was read, and the last body isn't read from it
-end-reader : (client : Feed) (before : Sink) (k : Kept) (s : State) (p : Option Feed) (stop : Option Stop) (over : Bool) (at : Standing) (rest : List Item) → Stands client before k s → streams (last_body k.requests) ≡ false → GoesOn k.feed p
-    → Reader client (after_end k p stop over at) s.reached.slots rest
+end-reader : (client : Feed) (before : Sink) (k : Kept) (s : State) (p : Option Feed) (stop : Option Stop) (over : Bool) (at : Standing) (rest : List Item) → Stands client before k s → is_streaming_body (last_body k.requests) ≡ false → GoesOn k.feed p
+    → InputStands client (after_end k p stop over at) s.reached.slots rest
 end-reader client before k s p stop over at rest st quiet goes =
     let source = goes-on_more (Some client) k.feed p st.reader.source goes in
     let f = told-feed client p source in
@@ -329,8 +330,8 @@ same-feed None = tt
 same-feed (Some f) = record { gone = []; joins = refl }
 
 pub ask-over : (client : Feed) (before : Sink) (k : Kept) (s : State) (date : HttpDate) → Stands client before k s → k.ended ≡ false → is_past_last k.standing ≡ true
-    → Answered client before (after_end k k.feed k.stop k.is_over k.standing) s date Ask Ended
-ask-over client before k s date st e o = by (reader_is_lost (last_slot s.reached.slots)) refl
+    → StepIsAnswered client before (after_end k k.feed k.stop k.is_over k.standing) s date Ask Ended
+ask-over client before k s date st e o = by (last_was_abandoned (last_slot s.reached.slots)) refl
   where
     slots : List Slot
     slots = s.reached.slots
@@ -338,18 +339,18 @@ ask-over client before k s date st e o = by (reader_is_lost (last_slot s.reached
     next : NextHead k (last_slot slots) s.reached.rest
     next = st.reader.next e
 
-    unheld_now : reader_is_held (last_slot slots) ≡ false
+    unheld_now : last_holds_reader (last_slot slots) ≡ false
     unheld_now =
         let last : is_last_slot (last_slot slots) ≡ true = sym next.is_last ∙ o in
         held-by (last_slot slots) (last_body k.requests) (last-of client before k s st) ∙ rw last refl
 
-    ended_reader : (rest : List Item) → Reader client (after_end k k.feed k.stop k.is_over k.standing) slots rest
+    ended_reader : (rest : List Item) → InputStands client (after_end k k.feed k.stop k.is_over k.standing) slots rest
     ended_reader rest = record { settled = st.reader.settled; gives = st.reader.gives; next = λ z. cc; source = st.reader.source }
 
-    by : (t : Bool) → reader_is_lost (last_slot slots) ≡ t → Answered client before (after_end k k.feed k.stop k.is_over k.standing) s date Ask Ended
+    by : (t : Bool) → last_was_abandoned (last_slot slots) ≡ t → StepIsAnswered client before (after_end k k.feed k.stop k.is_over k.standing) s date Ask Ended
     by true l =
         let new : State = record { reached = record { slots = slots; rest = s.reached.rest; ended = true }; flushed = s.flushed; failure = s.failure } in
-        let G : Outcome → Type 0 = λ x. Has x s Ended new in (
+        let G : Outcome → Type 0 = λ x. HasOutcome x s Ended new in (
           new,
           record { numbers = st.numbers; shape = st.shape; ended = refl; flushed = st.flushed; reader = ended_reader s.reached.rest; output = st.output },
           inl (true, tt, subst G (sym (ask-lost date s.reached (st.ended ∙ e) unheld_now l)) (refl, refl, (refl, refl))),
@@ -360,28 +361,28 @@ ask-over client before k s date st e o = by (reader_is_lost (last_slot s.reached
         let F : List Item → Outcome = λ x. asks_from date Unused slots x in
         let is : ask date s.reached ≡ ends_with s.reached = ask-goes date s.reached (st.ended ∙ e) unheld_now l ∙ ap F none in
         let new : State = record { reached = record { slots = slots; rest = []; ended = true }; flushed = s.flushed; failure = s.failure } in
-        let G : Outcome → Type 0 = λ x. Has x s Ended new in (
+        let G : Outcome → Type 0 = λ x. HasOutcome x s Ended new in (
           new,
           record { numbers = st.numbers; shape = st.shape; ended = refl; flushed = st.flushed; reader = ended_reader []; output = st.output },
           inl (true, tt, subst G (sym is) (refl, refl, (refl, refl))),
         )
 
 -- no head follows
-pub ask-none : (client : Feed) (before : Sink) (k : Kept) (s : State) (date : HttpDate) (from_here : Standing) (why : EndOfRequests) (p : Option Feed) (stop : Option Stop) (over : Bool) (at : Standing) → Stands client before k s → k.ended ≡ false → is_past_last k.standing ≡ false → streams (last_body k.requests) ≡ false
+pub ask-none : (client : Feed) (before : Sink) (k : Kept) (s : State) (date : HttpDate) (from_here : Standing) (why : EndOfRequests) (p : Option Feed) (stop : Option Stop) (over : Bool) (at : Standing) → Stands client before k s → k.ended ≡ false → is_past_last k.standing ≡ false → is_streaming_body (last_body k.requests) ≡ false
     → ReadsHead from_here date k.feed p (Ok (read.Ended why)) → GoesOn k.feed p
-    → Answered client before (after_end k p stop over at) s date Ask Ended
-ask-none client before k s date from_here why p stop over at st e o quiet reads goes = by (reader_is_lost (last_slot s.reached.slots)) refl
+    → StepIsAnswered client before (after_end k p stop over at) s date Ask Ended
+ask-none client before k s date from_here why p stop over at st e o quiet reads goes = by (last_was_abandoned (last_slot s.reached.slots)) refl
   where
     slots : List Slot
     slots = s.reached.slots
 
-    quiet_now : reader_is_held (last_slot slots) ≡ false
+    quiet_now : last_holds_reader (last_slot slots) ≡ false
     quiet_now = unheld client before k s st quiet
 
-    by : (t : Bool) → reader_is_lost (last_slot slots) ≡ t → Answered client before (after_end k p stop over at) s date Ask Ended
+    by : (t : Bool) → last_was_abandoned (last_slot slots) ≡ t → StepIsAnswered client before (after_end k p stop over at) s date Ask Ended
     by true l =
         let new : State = record { reached = record { slots = slots; rest = s.reached.rest; ended = true }; flushed = s.flushed; failure = s.failure } in
-        let G : Outcome → Type 0 = λ x. Has x s Ended new in (
+        let G : Outcome → Type 0 = λ x. HasOutcome x s Ended new in (
           new,
           record { numbers = st.numbers; shape = st.shape; ended = refl; flushed = st.flushed; reader = end-reader client before k s p stop over at s.reached.rest st quiet goes; output = st.output },
           inl (true, tt, subst G (sym (ask-lost date s.reached (st.ended ∙ e) quiet_now l)) (refl, refl, (refl, refl))),
@@ -396,16 +397,16 @@ ask-none client before k s date from_here why p stop over at st e o quiet reads 
         let F : List Item → Outcome = λ x. asks_from date Unused slots x in
         let is : ask date s.reached ≡ ends_with s.reached = ask-goes date s.reached (st.ended ∙ e) quiet_now l ∙ ap F none in
         let new : State = record { reached = record { slots = slots; rest = []; ended = true }; flushed = s.flushed; failure = s.failure } in
-        let G : Outcome → Type 0 = λ x. Has x s Ended new in (
+        let G : Outcome → Type 0 = λ x. HasOutcome x s Ended new in (
           new,
           record { numbers = st.numbers; shape = st.shape; ended = refl; flushed = st.flushed; reader = end-reader client before k s p stop over at [] st quiet goes; output = st.output },
           inl (true, tt, subst G (sym is) (refl, refl, (refl, refl))),
         )
 
 -- no memory was found
-pub ask-memory : (client : Feed) (before : Sink) (k : Kept) (s : State) (date : HttpDate) (p : Option Feed) (stop : Option Stop) (over : Bool) (at : Standing) → Stands client before k s → k.ended ≡ false → is_past_last k.standing ≡ false → streams (last_body k.requests) ≡ false → (InputEnded k → ⊥) → GoesOn k.feed p
-    → Answered client before (after_end k p stop over at) s date Ask Memory
-ask-memory client before k s date p stop over at st e o quiet open_input goes =
+pub ask-memory : (client : Feed) (before : Sink) (k : Kept) (s : State) (date : HttpDate) (p : Option Feed) (stop : Option Stop) (over : Bool) (at : Standing) → Stands client before k s → k.ended ≡ false → is_past_last k.standing ≡ false → is_streaming_body (last_body k.requests) ≡ false → is_last_slot (last_slot s.reached.slots) ≡ false → (InputEnded k → ⊥) → GoesOn k.feed p
+    → StepIsAnswered client before (after_end k p stop over at) s date Ask Memory
+ask-memory client before k s date p stop over at st e o quiet more open_input goes =
     let g = going client before k s st e o quiet open_input in
     let new : State = record { reached = record { slots = s.reached.slots; rest = s.reached.rest; ended = true }; flushed = s.flushed; failure = s.failure } in
     let R : List Slot → Reached = λ x. record { slots = x; rest = s.reached.rest; ended = true } in (
@@ -413,6 +414,7 @@ ask-memory client before k s date p stop over at st e o quiet open_input goes =
       record { numbers = st.numbers; shape = st.shape; ended = refl; flushed = st.flushed; reader = end-reader client before k s p stop over at s.reached.rest st quiet goes; output = st.output },
       inr (
         st.ended ∙ e,
+        more,
         g.unheld,
         g.kept,
         [],
@@ -439,7 +441,7 @@ refused-waits before sink e slots n failure h hidden = output-same before sink e
 record RefusedOutput (before new : Sink) (ended : Bool) (slots : List Slot) (n : Slot) (s : State) (marks : List Mark) (requests : List (Option Waiting)) : Type 0 where
   pub failure : Option Failure
   pub output : OutputAt before new ended (slots ++ (n ∷ [])) failure
-  pub writes : Writes (if turn_has_come (length s.reached.slots) s.reached.slots then Unreported else Unused) s Ended (slots ++ (n ∷ [])) Ended failure
+  pub writes : WriterPart (if turn_has_come (length s.reached.slots) s.reached.slots then Unreported else Unused) s Ended (slots ++ (n ∷ [])) Ended failure
   pub flushed : failure ≡ None → flushed_after (if turn_has_come (length s.reached.slots) s.reached.slots then Unreported else Unused) s (slots ++ (n ∷ [])) ≡ joined (slots ++ (n ∷ []))
   pub numbers : AreKept (slots ++ (n ∷ [])) marks requests
   pub shape : AreInShape marks
@@ -454,7 +456,7 @@ refuses : (before sink new : Sink) (e ended : Bool) (s : State) (marks final : L
 refuses before sink new e ended s marks final requests n text h firm kept shape over given_up whole same low leaves =
     let slots = s.reached.slots in
     let over_is = ended-is before sink e slots s.failure h in
-    let U : Bool → Option Failure → Type 0 = λ t f. Writes (if t then Unreported else Unused) s Ended (slots ++ (n ∷ [])) Ended f in
+    let U : Bool → Option Failure → Type 0 = λ t f. WriterPart (if t then Unreported else Unused) s Ended (slots ++ (n ∷ [])) Ended f in
     let L : Bool → Type 0 = λ t. flushed_after (if t then Unreported else Unused) s (slots ++ (n ∷ [])) ≡ joined (slots ++ (n ∷ [])) in
     ⊎_elim
     (λ (t : InTurn slots marks []).
@@ -488,23 +490,23 @@ refuses before sink new e ended s marks final requests n text h firm kept shape 
     (turn-at slots marks requests [] kept (shape-issued marks shape))
 
 pub ask-refused : (client : Feed) (before : Sink) (k : Kept) (s : State) (date : HttpDate) (from_here : Standing) (status : StatusCode) (text : Vec ℕ) (is_last : Bool) (p : Option Feed) (stop : Option Stop) (over : Bool) (at : Standing) (marks : List Mark) (sink : Sink) (ended : Bool) → Stands client before k s → before.failures < 2 ^ 64 - 1
-    → k.ended ≡ false → is_past_last k.standing ≡ false → streams (last_body k.requests) ≡ false → (InputEnded k → ⊥) → ReadsHead from_here date k.feed p (Ok (read.Refused status text is_last)) → GoesOn k.feed p
+    → k.ended ≡ false → is_past_last k.standing ≡ false → is_streaming_body (last_body k.requests) ≡ false → (InputEnded k → ⊥) → ReadsHead from_here date k.feed p (Ok (read.Refused status text is_last)) → GoesOn k.feed p
     → LeavesText (length k.marks == first_unfinished k.marks) k.marks [] marks text.items k.output_ended k.sink sink ended
-    → Answered client before (after_refused k marks p stop over at sink ended) s date Ask Ended
+    → StepIsAnswered client before (after_refused k marks p stop over at sink ended) s date Ask Ended
 ask-refused client before k s date from_here status text is_last p stop over at marks sink ended st low e o quiet open_input reads goes leaves =
     let g = going client before k s st e o quiet open_input in
     let P : Option Feed → Type 0 = λ y. ReadsHead from_here date y p (Ok (read.Refused status text is_last)) in
     let found = subst P g.told reads in
     let v = found.0 in
-    let first = pipeline-first g.feed.bytes g.feed.stop (refused v) None s.reached.rest found.1 g.pipeline in
+    let first = pipeline-first g.feed.bytes g.feed.stop (bad_request_item v) None s.reached.rest found.1 g.pipeline in
     let none = no-items g.feed.stop first.0 first.2 in
-    let n = new_slot date (refused v) in
+    let n = new_slot date (bad_request_item v) in
     let slots = s.reached.slots ++ (n ∷ []) in
     let F : List Item → Outcome = λ y. asks_from date Unused s.reached.slots y in
-    let is : ask date s.reached ≡ asks_from date Unused s.reached.slots (refused v ∷ []) = ask-goes date s.reached (st.ended ∙ e) g.unheld g.kept ∙ ap F (first.1 ∙ ap (λ y. refused v ∷ y) none) in
+    let is : ask date s.reached ≡ asks_from date Unused s.reached.slots (bad_request_item v ∷ []) = ask-goes date s.reached (st.ended ∙ e) g.unheld g.kept ∙ ap F (first.1 ∙ ap (λ y. bad_request_item v ∷ y) none) in
     let out = refuses before k.sink sink k.output_ended ended s k.marks marks k.requests n text.items st.output st.flushed st.numbers st.shape refl refl (refused-whole date v) (refused-text date v ∙ sym found.2) low leaves in
     let new : State = record { reached = record { slots = slots; rest = []; ended = true }; flushed = flushed_after (if turn_has_come (length s.reached.slots) s.reached.slots then Unreported else Unused) s slots; failure = out.failure } in
-    let G : Outcome → Type 0 = λ y. Has y s Ended new in
+    let G : Outcome → Type 0 = λ y. HasOutcome y s Ended new in
     let B : Option Body → Type 0 = λ b. GivesRest b (last_slot slots) p in (
       new,
       record {
@@ -523,35 +525,35 @@ ask-refused client before k s date from_here status text is_last p stop over at 
       inl (true, tt, subst G (sym is) (refl, refl, out.writes)),
     )
 
-pub ask-ended : (client : Feed) (before : Sink) (k : Kept) (s : State) (date : HttpDate) → Stands client before k s → k.ended ≡ true → Answered client before k s date Ask Ended
+pub ask-ended : (client : Feed) (before : Sink) (k : Kept) (s : State) (date : HttpDate) → Stands client before k s → k.ended ≡ true → StepIsAnswered client before k s date Ask Ended
 ask-ended client before k s date st e = step-unchanged client before k s date Ask Ended st (ask-ends date s.reached (st.ended ∙ e))
 
 -- no request follows: the last one was read, or none stands in front of the input
 pub ask-final : (client : Feed) (before : Sink) (k : Kept) (s : State) (date : HttpDate) (why : EndOfRequests) (p : Option Feed) (stop : Option Stop) (over : Bool) (at : Standing) → Stands client before k s → k.ended ≡ false → (k.standing ≡ in_place.Body → ⊥)
     → (k.standing ≡ in_place.Last → (p ≡ k.feed) × (stop ≡ k.stop) × (over ≡ k.is_over) × (at ≡ k.standing)) → (IsBeforeHead k.standing → ReadsHead k.standing date k.feed p (Ok (read.Ended why))) → GoesOn k.feed p
-    → Answered client before (after_end k p stop over at) s date Ask Ended
+    → StepIsAnswered client before (after_end k p stop over at) s date Ask Ended
 ask-final client before k s date why p stop over at st e outside left reads goes = by k.standing refl
   where
-    none : IsBeforeHead k.standing → Answered client before (after_end k p stop over at) s date Ask Ended
+    none : IsBeforeHead k.standing → StepIsAnswered client before (after_end k p stop over at) s date Ask Ended
     none here =
         let h = before-head client before k s st e here in
         ask-none client before k s date k.standing why p stop over at st e h.unread h.quiet (reads here) goes
 
-    by : (x : Standing) → k.standing ≡ x → Answered client before (after_end k p stop over at) s date Ask Ended
+    by : (x : Standing) → k.standing ≡ x → StepIsAnswered client before (after_end k p stop over at) s date Ask Ended
     by in_place.Head i = none (let P : Standing → Type 0 = λ y. IsBeforeHead y in subst P (sym i) tt)
-    by in_place.Lost i = none (let P : Standing → Type 0 = λ y. IsBeforeHead y in subst P (sym i) tt)
+    by in_place.Abandoned i = none (let P : Standing → Type 0 = λ y. IsBeforeHead y in subst P (sym i) tt)
     by (in_place.Broken kind) i = none (let P : Standing → Type 0 = λ y. IsBeforeHead y in subst P (sym i) tt)
     by in_place.Body i = absurd (outside i)
     by in_place.Last i =
         let h = left i in
-        let P : Option Feed → Option Stop → Bool → Standing → Type 0 = λ a b c d. Answered client before (after_end k a b c d) s date Ask Ended in
+        let P : Option Feed → Option Stop → Bool → Standing → Type 0 = λ a b c d. StepIsAnswered client before (after_end k a b c d) s date Ask Ended in
         subst (λ a. P a stop over at) (sym h.0) (subst (λ b. P k.feed b over at) (sym h.1) (subst (λ c. P k.feed k.stop c at) (sym h.2) (subst (λ d. P k.feed k.stop k.is_over d) (sym h.3)
         (ask-over client before k s date st e (ap is_past_last i)))))
 
 -- neither within a body nor after the last request the input stands in front of a head
 pub stands-before : (at : Standing) → (at ≡ in_place.Body → ⊥) → (at ≡ in_place.Last → ⊥) → IsBeforeHead at
 stands-before in_place.Head b l = tt
-stands-before in_place.Lost b l = tt
+stands-before in_place.Abandoned b l = tt
 stands-before (in_place.Broken kind) b l = tt
 stands-before in_place.Body b l = absurd (b refl)
 stands-before in_place.Last b l = absurd (l refl)

@@ -5,23 +5,23 @@ use Rattle.std.specs.declared.io.ErrorKind.{ErrorKind}
 use Rattle.tiny_http_wire.specs.declared.device.Stop.TheVariants.{End, Fault as Faults}
 use Rattle.tiny_http_stream.specs.declared.source.Standing.{Standing}
 use Rattle.tiny_http_stream.specs.declared.source.Standing.TheVariants as at
-use Rattle.tiny_http_stream.specs.Standing.{after_body, after_fault, after_loss}
+use Rattle.tiny_http_stream.specs.Standing.{after_body, after_fault, after_abandoned}
 use Rattle.tiny_http_wire.specs.Device.{Feed}
 use Rattle.tiny_http_message.specs.declared.waiting.Waiting.{Waiting}
 use Rattle.tiny_http_message.specs.declared.framing.Form.{Form}
-use Rattle.tiny_http_message.specs.declared.framing.Form.TheVariants.{Rest, Nothing, Held, Counted, Chunked}
+use Rattle.tiny_http_message.specs.declared.framing.Form.TheVariants.{Rest, Nothing, WithHead, Counted, Chunked}
 use Rattle.tiny_http_message.specs.declared.body.Body.{Body}
 use Rattle.tiny_http_message.specs.declared.body.Body.TheVariants as body
 use Rattle.tiny_http_stream.specs.ToCome.{skipped, stopped}
 use Rattle.tiny_http_stream.specs.Source.{SourceState, GoesOn}
-use Rattle.tiny_http_message.specs.Pipeline.{Item, Request, said_length}
-use Rattle.tiny_http_core.specs.Slots.{Slot, Stage, is_chunked, last_slot, reader_is_lost, is_last_item, is_last_slot}
+use Rattle.tiny_http_message.specs.Pipeline.{Item, Request, body_length_or_0}
+use Rattle.tiny_http_core.specs.Slots.{Slot, Stage, is_chunked, last_slot, last_was_abandoned, is_last_item, is_last_slot}
 use Rattle.tiny_http_message.specs.Body.{body_finished}
 use Rattle.tiny_http_core.specs.Steps.{finished}
 use Rattle.tiny_http_core.specs.Conversation.{PlaceAt}
 use Rattle.tiny_http_message.specs.Body.{Remaining, remaining, is_streaming, body_standing, Fits, GivesUp}
-use Rattle.tiny_http_core.specs.Pending.{last_body, streams}
-use Rattle.tiny_http_core.specs.Connection.{Kept, open_slot, IsWaiting, IsSettled, AreSettled, behind_body, slot_rest, GivesRest, is_past_last, is_in_body, NextHead, Reader}
+use Rattle.tiny_http_core.specs.Pending.{last_body, is_streaming_body}
+use Rattle.tiny_http_core.specs.Connection.{Kept, open_slot, IsWaiting, IsSettled, AreSettled, behind_body, slot_rest, GivesRest, is_past_last, is_in_body, NextHead, InputStands}
 use Rattle.tiny_http_stream.proofs.GoingOn.{goes-on_more}
 use Rattle.tiny_http_core.proofs.AskLemmas.{told-feed}
 use Rattle.tiny_http_message.proofs.BodyReads.{gives-up}
@@ -35,27 +35,27 @@ over-kept : (form : Form) (n given : ℕ) (told : Bool) → body_finished form n
 over-kept Chunked n given told h lost = let no : true ≡ false = sym lost ∙ rw h refl in cc
 over-kept Rest n given told h lost = cc
 over-kept Nothing n given told h lost = cc
-over-kept Held n given told h lost = cc
+over-kept WithHead n given told h lost = cc
 over-kept Counted n given told h lost = cc
 
 -- behind a chunked body that was given up before its end no head follows
-lost-chunked : {R : Type 0} (b : Body) (old new : SourceState R) (f : Feed) (r : Request) (given : ℕ) (told : Bool) → Fits b r.framing.form (said_length r.framing) given told → GivesUp b old new → old.feed ≡ Some f
+lost-chunked : {R : Type 0} (b : Body) (old new : SourceState R) (f : Feed) (r : Request) (given : ℕ) (told : Bool) → Fits b r.framing.form (body_length_or_0 r.framing) given told → GivesUp b old new → old.feed ≡ Some f
     → (is_chunked r.framing.form && not told) ≡ true → ((new.is_over ≡ true) × (new.stop ≡ Some End)) × (new.feed ≡ Some (stopped End))
 lost-chunked {R = R} (body.Chunked d) old new f r given told fits h e lost = (h.1, h.0 ∙ ap (λ (o : Option Feed). option_map (λ _. stopped End) o) e)
 lost-chunked {R = R} (body.Counted left) old new f r given told fits h e lost = let no : true ≡ false = sym lost ∙ rw fits.0 refl in cc
-lost-chunked {R = R} (body.Held bytes) old new f r given told fits h e lost = let no : true ≡ false = sym lost ∙ rw fits refl in cc
-lost-chunked {R = R} (body.Over stop) old new f r given told fits h e lost = absurd (over-kept r.framing.form (said_length r.framing) given told fits lost)
+lost-chunked {R = R} (body.WithHead bytes) old new f r given told fits h e lost = let no : true ≡ false = sym lost ∙ rw fits refl in cc
+lost-chunked {R = R} (body.Over stop) old new f r given told fits h e lost = absurd (over-kept r.framing.form (body_length_or_0 r.framing) given told fits lost)
 
 -- where the next head is read behind a body that was given up
-given-place : {R : Type 0} (b : Body) (old new : SourceState R) (f : Feed) (r : Request) (given : ℕ) (told over : Bool) (rest : List Item) → Fits b r.framing.form (said_length r.framing) given told → GivesUp b old new → old.feed ≡ Some f
+given-place : {R : Type 0} (b : Body) (old new : SourceState R) (f : Feed) (r : Request) (given : ℕ) (told over : Bool) (rest : List Item) → Fits b r.framing.form (body_length_or_0 r.framing) given told → GivesUp b old new → old.feed ≡ Some f
     → (is_streaming b ≡ false → (g : Feed) → behind_body (Some b) (Some g) ≡ Some g) → (is_chunked r.framing.form && not told) ≡ false → PlaceAt over (behind_body (Some b) old.feed) rest → PlaceAt over new.feed rest
 given-place b old new f r given told true rest fits h e quiet kept place = place
 given-place {R = R} (body.Over stop) old new f r given told false rest fits h e quiet kept place =
     let P : Option Feed → Type 0 = λ o. PlaceAt false o rest in
     subst P (ap (behind_body (Some (body.Over stop))) e ∙ quiet refl f ∙ sym e ∙ ap (λ (x : SourceState R). x.feed) (sym h)) place
-given-place {R = R} (body.Held bytes) old new f r given told false rest fits h e quiet kept place =
+given-place {R = R} (body.WithHead bytes) old new f r given told false rest fits h e quiet kept place =
     let P : Option Feed → Type 0 = λ o. PlaceAt false o rest in
-    subst P (ap (behind_body (Some (body.Held bytes))) e ∙ quiet refl f ∙ sym e ∙ ap (λ (x : SourceState R). x.feed) (sym h)) place
+    subst P (ap (behind_body (Some (body.WithHead bytes))) e ∙ quiet refl f ∙ sym e ∙ ap (λ (x : SourceState R). x.feed) (sym h)) place
 given-place {R = R} (body.Counted left) old new f r given told false rest fits h e quiet kept place =
     let P : Option Feed → Type 0 = λ o. PlaceAt false o rest in
     let skips : behind_body (Some (body.Counted left)) old.feed ≡ option_map (skipped left) old.feed = rw e refl in
@@ -68,53 +68,53 @@ past-body : (p : Standing) → is_past_last (after_body p) ≡ is_past_last p
 past-body at.Head = refl
 past-body at.Body = refl
 past-body at.Last = refl
-past-body at.Lost = refl
+past-body at.Abandoned = refl
 past-body (at.Broken kind) = refl
 
-past-loss : (p : Standing) → is_past_last (after_loss p) ≡ is_past_last p
+past-loss : (p : Standing) → is_past_last (after_abandoned p) ≡ is_past_last p
 past-loss at.Head = refl
 past-loss at.Body = refl
 past-loss at.Last = refl
-past-loss at.Lost = refl
+past-loss at.Abandoned = refl
 past-loss (at.Broken kind) = refl
 
 past-fault : (kind : ErrorKind) (p : Standing) → is_past_last (after_fault kind p) ≡ is_past_last p
 past-fault kind at.Head = refl
 past-fault kind at.Body = refl
 past-fault kind at.Last = refl
-past-fault kind at.Lost = refl
+past-fault kind at.Abandoned = refl
 past-fault kind (at.Broken k) = refl
 
 out-body : (p : Standing) → is_in_body (after_body p) ≡ false
 out-body at.Head = refl
 out-body at.Body = refl
 out-body at.Last = refl
-out-body at.Lost = refl
+out-body at.Abandoned = refl
 out-body (at.Broken kind) = refl
 
-out-loss : (p : Standing) → is_in_body (after_loss p) ≡ false
+out-loss : (p : Standing) → is_in_body (after_abandoned p) ≡ false
 out-loss at.Head = refl
 out-loss at.Body = refl
 out-loss at.Last = refl
-out-loss at.Lost = refl
+out-loss at.Abandoned = refl
 out-loss (at.Broken kind) = refl
 
 out-fault : (kind : ErrorKind) (p : Standing) → is_in_body (after_fault kind p) ≡ false
 out-fault kind at.Head = refl
 out-fault kind at.Body = refl
 out-fault kind at.Last = refl
-out-fault kind at.Lost = refl
+out-fault kind at.Abandoned = refl
 out-fault kind (at.Broken k) = refl
 
 given-past : {R : Type 0} (b : Body) (old new : SourceState R) → GivesUp b old new → is_past_last new.standing ≡ is_past_last old.standing
 given-past {R = R} (body.Over stop) old new h = ap (λ (x : SourceState R). is_past_last x.standing) h
-given-past {R = R} (body.Held bytes) old new h = ap (λ (x : SourceState R). is_past_last x.standing) h
+given-past {R = R} (body.WithHead bytes) old new h = ap (λ (x : SourceState R). is_past_last x.standing) h
 given-past (body.Counted left) old new h = ap is_past_last h.1 ∙ past-body old.standing
 given-past (body.Chunked d) old new h = ap is_past_last h.2 ∙ past-loss old.standing
 
 given-within : {R : Type 0} (b : Body) (old new : SourceState R) (last : Bool) → GivesUp b old new → is_in_body old.standing ≡ (not last && is_streaming b) → is_in_body new.standing ≡ false
 given-within {R = R} (body.Over stop) old new last h e = ap (λ (x : SourceState R). is_in_body x.standing) h ∙ e ∙ and-false (not last)
-given-within {R = R} (body.Held bytes) old new last h e = ap (λ (x : SourceState R). is_in_body x.standing) h ∙ e ∙ and-false (not last)
+given-within {R = R} (body.WithHead bytes) old new last h e = ap (λ (x : SourceState R). is_in_body x.standing) h ∙ e ∙ and-false (not last)
 given-within (body.Counted left) old new last h e = ap is_in_body h.1 ∙ out-body old.standing
 given-within (body.Chunked d) old new last h e = ap is_in_body h.2 ∙ out-loss old.standing
 
@@ -126,7 +126,7 @@ pub record StandsOn (c : Body) (p q : Standing) (last : Bool) : Type 0 where
 stands-by : (c : Body) (p : Standing) (last : Bool) → is_in_body p ≡ (not last && true) → StandsOn c p (body_standing c p) last
 stands-by (body.Over End) p last e = record { past = past-body p; within = out-body p ∙ sym (and-false (not last)) }
 stands-by (body.Over (Faults kind)) p last e = record { past = past-fault kind p; within = out-fault kind p ∙ sym (and-false (not last)) }
-stands-by (body.Held bytes) p last e = record { past = past-body p; within = out-body p ∙ sym (and-false (not last)) }
+stands-by (body.WithHead bytes) p last e = record { past = past-body p; within = out-body p ∙ sym (and-false (not last)) }
 stands-by (body.Counted left) p last e = record { past = refl; within = e }
 stands-by (body.Chunked d) p last e = record { past = refl; within = e }
 
@@ -143,7 +143,7 @@ stands-on b c p q last goes settled stays e = by (is_streaming b) refl
 -- a body that isn't read from the input leaves it
 given-same : {R : Type 0} (b : Body) (old new : SourceState R) → GivesUp b old new → is_streaming b ≡ false → new ≡ old
 given-same (body.Over stop) old new h e = h
-given-same (body.Held bytes) old new h e = h
+given-same (body.WithHead bytes) old new h e = h
 given-same (body.Counted left) old new h e = cc
 given-same (body.Chunked d) old new h e = cc
 
@@ -152,24 +152,24 @@ pub next-same : (k q : Kept) (o u : Option Slot) (rest : List Item) → q.standi
 next-same k q o u rest standing last content feed stop ends n =
     let P : Bool → Option Body → Option Feed → Type 0 = λ x y z. PlaceAt x (behind_body y z) rest in
     let over : is_past_last q.standing ≡ is_past_last k.standing = ap is_past_last standing in
-    let W : Option Slot → Option Body → Bool = λ x y. not (is_last_slot x) && streams y in
+    let W : Option Slot → Option Body → Bool = λ x y. not (is_last_slot x) && is_streaming_body y in
     record {
       is_last = over ∙ n.is_last ∙ ap is_last_slot (sym last);
       within = ap is_in_body standing ∙ n.within ∙ ap (λ y. W o y) (sym content) ∙ ap (λ x. W x (last_body q.requests)) (sym last);
-      lost = λ l. (let m = n.lost (ap reader_is_lost (sym last) ∙ l) in ((ends ∙ m.0.0, stop ∙ m.0.1), feed ∙ m.1));
-      place = λ l. subst (λ x. P x (last_body q.requests) q.feed) (sym over) (subst (λ y. P (is_past_last k.standing) y q.feed) (sym content) (subst (λ z. P (is_past_last k.standing) (last_body k.requests) z) (sym feed) (n.place (ap reader_is_lost (sym last) ∙ l))));
+      lost = λ l. (let m = n.lost (ap last_was_abandoned (sym last) ∙ l) in ((ends ∙ m.0.0, stop ∙ m.0.1), feed ∙ m.1));
+      place = λ l. subst (λ x. P x (last_body q.requests) q.feed) (sym over) (subst (λ y. P (is_past_last k.standing) y q.feed) (sym content) (subst (λ z. P (is_past_last k.standing) (last_body k.requests) z) (sym feed) (n.place (ap last_was_abandoned (sym last) ∙ l))));
     }
 
 -- the connection's input is this source
-pub record ReadsFrom {R : Type 0} (k : Kept) (source : SourceState R) : Type 0 where
+pub record IsInput {R : Type 0} (k : Kept) (source : SourceState R) : Type 0 where
   pub feed : k.feed ≡ source.feed
   pub stop : k.stop ≡ source.stop
   pub ends : k.is_over ≡ source.is_over
   pub standing : k.standing ≡ source.standing
 
 -- a step of a number that isn't the last, which leaves the input
-pub reader-within : {R : Type 0} (client : Feed) (k : Kept) (source : SourceState R) (bs cs : List Slot) (us vs : List (Option Waiting)) (rest : List Item) (s t c : Slot) (v x u : Option Waiting) → ReadsFrom k source → Reader client k (bs ++ (s ∷ (c ∷ cs))) rest
-    → k.requests ≡ us ++ (u ∷ (v ∷ vs)) → IsSettled x → Reader client (with_reader k (us ++ (x ∷ (v ∷ vs))) source) (bs ++ (t ∷ (c ∷ cs))) rest
+pub reader-within : {R : Type 0} (client : Feed) (k : Kept) (source : SourceState R) (bs cs : List Slot) (us vs : List (Option Waiting)) (rest : List Item) (s t c : Slot) (v x u : Option Waiting) → IsInput k source → InputStands client k (bs ++ (s ∷ (c ∷ cs))) rest
+    → k.requests ≡ us ++ (u ∷ (v ∷ vs)) → IsSettled x → InputStands client (with_reader k (us ++ (x ∷ (v ∷ vs))) source) (bs ++ (t ∷ (c ∷ cs))) rest
 reader-within client k source bs cs us vs rest s t c v x u from reader is quiet =
     let last : last_slot (bs ++ (t ∷ (c ∷ cs))) ≡ last_slot (bs ++ (s ∷ (c ∷ cs))) = last-within None bs t s c cs in
     let content : last_body (us ++ (x ∷ (v ∷ vs))) ≡ last_body k.requests = body-within us x u v vs ∙ ap last_body (sym is) in
@@ -193,7 +193,7 @@ pub record LastWaits {R : Type 0} (k : Kept) (source : SourceState R) (bs : List
   pub within : k.ended ≡ false → is_in_body source.standing ≡ (not (is_last_item s.item) && is_streaming w.body)
   pub place : k.ended ≡ false → PlaceAt (is_past_last source.standing) (behind_body (Some w.body) source.feed) rest
 
-pub last-waits : {R : Type 0} (client : Feed) (k : Kept) (source : SourceState R) (bs : List Slot) (us : List (Option Waiting)) (rest : List Item) (s : Slot) (w : Waiting) → IsWaiting s w → ReadsFrom k source → Reader client k (bs ++ (s ∷ [])) rest → k.requests ≡ us ++ (Some w ∷ [])
+pub last-waits : {R : Type 0} (client : Feed) (k : Kept) (source : SourceState R) (bs : List Slot) (us : List (Option Waiting)) (rest : List Item) (s : Slot) (w : Waiting) → IsWaiting s w → IsInput k source → InputStands client k (bs ++ (s ∷ [])) rest → k.requests ≡ us ++ (Some w ∷ [])
     → LastWaits k source bs s w rest
 last-waits client k source bs us rest s w h from reader is =
     let f = told-feed client k.feed reader.source in
@@ -202,7 +202,7 @@ last-waits client k source bs us rest s w h from reader is =
     let G : Option Body → Option Slot → Option Feed → Type 0 = λ b o z. GivesRest b o z in
     let P : Bool → Option Body → Option Feed → Type 0 = λ x y z. PlaceAt x (behind_body y z) rest in
     let over : is_past_last k.standing ≡ is_past_last source.standing = ap is_past_last from.standing in
-    let W : Option Slot → Option Body → Bool = λ x y. not (is_last_slot x) && streams y in
+    let W : Option Slot → Option Body → Bool = λ x y. not (is_last_slot x) && is_streaming_body y in
     record {
       feed = f.0;
       told = sym from.feed ∙ f.1;
@@ -210,13 +210,13 @@ last-waits client k source bs us rest s w h from reader is =
       gives = subst (λ b. G b (Some s) source.feed) content (subst (λ o. G (last_body k.requests) o source.feed) last (subst (λ z. G (last_body k.requests) (last_slot (bs ++ (s ∷ []))) z) from.feed reader.gives));
       is_last = λ e. sym over ∙ (reader.next e).is_last ∙ ap is_last_slot last;
       within = λ e. ap is_in_body (sym from.standing) ∙ (reader.next e).within ∙ ap (λ x. W x (last_body k.requests)) last ∙ ap (λ y. W (Some s) y) content;
-      place = λ e. subst (λ x. P x (Some w.body) source.feed) over (subst (λ z. P (is_past_last k.standing) (Some w.body) z) from.feed (subst (λ y. P (is_past_last k.standing) y k.feed) content ((reader.next e).place (ap reader_is_lost last ∙ waiting-kept s w h))));
+      place = λ e. subst (λ x. P x (Some w.body) source.feed) over (subst (λ z. P (is_past_last k.standing) (Some w.body) z) from.feed (subst (λ y. P (is_past_last k.standing) y k.feed) content ((reader.next e).place (ap last_was_abandoned last ∙ waiting-kept s w h))));
     }
 
 -- the last number's body is given up
-reader-last : {R : Type 0} (client : Feed) (k : Kept) (old new : SourceState R) (bs : List Slot) (us : List (Option Waiting)) (rest : List Item) (s : Slot) (w : Waiting) (stage : Stage) → (h : IsWaiting s w) → ReadsFrom k old → Reader client k (bs ++ (s ∷ [])) rest
+reader-last : {R : Type 0} (client : Feed) (k : Kept) (old new : SourceState R) (bs : List Slot) (us : List (Option Waiting)) (rest : List Item) (s : Slot) (w : Waiting) (stage : Stage) → (h : IsWaiting s w) → IsInput k old → InputStands client k (bs ++ (s ∷ [])) rest
     → k.requests ≡ us ++ (Some w ∷ []) → GivesUp w.body old new
-    → Reader client (with_reader k (us ++ (None ∷ [])) new) (bs ++ (finished (open_slot h.date h.request h.given h.told) stage ∷ [])) rest
+    → InputStands client (with_reader k (us ++ (None ∷ [])) new) (bs ++ (finished (open_slot h.date h.request h.given h.told) stage ∷ [])) rest
 reader-last client k old new bs us rest s w stage h from reader is gives =
     let t = finished (open_slot h.date h.request h.given h.told) stage in
     let r = h.request in
@@ -226,7 +226,7 @@ reader-last client k old new bs us rest s w stage h from reader is gives =
     let A : List (Option Waiting) → Type 0 = λ x. AreSettled x in
     let G : Option Body → Type 0 = λ b. GivesRest b (last_slot (bs ++ (t ∷ []))) new.feed in
     let P : Bool → Option Body → Type 0 = λ x b. PlaceAt x (behind_body b new.feed) rest in
-    let W : Option Body → Bool = λ y. not (is_last_slot (last_slot (bs ++ (t ∷ [])))) && streams y in
+    let W : Option Body → Bool = λ y. not (is_last_slot (last_slot (bs ++ (t ∷ [])))) && is_streaming_body y in
     let past : is_past_last new.standing ≡ is_past_last old.standing = given-past w.body old new gives in
     let S : Option Feed → Type 0 = λ f. GoesOn f new.feed in
     let B : Option Remaining → Option Feed = λ o. option_map (λ (x : Remaining). x.behind) o in
@@ -236,17 +236,17 @@ reader-last client k old new bs us rest s w stage h from reader is gives =
       next = λ e. record {
         is_last = past ∙ l.is_last e ∙ ap (λ (x : Slot). is_last_item x.item) h.is ∙ ap is_last_slot (sym last);
         within = given-within w.body old new (is_last_item s.item) gives (l.within e) ∙ sym (ap W content ∙ and-false (not (is_last_slot (last_slot (bs ++ (t ∷ []))))));
-        lost = λ lost. lost-chunked w.body old new l.feed r h.given h.told h.fits gives l.told (sym (ap reader_is_lost last) ∙ lost);
+        lost = λ lost. lost-chunked w.body old new l.feed r h.given h.told h.fits gives l.told (sym (ap last_was_abandoned last) ∙ lost);
         place = λ kept. subst (λ x. P x (last_body (us ++ (None ∷ [])))) (sym past) (subst (λ y. P (is_past_last old.standing) y) (sym content)
-            (given-place w.body old new l.feed r h.given h.told (is_past_last old.standing) rest h.fits gives l.told (λ quiet f. ap B (h.settled quiet f)) (sym (ap reader_is_lost last) ∙ kept) (l.place e)));
+            (given-place w.body old new l.feed r h.given h.told (is_past_last old.standing) rest h.fits gives l.told (λ quiet f. ap B (h.settled quiet f)) (sym (ap last_was_abandoned last) ∙ kept) (l.place e)));
       };
       source = goes-on_more (Some client) k.feed new.feed reader.source (subst S (sym from.feed) (gives-up w.body old new gives));
     }
 
 -- A number's body is given up. `bs`, `cs`: the numbers before and behind; `us`, `vs`: what is kept of them.
-pub reader-given_up : {R : Type 0} (client : Feed) (k : Kept) (old new : SourceState R) (bs cs : List Slot) (us vs : List (Option Waiting)) (rest : List Item) (s : Slot) (w : Waiting) (stage : Stage) → (h : IsWaiting s w) → ReadsFrom k old → Reader client k (bs ++ (s ∷ cs)) rest
+pub reader-given_up : {R : Type 0} (client : Feed) (k : Kept) (old new : SourceState R) (bs cs : List Slot) (us vs : List (Option Waiting)) (rest : List Item) (s : Slot) (w : Waiting) (stage : Stage) → (h : IsWaiting s w) → IsInput k old → InputStands client k (bs ++ (s ∷ cs)) rest
     → k.requests ≡ us ++ (Some w ∷ vs) → length cs ≡ length vs → GivesUp w.body old new
-    → Reader client (with_reader k (us ++ (None ∷ vs)) new) (bs ++ (finished (open_slot h.date h.request h.given h.told) stage ∷ cs)) rest
+    → InputStands client (with_reader k (us ++ (None ∷ vs)) new) (bs ++ (finished (open_slot h.date h.request h.given h.told) stage ∷ cs)) rest
 reader-given_up client k old new bs [] us [] rest s w stage h from reader is same gives = reader-last client k old new bs us rest s w stage h from reader is gives
 reader-given_up client k old new bs [] us (v ∷ vs) rest s w stage h from reader is same gives = absurd (omega (arith, same))
 reader-given_up client k old new bs (c ∷ cs) us [] rest s w stage h from reader is same gives = absurd (omega (arith, same))
@@ -254,5 +254,5 @@ reader-given_up {R = R} client k old new bs (c ∷ cs) us (v ∷ vs) rest s w st
     let A : List (Option Waiting) → Type 0 = λ x. AreSettled x in
     let quiet = settled-place us (Some w) v vs (subst A is reader.settled) in
     let t = finished (open_slot h.date h.request h.given h.told) stage in
-    let P : SourceState R → Type 0 = λ x. Reader client (with_reader k (us ++ (None ∷ (v ∷ vs))) x) (bs ++ (t ∷ (c ∷ cs))) rest in
+    let P : SourceState R → Type 0 = λ x. InputStands client (with_reader k (us ++ (None ∷ (v ∷ vs))) x) (bs ++ (t ∷ (c ∷ cs))) rest in
     subst P (sym (given-same w.body old new gives quiet)) (reader-within client k old bs cs us vs rest s t c v None (Some w) from reader is tt)

@@ -5,15 +5,15 @@ use Rattle.tiny_http_core.specs.ClientAnswer.{ClientAnswer, ReadsAnswer, Lack, U
 use Rattle.tiny_http_core.specs.ClientReading.{AnswerRead, answer_read}
 use Rattle.tiny_http_core.proofs.ClientLemmas.{AnswerIs, answer-is, answer-one, answer-fault}
 
-abbrev Stands : Method → List ℕ → Type 0
-Stands m bytes = (a : ClientAnswer) × (rest : List ℕ) × ReadsAnswer m bytes a rest
+abbrev StandsAnswer : Method → List ℕ → Type 0
+StandsAnswer m bytes = (a : ClientAnswer) × (rest : List ℕ) × ReadsAnswer m bytes a rest
 
-three : (m : Method) (bytes : List ℕ) (r : AnswerRead) → AnswerIs m bytes r → Stands m bytes ⊎ (UnfinishedAnswer m bytes ⊎ MalformedAnswer m bytes)
+three : (m : Method) (bytes : List ℕ) (r : AnswerRead) → AnswerIs m bytes r → StandsAnswer m bytes ⊎ (UnfinishedAnswer m bytes ⊎ MalformedAnswer m bytes)
 three m bytes (Ok a) h = inl (a.0, a.1, h)
 three m bytes (Err Unfinished) h = inr (inl h)
 three m bytes (Err Invalid) h = inr (inr h)
 
-pub answer-some : (m : Method) (bytes : List ℕ) → Stands m bytes ⊎ (UnfinishedAnswer m bytes ⊎ MalformedAnswer m bytes)
+pub answer-some : (m : Method) (bytes : List ℕ) → StandsAnswer m bytes ⊎ (UnfinishedAnswer m bytes ⊎ MalformedAnswer m bytes)
 answer-some m bytes = three m bytes (answer_read m bytes) (answer-is m bytes)
 
 ok-parts : (a b : ClientAnswer) (rest other : List ℕ) → ◌≡◌ {A = AnswerRead} (Ok (a, rest)) (Ok (b, other)) → (a ≡ b) × (rest ≡ other)

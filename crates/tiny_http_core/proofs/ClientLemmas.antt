@@ -12,10 +12,10 @@ use Rattle.tiny_http_wire.specs.declared.common.Method.{Method}
 use Rattle.tiny_http_wire.specs.declared.device.Stop.TheVariants.{End}
 use Rattle.tiny_http_wire.specs.Bytes.{is_ascii, AreAscii, colon, space}
 use Rattle.tiny_http_wire.specs.Lines.{Line, has_crlf}
-use Rattle.tiny_http_wire.specs.Chunks.{CutChunks, Remainder, NoSizeLine, BadSize, CutData, NoClose, CutTrailer, LongTrailer, Breaks, LineFault, CloseFault}
+use Rattle.tiny_http_wire.specs.Chunks.{CutChunks, Remainder, NoSizeLine, BadSize, CutData, NoClose, CutTrailer, LongTrailer, RemainderBreaks, ChunkLineFault, CloseFault}
 use Rattle.tiny_http_wire.specs.Reading.{line}
 use Rattle.tiny_http_wire.specs.ChunkReading.{decoded, Decoded}
-use Rattle.tiny_http_core.specs.ClientAnswer.{StatusLine, FieldLine, BeginsWithFieldLines, AnswerHead, BeginsWithHead, is_interim, PassesOver, Extent, NoBody, InChunks, OfLength, Untold, extent, BeginsWithBody, ClientAnswer, ReadsAnswer, Lack, Unfinished, Invalid, LacksLine, IsStatusLine, IsFieldLineOrEmpty, LacksHead, LacksBody, LacksAnswer}
+use Rattle.tiny_http_core.specs.ClientAnswer.{StatusLine, FieldLine, BeginsWithFieldLines, AnswerHead, BeginsWithAnswerHead, is_interim, PassesOver, Extent, NoBody, OfChunks, OfLength, Untold, extent, BeginsWithBody, ClientAnswer, ReadsAnswer, Lack, Unfinished, Invalid, LacksLine, IsStatusLine, IsFieldLineOrEmpty, LacksHead, LacksBody, LacksAnswer}
 use Rattle.tiny_http_core.specs.ClientReading.{status_line_read, field_line_read, FieldLinesRead, with_field_line, field_line_checked, field_line_at, field_line_in, field_lines_read, AnswerHeadRead, with_field_lines, status_line_checked, status_line_in, answer_head_read, AnswerBodyRead, lack_of, chunks_read, front_read, answer_body_read, AnswerRead, with_head, behind_head, answer_at, answer_within, answer_read}
 use Rattle.tiny_http_head.proofs.LineLemmas.{line-is, line-one, line-none}
 use Rattle.tiny_http_head.proofs.HeadLemmas.{line-shorter}
@@ -84,7 +84,7 @@ fewer_than : (n m k : ℕ) → n + m ≤ k → n < k + 1
 fewer_than n m k h = omega arith
 
 -- what follows a head is shorter
-pub head-shorter : (bytes : List ℕ) (h : AnswerHead) (after : List ℕ) → BeginsWithHead bytes h after → length after < length bytes
+pub head-shorter : (bytes : List ℕ) (h : AnswerHead) (after : List ℕ) → BeginsWithAnswerHead bytes h after → length after < length bytes
 head-shorter bytes h after a =
     let s = line-shorter bytes a.starts.0 a.fields a.starts.1 in
     let k = fields-fewer a.fields a.empty h.headers a.names in
@@ -92,7 +92,7 @@ head-shorter bytes h after a =
     omega arith
 
 -- a head is read as it stands
-pub head-one : (bytes : List ℕ) (h : AnswerHead) (after : List ℕ) → BeginsWithHead bytes h after → answer_head_read bytes ≡ Ok (h, after)
+pub head-one : (bytes : List ℕ) (h : AnswerHead) (after : List ℕ) → BeginsWithAnswerHead bytes h after → answer_head_read bytes ≡ Ok (h, after)
 head-one bytes h after a =
     let s = a.starts in
     let few = fewer_than (length h.headers) (length a.empty) (length a.fields) (fields-fewer a.fields a.empty h.headers a.names) in
@@ -167,7 +167,7 @@ fields-are (suc fuel) bytes lt = field-in-are fuel bytes lt (fields-are fuel) (l
 
 -- what is read of a head stands there
 abbrev pub HeadIs : List ℕ → AnswerHeadRead → Type 0
-HeadIs bytes r = MatchResult r (λ p. BeginsWithHead bytes p.0 p.1) (LacksHead bytes)
+HeadIs bytes r = MatchResult r (λ p. BeginsWithAnswerHead bytes p.0 p.1) (LacksHead bytes)
 
 with-fields-are : (bytes text rest : List ℕ) (s : HTTPVersion × ℕ) (f : FieldLinesRead) → Line bytes text rest → AreAscii text → StatusLine text s.0 s.1
     → MatchResult f (GoodFields rest) (BadFields rest) → HeadIs bytes (with_field_lines s f)
@@ -188,7 +188,7 @@ pub head-is : (bytes : List ℕ) → HeadIs bytes (answer_head_read bytes)
 head-is bytes = start-in-are bytes (line bytes) (line-is bytes)
 
 -- The fault of a chunked body whose bytes end is one of two.
-line-kind : (bytes : List ℕ) (kind : ErrorKind) → LineFault bytes End kind → (kind ≡ InvalidData) ⊎ (kind ≡ UnexpectedEof)
+line-kind : (bytes : List ℕ) (kind : ErrorKind) → ChunkLineFault bytes End kind → (kind ≡ InvalidData) ⊎ (kind ≡ UnexpectedEof)
 line-kind bytes kind h = ⊎_elim (λ k. inl k.1) (λ k. inr k.1) h.1
 
 close-kind : (close : List ℕ) (kind : ErrorKind) → CloseFault close End kind → (kind ≡ InvalidData) ⊎ (kind ≡ UnexpectedEof)
@@ -196,7 +196,7 @@ close-kind [] kind h = inr h
 close-kind (a ∷ []) kind h = ⊎_elim (λ k. inr k.1) (λ k. inl k.1) h
 close-kind (a ∷ b ∷ bs) kind h = inl h.1
 
-breaks-kind : (way : Remainder) (bytes part : List ℕ) (kind : ErrorKind) → Breaks way bytes End part kind → (kind ≡ InvalidData) ⊎ (kind ≡ UnexpectedEof)
+breaks-kind : (way : Remainder) (bytes part : List ℕ) (kind : ErrorKind) → RemainderBreaks way bytes End part kind → (kind ≡ InvalidData) ⊎ (kind ≡ UnexpectedEof)
 breaks-kind NoSizeLine bytes part kind h = line-kind bytes kind h.1
 breaks-kind (BadSize text rest) bytes part kind h = inl h.4
 breaks-kind (CutData text size) bytes part kind h = inr h.4
@@ -208,15 +208,15 @@ breaks-kind (LongTrailer last trailers next) bytes part kind h = inl h.5
 abbrev pub BodyIs : Extent → List ℕ → AnswerBodyRead → Type 0
 BodyIs e bytes r = MatchResult r (λ b. BeginsWithBody e bytes b.0 b.1) (LacksBody e bytes)
 
-lack-is : (bytes body : List ℕ) (kind : ErrorKind) → CutChunks bytes End body kind → LacksBody InChunks bytes (lack_of kind)
+lack-is : (bytes body : List ℕ) (kind : ErrorKind) → CutChunks bytes End body kind → LacksBody OfChunks bytes (lack_of kind)
 lack-is bytes body kind f =
-    let P : ErrorKind → Type 0 = λ k. LacksBody InChunks bytes (lack_of k) in
+    let P : ErrorKind → Type 0 = λ k. LacksBody OfChunks bytes (lack_of k) in
     ⊎_elim
     (λ e. subst P (sym e) (body, subst (λ k. CutChunks bytes End body k) e f))
     (λ e. subst P (sym e) (body, subst (λ k. CutChunks bytes End body k) e f))
     (breaks-kind f.way f.rest f.part kind f.breaks)
 
-chunks-are : (bytes body : List ℕ) (r : Result (List ℕ) ErrorKind) → IsDecoded bytes End (made body r) → BodyIs InChunks bytes (chunks_read body r)
+chunks-are : (bytes body : List ℕ) (r : Result (List ℕ) ErrorKind) → IsDecoded bytes End (made body r) → BodyIs OfChunks bytes (chunks_read body r)
 chunks-are bytes body (Ok rest) h = h
 chunks-are bytes body (Err kind) h = lack-is bytes body kind h
 
@@ -228,7 +228,7 @@ sized-are n bytes false e =
 
 pub body-is : (e : Extent) (bytes : List ℕ) → BodyIs e bytes (answer_body_read e bytes)
 body-is NoBody bytes = (refl, refl)
-body-is InChunks bytes = let d = decoded (length bytes + 1) End bytes in chunks-are bytes d.body d.ends (decoded-is (length bytes + 1) bytes End (omega arith))
+body-is OfChunks bytes = let d = decoded (length bytes + 1) End bytes in chunks-are bytes d.body d.ends (decoded-is (length bytes + 1) bytes End (omega arith))
 body-is (OfLength n) bytes = sized-are n bytes (nat_lt (length bytes) n) refl
 body-is Untold bytes = tt
 
@@ -237,7 +237,7 @@ chunks-read-at d e h = ap (λ (x : Decoded). chunks_read x.body x.ends) h
 
 pub body-one : (e : Extent) (bytes body rest : List ℕ) → BeginsWithBody e bytes body rest → answer_body_read e bytes ≡ Ok (body, rest)
 body-one NoBody bytes body rest h = rw (h.0, h.1) refl
-body-one InChunks bytes body rest h = chunks-read-at (decoded (length bytes + 1) End bytes) (made body (Ok rest)) (decoded-one bytes body rest End h)
+body-one OfChunks bytes body rest h = chunks-read-at (decoded (length bytes + 1) End bytes) (made body (Ok rest)) (decoded-one bytes body rest End h)
 body-one (OfLength n) bytes body rest h =
     let enough : n ≤ length bytes = omega (arith, ap length h.0 ∙ length-append body rest, h.1) in
     let front : take n bytes ≡ body = rw (h.0, sym h.1) (take-front body rest) in
@@ -255,8 +255,8 @@ body-one Untold bytes body rest h = elim h [ ]
 
 pub body-fault : (e : Extent) (bytes : List ℕ) (t : Lack) → LacksBody e bytes t → answer_body_read e bytes ≡ Err t
 body-fault NoBody bytes t h = elim h [ ]
-body-fault InChunks bytes Unfinished h = chunks-read-at (decoded (length bytes + 1) End bytes) (made h.0 (Err UnexpectedEof)) (decoded-front bytes h.0 End UnexpectedEof h.1)
-body-fault InChunks bytes Invalid h = chunks-read-at (decoded (length bytes + 1) End bytes) (made h.0 (Err InvalidData)) (decoded-front bytes h.0 End InvalidData h.1)
+body-fault OfChunks bytes Unfinished h = chunks-read-at (decoded (length bytes + 1) End bytes) (made h.0 (Err UnexpectedEof)) (decoded-front bytes h.0 End UnexpectedEof h.1)
+body-fault OfChunks bytes Invalid h = chunks-read-at (decoded (length bytes + 1) End bytes) (made h.0 (Err InvalidData)) (decoded-front bytes h.0 End InvalidData h.1)
 body-fault (OfLength n) bytes Unfinished h = rw (lt-ltb (length bytes) n h) refl
 body-fault (OfLength n) bytes Invalid h = elim h [ ]
 body-fault Untold bytes Unfinished h = elim h [ ]
@@ -266,16 +266,16 @@ body-fault Untold bytes Invalid h = refl
 abbrev pub AnswerIs : Method → List ℕ → AnswerRead → Type 0
 AnswerIs m bytes r = MatchResult r (λ a. ReadsAnswer m bytes a.0 a.1) (LacksAnswer m bytes)
 
-with-head-are : (m : Method) (bytes after : List ℕ) (h : AnswerHead) → BeginsWithHead bytes h after → is_interim h.status ≡ false → (r : AnswerBodyRead) → BodyIs (extent m h) after r → AnswerIs m bytes (with_head h r)
+with-head-are : (m : Method) (bytes after : List ℕ) (h : AnswerHead) → BeginsWithAnswerHead bytes h after → is_interim h.status ≡ false → (r : AnswerBodyRead) → BodyIs (extent m h) after r → AnswerIs m bytes (with_head h r)
 with-head-are m bytes after h a e (Ok b) k = record { interim = []; start = bytes; after = after; passes = refl; has_head = a; is_final = e; has_body = k }
 with-head-are m bytes after h a e (Err t) k = ([], bytes, refl, inr (h, after, a, e, k))
 
 -- one more head in front
-passed-more : (m : Method) (bytes after : List ℕ) (h : AnswerHead) → BeginsWithHead bytes h after → is_interim h.status ≡ true → (r : AnswerRead) → AnswerIs m after r → AnswerIs m bytes r
+passed-more : (m : Method) (bytes after : List ℕ) (h : AnswerHead) → BeginsWithAnswerHead bytes h after → is_interim h.status ≡ true → (r : AnswerRead) → AnswerIs m after r → AnswerIs m bytes r
 passed-more m bytes after h a e (Ok x) k = record { interim = h ∷ k.interim; start = k.start; after = k.after; passes = (after, a, e, k.passes); has_head = k.has_head; is_final = k.is_final; has_body = k.has_body }
 passed-more m bytes after h a e (Err t) k = (h ∷ k.0, k.1, (after, a, e, k.2), k.3)
 
-head-passed-are : (fuel : ℕ) (m : Method) (bytes after : List ℕ) (h : AnswerHead) → BeginsWithHead bytes h after → (length after < fuel → AnswerIs m after (answer_within fuel m after)) → length bytes < suc fuel
+head-passed-are : (fuel : ℕ) (m : Method) (bytes after : List ℕ) (h : AnswerHead) → BeginsWithAnswerHead bytes h after → (length after < fuel → AnswerIs m after (answer_within fuel m after)) → length bytes < suc fuel
     → (t : Bool) → is_interim h.status ≡ t → AnswerIs m bytes (behind_head (answer_within fuel m) m h after t)
 head-passed-are fuel m bytes after h a go lt true e = let s = head-shorter bytes h after a in passed-more m bytes after h a e (answer_within fuel m after) (go (omega arith))
 head-passed-are fuel m bytes after h a go lt false e = with-head-are m bytes after h a e (answer_body_read (extent m h) after) (body-is (extent m h) after)
@@ -309,7 +309,7 @@ passes-in (suc n) m bytes start [] r p lt k =
 passes-in (suc n) m bytes start (h ∷ hs) r p lt k =
     rw (head-one bytes h p.0 p.1, p.2) (passes-in n m p.0 start hs r p.3 (omega arith) k)
 
-final-one : (n : ℕ) (m : Method) (start after : List ℕ) (a : ClientAnswer) (rest : List ℕ) → BeginsWithHead start a.head after → is_interim a.head.status ≡ false → BeginsWithBody (extent m a.head) after a.body rest → answer_within (suc n) m start ≡ Ok (a, rest)
+final-one : (n : ℕ) (m : Method) (start after : List ℕ) (a : ClientAnswer) (rest : List ℕ) → BeginsWithAnswerHead start a.head after → is_interim a.head.status ≡ false → BeginsWithBody (extent m a.head) after a.body rest → answer_within (suc n) m start ≡ Ok (a, rest)
 final-one n m start after a rest h e b = rw (head-one start a.head after h, e, body-one (extent m a.head) after a.body rest b) refl
 
 pub answer-one : (m : Method) (bytes : List ℕ) (a : ClientAnswer) (rest : List ℕ) → ReadsAnswer m bytes a rest → answer_read m bytes ≡ Ok (a, rest)
@@ -320,7 +320,7 @@ answer-one m bytes a rest h =
 start-lacks : (n : ℕ) (m : Method) (start : List ℕ) (t : Lack) → LacksHead start t → answer_within (suc n) m start ≡ Err t
 start-lacks n m start t h = rw (head-fault start t h) refl
 
-final-lacks : (n : ℕ) (m : Method) (start after : List ℕ) (h : AnswerHead) (t : Lack) → BeginsWithHead start h after → is_interim h.status ≡ false → LacksBody (extent m h) after t → answer_within (suc n) m start ≡ Err t
+final-lacks : (n : ℕ) (m : Method) (start after : List ℕ) (h : AnswerHead) (t : Lack) → BeginsWithAnswerHead start h after → is_interim h.status ≡ false → LacksBody (extent m h) after t → answer_within (suc n) m start ≡ Err t
 final-lacks n m start after h t a e b = rw (head-one start h after a, e, body-fault (extent m h) after t b) refl
 
 pub answer-fault : (m : Method) (bytes : List ℕ) (t : Lack) → LacksAnswer m bytes t → answer_read m bytes ≡ Err t

@@ -15,15 +15,17 @@ use Rattle.tiny_http_core.specs.declared.pending.Pending.{Pending}
 use Rattle.tiny_http_stream.specs.Source.{SourceState, GoesOn}
 use Rattle.tiny_http_stream.specs.Outlet.{OutletState, output_of, SentOn}
 use Rattle.tiny_http_core.specs.Slots.{ResponseValue}
-use Rattle.tiny_http_core.specs.Steps.{Asked, Ask, Read, Respond, Drop, Replied, Fault}
-use Rattle.tiny_http_core.specs.Conversation.{State, Dated, IsFresh, start}
+use Rattle.tiny_http_core.specs.Steps.{StepValue, Ask, Read, Respond, Drop, ReplyValue, Fault}
+use Rattle.tiny_http_core.specs.Conversation.{State, TimedValue, IsFresh, start_state}
 use Rattle.tiny_http_wire.specs.declared.coding.Coding.{Coding}
 use Rattle.tiny_http_core.specs.Sending.{FailsOnceUnlessEnded, IsHonest}
-use Rattle.tiny_http_core.specs.Seen.{seen, IsResponse, IsStep, IsTold, MayFail, TellsHonestly, IsAnswered}
-use Rattle.tiny_http_message.specs.Body.{GivesUp}
+use Rattle.tiny_http_core.specs.Seen.{seen, IsResponse, IsStep, IsTimedStep, MayFail, TellsHonestly, IsAnswered}
+use Rattle.tiny_http_message.specs.declared.body.Body.{Body}
+use Rattle.tiny_http_message.specs.Body.{GivesUp, is_streaming, body_standing}
+use Rattle.std.specs.Prelude.{MatchBool}
 use Rattle.tiny_http_core.specs.Connection.{Kept, ConnectionState, kept, Stands}
-use Rattle.tiny_http_core.specs.Driving.{HasDone, TakesStep, AskEnds, StepEnds, IsDeclined, told_response, told_step, StepLeaves, AskLeaves, LetsGo}
-use Rattle.tiny_http_core.proofs.AskLemmas.{Answered}
+use Rattle.tiny_http_core.specs.Driving.{HasDone, TakesStep, AskEnds, StepEnds, IsDeclined, told_response, told_step, StepLeaves, AskLeaves, LetsGo, StandsAfter}
+use Rattle.tiny_http_core.proofs.AskLemmas.{StepIsAnswered}
 use Rattle.tiny_http_stream.proofs.GoingOn.{goes-on_same}
 use Rattle.tiny_http_core.proofs.StepLemmas.{is-ask, is-read, is-respond, is-drop, step-ask, step-read, step-respond, step-drop}
 use Rattle.tiny_http_turns.specs.Turns.{Mark}
@@ -36,8 +38,8 @@ use Rattle.tiny_http_wire.specs.declared.common.StatusCode.{StatusCode}
 use Rattle.tiny_http_message.specs.declared.exchange.HeadRead.TheVariants as read
 use Rattle.tiny_http_message.specs.declared.exchange.EndOfRequests.TheVariants as because
 use Rattle.tiny_http_message.specs.HeadReads.{ReadsHead, EndsAt, IsBeforeHead}
-use Rattle.tiny_http_message.specs.Pipeline.{BadRequest}
-use Rattle.tiny_http_core.specs.Driving.{IsRefusal, IsEndAt}
+use Rattle.tiny_http_message.specs.Pipeline.{BadRequest, OneHead}
+use Rattle.tiny_http_core.specs.Driving.{IsRefusal, EndsRequestsAt}
 use Rattle.tiny_http_message.specs.PipelineReading.{items_of}
 use Rattle.tiny_http_message.proofs.PipelineLemmas.{feed-pipeline}
 use Rattle.tiny_http_core.proofs.RunLemmas.{run-more, stands-begun, fails-step, split}
@@ -64,19 +66,19 @@ refusal-at at date o p status text last h f e =
     let r = subst P e h in
     (status, BadRequest, r.0, false, r.1, r.4, refl)
 
-end-at : (at : Standing) (date : HttpDate) (o p : Option Feed) (why : EndOfRequests) → ReadsHead at date o p (Ok (read.Ended why)) → (f : Feed) → o ≡ Some f → EndsAt at f.bytes f.stop why
-end-at at date o p why h f e = let P : Option Feed → Type 0 = λ y. ReadsHead at date y p (Ok (read.Ended why)) in (subst P e h).1
+end-at : (at : Standing) (date : HttpDate) (o p : Option Feed) (why : EndOfRequests) → ReadsHead at date o p (Ok (read.Ended why)) → (f : Feed) → o ≡ Some f → OneHead f.bytes f.stop None None × EndsAt at f.bytes f.stop why
+end-at at date o p why h f e = let P : Option Feed → Type 0 = λ y. ReadsHead at date y p (Ok (read.Ended why)) in subst P e h
 
-pub end-refused : (at : Standing) (date : HttpDate) (o p : Option Feed) (status : StatusCode) (text : Vec ℕ) (last : Bool) → IsBeforeHead at → ReadsHead at date o p (Ok (read.Refused status text last)) → IsEndAt at o (because.Refused status)
+pub end-refused : (at : Standing) (date : HttpDate) (o p : Option Feed) (status : StatusCode) (text : Vec ℕ) (last : Bool) → IsBeforeHead at → ReadsHead at date o p (Ok (read.Refused status text last)) → EndsRequestsAt at o (because.Refused status)
 end-refused place.Head date o p status text last here h = λ f e. inl (refusal-at place.Head date o p status text last h f e)
-end-refused place.Lost date o p status text last here h = λ f e. inl (refusal-at place.Lost date o p status text last h f e)
+end-refused place.Abandoned date o p status text last here h = λ f e. inl (refusal-at place.Abandoned date o p status text last h f e)
 end-refused (place.Broken kind) date o p status text last here h = λ f e. inl (refusal-at (place.Broken kind) date o p status text last h f e)
 end-refused place.Body date o p status text last here h = elim here [ ]
 end-refused place.Last date o p status text last here h = elim here [ ]
 
-pub end-final : (at : Standing) (date : HttpDate) (o p : Option Feed) (why : EndOfRequests) → (at ≡ place.Body → ⊥) → (at ≡ place.Last → why ≡ because.LastRequest) → (IsBeforeHead at → ReadsHead at date o p (Ok (read.Ended why))) → IsEndAt at o why
+pub end-final : (at : Standing) (date : HttpDate) (o p : Option Feed) (why : EndOfRequests) → (at ≡ place.Body → ⊥) → (at ≡ place.Last → why ≡ because.LastRequest) → (IsBeforeHead at → ReadsHead at date o p (Ok (read.Ended why))) → EndsRequestsAt at o why
 end-final place.Head date o p why outside last h = λ f e. inr (end-at place.Head date o p why (h tt) f e)
-end-final place.Lost date o p why outside last h = λ f e. inr (end-at place.Lost date o p why (h tt) f e)
+end-final place.Abandoned date o p why outside last h = λ f e. inr (end-at place.Abandoned date o p why (h tt) f e)
 end-final (place.Broken kind) date o p why outside last h = λ f e. inr (end-at (place.Broken kind) date o p why (h tt) f e)
 end-final place.Body date o p why outside last h = absurd (outside refl)
 end-final place.Last date o p why outside last h = last refl
@@ -106,8 +108,8 @@ reads-on {W = W} old new e h =
 pub stays : {R W : Type 0} (c : ConnectionState R W) → Moves c c
 stays c = reads-on c c refl (goes-on_same c.source.feed)
 
-pub takes : {R W : Type 0} (old new : ConnectionState R W) (now : HttpDate) (x : Step (Option Feed)) (reply : Replied)
-    → ((client : Feed) (before : Sink) (s : State) (asked : Asked) → before.failures < 2 ^ 64 - 1 → IsStep (λ f. f) x asked → Stands client before (kept old) s → Answered client before (kept new) s now asked reply)
+pub takes : {R W : Type 0} (old new : ConnectionState R W) (now : HttpDate) (x : Step (Option Feed)) (reply : ReplyValue)
+    → ((client : Feed) (before : Sink) (s : State) (asked : StepValue) → before.failures < 2 ^ 64 - 1 → IsStep (λ f. f) x asked → Stands client before (kept old) s → StepIsAnswered client before (kept new) s now asked reply)
     → (IsDeclined x reply → new ≡ old) → StepEnds x old new reply → StepLeaves x old new reply → Moves old new → ((kind : ErrorKind) → reply ≡ Fault kind → MayFail (λ f. f) (output_of old.outlet) (output_of new.outlet) x kind) → TakesStep old new now x reply
 takes old new now x reply answers declined ends leaves moves honest =
     record {
@@ -132,36 +134,44 @@ gives-up-kept old new o w e h x f =
     let is : w ≡ x = cc in
     subst U is h
 
+-- where the source stands after a read
+pub stands-after : {R : Type 0} (was body : Body) (old new : SourceState R) → (is_streaming was ≡ false → new ≡ old) → (is_streaming was ≡ true → new.standing ≡ body_standing body old.standing) → StandsAfter was body old new
+stands-after was body old new same moves = by (is_streaming was) same moves
+  where
+    by : (b : Bool) → (b ≡ false → new ≡ old) → (b ≡ true → new.standing ≡ body_standing body old.standing) → MatchBool b (new.standing ≡ body_standing body old.standing) (new ≡ old)
+    by true same moves = moves refl
+    by false same moves = same refl
+
 -- no fault is told
-abbrev pub TellsNone : Replied → Type 0
+abbrev pub TellsNone : ReplyValue → Type 0
 TellsNone reply = (kind : ErrorKind) → reply ≡ Fault kind → ⊥
 
-pub takes-ask : {R W : Type 0} (old new : ConnectionState R W) (now : HttpDate) (reply : Replied)
-    → ((client : Feed) (before : Sink) (s : State) → before.failures < 2 ^ 64 - 1 → Stands client before (kept old) s → Answered client before (kept new) s now Ask reply)
+pub takes-ask : {R W : Type 0} (old new : ConnectionState R W) (now : HttpDate) (reply : ReplyValue)
+    → ((client : Feed) (before : Sink) (s : State) → before.failures < 2 ^ 64 - 1 → Stands client before (kept old) s → StepIsAnswered client before (kept new) s now Ask reply)
     → (IsDeclined step.Ask reply → new ≡ old) → AskEnds old new reply → AskLeaves old new reply → Moves old new → TellsNone reply → TakesStep old new now step.Ask reply
 takes-ask old new now reply answers declined ends leaves moves none =
     takes old new now step.Ask reply
     (λ client before s asked low is st. step-ask {D = Option Feed} (λ f. f) client before (kept new) s now (now, asked) step.Ask reply refl refl is (answers client before s low st))
     declined ends leaves moves (λ kind e. absurd (none kind e))
 
-pub takes-drop : {R W : Type 0} (old new : ConnectionState R W) (now : HttpDate) (n : ℕ) (reply : Replied)
-    → ((client : Feed) (before : Sink) (s : State) → before.failures < 2 ^ 64 - 1 → Stands client before (kept old) s → Answered client before (kept new) s now (Drop n) reply)
+pub takes-drop : {R W : Type 0} (old new : ConnectionState R W) (now : HttpDate) (n : ℕ) (reply : ReplyValue)
+    → ((client : Feed) (before : Sink) (s : State) → before.failures < 2 ^ 64 - 1 → Stands client before (kept old) s → StepIsAnswered client before (kept new) s now (Drop n) reply)
     → (IsDeclined (step.Drop n) reply → new ≡ old) → new.end ≡ old.end → (IsAnswered reply → LetsGo n old new) → Moves old new → TellsNone reply → TakesStep old new now (step.Drop n) reply
 takes-drop old new now n reply answers declined ends leaves moves none =
     takes old new now (step.Drop n) reply
     (λ client before s asked low is st. step-drop {D = Option Feed} (λ f. f) client before (kept new) s (now, asked) (step.Drop n) n reply refl is (answers client before s low st))
     declined ends leaves moves (λ kind e. absurd (none kind e))
 
-pub takes-read : {R W : Type 0} (old new : ConnectionState R W) (now : HttpDate) (n m : ℕ) (reply : Replied)
-    → ((client : Feed) (before : Sink) (s : State) → Stands client before (kept old) s → Answered client before (kept new) s now (Read n m) reply)
+pub takes-read : {R W : Type 0} (old new : ConnectionState R W) (now : HttpDate) (n m : ℕ) (reply : ReplyValue)
+    → ((client : Feed) (before : Sink) (s : State) → Stands client before (kept old) s → StepIsAnswered client before (kept new) s now (Read n m) reply)
     → (IsDeclined (step.Read n m) reply → new ≡ old) → new.end ≡ old.end → StepLeaves (step.Read n m) old new reply → Moves old new → TakesStep old new now (step.Read n m) reply
 takes-read old new now n m reply answers declined ends leaves moves =
     takes old new now (step.Read n m) reply
     (λ client before s asked low is st. step-read {D = Option Feed} (λ f. f) client before (kept new) s (now, asked) (step.Read n m) n m reply refl is (answers client before s st))
     declined ends leaves moves (λ kind e. tt)
 
-pub takes-respond : {R W D : Type 0} (feed : D → Option Feed) (old new : ConnectionState R W) (now : HttpDate) (n : ℕ) (r : ResponseState D) (reply : Replied)
-    → ((client : Feed) (before : Sink) (s : State) (value : ResponseValue) → before.failures < 2 ^ 64 - 1 → IsResponse feed r value → Stands client before (kept old) s → Answered client before (kept new) s now (Respond n value) reply)
+pub takes-respond : {R W D : Type 0} (feed : D → Option Feed) (old new : ConnectionState R W) (now : HttpDate) (n : ℕ) (r : ResponseState D) (reply : ReplyValue)
+    → ((client : Feed) (before : Sink) (s : State) (value : ResponseValue) → before.failures < 2 ^ 64 - 1 → IsResponse feed r value → Stands client before (kept old) s → StepIsAnswered client before (kept new) s now (Respond n value) reply)
     → (IsDeclined (step.Respond n (told_response feed r)) reply → new ≡ old) → new.end ≡ old.end → (IsAnswered reply → LetsGo n old new) → Moves old new → ((kind : ErrorKind) → reply ≡ Fault kind → MayFail (λ f. f) (output_of old.outlet) (output_of new.outlet) (step.Respond n (told_response feed r)) kind)
     → TakesStep old new now (step.Respond n (told_response feed r)) reply
 takes-respond feed old new now n r reply answers declined ends leaves moves honest =
@@ -175,7 +185,7 @@ pub begins : {R W : Type 0} (client : Feed) (before : Sink) (writer : W) (c : Co
 begins {W = W} client before writer c m r o e feed stop outlet fresh =
     let K : List Mark → List (Option Waiting) → Standing → Option EndOfRequests → Option Stop → OutletState W → Kept = λ m r o e s w.
     record { marks = m; requests = r; standing = o; ended = is_some e; feed = c.source.feed; stop = s; is_over = c.source.is_over; sink = output_of w; output_ended = w.ended } in
-    let S : Kept → Type 0 = λ k. Stands client before k (start (items_of client)) in
+    let S : Kept → Type 0 = λ k. Stands client before k (start_state (items_of client)) in
     let none : OutletState W = record { held = []; ended = false; writer = writer; tells = before } in
     let st = stands-begun client c.source.feed c.source.is_over before (items_of client) feed fresh (feed-pipeline client) in
     let st1 = subst (λ w. S (K [] [] place.Head None None w)) (sym outlet) st in
@@ -184,7 +194,7 @@ begins {W = W} client before writer c m r o e feed stop outlet fresh =
     let st4 = subst (λ x. S (K [] [] x c.end c.source.stop c.outlet)) (sym o) st3 in
     let st5 = subst (λ x. S (K [] x c.source.standing c.end c.source.stop c.outlet)) (sym r) st4 in
     let st6 = subst (λ x. S (K x c.requests c.source.standing c.end c.source.stop c.outlet)) (sym m) st5 in
-    record { fresh = fresh; items = items_of client; pipeline = feed-pipeline client; at = start (items_of client); run = refl; stands = st6 }
+    record { fresh = fresh; items = items_of client; pipeline = feed-pipeline client; at = start_state (items_of client); run = refl; stands = st6 }
 
 -- two calls, where behind a fault of the first the output has ended
 pub fails-more : (was mid ended : Bool) (a b c : Sink) → FailsOnceUnlessEnded was a b mid → FailsOnceUnlessEnded mid b c ended → FailsOnceUnlessEnded was a c ended
@@ -198,7 +208,7 @@ honest-more true ended a b c coding known feed kind e k (inr h) = inr h
 honest-more false ended a b c coding known feed kind e k h = let no : false ≡ true = e in cc
 
 -- a step, and what it is in place of its data
-is-told : {D : Type 0} (feed : D → Option Feed) (x : Step D) (asked : Asked) → IsStep feed x asked → IsStep (λ f. f) (told_step feed x) asked
+is-told : {D : Type 0} (feed : D → Option Feed) (x : Step D) (asked : StepValue) → IsStep feed x asked → IsStep (λ f. f) (told_step feed x) asked
 is-told feed step.Ask asked h = subst (λ y. (let a : Step (Option Feed) = step.Ask in IsStep (λ f. f) a y)) (sym (is-ask feed asked h)) tt
 is-told feed (step.Read k n) asked h = subst (λ y. (let a : Step (Option Feed) = step.Read k n in IsStep (λ f. f) a y)) (sym (is-read feed k n asked h)) (refl, refl)
 is-told feed (step.Respond k r) asked h =
@@ -215,15 +225,15 @@ may-fail feed a b (step.Drop k) kind h = h
 pub tells-step : {D : Type 0} (feed : D → Option Feed) (a b : Sink) (t : Timed D) (reply : Reply) → ((kind : ErrorKind) → seen reply ≡ Fault kind → MayFail (λ f. f) a b (told_step feed t.step) kind) → TellsHonestly feed a b t reply
 tells-step feed a b t reply h kind e = may-fail feed a b t.step kind (h kind e)
 
-pub done-none : {R W X : Type 0} (told : X → Dated → Type 0) (client : Feed) (before : Sink) (c : ConnectionState R W) (dated : List Dated) → HasDone client before c [] [] → AllZip told [] dated → HasDone client before c dated []
+pub done-none : {R W X : Type 0} (told : X → TimedValue → Type 0) (client : Feed) (before : Sink) (c : ConnectionState R W) (dated : List TimedValue) → HasDone client before c [] [] → AllZip told [] dated → HasDone client before c dated []
 done-none told client before c [] h t = h
 done-none told client before c (d ∷ ds) h t = elim t [ ]
 
-pub done-step : {R W D : Type 0} (feed : D → Option Feed) (client : Feed) (before : Sink) (old new : ConnectionState R W) (t : Timed D) (done : List (Timed D)) (replies : List Replied) (reply : Replied) (dated : List Dated)
-    → ((ds : List Dated) → AllZip (IsTold feed) done ds → HasDone client before old ds replies) → TakesStep old new t.now (told_step feed t.step) reply → AllZip (IsTold feed) (done ++ t ∷ []) dated
+pub done-step : {R W D : Type 0} (feed : D → Option Feed) (client : Feed) (before : Sink) (old new : ConnectionState R W) (t : Timed D) (done : List (Timed D)) (replies : List ReplyValue) (reply : ReplyValue) (dated : List TimedValue)
+    → ((ds : List TimedValue) → AllZip (IsTimedStep feed) done ds → HasDone client before old ds replies) → TakesStep old new t.now (told_step feed t.step) reply → AllZip (IsTimedStep feed) (done ++ t ∷ []) dated
     → HasDone client before new dated (replies ++ reply ∷ [])
 done-step feed client before old new t done replies reply dated has step told =
-    let p = split (IsTold feed) done t dated told in
+    let p = split (IsTimedStep feed) done t dated told in
     let more = step.does client before p.front replies p.last.1 (is-told feed t.step p.last.1 p.one.1) (has p.front p.all) in
-    let H : List Dated → Type 0 = λ ds. HasDone client before new ds (replies ++ reply ∷ []) in
+    let H : List TimedValue → Type 0 = λ ds. HasDone client before new ds (replies ++ reply ∷ []) in
     subst H (sym p.joins) (subst (λ (x : HttpDate). H (p.front ++ (x, p.last.1) ∷ [])) (sym p.one.0) more)

@@ -7,25 +7,25 @@ use Rattle.httpdate.specs.declared.date.HttpDate.{HttpDate}
 use Rattle.tiny_http_wire.specs.Device.{Feed, Sink}
 use Rattle.tiny_http_message.specs.declared.waiting.Waiting.{Waiting}
 use Rattle.tiny_http_message.specs.Pipeline.{Request}
-use Rattle.tiny_http_core.specs.Slots.{Slot, Waits, Answered as AnsweredBy, ByServer, Raw, Upgraded, is_finished, joined, breaks_off, turn_has_come}
+use Rattle.tiny_http_core.specs.Slots.{Slot, Unanswered, StepIsAnswered as AnsweredBy, ByServer, Raw, Upgraded, is_finished, joined, is_output_broken, turn_has_come}
 use Rattle.tiny_http_core.specs.Steps.{Drop, Done, Outcome, Reached, changes, use_in_turn, at_slot, at_number}
-use Rattle.tiny_http_core.specs.Conversation.{Failure, State, flushed_after, Writes, Has}
+use Rattle.tiny_http_core.specs.Conversation.{Failure, State, flushed_after, WriterPart, HasOutcome}
 use Rattle.tiny_http_core.proofs.WritingLemmas.{FailsBetween, unreported, still-flushed}
 use Rattle.tiny_http_core.specs.Sending.{CanSend}
 use Rattle.tiny_http_turns.specs.Turns.{Mark, Open, Left, Finished, AreInShape, first_unfinished}
-use Rattle.tiny_http_core.specs.Pending.{left_text, passed, LeavesText}
-use Rattle.tiny_http_core.specs.Connection.{Kept, open_slot, dropped, AreKept, OutputAt, Reader, Stands}
+use Rattle.tiny_http_core.specs.Pending.{left_text, with_left_finished, LeavesText}
+use Rattle.tiny_http_core.specs.Connection.{Kept, open_slot, dropped, AreKept, OutputAt, InputStands, Stands}
 use Rattle.tiny_http_stream.specs.Source.{SourceState}
 use Rattle.tiny_http_message.specs.Body.{GivesUp}
-use Rattle.tiny_http_core.proofs.BodySteps.{ReadsFrom, with_reader, reader-given_up}
-use Rattle.tiny_http_core.proofs.AskLemmas.{Answered, dropped-whole}
+use Rattle.tiny_http_core.proofs.BodySteps.{IsInput, with_reader, reader-given_up}
+use Rattle.tiny_http_core.proofs.AskLemmas.{StepIsAnswered, dropped-whole}
 use Rattle.tiny_http_core.proofs.SlotLemmas.{joined-hidden, joined-waits, breaks-hidden}
-use Rattle.tiny_http_core.proofs.KeptLemmas.{kept-append, kept-passed, kept-many, Place, place-of, InTurn, OutOfTurn, turn-at}
-use Rattle.tiny_http_core.proofs.OutputLemmas.{behind, ended-is, output-same, can-send, output-more}
+use Rattle.tiny_http_core.proofs.KeptLemmas.{kept-append, kept-passed, kept-many, KeptAt, place-of, InTurn, OutOfTurn, turn-at}
+use Rattle.tiny_http_core.proofs.OutputLemmas.{joined_behind, ended-is, output-same, can-send, output-more}
 use Rattle.tiny_http_core.proofs.RespondLemmas.{TakesNone, SlotAt, slot-at, set-place, output-before, after_number, reader-after}
 
 pub drop-not_taken : (n : ℕ) → TakesNone (Drop n)
-drop-not_taken n Waits owed e = cc
+drop-not_taken n Unanswered owed e = cc
 drop-not_taken n (AnsweredBy r d f) owed e = refl
 drop-not_taken n ByServer owed e = refl
 drop-not_taken n (Raw w c) owed e = refl
@@ -40,23 +40,23 @@ at-drop date asked old n r given told t e turn =
 record DropSaid (before new : Sink) (ended : Bool) (slots : List Slot) (old : State) (t : Bool) (final : List Mark) (requests : List (Option Waiting)) : Type 0 where
   pub failure : Option Failure
   pub output : OutputAt before new ended slots failure
-  pub writes : Writes (use_in_turn t) old Done slots Done failure
+  pub writes : WriterPart (use_in_turn t) old Done slots Done failure
   pub flushed : failure ≡ None → flushed_after (use_in_turn t) old slots ≡ joined slots
   pub numbers : AreKept slots final requests
   pub shape : AreInShape final
 
 -- the connection behind a drop, by what is said of it
 drop-stands : {R : Type 0} (client : Feed) (before : Sink) (k : Kept) (s : State) (date asked : HttpDate) (n : ℕ) (r : Request) (given : ℕ) (told : Bool) (new : Sink) (ended : Bool) (final : List Mark) (requests : List (Option Waiting)) (source : SourceState R) (bs cs : List Slot) (t : Bool)
-    → Stands client before k s → SlotAt s.reached.slots bs cs (open_slot asked r given told) n → list_all is_finished bs ≡ t → Reader client (with_reader k requests source) (bs ++ (dropped asked r given told ∷ cs)) s.reached.rest
-    → DropSaid before new ended (bs ++ (dropped asked r given told ∷ cs)) s t final requests → Answered client before (after_number k final requests source new ended) s date (Drop n) Done
+    → Stands client before k s → SlotAt s.reached.slots bs cs (open_slot asked r given told) n → list_all is_finished bs ≡ t → InputStands client (with_reader k requests source) (bs ++ (dropped asked r given told ∷ cs)) s.reached.rest
+    → DropSaid before new ended (bs ++ (dropped asked r given told ∷ cs)) s t final requests → StepIsAnswered client before (after_number k final requests source new ended) s date (Drop n) Done
 drop-stands client before k s date asked n r given told new ended final requests source bs cs t st at turn reader said =
     let s1 = dropped asked r given told in
     let slots = bs ++ (s1 ∷ cs) in
     let is = at-drop date asked s.reached n r given told t at.get (at.turn ∙ turn) in
     let new_state : State = record { reached = record { slots = slots; rest = s.reached.rest; ended = s.reached.ended }; flushed = flushed_after (use_in_turn t) s slots; failure = said.failure } in
     let R : List Slot → Reached = λ l. record { slots = l; rest = s.reached.rest; ended = s.reached.ended } in
-    let W : List Slot → Type 0 = λ l. Writes (use_in_turn t) s Done l Done said.failure in
-    let G : Outcome → Type 0 = λ x. Has x s Done new_state in (
+    let W : List Slot → Type 0 = λ l. WriterPart (use_in_turn t) s Done l Done said.failure in
+    let G : Outcome → Type 0 = λ x. HasOutcome x s Done new_state in (
       new_state,
       record {
         numbers = said.numbers;
@@ -69,16 +69,16 @@ drop-stands client before k s date asked n r given told new ended final requests
       inl (true, tt, subst G (sym is) (ap R (sym (at.set s1)), ap (flushed_after (use_in_turn t) s) (sym (at.set s1)), subst W (sym (at.set s1)) said.writes)),
     )
 
-pub drop-done : {R : Type 0} (client : Feed) (before : Sink) (k : Kept) (s : State) (date : HttpDate) (n : ℕ) (w : Waiting) (new : Sink) (ended : Bool) (final : List Mark) (requests : List (Option Waiting)) (old source : SourceState R) → Stands client before k s → ReadsFrom k old → GivesUp w.body old source → before.failures < 2 ^ 64 - 1
+pub drop-done : {R : Type 0} (client : Feed) (before : Sink) (k : Kept) (s : State) (date : HttpDate) (n : ℕ) (w : Waiting) (new : Sink) (ended : Bool) (final : List Mark) (requests : List (Option Waiting)) (old source : SourceState R) → Stands client before k s → IsInput k old → GivesUp w.body old source → before.failures < 2 ^ 64 - 1
     → slice_get k.requests n ≡ Some (Some w) → requests ≡ slice_set k.requests n None
     → ((front rest : List Mark) → k.marks ≡ front ++ (Open ∷ rest) → length front ≡ n → (k.output_ended ≡ false → CanSend k.sink) → LeavesText (n == first_unfinished k.marks) front rest final w.dropped.items k.output_ended k.sink new ended)
-    → Answered client before (after_number k final requests source new ended) s date (Drop n) Done
+    → StepIsAnswered client before (after_number k final requests source new ended) s date (Drop n) Done
 drop-done {R = R} client before k s date n w new ended final requests old source st from gives low e requests_are leaves = ⊎_elim in-turn out-of-turn (turn-at p.bs p.fs p.us p.rs p.before (subst S p.marks_are st.shape))
   where
     S : List Mark → Type 0
     S m = AreInShape m
 
-    p : Place s.reached.slots k.marks k.requests n w
+    p : KeptAt s.reached.slots k.marks k.requests n w
     p = place-of s.reached.slots k.marks k.requests n w st.numbers e
 
     r : Request
@@ -99,10 +99,10 @@ drop-done {R = R} client before k s date n w new ended final requests old source
     requests_now : requests ≡ p.us ++ (None ∷ p.vs)
     requests_now = requests_are ∙ set-place k.requests p.us p.vs n (Some w) None p.requests_are p.requests_before
 
-    reader : Reader client (with_reader k requests source) (p.bs ++ (s1 ∷ p.cs)) s.reached.rest
+    reader : InputStands client (with_reader k requests source) (p.bs ++ (s1 ∷ p.cs)) s.reached.rest
     reader =
-        let P : List Slot → Type 0 = λ l. Reader client k l s.reached.rest in
-        let Q : List (Option Waiting) → Type 0 = λ q. Reader client (with_reader k q source) (p.bs ++ (s1 ∷ p.cs)) s.reached.rest in
+        let P : List Slot → Type 0 = λ l. InputStands client k l s.reached.rest in
+        let Q : List (Option Waiting) → Type 0 = λ q. InputStands client (with_reader k q source) (p.bs ++ (s1 ∷ p.cs)) s.reached.rest in
         subst Q (sym requests_now) (reader-given_up client k old source p.bs p.cs p.us p.vs s.reached.rest p.s w ByServer p.waiting from (subst P p.slots_are st.reader) p.requests_are (kept-many p.cs p.rs p.vs p.behind) gives)
 
     out : OutputAt before k.sink k.output_ended p.bs s.failure
@@ -117,14 +117,14 @@ drop-done {R = R} client before k s date n w new ended final requests old source
         let Q : List (Option Waiting) → Type 0 = λ y. AreKept (p.bs ++ (s1 ∷ p.cs)) (p.fs ++ (m ∷ rs)) y in
         subst M (sym f) (subst Q (sym requests_now) h)
 
-    ends : (t : Bool) → list_all is_finished p.bs ≡ t → DropSaid before new ended (p.bs ++ (s1 ∷ p.cs)) s t final requests → Answered client before (after_number k final requests source new ended) s date (Drop n) Done
+    ends : (t : Bool) → list_all is_finished p.bs ≡ t → DropSaid before new ended (p.bs ++ (s1 ∷ p.cs)) s t final requests → StepIsAnswered client before (after_number k final requests source new ended) s date (Drop n) Done
     ends t turn said = drop-stands client before k s date asked n r p.waiting.given p.waiting.told new ended final requests source p.bs p.cs t st (slot-at s.reached.slots p.bs p.cs s0 n slots_are p.slots_before) turn reader said
 
-    in-turn : InTurn p.bs p.fs p.rs → Answered client before (after_number k final requests source new ended) s date (Drop n) Done
+    in-turn : InTurn p.bs p.fs p.rs → StepIsAnswered client before (after_number k final requests source new ended) s date (Drop n) Done
     in-turn t =
         let come : (n == first_unfinished k.marks) ≡ true = eq-eqb n (first_unfinished k.marks) (sym p.marks_before ∙ t.turn ∙ ap first_unfinished (sym p.marks_are)) in
         let l = subst (λ (b : Bool). LeavesText b p.fs p.rs final w.dropped.items k.output_ended k.sink new ended) come left in
-        let b = behind p.cs p.rs p.vs t.waiting p.behind in
+        let b = joined_behind p.cs p.rs p.vs t.waiting p.behind in
         let whole = dropped-whole asked r p.waiting.given p.waiting.told in
         let text : joined (s1 ∷ p.cs) ≡ w.dropped.items ++ left_text p.rs = rw whole (ap (λ y. y ++ joined p.cs) (sym p.waiting.text) ∙ ap (λ y. w.dropped.items ++ y) b.0) in
         let go = output-more before k.sink new k.output_ended ended p.bs (s1 ∷ p.cs) (w.dropped.items ++ left_text p.rs) s.failure out t.finished text (rw whole b.1) low l.1 l.2 in
@@ -137,11 +137,11 @@ drop-done {R = R} client before k s date n w new ended final requests old source
           output = go.output;
           writes = unreported s k.output_ended Done (p.bs ++ (s1 ∷ p.cs)) go.failure over st.flushed (subst W (sym known) go.writes);
           flushed = still-flushed s k.output_ended (p.bs ++ (s1 ∷ p.cs)) go.failure over st.flushed (λ none z. (let m = go.same none z in (m.0, known ∙ m.1)));
-          numbers = kept Finished (passed p.rs) l.0 (kept-append p.bs p.fs p.us (s1 ∷ p.cs) (Finished ∷ passed p.rs) (None ∷ p.vs) p.before (record { finished = refl; given_up = refl }, kept-passed p.cs p.rs p.vs p.behind));
+          numbers = kept Finished (with_left_finished p.rs) l.0 (kept-append p.bs p.fs p.us (s1 ∷ p.cs) (Finished ∷ with_left_finished p.rs) (None ∷ p.vs) p.before (record { finished = refl; given_up = refl }, kept-passed p.cs p.rs p.vs p.behind));
           shape = subst K (sym l.0) t.shape;
         })
 
-    out-of-turn : OutOfTurn p.bs p.fs p.rs → Answered client before (after_number k final requests source new ended) s date (Drop n) Done
+    out-of-turn : OutOfTurn p.bs p.fs p.rs → StepIsAnswered client before (after_number k final requests source new ended) s date (Drop n) Done
     out-of-turn t =
         let come : (n == first_unfinished k.marks) ≡ false = ne_eqb n (first_unfinished k.marks) (λ x. t.turn (p.marks_before ∙ x ∙ ap first_unfinished p.marks_are)) in
         let l = subst (λ (b : Bool). LeavesText b p.fs p.rs final w.dropped.items k.output_ended k.sink new ended) come left in

@@ -5,8 +5,8 @@ use Rattle.std.specs.List.{list_all}
 use Rattle.std.proofs.lemmas.Option.{slice_get-get_or}
 use Rattle.tiny_http_message.specs.declared.waiting.Waiting.{Waiting}
 use Rattle.tiny_http_core.specs.Slots.{Slot, is_finished}
-use Rattle.tiny_http_turns.specs.Turns.{Mark, Open, Held, Left, Finished, AreInShape, AreWaiting, first_unfinished}
-use Rattle.tiny_http_core.specs.Pending.{passed, waiting_form}
+use Rattle.tiny_http_turns.specs.Turns.{Mark, Open, Held, Left, Finished, AreInShape, AreOpenOrLeft, first_unfinished}
+use Rattle.tiny_http_core.specs.Pending.{with_left_finished, waiting_form}
 use Rattle.tiny_http_core.specs.Connection.{IsWaiting, IsKept, AreKept}
 
 -- a place of a list
@@ -55,7 +55,7 @@ kept-many (b ∷ bs) (f ∷ fs) [] h = absurd h
 kept-many (b ∷ bs) (f ∷ fs) (u ∷ us) h = ap suc (kept-many bs fs us h.1)
 
 -- the place of a number that waits
-pub record Place (slots : List Slot) (marks : List Mark) (requests : List (Option Waiting)) (n : ℕ) (w : Waiting) : Type 0 where
+pub record KeptAt (slots : List Slot) (marks : List Mark) (requests : List (Option Waiting)) (n : ℕ) (w : Waiting) : Type 0 where
   pub bs : List Slot
   pub s : Slot
   pub cs : List Slot
@@ -73,7 +73,7 @@ pub record Place (slots : List Slot) (marks : List Mark) (requests : List (Optio
   pub waiting : IsWaiting s w
   pub behind : AreKept cs rs vs
 
-place-first : (s : Slot) (m : Mark) (x w : Waiting) (ss : List Slot) (ms : List Mark) (us : List (Option Waiting)) → IsKept s m (Some x) → AreKept ss ms us → x ≡ w → Place (s ∷ ss) (m ∷ ms) (Some x ∷ us) zero w
+place-first : (s : Slot) (m : Mark) (x w : Waiting) (ss : List Slot) (ms : List Mark) (us : List (Option Waiting)) → IsKept s m (Some x) → AreKept ss ms us → x ≡ w → KeptAt (s ∷ ss) (m ∷ ms) (Some x ∷ us) zero w
 place-first s Held x w ss ms us h k same = absurd h
 place-first s (Left text) x w ss ms us h k same = absurd h
 place-first s Finished x w ss ms us h k same = absurd h
@@ -98,7 +98,7 @@ place-first s Open x w ss ms us h k same =
       behind = k;
     }
 
-place-next : (s : Slot) (m : Mark) (u : Option Waiting) (ss : List Slot) (ms : List Mark) (us : List (Option Waiting)) (n : ℕ) (w : Waiting) → IsKept s m u → Place ss ms us n w → Place (s ∷ ss) (m ∷ ms) (u ∷ us) (suc n) w
+place-next : (s : Slot) (m : Mark) (u : Option Waiting) (ss : List Slot) (ms : List Mark) (us : List (Option Waiting)) (n : ℕ) (w : Waiting) → IsKept s m u → KeptAt ss ms us n w → KeptAt (s ∷ ss) (m ∷ ms) (u ∷ us) (suc n) w
 place-next s m u ss ms us n w h p = record {
   bs = s ∷ p.bs;
   s = p.s;
@@ -124,19 +124,19 @@ some-some x y e = cc
 some-none : {X Y : Type 0} (y : X) → ◌≡◌ {A = Option (Option X)} (Some None) (Some (Some y)) → Y
 some-none y e = cc
 
-place-zero : (s : Slot) (m : Mark) (u : Option Waiting) (w : Waiting) (ss : List Slot) (ms : List Mark) (us : List (Option Waiting)) → IsKept s m u → AreKept ss ms us → Some u ≡ Some (Some w) → Place (s ∷ ss) (m ∷ ms) (u ∷ us) zero w
+place-zero : (s : Slot) (m : Mark) (u : Option Waiting) (w : Waiting) (ss : List Slot) (ms : List Mark) (us : List (Option Waiting)) → IsKept s m u → AreKept ss ms us → Some u ≡ Some (Some w) → KeptAt (s ∷ ss) (m ∷ ms) (u ∷ us) zero w
 place-zero s m None w ss ms us h k e = some-none w e
 place-zero s m (Some x) w ss ms us h k e = place-first s m x w ss ms us h k (some-some x w e)
 
 place-at : (s : Slot) (m : Mark) (u : Option Waiting) (ss : List Slot) (ms : List Mark) (us : List (Option Waiting)) (n : ℕ) (w : Waiting) → IsKept s m u → AreKept ss ms us
-    → ((k : ℕ) → slice_get us k ≡ Some (Some w) → Place ss ms us k w) → slice_get (u ∷ us) n ≡ Some (Some w) → Place (s ∷ ss) (m ∷ ms) (u ∷ us) n w
+    → ((k : ℕ) → slice_get us k ≡ Some (Some w) → KeptAt ss ms us k w) → slice_get (u ∷ us) n ≡ Some (Some w) → KeptAt (s ∷ ss) (m ∷ ms) (u ∷ us) n w
 place-at s m u ss ms us zero w h k more e = place-zero s m u w ss ms us h k e
 place-at s m u ss ms us (suc n) w h k more e = place-next s m u ss ms us n w h (more n e)
 
 place-none : {Y : Type 0} (n : ℕ) (w : Waiting) → ◌≡◌ {A = Option (Option Waiting)} (slice_get [] n) (Some (Some w)) → Y
 place-none n w e = cc
 
-pub place-of : (slots : List Slot) (marks : List Mark) (requests : List (Option Waiting)) (n : ℕ) (w : Waiting) → AreKept slots marks requests → slice_get requests n ≡ Some (Some w) → Place slots marks requests n w
+pub place-of : (slots : List Slot) (marks : List Mark) (requests : List (Option Waiting)) (n : ℕ) (w : Waiting) → AreKept slots marks requests → slice_get requests n ≡ Some (Some w) → KeptAt slots marks requests n w
 place-of slots marks [] n w h e = place-none n w e
 place-of [] [] (u ∷ us) n w h e = absurd h
 place-of [] (m ∷ ms) (u ∷ us) n w h e = absurd h
@@ -159,7 +159,7 @@ none-waits (s ∷ ss) (m ∷ ms) (Some w ∷ us) zero h none x e = cc
 none-waits (s ∷ ss) (m ∷ ms) (u ∷ us) (suc n) h none x e = none-waits ss ms us n h.1 none x e
 
 -- numbers that are passed are finished
-pub kept-passed : (cs : List Slot) (rs : List Mark) (vs : List (Option Waiting)) → AreKept cs rs vs → AreKept cs (passed rs) vs
+pub kept-passed : (cs : List Slot) (rs : List Mark) (vs : List (Option Waiting)) → AreKept cs rs vs → AreKept cs (with_left_finished rs) vs
 kept-passed [] [] [] h = h
 kept-passed [] [] (v ∷ vs) h = absurd h
 kept-passed [] (r ∷ rs) vs h = absurd h
@@ -171,7 +171,7 @@ kept-passed (c ∷ cs) (Left text ∷ rs) (None ∷ vs) h = (h.0.done, kept-pass
 kept-passed (c ∷ cs) (Left text ∷ rs) (Some w ∷ vs) h = absurd h.0
 kept-passed (c ∷ cs) (Finished ∷ rs) (v ∷ vs) h = h
 
-passed-shape : (rs : List Mark) → AreWaiting rs → AreInShape (passed rs)
+passed-shape : (rs : List Mark) → AreOpenOrLeft rs → AreInShape (with_left_finished rs)
 passed-shape [] h = tt
 passed-shape (Open ∷ rs) h = h
 passed-shape (Held ∷ rs) h = absurd h
@@ -182,8 +182,8 @@ passed-shape (Finished ∷ rs) h = absurd h
 pub record InTurn (bs : List Slot) (fs rs : List Mark) : Type 0 where
   pub finished : list_all is_finished bs ≡ true
   pub turn : length fs ≡ first_unfinished (fs ++ (Open ∷ rs))
-  pub waiting : AreWaiting rs
-  pub shape : AreInShape (fs ++ (Finished ∷ passed rs))
+  pub waiting : AreOpenOrLeft rs
+  pub shape : AreInShape (fs ++ (Finished ∷ with_left_finished rs))
 
 pub record OutOfTurn (bs : List Slot) (fs rs : List Mark) : Type 0 where
   pub unfinished : list_all is_finished bs ≡ false
@@ -212,7 +212,7 @@ pub stored : {X : Type 0} (xs : List X) (n : ℕ) (x y d : X) → n < length xs 
 stored xs n x y d lt e same = slice_get-get_or xs n d lt ∙ ap Some (sym e ∙ sym same)
 
 -- a number more keeps the shape
-waiting-issued : (marks : List Mark) → AreWaiting marks → AreWaiting (marks ++ (Open ∷ []))
+waiting-issued : (marks : List Mark) → AreOpenOrLeft marks → AreOpenOrLeft (marks ++ (Open ∷ []))
 waiting-issued [] h = tt
 waiting-issued (Open ∷ marks) h = waiting-issued marks h
 waiting-issued (Held ∷ marks) h = absurd h

@@ -5,14 +5,14 @@ use Rattle.std.specs.List.{list_all}
 use Rattle.std.specs.Io.KnownBytes.{append_known}
 use Rattle.std.specs.declared.io.ErrorKind.{ErrorKind}
 use Rattle.std.proofs.lemmas.Bool.{and_parts}
-use Rattle.tiny_http_wire.specs.Device.{Sink, IsFront, IsFrontOf, BeginsKnown, IsAllKnown, HoldsNothing, Tells, next_count}
+use Rattle.tiny_http_wire.specs.Device.{Sink, IsFront, IsKnownFront, BeginsKnown, IsAllKnown, HoldsNothing, Tells, next_count}
 use Rattle.tiny_http_device.proofs.DeviceLemmas.{IsFront-append}
 use Rattle.tiny_http_message.specs.declared.waiting.Waiting.{Waiting}
-use Rattle.tiny_http_core.specs.Slots.{Slot, is_finished, joined, breaks_off}
+use Rattle.tiny_http_core.specs.Slots.{Slot, is_finished, joined, is_output_broken}
 use Rattle.tiny_http_core.specs.Conversation.{Failure, finished_front}
 use Rattle.tiny_http_core.proofs.WritingLemmas.{FailsBetween}
-use Rattle.tiny_http_core.specs.Sending.{CanSend, IsFlushed, Lost, Idles, SendsUnlessEnded}
-use Rattle.tiny_http_turns.specs.Turns.{Mark, Open, Held, Left, Finished, AreWaiting}
+use Rattle.tiny_http_core.specs.Sending.{CanSend, IsFlushed, OutletFailed, Idles, SendsUnlessEnded}
+use Rattle.tiny_http_turns.specs.Turns.{Mark, Open, Held, Left, Finished, AreOpenOrLeft}
 use Rattle.tiny_http_core.specs.Pending.{left_text, begins_left}
 use Rattle.tiny_http_core.specs.Connection.{AreKept, OutputAt}
 use Rattle.tiny_http_core.proofs.SlotLemmas.{joined-front, joined-broken, breaks-front}
@@ -22,21 +22,21 @@ or-none true = refl
 or-none false = refl
 
 -- what stands behind a number whose turn has come: the texts that were left, up to one that waits
-pub behind : (cs : List Slot) (rs : List Mark) (vs : List (Option Waiting)) → AreWaiting rs → AreKept cs rs vs → (joined cs ≡ left_text rs) × (breaks_off cs ≡ false)
-behind [] [] vs w h = (refl, refl)
-behind [] (r ∷ rs) vs w h = absurd h
-behind (c ∷ cs) [] vs w h = absurd h
-behind (c ∷ cs) (r ∷ rs) [] w h = absurd h
-behind (c ∷ cs) (Open ∷ rs) (None ∷ vs) w h = absurd h.0
-behind (c ∷ cs) (Open ∷ rs) (Some q ∷ vs) w h =
-    let P : Slot → Type 0 = λ x. (joined (x ∷ cs) ≡ []) × (breaks_off (x ∷ cs) ≡ false) in
+pub joined_behind : (cs : List Slot) (rs : List Mark) (vs : List (Option Waiting)) → AreOpenOrLeft rs → AreKept cs rs vs → (joined cs ≡ left_text rs) × (is_output_broken cs ≡ false)
+joined_behind [] [] vs w h = (refl, refl)
+joined_behind [] (r ∷ rs) vs w h = absurd h
+joined_behind (c ∷ cs) [] vs w h = absurd h
+joined_behind (c ∷ cs) (r ∷ rs) [] w h = absurd h
+joined_behind (c ∷ cs) (Open ∷ rs) (None ∷ vs) w h = absurd h.0
+joined_behind (c ∷ cs) (Open ∷ rs) (Some q ∷ vs) w h =
+    let P : Slot → Type 0 = λ x. (joined (x ∷ cs) ≡ []) × (is_output_broken (x ∷ cs) ≡ false) in
     subst P (sym h.0.is) (refl, refl)
-behind (c ∷ cs) (Held ∷ rs) (v ∷ vs) w h = absurd w
-behind (c ∷ cs) (Left text ∷ rs) (None ∷ vs) w h =
-    let k = behind cs rs vs w h.1 in
+joined_behind (c ∷ cs) (Held ∷ rs) (v ∷ vs) w h = absurd w
+joined_behind (c ∷ cs) (Left text ∷ rs) (None ∷ vs) w h =
+    let k = joined_behind cs rs vs w h.1 in
     (rw (h.0.done.finished, h.0.whole) (ap (λ y. y ++ joined cs) h.0.same ∙ ap (λ y. text ++ y) k.0), rw (h.0.done.finished, h.0.whole) k.1)
-behind (c ∷ cs) (Left text ∷ rs) (Some q ∷ vs) w h = absurd h.0
-behind (c ∷ cs) (Finished ∷ rs) (v ∷ vs) w h = absurd w
+joined_behind (c ∷ cs) (Left text ∷ rs) (Some q ∷ vs) w h = absurd h.0
+joined_behind (c ∷ cs) (Finished ∷ rs) (v ∷ vs) w h = absurd w
 
 -- how many numbers are finished in front
 pub front-all : (bs xs : List Slot) → list_all is_finished bs ≡ true → finished_front (bs ++ xs) ≡ length bs + finished_front xs
@@ -66,7 +66,7 @@ pub record LostOutput (before new : Sink) (from to : List ℕ) (kind : ErrorKind
   pub failures : new.failures ≡ before.failures + 1
   pub told : Tells new.last_kind kind
 
-lost-front : (known text sent : List ℕ) (taken : Option (List ℕ)) → IsFrontOf taken (append_known (Some known) text) → BeginsKnown sent taken → (z : List ℕ) × (taken ≡ Some z) × IsFront z (known ++ text) × IsFront sent z
+lost-front : (known text sent : List ℕ) (taken : Option (List ℕ)) → IsKnownFront taken (append_known (Some known) text) → BeginsKnown sent taken → (z : List ℕ) × (taken ≡ Some z) × IsFront z (known ++ text) × IsFront sent z
 lost-front known text sent None h k = let e : Some (known ++ text) ≡ None = h.1 in cc
 lost-front known text sent (Some z) h k = (z, refl, (h.0, (let e : Some (known ++ text) ≡ Some (z ++ h.0) = h.1 in cc)), k)
 
@@ -74,9 +74,9 @@ lost-front known text sent (Some z) h k = (z, refl, (h.0, (let e : Some (known +
 count-next : (n m : ℕ) → n < 2 ^ 64 - 1 → m ≡ next_count n → m ≡ n + 1
 count-next n m lt e = omega arith
 
-pub lost-output : (before sink new : Sink) (known text : List ℕ) (kind : ErrorKind) → sink.taken ≡ Some known → sink.failures ≡ before.failures → IsFront known sink.sent → before.failures < 2 ^ 64 - 1 → Lost sink new text kind → LostOutput before new known (known ++ text) kind
+pub lost-output : (before sink new : Sink) (known text : List ℕ) (kind : ErrorKind) → sink.taken ≡ Some known → sink.failures ≡ before.failures → IsFront known sink.sent → before.failures < 2 ^ 64 - 1 → OutletFailed sink new text kind → LostOutput before new known (known ++ text) kind
 lost-output before sink new known text kind front fails firm low l =
-    let P : Option (List ℕ) → Type 0 = λ x. IsFrontOf new.taken (append_known x text) in
+    let P : Option (List ℕ) → Type 0 = λ x. IsKnownFront new.taken (append_known x text) in
     let z = lost-front known text sink.sent new.taken (subst P front l.bytes) l.keeps in
     let C : ℕ → Type 0 = λ x. new.failures ≡ next_count x in
     record { output = z.0; begins = IsFront-append known sink.sent z.0 firm z.3; front = z.2; taken = z.1; failures = count-next before.failures new.failures low (subst C fails l.failures); told = l.last_kind }
@@ -88,25 +88,25 @@ all-firm s text e h =
     ([], subst P e h ∙ sym (append-nil text))
 
 -- whether the output has ended
-pub ended-is : (before sink : Sink) (e : Bool) (slots : List Slot) (failure : Option Failure) → OutputAt before sink e slots failure → (is_some failure || breaks_off slots) ≡ e
+pub ended-is : (before sink : Sink) (e : Bool) (slots : List Slot) (failure : Option Failure) → OutputAt before sink e slots failure → (is_some failure || is_output_broken slots) ≡ e
 ended-is before sink e slots None h = sym h.3
 ended-is before sink e slots (Some f) h = sym h.3
 
 -- the same output of other slots
-pub output-same : (before sink : Sink) (e : Bool) (xs ys : List Slot) (failure : Option Failure) → joined xs ≡ joined ys → breaks_off xs ≡ breaks_off ys → OutputAt before sink e xs failure → OutputAt before sink e ys failure
+pub output-same : (before sink : Sink) (e : Bool) (xs ys : List Slot) (failure : Option Failure) → joined xs ≡ joined ys → is_output_broken xs ≡ is_output_broken ys → OutputAt before sink e xs failure → OutputAt before sink e ys failure
 output-same before sink e xs ys None j b h =
     let P : List ℕ → Type 0 = λ t. IsFront t sink.sent in
     (h.0 ∙ ap Some j, h.1, h.2, h.3 ∙ b, λ z. subst P j (h.4 z))
 output-same before sink e xs ys (Some f) j b h = h
 
 -- slots behind, of which none sends anything
-pub plain-more : (before sink : Sink) (e : Bool) (bs xs : List Slot) (failure : Option Failure) → OutputAt before sink e bs failure → list_all is_finished bs ≡ true → joined xs ≡ [] → breaks_off xs ≡ false → OutputAt before sink e (bs ++ xs) failure
-plain-more before sink e bs xs failure h fin is whole = output-same before sink e bs (bs ++ xs) failure (sym (by-broken (breaks_off bs) refl)) (sym breaks) h
+pub plain-more : (before sink : Sink) (e : Bool) (bs xs : List Slot) (failure : Option Failure) → OutputAt before sink e bs failure → list_all is_finished bs ≡ true → joined xs ≡ [] → is_output_broken xs ≡ false → OutputAt before sink e (bs ++ xs) failure
+plain-more before sink e bs xs failure h fin is whole = output-same before sink e bs (bs ++ xs) failure (sym (by-broken (is_output_broken bs) refl)) (sym breaks) h
   where
-    breaks : breaks_off (bs ++ xs) ≡ breaks_off bs
-    breaks = breaks-front bs xs fin ∙ ap (λ x. breaks_off bs || x) whole ∙ or-none (breaks_off bs)
+    breaks : is_output_broken (bs ++ xs) ≡ is_output_broken bs
+    breaks = breaks-front bs xs fin ∙ ap (λ x. is_output_broken bs || x) whole ∙ or-none (is_output_broken bs)
 
-    by-broken : (t : Bool) → breaks_off bs ≡ t → joined (bs ++ xs) ≡ joined bs
+    by-broken : (t : Bool) → is_output_broken bs ≡ t → joined (bs ++ xs) ≡ joined bs
     by-broken true e = joined-broken bs xs e
     by-broken false e = joined-front bs xs fin e ∙ ap (λ y. joined bs ++ y) is ∙ append-nil (joined bs)
 
@@ -126,22 +126,22 @@ pub record Goes (before new : Sink) (was ended : Bool) (old slots : List Slot) (
 
 goes-idle : (before sink new : Sink) (ended : Bool) (bs xs : List Slot) (failure : Option Failure) → OutputAt before sink true bs failure → list_all is_finished bs ≡ true → Idles sink new → ended ≡ true → Goes before new true ended bs (bs ++ xs) failure
 goes-idle before sink new ended bs xs None h fin i z =
-    let breaks : breaks_off bs ≡ true = sym h.3 in
-    let all : breaks_off (bs ++ xs) ≡ breaks_off bs = breaks-front bs xs fin ∙ rw breaks refl in
+    let breaks : is_output_broken bs ≡ true = sym h.3 in
+    let all : is_output_broken (bs ++ xs) ≡ is_output_broken bs = breaks-front bs xs fin ∙ rw breaks refl in
     let P : Bool → Type 0 = λ x. OutputAt before new x (bs ++ xs) None in
     record { failure = None; output = subst P (sym z) (output-same before new true bs (bs ++ xs) None (sym (joined-broken bs xs breaks)) (sym all) (output-idle before sink new bs None h i)); writes = refl; same = λ n z. (refl, sym (joined-broken bs xs breaks)) }
 goes-idle before sink new ended bs xs (Some f) h fin i z =
     let P : Bool → Type 0 = λ x. OutputAt before new x (bs ++ xs) (Some f) in
     record { failure = Some f; output = subst P (sym z) (output-idle before sink new bs (Some f) h i); writes = refl; same = λ n z. (let no : Some f ≡ None = n in cc) }
 
-pub output-more : (before sink new : Sink) (e ended : Bool) (bs xs : List Slot) (text : List ℕ) (failure : Option Failure) → OutputAt before sink e bs failure → list_all is_finished bs ≡ true → joined xs ≡ text → breaks_off xs ≡ false
+pub output-more : (before sink new : Sink) (e ended : Bool) (bs xs : List Slot) (text : List ℕ) (failure : Option Failure) → OutputAt before sink e bs failure → list_all is_finished bs ≡ true → joined xs ≡ text → is_output_broken xs ≡ false
     → before.failures < 2 ^ 64 - 1 → SendsUnlessEnded e sink new ended text → IsFlushed new → Goes before new e ended bs (bs ++ xs) failure
 output-more before sink new true ended bs xs text failure h fin is whole low sends firm = goes-idle before sink new ended bs xs failure h fin sends.0 sends.1
 output-more before sink new false ended bs xs text (Some f) h fin is whole low sends firm = let none : false ≡ true = h.3 in cc
 output-more before sink new false ended bs xs text None h fin is whole low sends firm =
-    let none : breaks_off bs ≡ false = sym h.3 in
+    let none : is_output_broken bs ≡ false = sym h.3 in
     let longer : joined bs ++ text ≡ joined (bs ++ xs) = ap (λ y. joined bs ++ y) (sym is) ∙ sym (joined-front bs xs fin none) in
-    let breaks : breaks_off (bs ++ xs) ≡ false = breaks-front bs xs fin ∙ rw (none, whole) refl in
+    let breaks : is_output_broken (bs ++ xs) ≡ false = breaks-front bs xs fin ∙ rw (none, whole) refl in
     ⊎_elim
     (λ k.
     let taken : new.taken ≡ Some (joined (bs ++ xs)) = k.2.bytes ∙ ap (λ x. append_known x text) h.0 ∙ ap Some longer in

@@ -8,9 +8,9 @@ use Rattle.tiny_http_turns.specs.declared.turns.Finishing.TheVariants.{Passed as
 use Rattle.tiny_http_turns.specs.declared.turns.Leaving.{Leaving}
 use Rattle.tiny_http_turns.specs.declared.turns.Leaving.TheVariants.{Left as IsLeft, Go as LeaveGo, Strange as LeaveStrange}
 use Rattle.tiny_http_core.specs.Sending.{CanSend, IsFlushed, SendsUnlessEnded}
-use Rattle.tiny_http_turns.specs.Turns.{Mark, Open, Held, Left, Finished, AreInShape, first_unfinished, Goes, Passed, Waits, TurnOutcome, Finish, Leave, outcome, answer, after, finish_at, pass_to, leave_at}
-use Rattle.tiny_http_turns.specs.TurnsCalls.{Finishes, Leaves}
-use Rattle.tiny_http_core.specs.Pending.{left_text, passed, begins_left, SendsLeft, Passes, LeavesText}
+use Rattle.tiny_http_turns.specs.Turns.{Mark, Open, Held, Left, Finished, AreInShape, first_unfinished, Goes, Passed, Waits, TurnOutcome, Finish, Leave, turn_outcome, turn_answer, marks_after_step, finish_at, pass_to, leave_at}
+use Rattle.tiny_http_turns.specs.TurnsCalls.{Finishes, LeavesTurn}
+use Rattle.tiny_http_core.specs.Pending.{left_text, with_left_finished, begins_left, SendsLeft, FinishesFront, LeavesText}
 use Rattle.tiny_http_core.proofs.KeptLemmas.{get-at, set-at}
 use Rattle.tiny_http_core.proofs.SendLemmas.{sends-append, sends-can}
 
@@ -24,23 +24,23 @@ set-next [] x y z ys = refl
 set-next (w ∷ ws) x y z ys = ap (λ r. w ∷ r) (set-next ws x y z ys)
 
 -- finishing a held number, by what stands behind it
-finish-at : (f r : List Mark) → outcome (Finish (length f)) (f ++ (Held ∷ r)) ≡ pass_to (slice_get r 0) (suc (length f)) (f ++ (Finished ∷ r))
+finish-at : (f r : List Mark) → turn_outcome (Finish (length f)) (f ++ (Held ∷ r)) ≡ pass_to (slice_get r 0) (suc (length f)) (f ++ (Finished ∷ r))
 finish-at f r =
     ap (λ o. finish_at o (length f) (f ++ (Held ∷ r))) (get-at f Held r)
     ∙ ap (λ o. pass_to o (suc (length f)) (slice_set (f ++ (Held ∷ r)) (length f) Finished)) (get-next f Held r)
     ∙ ap (λ m. pass_to (slice_get r 0) (suc (length f)) m) (set-at f Held Finished r)
 
-finish-left : (f : List Mark) (text : List ℕ) (r : List Mark) → outcome (Finish (length f)) (f ++ (Held ∷ (Left text ∷ r))) ≡ (Goes (suc (length f)) text, (f ++ (Finished ∷ [])) ++ (Held ∷ r))
+finish-left : (f : List Mark) (text : List ℕ) (r : List Mark) → turn_outcome (Finish (length f)) (f ++ (Held ∷ (Left text ∷ r))) ≡ (Goes (suc (length f)) text, (f ++ (Finished ∷ [])) ++ (Held ∷ r))
 finish-left f text r = finish-at f (Left text ∷ r) ∙ ap (λ m. (Goes (suc (length f)) text, m)) (set-next f Finished (Left text) Held r)
 
-finish-other : (f r : List Mark) → begins_left r ≡ false → outcome (Finish (length f)) (f ++ (Held ∷ r)) ≡ (Passed, f ++ (Finished ∷ r))
+finish-other : (f r : List Mark) → begins_left r ≡ false → turn_outcome (Finish (length f)) (f ++ (Held ∷ r)) ≡ (Passed, f ++ (Finished ∷ r))
 finish-other f [] e = finish-at f []
 finish-other f (Open ∷ r) e = finish-at f (Open ∷ r)
 finish-other f (Held ∷ r) e = finish-at f (Held ∷ r)
 finish-other f (Left text ∷ r) e = cc
 finish-other f (Finished ∷ r) e = finish-at f (Finished ∷ r)
 
-pub none-left : (r : List Mark) → begins_left r ≡ false → (left_text r ≡ []) × (passed r ≡ r)
+pub none-left : (r : List Mark) → begins_left r ≡ false → (left_text r ≡ []) × (with_left_finished r ≡ r)
 none-left [] e = (refl, refl)
 none-left (Open ∷ r) e = (refl, refl)
 none-left (Held ∷ r) e = (refl, refl)
@@ -48,52 +48,52 @@ none-left (Left text ∷ r) e = cc
 none-left (Finished ∷ r) e = (refl, refl)
 
 -- How far the texts that were left are written: a number is held, and those before it are finished.
-pub record Writes (front rest marks : List Mark) (number : ℕ) (text : List ℕ) (was : Bool) (old now : Sink) (ended : Bool) : Type 0 where
+pub record WritesLeft (front rest marks : List Mark) (number : ℕ) (text : List ℕ) (was : Bool) (old now : Sink) (ended : Bool) : Type 0 where
   pub done : List Mark
   pub more : List Mark
   pub marks_are : marks ≡ done ++ (Held ∷ more)
   pub place : length done ≡ number
-  pub same : front ++ (Finished ∷ passed rest) ≡ done ++ (Finished ∷ passed more)
+  pub same : front ++ (Finished ∷ with_left_finished rest) ≡ done ++ (Finished ∷ with_left_finished more)
   pub written : List ℕ
   pub texts : text ++ left_text rest ≡ written ++ left_text more
   pub sends : (was ≡ false → CanSend old) → SendsUnlessEnded was old now ended written
 
 pub writes-first : (front rest marks : List Mark) (number : ℕ) (text : List ℕ) (was : Bool) (old now : Sink) (ended : Bool) → marks ≡ front ++ (Held ∷ rest) → length front ≡ number → ((was ≡ false → CanSend old) → SendsUnlessEnded was old now ended text)
-    → Writes front rest marks number text was old now ended
+    → WritesLeft front rest marks number text was old now ended
 writes-first front rest marks number text was old now ended e place sends = record { done = front; more = rest; marks_are = e; place = place; same = refl; written = text; texts = refl; sends = sends }
 
 -- what finishing is told as, and what it leaves
-pub record Told (marks new : List Mark) (number : ℕ) (r : Finishing (Unit {0})) (before behind : Option (Unit {0})) : Type 0 where
-  pub marks_are : new ≡ after (Finish number) marks
-  pub item : Finishes (answer (Finish number) marks) tt before r behind
+pub record FinishingTold (marks new : List Mark) (number : ℕ) (r : Finishing (Unit {0})) (before behind : Option (Unit {0})) : Type 0 where
+  pub marks_are : new ≡ marks_after_step (Finish number) marks
+  pub item : Finishes (turn_answer (Finish number) marks) tt before r behind
 
-told-at : (done more new : List Mark) (marks : List Mark) (number : ℕ) (r : Finishing (Unit {0})) (before behind : Option (Unit {0})) → marks ≡ done ++ (Held ∷ more) → length done ≡ number → Told marks new number r before behind
-    → Told (done ++ (Held ∷ more)) new (length done) r before behind
+told-at : (done more new : List Mark) (marks : List Mark) (number : ℕ) (r : Finishing (Unit {0})) (before behind : Option (Unit {0})) → marks ≡ done ++ (Held ∷ more) → length done ≡ number → FinishingTold marks new number r before behind
+    → FinishingTold (done ++ (Held ∷ more)) new (length done) r before behind
 told-at done more new marks number r before behind e place t =
-    let P : List Mark → Type 0 = λ m. Told m new number r before behind in
-    let Q : ℕ → Type 0 = λ n. Told (done ++ (Held ∷ more)) new n r before behind in
+    let P : List Mark → Type 0 = λ m. FinishingTold m new number r before behind in
+    let Q : ℕ → Type 0 = λ n. FinishingTold (done ++ (Held ∷ more)) new n r before behind in
     subst Q (sym place) (subst P e t)
 
 abbrev OutcomeTold : TurnOutcome → List Mark → Finishing (Unit {0}) → Option (Unit {0}) → Option (Unit {0}) → Type 0
 OutcomeTold o new r before behind = (new ≡ o.1) × Finishes o.0 tt before r behind
 
-told-left : (done more new : List Mark) (text : List ℕ) (r : Finishing (Unit {0})) (before behind : Option (Unit {0})) → Told (done ++ (Held ∷ (Left text ∷ more))) new (length done) r before behind
+told-left : (done more new : List Mark) (text : List ℕ) (r : Finishing (Unit {0})) (before behind : Option (Unit {0})) → FinishingTold (done ++ (Held ∷ (Left text ∷ more))) new (length done) r before behind
     → OutcomeTold (Goes (suc (length done)) text, (done ++ (Finished ∷ [])) ++ (Held ∷ more)) new r before behind
 told-left done more new text r before behind t =
     let P : TurnOutcome → Type 0 = λ o. OutcomeTold o new r before behind in
     subst P (finish-left done text more) (t.marks_are, t.item)
 
-told-other : (done more new : List Mark) (r : Finishing (Unit {0})) (before behind : Option (Unit {0})) → begins_left more ≡ false → Told (done ++ (Held ∷ more)) new (length done) r before behind → OutcomeTold (Passed, done ++ (Finished ∷ more)) new r before behind
+told-other : (done more new : List Mark) (r : Finishing (Unit {0})) (before behind : Option (Unit {0})) → begins_left more ≡ false → FinishingTold (done ++ (Held ∷ more)) new (length done) r before behind → OutcomeTold (Passed, done ++ (Finished ∷ more)) new r before behind
 told-other done more new r before behind e t =
     let P : TurnOutcome → Type 0 = λ o. OutcomeTold o new r before behind in
     subst P (finish-other done more e) (t.marks_are, t.item)
 
 -- one number more
 abbrev NextWrites : List Mark → List Mark → List Mark → ℕ → List ℕ → Bool → Sink → Sink → Bool → Type 0
-NextWrites front rest new number text was old now ended = Writes front rest new (number + 1) text was old now ended
+NextWrites front rest new number text was old now ended = WritesLeft front rest new (number + 1) text was old now ended
 
 next-left : (front rest new : List Mark) (number : ℕ) (text : List ℕ) (was : Bool) (old now later : Sink) (ended over : Bool) (done more : List Mark) (written left next : List ℕ) → length done ≡ number → new ≡ (done ++ (Finished ∷ [])) ++ (Held ∷ more)
-    → front ++ (Finished ∷ passed rest) ≡ done ++ (Finished ∷ (Finished ∷ passed more)) → text ++ left_text rest ≡ written ++ (left ++ left_text more) → next ≡ left
+    → front ++ (Finished ∷ with_left_finished rest) ≡ done ++ (Finished ∷ (Finished ∷ with_left_finished more)) → text ++ left_text rest ≡ written ++ (left ++ left_text more) → next ≡ left
     → ((was ≡ false → CanSend old) → SendsUnlessEnded was old now ended written) → ((ended ≡ false → CanSend now) → SendsUnlessEnded ended now later over next)
     → NextWrites front rest new number text was old later over
 next-left front rest new number text was old now later ended over done more written left next place is same texts told sends sent = record {
@@ -101,23 +101,23 @@ next-left front rest new number text was old now later ended over done more writ
   more = more;
   marks_are = is;
   place = length-append done (Finished ∷ []) ∙ ap (λ n. n + 1) place;
-  same = same ∙ sym (append_assoc done (Finished ∷ []) (Finished ∷ passed more));
+  same = same ∙ sym (append_assoc done (Finished ∷ []) (Finished ∷ with_left_finished more));
   written = written ++ next;
   texts = texts ∙ ap (λ t. written ++ (t ++ left_text more)) (sym told) ∙ sym (append_assoc written next (left_text more));
   sends = λ can. sends-append was ended over old now later written next (sends can) (sent (sends-can was ended old now written can (sends can)));
 }
 
 pub writes-next : (front rest marks new : List Mark) (number : ℕ) (text : List ℕ) (was : Bool) (old now later : Sink) (ended over : Bool) (r : Finishing (Unit {0})) (next : Vec ℕ) (u : Unit {0}) (before behind : Option (Unit {0}))
-    → Writes front rest marks number text was old now ended → Told marks new number r before behind → r ≡ Go u next → ((ended ≡ false → CanSend now) → SendsUnlessEnded ended now later over next.items)
-    → Writes front rest new (number + 1) text was old later over
+    → WritesLeft front rest marks number text was old now ended → FinishingTold marks new number r before behind → r ≡ Go u next → ((ended ≡ false → CanSend now) → SendsUnlessEnded ended now later over next.items)
+    → WritesLeft front rest new (number + 1) text was old later over
 writes-next front rest marks new number text was old now later ended over r next u before behind w told is sent =
-    by-more w.more w.same w.texts (told-at w.done w.more new marks number (Go u next) before behind w.marks_are w.place (subst (λ x. Told marks new number x before behind) is told))
+    by-more w.more w.same w.texts (told-at w.done w.more new marks number (Go u next) before behind w.marks_are w.place (subst (λ x. FinishingTold marks new number x before behind) is told))
   where
-    other : (more : List Mark) → begins_left more ≡ false → Told (w.done ++ (Held ∷ more)) new (length w.done) (Go u next) before behind → NextWrites front rest new number text was old later over
+    other : (more : List Mark) → begins_left more ≡ false → FinishingTold (w.done ++ (Held ∷ more)) new (length w.done) (Go u next) before behind → NextWrites front rest new number text was old later over
     other more e t = let no = told-other w.done more new (Go u next) before behind e t in absurd no.1
 
-    by-more : (more : List Mark) → front ++ (Finished ∷ passed rest) ≡ w.done ++ (Finished ∷ passed more) → text ++ left_text rest ≡ w.written ++ left_text more
-        → Told (w.done ++ (Held ∷ more)) new (length w.done) (Go u next) before behind → NextWrites front rest new number text was old later over
+    by-more : (more : List Mark) → front ++ (Finished ∷ with_left_finished rest) ≡ w.done ++ (Finished ∷ with_left_finished more) → text ++ left_text rest ≡ w.written ++ left_text more
+        → FinishingTold (w.done ++ (Held ∷ more)) new (length w.done) (Go u next) before behind → NextWrites front rest new number text was old later over
     by-more [] same texts t = other [] refl t
     by-more (Open ∷ more) same texts t = other (Open ∷ more) refl t
     by-more (Held ∷ more) same texts t = other (Held ∷ more) refl t
@@ -128,15 +128,15 @@ writes-next front rest marks new number text was old now later ended over r next
 
 -- the last number
 pub writes-last : (front rest marks new : List Mark) (number : ℕ) (text : List ℕ) (was : Bool) (old now : Sink) (ended : Bool) (r : Finishing (Unit {0})) (before behind : Option (Unit {0}))
-    → Writes front rest marks number text was old now ended → Told marks new number r before behind → ((u : Unit {0}) (next : Vec ℕ) → r ≡ Go u next → ⊥)
-    → Passes front rest new × ((was ≡ false → CanSend old) → SendsUnlessEnded was old now ended (text ++ left_text rest))
+    → WritesLeft front rest marks number text was old now ended → FinishingTold marks new number r before behind → ((u : Unit {0}) (next : Vec ℕ) → r ≡ Go u next → ⊥)
+    → FinishesFront front rest new × ((was ≡ false → CanSend old) → SendsUnlessEnded was old now ended (text ++ left_text rest))
 writes-last front rest marks new number text was old now ended r before behind w told none =
     by-more w.more w.same w.texts (told-at w.done w.more new marks number r before behind w.marks_are w.place told)
   where
     Ends : Type 0
-    Ends = Passes front rest new × ((was ≡ false → CanSend old) → SendsUnlessEnded was old now ended (text ++ left_text rest))
+    Ends = FinishesFront front rest new × ((was ≡ false → CanSend old) → SendsUnlessEnded was old now ended (text ++ left_text rest))
 
-    other : (more : List Mark) → begins_left more ≡ false → front ++ (Finished ∷ passed rest) ≡ w.done ++ (Finished ∷ passed more) → text ++ left_text rest ≡ w.written ++ left_text more → Told (w.done ++ (Held ∷ more)) new (length w.done) r before behind → Ends
+    other : (more : List Mark) → begins_left more ≡ false → front ++ (Finished ∷ with_left_finished rest) ≡ w.done ++ (Finished ∷ with_left_finished more) → text ++ left_text rest ≡ w.written ++ left_text more → FinishingTold (w.done ++ (Held ∷ more)) new (length w.done) r before behind → Ends
     other more e same texts t =
         let o = told-other w.done more new r before behind e t in
         let n = none-left more e in
@@ -150,7 +150,7 @@ writes-last front rest marks new number text was old now ended r before behind w
     goes text next n (Go u v) never f = never u v refl
     goes text next n (IsStrange u) never f = f
 
-    by-more : (more : List Mark) → front ++ (Finished ∷ passed rest) ≡ w.done ++ (Finished ∷ passed more) → text ++ left_text rest ≡ w.written ++ left_text more → Told (w.done ++ (Held ∷ more)) new (length w.done) r before behind → Ends
+    by-more : (more : List Mark) → front ++ (Finished ∷ with_left_finished rest) ≡ w.done ++ (Finished ∷ with_left_finished more) → text ++ left_text rest ≡ w.written ++ left_text more → FinishingTold (w.done ++ (Held ∷ more)) new (length w.done) r before behind → Ends
     by-more [] same texts t = other [] refl same texts t
     by-more (Open ∷ more) same texts t = other (Open ∷ more) refl same texts t
     by-more (Held ∷ more) same texts t = other (Held ∷ more) refl same texts t
@@ -168,19 +168,19 @@ flushed-behind was mid ended a b c text sends flushes can =
 
 -- What finishing a held number leaves: the texts behind it are sent, from that which comes out on.
 pub pass-goes : (front rest marks mid final : List Mark) (number : ℕ) (was : Bool) (old now : Sink) (ended : Bool) (r : Finishing (Unit {0})) (next : Vec ℕ) (u : Unit {0}) (before behind : Option (Unit {0}))
-    → marks ≡ front ++ (Held ∷ rest) → length front ≡ number → Told marks mid number r before behind → r ≡ Go u next
-    → ((f more : List Mark) → mid ≡ f ++ (Held ∷ more) → length f ≡ number + 1 → Passes f more final × ((was ≡ false → CanSend old) → SendsUnlessEnded was old now ended (next.items ++ left_text more))) → IsFlushed now
-    → Passes front rest final × ((was ≡ false → CanSend old) → SendsLeft rest was old now ended)
+    → marks ≡ front ++ (Held ∷ rest) → length front ≡ number → FinishingTold marks mid number r before behind → r ≡ Go u next
+    → ((f more : List Mark) → mid ≡ f ++ (Held ∷ more) → length f ≡ number + 1 → FinishesFront f more final × ((was ≡ false → CanSend old) → SendsUnlessEnded was old now ended (next.items ++ left_text more))) → IsFlushed now
+    → FinishesFront front rest final × ((was ≡ false → CanSend old) → SendsLeft rest was old now ended)
 pass-goes front rest marks mid final number was old now ended r next u before behind e place told is more_sent flushed =
-    by-rest rest (told-at front rest mid marks number (Go u next) before behind e place (subst (λ x. Told marks mid number x before behind) is told))
+    by-rest rest (told-at front rest mid marks number (Go u next) before behind e place (subst (λ x. FinishingTold marks mid number x before behind) is told))
   where
     Ends : List Mark → Type 0
-    Ends x = Passes front x final × ((was ≡ false → CanSend old) → SendsLeft x was old now ended)
+    Ends x = FinishesFront front x final × ((was ≡ false → CanSend old) → SendsLeft x was old now ended)
 
-    other : (x : List Mark) → begins_left x ≡ false → Told (front ++ (Held ∷ x)) mid (length front) (Go u next) before behind → Ends x
+    other : (x : List Mark) → begins_left x ≡ false → FinishingTold (front ++ (Held ∷ x)) mid (length front) (Go u next) before behind → Ends x
     other x f t = let none = told-other front x mid (Go u next) before behind f t in absurd none.1
 
-    by-rest : (x : List Mark) → Told (front ++ (Held ∷ x)) mid (length front) (Go u next) before behind → Ends x
+    by-rest : (x : List Mark) → FinishingTold (front ++ (Held ∷ x)) mid (length front) (Go u next) before behind → Ends x
     by-rest [] t = other [] refl t
     by-rest (Open ∷ x) t = other (Open ∷ x) refl t
     by-rest (Held ∷ x) t = other (Held ∷ x) refl t
@@ -189,17 +189,17 @@ pass-goes front rest marks mid final number was old now ended r next u before be
         let o = told-left front x mid left (Go u next) before behind t in
         let s = more_sent (front ++ (Finished ∷ [])) x o.0 (length-append front (Finished ∷ []) ∙ ap (λ n. n + 1) place) in
         let P : List ℕ → Type 0 = λ y. SendsUnlessEnded was old now ended (y ++ left_text x) in
-        (s.0 ∙ append_assoc front (Finished ∷ []) (Finished ∷ passed x), λ can. (subst P o.1.1 (s.1 can), flushed))
+        (s.0 ∙ append_assoc front (Finished ∷ []) (Finished ∷ with_left_finished x), λ can. (subst P o.1.1 (s.1 can), flushed))
 
 pub pass-ends : (front rest marks mid : List Mark) (number : ℕ) (was : Bool) (old : Sink) (r : Finishing (Unit {0})) (before behind : Option (Unit {0}))
-    → marks ≡ front ++ (Held ∷ rest) → length front ≡ number → Told marks mid number r before behind → ((u : Unit {0}) (next : Vec ℕ) → r ≡ Go u next → ⊥)
-    → Passes front rest mid × SendsLeft rest was old old was
+    → marks ≡ front ++ (Held ∷ rest) → length front ≡ number → FinishingTold marks mid number r before behind → ((u : Unit {0}) (next : Vec ℕ) → r ≡ Go u next → ⊥)
+    → FinishesFront front rest mid × SendsLeft rest was old old was
 pass-ends front rest marks mid number was old r before behind e place told none = by-rest rest (told-at front rest mid marks number r before behind e place told)
   where
     Ends : List Mark → Type 0
-    Ends x = Passes front x mid × SendsLeft x was old old was
+    Ends x = FinishesFront front x mid × SendsLeft x was old old was
 
-    other : (x : List Mark) → begins_left x ≡ false → Told (front ++ (Held ∷ x)) mid (length front) r before behind → Ends x
+    other : (x : List Mark) → begins_left x ≡ false → FinishingTold (front ++ (Held ∷ x)) mid (length front) r before behind → Ends x
     other x f t =
         let o = told-other front x mid r before behind f t in
         let P : Bool → Type 0 = λ b. MatchBool b (SendsUnlessEnded was old old was (left_text x) × IsFlushed old) ((old ≡ old) × (was ≡ was)) in
@@ -210,7 +210,7 @@ pass-ends front rest marks mid number was old r before behind e place told none 
     goes next n (Go u v) never f = never u v refl
     goes next n (IsStrange u) never f = f
 
-    by-rest : (x : List Mark) → Told (front ++ (Held ∷ x)) mid (length front) r before behind → Ends x
+    by-rest : (x : List Mark) → FinishingTold (front ++ (Held ∷ x)) mid (length front) r before behind → Ends x
     by-rest [] t = other [] refl t
     by-rest (Open ∷ x) t = other (Open ∷ x) refl t
     by-rest (Held ∷ x) t = other (Held ∷ x) refl t
@@ -219,20 +219,20 @@ pass-ends front rest marks mid number was old r before behind e place told none 
 
 -- what leaving an open number leaves
 pub record ToldLeft (marks new : List Mark) (number : ℕ) (text : List ℕ) (r : Leaving (Unit {0})) (before behind : Option (Unit {0})) : Type 0 where
-  pub marks_are : new ≡ after (Leave number text) marks
-  pub item : Leaves (answer (Leave number text) marks) before r behind
+  pub marks_are : new ≡ marks_after_step (Leave number text) marks
+  pub item : LeavesTurn (turn_answer (Leave number text) marks) before r behind
 
 abbrev leave-outcome : Bool → List Mark → List Mark → List ℕ → ℕ → TurnOutcome
 leave-outcome t front rest text n = if t then (Goes n text, front ++ (Held ∷ rest)) else (Waits, front ++ (Left text ∷ rest))
 
-leave-at : (front rest : List Mark) (text : List ℕ) (t : Bool) → (length front == first_unfinished (front ++ (Open ∷ rest))) ≡ t → outcome (Leave (length front) text) (front ++ (Open ∷ rest)) ≡ leave-outcome t front rest text (length front)
+leave-at : (front rest : List Mark) (text : List ℕ) (t : Bool) → (length front == first_unfinished (front ++ (Open ∷ rest))) ≡ t → turn_outcome (Leave (length front) text) (front ++ (Open ∷ rest)) ≡ leave-outcome t front rest text (length front)
 leave-at front rest text true e =
     ap (λ o. leave_at o (length front) text (front ++ (Open ∷ rest))) (get-at front Open rest) ∙ rw e (ap (λ m. (Goes (length front) text, m)) (set-at front Open Held rest))
 leave-at front rest text false e =
     ap (λ o. leave_at o (length front) text (front ++ (Open ∷ rest))) (get-at front Open rest) ∙ rw e (ap (λ m. (Waits, m)) (set-at front Open (Left text) rest))
 
 abbrev OutcomeLeft : TurnOutcome → List Mark → Leaving (Unit {0}) → Option (Unit {0}) → Option (Unit {0}) → Type 0
-OutcomeLeft o new r before behind = (new ≡ o.1) × Leaves o.0 before r behind
+OutcomeLeft o new r before behind = (new ≡ o.1) × LeavesTurn o.0 before r behind
 
 told_left-at : (front rest marks new : List Mark) (number : ℕ) (text : List ℕ) (t : Bool) (r : Leaving (Unit {0})) (before behind : Option (Unit {0})) → marks ≡ front ++ (Open ∷ rest) → length front ≡ number → (number == first_unfinished marks) ≡ t
     → ToldLeft marks new number text r before behind → OutcomeLeft (leave-outcome t front rest text (length front)) new r before behind
@@ -246,7 +246,7 @@ told_left-at front rest marks new number text t r before behind e place turn tol
 
 pub leave-goes : (front rest marks mid final : List Mark) (number : ℕ) (text : List ℕ) (was : Bool) (old now : Sink) (ended : Bool) (r : Leaving (Unit {0})) (u : Unit {0}) (back : Vec ℕ) (before behind : Option (Unit {0}))
     → marks ≡ front ++ (Open ∷ rest) → length front ≡ number → ToldLeft marks mid number text r before behind → r ≡ LeaveGo u back
-    → (mid ≡ front ++ (Held ∷ rest) → Passes front rest final × SendsUnlessEnded was old now ended (back.items ++ left_text rest)) → IsFlushed now
+    → (mid ≡ front ++ (Held ∷ rest) → FinishesFront front rest final × SendsUnlessEnded was old now ended (back.items ++ left_text rest)) → IsFlushed now
     → LeavesText (number == first_unfinished marks) front rest final text was old now ended
 leave-goes front rest marks mid final number text was old now ended r u back before behind e place told is more flushed =
     by-turn (number == first_unfinished marks) (told_left-at front rest marks mid number text (number == first_unfinished marks) (LeaveGo u back) before behind e place refl (subst (λ x. ToldLeft marks mid number text x before behind) is told))
@@ -264,7 +264,7 @@ pub leave-stays : (front rest marks mid : List Mark) (number : ℕ) (text : List
 leave-stays front rest marks mid number text was old r before behind e place told none shape =
     by-turn (number == first_unfinished marks) (told_left-at front rest marks mid number text (number == first_unfinished marks) r before behind e place refl told)
   where
-    goes : (n : ℕ) (x : Leaving (Unit {0})) → ((u : Unit {0}) (v : Vec ℕ) → x ≡ LeaveGo u v → ⊥) → Leaves (Goes n text) before x behind → ⊥
+    goes : (n : ℕ) (x : Leaving (Unit {0})) → ((u : Unit {0}) (v : Vec ℕ) → x ≡ LeaveGo u v → ⊥) → LeavesTurn (Goes n text) before x behind → ⊥
     goes n IsLeft never f = f
     goes n (LeaveGo u v) never f = never u v refl
     goes n (LeaveStrange v) never f = f

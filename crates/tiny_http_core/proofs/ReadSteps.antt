@@ -17,20 +17,20 @@ use Rattle.tiny_http_message.specs.declared.body.Body.{Body}
 use Rattle.tiny_http_message.specs.declared.body.Body.TheVariants as body
 use Rattle.tiny_http_stream.specs.ToCome.{stopped}
 use Rattle.tiny_http_stream.specs.Source.{SourceState, GoesOn}
-use Rattle.tiny_http_message.specs.Pipeline.{Item, Request, said_length}
-use Rattle.tiny_http_core.specs.Slots.{Slot, Waits, Answered as AnsweredBy, ByServer, Raw, Upgraded, is_chunked, joined, breaks_off, last_slot, reader_is_lost, turn_has_come, is_last_item, is_last_slot, rest_of}
+use Rattle.tiny_http_message.specs.Pipeline.{Item, Request, body_length_or_0}
+use Rattle.tiny_http_core.specs.Slots.{Slot, Unanswered, StepIsAnswered as AnsweredBy, ByServer, Raw, Upgraded, is_chunked, joined, is_output_broken, last_slot, last_was_abandoned, turn_has_come, is_last_item, is_last_slot, rest_of}
 use Rattle.tiny_http_message.specs.Body.{body_finished}
-use Rattle.tiny_http_core.specs.Steps.{Read, Replied, Given, Fault, Memory, NoSuch, Unused, Outcome, Reached, changes, read_reply, effect, at_slot, at_number}
-use Rattle.tiny_http_core.specs.Conversation.{State, PlaceAt, Has}
-use Rattle.tiny_http_message.specs.Body.{Remaining, remaining, taken_left, after_bytes, with_bytes, BodyStops, NoneLeft, is_streaming, body_standing, IsOver, ReadsOn, Fits, FillsFromBody}
+use Rattle.tiny_http_core.specs.Steps.{Read, ReplyValue, Given, Fault, Memory, NoSuch, Unused, Outcome, Reached, changes, read_reply, effect, at_slot, at_number}
+use Rattle.tiny_http_core.specs.Conversation.{State, PlaceAt, HasOutcome}
+use Rattle.tiny_http_message.specs.Body.{Remaining, remaining, taken_left, prepend_body, prepended_body, BodyStops, NoneLeft, is_streaming, body_standing, IsBodyOver, ReadsOn, Fits, FillsFromBody}
 use Rattle.tiny_http_turns.specs.Turns.{Mark, Open}
-use Rattle.tiny_http_core.specs.Pending.{last_body, streams}
-use Rattle.tiny_http_core.specs.Connection.{Kept, open_slot, IsWaiting, AreKept, AreSettled, behind_body, slot_rest, GivesRest, is_past_last, Reader, Stands}
+use Rattle.tiny_http_core.specs.Pending.{last_body, is_streaming_body}
+use Rattle.tiny_http_core.specs.Connection.{Kept, open_slot, IsWaiting, AreKept, AreSettled, behind_body, slot_rest, GivesRest, is_past_last, InputStands, Stands}
 use Rattle.tiny_http_stream.proofs.GoingOn.{goes-on_more}
-use Rattle.tiny_http_core.proofs.AskLemmas.{Answered, step-unchanged, settled-any, told-feed}
+use Rattle.tiny_http_core.proofs.AskLemmas.{StepIsAnswered, step-unchanged, settled-any, told-feed}
 use Rattle.tiny_http_message.proofs.BodyReads.{stays-settled}
-use Rattle.tiny_http_core.proofs.BodySteps.{ReadsFrom, StandsOn, stands-on, last-waits, with_reader, reader-within}
-use Rattle.tiny_http_core.proofs.KeptLemmas.{Place, place-of, kept-append, kept-many}
+use Rattle.tiny_http_core.proofs.BodySteps.{IsInput, StandsOn, stands-on, last-waits, with_reader, reader-within}
+use Rattle.tiny_http_core.proofs.KeptLemmas.{KeptAt, place-of, kept-append, kept-many}
 use Rattle.tiny_http_core.proofs.OutputLemmas.{output-same}
 use Rattle.tiny_http_core.proofs.ReaderLemmas.{last-snoc, body-snoc, settled-place, settled-set, and-false}
 use Rattle.tiny_http_core.proofs.RespondLemmas.{TakesNone, SlotAt, slot-at, set-place}
@@ -107,19 +107,19 @@ fits-on (body.Over stop) c form n given m told more fits h =
     let P : Body → Type 0 = λ x. Fits x form n (given + m) (told || more) in
     let same : given + m ≡ given = omega (arith, h.1) in
     subst P (sym h.0) (ap (λ k. body_finished form n k (told || more)) same ∙ still-over form n given told more fits)
-fits-on (body.Held bytes) (body.Held left) form n given m told more fits h = fits
-fits-on (body.Held bytes) (body.Over stop) form n given m told more fits h = absurd h
-fits-on (body.Held bytes) (body.Counted left) form n given m told more fits h = absurd h
-fits-on (body.Held bytes) (body.Chunked d) form n given m told more fits h = absurd h
+fits-on (body.WithHead bytes) (body.WithHead left) form n given m told more fits h = fits
+fits-on (body.WithHead bytes) (body.Over stop) form n given m told more fits h = absurd h
+fits-on (body.WithHead bytes) (body.Counted left) form n given m told more fits h = absurd h
+fits-on (body.WithHead bytes) (body.Chunked d) form n given m told more fits h = absurd h
 fits-on (body.Counted left) c form n given m told more fits h = by (more || (m == left)) refl h
   where
-    over : (c : Body) → IsOver c → (more || (m == left)) ≡ true → Fits c form n (given + m) (told || more)
+    over : (c : Body) → IsBodyOver c → (more || (m == left)) ≡ true → Fits c form n (given + m) (told || more)
     over (body.Over stop) i e = rw fits.0 (at more e)
       where
         at : (t : Bool) → (t || (m == left)) ≡ true → ((given + m) == n || (told || t)) ≡ true
         at true e = ap (λ x. (given + m) == n || x) (or-true told) ∙ or-true ((given + m) == n)
         at false e = rw (eq-eqb (given + m) n (omega (arith, fits.1, eqb-true m left e))) refl
-    over (body.Held bytes) i e = absurd i
+    over (body.WithHead bytes) i e = absurd i
     over (body.Counted l) i e = absurd i
     over (body.Chunked d) i e = absurd i
 
@@ -127,7 +127,7 @@ fits-on (body.Counted left) c form n given m told more fits h = by (more || (m =
     neither true b e = cc
     neither false b e = refl
 
-    by : (t : Bool) → (more || (m == left)) ≡ t → MatchBool t (IsOver c) ((c ≡ body.Counted (left - m)) × (m < left)) → Fits c form n (given + m) (told || more)
+    by : (t : Bool) → (more || (m == left)) ≡ t → MatchBool t (IsBodyOver c) ((c ≡ body.Counted (left - m)) × (m < left)) → Fits c form n (given + m) (told || more)
     by true e k = over c k e
     by false e k =
         let P : Body → Type 0 = λ x. Fits x form n (given + m) (told || more) in
@@ -135,14 +135,14 @@ fits-on (body.Counted left) c form n given m told more fits h = by (more || (m =
         subst P (sym k.0) (fits.0, omega (arith, fits.1, k.1), omega (arith, k.1), untold)
 fits-on (body.Chunked d) c form n given m told true fits h = over c h
   where
-    over : (c : Body) → IsOver c → Fits c form n (given + m) (told || true)
+    over : (c : Body) → IsBodyOver c → Fits c form n (given + m) (told || true)
     over (body.Over stop) i = rw (fits.0, or-true told) refl
-    over (body.Held bytes) i = absurd i
+    over (body.WithHead bytes) i = absurd i
     over (body.Counted l) i = absurd i
     over (body.Chunked d) i = absurd i
 fits-on (body.Chunked d) (body.Chunked e) form n given m told false fits h = (fits.0, or-false told ∙ fits.1)
 fits-on (body.Chunked d) (body.Over stop) form n given m told false fits h = absurd h
-fits-on (body.Chunked d) (body.Held bytes) form n given m told false fits h = absurd h
+fits-on (body.Chunked d) (body.WithHead bytes) form n given m told false fits h = absurd h
 fits-on (body.Chunked d) (body.Counted l) form n given m told false fits h = absurd h
 
 -- how many bytes are given then, and whether the end is told
@@ -153,7 +153,7 @@ abbrev now_told : Request → ℕ → Bool → ℕ → Bool
 now_told r given told n = told || nat_lt (length (drop given r.body.bytes)) n
 
 -- the reply to a read that filled a buffer so
-abbrev pub reply_for : Result ℕ ErrorKind → List ℕ → Replied
+abbrev pub reply_for : Result ℕ ErrorKind → List ℕ → ReplyValue
 reply_for (Ok m) buf = Given (take m buf)
 reply_for (Err kind) buf = Fault kind
 
@@ -163,18 +163,18 @@ IfBound (Ok m) buf = m ≤ length buf
 IfBound (Err kind) buf = ⊤
 
 -- what a read leaves of a request's body
-record ReadOn (b c : Body) (old new : Option Feed) (r : Request) (given : ℕ) (told : Bool) (n : ℕ) (reply : Replied) : Type 0 where
+record ReadOn (b c : Body) (old new : Option Feed) (r : Request) (given : ℕ) (told : Bool) (n : ℕ) (reply : ReplyValue) : Type 0 where
   x : Remaining
   is : remaining c new ≡ Some x
   rest : x.body ≡ rest_of r (now_given r given n)
   behind : behind_body (Some c) new ≡ behind_body (Some b) old
-  fits : Fits c r.framing.form (said_length r.framing) (now_given r given n) (now_told r given told n)
+  fits : Fits c r.framing.form (body_length_or_0 r.framing) (now_given r given n) (now_told r given told n)
   reply_is : reply ≡ read_reply n (drop given r.body.bytes) r.body.stop
   stays : is_streaming b ≡ false → is_streaming c ≡ false
 
-taken : (y : Remaining) (q : Option Remaining) (bs : List ℕ) → Some y ≡ with_bytes bs q → (x : Remaining) × (q ≡ Some x) × (y ≡ after_bytes bs x)
+taken : (y : Remaining) (q : Option Remaining) (bs : List ℕ) → Some y ≡ prepended_body bs q → (x : Remaining) × (q ≡ Some x) × (y ≡ prepend_body bs x)
 taken y None bs e = let no : Some y ≡ None = e in cc
-taken y (Some x) bs e = (x, refl, (let same : Some y ≡ Some (after_bytes bs x) = e in cc))
+taken y (Some x) bs e = (x, refl, (let same : Some y ≡ Some (prepend_body bs x) = e in cc))
 
 given-reply : (n : ℕ) (left bs : List ℕ) (stop : Stop) → take n left ≡ bs → (left ≡ [] → stop ≡ End) → Given bs ≡ read_reply n left stop
 given-reply n [] bs stop e end =
@@ -186,14 +186,14 @@ given-reply n (a ∷ left) bs stop e end = ap Given (sym e)
 abbrev B : Option Remaining → Option Feed
 B o = option_map (λ (y : Remaining). y.behind) o
 
-read-given : (b c : Body) (old new : Option Feed) (r : Request) (given : ℕ) (told : Bool) (n m : ℕ) (buf : List ℕ) (y : Remaining) → remaining b old ≡ Some y → y.body ≡ rest_of r given → Fits b r.framing.form (said_length r.framing) given told
+read-given : (b c : Body) (old new : Option Feed) (r : Request) (given : ℕ) (told : Bool) (n m : ℕ) (buf : List ℕ) (y : Remaining) → remaining b old ≡ Some y → y.body ≡ rest_of r given → Fits b r.framing.form (body_length_or_0 r.framing) given told
     → m ≤ length buf → length buf ≡ n → 0 < n → FillsFromBody b old c new (Ok m) buf → ReadOn b c old new r given told n (Given (take m buf))
 read-given b c old new r given told n m buf y here rest fits le size some fills =
     let bs = take m buf in
     let left = drop given r.body.bytes in
     let t = taken y (remaining c new) bs (sym here ∙ fills.0) in
     let x = t.0 in
-    let whole : rest_of r given ≡ (after_bytes bs x).body = sym rest ∙ ap (λ (z : Remaining). z.body) t.2 in
+    let whole : rest_of r given ≡ (prepend_body bs x).body = sym rest ∙ ap (λ (z : Remaining). z.body) t.2 in
     let bytes : left ≡ bs ++ x.body.bytes = ap (λ (f : Feed). f.bytes) whole in
     let stop : r.body.stop ≡ x.body.stop = ap (λ (f : Feed). f.stop) whole in
     let len : length bs ≡ m = grind (arith, common_steps) in
@@ -202,8 +202,8 @@ read-given b c old new r given told n m buf y here rest fits le size some fills 
     let count : now_given r given n ≡ given + m = ap (λ l. given + length l) k.front ∙ ap (λ j. given + j) len in
     let F : List ℕ → Stop → Feed = λ l s. record { bytes = l; stop = s } in
     let E : Option Remaining → Type 0 = λ o. BodyStops End o in
-    let on = fits-on b c r.framing.form (said_length r.framing) given m told (nat_lt m (length buf)) fits (fills.1 (omega (arith, size, some))) in
-    let G : ℕ → Bool → Type 0 = λ j u. Fits c r.framing.form (said_length r.framing) j (told || u) in
+    let on = fits-on b c r.framing.form (body_length_or_0 r.framing) given m told (nat_lt m (length buf)) fits (fills.1 (omega (arith, size, some))) in
+    let G : ℕ → Bool → Type 0 = λ j u. Fits c r.framing.form (body_length_or_0 r.framing) j (told || u) in
     let short : nat_lt m (length buf) ≡ nat_lt (length left) n = ap (λ j. nat_lt m j) size ∙ sym k.short in
     record {
       x = x;
@@ -220,7 +220,7 @@ read-given b c old new r given told n m buf y here rest fits le size some fills 
     none-read left [] xs m e empty len = sym len
     none-read left (z ∷ bs) xs m e empty len = let no : z ∷ (bs ++ xs) ≡ [] = sym e ∙ empty in cc
 
-read-fault : (b c : Body) (old new : Option Feed) (r : Request) (given : ℕ) (told : Bool) (n : ℕ) (kind : ErrorKind) (buf : List ℕ) (y : Remaining) → remaining b old ≡ Some y → y.body ≡ rest_of r given → Fits b r.framing.form (said_length r.framing) given told
+read-fault : (b c : Body) (old new : Option Feed) (r : Request) (given : ℕ) (told : Bool) (n : ℕ) (kind : ErrorKind) (buf : List ℕ) (y : Remaining) → remaining b old ≡ Some y → y.body ≡ rest_of r given → Fits b r.framing.form (body_length_or_0 r.framing) given told
     → 0 < n → FillsFromBody b old c new (Err kind) buf → ReadOn b c old new r given told n (Fault kind)
 read-fault b c old new r given told n kind buf y here rest fits some fills =
     let left = drop given r.body.bytes in
@@ -233,9 +233,9 @@ read-fault b c old new r given told n kind buf y here rest fits some fills =
     let same : now_given r given n ≡ given = omega (arith, count) in
     let zero : length left ≡ 0 = ap length empty in
     let told_now : nat_lt (length left) n ≡ true = lt-ltb (length left) n (omega (arith, zero, some)) in
-    let G : ℕ → Bool → Type 0 = λ j u. Fits c r.framing.form (said_length r.framing) j (told || u) in
+    let G : ℕ → Bool → Type 0 = λ j u. Fits c r.framing.form (body_length_or_0 r.framing) j (told || u) in
     let P : List ℕ → Stop → Type 0 = λ l s. Fault kind ≡ read_reply n l s in
-    let on = fits-on b c r.framing.form (said_length r.framing) given 0 told true fits fills.1 in
+    let on = fits-on b c r.framing.form (body_length_or_0 r.framing) given 0 told true fits fills.1 in
     record {
       x = y;
       is = fills.0 ∙ here;
@@ -246,7 +246,7 @@ read-fault b c old new r given told n kind buf y here rest fits some fills =
       stays = stays-settled b c 0 true fills.1;
     }
 
-read-on : (b c : Body) (old new : Option Feed) (r : Request) (given : ℕ) (told : Bool) (n : ℕ) (result : Result ℕ ErrorKind) (buf : List ℕ) (y : Remaining) → remaining b old ≡ Some y → y.body ≡ rest_of r given → Fits b r.framing.form (said_length r.framing) given told
+read-on : (b c : Body) (old new : Option Feed) (r : Request) (given : ℕ) (told : Bool) (n : ℕ) (result : Result ℕ ErrorKind) (buf : List ℕ) (y : Remaining) → remaining b old ≡ Some y → y.body ≡ rest_of r given → Fits b r.framing.form (body_length_or_0 r.framing) given told
     → IfBound result buf → length buf ≡ n → 0 < n → FillsFromBody b old c new result buf → ReadOn b c old new r given told n (reply_for result buf)
 read-on b c old new r given told n (Ok m) buf y here rest fits le size some fills = read-given b c old new r given told n m buf y here rest fits le size some fills
 read-on b c old new r given told n (Err kind) buf y here rest fits le size some fills = read-fault b c old new r given told n kind buf y here rest fits some fills
@@ -258,7 +258,7 @@ read_slot s w h n = open_slot h.date h.request (now_given h.request h.given n) (
 abbrev with_body : Waiting → Body → Waiting
 with_body w b = record w { body = b }
 
-still-waiting : (s : Slot) (w : Waiting) (h : IsWaiting s w) (c : Body) (old new : Option Feed) (n : ℕ) (reply : Replied) → ReadOn w.body c old new h.request h.given h.told n reply → IsWaiting (read_slot s w h n) (with_body w c)
+still-waiting : (s : Slot) (w : Waiting) (h : IsWaiting s w) (c : Body) (old new : Option Feed) (n : ℕ) (reply : ReplyValue) → ReadOn w.body c old new h.request h.given h.told n reply → IsWaiting (read_slot s w h n) (with_body w c)
 still-waiting s w h c old new n reply k = record {
   request = h.request;
   date = h.date;
@@ -273,9 +273,9 @@ still-waiting s w h c old new n reply k = record {
 }
 
 -- the last number's body is read
-read-last : {R : Type 0} (client : Feed) (k : Kept) (old new : SourceState R) (bs : List Slot) (us : List (Option Waiting)) (rest : List Item) (s : Slot) (w : Waiting) (c : Body) (n : ℕ) (reply : Replied) → (h : IsWaiting s w) → ReadsFrom k old → Reader client k (bs ++ (s ∷ [])) rest
+read-last : {R : Type 0} (client : Feed) (k : Kept) (old new : SourceState R) (bs : List Slot) (us : List (Option Waiting)) (rest : List Item) (s : Slot) (w : Waiting) (c : Body) (n : ℕ) (reply : ReplyValue) → (h : IsWaiting s w) → IsInput k old → InputStands client k (bs ++ (s ∷ [])) rest
     → k.requests ≡ us ++ (Some w ∷ []) → ReadOn w.body c old.feed new.feed h.request h.given h.told n reply → (is_streaming w.body ≡ false → new ≡ old) → (is_streaming w.body ≡ true → new.standing ≡ body_standing c old.standing) → GoesOn old.feed new.feed
-    → Reader client (with_reader k (us ++ (Some (with_body w c) ∷ [])) new) (bs ++ (read_slot s w h n ∷ [])) rest
+    → InputStands client (with_reader k (us ++ (Some (with_body w c) ∷ [])) new) (bs ++ (read_slot s w h n ∷ [])) rest
 read-last {R = R} client k old new bs us rest s w c n reply h from reader is on leaves stands goes =
     let t = read_slot s w h n in
     let last : last_slot (bs ++ (t ∷ [])) ≡ Some t = last-snoc None bs t in
@@ -285,7 +285,7 @@ read-last {R = R} client k old new bs us rest s w c n reply h from reader is on 
     let G : Option Body → Option Slot → Type 0 = λ b o. GivesRest b o new.feed in
     let P : Bool → Option Body → Type 0 = λ x b. PlaceAt x (behind_body b new.feed) rest in
     let Q : Option Feed → Type 0 = λ f. PlaceAt (is_past_last old.standing) f rest in
-    let W : Option Slot → Option Body → Bool = λ x y. not (is_last_slot x) && streams y in
+    let W : Option Slot → Option Body → Bool = λ x y. not (is_last_slot x) && is_streaming_body y in
     let same : (e : k.ended ≡ false) → StandsOn c old.standing new.standing (is_last_item s.item) =
     λ e. stands-on w.body c old.standing new.standing (is_last_item s.item) stands (λ quiet. ap (λ (x : SourceState R). x.standing) (leaves quiet)) on.stays (l.within e) in
     let item : is_last_item s.item ≡ is_last_item t.item = ap (λ (x : Slot). is_last_item x.item) h.is in
@@ -297,15 +297,15 @@ read-last {R = R} client k old new bs us rest s w c n reply h from reader is on 
       next = λ e. record {
         is_last = (same e).past ∙ l.is_last e ∙ item ∙ ap is_last_slot (sym last);
         within = (same e).within ∙ ap (λ x. not x && is_streaming c) item ∙ ap (λ y. W (Some t) y) (sym content) ∙ ap (λ x. W x (last_body (us ++ (Some (with_body w c) ∷ [])))) (sym last);
-        lost = λ lost. (let no : true ≡ false = sym lost ∙ (ap reader_is_lost last ∙ and-false (is_chunked h.request.framing.form)) in cc);
+        lost = λ lost. (let no : true ≡ false = sym lost ∙ (ap last_was_abandoned last ∙ and-false (is_chunked h.request.framing.form)) in cc);
         place = λ kept. subst (λ x. P x (last_body (us ++ (Some (with_body w c) ∷ [])))) (sym (same e).past) (subst (λ y. P (is_past_last old.standing) y) (sym content) (subst Q (sym on.behind) (l.place e)));
       };
       source = goes-on_more (Some client) k.feed new.feed reader.source (subst S (sym from.feed) goes);
     }
 
-reader-read : {R : Type 0} (client : Feed) (k : Kept) (old new : SourceState R) (bs cs : List Slot) (us vs : List (Option Waiting)) (rest : List Item) (s : Slot) (w : Waiting) (c : Body) (n : ℕ) (reply : Replied) → (h : IsWaiting s w) → ReadsFrom k old → Reader client k (bs ++ (s ∷ cs)) rest
+reader-read : {R : Type 0} (client : Feed) (k : Kept) (old new : SourceState R) (bs cs : List Slot) (us vs : List (Option Waiting)) (rest : List Item) (s : Slot) (w : Waiting) (c : Body) (n : ℕ) (reply : ReplyValue) → (h : IsWaiting s w) → IsInput k old → InputStands client k (bs ++ (s ∷ cs)) rest
     → k.requests ≡ us ++ (Some w ∷ vs) → length cs ≡ length vs → ReadOn w.body c old.feed new.feed h.request h.given h.told n reply → (is_streaming w.body ≡ false → new ≡ old) → (is_streaming w.body ≡ true → new.standing ≡ body_standing c old.standing) → GoesOn old.feed new.feed
-    → Reader client (with_reader k (us ++ (Some (with_body w c) ∷ vs)) new) (bs ++ (read_slot s w h n ∷ cs)) rest
+    → InputStands client (with_reader k (us ++ (Some (with_body w c) ∷ vs)) new) (bs ++ (read_slot s w h n ∷ cs)) rest
 reader-read client k old new bs [] us [] rest s w c n reply h from reader is same on leaves stands goes = read-last client k old new bs us rest s w c n reply h from reader is on leaves stands goes
 reader-read client k old new bs [] us (v ∷ vs) rest s w c n reply h from reader is same on leaves stands goes = absurd (omega (arith, same))
 reader-read client k old new bs (d ∷ cs) us [] rest s w c n reply h from reader is same on leaves stands goes = absurd (omega (arith, same))
@@ -313,11 +313,11 @@ reader-read {R = R} client k old new bs (d ∷ cs) us (v ∷ vs) rest s w c n re
     let A : List (Option Waiting) → Type 0 = λ x. AreSettled x in
     let quiet = settled-place us (Some w) v vs (subst A is reader.settled) in
     let t = read_slot s w h n in
-    let P : SourceState R → Type 0 = λ x. Reader client (with_reader k (us ++ (Some (with_body w c) ∷ (v ∷ vs))) x) (bs ++ (t ∷ (d ∷ cs))) rest in
+    let P : SourceState R → Type 0 = λ x. InputStands client (with_reader k (us ++ (Some (with_body w c) ∷ (v ∷ vs))) x) (bs ++ (t ∷ (d ∷ cs))) rest in
     subst P (sym (leaves quiet)) (reader-within client k old bs cs us vs rest s t d v (Some (with_body w c)) (Some w) from reader is (on.stays quiet))
 
 -- what is left of a number's body, as its reader sees it
-left-of : {R : Type 0} (client : Feed) (k : Kept) (old : SourceState R) (bs cs : List Slot) (us vs : List (Option Waiting)) (rest : List Item) (s : Slot) (w : Waiting) → (h : IsWaiting s w) → ReadsFrom k old → Reader client k (bs ++ (s ∷ cs)) rest
+left-of : {R : Type 0} (client : Feed) (k : Kept) (old : SourceState R) (bs cs : List Slot) (us vs : List (Option Waiting)) (rest : List Item) (s : Slot) (w : Waiting) → (h : IsWaiting s w) → IsInput k old → InputStands client k (bs ++ (s ∷ cs)) rest
     → k.requests ≡ us ++ (Some w ∷ vs) → length cs ≡ length vs → (y : Remaining) × (remaining w.body old.feed ≡ Some y) × (y.body ≡ rest_of h.request h.given)
 left-of client k old bs [] us [] rest s w h from reader is same =
     let l = last-waits client k old bs us rest s w h from reader is in
@@ -336,7 +336,7 @@ left-of client k old bs (d ∷ cs) us (v ∷ vs) rest s w h from reader is same 
     (taken_left (rest_of h.request h.given) f.0, ap (remaining w.body) e ∙ h.settled quiet f.0, refl)
 
 pub read-not_taken : (k n : ℕ) → TakesNone (Read k n)
-read-not_taken k n Waits owed e = cc
+read-not_taken k n Unanswered owed e = cc
 read-not_taken k n (AnsweredBy r d f) owed e = refl
 read-not_taken k n ByServer owed e = refl
 read-not_taken k n (Raw w true) owed e = refl
@@ -352,14 +352,14 @@ at-read date old k n s w h e =
     ap (at_slot true date old k (Read k n)) e ∙ ap T h.is ∙ rw h.unowed refl
 
 -- no bytes are asked for
-pub read-none : (client : Feed) (before : Sink) (k : Kept) (s : State) (date : HttpDate) (j n : ℕ) (w : Waiting) → Stands client before k s → slice_get k.requests j ≡ Some (Some w) → n ≡ 0 → Answered client before k s date (Read j n) (Given [])
+pub read-none : (client : Feed) (before : Sink) (k : Kept) (s : State) (date : HttpDate) (j n : ℕ) (w : Waiting) → Stands client before k s → slice_get k.requests j ≡ Some (Some w) → n ≡ 0 → StepIsAnswered client before k s date (Read j n) (Given [])
 read-none client before k s date j n w st e zero =
     let p = place-of s.reached.slots k.marks k.requests j w st.numbers e in
     let at = slot-at s.reached.slots p.bs p.cs p.s j p.slots_are p.slots_before in
     step-unchanged client before k s date (Read j n) (Given []) st (at-read date s.reached j n p.s w p.waiting at.get ∙ rw zero refl)
 
 -- no memory was found
-pub read-memory : (client : Feed) (before : Sink) (k : Kept) (s : State) (date : HttpDate) (j n : ℕ) (w : Waiting) → Stands client before k s → slice_get k.requests j ≡ Some (Some w) → 0 < n → Answered client before k s date (Read j n) Memory
+pub read-memory : (client : Feed) (before : Sink) (k : Kept) (s : State) (date : HttpDate) (j n : ℕ) (w : Waiting) → Stands client before k s → slice_get k.requests j ≡ Some (Some w) → 0 < n → StepIsAnswered client before k s date (Read j n) Memory
 read-memory client before k s date j n w st e some =
     let p = place-of s.reached.slots k.marks k.requests j w st.numbers e in
     let at = slot-at s.reached.slots p.bs p.cs p.s j p.slots_are p.slots_before in
@@ -375,10 +375,10 @@ read-memory client before k s date j n w st e some =
 
 -- the body was read
 pub read-done : {R : Type 0} (client : Feed) (before : Sink) (k : Kept) (s : State) (date : HttpDate) (j n : ℕ) (w : Waiting) (c : Body) (old new : SourceState R) (requests : List (Option Waiting)) (result : Result ℕ ErrorKind) (buf : List ℕ) → Stands client before k s → slice_get k.requests j ≡ Some (Some w)
-    → requests ≡ slice_set k.requests j (Some (with_body w c)) → ReadsFrom k old → IfBound result buf → length buf ≡ n → 0 < n → FillsFromBody w.body old.feed c new.feed result buf → (is_streaming w.body ≡ false → new ≡ old) → (is_streaming w.body ≡ true → new.standing ≡ body_standing c old.standing) → GoesOn old.feed new.feed
-    → Answered client before (with_reader k requests new) s date (Read j n) (reply_for result buf)
+    → requests ≡ slice_set k.requests j (Some (with_body w c)) → IsInput k old → IfBound result buf → length buf ≡ n → 0 < n → FillsFromBody w.body old.feed c new.feed result buf → (is_streaming w.body ≡ false → new ≡ old) → (is_streaming w.body ≡ true → new.standing ≡ body_standing c old.standing) → GoesOn old.feed new.feed
+    → StepIsAnswered client before (with_reader k requests new) s date (Read j n) (reply_for result buf)
 read-done {R = R} client before k s date j n w c old new requests result buf st e requests_are from bound size some fills leaves stands goes =
-    let R : List (Option Waiting) → Type 0 = λ l. Answered client before (with_reader k l new) s date (Read j n) (reply_for result buf) in
+    let R : List (Option Waiting) → Type 0 = λ l. StepIsAnswered client before (with_reader k l new) s date (Read j n) (reply_for result buf) in
     subst R (sym set) (
       state,
       record {
@@ -392,7 +392,7 @@ read-done {R = R} client before k s date j n w c old new requests result buf st 
       inl (true, tt, subst G (sym is) (ap L (sym (at.set s1)), refl, (on.reply_is, refl))),
     )
   where
-    p : Place s.reached.slots k.marks k.requests j w
+    p : KeptAt s.reached.slots k.marks k.requests j w
     p = place-of s.reached.slots k.marks k.requests j w st.numbers e
 
     h : IsWaiting p.s w
@@ -402,7 +402,7 @@ read-done {R = R} client before k s date j n w c old new requests result buf st 
     many = kept-many p.cs p.rs p.vs p.behind
 
     P : List Slot → Type 0
-    P l = Reader client k l s.reached.rest
+    P l = InputStands client k l s.reached.rest
 
     M : List Mark → Type 0
     M m = AreKept (p.bs ++ (read_slot p.s w h n ∷ p.cs)) m (p.us ++ (Some (with_body w c) ∷ p.vs))
@@ -430,8 +430,8 @@ read-done {R = R} client before k s date j n w c old new requests result buf st 
     joined_same : joined s.reached.slots ≡ joined slots
     joined_same = ap joined open_is ∙ joined-waits p.bs (open_slot h.date h.request h.given h.told) p.cs refl refl ∙ sym (joined-waits p.bs s1 p.cs refl refl)
 
-    breaks_same : breaks_off s.reached.slots ≡ breaks_off slots
-    breaks_same = ap breaks_off open_is ∙ breaks-waits p.bs (open_slot h.date h.request h.given h.told) p.cs refl refl ∙ sym (breaks-waits p.bs s1 p.cs refl refl)
+    breaks_same : is_output_broken s.reached.slots ≡ is_output_broken slots
+    breaks_same = ap is_output_broken open_is ∙ breaks-waits p.bs (open_slot h.date h.request h.given h.told) p.cs refl refl ∙ sym (breaks-waits p.bs s1 p.cs refl refl)
 
     state : State
     state = record { reached = record { slots = slots; rest = s.reached.rest; ended = s.reached.ended }; flushed = s.flushed; failure = s.failure }
@@ -440,7 +440,7 @@ read-done {R = R} client before k s date j n w c old new requests result buf st 
     L l = record { slots = l; rest = s.reached.rest; ended = s.reached.ended }
 
     G : Outcome → Type 0
-    G o = Has o s (reply_for result buf) state
+    G o = HasOutcome o s (reply_for result buf) state
 
     is : at_number true date s.reached j (Read j n) ≡ changes s.reached j s1 (read_reply n (drop h.given h.request.body.bytes) h.request.body.stop) Unused
     is = at-read date s.reached j n p.s w h at.get ∙ rw (ne_eqb n 0 (λ z. absurd (omega (arith, z, some)))) refl

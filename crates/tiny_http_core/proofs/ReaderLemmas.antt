@@ -9,12 +9,12 @@ use Rattle.tiny_http_message.specs.declared.waiting.Waiting.{Waiting}
 use Rattle.tiny_http_message.specs.declared.framing.Form.{Form}
 use Rattle.tiny_http_message.specs.declared.body.Body.{Body}
 use Rattle.tiny_http_message.specs.declared.body.Body.TheVariants as body
-use Rattle.tiny_http_message.specs.Pipeline.{Item, Asks, Refuses, said_length}
-use Rattle.tiny_http_core.specs.Slots.{Slot, is_streamed, is_chunked, is_body_finished, body_is_open, last_slot, last_is_open, reader_is_held, reader_is_lost, is_last_slot}
+use Rattle.tiny_http_message.specs.Pipeline.{Item, Asks, Refuses, body_length_or_0}
+use Rattle.tiny_http_core.specs.Slots.{Slot, is_form_streamed, is_chunked, is_body_finished, body_is_open, last_slot, last_is_open, last_holds_reader, last_was_abandoned, is_last_slot}
 use Rattle.tiny_http_message.specs.Body.{body_finished}
 use Rattle.tiny_http_turns.specs.Turns.{Mark, Open, Held, Left, Finished}
 use Rattle.tiny_http_message.specs.Body.{Remaining, remaining, is_streaming, Fits}
-use Rattle.tiny_http_core.specs.Pending.{last_body, streams}
+use Rattle.tiny_http_core.specs.Pending.{last_body, is_streaming_body}
 use Rattle.tiny_http_core.specs.Connection.{IsWaiting, IsDone, IsKept, AreKept, IsSettled, AreSettled, behind_body, slot_rest, GivesRest}
 
 -- the body at a place is read from the input
@@ -23,7 +23,7 @@ held_at None = false
 held_at (Some None) = false
 held_at (Some (Some w)) = is_streaming w.body
 
-pub held-last : (ws : List (Option Waiting)) → held_at (slice_get ws (length ws - 1)) ≡ streams (last_body ws)
+pub held-last : (ws : List (Option Waiting)) → held_at (slice_get ws (length ws - 1)) ≡ is_streaming_body (last_body ws)
 held-last [] = refl
 held-last (None ∷ []) = refl
 held-last (Some w ∷ []) = refl
@@ -31,8 +31,8 @@ held-last (w ∷ v ∷ ws) =
     let less : length (w ∷ v ∷ ws) - 1 ≡ suc (length (v ∷ ws) - 1) = omega arith in
     ap (λ n. held_at (slice_get (w ∷ v ∷ ws) n)) less ∙ held-last (v ∷ ws)
 
-pub held-is : (ws l : List (Option Waiting)) (o : Option (Option Waiting)) → l ≡ ws → o ≡ slice_get l (length l - 1) → held_at o ≡ streams (last_body ws)
-held-is ws l o e at = ap held_at at ∙ held-last l ∙ ap (λ x. streams (last_body x)) e
+pub held-is : (ws l : List (Option Waiting)) (o : Option (Option Waiting)) → l ≡ ws → o ≡ slice_get l (length l - 1) → held_at o ≡ is_streaming_body (last_body ws)
+held-is ws l o e at = ap held_at at ∙ held-last l ∙ ap (λ x. is_streaming_body (last_body x)) e
 
 -- the last of some, and what is kept of it
 abbrev pub LastKept : Option Slot → Option Body → Type 0
@@ -88,7 +88,7 @@ body-within (x ∷ []) u v w vs = refl
 body-within (x ∷ (y ∷ us)) u v w vs = body-within (y ∷ us) u v w vs
 
 -- only the last body is read from the input
-pub settled-snoc : (us : List (Option Waiting)) (u : Option Waiting) → AreSettled us → streams (last_body us) ≡ false → AreSettled (us ++ (u ∷ []))
+pub settled-snoc : (us : List (Option Waiting)) (u : Option Waiting) → AreSettled us → is_streaming_body (last_body us) ≡ false → AreSettled (us ++ (u ∷ []))
 settled-snoc [] u h e = tt
 settled-snoc (None ∷ []) u h e = (tt, tt)
 settled-snoc (Some w ∷ []) u h e = (e, tt)
@@ -111,20 +111,20 @@ pub and-false : (f : Bool) → (f && false) ≡ false
 and-false true = refl
 and-false false = refl
 
-pub fits-streams : (b : Body) (form : Form) (n given : ℕ) (told : Bool) → Fits b form n given told → (is_streamed form && not (body_finished form n given told || false)) ≡ is_streaming b
-fits-streams (body.Over stop) form n given told h = rw h (and-false (is_streamed form))
-fits-streams (body.Held bytes) form n given told h = rw h refl
+pub fits-streams : (b : Body) (form : Form) (n given : ℕ) (told : Bool) → Fits b form n given told → (is_form_streamed form && not (body_finished form n given told || false)) ≡ is_streaming b
+fits-streams (body.Over stop) form n given told h = rw h (and-false (is_form_streamed form))
+fits-streams (body.WithHead bytes) form n given told h = rw h refl
 fits-streams (body.Counted left) form n given told h = rw (h.0, h.3, ne_eqb given n (λ e. absurd (omega (arith, e, h.1, h.2)))) refl
 fits-streams (body.Chunked d) form n given told h = rw (h.0, h.1) refl
 
-pub waiting-kept : (s : Slot) (w : Waiting) (h : IsWaiting s w) → reader_is_lost (Some s) ≡ false
-waiting-kept s w h = let P : Slot → Type 0 = λ x. reader_is_lost (Some x) ≡ false in subst P (sym h.is) (and-false (is_chunked h.request.framing.form))
+pub waiting-kept : (s : Slot) (w : Waiting) (h : IsWaiting s w) → last_was_abandoned (Some s) ≡ false
+waiting-kept s w h = let P : Slot → Type 0 = λ x. last_was_abandoned (Some x) ≡ false in subst P (sym h.is) (and-false (is_chunked h.request.framing.form))
 
 -- whether the last body is open, and the program's sight of it
 pub waiting-open : (s : Slot) (w : Waiting) (h : IsWaiting s w) → last_is_open (Some s) ≡ is_streaming w.body
 waiting-open s w h =
     let P : Slot → Type 0 = λ x. last_is_open (Some x) ≡ is_streaming w.body in
-    subst P (sym h.is) (fits-streams w.body h.request.framing.form (said_length h.request.framing) h.given h.told h.fits)
+    subst P (sym h.is) (fits-streams w.body h.request.framing.form (body_length_or_0 h.request.framing) h.given h.told h.fits)
 
 pub done-open : (s : Slot) → IsDone s → last_is_open (Some s) ≡ false
 done-open s d = at s.item
@@ -134,32 +134,32 @@ done-open s d = at s.item
     or-true false = refl
 
     at : (item : Item) → body_is_open s item ≡ false
-    at (Asks r) = rw (d.given_up, or-true (is_body_finished r s)) (and-false (is_streamed r.framing.form))
+    at (Asks r) = rw (d.given_up, or-true (is_body_finished r s)) (and-false (is_form_streamed r.framing.form))
     at (Refuses a b c d) = refl
 
-pub open-by : (o : Option Slot) (b : Option Body) → LastKept o b → last_is_open o ≡ streams b
+pub open-by : (o : Option Slot) (b : Option Body) → LastKept o b → last_is_open o ≡ is_streaming_body b
 open-by o b (inl h) = rw (h.0, h.1) refl
 open-by o b (inr (inl h)) = rw (h.1, h.2, done-open h.0 h.3) refl
 open-by o b (inr (inr h)) = rw (h.2, h.3) (waiting-open h.0 h.1 h.4)
 
 -- whether the last body holds the reader
-pub held-by : (o : Option Slot) (b : Option Body) → LastKept o b → reader_is_held o ≡ (not (is_last_slot o) && streams b)
+pub held-by : (o : Option Slot) (b : Option Body) → LastKept o b → last_holds_reader o ≡ (not (is_last_slot o) && is_streaming_body b)
 held-by o b h = ap (λ t. not (is_last_slot o) && t) (open-by o b h)
 
 -- behind a body that isn't read from the input the input stands
-pub behind-settled : (o : Option Slot) (b : Option Body) (f : Feed) → LastKept o b → streams b ≡ false → behind_body b (Some f) ≡ Some f
+pub behind-settled : (o : Option Slot) (b : Option Body) (f : Feed) → LastKept o b → is_streaming_body b ≡ false → behind_body b (Some f) ≡ Some f
 behind-settled o b f (inl h) e = rw h.1 refl
 behind-settled o b f (inr (inl h)) e = rw h.2 refl
 behind-settled o b f (inr (inr h)) e =
-    let P : Option Body → Type 0 = λ x. streams x ≡ false in
+    let P : Option Body → Type 0 = λ x. is_streaming_body x ≡ false in
     let quiet : is_streaming h.1.body ≡ false = subst P h.3 e in
     rw h.3 (ap (λ (x : Option Remaining). option_map (λ (r : Remaining). r.behind) x) (h.4.settled quiet f))
 
-pub gives-settled : (o : Option Slot) (b : Option Body) (f : Feed) → LastKept o b → streams b ≡ false → GivesRest b o (Some f)
+pub gives-settled : (o : Option Slot) (b : Option Body) (f : Feed) → LastKept o b → is_streaming_body b ≡ false → GivesRest b o (Some f)
 gives-settled o b f (inl h) e = rw (h.0, h.1) tt
 gives-settled o b f (inr (inl h)) e = rw h.2 tt
 gives-settled o b f (inr (inr h)) e =
-    let P : Option Body → Type 0 = λ x. streams x ≡ false in
+    let P : Option Body → Type 0 = λ x. is_streaming_body x ≡ false in
     let quiet : is_streaming h.1.body ≡ false = subst P h.3 e in
     let Q : Slot → Type 0 = λ x. option_map (λ (r : Remaining). r.body) (remaining h.1.body (Some f)) ≡ Some (slot_rest x) in
     rw (h.2, h.3) (subst Q (sym h.4.is) (ap (λ (x : Option Remaining). option_map (λ (r : Remaining). r.body) x) (h.4.settled quiet f)))

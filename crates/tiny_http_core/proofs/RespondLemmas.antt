@@ -12,37 +12,37 @@ use Rattle.tiny_http_wire.specs.Answer.{Text, Ending, Whole, Broken, Printing}
 use Rattle.tiny_http_message.specs.declared.waiting.AnswerForm.{AnswerForm}
 use Rattle.tiny_http_message.specs.declared.waiting.Waiting.{Waiting}
 use Rattle.tiny_http_message.specs.Pipeline.{Item, Asks, Refuses, Request}
-use Rattle.tiny_http_core.specs.Slots.{ResponseValue, Slot, Stage, Waits, Answered as AnsweredBy, ByServer, Raw, Upgraded, is_over, is_finished, is_broken, is_slot_broken, segment, joined, breaks_off, last_slot, turn_has_come, to_request, text_if, IsGathered}
-use Rattle.tiny_http_core.specs.Steps.{Asked, outcome, Respond, Replied, Done, NoSuch, NotYet, Use, Reported, Outcome, Reached, unchanged, changes, finished, takes, fault_in, fault_of_answer, at_item, at_slot, at_number}
-use Rattle.tiny_http_core.specs.Conversation.{Failure, State, has_output_ended, finished_front, flushed_after, Writes, Has, GathersAt, MayLack}
+use Rattle.tiny_http_core.specs.Slots.{ResponseValue, Slot, Stage, Unanswered, StepIsAnswered as AnsweredBy, ByServer, Raw, Upgraded, is_stage_finished, is_finished, is_broken, is_slot_broken, segment, joined, is_output_broken, last_slot, turn_has_come, to_request, text_if, IsGathered}
+use Rattle.tiny_http_core.specs.Steps.{StepValue, outcome, Respond, ReplyValue, Done, NoSuch, NotYet, WriterUse, Reported, Outcome, Reached, unchanged, changes, finished, accepts_step, fault_in, fault_of_answer, at_item, at_slot, at_number}
+use Rattle.tiny_http_core.specs.Conversation.{Failure, State, has_output_ended, finished_front, flushed_after, WriterPart, HasOutcome, GathersAt, MayLack}
 use Rattle.tiny_http_core.proofs.WritingLemmas.{FailsBetween, FailsTold, FailsBehind, broken_reply, used, WritesIf, IsAllFlushed, reported, still-flushed}
 use Rattle.tiny_http_core.specs.Seen.{PrintedFor, Answers, reply_to}
-use Rattle.tiny_http_core.specs.Sending.{CanSend, Wrote, Lost, IsFlushed, SendsText, Sends, SendsUnlessEnded}
+use Rattle.tiny_http_core.specs.Sending.{CanSend, OutletTook, OutletFailed, IsFlushed, SendsText, Sends, SendsUnlessEnded}
 use Rattle.tiny_http_turns.specs.Turns.{Mark, Open, Held, Finished, AreInShape, first_unfinished}
-use Rattle.tiny_http_core.specs.Pending.{left_text, passed, begins_left, SendsLeft, Passes, waiting_form}
-use Rattle.tiny_http_core.specs.Connection.{Kept, form_of, open_slot, IsWaiting, AreKept, OutputAt, Reader, Stands}
+use Rattle.tiny_http_core.specs.Pending.{left_text, with_left_finished, begins_left, SendsLeft, FinishesFront, waiting_form}
+use Rattle.tiny_http_core.specs.Connection.{Kept, answer_form_of, open_slot, IsWaiting, AreKept, OutputAt, InputStands, Stands}
 use Rattle.tiny_http_stream.specs.Source.{SourceState}
 use Rattle.tiny_http_message.specs.Body.{GivesUp}
-use Rattle.tiny_http_core.proofs.BodySteps.{ReadsFrom, with_reader, next-same, reader-given_up}
-use Rattle.tiny_http_core.proofs.AskLemmas.{Answered, step-unchanged}
+use Rattle.tiny_http_core.proofs.BodySteps.{IsInput, with_reader, next-same, reader-given_up}
+use Rattle.tiny_http_core.proofs.AskLemmas.{StepIsAnswered, step-unchanged}
 use Rattle.tiny_http_core.proofs.SlotLemmas.{all-snoc, joined-front, joined-broken, joined-waits, breaks-front, breaks-waits}
 use Rattle.tiny_http_core.proofs.KeptLemmas.{get-at, set-at, take-at, kept-append, kept-many, kept-passed, none-waits, place-of, InTurn, OutOfTurn, turn-at}
-use Rattle.tiny_http_core.proofs.OutputLemmas.{behind, front-all, left-finished, lost-output, all-firm, ended-is, output-same, plain-more, can-send, output-more}
+use Rattle.tiny_http_core.proofs.OutputLemmas.{joined_behind, front-all, left-finished, lost-output, all-firm, ended-is, output-same, plain-more, can-send, output-more}
 use Rattle.tiny_http_core.proofs.PassLemmas.{none-left}
 use Rattle.tiny_http_core.proofs.SendLemmas.{or-false}
 
 -- a number that is finished takes no such step
-abbrev pub TakesNone : Asked → Type 0
-TakesNone step = (stage : Stage) (owed : Bool) → is_over stage ≡ true → takes stage owed step ≡ false
+abbrev pub TakesNone : StepValue → Type 0
+TakesNone step = (stage : Stage) (owed : Bool) → is_stage_finished stage ≡ true → accepts_step stage owed step ≡ false
 
 pub respond-not_taken : (n : ℕ) (v : ResponseValue) → TakesNone (Respond n v)
-respond-not_taken n v Waits owed e = cc
+respond-not_taken n v Unanswered owed e = cc
 respond-not_taken n v (AnsweredBy r d f) owed e = refl
 respond-not_taken n v ByServer owed e = refl
 respond-not_taken n v (Raw w c) owed e = refl
 respond-not_taken n v (Upgraded p r d w c) owed e = refl
 
-nothing-at : (date : HttpDate) (old : Reached) (n : ℕ) (step : Asked) → TakesNone step → ((x : Slot) → slice_get old.slots n ≡ Some x → is_finished x ≡ true) → at_number true date old n step ≡ unchanged old NoSuch
+nothing-at : (date : HttpDate) (old : Reached) (n : ℕ) (step : StepValue) → TakesNone step → ((x : Slot) → slice_get old.slots n ≡ Some x → is_finished x ≡ true) → at_number true date old n step ≡ unchanged old NoSuch
 nothing-at date old n step free h = at (slice_get old.slots n) refl
   where
     of : (x : Slot) (item : Item) → is_finished x ≡ true → at_item true date old n step x item ≡ unchanged old NoSuch
@@ -54,8 +54,8 @@ nothing-at date old n step free h = at (slice_get old.slots n) refl
     at (Some x) e = of x x.item (h x e)
 
 -- no request of this number takes the step
-pub no-such : (client : Feed) (before : Sink) (k : Kept) (s : State) (date : HttpDate) (n : ℕ) (step : Asked) → outcome true date s.reached step ≡ at_number true date s.reached n step → TakesNone step → Stands client before k s → waiting_form (slice_get k.requests n) ≡ None
-    → Answered client before k s date step NoSuch
+pub no-such : (client : Feed) (before : Sink) (k : Kept) (s : State) (date : HttpDate) (n : ℕ) (step : StepValue) → outcome true date s.reached step ≡ at_number true date s.reached n step → TakesNone step → Stands client before k s → waiting_form (slice_get k.requests n) ≡ None
+    → StepIsAnswered client before k s date step NoSuch
 no-such client before k s date n step at free st none =
     step-unchanged client before k s date step NoSuch st (at ∙ nothing-at date s.reached n step free (none-waits s.reached.slots k.marks k.requests n st.numbers none))
 
@@ -83,7 +83,7 @@ slot-at slots bs cs s0 n e place =
 
 -- its turn hasn't come
 pub respond-not_yet : (client : Feed) (before : Sink) (k : Kept) (s : State) (date : HttpDate) (n : ℕ) (v : ResponseValue) (w : Waiting) → Stands client before k s → slice_get k.requests n ≡ Some (Some w)
-    → ((slice_get k.marks n ≡ Some Open) × (n ≡ first_unfinished k.marks) → ⊥) → Answered client before k s date (Respond n v) NotYet
+    → ((slice_get k.marks n ≡ Some Open) × (n ≡ first_unfinished k.marks) → ⊥) → StepIsAnswered client before k s date (Respond n v) NotYet
 respond-not_yet client before k s date n v w st e never =
     let p = place-of s.reached.slots k.marks k.requests n w st.numbers e in
     let at = slot-at s.reached.slots p.bs p.cs p.s n p.slots_are p.slots_before in
@@ -106,32 +106,32 @@ at-turn : (date asked : HttpDate) (old : Reached) (n : ℕ) (v : ResponseValue) 
 at-turn date asked old n v r given told found e t = ap (at_slot found date old n (Respond n v)) e ∙ rw t refl
 
 -- how the response is printed
-printed-for : (r : Request) (form : AnswerForm) (date : HttpDate) → form ≡ form_of r → PrintedFor form date (to_request r date)
+printed-for : (r : Request) (form : AnswerForm) (date : HttpDate) → form ≡ answer_form_of r → PrintedFor form date (to_request r date)
 printed-for r form date e = record { version = ap (λ (x : AnswerForm). x.version) (sym e); no_body = ap (λ (x : AnswerForm). x.no_body) (sym e); no_upgrade = refl; dated = refl }
 
 -- what becomes of the response's own text, with the step's reply: it was sent, or broke off, or the writer failed in it
-abbrev pub OwnWrites : Bool → Option Failure → List ℕ → Text → Replied → Option Failure → Type 0
+abbrev pub OwnWrites : Bool → Option Failure → List ℕ → Text → ReplyValue → Option Failure → Type 0
 OwnWrites was failed known text reply failure =
     MatchBool was ((reply ≡ Done) × (failure ≡ failed))
     (((reply ≡ broken_reply fault_of_answer Done (fault_in text.ending)) × (failure ≡ None))
     ⊎ (FailsTold fault_of_answer reply known (known ++ text.bytes) failure
     ⊎ ((kind : ErrorKind) × (text.ending ≡ Broken kind) × (reply ≡ broken_reply fault_of_answer Done (fault_in text.ending)) × FailsBetween known (known ++ text.bytes) failure)))
 
-pub record OwnSaid (before mid : Sink) (was ended : Bool) (bs : List Slot) (s1 : Slot) (text : Text) (failed : Option Failure) (reply : Replied) : Type 0 where
+pub record OwnSaid (before mid : Sink) (was ended : Bool) (bs : List Slot) (s1 : Slot) (text : Text) (failed : Option Failure) (reply : ReplyValue) : Type 0 where
   pub failure : Option Failure
   pub output : OutputAt before mid ended (bs ++ (s1 ∷ [])) failure
   pub writes : OwnWrites was failed (joined bs) text reply failure
 
-told-broken : (text : Text) (kind : ErrorKind) (reply : Replied) → text.ending ≡ Broken kind → reply ≡ fault_of_answer kind → reply ≡ broken_reply fault_of_answer Done (fault_in text.ending)
+told-broken : (text : Text) (kind : ErrorKind) (reply : ReplyValue) → text.ending ≡ Broken kind → reply ≡ fault_of_answer kind → reply ≡ broken_reply fault_of_answer Done (fault_in text.ending)
 told-broken text kind reply e t = t ∙ ap (λ x. broken_reply fault_of_answer Done (fault_in x)) (sym e)
 
-own-said : {T : Type 0} (before sink mid : Sink) (ended : Bool) (bs : List Slot) (s1 : Slot) (text : Text) (r : Result T Error) (reply : Replied) → OutputAt before sink false bs None → list_all is_finished bs ≡ true → is_finished s1 ≡ true
+own-said : {T : Type 0} (before sink mid : Sink) (ended : Bool) (bs : List Slot) (s1 : Slot) (text : Text) (r : Result T Error) (reply : ReplyValue) → OutputAt before sink false bs None → list_all is_finished bs ≡ true → is_finished s1 ≡ true
     → segment s1 ≡ text.bytes → is_slot_broken s1 ≡ is_broken text.ending → before.failures < 2 ^ 64 - 1 → SendsText sink mid ended r text → IsFlushed mid → reply ≡ reply_to r → OwnSaid before mid false ended bs s1 text None reply
 own-said before sink mid ended bs s1 text (Ok x) reply h fin over own broken low d flushed t =
-    let none : breaks_off bs ≡ false = sym h.3 in
+    let none : is_output_broken bs ≡ false = sym h.3 in
     let whole : is_slot_broken s1 ≡ false = broken ∙ ap is_broken d.0 in
     let longer : joined bs ++ text.bytes ≡ joined (bs ++ (s1 ∷ [])) = ap (λ y. joined bs ++ y) (sym own ∙ sym (rw (over, whole) (append-nil (segment s1)))) ∙ sym (joined-front bs (s1 ∷ []) fin none) in
-    let breaks : breaks_off (bs ++ (s1 ∷ [])) ≡ false = breaks-front bs (s1 ∷ []) fin ∙ rw (none, over, whole) refl in
+    let breaks : is_output_broken (bs ++ (s1 ∷ [])) ≡ false = breaks-front bs (s1 ∷ []) fin ∙ rw (none, over, whole) refl in
     let taken : mid.taken ≡ Some (joined (bs ++ (s1 ∷ []))) = d.1.bytes ∙ ap (λ y. append_known y text.bytes) h.0 ∙ ap Some longer in
     record {
       failure = None;
@@ -141,21 +141,21 @@ own-said before sink mid ended bs s1 text (Ok x) reply h fin over own broken low
 own-said before sink mid ended bs s1 text (Err e) reply h fin over own broken low d flushed t =
     ⊎_elim (λ k. ⊎_elim (λ x. broken-sent k.0 x) (λ x. broken-lost k.0 x.0 x.1) k.1) (λ l. lost l) d.2
   where
-    none : breaks_off bs ≡ false
+    none : is_output_broken bs ≡ false
     none = sym h.3
 
-    broken-sent : text.ending ≡ Broken (error_kind e) → Wrote sink mid text.bytes → OwnSaid before mid false ended bs s1 text None reply
+    broken-sent : text.ending ≡ Broken (error_kind e) → OutletTook sink mid text.bytes → OwnSaid before mid false ended bs s1 text None reply
     broken-sent b x =
         let breaks_is : is_slot_broken s1 ≡ true = broken ∙ ap is_broken b in
         let longer : joined bs ++ text.bytes ≡ joined (bs ++ (s1 ∷ [])) = ap (λ y. joined bs ++ y) (sym own ∙ sym (rw (over, breaks_is) (append-nil (segment s1)))) ∙ sym (joined-front bs (s1 ∷ []) fin none) in
-        let breaks : breaks_off (bs ++ (s1 ∷ [])) ≡ true = breaks-front bs (s1 ∷ []) fin ∙ rw (none, breaks_is) refl in
+        let breaks : is_output_broken (bs ++ (s1 ∷ [])) ≡ true = breaks-front bs (s1 ∷ []) fin ∙ rw (none, breaks_is) refl in
         record {
           failure = None;
           output = (x.bytes ∙ ap (λ y. append_known y text.bytes) h.0 ∙ ap Some longer, x.failures ∙ h.1, d.1 ∙ sym d.0, d.0 ∙ sym breaks, λ z. (let absent : true ≡ false = sym d.0 ∙ z in cc));
           writes = inl (told-broken text (error_kind e) reply b t, refl);
         }
 
-    broken-lost : text.ending ≡ Broken (error_kind e) → (kind : ErrorKind) → Lost sink mid text.bytes kind → OwnSaid before mid false ended bs s1 text None reply
+    broken-lost : text.ending ≡ Broken (error_kind e) → (kind : ErrorKind) → OutletFailed sink mid text.bytes kind → OwnSaid before mid false ended bs s1 text None reply
     broken-lost b kind l =
         let z = lost-output before sink mid (joined bs) text.bytes kind h.0 h.1 (h.4 refl) low l in
         let f : Failure = record { kind = kind; output = z.output } in
@@ -165,7 +165,7 @@ own-said before sink mid ended bs s1 text (Err e) reply h fin over own broken lo
           writes = inr (inr (error_kind e, b, told-broken text (error_kind e) reply b t, (f, refl, z.begins, z.front)));
         }
 
-    lost : Lost sink mid text.bytes (error_kind e) → OwnSaid before mid false ended bs s1 text None reply
+    lost : OutletFailed sink mid text.bytes (error_kind e) → OwnSaid before mid false ended bs s1 text None reply
     lost l =
         let z = lost-output before sink mid (joined bs) text.bytes (error_kind e) h.0 h.1 (h.4 refl) low l in
         let f : Failure = record { kind = error_kind e; output = z.output } in
@@ -175,7 +175,7 @@ own-said before sink mid ended bs s1 text (Err e) reply h fin over own broken lo
           writes = inr (inl (f, refl, t, z.begins, z.front));
         }
 
-pub own-sent : {T : Type 0} (before sink mid : Sink) (was ended : Bool) (bs : List Slot) (s1 : Slot) (text : Text) (failed : Option Failure) (r : Result T Error) (reply : Replied) → OutputAt before sink was bs failed → list_all is_finished bs ≡ true → is_finished s1 ≡ true
+pub own-sent : {T : Type 0} (before sink mid : Sink) (was ended : Bool) (bs : List Slot) (s1 : Slot) (text : Text) (failed : Option Failure) (r : Result T Error) (reply : ReplyValue) → OutputAt before sink was bs failed → list_all is_finished bs ≡ true → is_finished s1 ≡ true
     → segment s1 ≡ text.bytes → is_slot_broken s1 ≡ is_broken text.ending → before.failures < 2 ^ 64 - 1 → was ≡ false → SendsText sink mid ended r text → IsFlushed mid → reply ≡ reply_to r → OwnSaid before mid was ended bs s1 text failed reply
 own-sent before sink mid was ended bs s1 text (Some f) r reply h fin over own broken low z d flushed t = let absent : false ≡ true = sym z ∙ h.3 in cc
 own-sent {T = T} before sink mid was ended bs s1 text None r reply h fin over own broken low z d flushed t =
@@ -186,8 +186,8 @@ own-sent {T = T} before sink mid was ended bs s1 text None r reply h fin over ow
 -- an output that has ended sends nothing
 pub own-past : (before sink : Sink) (was : Bool) (bs : List Slot) (s1 : Slot) (text : Text) (failed : Option Failure) → OutputAt before sink was bs failed → list_all is_finished bs ≡ true → was ≡ true → OwnSaid before sink was was bs s1 text failed Done
 own-past before sink was bs s1 text None h fin z =
-    let breaks : breaks_off bs ≡ true = sym h.3 ∙ z in
-    let all : breaks_off (bs ++ (s1 ∷ [])) ≡ breaks_off bs = breaks-front bs (s1 ∷ []) fin ∙ rw breaks refl in
+    let breaks : is_output_broken bs ≡ true = sym h.3 ∙ z in
+    let all : is_output_broken (bs ++ (s1 ∷ [])) ≡ is_output_broken bs = breaks-front bs (s1 ∷ []) fin ∙ rw breaks refl in
     let M : Bool → Type 0 = λ b. OwnWrites b None (joined bs) text Done None in
     record { failure = None; output = output-same before sink was bs (bs ++ (s1 ∷ [])) None (sym (joined-broken bs (s1 ∷ []) breaks)) (sym all) h; writes = subst M (sym z) (refl, refl) }
 own-past before sink was bs s1 text (Some f) h fin z =
@@ -195,14 +195,14 @@ own-past before sink was bs s1 text (Some f) h fin z =
     record { failure = Some f; output = h; writes = subst M (sym z) (refl, refl) }
 
 -- The response and the texts behind it, as the step's part of the output.
-pub record Said (before new : Sink) (ended : Bool) (slots : List Slot) (was : State) (text : Text) (reply : Replied) : Type 0 where
+pub record Said (before new : Sink) (ended : Bool) (slots : List Slot) (was : State) (text : Text) (reply : ReplyValue) : Type 0 where
   pub failure : Option Failure
   pub output : OutputAt before new ended slots failure
-  pub writes : Writes (used text) was Done slots reply failure
+  pub writes : WriterPart (used text) was Done slots reply failure
   pub same : failure ≡ None → has_output_ended was ≡ true → (was.failure ≡ None) × (joined was.reached.slots ≡ joined slots)
 
 -- where nothing is written behind the response, it is as it was
-own-alternatives : (was : Bool) (failed : Option Failure) (old : List Slot) (text : Text) (slots : List Slot) (reply : Replied) (failure : Option Failure) → OwnWrites was failed (joined old) text reply failure → WritesIf was failed old text slots reply failure
+own-alternatives : (was : Bool) (failed : Option Failure) (old : List Slot) (text : Text) (slots : List Slot) (reply : ReplyValue) (failure : Option Failure) → OwnWrites was failed (joined old) text reply failure → WritesIf was failed old text slots reply failure
 own-alternatives true failed old text slots reply failure h = h
 own-alternatives false failed old text slots reply failure (inl h) = inl h
 own-alternatives false failed old text slots reply failure (inr (inl h)) = inr (inl h)
@@ -211,7 +211,7 @@ own-alternatives false failed old text slots reply failure (inr (inr h)) =
     inr (inr (h.2, subst P (sym h.1) h.3))
 
 -- a fault behind the response, in the texts that were left
-behind-alternatives : (was : Bool) (failed : Option Failure) (old : List Slot) (text : Text) (slots : List Slot) (reply : Replied) (own failure : Option Failure) → OwnWrites was failed (joined old) text reply own → is_some own ≡ false → text.ending ≡ Whole
+behind-alternatives : (was : Bool) (failed : Option Failure) (old : List Slot) (text : Text) (slots : List Slot) (reply : ReplyValue) (own failure : Option Failure) → OwnWrites was failed (joined old) text reply own → is_some own ≡ false → text.ending ≡ Whole
     → finished_front old + 1 < finished_front slots → (failure ≡ None) ⊎ FailsBetween (joined old ++ text.bytes) (joined slots) failure → was ≡ false → WritesIf was failed old text slots reply failure
 behind-alternatives true failed old text slots reply own failure h none whole more left z = cc
 behind-alternatives false failed old text slots reply own failure (inl h) none whole more left z =
@@ -221,13 +221,13 @@ behind-alternatives false failed old text slots reply own failure (inr (inl h)) 
 behind-alternatives false failed old text slots reply own failure (inr (inr h)) none whole more left z = let absent : true ≡ false = ap is_some (sym h.3.1) ∙ none in cc
 
 -- the output is open behind the response only where the response is whole, and was open before it
-open-whole : (before mid : Sink) (was : Bool) (bs : List Slot) (s1 : Slot) (text : Text) (failed : Option Failure) (reply : Replied) → list_all is_finished bs ≡ true → is_slot_broken s1 ≡ is_broken text.ending → (is_some failed || breaks_off bs) ≡ was
+open-whole : (before mid : Sink) (was : Bool) (bs : List Slot) (s1 : Slot) (text : Text) (failed : Option Failure) (reply : ReplyValue) → list_all is_finished bs ≡ true → is_slot_broken s1 ≡ is_broken text.ending → (is_some failed || is_output_broken bs) ≡ was
     → (o : OwnSaid before mid was false bs s1 text failed reply) → (is_some o.failure ≡ false) × (text.ending ≡ Whole) × (was ≡ false)
 open-whole before mid was bs s1 text failed reply fin broken over o =
-    let open_is : (is_some o.failure || breaks_off (bs ++ (s1 ∷ []))) ≡ false = ended-is before mid false (bs ++ (s1 ∷ [])) o.failure o.output in
-    let parts = or-false (is_some o.failure) (breaks_off (bs ++ (s1 ∷ []))) open_is in
-    let breaks : (breaks_off bs || breaks_off (s1 ∷ [])) ≡ false = sym (breaks-front bs (s1 ∷ []) fin) ∙ parts.1 in
-    let two = or-false (breaks_off bs) (breaks_off (s1 ∷ [])) breaks in
+    let open_is : (is_some o.failure || is_output_broken (bs ++ (s1 ∷ []))) ≡ false = ended-is before mid false (bs ++ (s1 ∷ [])) o.failure o.output in
+    let parts = or-false (is_some o.failure) (is_output_broken (bs ++ (s1 ∷ []))) open_is in
+    let breaks : (is_output_broken bs || is_output_broken (s1 ∷ [])) ≡ false = sym (breaks-front bs (s1 ∷ []) fin) ∙ parts.1 in
+    let two = or-false (is_output_broken bs) (is_output_broken (s1 ∷ [])) breaks in
     let whole : is_slot_broken s1 ≡ false = (or-false (is_slot_broken s1) (is_finished s1 && false) two.1).0 in
     (parts.0, unbroken text.ending (sym broken ∙ whole), by-was was refl)
   where
@@ -241,13 +241,13 @@ open-whole before mid was bs s1 text failed reply fin broken over o =
         let M : Bool → Type 0 = λ b. OwnWrites b failed (joined bs) text reply o.failure in
         let kept = subst M e o.writes in
         let open_is = ended-is before mid false (bs ++ (s1 ∷ [])) o.failure o.output in
-        let parts = or-false (is_some o.failure) (breaks_off (bs ++ (s1 ∷ []))) open_is in
-        let two = or-false (breaks_off bs) (breaks_off (s1 ∷ [])) (sym (breaks-front bs (s1 ∷ []) fin) ∙ parts.1) in
-        sym over ∙ ap (λ f. is_some f || breaks_off bs) (sym kept.1) ∙ ap (λ b. b || breaks_off bs) parts.0 ∙ two.0
+        let parts = or-false (is_some o.failure) (is_output_broken (bs ++ (s1 ∷ []))) open_is in
+        let two = or-false (is_output_broken bs) (is_output_broken (s1 ∷ [])) (sym (breaks-front bs (s1 ∷ []) fin) ∙ parts.1) in
+        sym over ∙ ap (λ f. is_some f || is_output_broken bs) (sym kept.1) ∙ ap (λ b. b || is_output_broken bs) parts.0 ∙ two.0
 
-pub respond-left : (before mid new : Sink) (was mid_ended ended : Bool) (bs : List Slot) (s0 s1 : Slot) (cs : List Slot) (fs rs : List Mark) (vs : List (Option Waiting)) (old : State) (text : Text) (reply : Replied)
+pub respond-left : (before mid new : Sink) (was mid_ended ended : Bool) (bs : List Slot) (s0 s1 : Slot) (cs : List Slot) (fs rs : List Mark) (vs : List (Option Waiting)) (old : State) (text : Text) (reply : ReplyValue)
     → old.reached.slots ≡ bs ++ (s0 ∷ cs) → has_output_ended old ≡ was → IsAllFlushed old → list_all is_finished bs ≡ true → is_finished s0 ≡ false → segment s0 ≡ [] → is_finished s1 ≡ true → is_slot_broken s1 ≡ is_broken text.ending → segment s1 ≡ text.bytes
-    → (is_some old.failure || breaks_off bs) ≡ was → OwnSaid before mid was mid_ended bs s1 text old.failure reply → InTurn bs fs rs → AreKept cs rs vs → before.failures < 2 ^ 64 - 1 → SendsLeft rs mid_ended mid new ended
+    → (is_some old.failure || is_output_broken bs) ≡ was → OwnSaid before mid was mid_ended bs s1 text old.failure reply → InTurn bs fs rs → AreKept cs rs vs → before.failures < 2 ^ 64 - 1 → SendsLeft rs mid_ended mid new ended
     → Said before new ended (bs ++ (s1 ∷ cs)) old text reply
 respond-left before mid new was mid_ended ended bs s0 s1 cs fs rs vs old text reply slots_are over firm fin open_is none_sent done broken own over2 o t kept low sends = by-left (begins_left rs) refl sends
   where
@@ -263,14 +263,14 @@ respond-left before mid new was mid_ended ended bs s0 s1 cs fs rs vs old text re
     all-finished : list_all is_finished (bs ++ (s1 ∷ [])) ≡ true
     all-finished = all-snoc is_finished bs s1 fin done
 
-    by-has_ended : (reply : Replied) (failure : Option Failure) → WritesIf was old.failure old.reached.slots text all reply failure → Writes (used text) old Done all reply failure
+    by-has_ended : (reply : ReplyValue) (failure : Option Failure) → WritesIf was old.failure old.reached.slots text all reply failure → WriterPart (used text) old Done all reply failure
     by-has_ended reply failure h = reported old was text all reply failure over firm h
 
-    same_output : (reply : Replied) (failure : Option Failure) → WritesIf was old.failure old.reached.slots text all reply failure → failure ≡ None → has_output_ended old ≡ true → (old.failure ≡ None) × (joined old.reached.slots ≡ joined all)
+    same_output : (reply : ReplyValue) (failure : Option Failure) → WritesIf was old.failure old.reached.slots text all reply failure → failure ≡ None → has_output_ended old ≡ true → (old.failure ≡ None) × (joined old.reached.slots ≡ joined all)
     same_output reply failure h none z =
         let M : Bool → Type 0 = λ b. WritesIf b old.failure old.reached.slots text all reply failure in
         let kept : old.failure ≡ None = sym (subst M (sym over ∙ z) h).1 ∙ none in
-        let breaks : breaks_off bs ≡ true = ap (λ f. is_some f || breaks_off bs) (sym kept) ∙ over2 ∙ sym over ∙ z in
+        let breaks : is_output_broken bs ≡ true = ap (λ f. is_some f || is_output_broken bs) (sym kept) ∙ over2 ∙ sym over ∙ z in
         (kept, known ∙ sym (joined-broken bs (s1 ∷ cs) breaks))
 
     writes-known : (failure : Option Failure) → OwnWrites was old.failure (joined bs) text reply failure → OwnWrites was old.failure (joined old.reached.slots) text reply failure
@@ -278,7 +278,7 @@ respond-left before mid new was mid_ended ended bs s0 s1 cs fs rs vs old text re
 
     nothing-left : begins_left rs ≡ false → new ≡ mid → ended ≡ mid_ended → Said before new ended all old text reply
     nothing-left e n z =
-        let b = behind cs rs vs t.waiting kept in
+        let b = joined_behind cs rs vs t.waiting kept in
         let no_text : joined cs ≡ [] = b.0 ∙ (none-left rs e).0 in
         let out = plain-more before mid mid_ended (bs ++ (s1 ∷ [])) cs o.failure o.output all-finished no_text b.1 in
         let P : List Slot → Type 0 = λ l. OutputAt before mid mid_ended l o.failure in
@@ -292,7 +292,7 @@ respond-left before mid new was mid_ended ended bs s0 s1 cs fs rs vs old text re
 
     left-behind : begins_left rs ≡ true → SendsUnlessEnded mid_ended mid new ended (left_text rs) → IsFlushed new → Said before new ended all old text reply
     left-behind e sent flushed =
-        let b = behind cs rs vs t.waiting kept in
+        let b = joined_behind cs rs vs t.waiting kept in
         let go = output-more before mid new mid_ended ended (bs ++ (s1 ∷ [])) cs (left_text rs) o.failure o.output all-finished b.0 b.1 low sent flushed in
         let P : List Slot → Type 0 = λ l. OutputAt before new ended l go.failure in
         record {
@@ -322,7 +322,7 @@ respond-left before mid new was mid_ended ended bs s0 s1 cs fs rs vs old text re
             let O : Bool → Type 0 = λ m. OwnSaid before mid was m bs s1 text old.failure reply in
             let said = subst O z o in
             let w = open-whole before mid was bs s1 text old.failure reply fin broken over2 said in
-            let none_broken : breaks_off bs ≡ false = (or-false (is_some old.failure) (breaks_off bs) (over2 ∙ w.2)).1 in
+            let none_broken : is_output_broken bs ≡ false = (or-false (is_some old.failure) (is_output_broken bs) (over2 ∙ w.2)).1 in
             let from : joined (bs ++ (s1 ∷ [])) ≡ joined old.reached.slots ++ text.bytes =
             joined-front bs (s1 ∷ []) fin none_broken ∙ ap (λ y. joined bs ++ y) (rw (done, broken ∙ ap is_broken w.1) (append-nil (segment s1)) ∙ own) ∙ ap (λ y. y ++ text.bytes) (sym known) in
             let F : List ℕ → Type 0 = λ y. (failure ≡ None) ⊎ FailsBetween y (joined ((bs ++ (s1 ∷ [])) ++ cs)) failure in
@@ -350,7 +350,7 @@ pub record Answerable (k : Kept) (s : State) (n : ℕ) (form : AnswerForm) : Typ
   pub requests_are : k.requests ≡ us ++ (Some waiting ∷ vs)
   pub at : SlotAt s.reached.slots bs cs (open_slot waits.date waits.request waits.given waits.told) n
   pub place : length fs ≡ n
-  pub form_is : form ≡ form_of waits.request
+  pub form_is : form ≡ answer_form_of waits.request
   pub kept : slice_get k.requests n ≡ Some (Some waiting)
   pub as_many : length cs ≡ length vs
   pub requests_set : slice_set k.requests n None ≡ us ++ (None ∷ vs)
@@ -398,7 +398,7 @@ answerable client before k s n form st e first =
 pub output-before : (client : Feed) (before : Sink) (k : Kept) (s : State) (bs cs : List Slot) (asked : HttpDate) (r : Request) (given : ℕ) (told : Bool) → Stands client before k s → s.reached.slots ≡ bs ++ (open_slot asked r given told ∷ cs) → OutputAt before k.sink k.output_ended bs s.failure
 output-before client before k s bs cs asked r given told st e =
     let s0 = open_slot asked r given told in
-    output-same before k.sink k.output_ended s.reached.slots bs s.failure (ap joined e ∙ joined-waits bs s0 cs refl refl) (ap breaks_off e ∙ breaks-waits bs s0 cs refl refl) st.output
+    output-same before k.sink k.output_ended s.reached.slots bs s.failure (ap joined e ∙ joined-waits bs s0 cs refl refl) (ap is_output_broken e ∙ breaks-waits bs s0 cs refl refl) st.output
 
 -- what the connection keeps behind a step of a number
 abbrev pub after_number : Kept → List Mark → List (Option Waiting) → {R : Type 0} → SourceState R → Sink → Bool → Kept
@@ -406,15 +406,15 @@ after_number k marks requests source sink ended =
     record k { marks = marks; requests = requests; standing = source.standing; feed = source.feed; stop = source.stop; is_over = source.is_over; sink = sink; output_ended = ended }
 
 -- the reader doesn't see the turns and the output
-pub reader-after : {R : Type 0} (client : Feed) (k : Kept) (marks : List Mark) (requests : List (Option Waiting)) (source : SourceState R) (sink : Sink) (ended : Bool) (slots : List Slot) (rest : List Item) → Reader client (with_reader k requests source) slots rest
-    → Reader client (after_number k marks requests source sink ended) slots rest
+pub reader-after : {R : Type 0} (client : Feed) (k : Kept) (marks : List Mark) (requests : List (Option Waiting)) (source : SourceState R) (sink : Sink) (ended : Bool) (slots : List Slot) (rest : List Item) → InputStands client (with_reader k requests source) slots rest
+    → InputStands client (after_number k marks requests source sink ended) slots rest
 reader-after client k marks requests source sink ended slots rest r =
     record { settled = r.settled; gives = r.gives; next = λ e. next-same (with_reader k requests source) (after_number k marks requests source sink ended) (last_slot slots) (last_slot slots) rest refl refl refl refl refl refl (r.next e); source = r.source }
 
-respond-stands : {R : Type 0} (client : Feed) (before : Sink) (k : Kept) (s : State) (date : HttpDate) (n : ℕ) (v : ResponseValue) (form : AnswerForm) (found : Bool) (mid new : Sink) (mid_ended ended : Bool) (final : List Mark) (requests : List (Option Waiting)) (source : SourceState R) (reply : Replied)
-    → Stands client before k s → before.failures < 2 ^ 64 - 1 → (a : Answerable k s n form) → (found ≡ true) ⊎ IsGathered v.answer (to_request a.waits.request date) → requests ≡ slice_set k.requests n None → Reader client (with_reader k (a.us ++ (None ∷ a.vs)) source) (a.bs ++ (answered_slot a.waits.date a.waits.request a.waits.given a.waits.told v date found ∷ a.cs)) s.reached.rest → Passes a.fs a.rs final
+respond-stands : {R : Type 0} (client : Feed) (before : Sink) (k : Kept) (s : State) (date : HttpDate) (n : ℕ) (v : ResponseValue) (form : AnswerForm) (found : Bool) (mid new : Sink) (mid_ended ended : Bool) (final : List Mark) (requests : List (Option Waiting)) (source : SourceState R) (reply : ReplyValue)
+    → Stands client before k s → before.failures < 2 ^ 64 - 1 → (a : Answerable k s n form) → (found ≡ true) ⊎ IsGathered v.answer (to_request a.waits.request date) → requests ≡ slice_set k.requests n None → InputStands client (with_reader k (a.us ++ (None ∷ a.vs)) source) (a.bs ++ (answered_slot a.waits.date a.waits.request a.waits.given a.waits.told v date found ∷ a.cs)) s.reached.rest → FinishesFront a.fs a.rs final
     → OwnSaid before mid k.output_ended mid_ended a.bs (answered_slot a.waits.date a.waits.request a.waits.given a.waits.told v date found) (response_sent found v a.waits.request date) s.failure reply → SendsLeft a.rs mid_ended mid new ended
-    → Answered client before (after_number k final requests source new ended) s date (Respond n v) reply
+    → StepIsAnswered client before (after_number k final requests source new ended) s date (Respond n v) reply
 respond-stands client before k s date n v form found mid new mid_ended ended final requests source reply st low a lack requests_are reader passes own sends =
     let s0 = open_slot a.waits.date a.waits.request a.waits.given a.waits.told in
     let s1 = answered_slot a.waits.date a.waits.request a.waits.given a.waits.told v date found in
@@ -425,19 +425,19 @@ respond-stands client before k s date n v form found mid new mid_ended ended fin
     let slots = a.bs ++ (s1 ∷ a.cs) in
     let new_state : State = record { reached = record { slots = slots; rest = s.reached.rest; ended = s.reached.ended }; flushed = flushed_after (used text) s slots; failure = said.failure } in
     let R : List Slot → Reached = λ l. record { slots = l; rest = s.reached.rest; ended = s.reached.ended } in
-    let W : List Slot → Type 0 = λ l. Writes (used text) s Done l reply said.failure in
-    let G : Outcome → Type 0 = λ x. Has x s reply new_state in
+    let W : List Slot → Type 0 = λ l. WriterPart (used text) s Done l reply said.failure in
+    let G : Outcome → Type 0 = λ x. HasOutcome x s reply new_state in
     let has = subst G (sym is) (ap R (sym (a.at.set s1)), ap (flushed_after (used text) s) (sym (a.at.set s1)), subst W (sym (a.at.set s1)) said.writes) in
     let M : List Mark → Type 0 = λ y. AreKept slots y requests in
-    let Q : List (Option Waiting) → Type 0 = λ y. AreKept slots (a.fs ++ (Finished ∷ passed a.rs)) y in
+    let Q : List (Option Waiting) → Type 0 = λ y. AreKept slots (a.fs ++ (Finished ∷ with_left_finished a.rs)) y in
     let K : List Mark → Type 0 = λ y. AreInShape y in (
       new_state,
       record {
-        numbers = subst M (sym passes) (subst Q (sym (requests_are ∙ a.requests_set)) (kept-append a.bs a.fs a.us (s1 ∷ a.cs) (Finished ∷ passed a.rs) (None ∷ a.vs) a.before (record { finished = refl; given_up = refl }, kept-passed a.cs a.rs a.vs a.behind)));
+        numbers = subst M (sym passes) (subst Q (sym (requests_are ∙ a.requests_set)) (kept-append a.bs a.fs a.us (s1 ∷ a.cs) (Finished ∷ with_left_finished a.rs) (None ∷ a.vs) a.before (record { finished = refl; given_up = refl }, kept-passed a.cs a.rs a.vs a.behind)));
         shape = subst K (sym passes) a.turn.shape;
         ended = st.ended;
         flushed = still-flushed s k.output_ended slots said.failure (ended-is before k.sink k.output_ended s.reached.slots s.failure st.output) st.flushed (λ none z. said.same none (ended-is before k.sink k.output_ended s.reached.slots s.failure st.output ∙ z));
-        reader = reader-after client k final requests source new ended slots s.reached.rest (subst (λ q. Reader client (with_reader k q source) slots s.reached.rest) (sym (requests_are ∙ a.requests_set)) reader);
+        reader = reader-after client k final requests source new ended slots s.reached.rest (subst (λ q. InputStands client (with_reader k q source) slots s.reached.rest) (sym (requests_are ∙ a.requests_set)) reader);
         output = said.output;
       },
       inl (found, lacks found lack a.at.get, has),
@@ -449,17 +449,17 @@ respond-stands client before k s date n v form found mid new mid_ended ended fin
     lacks false (inr x) g = let P : Option Slot → Type 0 = λ o. GathersAt date v o in subst P (sym g) x
 
 -- what the call that answers did
-pub RespondsBy : Kept → Sink → Bool → Replied → ResponseValue → AnswerForm → HttpDate → Type 0
+pub RespondsBy : Kept → Sink → Bool → ReplyValue → ResponseValue → AnswerForm → HttpDate → Type 0
 RespondsBy k mid mid_ended reply v form date =
     ((k.output_ended ≡ true) × (mid ≡ k.sink) × (mid_ended ≡ k.output_ended) × (reply ≡ Done))
     ⊎ ((k.output_ended ≡ false) × ((p : Printing) → PrintedFor form date p → Answers k.sink mid mid_ended reply v.answer v.content p))
 
-pub respond-done : {R : Type 0} (client : Feed) (before : Sink) (k : Kept) (s : State) (date : HttpDate) (n : ℕ) (v : ResponseValue) (form : AnswerForm) (mid new : Sink) (mid_ended ended : Bool) (marks final : List Mark) (requests : List (Option Waiting)) (old source : SourceState R) (reply : Replied)
-    → Stands client before k s → ReadsFrom k old → ((w : Waiting) → slice_get k.requests n ≡ Some (Some w) → GivesUp w.body old source) → before.failures < 2 ^ 64 - 1 → waiting_form (slice_get k.requests n) ≡ Some form → n ≡ first_unfinished k.marks → marks ≡ slice_set k.marks n Held → requests ≡ slice_set k.requests n None
+pub respond-done : {R : Type 0} (client : Feed) (before : Sink) (k : Kept) (s : State) (date : HttpDate) (n : ℕ) (v : ResponseValue) (form : AnswerForm) (mid new : Sink) (mid_ended ended : Bool) (marks final : List Mark) (requests : List (Option Waiting)) (old source : SourceState R) (reply : ReplyValue)
+    → Stands client before k s → IsInput k old → ((w : Waiting) → slice_get k.requests n ≡ Some (Some w) → GivesUp w.body old source) → before.failures < 2 ^ 64 - 1 → waiting_form (slice_get k.requests n) ≡ Some form → n ≡ first_unfinished k.marks → marks ≡ slice_set k.marks n Held → requests ≡ slice_set k.requests n None
     → RespondsBy k mid mid_ended reply v form date
-    → ((front rest : List Mark) → marks ≡ front ++ (Held ∷ rest) → length front ≡ n → Passes front rest final)
+    → ((front rest : List Mark) → marks ≡ front ++ (Held ∷ rest) → length front ≡ n → FinishesFront front rest final)
     → ((front rest : List Mark) → marks ≡ front ++ (Held ∷ rest) → length front ≡ n → (mid_ended ≡ false → CanSend mid) → SendsLeft rest mid_ended mid new ended)
-    → Answered client before (after_number k final requests source new ended) s date (Respond n v) reply
+    → StepIsAnswered client before (after_number k final requests source new ended) s date (Respond n v) reply
 unfolding RespondsBy
 respond-done {R = R} client before k s date n v form mid new mid_ended ended marks final requests old source reply st from gives low e first marks_are requests_are own passes sends = by-own own
   where
@@ -472,22 +472,22 @@ respond-done {R = R} client before k s date n v form mid new mid_ended ended mar
     out : OutputAt before k.sink k.output_ended a.bs s.failure
     out = output-before client before k s a.bs a.cs a.waits.date a.waits.request a.waits.given a.waits.told st a.slots_are
 
-    reader : (found : Bool) → Reader client (with_reader k (a.us ++ (None ∷ a.vs)) source) (a.bs ++ (answered_slot a.waits.date a.waits.request a.waits.given a.waits.told v date found ∷ a.cs)) s.reached.rest
+    reader : (found : Bool) → InputStands client (with_reader k (a.us ++ (None ∷ a.vs)) source) (a.bs ++ (answered_slot a.waits.date a.waits.request a.waits.given a.waits.told v date found ∷ a.cs)) s.reached.rest
     reader found =
-        let P : List Slot → Type 0 = λ l. Reader client k l s.reached.rest in
+        let P : List Slot → Type 0 = λ l. InputStands client k l s.reached.rest in
         reader-given_up client k old source a.bs a.cs a.us a.vs s.reached.rest a.slot a.waiting (AnsweredBy v date found) a.waits from (subst P a.slots_were st.reader) a.requests_are a.as_many (gives a.waiting a.kept)
 
     answered : (found : Bool) → (found ≡ true) ⊎ IsGathered v.answer (to_request a.waits.request date) → OwnSaid before mid k.output_ended mid_ended a.bs (answered_slot a.waits.date a.waits.request a.waits.given a.waits.told v date found) (response_sent found v a.waits.request date) s.failure reply
-        → Answered client before (after_number k final requests source new ended) s date (Respond n v) reply
+        → StepIsAnswered client before (after_number k final requests source new ended) s date (Respond n v) reply
     answered found lack o =
         respond-stands client before k s date n v form found mid new mid_ended ended final requests source reply st low a lack requests_are (reader found) (passes a.fs a.rs held a.place) o
         (sends a.fs a.rs held a.place (can-send before mid mid_ended (a.bs ++ (answered_slot a.waits.date a.waits.request a.waits.given a.waits.told v date found ∷ [])) o.failure o.output low))
 
-    by-own : RespondsBy k mid mid_ended reply v form date → Answered client before (after_number k final requests source new ended) s date (Respond n v) reply
+    by-own : RespondsBy k mid mid_ended reply v form date → StepIsAnswered client before (after_number k final requests source new ended) s date (Respond n v) reply
     by-own (inl h) =
         let s1 = answered_slot a.waits.date a.waits.request a.waits.given a.waits.told v date true in
         let o = own-past before k.sink k.output_ended a.bs s1 (response_sent true v a.waits.request date) s.failure out a.turn.finished h.0 in
-        let P : Sink → Bool → Replied → Type 0 = λ x y z. OwnSaid before x k.output_ended y a.bs s1 (response_sent true v a.waits.request date) s.failure z in
+        let P : Sink → Bool → ReplyValue → Type 0 = λ x y z. OwnSaid before x k.output_ended y a.bs s1 (response_sent true v a.waits.request date) s.failure z in
         answered true (inl refl) (subst (λ x. P x mid_ended reply) (sym h.1) (subst (λ y. P k.sink y reply) (sym h.2) (subst (λ z. P k.sink k.output_ended z) (sym h.3) o)))
     by-own (inr h) =
         let own = h.1 (to_request a.waits.request date) (printed-for a.waits.request form date a.form_is) in
@@ -500,7 +500,7 @@ respond-done {R = R} client before k s date n v form mid new mid_ended ended mar
         (own-sent {T = Unit {0}} before k.sink mid k.output_ended mid_ended a.bs (answered_slot a.waits.date a.waits.request a.waits.given a.waits.told v date false) (response_sent false v a.waits.request date) s.failure r reply out a.turn.finished refl refl refl low h.0 x.1 own.3 own.1))
         own.2
 
-pub responds-by : (k : Kept) (mid : Sink) (mid_ended : Bool) (reply : Replied) (v : ResponseValue) (form : AnswerForm) (date : HttpDate) → (k.output_ended ≡ true → (mid ≡ k.sink) × (mid_ended ≡ k.output_ended) × (reply ≡ Done))
+pub responds-by : (k : Kept) (mid : Sink) (mid_ended : Bool) (reply : ReplyValue) (v : ResponseValue) (form : AnswerForm) (date : HttpDate) → (k.output_ended ≡ true → (mid ≡ k.sink) × (mid_ended ≡ k.output_ended) × (reply ≡ Done))
     → (k.output_ended ≡ false → (p : Printing) → PrintedFor form date p → Answers k.sink mid mid_ended reply v.answer v.content p) → RespondsBy k mid mid_ended reply v form date
 unfolding RespondsBy
 responds-by k mid mid_ended reply v form date past open_is = by k.output_ended refl

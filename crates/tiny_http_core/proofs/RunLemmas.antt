@@ -11,19 +11,19 @@ use Rattle.tiny_http_device.proofs.DeviceLemmas.{IsFront-append}
 use Rattle.tiny_http_core.proofs.WritingLemmas.{IsAllFlushed}
 use Rattle.tiny_http_stream.specs.Outlet.{holding}
 use Rattle.tiny_http_stream.specs.Source.{GoesOn}
-use Rattle.tiny_http_message.specs.Pipeline.{Item, Place, Pipeline, said_length}
+use Rattle.tiny_http_message.specs.Pipeline.{Item, Place, Pipeline, body_length_or_0}
 use Rattle.tiny_http_message.specs.BodyLeft.{LeftAt}
 use Rattle.tiny_http_message.specs.HeadReads.{place_feed, place_after}
 use Rattle.tiny_http_message.proofs.LeftLemmas.{left-of}
 use Rattle.tiny_http_message.proofs.PipelineLemmas.{pipeline-none}
 use Rattle.tiny_http_wire.specs.declared.device.Stop.{Stop}
-use Rattle.tiny_http_core.specs.Slots.{Slot, joined, last_slot, last_is_open, reader_is_lost, is_last_item, is_last_slot}
-use Rattle.tiny_http_core.specs.Steps.{Replied}
-use Rattle.tiny_http_core.specs.Conversation.{State, Failure, StepsTo, Run, Dated, start, IsFresh, PlaceAt, WithinBody, WithinLast, InputAt, IsOutput, IsConversation}
+use Rattle.tiny_http_core.specs.Slots.{Slot, joined, last_slot, last_is_open, last_was_abandoned, is_last_item, is_last_slot}
+use Rattle.tiny_http_core.specs.Steps.{ReplyValue}
+use Rattle.tiny_http_core.specs.Conversation.{State, Failure, StepsTo, Run, TimedValue, start_state, IsFresh, PlaceAt, WithinBody, WithinLast, InputAt, IsOutput, IsConversation}
 use Rattle.tiny_http_core.specs.Connection.{Kept, OutputAt, IsWaiting, behind_body, slot_rest, GivesRest, Stands}
 use Rattle.tiny_http_stream.specs.ToCome.{stopped}
 use Rattle.tiny_http_message.specs.Body.{Remaining, remaining, is_streaming}
-use Rattle.tiny_http_core.specs.Pending.{last_body, streams}
+use Rattle.tiny_http_core.specs.Pending.{last_body, is_streaming_body}
 use Rattle.tiny_http_message.specs.declared.waiting.Waiting.{Waiting}
 use Rattle.tiny_http_message.specs.declared.body.Body.{Body}
 use Rattle.tiny_http_wire.specs.declared.device.Stop.TheVariants.{End}
@@ -38,21 +38,21 @@ use Rattle.tiny_http_core.specs.Sending.{FailsOnce, FailsOnceUnlessEnded, FailsA
 use Rattle.tiny_http_core.proofs.SendLemmas.{grown-none}
 use Rattle.tiny_http_core.proofs.AskLemmas.{pipeline-empty, same-feed, told-feed, last-of}
 
-pub run-more : (a mid new : State) (xs : List Dated) (rs : List Replied) (d : Dated) (r : Replied) → Run a xs rs mid → StepsTo mid d.0 d.1 r new → Run a (xs ++ d ∷ []) (rs ++ r ∷ []) new
+pub run-more : (a mid new : State) (xs : List TimedValue) (rs : List ReplyValue) (d : TimedValue) (r : ReplyValue) → Run a xs rs mid → StepsTo mid d.0 d.1 r new → Run a (xs ++ d ∷ []) (rs ++ r ∷ []) new
 run-more a mid new [] [] d r run step = (new, (let P : State → Type 0 = λ s. StepsTo s d.0 d.1 r new in subst P run step), refl)
 run-more a mid new (x ∷ xs) (y ∷ ys) d r run step = (run.0, run.1, run-more run.0 mid new xs ys d r run.2 step)
 run-more a mid new [] (y ∷ ys) d r run step = elim run [ ]
 run-more a mid new (x ∷ xs) [] d r run step = elim run [ ]
 
 -- the last of a list, where each is told by one
-pub record Split {X : Type 0} (told : X → Dated → Type 0) (xs : List X) (x : X) (ds : List Dated) : Type 0 where
-  pub front : List Dated
-  pub last : Dated
+pub record Split {X : Type 0} (told : X → TimedValue → Type 0) (xs : List X) (x : X) (ds : List TimedValue) : Type 0 where
+  pub front : List TimedValue
+  pub last : TimedValue
   pub joins : ds ≡ front ++ last ∷ []
   pub all : AllZip told xs front
   pub one : told x last
 
-pub split : {X : Type 0} (told : X → Dated → Type 0) (xs : List X) (x : X) (ds : List Dated) → AllZip told (xs ++ x ∷ []) ds → Split told xs x ds
+pub split : {X : Type 0} (told : X → TimedValue → Type 0) (xs : List X) (x : X) (ds : List TimedValue) → AllZip told (xs ++ x ∷ []) ds → Split told xs x ds
 split told [] x [] h = elim h [ ]
 split told [] x (d ∷ []) h = record { front = []; last = d; joins = refl; all = tt; one = h.0 }
 split told [] x (d ∷ e ∷ ds) h = elim h.1 [ ]
@@ -75,7 +75,7 @@ joins-end all done (x ∷ rest) joins len = absurd (omega arith)
 abbrev pub begun : Option Feed → Bool → Sink → Kept
 begun feed is_over sink = record { marks = []; requests = []; standing = at.Head; ended = false; feed = feed; stop = None; is_over = is_over; sink = holding sink [] false; output_ended = false }
 
-pub stands-begun : (client : Feed) (feed : Option Feed) (is_over : Bool) (sink : Sink) (items : List Item) → feed ≡ Some client → IsFresh sink → Pipeline (Some client.bytes) client.stop items → Stands client sink (begun feed is_over sink) (start items)
+pub stands-begun : (client : Feed) (feed : Option Feed) (is_over : Bool) (sink : Sink) (items : List Item) → feed ≡ Some client → IsFresh sink → Pipeline (Some client.bytes) client.stop items → Stands client sink (begun feed is_over sink) (start_state items)
 stands-begun client feed is_over sink items e fresh h =
     let G : Option Feed → Type 0 = λ x. GoesOn (Some client) x in
     let P : Option Feed → Type 0 = λ x. PlaceAt false x items in
@@ -102,14 +102,14 @@ place-pipeline false stop (Some bytes) rest h = h
 -- the input within the last body
 within : (s : Slot) (w : Waiting) (f : Feed) (rest : List Item) (o : Option Remaining) → IsWaiting s w → is_streaming w.body ≡ true → remaining w.body (Some f) ≡ o → option_map (λ (r : Remaining). r.body) o ≡ Some (slot_rest s)
     → PlaceAt (is_last_item s.item) (option_map (λ (r : Remaining). r.behind) o) rest → WithinBody s s.item f rest
-within s w f rest None h streams e g p = let no : None ≡ Some (slot_rest s) = g in cc
-within s w f rest (Some x) h streams e g p =
+within s w f rest None h is_streaming_body e g p = let no : None ≡ Some (slot_rest s) = g in cc
+within s w f rest (Some x) h is_streaming_body e g p =
     let same : x.body ≡ slot_rest s = cc in
-    let k = left-of w.body h.request.framing.form (said_length h.request.framing) h.given h.told f x h.fits streams e in
+    let k = left-of w.body h.request.framing.form (body_length_or_0 h.request.framing) h.given h.told f x h.fits is_streaming_body e in
     let content : x.body ≡ k.content = ap (λ (r : Remaining). r.body) k.is in
     let behind : x.behind ≡ place_feed f.stop k.next = ap (λ (r : Remaining). r.behind) k.is in
     let P : Slot → Type 0 = λ y. x.body ≡ slot_rest y → PlaceAt (is_last_item y.item) (Some x.behind) rest → WithinBody y y.item f rest in
-    let A : Feed → Type 0 = λ b. LeftAt h.request.framing.form (said_length h.request.framing - h.given) f.bytes f.stop b k.next in
+    let A : Feed → Type 0 = λ b. LeftAt h.request.framing.form (body_length_or_0 h.request.framing - h.given) f.bytes f.stop b k.next in
     let B : Feed → Type 0 = λ b. PlaceAt h.request.framing.is_last (Some b) rest in
     subst P (sym h.is) (λ is place. (k.next, subst A (sym content ∙ is) k.stands, place-pipeline h.request.framing.is_last f.stop k.next rest (subst B behind place))) same p
 
@@ -135,32 +135,32 @@ input-end client before k s st = by-ended s.reached.ended refl
     over : Bool
     over = is_last_slot last
 
-    place : k.ended ≡ false → reader_is_lost last ≡ false → PlaceAt over (behind_body (last_body k.requests) k.feed) s.reached.rest
+    place : k.ended ≡ false → last_was_abandoned last ≡ false → PlaceAt over (behind_body (last_body k.requests) k.feed) s.reached.rest
     place e l =
         let P : Bool → Type 0 = λ x. PlaceAt x (behind_body (last_body k.requests) k.feed) s.reached.rest in
         subst P (st.reader.next e).is_last ((st.reader.next e).place l)
 
-    quiet : k.ended ≡ false → last_is_open last ≡ false → reader_is_lost last ≡ false → PlaceAt over k.feed s.reached.rest
+    quiet : k.ended ≡ false → last_is_open last ≡ false → last_was_abandoned last ≡ false → PlaceAt over k.feed s.reached.rest
     quiet e h l =
         let f = told-feed client k.feed st.reader.source in
-        let free : streams (last_body k.requests) ≡ false = sym (open-by last (last_body k.requests) (last-of client before k s st)) ∙ h in
+        let free : is_streaming_body (last_body k.requests) ≡ false = sym (open-by last (last_body k.requests) (last-of client before k s st)) ∙ h in
         let here : behind_body (last_body k.requests) k.feed ≡ k.feed = ap (behind_body (last_body k.requests)) f.1 ∙ behind-settled last (last_body k.requests) f.0 (last-of client before k s st) free ∙ sym f.1 in
         let P : Option Feed → Type 0 = λ x. PlaceAt over x s.reached.rest in
         subst P here (place e l)
 
-    by-held : (t : Bool) → last_is_open last ≡ t → k.ended ≡ false → reader_is_lost last ≡ false → MatchBool t (WithinLast last k.feed s.reached.rest) (PlaceAt over k.feed s.reached.rest)
+    by-held : (t : Bool) → last_is_open last ≡ t → k.ended ≡ false → last_was_abandoned last ≡ false → MatchBool t (WithinLast last k.feed s.reached.rest) (PlaceAt over k.feed s.reached.rest)
     by-held true h e l =
         let f = told-feed client k.feed st.reader.source in
         within-last last (last_body k.requests) k.feed f.0 s.reached.rest f.1 (last-of client before k s st) h st.reader.gives (place e l)
     by-held false h e l = quiet e h l
 
-    by-lost : (t : Bool) → reader_is_lost last ≡ t → k.ended ≡ false → MatchBool t (k.feed ≡ Some (stopped End)) (MatchBool (last_is_open last) (WithinLast last k.feed s.reached.rest) (PlaceAt over k.feed s.reached.rest))
+    by-lost : (t : Bool) → last_was_abandoned last ≡ t → k.ended ≡ false → MatchBool t (k.feed ≡ Some (stopped End)) (MatchBool (last_is_open last) (WithinLast last k.feed s.reached.rest) (PlaceAt over k.feed s.reached.rest))
     by-lost true l e = ((st.reader.next e).lost l).1
     by-lost false l e = by-held (last_is_open last) refl e l
 
-    by-ended : (t : Bool) → s.reached.ended ≡ t → MatchBool t (Unit {0}) (MatchBool (reader_is_lost last) (k.feed ≡ Some (stopped End)) (MatchBool (last_is_open last) (WithinLast last k.feed s.reached.rest) (PlaceAt over k.feed s.reached.rest)))
+    by-ended : (t : Bool) → s.reached.ended ≡ t → MatchBool t (Unit {0}) (MatchBool (last_was_abandoned last) (k.feed ≡ Some (stopped End)) (MatchBool (last_is_open last) (WithinLast last k.feed s.reached.rest) (PlaceAt over k.feed s.reached.rest)))
     by-ended true e = tt
-    by-ended false e = by-lost (reader_is_lost last) refl (sym st.ended ∙ e)
+    by-ended false e = by-lost (last_was_abandoned last) refl (sym st.ended ∙ e)
 
 -- what the writer took and what is held
 sent-held : (held : List ℕ) (taken : Option (List ℕ)) (whole : List ℕ) → append_known taken held ≡ Some whole → (sent : List ℕ) × (taken ≡ Some sent) × (sent ++ held ≡ whole)
@@ -194,8 +194,8 @@ output-end before sink held ended s empty begins firm h = by-failure s.failure f
         (h.1, h.2, sym (grown-none sink.has_ended sink.taken) ∙ ap (grown sink.has_ended sink.taken) (sym none) ∙ h.0, none, h.3)
 
 -- a run to where the connection stands is a conversation, with what is then held and left
-pub conversation : (client : Feed) (before sink : Sink) (held : List ℕ) (k : Kept) (ended : Bool) (items : List Item) (end : State) (replies : List Replied) (dated : List Dated) → k.sink ≡ holding sink held ended → k.output_ended ≡ ended → (ended ≡ true → held ≡ []) → BeginsKnown sink.sent sink.taken
-    → Pipeline (Some client.bytes) client.stop items → Run (start items) dated replies end → Stands client before k end → IsConversation client before dated replies sink held ended k.feed
+pub conversation : (client : Feed) (before sink : Sink) (held : List ℕ) (k : Kept) (ended : Bool) (items : List Item) (end : State) (replies : List ReplyValue) (dated : List TimedValue) → k.sink ≡ holding sink held ended → k.output_ended ≡ ended → (ended ≡ true → held ≡ []) → BeginsKnown sink.sent sink.taken
+    → Pipeline (Some client.bytes) client.stop items → Run (start_state items) dated replies end → Stands client before k end → IsConversation client before dated replies sink held ended k.feed
 conversation client before sink held k ended items end replies dated same same_end empty begins pipeline run st =
     let P : Sink → Bool → Type 0 = λ x y. OutputAt before x y end.reached.slots end.failure in
     let out : P (holding sink held ended) ended = subst (λ y. P (holding sink held ended) y) same_end (subst (λ x. P x k.output_ended) same st.output) in

@@ -7,10 +7,10 @@ use Rattle.std.specs.declared.io.ErrorKind.{ErrorKind}
 use Rattle.std.specs.declared.io.ErrorKind.TheVariants.{OutOfMemory}
 use Rattle.std.specs.Io.KnownBytes.{append_known}
 use Rattle.std.proofs.lemmas.Bool.{ne_eqb, leb-false}
-use Rattle.tiny_http_wire.specs.Device.{Feed, Sink, IsFront, BeginsKnown, IsFrontOf, IsAllKnown, HoldsNothing, grown, Tells, Took, Failed, Puts, next_count, fault_of, Uses}
-use Rattle.tiny_http_wire.specs.Answer.{Answer, Text, Whole, Broken, Printing, Prints, PrintsAnswer, text_of, nothing, gathered_body, unless, identity_body, as_it_is, is_withheld}
+use Rattle.tiny_http_wire.specs.Device.{Feed, Sink, IsFront, BeginsKnown, IsKnownFront, IsAllKnown, HoldsNothing, grown, Tells, Took, Failed, Puts, next_count, fault_of, CountsFaults}
+use Rattle.tiny_http_wire.specs.Answer.{Answer, Text, Whole, Broken, Printing, Prints, PrintsAnswer, text_of, nothing_sent, gathered_body, body_unless_withheld, identity_body, as_it_is, is_withheld}
 use Rattle.tiny_http_device.proofs.DeviceLemmas.{IsFront-same, IsFront-append}
-use Rattle.tiny_http_stream.specs.Outlet.{holding, EndsWith}
+use Rattle.tiny_http_stream.specs.Outlet.{holding, EndsOutlet}
 use Rattle.tiny_http_stream.proofs.Holding.{grown-nil}
 use Rattle.httpdate.specs.declared.date.HttpDate.{HttpDate}
 use Rattle.tiny_http_wire.specs.declared.common.HTTPVersion.{HTTPVersion}
@@ -21,7 +21,7 @@ use Rattle.tiny_http_wire.specs.declared.device.Stop.{Stop}
 use Rattle.tiny_http_message.specs.declared.waiting.AnswerForm.{AnswerForm}
 use Rattle.tiny_http_core.specs.Seen.{PrintedFor}
 use Rattle.tiny_http_wire.specs.declared.device.Stop.TheVariants.{End, Fault}
-use Rattle.tiny_http_core.specs.Sending.{CanSend, Wrote, Lost, Idles, EndsQuietly, Abandons, SendsText, Sends, SendsQuietly, IsFlushed, SendsUnlessEnded, FailsOnce, FailsOnceUnlessEnded, BreakOff, IsHonest}
+use Rattle.tiny_http_core.specs.Sending.{CanSend, OutletTook, OutletFailed, Idles, EndsQuietly, DropsHeld, SendsText, Sends, SendsQuietly, IsFlushed, SendsUnlessEnded, FailsOnce, FailsOnceUnlessEnded, DataBreakOff, IsHonest}
 
 pub or-false : (a b : Bool) → (a || b) ≡ false → (a ≡ false) × (b ≡ false)
 or-false true b h = cc
@@ -32,13 +32,13 @@ append-none None = refl
 append-none (Some xs) = ap Some (append-nil xs)
 
 -- a front of a front is a front
-fronts : (a b c : Option (List ℕ)) → IsFrontOf a b → IsFrontOf b c → IsFrontOf a c
+fronts : (a b c : Option (List ℕ)) → IsKnownFront a b → IsKnownFront b c → IsKnownFront a c
 fronts None b c h k =
-    let P : Option (List ℕ) → Type 0 = λ x. IsFrontOf None c in
+    let P : Option (List ℕ) → Type 0 = λ x. IsKnownFront None c in
     (k.0, k.1 ∙ ap (λ x. append_known x k.0) h.1)
 fronts (Some xs) b c h k = (h.0 ++ k.0, k.1 ∙ ap (λ x. append_known x k.0) h.1 ∙ ap Some (append_assoc xs h.0 k.0))
 
-pub taken-sent : (a b : Sink) (text : List ℕ) → a.has_ended ≡ false → Took a b text → Wrote a b text
+pub taken-sent : (a b : Sink) (text : List ℕ) → a.has_ended ≡ false → Took a b text → OutletTook a b text
 taken-sent a b text unended t = record {
   bytes = t.bytes ∙ ap (λ e. grown e a.taken text) unended;
   sent = t.sent;
@@ -50,15 +50,15 @@ pub begins : (xs ys : List ℕ) (known : Option (List ℕ)) → IsFront xs ys �
 begins xs ys None h k = tt
 begins xs ys (Some zs) h k = IsFront-append xs ys zs h k
 
-failed-lost : (a b : Sink) (text : List ℕ) (kind : ErrorKind) → Failed a b text kind → Lost a b text kind
+failed-lost : (a b : Sink) (text : List ℕ) (kind : ErrorKind) → Failed a b text kind → OutletFailed a b text kind
 failed-lost a b text kind f = record { bytes = f.bytes; keeps = begins a.sent b.sent b.taken f.sent f.keeps; failures = f.failures; last_kind = f.last_kind }
 
-sent-none : (a b c : Sink) (text : List ℕ) → Wrote a b text → Wrote b c [] → Wrote a c text
+sent-none : (a b c : Sink) (text : List ℕ) → OutletTook a b text → OutletTook b c [] → OutletTook a c text
 sent-none a b c text s t = record { bytes = t.bytes ∙ append-none b.taken ∙ s.bytes; sent = IsFront-append a.sent b.sent c.sent s.sent t.sent; failures = t.failures ∙ s.failures }
 
-sent-lost : (a b c : Sink) (text : List ℕ) (kind : ErrorKind) → Wrote a b text → Lost b c [] kind → Lost a c text kind
+sent-lost : (a b c : Sink) (text : List ℕ) (kind : ErrorKind) → OutletTook a b text → OutletFailed b c [] kind → OutletFailed a c text kind
 sent-lost a b c text kind s l =
-    let P : Option (List ℕ) → Type 0 = λ x. IsFrontOf c.taken x in
+    let P : Option (List ℕ) → Type 0 = λ x. IsKnownFront c.taken x in
     record {
       bytes = subst P (append-none b.taken ∙ s.bytes) l.bytes;
       keeps = begins a.sent b.sent c.taken s.sent l.keeps;
@@ -66,7 +66,7 @@ sent-lost a b c text kind s l =
       last_kind = l.last_kind;
     }
 
-failed-abandoned : (a b c : Sink) (text : List ℕ) (kind : ErrorKind) → Failed a b text kind → Abandons b c → Lost a c text kind
+failed-abandoned : (a b c : Sink) (text : List ℕ) (kind : ErrorKind) → Failed a b text kind → DropsHeld b c → OutletFailed a c text kind
 failed-abandoned a b c text kind l d =
     let P : Option ErrorKind → Type 0 = λ x. Tells x kind in
     record {
@@ -77,12 +77,12 @@ failed-abandoned a b c text kind l d =
     }
 
 -- an outlet that was ended
-pub ended-quietly : {T : Type 0} (a b : Sink) (r : Result T Error) → EndsWith a b r → EndsQuietly a b
+pub ended-quietly : {T : Type 0} (a b : Sink) (r : Result T Error) → EndsOutlet a b r → EndsQuietly a b
 ended-quietly a b (Ok x) h = inl (record { bytes = h.0 ∙ sym (append-none a.taken); sent = h.1; failures = h.2 })
 ended-quietly a b (Err e) h = inr (error_kind e, failed-lost a b [] (error_kind e) h)
 
 -- an outlet that was given up
-grown-front : (ended : Bool) (known : Option (List ℕ)) (held : List ℕ) → IsFrontOf known (grown ended known held)
+grown-front : (ended : Bool) (known : Option (List ℕ)) (held : List ℕ) → IsKnownFront known (grown ended known held)
 grown-front true known held = ([], sym (append-none known))
 grown-front false known held = (held, refl)
 
@@ -90,10 +90,10 @@ pub grown-none : (ended : Bool) (known : Option (List ℕ)) → grown ended know
 grown-none true known = refl
 grown-none false known = append-none known
 
-pub given-up : (s : Sink) (held : List ℕ) (was now : Bool) → BeginsKnown s.sent s.taken → Abandons (holding s held was) (holding s [] now)
+pub given-up : (s : Sink) (held : List ℕ) (was now : Bool) → BeginsKnown s.sent s.taken → DropsHeld (holding s held was) (holding s [] now)
 given-up s held was now begins =
     let Q : Option (List ℕ) → Type 0 = λ x. BeginsKnown s.sent x in
-    let P : Option (List ℕ) → Type 0 = λ x. IsFrontOf x (grown s.has_ended s.taken held) in
+    let P : Option (List ℕ) → Type 0 = λ x. IsKnownFront x (grown s.has_ended s.taken held) in
     record { bytes = subst P (sym (grown-none s.has_ended s.taken)) (grown-front s.has_ended s.taken held); sent = IsFront-same s.sent; keeps = subst Q (sym (grown-none s.has_ended s.taken)) begins; failures = refl; last_kind = refl }
 
 -- all of the text was printed; then it is flushed
@@ -105,7 +105,7 @@ whole-flushed a b c was ended x (Ok y) text unended h p w z err ok =
 whole-flushed a b c was ended x (Err e) text unended h p w z err ok =
     (err, z err, inr (sent-lost a b c text.bytes (error_kind e) (taken-sent a b text.bytes unended h.1) (failed-lost b c [] (error_kind e) p)))
 
-not-whole : {G : Type 0} (kind : ErrorKind) → ((nothing kind).ending ≡ Whole) → G
+not-whole : {G : Type 0} (kind : ErrorKind) → ((nothing_sent kind).ending ≡ Whole) → G
 not-whole kind e = cc
 
 pub printed-flushed : {T U : Type 0} (o : Option Feed) (a b c : Sink) (was ended : Bool) (x : U) (r : Result T Error) (ans : Answer) (p : Printing) → (content : Feed) → o ≡ Some content → length content.bytes < 2 ^ 63
@@ -124,35 +124,35 @@ count-rose : (n : ℕ) → n < 2 ^ 64 - 1 → (next_count n == n) ≡ false
 count-rose n lt = ne_eqb (next_count n) n (λ e. absurd (omega arith))
 
 broken-ended : (T : Type 0) (a b c : Sink) (ended : Bool) (e : Error) (text : Text) → a.has_ended ≡ false → a.failures < 2 ^ 64 - 1 → Prints {T = T} a b (Err e) text
-    → MatchBool (b.failures == a.failures) (EndsQuietly b c) (Abandons b c) → ended ≡ true → c.has_ended ≡ true → SendsText {T = T} a c ended (Err e) text
+    → MatchBool (b.failures == a.failures) (EndsQuietly b c) (DropsHeld b c) → ended ≡ true → c.has_ended ≡ true → SendsText {T = T} a c ended (Err e) text
 broken-ended T a b c ended e text unended low (inl h) m z y =
     let same : (b.failures == a.failures) ≡ true = eq-eqb b.failures a.failures h.1.failures in
-    let P : Bool → Type 0 = λ t. MatchBool t (EndsQuietly b c) (Abandons b c) in
+    let P : Bool → Type 0 = λ t. MatchBool t (EndsQuietly b c) (DropsHeld b c) in
     (z, y, inl (h.0, ends (subst P same m)))
   where
-    ends : EndsQuietly b c → Wrote a c text.bytes ⊎ ((kind : ErrorKind) × Lost a c text.bytes kind)
+    ends : EndsQuietly b c → OutletTook a c text.bytes ⊎ ((kind : ErrorKind) × OutletFailed a c text.bytes kind)
     ends (inl s) = inl (sent-none a b c text.bytes (taken-sent a b text.bytes unended h.1) s)
     ends (inr l) = inr (l.0, sent-lost a b c text.bytes l.0 (taken-sent a b text.bytes unended h.1) l.1)
 broken-ended T a b c ended e text unended low (inr h) m z y =
     let rose : (b.failures == a.failures) ≡ false = ap (λ k. k == a.failures) h.failures ∙ count-rose a.failures low in
-    let P : Bool → Type 0 = λ t. MatchBool t (EndsQuietly b c) (Abandons b c) in
+    let P : Bool → Type 0 = λ t. MatchBool t (EndsQuietly b c) (DropsHeld b c) in
     (z, y, inr (failed-abandoned a b c text.bytes (error_kind e) h (subst P rose m)))
 
 pub printed-ended : (T : Type 0) (o : Option Feed) (a b c : Sink) (n : ℕ) (ended : Bool) (e : Error) (ans : Answer) (p : Printing) → (content : Feed) → o ≡ Some content → length content.bytes < 2 ^ 63
-    → IfSome o (λ feed. length feed.bytes < 2 ^ 63 → PrintsAnswer {T = T} a b (Err e) ans feed p) → n ≡ a.failures → MatchBool (b.failures == n) (EndsQuietly b c) (Abandons b c)
+    → IfSome o (λ feed. length feed.bytes < 2 ^ 63 → PrintsAnswer {T = T} a b (Err e) ans feed p) → n ≡ a.failures → MatchBool (b.failures == n) (EndsQuietly b c) (DropsHeld b c)
     → a.has_ended ≡ false → a.failures < 2 ^ 64 - 1 → ended ≡ true → c.has_ended ≡ true → Sends {T = T} a c ended (Err e) ans content p
 printed-ended T o a b c n ended e ans p content told few h same m unended low z y =
     let P : Option Feed → Type 0 = λ y. IfSome y (λ feed. length feed.bytes < 2 ^ 63 → PrintsAnswer {T = T} a b (Err e) ans feed p) in
-    let Q : ℕ → Type 0 = λ k. MatchBool (b.failures == k) (EndsQuietly b c) (Abandons b c) in
+    let Q : ℕ → Type 0 = λ k. MatchBool (b.failures == k) (EndsQuietly b c) (DropsHeld b c) in
     let m2 = subst Q same m in
     by-cases (subst P told h few) m2
   where
-    by-cases : PrintsAnswer {T = T} a b (Err e) ans content p → MatchBool (b.failures == a.failures) (EndsQuietly b c) (Abandons b c) → Sends {T = T} a c ended (Err e) ans content p
+    by-cases : PrintsAnswer {T = T} a b (Err e) ans content p → MatchBool (b.failures == a.failures) (EndsQuietly b c) (DropsHeld b c) → Sends {T = T} a c ended (Err e) ans content p
     by-cases (inl k) m2 = inl (broken-ended T a b c ended e (text_of ans content p) unended low k m2 z y)
-    by-cases (inr k) m2 = inr ((k.0, k.1, k.2), broken-ended T a b c ended e (nothing OutOfMemory) unended low k.3 m2 z y)
+    by-cases (inr k) m2 = inr ((k.0, k.1, k.2), broken-ended T a b c ended e (nothing_sent OutOfMemory) unended low k.3 m2 z y)
 
 -- the writer's count, whatever reader and writer tell
-pub flushed-once : {T U : Type 0} (a b c : Sink) (x : U) (r : Result T Error) (ended : Bool) → Uses a b (Ok x) → Puts b c r [] → OnErr r (ended ≡ true) → FailsOnce a c ended
+pub flushed-once : {T U : Type 0} (a b c : Sink) (x : U) (r : Result T Error) (ended : Bool) → CountsFaults a b (Ok x) → Puts b c r [] → OnErr r (ended ≡ true) → FailsOnce a c ended
 flushed-once a b c x (Ok y) ended u p err = inl (p.failures ∙ u.failures)
 flushed-once a b c x (Err e) ended u p err = inr (p.failures ∙ ap next_count u.failures, err)
 
@@ -160,12 +160,12 @@ ended-count : (a b c : Sink) (ended : Bool) → b.failures ≡ a.failures → En
 ended-count a b c ended e (inl s) z = inl (s.failures ∙ e)
 ended-count a b c ended e (inr l) z = inr (l.1.failures ∙ ap next_count e, z)
 
-ended-by : (a b c : Sink) (n : ℕ) (ended t : Bool) → (b.failures == n) ≡ t → n ≡ a.failures → (b.failures ≡ a.failures) ⊎ (b.failures ≡ next_count a.failures) → MatchBool t (EndsQuietly b c) (Abandons b c) → ended ≡ true → FailsOnce a c ended
+ended-by : (a b c : Sink) (n : ℕ) (ended t : Bool) → (b.failures == n) ≡ t → n ≡ a.failures → (b.failures ≡ a.failures) ⊎ (b.failures ≡ next_count a.failures) → MatchBool t (EndsQuietly b c) (DropsHeld b c) → ended ≡ true → FailsOnce a c ended
 ended-by a b c n ended true e same u m z = ended-count a b c ended (eqb-true b.failures n e ∙ same) m z
 ended-by a b c n ended false e same (inl u) m z = inl (m.failures ∙ u)
 ended-by a b c n ended false e same (inr u) m z = inr (m.failures ∙ u, z)
 
-pub ended-once : (T : Type 0) (a b c : Sink) (n : ℕ) (e : Error) (ended : Bool) → Uses {T = T} a b (Err e) → n ≡ a.failures → MatchBool (b.failures == n) (EndsQuietly b c) (Abandons b c) → ended ≡ true → FailsOnce a c ended
+pub ended-once : (T : Type 0) (a b c : Sink) (n : ℕ) (e : Error) (ended : Bool) → CountsFaults {T = T} a b (Err e) → n ≡ a.failures → MatchBool (b.failures == n) (EndsQuietly b c) (DropsHeld b c) → ended ≡ true → FailsOnce a c ended
 ended-once T a b c n e ended (inl u) same m z = ended-by a b c n ended (b.failures == n) refl same (inl u.failures) m z
 ended-once T a b c n e ended (inr u) same m z = ended-by a b c n ended (b.failures == n) refl same (inr u.failures) m z
 
@@ -178,40 +178,40 @@ identity-breaks : (n m : ℕ) (t : Bool) (k kind : ErrorKind) → nat_le n m ≡
 identity-breaks n m true k kind le e = cc
 identity-breaks n m false k kind le e = (leb-false n m le, cc)
 
-sized-breaks : (withheld : Bool) (n : ℕ) (f : Feed) (kind : ErrorKind) → (unless withheld (identity_body n f)).ending ≡ Broken kind → BreakOff Identity (Some n) f kind
+sized-breaks : (withheld : Bool) (n : ℕ) (f : Feed) (kind : ErrorKind) → (body_unless_withheld withheld (identity_body n f)).ending ≡ Broken kind → DataBreakOff Identity (Some n) f kind
 sized-breaks true n f kind e = cc
 sized-breaks false n f kind e = identity-breaks n (length f.bytes) (nat_le n (length f.bytes)) (fault_of f.stop) kind refl e
 
-uncoded-breaks : (len : Option ℕ) (top : FramingHeader → List ℕ) (withheld : Bool) (f : Feed) (kind : ErrorKind) → (as_it_is len top withheld f).ending ≡ Broken kind → BreakOff Identity len f kind
+uncoded-breaks : (len : Option ℕ) (top : FramingHeader → List ℕ) (withheld : Bool) (f : Feed) (kind : ErrorKind) → (as_it_is len top withheld f).ending ≡ Broken kind → DataBreakOff Identity len f kind
 uncoded-breaks (Some n) top withheld f kind e = sized-breaks withheld n f kind e
 uncoded-breaks None top withheld f kind e = inl (gathered-breaks f.stop (top (ContentLength (length f.bytes))) withheld f.bytes kind e)
 
 abbrev pub plainly : HTTPVersion → Bool → HttpDate → Printing
 plainly v no_body date = record { version = v; request_headers = []; no_body = no_body; upgrade = None; date = date }
 
-text-breaks : (a : Answer) (f : Feed) (v : HTTPVersion) (no_body : Bool) (date : HttpDate) (kind : ErrorKind) → (text_of a f (plainly v no_body date)).ending ≡ Broken kind → BreakOff Identity a.length f kind
+text-breaks : (a : Answer) (f : Feed) (v : HTTPVersion) (no_body : Bool) (date : HttpDate) (kind : ErrorKind) → (text_of a f (plainly v no_body date)).ending ≡ Broken kind → DataBreakOff Identity a.length f kind
 unfolding text_of
 text-breaks a f v no_body date kind e = uncoded-breaks a.length _ (is_withheld no_body a.status) f kind e
 
-nothing-breaks : (kind sort : ErrorKind) → (nothing sort).ending ≡ Broken kind → kind ≡ sort
+nothing-breaks : (kind sort : ErrorKind) → (nothing_sent sort).ending ≡ Broken kind → kind ≡ sort
 nothing-breaks kind sort e = cc
 
 data-breaks : (T : Type 0) (a b : Sink) (e : Error) (ans : Answer) (f : Feed) (v : HTTPVersion) (no_body : Bool) (date : HttpDate) → (b.failures ≡ next_count a.failures → ⊥) → PrintsAnswer {T = T} a b (Err e) ans f (plainly v no_body date)
-    → BreakOff Identity ans.length f (error_kind e)
+    → DataBreakOff Identity ans.length f (error_kind e)
 data-breaks T a b e ans f v no_body date same (inl (inl h)) = text-breaks ans f v no_body date (error_kind e) h.0
 data-breaks T a b e ans f v no_body date same (inl (inr h)) = absurd (same h.failures)
 data-breaks T a b e ans f v no_body date same (inr k) =
-    let P : Option ℕ → Type 0 = λ known. BreakOff Identity known f (error_kind e) in
+    let P : Option ℕ → Type 0 = λ known. DataBreakOff Identity known f (error_kind e) in
     subst P (sym k.2) (⊎_elim (λ h. inr (nothing-breaks (error_kind e) OutOfMemory h.0)) (λ h. absurd (same h.failures)) k.3)
 
 -- the count behind the outlet's end, where printing raised it, or where it stands at its greatest
-rose : (a b c : Sink) (n : ℕ) (t : Bool) → (b.failures == n) ≡ t → n ≡ a.failures → b.failures ≡ next_count a.failures → MatchBool t (EndsQuietly b c) (Abandons b c) → c.failures ≡ next_count a.failures
+rose : (a b c : Sink) (n : ℕ) (t : Bool) → (b.failures == n) ≡ t → n ≡ a.failures → b.failures ≡ next_count a.failures → MatchBool t (EndsQuietly b c) (DropsHeld b c) → c.failures ≡ next_count a.failures
 rose a b c n true e same u (inl s) = s.failures ∙ u
 rose a b c n true e same u (inr l) = l.1.failures ∙ ap next_count (eqb-true b.failures n e ∙ same)
 rose a b c n false e same u m = m.failures ∙ u
 
 honest-by : (T : Type 0) (o : Option Feed) (a b c : Sink) (n : ℕ) (e : Error) (ans : Answer) (v : HTTPVersion) (no_body : Bool) (date : HttpDate) (t : Bool) → (next_count a.failures == a.failures) ≡ t → b.failures ≡ a.failures
-    → IfSome o (λ feed. length feed.bytes < 2 ^ 63 → PrintsAnswer {T = T} a b (Err e) ans feed (plainly v no_body date)) → n ≡ a.failures → MatchBool (b.failures == n) (EndsQuietly b c) (Abandons b c) → IsHonest a c Identity ans.length o (error_kind e)
+    → IfSome o (λ feed. length feed.bytes < 2 ^ 63 → PrintsAnswer {T = T} a b (Err e) ans feed (plainly v no_body date)) → n ≡ a.failures → MatchBool (b.failures == n) (EndsQuietly b c) (DropsHeld b c) → IsHonest a c Identity ans.length o (error_kind e)
 honest-by T o a b c n e ans v no_body date true top u h same m = inl (rose a b c n (b.failures == n) refl same (u ∙ sym (eqb-true (next_count a.failures) a.failures top)) m)
 honest-by T None a b c n e ans v no_body date false top u h same m = inr tt
 honest-by T (Some f) a b c n e ans v no_body date false top u h same m =
@@ -219,7 +219,7 @@ honest-by T (Some f) a b c n e ans v no_body date false top u h same m =
     inr (λ few. data-breaks T a b e ans f v no_body date low (h few))
 
 pub printed-honest : (T : Type 0) (o : Option Feed) (a b c : Sink) (n : ℕ) (e : Error) (ans : Answer) (v : HTTPVersion) (no_body : Bool) (date : HttpDate) → IfSome o (λ feed. length feed.bytes < 2 ^ 63 → PrintsAnswer {T = T} a b (Err e) ans feed (plainly v no_body date))
-    → Uses {T = T} a b (Err e) → n ≡ a.failures → MatchBool (b.failures == n) (EndsQuietly b c) (Abandons b c) → IsHonest a c Identity ans.length o (error_kind e)
+    → CountsFaults {T = T} a b (Err e) → n ≡ a.failures → MatchBool (b.failures == n) (EndsQuietly b c) (DropsHeld b c) → IsHonest a c Identity ans.length o (error_kind e)
 printed-honest T o a b c n e ans v no_body date h (inl u) same m = honest-by T o a b c n e ans v no_body date (next_count a.failures == a.failures) refl u.failures h same m
 printed-honest T o a b c n e ans v no_body date h (inr u) same m = inl (rose a b c n (b.failures == n) refl same u.failures m)
 
@@ -238,16 +238,16 @@ known-append : (known : Option (List ℕ)) (s t : List ℕ) → append_known (ap
 known-append None s t = refl
 known-append (Some xs) s t = ap Some (append_assoc xs s t)
 
-sent-append : (a b c : Sink) (s t : List ℕ) → Wrote a b s → Wrote b c t → Wrote a c (s ++ t)
+sent-append : (a b c : Sink) (s t : List ℕ) → OutletTook a b s → OutletTook b c t → OutletTook a c (s ++ t)
 sent-append a b c s t h k = record {
   bytes = k.bytes ∙ ap (λ y. append_known y t) h.bytes ∙ known-append a.taken s t;
   sent = IsFront-append a.sent b.sent c.sent h.sent k.sent;
   failures = k.failures ∙ h.failures;
 }
 
-sent-then_lost : (a b c : Sink) (s t : List ℕ) (kind : ErrorKind) → Wrote a b s → Lost b c t kind → Lost a c (s ++ t) kind
+sent-then_lost : (a b c : Sink) (s t : List ℕ) (kind : ErrorKind) → OutletTook a b s → OutletFailed b c t kind → OutletFailed a c (s ++ t) kind
 sent-then_lost a b c s t kind h l =
-    let P : Option (List ℕ) → Type 0 = λ x. IsFrontOf c.taken x in
+    let P : Option (List ℕ) → Type 0 = λ x. IsKnownFront c.taken x in
     record {
       bytes = subst P (ap (λ y. append_known y t) h.bytes ∙ known-append a.taken s t) l.bytes;
       keeps = begins a.sent b.sent c.taken h.sent l.keeps;
@@ -255,9 +255,9 @@ sent-then_lost a b c s t kind h l =
       last_kind = l.last_kind;
     }
 
-lost-idle : (a b c : Sink) (s t : List ℕ) (kind : ErrorKind) → Lost a b s kind → Idles b c → Lost a c (s ++ t) kind
+lost-idle : (a b c : Sink) (s t : List ℕ) (kind : ErrorKind) → OutletFailed a b s kind → Idles b c → OutletFailed a c (s ++ t) kind
 lost-idle a b c s t kind l i =
-    let P : Option (List ℕ) → Type 0 = λ x. IsFrontOf x (append_known a.taken (s ++ t)) in
+    let P : Option (List ℕ) → Type 0 = λ x. IsKnownFront x (append_known a.taken (s ++ t)) in
     let Q : Option (List ℕ) → Type 0 = λ x. BeginsKnown a.sent x in
     let K : Option ErrorKind → Type 0 = λ x. Tells x kind in
     record {

@@ -3,7 +3,7 @@ use Rattle.std.proofs.Common.{◌≡◌, refl, sym, ap, ◌∙◌, ℕ, Bool, tr
 use Rattle.std.specs.Prelude.{if◌then◌else◌}
 use Rattle.std.specs.List.{list_all}
 use Rattle.std.proofs.lemmas.Bool.{and_parts}
-use Rattle.tiny_http_core.specs.Slots.{Slot, is_finished, is_slot_broken, segment, joined, breaks_off}
+use Rattle.tiny_http_core.specs.Slots.{Slot, is_finished, is_slot_broken, segment, joined, is_output_broken}
 
 -- a test of all, and of one more
 pub all-snoc : {X : Type 0} (p : X → Bool) (xs : List X) (x : X) → list_all p xs ≡ true → p x ≡ true → list_all p (xs ++ x ∷ []) ≡ true
@@ -24,19 +24,19 @@ or-parts true b h = cc
 or-parts false b h = (refl, h)
 
 -- all before are finished, and none broke off: what is behind follows
-pub joined-front : (xs ys : List Slot) → list_all is_finished xs ≡ true → breaks_off xs ≡ false → joined (xs ++ ys) ≡ joined xs ++ joined ys
+pub joined-front : (xs ys : List Slot) → list_all is_finished xs ≡ true → is_output_broken xs ≡ false → joined (xs ++ ys) ≡ joined xs ++ joined ys
 joined-front [] ys a b = refl
 joined-front (x ∷ xs) ys a b =
     let h = and_parts (is_finished x) (list_all is_finished xs) a in
-    let c = or-parts (is_slot_broken x) (is_finished x && breaks_off xs) b in
-    let c2 : breaks_off xs ≡ false = rw h.0 at c.1 in
+    let c = or-parts (is_slot_broken x) (is_finished x && is_output_broken xs) b in
+    let c2 : is_output_broken xs ≡ false = rw h.0 at c.1 in
     rw (h.0, c.0) (ap (λ r. segment x ++ r) (joined-front xs ys h.1 c2) ∙ sym (append_assoc (segment x) (joined xs) (joined ys)))
 
 -- one broke off: nothing follows
-pub joined-broken : (slots : List Slot) (more : List Slot) → breaks_off slots ≡ true → joined (slots ++ more) ≡ joined slots
+pub joined-broken : (slots : List Slot) (more : List Slot) → is_output_broken slots ≡ true → joined (slots ++ more) ≡ joined slots
 joined-broken [] more b = cc
 joined-broken (x ∷ xs) more b =
-    joined-cons x (xs ++ more) xs (λ f nb. let c : breaks_off xs ≡ true = rw (nb, f) at b in joined-broken xs more c)
+    joined-cons x (xs ++ more) xs (λ f nb. let c : is_output_broken xs ≡ true = rw (nb, f) at b in joined-broken xs more c)
 
 -- one that waits hides what is behind it
 pub joined-waits : (xs : List Slot) (s : Slot) (ys : List Slot) → segment s ≡ [] → is_finished s ≡ false → joined (xs ++ (s ∷ ys)) ≡ joined xs
@@ -51,20 +51,20 @@ or-assoc : (a b c : Bool) → (a || (b || c)) ≡ ((a || b) || c)
 or-assoc true b c = refl
 or-assoc false b c = refl
 
-pub breaks-front : (xs ys : List Slot) → list_all is_finished xs ≡ true → breaks_off (xs ++ ys) ≡ (breaks_off xs || breaks_off ys)
+pub breaks-front : (xs ys : List Slot) → list_all is_finished xs ≡ true → is_output_broken (xs ++ ys) ≡ (is_output_broken xs || is_output_broken ys)
 breaks-front [] ys a = refl
 breaks-front (x ∷ xs) ys a =
     let h = and_parts (is_finished x) (list_all is_finished xs) a in
-    rw h.0 (ap (λ r. is_slot_broken x || r) (breaks-front xs ys h.1) ∙ or-assoc (is_slot_broken x) (breaks_off xs) (breaks_off ys))
+    rw h.0 (ap (λ r. is_slot_broken x || r) (breaks-front xs ys h.1) ∙ or-assoc (is_slot_broken x) (is_output_broken xs) (is_output_broken ys))
 
 breaks-cons : (f b u v : Bool) → (f ≡ true → u ≡ v) → (b || (f && u)) ≡ (b || (f && v))
 breaks-cons true b u v h = ap (λ r. b || r) (h refl)
 breaks-cons false b u v h = refl
 
-pub breaks-waits : (xs : List Slot) (s : Slot) (ys : List Slot) → is_slot_broken s ≡ false → is_finished s ≡ false → breaks_off (xs ++ (s ∷ ys)) ≡ breaks_off xs
+pub breaks-waits : (xs : List Slot) (s : Slot) (ys : List Slot) → is_slot_broken s ≡ false → is_finished s ≡ false → is_output_broken (xs ++ (s ∷ ys)) ≡ is_output_broken xs
 breaks-waits [] s ys e f = rw (e, f) refl
-breaks-waits (x ∷ xs) s ys e f = breaks-cons (is_finished x) (is_slot_broken x) (breaks_off (xs ++ (s ∷ ys))) (breaks_off xs) (λ g. breaks-waits xs s ys e f)
+breaks-waits (x ∷ xs) s ys e f = breaks-cons (is_finished x) (is_slot_broken x) (is_output_broken (xs ++ (s ∷ ys))) (is_output_broken xs) (λ g. breaks-waits xs s ys e f)
 
-pub breaks-hidden : (xs ys : List Slot) → list_all is_finished xs ≡ false → breaks_off (xs ++ ys) ≡ breaks_off xs
+pub breaks-hidden : (xs ys : List Slot) → list_all is_finished xs ≡ false → is_output_broken (xs ++ ys) ≡ is_output_broken xs
 breaks-hidden [] ys h = cc
-breaks-hidden (x ∷ xs) ys h = breaks-cons (is_finished x) (is_slot_broken x) (breaks_off (xs ++ ys)) (breaks_off xs) (λ g. let more : list_all is_finished xs ≡ false = rw g at h in breaks-hidden xs ys more)
+breaks-hidden (x ∷ xs) ys h = breaks-cons (is_finished x) (is_slot_broken x) (is_output_broken (xs ++ ys)) (is_output_broken xs) (λ g. let more : list_all is_finished xs ≡ false = rw g at h in breaks-hidden xs ys more)

@@ -6,13 +6,13 @@ use Rattle.httpdate.specs.declared.date.HttpDate.{HttpDate}
 use Rattle.tiny_http_core.specs.declared.driver.Step.{Step}
 use Rattle.tiny_http_core.specs.declared.driver.Step.TheVariants as step
 use Rattle.tiny_http_core.specs.Slots.{ResponseValue}
-use Rattle.tiny_http_core.specs.Steps.{Asked, Ask, AsReader, Read, Respond, IntoWriter, Write, Flush, Upgrade, Finish, Drop, Replied}
-use Rattle.tiny_http_core.specs.Conversation.{State, Dated}
+use Rattle.tiny_http_core.specs.Steps.{StepValue, Ask, AsReader, Read, Respond, IntoWriter, Write, Flush, Upgrade, Finish, Drop, ReplyValue}
+use Rattle.tiny_http_core.specs.Conversation.{State, TimedValue}
 use Rattle.tiny_http_core.specs.Seen.{IsResponse, IsStep}
 use Rattle.tiny_http_core.specs.Connection.{Kept}
-use Rattle.tiny_http_core.proofs.AskLemmas.{Answered}
+use Rattle.tiny_http_core.proofs.AskLemmas.{StepIsAnswered}
 
-pub is-ask : {D : Type 0} (feed : D → Option Feed) (x : Asked) → (let a : Step D = step.Ask in IsStep feed a x) → x ≡ Ask
+pub is-ask : {D : Type 0} (feed : D → Option Feed) (x : StepValue) → (let a : Step D = step.Ask in IsStep feed a x) → x ≡ Ask
 is-ask feed Ask h = refl
 is-ask feed (AsReader k) h = elim h [ ]
 is-ask feed (Read k n) h = elim h [ ]
@@ -24,12 +24,12 @@ is-ask feed (Upgrade k p v) h = elim h [ ]
 is-ask feed (Finish k) h = elim h [ ]
 is-ask feed (Drop k) h = elim h [ ]
 
-pub record Responds {D : Type 0} (feed : D → Option Feed) (n : ℕ) (r : ResponseState D) (x : Asked) : Type 0 where
+pub record Responds {D : Type 0} (feed : D → Option Feed) (n : ℕ) (r : ResponseState D) (x : StepValue) : Type 0 where
   pub value : ResponseValue
   pub is : x ≡ Respond n value
   pub response : IsResponse feed r value
 
-pub is-respond : {D : Type 0} (feed : D → Option Feed) (n : ℕ) (r : ResponseState D) (x : Asked) → IsStep feed (step.Respond n r) x → Responds feed n r x
+pub is-respond : {D : Type 0} (feed : D → Option Feed) (n : ℕ) (r : ResponseState D) (x : StepValue) → IsStep feed (step.Respond n r) x → Responds feed n r x
 is-respond feed n r Ask h = elim h [ ]
 is-respond feed n r (AsReader k) h = elim h [ ]
 is-respond feed n r (Read k m) h = elim h [ ]
@@ -41,7 +41,7 @@ is-respond feed n r (Upgrade k p v) h = elim h [ ]
 is-respond feed n r (Finish k) h = elim h [ ]
 is-respond feed n r (Drop k) h = elim h [ ]
 
-pub is-drop : {D : Type 0} (feed : D → Option Feed) (n : ℕ) (x : Asked) → (let a : Step D = step.Drop n in IsStep feed a x) → x ≡ Drop n
+pub is-drop : {D : Type 0} (feed : D → Option Feed) (n : ℕ) (x : StepValue) → (let a : Step D = step.Drop n in IsStep feed a x) → x ≡ Drop n
 is-drop feed n Ask h = elim h [ ]
 is-drop feed n (AsReader k) h = elim h [ ]
 is-drop feed n (Read k m) h = elim h [ ]
@@ -53,33 +53,33 @@ is-drop feed n (Upgrade k p v) h = elim h [ ]
 is-drop feed n (Finish k) h = elim h [ ]
 is-drop feed n (Drop k) h = ap (λ m. Drop m) h
 
-pub step-drop : {D : Type 0} (feed : D → Option Feed) (client : Feed) (before : Sink) (k : Kept) (s : State) (d : Dated) (x : Step D) (n : ℕ) (reply : Replied) → x ≡ step.Drop n → IsStep feed x d.1
-    → Answered client before k s d.0 (Drop n) reply → Answered client before k s d.0 d.1 reply
+pub step-drop : {D : Type 0} (feed : D → Option Feed) (client : Feed) (before : Sink) (k : Kept) (s : State) (d : TimedValue) (x : Step D) (n : ℕ) (reply : ReplyValue) → x ≡ step.Drop n → IsStep feed x d.1
+    → StepIsAnswered client before k s d.0 (Drop n) reply → StepIsAnswered client before k s d.0 d.1 reply
 step-drop feed client before k s d x n reply e told h =
     let P : Step _ → Type 0 = λ y. IsStep feed y d.1 in
     let is = is-drop feed n d.1 (subst P e told) in
-    let Q : Asked → Type 0 = λ y. Answered client before k s d.0 y reply in
+    let Q : StepValue → Type 0 = λ y. StepIsAnswered client before k s d.0 y reply in
     subst Q (sym is) h
 
-pub step-ask : {D : Type 0} (feed : D → Option Feed) (client : Feed) (before : Sink) (k : Kept) (s : State) (now : HttpDate) (d : Dated) (x : Step D) (reply : Replied) → x ≡ step.Ask → d.0 ≡ now → IsStep feed x d.1
-    → Answered client before k s now Ask reply → Answered client before k s d.0 d.1 reply
+pub step-ask : {D : Type 0} (feed : D → Option Feed) (client : Feed) (before : Sink) (k : Kept) (s : State) (now : HttpDate) (d : TimedValue) (x : Step D) (reply : ReplyValue) → x ≡ step.Ask → d.0 ≡ now → IsStep feed x d.1
+    → StepIsAnswered client before k s now Ask reply → StepIsAnswered client before k s d.0 d.1 reply
 step-ask feed client before k s now d x reply e date told h =
     let P : Step _ → Type 0 = λ y. IsStep feed y d.1 in
     let is = is-ask feed d.1 (subst P e told) in
-    let Q : Asked → Type 0 = λ y. Answered client before k s now y reply in
-    let R : HttpDate → Type 0 = λ y. Answered client before k s y d.1 reply in
+    let Q : StepValue → Type 0 = λ y. StepIsAnswered client before k s now y reply in
+    let R : HttpDate → Type 0 = λ y. StepIsAnswered client before k s y d.1 reply in
     subst R (sym date) (subst Q (sym is) h)
 
-pub step-respond : {D : Type 0} (feed : D → Option Feed) (client : Feed) (before : Sink) (k : Kept) (s : State) (now : HttpDate) (d : Dated) (x : Step D) (n : ℕ) (r : ResponseState D) (reply : Replied) → x ≡ step.Respond n r → d.0 ≡ now → IsStep feed x d.1
-    → ((v : ResponseValue) → IsResponse feed r v → Answered client before k s now (Respond n v) reply) → Answered client before k s d.0 d.1 reply
+pub step-respond : {D : Type 0} (feed : D → Option Feed) (client : Feed) (before : Sink) (k : Kept) (s : State) (now : HttpDate) (d : TimedValue) (x : Step D) (n : ℕ) (r : ResponseState D) (reply : ReplyValue) → x ≡ step.Respond n r → d.0 ≡ now → IsStep feed x d.1
+    → ((v : ResponseValue) → IsResponse feed r v → StepIsAnswered client before k s now (Respond n v) reply) → StepIsAnswered client before k s d.0 d.1 reply
 step-respond feed client before k s now d x n r reply e date told h =
     let P : Step _ → Type 0 = λ y. IsStep feed y d.1 in
     let is = is-respond feed n r d.1 (subst P e told) in
-    let Q : Asked → Type 0 = λ y. Answered client before k s now y reply in
-    let R : HttpDate → Type 0 = λ y. Answered client before k s y d.1 reply in
+    let Q : StepValue → Type 0 = λ y. StepIsAnswered client before k s now y reply in
+    let R : HttpDate → Type 0 = λ y. StepIsAnswered client before k s y d.1 reply in
     subst R (sym date) (subst Q (sym is.is) (h is.value is.response))
 
-pub is-read : {D : Type 0} (feed : D → Option Feed) (n m : ℕ) (x : Asked) → (let a : Step D = step.Read n m in IsStep feed a x) → x ≡ Read n m
+pub is-read : {D : Type 0} (feed : D → Option Feed) (n m : ℕ) (x : StepValue) → (let a : Step D = step.Read n m in IsStep feed a x) → x ≡ Read n m
 is-read feed n m Ask h = elim h [ ]
 is-read feed n m (AsReader k) h = elim h [ ]
 is-read feed n m (Read k l) h = ap (λ j. Read j l) h.0 ∙ ap (λ j. Read n j) h.1
@@ -91,10 +91,10 @@ is-read feed n m (Upgrade k p v) h = elim h [ ]
 is-read feed n m (Finish k) h = elim h [ ]
 is-read feed n m (Drop k) h = elim h [ ]
 
-pub step-read : {D : Type 0} (feed : D → Option Feed) (client : Feed) (before : Sink) (k : Kept) (s : State) (d : Dated) (x : Step D) (n m : ℕ) (reply : Replied) → x ≡ step.Read n m → IsStep feed x d.1
-    → Answered client before k s d.0 (Read n m) reply → Answered client before k s d.0 d.1 reply
+pub step-read : {D : Type 0} (feed : D → Option Feed) (client : Feed) (before : Sink) (k : Kept) (s : State) (d : TimedValue) (x : Step D) (n m : ℕ) (reply : ReplyValue) → x ≡ step.Read n m → IsStep feed x d.1
+    → StepIsAnswered client before k s d.0 (Read n m) reply → StepIsAnswered client before k s d.0 d.1 reply
 step-read feed client before k s d x n m reply e told h =
     let P : Step _ → Type 0 = λ y. IsStep feed y d.1 in
     let is = is-read feed n m d.1 (subst P e told) in
-    let Q : Asked → Type 0 = λ y. Answered client before k s d.0 y reply in
+    let Q : StepValue → Type 0 = λ y. StepIsAnswered client before k s d.0 y reply in
     subst Q (sym is) h

@@ -5,15 +5,15 @@ use Rattle.std.specs.declared.io.ErrorKind.{ErrorKind}
 use Rattle.tiny_http_wire.specs.Device.{IsFront}
 use Rattle.tiny_http_wire.specs.Answer.{Text}
 use Rattle.tiny_http_core.specs.Slots.{Slot, joined}
-use Rattle.tiny_http_core.specs.Steps.{Replied, Done, Use, Unreported, Reported, fault_in, fault_of_answer}
-use Rattle.tiny_http_core.specs.Conversation.{Failure, State, has_output_ended, finished_front, Fares, Well, FailsWithin, FailsAfter, MayFare, reply_in, failure_in, Writes}
+use Rattle.tiny_http_core.specs.Steps.{ReplyValue, Done, WriterUse, Unreported, Reported, fault_in, fault_of_answer}
+use Rattle.tiny_http_core.specs.Conversation.{Failure, State, has_output_ended, finished_front, Fares, Well, FailsWithin, FailsAfter, MayFare, reply_in, failure_in, WriterPart}
 
 -- the writer failed while the output grew from one text to another
 abbrev pub FailsBetween : List ℕ → List ℕ → Option Failure → Type 0
 FailsBetween from to failure = (f : Failure) × (failure ≡ Some f) × IsFront from f.output × IsFront f.output to
 
 -- the same, and the fault is reported
-abbrev pub FailsTold : (ErrorKind → Replied) → Replied → List ℕ → List ℕ → Option Failure → Type 0
+abbrev pub FailsTold : (ErrorKind → ReplyValue) → ReplyValue → List ℕ → List ℕ → Option Failure → Type 0
 FailsTold tell reply from to failure = (f : Failure) × (failure ≡ Some f) × (reply ≡ tell f.kind) × IsFront from f.output × IsFront f.output to
 
 -- the writer failed after the step's own text
@@ -23,21 +23,21 @@ FailsBehind before own None slots failure =
 FailsBehind before own (Some kind) slots failure = FailsBetween (joined before) (joined before ++ own) failure
 
 -- the reply where the writer takes all
-abbrev pub broken_reply : (ErrorKind → Replied) → Replied → Option ErrorKind → Replied
+abbrev pub broken_reply : (ErrorKind → ReplyValue) → ReplyValue → Option ErrorKind → ReplyValue
 broken_reply tell planned broken = unwrap_or (option_map tell broken) planned
 
 -- how an answer uses the writer
-abbrev pub used : Text → Use
+abbrev pub used : Text → WriterUse
 used text = Reported text.bytes (fault_in text.ending) true fault_of_answer
 
 -- what the writer did in an answer, by whether the output had ended
-abbrev pub Alternatives : List Slot → Text → List Slot → Replied → Option Failure → Type 0
+abbrev pub Alternatives : List Slot → Text → List Slot → ReplyValue → Option Failure → Type 0
 Alternatives old text slots reply failure =
     ((reply ≡ broken_reply fault_of_answer Done (fault_in text.ending)) × (failure ≡ None))
     ⊎ (FailsTold fault_of_answer reply (joined old) (joined old ++ text.bytes) failure
     ⊎ ((reply ≡ broken_reply fault_of_answer Done (fault_in text.ending)) × FailsBehind old text.bytes (fault_in text.ending) slots failure))
 
-abbrev pub WritesIf : Bool → Option Failure → List Slot → Text → List Slot → Replied → Option Failure → Type 0
+abbrev pub WritesIf : Bool → Option Failure → List Slot → Text → List Slot → ReplyValue → Option Failure → Type 0
 WritesIf t failed old text slots reply failure = MatchBool t ((reply ≡ Done) × (failure ≡ failed)) (Alternatives old text slots reply failure)
 
 -- all that was sent is flushed, unless the writer has failed
@@ -52,8 +52,8 @@ pub open-flushed : (s : State) (was : Bool) → has_output_ended s ≡ was → I
 open-flushed s was over firm z = firm (not-failed s.failure _ (over ∙ z))
 
 -- a step whose faults no reply reports
-pub unreported : (s : State) (was : Bool) (planned : Replied) (slots : List Slot) (failure : Option Failure) → has_output_ended s ≡ was → IsAllFlushed s
-    → MatchBool was (failure ≡ s.failure) ((failure ≡ None) ⊎ FailsBetween (joined s.reached.slots) (joined slots) failure) → Writes Unreported s planned slots planned failure
+pub unreported : (s : State) (was : Bool) (planned : ReplyValue) (slots : List Slot) (failure : Option Failure) → has_output_ended s ≡ was → IsAllFlushed s
+    → MatchBool was (failure ≡ s.failure) ((failure ≡ None) ⊎ FailsBetween (joined s.reached.slots) (joined slots) failure) → WriterPart Unreported s planned slots planned failure
 unreported s was planned slots failure over firm h = subst W (sym over) (by was (open-flushed s was over firm) h)
   where
     W : Bool → Type 0
@@ -67,8 +67,8 @@ unreported s was planned slots failure over firm h = subst W (sym over) (by was 
         (FailsAfter x.0, (subst F (sym (firm refl)) x.2, x.3), refl, x.1)
 
 -- an answer
-pub reported : (s : State) (was : Bool) (text : Text) (slots : List Slot) (reply : Replied) (failure : Option Failure) → has_output_ended s ≡ was → IsAllFlushed s → WritesIf was s.failure s.reached.slots text slots reply failure
-    → Writes (used text) s Done slots reply failure
+pub reported : (s : State) (was : Bool) (text : Text) (slots : List Slot) (reply : ReplyValue) (failure : Option Failure) → has_output_ended s ≡ was → IsAllFlushed s → WritesIf was s.failure s.reached.slots text slots reply failure
+    → WriterPart (used text) s Done slots reply failure
 reported s was text slots reply failure over firm h = subst W (sym over) (by was (open-flushed s was over firm) h)
   where
     W : Bool → Type 0

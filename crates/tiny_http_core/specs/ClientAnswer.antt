@@ -52,7 +52,7 @@ BeginsWithFieldLines bytes [] rest = rest ≡ bytes
 BeginsWithFieldLines bytes (h ∷ hs) rest = (text : List ℕ) × (next : List ℕ) × Line bytes text next × AreAscii text × FieldLine text h × BeginsWithFieldLines next hs rest
 
 -- the bytes begin with a head: a status-line, field-lines and an empty line; what follows it is after
-pub record BeginsWithHead (bytes : List ℕ) (head : AnswerHead) (after : List ℕ) : Type 0 where
+pub record BeginsWithAnswerHead (bytes : List ℕ) (head : AnswerHead) (after : List ℕ) : Type 0 where
   pub fields : List ℕ
   pub empty : List ℕ
   pub starts : BeginsWithStatusLine bytes head.version head.status fields
@@ -66,12 +66,12 @@ is_interim status = nat_le 100 status && nat_lt status 200
 -- the bytes begin with these heads that are passed over, and the rest follows
 abbrev pub PassesOver : List ℕ → List AnswerHead → List ℕ → Type 0
 PassesOver bytes [] rest = rest ≡ bytes
-PassesOver bytes (h ∷ hs) rest = (next : List ℕ) × BeginsWithHead bytes h next × (is_interim h.status ≡ true) × PassesOver next hs rest
+PassesOver bytes (h ∷ hs) rest = (next : List ℕ) × BeginsWithAnswerHead bytes h next × (is_interim h.status ≡ true) × PassesOver next hs rest
 
 -- how far the body behind a head reaches
 pub data Extent : Type 0 where
   NoBody : Extent
-  InChunks : Extent
+  OfChunks : Extent
   OfLength : ℕ → Extent
   Untold : Extent
 
@@ -92,12 +92,12 @@ extent_of_length None = Untold
 extent_of_length (Some n) = OfLength n
 
 abbrev pub extent : Method → AnswerHead → Extent
-extent method head = if has_no_body method head.status then NoBody else if says_chunked head.headers then InChunks else extent_of_length (content_length head.headers)
+extent method head = if has_no_body method head.status then NoBody else if says_chunked head.headers then OfChunks else extent_of_length (content_length head.headers)
 
 -- the bytes begin with a body of this extent, and the rest follows
 abbrev pub BeginsWithBody : Extent → List ℕ → List ℕ → List ℕ → Type 0
 BeginsWithBody NoBody bytes body rest = (body ≡ []) × (rest ≡ bytes)
-BeginsWithBody InChunks bytes body rest = WholeChunks bytes body rest
+BeginsWithBody OfChunks bytes body rest = WholeChunks bytes body rest
 BeginsWithBody (OfLength n) bytes body rest = (bytes ≡ body ++ rest) × (length body ≡ n)
 BeginsWithBody Untold bytes body rest = ⊥
 
@@ -112,7 +112,7 @@ pub record ReadsAnswer (method : Method) (bytes : List ℕ) (answer : ClientAnsw
   pub start : List ℕ
   pub after : List ℕ
   pub passes : PassesOver bytes interim start
-  pub has_head : BeginsWithHead start answer.head after
+  pub has_head : BeginsWithAnswerHead start answer.head after
   pub is_final : is_interim answer.head.status ≡ false
   pub has_body : BeginsWithBody (extent method answer.head) after answer.body rest
 
@@ -141,8 +141,8 @@ LacksHead bytes lack =
 
 -- the chunked body is cut or breaks a rule, there are fewer bytes than the length, or no length is told
 abbrev pub LacksBody : Extent → List ℕ → Lack → Type 0
-LacksBody InChunks bytes Unfinished = (front : List ℕ) × CutChunks bytes End front UnexpectedEof
-LacksBody InChunks bytes Invalid = (front : List ℕ) × CutChunks bytes End front InvalidData
+LacksBody OfChunks bytes Unfinished = (front : List ℕ) × CutChunks bytes End front UnexpectedEof
+LacksBody OfChunks bytes Invalid = (front : List ℕ) × CutChunks bytes End front InvalidData
 LacksBody (OfLength n) bytes Unfinished = length bytes < n
 LacksBody Untold bytes Invalid = Unit {0}
 LacksBody _ bytes _ = ⊥
@@ -151,7 +151,7 @@ LacksBody _ bytes _ = ⊥
 abbrev pub LacksAnswer : Method → List ℕ → Lack → Type 0
 LacksAnswer method bytes lack =
     (interim : List AnswerHead) × (start : List ℕ) × PassesOver bytes interim start
-    × (LacksHead start lack ⊎ ((head : AnswerHead) × (after : List ℕ) × BeginsWithHead start head after × (is_interim head.status ≡ false) × LacksBody (extent method head) after lack))
+    × (LacksHead start lack ⊎ ((head : AnswerHead) × (after : List ℕ) × BeginsWithAnswerHead start head after × (is_interim head.status ≡ false) × LacksBody (extent method head) after lack))
 
 -- THE BYTES END BEFORE AN ANSWER DOES. A line that isn't finished breaks no rule yet.
 abbrev pub UnfinishedAnswer : Method → List ℕ → Type 0

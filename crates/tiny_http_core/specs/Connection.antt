@@ -11,13 +11,13 @@ use Rattle.tiny_http_message.specs.declared.waiting.Waiting.{Waiting}
 use Rattle.tiny_http_stream.specs.Source.{SourceState, GoesOn}
 use Rattle.tiny_http_stream.specs.ToCome.{stopped}
 use Rattle.tiny_http_message.specs.Body.{Remaining, remaining, taken_left, is_streaming, Fits}
-use Rattle.tiny_http_core.specs.Pending.{last_body, streams}
+use Rattle.tiny_http_core.specs.Pending.{last_body, is_streaming_body}
 use Rattle.tiny_http_message.specs.declared.exchange.EndOfRequests.{EndOfRequests}
 use Rattle.tiny_http_stream.specs.declared.source.Standing.{Standing}
 use Rattle.tiny_http_stream.specs.declared.source.Standing.TheVariants as at
 use Rattle.tiny_http_stream.specs.Outlet.{OutletState, output_of}
-use Rattle.tiny_http_message.specs.Pipeline.{Item, Asks, Refuses, Request, is_head_method, said_length}
-use Rattle.tiny_http_core.specs.Slots.{Slot, ByServer, is_finished, is_slot_broken, segment, joined, breaks_off, new_slot, last_slot, is_last_slot, reader_is_lost, rest_of}
+use Rattle.tiny_http_message.specs.Pipeline.{Item, Asks, Refuses, Request, is_head_method, body_length_or_0}
+use Rattle.tiny_http_core.specs.Slots.{Slot, ByServer, is_finished, is_slot_broken, segment, joined, is_output_broken, new_slot, last_slot, is_last_slot, last_was_abandoned, rest_of}
 use Rattle.tiny_http_core.specs.Steps.{finished}
 use Rattle.tiny_http_turns.specs.Turns.{Mark, Open, Left, Finished, AreInShape}
 use Rattle.tiny_http_core.specs.Conversation.{State, Failure, PlaceAt}
@@ -50,8 +50,8 @@ kept c =
     record { marks = c.marks; requests = c.requests; standing = c.source.standing; ended = is_some c.end; feed = c.source.feed; stop = c.source.stop; is_over = c.source.is_over; sink = output_of c.outlet; output_ended = c.outlet.ended }
 
 -- how a request is answered
-abbrev pub form_of : Request → AnswerForm
-form_of r = record { version = r.message.version; no_body = is_head_method r.message.method }
+abbrev pub answer_form_of : Request → AnswerForm
+answer_form_of r = record { version = r.message.version; no_body = is_head_method r.message.method }
 
 -- a request that was handed out on this date and waits, while so many bytes of its body were given, and its end told or not
 abbrev pub open_slot : HttpDate → Request → ℕ → Bool → Slot
@@ -69,9 +69,9 @@ pub record IsWaiting (s : Slot) (w : Waiting) : Type 0 where
   pub told : Bool
   pub is : s ≡ open_slot date request given told
   pub unowed : request.framing.owes_continue ≡ false
-  pub form : w.form ≡ form_of request
+  pub form : w.form ≡ answer_form_of request
   pub text : w.dropped.items ≡ segment (dropped date request given told)
-  pub fits : Fits w.body request.framing.form (said_length request.framing) given told
+  pub fits : Fits w.body request.framing.form (body_length_or_0 request.framing) given told
   -- where the body isn't read from the input, this is left of it
   pub settled : is_streaming w.body ≡ false → (f : Feed) → remaining w.body (Some f) ≡ Some (taken_left (rest_of request given) f)
 
@@ -136,7 +136,7 @@ abbrev pub is_past_last : Standing → Bool
 is_past_last at.Last = true
 is_past_last at.Head = false
 is_past_last at.Body = false
-is_past_last at.Lost = false
+is_past_last at.Abandoned = false
 is_past_last (at.Broken kind) = false
 
 -- bytes of a body come before the next head
@@ -144,19 +144,19 @@ abbrev pub is_in_body : Standing → Bool
 is_in_body at.Body = true
 is_in_body at.Head = false
 is_in_body at.Last = false
-is_in_body at.Lost = false
+is_in_body at.Abandoned = false
 is_in_body (at.Broken kind) = false
 
 -- Where the next head is read, while the asking hasn't ended: after the last body; and nowhere after the last head, or
 -- after a chunked body that was given up before its end. The input knows whether it stands within that body.
 pub record NextHead (k : Kept) (last : Option Slot) (rest : List Item) : Type 0 where
   pub is_last : is_past_last k.standing ≡ is_last_slot last
-  pub within : is_in_body k.standing ≡ (not (is_last_slot last) && streams (last_body k.requests))
-  pub lost : reader_is_lost last ≡ true → InputEnded k × (k.feed ≡ Some (stopped End))
-  pub place : reader_is_lost last ≡ false → PlaceAt (is_past_last k.standing) (behind_body (last_body k.requests) k.feed) rest
+  pub within : is_in_body k.standing ≡ (not (is_last_slot last) && is_streaming_body (last_body k.requests))
+  pub lost : last_was_abandoned last ≡ true → InputEnded k × (k.feed ≡ Some (stopped End))
+  pub place : last_was_abandoned last ≡ false → PlaceAt (is_past_last k.standing) (behind_body (last_body k.requests) k.feed) rest
 
 -- how the input stands to the bodies and to the rest of the pipeline, behind this much of the client's feed
-pub record Reader (client : Feed) (k : Kept) (slots : List Slot) (rest : List Item) : Type 0 where
+pub record InputStands (client : Feed) (k : Kept) (slots : List Slot) (rest : List Item) : Type 0 where
   pub settled : AreSettled k.requests
   pub gives : GivesRest (last_body k.requests) (last_slot slots) k.feed
   pub next : k.ended ≡ false → NextHead k (last_slot slots) rest
@@ -165,7 +165,7 @@ pub record Reader (client : Feed) (k : Kept) (slots : List Slot) (rest : List It
 -- the output so far: the joined segments, which no failure takes back; or what the writer took when it failed
 abbrev pub OutputAt : Sink → Sink → Bool → List Slot → Option Failure → Type 0
 OutputAt before sink ended slots None =
-    (sink.taken ≡ Some (joined slots)) × (sink.failures ≡ before.failures) × (sink.has_ended ≡ ended) × (ended ≡ breaks_off slots)
+    (sink.taken ≡ Some (joined slots)) × (sink.failures ≡ before.failures) × (sink.has_ended ≡ ended) × (ended ≡ is_output_broken slots)
     × (ended ≡ false → IsFront (joined slots) sink.sent)
 OutputAt before sink ended slots (Some f) =
     (sink.taken ≡ Some f.output) × (sink.failures ≡ before.failures + 1) × Tells sink.last_kind f.kind × (ended ≡ true)
@@ -176,5 +176,5 @@ pub record Stands (client : Feed) (before : Sink) (k : Kept) (s : State) : Type 
   pub shape : AreInShape k.marks
   pub ended : s.reached.ended ≡ k.ended
   pub flushed : s.failure ≡ None → s.flushed ≡ joined s.reached.slots
-  pub reader : Reader client k s.reached.slots s.reached.rest
+  pub reader : InputStands client k s.reached.slots s.reached.rest
   pub output : OutputAt before k.sink k.output_ended s.reached.slots s.failure

@@ -4,13 +4,13 @@ use Rattle.std.specs.List.{AllByRecursion}
 use Rattle.std.specs.declared.io.ErrorKind.{ErrorKind}
 use Rattle.httpdate.specs.declared.date.HttpDate.{HttpDate}
 use Rattle.tiny_http_wire.specs.Device.{Feed, Sink, IsFront, Tells}
-use Rattle.tiny_http_message.specs.Pipeline.{Item, Asks, Refuses, Place, said_length, Pipeline}
+use Rattle.tiny_http_message.specs.Pipeline.{Item, Asks, Refuses, Place, body_length_or_0, Pipeline}
 use Rattle.tiny_http_message.specs.BodyLeft.{LeftAt}
 use Rattle.tiny_http_message.specs.HeadReads.{place_after}
 use Rattle.tiny_http_wire.specs.declared.device.Stop.TheVariants.{End}
 use Rattle.tiny_http_stream.specs.ToCome.{stopped}
-use Rattle.tiny_http_core.specs.Slots.{ResponseValue, Slot, is_finished, joined, breaks_off, new_slot, rest_of, last_slot, last_is_open, is_last_slot, reader_is_held, reader_is_lost, turn_has_come, IsGathered, to_request}
-use Rattle.tiny_http_core.specs.Steps.{Asked, Ask, Read, Respond, Replied, NoSuch, Memory, Use, Unused, Unreported, Reported, use_in_turn, Outcome, Reached, outcome}
+use Rattle.tiny_http_core.specs.Slots.{ResponseValue, Slot, is_finished, joined, is_output_broken, new_slot, rest_of, last_slot, last_is_open, is_last_slot, last_holds_reader, last_was_abandoned, turn_has_come, IsGathered, to_request}
+use Rattle.tiny_http_core.specs.Steps.{StepValue, Ask, Read, Respond, ReplyValue, NoSuch, Memory, WriterUse, Unused, Unreported, Reported, use_in_turn, Outcome, Reached, outcome}
 
 -- the writer's first fault: its kind, and all that the writer took
 pub record Failure : Type 0 where
@@ -26,7 +26,7 @@ pub record State : Type 0 where
 
 -- nothing is written any more
 abbrev pub has_output_ended : State → Bool
-has_output_ended old = is_some old.failure || breaks_off old.reached.slots
+has_output_ended old = is_some old.failure || is_output_broken old.reached.slots
 
 -- how many numbers are finished in front
 abbrev pub finished_front : List Slot → ℕ
@@ -45,7 +45,7 @@ abbrev pub FallsBetween : List ℕ → List ℕ → Failure → Type 0
 FallsBetween from to f = IsFront from f.output × IsFront f.output to
 
 -- how it may fare: a fault falls after what was flushed, and within what the step leaves to send
-abbrev pub MayFare : Use → State → List Slot → Fares → Type 0
+abbrev pub MayFare : WriterUse → State → List Slot → Fares → Type 0
 MayFare writer old slots Well = Unit {0}
 MayFare Unused old slots (FailsWithin f) = ⊥
 MayFare Unused old slots (FailsAfter f) = ⊥
@@ -57,7 +57,7 @@ MayFare (Reported own None flushes tell) old slots (FailsAfter f) =
 MayFare (Reported own (Some kind) flushes tell) old slots (FailsAfter f) = FallsBetween old.flushed (joined old.reached.slots ++ own) f
 
 -- the reply: the fault in the step's own text, or that of its data; else what was planned
-abbrev pub reply_in : Use → Replied → Fares → Replied
+abbrev pub reply_in : WriterUse → ReplyValue → Fares → ReplyValue
 reply_in (Reported own broken flushes tell) planned (FailsWithin f) = tell f.kind
 reply_in (Reported own broken flushes tell) planned _ = unwrap_or (option_map tell broken) planned
 reply_in _ planned _ = planned
@@ -68,32 +68,32 @@ failure_in (FailsWithin f) = Some f
 failure_in (FailsAfter f) = Some f
 
 -- the step writes nothing
-abbrev pub is_silent : Use → State → Bool
+abbrev pub is_silent : WriterUse → State → Bool
 is_silent Unused old = true
 is_silent writer old = has_output_ended old
 
 -- THE WRITER'S PART of a step: its reply, and the writer's failure after it
-abbrev pub Writes : Use → State → Replied → List Slot → Replied → Option Failure → Type 0
-Writes writer old planned slots reply failure =
+abbrev pub WriterPart : WriterUse → State → ReplyValue → List Slot → ReplyValue → Option Failure → Type 0
+WriterPart writer old planned slots reply failure =
     MatchBool (is_silent writer old)
     ((reply ≡ planned) × (failure ≡ old.failure))
     ((fares : Fares) × MayFare writer old slots fares × (reply ≡ reply_in writer planned fares) × (failure ≡ failure_in fares))
 
-abbrev pub flushes : Use → Bool
+abbrev pub flushes : WriterUse → Bool
 flushes Unused = false
 flushes Unreported = true
 flushes (Reported own broken flushed tell) = flushed
 
 -- what has been flushed after a step
-abbrev pub flushed_after : Use → State → List Slot → List ℕ
+abbrev pub flushed_after : WriterUse → State → List Slot → List ℕ
 flushed_after writer old slots = if (flushes writer && not (is_silent writer old)) then joined slots else old.flushed
 
 abbrev pub reached_by : Outcome → Reached
 reached_by o = record { slots = o.slots; rest = o.rest; ended = o.ended }
 
 -- the step has this outcome
-abbrev pub Has : Outcome → State → Replied → State → Type 0
-Has o old reply new = (new.reached ≡ reached_by o) × (new.flushed ≡ flushed_after o.writer old o.slots) × Writes o.writer old o.reply o.slots reply new.failure
+abbrev pub HasOutcome : Outcome → State → ReplyValue → State → Type 0
+HasOutcome o old reply new = (new.reached ≡ reached_by o) × (new.flushed ≡ flushed_after o.writer old o.slots) × WriterPart o.writer old o.reply o.slots reply new.failure
 
 -- the response's data are read whole before its head
 abbrev pub GathersFor : HttpDate → ResponseValue → Item → Type 0
@@ -105,58 +105,59 @@ GathersAt date response None = ⊥
 GathersAt date response (Some s) = GathersFor date response s.item
 
 -- where no memory was found, the step had to gather
-abbrev pub MayLack : Bool → HttpDate → Reached → Asked → Type 0
+abbrev pub MayLack : Bool → HttpDate → Reached → StepValue → Type 0
 MayLack true date old step = Unit {0}
 MayLack false date old (Respond k response) = GathersAt date response (slice_get old.slots k)
 MayLack false date old _ = ⊥
 
--- the item is a head that is refused
-abbrev pub IsRefused : Item → Type 0
-IsRefused (Asks r) = ⊥
-IsRefused (Refuses refusal version withheld last) = Unit {0}
+-- the item is a head that is refused, and after which the asking goes on
+abbrev pub IsPassedOver : Item → Type 0
+IsPassedOver (Asks r) = ⊥
+IsPassedOver (Refuses refusal version withheld last) = last ≡ false
 
 -- the heads that were refused on the way are answered, if the turn of the first has come
-abbrev pub answers_to : List Slot → List Item → Use
+abbrev pub answers_to : List Slot → List Item → WriterUse
 answers_to slots [] = Unused
 answers_to slots (item ∷ refused) = use_in_turn (turn_has_come (length slots) slots)
 
--- want of memory: before a read, which changes nothing; or at a head, which ends the asking
-abbrev pub FindsNoMemory : HttpDate → State → Asked → Replied → State → Type 0
+-- out of memory: before a read, which changes nothing; or at a head, after the refused ones before it, which ends the asking
+abbrev pub FindsNoMemory : HttpDate → State → StepValue → ReplyValue → State → Type 0
 FindsNoMemory date old (Read k n) reply new = 0 < n × ((outcome true date old.reached (Read k n)).reply ≡ NoSuch → ⊥) × (reply ≡ Memory) × (new ≡ old)
 FindsNoMemory date old Ask reply new =
-    (old.reached.ended ≡ false) × (reader_is_held (last_slot old.reached.slots) ≡ false) × (reader_is_lost (last_slot old.reached.slots) ≡ false)
-    × (refused : List Item) × (rest : List Item) × (old.reached.rest ≡ refused ++ rest) × AllByRecursion IsRefused refused
+    (old.reached.ended ≡ false) × (is_last_slot (last_slot old.reached.slots) ≡ false) × (last_holds_reader (last_slot old.reached.slots) ≡ false)
+    × (last_was_abandoned (last_slot old.reached.slots) ≡ false)
+    × (refused : List Item) × (rest : List Item) × (old.reached.rest ≡ refused ++ rest) × AllByRecursion IsPassedOver refused
     × (let slots = old.reached.slots ++ map (new_slot date) refused in
-    Has (record { reply = Memory; slots = slots; rest = rest; ended = true; writer = answers_to old.reached.slots refused }) old reply new)
+    HasOutcome (record { reply = Memory; slots = slots; rest = rest; ended = true; writer = answers_to old.reached.slots refused }) old reply new)
 FindsNoMemory date old _ reply new = ⊥
 
 -- One step on a date may be answered so and leave this.
-abbrev pub StepsTo : State → HttpDate → Asked → Replied → State → Type 0
+abbrev pub StepsTo : State → HttpDate → StepValue → ReplyValue → State → Type 0
 StepsTo old date step reply new =
-    ((found : Bool) × MayLack found date old.reached step × Has (outcome found date old.reached step) old reply new)
+    ((found : Bool) × MayLack found date old.reached step × HasOutcome (outcome found date old.reached step) old reply new)
     ⊎ FindsNoMemory date old step reply new
 
 -- a step on a date
-abbrev pub Dated : Type 0
-Dated = HttpDate × Asked
+abbrev pub TimedValue : Type 0
+TimedValue = HttpDate × StepValue
 
 -- the steps may have these replies, one after another
-abbrev pub Run : State → List Dated → List Replied → State → Type 0
+abbrev pub Run : State → List TimedValue → List ReplyValue → State → Type 0
 Run old [] [] new = new ≡ old
 Run old (s ∷ steps) (r ∷ replies) new = (mid : State) × StepsTo old s.0 s.1 r mid × Run mid steps replies new
 Run old [] (r ∷ replies) new = ⊥
 Run old (s ∷ steps) [] new = ⊥
 
 -- nothing is reached of a pipeline
-abbrev pub start : List Item → State
-start items = record { reached = record { slots = []; rest = items; ended = false }; flushed = []; failure = None }
+abbrev pub start_state : List Item → State
+start_state items = record { reached = record { slots = []; rest = items; ended = false }; flushed = []; failure = None }
 
 -- The output: what the writer took and what is held are the joined segments, it took all that was flushed, it did not fail, and
 -- the output has ended exactly if one of them broke off. Or the writer failed once: it tells that kind and those bytes,
 -- nothing is held, and the output has ended.
 abbrev pub IsOutput : List Slot → List ℕ → Option Failure → Sink → Sink → List ℕ → Bool → Type 0
 IsOutput slots flushed None before after held ended =
-    (after.failures ≡ before.failures) × (taken : List ℕ) × (after.taken ≡ Some taken) × (taken ++ held ≡ joined slots) × IsFront flushed taken × (ended ≡ breaks_off slots)
+    (after.failures ≡ before.failures) × (taken : List ℕ) × (after.taken ≡ Some taken) × (taken ++ held ≡ joined slots) × IsFront flushed taken × (ended ≡ is_output_broken slots)
 IsOutput slots flushed (Some f) before after held ended =
     (after.failures ≡ before.failures + 1) × Tells after.last_kind f.kind × (after.taken ≡ Some f.output) × (held ≡ []) × (ended ≡ true)
 
@@ -169,7 +170,7 @@ PlaceAt false (Some f) rest = Pipeline (Some f.bytes) f.stop rest
 -- The input stands within this number's body: what is left of the body comes next, and behind it what the pipeline still has.
 abbrev pub WithinBody : Slot → Item → Feed → List Item → Type 0
 WithinBody s (Asks r) left rest =
-    (next : Place) × LeftAt r.framing.form (said_length r.framing - s.given) left.bytes left.stop (rest_of r s.given) next
+    (next : Place) × LeftAt r.framing.form (body_length_or_0 r.framing - s.given) left.bytes left.stop (rest_of r s.given) next
     × Pipeline (place_after r.framing.is_last next) left.stop rest
 WithinBody s (Refuses refusal version withheld last) left rest = ⊥
 
@@ -182,16 +183,16 @@ WithinLast _ _ rest = ⊥
 abbrev pub InputAt : Reached → Option Feed → Type 0
 InputAt old left =
     MatchBool old.ended (Unit {0})
-    (MatchBool (reader_is_lost (last_slot old.slots)) (left ≡ Some (stopped End))
+    (MatchBool (last_was_abandoned (last_slot old.slots)) (left ≡ Some (stopped End))
     (MatchBool (last_is_open (last_slot old.slots)) (WithinLast (last_slot old.slots) left old.rest) (PlaceAt (is_last_slot (last_slot old.slots)) left old.rest)))
 
 -- THE CONNECTION THEOREM: replies and output are those of a run over the pipeline that stands in the feed; and this of the
 -- feed is left.
-pub record IsConversation (feed : Feed) (before : Sink) (steps : List Dated) (replies : List Replied) (after : Sink) (held : List ℕ) (ended : Bool) (left : Option Feed) : Type 0 where
+pub record IsConversation (feed : Feed) (before : Sink) (steps : List TimedValue) (replies : List ReplyValue) (after : Sink) (held : List ℕ) (ended : Bool) (left : Option Feed) : Type 0 where
   pub items : List Item
   pub end : State
   pub pipeline : Pipeline (Some feed.bytes) feed.stop items
-  pub run : Run (start items) steps replies end
+  pub run : Run (start_state items) steps replies end
   pub output : IsOutput end.reached.slots end.flushed end.failure before after held ended
   pub input : InputAt end.reached left
 

@@ -1,12 +1,12 @@
 -- What the calls of a `Connection` come to.
-use Rattle.std.specs.Prelude.{◌≡◌, ◌⊎◌, ℕ, Bool, true, List, [], ◌∷◌, ◌++◌, length, Option, Some, None, IsSome, slice_get, slice_set}
+use Rattle.std.specs.Prelude.{◌≡◌, ◌⊎◌, ℕ, Bool, true, List, [], ◌∷◌, ◌++◌, length, Option, Some, None, IsSome, MatchBool, slice_get, slice_set, if◌then◌else◌}
 use Rattle.std.specs.declared.io.ErrorKind.{ErrorKind}
 use Rattle.httpdate.specs.declared.date.HttpDate.{HttpDate}
 use Rattle.tiny_http_wire.specs.Device.{Feed, Sink}
 use Rattle.tiny_http_wire.specs.Answer.{ResponseState}
 use Rattle.tiny_http_core.specs.declared.driver.Step.{Step}
 use Rattle.tiny_http_core.specs.declared.driver.Step.TheVariants as step
-use Rattle.tiny_http_stream.specs.Source.{GoesOn}
+use Rattle.tiny_http_stream.specs.Source.{SourceState, GoesOn}
 use Rattle.tiny_http_stream.specs.ToCome.{HasByte}
 use Rattle.tiny_http_stream.specs.declared.source.Standing.{Standing}
 use Rattle.tiny_http_stream.specs.declared.source.Standing.TheVariants as at
@@ -14,26 +14,27 @@ use Rattle.tiny_http_wire.specs.declared.common.HTTPVersion.{HTTPVersion}
 use Rattle.tiny_http_wire.specs.declared.common.StatusCode.{StatusCode}
 use Rattle.tiny_http_message.specs.declared.exchange.EndOfRequests.{EndOfRequests}
 use Rattle.tiny_http_message.specs.declared.exchange.EndOfRequests.TheVariants as because
-use Rattle.tiny_http_message.specs.HeadReads.{EndsAt}
+use Rattle.tiny_http_message.specs.HeadReads.{EndsAt, IsBeforeHead}
+use Rattle.tiny_http_message.specs.declared.framing.Framing.{Framing}
 use Rattle.tiny_http_stream.specs.Outlet.{output_of, SentOn}
 use Rattle.tiny_http_message.specs.Pipeline.{Item, Refuses, Refusal, refusal_status, OneHead, Pipeline}
-use Rattle.tiny_http_core.specs.Steps.{Asked, Replied, Handed, Ended, NotYet, NoSuch, Memory, Fault}
-use Rattle.tiny_http_core.specs.Conversation.{State, Dated, Run, start, IsFresh}
+use Rattle.tiny_http_core.specs.Steps.{StepValue, ReplyValue, Handed, Ended, NotYet, NoSuch, Memory, Fault}
+use Rattle.tiny_http_core.specs.Conversation.{State, TimedValue, Run, start_state, IsFresh}
 use Rattle.tiny_http_core.specs.Sending.{FailsOnceUnlessEnded}
 use Rattle.tiny_http_message.specs.declared.body.Body.{Body}
 use Rattle.tiny_http_message.specs.declared.waiting.Waiting.{Waiting}
-use Rattle.tiny_http_message.specs.Body.{GivesUp}
+use Rattle.tiny_http_message.specs.Body.{GivesUp, is_streaming, body_standing}
 use Rattle.tiny_http_core.specs.Seen.{IsStep, MayFail, IsAnswered}
 use Rattle.tiny_http_core.specs.Connection.{ConnectionState, kept, Stands}
 
 -- Over this client's feed and a fresh writer, these steps were done, with these replies: they are a run over the pipeline
 -- that stands in the feed, and the connection stands where it leads.
-pub record HasDone {R W : Type 0} (client : Feed) (before : Sink) (c : ConnectionState R W) (steps : List Dated) (replies : List Replied) : Type 0 where
+pub record HasDone {R W : Type 0} (client : Feed) (before : Sink) (c : ConnectionState R W) (steps : List TimedValue) (replies : List ReplyValue) : Type 0 where
   pub fresh : IsFresh before
   pub items : List Item
   pub pipeline : Pipeline (Some client.bytes) client.stop items
   pub at : State
-  pub run : Run (start items) steps replies at
+  pub run : Run (start_state items) steps replies at
   pub stands : Stands client before (kept c) at
 
 -- a response with what its data tell, in their place
@@ -53,23 +54,23 @@ IsRefusal f why =
     × (status.0 ≡ refusal_status refusal) × (why ≡ because.Refused status)
 
 -- WHY THE REQUESTS END where the source stands: the last one was read; or no request stands in the bytes that come.
-abbrev pub IsEndAt : Standing → Option Feed → EndOfRequests → Type 0
-IsEndAt at.Last feed why = why ≡ because.LastRequest
-IsEndAt standing feed why = (f : Feed) → feed ≡ Some f → IsRefusal f why ⊎ EndsAt standing f.bytes f.stop why
+abbrev pub EndsRequestsAt : Standing → Option Feed → EndOfRequests → Type 0
+EndsRequestsAt at.Last feed why = why ≡ because.LastRequest
+EndsRequestsAt standing feed why = (f : Feed) → feed ≡ Some f → IsRefusal f why ⊎ (OneHead f.bytes f.stop None None × EndsAt standing f.bytes f.stop why)
 
 -- What an Ask says of the end of the requests, by its reply: it ends them for a reason that stands in the client's bytes, or
 -- where memory for a head was refused; after the end it changes nothing, and after the last request the source is left alone.
-abbrev pub AskEnds : {R W : Type 0} → ConnectionState R W → ConnectionState R W → Replied → Type 0
+abbrev pub AskEnds : {R W : Type 0} → ConnectionState R W → ConnectionState R W → ReplyValue → Type 0
 AskEnds old new (Handed k message framing) = (old.end ≡ None) × (new.end ≡ None) × (new.source.stop ≡ old.source.stop)
 AskEnds old new NotYet = old.end ≡ None
 AskEnds old new Ended =
     (IsSome old.end → new ≡ old) × (old.source.standing ≡ at.Last → new.source ≡ old.source)
-    × (old.end ≡ None → (why : EndOfRequests) × (new.end ≡ Some why) × IsEndAt old.source.standing old.source.feed why)
-AskEnds old new Memory = (old.end ≡ None) × (new.end ≡ Some because.Memory) × HasByte old.source.feed
+    × (old.end ≡ None → (why : EndOfRequests) × (new.end ≡ Some why) × EndsRequestsAt old.source.standing old.source.feed why)
+AskEnds old new Memory = (old.end ≡ None) × (new.end ≡ Some because.Memory) × IsBeforeHead old.source.standing × HasByte old.source.feed
 AskEnds old new _ = ⊥
 
 -- what a step says of the end of the requests
-abbrev pub StepEnds : {R W : Type 0} → Step (Option Feed) → ConnectionState R W → ConnectionState R W → Replied → Type 0
+abbrev pub StepEnds : {R W : Type 0} → Step (Option Feed) → ConnectionState R W → ConnectionState R W → ReplyValue → Type 0
 StepEnds step.Ask old new reply = AskEnds old new reply
 StepEnds (step.Read k n) old new reply = new.end ≡ old.end
 StepEnds (step.Respond k r) old new reply = new.end ≡ old.end
@@ -80,29 +81,40 @@ abbrev pub LetsGo : {R W : Type 0} → ℕ → ConnectionState R W → Connectio
 LetsGo k old new =
     (new.requests ≡ slice_set old.requests k None) × ((w : Waiting) → slice_get old.requests k ≡ Some (Some w) → GivesUp w.body old.source new.source)
 
--- What an Ask leaves of requests and output, by its reply: a request was added; or none was, and nothing is sent where memory
--- was refused; or a refused head has its number.
-abbrev pub AskLeaves : {R W : Type 0} → ConnectionState R W → ConnectionState R W → Replied → Type 0
+-- where a source stands after the head of a request that is framed so, and its body read so far
+abbrev pub standing_after : Framing → Body → Standing
+standing_after f body = if f.is_last then at.Last else if is_streaming body then at.Body else at.Head
+
+-- What an Ask leaves of requests, source and output, by its reply: a request was added, and the source stands after its head; or
+-- none was, and nothing is sent where memory was refused; or a refused head has its number.
+abbrev pub AskLeaves : {R W : Type 0} → ConnectionState R W → ConnectionState R W → ReplyValue → Type 0
 AskLeaves old new (Handed k message framing) =
-    (k ≡ length old.marks) × ((w : Waiting) × (new.requests ≡ old.requests ++ Some w ∷ [])) × (new.outlet ≡ old.outlet)
+    (k ≡ length old.marks) × ((w : Waiting) × (new.requests ≡ old.requests ++ Some w ∷ []) × (new.source.standing ≡ standing_after framing w.body))
+    × (new.outlet ≡ old.outlet)
 AskLeaves old new Memory = (new.requests ≡ old.requests) × (new.marks ≡ old.marks) × (new.outlet ≡ old.outlet)
 AskLeaves old new Ended =
     ((new.requests ≡ old.requests) × (new.marks ≡ old.marks) × (new.outlet ≡ old.outlet)) ⊎ (new.requests ≡ old.requests ++ None ∷ [])
 AskLeaves old new NotYet = Unit {0}
 AskLeaves old new _ = ⊥
 
--- What a step leaves of requests and output: a read changes no more than the body of its request; an answer, and a drop, let
--- their request go.
-abbrev pub StepLeaves : {R W : Type 0} → Step (Option Feed) → ConnectionState R W → ConnectionState R W → Replied → Type 0
+-- A read from the body of a request that leaves this of it: where it is read from the source, that stands by what is left;
+-- else the source is left alone.
+abbrev pub StandsAfter : {R : Type 0} → Body → Body → SourceState R → SourceState R → Type 0
+StandsAfter was body old new = MatchBool (is_streaming was) (new.standing ≡ body_standing body old.standing) (new ≡ old)
+
+-- What a step leaves of requests, source and output: a read changes no more than the body of its request, and the source if
+-- it is read from that; an answer, and a drop, let their request go.
+abbrev pub StepLeaves : {R W : Type 0} → Step (Option Feed) → ConnectionState R W → ConnectionState R W → ReplyValue → Type 0
 StepLeaves step.Ask old new reply = AskLeaves old new reply
 StepLeaves (step.Read k n) old new reply =
     (new.outlet ≡ old.outlet) × (new.marks ≡ old.marks)
-    × ((new.requests ≡ old.requests) ⊎ ((w : Waiting) × (body : Body) × (slice_get old.requests k ≡ Some (Some w)) × (new.requests ≡ slice_set old.requests k (Some (record w { body = body })))))
+    × (((new.requests ≡ old.requests) × (new.source ≡ old.source))
+    ⊎ ((w : Waiting) × (body : Body) × (slice_get old.requests k ≡ Some (Some w)) × (new.requests ≡ slice_set old.requests k (Some (record w { body = body }))) × StandsAfter w.body body old.source new.source))
 StepLeaves (step.Respond k r) old new reply = IsAnswered reply → LetsGo k old new
 StepLeaves (step.Drop k) old new reply = IsAnswered reply → LetsGo k old new
 
 -- the step was not done: it came too early, or no request takes it, or memory for a read was refused
-abbrev pub IsDeclined : Step (Option Feed) → Replied → Type 0
+abbrev pub IsDeclined : Step (Option Feed) → ReplyValue → Type 0
 IsDeclined _ NotYet = Unit {0}
 IsDeclined _ NoSuch = Unit {0}
 IsDeclined (step.Read k n) Memory = Unit {0}
@@ -111,8 +123,8 @@ IsDeclined _ _ = ⊥
 -- One step on a date: what was done is done with this step and its reply behind it. And whatever reader, writer and data
 -- state: a step that was not done changes nothing, why the requests end is kept, the other requests are left alone, the source
 -- goes on, the writer fails once at most, what is written is flushed, and a fault that is reported is one.
-pub record TakesStep {R W : Type 0} (old new : ConnectionState R W) (now : HttpDate) (step : Step (Option Feed)) (reply : Replied) : Type 0 where
-  pub does : (client : Feed) (before : Sink) (steps : List Dated) (replies : List Replied) (asked : Asked) → IsStep (λ f. f) step asked
+pub record TakesStep {R W : Type 0} (old new : ConnectionState R W) (now : HttpDate) (step : Step (Option Feed)) (reply : ReplyValue) : Type 0 where
+  pub does : (client : Feed) (before : Sink) (steps : List TimedValue) (replies : List ReplyValue) (asked : StepValue) → IsStep (λ f. f) step asked
       → HasDone client before old steps replies → HasDone client before new (steps ++ (now, asked) ∷ []) (replies ++ reply ∷ [])
   pub declined : IsDeclined step reply → new ≡ old
   pub ends : StepEnds step old new reply

@@ -17,12 +17,12 @@ left_text (Left text ∷ marks) = text ++ left_text marks
 left_text (Finished ∷ marks) = []
 
 -- these numbers are finished
-abbrev pub passed : List Mark → List Mark
-passed [] = []
-passed (Open ∷ marks) = Open ∷ marks
-passed (Held ∷ marks) = Held ∷ marks
-passed (Left text ∷ marks) = Finished ∷ passed marks
-passed (Finished ∷ marks) = Finished ∷ marks
+abbrev pub with_left_finished : List Mark → List Mark
+with_left_finished [] = []
+with_left_finished (Open ∷ marks) = Open ∷ marks
+with_left_finished (Held ∷ marks) = Held ∷ marks
+with_left_finished (Left text ∷ marks) = Finished ∷ with_left_finished marks
+with_left_finished (Finished ∷ marks) = Finished ∷ marks
 
 -- the first of these numbers was left
 abbrev pub begins_left : List Mark → Bool
@@ -37,14 +37,14 @@ abbrev pub SendsLeft : List Mark → Bool → Sink → Sink → Bool → Type 0
 SendsLeft rest was old new ended = MatchBool (begins_left rest) (SendsUnlessEnded was old new ended (left_text rest) × IsFlushed new) ((new ≡ old) × (ended ≡ was))
 
 -- the number at the place of the held one is finished, and so are those behind it that were left
-abbrev pub Passes : List Mark → List Mark → List Mark → Type 0
-Passes front rest new = new ≡ front ++ (Finished ∷ passed rest)
+abbrev pub FinishesFront : List Mark → List Mark → List Mark → Type 0
+FinishesFront front rest new = new ≡ front ++ (Finished ∷ with_left_finished rest)
 
 -- An open number is left with a text: in its turn the text is sent, with those behind it; else it waits.
 abbrev pub LeavesText : Bool → List Mark → List Mark → List Mark → List ℕ → Bool → Sink → Sink → Bool → Type 0
 LeavesText in_turn front rest marks text was old new ended =
     MatchBool in_turn
-    (Passes front rest marks × SendsUnlessEnded was old new ended (text ++ left_text rest) × IsFlushed new)
+    (FinishesFront front rest marks × SendsUnlessEnded was old new ended (text ++ left_text rest) × IsFlushed new)
     ((marks ≡ front ++ (Left text ∷ rest)) × AreInShape marks × (new ≡ old) × (ended ≡ was))
 
 -- what is kept of the request of a number that waits for its answer
@@ -61,6 +61,6 @@ last_body (Some w ∷ []) = Some w.body
 last_body (w ∷ v ∷ ws) = last_body (v ∷ ws)
 
 -- the body is read from the input
-abbrev pub streams : Option Body → Bool
-streams None = false
-streams (Some b) = is_streaming b
+abbrev pub is_streaming_body : Option Body → Bool
+is_streaming_body None = false
+is_streaming_body (Some b) = is_streaming b

@@ -5,7 +5,7 @@ use Rattle.std.specs.declared.io.Error.{Error}
 use Rattle.std.specs.declared.io.ErrorKind.{ErrorKind}
 use Rattle.httpdate.specs.declared.date.HttpDate.{HttpDate}
 use Rattle.tiny_http_wire.specs.Device.{Feed, Sink}
-use Rattle.tiny_http_wire.specs.Answer.{Answer, Printing, coding_for, ResponseState}
+use Rattle.tiny_http_wire.specs.Answer.{Answer, Printing, served_coding, ResponseState}
 use Rattle.tiny_http_core.specs.declared.driver.Step.{Step}
 use Rattle.tiny_http_core.specs.declared.driver.Step.TheVariants as step
 use Rattle.tiny_http_core.specs.declared.driver.Timed.{Timed}
@@ -14,8 +14,8 @@ use Rattle.tiny_http_core.specs.declared.driver.Reply.{Reply}
 use Rattle.tiny_http_core.specs.declared.driver.Reply.TheVariants as reply
 use Rattle.tiny_http_message.specs.HeadReads.{head_message, head_framing}
 use Rattle.tiny_http_core.specs.Slots.{ResponseValue}
-use Rattle.tiny_http_core.specs.Steps.{Asked, Ask, Read, Respond, Drop, Replied, Handed, Ended, Given, Fault, NotYet, Done, Refused, NoSuch, Memory, fault_of_answer}
-use Rattle.tiny_http_core.specs.Conversation.{Dated}
+use Rattle.tiny_http_core.specs.Steps.{StepValue, Ask, Read, Respond, Drop, ReplyValue, Handed, Ended, Given, Fault, NotYet, Done, Refused, NoSuch, Memory, fault_of_answer}
+use Rattle.tiny_http_core.specs.Conversation.{TimedValue}
 use Rattle.tiny_http_core.specs.Sending.{Sends, IsFlushed, IsHonest, FailsAtMostOnce}
 
 -- the response tells its data, of fewer than 2^63 bytes
@@ -23,7 +23,7 @@ abbrev pub IsResponse : {D : Type 0} → (D → Option Feed) → ResponseState D
 IsResponse feed r value = (value.answer ≡ r.answer) × (feed r.data_reader ≡ Some value.content) × (length value.content.bytes < 2 ^ 63)
 
 -- the step is this one
-abbrev pub IsStep : {D : Type 0} → (D → Option Feed) → Step D → Asked → Type 0
+abbrev pub IsStep : {D : Type 0} → (D → Option Feed) → Step D → StepValue → Type 0
 IsStep feed step.Ask Ask = Unit {0}
 IsStep feed (step.Read k n) (Read j m) = (j ≡ k) × (m ≡ n)
 IsStep feed (step.Respond k r) (Respond n value) = (n ≡ k) × IsResponse feed r value
@@ -31,11 +31,11 @@ IsStep feed (step.Drop k) (Drop n) = n ≡ k
 IsStep feed _ _ = ⊥
 
 -- the step on its date is this one
-abbrev pub IsTold : {D : Type 0} → (D → Option Feed) → Timed D → Dated → Type 0
-IsTold feed t d = (d.0 ≡ t.now) × IsStep feed t.step d.1
+abbrev pub IsTimedStep : {D : Type 0} → (D → Option Feed) → Timed D → TimedValue → Type 0
+IsTimedStep feed t d = (d.0 ≡ t.now) × IsStep feed t.step d.1
 
 -- the reply as it is seen
-abbrev pub seen : Reply → Replied
+abbrev pub seen : Reply → ReplyValue
 seen (reply.Handed k h) = Handed k (head_message h) (head_framing h)
 seen reply.Ended = Ended
 seen (reply.Given bytes) = Given bytes.items
@@ -52,7 +52,7 @@ abbrev pub MayFail : {D : Type 0} → (D → Option Feed) → Sink → Sink → 
 MayFail feed old new step.Ask kind = ⊥
 MayFail feed old new (step.Read k n) kind = Unit {0}
 MayFail feed old new (step.Drop k) kind = ⊥
-MayFail feed old new (step.Respond k r) kind = (p : Printing) × IsHonest old new (coding_for r.answer p) r.answer.length (feed r.data_reader) kind
+MayFail feed old new (step.Respond k r) kind = (p : Printing) × IsHonest old new (served_coding r.answer p) r.answer.length (feed r.data_reader) kind
 
 -- a fault that an answer tells is the writer's, whose count rose, or that of the step's own data; of a body's nothing is said
 abbrev pub TellsHonestly : {D : Type 0} → (D → Option Feed) → Sink → Sink → Timed D → Reply → Type 0
@@ -74,16 +74,16 @@ pub record PrintedFor (form : AnswerForm) (date : HttpDate) (p : Printing) : Typ
   pub dated : p.date ≡ date
 
 -- what a call that sends an answer is told as
-abbrev pub reply_to : {T : Type 0} → Result T Error → Replied
+abbrev pub reply_to : {T : Type 0} → Result T Error → ReplyValue
 reply_to (Ok x) = Done
 reply_to (Err e) = fault_of_answer (error_kind e)
 
 -- what an answer that was made is replied
-abbrev pub IsAnswered : Replied → Type 0
+abbrev pub IsAnswered : ReplyValue → Type 0
 IsAnswered Done = Unit {0}
 IsAnswered (Fault kind) = Unit {0}
 IsAnswered _ = ⊥
 
 -- an answer with this data was sent and flushed, and the reply tells how that went
-abbrev pub Answers : Sink → Sink → Bool → Replied → Answer → Feed → Printing → Type 0
+abbrev pub Answers : Sink → Sink → Bool → ReplyValue → Answer → Feed → Printing → Type 0
 Answers old new ended reply answer content p = (r : Result (Unit {0}) Error) × (reply ≡ reply_to r) × Sends old new ended r answer content p × IsFlushed new

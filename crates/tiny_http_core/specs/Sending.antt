@@ -6,10 +6,10 @@ use Rattle.std.specs.declared.io.ErrorKind.{ErrorKind}
 use Rattle.std.specs.declared.io.ErrorKind.TheVariants.{OutOfMemory}
 use Rattle.std.specs.Io.KnownBytes.{append_known}
 use Rattle.tiny_http_wire.specs.declared.device.Stop.TheVariants.{Fault}
-use Rattle.tiny_http_wire.specs.Device.{Feed, Sink, IsFront, BeginsKnown, HoldsNothing, IsFrontOf, Tells, next_count, fault_of}
+use Rattle.tiny_http_wire.specs.Device.{Feed, Sink, IsFront, BeginsKnown, HoldsNothing, IsKnownFront, Tells, next_count, fault_of}
 use Rattle.tiny_http_wire.specs.declared.coding.Coding.{Coding}
 use Rattle.tiny_http_wire.specs.declared.coding.Coding.TheVariants.{Identity, Chunked}
-use Rattle.tiny_http_wire.specs.Answer.{Answer, Text, Whole, Broken, Printing, text_of, nothing}
+use Rattle.tiny_http_wire.specs.Answer.{Answer, Text, Whole, Broken, Printing, text_of, nothing_sent}
 use Rattle.tiny_http_core.specs.Slots.{IsGathered}
 
 -- the writer takes bytes, and its count can rise
@@ -18,25 +18,25 @@ pub record CanSend (sink : Sink) : Type 0 where
   pub can_count : sink.failures < 2 ^ 64 - 1
 
 -- the writer took these bytes, and did not fail
-pub record Wrote (old new : Sink) (text : List ℕ) : Type 0 where
+pub record OutletTook (old new : Sink) (text : List ℕ) : Type 0 where
   pub bytes : new.taken ≡ append_known old.taken text
   pub sent : IsFront old.sent new.sent
   pub failures : new.failures ≡ old.failures
 
 -- the writer failed once, with this kind, and tells a front of its bytes before and these, with all that it had sent on
-pub record Lost (old new : Sink) (text : List ℕ) (kind : ErrorKind) : Type 0 where
-  pub bytes : IsFrontOf new.taken (append_known old.taken text)
+pub record OutletFailed (old new : Sink) (text : List ℕ) (kind : ErrorKind) : Type 0 where
+  pub bytes : IsKnownFront new.taken (append_known old.taken text)
   pub keeps : BeginsKnown old.sent new.taken
   pub failures : new.failures ≡ next_count old.failures
   pub last_kind : Tells new.last_kind kind
 
 -- what was held was sent, or the writer failed in it
 abbrev pub EndsQuietly : Sink → Sink → Type 0
-EndsQuietly old new = Wrote old new [] ⊎ ((kind : ErrorKind) × Lost old new [] kind)
+EndsQuietly old new = OutletTook old new [] ⊎ ((kind : ErrorKind) × OutletFailed old new [] kind)
 
 -- what was held was dropped
-pub record Abandons (old new : Sink) : Type 0 where
-  pub bytes : IsFrontOf new.taken old.taken
+pub record DropsHeld (old new : Sink) : Type 0 where
+  pub bytes : IsKnownFront new.taken old.taken
   pub sent : IsFront old.sent new.sent
   pub keeps : BeginsKnown new.sent new.taken
   pub failures : new.failures ≡ old.failures
@@ -45,20 +45,20 @@ pub record Abandons (old new : Sink) : Type 0 where
 -- A call that sends a text and flushes it: all was sent; or the text broke off, with its fault as the answer, and what there
 -- is was sent, or lost; or the writer failed. Behind a fault the outlet has ended.
 abbrev pub SendsText : {T : Type 0} → Sink → Sink → Bool → Result T Error → Text → Type 0
-SendsText old new ended (Ok x) text = (text.ending ≡ Whole) × Wrote old new text.bytes × (ended ≡ false) × (new.has_ended ≡ false)
+SendsText old new ended (Ok x) text = (text.ending ≡ Whole) × OutletTook old new text.bytes × (ended ≡ false) × (new.has_ended ≡ false)
 SendsText old new ended (Err e) text =
     (ended ≡ true) × (new.has_ended ≡ true)
-    × (((text.ending ≡ Broken (error_kind e)) × (Wrote old new text.bytes ⊎ ((kind : ErrorKind) × Lost old new text.bytes kind)))
-    ⊎ Lost old new text.bytes (error_kind e))
+    × (((text.ending ≡ Broken (error_kind e)) × (OutletTook old new text.bytes ⊎ ((kind : ErrorKind) × OutletFailed old new text.bytes kind)))
+    ⊎ OutletFailed old new text.bytes (error_kind e))
 
 -- a call that sends an answer with this data
 abbrev pub Sends : {T : Type 0} → Sink → Sink → Bool → Result T Error → Answer → Feed → Printing → Type 0
-Sends old new ended r a feed p = SendsText old new ended r (text_of a feed p) ⊎ (IsGathered a p × SendsText old new ended r (nothing OutOfMemory))
+Sends old new ended r a feed p = SendsText old new ended r (text_of a feed p) ⊎ (IsGathered a p × SendsText old new ended r (nothing_sent OutOfMemory))
 
 -- a call that sends a text, and tells no fault
 abbrev pub SendsQuietly : Sink → Sink → Bool → List ℕ → Type 0
 SendsQuietly old new ended text =
-    ((ended ≡ false) × (new.has_ended ≡ false) × Wrote old new text) ⊎ ((ended ≡ true) × (new.has_ended ≡ true) × (kind : ErrorKind) × Lost old new text kind)
+    ((ended ≡ false) × (new.has_ended ≡ false) × OutletTook old new text) ⊎ ((ended ≡ true) × (new.has_ended ≡ true) × (kind : ErrorKind) × OutletFailed old new text kind)
 
 -- a writer that goes on holds nothing back
 abbrev pub IsFlushed : Sink → Type 0
@@ -89,15 +89,15 @@ FailsAtMostOnce old new = (new.failures ≡ old.failures) ⊎ (new.failures ≡ 
 
 -- Data that are sent in this coding break off by this kind. As they are: they close short of their length; or, where it isn't
 -- known, by a fault, or no memory to gather them was found. In chunks: by a fault, whatever their length.
-abbrev pub BreakOff : Coding → Option ℕ → Feed → ErrorKind → Type 0
-BreakOff Identity (Some n) f kind = (length f.bytes < n) × (kind ≡ fault_of f.stop)
-BreakOff Identity None f kind = (f.stop ≡ Fault kind) ⊎ (kind ≡ OutOfMemory)
-BreakOff Chunked known f kind = f.stop ≡ Fault kind
+abbrev pub DataBreakOff : Coding → Option ℕ → Feed → ErrorKind → Type 0
+DataBreakOff Identity (Some n) f kind = (length f.bytes < n) × (kind ≡ fault_of f.stop)
+DataBreakOff Identity None f kind = (f.stop ≡ Fault kind) ⊎ (kind ≡ OutOfMemory)
+DataBreakOff Chunked known f kind = f.stop ≡ Fault kind
 
 -- the same; nothing is said of data that tell nothing
 abbrev pub MayBreakOff : Coding → Option ℕ → Option Feed → ErrorKind → Type 0
 MayBreakOff coding known None kind = Unit {0}
-MayBreakOff coding known (Some f) kind = length f.bytes < 2 ^ 63 → BreakOff coding known f kind
+MayBreakOff coding known (Some f) kind = length f.bytes < 2 ^ 63 → DataBreakOff coding known f kind
 
 -- a fault is the writer's, whose count rose, or the data's, of which so many are to be sent in this coding
 abbrev pub IsHonest : Sink → Sink → Coding → Option ℕ → Option Feed → ErrorKind → Type 0

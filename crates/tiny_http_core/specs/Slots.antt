@@ -6,10 +6,10 @@ use Rattle.httpdate.specs.declared.date.HttpDate.{HttpDate}
 use Rattle.tiny_http_wire.specs.declared.common.Header.{Header}
 use Rattle.tiny_http_wire.specs.declared.coding.Coding.TheVariants as coding
 use Rattle.tiny_http_wire.specs.Device.{Feed, ending}
-use Rattle.tiny_http_wire.specs.Answer.{Answer, Text, Ending, Whole, Broken, Printing, text_of, coding_for, behind, whole, nothing}
+use Rattle.tiny_http_wire.specs.Answer.{Answer, Text, Ending, Whole, Broken, Printing, text_of, served_coding, prepend_text, whole, nothing_sent}
 use Rattle.tiny_http_message.specs.declared.framing.Form.{Form}
 use Rattle.tiny_http_message.specs.declared.framing.Form.TheVariants.{Rest, Nothing, Held, Counted, Chunked}
-use Rattle.tiny_http_message.specs.Pipeline.{Item, Asks, Refuses, Refusal, VersionNotSupported, refusal_status, Request, is_head_method, said_length}
+use Rattle.tiny_http_message.specs.Pipeline.{Item, Asks, Refuses, Refusal, VersionNotSupported, refusal_status, Request, is_head_method, body_length_or_0}
 use Rattle.tiny_http_message.specs.OwnAnswer.{own_printing}
 use Rattle.tiny_http_message.specs.Body.{body_finished}
 
@@ -21,7 +21,7 @@ pub record ResponseValue : Type 0 where
 -- what became of a number
 pub data Stage : Type 0 where
   -- it waits for its answer
-  Waits : Stage
+  Unanswered : Stage
   -- it was answered by this response on this date; `found`: the memory for data that are read whole first was found
   Answered : (response : ResponseValue) (date : HttpDate) (found : Bool) → Stage
   -- the server answered itself: a refused head, a request that was dropped, or one whose upgrade was refused
@@ -77,9 +77,9 @@ abbrev pub printing_for : Item → HttpDate → Printing
 printing_for (Asks r) date = to_request r date
 printing_for (Refuses refusal version withheld last) date = own_printing version withheld date
 
-abbrev pub own_answer : Item → ResponseValue
-own_answer (Asks r) = drop_response
-own_answer (Refuses refusal version withheld last) = refusal_response refusal
+abbrev pub server_response : Item → ResponseValue
+server_response (Asks r) = drop_response
+server_response (Refuses refusal version withheld last) = refusal_response refusal
 
 abbrev pub response_text : ResponseValue → Printing → Text
 response_text r p = text_of r.answer r.content p
@@ -87,17 +87,17 @@ response_text r p = text_of r.answer r.content p
 -- the text of a response; no byte where its data had to be read whole first and no memory was found
 abbrev pub text_if : Bool → ResponseValue → Printing → Text
 text_if true r p = response_text r p
-text_if false r p = nothing OutOfMemory
+text_if false r p = nothing_sent OutOfMemory
 
 -- the data of this answer are read whole before its head
 abbrev pub IsGathered : Answer → Printing → Type 0
-IsGathered a p = (p.upgrade ≡ None) × (coding_for a p ≡ coding.Identity) × (a.length ≡ None)
+IsGathered a p = (p.upgrade ≡ None) × (served_coding a p ≡ coding.Identity) × (a.length ≡ None)
 
 -- what a stage sends
 abbrev pub stage_text : Item → HttpDate → Stage → Text
-stage_text item date Waits = whole []
+stage_text item date Unanswered = whole []
 stage_text item date (Answered response at found) = text_if found response (printing_for item at)
-stage_text item date ByServer = response_text (own_answer item) (printing_for item date)
+stage_text item date ByServer = response_text (server_response item) (printing_for item date)
 stage_text item date (Raw written closed) = whole written
 stage_text item date (Upgraded protocol response at written closed) =
     whole ((response_text response (record (printing_for item at) { upgrade = Some protocol })).bytes ++ written)
@@ -109,7 +109,7 @@ opening item (Some date) = (response_text continue_response (printing_for item d
 
 -- THE SEGMENT: the part of the output that belongs to a number, and how it ends
 abbrev pub slot_text : Slot → Text
-slot_text s = behind (opening s.item s.continued) (stage_text s.item s.date s.stage)
+slot_text s = prepend_text (opening s.item s.continued) (stage_text s.item s.date s.stage)
 
 abbrev pub segment : Slot → List ℕ
 segment s = (slot_text s).bytes
@@ -122,15 +122,15 @@ abbrev pub is_slot_broken : Slot → Bool
 is_slot_broken s = is_broken (slot_text s).ending
 
 -- the number is finished
-abbrev pub is_over : Stage → Bool
-is_over Waits = false
-is_over (Answered response date found) = true
-is_over ByServer = true
-is_over (Raw written closed) = closed
-is_over (Upgraded protocol response date written closed) = closed
+abbrev pub is_stage_finished : Stage → Bool
+is_stage_finished Unanswered = false
+is_stage_finished (Answered response date found) = true
+is_stage_finished ByServer = true
+is_stage_finished (Raw written closed) = closed
+is_stage_finished (Upgraded protocol response date written closed) = closed
 
 abbrev pub is_finished : Slot → Bool
-is_finished s = is_over s.stage
+is_finished s = is_stage_finished s.stage
 
 -- the number's turn has come when all before it are finished
 abbrev pub turn_has_come : ℕ → List Slot → Bool
@@ -142,14 +142,14 @@ joined [] = []
 joined (s ∷ slots) = segment s ++ (if (is_finished s && not (is_slot_broken s)) then joined slots else [])
 
 -- a broken segment has ended the output
-abbrev pub breaks_off : List Slot → Bool
-breaks_off [] = false
-breaks_off (s ∷ slots) = is_slot_broken s || (is_finished s && breaks_off slots)
+abbrev pub is_output_broken : List Slot → Bool
+is_output_broken [] = false
+is_output_broken (s ∷ slots) = is_slot_broken s || (is_finished s && is_output_broken slots)
 
 -- the slot of an item that is reached
 abbrev pub new_slot : HttpDate → Item → Slot
 new_slot date (Asks r) =
-    record { item = Asks r; date = date; continued = None; owed = r.framing.owes_continue; given = 0; told = false; given_up = false; stage = Waits }
+    record { item = Asks r; date = date; continued = None; owed = r.framing.owes_continue; given = 0; told = false; given_up = false; stage = Unanswered }
 new_slot date (Refuses refusal version withheld last) =
     record { item = Refuses refusal version withheld last; date = date; continued = None; owed = false; given = 0; told = false; given_up = true; stage = ByServer }
 
@@ -162,15 +162,15 @@ abbrev pub rest_of : Request → ℕ → Feed
 rest_of r given = record { bytes = drop given r.body.bytes; stop = r.body.stop }
 
 abbrev pub is_body_finished : Request → Slot → Bool
-is_body_finished r s = body_finished r.framing.form (said_length r.framing) s.given s.told
+is_body_finished r s = body_finished r.framing.form (body_length_or_0 r.framing) s.given s.told
 
 -- forms whose body is read from the stream, up to where the next head begins, or to its end
-abbrev pub is_streamed : Form → Bool
-is_streamed Counted = true
-is_streamed Chunked = true
-is_streamed Rest = true
-is_streamed Nothing = false
-is_streamed Held = false
+abbrev pub is_form_streamed : Form → Bool
+is_form_streamed Counted = true
+is_form_streamed Chunked = true
+is_form_streamed Rest = true
+is_form_streamed Nothing = false
+is_form_streamed Held = false
 
 -- the number has the last head
 abbrev pub is_last_item : Item → Bool
@@ -179,7 +179,7 @@ is_last_item (Refuses refusal version withheld last) = last
 
 -- the body is read from the stream, isn't finished and wasn't given up
 abbrev pub body_is_open : Slot → Item → Bool
-body_is_open s (Asks r) = is_streamed r.framing.form && not (is_body_finished r s || s.given_up)
+body_is_open s (Asks r) = is_form_streamed r.framing.form && not (is_body_finished r s || s.given_up)
 body_is_open s (Refuses refusal version withheld last) = false
 
 abbrev pub is_chunked : Form → Bool
@@ -203,9 +203,9 @@ last_is_open None = false
 last_is_open (Some s) = body_is_open s s.item
 
 -- the last body holds the reader: the next head can't be read yet
-abbrev pub reader_is_held : Option Slot → Bool
-reader_is_held last = not (is_last_slot last) && last_is_open last
+abbrev pub last_holds_reader : Option Slot → Bool
+last_holds_reader last = not (is_last_slot last) && last_is_open last
 
-abbrev pub reader_is_lost : Option Slot → Bool
-reader_is_lost None = false
-reader_is_lost (Some s) = body_was_abandoned s s.item
+abbrev pub last_was_abandoned : Option Slot → Bool
+last_was_abandoned None = false
+last_was_abandoned (Some s) = body_was_abandoned s s.item

@@ -11,32 +11,32 @@ use Rattle.tiny_http_wire.specs.Heads.{Message}
 use Rattle.tiny_http_wire.specs.Answer.{Ending, Whole, Broken}
 use Rattle.tiny_http_message.specs.declared.framing.Framing.{Framing}
 use Rattle.tiny_http_message.specs.Pipeline.{Item, Asks, Refuses, Request}
-use Rattle.tiny_http_core.specs.Slots.{ResponseValue, Slot, Stage, Waits, Answered, ByServer, Raw, Upgraded, turn_has_come, to_request, text_if, new_slot, body_left, last_slot, reader_is_held, reader_is_lost}
+use Rattle.tiny_http_core.specs.Slots.{ResponseValue, Slot, Stage, Unanswered, Answered, ByServer, Raw, Upgraded, turn_has_come, to_request, text_if, new_slot, body_left, last_slot, last_holds_reader, last_was_abandoned}
 
 -- a step, with its response as a value
-pub data Asked : Type 0 where
-  Ask : Asked
-  AsReader : (k : ℕ) → Asked
-  Read : (k n : ℕ) → Asked
-  Respond : (k : ℕ) (response : ResponseValue) → Asked
-  IntoWriter : (k : ℕ) → Asked
-  Write : (k : ℕ) (bytes : List ℕ) → Asked
-  Flush : (k : ℕ) → Asked
-  Upgrade : (k : ℕ) (protocol : List ℕ) (response : ResponseValue) → Asked
-  Finish : (k : ℕ) → Asked
-  Drop : (k : ℕ) → Asked
+pub data StepValue : Type 0 where
+  Ask : StepValue
+  AsReader : (k : ℕ) → StepValue
+  Read : (k n : ℕ) → StepValue
+  Respond : (k : ℕ) (response : ResponseValue) → StepValue
+  IntoWriter : (k : ℕ) → StepValue
+  Write : (k : ℕ) (bytes : List ℕ) → StepValue
+  Flush : (k : ℕ) → StepValue
+  Upgrade : (k : ℕ) (protocol : List ℕ) (response : ResponseValue) → StepValue
+  Finish : (k : ℕ) → StepValue
+  Drop : (k : ℕ) → StepValue
 
 -- what a step is answered
-pub data Replied : Type 0 where
-  Handed : (k : ℕ) (message : Message) (framing : Framing) → Replied
-  Ended : Replied
-  Given : (bytes : List ℕ) → Replied
-  Fault : (kind : ErrorKind) → Replied
-  NotYet : Replied
-  Done : Replied
-  Refused : Replied
-  NoSuch : Replied
-  Memory : Replied
+pub data ReplyValue : Type 0 where
+  Handed : (k : ℕ) (message : Message) (framing : Framing) → ReplyValue
+  Ended : ReplyValue
+  Given : (bytes : List ℕ) → ReplyValue
+  Fault : (kind : ErrorKind) → ReplyValue
+  NotYet : ReplyValue
+  Done : ReplyValue
+  Refused : ReplyValue
+  NoSuch : ReplyValue
+  Memory : ReplyValue
 
 -- a client that has closed the connection is no fault of an answer
 abbrev pub is_closed_client : ErrorKind → Bool
@@ -46,24 +46,24 @@ is_closed_client ConnectionRefused = true
 is_closed_client ConnectionReset = true
 is_closed_client _ = false
 
-abbrev pub fault_of_answer : ErrorKind → Replied
+abbrev pub fault_of_answer : ErrorKind → ReplyValue
 fault_of_answer kind = if is_closed_client kind then Done else Fault kind
 
 -- How a step uses the writer: not at all; or its texts are written and flushed, and no reply reports a fault; or its own text
 -- is written, and flushed or not, and a fault of the writer in it is reported, or else that of its response's data, if any.
 -- Where both fail, either may be reported.
-pub data Use : Type 0 where
-  Unused : Use
-  Unreported : Use
-  Reported : (own : List ℕ) (broken : Option ErrorKind) (flushes : Bool) (tell : ErrorKind → Replied) → Use
+pub data WriterUse : Type 0 where
+  Unused : WriterUse
+  Unreported : WriterUse
+  Reported : (own : List ℕ) (broken : Option ErrorKind) (flushes : Bool) (tell : ErrorKind → ReplyValue) → WriterUse
 
 -- What a step answers and leaves, so far as the writer has no say in it.
 pub record Outcome : Type 0 where
-  pub reply : Replied
+  pub reply : ReplyValue
   pub slots : List Slot
   pub rest : List Item
   pub ended : Bool
-  pub writer : Use
+  pub writer : WriterUse
 
 -- What is reached of a pipeline, what isn't yet, and whether the asking has ended.
 pub record Reached : Type 0 where
@@ -71,15 +71,15 @@ pub record Reached : Type 0 where
   pub rest : List Item
   pub ended : Bool
 
-abbrev pub unchanged : Reached → Replied → Outcome
+abbrev pub unchanged : Reached → ReplyValue → Outcome
 unchanged old reply = record { reply = reply; slots = old.slots; rest = old.rest; ended = old.ended; writer = Unused }
 
 -- the step changes one slot
-abbrev pub changes : Reached → ℕ → Slot → Replied → Use → Outcome
+abbrev pub changes : Reached → ℕ → Slot → ReplyValue → WriterUse → Outcome
 changes old k s reply writer = record { reply = reply; slots = slice_set old.slots k s; rest = old.rest; ended = old.ended; writer = writer }
 
 -- an Ask goes to the next request, past the refused heads before it
-abbrev pub asks_from : HttpDate → Use → List Slot → List Item → Outcome
+abbrev pub asks_from : HttpDate → WriterUse → List Slot → List Item → Outcome
 asks_from date writer slots [] = record { reply = Ended; slots = slots; rest = []; ended = true; writer = writer }
 asks_from date writer slots (Asks r ∷ items) =
     record { reply = Handed (length slots) r.message r.framing; slots = slots ++ new_slot date (Asks r) ∷ []; rest = items; ended = false; writer = writer }
@@ -91,16 +91,16 @@ asks_from date writer slots (Refuses refusal version withheld last ∷ items) =
 abbrev pub ask : HttpDate → Reached → Outcome
 ask date old =
     if old.ended then unchanged old Ended else
-    if reader_is_held (last_slot old.slots) then unchanged old NotYet else
-    if reader_is_lost (last_slot old.slots) then record { reply = Ended; slots = old.slots; rest = old.rest; ended = true; writer = Unused } else
+    if last_holds_reader (last_slot old.slots) then unchanged old NotYet else
+    if last_was_abandoned (last_slot old.slots) then record { reply = Ended; slots = old.slots; rest = old.rest; ended = true; writer = Unused } else
     asks_from date Unused old.slots old.rest
 
 -- the bytes that a read gives, or how the body closes
-abbrev pub close_reply : Stop → Replied
+abbrev pub close_reply : Stop → ReplyValue
 close_reply End = Given []
 close_reply (Faults kind) = Fault kind
 
-abbrev pub read_reply : ℕ → List ℕ → Stop → Replied
+abbrev pub read_reply : ℕ → List ℕ → Stop → ReplyValue
 read_reply n [] close = close_reply close
 read_reply n (b ∷ left) close = Given (take n (b ∷ left))
 
@@ -110,56 +110,56 @@ finished s stage = record s { stage = stage; given_up = true; owed = false }
 
 -- more bytes were written, or the stream ends
 abbrev pub written_to : List ℕ → Stage → Stage
-written_to bytes (Raw written closed) = Raw (written ++ bytes) closed
-written_to bytes (Upgraded protocol response date written closed) = Upgraded protocol response date (written ++ bytes) closed
+written_to bytes (Raw written ends) = Raw (written ++ bytes) ends
+written_to bytes (Upgraded protocol response date written ends) = Upgraded protocol response date (written ++ bytes) ends
 written_to bytes stage = stage
 
-abbrev pub closed : Stage → Stage
-closed (Raw written _) = Raw written true
-closed (Upgraded protocol response date written _) = Upgraded protocol response date written true
-closed stage = stage
+abbrev pub stage_closed : Stage → Stage
+stage_closed (Raw written _) = Raw written true
+stage_closed (Upgraded protocol response date written _) = Upgraded protocol response date written true
+stage_closed stage = stage
 
 abbrev pub fault_in : Ending → Option ErrorKind
 fault_in Whole = None
 fault_in (Broken kind) = Some kind
 
 -- whether a number takes a step
-abbrev pub takes : Stage → Bool → Asked → Bool
-takes Waits owed (AsReader k) = true
-takes Waits owed (Read k n) = not owed
-takes Waits owed (Respond k response) = true
-takes Waits owed (IntoWriter k) = true
-takes Waits owed (Upgrade k protocol response) = true
-takes Waits owed (Drop k) = true
-takes Waits owed _ = false
-takes (Raw written ends) owed (Write k bytes) = not ends
-takes (Raw written ends) owed (Flush k) = not ends
-takes (Raw written ends) owed (Finish k) = not ends
-takes (Raw written ends) owed _ = false
-takes (Upgraded protocol response date written ends) owed (Write k bytes) = not ends
-takes (Upgraded protocol response date written ends) owed (Flush k) = not ends
-takes (Upgraded protocol response date written ends) owed (Finish k) = not ends
-takes (Upgraded protocol response date written ends) owed (Read k n) = not ends
-takes (Upgraded protocol response date written ends) owed _ = false
-takes (Answered response date found) owed _ = false
-takes ByServer owed _ = false
+abbrev pub accepts_step : Stage → Bool → StepValue → Bool
+accepts_step Unanswered owed (AsReader k) = true
+accepts_step Unanswered owed (Read k n) = not owed
+accepts_step Unanswered owed (Respond k response) = true
+accepts_step Unanswered owed (IntoWriter k) = true
+accepts_step Unanswered owed (Upgrade k protocol response) = true
+accepts_step Unanswered owed (Drop k) = true
+accepts_step Unanswered owed _ = false
+accepts_step (Raw written ends) owed (Write k bytes) = not ends
+accepts_step (Raw written ends) owed (Flush k) = not ends
+accepts_step (Raw written ends) owed (Finish k) = not ends
+accepts_step (Raw written ends) owed _ = false
+accepts_step (Upgraded protocol response date written ends) owed (Write k bytes) = not ends
+accepts_step (Upgraded protocol response date written ends) owed (Flush k) = not ends
+accepts_step (Upgraded protocol response date written ends) owed (Finish k) = not ends
+accepts_step (Upgraded protocol response date written ends) owed (Read k n) = not ends
+accepts_step (Upgraded protocol response date written ends) owed _ = false
+accepts_step (Answered response date found) owed _ = false
+accepts_step ByServer owed _ = false
 
 -- whether a step waits for its number's turn
-abbrev pub waits : Bool → Asked → Bool
-waits owed (AsReader k) = owed
-waits owed (Respond k response) = true
-waits owed (Write k bytes) = true
-waits owed (Flush k) = true
-waits owed (Upgrade k protocol response) = list_all is_ascii protocol
-waits owed _ = false
+abbrev pub needs_turn : Bool → StepValue → Bool
+needs_turn owed (AsReader k) = owed
+needs_turn owed (Respond k response) = true
+needs_turn owed (Write k bytes) = true
+needs_turn owed (Flush k) = true
+needs_turn owed (Upgrade k protocol response) = list_all is_ascii protocol
+needs_turn owed _ = false
 
 -- a text of the server's own is written in its turn alone
-abbrev pub use_in_turn : Bool → Use
+abbrev pub use_in_turn : Bool → WriterUse
 use_in_turn true = Unreported
 use_in_turn false = Unused
 
 -- a step that the number of a request takes, in its time
-abbrev pub effect : Bool → HttpDate → Reached → Request → Slot → Bool → Asked → Outcome
+abbrev pub effect : Bool → HttpDate → Reached → Request → Slot → Bool → StepValue → Outcome
 effect found date old r s turn (AsReader k) =
     if s.owed then changes old k (record s { owed = false; continued = Some date }) Done Unreported else unchanged old Done
 effect found date old r s turn (Read k n) =
@@ -176,27 +176,27 @@ effect found date old r s turn (Upgrade k protocol response) =
     if list_all is_ascii protocol
     then changes old k (record s { stage = Upgraded protocol response date [] false; owed = false }) Done Unreported
     else changes old k (finished s ByServer) Refused (use_in_turn turn)
-effect found date old r s turn (Finish k) = changes old k (finished s (closed s.stage)) Done (use_in_turn turn)
+effect found date old r s turn (Finish k) = changes old k (finished s (stage_closed s.stage)) Done (use_in_turn turn)
 effect found date old r s turn (Drop k) = changes old k (finished s ByServer) Done (use_in_turn turn)
 effect found date old r s turn Ask = unchanged old NoSuch
 
-abbrev pub at_item : Bool → HttpDate → Reached → ℕ → Asked → Slot → Item → Outcome
+abbrev pub at_item : Bool → HttpDate → Reached → ℕ → StepValue → Slot → Item → Outcome
 at_item found date old k step s (Refuses refusal version withheld last) = unchanged old NoSuch
 at_item found date old k step s (Asks r) =
-    if not (takes s.stage s.owed step) then unchanged old NoSuch else
-    if (waits s.owed step && not (turn_has_come k old.slots)) then unchanged old NotYet else
+    if not (accepts_step s.stage s.owed step) then unchanged old NoSuch else
+    if (needs_turn s.owed step && not (turn_has_come k old.slots)) then unchanged old NotYet else
     effect found date old r s (turn_has_come k old.slots) step
 
-abbrev pub at_slot : Bool → HttpDate → Reached → ℕ → Asked → Option Slot → Outcome
+abbrev pub at_slot : Bool → HttpDate → Reached → ℕ → StepValue → Option Slot → Outcome
 at_slot found date old k step None = unchanged old NoSuch
 at_slot found date old k step (Some s) = at_item found date old k step s s.item
 
 -- a step of a number
-abbrev pub at_number : Bool → HttpDate → Reached → ℕ → Asked → Outcome
+abbrev pub at_number : Bool → HttpDate → Reached → ℕ → StepValue → Outcome
 at_number found date old k step = at_slot found date old k step (slice_get old.slots k)
 
 -- what a step answers and leaves
-abbrev pub outcome : Bool → HttpDate → Reached → Asked → Outcome
+abbrev pub outcome : Bool → HttpDate → Reached → StepValue → Outcome
 outcome found date old Ask = ask date old
 outcome found date old (AsReader k) = at_number found date old k (AsReader k)
 outcome found date old (Read k n) = at_number found date old k (Read k n)

@@ -2,17 +2,17 @@
 ghost use Rattle.std.specs.Prelude.{◌≡◌, ◌-◌, ◌<◌, ◌^◌, true, false, List, [], length, Some, None, map, Ok, IfOk, IfErr, vec_len, is_some, slice_get};
 ghost use Rattle.std.specs.List.{AllZip};
 ghost use Rattle.tiny_http_wire.specs.Device.{Feed, Sink, HoldsNothing};
-ghost use Rattle.tiny_http_wire.specs.Answer.{Printing, coding_for};
+ghost use Rattle.tiny_http_wire.specs.Answer.{Printing, served_coding};
 ghost use Rattle.tiny_http_core.specs.Slots.{ResponseValue};
 ghost use Rattle.tiny_http_message.specs.Pipeline.{Item, Pipeline};
-ghost use Rattle.tiny_http_core.specs.Conversation.{IsConversation, IsFresh, Dated};
+ghost use Rattle.tiny_http_core.specs.Conversation.{IsConversation, IsFresh, TimedValue};
 ghost use Rattle.httpdate.specs.declared.date.HttpDate.{HttpDate as Date};
-ghost use Rattle.tiny_http_core.specs.Steps.{Replied, Done, Fault, is_closed_client, fault_of_answer};
+ghost use Rattle.tiny_http_core.specs.Steps.{ReplyValue, Done, Fault, is_closed_client, fault_of_answer};
 ghost use Rattle.std.specs.declared.io.ErrorKind.{ErrorKind};
 ghost use Rattle.tiny_http_stream.specs.Source.{GoesOn};
 ghost use Rattle.tiny_http_core.specs.Pending.{waiting_form};
 ghost use Rattle.tiny_http_core.specs.Driving.{HasDone, TakesStep, told_response, told_step};
-ghost use Rattle.tiny_http_core.specs.Seen.{seen, Answers, IsAnswered, PrintedFor, IsResponse, IsTold, TellsHonestly, TellHonestly};
+ghost use Rattle.tiny_http_core.specs.Seen.{seen, Answers, IsAnswered, PrintedFor, IsResponse, IsTimedStep, TellsHonestly, TellHonestly};
 ghost use Rattle.tiny_http_stream.specs.Outlet.{output_of, outlet_ended, outlet_held, outlet_writer, SentOn};
 ghost use Rattle.tiny_http_core.specs.Sending.{CanSend, FailsOnceUnlessEnded, FailsAtMostOnce, IsHonest};
 
@@ -160,7 +160,7 @@ fn answer<W: WriteDevice, D: ReadDevice + Drop>(
     ensures sent_on { SentOn outlet.old → SentOn outlet.new }
     ensures done { IsAnswered (seen result) }
     ensures honest { (kind : ErrorKind) → seen result ≡ Fault kind → (outlet_ended outlet.new ≡ true)
-        × ((p : Printing) → PrintedFor form now p → IsHonest (output_of outlet.old) (output_of outlet.new) (coding_for response.answer p) response.answer.length (D.feed response.data_reader) kind) }
+        × ((p : Printing) → PrintedFor form now p → IsHonest (output_of outlet.old) (output_of outlet.new) (served_coding response.answer p) response.answer.length (D.feed response.data_reader) kind) }
 {
     if outlet.is_ended() {
         return Reply::Done;
@@ -185,7 +185,7 @@ impl<R: ReadDevice, W: WriteDevice> Connection<R, W> {
     pub fn new(alloc: Global, reader: R, writer: W) -> Connection<R, W>
         ensures begins { (client : Feed) → R.feed reader ≡ Some client → IsFresh (W.sink writer) → HasDone client (W.sink writer) result [] [] }
         ensures open { (result.end ≡ None) × (result.requests ≡ []) }
-        ensures feed { result.source.feed ≡ R.feed reader }
+        ensures source { (result.source.feed ≡ R.feed reader) × (result.source.standing ≡ Standing.Head) }
         ensures outlet { result.outlet ≡ record { held = []; ended = false; writer = writer; tells = W.sink writer } }
     {
         Connection {
@@ -360,7 +360,7 @@ impl<R: ReadDevice, W: WriteDevice> Connection<R, W> {
     /// Reader and writer within their buffers, and the end of the connection: requests that wait for their answers are let go
     /// without one.
     pub fn into_parts(self) -> (Source<R>, Outlet<W>)
-        ensures conversation { (client : Feed) (before : Sink) (steps : List Dated) (replies : List Replied) → HasDone client before self steps replies
+        ensures conversation { (client : Feed) (before : Sink) (steps : List TimedValue) (replies : List ReplyValue) → HasDone client before self steps replies
             → IsConversation client before steps replies (W.sink (outlet_writer result.1)) (outlet_held result.1) (outlet_ended result.1) result.0.feed }
         ensures source { result.0 ≡ self.source }
         ensures outlet { result.1 ≡ self.outlet }
@@ -382,7 +382,7 @@ pub fn run<R: ReadDevice + Drop, W: WriteDevice + Drop, D: ReadDevice + Drop>(
 ) -> Result<Record<R, W>, RunError<R, W>>
     // THE CONNECTION THEOREM: the reader tells its feed; the writer tells that it took nothing, has not ended, and its count
     // can rise; the responses' data tell their feeds of fewer than 2^63 bytes.
-    ensures conversation { IfOk result (λ done. (feed : Feed) (dated : List Dated) → R.feed reader ≡ Some feed → IsFresh (W.sink writer) → AllZip (IsTold D.feed) steps.items dated
+    ensures conversation { IfOk result (λ done. (feed : Feed) (dated : List TimedValue) → R.feed reader ≡ Some feed → IsFresh (W.sink writer) → AllZip (IsTimedStep D.feed) steps.items dated
         → IsConversation feed (W.sink writer) dated (map seen done.replies.items) (W.sink (outlet_writer done.outlet)) (outlet_held done.outlet) (outlet_ended done.outlet) done.source.feed) }
     // What the source still gives is the client's bytes from some place on.
     ensures source { IfOk result (λ done. GoesOn (R.feed reader) done.source.feed) }

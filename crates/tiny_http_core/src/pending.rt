@@ -6,7 +6,7 @@ ghost use Rattle.tiny_http_core.specs.Sending.{CanSend, IsFlushed, SendsUnlessEn
 ghost use Rattle.tiny_http_message.specs.declared.body.Body.{Body};
 ghost use Rattle.tiny_http_stream.specs.Source.{GoesOn};
 ghost use Rattle.tiny_http_message.specs.Body.{is_streaming, body_standing, FillsFromBody};
-ghost use Rattle.tiny_http_core.specs.Pending.{left_text, SendsLeft, Passes, LeavesText, waiting_form};
+ghost use Rattle.tiny_http_core.specs.Pending.{left_text, SendsLeft, FinishesFront, LeavesText, waiting_form};
 
 use crate::sending::{flush_quietly, write_quietly};
 use std::alloc::Global;
@@ -130,7 +130,7 @@ impl Pending {
     /// Finishes a number that is held, and so each behind it that was left, whose text is sent. No reply tells a fault that
     /// is met there.
     pub fn pass<W: WriteDevice>(&mut self, outlet: &mut Outlet<W>, number: u64)
-        ensures passes { (front rest : List Mark) → self.old.turns.marks ≡ front ++ (Held ∷ rest) → length front ≡ number → Passes front rest self.new.turns.marks }
+        ensures passes { (front rest : List Mark) → self.old.turns.marks ≡ front ++ (Held ∷ rest) → length front ≡ number → FinishesFront front rest self.new.turns.marks }
         ensures sends { (front rest : List Mark) → self.old.turns.marks ≡ front ++ (Held ∷ rest) → length front ≡ number
             → (outlet_ended outlet.old ≡ false → CanSend (output_of outlet.old))
             → SendsLeft rest (outlet_ended outlet.old) (output_of outlet.old) (output_of outlet.new) (outlet_ended outlet.new) }
@@ -169,7 +169,7 @@ fn write_texts<W: WriteDevice>(
     text: Vec<u8>,
 )
     ensures passes { (front rest : List Mark) → turns.old.marks ≡ front ++ (Held ∷ rest) → length front ≡ number
-        → Passes front rest turns.new.marks
+        → FinishesFront front rest turns.new.marks
         × ((outlet_ended outlet.old ≡ false → CanSend (output_of outlet.old))
         → SendsUnlessEnded (outlet_ended outlet.old) (output_of outlet.old) (output_of outlet.new) (outlet_ended outlet.new) (text.items ++ left_text rest)) }
     ensures fails_once { FailsOnceUnlessEnded (outlet_ended outlet.old) (output_of outlet.old) (output_of outlet.new) (outlet_ended outlet.new) }
@@ -190,7 +190,7 @@ fn write_left<W: WriteDevice>(
     text: Vec<u8>,
 )
     ensures passes { (front rest : List Mark) → turns.old.marks ≡ front ++ (Held ∷ rest) → length front ≡ number
-        → Passes front rest turns.new.marks
+        → FinishesFront front rest turns.new.marks
         × ((outlet_ended outlet.old ≡ false → CanSend (output_of outlet.old))
         → SendsUnlessEnded (outlet_ended outlet.old) (output_of outlet.old) (output_of outlet.new) (outlet_ended outlet.new) (text.items ++ left_text rest)) }
     ensures fails_once { FailsOnceUnlessEnded (outlet_ended outlet.old) (output_of outlet.old) (output_of outlet.new) (outlet_ended outlet.new) }

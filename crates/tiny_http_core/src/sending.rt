@@ -2,10 +2,10 @@
 ghost use Rattle.std.specs.Prelude.{◌≡◌, ◌<◌, ◌^◌, ◌==◌, true, false, [], length, Some, None, IfErr, OnErr, MatchBool};
 ghost use Rattle.std.specs.IoError.{error_kind};
 ghost use Rattle.tiny_http_wire.specs.Device.{Feed};
-ghost use Rattle.tiny_http_wire.specs.Answer.{Printing, coding_for};
+ghost use Rattle.tiny_http_wire.specs.Answer.{Printing, served_coding};
 ghost use Rattle.tiny_http_core.specs.Seen.{PrintedFor};
 ghost use Rattle.tiny_http_stream.specs.Outlet.{output_of, outlet_ended, outlet_held, SentOn};
-ghost use Rattle.tiny_http_core.specs.Sending.{Sends, SendsUnlessEnded, EndsQuietly, Abandons, CanSend, FailsOnce, FailsOnceUnlessEnded, IsHonest};
+ghost use Rattle.tiny_http_core.specs.Sending.{Sends, SendsUnlessEnded, EndsQuietly, DropsHeld, CanSend, FailsOnce, FailsOnceUnlessEnded, IsHonest};
 
 use httpdate::HttpDate;
 use std::alloc::Global;
@@ -20,7 +20,7 @@ use tiny_http_wire::response::Response;
 fn end_behind_fault<W: WriteDevice>(outlet: &mut Outlet<W>, failures: u64)
     ensures ends { MatchBool ((output_of outlet.old).failures == failures)
         (EndsQuietly (output_of outlet.old) (output_of outlet.new))
-        (Abandons (output_of outlet.old) (output_of outlet.new)) }
+        (DropsHeld (output_of outlet.old) (output_of outlet.new)) }
     ensures ended { outlet_ended outlet.new ≡ true }
     ensures takes_none { (output_of outlet.new).has_ended ≡ true }
     ensures flushed { outlet_held outlet.new ≡ [] }
@@ -46,7 +46,7 @@ pub(crate) fn send<W: WriteDevice, D: ReadDevice + Drop>(
         → Sends (output_of outlet.old) (output_of outlet.new) (outlet_ended outlet.new) result response.answer content p }
     ensures fails_once { FailsOnce (output_of outlet.old) (output_of outlet.new) (outlet_ended outlet.new) }
     ensures honest { IfErr result (λ e. (p : Printing) → PrintedFor form now p
-        → IsHonest (output_of outlet.old) (output_of outlet.new) (coding_for response.answer p) response.answer.length (D.feed response.data_reader) (error_kind e)) }
+        → IsHonest (output_of outlet.old) (output_of outlet.new) (served_coding response.answer p) response.answer.length (D.feed response.data_reader) (error_kind e)) }
     ensures ended { OnErr result (outlet_ended outlet.new ≡ true) }
     ensures flushed { outlet_held outlet.new ≡ [] }
     ensures sent_on { SentOn outlet.new }

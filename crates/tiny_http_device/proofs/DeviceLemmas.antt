@@ -8,7 +8,7 @@ use Rattle.std.proofs.Math.Seq.{take-add}
 use Rattle.std.specs.List.{flat_map}
 use Rattle.std.proofs.lemmas.List.Concat.{flat_map-append, flat_map-cons}
 use Rattle.std.proofs.lemmas.List.{append-nil, take-append-drop, take-take, take_more}
-use Rattle.tiny_http_device.specs.Device.{Sink, grown, IsFront, IsFrontOf, Took, Failed, Puts}
+use Rattle.tiny_http_device.specs.Device.{Sink, grown, IsFront, IsKnownFront, Took, Failed, Puts}
 
 grown-nil : (ended : Bool) (known : Option (List ℕ)) → grown ended known [] ≡ known
 grown-nil true known = refl
@@ -24,7 +24,7 @@ append_known-append : (known : Option (List ℕ)) (s t : List ℕ) → append_kn
 append_known-append None s t = refl
 append_known-append (Some xs) s t = ap Some (append_assoc xs s t)
 
-IsFrontOf-append : (a known : Option (List ℕ)) (s t : List ℕ) → IsFrontOf a (append_known known s) → IsFrontOf a (append_known known (s ++ t))
+IsFrontOf-append : (a known : Option (List ℕ)) (s t : List ℕ) → IsKnownFront a (append_known known s) → IsKnownFront a (append_known known (s ++ t))
 IsFrontOf-append a known s t h = (h.0 ++ t, sym (append_known-append known s t) ∙ ap (λ k. append_known k t) h.1 ∙ append_known-append a h.0 t)
 
 -- what was sent on only grows
@@ -64,7 +64,7 @@ open_bytes a b s h o = h.bytes ∙ ap (λ (e : Bool). grown e a.taken s) o
 pub Failed-append : (a b c : Sink) (s t : List ℕ) (kind : ErrorKind) → Took a b s → Failed b c t kind → Failed a c (s ++ t) kind
 Failed-append a b c s t kind h k =
     let was_open : a.has_ended ≡ false = sym h.stays ∙ k.was_open in
-    let P : Option (List ℕ) → Type 0 = λ o. IsFrontOf c.taken o in
+    let P : Option (List ℕ) → Type 0 = λ o. IsKnownFront c.taken o in
     record {
       bytes = subst P (ap (λ (o : Option (List ℕ)). append_known o t) (open_bytes a b s h was_open) ∙ append_known-append a.taken s t) k.bytes;
       sent = IsFront-append a.sent b.sent c.sent h.sent k.sent;

@@ -4,7 +4,7 @@ use Rattle.std.proofs.lemmas.List.{take-append-drop, drop-drop}
 use Rattle.std.proofs.lemmas.Slice.{between_to_end}
 use Rattle.tiny_http_device.specs.declared.device.Stop.{Stop}
 use Rattle.std.specs.Io.KnownBytes.{append_known}
-use Rattle.tiny_http_device.specs.Device.{Feed, given, IsFrontOf}
+use Rattle.tiny_http_device.specs.Device.{Feed, prepended, IsKnownFront}
 
 -- the next n bytes, and then those behind them
 pub next_bytes : (s : List ℕ) (i n : ℕ) → take n (drop i s) ++ drop (i + n) s ≡ drop i s
@@ -12,25 +12,25 @@ next_bytes s i n = ap (λ r. take n (drop i s) ++ r) (sym (drop-drop n i s)) ∙
 
 -- a feed of the bytes from a place on, when the next n bytes were copied
 pub feed_goes_on : (s items to : List ℕ) (i n : ℕ) (stop : Stop) (f : Feed) → record { bytes = drop i items; stop = stop } ≡ f → s ≡ items →
-    take n to ≡ take n (take (length s - i) (drop i s)) → Some f ≡ given (take n to) (Some (record { bytes = drop (i + n) items; stop = stop }))
+    take n to ≡ take n (take (length s - i) (drop i s)) → Some f ≡ prepended (take n to) (Some (record { bytes = drop (i + n) items; stop = stop }))
 feed_goes_on s items to i n stop f view same copied =
     let front : take n to ≡ take n (drop i items) = copied ∙ ap (λ r. take n r) (between_to_end s i (length s) (omega arith)) ∙ ap (λ r. take n (drop i r)) same in
     let whole : take n to ++ drop (i + n) items ≡ drop i items = ap (λ r. r ++ drop (i + n) items) front ∙ next_bytes items i n in
     ap Some (sym view ∙ (let P : List ℕ → Feed = λ bs. record { bytes = bs; stop = stop } in ap P (sym whole)))
 
 -- bytes before bytes before a feed
-pub given-given : (a b : List ℕ) (f : Option Feed) → given a (given b f) ≡ given (a ++ b) f
+pub given-given : (a b : List ℕ) (f : Option Feed) → prepended a (prepended b f) ≡ prepended (a ++ b) f
 given-given a b None = refl
 given-given a b (Some f) = let P : List ℕ → Option Feed = λ bs. Some (record { bytes = bs; stop = f.stop }) in ap P (sym (append_assoc a b f.bytes))
 
 -- a feed that gave some bytes, and then some more
-pub given-along : (f0 f1 f2 : Option Feed) (a b c : List ℕ) → f0 ≡ given a f1 → f1 ≡ given b f2 → c ≡ a ++ b → f0 ≡ given c f2
-given-along f0 f1 f2 a b c first second e = first ∙ ap (λ f. given a f) second ∙ given-given a b f2 ∙ ap (λ bs. given bs f2) (sym e)
+pub given-along : (f0 f1 f2 : Option Feed) (a b c : List ℕ) → f0 ≡ prepended a f1 → f1 ≡ prepended b f2 → c ≡ a ++ b → f0 ≡ prepended c f2
+given-along f0 f1 f2 a b c first second e = first ∙ ap (λ f. prepended a f) second ∙ given-given a b f2 ∙ ap (λ bs. prepended bs f2) (sym e)
 
 pub append_known-append : (k : Option (List ℕ)) (a b : List ℕ) → append_known (append_known k a) b ≡ append_known k (a ++ b)
 append_known-append None a b = refl
 append_known-append (Some xs) a b = ap Some (append_assoc xs a b)
 
 -- a front of some bytes is a front of more
-pub front-more : (new whole : Option (List ℕ)) (more : List ℕ) → IsFrontOf new whole → IsFrontOf new (append_known whole more)
+pub front-more : (new whole : Option (List ℕ)) (more : List ℕ) → IsKnownFront new whole → IsKnownFront new (append_known whole more)
 front-more new whole more (rest, e) = (rest ++ more, ap (λ k. append_known k more) e ∙ append_known-append new rest more)

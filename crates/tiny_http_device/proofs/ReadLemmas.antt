@@ -4,12 +4,12 @@ use Rattle.std.specs.Prelude.{IfErr, OnErr}
 use Rattle.std.specs.IoError.{error_kind}
 use Rattle.std.specs.declared.io.Error.{Error}
 use Rattle.tiny_http_device.specs.declared.device.Stop.TheVariants.{End, Fault}
-use Rattle.tiny_http_device.specs.Device.{Feed, given, prepend, StopsBy, ReadsFrom}
+use Rattle.tiny_http_device.specs.Device.{Feed, prepended, prepend, StopsBy, ReadsFrom}
 
 some-eq : (a b : Feed) → Some a ≡ Some b → a ≡ b
 some-eq a b e = cc
 
-pub reads-from : (o p : Option Feed) (r : Result ℕ Error) (buf : List ℕ) → IfOk r (λ n. o ≡ given (take n buf) p) → IfOk r (λ n. n ≡ 0 → 0 < length buf → StopsBy End o)
+pub reads-from : (o p : Option Feed) (r : Result ℕ Error) (buf : List ℕ) → IfOk r (λ n. o ≡ prepended (take n buf) p) → IfOk r (λ n. n ≡ 0 → 0 < length buf → StopsBy End o)
     → IfErr r (λ e. StopsBy (Fault (error_kind e)) o) → OnErr r (p ≡ o) → ReadsFrom o p r buf
 reads-from None p (Ok n) buf b e f a = tt
 reads-from None p (Err x) buf b e f a = tt

@@ -28,12 +28,12 @@ abbrev pub prepend : List ℕ → Feed → Feed
 prepend bs feed = record { bytes = bs ++ feed.bytes; stop = feed.stop }
 
 -- these bytes, and then the feed, where it is told
-abbrev pub given : List ℕ → Option Feed → Option Feed
-given bs feed = option_map (prepend bs) feed
+abbrev pub prepended : List ℕ → Option Feed → Option Feed
+prepended bs feed = option_map (prepend bs) feed
 
 -- only bytes at the front of the feed were taken
 abbrev pub TakesFront : Option Feed → Option Feed → Type 0
-TakesFront old new = (gone : List ℕ) × (old ≡ given gone new)
+TakesFront old new = (gone : List ℕ) × (old ≡ prepended gone new)
 
 -- no byte is left of the feed, if it is told, and this is how it stops
 abbrev pub StopsBy : Stop → Option Feed → Type 0
@@ -62,7 +62,7 @@ fault_of (Fault kind) = kind
 -- Nothing is said of the bytes where the feed isn't told.
 pub record Reads (old new : Option Feed) (r : Result ℕ Error) (buf : List ℕ) : Type 0 where
   pub bound : IfOk r (λ n. n ≤ length buf)
-  pub bytes : IfOk r (λ n. old ≡ given (take n buf) new)
+  pub bytes : IfOk r (λ n. old ≡ prepended (take n buf) new)
   pub end : IfOk r (λ n. n ≡ 0 → 0 < length buf → StopsBy End old)
   pub fault : IfErr r (λ e. StopsBy (Fault (error_kind e)) old)
   pub again : OnErr r (new ≡ old)
@@ -104,8 +104,8 @@ abbrev pub HoldsNothing : Sink → Type 0
 HoldsNothing s = IsAllKnown s.sent s.taken
 
 -- what is told is a front of these bytes
-abbrev pub IsFrontOf : Option (List ℕ) → Option (List ℕ) → Type 0
-IsFrontOf known whole = (rest : List ℕ) × (whole ≡ append_known known rest)
+abbrev pub IsKnownFront : Option (List ℕ) → Option (List ℕ) → Type 0
+IsKnownFront known whole = (rest : List ℕ) × (whole ≡ append_known known rest)
 
 -- the bytes that a writer has taken, after these more; one that has ended takes none
 abbrev pub grown : Bool → Option (List ℕ) → List ℕ → Option (List ℕ)
@@ -131,7 +131,7 @@ pub record Took (old new : Sink) (text : List ℕ) : Type 0 where
 
 -- the writer failed, and tells a front of its bytes before and the text, with all that it had sent on
 pub record Failed (old new : Sink) (text : List ℕ) (kind : ErrorKind) : Type 0 where
-  pub bytes : IsFrontOf new.taken (append_known old.taken text)
+  pub bytes : IsKnownFront new.taken (append_known old.taken text)
   pub sent : IsFront old.sent new.sent
   pub keeps : BeginsKnown new.sent new.taken
   pub failures : new.failures ≡ next_count old.failures
@@ -162,9 +162,9 @@ pub record Faulted (old new : Sink) (kind : ErrorKind) : Type 0 where
 
 -- What a call that writes does to what a writer tells of its faults, whatever it writes: nothing where it answers Ok.
 -- At a fault either nothing, and the fault was not the writer's, or the count rose, and it was.
-abbrev pub Uses : {T : Type 0} → Sink → Sink → Result T Error → Type 0
-Uses old new (Ok x) = SameFaults old new
-Uses old new (Err e) = SameFaults old new ⊎ Faulted old new (error_kind e)
+abbrev pub CountsFaults : {T : Type 0} → Sink → Sink → Result T Error → Type 0
+CountsFaults old new (Ok x) = SameFaults old new
+CountsFaults old new (Err e) = SameFaults old new ⊎ Faulted old new (error_kind e)
 
 -- a reader gave the first n bytes of its feed, and a writer took them
 pub record Copied (old new : Feed) (from to : Sink) (n : ℕ) : Type 0 where
@@ -179,14 +179,14 @@ CopiedKnown (Some f) None from to n = ⊥
 CopiedKnown (Some f) (Some g) from to n = Copied f g from to n
 
 -- a reader stopped before it gave a byte more, or the writer failed within the next `left` bytes
-abbrev pub Breaks : Option Feed → Sink → Sink → ℕ → ErrorKind → Type 0
-Breaks None from to left kind = ⊤
-Breaks (Some f) from to left kind = ((f.bytes ≡ []) × (fault_of f.stop ≡ kind) × Took from to []) ⊎ Failed from to (take left f.bytes) kind
+abbrev pub CopyBreaks : Option Feed → Sink → Sink → ℕ → ErrorKind → Type 0
+CopyBreaks None from to left kind = ⊤
+CopyBreaks (Some f) from to left kind = ((f.bytes ≡ []) × (fault_of f.stop ≡ kind) × Took from to []) ⊎ Failed from to (take left f.bytes) kind
 
 -- a call went on from a reader to a writer, by a byte or more of the next `left`
 abbrev pub CopiesPiece : Option Feed → Option Feed → Sink → Sink → ℕ → Result ℕ Error → Type 0
 CopiesPiece f g from to left (Ok n) = (0 < n) × (n ≤ left) × CopiedKnown f g from to n
-CopiesPiece f g from to left (Err e) = Breaks f from to left (error_kind e)
+CopiesPiece f g from to left (Err e) = CopyBreaks f from to left (error_kind e)
 
 -- A call filled a buffer from the feed: whole, or with all that there was in front of an end. A fault came
 -- before it was full.

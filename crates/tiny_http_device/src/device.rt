@@ -2,7 +2,7 @@
 ghost use Rattle.std.specs.Prelude.{◌≡◌, ◌<◌, ◌≤◌, min, false, [], length, take, drop, Option, None, Some, Ok, IfOk, IfErr, OnOk, OnErr, vec_len, flat_map};
 ghost use Rattle.std.specs.IoError.{error_kind};
 ghost use Rattle.tiny_http_device.specs.Cursor.{cursor_bytes};
-ghost use Rattle.tiny_http_device.specs.Device.{Feed, ending, given, StopsBy, stop_of, next_count, Sink, BeginsKnown, HoldsNothing, Reads, ReadsFrom, Puts, PutsFront};
+ghost use Rattle.tiny_http_device.specs.Device.{Feed, ending, prepended, StopsBy, stop_of, next_count, Sink, BeginsKnown, HoldsNothing, Reads, ReadsFrom, Puts, PutsFront};
 
 use std::alloc::Global;
 use std::io;
@@ -371,7 +371,7 @@ pub fn read_front<R: ReadDevice>(
     ensures most { IfOk result (λ n. n ≤ most) }
     ensures bound { IfOk result (λ n. n ≤ length buf.new) }
     // The bytes that came are the next of the feed.
-    ensures bytes { IfOk result (λ n. R.feed reader.old ≡ given (take n buf.new) (R.feed reader.new)) }
+    ensures bytes { IfOk result (λ n. R.feed reader.old ≡ prepended (take n buf.new) (R.feed reader.new)) }
     ensures end { IfOk result (λ n. n ≡ 0 → 0 < most → 0 < length buf.new → StopsBy Stop.End (R.feed reader.old)) }
     ensures fault { IfErr result (λ e. StopsBy (Stop.Fault (error_kind e)) (R.feed reader.old)) }
     ensures again { OnErr result (R.feed reader.new ≡ R.feed reader.old) }

@@ -11,8 +11,8 @@ use Rattle.tiny_http_head.specs.declared.common.ParseError.{ParseError}
 use Rattle.tiny_http_head.specs.declared.common.ParseError.TheVariants.{Refused, Memory}
 use Rattle.tiny_http_text.specs.Bytes.{is_blank, is_ascii, AreAscii, HasNo, parts, Trims, IsEmptyOrBegins, space, colon, trimmed}
 use Rattle.tiny_http_text.specs.Lines.{Line, has_crlf}
-use Rattle.tiny_http_head.specs.Heads.{method_of, version_of, RequestLine, HeaderLine, IsHeader, Fields, Message, HeadText, Fault, Cut, NotAscii, Malformed, FaultyLine, FaultyHead, IsRequestLine, IsFieldOrEnd}
-use Rattle.tiny_http_head.specs.Reading.{front_while, line, three_parts, request_line, header_line, is_colon, FieldsRead, with_header, field_checked, field_at, field_in, fields, HeadRead, Whole, Faulty, with_fields, start_checked, start_in, head}
+use Rattle.tiny_http_head.specs.Heads.{method_of, version_of, RequestLine, HeaderLine, IsHeader, BeginsWithHeaderLines, Message, BeginsWithRequestHead, GrammarFault, Cut, NotAscii, Malformed, FaultyLine, FaultyHead, IsRequestLine, IsFieldOrEnd}
+use Rattle.tiny_http_head.specs.Reading.{front_while, line, three_parts, request_line, header_line, is_colon, FieldsRead, with_header, field_checked, field_at, field_in, fields, RequestHeadRead, Whole, Faulty, with_fields, start_checked, start_in, request_head_read}
 use Rattle.tiny_http_head.proofs.LineLemmas.{line-is, line-one, line-none}
 use Rattle.tiny_http_text.proofs.TextLemmas.{not_true, trims-is, trims-one, ArePartsOf, parts-are, parts-word, parts-last}
 
@@ -77,25 +77,25 @@ at-version : (mt p vt : List ℕ) (o : Option HTTPVersion) (r : Method × List �
 at-version mt p vt None r h = cc
 at-version mt p vt (Some v) r h = (v, refl, cc)
 
-abbrev IsRead : List ℕ → Method × List ℕ × HTTPVersion → Type 0
-IsRead text r = RequestLine text r.0 r.1 r.2
+abbrev IsRequestLineOf : List ℕ → Method × List ℕ × HTTPVersion → Type 0
+IsRequestLineOf text r = RequestLine text r.0 r.1 r.2
 
-three-are : (text core : List ℕ) (ps : List (List ℕ)) (r : Method × List ℕ × HTTPVersion) → Trims is_blank text core → ArePartsOf space core ps → three_parts ps ≡ Some r → IsRead text r
+three-are : (text core : List ℕ) (ps : List (List ℕ)) (r : Method × List ℕ × HTTPVersion) → Trims is_blank text core → ArePartsOf space core ps → three_parts ps ≡ Some r → IsRequestLineOf text r
 three-are text core [] r t a e = elim a [ ]
 three-are text core (mt ∷ []) r t a e = cc
 three-are text core (mt ∷ p ∷ []) r t a e = cc
 three-are text core (mt ∷ p ∷ vt ∷ more) r t a e =
     let v = at-version mt p vt (version_of vt) r e in
-    let absurd_first : (p ∷ vt ∷ more ≡ []) × (core ≡ mt) → IsRead text r = λ k. absurd_cons p (vt ∷ more) (IsRead text r) k.0 in
+    let absurd_first : (p ∷ vt ∷ more ≡ []) × (core ≡ mt) → IsRequestLineOf text r = λ k. absurd_cons p (vt ∷ more) (IsRequestLineOf text r) k.0 in
     ⊎_elim absurd_first
     (λ k.
     let a2 : ArePartsOf space k.0 (p ∷ vt ∷ more) = (rw k.2 at (parts-are space k.0)) in
     ⊎_elim
-    (λ j. absurd_cons vt more (IsRead text r) j.0)
+    (λ j. absurd_cons vt more (IsRequestLineOf text r) j.0)
     (λ j.
     let a3 : ArePartsOf space j.0 (vt ∷ more) = (rw j.2 at (parts-are space j.0)) in
     let whole : core ≡ mt ++ space ∷ (p ++ space ∷ j.0) = k.1 ∙ ap (λ x. mt ++ space ∷ x) j.1 in
-    subst (IsRead text) (sym v.2) (two-last text mt p vt j.0 more v.0 core t a.0 a2.0 whole a3 v.1))
+    subst (IsRequestLineOf text) (sym v.2) (two-last text mt p vt j.0 more v.0 core t a.0 a2.0 whole a3 v.1))
     a2.1)
     a.1
 
@@ -191,7 +191,7 @@ field-one : (go : List ℕ → FieldsRead) (text rest : List ℕ) (h : Header) (
 field-one go [] rest h hs after a l k = cons_not_nil colon h.field l.padded l.joins
 field-one go (b ∷ bs) rest h hs after a l k = rw (a, header-line-one (b ∷ bs) h.field h.value l, k) refl
 
-field-one-err : (go : List ℕ → FieldsRead) (text rest : List ℕ) (h : Header) (fault : Fault) → AreAscii text → HeaderLine text h.field h.value → go rest ≡ Err fault → field_at go text rest ≡ Err fault
+field-one-err : (go : List ℕ → FieldsRead) (text rest : List ℕ) (h : Header) (fault : GrammarFault) → AreAscii text → HeaderLine text h.field h.value → go rest ≡ Err fault → field_at go text rest ≡ Err fault
 field-one-err go [] rest h fault a l k = cons_not_nil colon h.field l.padded l.joins
 field-one-err go (b ∷ bs) rest h fault a l k = rw (a, header-line-one (b ∷ bs) h.field h.value l, k) refl
 
@@ -207,13 +207,13 @@ field-malformed : (go : List ℕ → FieldsRead) (text rest : List ℕ) → AreA
 field-malformed go [] rest a h = absurd (h (inl refl))
 field-malformed go (b ∷ bs) rest a h = rw (a, not-header (b ∷ bs) (header_line (b ∷ bs)) refl h) refl
 
-field-fault : (n : ℕ) (bytes : List ℕ) (fault : Fault) → FaultyLine IsFieldOrEnd bytes fault → fields (suc n) bytes ≡ Err fault
+field-fault : (n : ℕ) (bytes : List ℕ) (fault : GrammarFault) → FaultyLine IsFieldOrEnd bytes fault → fields (suc n) bytes ≡ Err fault
 field-fault n bytes Cut f = rw (line-none bytes f) refl
 field-fault n bytes NotAscii f = rw (line-one bytes f.0 f.1 f.2) (field-not-ascii (fields n) f.0 f.1 f.3)
 field-fault n bytes Malformed f = rw (line-one bytes f.0 f.1 f.2) (field-malformed (fields n) f.0 f.1 f.3 f.4)
 
 -- fields and what follows them, read with enough fuel
-pub fields-front : (fuel : ℕ) (bytes rest after : List ℕ) (hs : List Header) → Fields bytes hs rest → Line rest [] after → length hs < fuel → fields fuel bytes ≡ Ok (hs, after)
+pub fields-front : (fuel : ℕ) (bytes rest after : List ℕ) (hs : List Header) → BeginsWithHeaderLines bytes hs rest → Line rest [] after → length hs < fuel → fields fuel bytes ≡ Ok (hs, after)
 fields-front zero bytes rest after hs f l lt = absurd (omega arith)
 fields-front (suc n) bytes rest after [] f l lt =
     let e : line bytes ≡ Some ([], after) = rw (sym f) (line-one rest [] after l) in
@@ -224,7 +224,7 @@ fields-front (suc n) bytes rest after (h ∷ hs) f l lt =
     rw e (field-one (fields n) f.0 f.1 h hs after f.3 f.4 k)
 
 -- faulty fields, read with enough fuel
-pub fields-fault : (fuel : ℕ) (bytes rest : List ℕ) (hs : List Header) (fault : Fault) → Fields bytes hs rest → FaultyLine IsFieldOrEnd rest fault → length hs < fuel → fields fuel bytes ≡ Err fault
+pub fields-fault : (fuel : ℕ) (bytes rest : List ℕ) (hs : List Header) (fault : GrammarFault) → BeginsWithHeaderLines bytes hs rest → FaultyLine IsFieldOrEnd rest fault → length hs < fuel → fields fuel bytes ≡ Err fault
 fields-fault zero bytes rest hs fault f l lt = absurd (omega arith)
 fields-fault (suc n) bytes rest [] fault f l lt = field-fault n bytes fault (rw (sym f) l)
 fields-fault (suc n) bytes rest (h ∷ hs) fault f l lt =
@@ -233,7 +233,7 @@ fields-fault (suc n) bytes rest (h ∷ hs) fault f l lt =
     rw e (field-one-err (fields n) f.0 f.1 h fault f.3 f.4 k)
 
 -- there are no more fields than bytes
-pub fields-fewer : (bytes rest : List ℕ) (hs : List Header) → Fields bytes hs rest → length hs + length rest ≤ length bytes
+pub fields-fewer : (bytes rest : List ℕ) (hs : List Header) → BeginsWithHeaderLines bytes hs rest → length hs + length rest ≤ length bytes
 fields-fewer bytes rest [] f = rw f (omega arith)
 fields-fewer bytes rest (h ∷ hs) f =
     let s = line-shorter bytes f.0 f.1 f.2 in
@@ -244,7 +244,7 @@ fewer_than : (n m k : ℕ) → n + m ≤ k → n < k + 1
 fewer_than n m k h = omega arith
 
 -- a head is read as it stands
-pub head-one : (bytes : List ℕ) (m : Message) (after : List ℕ) → HeadText bytes m after → head bytes ≡ Whole m after
+pub head-one : (bytes : List ℕ) (m : Message) (after : List ℕ) → BeginsWithRequestHead bytes m after → request_head_read bytes ≡ Whole m after
 head-one bytes m after h =
     let s = h.2 in
     let few = fewer_than (length m.headers) (length h.1) (length h.0) (fields-fewer h.0 h.1 m.headers h.3) in
@@ -255,7 +255,7 @@ not-request text None e h = refl
 not-request text (Some x) e h = absurd (h (x.0, x.1, x.2, request-line-is text x e))
 
 -- and so is a faulty one
-pub head-fault : (bytes : List ℕ) (v : Option HTTPVersion) (fault : Fault) → FaultyHead bytes v fault → head bytes ≡ Faulty v fault
+pub head-fault : (bytes : List ℕ) (v : Option HTTPVersion) (fault : GrammarFault) → FaultyHead bytes v fault → request_head_read bytes ≡ Faulty v fault
 head-fault bytes None Cut h = rw (line-none bytes h) refl
 head-fault bytes None NotAscii h = rw (line-one bytes h.0 h.1 h.2, not_true (list_all is_ascii h.0) h.3) refl
 head-fault bytes None Malformed h = rw (line-one bytes h.0 h.1 h.2, h.3, not-request h.0 (request_line h.0) refl h.4) refl
@@ -265,10 +265,10 @@ head-fault bytes (Some v) fault h =
     rw (line-one bytes s.0 h.2 s.1, s.2, request-line-one s.0 h.0 h.1 v s.3, fields-fault (length h.2 + 1) h.2 h.5 h.4 fault h.6 h.7 few) refl
 
 abbrev pub GoodFields : List ℕ → List Header × List ℕ → Type 0
-GoodFields bytes r = (empty : List ℕ) × Fields bytes r.0 empty × Line empty [] r.1
+GoodFields bytes r = (empty : List ℕ) × BeginsWithHeaderLines bytes r.0 empty × Line empty [] r.1
 
-abbrev pub BadFields : List ℕ → Fault → Type 0
-BadFields bytes fault = (hs : List Header) × (rest : List ℕ) × Fields bytes hs rest × FaultyLine IsFieldOrEnd rest fault
+abbrev pub BadFields : List ℕ → GrammarFault → Type 0
+BadFields bytes fault = (hs : List Header) × (rest : List ℕ) × BeginsWithHeaderLines bytes hs rest × FaultyLine IsFieldOrEnd rest fault
 
 with-header-are : (bytes text rest : List ℕ) (h : Header) (r : FieldsRead) → Line bytes text rest → AreAscii text → HeaderLine text h.field h.value
     → MatchResult r (GoodFields rest) (BadFields rest) → MatchResult (with_header h r) (GoodFields bytes) (BadFields bytes)
@@ -300,8 +300,8 @@ fields-are zero bytes lt = absurd (omega arith)
 fields-are (suc fuel) bytes lt = field-in-are fuel bytes lt (fields-are fuel) (line bytes) (line-is bytes)
 
 -- what is read of a head stands there
-abbrev pub HeadIs : List ℕ → HeadRead → Type 0
-HeadIs bytes (Whole m after) = HeadText bytes m after
+abbrev pub HeadIs : List ℕ → RequestHeadRead → Type 0
+HeadIs bytes (Whole m after) = BeginsWithRequestHead bytes m after
 HeadIs bytes (Faulty v fault) = FaultyHead bytes v fault
 
 with-fields-are : (bytes text rest : List ℕ) (r : Method × List ℕ × HTTPVersion) (f : FieldsRead) → Line bytes text rest → AreAscii text → RequestLine text r.0 r.1 r.2
@@ -319,5 +319,5 @@ start-in-are bytes None h = h
 start-in-are bytes (Some l) h = start-are bytes l.0 l.1 h (list_all is_ascii l.0) refl (request_line l.0) refl
 
 -- each bytes begin with a head, or with a faulty one
-pub head-is : (bytes : List ℕ) → HeadIs bytes (head bytes)
+pub head-is : (bytes : List ℕ) → HeadIs bytes (request_head_read bytes)
 head-is bytes = start-in-are bytes (line bytes) (line-is bytes)

@@ -68,9 +68,9 @@ abbrev pub IsHeader : List ℕ → Header → Type 0
 IsHeader text h = AreAscii text × HeaderLine text h.field h.value
 
 -- the bytes begin with these field-lines, and the rest follows
-abbrev pub Fields : List ℕ → List Header → List ℕ → Type 0
-Fields bytes [] rest = rest ≡ bytes
-Fields bytes (h ∷ hs) rest = (text : List ℕ) × (next : List ℕ) × Line bytes text next × AreAscii text × HeaderLine text h.field h.value × Fields next hs rest
+abbrev pub BeginsWithHeaderLines : List ℕ → List Header → List ℕ → Type 0
+BeginsWithHeaderLines bytes [] rest = rest ≡ bytes
+BeginsWithHeaderLines bytes (h ∷ hs) rest = (text : List ℕ) × (next : List ℕ) × Line bytes text next × AreAscii text × HeaderLine text h.field h.value × BeginsWithHeaderLines next hs rest
 
 -- what a head says
 pub record Message : Type 0 where
@@ -80,20 +80,20 @@ pub record Message : Type 0 where
   pub headers : List Header
 
 -- the bytes begin with the request line, and the rest follows
-abbrev pub Starts : List ℕ → Method → List ℕ → HTTPVersion → List ℕ → Type 0
-Starts bytes method path version rest = (text : List ℕ) × Line bytes text rest × AreAscii text × RequestLine text method path version
+abbrev pub BeginsWithRequestLine : List ℕ → Method → List ℕ → HTTPVersion → List ℕ → Type 0
+BeginsWithRequestLine bytes method path version rest = (text : List ℕ) × Line bytes text rest × AreAscii text × RequestLine text method path version
 
 -- the bytes begin with a head: a request line, field-lines and an empty line; what follows it is after
-abbrev pub HeadText : List ℕ → Message → List ℕ → Type 0
-HeadText bytes m after = (fields : List ℕ) × (empty : List ℕ) × Starts bytes m.method m.path m.version fields × Fields fields m.headers empty × Line empty [] after
+abbrev pub BeginsWithRequestHead : List ℕ → Message → List ℕ → Type 0
+BeginsWithRequestHead bytes m after = (fields : List ℕ) × (empty : List ℕ) × BeginsWithRequestLine bytes m.method m.path m.version fields × BeginsWithHeaderLines fields m.headers empty × Line empty [] after
 
 -- how the next line is no good: it isn't finished, or isn't ASCII, or it isn't what has to stand there
-pub data Fault : Type 0 where
-  Cut : Fault
-  NotAscii : Fault
-  Malformed : Fault
+pub data GrammarFault : Type 0 where
+  Cut : GrammarFault
+  NotAscii : GrammarFault
+  Malformed : GrammarFault
 
-abbrev pub FaultyLine : (List ℕ → Type 0) → List ℕ → Fault → Type 0
+abbrev pub FaultyLine : (List ℕ → Type 0) → List ℕ → GrammarFault → Type 0
 FaultyLine IsGood bytes Cut = IsUnfinished bytes
 FaultyLine IsGood bytes NotAscii = (text : List ℕ) × (rest : List ℕ) × Line bytes text rest × (AreAscii text → ⊥)
 FaultyLine IsGood bytes Malformed = (text : List ℕ) × (rest : List ℕ) × Line bytes text rest × AreAscii text × (IsGood text → ⊥)
@@ -105,11 +105,11 @@ abbrev pub IsFieldOrEnd : List ℕ → Type 0
 IsFieldOrEnd text = (text ≡ []) ⊎ ((field : List ℕ) × (value : List ℕ) × HeaderLine text field value)
 
 -- the first faulty line of a head: the request line, or, under a version, a line after it
-abbrev pub FaultyHead : List ℕ → Option HTTPVersion → Fault → Type 0
+abbrev pub FaultyHead : List ℕ → Option HTTPVersion → GrammarFault → Type 0
 FaultyHead bytes None fault = FaultyLine IsRequestLine bytes fault
 FaultyHead bytes (Some v) fault =
-    (method : Method) × (path : List ℕ) × (fields : List ℕ) × Starts bytes method path v fields
-    × (headers : List Header) × (rest : List ℕ) × Fields fields headers rest × FaultyLine IsFieldOrEnd rest fault
+    (method : Method) × (path : List ℕ) × (fields : List ℕ) × BeginsWithRequestLine bytes method path v fields
+    × (headers : List Header) × (rest : List ℕ) × BeginsWithHeaderLines fields headers rest × FaultyLine IsFieldOrEnd rest fault
 
 -- the length that a Content-Length value says (RFC 9110, section 8.6): an optional plus, one digit or more, below 2^64
 abbrev pub length_of : List ℕ → Option ℕ

@@ -5,7 +5,7 @@ use Rattle.tiny_http_head.specs.declared.common.Method.{Method}
 use Rattle.tiny_http_head.specs.declared.common.HTTPVersion.{HTTPVersion}
 use Rattle.tiny_http_head.specs.declared.common.Header.{Header}
 use Rattle.tiny_http_text.specs.Bytes.{is_blank, is_ascii, AreAscii, trimmed, parts, space, colon}
-use Rattle.tiny_http_head.specs.Heads.{Message, Fault, Cut, NotAscii, Malformed, method_of, version_of}
+use Rattle.tiny_http_head.specs.Heads.{Message, GrammarFault, Cut, NotAscii, Malformed, method_of, version_of}
 
 -- the first line, and the rest after its CR LF
 abbrev pub line : List ℕ → Option (List ℕ × List ℕ)
@@ -44,7 +44,7 @@ header_line text =
 
 -- the headers and what follows the empty line
 abbrev pub FieldsRead : Type 0
-FieldsRead = Result (List Header × List ℕ) Fault
+FieldsRead = Result (List Header × List ℕ) GrammarFault
 
 abbrev pub with_header : Header → FieldsRead → FieldsRead
 with_header h (Ok r) = Ok (h ∷ r.0, r.1)
@@ -67,22 +67,22 @@ abbrev pub fields : ℕ → List ℕ → FieldsRead
 fields zero bytes = Err Cut
 fields (suc fuel) bytes = field_in (fields fuel) (line bytes)
 
-pub data HeadRead : Type 0 where
-  Whole : (message : Message) (after : List ℕ) → HeadRead
-  Faulty : (version : Option HTTPVersion) (fault : Fault) → HeadRead
+pub data RequestHeadRead : Type 0 where
+  Whole : (message : Message) (after : List ℕ) → RequestHeadRead
+  Faulty : (version : Option HTTPVersion) (fault : GrammarFault) → RequestHeadRead
 
-abbrev pub with_fields : Method × List ℕ × HTTPVersion → FieldsRead → HeadRead
+abbrev pub with_fields : Method × List ℕ × HTTPVersion → FieldsRead → RequestHeadRead
 with_fields r (Ok f) = Whole (record { method = r.0; path = r.1; version = r.2; headers = f.0 }) f.1
 with_fields r (Err e) = Faulty (Some r.2) e
 
-abbrev pub start_checked : List ℕ → Bool → Option (Method × List ℕ × HTTPVersion) → HeadRead
+abbrev pub start_checked : List ℕ → Bool → Option (Method × List ℕ × HTTPVersion) → RequestHeadRead
 start_checked rest false r = Faulty None NotAscii
 start_checked rest true None = Faulty None Malformed
 start_checked rest true (Some r) = with_fields r (fields (length rest + 1) rest)
 
-abbrev pub start_in : Option (List ℕ × List ℕ) → HeadRead
+abbrev pub start_in : Option (List ℕ × List ℕ) → RequestHeadRead
 start_in None = Faulty None Cut
 start_in (Some l) = start_checked l.1 (list_all is_ascii l.0) (request_line l.0)
 
-abbrev pub head : List ℕ → HeadRead
-head bytes = start_in (line bytes)
+abbrev pub request_head_read : List ℕ → RequestHeadRead
+request_head_read bytes = start_in (line bytes)

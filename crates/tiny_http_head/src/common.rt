@@ -262,7 +262,7 @@ impl Model for HeaderField {
 impl HeaderField {
     ghost use Rattle.tiny_http_head.specs.Common.{same_name};
     ghost use Rattle.tiny_http_text.specs.Bytes.{IsWord};
-    ghost use Rattle.tiny_http_text.specs.Ascii.{IsFirstBad};
+    ghost use Rattle.tiny_http_text.specs.Ascii.{IsFirstNotAscii};
     ghost use Rattle.tiny_http_text.specs.Refused.{refused_bytes, bad_place};
 
     /// Takes any ASCII bytes, and no others: a refusal hands them back.
@@ -270,7 +270,7 @@ impl HeaderField {
         ensures ok { IfOk result (λ f. f ≡ bytes.items) }
         ensures succeeds { IsOk result ↔ IsAscii bytes.items }
         ensures source { IfErr result (λ e. refused_bytes e ≡ bytes.items) }
-        ensures place { IfErr result (λ e. IsFirstBad bytes.items (bad_place e)) }
+        ensures place { IfErr result (λ e. IsFirstNotAscii bytes.items (bad_place e)) }
     {
         Ok(HeaderField {
             text: AsciiString::from_ascii(bytes)?,

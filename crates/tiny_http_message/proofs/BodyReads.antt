@@ -7,12 +7,12 @@ use Rattle.std.proofs.lemmas.Bool.{lt-ltb, le-ltb, ne_eqb, eqb-true, cases_lt}
 use Rattle.std.proofs.lemmas.List.{take-append-drop}
 use Rattle.tiny_http_wire.specs.declared.device.Stop.{Stop}
 use Rattle.tiny_http_wire.specs.declared.device.Stop.TheVariants.{End}
-use Rattle.tiny_http_wire.specs.Device.{Feed, given, prepend, StopsBy}
+use Rattle.tiny_http_wire.specs.Device.{Feed, prepended, prepend, StopsBy}
 use Rattle.tiny_http_message.specs.declared.body.Body.{Body}
-use Rattle.tiny_http_message.specs.declared.body.Body.TheVariants.{Over, Held, Counted, Chunked}
+use Rattle.tiny_http_message.specs.declared.body.Body.TheVariants.{Over, WithHead, Counted, Chunked}
 use Rattle.tiny_http_stream.specs.ToCome.{skipped, stopped}
-use Rattle.tiny_http_stream.specs.Parts.{first_part}
-use Rattle.tiny_http_message.specs.Body.{Remaining, remaining, counted_left, taken_left, after_bytes, with_bytes, BodyStops, NoneLeft, is_streaming, body_standing, IsOver, ReadsOn, GivesUp}
+use Rattle.tiny_http_stream.specs.Parts.{feed_front}
+use Rattle.tiny_http_message.specs.Body.{Remaining, remaining, counted_left, taken_left, prepend_body, prepended_body, BodyStops, NoneLeft, is_streaming, body_standing, IsBodyOver, ReadsOn, GivesUp}
 use Rattle.tiny_http_stream.specs.declared.source.Standing.{Standing}
 use Rattle.tiny_http_stream.specs.Source.{SourceState, GoesOn, IsRestOf}
 use Rattle.tiny_http_stream.proofs.GoingOn.{goes-on_same}
@@ -31,25 +31,25 @@ skipped-front front f k =
         all [] = refl
         all (x ∷ xs) = all xs
 
-counted-at : (front : List ℕ) (f : Feed) (k : ℕ) → counted_left (length front + k) (prepend front f) ≡ after_bytes front (counted_left k f)
+counted-at : (front : List ℕ) (f : Feed) (k : ℕ) → counted_left (length front + k) (prepend front f) ≡ prepend_body front (counted_left k f)
 counted-at front f k =
     let R : Feed → Feed → Remaining = λ body behind. record { body = body; behind = behind } in
-    ap (λ b. R b (skipped (length front + k) (prepend front f))) (part-more f.stop front f.bytes k) ∙ ap (R (prepend front (first_part k f))) (skipped-front front f k)
+    ap (λ b. R b (skipped (length front + k) (prepend front f))) (part-more f.stop front f.bytes k) ∙ ap (R (prepend front (feed_front k f))) (skipped-front front f k)
 
 -- some of the bytes of a counted body
-pub counted-bytes : (old new : Option Feed) (front : List ℕ) (left n : ℕ) → old ≡ given front new → length front ≡ n → n ≤ left
-    → option_map (counted_left left) old ≡ with_bytes front (option_map (counted_left (left - n)) new)
+pub counted-bytes : (old new : Option Feed) (front : List ℕ) (left n : ℕ) → old ≡ prepended front new → length front ≡ n → n ≤ left
+    → option_map (counted_left left) old ≡ prepended_body front (option_map (counted_left (left - n)) new)
 counted-bytes old new front left n h e le =
     let split : left ≡ length front + (left - n) = omega arith in
-    ap (λ o. option_map (counted_left left) o) h ∙ (ap (λ m. option_map (counted_left m) (given front new)) split ∙ at new)
+    ap (λ o. option_map (counted_left left) o) h ∙ (ap (λ m. option_map (counted_left m) (prepended front new)) split ∙ at new)
   where
-    at : (f : Option Feed) → option_map (counted_left (length front + (left - n))) (given front f) ≡ with_bytes front (option_map (counted_left (left - n)) f)
+    at : (f : Option Feed) → option_map (counted_left (length front + (left - n))) (prepended front f) ≡ prepended_body front (option_map (counted_left (left - n)) f)
     at None = refl
     at (Some f) = ap Some (counted-at front f (left - n))
 
 -- none is left
 pub counted-none : (o : Option Feed) → option_map (counted_left 0) o ≡ option_map (taken_left (stopped End)) o
-unfolding first_part
+unfolding feed_front
 counted-none None = refl
 counted-none (Some f) =
     let R : Feed → Feed → Remaining = λ body behind. record { body = body; behind = behind } in
@@ -57,13 +57,13 @@ counted-none (Some f) =
 
 -- the input ended before the body did
 cut : (f : Feed) (left : ℕ) (stop : Stop) → 0 < left → f.bytes ≡ [] → f.stop ≡ stop → counted_left left f ≡ taken_left (stopped stop) (stopped End)
-unfolding first_part
+unfolding feed_front
 cut f left stop some none e =
     let z : length f.bytes ≡ 0 = ap length none in
     let R : Feed → Feed → Remaining = λ body behind. record { body = body; behind = behind } in
-    ap (R (first_part left f)) (skipped-beyond left f (omega arith)) ∙ ap (λ b. R b (stopped End)) body
+    ap (R (feed_front left f)) (skipped-beyond left f (omega arith)) ∙ ap (λ b. R b (stopped End)) body
   where
-    body : first_part left f ≡ stopped stop
+    body : feed_front left f ≡ stopped stop
     body =
         let z : length f.bytes ≡ 0 = ap length none in
         rw (lt-ltb (length f.bytes) left (omega arith), none, e, take-nil {A = ℕ} left) refl
@@ -76,7 +76,7 @@ pub taken-stops : (stop : Stop) (o : Option Feed) (r : Option Remaining) → r �
 taken-stops stop None r e = rw e tt
 taken-stops stop (Some f) r e = rw e refl
 
-pub nothing-read : (r : Option Remaining) (bs : List ℕ) → bs ≡ [] → r ≡ with_bytes bs r
+pub nothing-read : (r : Option Remaining) (bs : List ℕ) → bs ≡ [] → r ≡ prepended_body bs r
 nothing-read None bs e = refl
 nothing-read (Some r) bs e = rw e refl
 
@@ -91,7 +91,7 @@ pub cut-stops : (b : Body) (old : Option Feed) (left : ℕ) (stop : Stop) → b 
 cut-stops b old left stop e some stops =
     taken-stops stop (option_map (λ _. stopped End) old) (remaining b old) (ap (λ x. remaining x old) e ∙ counted-cut old left stop some stops)
 
-pub read-nothing : (r q : Option Remaining) → r ≡ q → r ≡ with_bytes [] q
+pub read-nothing : (r q : Option Remaining) → r ≡ q → r ≡ prepended_body [] q
 read-nothing r q e = e ∙ nothing-read q [] refl
 
 told-true : (told : Bool) → (told || true) ≡ true
@@ -104,26 +104,26 @@ reads-on (Over stop) b c m n told h k =
     let P : Body → Type 0 = λ x. ReadsOn x n told c in
     let l = subst P h.0 k in
     (l.0, omega (arith, h.1, l.1))
-reads-on (Held bytes) (Held more) c m n told h k = k
-reads-on (Held bytes) (Over stop) c m n told h k = absurd h
-reads-on (Held bytes) (Counted left) c m n told h k = absurd h
-reads-on (Held bytes) (Chunked d) c m n told h k = absurd h
+reads-on (WithHead bytes) (WithHead more) c m n told h k = k
+reads-on (WithHead bytes) (Over stop) c m n told h k = absurd h
+reads-on (WithHead bytes) (Counted left) c m n told h k = absurd h
+reads-on (WithHead bytes) (Chunked d) c m n told h k = absurd h
 reads-on (Chunked d) (Chunked more) c m n told h k = k
 reads-on (Chunked d) (Over stop) c m n told h k = absurd h
 reads-on (Chunked d) (Counted left) c m n told h k = absurd h
-reads-on (Chunked d) (Held bytes) c m n told h k = absurd h
+reads-on (Chunked d) (WithHead bytes) c m n told h k = absurd h
 reads-on (Counted left) b c m n told h k = by (m == left) refl h
   where
-    by : (t : Bool) → (m == left) ≡ t → MatchBool t (IsOver b) ((b ≡ Counted (left - m)) × (m < left)) → ReadsOn (Counted left) (m + n) told c
+    by : (t : Bool) → (m == left) ≡ t → MatchBool t (IsBodyOver b) ((b ≡ Counted (left - m)) × (m < left)) → ReadsOn (Counted left) (m + n) told c
     by true e h = over b e h k
       where
-        over : (b : Body) → (m == left) ≡ true → IsOver b → ReadsOn b n told c → ReadsOn (Counted left) (m + n) told c
+        over : (b : Body) → (m == left) ≡ true → IsBodyOver b → ReadsOn b n told c → ReadsOn (Counted left) (m + n) told c
         over (Over stop) e h k =
             let all : ((m + n) == left) ≡ true = eq-eqb (m + n) left (omega (arith, eqb-true m left e, k.1)) in
-            let P : Bool → Type 0 = λ t. MatchBool t (IsOver c) ((c ≡ Counted (left - (m + n))) × (m + n < left)) in
-            let over_now : IsOver c = (let Q : Body → Type 0 = λ x. IsOver x in subst Q (sym k.0) tt) in
+            let P : Bool → Type 0 = λ t. MatchBool t (IsBodyOver c) ((c ≡ Counted (left - (m + n))) × (m + n < left)) in
+            let over_now : IsBodyOver c = (let Q : Body → Type 0 = λ x. IsBodyOver x in subst Q (sym k.0) tt) in
             subst P (sym (ap (λ x. told || x) all ∙ told-true told)) over_now
-        over (Held bytes) e h k = absurd h
+        over (WithHead bytes) e h k = absurd h
         over (Counted l) e h k = absurd h
         over (Chunked d) e h k = absurd h
     by false e h =
@@ -131,7 +131,7 @@ reads-on (Counted left) b c m n told h k = by (m == left) refl h
         let l = subst P h.0 k in
         more (told || (n == (left - m))) refl l
       where
-        to : (t : Bool) → MatchBool t (IsOver c) ((c ≡ Counted ((left - m) - n)) × (n < left - m)) → MatchBool t (IsOver c) ((c ≡ Counted (left - (m + n))) × (m + n < left))
+        to : (t : Bool) → MatchBool t (IsBodyOver c) ((c ≡ Counted ((left - m) - n)) × (n < left - m)) → MatchBool t (IsBodyOver c) ((c ≡ Counted (left - (m + n))) × (m + n < left))
         to true l = l
         to false l = (l.0 ∙ ap Counted (omega arith), omega (arith, l.1, h.1))
 
@@ -142,33 +142,33 @@ reads-on (Counted left) b c m n told h k = by (m == left) refl h
             at true x = sym (eq-eqb (m + n) left (omega (arith, eqb-true n (left - m) x, h.1)))
             at false x = sym (ne_eqb (m + n) left (λ y. (let no : true ≡ false = sym (eq-eqb n (left - m) (omega (arith, y, h.1))) ∙ x in cc)))
 
-        more : (t : Bool) → (told || (n == (left - m))) ≡ t → MatchBool t (IsOver c) ((c ≡ Counted ((left - m) - n)) × (n < left - m)) → ReadsOn (Counted left) (m + n) told c
+        more : (t : Bool) → (told || (n == (left - m))) ≡ t → MatchBool t (IsBodyOver c) ((c ≡ Counted ((left - m) - n)) × (n < left - m)) → ReadsOn (Counted left) (m + n) told c
         more t x l =
-            let P : Bool → Type 0 = λ t. MatchBool t (IsOver c) ((c ≡ Counted (left - (m + n))) × (m + n < left)) in
+            let P : Bool → Type 0 = λ t. MatchBool t (IsBodyOver c) ((c ≡ Counted (left - (m + n))) × (m + n < left)) in
             subst P (sym (ap (λ y. told || y) (sym same) ∙ x)) (to t l)
 
 -- a body that isn't read from the input stays so
 pub stays-settled : (a b : Body) (n : ℕ) (told : Bool) → ReadsOn a n told b → is_streaming a ≡ false → is_streaming b ≡ false
 stays-settled (Over stop) b n told h e = ap is_streaming h.0
-stays-settled (Held bytes) (Held more) n told h e = refl
-stays-settled (Held bytes) (Over stop) n told h e = refl
-stays-settled (Held bytes) (Counted left) n told h e = absurd h
-stays-settled (Held bytes) (Chunked d) n told h e = absurd h
+stays-settled (WithHead bytes) (WithHead more) n told h e = refl
+stays-settled (WithHead bytes) (Over stop) n told h e = refl
+stays-settled (WithHead bytes) (Counted left) n told h e = absurd h
+stays-settled (WithHead bytes) (Chunked d) n told h e = absurd h
 stays-settled (Counted left) b n told h e = cc
 stays-settled (Chunked d) b n told h e = cc
 
-with-with : (r : Option Remaining) (a b : List ℕ) → with_bytes a (with_bytes b r) ≡ with_bytes (a ++ b) r
+with-with : (r : Option Remaining) (a b : List ℕ) → prepended_body a (prepended_body b r) ≡ prepended_body (a ++ b) r
 with-with None a b = refl
 with-with (Some r) a b =
     let P : List ℕ → Remaining = λ bs. record { body = record { bytes = bs; stop = r.body.stop }; behind = r.behind } in
     ap Some (ap P (sym (append_assoc a b r.body.bytes)))
 
 -- bytes behind others
-pub read-more : (r p q : Option Remaining) (old new : List ℕ) (at n : ℕ) → r ≡ with_bytes (take at old) p → p ≡ with_bytes (take n (drop at new)) q → take at new ≡ take at old → at + n ≤ length new
-    → r ≡ with_bytes (take (at + n) new) q
+pub read-more : (r p q : Option Remaining) (old new : List ℕ) (at n : ℕ) → r ≡ prepended_body (take at old) p → p ≡ prepended_body (take n (drop at new)) q → take at new ≡ take at old → at + n ≤ length new
+    → r ≡ prepended_body (take (at + n) new) q
 read-more r p q old new at n first second front le =
-    first ∙ ap (λ bs. with_bytes bs p) (sym front) ∙ ap (λ x. with_bytes (take at new) x) second ∙ with-with q (take at new) (take n (drop at new))
-    ∙ ap (λ bs. with_bytes bs q) (take-take at n new)
+    first ∙ ap (λ bs. prepended_body bs p) (sym front) ∙ ap (λ x. prepended_body (take at new) x) second ∙ with-with q (take at new) (take n (drop at new))
+    ∙ ap (λ bs. prepended_body bs q) (take-take at n new)
   where
     take-take : (at n : ℕ) (s : List ℕ) → take at s ++ take n (drop at s) ≡ take (at + n) s
     take-take zero n s = ap (λ k. take k s) (omega arith)
@@ -177,7 +177,7 @@ read-more r p q old new at n first second front le =
         let shift : suc (at + n) ≡ suc at + n = omega arith in
         ap (λ r. x ∷ r) (take-take at n xs) ∙ ap (λ k. take k (x ∷ xs)) shift
 
-pub bytes-none : (r q : Option Remaining) (old : List ℕ) (at : ℕ) → r ≡ with_bytes (take at old) q → at ≡ 0 → q ≡ r
+pub bytes-none : (r q : Option Remaining) (old : List ℕ) (at : ℕ) → r ≡ prepended_body (take at old) q → at ≡ 0 → q ≡ r
 bytes-none r None old at e z = sym e
 bytes-none r (Some q) old at e z = sym (e ∙ rw z refl)
 
@@ -191,7 +191,7 @@ gives-up (Over stop) old new h = ap-goes old new h
   where
     ap-goes : {R : Type 0} (old new : SourceState R) → new ≡ old → GoesOn old.feed new.feed
     ap-goes {R = R} old new e = let P : SourceState R → Type 0 = λ x. GoesOn old.feed x.feed in subst P (sym e) (goes-on_same old.feed)
-gives-up (Held bytes) old new h = ap-goes old new h
+gives-up (WithHead bytes) old new h = ap-goes old new h
   where
     ap-goes : {R : Type 0} (old new : SourceState R) → new ≡ old → GoesOn old.feed new.feed
     ap-goes {R = R} old new e = let P : SourceState R → Type 0 = λ x. GoesOn old.feed x.feed in subst P (sym e) (goes-on_same old.feed)
@@ -232,9 +232,9 @@ pub standing-more : {R : Type 0} (b c : Body) (n : ℕ) (told : Bool) (first : S
 standing-more {R = R} (Over stop) c n told first mid new on settled goes was =
     let P : Body → Type 0 = λ x. new.standing ≡ body_standing x first in
     subst P (sym on.0) (ap (λ (s : SourceState R). s.standing) (settled refl) ∙ was)
-standing-more {R = R} (Held bytes) (Held more) n told first mid new on settled goes was = ap (λ (s : SourceState R). s.standing) (settled refl) ∙ was
-standing-more (Held bytes) (Over stop) n told first mid new on settled goes was = absurd on
-standing-more (Held bytes) (Counted left) n told first mid new on settled goes was = absurd on
-standing-more (Held bytes) (Chunked d) n told first mid new on settled goes was = absurd on
+standing-more {R = R} (WithHead bytes) (WithHead more) n told first mid new on settled goes was = ap (λ (s : SourceState R). s.standing) (settled refl) ∙ was
+standing-more (WithHead bytes) (Over stop) n told first mid new on settled goes was = absurd on
+standing-more (WithHead bytes) (Counted left) n told first mid new on settled goes was = absurd on
+standing-more (WithHead bytes) (Chunked d) n told first mid new on settled goes was = absurd on
 standing-more (Counted left) c n told first mid new on settled goes was = goes refl ∙ ap (body_standing c) was
 standing-more (Chunked d) c n told first mid new on settled goes was = goes refl ∙ ap (body_standing c) was

@@ -4,7 +4,7 @@ use Rattle.tiny_http_wire.specs.declared.common.Header.{Header}
 use Rattle.tiny_http_wire.specs.Device.{Feed}
 use Rattle.tiny_http_wire.specs.Bytes.{AreAscii}
 use Rattle.tiny_http_wire.specs.Lines.{Line}
-use Rattle.tiny_http_wire.specs.Heads.{Fields, HeaderLine, IsRequestLine, IsFieldOrEnd}
+use Rattle.tiny_http_wire.specs.Heads.{BeginsWithHeaderLines, HeaderLine, IsRequestLine, IsFieldOrEnd}
 use Rattle.tiny_http_wire.specs.Reading as reading
 use Rattle.tiny_http_text.proofs.TextLemmas.{are-ascii, not-ascii}
 use Rattle.tiny_http_head.proofs.HeadLemmas.{request-line-is, request-line-one, header-line-is, header-line-one}
@@ -15,8 +15,8 @@ use Rattle.tiny_http_stream.specs.declared.source.LineFault.{LineFault}
 use Rattle.tiny_http_stream.specs.declared.source.LineFault.TheVariants as linefault
 use Rattle.tiny_http_message.specs.declared.heads.HeadFault.{HeadFault}
 use Rattle.tiny_http_message.specs.declared.heads.HeadFault.TheVariants as fault
-use Rattle.tiny_http_stream.specs.Source.{ReadsLine, from}
-use Rattle.tiny_http_message.specs.HeadReads.{ReadsText, ReadsStart, ReadFields, ReadsField, ReadsFields, ReadsMessage, IsFaulty, IsFaultyHead, head_fault}
+use Rattle.tiny_http_stream.specs.Source.{ReadsLine, feed_from}
+use Rattle.tiny_http_message.specs.HeadReads.{ReadsText, ReadsStart, HasReadFields, ReadsField, ReadsFields, ReadsMessage, IsFaulty, IsFaultyHead, head_fault}
 
 pub text-read : (o p : Option Feed) (text : List ℕ) → ReadsLine o p (Ok text) → ReadsText o p (Ok text)
 text-read None p text h = tt
@@ -76,37 +76,37 @@ field-malformed (Some f) p text h n e = (text, h.0, h.1, h.2, no-field)
     no-field (inl empty) = n (ap length empty)
     no-field (inr k) = none-some (e ∙ header-line-one text k.0 k.1 k.2)
 
-Fields-push : (bytes : List ℕ) (hs : List Header) (mid text next : List ℕ) (h : Header) → Fields bytes hs mid → Line mid text next → AreAscii text → HeaderLine text h.field h.value → Fields bytes (hs ++ h ∷ []) next
+Fields-push : (bytes : List ℕ) (hs : List Header) (mid text next : List ℕ) (h : Header) → BeginsWithHeaderLines bytes hs mid → Line mid text next → AreAscii text → HeaderLine text h.field h.value → BeginsWithHeaderLines bytes (hs ++ h ∷ []) next
 Fields-push bytes [] mid text next h here l a k =
     let P : List ℕ → Type 0 = λ b. Line b text next in
     (text, next, subst P here l, a, k, refl)
 Fields-push bytes (x ∷ hs) mid text next h f l a k = (f.0, f.1, f.2, f.3, f.4, Fields-push f.1 hs mid text next h f.5 l a k)
 
-pub fields-none : (o : Option Feed) → ReadFields o o []
+pub fields-none : (o : Option Feed) → HasReadFields o o []
 fields-none None = tt
 fields-none (Some f) = (f.bytes, refl, refl)
 
-pub fields-more : (o p q : Option Feed) (hs : List Header) (h : Header) → ReadFields o p hs → ReadsField p q (Ok (Some h)) → ReadFields o q (hs ++ h ∷ [])
+pub fields-more : (o p q : Option Feed) (hs : List Header) (h : Header) → HasReadFields o p hs → ReadsField p q (Ok (Some h)) → HasReadFields o q (hs ++ h ∷ [])
 fields-more None p q hs h r k = tt
 fields-more (Some f) p q hs h r k =
     let P : Option Feed → Type 0 = λ x. ReadsField x q (Ok (Some h)) in
     let n = subst P r.2 k in
     (n.1, Fields-push f.bytes hs r.0 n.0 n.1 h r.1 n.2 n.3 n.4, n.5)
 
-pub fields-end : {T : Type 0} (items : T → List Header) (o p q : Option Feed) (hs : T) → ReadFields o p (items hs) → ReadsField p q (Ok None) → ReadsFields items o q (Ok hs)
+pub fields-end : {T : Type 0} (items : T → List Header) (o p q : Option Feed) (hs : T) → HasReadFields o p (items hs) → ReadsField p q (Ok None) → ReadsFields items o q (Ok hs)
 fields-end items None p q hs r k = tt
 fields-end items (Some f) p q hs r k =
     let P : Option Feed → Type 0 = λ x. ReadsField x q (Ok None) in
     let n = subst P r.2 k in
     (r.0, n.0, r.1, n.1, n.2)
 
-pub fields-err : {T : Type 0} (items : T → List Header) (o p q : Option Feed) (hs : List Header) (e : HeadFault) → ReadFields o p hs → ReadsField p q (Err e) → ReadsFields items o q (Err e)
+pub fields-err : {T : Type 0} (items : T → List Header) (o p q : Option Feed) (hs : List Header) (e : HeadFault) → HasReadFields o p hs → ReadsField p q (Err e) → ReadsFields items o q (Err e)
 fields-err items None p q hs e r k = tt
 fields-err items (Some f) p q hs e r k =
     let P : Option Feed → Type 0 = λ x. ReadsField x q (Err e) in
     (hs, r.0, r.1, subst P r.2 k)
 
-pub fields-memory : {T : Type 0} (items : T → List Header) (o p q : Option Feed) (hs : List Header) → ReadFields o p hs → ReadsFields items o q (Err fault.Memory)
+pub fields-memory : {T : Type 0} (items : T → List Header) (o p q : Option Feed) (hs : List Header) → HasReadFields o p hs → ReadsFields items o q (Err fault.Memory)
 fields-memory items None p q hs r = tt
 fields-memory items (Some f) p q hs r = (hs, r.0, r.1, tt)
 
@@ -115,7 +115,7 @@ message-read items None p q hs m e s k = tt
 message-read items (Some f) p q hs m e s k =
     let P : Option Feed → Type 0 = λ x. ReadsFields items x q (Ok hs) in
     let n = subst P s.2 k in
-    let Q : List Header → Type 0 = λ x. Fields s.0 x n.0 in
+    let Q : List Header → Type 0 = λ x. BeginsWithHeaderLines s.0 x n.0 in
     (n.1, (s.0, n.0, s.1, subst Q (sym e) n.2, n.3), n.4)
 
 pub message-start_err : (o p : Option Feed) (e : HeadFault) → ReadsStart o p (Err e) → ReadsMessage o p (Err (None, e))
@@ -132,7 +132,7 @@ message-fields_err items (Some f) p q method path v e s k =
     let P : Option Feed → Type 0 = λ x. ReadsFields items x q (Err e) in
     faulty e (subst P s.2 k)
   where
-    faulty : (e : HeadFault) → ReadsFields items (from f s.0) q (Err e) → IsFaultyHead f.bytes (Some v) e
+    faulty : (e : HeadFault) → ReadsFields items (feed_from f s.0) q (Err e) → IsFaultyHead f.bytes (Some v) e
     faulty fault.Cut n = (method, path, s.0, s.1, n.0, n.1, n.2, n.3)
     faulty fault.NotAscii n = (method, path, s.0, s.1, n.0, n.1, n.2, n.3)
     faulty fault.Malformed n = (method, path, s.0, s.1, n.0, n.1, n.2, n.3)

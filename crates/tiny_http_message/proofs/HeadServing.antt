@@ -19,10 +19,10 @@ use Rattle.tiny_http_wire.specs.Chunks.{WholeChunks, CutChunks}
 use Rattle.tiny_http_wire.specs.ChunkReading.{decoded}
 use Rattle.tiny_http_wire.specs.Decoding.{Coming, decoding_coming}
 use Rattle.tiny_http_wire.proofs.ChunkLemmas.{decoded-is}
-use Rattle.tiny_http_wire.specs.Heads.{Message as Texted, HeadText, FaultyHead, Cut, NotAscii, Malformed, version, is_too_new}
+use Rattle.tiny_http_wire.specs.Heads.{Message as Texted, BeginsWithRequestHead, FaultyHead, Cut, NotAscii, Malformed, version, is_too_new}
 use Rattle.tiny_http_message.specs.declared.heads.Message.{Message}
 use Rattle.tiny_http_message.specs.declared.framing.Form.{Form}
-use Rattle.tiny_http_message.specs.declared.framing.Form.TheVariants.{Rest, Nothing, Held, Counted, Chunked}
+use Rattle.tiny_http_message.specs.declared.framing.Form.TheVariants.{Rest, Nothing, WithHead, Counted, Chunked}
 use Rattle.tiny_http_message.specs.declared.framing.Framing.{Framing}
 use Rattle.tiny_http_message.specs.declared.exchange.Head.{Head}
 use Rattle.tiny_http_message.specs.declared.exchange.Exchange.{Exchange}
@@ -33,12 +33,12 @@ use Rattle.tiny_http_message.specs.declared.heads.HeadFault.TheVariants as fault
 use Rattle.tiny_http_message.specs.declared.body.Body.{Body}
 use Rattle.tiny_http_message.specs.declared.body.Body.TheVariants as body
 use Rattle.tiny_http_message.specs.Framing.{framing, is_built, is_rest}
-use Rattle.tiny_http_stream.specs.Parts.{first_part}
+use Rattle.tiny_http_stream.specs.Parts.{feed_front}
 use Rattle.tiny_http_stream.specs.ToCome.{skipped}
-use Rattle.tiny_http_message.specs.Body.{Remaining, remaining, counted_left, coming_left, Fits, IsOver, ReadsOn}
+use Rattle.tiny_http_message.specs.Body.{Remaining, remaining, counted_left, coming_left, Fits, IsBodyOver, ReadsOn}
 use Rattle.tiny_http_message.specs.Exchange.{KeepsHead}
-use Rattle.tiny_http_stream.specs.Source.{TakesExactly, from}
-use Rattle.tiny_http_message.specs.Pipeline.{Item, Asks, Refuses, BadRequest, RequestTimeout, ExpectationFailed, Place, Heading, Ends, Heads, IsCutHeld, cut_answer, is_timed_out, said_length, served, served_answer, BodyAt, FoundAt, OneHead, item_of, goes_on}
+use Rattle.tiny_http_stream.specs.Source.{TakesExactly, feed_from}
+use Rattle.tiny_http_message.specs.Pipeline.{Item, Asks, Refuses, BadRequest, RequestTimeout, ExpectationFailed, Place, Heading, Ends, Heads, IsCutWithHead, cut_answer, is_timed_out, body_length_or_0, served, served_answer, BodyAt, FoundAt, OneHead, item_of, goes_on}
 use Rattle.tiny_http_message.specs.HeadReads.{ReadsMessage, ReadsHead, RefusesBy, Begins, ComesWith, IsCutOff, IsUnserved, IsBeforeHead, cut_end, end_at, place_feed, place_after, message_of, head_message, head_framing}
 use Rattle.tiny_http_message.specs.declared.exchange.EndOfRequests.{EndOfRequests}
 use Rattle.tiny_http_message.specs.declared.exchange.EndOfRequests.TheVariants as because
@@ -85,36 +85,36 @@ head-unframed date (Some f) p m h e =
     ((Ends (Some (Refuses ExpectationFailed m.version false true)), inr (inl (message_of m, h.0, h.1, e, refl)), (refl, refl)), inr (inr (message_of m, h.0, h.1, subst P (sym e) tt, refl)))
 
 abbrev pub is_cut_held : Form → ℕ → List ℕ → Bool
-is_cut_held Held n after = nat_lt (length after) n
+is_cut_held WithHead n after = nat_lt (length after) n
 is_cut_held _ n after = false
 
-pub cut-held : (form : Form) (n : ℕ) (after : List ℕ) → is_cut_held form n after ≡ true → IsCutHeld form n after
-cut-held Held n after c = ltb-true (length after) n c
+pub cut-held : (form : Form) (n : ℕ) (after : List ℕ) → is_cut_held form n after ≡ true → IsCutWithHead form n after
+cut-held WithHead n after c = ltb-true (length after) n c
 cut-held Nothing n after c = cc
 cut-held Counted n after c = cc
 cut-held Rest n after c = cc
 cut-held Chunked n after c = cc
 
-pub held-cut : (form : Form) (n : ℕ) (after : List ℕ) → IsCutHeld form n after → is_cut_held form n after ≡ true
-held-cut Held n after c = lt-ltb (length after) n c
+pub held-cut : (form : Form) (n : ℕ) (after : List ℕ) → IsCutWithHead form n after → is_cut_held form n after ≡ true
+held-cut WithHead n after c = lt-ltb (length after) n c
 held-cut Nothing n after c = elim c [ ]
 held-cut Counted n after c = elim c [ ]
 held-cut Rest n after c = elim c [ ]
 held-cut Chunked n after c = elim c [ ]
 
 -- a head that isn't built
-unbuilt : (bytes : List ℕ) (stop : Stop) (m : Texted) (f : Framing) (after : List ℕ) → HeadText bytes m after → framing m.version m.headers ≡ Some f → is_built m.version f ≡ false
-    → (t : Bool) → is_cut_held f.form (said_length f) after ≡ t → OneHead bytes stop None None
-unbuilt bytes stop m f after h e b true c = (Ends (cut_answer stop), inr (inr (m, after, f, h, e, cut-held f.form (said_length f) after c, refl)), (cut-unanswered stop, refl))
+unbuilt : (bytes : List ℕ) (stop : Stop) (m : Texted) (f : Framing) (after : List ℕ) → BeginsWithRequestHead bytes m after → framing m.version m.headers ≡ Some f → is_built m.version f ≡ false
+    → (t : Bool) → is_cut_held f.form (body_length_or_0 f) after ≡ t → OneHead bytes stop None None
+unbuilt bytes stop m f after h e b true c = (Ends (cut_answer stop), inr (inr (m, after, f, h, e, cut-held f.form (body_length_or_0 f) after c, refl)), (cut-unanswered stop, refl))
 unbuilt bytes stop m f after h e b false c =
-    let not_cut : IsCutHeld f.form (said_length f) after → ⊥ = λ k. (let x : true ≡ false = sym (held-cut f.form (said_length f) after k) ∙ c in cc) in
+    let not_cut : IsCutWithHead f.form (body_length_or_0 f) after → ⊥ = λ k. (let x : true ≡ false = sym (held-cut f.form (body_length_or_0 f) after k) ∙ c in cc) in
     let P : Heading → Type 0 = λ x. FoundAt stop x None None in
     let same : Ends None ≡ served (Heads m f after) = rw b refl in
     (Heads m f after, (h, e, not_cut), subst P same (refl, refl))
 
 -- a body that begins isn't cut
-uncut : (form : Form) (n : ℕ) (after : List ℕ) → (is_rest form ≡ false → IsCutHeld form n after → ⊥) → IsCutHeld form n after → ⊥
-uncut Held n after h k = h refl k
+uncut : (form : Form) (n : ℕ) (after : List ℕ) → (is_rest form ≡ false → IsCutWithHead form n after → ⊥) → IsCutWithHead form n after → ⊥
+uncut WithHead n after h k = h refl k
 uncut Rest n after h k = elim k [ ]
 uncut Nothing n after h k = elim k [ ]
 uncut Counted n after h k = elim k [ ]
@@ -126,8 +126,8 @@ head-unbuilt date (Some x) p q m f y h e begins b =
     let P : Option Framing → Type 0 = λ z. IsUnserved z m.version h.0 in
     let B : Option Feed → Type 0 = λ z. Begins f z q (Some y) in
     let started = subst B h.2 begins in
-    let whole : IsCutHeld f.form (said_length f) h.0 → ⊥ = uncut f.form (said_length f) h.0 (λ r. (started r).0) in
-    (unbuilt x.bytes x.stop (message_of m) f h.0 h.1 e b (is_cut_held f.form (said_length f) h.0) refl, inr (inr (message_of m, h.0, h.1, subst P (sym e) (b, whole), refl)))
+    let whole : IsCutWithHead f.form (body_length_or_0 f) h.0 → ⊥ = uncut f.form (body_length_or_0 f) h.0 (λ r. (started r).0) in
+    (unbuilt x.bytes x.stop (message_of m) f h.0 h.1 e b (is_cut_held f.form (body_length_or_0 f) h.0) refl, inr (inr (message_of m, h.0, h.1, subst P (sym e) (b, whole), refl)))
 
 -- what is built is no version above 1.1, owes no 100, and names no upgrade
 pub record Built (v : HTTPVersion) (f : Framing) : Type 0 where
@@ -144,11 +144,11 @@ built-parts v f b =
 -- the body that begins in front of some bytes
 abbrev pub BeginsAt : Form → ℕ → Feed → Option Feed → Body → Type 0
 BeginsAt form n x new b =
-    (IsCutHeld form n x.bytes → ⊥) × (content : Feed) × (next : Place) × BodyAt form n x.bytes x.stop content next × ComesWith (remaining b new) x.stop content next × Fits b form n 0 false
+    (IsCutWithHead form n x.bytes → ⊥) × (content : Feed) × (next : Place) × BodyAt form n x.bytes x.stop content next × ComesWith (remaining b new) x.stop content next × Fits b form n 0 false
 
-pub begins-with : (f : Framing) (form : Form) (o new : Option Feed) (b : Body) → f.form ≡ form → ((x : Feed) → o ≡ Some x → BeginsAt form (said_length f) x new b) → Begins f o new (Some b)
+pub begins-with : (f : Framing) (form : Form) (o new : Option Feed) (b : Body) → f.form ≡ form → ((x : Feed) → o ≡ Some x → BeginsAt form (body_length_or_0 f) x new b) → Begins f o new (Some b)
 begins-with f form None new b e h = tt
-begins-with f form (Some x) new b e h = λ z. (let P : Form → Type 0 = λ y. BeginsAt y (said_length f) x new b in subst P (sym e) (h x refl))
+begins-with f form (Some x) new b e h = λ z. (let P : Form → Type 0 = λ y. BeginsAt y (body_length_or_0 f) x new b in subst P (sym e) (h x refl))
 
 pub begins-rest : (f : Framing) (o new : Option Feed) (b : Body) → f.form ≡ Rest → Begins f o new (Some b)
 begins-rest f None new b e = tt
@@ -158,19 +158,19 @@ nothing-at : (n : ℕ) (x : Feed) → BeginsAt Nothing n x (Some x) (body.Over E
 nothing-at n x = (λ k. k, ending [], Some x.bytes, (refl, refl), refl, refl)
 
 pub begins-nothing : (f : Framing) (o : Option Feed) → f.form ≡ Nothing → Begins f o o (Some (body.Over End))
-begins-nothing f o e = begins-with f Nothing o o (body.Over End) e (λ x told. (let P : Option Feed → Type 0 = λ y. BeginsAt Nothing (said_length f) x y (body.Over End) in subst P (sym told) (nothing-at (said_length f) x)))
+begins-nothing f o e = begins-with f Nothing o o (body.Over End) e (λ x told. (let P : Option Feed → Type 0 = λ y. BeginsAt Nothing (body_length_or_0 f) x y (body.Over End) in subst P (sym told) (nothing-at (body_length_or_0 f) x)))
 
 -- a body of a known length
 counted-fits : (b : Body) (n : ℕ) → ReadsOn (body.Counted n) 0 false b → Fits b Counted n 0 false
 counted-fits b n h = by (0 == n) refl h
   where
-    over : (b : Body) → IsOver b → (0 == n) ≡ true → Fits b Counted n 0 false
+    over : (b : Body) → IsBodyOver b → (0 == n) ≡ true → Fits b Counted n 0 false
     over (body.Over stop) k e = rw e refl
-    over (body.Held bytes) k e = absurd k
+    over (body.WithHead bytes) k e = absurd k
     over (body.Counted left) k e = absurd k
     over (body.Chunked d) k e = absurd k
 
-    by : (t : Bool) → (0 == n) ≡ t → MatchBool t (IsOver b) ((b ≡ body.Counted (n - 0)) × (0 < n)) → Fits b Counted n 0 false
+    by : (t : Bool) → (0 == n) ≡ t → MatchBool t (IsBodyOver b) ((b ≡ body.Counted (n - 0)) × (0 < n)) → Fits b Counted n 0 false
     by true e k = over b k e
     by false e k =
         let P : Body → Type 0 = λ x. Fits x Counted n 0 false in
@@ -180,13 +180,13 @@ abbrev pair : Feed → Feed → Remaining
 pair content behind = record { body = content; behind = behind }
 
 all-of : (n : ℕ) (x : Feed) → length x.bytes < n → counted_left n x ≡ pair x (ending [])
-unfolding first_part
+unfolding feed_front
 all-of n x lt =
     let P : List ℕ → Feed = λ bs. record { bytes = bs; stop = x.stop } in
     ap (λ y. pair y (skipped n x)) (rw (lt-ltb (length x.bytes) n lt) (ap P (take_all n x.bytes (omega (arith, lt))))) ∙ ap (pair x) (skipped-beyond n x lt)
 
 front-of : (n : ℕ) (x : Feed) → n ≤ length x.bytes → counted_left n x ≡ pair (ending (take n x.bytes)) (record { bytes = drop n x.bytes; stop = x.stop })
-unfolding first_part
+unfolding feed_front
 front-of n x le = rw (le-ltb (length x.bytes) n le) (ap (pair (ending (take n x.bytes))) (skipped-within n x le))
 
 counted-at : (n : ℕ) (x : Feed) (b : Body) → remaining b (Some x) ≡ Some (counted_left n x) → Fits b Counted n 0 false → BeginsAt Counted n x (Some x) b
@@ -204,12 +204,12 @@ left-counted n x = by (nat_lt (length x.bytes) n) refl
     by true e = (x, None, sized-is n x.bytes x.stop true e, all-of n x (ltb-true (length x.bytes) n e))
     by false e = (ending (take n x.bytes), Some (drop n x.bytes), sized-is n x.bytes x.stop false e, front-of n x (ltb-false (length x.bytes) n e))
 
-pub begins-counted : (f : Framing) (o : Option Feed) (b : Body) (n : ℕ) → f.form ≡ Counted → n ≡ said_length f → ((feed : Option Feed) → remaining b feed ≡ option_map (counted_left n) feed) → ReadsOn (body.Counted n) 0 false b → Begins f o o (Some b)
+pub begins-counted : (f : Framing) (o : Option Feed) (b : Body) (n : ℕ) → f.form ≡ Counted → n ≡ body_length_or_0 f → ((feed : Option Feed) → remaining b feed ≡ option_map (counted_left n) feed) → ReadsOn (body.Counted n) 0 false b → Begins f o o (Some b)
 begins-counted f o b n e is left moves =
     let P : ℕ → Type 0 = λ k. Fits b Counted k 0 false in
     let Q : ℕ → Feed → Type 0 = λ k x. remaining b (Some x) ≡ Some (counted_left k x) in
-    let R : Option Feed → Feed → Type 0 = λ y x. BeginsAt Counted (said_length f) x y b in
-    begins-with f Counted o o b e (λ x told. subst (λ y. R y x) (sym told) (counted-at (said_length f) x b (subst (λ k. Q k x) is (left (Some x))) (subst P is (counted-fits b n moves))))
+    let R : Option Feed → Feed → Type 0 = λ y x. BeginsAt Counted (body_length_or_0 f) x y b in
+    begins-with f Counted o o b e (λ x told. subst (λ y. R y x) (sym told) (counted-at (body_length_or_0 f) x b (subst (λ k. Q k x) is (left (Some x))) (subst P is (counted-fits b n moves))))
 
 -- a chunked body
 pub begins-chunked : (f : Framing) (o : Option Feed) (d : Decoding) → f.form ≡ Chunked
@@ -217,24 +217,24 @@ pub begins-chunked : (f : Framing) (o : Option Feed) (d : Decoding) → f.form �
     → ((bytes content : List ℕ) (stop : Stop) (kind : ErrorKind) → CutChunks bytes stop content kind → decoding_coming d (Some (record { bytes = bytes; stop = stop })) ≡ Some (record { bytes = content; behind = Err kind }))
     → Begins f o o (Some (body.Chunked d))
 begins-chunked f o d e whole front =
-    let R : Option Feed → Feed → Type 0 = λ y x. BeginsAt Chunked (said_length f) x y (body.Chunked d) in
+    let R : Option Feed → Feed → Type 0 = λ y x. BeginsAt Chunked (body_length_or_0 f) x y (body.Chunked d) in
     begins-with f Chunked o o (body.Chunked d) e
     (λ x told. subst (λ y. R y x) (sym told) (at x (decoded (length x.bytes + 1) x.stop x.bytes).body (decoded (length x.bytes + 1) x.stop x.bytes).ends (decoded-is (length x.bytes + 1) x.bytes x.stop (omega arith))))
   where
-    at : (x : Feed) (content : List ℕ) (r : Result (List ℕ) ErrorKind) → MatchResult r (λ rest. WholeChunks x.bytes content rest) (λ kind. CutChunks x.bytes x.stop content kind) → BeginsAt Chunked (said_length f) x (Some x) (body.Chunked d)
+    at : (x : Feed) (content : List ℕ) (r : Result (List ℕ) ErrorKind) → MatchResult r (λ rest. WholeChunks x.bytes content rest) (λ kind. CutChunks x.bytes x.stop content kind) → BeginsAt Chunked (body_length_or_0 f) x (Some x) (body.Chunked d)
     at x content (Ok rest) h =
         (λ k. k, ending content, Some rest, inl (rest, h, refl, refl), ap (λ (c : Option Coming). option_map coming_left c) (whole x.bytes content rest x.stop h), (refl, refl))
     at x content (Err kind) h =
         (λ k. k, record { bytes = content; stop = Faults kind }, None, inr (kind, h, refl, refl), ap (λ (c : Option Coming). option_map coming_left c) (front x.bytes content x.stop kind h), (refl, refl))
 
 -- a body that is read with its head
-pub begins-held : (f : Framing) (o new : Option Feed) (c : Cursor (Vec ℕ)) (v : Vec ℕ) (n : ℕ) → f.form ≡ Held → n ≡ said_length f → cursor_bytes c ≡ v.items → TakesExactly (λ (w : Vec ℕ). w.items) n o new (Some v) → Begins f o new (Some (body.Held c))
-begins-held f o new c v n e is bytes h = begins-with f Held o new (body.Held c) e (λ x told. at x (let P : Option Feed → Type 0 = λ y. TakesExactly (λ (w : Vec ℕ). w.items) n y new (Some v) in subst P told h))
+pub begins-held : (f : Framing) (o new : Option Feed) (c : Cursor (Vec ℕ)) (v : Vec ℕ) (n : ℕ) → f.form ≡ WithHead → n ≡ body_length_or_0 f → cursor_bytes c ≡ v.items → TakesExactly (λ (w : Vec ℕ). w.items) n o new (Some v) → Begins f o new (Some (body.WithHead c))
+begins-held f o new c v n e is bytes h = begins-with f WithHead o new (body.WithHead c) e (λ x told. at x (let P : Option Feed → Type 0 = λ y. TakesExactly (λ (w : Vec ℕ). w.items) n y new (Some v) in subst P told h))
   where
-    at : (x : Feed) → TakesExactly (λ (w : Vec ℕ). w.items) n (Some x) new (Some v) → BeginsAt Held (said_length f) x new (body.Held c)
+    at : (x : Feed) → TakesExactly (λ (w : Vec ℕ). w.items) n (Some x) new (Some v) → BeginsAt WithHead (body_length_or_0 f) x new (body.WithHead c)
     at x k =
         let long : length x.bytes ≡ length v.items + length k.0 = ap length k.1 ∙ length-append v.items k.0 in
-        let R : Option Feed → Type 0 = λ y. remaining (body.Held c) y ≡ Some (pair (ending v.items) (record { bytes = k.0; stop = x.stop })) in (
+        let R : Option Feed → Type 0 = λ y. remaining (body.WithHead c) y ≡ Some (pair (ending v.items) (record { bytes = k.0; stop = x.stop })) in (
           λ lt. absurd (omega (arith, lt, is, long, k.2)),
           ending v.items,
           Some k.0,
@@ -243,15 +243,15 @@ begins-held f o new c v n e is bytes h = begins-with f Held o new (body.Held c) 
           refl,
         )
 
-pub begins-cut : (f : Framing) (o new : Option Feed) (n : ℕ) → f.form ≡ Held → n ≡ said_length f → TakesExactly (λ (w : Vec ℕ). w.items) n o new None → Begins f o new None
+pub begins-cut : (f : Framing) (o new : Option Feed) (n : ℕ) → f.form ≡ WithHead → n ≡ body_length_or_0 f → TakesExactly (λ (w : Vec ℕ). w.items) n o new None → Begins f o new None
 begins-cut f None new n e is h = tt
 begins-cut f (Some x) new n e is h =
-    let P : Form → Type 0 = λ y. IsCutHeld y (said_length f) x.bytes in
+    let P : Form → Type 0 = λ y. IsCutWithHead y (body_length_or_0 f) x.bytes in
     subst P (sym e) (omega (arith, h.0, is))
 
 -- a head with its body
-head-whole : (x : Feed) (q : Option Feed) (m : Texted) (f : Framing) (after : List ℕ) (b : Body) → HeadText x.bytes m after → framing m.version m.headers ≡ Some f → is_built m.version f ≡ true → Begins f (from x after) q (Some b)
-    → (content : Feed) × (next : Place) × OneHead x.bytes x.stop (Some (Asks (record { message = m; framing = f; body = content }))) (place_after f.is_last next) × ComesWith (remaining b q) x.stop content next × Fits b f.form (said_length f) 0 false
+head-whole : (x : Feed) (q : Option Feed) (m : Texted) (f : Framing) (after : List ℕ) (b : Body) → BeginsWithRequestHead x.bytes m after → framing m.version m.headers ≡ Some f → is_built m.version f ≡ true → Begins f (feed_from x after) q (Some b)
+    → (content : Feed) × (next : Place) × OneHead x.bytes x.stop (Some (Asks (record { message = m; framing = f; body = content }))) (place_after f.is_last next) × ComesWith (remaining b q) x.stop content next × Fits b f.form (body_length_or_0 f) 0 false
 head-whole x q m f after b h e built begins =
     let parts = built-parts m.version f built in
     let k = begins parts.no_upgrade in
@@ -269,9 +269,9 @@ head-whole x q m f after b h e built begins =
     place-is false next = refl
 
 -- the request under a message and a framing that are those of a head
-abbrev Handed : Feed → Option Feed → Body → Texted → Framing → Type 0
-Handed x q b m f =
-    (content : Feed) × (next : Place) × OneHead x.bytes x.stop (Some (Asks (record { message = m; framing = f; body = content }))) (place_after f.is_last next) × ComesWith (remaining b q) x.stop content next × Fits b f.form (said_length f) 0 false
+abbrev IsHanded : Feed → Option Feed → Body → Texted → Framing → Type 0
+IsHanded x q b m f =
+    (content : Feed) × (next : Place) × OneHead x.bytes x.stop (Some (Asks (record { message = m; framing = f; body = content }))) (place_after f.is_last next) × ComesWith (remaining b q) x.stop content next × Fits b f.form (body_length_or_0 f) 0 false
 
 pub head-handed : (date : HttpDate) (o p q : Option Feed) (m : Message) (f : Framing) (h : Head) (b : Body) (y : Exchange) → head_message h ≡ message_of m → head_framing h ≡ f → ReadsMessage o p (Ok m) → framing m.version m.headers.items ≡ Some f → is_built m.version f ≡ true
     → Begins f p q (Some b) → y.head ≡ h → y.waiting.body ≡ b → KeepsHead y.waiting h date → ReadsHead at.Head date o q (Ok (read.Request y))
@@ -279,10 +279,10 @@ head-handed date None p q m f h b y u v r e t begins heads bodies keeps = tt
 head-handed date (Some x) p q m f h b y u v r e t begins heads bodies keeps =
     let P : Option Feed → Type 0 = λ z. Begins f z q (Some b) in
     let found = head-whole x q (message_of m) f r.0 b r.1 e t (subst P r.2 begins) in
-    let Q : Texted → Type 0 = λ z. Handed x q b z f in
-    let R : Framing → Type 0 = λ z. Handed x q b (head_message h) z in
-    let S : Body → Type 0 = λ z. Handed x q z (head_message h) (head_framing h) in
-    let T : Head → Type 0 = λ z. Handed x q y.waiting.body (head_message z) (head_framing z) in
+    let Q : Texted → Type 0 = λ z. IsHanded x q b z f in
+    let R : Framing → Type 0 = λ z. IsHanded x q b (head_message h) z in
+    let S : Body → Type 0 = λ z. IsHanded x q z (head_message h) (head_framing h) in
+    let T : Head → Type 0 = λ z. IsHanded x q y.waiting.body (head_message z) (head_framing z) in
     let K : Head → Type 0 = λ z. KeepsHead y.waiting z date in
     let all = subst T (sym heads) (subst S (sym bodies) (subst R (sym v) (subst Q (sym u) found))) in
     (all.0, all.1, all.2, all.3, record { answer = subst K (sym heads) keeps; body = all.4 })
@@ -301,7 +301,7 @@ head-cut date (Some x) p q m f why h e t ends =
     let begun : true ≡ nat_lt 0 (length x.bytes) = sym (lt-ltb 0 (length x.bytes) (head-some x.bytes (message_of m) h.0 h.1)) in
     ((Ends (cut_answer x.stop), inr (inr (message_of m, h.0, f, h.1, e, cut, refl)), (cut-unanswered x.stop, refl)), inl (inr (message_of m, h.0, f, h.1, e, cut), ends (record { bytes = h.0; stop = x.stop }) h.2 ∙ ap (cut_end x.stop) begun))
   where
-    head-some : (bytes : List ℕ) (m : Texted) (after : List ℕ) → HeadText bytes m after → 0 < length bytes
+    head-some : (bytes : List ℕ) (m : Texted) (after : List ℕ) → BeginsWithRequestHead bytes m after → 0 < length bytes
     head-some bytes m after t = let P : List ℕ → Type 0 = λ x. 0 < length x in let line = t.2.1 in subst P (sym line.joins) (line-some t.2.0 t.0)
 
 -- the reason at the place where a source that was cut stood
@@ -338,7 +338,7 @@ begun-is o f e some = let P : Option Feed → Type 0 = λ x. HasByte x in sym (l
 pub head-end : (s : Standing) (date : HttpDate) (o p q : Option Feed) (why : EndOfRequests) → IsBeforeHead s → ReadsHead at.Head date o p (Ok (read.Ended why)) → ReadsHead s date o q (Ok (read.Ended (end_at s why)))
 head-end s date None p q why here h = tt
 head-end at.Head date (Some f) p q why here h = h
-head-end at.Lost date (Some f) p q why here h = (h.0, refl)
+head-end at.Abandoned date (Some f) p q why here h = (h.0, refl)
 head-end (at.Broken kind) date (Some f) p q why here h = (h.0, refl)
 head-end at.Body date (Some f) p q why here h = elim here [ ]
 head-end at.Last date (Some f) p q why here h = elim here [ ]

@@ -12,7 +12,7 @@ use Rattle.tiny_http_wire.specs.declared.chunked.Next.TheVariants.{Line, Data, O
 use Rattle.tiny_http_wire.specs.Device.{Feed, ending, prepend, fault_of}
 use Rattle.tiny_http_wire.specs.Bytes.{crlf}
 use Rattle.tiny_http_wire.specs.Chunks.{WholeChunks, CutChunks, CloseFault}
-use Rattle.tiny_http_wire.specs.ChunkReading.{Decoded, after_data, decoded, with_data, closed, data_at, broken}
+use Rattle.tiny_http_wire.specs.ChunkReading.{Decoded, after_data, decoded, prepend_decoded, chunk_closed, data_at, broken}
 use Rattle.tiny_http_wire.specs.Decoding.{Coming, body_at, decoded_from, rest_at, coming_of, decoding_coming}
 use Rattle.tiny_http_wire.proofs.ChunkLemmas.{decoded-is, close-is}
 use Rattle.tiny_http_message.specs.declared.body.Body.{Body}
@@ -22,7 +22,7 @@ use Rattle.tiny_http_message.specs.declared.framing.Form.TheVariants.{Counted, C
 use Rattle.tiny_http_message.specs.Pipeline.{Place, BodyAt}
 use Rattle.tiny_http_message.specs.HeadReads.{place_feed}
 use Rattle.tiny_http_message.specs.Body.{Remaining, remaining, counted_left, chunks_left, coming_left, is_streaming, Fits}
-use Rattle.tiny_http_message.specs.BodyLeft.{breaking, InChunk, LeftAt}
+use Rattle.tiny_http_message.specs.BodyLeft.{breaking, WithinChunk, LeftAt}
 use Rattle.tiny_http_message.proofs.HeadServing.{left-counted}
 
 -- a chunked body from here on
@@ -65,7 +65,7 @@ left-data n size x = by (nat_lt (length x.bytes) size) refl
     split : x.bytes ≡ take size x.bytes ++ drop size x.bytes
     split = sym (take-append-drop size x.bytes)
 
-    by-close : size ≤ length x.bytes → (r : Result (List ℕ) ErrorKind) → MatchResult r (λ rest. drop size x.bytes ≡ crlf ++ rest) (λ kind. CloseFault (drop size x.bytes) x.stop kind) → L (closed (body_at x.stop) (take size x.bytes) r)
+    by-close : size ≤ length x.bytes → (r : Result (List ℕ) ErrorKind) → MatchResult r (λ rest. drop size x.bytes ≡ crlf ++ rest) (λ kind. CloseFault (drop size x.bytes) x.stop kind) → L (chunk_closed (body_at x.stop) (take size x.bytes) r)
     by-close le (Err kind) h =
         record {
           content = breaking (take size x.bytes) kind;
@@ -96,7 +96,7 @@ left-next n (Broken kind) x = record { content = breaking [] kind; next = None; 
 -- what is left of a body that is read from the input
 pub left-of : (b : Body) (form : Form) (n given : ℕ) (told : Bool) (x : Feed) (left : Remaining) → Fits b form n given told → is_streaming b ≡ true → remaining b (Some x) ≡ Some left → LeftFrom form (n - given) x left
 left-of (body.Over stop) form n given told x left fits streams e = cc
-left-of (body.Held bytes) form n given told x left fits streams e = cc
+left-of (body.WithHead bytes) form n given told x left fits streams e = cc
 left-of (body.Counted count) form n given told x left fits streams e =
     let k = left-counted count x in
     let F : Form → Type 0 = λ f. LeftFrom f (n - given) x left in

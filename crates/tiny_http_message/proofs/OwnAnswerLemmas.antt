@@ -11,7 +11,7 @@ use Rattle.tiny_http_wire.specs.declared.common.HTTPVersion.{HTTPVersion}
 use Rattle.tiny_http_wire.specs.declared.coding.FramingHeader.TheVariants.{ContentLength}
 use Rattle.tiny_http_wire.specs.Common.{reason_phrase}
 use Rattle.tiny_http_wire.specs.Device.{Sink, Failed, ending}
-use Rattle.tiny_http_wire.specs.Answer.{Answer, answer_with, Ending, Whole, Broken, PrintsAnswer, text_of, unless, identity_body, is_withheld, head, status_line, field_line, upgrade_lines, server_line, date_line, framing_line}
+use Rattle.tiny_http_wire.specs.Answer.{Answer, answer_with, Ending, Whole, Broken, PrintsAnswer, text_of, body_unless_withheld, identity_body, is_withheld, answer_head_text, status_line, field_line, upgrade_lines, server_line, date_line, framing_line}
 use Rattle.tiny_http_wire.specs.declared.common.Header.{Header}
 use Rattle.tiny_http_message.specs.OwnAnswer.{own_text, own_text_by, own_printing, own_printing_to}
 
@@ -19,14 +19,14 @@ use Rattle.tiny_http_message.specs.OwnAnswer.{own_text, own_text_by, own_printin
 pub own-whole : (status : ℕ) (v : HTTPVersion) (withheld : Bool) (date : HttpDate) → (text_of (answer_with status [] 0) (ending []) (own_printing v withheld date)).ending ≡ Whole
 unfolding text_of
 own-whole status v withheld date =
-    elim (is_withheld withheld status) as (λ t. (unless t (identity_body 0 (ending []))).ending ≡ Whole) [ true ↦ refl | false ↦ refl ]
+    elim (is_withheld withheld status) as (λ t. (body_unless_withheld t (identity_body 0 (ending []))).ending ≡ Whole) [ true ↦ refl | false ↦ refl ]
 
 pieces : (x y t : List ℕ) → length x ≤ 3 → length y ≤ 3 → length t ≡ 29
     → length ((codes "HTTP/" ++ (x ++ codes "." ++ y) ++ codes " " ++ codes "500" ++ codes " " ++ codes "Internal Server Error" ++ codes "\r\n") ++ [] ++ codes "Server: tiny-http (Rust)\r\n" ++ (codes "Date" ++ codes ": " ++ t ++ codes "\r\n") ++ [] ++ codes "Content-Length: 0\r\n" ++ codes "\r\n") < 128
 pieces x y t a b e = simp length-append (omega (arith, a, b, e))
 
-head-length : (v : HTTPVersion) (d : HttpDate) → v.0 < 256 → v.1 < 256 → length (date_text d) ≡ 29 → length (head v 500 None [] d (ContentLength 0)) < 128
-unfolding digits head status_line field_line upgrade_lines server_line date_line framing_line reason_phrase
+head-length : (v : HTTPVersion) (d : HttpDate) → v.0 < 256 → v.1 < 256 → length (date_text d) ≡ 29 → length (answer_head_text v 500 None [] d (ContentLength 0)) < 128
+unfolding digits answer_head_text status_line field_line upgrade_lines server_line date_line framing_line reason_phrase
 head-length v d a b e =
     let x : length (decimal v.0) ≤ 3 = length-decimal-le 3 v.0 (omega arith) (omega arith) (omega arith) in
     let y : length (decimal v.1) ≤ 3 = length-decimal-le 3 v.1 (omega arith) (omega arith) (omega arith) in
@@ -36,7 +36,7 @@ pub own-length : (v : HTTPVersion) (withheld : Bool) (d : HttpDate) → v.0 < 25
 unfolding text_of
 own-length v withheld d a b e =
     let h = head-length v d a b e in
-    elim (is_withheld withheld 500) as (λ t. length (head v 500 None [] d (ContentLength 0) ++ (unless t (identity_body 0 (ending []))).bytes) < 128) [ true ↦ simp length-append (omega (arith, h)) | false ↦ simp length-append (omega (arith, h)) ]
+    elim (is_withheld withheld 500) as (λ t. length (answer_head_text v 500 None [] d (ContentLength 0) ++ (body_unless_withheld t (identity_body 0 (ending []))).bytes) < 128) [ true ↦ simp length-append (omega (arith, h)) | false ↦ simp length-append (omega (arith, h)) ]
 
 whole-broken : (t : Ending) (kind : ErrorKind) → t ≡ Whole → t ≡ Broken kind → ⊥
 whole-broken Whole kind h k = cc

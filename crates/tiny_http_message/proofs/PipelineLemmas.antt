@@ -7,56 +7,56 @@ use Rattle.std.specs.declared.io.ErrorKind.{ErrorKind}
 use Rattle.tiny_http_wire.specs.declared.device.Stop.{Stop}
 use Rattle.tiny_http_wire.specs.declared.device.Stop.TheVariants.{End, Fault as Faults}
 use Rattle.tiny_http_wire.specs.Device.{Feed, ending}
-use Rattle.tiny_http_wire.specs.Heads.{Message, HeadText, is_too_new}
+use Rattle.tiny_http_wire.specs.Heads.{Message, BeginsWithRequestHead, is_too_new}
 use Rattle.tiny_http_wire.specs.Chunks.{WholeChunks, CutChunks}
-use Rattle.tiny_http_wire.specs.Reading.{head, HeadRead, Whole, Faulty}
+use Rattle.tiny_http_wire.specs.Reading.{request_head_read, RequestHeadRead, Whole, Faulty}
 use Rattle.tiny_http_wire.specs.ChunkReading.{decoded}
 use Rattle.tiny_http_head.proofs.HeadLemmas.{head-is, HeadIs, head-one, head-fault, line-shorter, fields-fewer}
 use Rattle.tiny_http_wire.proofs.ChunkLemmas.{decoded-is, decoded-one, decoded-front}
 use Rattle.tiny_http_message.specs.declared.framing.Form.{Form}
-use Rattle.tiny_http_message.specs.declared.framing.Form.TheVariants.{Rest, Nothing, Held, Counted, Chunked}
+use Rattle.tiny_http_message.specs.declared.framing.Form.TheVariants.{Rest, Nothing, WithHead, Counted, Chunked}
 use Rattle.tiny_http_message.specs.declared.framing.Framing.{Framing}
 use Rattle.tiny_http_message.specs.Framing.{framing, is_built}
-use Rattle.tiny_http_message.specs.Pipeline.{Item, Place, Heading, Ends, Heads, HeadAt, IsCutHeld, cut_answer, said_length, served, served_answer, BodyAt, SizedBody, FoundAt, OneHead, item_of, goes_on, ends_too_new, Pipeline}
-use Rattle.tiny_http_message.specs.PipelineReading.{BodyRead, chunked_read, sized_read, body_read, is_cut_held, framed, heading, heading_of, items_at, items_from, items_of}
+use Rattle.tiny_http_message.specs.Pipeline.{Item, Place, Heading, Ends, Heads, HeadAt, IsCutWithHead, cut_answer, body_length_or_0, served, served_answer, BodyAt, SizedBody, FoundAt, OneHead, item_of, goes_on, ends_too_new, Pipeline}
+use Rattle.tiny_http_message.specs.PipelineReading.{BodyRead, chunked_read, sized_read, body_read, is_cut_with_head, framed, heading, heading_of, items_at, items_from, items_of}
 
-cut-held : (form : Form) (n : ℕ) (after : List ℕ) → is_cut_held form n after ≡ true → IsCutHeld form n after
-cut-held Held n after c = ltb-true (length after) n c
+cut-held : (form : Form) (n : ℕ) (after : List ℕ) → is_cut_with_head form n after ≡ true → IsCutWithHead form n after
+cut-held WithHead n after c = ltb-true (length after) n c
 cut-held Nothing n after c = cc
 cut-held Counted n after c = cc
 cut-held Rest n after c = cc
 cut-held Chunked n after c = cc
 
-held-cut : (form : Form) (n : ℕ) (after : List ℕ) → IsCutHeld form n after → is_cut_held form n after ≡ true
-held-cut Held n after c = lt-ltb (length after) n c
+held-cut : (form : Form) (n : ℕ) (after : List ℕ) → IsCutWithHead form n after → is_cut_with_head form n after ≡ true
+held-cut WithHead n after c = lt-ltb (length after) n c
 held-cut Nothing n after c = elim c [ ]
 held-cut Counted n after c = elim c [ ]
 held-cut Rest n after c = elim c [ ]
 held-cut Chunked n after c = elim c [ ]
 
-not-cut : (form : Form) (n : ℕ) (after : List ℕ) → is_cut_held form n after ≡ false → IsCutHeld form n after → ⊥
+not-cut : (form : Form) (n : ℕ) (after : List ℕ) → is_cut_with_head form n after ≡ false → IsCutWithHead form n after → ⊥
 not-cut form n after c h = let e : true ≡ false = sym (held-cut form n after h) ∙ c in cc
 
-cut-not : (form : Form) (n : ℕ) (after : List ℕ) → (t : Bool) → is_cut_held form n after ≡ t → (IsCutHeld form n after → ⊥) → t ≡ false
+cut-not : (form : Form) (n : ℕ) (after : List ℕ) → (t : Bool) → is_cut_with_head form n after ≡ t → (IsCutWithHead form n after → ⊥) → t ≡ false
 cut-not form n after true e h = absurd (h (cut-held form n after e))
 cut-not form n after false e h = refl
 
-cut-step : (m : Message) (after : List ℕ) (stop : Stop) (bytes : List ℕ) (f : Framing) → HeadText bytes m after → framing m.version m.headers ≡ Some f → (t : Bool) → is_cut_held f.form (said_length f) after ≡ t
+cut-step : (m : Message) (after : List ℕ) (stop : Stop) (bytes : List ℕ) (f : Framing) → BeginsWithRequestHead bytes m after → framing m.version m.headers ≡ Some f → (t : Bool) → is_cut_with_head f.form (body_length_or_0 f) after ≡ t
     → HeadAt bytes stop (if t then Ends (cut_answer stop) else Heads m f after)
-cut-step m after stop bytes f h e true c = inr (inr (m, after, f, h, e, cut-held f.form (said_length f) after c, refl))
-cut-step m after stop bytes f h e false c = (h, e, not-cut f.form (said_length f) after c)
+cut-step m after stop bytes f h e true c = inr (inr (m, after, f, h, e, cut-held f.form (body_length_or_0 f) after c, refl))
+cut-step m after stop bytes f h e false c = (h, e, not-cut f.form (body_length_or_0 f) after c)
 
-framed-is : (m : Message) (after : List ℕ) (stop : Stop) (bytes : List ℕ) → HeadText bytes m after → (o : Option Framing) → framing m.version m.headers ≡ o → HeadAt bytes stop (framed m after stop o)
+framed-is : (m : Message) (after : List ℕ) (stop : Stop) (bytes : List ℕ) → BeginsWithRequestHead bytes m after → (o : Option Framing) → framing m.version m.headers ≡ o → HeadAt bytes stop (framed m after stop o)
 framed-is m after stop bytes h None e = inr (inl (m, after, h, e, refl))
-framed-is m after stop bytes h (Some f) e = cut-step m after stop bytes f h e (is_cut_held f.form (said_length f) after) refl
+framed-is m after stop bytes h (Some f) e = cut-step m after stop bytes f h e (is_cut_with_head f.form (body_length_or_0 f) after) refl
 
-read-is : (bytes : List ℕ) (stop : Stop) (r : HeadRead) → HeadIs bytes r → HeadAt bytes stop (heading stop r)
+read-is : (bytes : List ℕ) (stop : Stop) (r : RequestHeadRead) → HeadIs bytes r → HeadAt bytes stop (heading stop r)
 read-is bytes stop (Faulty v fault) h = inl (v, fault, h, refl)
 read-is bytes stop (Whole m after) h = framed-is m after stop bytes h (framing m.version m.headers) refl
 
 -- each bytes have a heading
 pub heading-is : (bytes : List ℕ) (stop : Stop) → HeadAt bytes stop (heading_of stop bytes)
-heading-is bytes stop = read-is bytes stop (head bytes) (head-is bytes)
+heading-is bytes stop = read-is bytes stop (request_head_read bytes) (head-is bytes)
 
 -- and one
 pub heading-one : (bytes : List ℕ) (stop : Stop) (h : Heading) → HeadAt bytes stop h → heading_of stop bytes ≡ h
@@ -64,10 +64,10 @@ heading-one bytes stop (Ends answer) h =
     ⊎_elim (λ k. rw (head-fault bytes k.0 k.1 k.2) (ap Ends (sym k.3)))
     (⊎_elim
     (λ k. rw (head-one bytes k.0 k.1 k.2, k.3) (ap Ends (sym k.4)))
-    (λ k. rw (head-one bytes k.0 k.1 k.3, k.4, held-cut k.2.form (said_length k.2) k.1 k.5) (ap Ends (sym k.6))))
+    (λ k. rw (head-one bytes k.0 k.1 k.3, k.4, held-cut k.2.form (body_length_or_0 k.2) k.1 k.5) (ap Ends (sym k.6))))
     h
 heading-one bytes stop (Heads m f after) h =
-    rw (head-one bytes m after h.0, h.1, cut-not f.form (said_length f) after (is_cut_held f.form (said_length f) after) refl h.2) refl
+    rw (head-one bytes m after h.0, h.1, cut-not f.form (body_length_or_0 f) after (is_cut_with_head f.form (body_length_or_0 f) after) refl h.2) refl
 
 chunked-is : (n : ℕ) (after : List ℕ) (stop : Stop) (body : List ℕ) (e : Result (List ℕ) ErrorKind) → MatchResult e (λ rest. WholeChunks after body rest) (λ kind. CutChunks after stop body kind)
     → BodyAt Chunked n after stop (chunked_read (record { body = body; ends = e })).body (chunked_read (record { body = body; ends = e })).next
@@ -82,13 +82,13 @@ sized-is n after stop false e = let k = ltb-false (length after) n e in inl (dro
 
 held-is : (n : ℕ) (after : List ℕ) (stop : Stop) (t : Bool) → nat_lt (length after) n ≡ t → (length after < n → ⊥)
     → (let r : BodyRead = (if t then record { body = record { bytes = after; stop = stop }; next = None } else record { body = ending (take n after); next = Some (drop n after) }) in
-    BodyAt Held n after stop r.body r.next)
+    BodyAt WithHead n after stop r.body r.next)
 held-is n after stop true e h = absurd (h (ltb-true (length after) n e))
 held-is n after stop false e h = let k = ltb-false (length after) n e in (drop n after, grind (arith, common_steps), grind (arith, common_steps), refl, refl)
 
-body-is : (form : Form) (n : ℕ) (after : List ℕ) (stop : Stop) → (IsCutHeld form n after → ⊥) → BodyAt form n after stop (body_read form n after stop).body (body_read form n after stop).next
+body-is : (form : Form) (n : ℕ) (after : List ℕ) (stop : Stop) → (IsCutWithHead form n after → ⊥) → BodyAt form n after stop (body_read form n after stop).body (body_read form n after stop).next
 body-is Nothing n after stop h = (refl, refl)
-body-is Held n after stop h = held-is n after stop (nat_lt (length after) n) refl h
+body-is WithHead n after stop h = held-is n after stop (nat_lt (length after) n) refl h
 body-is Counted n after stop h = sized-is n after stop (nat_lt (length after) n) refl
 body-is Rest n after stop h = (refl, refl)
 body-is Chunked n after stop h = chunked-is n after stop (decoded (length after + 1) stop after).body (decoded (length after + 1) stop after).ends (decoded-is (length after + 1) after stop (omega arith))
@@ -113,7 +113,7 @@ sized-one n after stop body next h =
 
 body-one : (form : Form) (n : ℕ) (after : List ℕ) (stop : Stop) (body : Feed) (next : Place) → BodyAt form n after stop body next → body_read form n after stop ≡ record { body = body; next = next }
 body-one Nothing n after stop body next h = read-eq body next _ _ (sym h.0) (sym h.1)
-body-one Held n after stop body next h = sized-one n after stop body next h
+body-one WithHead n after stop body next h = sized-one n after stop body next h
 body-one Counted n after stop body next h =
     ⊎_elim (λ k. sized-one n after stop body next k) (λ k. rw (lt-ltb (length after) n k.0) (read-eq body next _ _ (sym k.1) (sym k.2))) h
 body-one Rest n after stop body next h = read-eq body next _ _ (sym h.0) (sym h.1)
@@ -130,7 +130,7 @@ Found = Option Item × Place
 abbrev found_in : Stop → Heading → Found
 found_in stop (Ends answer) = (answer, None)
 found_in stop (Heads m f after) =
-    let b = body_read f.form (said_length f) after stop in (Some (item_of m f b.body), goes_on m f b.next)
+    let b = body_read f.form (body_length_or_0 f) after stop in (Some (item_of m f b.body), goes_on m f b.next)
 
 abbrev found : Stop → List ℕ → Found
 found stop bytes = found_in stop (served (heading_of stop bytes))
@@ -141,7 +141,7 @@ pair-eq a b p q e f = let g : Option Item → Place → Found = λ x y. (x, y) i
 found-one : (stop : Stop) (h : Heading) (item : Option Item) (next : Place) → FoundAt stop h item next → found_in stop h ≡ (item, next)
 found-one stop (Ends answer) item next k = pair-eq answer item None next (sym k.0) (sym k.1)
 found-one stop (Heads m f after) item next k =
-    rw (body-one f.form (said_length f) after stop k.0 k.1 k.2) (pair-eq _ _ _ _ (sym k.3) (sym k.4))
+    rw (body-one f.form (body_length_or_0 f) after stop k.0 k.1 k.2) (pair-eq _ _ _ _ (sym k.3) (sym k.4))
 
 -- one head has one item and one place behind it
 one-head-one : (bytes : List ℕ) (stop : Stop) (item : Option Item) (next : Place) → OneHead bytes stop item next → found stop bytes ≡ (item, next)
@@ -200,7 +200,7 @@ place_len (Some bytes) = length bytes
 
 body-shorter : (form : Form) (n : ℕ) (after : List ℕ) (stop : Stop) (body : Feed) (next : Place) → BodyAt form n after stop body next → place_len next ≤ length after
 body-shorter Nothing n after stop body next h = rw h.1 (omega arith)
-body-shorter Held n after stop body next h = sized-shorter n after body next h
+body-shorter WithHead n after stop body next h = sized-shorter n after body next h
   where
     sized-shorter : (n : ℕ) (after : List ℕ) (body : Feed) (next : Place) → SizedBody n after body next → place_len next ≤ length after
     sized-shorter n after body next h = rw (h.4, h.1) (simp length-append (omega arith))
@@ -218,7 +218,7 @@ goes-shorter m f next = chosen (if is_too_new m.version then ends_too_new f.form
     chosen true next = omega arith
     chosen false next = omega arith
 
-head-shorter : (bytes : List ℕ) (m : Message) (after : List ℕ) → HeadText bytes m after → length after < length bytes
+head-shorter : (bytes : List ℕ) (m : Message) (after : List ℕ) → BeginsWithRequestHead bytes m after → length after < length bytes
 head-shorter bytes m after h =
     let s = line-shorter bytes h.2.0 h.0 h.2.1 in
     let f = fields-fewer h.0 h.1 m.headers h.3 in
@@ -237,9 +237,9 @@ heads-is fuel stop bytes go m f after h false b =
     let same : Ends None ≡ served (Heads m f after) = rw b refl in
     (Heads m f after, h, subst P same (refl, refl))
 heads-is fuel stop bytes go m f after h true b =
-    let r = body_read f.form (said_length f) after stop in
-    let k = body-is f.form (said_length f) after stop h.2 in
-    let n = body-shorter f.form (said_length f) after stop r.body r.next k in
+    let r = body_read f.form (body_length_or_0 f) after stop in
+    let k = body-is f.form (body_length_or_0 f) after stop h.2 in
+    let n = body-shorter f.form (body_length_or_0 f) after stop r.body r.next k in
     let g = goes-shorter m f r.next in
     let s = head-shorter bytes m after h.0 in
     let same : Heads m f after ≡ served (Heads m f after) = rw b refl in

@@ -8,14 +8,14 @@ use Rattle.tiny_http_wire.specs.Cursor.{cursor_bytes}
 use Rattle.tiny_http_wire.specs.Device.{Feed, ending, prepend}
 use Rattle.tiny_http_wire.specs.Decoding.{Coming, decoding_coming}
 use Rattle.tiny_http_message.specs.declared.body.Body.{Body}
-use Rattle.tiny_http_message.specs.declared.body.Body.TheVariants.{Over, Held, Counted, Chunked}
+use Rattle.tiny_http_message.specs.declared.body.Body.TheVariants.{Over, WithHead, Counted, Chunked}
 use Rattle.tiny_http_message.specs.declared.framing.Form.{Form}
 use Rattle.tiny_http_message.specs.declared.framing.Form.TheVariants as form
 use Rattle.tiny_http_stream.specs.ToCome.{skipped, stopped}
-use Rattle.tiny_http_stream.specs.Parts.{first_part}
+use Rattle.tiny_http_stream.specs.Parts.{feed_front}
 use Rattle.tiny_http_stream.specs.Source.{SourceState, IsAtEnd}
 use Rattle.tiny_http_stream.specs.declared.source.Standing.{Standing}
-use Rattle.tiny_http_stream.specs.Standing.{after_body, after_fault, after_loss}
+use Rattle.tiny_http_stream.specs.Standing.{after_body, after_fault, after_abandoned}
 
 -- What is still to come of a body, and the feed behind it; a feed without a byte, where no head follows.
 pub record Remaining : Type 0 where
@@ -33,7 +33,7 @@ coming_left c = chunks_left c.bytes c.behind
 
 -- so many bytes of the input; where there are fewer no head follows
 abbrev pub counted_left : ℕ → Feed → Remaining
-counted_left n feed = record { body = first_part n feed; behind = skipped n feed }
+counted_left n feed = record { body = feed_front n feed; behind = skipped n feed }
 
 -- the input stands behind the body already
 abbrev pub taken_left : Feed → Feed → Remaining
@@ -42,16 +42,16 @@ taken_left body feed = record { body = body; behind = feed }
 -- what is still to come of the body, where the input still gives this
 abbrev pub remaining : Body → Option Feed → Option Remaining
 remaining (Over stop) feed = option_map (taken_left (stopped stop)) feed
-remaining (Held bytes) feed = option_map (taken_left (ending (cursor_bytes bytes))) feed
+remaining (WithHead bytes) feed = option_map (taken_left (ending (cursor_bytes bytes))) feed
 remaining (Counted n) feed = option_map (counted_left n) feed
 remaining (Chunked decoding) feed = option_map coming_left (decoding_coming decoding feed)
 
 -- these bytes of the body, and then what remains
-abbrev pub after_bytes : List ℕ → Remaining → Remaining
-after_bytes bs r = record { body = prepend bs r.body; behind = r.behind }
+abbrev pub prepend_body : List ℕ → Remaining → Remaining
+prepend_body bs r = record { body = prepend bs r.body; behind = r.behind }
 
-abbrev pub with_bytes : List ℕ → Option Remaining → Option Remaining
-with_bytes bs r = option_map (after_bytes bs) r
+abbrev pub prepended_body : List ℕ → Option Remaining → Option Remaining
+prepended_body bs r = option_map (prepend_body bs) r
 
 -- no byte of the body is left, and this is how it stops
 abbrev pub BodyStops : Stop → Option Remaining → Type 0
@@ -66,24 +66,24 @@ NoneLeft (Some r) = r.body.bytes ≡ []
 -- the body is read from the input
 abbrev pub is_streaming : Body → Bool
 is_streaming (Over stop) = false
-is_streaming (Held bytes) = false
+is_streaming (WithHead bytes) = false
 is_streaming (Counted n) = true
 is_streaming (Chunked decoding) = true
 
 -- what is told from now on, where that is kept
 abbrev pub body_stop : Body → Option Stop
 body_stop (Over stop) = Some stop
-body_stop (Held bytes) = None
+body_stop (WithHead bytes) = None
 body_stop (Counted n) = None
 body_stop (Chunked decoding) = None
 
-abbrev pub IsOver : Body → Type 0
-IsOver (Over stop) = ⊤
-IsOver _ = ⊥
+abbrev pub IsBodyOver : Body → Type 0
+IsBodyOver (Over stop) = ⊤
+IsBodyOver _ = ⊥
 
-abbrev pub IsHeld : Body → Type 0
-IsHeld (Held bytes) = ⊤
-IsHeld _ = ⊥
+abbrev pub IsWithHead : Body → Type 0
+IsWithHead (WithHead bytes) = ⊤
+IsWithHead _ = ⊥
 
 abbrev pub IsChunked : Body → Type 0
 IsChunked (Chunked decoding) = ⊤
@@ -93,14 +93,14 @@ IsChunked _ = ⊥
 -- one once its end or fault was told.
 abbrev pub ReadsOn : Body → ℕ → Bool → Body → Type 0
 ReadsOn (Over stop) n told new = (new ≡ Over stop) × (n ≡ 0)
-ReadsOn (Held bytes) n told new = IsHeld new
-ReadsOn (Counted left) n told new = MatchBool (told || n == left) (IsOver new) ((new ≡ Counted (left - n)) × (n < left))
-ReadsOn (Chunked decoding) n told new = MatchBool told (IsOver new) (IsChunked new)
+ReadsOn (WithHead bytes) n told new = IsWithHead new
+ReadsOn (Counted left) n told new = MatchBool (told || n == left) (IsBodyOver new) ((new ≡ Counted (left - n)) × (n < left))
+ReadsOn (Chunked decoding) n told new = MatchBool told (IsBodyOver new) (IsChunked new)
 
 -- the body is finished: it is nothing or held, or all its bytes were given out, or its end or fault was told
 abbrev pub body_finished : Form → ℕ → ℕ → Bool → Bool
 body_finished form.Nothing n given told = true
-body_finished form.Held n given told = true
+body_finished form.WithHead n given told = true
 body_finished form.Counted n given told = given == n || told
 body_finished form.Chunked n given told = told
 body_finished form.Rest n given told = told
@@ -108,14 +108,14 @@ body_finished form.Rest n given told = told
 -- what was read of the body fits its form and length
 abbrev pub Fits : Body → Form → ℕ → ℕ → Bool → Type 0
 Fits (Over stop) shape n given told = body_finished shape n given told ≡ true
-Fits (Held bytes) shape n given told = shape ≡ form.Held
+Fits (WithHead bytes) shape n given told = shape ≡ form.WithHead
 Fits (Counted left) shape n given told = (shape ≡ form.Counted) × (given + left ≡ n) × (0 < left) × (told ≡ false)
 Fits (Chunked decoding) shape n given told = (shape ≡ form.Chunked) × (told ≡ false)
 
 -- A buffer was filled from the body: with all its bytes; or with fewer, and none is left; or a fault came before any byte.
 abbrev pub FillsFromBody : Body → Option Feed → Body → Option Feed → Result ℕ ErrorKind → List ℕ → Type 0
 FillsFromBody old from new to (Ok n) buf =
-    (remaining old from ≡ with_bytes (take n buf) (remaining new to)) × (0 < length buf → ReadsOn old n (nat_lt n (length buf)) new)
+    (remaining old from ≡ prepended_body (take n buf) (remaining new to)) × (0 < length buf → ReadsOn old n (nat_lt n (length buf)) new)
     × (n < length buf → NoneLeft (remaining new to)) × (n ≡ 0 → 0 < length buf → BodyStops End (remaining old from))
 FillsFromBody old from new to (Err kind) buf =
     (remaining new to ≡ remaining old from) × ReadsOn old 0 true new × BodyStops (Fault kind) (remaining old from)
@@ -124,7 +124,7 @@ FillsFromBody old from new to (Err kind) buf =
 abbrev pub body_standing : Body → Standing → Standing
 body_standing (Over End) standing = after_body standing
 body_standing (Over (Fault kind)) standing = after_fault kind standing
-body_standing (Held bytes) standing = after_body standing
+body_standing (WithHead bytes) standing = after_body standing
 body_standing (Counted n) standing = standing
 body_standing (Chunked decoding) standing = standing
 
@@ -132,9 +132,9 @@ body_standing (Chunked decoding) standing = standing
 -- follows; else nothing changes.
 abbrev pub GivesUp : {R : Type 0} → Body → SourceState R → SourceState R → Type 0
 GivesUp (Over stop) old new = new ≡ old
-GivesUp (Held bytes) old new = new ≡ old
+GivesUp (WithHead bytes) old new = new ≡ old
 GivesUp (Counted left) old new =
     (new.feed ≡ option_map (skipped left) old.feed) × (new.standing ≡ after_body old.standing)
     × (old.skip + left < 2 ^ 64 → (new.reader ≡ old.reader) × (new.stop ≡ old.stop))
 GivesUp (Chunked decoding) old new =
-    (new.feed ≡ option_map (λ _. stopped End) old.feed) × IsAtEnd new × (new.standing ≡ after_loss old.standing) × (new.reader ≡ old.reader)
+    (new.feed ≡ option_map (λ _. stopped End) old.feed) × IsAtEnd new × (new.standing ≡ after_abandoned old.standing) × (new.reader ≡ old.reader)

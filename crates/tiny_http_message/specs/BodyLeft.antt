@@ -7,7 +7,7 @@ use Rattle.tiny_http_wire.specs.Device.{Feed, ending, prepend, fault_of}
 use Rattle.tiny_http_wire.specs.Bytes.{crlf}
 use Rattle.tiny_http_wire.specs.Chunks.{CloseFault}
 use Rattle.tiny_http_message.specs.declared.framing.Form.{Form}
-use Rattle.tiny_http_message.specs.declared.framing.Form.TheVariants.{Rest, Nothing, Held, Counted, Chunked}
+use Rattle.tiny_http_message.specs.declared.framing.Form.TheVariants.{Rest, Nothing, WithHead, Counted, Chunked}
 use Rattle.tiny_http_message.specs.Pipeline.{Place, BodyAt}
 
 -- a body that breaks off after these bytes
@@ -15,8 +15,8 @@ abbrev pub breaking : List ℕ → ErrorKind → Feed
 breaking bytes kind = record { bytes = bytes; stop = Faults kind }
 
 -- Within a chunk, so many bytes of its data are left: they, CR LF and a chunked body; or they, and no CR LF; or fewer.
-abbrev pub InChunk : ℕ → List ℕ → Stop → Feed → Place → Type 0
-InChunk left bytes stop body next =
+abbrev pub WithinChunk : ℕ → List ℕ → Stop → Feed → Place → Type 0
+WithinChunk left bytes stop body next =
     ((part : List ℕ) × (after : List ℕ) × (more : Feed) × (bytes ≡ part ++ (crlf ++ after)) × (length part ≡ left) × BodyAt Chunked left after stop more next × (body ≡ prepend part more))
     ⊎ (((part : List ℕ) × (close : List ℕ) × (kind : ErrorKind) × (bytes ≡ part ++ close) × (length part ≡ left) × CloseFault close stop kind × (body ≡ breaking part kind) × (next ≡ None))
     ⊎ ((length bytes < left) × (body ≡ breaking bytes (fault_of stop)) × (next ≡ None)))
@@ -29,8 +29,8 @@ IsMet bytes body next = ((body ≡ ending []) × (next ≡ Some bytes)) ⊎ ((ki
 -- a chunked body; or a chunked body; or nothing. Of another: a body of its form.
 abbrev pub LeftAt : Form → ℕ → List ℕ → Stop → Feed → Place → Type 0
 LeftAt Chunked n bytes stop body next =
-    BodyAt Chunked n bytes stop body next ⊎ (((left : ℕ) × InChunk left bytes stop body next) ⊎ IsMet bytes body next)
+    BodyAt Chunked n bytes stop body next ⊎ (((left : ℕ) × WithinChunk left bytes stop body next) ⊎ IsMet bytes body next)
 LeftAt Nothing n bytes stop body next = BodyAt Nothing n bytes stop body next
-LeftAt Held n bytes stop body next = BodyAt Held n bytes stop body next
+LeftAt WithHead n bytes stop body next = BodyAt WithHead n bytes stop body next
 LeftAt Counted n bytes stop body next = BodyAt Counted n bytes stop body next
 LeftAt Rest n bytes stop body next = BodyAt Rest n bytes stop body next

@@ -6,7 +6,7 @@ use Rattle.tiny_http_wire.specs.Common.{same_name, lowercase}
 use Rattle.tiny_http_wire.specs.Bytes.{contains_word}
 use Rattle.tiny_http_wire.specs.Heads.{is_too_new, length_in}
 use Rattle.tiny_http_message.specs.declared.framing.Form.{Form}
-use Rattle.tiny_http_message.specs.declared.framing.Form.TheVariants.{Rest, Nothing, Held, Counted, Chunked}
+use Rattle.tiny_http_message.specs.declared.framing.Form.TheVariants.{Rest, Nothing, WithHead, Counted, Chunked}
 use Rattle.tiny_http_message.specs.declared.framing.Framing.{Framing}
 
 -- the value of the first header of that name
@@ -35,7 +35,7 @@ expectation (Some value) = if same_name value (codes "100-continue") then Some t
 
 abbrev pub sized_form : Bool → Option ℕ → Form
 sized_form owed None = Nothing
-sized_form owed (Some n) = if n == 0 then Nothing else if (nat_le n 1024 && not owed) then Held else Counted
+sized_form owed (Some n) = if n == 0 then Nothing else if (nat_le n 1024 && not owed) then WithHead else Counted
 
 abbrev pub form_by : Bool → Bool → Bool → Option ℕ → Form
 form_by true coded owed n = Rest

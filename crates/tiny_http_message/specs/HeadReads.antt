@@ -11,7 +11,7 @@ use Rattle.tiny_http_wire.specs.declared.device.Stop.TheVariants.{End, Fault}
 use Rattle.tiny_http_wire.specs.Device.{Feed, ending}
 use Rattle.tiny_http_wire.specs.Bytes.{AreAscii}
 use Rattle.tiny_http_wire.specs.Lines.{Line, IsUnfinished}
-use Rattle.tiny_http_wire.specs.Heads.{Message as Texted, Starts, Fields, HeaderLine, FaultyLine, FaultyHead, HeadText, IsRequestLine, IsFieldOrEnd, Cut, NotAscii, Malformed, version}
+use Rattle.tiny_http_wire.specs.Heads.{Message as Texted, BeginsWithRequestLine, BeginsWithHeaderLines, HeaderLine, FaultyLine, FaultyHead, BeginsWithRequestHead, IsRequestLine, IsFieldOrEnd, Cut, NotAscii, Malformed, version}
 use Rattle.tiny_http_message.specs.declared.heads.Message.{Message}
 use Rattle.tiny_http_message.specs.declared.framing.Framing.{Framing}
 use Rattle.tiny_http_message.specs.declared.exchange.Head.{Head}
@@ -29,8 +29,8 @@ use Rattle.tiny_http_message.specs.declared.heads.HeadFault.{HeadFault}
 use Rattle.tiny_http_message.specs.declared.heads.HeadFault.TheVariants as fault
 use Rattle.tiny_http_message.specs.declared.body.Body.{Body}
 use Rattle.tiny_http_message.specs.Framing.{framing, is_built, is_rest}
-use Rattle.tiny_http_stream.specs.Source.{SourceState, from, IsAtEnd}
-use Rattle.tiny_http_message.specs.Pipeline.{Request, Item, Asks, Refuses, BadRequest, Place, IsCutHeld, BodyAt, OneHead, said_length}
+use Rattle.tiny_http_stream.specs.Source.{SourceState, feed_from, IsAtEnd}
+use Rattle.tiny_http_message.specs.Pipeline.{Request, Item, Asks, Refuses, BadRequest, Place, IsCutWithHead, BodyAt, OneHead, body_length_or_0}
 use Rattle.tiny_http_message.specs.OwnAnswer.{own_text}
 use Rattle.tiny_http_message.specs.Body.{Remaining, remaining, Fits}
 use Rattle.tiny_http_message.specs.Exchange.{exchange_head, exchange_left, exchange_streams, KeepsRequest}
@@ -51,7 +51,7 @@ IsBadLine fault.Memory = ⊥
 -- a line of ASCII text
 abbrev pub ReadsText : Option Feed → Option Feed → Result (List ℕ) HeadFault → Type 0
 ReadsText None new r = ⊤
-ReadsText (Some f) new (Ok text) = (rest : List ℕ) × Line f.bytes text rest × AreAscii text × (new ≡ from f rest)
+ReadsText (Some f) new (Ok text) = (rest : List ℕ) × Line f.bytes text rest × AreAscii text × (new ≡ feed_from f rest)
 ReadsText (Some f) new (Err fault.Cut) = IsUnfinished f.bytes
 ReadsText (Some f) new (Err fault.NotAscii) = (text : List ℕ) × (rest : List ℕ) × Line f.bytes text rest × (AreAscii text → ⊥)
 ReadsText (Some f) new (Err fault.Malformed) = ⊥
@@ -67,26 +67,26 @@ IsFaulty IsGood bytes fault.Memory = ⊤
 -- a request line
 abbrev pub ReadsStart : Option Feed → Option Feed → Result (Method × List ℕ × HTTPVersion) HeadFault → Type 0
 ReadsStart None new r = ⊤
-ReadsStart (Some f) new (Ok r) = (rest : List ℕ) × Starts f.bytes r.0 r.1 r.2 rest × (new ≡ from f rest)
+ReadsStart (Some f) new (Ok r) = (rest : List ℕ) × BeginsWithRequestLine f.bytes r.0 r.1 r.2 rest × (new ≡ feed_from f rest)
 ReadsStart (Some f) new (Err e) = IsFaulty IsRequestLine f.bytes e
 
 -- a header line, or the empty line
 abbrev pub ReadsField : Option Feed → Option Feed → Result (Option Header) HeadFault → Type 0
 ReadsField None new r = ⊤
-ReadsField (Some f) new (Ok (Some h)) = (text : List ℕ) × (rest : List ℕ) × Line f.bytes text rest × AreAscii text × HeaderLine text h.field h.value × (new ≡ from f rest)
-ReadsField (Some f) new (Ok None) = (rest : List ℕ) × Line f.bytes [] rest × (new ≡ from f rest)
+ReadsField (Some f) new (Ok (Some h)) = (text : List ℕ) × (rest : List ℕ) × Line f.bytes text rest × AreAscii text × HeaderLine text h.field h.value × (new ≡ feed_from f rest)
+ReadsField (Some f) new (Ok None) = (rest : List ℕ) × Line f.bytes [] rest × (new ≡ feed_from f rest)
 ReadsField (Some f) new (Err e) = IsFaulty IsFieldOrEnd f.bytes e
 
 -- these header lines were read
-abbrev pub ReadFields : Option Feed → Option Feed → List Header → Type 0
-ReadFields None new hs = ⊤
-ReadFields (Some f) new hs = (rest : List ℕ) × Fields f.bytes hs rest × (new ≡ from f rest)
+abbrev pub HasReadFields : Option Feed → Option Feed → List Header → Type 0
+HasReadFields None new hs = ⊤
+HasReadFields (Some f) new hs = (rest : List ℕ) × BeginsWithHeaderLines f.bytes hs rest × (new ≡ feed_from f rest)
 
 -- all header lines and the empty line
 abbrev pub ReadsFields : {T : Type 0} → (T → List Header) → Option Feed → Option Feed → Result T HeadFault → Type 0
 ReadsFields items None new r = ⊤
-ReadsFields items (Some f) new (Ok hs) = (empty : List ℕ) × (rest : List ℕ) × Fields f.bytes (items hs) empty × Line empty [] rest × (new ≡ from f rest)
-ReadsFields items (Some f) new (Err e) = (hs : List Header) × (rest : List ℕ) × Fields f.bytes hs rest × IsFaulty IsFieldOrEnd rest e
+ReadsFields items (Some f) new (Ok hs) = (empty : List ℕ) × (rest : List ℕ) × BeginsWithHeaderLines f.bytes (items hs) empty × Line empty [] rest × (new ≡ feed_from f rest)
+ReadsFields items (Some f) new (Err e) = (hs : List Header) × (rest : List ℕ) × BeginsWithHeaderLines f.bytes hs rest × IsFaulty IsFieldOrEnd rest e
 
 abbrev pub message_of : Message → Texted
 message_of m = record { method = m.method; path = m.path; version = m.version; headers = m.headers.items }
@@ -112,12 +112,12 @@ IsFaultyHead bytes v fault.Memory = ⊤
 -- a whole head, or its first faulty line
 abbrev pub ReadsMessage : Option Feed → Option Feed → Result Message (Option HTTPVersion × HeadFault) → Type 0
 ReadsMessage None new r = ⊤
-ReadsMessage (Some f) new (Ok m) = (rest : List ℕ) × HeadText f.bytes (message_of m) rest × (new ≡ from f rest)
+ReadsMessage (Some f) new (Ok m) = (rest : List ℕ) × BeginsWithRequestHead f.bytes (message_of m) rest × (new ≡ feed_from f rest)
 ReadsMessage (Some f) new (Err e) = IsFaultyHead f.bytes e.0 e.1
 
 -- the item of a head that is refused by a 400 in this version
-abbrev pub refused : HTTPVersion → Item
-refused v = Refuses BadRequest v false true
+abbrev pub bad_request_item : HTTPVersion → Item
+bad_request_item v = Refuses BadRequest v false true
 
 -- nothing is left of the input, and it stopped as its feed does
 pub record IsCutOff {R : Type 0} (old new : SourceState R) : Type 0 where
@@ -135,12 +135,12 @@ cut_end End false = because.Closed
 abbrev pub IsCutHead : List ℕ → Type 0
 IsCutHead bytes =
     ((v : Option HTTPVersion) × FaultyHead bytes v Cut)
-    ⊎ ((m : Texted) × (after : List ℕ) × (f : Framing) × HeadText bytes m after × (framing m.version m.headers ≡ Some f) × IsCutHeld f.form (said_length f) after)
+    ⊎ ((m : Texted) × (after : List ℕ) × (f : Framing) × BeginsWithRequestHead bytes m after × (framing m.version m.headers ≡ Some f) × IsCutWithHead f.form (body_length_or_0 f) after)
 
 -- a head that isn't served yet, and a body that is read with it isn't cut
 abbrev pub IsUnserved : Option Framing → HTTPVersion → List ℕ → Type 0
 IsUnserved None v after = Unit {0}
-IsUnserved (Some f) v after = (is_built v f ≡ false) × (IsCutHeld f.form (said_length f) after → ⊥)
+IsUnserved (Some f) v after = (is_built v f ≡ false) × (IsCutWithHead f.form (body_length_or_0 f) after → ⊥)
 
 -- WHY NO REQUEST comes from these bytes, which are answered by nothing: the head is cut; or a line of it isn't ASCII; or it
 -- asks for what isn't served yet.
@@ -148,17 +148,17 @@ abbrev pub EndsBy : List ℕ → Stop → EndOfRequests → Type 0
 EndsBy bytes stop why =
     (IsCutHead bytes × (why ≡ cut_end stop (nat_lt 0 (length bytes))))
     ⊎ (((v : Option HTTPVersion) × FaultyHead bytes v NotAscii × (why ≡ because.NotAscii))
-    ⊎ ((m : Texted) × (after : List ℕ) × HeadText bytes m after × IsUnserved (framing m.version m.headers) m.version after × (why ≡ because.NotServed)))
+    ⊎ ((m : Texted) × (after : List ℕ) × BeginsWithRequestHead bytes m after × IsUnserved (framing m.version m.headers) m.version after × (why ≡ because.NotServed)))
 
 -- the same at a place: after a body that was given up, or broke off, that is the reason
 abbrev pub EndsAt : Standing → List ℕ → Stop → EndOfRequests → Type 0
-EndsAt at.Lost bytes stop why = why ≡ because.AbandonedBody
+EndsAt at.Abandoned bytes stop why = why ≡ because.AbandonedBody
 EndsAt (at.Broken kind) bytes stop why = why ≡ because.BrokenBody kind
 EndsAt _ bytes stop why = EndsBy bytes stop why
 
 -- the reason at a place, where the input alone gives this one
 abbrev pub end_at : Standing → EndOfRequests → EndOfRequests
-end_at at.Lost why = because.AbandonedBody
+end_at at.Abandoned why = because.AbandonedBody
 end_at (at.Broken kind) why = because.BrokenBody kind
 end_at _ why = why
 
@@ -187,10 +187,10 @@ ComesWith left stop body next = left ≡ Some (record { body = body; behind = pl
 -- The body that begins at the input's place, or none: it is read with its head, and cut short.
 abbrev pub Begins : Framing → Option Feed → Option Feed → Option Body → Type 0
 Begins f None new b = ⊤
-Begins f (Some x) new None = IsCutHeld f.form (said_length f) x.bytes
+Begins f (Some x) new None = IsCutWithHead f.form (body_length_or_0 f) x.bytes
 Begins f (Some x) new (Some b) =
-    is_rest f.form ≡ false → (IsCutHeld f.form (said_length f) x.bytes → ⊥) × (body : Feed) × (next : Place) × BodyAt f.form (said_length f) x.bytes x.stop body next
-    × ComesWith (remaining b new) x.stop body next × Fits b f.form (said_length f) 0 false
+    is_rest f.form ≡ false → (IsCutWithHead f.form (body_length_or_0 f) x.bytes → ⊥) × (body : Feed) × (next : Place) × BodyAt f.form (body_length_or_0 f) x.bytes x.stop body next
+    × ComesWith (remaining b new) x.stop body next × Fits b f.form (body_length_or_0 f) 0 false
 
 -- where the next head begins behind a request
 abbrev pub place_after : Bool → Place → Place
@@ -205,7 +205,7 @@ ReadsHead from_here date (Some f) new (Ok (read.Request x)) =
     (body : Feed) × (next : Place) × OneHead f.bytes f.stop (Some (Asks (request_of (exchange_head x) body))) (place_after (exchange_head x).is_last next)
     × ComesWith (exchange_left x new) f.stop body next × KeepsRequest x date
 ReadsHead from_here date (Some f) new (Ok (read.Refused status text last)) =
-    (v : HTTPVersion) × OneHead f.bytes f.stop (Some (refused v)) None × (text.items ≡ own_text 400 v false date) × (last ≡ true) × (status.0 ≡ 400)
+    (v : HTTPVersion) × OneHead f.bytes f.stop (Some (bad_request_item v)) None × (text.items ≡ own_text 400 v false date) × (last ≡ true) × (status.0 ≡ 400)
 ReadsHead from_here date (Some f) new (Ok (read.Ended why)) = OneHead f.bytes f.stop None None × EndsAt from_here f.bytes f.stop why
 ReadsHead from_here date (Some f) new (Err e) = ⊤
 
@@ -218,7 +218,7 @@ EndsUnlessHanded _ s = IsAtEnd s
 -- a source stands in front of a head, or where one would begin
 abbrev pub IsBeforeHead : Standing → Type 0
 IsBeforeHead at.Head = Unit {0}
-IsBeforeHead at.Lost = Unit {0}
+IsBeforeHead at.Abandoned = Unit {0}
 IsBeforeHead (at.Broken kind) = Unit {0}
 IsBeforeHead at.Body = ⊥
 IsBeforeHead at.Last = ⊥

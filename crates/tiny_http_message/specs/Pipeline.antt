@@ -6,12 +6,12 @@ use Rattle.tiny_http_wire.specs.declared.common.Method.{Method}
 use Rattle.tiny_http_wire.specs.declared.common.Method.TheVariants.{Head}
 use Rattle.tiny_http_wire.specs.declared.common.HTTPVersion.{HTTPVersion}
 use Rattle.tiny_http_wire.specs.declared.device.Stop.{Stop}
-use Rattle.tiny_http_wire.specs.declared.device.Stop.TheVariants.{End, Fault as Faults}
+use Rattle.tiny_http_wire.specs.declared.device.Stop.TheVariants.{End, GrammarFault as Faults}
 use Rattle.tiny_http_wire.specs.Device.{Feed}
 use Rattle.tiny_http_wire.specs.Chunks.{WholeChunks, CutChunks}
-use Rattle.tiny_http_wire.specs.Heads.{Message, HeadText, FaultyHead, Fault, Cut, NotAscii, Malformed, version, is_too_new}
+use Rattle.tiny_http_wire.specs.Heads.{Message, BeginsWithRequestHead, FaultyHead, GrammarFault, Cut, NotAscii, Malformed, version, is_too_new}
 use Rattle.tiny_http_message.specs.declared.framing.Form.{Form}
-use Rattle.tiny_http_message.specs.declared.framing.Form.TheVariants.{Rest, Nothing, Held, Counted, Chunked}
+use Rattle.tiny_http_message.specs.declared.framing.Form.TheVariants.{Rest, Nothing, WithHead, Counted, Chunked}
 use Rattle.tiny_http_message.specs.declared.framing.Framing.{Framing}
 use Rattle.tiny_http_message.specs.Framing.{framing, is_built}
 
@@ -62,18 +62,18 @@ abbrev pub cut_answer : Stop → Option Item
 cut_answer stop = if is_timed_out stop then Some (Refuses RequestTimeout (version 1 1) false true) else None
 
 -- the answer to the first faulty line
-abbrev pub fault_answer : Option HTTPVersion → Fault → Stop → Option Item
+abbrev pub fault_answer : Option HTTPVersion → GrammarFault → Stop → Option Item
 fault_answer v Cut stop = cut_answer stop
 fault_answer v NotAscii stop = None
 fault_answer v Malformed stop = Some (Refuses BadRequest (unwrap_or v (version 1 1)) false true)
 
-abbrev pub said_length : Framing → ℕ
-said_length f = unwrap_or f.body_length 0
+abbrev pub body_length_or_0 : Framing → ℕ
+body_length_or_0 f = unwrap_or f.body_length 0
 
 -- a body that is read with its head is cut short
-abbrev pub IsCutHeld : Form → ℕ → List ℕ → Type 0
-IsCutHeld Held n after = length after < n
-IsCutHeld _ n after = ⊥
+abbrev pub IsCutWithHead : Form → ℕ → List ℕ → Type 0
+IsCutWithHead WithHead n after = length after < n
+IsCutWithHead _ n after = ⊥
 
 -- what the bytes at a head's place are
 pub data Heading : Type 0 where
@@ -83,11 +83,11 @@ pub data Heading : Type 0 where
 -- The first faulty line of the head decides; then the expectation; then a held body that is cut. Else the head stands.
 abbrev pub HeadAt : List ℕ → Stop → Heading → Type 0
 HeadAt bytes stop (Ends answer) =
-    ((v : Option HTTPVersion) × (fault : Fault) × FaultyHead bytes v fault × (answer ≡ fault_answer v fault stop))
-    ⊎ (((m : Message) × (after : List ℕ) × HeadText bytes m after × (framing m.version m.headers ≡ None) × (answer ≡ Some (Refuses ExpectationFailed m.version false true)))
-    ⊎ ((m : Message) × (after : List ℕ) × (f : Framing) × HeadText bytes m after × (framing m.version m.headers ≡ Some f) × IsCutHeld f.form (said_length f) after × (answer ≡ cut_answer stop)))
+    ((v : Option HTTPVersion) × (fault : GrammarFault) × FaultyHead bytes v fault × (answer ≡ fault_answer v fault stop))
+    ⊎ (((m : Message) × (after : List ℕ) × BeginsWithRequestHead bytes m after × (framing m.version m.headers ≡ None) × (answer ≡ Some (Refuses ExpectationFailed m.version false true)))
+    ⊎ ((m : Message) × (after : List ℕ) × (f : Framing) × BeginsWithRequestHead bytes m after × (framing m.version m.headers ≡ Some f) × IsCutWithHead f.form (body_length_or_0 f) after × (answer ≡ cut_answer stop)))
 HeadAt bytes stop (Heads m f after) =
-    HeadText bytes m after × (framing m.version m.headers ≡ Some f) × (IsCutHeld f.form (said_length f) after → ⊥)
+    BeginsWithRequestHead bytes m after × (framing m.version m.headers ≡ Some f) × (IsCutWithHead f.form (body_length_or_0 f) after → ⊥)
 
 -- THE INTERIM GUARD on heads, applied: only a 400 is answered, and only what is built is handed out.
 abbrev pub served_answer : Option Item → Option Item
@@ -109,7 +109,7 @@ SizedBody n after body next = (rest : List ℕ) × (after ≡ body.bytes ++ rest
 -- The body that stands after a head, how it closes, and where the next head begins.
 abbrev pub BodyAt : Form → ℕ → List ℕ → Stop → Feed → Place → Type 0
 BodyAt Nothing n after stop body next = (body ≡ record { bytes = []; stop = End }) × (next ≡ Some after)
-BodyAt Held n after stop body next = SizedBody n after body next
+BodyAt WithHead n after stop body next = SizedBody n after body next
 BodyAt Counted n after stop body next =
     SizedBody n after body next ⊎ ((length after < n) × (body ≡ record { bytes = after; stop = stop }) × (next ≡ None))
 BodyAt Rest n after stop body next = (body ≡ record { bytes = after; stop = stop }) × (next ≡ None)
@@ -134,7 +134,7 @@ goes_on m f next = if (if is_too_new m.version then ends_too_new f.form else f.i
 abbrev pub FoundAt : Stop → Heading → Option Item → Place → Type 0
 FoundAt stop (Ends answer) item next = (item ≡ answer) × (next ≡ None)
 FoundAt stop (Heads m f after) item next =
-    (body : Feed) × (behind : Place) × BodyAt f.form (said_length f) after stop body behind × (item ≡ Some (item_of m f body)) × (next ≡ goes_on m f behind)
+    (body : Feed) × (behind : Place) × BodyAt f.form (body_length_or_0 f) after stop body behind × (item ≡ Some (item_of m f body)) × (next ≡ goes_on m f behind)
 
 -- One head: the item that it is, if any, and where the next one begins.
 abbrev pub OneHead : List ℕ → Stop → Option Item → Place → Type 0

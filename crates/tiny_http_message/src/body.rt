@@ -5,7 +5,7 @@ ghost use Rattle.std.specs.IoError.{error_kind};
 ghost use Rattle.tiny_http_wire.specs.Device.{AnswersStop, Feed};
 ghost use Rattle.tiny_http_stream.specs.Source.{GoesOn, IsAtEnd};
 ghost use Rattle.tiny_http_stream.specs.ToCome.{skipped};
-ghost use Rattle.tiny_http_message.specs.Body.{remaining, counted_left, with_bytes, BodyStops, is_streaming, body_stop, body_standing, ReadsOn, FillsFromBody, GivesUp};
+ghost use Rattle.tiny_http_message.specs.Body.{remaining, counted_left, prepended_body, BodyStops, is_streaming, body_stop, body_standing, ReadsOn, FillsFromBody, GivesUp};
 
 use std::io;
 use std::io::{Cursor, ErrorKind};
@@ -19,7 +19,7 @@ pub enum Body {
     /// No byte follows, and this is told.
     Over(Stop),
     /// The bytes were read with the head.
-    Held(Cursor<Vec<u8>>),
+    WithHead(Cursor<Vec<u8>>),
     /// So many bytes of the input.
     Counted(usize),
     /// Chunks of the input.
@@ -59,7 +59,7 @@ impl Body {
         requires counted { self.old ≡ Body.Counted left }
         requires room { 0 < length buf.old }
         ensures bound { IfOk result (λ n. n ≤ length buf.new) }
-        ensures bytes { IfOk result (λ n. remaining self.old source.old.feed ≡ with_bytes (take n buf.new) (remaining self.new source.new.feed)) }
+        ensures bytes { IfOk result (λ n. remaining self.old source.old.feed ≡ prepended_body (take n buf.new) (remaining self.new source.new.feed)) }
         ensures end { IfOk result (λ n. n ≡ 0 → BodyStops Stop.End (remaining self.old source.old.feed)) }
         ensures fault { IfErr result (λ e. BodyStops (Stop.Fault (error_kind e)) (remaining self.old source.old.feed)) }
         ensures again { OnErr result (remaining self.new source.new.feed ≡ remaining self.old source.old.feed) }
@@ -100,7 +100,7 @@ impl Body {
         requires chunked { self.old ≡ Body.Chunked decoding }
         requires room { 0 < length buf.old }
         ensures bound { IfOk result (λ n. n ≤ length buf.new) }
-        ensures bytes { IfOk result (λ n. remaining self.old source.old.feed ≡ with_bytes (take n buf.new) (remaining self.new source.new.feed)) }
+        ensures bytes { IfOk result (λ n. remaining self.old source.old.feed ≡ prepended_body (take n buf.new) (remaining self.new source.new.feed)) }
         ensures end { IfOk result (λ n. n ≡ 0 → BodyStops Stop.End (remaining self.old source.old.feed)) }
         ensures fault { IfErr result (λ e. BodyStops (Stop.Fault (error_kind e)) (remaining self.old source.old.feed)) }
         ensures again { OnErr result (remaining self.new source.new.feed ≡ remaining self.old source.old.feed) }
@@ -135,7 +135,7 @@ impl Body {
         buf: &mut [u8],
     ) -> Result<usize, io::Error>
         ensures bound { IfOk result (λ n. n ≤ length buf.new) }
-        ensures bytes { IfOk result (λ n. remaining self.old source.old.feed ≡ with_bytes (take n buf.new) (remaining self.new source.new.feed)) }
+        ensures bytes { IfOk result (λ n. remaining self.old source.old.feed ≡ prepended_body (take n buf.new) (remaining self.new source.new.feed)) }
         ensures end { IfOk result (λ n. n ≡ 0 → 0 < length buf.new → BodyStops Stop.End (remaining self.old source.old.feed)) }
         ensures fault { IfErr result (λ e. BodyStops (Stop.Fault (error_kind e)) (remaining self.old source.old.feed)) }
         ensures again { OnErr result (remaining self.new source.new.feed ≡ remaining self.old source.old.feed) }
@@ -154,7 +154,7 @@ impl Body {
         let standing = source.standing();
         let read = match self {
             Body::Over(stop) => return told(*stop),
-            Body::Held(bytes) => return bytes.read_in(buf),
+            Body::WithHead(bytes) => return bytes.read_in(buf),
             Body::Counted(left) => {
                 let left = *left;
                 self.read_counted(source, left, buf)
@@ -173,7 +173,7 @@ impl Body {
         ensures { result ≡ body_standing self.now standing }
     {
         match self {
-            Body::Over(Stop::End) | Body::Held(_) => standing.after_body(),
+            Body::Over(Stop::End) | Body::WithHead(_) => standing.after_body(),
             Body::Over(Stop::Fault(kind)) => standing.after_fault(*kind),
             Body::Counted(_) | Body::Chunked(_) => standing,
         }
@@ -190,7 +190,7 @@ impl Body {
         ensures bound { IfOk result (λ n. at + n ≤ length buf.new) }
         ensures room { at < length buf.new }
         ensures front { take at buf.new ≡ take at buf.old }
-        ensures bytes { IfOk result (λ n. remaining self.old source.old.feed ≡ with_bytes (take n (drop at buf.new)) (remaining self.new source.new.feed)) }
+        ensures bytes { IfOk result (λ n. remaining self.old source.old.feed ≡ prepended_body (take n (drop at buf.new)) (remaining self.new source.new.feed)) }
         ensures end { IfOk result (λ n. n ≡ 0 → BodyStops Stop.End (remaining self.old source.old.feed)) }
         ensures fault { IfErr result (λ e. BodyStops (Stop.Fault (error_kind e)) (remaining self.old source.old.feed)) }
         ensures again { OnErr result (remaining self.new source.new.feed ≡ remaining self.old source.old.feed) }
@@ -253,10 +253,10 @@ impl Body {
             }
             Body::Chunked(_) => {
                 source.end();
-                source.stand_at(standing.after_loss());
+                source.stand_at(standing.after_abandoned());
             }
             Body::Over(_) => {}
-            Body::Held(_) => {}
+            Body::WithHead(_) => {}
         }
         *self = Body::Over(Stop::End);
     }

@@ -5,7 +5,7 @@ ghost use Rattle.tiny_http_wire.specs.Device.{AnswersStop};
 ghost use Rattle.tiny_http_stream.specs.Source.{GoesOn, IsAtEnd};
 ghost use Rattle.tiny_http_stream.specs.ToCome.{HasByte};
 ghost use Rattle.tiny_http_message.specs.Pipeline.{is_head_method};
-ghost use Rattle.tiny_http_message.specs.Body.{with_bytes, BodyStops};
+ghost use Rattle.tiny_http_message.specs.Body.{prepended_body, BodyStops};
 ghost use Rattle.tiny_http_message.specs.HeadReads.{ReadsHead, EndsUnlessHanded, RefusesBy, Begins, IsCutOff, IsRequest, IsRefusedHead, IsOkEnd, IsBeforeHead, cut_end, end_at, standing_of, standing_read, message_of, head_message, head_framing};
 ghost use Rattle.tiny_http_message.specs.Exchange.{KeepsHead};
 
@@ -118,7 +118,7 @@ impl Exchange {
     ) -> Result<usize, io::Error>
         ensures bound { IfOk result (λ n. n ≤ length buf.new) }
         // The bytes that came are the next of the body.
-        ensures bytes { IfOk result (λ n. exchange_left self.old source.old.feed ≡ with_bytes (take n buf.new) (exchange_left self.new source.new.feed)) }
+        ensures bytes { IfOk result (λ n. exchange_left self.old source.old.feed ≡ prepended_body (take n buf.new) (exchange_left self.new source.new.feed)) }
         ensures end { IfOk result (λ n. n ≡ 0 → 0 < length buf.new → BodyStops Stop.End (exchange_left self.old source.old.feed)) }
         ensures fault { IfErr result (λ e. BodyStops (Stop.Fault (error_kind e)) (exchange_left self.old source.old.feed)) }
         ensures again { OnErr result (exchange_left self.new source.new.feed ≡ exchange_left self.old source.old.feed) }
@@ -256,8 +256,8 @@ fn begin_body<R: ReadDevice>(
         Form::Nothing => Ok(Some(Body::Over(Stop::End))),
         Form::Counted => Ok(Some(counted(length))),
         Form::Chunked => Ok(Some(Body::Chunked(Decoding::new()))),
-        Form::Held => match source.take_exactly(alloc, length) {
-            Ok(Some(bytes)) => Ok(Some(Body::Held(Cursor::new(bytes)))),
+        Form::WithHead => match source.take_exactly(alloc, length) {
+            Ok(Some(bytes)) => Ok(Some(Body::WithHead(Cursor::new(bytes)))),
             Ok(None) => Ok(None),
             Err(e) => Err(e),
         },
@@ -324,7 +324,7 @@ fn end_at(standing: Standing, why: EndOfRequests) -> EndOfRequests
     ensures { result ≡ end_at standing why }
 {
     match standing {
-        Standing::Lost => EndOfRequests::AbandonedBody,
+        Standing::Abandoned => EndOfRequests::AbandonedBody,
         Standing::Broken(kind) => EndOfRequests::BrokenBody(kind),
         _ => why,
     }
@@ -362,7 +362,7 @@ pub fn read_head<R: ReadDevice>(
             source.end();
             return Ok(HeadRead::Ended(EndOfRequests::UnreadBody));
         }
-        Standing::Head | Standing::Lost | Standing::Broken(_) => {}
+        Standing::Head | Standing::Abandoned | Standing::Broken(_) => {}
     }
     match read_item(alloc, source, now) {
         Ok(HeadRead::Request(exchange)) => {

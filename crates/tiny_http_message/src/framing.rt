@@ -19,7 +19,7 @@ pub enum Form {
     /// No body.
     Nothing,
     /// 1 to 1024 bytes, read with the head.
-    Held,
+    WithHead,
     /// As many bytes as the head says, read from the stream.
     Counted,
     /// Chunks, read from the stream.
@@ -114,7 +114,7 @@ fn sized_form(owed: bool, length: Option<usize>) -> Form
 {
     match length {
         None | Some(0) => Form::Nothing,
-        Some(n) if n <= 1024 && !owed => Form::Held,
+        Some(n) if n <= 1024 && !owed => Form::WithHead,
         Some(_) => Form::Counted,
     }
 }

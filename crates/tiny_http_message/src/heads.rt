@@ -39,7 +39,7 @@ fn head_fault(fault: LineFault) -> HeadFault
 }
 
 // The next line.
-fn read_text<R: ReadDevice>(alloc: Global, source: &mut Source<R>) -> Result<AsciiString, HeadFault>
+fn read_text_line<R: ReadDevice>(alloc: Global, source: &mut Source<R>) -> Result<AsciiString, HeadFault>
     ensures reads { ReadsText source.old.feed source.new.feed result }
     ensures goes_on { GoesOn source.old.feed source.new.feed }
     ensures cut { result ≡ Err HeadFault.Cut → IsCutOff source.old source.new }
@@ -67,7 +67,7 @@ fn read_start<R: ReadDevice>(
     ensures standing { source.new.standing ≡ source.old.standing }
     ensures at_end { IsAtEnd source.old → (result ≡ Err HeadFault.Cut) × (source.new ≡ source.old) }
 {
-    let text = read_text(alloc, source)?;
+    let text = read_text_line(alloc, source)?;
     match parse_request_line(alloc, text.as_str().as_bytes()) {
         Ok(Some(start)) => Ok(start),
         Ok(None) => Err(HeadFault::Malformed),
@@ -87,7 +87,7 @@ fn read_field<R: ReadDevice>(
     ensures passed { IfErr result (λ fault. IsBadLine fault → source.new.stop ≡ source.old.stop) }
     ensures standing { source.new.standing ≡ source.old.standing }
 {
-    let text = read_text(alloc, source)?;
+    let text = read_text_line(alloc, source)?;
     if text.is_empty() {
         return Ok(None);
     }

@@ -1,6 +1,6 @@
 -- What was read stood at the front of what was to come.
 use Rattle.std.proofs.Common.{◌≡◌, refl, sym, ap, ◌∙◌, subst, ℕ, List, [], ◌++◌, Option, None, Some, Result, Ok, Err, append_assoc, append-nil}
-use Rattle.tiny_http_device.specs.Device.{Feed, given}
+use Rattle.tiny_http_device.specs.Device.{Feed, prepended}
 use Rattle.tiny_http_text.specs.Bytes.{crlf}
 use Rattle.tiny_http_stream.specs.declared.source.LineFault.{LineFault}
 use Rattle.tiny_http_stream.specs.declared.source.LineFault.TheVariants as fault
@@ -17,7 +17,7 @@ goes-on_more (Some f) None c h k = absurd h
 goes-on_more (Some f) (Some g) None h k = k
 goes-on_more (Some f) (Some g) (Some d) h k = record { gone = h.gone ++ k.gone; joins = h.joins ∙ ap (λ (x : List ℕ). h.gone ++ x) k.joins ∙ sym (append_assoc h.gone k.gone d.bytes) }
 
-pub goes-on_given : (a b : Option Feed) (bs : List ℕ) → a ≡ given bs b → GoesOn a b
+pub goes-on_given : (a b : Option Feed) (bs : List ℕ) → a ≡ prepended bs b → GoesOn a b
 goes-on_given a None bs e = let P : Option Feed → Type 0 = λ x. GoesOn x None in subst P (sym e) tt
 goes-on_given a (Some g) bs e = let P : Option Feed → Type 0 = λ x. GoesOn x (Some g) in subst P (sym e) (record { gone = bs; joins = refl })
 

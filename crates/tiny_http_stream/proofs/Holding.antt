@@ -2,7 +2,7 @@
 use Rattle.std.proofs.Common.{◌≡◌, refl, sym, ap, ◌∙◌, subst, ℕ, Bool, true, false, List, [], ◌++◌, length, take, drop, ◌-◌, ◌≤◌, length-drop, Option, Some, None, append_assoc, append-nil, arith}
 use Rattle.std.specs.declared.io.ErrorKind.{ErrorKind}
 use Rattle.std.specs.Io.KnownBytes.{append_known}
-use Rattle.tiny_http_device.specs.Device.{Sink, grown, BeginsKnown, IsFrontOf, Took, Failed}
+use Rattle.tiny_http_device.specs.Device.{Sink, grown, BeginsKnown, IsKnownFront, Took, Failed}
 use Rattle.tiny_http_device.proofs.Feeds.{front-more}
 use Rattle.std.proofs.lemmas.List.{take-append-drop, take_all}
 use Rattle.tiny_http_device.proofs.DeviceLemmas.{IsFront-same, Failed-append}
@@ -59,7 +59,7 @@ failed-for_more s b held new buf n ended kind z e h =
     let P : List ℕ → Type 0 = λ x. Failed (holding s x ended) b [] kind in
     let f = subst P same h in
     let known = grown s.has_ended s.taken held in
-    let Q : Option (List ℕ) → Type 0 = λ k. IsFrontOf b.taken k in
+    let Q : Option (List ℕ) → Type 0 = λ k. IsKnownFront b.taken k in
     record {
       bytes = front-more b.taken known buf (subst Q (grown-nil false known) f.bytes);
       sent = f.sent;

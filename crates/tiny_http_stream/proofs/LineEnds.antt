@@ -5,19 +5,19 @@ use Rattle.std.proofs.Math.Seq.{take-suc}
 use Rattle.std.proofs.lemmas.List.{take-append-drop, take_all, drop_all}
 use Rattle.std.proofs.lemmas.Bool.{cases_lt}
 use Rattle.tiny_http_text.specs.Lines.{has_crlf}
-use Rattle.tiny_http_device.specs.Device.{Feed, given, prepend}
+use Rattle.tiny_http_device.specs.Device.{Feed, prepended, prepend}
 use Rattle.std.specs.Prelude.{IfOk, OnOk}
 use Rattle.tiny_http_stream.specs.declared.source.Input.{Input}
 use Rattle.tiny_http_stream.specs.Input.{input_feed}
-use Rattle.tiny_http_stream.specs.ToCome.{to_come, behind}
+use Rattle.tiny_http_stream.specs.ToCome.{to_come, behind_held}
 use Rattle.tiny_http_stream.proofs.Inputs.{skipped-within}
-use Rattle.tiny_http_stream.specs.Line.{Passed, EndsLine}
+use Rattle.tiny_http_stream.specs.Line.{BeginsNoLineEnd, EndsLine}
 use Rattle.tiny_http_stream.proofs.Lines.{passed-nothing, passed-return, passed-plain, passed-two_returns, passed-lone_return}
 
 -- no CR LF begins in the first bytes; the flag says that the last of them is a carriage return
 abbrev pub Scans : Bool → List ℕ → ℕ → Type 0
-Scans false bytes at = Passed (take at bytes) []
-Scans true bytes at = (1 ≤ at) × (take at bytes ≡ take (at - 1) bytes ++ 13 ∷ []) × Passed (take (at - 1) bytes) (13 ∷ [])
+Scans false bytes at = BeginsNoLineEnd (take at bytes) []
+Scans true bytes at = (1 ≤ at) × (take at bytes ≡ take (at - 1) bytes ++ 13 ∷ []) × BeginsNoLineEnd (take (at - 1) bytes) (13 ∷ [])
 
 pub scans-nothing : (bytes : List ℕ) → Scans false bytes 0
 scans-nothing bytes = passed-nothing
@@ -80,20 +80,20 @@ come-now : (held : List ℕ) (f : Feed) → to_come 0 held (Some f) ≡ Some (pr
 come-now held f = ap Some (skipped-within 0 (prepend held f) (omega arith))
 
 -- a line that is held is the first of what is to come
-pub held-line : (n : ℕ) (text held : List ℕ) (f : Option Feed) → take n held ≡ text → to_come 0 held f ≡ given text (to_come 0 (drop n held) f)
+pub held-line : (n : ℕ) (text held : List ℕ) (f : Option Feed) → take n held ≡ text → to_come 0 held f ≡ prepended text (to_come 0 (drop n held) f)
 held-line n text held None e = refl
 held-line n text held (Some f) e =
     let P : List ℕ → Option Feed = λ x. Some (record { bytes = x; stop = f.stop }) in
     come-now held f
     ∙ ap P (ap (λ x. x ++ f.bytes) (sym (take-append-drop n held)) ∙ append_assoc (take n held) (drop n held) f.bytes ∙ ap (λ x. x ++ (drop n held ++ f.bytes)) e)
-    ∙ ap (given text) (sym (come-now (drop n held) f))
+    ∙ ap (prepended text) (sym (come-now (drop n held) f))
 
 pub line-given : {R T E : Type 0} (feed : R → Option Feed) (r : Result T E) (items : T → List ℕ) (n : ℕ) (first mid new : Input R) → input_feed feed mid ≡ input_feed feed first → mid.skip ≡ 0 → EndsLine mid.held n
-    → IfOk r (λ x. items x ≡ take n mid.held) → OnOk r (new ≡ record mid { held = drop (n + 2) mid.held }) → IfOk r (λ x. input_feed feed first ≡ given (items x ++ (13 ∷ (10 ∷ []))) (input_feed feed new))
+    → IfOk r (λ x. items x ≡ take n mid.held) → OnOk r (new ≡ record mid { held = drop (n + 2) mid.held }) → IfOk r (λ x. input_feed feed first ≡ prepended (items x ++ (13 ∷ (10 ∷ []))) (input_feed feed new))
 line-given feed (Err e) items n first mid new same zero ends text rest = tt
 line-given feed (Ok x) items n first mid new same zero ends text rest =
-    let come = behind mid.stop (feed mid.inner) in
+    let come = behind_held mid.stop (feed mid.inner) in
     let all = items x ++ (13 ∷ (10 ∷ [])) in
-    let T : ℕ → Type 0 = λ k. to_come k mid.held come ≡ given all (to_come k (drop (n + 2) mid.held) come) in
+    let T : ℕ → Type 0 = λ k. to_come k mid.held come ≡ prepended all (to_come k (drop (n + 2) mid.held) come) in
     let line = subst T (sym zero) (held-line (n + 2) all mid.held come (ends.ends ∙ ap (λ y. y ++ (13 ∷ (10 ∷ []))) (sym text))) in
     rw rest (sym same ∙ line)

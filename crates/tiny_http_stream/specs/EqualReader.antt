@@ -4,7 +4,7 @@ use Rattle.std.specs.declared.io.Error.{Error}
 use Rattle.std.specs.Option.{option_map}
 use Rattle.tiny_http_device.specs.Device.{Feed, Reads}
 use Rattle.tiny_http_stream.specs.declared.equal_reader.EqualReader.{EqualReader}
-use Rattle.tiny_http_stream.specs.Parts.{first_part, last_part}
+use Rattle.tiny_http_stream.specs.Parts.{feed_front, feed_behind}
 
 -- the reader inside
 abbrev pub equal_inner : {R : Type 0} → EqualReader R → R
@@ -16,7 +16,7 @@ equal_left r = r.left
 
 -- what it still gives: so many of the inner reader's bytes
 abbrev pub equal_feed : {R : Type 0} → (R → Option Feed) → EqualReader R → Option Feed
-equal_feed feed r = option_map (first_part r.left) (feed r.inner)
+equal_feed feed r = option_map (feed_front r.left) (feed r.inner)
 
 -- ONE READ. Of what it still gives it is a read; what stands behind the part stays the same. And whatever the reader inside
 -- states: into an empty buffer, and where no byte is left, it answers 0 and changes nothing; the bytes that came are taken off
@@ -27,4 +27,4 @@ pub record ReadsPart {R : Type 0} (feed : R → Option Feed) (old new : EqualRea
   pub past : equal_left old ≡ 0 → (r ≡ Ok 0) × (new ≡ old)
   pub count : IfOk r (λ n. equal_left old ≡ n + equal_left new)
   pub kept : OnErr r (equal_left new ≡ equal_left old)
-  pub behind : option_map (last_part (equal_left new)) (feed (equal_inner new)) ≡ option_map (last_part (equal_left old)) (feed (equal_inner old))
+  pub behind : option_map (feed_behind (equal_left new)) (feed (equal_inner new)) ≡ option_map (feed_behind (equal_left old)) (feed (equal_inner old))

@@ -5,13 +5,13 @@ use Rattle.std.specs.Option.{option_map}
 use Rattle.tiny_http_device.specs.Device.{Feed, ending, Reads}
 use Rattle.tiny_http_stream.specs.declared.fused_reader.FusedReader.{FusedReader}
 
-abbrev pub unless : {R : Type 0} → Bool → R → Option R
-unless true inner = None
-unless false inner = Some inner
+abbrev pub inner_unless_over : {R : Type 0} → Bool → R → Option R
+inner_unless_over true inner = None
+inner_unless_over false inner = Some inner
 
 -- the reader inside, until its end
 abbrev pub fused_inner : {R : Type 0} → FusedReader R → Option R
-fused_inner r = unless r.over r.inner
+fused_inner r = inner_unless_over r.over r.inner
 
 abbrev pub feed_unless : Bool → Option Feed → Option Feed
 feed_unless true feed = option_map (λ f. ending []) feed

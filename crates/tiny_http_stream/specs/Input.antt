@@ -2,12 +2,12 @@
 use Rattle.std.specs.Prelude.{◌≡◌, ◌&&◌, ◌==◌, ℕ, Bool, is_some, List, length, drop, [], Option, IsSome}
 use Rattle.tiny_http_device.specs.Device.{Feed}
 use Rattle.tiny_http_device.specs.declared.device.Stop.{Stop}
-use Rattle.tiny_http_stream.specs.ToCome.{behind, to_come}
+use Rattle.tiny_http_stream.specs.ToCome.{behind_held, to_come}
 use Rattle.tiny_http_stream.specs.declared.source.Input.{Input}
 
 -- the feed that is still to come, where the reader tells its own
 abbrev pub input_feed : {R : Type 0} → (R → Option Feed) → Input R → Option Feed
-input_feed feed s = to_come s.skip s.held (behind s.stop (feed s.inner))
+input_feed feed s = to_come s.skip s.held (behind_held s.stop (feed s.inner))
 
 -- how the reader stopped, if it has
 abbrev pub input_stop : {R : Type 0} → Input R → Option Stop
@@ -26,12 +26,12 @@ abbrev pub input_skip : {R : Type 0} → Input R → ℕ
 input_skip s = s.skip
 
 -- the bytes to be skipped are taken off, and nothing else has changed
-abbrev pub Leaves : {R : Type 0} → Input R → Input R → Type 0
-Leaves old new = new ≡ record old { held = drop old.skip old.held; skip = 0 }
+abbrev pub SkipsHeld : {R : Type 0} → Input R → Input R → Type 0
+SkipsHeld old new = new ≡ record old { held = drop old.skip old.held; skip = 0 }
 
 -- the reader has stopped, and no byte that it gave is left
-abbrev pub IsOver : {R : Type 0} → Input R → Type 0
-IsOver s = IsSome s.stop × (s.held ≡ []) × (s.skip ≡ 0)
+abbrev pub IsInputOver : {R : Type 0} → Input R → Type 0
+IsInputOver s = IsSome s.stop × (s.held ≡ []) × (s.skip ≡ 0)
 
 abbrev pub is_input_over : {R : Type 0} → Input R → Bool
 is_input_over s = is_some s.stop && ((length s.held == 0) && (s.skip == 0))

@@ -37,6 +37,6 @@ abbrev pub SentOn : {W : Type 0} → OutletState W → Type 0
 SentOn o = (output_of o).has_ended ≡ false → HoldsNothing o.tells
 
 -- what was held was sent; or the writer failed in it
-abbrev pub EndsWith : {T : Type 0} → Sink → Sink → Result T Error → Type 0
-EndsWith old new (Ok x) = (new.taken ≡ old.taken) × IsFront old.sent new.sent × (new.failures ≡ old.failures) × (new.last_kind ≡ old.last_kind)
-EndsWith old new (Err e) = Failed old new [] (error_kind e)
+abbrev pub EndsOutlet : {T : Type 0} → Sink → Sink → Result T Error → Type 0
+EndsOutlet old new (Ok x) = (new.taken ≡ old.taken) × IsFront old.sent new.sent × (new.failures ≡ old.failures) × (new.last_kind ≡ old.last_kind)
+EndsOutlet old new (Err e) = Failed old new [] (error_kind e)

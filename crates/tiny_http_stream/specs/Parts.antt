@@ -10,9 +10,9 @@ stop_where true stop = stop
 stop_where false stop = End
 
 -- the first bytes, so many of them, or those that there are
-unfoldable pub first_part : ℕ → Feed → Feed
-first_part size feed = record { bytes = take size feed.bytes; stop = stop_where (nat_lt (length feed.bytes) size) feed.stop }
+unfoldable pub feed_front : ℕ → Feed → Feed
+feed_front size feed = record { bytes = take size feed.bytes; stop = stop_where (nat_lt (length feed.bytes) size) feed.stop }
 
 -- and what stands behind them
-unfoldable pub last_part : ℕ → Feed → Feed
-last_part size feed = record { bytes = drop size feed.bytes; stop = feed.stop }
+unfoldable pub feed_behind : ℕ → Feed → Feed
+feed_behind size feed = record { bytes = drop size feed.bytes; stop = feed.stop }

@@ -34,10 +34,10 @@ abbrev pub IsAtEnd : {R : Type 0} → SourceState R → Type 0
 IsAtEnd s = (s.is_over ≡ true) × (s.stop ≡ Some End)
 
 -- what is told in a line's place where the input stops
-abbrev pub fault_of : Stop → LineFault
-fault_of End = EndOfLines
-fault_of (Fault TimedOut) = LineTimedOut
-fault_of (Fault kind) = Broken kind
+abbrev pub line_fault_of : Stop → LineFault
+line_fault_of End = EndOfLines
+line_fault_of (Fault TimedOut) = LineTimedOut
+line_fault_of (Fault kind) = Broken kind
 
 -- What reading a line makes of the feed: the first line is taken off, or there is none.
 abbrev pub ReadsLine : Option Feed → Option Feed → Result (List ℕ) LineFault → Type 0
@@ -47,7 +47,7 @@ ReadsLine (Some old) new (Ok text) =
 ReadsLine (Some old) new (Err NotAscii) =
     (text : List ℕ) × (rest : List ℕ) × Line old.bytes text rest × IsNotAscii text × (new ≡ Some (record { bytes = rest; stop = old.stop }))
 ReadsLine (Some old) new (Err Memory) = new ≡ Some (stopped End)
-ReadsLine (Some old) new (Err fault) = IsUnfinished old.bytes × (fault ≡ fault_of old.stop) × (new ≡ Some (stopped old.stop))
+ReadsLine (Some old) new (Err fault) = IsUnfinished old.bytes × (fault ≡ line_fault_of old.stop) × (new ≡ Some (stopped old.stop))
 
 -- ONE READ of a source. Of its feed it is a read; and whatever the reader states: into an empty buffer it changes nothing,
 -- after an end or a fault the reader isn't called again, and a source that has reported how it stops is over: it stays so, and
@@ -65,13 +65,13 @@ pub record ReadsSource {R : Type 0} (old new : SourceState R) (r : Result ℕ Er
   pub standing : new.standing ≡ old.standing
 
 -- the feed goes on behind this much
-abbrev pub from : Feed → List ℕ → Option Feed
-from f rest = Some (record { bytes = rest; stop = f.stop })
+abbrev pub feed_from : Feed → List ℕ → Option Feed
+feed_from f rest = Some (record { bytes = rest; stop = f.stop })
 
 -- so many bytes, or fewer are left
 abbrev pub TakesExactly : {T : Type 0} → (T → List ℕ) → ℕ → Option Feed → Option Feed → Option T → Type 0
 TakesExactly items n None new r = ⊤
-TakesExactly items n (Some f) new (Some body) = (rest : List ℕ) × (f.bytes ≡ items body ++ rest) × (length (items body) ≡ n) × (new ≡ from f rest)
+TakesExactly items n (Some f) new (Some body) = (rest : List ℕ) × (f.bytes ≡ items body ++ rest) × (length (items body) ≡ n) × (new ≡ feed_from f rest)
 TakesExactly items n (Some f) new None = (length f.bytes < n) × (new ≡ Some (stopped f.stop))
 
 -- only bytes at the front were taken: what is still to come is the feed from some place on

@@ -1,7 +1,7 @@
 -- What is still to come of an input, some of which is held or to be skipped.
 use Rattle.std.specs.Prelude.{◌≡◌, ℕ, nat_le, if◌then◌else◌, List, [], length, drop, Option, None, Some, ⊤}
 use Rattle.std.specs.Option.{option_map}
-use Rattle.tiny_http_device.specs.Device.{Feed, given}
+use Rattle.tiny_http_device.specs.Device.{Feed, prepended}
 use Rattle.tiny_http_device.specs.declared.device.Stop.{Stop}
 use Rattle.tiny_http_device.specs.declared.device.Stop.TheVariants.{End}
 
@@ -10,9 +10,9 @@ abbrev pub stopped : Stop → Feed
 stopped stop = record { bytes = []; stop = stop }
 
 -- what comes behind the held bytes: the reader's feed, and nothing once the input has stopped
-abbrev pub behind : Option Stop → Option Feed → Option Feed
-behind None feed = feed
-behind (Some stop) feed = option_map (λ _. stopped stop) feed
+abbrev pub behind_held : Option Stop → Option Feed → Option Feed
+behind_held None feed = feed
+behind_held (Some stop) feed = option_map (λ _. stopped stop) feed
 
 -- the feed without its first n bytes; one that is cut short ends
 abbrev pub skipped : ℕ → Feed → Feed
@@ -20,7 +20,7 @@ skipped n feed = if nat_le n (length feed.bytes) then record { bytes = drop n fe
 
 -- what is still to come, after n bytes are skipped of those that are held and those behind them
 abbrev pub to_come : ℕ → List ℕ → Option Feed → Option Feed
-to_come n held feed = option_map (skipped n) (given held feed)
+to_come n held feed = option_map (skipped n) (prepended held feed)
 
 -- a byte is still to come, where that is told
 abbrev pub HasByte : Option Feed → Type 0

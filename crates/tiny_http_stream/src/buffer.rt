@@ -1,7 +1,7 @@
 // A queue of bytes in a fixed room.
 ghost use Rattle.std.specs.Prelude.{◌≡◌, ℕ, ◌+◌, ◌-◌, ◌≤◌, ◌==◌, min, List, [], ◌∷◌, ◌++◌, length, take, drop, Ok, IfOk, IfErr, OnOk, OnErr, IfSome, IfNone};
 ghost use Rattle.std.specs.IoError.{error_kind};
-ghost use Rattle.tiny_http_device.specs.Device.{given, StopsBy};
+ghost use Rattle.tiny_http_device.specs.Device.{prepended, StopsBy};
 ghost use Rattle.tiny_http_device.specs.declared.device.Stop.TheVariants.{End, Fault};
 
 use std::io;
@@ -105,7 +105,7 @@ impl Buffer {
     /// Reads once into the empty buffer.
     pub fn read_from<R: ReadDevice>(&mut self, device: &mut R) -> Result<usize, io::Error>
         ensures count { IfOk result (λ n. n ≡ length self.new) }
-        ensures bytes { OnOk result (R.feed device.old ≡ given self.new (R.feed device.new)) }
+        ensures bytes { OnOk result (R.feed device.old ≡ prepended self.new (R.feed device.new)) }
         ensures end { IfOk result (λ n. n ≡ 0 → StopsBy End (R.feed device.old)) }
         ensures fault { IfErr result (λ e. StopsBy (Fault (error_kind e)) (R.feed device.old)) }
         ensures again { OnErr result ((R.feed device.new ≡ R.feed device.old) × (self.new ≡ [])) }

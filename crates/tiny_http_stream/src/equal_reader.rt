@@ -2,8 +2,8 @@
 ghost use Rattle.std.specs.Prelude.{◌≡◌, ◌<◌, ◌≤◌, ◌+◌, length, take, Ok, IfOk, IfErr, OnErr};
 ghost use Rattle.std.specs.Option.{option_map};
 ghost use Rattle.std.specs.IoError.{error_kind};
-ghost use Rattle.tiny_http_device.specs.Device.{given, StopsBy};
-ghost use Rattle.tiny_http_stream.specs.Parts.{last_part};
+ghost use Rattle.tiny_http_device.specs.Device.{prepended, StopsBy};
+ghost use Rattle.tiny_http_stream.specs.Parts.{feed_behind};
 
 use std::io;
 use std::io::Read;
@@ -22,7 +22,7 @@ pub struct EqualReader<R: ReadDevice + Drop> {
 
 // Reads so many bytes away. It stops at an end or a fault.
 fn read_away<R: ReadDevice>(inner: &mut R, size: usize)
-    ensures { R.feed inner.new ≡ option_map (last_part size) (R.feed inner.old) }
+    ensures { R.feed inner.new ≡ option_map (feed_behind size) (R.feed inner.old) }
 {
     let mut left = size;
     let mut buf = [0u8; PIECE];
@@ -52,7 +52,7 @@ impl<R: ReadDevice + Drop> EqualReader<R> {
     /// Reads the rest of the bytes away, and hands the reader back: it stands behind them, or has stopped before. A fault
     /// that is met is told by nothing.
     pub fn finish(self) -> R
-        ensures { R.feed result ≡ option_map (last_part (equal_left self)) (R.feed (equal_inner self)) }
+        ensures { R.feed result ≡ option_map (feed_behind (equal_left self)) (R.feed (equal_inner self)) }
     {
         let EqualReader { mut inner, left } = self;
         read_away(&mut inner, left);
@@ -62,7 +62,7 @@ impl<R: ReadDevice + Drop> EqualReader<R> {
     // Reads some of the bytes that are left, straight into `buf`.
     fn read_part(&mut self, buf: &mut [u8]) -> Result<usize, io::Error>
         ensures bound { IfOk result (λ n. n ≤ length buf.new) }
-        ensures bytes { IfOk result (λ n. equal_feed R.feed self.old ≡ given (take n buf.new) (equal_feed R.feed self.new)) }
+        ensures bytes { IfOk result (λ n. equal_feed R.feed self.old ≡ prepended (take n buf.new) (equal_feed R.feed self.new)) }
         ensures end { IfOk result (λ n. n ≡ 0 → 0 < length buf.new → StopsBy Stop.End (equal_feed R.feed self.old)) }
         ensures fault { IfErr result (λ e. StopsBy (Stop.Fault (error_kind e)) (equal_feed R.feed self.old)) }
         ensures again { OnErr result (equal_feed R.feed self.new ≡ equal_feed R.feed self.old) }
@@ -71,7 +71,7 @@ impl<R: ReadDevice + Drop> EqualReader<R> {
         ensures count { IfOk result (λ n. equal_left self.old ≡ n + equal_left self.new) }
         ensures kept { OnErr result (equal_left self.new ≡ equal_left self.old) }
         // What is read away, now or later, stays the same.
-        ensures behind { option_map (last_part (equal_left self.new)) (R.feed (equal_inner self.new)) ≡ option_map (last_part (equal_left self.old)) (R.feed (equal_inner self.old)) }
+        ensures behind { option_map (feed_behind (equal_left self.new)) (R.feed (equal_inner self.new)) ≡ option_map (feed_behind (equal_left self.old)) (R.feed (equal_inner self.old)) }
     {
         if self.left == 0 {
             return Ok(0);

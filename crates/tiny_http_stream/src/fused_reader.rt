@@ -1,7 +1,7 @@
 //! A reader that stays at its end.
 ghost use Rattle.std.specs.Prelude.{◌≡◌, ◌<◌, ◌≤◌, length, take, Some, None, Ok, IfOk, IfErr, OnErr, IsSome};
 ghost use Rattle.std.specs.IoError.{error_kind};
-ghost use Rattle.tiny_http_device.specs.Device.{given, StopsBy};
+ghost use Rattle.tiny_http_device.specs.Device.{prepended, StopsBy};
 
 use std::io;
 use std::io::Read;

@@ -25,7 +25,7 @@ impl<W: WriteDevice> Model for Outlet<W> {
 }
 
 impl<W: WriteDevice> Outlet<W> {
-    ghost use Rattle.tiny_http_stream.specs.Outlet.{output_of, outlet_held, outlet_ended, outlet_writer, SentOn, EndsWith};
+    ghost use Rattle.tiny_http_stream.specs.Outlet.{output_of, outlet_held, outlet_ended, outlet_writer, SentOn, EndsOutlet};
 
     /// An outlet over this writer. What it promises is for a writer that has not ended by itself.
     pub fn new(inner: W) -> Outlet<W>
@@ -147,7 +147,7 @@ impl<W: WriteDevice> Outlet<W> {
 
     /// Sends what is held, if the writer takes it, and then takes nothing more.
     pub fn end(&mut self) -> Result<(), io::Error>
-        ensures ends { EndsWith (output_of self.old) (output_of self.new) result }
+        ensures ends { EndsOutlet (output_of self.old) (output_of self.new) result }
         ensures held { outlet_held self.new ≡ [] }
         // The writer is flushed.
         ensures sent { outlet_ended self.old ≡ false → OnOk result (self.new.tells.has_ended ≡ false → HoldsNothing self.new.tells) }

@@ -2,9 +2,9 @@
 ghost use Rattle.std.specs.Prelude.{◌≡◌, ◌≢◌, ℕ, true, false, vec_len, ◌*◌, ◌+◌, ◌-◌, ◌^◌, ◌<◌, ◌≤◌, min, List, [], ◌∷◌, ◌++◌, length, take, drop, Option, None, Some, Ok, Err, IfOk, IfErr, OnOk, OnErr, IsSome, IfSome, IfNone, IsTrue};
 ghost use Rattle.std.specs.Option.{option_map};
 ghost use Rattle.std.specs.IoError.{error_kind};
-ghost use Rattle.tiny_http_device.specs.Device.{AnswersStop, given, StopsBy};
+ghost use Rattle.tiny_http_device.specs.Device.{AnswersStop, prepended, StopsBy};
 ghost use Rattle.tiny_http_text.specs.Lines.{IsUnfinished, has_crlf};
-ghost use Rattle.tiny_http_stream.specs.Line.{pending, Passed, EndsLine};
+ghost use Rattle.tiny_http_stream.specs.Line.{held_return, BeginsNoLineEnd, EndsLine};
 ghost use Rattle.tiny_http_stream.specs.ToCome.{skipped, stopped, HasByte, HasNoByte};
 
 use crate::buffer::Buffer;
@@ -40,13 +40,13 @@ pub enum Standing {
     /// The last request's head was read: its body may come next, and no head follows.
     Last,
     /// A chunked body was given up before its end was read, so where a head would begin isn't known.
-    Lost,
+    Abandoned,
     /// A body broke off by this fault.
     Broken(ErrorKind),
 }
 
 impl Standing {
-    ghost use Rattle.tiny_http_stream.specs.Standing.{after_body, after_fault, after_loss};
+    ghost use Rattle.tiny_http_stream.specs.Standing.{after_body, after_fault, after_abandoned};
 
     /// The standing after a body that was read or given up whole.
     pub fn after_body(self) -> Standing
@@ -69,11 +69,11 @@ impl Standing {
     }
 
     /// The standing after a chunked body that was given up before its end was read.
-    pub fn after_loss(self) -> Standing
-        ensures { result ≡ after_loss self }
+    pub fn after_abandoned(self) -> Standing
+        ensures { result ≡ after_abandoned self }
     {
         match self {
-            Standing::Body => Standing::Lost,
+            Standing::Body => Standing::Abandoned,
             standing => standing,
         }
     }
@@ -100,7 +100,7 @@ impl<R: ReadDevice> Model for Source<R> {
 }
 
 impl<R: ReadDevice> Source<R> {
-    ghost use Rattle.tiny_http_stream.specs.Source.{fault_of, ReadsLine, ReadsSource, TakesExactly, GoesOn, IsAtEnd, HoldsLine};
+    ghost use Rattle.tiny_http_stream.specs.Source.{line_fault_of, ReadsLine, ReadsSource, TakesExactly, GoesOn, IsAtEnd, HoldsLine};
 
     /// A source over this reader. A head comes first.
     pub fn new(inner: R) -> Source<R>
@@ -193,9 +193,9 @@ impl<R: ReadDevice> Source<R> {
         // Whatever the reader tells: behind any fault but a line that isn't ASCII the source is over.
         ensures over { IfErr result (λ fault. fault ≢ LineFault.NotAscii → (self.new.is_over ≡ true) × IsSome self.new.stop) }
         ensures memory { IfErr result (λ fault. fault ≡ LineFault.Memory → self.new.stop ≡ Some Stop.End) }
-        ensures stop { IfErr result (λ fault. fault ≢ LineFault.NotAscii → fault ≢ LineFault.Memory → IfSome self.new.stop (λ stop. fault ≡ fault_of stop)) }
+        ensures stop { IfErr result (λ fault. fault ≢ LineFault.NotAscii → fault ≢ LineFault.Memory → IfSome self.new.stop (λ stop. fault ≡ line_fault_of stop)) }
         // A source that is over stays so, and each line is its stop.
-        ensures stays { self.old.is_over ≡ true → (self.new ≡ self.old) × IfSome self.old.stop (λ stop. result ≡ Err (fault_of stop)) }
+        ensures stays { self.old.is_over ≡ true → (self.new ≡ self.old) × IfSome self.old.stop (λ stop. result ≡ Err (line_fault_of stop)) }
         // Nothing is read ahead: where a line was given, or passed over, no end or fault was met, and where it is held the
         // reader isn't called.
         ensures lazy { OnOk result (self.new.stop ≡ self.old.stop) }
@@ -271,8 +271,8 @@ struct Input<R> {
 }
 
 impl<R: ReadDevice> Input<R> {
-    ghost use Rattle.tiny_http_stream.specs.Input.{input_feed, input_stop, input_reader, input_held, input_skip, IsOver, Leaves};
-    ghost use Rattle.tiny_http_stream.specs.Source.{fault_of, ReadsLine, TakesExactly, GoesOn};
+    ghost use Rattle.tiny_http_stream.specs.Input.{input_feed, input_stop, input_reader, input_held, input_skip, IsInputOver, SkipsHeld};
+    ghost use Rattle.tiny_http_stream.specs.Source.{line_fault_of, ReadsLine, TakesExactly, GoesOn};
 
     pub fn new(inner: R) -> Input<R>
         ensures feed { input_feed R.feed result ≡ R.feed inner }
@@ -298,7 +298,7 @@ impl<R: ReadDevice> Input<R> {
     /// How the reader stopped, if it has.
     pub fn stop(&self) -> Option<Stop>
         ensures stop { result ≡ input_stop self.now }
-        ensures over { IsOver self.now → IsSome result × IfSome result (λ stop. StopsBy stop (input_feed R.feed self.now)) }
+        ensures over { IsInputOver self.now → IsSome result × IfSome result (λ stop. StopsBy stop (input_feed R.feed self.now)) }
     {
         self.stop
     }
@@ -306,12 +306,12 @@ impl<R: ReadDevice> Input<R> {
     /// Whether a byte is still to come.
     pub fn has_byte(&mut self) -> bool
         ensures some { IsTrue result → HasByte (input_feed R.feed self.old) × (input_stop self.new ≡ input_stop self.old) }
-        ensures none { result ≡ false → HasNoByte (input_feed R.feed self.old) × IsOver self.new }
+        ensures none { result ≡ false → HasNoByte (input_feed R.feed self.old) × IsInputOver self.new }
         ensures feed { input_feed R.feed self.new ≡ input_feed R.feed self.old }
         ensures once { IsSome (input_stop self.old) → IsSome (input_stop self.new) × (input_reader self.new ≡ input_reader self.old) }
         ensures held { input_skip self.old < length (input_held self.old) → input_reader self.new ≡ input_reader self.old }
         ensures holds { IsTrue result → input_skip self.new < length (input_held self.new) }
-        ensures stays { IsOver self.old → (result ≡ false) × (self.new ≡ self.old) }
+        ensures stays { IsInputOver self.old → (result ≡ false) × (self.new ≡ self.old) }
     {
         self.fill();
         !self.held.is_empty()
@@ -351,9 +351,9 @@ impl<R: ReadDevice> Input<R> {
         ensures over { self.new.held ≡ [] → IsSome self.new.stop }
         // After an end or a fault the reader isn't called again; nor where a byte is held.
         ensures once { IsSome (input_stop self.old) → IsSome (input_stop self.new) × (input_reader self.new ≡ input_reader self.old) }
-        ensures stays { IsOver self.old → self.new ≡ self.old }
+        ensures stays { IsInputOver self.old → self.new ≡ self.old }
         ensures lazy { 0 < length self.new.held → input_stop self.new ≡ input_stop self.old }
-        ensures held { input_skip self.old < length (input_held self.old) → Leaves self.old self.new }
+        ensures held { input_skip self.old < length (input_held self.old) → SkipsHeld self.old self.new }
     {
         self.pass();
         while self.stop.is_none() && self.held.is_empty() {
@@ -367,16 +367,16 @@ impl<R: ReadDevice> Input<R> {
     }
 
     // The bytes of the first line.
-    fn read_text(&mut self, alloc: Global) -> Result<Vec<u8>, LineFault>
-        ensures text { IfOk result (λ text. input_feed R.feed self.old ≡ given (text.items ++ (13 ∷ (10 ∷ []))) (input_feed R.feed self.new)) }
-        ensures first { IfOk result (λ text. Passed text.items (13 ∷ [])) }
+    fn take_first_line(&mut self, alloc: Global) -> Result<Vec<u8>, LineFault>
+        ensures text { IfOk result (λ text. input_feed R.feed self.old ≡ prepended (text.items ++ (13 ∷ (10 ∷ []))) (input_feed R.feed self.new)) }
+        ensures first { IfOk result (λ text. BeginsNoLineEnd text.items (13 ∷ [])) }
         ensures told { OnErr result (IsSome (input_feed R.feed self.old) → IsSome (input_feed R.feed self.new)) }
         ensures none { IfErr result (λ fault. fault ≢ LineFault.Memory → (gone : List ℕ) × IsUnfinished gone
-            × (input_feed R.feed self.old ≡ given gone (input_feed R.feed self.new))) }
-        ensures fault { IfErr result (λ fault. fault ≢ LineFault.Memory → IsOver self.new
-            × IfSome (input_stop self.new) (λ stop. (fault ≡ fault_of stop) × StopsBy stop (input_feed R.feed self.new))) }
+            × (input_feed R.feed self.old ≡ prepended gone (input_feed R.feed self.new))) }
+        ensures fault { IfErr result (λ fault. fault ≢ LineFault.Memory → IsInputOver self.new
+            × IfSome (input_stop self.new) (λ stop. (fault ≡ line_fault_of stop) × StopsBy stop (input_feed R.feed self.new))) }
         ensures once { IsSome (input_stop self.old) → IsSome (input_stop self.new) × (input_reader self.new ≡ input_reader self.old) }
-        ensures stays { IsOver self.old → (self.new ≡ self.old) × IfSome (input_stop self.old) (λ stop. result ≡ Err (fault_of stop)) }
+        ensures stays { IsInputOver self.old → (self.new ≡ self.old) × IfSome (input_stop self.old) (λ stop. result ≡ Err (line_fault_of stop)) }
         ensures lazy { OnOk result (input_stop self.new ≡ input_stop self.old) }
         ensures held { has_crlf (drop (input_skip self.old) (input_held self.old)) ≡ true → input_reader self.new ≡ input_reader self.old }
     {
@@ -404,15 +404,15 @@ impl<R: ReadDevice> Input<R> {
 
     // The same, byte by byte.
     fn read_slowly(&mut self, alloc: Global) -> Result<Vec<u8>, LineFault>
-        ensures text { IfOk result (λ text. input_feed R.feed self.old ≡ given (text.items ++ (13 ∷ (10 ∷ []))) (input_feed R.feed self.new)) }
-        ensures first { IfOk result (λ text. Passed text.items (13 ∷ [])) }
+        ensures text { IfOk result (λ text. input_feed R.feed self.old ≡ prepended (text.items ++ (13 ∷ (10 ∷ []))) (input_feed R.feed self.new)) }
+        ensures first { IfOk result (λ text. BeginsNoLineEnd text.items (13 ∷ [])) }
         ensures told { OnErr result (IsSome (input_feed R.feed self.old) → IsSome (input_feed R.feed self.new)) }
         ensures none { IfErr result (λ fault. fault ≢ LineFault.Memory → (gone : List ℕ) × IsUnfinished gone
-            × (input_feed R.feed self.old ≡ given gone (input_feed R.feed self.new))) }
-        ensures fault { IfErr result (λ fault. fault ≢ LineFault.Memory → IsOver self.new
-            × IfSome (input_stop self.new) (λ stop. (fault ≡ fault_of stop) × StopsBy stop (input_feed R.feed self.new))) }
+            × (input_feed R.feed self.old ≡ prepended gone (input_feed R.feed self.new))) }
+        ensures fault { IfErr result (λ fault. fault ≢ LineFault.Memory → IsInputOver self.new
+            × IfSome (input_stop self.new) (λ stop. (fault ≡ line_fault_of stop) × StopsBy stop (input_feed R.feed self.new))) }
         ensures once { IsSome (input_stop self.old) → IsSome (input_stop self.new) × (input_reader self.new ≡ input_reader self.old) }
-        ensures stays { IsOver self.old → (self.new ≡ self.old) × IfSome (input_stop self.old) (λ stop. result ≡ Err (fault_of stop)) }
+        ensures stays { IsInputOver self.old → (self.new ≡ self.old) × IfSome (input_stop self.old) (λ stop. result ≡ Err (line_fault_of stop)) }
         ensures lazy { OnOk result (input_stop self.new ≡ input_stop self.old) }
     {
         let mut text = Vec::new(alloc);
@@ -429,7 +429,7 @@ impl<R: ReadDevice> Input<R> {
     /// Lets the input end here.
     pub fn end(&mut self)
         ensures feed { input_feed R.feed self.new ≡ option_map (λ _. stopped Stop.End) (input_feed R.feed self.old) }
-        ensures over { IsOver self.new }
+        ensures over { IsInputOver self.new }
         ensures stop { input_stop self.new ≡ Some Stop.End }
         ensures reader { input_reader self.new ≡ input_reader self.old }
     {
@@ -444,15 +444,15 @@ impl<R: ReadDevice> Input<R> {
         // After an end or a fault the reader isn't called again.
         ensures once { IsSome (input_stop self.old) → IsSome (input_stop self.new) × (input_reader self.new ≡ input_reader self.old) }
         // Whatever the reader tells, an input that is over stays so, and a line's place has its stop.
-        ensures over { IfErr result (λ fault. fault ≢ LineFault.NotAscii → IsOver self.new) }
+        ensures over { IfErr result (λ fault. fault ≢ LineFault.NotAscii → IsInputOver self.new) }
         ensures memory { IfErr result (λ fault. fault ≡ LineFault.Memory → input_stop self.new ≡ Some Stop.End) }
-        ensures stop { IfErr result (λ fault. fault ≢ LineFault.NotAscii → fault ≢ LineFault.Memory → IfSome (input_stop self.new) (λ stop. fault ≡ fault_of stop)) }
-        ensures stays { IsOver self.old → (self.new ≡ self.old) × IfSome (input_stop self.old) (λ stop. result ≡ Err (fault_of stop)) }
+        ensures stop { IfErr result (λ fault. fault ≢ LineFault.NotAscii → fault ≢ LineFault.Memory → IfSome (input_stop self.new) (λ stop. fault ≡ line_fault_of stop)) }
+        ensures stays { IsInputOver self.old → (self.new ≡ self.old) × IfSome (input_stop self.old) (λ stop. result ≡ Err (line_fault_of stop)) }
         ensures lazy { OnOk result (input_stop self.new ≡ input_stop self.old) }
         ensures passed { result ≡ Err LineFault.NotAscii → input_stop self.new ≡ input_stop self.old }
         ensures held { has_crlf (drop (input_skip self.old) (input_held self.old)) ≡ true → input_reader self.new ≡ input_reader self.old }
     {
-        match self.read_text(alloc) {
+        match self.take_first_line(alloc) {
             Ok(text) => match AsciiString::from_ascii(text) {
                 Ok(line) => Ok(line),
                 Err(_) => Err(LineFault::NotAscii),
@@ -468,7 +468,7 @@ impl<R: ReadDevice> Input<R> {
     /// Takes n bytes, or none where fewer are left: then the input is over. Without memory for them nothing has changed.
     pub fn take_exactly(&mut self, alloc: Global, n: usize) -> Result<Option<Vec<u8>>, AllocError>
         ensures takes { IfOk result (λ body. TakesExactly (λ v. v.items) n (input_feed R.feed self.old) (input_feed R.feed self.new) body) }
-        ensures over { IfOk result (λ body. body ≡ None → IsOver self.new) }
+        ensures over { IfOk result (λ body. body ≡ None → IsInputOver self.new) }
         ensures err { OnErr result (self.new ≡ self.old) }
         ensures once { IsSome (input_stop self.old) → IsSome (input_stop self.new) × (input_reader self.new ≡ input_reader self.old) }
         ensures lazy { IfOk result (λ body. IsSome body → input_stop self.new ≡ input_stop self.old) }
@@ -487,7 +487,7 @@ impl<R: ReadDevice> Input<R> {
 
     // Why there is no line behind the input.
     fn line_fault(&self) -> LineFault
-        ensures { IfSome (input_stop self.now) (λ stop. result ≡ fault_of stop) }
+        ensures { IfSome (input_stop self.now) (λ stop. result ≡ line_fault_of stop) }
     {
         match self.stop {
             Some(Stop::Fault(ErrorKind::TimedOut)) => LineFault::TimedOut,
@@ -515,12 +515,12 @@ impl<R: ReadDevice> Input<R> {
 
     // Takes the next byte, if there is one.
     fn pop_byte(&mut self) -> Option<u8>
-        ensures some { IfSome result (λ b. input_feed R.feed self.old ≡ given (b ∷ []) (input_feed R.feed self.new)) }
+        ensures some { IfSome result (λ b. input_feed R.feed self.old ≡ prepended (b ∷ []) (input_feed R.feed self.new)) }
         ensures none { IfNone result (input_feed R.feed self.new ≡ input_feed R.feed self.old) }
-        ensures over { IfNone result (IsOver self.new) }
+        ensures over { IfNone result (IsInputOver self.new) }
         ensures stop { IfNone result (IfSome (input_stop self.new) (λ stop. StopsBy stop (input_feed R.feed self.old))) }
         ensures once { IsSome (input_stop self.old) → IsSome (input_stop self.new) × (input_reader self.new ≡ input_reader self.old) }
-        ensures stays { IsOver self.old → (result ≡ None) × (self.new ≡ self.old) }
+        ensures stays { IsInputOver self.old → (result ≡ None) × (self.new ≡ self.old) }
         ensures lazy { IsSome result → input_stop self.new ≡ input_stop self.old }
         ensures held { input_skip self.old < length (input_held self.old) → (input_reader self.new ≡ input_reader self.old) × (input_skip self.new ≡ 0)
             × (length (input_held self.new) + input_skip self.old + 1 ≡ length (input_held self.old)) }
@@ -532,17 +532,17 @@ impl<R: ReadDevice> Input<R> {
     /// Reads some bytes. Behind them each call answers how the input stopped.
     pub fn read(&mut self, buf: &mut [u8]) -> Result<usize, io::Error>
         ensures bound { IfOk result (λ n. n ≤ length buf.new) }
-        ensures bytes { IfOk result (λ n. input_feed R.feed self.old ≡ given (take n buf.new) (input_feed R.feed self.new)) }
+        ensures bytes { IfOk result (λ n. input_feed R.feed self.old ≡ prepended (take n buf.new) (input_feed R.feed self.new)) }
         ensures end { IfOk result (λ n. n ≡ 0 → 0 < length buf.new → StopsBy Stop.End (input_feed R.feed self.old)) }
         ensures fault { IfErr result (λ e. StopsBy (Stop.Fault (error_kind e)) (input_feed R.feed self.old)) }
         ensures again { OnErr result (input_feed R.feed self.new ≡ input_feed R.feed self.old) }
         ensures empty { length buf.new ≡ 0 → (result ≡ Ok 0) × (self.new ≡ self.old) }
         // After an end or a fault the reader isn't called again.
         ensures once { IsSome (input_stop self.old) → IsSome (input_stop self.new) × (input_reader self.new ≡ input_reader self.old) }
-        ensures over { OnErr result (IsOver self.new) }
-        ensures none { IfOk result (λ n. n ≡ 0 → 0 < length buf.new → IsOver self.new × (input_stop self.new ≡ Some Stop.End)) }
+        ensures over { OnErr result (IsInputOver self.new) }
+        ensures none { IfOk result (λ n. n ≡ 0 → 0 < length buf.new → IsInputOver self.new × (input_stop self.new ≡ Some Stop.End)) }
         ensures kind { IfErr result (λ e. input_stop self.new ≡ Some (Stop.Fault (error_kind e))) }
-        ensures stays { IsOver self.old → (self.new ≡ self.old) × IfSome (input_stop self.old) (λ stop. 0 < length buf.new → AnswersStop stop result) }
+        ensures stays { IsInputOver self.old → (self.new ≡ self.old) × IfSome (input_stop self.old) (λ stop. 0 < length buf.new → AnswersStop stop result) }
         ensures lazy { IfOk result (λ n. 0 < n → input_stop self.new ≡ input_stop self.old) }
         ensures held { input_skip self.old < length (input_held self.old) → input_reader self.new ≡ input_reader self.old }
     {
@@ -580,10 +580,10 @@ fn line_end(bytes: &[u8]) -> Option<usize>
 // Takes a byte that doesn't end the line. A carriage return is kept once the byte behind it is known.
 fn go_on(text: &mut Vec<u8>, after_return: &mut bool, b: u8) -> Result<(), LineFault>
     requires not_end { after_return.old ≡ true → b ≢ 10 }
-    requires passed { Passed text.old.items (pending after_return.old) }
-    ensures passed { OnOk result (Passed text.new.items (pending after_return.new)) }
-    ensures bytes { OnOk result (text.new.items ++ pending after_return.new ≡ (text.old.items ++ pending after_return.old) ++ b ∷ []) }
-    ensures more { OnOk result (2 * vec_len text.old + length (pending after_return.old) < 2 * vec_len text.new + length (pending after_return.new)) }
+    requires passed { BeginsNoLineEnd text.old.items (held_return after_return.old) }
+    ensures passed { OnOk result (BeginsNoLineEnd text.new.items (held_return after_return.new)) }
+    ensures bytes { OnOk result (text.new.items ++ held_return after_return.new ≡ (text.old.items ++ held_return after_return.old) ++ b ∷ []) }
+    ensures more { OnOk result (2 * vec_len text.old + length (held_return after_return.old) < 2 * vec_len text.new + length (held_return after_return.new)) }
     ensures fault { IfErr result (λ fault. fault ≡ LineFault.Memory) }
 {
     match (*after_return, b) {

@@ -7,7 +7,7 @@ ghost use Rattle.std.proofs.Common.{rules};
 ghost use Rattle.std.specs.Char.{to_ascii_lowercase};
 ghost use Rattle.std.specs.Str.{IsNotAscii};
 ghost use Rattle.tiny_http_text.specs.Bytes.{is_blank, trimmed};
-ghost use Rattle.tiny_http_text.specs.Ascii.{IsFirstBad};
+ghost use Rattle.tiny_http_text.specs.Ascii.{IsFirstNotAscii};
 
 use crate::text::trim;
 use std::alloc::{AllocError, Global};
@@ -72,7 +72,7 @@ impl FromAsciiError {
 // The place of the first byte from 128 on, or the length.
 fn ascii_len(bytes: &[u8]) -> usize
     ensures bound { result ≤ length bytes.now }
-    ensures found { result < length bytes.now → IsFirstBad bytes.now result }
+    ensures found { result < length bytes.now → IsFirstNotAscii bytes.now result }
     ensures ascii { length bytes.now ≤ result → IsAscii bytes.now }
 {
     for (i, b) in bytes.iter().enumerate() {
@@ -91,7 +91,7 @@ impl AsciiString {
         ensures ok { IfOk result (λ s. s ≡ bytes.items) }
         ensures succeeds { IsOk result ↔ IsAscii bytes.items }
         ensures source { IfErr result (λ e. refused_bytes e ≡ bytes.items) }
-        ensures place { IfErr result (λ e. IsFirstBad bytes.items (bad_place e)) }
+        ensures place { IfErr result (λ e. IsFirstNotAscii bytes.items (bad_place e)) }
         ensures ascii { OnOk result (IsAscii bytes.items) }
         ensures refused { OnErr result (IsNotAscii bytes.items) }
     {

@@ -2,7 +2,7 @@
 use Prim.Native.Nat.{zero, suc}
 use Rattle.std.proofs.Common.{◌≡◌, ◌≢◌, ℕ, Bool, true, false, List, [], ◌∷◌, ◌++◌, Some, None, refl, ap, arith, sym, ◌∙◌}
 use Rattle.std.specs.Prelude.{slice_get, slice_set, Option}
-use Rattle.tiny_http_turns.specs.Turns.{Mark, Open, Held, Left, Finished, first_unfinished, AreWaiting, AreInShape, is_any_held, TurnOutcome, Passed, Goes, pass_to, answer}
+use Rattle.tiny_http_turns.specs.Turns.{Mark, Open, Held, Left, Finished, first_unfinished, AreOpenOrLeft, AreInShape, is_any_held, TurnOutcome, Passed, Goes, pass_to, turn_answer}
 
 -- the marks went on: where the first unfinished number is now, and whether a number was held and is held
 pub record Moved (old new : List Mark) (turn : ℕ) (was is : Bool) : Type 0 where
@@ -11,14 +11,14 @@ pub record Moved (old new : List Mark) (turn : ℕ) (was is : Bool) : Type 0 whe
   pub was_held : is_any_held old ≡ was
   pub is_held : is_any_held new ≡ is
 
-pub waiting-none_held : (marks : List Mark) → AreWaiting marks → is_any_held marks ≡ false
+pub waiting-none_held : (marks : List Mark) → AreOpenOrLeft marks → is_any_held marks ≡ false
 waiting-none_held [] w = refl
 waiting-none_held (Open ∷ marks) w = waiting-none_held marks w
 waiting-none_held (Held ∷ marks) w = absurd w
 waiting-none_held (Left text ∷ marks) w = waiting-none_held marks w
 waiting-none_held (Finished ∷ marks) w = absurd w
 
-pub waiting-push : (marks : List Mark) → AreWaiting marks → AreWaiting (marks ++ Open ∷ [])
+pub waiting-push : (marks : List Mark) → AreOpenOrLeft marks → AreOpenOrLeft (marks ++ Open ∷ [])
 waiting-push [] w = tt
 waiting-push (Open ∷ marks) w = waiting-push marks w
 waiting-push (Held ∷ marks) w = absurd w
@@ -26,7 +26,7 @@ waiting-push (Left text ∷ marks) w = waiting-push marks w
 waiting-push (Finished ∷ marks) w = absurd w
 
 -- one that waits is left
-pub waiting-left : (marks : List Mark) (k : ℕ) (text : List ℕ) → AreWaiting marks → AreWaiting (slice_set marks k (Left text))
+pub waiting-left : (marks : List Mark) (k : ℕ) (text : List ℕ) → AreOpenOrLeft marks → AreOpenOrLeft (slice_set marks k (Left text))
 waiting-left [] k text w = tt
 waiting-left (Open ∷ marks) zero text w = w
 waiting-left (Open ∷ marks) (suc k) text w = waiting-left marks k text w
@@ -35,7 +35,7 @@ waiting-left (Left was ∷ marks) zero text w = w
 waiting-left (Left was ∷ marks) (suc k) text w = waiting-left marks k text w
 waiting-left (Finished ∷ marks) k text w = absurd w
 
-pub waiting-not_held : (marks : List Mark) (k : ℕ) → AreWaiting marks → slice_get marks k ≢ Some Held
+pub waiting-not_held : (marks : List Mark) (k : ℕ) → AreOpenOrLeft marks → slice_get marks k ≢ Some Held
 waiting-not_held [] k w e = cc
 waiting-not_held (Open ∷ marks) zero w e = cc
 waiting-not_held (Open ∷ marks) (suc k) w e = waiting-not_held marks k w e
@@ -109,7 +109,7 @@ moved-left (Finished ∷ marks) (suc k) text s ne e =
 abbrev pub Passed_on : List Mark → ℕ → TurnOutcome → Type 0
 Passed_on old turn (Goes number text, new) = (number ≡ turn) × Moved old new turn true true
 Passed_on old turn (Passed, new) = Moved old new turn true false
-Passed_on old turn (answer, new) = ⊥
+Passed_on old turn (turn_answer, new) = ⊥
 
 -- the same one further on
 one_on : (old : List Mark) (turn : ℕ) (marks : List Mark) (o : Option Mark) → Passed_on old turn (pass_to o turn marks) → Passed_on (Finished ∷ old) (suc turn) (pass_to o (suc turn) (Finished ∷ marks))
@@ -125,7 +125,7 @@ one_on old turn marks (Some Finished) p =
     record { shape = p.shape; turn_is = ap suc p.turn_is; was_held = p.was_held; is_held = p.is_held }
 
 -- right behind the number that was held
-next_on : (marks : List Mark) → AreWaiting marks → Passed_on (Held ∷ marks) 1 (pass_to (slice_get marks 0) 1 (Finished ∷ marks))
+next_on : (marks : List Mark) → AreOpenOrLeft marks → Passed_on (Held ∷ marks) 1 (pass_to (slice_get marks 0) 1 (Finished ∷ marks))
 next_on [] w = record { shape = tt; turn_is = refl; was_held = refl; is_held = refl }
 next_on (Open ∷ marks) w = record { shape = w; turn_is = refl; was_held = refl; is_held = waiting-none_held marks w }
 next_on (Held ∷ marks) w = absurd w

@@ -4,7 +4,7 @@ use Rattle.std.proofs.Common.{◌≡◌, ◌≢◌, ℕ, ◌+◌, ◌<◌, ◌�
 use Rattle.std.specs.Prelude.{slice_get, slice_set, Option, if◌then◌else◌, ◌⊎◌}
 use Rattle.std.specs.List.{list_any}
 use Rattle.std.proofs.lemmas.Bool.Decides.{nat_tests}
-use Rattle.tiny_http_turns.specs.Turns.{Mark, Open, Held, Left, Finished, first_unfinished, AreWaiting, AreInShape, is_any_held, TurnOutcome, Issued, Taken, Opened, Passed, Waits, Goes, Strange, take_at, put_back_at, pass_to, finish_at, leave_at, after, TurnStep, Issue, Take, PutBack, Finish, Leave}
+use Rattle.tiny_http_turns.specs.Turns.{Mark, Open, Held, Left, Finished, first_unfinished, AreOpenOrLeft, AreInShape, is_any_held, TurnOutcome, Issued, Taken, Opened, Passed, Waits, Goes, Strange, take_at, put_back_at, pass_to, finish_at, leave_at, marks_after_step, TurnStep, Issue, Take, PutBack, Finish, Leave}
 use Rattle.tiny_http_turns.specs.TurnsLaw.{marks_after, held_from, with_new, first_held, numbers_below}
 use Rattle.tiny_http_turns.proofs.TurnsLemmas.{Moved, Passed_on, held-first_unfinished, moved-issue, moved-hold, moved-open, moved-left, moved-finish}
 
@@ -71,7 +71,7 @@ leave_advances (Some Held) marks k text s e = stays marks s
 leave_advances (Some (Left was)) marks k text s e = stays marks s
 leave_advances (Some Finished) marks k text s e = stays marks s
 
-pub advances : (step : TurnStep) (marks : List Mark) → AreInShape marks → Advances marks (after step marks)
+pub advances : (step : TurnStep) (marks : List Mark) → AreInShape marks → Advances marks (marks_after_step step marks)
 advances Issue marks s = same_turn marks (marks ++ Open ∷ []) (is_any_held marks) (is_any_held marks) (moved-issue marks s)
 advances (Take k) marks s = take_advances (slice_get marks k) marks k s refl
 advances (PutBack k) marks s = put_back_advances (slice_get marks k) marks k s refl
@@ -81,7 +81,7 @@ advances (Leave k text) marks s = leave_advances (slice_get marks k) marks k tex
 -- every list of steps keeps the shape
 pub shape_after : (steps : List TurnStep) (marks : List Mark) → AreInShape marks → AreInShape (marks_after steps marks)
 shape_after [] marks s = s
-shape_after (step ∷ steps) marks s = shape_after steps (after step marks) (advances step marks s).shape
+shape_after (step ∷ steps) marks s = shape_after steps (marks_after_step step marks) (advances step marks s).shape
 
 before_turn : (marks : List Mark) (k : ℕ) → k < first_unfinished marks → slice_get marks k ≡ Some Finished
 before_turn [] k lt = absurd (omega (arith, lt))
@@ -98,14 +98,14 @@ one_at_a_time steps early late lt e =
     let turn : late ≡ first_unfinished (marks_after steps []) = held-first_unfinished (marks_after steps []) late shape e in
     before_turn (marks_after steps []) early (omega (arith, lt, turn))
 
-waiting_held : (n : ℕ) (marks : List Mark) → AreWaiting marks → held_from n marks ≡ []
+waiting_held : (n : ℕ) (marks : List Mark) → AreOpenOrLeft marks → held_from n marks ≡ []
 waiting_held n [] w = refl
 waiting_held n (Open ∷ marks) w = waiting_held (suc n) marks w
 waiting_held n (Held ∷ marks) w = absurd w
 waiting_held n (Left text ∷ marks) w = waiting_held (suc n) marks w
 waiting_held n (Finished ∷ marks) w = absurd w
 
-waiting_any : (marks : List Mark) → AreWaiting marks → is_any_held marks ≡ true → ⊥
+waiting_any : (marks : List Mark) → AreOpenOrLeft marks → is_any_held marks ≡ true → ⊥
 waiting_any [] w e = cc
 waiting_any (Open ∷ marks) w e = waiting_any marks w e
 waiting_any (Held ∷ marks) w e = absurd w
@@ -191,8 +191,8 @@ in_order_from : (steps : List TurnStep) (seen : List ℕ) (marks : List Mark) (m
 in_order_from [] seen marks m s h = (m, h.seen_is)
 in_order_from (step ∷ steps) seen marks m s h =
     let a = advances step marks s in
-    let j = joins seen (after step marks) m a.shape h.seen_is (nears seen marks (after step marks) m h a) in
-    in_order_from steps (with_new seen (held_from 0 (after step marks))) (after step marks) j.0 a.shape j.1
+    let j = joins seen (marks_after_step step marks) m a.shape h.seen_is (nears seen marks (marks_after_step step marks) m h a) in
+    in_order_from steps (with_new seen (held_from 0 (marks_after_step step marks))) (marks_after_step step marks) j.0 a.shape j.1
 
 -- numbers are first held in the order 0, 1, 2 and so on
 pub in_order : (steps : List TurnStep) → first_held [] steps [] ≡ numbers_below (length (first_held [] steps []))

@@ -2,7 +2,7 @@
 use Prim.Native.Nat.{zero, suc}
 use Rattle.std.proofs.Common.{◌≡◌, ◌≢◌, ℕ, ◌<◌, List, [], ◌∷◌, ◌++◌, Some, None, refl, ap, arith, sym, ◌∙◌, subst, eqb, append_assoc, append-nil}
 use Rattle.std.specs.Prelude.{slice_get, slice_set, Option, if◌then◌else◌}
-use Rattle.tiny_http_turns.specs.Turns.{Mark, Open, Held, Left, Finished, first_unfinished, AreInShape, TurnOutcome, Taken, Waits, Goes, Strange, take_at, put_back_at, pass_to, finish_at, leave_at, outcome, answer, after, TurnStep, Issue, Take, PutBack, Finish, Leave}
+use Rattle.tiny_http_turns.specs.Turns.{Mark, Open, Held, Left, Finished, first_unfinished, AreInShape, TurnOutcome, Taken, Waits, Goes, Strange, take_at, put_back_at, pass_to, finish_at, leave_at, turn_outcome, turn_answer, marks_after_step, TurnStep, Issue, Take, PutBack, Finish, Leave}
 use Rattle.tiny_http_turns.specs.TurnsLaw.{marks_after, text_out, texts_out, text_left, texts_left, text_waiting}
 use Rattle.tiny_http_turns.proofs.TurnsOrder.{by_eq, shape_after}
 
@@ -104,7 +104,7 @@ leave_balances (Some Held) n marks k text e = same marks n
 leave_balances (Some (Left was)) n marks k text e = same marks n
 leave_balances (Some Finished) n marks k text e = same marks n
 
-balances : (n : ℕ) (step : TurnStep) (marks : List Mark) → Balances n step marks (outcome step marks)
+balances : (n : ℕ) (step : TurnStep) (marks : List Mark) → Balances n step marks (turn_outcome step marks)
 balances n Issue marks = pushed marks n ∙ same marks n
 balances n (Take k) marks = take_balances (slice_get marks k) n marks k refl
 balances n (PutBack k) marks = put_back_balances (slice_get marks k) n marks k refl
@@ -115,14 +115,14 @@ balances n (Leave k text) marks = leave_balances (slice_get marks k) n marks k t
 balance : (n : ℕ) (steps : List TurnStep) (marks : List Mark) → texts_out n steps marks ++ text_waiting (slice_get (marks_after steps marks) n) ≡ text_waiting (slice_get marks n) ++ texts_left n steps marks
 balance n [] marks = same marks n
 balance n (step ∷ steps) marks =
-    let out = text_out n (answer step marks) in
-    let more = texts_out n steps (after step marks) in
-    let end = text_waiting (slice_get (marks_after steps (after step marks)) n) in
-    let mid = text_waiting (slice_get (after step marks) n) in
+    let out = text_out n (turn_answer step marks) in
+    let more = texts_out n steps (marks_after_step step marks) in
+    let end = text_waiting (slice_get (marks_after steps (marks_after_step step marks)) n) in
+    let mid = text_waiting (slice_get (marks_after_step step marks) n) in
     let here = text_waiting (slice_get marks n) in
-    let left = text_left n step (answer step marks) in
-    let later = texts_left n steps (after step marks) in
-    append_assoc out more end ∙ (ap (λ (xs : List (List ℕ)). out ++ xs) (balance n steps (after step marks)) ∙ (sym (append_assoc out mid later) ∙ (ap (λ (xs : List (List ℕ)). xs ++ later) (balances n step marks) ∙ append_assoc here left later)))
+    let left = text_left n step (turn_answer step marks) in
+    let later = texts_left n steps (marks_after_step step marks) in
+    append_assoc out more end ∙ (ap (λ (xs : List (List ℕ)). out ++ xs) (balance n steps (marks_after_step step marks)) ∙ (sym (append_assoc out mid later) ∙ (ap (λ (xs : List (List ℕ)). xs ++ later) (balances n step marks) ∙ append_assoc here left later)))
 
 pub come_once : (steps : List TurnStep) (n : ℕ) → texts_out n steps [] ++ text_waiting (slice_get (marks_after steps []) n) ≡ texts_left n steps []
 come_once steps n = balance n steps []
@@ -192,7 +192,7 @@ leave_holds (Some Held) marks k text f = λ n told e. cc
 leave_holds (Some (Left was)) marks k text f = λ n told e. cc
 leave_holds (Some Finished) marks k text f = λ n told e. cc
 
-pub go_holds : (step : TurnStep) (marks : List Mark) (n : ℕ) (text : List ℕ) → answer step marks ≡ Goes n text → IsHeldNow marks (after step marks) n
+pub go_holds : (step : TurnStep) (marks : List Mark) (n : ℕ) (text : List ℕ) → turn_answer step marks ≡ Goes n text → IsHeldNow marks (marks_after_step step marks) n
 go_holds Issue marks n text e = cc
 go_holds (Take k) marks n text e = take_holds (slice_get marks k) marks k n text e
 go_holds (PutBack k) marks n text e = put_back_holds (slice_get marks k) marks k n text e

@@ -33,18 +33,18 @@ first_unfinished (Left text ∷ marks) = 0
 first_unfinished (Finished ∷ marks) = suc (first_unfinished marks)
 
 -- numbers that are open or left
-abbrev pub AreWaiting : List Mark → Type 0
-AreWaiting [] = Unit {0}
-AreWaiting (Open ∷ marks) = AreWaiting marks
-AreWaiting (Held ∷ marks) = ⊥
-AreWaiting (Left text ∷ marks) = AreWaiting marks
-AreWaiting (Finished ∷ marks) = ⊥
+abbrev pub AreOpenOrLeft : List Mark → Type 0
+AreOpenOrLeft [] = Unit {0}
+AreOpenOrLeft (Open ∷ marks) = AreOpenOrLeft marks
+AreOpenOrLeft (Held ∷ marks) = ⊥
+AreOpenOrLeft (Left text ∷ marks) = AreOpenOrLeft marks
+AreOpenOrLeft (Finished ∷ marks) = ⊥
 
 -- finished ones stand in front; of the others only the first may be held, and it is not left
 abbrev pub AreInShape : List Mark → Type 0
 AreInShape [] = Unit {0}
-AreInShape (Open ∷ marks) = AreWaiting marks
-AreInShape (Held ∷ marks) = AreWaiting marks
+AreInShape (Open ∷ marks) = AreOpenOrLeft marks
+AreInShape (Held ∷ marks) = AreOpenOrLeft marks
 AreInShape (Left text ∷ marks) = ⊥
 AreInShape (Finished ∷ marks) = AreInShape marks
 
@@ -120,10 +120,10 @@ pass_to (Some (Left text)) k marks = (Goes k text, slice_set marks k Held)
 pass_to (Some Finished) k marks = (Passed, marks)
 
 -- what is told of that
-abbrev pub Passes : TurnAnswer → ℕ → Option (Vec ℕ) → Type 0
-Passes (Goes number text) at (Some with) = (number ≡ at) × (with.items ≡ text)
-Passes Passed at None = Unit {0}
-Passes _ at result = ⊥
+abbrev pub TellsPass : TurnAnswer → ℕ → Option (Vec ℕ) → Type 0
+TellsPass (Goes number text) at (Some with) = (number ≡ at) × (with.items ≡ text)
+TellsPass Passed at None = Unit {0}
+TellsPass _ at result = ⊥
 
 -- a held number is finished, and the turn passes to the next
 abbrev pub finish_at : Option Mark → ℕ → List Mark → TurnOutcome
@@ -142,20 +142,20 @@ leave_at (Some (Left was)) k text marks = (Strange, marks)
 leave_at (Some Finished) k text marks = (Strange, marks)
 
 -- one step
-abbrev pub outcome : TurnStep → List Mark → TurnOutcome
-outcome Issue marks = (Issued (length marks), marks ++ Open ∷ [])
-outcome (Take k) marks = take_at (slice_get marks k) k marks
-outcome (PutBack k) marks = put_back_at (slice_get marks k) k marks
-outcome (Finish k) marks = finish_at (slice_get marks k) k marks
-outcome (Leave k text) marks = leave_at (slice_get marks k) k text marks
+abbrev pub turn_outcome : TurnStep → List Mark → TurnOutcome
+turn_outcome Issue marks = (Issued (length marks), marks ++ Open ∷ [])
+turn_outcome (Take k) marks = take_at (slice_get marks k) k marks
+turn_outcome (PutBack k) marks = put_back_at (slice_get marks k) k marks
+turn_outcome (Finish k) marks = finish_at (slice_get marks k) k marks
+turn_outcome (Leave k text) marks = leave_at (slice_get marks k) k text marks
 
-abbrev pub answer : TurnStep → List Mark → TurnAnswer
-answer step marks = (outcome step marks).0
+abbrev pub turn_answer : TurnStep → List Mark → TurnAnswer
+turn_answer step marks = (turn_outcome step marks).0
 
-abbrev pub after : TurnStep → List Mark → List Mark
-after step marks = (outcome step marks).1
+abbrev pub marks_after_step : TurnStep → List Mark → List Mark
+marks_after_step step marks = (turn_outcome step marks).1
 
 -- what is kept beside them: the first unfinished number
-pub record IsKept {T : Type 0} (turn : ℕ) (turns : TurnsState T) : Type 0 where
+pub record HasTurn {T : Type 0} (turn : ℕ) (turns : TurnsState T) : Type 0 where
   pub in_order : IsInOrder turns
   pub turn_is : turn ≡ first_unfinished turns.marks

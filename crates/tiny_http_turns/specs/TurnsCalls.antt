@@ -13,10 +13,10 @@ module _ {T : Type 0} where
   new_turns item = record { marks = []; slot = Some item }
 
   -- the item comes out of the slot exactly if this call holds the number
-  abbrev pub Takes : TurnAnswer → Option T → Option T → Option T → Type 0
-  Takes Taken old result new = (result ≡ old) × IsSome result × (new ≡ None)
-  Takes Strange old result new = (result ≡ None) × (new ≡ old)
-  Takes _ old result new = ⊥
+  abbrev pub TakesTurn : TurnAnswer → Option T → Option T → Option T → Type 0
+  TakesTurn Taken old result new = (result ≡ old) × IsSome result × (new ≡ None)
+  TakesTurn Strange old result new = (result ≡ None) × (new ≡ old)
+  TakesTurn _ old result new = ⊥
 
   -- the item lies in the slot exactly if the number is open again; else it comes back
   abbrev pub PutsBack : {U : Type 0} → TurnAnswer → T → Option T → Result U T → Option T → Type 0
@@ -32,11 +32,11 @@ module _ {T : Type 0} where
   Finishes _ item old result new = ⊥
 
   -- the text stays, or comes back with the item where the turn has come, or comes back
-  abbrev pub Leaves : TurnAnswer → Option T → Leaving T → Option T → Type 0
-  Leaves Waits old IsLeft new = new ≡ old
-  Leaves (Goes number text) old (LeaveGo item back) new = (old ≡ Some item) × (back.items ≡ text) × (new ≡ None)
-  Leaves Strange old (LeaveStrange back) new = new ≡ old
-  Leaves _ old result new = ⊥
+  abbrev pub LeavesTurn : TurnAnswer → Option T → Leaving T → Option T → Type 0
+  LeavesTurn Waits old IsLeft new = new ≡ old
+  LeavesTurn (Goes number text) old (LeaveGo item back) new = (old ≡ Some item) × (back.items ≡ text) × (new ≡ None)
+  LeavesTurn Strange old (LeaveStrange back) new = new ≡ old
+  LeavesTurn _ old result new = ⊥
 
   -- a text that comes back is the one that was given
   abbrev pub GivesBack : Leaving T → Vec ℕ → Type 0

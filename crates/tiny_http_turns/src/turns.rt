@@ -1,6 +1,6 @@
 //! One item, and numbers that have it in turn.
 ghost use Rattle.std.specs.Prelude.{◌≡◌, ◌-◌, ◌^◌, ◌<◌, ◌↔◌, length, map, IfOk, OnOk, OnErr, IsSome, IsTrue, slice_get, Some};
-ghost use Rattle.tiny_http_turns.specs.Turns.{Issue, Take, PutBack, Finish, Leave, Issued, Open, Held, first_unfinished, mark_of, after, answer, pass_to, Passes, is_left_mark};
+ghost use Rattle.tiny_http_turns.specs.Turns.{Issue, Take, PutBack, Finish, Leave, Issued, Open, Held, first_unfinished, mark_of, marks_after_step, turn_answer, pass_to, TellsPass, is_left_mark};
 
 use std::alloc::Global;
 use std::marker::Model;
@@ -67,18 +67,18 @@ pub struct Turns<T> {
 
 impl<T> Model for Turns<T> {
     ghost use Rattle.std.specs.Prelude.{map};
-    ghost use Rattle.tiny_http_turns.specs.Turns.{TurnsState, mark_of, IsKept};
+    ghost use Rattle.tiny_http_turns.specs.Turns.{TurnsState, mark_of, HasTurn};
 
     ghost Value = { TurnsState T };
 
     ghost view = { λ t. record { marks = map mark_of t.entries.items; slot = t.slot } };
 
-    ghost invariant = { λ t. IsKept t.turn (record { marks = map mark_of t.entries.items; slot = t.slot }) };
+    ghost invariant = { λ t. HasTurn t.turn (record { marks = map mark_of t.entries.items; slot = t.slot }) };
 }
 
 impl<T: Drop> Turns<T> {
     ghost use Rattle.tiny_http_turns.specs.Turns.{IsInOrder};
-    ghost use Rattle.tiny_http_turns.specs.TurnsCalls.{new_turns, Takes, PutsBack, Finishes, Leaves, GivesBack};
+    ghost use Rattle.tiny_http_turns.specs.TurnsCalls.{new_turns, TakesTurn, PutsBack, Finishes, LeavesTurn, GivesBack};
 
     /// No number is issued, and the item lies in the slot.
     pub fn new(alloc: Global, item: T) -> Turns<T>
@@ -96,8 +96,8 @@ impl<T: Drop> Turns<T> {
     /// there; `Memory` where room for the number's mark was refused.
     pub fn issue(&mut self) -> Result<u64, TurnsError>
         ensures in_order { IsInOrder self.new }
-        ensures number { IfOk result (λ n. answer Issue self.old.marks ≡ Issued n) }
-        ensures marks { OnOk result (self.new.marks ≡ after Issue self.old.marks) }
+        ensures number { IfOk result (λ n. turn_answer Issue self.old.marks ≡ Issued n) }
+        ensures marks { OnOk result (self.new.marks ≡ marks_after_step Issue self.old.marks) }
         ensures slot { OnOk result (self.new.slot ≡ self.old.slot) }
         ensures err { OnErr result (self.new ≡ self.old) }
         ensures exhausted { (result ≡ Err TurnsError.Exhausted) ↔ (length self.old.marks ≡ 2 ^ 64 - 1) }
@@ -116,8 +116,8 @@ impl<T: Drop> Turns<T> {
     /// has changed.
     pub fn take(&mut self, number: u64) -> Option<T>
         ensures in_order { IsInOrder self.new }
-        ensures marks { self.new.marks ≡ after (Take number) self.old.marks }
-        ensures item { Takes (answer (Take number) self.old.marks) self.old.slot result self.new.slot }
+        ensures marks { self.new.marks ≡ marks_after_step (Take number) self.old.marks }
+        ensures item { TakesTurn (turn_answer (Take number) self.old.marks) self.old.slot result self.new.slot }
         ensures held { IsSome result ↔ ((slice_get self.old.marks number ≡ Some Open) × (number ≡ first_unfinished self.old.marks)) }
     {
         let at = number as usize;
@@ -133,8 +133,8 @@ impl<T: Drop> Turns<T> {
     /// changed.
     pub fn put_back(&mut self, number: u64, item: T) -> Result<(), T>
         ensures in_order { IsInOrder self.new }
-        ensures marks { self.new.marks ≡ after (PutBack number) self.old.marks }
-        ensures item { PutsBack (answer (PutBack number) self.old.marks) item self.old.slot result self.new.slot }
+        ensures marks { self.new.marks ≡ marks_after_step (PutBack number) self.old.marks }
+        ensures item { PutsBack (turn_answer (PutBack number) self.old.marks) item self.old.slot result self.new.slot }
     {
         let at = number as usize;
         if !is_held(&self.entries, at) {
@@ -148,8 +148,8 @@ impl<T: Drop> Turns<T> {
     /// Finishes a held number. If the next one was left, that one is held, and its text comes out.
     pub fn finish(&mut self, number: u64, item: T) -> Finishing<T>
         ensures in_order { IsInOrder self.new }
-        ensures marks { self.new.marks ≡ after (Finish number) self.old.marks }
-        ensures item { Finishes (answer (Finish number) self.old.marks) item self.old.slot result self.new.slot }
+        ensures marks { self.new.marks ≡ marks_after_step (Finish number) self.old.marks }
+        ensures item { Finishes (turn_answer (Finish number) self.old.marks) item self.old.slot result self.new.slot }
         // The number behind it fits.
         ensures bound { length self.new.marks < 2 ^ 64 }
     {
@@ -171,8 +171,8 @@ impl<T: Drop> Turns<T> {
     /// Leaves an open number with a text; or holds it, and gives the text back with the item, where its turn has come.
     pub fn leave(&mut self, number: u64, text: Vec<u8>) -> Leaving<T>
         ensures in_order { IsInOrder self.new }
-        ensures marks { self.new.marks ≡ after (Leave number text.items) self.old.marks }
-        ensures item { Leaves (answer (Leave number text.items) self.old.marks) self.old.slot result self.new.slot }
+        ensures marks { self.new.marks ≡ marks_after_step (Leave number text.items) self.old.marks }
+        ensures item { LeavesTurn (turn_answer (Leave number text.items) self.old.marks) self.old.slot result self.new.slot }
         ensures back { GivesBack result text }
     {
         let at = number as usize;
@@ -229,7 +229,7 @@ fn is_left(entries: &[Entry], at: usize) -> bool
 // Holds a number that was left, and gives its text.
 fn hold_left(entries: &mut Vec<Entry>, at: usize) -> Option<Vec<u8>>
     ensures marks { let old = map mark_of entries.old.items in map mark_of entries.new.items ≡ (pass_to (slice_get old at) at old).1 }
-    ensures text { let old = map mark_of entries.old.items in Passes (pass_to (slice_get old at) at old).0 at result }
+    ensures text { let old = map mark_of entries.old.items in TellsPass (pass_to (slice_get old at) at old).0 at result }
 {
     if !is_left(entries, at) {
         return None;

@@ -13,10 +13,10 @@ use Rattle.tiny_http_device.specs.declared.device.Stop.{Stop}
 use Rattle.tiny_http_device.specs.declared.device.Stop.TheVariants.{End}
 use Rattle.tiny_http_text.specs.Bytes.{HasNo, IsEmptyOrBegins, semicolon, crlf}
 use Rattle.tiny_http_text.specs.Lines.{Line}
-use Rattle.tiny_http_wire.specs.Chunks.{longest_line, most_trailers, is_bws, is_hex, SizeText, IsShortLine, Chunk, chunk_text, IsChunk, IsLastLine, IsTrailerLine, lines_text, data_of, WholeChunks, HasNoShortLine, LineFault, CloseFault, Remainder, NoSizeLine, BadSize, CutData, NoClose, CutTrailer, LongTrailer, Breaks, CutChunks}
+use Rattle.tiny_http_wire.specs.Chunks.{longest_line, most_trailers, is_bws, is_hex, SizeText, IsShortLine, Chunk, chunk_text, IsChunk, IsLastLine, IsTrailerLine, lines_text, data_of, WholeChunks, HasNoShortLine, ChunkLineFault, CloseFault, Remainder, NoSizeLine, BadSize, CutData, NoClose, CutTrailer, LongTrailer, RemainderBreaks, CutChunks}
 use Rattle.tiny_http_device.specs.Device.{fault_of}
 use Rattle.tiny_http_head.specs.Reading.{line, front_while}
-use Rattle.tiny_http_wire.specs.ChunkReading.{digits_of, size_said, size_of, Decoded, broken, LineRead, short_in, short_line, trailer_at, trailer_in, trailer_part, after_data, with_data, closed, data_at, sized, chunk_in, decoded}
+use Rattle.tiny_http_wire.specs.ChunkReading.{digits_of, size_said, size_of, Decoded, broken, LineRead, short_in, short_line, trailer_at, trailer_in, trailer_section, after_data, prepend_decoded, chunk_closed, data_at, sized, chunk_in, decoded}
 use Rattle.tiny_http_head.proofs.LineLemmas.{line-is, line-front, line-none}
 use Rattle.tiny_http_text.proofs.TextLemmas.{trims-is, trims-one}
 
@@ -100,9 +100,9 @@ short-one stop text rest h =
 
 -- what a short line reads
 abbrev pub IsLineRead : Stop → List ℕ → LineRead → Type 0
-IsLineRead stop bytes r = MatchResult r (λ l. (bytes ≡ l.0 ++ crlf ++ l.1) × IsShortLine l.0) (λ kind. LineFault bytes stop kind)
+IsLineRead stop bytes r = MatchResult r (λ l. (bytes ≡ l.0 ++ crlf ++ l.1) × IsShortLine l.0) (λ kind. ChunkLineFault bytes stop kind)
 
-fault-step : (stop : Stop) (bytes : List ℕ) (t : Bool) → nat_le (longest_line + 2) (length bytes) ≡ t → HasNoShortLine bytes → LineFault bytes stop (if t then InvalidData else fault_of stop)
+fault-step : (stop : Stop) (bytes : List ℕ) (t : Bool) → nat_le (longest_line + 2) (length bytes) ≡ t → HasNoShortLine bytes → ChunkLineFault bytes stop (if t then InvalidData else fault_of stop)
 fault-step stop bytes true e h = (h, inl (leb-true (longest_line + 2) (length bytes) e, refl))
 fault-step stop bytes false e h = (h, inr (leb-false (longest_line + 2) (length bytes) e, refl))
 
@@ -121,7 +121,7 @@ short-in-is stop bytes (Some l) h = let k = short-is-some longest_line bytes l.0
 pub short-is : (stop : Stop) (bytes : List ℕ) → IsLineRead stop bytes (short_line stop bytes)
 short-is stop bytes = short-in-is stop bytes (line (take (longest_line + 2) bytes)) (line-is (take (longest_line + 2) bytes))
 
-pub short-fault : (stop : Stop) (bytes : List ℕ) (kind : ErrorKind) → LineFault bytes stop kind → short_line stop bytes ≡ Err kind
+pub short-fault : (stop : Stop) (bytes : List ℕ) (kind : ErrorKind) → ChunkLineFault bytes stop kind → short_line stop bytes ≡ Err kind
 short-fault stop bytes kind h =
     rw (line-none (take (longest_line + 2) bytes) h.0)
     (⊎_elim (λ k. rw (le-leb (longest_line + 2) (length bytes) k.0) (ap Err (sym k.1))) (λ k. rw (lt-leb (longest_line + 2) (length bytes) k.0) (ap Err (sym k.1))) h.1)
@@ -130,7 +130,7 @@ short-fault stop bytes kind h =
 abbrev whole_part : List ℕ → Decoded
 whole_part rest = record { body = []; ends = Ok rest }
 
-pub trailer-end : (m : ℕ) (stop : Stop) (rest : List ℕ) → trailer_part m stop (crlf ++ rest) ≡ whole_part rest
+pub trailer-end : (m : ℕ) (stop : Stop) (rest : List ℕ) → trailer_section m stop (crlf ++ rest) ≡ whole_part rest
 trailer-end zero stop rest = refl
 trailer-end (suc m) stop rest = refl
 
@@ -138,27 +138,27 @@ pub at-cons : (go : List ℕ → Decoded) (text rest : List ℕ) → 0 < length 
 at-cons go [] rest h = absurd (omega arith)
 at-cons go (b ∷ bs) rest h = refl
 
-pub trailer-more : (m : ℕ) (stop : Stop) (text rest : List ℕ) → IsTrailerLine text → trailer_part (suc m) stop (text ++ crlf ++ rest) ≡ trailer_part m stop rest
-trailer-more m stop text rest h = rw (short-one stop text rest h.0) (at-cons (trailer_part m stop) text rest h.1)
+pub trailer-more : (m : ℕ) (stop : Stop) (text rest : List ℕ) → IsTrailerLine text → trailer_section (suc m) stop (text ++ crlf ++ rest) ≡ trailer_section m stop rest
+trailer-more m stop text rest h = rw (short-one stop text rest h.0) (at-cons (trailer_section m stop) text rest h.1)
 
 regroup : (text : List ℕ) (lines : List (List ℕ)) (rest : List ℕ) → lines_text (text ∷ lines) ++ rest ≡ text ++ crlf ++ (lines_text lines ++ rest)
 regroup text lines rest = append_assoc (text ++ crlf) (lines_text lines) rest
 
-trailer-whole : (m : ℕ) (stop : Stop) (lines : List (List ℕ)) (rest : List ℕ) → AllByRecursion IsTrailerLine lines → length lines ≤ m → trailer_part m stop (lines_text lines ++ (crlf ++ rest)) ≡ whole_part rest
+trailer-whole : (m : ℕ) (stop : Stop) (lines : List (List ℕ)) (rest : List ℕ) → AllByRecursion IsTrailerLine lines → length lines ≤ m → trailer_section m stop (lines_text lines ++ (crlf ++ rest)) ≡ whole_part rest
 trailer-whole m stop [] rest h le = trailer-end m stop rest
 trailer-whole zero stop (x ∷ xs) rest h le = absurd (omega arith)
 trailer-whole (suc m) stop (x ∷ xs) rest h le = rw (regroup x xs (crlf ++ rest)) (trailer-more m stop x (lines_text xs ++ (crlf ++ rest)) h.0 ∙ trailer-whole m stop xs rest h.1 (omega arith))
 
-pub trailer-faulty : (m : ℕ) (stop : Stop) (bytes : List ℕ) (kind : ErrorKind) → LineFault bytes stop kind → trailer_part m stop bytes ≡ broken [] kind
+pub trailer-faulty : (m : ℕ) (stop : Stop) (bytes : List ℕ) (kind : ErrorKind) → ChunkLineFault bytes stop kind → trailer_section m stop bytes ≡ broken [] kind
 trailer-faulty zero stop bytes kind h = rw (short-fault stop bytes kind h) refl
 trailer-faulty (suc m) stop bytes kind h = rw (short-fault stop bytes kind h) refl
 
-trailer-cut : (m : ℕ) (stop : Stop) (lines : List (List ℕ)) (next : List ℕ) (kind : ErrorKind) → AllByRecursion IsTrailerLine lines → length lines ≤ m → LineFault next stop kind → trailer_part m stop (lines_text lines ++ next) ≡ broken [] kind
+trailer-cut : (m : ℕ) (stop : Stop) (lines : List (List ℕ)) (next : List ℕ) (kind : ErrorKind) → AllByRecursion IsTrailerLine lines → length lines ≤ m → ChunkLineFault next stop kind → trailer_section m stop (lines_text lines ++ next) ≡ broken [] kind
 trailer-cut m stop [] next kind h le f = trailer-faulty m stop next kind f
 trailer-cut zero stop (x ∷ xs) next kind h le f = absurd (omega arith)
 trailer-cut (suc m) stop (x ∷ xs) next kind h le f = rw (regroup x xs next) (trailer-more m stop x (lines_text xs ++ next) h.0 ∙ trailer-cut m stop xs next kind h.1 (omega arith) f)
 
-trailer-long : (m : ℕ) (stop : Stop) (lines : List (List ℕ)) (next : List ℕ) → AllByRecursion IsTrailerLine lines → length lines ≡ m + 1 → trailer_part m stop (lines_text lines ++ next) ≡ broken [] InvalidData
+trailer-long : (m : ℕ) (stop : Stop) (lines : List (List ℕ)) (next : List ℕ) → AllByRecursion IsTrailerLine lines → length lines ≡ m + 1 → trailer_section m stop (lines_text lines ++ next) ≡ broken [] InvalidData
 trailer-long m stop [] next h le = absurd (omega arith)
 trailer-long zero stop (x ∷ xs) next h le = rw (regroup x xs next, short-one stop x (lines_text xs ++ next) h.0.0) (at-cons (λ rest. broken [] InvalidData) x (lines_text xs ++ next) h.0.1)
 trailer-long (suc m) stop (x ∷ xs) next h le = rw (regroup x xs next) (trailer-more m stop x (lines_text xs ++ next) h.0 ∙ trailer-long m stop xs next h.1 (omega arith))
@@ -235,20 +235,20 @@ pub sized-line : (fuel : ℕ) (stop : Stop) (text rest : List ℕ) (n : ℕ) →
 sized-line fuel stop text rest n s z p = rw (short-one stop text rest s, size-one text n z) (sized-at (decoded fuel stop) stop rest n p)
 
 -- and of size 0
-last-line : (fuel : ℕ) (stop : Stop) (text rest : List ℕ) → IsLastLine text → decoded (suc fuel) stop (text ++ crlf ++ rest) ≡ trailer_part most_trailers stop rest
+last-line : (fuel : ℕ) (stop : Stop) (text rest : List ℕ) → IsLastLine text → decoded (suc fuel) stop (text ++ crlf ++ rest) ≡ trailer_section most_trailers stop rest
 last-line fuel stop text rest h = rw (short-one stop text rest h.0, size-one text 0 h.1) refl
 
-data-closed : (go : Go) (stop : Stop) (bytes close : List ℕ) → data_at go stop (length bytes) (bytes ++ close) (nat_lt (length (bytes ++ close)) (length bytes)) ≡ closed go bytes (after_data stop close)
+data-closed : (go : Go) (stop : Stop) (bytes close : List ℕ) → data_at go stop (length bytes) (bytes ++ close) (nat_lt (length (bytes ++ close)) (length bytes)) ≡ chunk_closed go bytes (after_data stop close)
 data-closed go stop bytes close = rw (not-shorter bytes close, take_at bytes close, drop_at bytes close) refl
 
 chunk-group : (c : Chunk) (rest : List ℕ) → chunk_text c ++ rest ≡ c.size_line ++ crlf ++ (c.bytes ++ (crlf ++ rest))
 chunk-group c rest = append_assoc (c.size_line ++ crlf ++ c.bytes) crlf rest ∙ append_assoc (c.size_line ++ crlf) c.bytes (crlf ++ rest)
 
-chunk-one : (fuel : ℕ) (stop : Stop) (c : Chunk) (rest : List ℕ) → IsChunk c → decoded (suc fuel) stop (chunk_text c ++ rest) ≡ with_data c.bytes (decoded fuel stop rest)
+chunk-one : (fuel : ℕ) (stop : Stop) (c : Chunk) (rest : List ℕ) → IsChunk c → decoded (suc fuel) stop (chunk_text c ++ rest) ≡ prepend_decoded c.bytes (decoded fuel stop rest)
 chunk-one fuel stop c rest h =
     rw (chunk-group c rest)
     (sized-line fuel stop c.size_line (c.bytes ++ (crlf ++ rest)) (length c.bytes) h.short h.sized h.not_last
-    ∙ (data-closed (decoded fuel stop) stop c.bytes (crlf ++ rest) ∙ ap (closed (decoded fuel stop) c.bytes) (close-one stop rest)))
+    ∙ (data-closed (decoded fuel stop) stop c.bytes (crlf ++ rest) ∙ ap (chunk_closed (decoded fuel stop) c.bytes) (close-one stop rest)))
 
 abbrev joined_chunks : List Chunk → List ℕ
 joined_chunks chunks = flat_map chunk_text chunks
@@ -263,7 +263,7 @@ chunks-front (suc fuel) stop [] rest part ends h lt go = go fuel
 chunks-front (suc fuel) stop (c ∷ cs) rest part ends h lt go =
     rw (append_assoc (chunk_text c) (joined_chunks cs) rest)
     (chunk-one fuel stop c (joined_chunks cs ++ rest) h.0
-    ∙ (ap (with_data c.bytes) (chunks-front fuel stop cs rest part ends h.1 (omega arith) go)
+    ∙ (ap (prepend_decoded c.bytes) (chunks-front fuel stop cs rest part ends h.1 (omega arith) go)
     ∙ ap (λ x. made x ends) (sym (append_assoc c.bytes (data_of cs) part))))
 
 chunk-long : (c : Chunk) → 0 < length (chunk_text c)
@@ -292,7 +292,7 @@ no-size : (text : List ℕ) (o : Option ℕ) → size_of text ≡ o → ((n : �
 no-size text None e h = refl
 no-size text (Some n) e h = absurd (h n (size-is text n e))
 
-breaks-one : (way : Remainder) (rest : List ℕ) (stop : Stop) (part : List ℕ) (kind : ErrorKind) → Breaks way rest stop part kind → (n : ℕ) → decoded (suc n) stop rest ≡ made part (Err kind)
+breaks-one : (way : Remainder) (rest : List ℕ) (stop : Stop) (part : List ℕ) (kind : ErrorKind) → RemainderBreaks way rest stop part kind → (n : ℕ) → decoded (suc n) stop rest ≡ made part (Err kind)
 breaks-one NoSizeLine rest stop part kind h n = rw (short-fault stop rest kind h.1, h.0) refl
 breaks-one (BadSize text more) rest stop part kind h n = rw (h.0, short-one stop text more h.1, no-size text (size_of text) refl h.2, h.3, h.4) refl
 breaks-one (CutData text size) rest stop part kind h n =
@@ -300,7 +300,7 @@ breaks-one (CutData text size) rest stop part kind h n =
 breaks-one (NoClose text close) rest stop part kind h n =
     rw (h.0, append_assoc (text ++ crlf) part close)
     (sized-line n stop text (part ++ close) (length part) h.1 h.2 h.3
-    ∙ (data-closed (decoded n stop) stop part close ∙ ap (closed (decoded n stop) part) (close-fault stop close kind h.4)))
+    ∙ (data-closed (decoded n stop) stop part close ∙ ap (chunk_closed (decoded n stop) part) (close-fault stop close kind h.4)))
 breaks-one (CutTrailer last trailers next) rest stop part kind h n =
     rw (h.0, regroup last trailers next, h.5)
     (last-line n stop last (lines_text trailers ++ next) h.1 ∙ trailer-cut most_trailers stop trailers next kind h.2 h.3 h.4)
@@ -338,7 +338,7 @@ TrailerWhole m bytes rest = (lines : List (List ℕ)) × (bytes ≡ lines_text l
 
 abbrev TrailerBroken : ℕ → List ℕ → Stop → ErrorKind → Type 0
 TrailerBroken m bytes stop kind =
-    ((lines : List (List ℕ)) × (next : List ℕ) × (bytes ≡ lines_text lines ++ next) × AllByRecursion IsTrailerLine lines × (length lines ≤ m) × LineFault next stop kind)
+    ((lines : List (List ℕ)) × (next : List ℕ) × (bytes ≡ lines_text lines ++ next) × AllByRecursion IsTrailerLine lines × (length lines ≤ m) × ChunkLineFault next stop kind)
     ⊎ ((lines : List (List ℕ)) × (next : List ℕ) × (bytes ≡ lines_text lines ++ next) × AllByRecursion IsTrailerLine lines × (length lines ≡ m + 1) × (kind ≡ InvalidData))
 
 abbrev TrailerIs : ℕ → Stop → List ℕ → Decoded → Type 0
@@ -356,9 +356,9 @@ longer m stop text bytes rest j h (Err kind) k =
     (λ b. inr (text ∷ b.0, b.1, all-cons text b.0 bytes rest b.1 j b.2, (h, b.3), more_equal (length b.0) m b.4, b.5))
     k
 
-trailer-at-is : (m : ℕ) (stop : Stop) (bytes text rest : List ℕ) → bytes ≡ text ++ crlf ++ rest → IsShortLine text → TrailerIs m stop rest (trailer_part m stop rest) → TrailerIs (suc m) stop bytes (trailer_at (trailer_part m stop) text rest)
+trailer-at-is : (m : ℕ) (stop : Stop) (bytes text rest : List ℕ) → bytes ≡ text ++ crlf ++ rest → IsShortLine text → TrailerIs m stop rest (trailer_section m stop rest) → TrailerIs (suc m) stop bytes (trailer_at (trailer_section m stop) text rest)
 trailer-at-is m stop bytes [] rest j s k = (refl, ([], j, tt, omega arith))
-trailer-at-is m stop bytes (b ∷ bs) rest j s k = (k.0, longer m stop (b ∷ bs) bytes rest j (s, positive b bs) (trailer_part m stop rest).ends k.1)
+trailer-at-is m stop bytes (b ∷ bs) rest j s k = (k.0, longer m stop (b ∷ bs) bytes rest j (s, positive b bs) (trailer_section m stop rest).ends k.1)
 
 last-at-is : (stop : Stop) (bytes text rest : List ℕ) → bytes ≡ text ++ crlf ++ rest → IsShortLine text → TrailerIs zero stop bytes (trailer_at (λ x. broken [] InvalidData) text rest)
 last-at-is stop bytes [] rest j s = (refl, ([], j, tt, omega arith))
@@ -368,11 +368,11 @@ last-in-is : (stop : Stop) (bytes : List ℕ) (r : LineRead) → IsLineRead stop
 last-in-is stop bytes (Ok l) h = last-at-is stop bytes l.0 l.1 h.0 h.1
 last-in-is stop bytes (Err kind) h = (refl, inl ([], bytes, refl, tt, omega arith, h))
 
-trailer-in-is : (m : ℕ) (stop : Stop) (bytes : List ℕ) (r : LineRead) → IsLineRead stop bytes r → ((rest : List ℕ) → TrailerIs m stop rest (trailer_part m stop rest)) → TrailerIs (suc m) stop bytes (trailer_in (trailer_part m stop) r)
+trailer-in-is : (m : ℕ) (stop : Stop) (bytes : List ℕ) (r : LineRead) → IsLineRead stop bytes r → ((rest : List ℕ) → TrailerIs m stop rest (trailer_section m stop rest)) → TrailerIs (suc m) stop bytes (trailer_in (trailer_section m stop) r)
 trailer-in-is m stop bytes (Ok l) h go = trailer-at-is m stop bytes l.0 l.1 h.0 h.1 (go l.1)
 trailer-in-is m stop bytes (Err kind) h go = (refl, inl ([], bytes, refl, tt, omega arith, h))
 
-trailer-is : (m : ℕ) (stop : Stop) (bytes : List ℕ) → TrailerIs m stop bytes (trailer_part m stop bytes)
+trailer-is : (m : ℕ) (stop : Stop) (bytes : List ℕ) → TrailerIs m stop bytes (trailer_section m stop bytes)
 trailer-is zero stop bytes = last-in-is stop bytes (short_line stop bytes) (short-is stop bytes)
 trailer-is (suc m) stop bytes = trailer-in-is m stop bytes (short_line stop bytes) (short-is stop bytes) (trailer-is m stop)
 
@@ -380,7 +380,7 @@ trailer-is (suc m) stop bytes = trailer-in-is m stop bytes (short_line stop byte
 abbrev pub IsDecoded : List ℕ → Stop → Decoded → Type 0
 IsDecoded bytes stop d = MatchResult d.ends (λ rest. WholeChunks bytes d.body rest) (λ kind. CutChunks bytes stop d.body kind)
 
-no-chunks : (bytes : List ℕ) (stop : Stop) (part : List ℕ) (kind : ErrorKind) (way : Remainder) → Breaks way bytes stop part kind → CutChunks bytes stop part kind
+no-chunks : (bytes : List ℕ) (stop : Stop) (part : List ℕ) (kind : ErrorKind) (way : Remainder) → RemainderBreaks way bytes stop part kind → CutChunks bytes stop part kind
 no-chunks bytes stop part kind way h = record { chunks = []; rest = bytes; part = part; way = way; joins = refl; body_is = refl; are_chunks = tt; breaks = h }
 
 after-last : (bytes text rest : List ℕ) (stop : Stop) (body : List ℕ) (e : Result (List ℕ) ErrorKind) → bytes ≡ text ++ crlf ++ rest → IsLastLine text → body ≡ [] → MatchResult e (TrailerWhole most_trailers rest) (TrailerBroken most_trailers rest stop) → IsDecoded bytes stop (made body e)
@@ -413,7 +413,7 @@ abbrev all_shorter : ℕ → Stop → Type 0
 all_shorter fuel stop = (rest : List ℕ) → length rest < fuel → IsDecoded rest stop (decoded fuel stop rest)
 
 closed-is : (fuel : ℕ) (stop : Stop) (bytes text front close : List ℕ) → bytes ≡ text ++ crlf ++ (front ++ close) → IsShortLine text → SizeText text (length front) → 0 < length front → length bytes < suc fuel → all_shorter fuel stop
-    → (r : Result (List ℕ) ErrorKind) → MatchResult r (λ rest. close ≡ crlf ++ rest) (λ kind. CloseFault close stop kind) → IsDecoded bytes stop (closed (decoded fuel stop) front r)
+    → (r : Result (List ℕ) ErrorKind) → MatchResult r (λ rest. close ≡ crlf ++ rest) (λ kind. CloseFault close stop kind) → IsDecoded bytes stop (chunk_closed (decoded fuel stop) front r)
 closed-is fuel stop bytes text front close j s z p lt go (Err kind) h =
     no-chunks bytes stop front kind (NoClose text close) (j ∙ sym (append_assoc (text ++ crlf) front close), s, z, p, h)
 closed-is fuel stop bytes text front close j s z p lt go (Ok rest) h =
@@ -438,7 +438,7 @@ sized-is fuel stop bytes text rest j s lt go None e =
     no-chunks bytes stop [] InvalidData (BadSize text rest) (j, s, (λ n z. none-size n (sym (size-one text n z) ∙ e)), refl, refl)
 sized-is fuel stop bytes text rest j s lt go (Some zero) e =
     let t = trailer-is most_trailers stop rest in
-    let d = trailer_part most_trailers stop rest in
+    let d = trailer_section most_trailers stop rest in
     after-last bytes text rest stop d.body d.ends j (s, size-is text 0 e) t.0 t.1
 sized-is fuel stop bytes text rest j s lt go (Some (suc m)) e =
     data-is fuel stop bytes text rest (suc m) j s (size-is text (suc m) e) (omega arith) lt go (nat_lt (length rest) (suc m)) refl

@@ -8,28 +8,28 @@ use Rattle.std.specs.declared.io.ErrorKind.{ErrorKind}
 use Rattle.std.specs.declared.io.ErrorKind.TheVariants.{InvalidData}
 use Rattle.tiny_http_device.specs.declared.device.Stop.{Stop}
 use Rattle.tiny_http_text.specs.Bytes.{crlf}
-use Rattle.tiny_http_device.specs.Device.{Feed, given, fault_of}
+use Rattle.tiny_http_device.specs.Device.{Feed, prepended, fault_of}
 use Rattle.tiny_http_text.specs.Lines.{has_crlf}
-use Rattle.tiny_http_wire.specs.Chunks.{LineFault, longest_line}
+use Rattle.tiny_http_wire.specs.Chunks.{ChunkLineFault, longest_line}
 use Rattle.tiny_http_device.proofs.Feeds.{given-along}
 use Rattle.tiny_http_wire.specs.declared.chunked.size.Size.{Size}
 use Rattle.tiny_http_wire.specs.declared.chunked.size.Size.TheVariants.{Blank}
-use Rattle.tiny_http_wire.specs.declared.chunked.line.Line.{Line}
+use Rattle.tiny_http_wire.specs.declared.chunked.line.ChunkLine.{ChunkLine}
 use Rattle.tiny_http_wire.specs.declared.chunked.line.Scan.{Scan}
 use Rattle.tiny_http_wire.specs.ChunkSize.{size_step, size_after, SizeFits}
 use Rattle.tiny_http_wire.specs.ChunkLine.{scan_with, scan_step, OneLine, NoLine, CutBy}
 use Rattle.tiny_http_wire.proofs.ChunkSizeLemmas.{size_after-push}
 
 -- a carriage return that may begin the end of the line, or nothing
-abbrev pub pending : Bool → List ℕ
-pending true = 13 ∷ []
-pending false = []
+abbrev pub held_return : Bool → List ℕ
+held_return true = 13 ∷ []
+held_return false = []
 
 -- what these bytes of a line are to a scan: however they go on, no CR LF stands before the pending ones
 pub record Scanned (taken : List ℕ) (size : Size) (after_return : Bool) : Type 0 where
   pub text : List ℕ
-  pub taken_is : taken ≡ text ++ pending after_return
-  pub clear : (more : List ℕ) → has_crlf (text ++ (pending after_return ++ more)) ≡ has_crlf (pending after_return ++ more)
+  pub taken_is : taken ≡ text ++ held_return after_return
+  pub clear : (more : List ℕ) → has_crlf (text ++ (held_return after_return ++ more)) ≡ has_crlf (held_return after_return ++ more)
   pub size_is : size ≡ size_after Blank text
 
 plain : (b : ℕ) (more : List ℕ) → b ≢ 13 → has_crlf (b ∷ more) ≡ has_crlf more
@@ -83,23 +83,23 @@ front-clear (x ∷ y ∷ ys) b h = go (x == 13 && y == 10) (has_crlf ((y ∷ ys)
     go true u v k h = cc
     go false u v k h = k h
 
-pending-clear : (flag : Bool) → has_crlf (pending flag ++ []) ≡ false
+pending-clear : (flag : Bool) → has_crlf (held_return flag ++ []) ≡ false
 pending-clear true = refl
 pending-clear false = refl
 
 taken-clear : (taken : List ℕ) (size : Size) (flag : Bool) → Scanned taken size flag → has_crlf taken ≡ false
 taken-clear taken size flag s =
-    rw (s.taken_is) (ap (λ p. has_crlf (s.text ++ p)) (sym (append-nil (pending flag))) ∙ (s.clear [] ∙ pending-clear flag))
+    rw (s.taken_is) (ap (λ p. has_crlf (s.text ++ p)) (sym (append-nil (held_return flag))) ∙ (s.clear [] ∙ pending-clear flag))
 
 -- the bytes of a line so far
 pub record LineSoFar (old new : Option Feed) (scan : Scan) (count : ℕ) : Type 0 where
   pub taken : List ℕ
-  pub gives : old ≡ given taken new
+  pub gives : old ≡ prepended taken new
   pub scanned : Scanned taken scan.size scan.after_return
   pub count_is : length taken ≡ count
   pub fits : SizeFits scan.size
 
-pub nothing-taken : (old : Option Feed) → old ≡ given [] old
+pub nothing-taken : (old : Option Feed) → old ≡ prepended [] old
 nothing-taken None = refl
 nothing-taken (Some f) = refl
 
@@ -107,7 +107,7 @@ pub so_far-none : (feed : Option Feed) (scan : Scan) → scan ≡ record { size 
 so_far-none feed scan e =
     rw e (record { taken = []; gives = nothing-taken feed; scanned = record { text = []; taken_is = refl; clear = λ more. refl; size_is = refl }; count_is = refl; fits = tt })
 
-pub so_far-more : (old mid new : Option Feed) (scan next : Scan) (count : ℕ) (b : ℕ) → LineSoFar old mid scan count → mid ≡ given (b ∷ []) new
+pub so_far-more : (old mid new : Option Feed) (scan next : Scan) (count : ℕ) (b : ℕ) → LineSoFar old mid scan count → mid ≡ prepended (b ∷ []) new
     → (scan.after_return ≡ true → b ≢ 10) → next ≡ scan_step scan b → SizeFits next.size → LineSoFar old new next (count + 1)
 so_far-more old mid new scan next count b s g ne e fits =
     record {
@@ -121,11 +121,11 @@ so_far-more old mid new scan next count b s g ne e fits =
 seam : (text : List ℕ) → (text ++ 13 ∷ []) ++ 10 ∷ [] ≡ text ++ crlf
 seam text = append_assoc text (13 ∷ []) (10 ∷ [])
 
-pub so_far-line : (old mid new : Option Feed) (scan : Scan) (count : ℕ) (line : Line) → LineSoFar old mid scan count → mid ≡ given (10 ∷ []) new
+pub so_far-line : (old mid new : Option Feed) (scan : Scan) (count : ℕ) (line : ChunkLine) → LineSoFar old mid scan count → mid ≡ prepended (10 ∷ []) new
     → scan.after_return ≡ true → count < 8194 → line.length ≡ count - 1 → line.size ≡ scan.size → OneLine old new line
 so_far-line old mid new scan count line s g flag lt n z =
     let text = s.scanned.text in
-    let t : s.taken ≡ text ++ 13 ∷ [] = s.scanned.taken_is ∙ ap (λ f. text ++ pending f) flag in
+    let t : s.taken ≡ text ++ 13 ∷ [] = s.scanned.taken_is ∙ ap (λ f. text ++ held_return f) flag in
     let len : length s.taken ≡ length text + 1 = ap length t ∙ simp length-append refl in
     record {
       text = text;
@@ -135,7 +135,7 @@ so_far-line old mid new scan count line s g flag lt n z =
       size_is = z ∙ s.scanned.size_is;
     }
 
-long-fault : (taken rest : List ℕ) (stop : Stop) → length taken ≡ 8194 → has_crlf taken ≡ false → LineFault (taken ++ rest) stop InvalidData
+long-fault : (taken rest : List ℕ) (stop : Stop) → length taken ≡ 8194 → has_crlf taken ≡ false → ChunkLineFault (taken ++ rest) stop InvalidData
 long-fault taken rest stop n h =
     let e : take (longest_line + 2) (taken ++ rest) ≡ taken = take-append-le (longest_line + 2) taken rest (omega arith) ∙ (ap (λ k. take k taken) (sym n) ∙ take-length taken) in
     let len : length (taken ++ rest) ≡ length taken + length rest = length-append taken rest in
@@ -149,11 +149,11 @@ so_far-long old new scan count s n =
       fault = λ feed e. long-fault s.taken feed.bytes feed.stop (s.count_is ∙ n) (taken-clear s.taken scan.size scan.after_return s.scanned);
     }
 
-cut-fault : (taken bytes : List ℕ) (stop : Stop) (kind : ErrorKind) → length taken < 8194 → has_crlf taken ≡ false → bytes ≡ [] → kind ≡ fault_of stop → LineFault (taken ++ bytes) stop kind
+cut-fault : (taken bytes : List ℕ) (stop : Stop) (kind : ErrorKind) → length taken < 8194 → has_crlf taken ≡ false → bytes ≡ [] → kind ≡ fault_of stop → ChunkLineFault (taken ++ bytes) stop kind
 cut-fault taken bytes stop kind n h e k =
     let w : taken ++ bytes ≡ taken = ap (λ b. taken ++ b) e ∙ append-nil taken in
     let full : has_crlf (take (longest_line + 2) taken) ≡ false = front-clear (take (longest_line + 2) taken) (drop (longest_line + 2) taken) (rw take-append-drop h) in
-    let P : List ℕ → Type 0 = λ x. LineFault x stop kind in
+    let P : List ℕ → Type 0 = λ x. ChunkLineFault x stop kind in
     subst P (sym w) (full, inr (omega arith, k))
 
 pub so_far-cut : (old mid new : Option Feed) (scan : Scan) (count : ℕ) (kind : ErrorKind) → LineSoFar old mid scan count → new ≡ mid → CutBy kind mid → count < 8194 → NoLine old new kind

@@ -9,16 +9,16 @@ use Rattle.std.specs.declared.io.ErrorKind.{ErrorKind}
 use Rattle.std.specs.declared.io.ErrorKind.TheVariants.{InvalidData}
 use Rattle.tiny_http_device.specs.declared.device.Stop.{Stop}
 use Rattle.tiny_http_text.specs.Bytes.{crlf}
-use Rattle.tiny_http_device.specs.Device.{Feed, given, TakesFront, fault_of}
+use Rattle.tiny_http_device.specs.Device.{Feed, prepended, TakesFront, fault_of}
 use Rattle.tiny_http_device.proofs.Feeds.{given-along}
-use Rattle.tiny_http_wire.specs.Chunks.{IsShortLine, LineFault, CloseFault, SizeText, WholeChunks, CutChunks}
-use Rattle.tiny_http_wire.specs.ChunkReading.{decoded, data_at, closed, after_data, trailer_part, broken, with_data, size_of}
+use Rattle.tiny_http_wire.specs.Chunks.{IsShortLine, ChunkLineFault, CloseFault, SizeText, WholeChunks, CutChunks}
+use Rattle.tiny_http_wire.specs.ChunkReading.{decoded, data_at, chunk_closed, after_data, trailer_section, broken, prepend_decoded, size_of}
 use Rattle.tiny_http_wire.proofs.ChunkLemmas.{Go, made, IsDecoded, decoded-is, decoded-one, decoded-front, sized-line, short-one, short-fault, size-is, close-is, close-fault, trailer-end, trailer-more, trailer-faulty, at-cons, drop_at}
 use Rattle.tiny_http_wire.specs.declared.chunked.Next.TheVariants.{Line, Data, Over, Broken}
-use Rattle.tiny_http_wire.specs.declared.chunked.line.Line.{Line as TakenLine}
+use Rattle.tiny_http_wire.specs.declared.chunked.line.ChunkLine.{ChunkLine as TakenLine}
 use Rattle.tiny_http_wire.specs.ChunkSize.{size_value}
 use Rattle.tiny_http_wire.specs.ChunkLine.{OneLine, NoLine, CutBy}
-use Rattle.tiny_http_wire.specs.Decoding.{Coming, coming_of, body_at, decoded_from, trailers_from, comes, trails, with_front, over_at, BreaksBy}
+use Rattle.tiny_http_wire.specs.Decoding.{Coming, coming_of, body_at, decoded_from, trailers_from, comes, trails, prepended_data, over_at, BreaksBy}
 use Rattle.tiny_http_wire.proofs.ChunkSizeLemmas.{size-read}
 
 abbrev at : List ℕ → Stop → Feed
@@ -33,11 +33,11 @@ fuel-same : (fuel : ℕ) (bytes : List ℕ) (stop : Stop) → length bytes < fue
 fuel-same fuel bytes stop lt = let d = decoded fuel stop bytes in fuel-same-at bytes d.body stop d.ends (decoded-is fuel bytes stop lt)
 
 closed-same : (f g : Go) (stop : Stop) (front close : List ℕ) (fuel : ℕ) → ((x : List ℕ) → length x < fuel → f x ≡ g x) → length close ≤ fuel
-    → (r : Result (List ℕ) ErrorKind) → MatchResult r (λ rest. close ≡ crlf ++ rest) (λ kind. CloseFault close stop kind) → closed f front r ≡ closed g front r
+    → (r : Result (List ℕ) ErrorKind) → MatchResult r (λ rest. close ≡ crlf ++ rest) (λ kind. CloseFault close stop kind) → chunk_closed f front r ≡ chunk_closed g front r
 closed-same f g stop front close fuel same le (Err kind) h = refl
 closed-same f g stop front close fuel same le (Ok rest) h =
     let e : length close ≡ 2 + length rest = ap length h ∙ omega arith in
-    ap (with_data front) (same rest (omega arith))
+    ap (prepend_decoded front) (same rest (omega arith))
 
 data-same : (f g : Go) (stop : Stop) (n : ℕ) (rest : List ℕ) (fuel : ℕ) → ((x : List ℕ) → length x < fuel → f x ≡ g x) → length rest ≤ fuel
     → (t : Bool) → data_at f stop n rest t ≡ data_at g stop n rest t
@@ -66,7 +66,7 @@ at-bad : (stop : Stop) (text rest : List ℕ) → IsShortLine text → size_of t
 unfolding decoded_from
 at-bad stop text rest s z = more_fuel stop (text ++ crlf ++ rest) ∙ rw (short-one stop text rest s, z) refl
 
-at-none : (stop : Stop) (bytes : List ℕ) (kind : ErrorKind) → LineFault bytes stop kind → decoded_from Line (at bytes stop) ≡ broken [] kind
+at-none : (stop : Stop) (bytes : List ℕ) (kind : ErrorKind) → ChunkLineFault bytes stop kind → decoded_from Line (at bytes stop) ≡ broken [] kind
 unfolding decoded_from
 at-none stop bytes kind h = more_fuel stop bytes ∙ rw (short-fault stop bytes kind h) refl
 
@@ -84,28 +84,28 @@ size-said text line o old new l z = sym (size-read l.text) ∙ (ap size_value (s
 pub chunk-data : (old new : Option Feed) (line : TakenLine) (n : ℕ) → OneLine old new line → size_value line.size ≡ Some n → n ≢ 0 → comes (Data n) new ≡ comes Line old
 chunk-data old new line n l z ne = rw (l.gives) (go new)
   where
-    go : (f : Option Feed) → comes (Data n) f ≡ comes Line (given (l.text ++ crlf) f)
+    go : (f : Option Feed) → comes (Data n) f ≡ comes Line (prepended (l.text ++ crlf) f)
     go None = refl
     go (Some f) = ap (λ d. Some (coming_of f.stop d)) (sym (at-size f.stop l.text f.bytes n l.short (size-is l.text n (size-said [] line (Some n) old new l z)) (omega arith)))
 
 pub chunk-last : (old new : Option Feed) (line : TakenLine) → OneLine old new line → size_value line.size ≡ Some 0 → trails 128 new ≡ comes Line old
 chunk-last old new line l z = rw (l.gives) (go new)
   where
-    go : (f : Option Feed) → trails 128 f ≡ comes Line (given (l.text ++ crlf) f)
+    go : (f : Option Feed) → trails 128 f ≡ comes Line (prepended (l.text ++ crlf) f)
     go None = refl
     go (Some f) = ap (λ d. Some (coming_of f.stop d)) (sym (at-last f.stop l.text f.bytes l.short (size-said [] line (Some 0) old new l z)))
 
 pub chunk-bad : (old new : Option Feed) (line : TakenLine) → OneLine old new line → size_value line.size ≡ None → comes (Broken InvalidData) new ≡ comes Line old
 chunk-bad old new line l z = rw (l.gives) (go new)
   where
-    go : (f : Option Feed) → comes (Broken InvalidData) f ≡ comes Line (given (l.text ++ crlf) f)
+    go : (f : Option Feed) → comes (Broken InvalidData) f ≡ comes Line (prepended (l.text ++ crlf) f)
     go None = refl
     go (Some f) = ap (λ d. Some (coming_of f.stop d)) (broken-is InvalidData f ∙ sym (at-bad f.stop l.text f.bytes l.short (size-said [] line None old new l z)))
 
 pub chunk-none : (old new : Option Feed) (kind : ErrorKind) → NoLine old new kind → comes (Broken kind) new ≡ comes Line old
 chunk-none old new kind l = rw (l.gives) (go new l.fault)
   where
-    go : (f : Option Feed) → ((feed : Feed) → f ≡ Some feed → LineFault (l.gone ++ feed.bytes) feed.stop kind) → comes (Broken kind) f ≡ comes Line (given l.gone f)
+    go : (f : Option Feed) → ((feed : Feed) → f ≡ Some feed → ChunkLineFault (l.gone ++ feed.bytes) feed.stop kind) → comes (Broken kind) f ≡ comes Line (prepended l.gone f)
     go None h = refl
     go (Some f) h = ap (λ d. Some (coming_of f.stop d)) (broken-is kind f ∙ sym (at-none f.stop (l.gone ++ f.bytes) kind (h f refl)))
 
@@ -118,7 +118,7 @@ pub trail-over : (old new : Option Feed) (line : TakenLine) (m : ℕ) → OneLin
 unfolding trailers_from decoded_from
 trail-over old new line m l z = rw (l.gives, no-text l.text (sym z ∙ l.length_is)) (go new)
   where
-    go : (f : Option Feed) → comes Over f ≡ trails m (given crlf f)
+    go : (f : Option Feed) → comes Over f ≡ trails m (prepended crlf f)
     go None = refl
     go (Some f) = ap (λ d. Some (coming_of f.stop d)) (sym (trailer-end m f.stop f.bytes))
 
@@ -129,7 +129,7 @@ pub trail-more : (old new : Option Feed) (line : TakenLine) (m k : ℕ) → OneL
 unfolding trailers_from
 trail-more old new line m k l ne e = rw (l.gives, e, add-one k) (go new)
   where
-    go : (f : Option Feed) → trails k f ≡ trails (suc k) (given (l.text ++ crlf) f)
+    go : (f : Option Feed) → trails k f ≡ trails (suc k) (prepended (l.text ++ crlf) f)
     go None = refl
     go (Some f) = ap (λ d. Some (coming_of f.stop d)) (sym (trailer-more k f.stop l.text f.bytes (l.short, is-trailer l.text line.length l.length_is ne)))
 
@@ -137,10 +137,10 @@ pub trail-long : (old new : Option Feed) (line : TakenLine) → OneLine old new 
 unfolding trailers_from decoded_from
 trail-long old new line l ne = rw (l.gives) (go new)
   where
-    go : (f : Option Feed) → comes (Broken InvalidData) f ≡ trails 0 (given (l.text ++ crlf) f)
+    go : (f : Option Feed) → comes (Broken InvalidData) f ≡ trails 0 (prepended (l.text ++ crlf) f)
     go None = refl
     go (Some f) =
-        let e : trailer_part 0 f.stop (l.text ++ crlf ++ f.bytes) ≡ broken [] InvalidData =
+        let e : trailer_section 0 f.stop (l.text ++ crlf ++ f.bytes) ≡ broken [] InvalidData =
         rw (short-one f.stop l.text f.bytes l.short) (at-cons (λ rest. broken [] InvalidData) l.text f.bytes (is-trailer l.text line.length l.length_is ne)) in
         ap (λ d. Some (coming_of f.stop d)) (sym e)
 
@@ -148,12 +148,12 @@ pub trail-none : (old new : Option Feed) (kind : ErrorKind) (m : ℕ) → NoLine
 unfolding trailers_from decoded_from
 trail-none old new kind m l = rw (l.gives) (go new l.fault)
   where
-    go : (f : Option Feed) → ((feed : Feed) → f ≡ Some feed → LineFault (l.gone ++ feed.bytes) feed.stop kind) → comes (Broken kind) f ≡ trails m (given l.gone f)
+    go : (f : Option Feed) → ((feed : Feed) → f ≡ Some feed → ChunkLineFault (l.gone ++ feed.bytes) feed.stop kind) → comes (Broken kind) f ≡ trails m (prepended l.gone f)
     go None h = refl
     go (Some f) h = ap (λ d. Some (coming_of f.stop d)) (sym (trailer-faulty m f.stop (l.gone ++ f.bytes) kind (h f refl)))
 
 -- the CR LF behind data
-no-data : (stop : Stop) (bytes : List ℕ) → decoded_from (Data 0) (at bytes stop) ≡ closed (body_at stop) [] (after_data stop bytes)
+no-data : (stop : Stop) (bytes : List ℕ) → decoded_from (Data 0) (at bytes stop) ≡ chunk_closed (body_at stop) [] (after_data stop bytes)
 unfolding decoded_from
 no-data stop bytes = rw (le-ltb (length bytes) 0 (omega arith)) refl
 
@@ -177,32 +177,32 @@ cut-close (Some f) kind h = ap (λ d. Some (coming_of f.stop d)) (broken-is kind
 pub close-cut : (old new : Option Feed) (kind : ErrorKind) → CutBy kind old → new ≡ old → comes (Broken kind) new ≡ comes (Data 0) old
 close-cut old new kind h e = rw e (cut-close old kind h)
 
-pub close-wrong : (old new : Option Feed) (b : ℕ) → old ≡ given (b ∷ []) new → b ≢ 13 → comes (Broken InvalidData) new ≡ comes (Data 0) old
+pub close-wrong : (old new : Option Feed) (b : ℕ) → old ≡ prepended (b ∷ []) new → b ≢ 13 → comes (Broken InvalidData) new ≡ comes (Data 0) old
 close-wrong old new b e ne = rw e (go new)
   where
-    go : (f : Option Feed) → comes (Broken InvalidData) f ≡ comes (Data 0) (given (b ∷ []) f)
+    go : (f : Option Feed) → comes (Broken InvalidData) f ≡ comes (Data 0) (prepended (b ∷ []) f)
     go None = refl
     go (Some f) = ap (λ d. Some (coming_of f.stop d)) (broken-is InvalidData f ∙ sym (no-close f.stop (b ∷ f.bytes) InvalidData (not-return f.stop b f.bytes ne)))
 
-cut-line_feed : (mid : Option Feed) (kind : ErrorKind) → CutBy kind mid → comes (Broken kind) mid ≡ comes (Data 0) (given (13 ∷ []) mid)
+cut-line_feed : (mid : Option Feed) (kind : ErrorKind) → CutBy kind mid → comes (Broken kind) mid ≡ comes (Data 0) (prepended (13 ∷ []) mid)
 cut-line_feed None kind h = refl
 cut-line_feed (Some f) kind h = ap (λ d. Some (coming_of f.stop d)) (broken-is kind f ∙ sym (let P : List ℕ → Type 0 = λ bs. decoded_from (Data 0) (at (13 ∷ bs) f.stop) ≡ broken [] kind in subst P (sym h.0) (no-close f.stop (13 ∷ []) kind (inl (refl, h.1)))))
 
-pub close-cut_feed : (old mid new : Option Feed) (kind : ErrorKind) (a : ℕ) → old ≡ given (a ∷ []) mid → a ≡ 13 → CutBy kind mid → new ≡ mid → comes (Broken kind) new ≡ comes (Data 0) old
+pub close-cut_feed : (old mid new : Option Feed) (kind : ErrorKind) (a : ℕ) → old ≡ prepended (a ∷ []) mid → a ≡ 13 → CutBy kind mid → new ≡ mid → comes (Broken kind) new ≡ comes (Data 0) old
 close-cut_feed old mid new kind a e r h s = rw (e, s, r) (cut-line_feed mid kind h)
 
-pub close-wrong_feed : (old mid new : Option Feed) (a b : ℕ) → old ≡ given (a ∷ []) mid → a ≡ 13 → mid ≡ given (b ∷ []) new → b ≢ 10 → comes (Broken InvalidData) new ≡ comes (Data 0) old
+pub close-wrong_feed : (old mid new : Option Feed) (a b : ℕ) → old ≡ prepended (a ∷ []) mid → a ≡ 13 → mid ≡ prepended (b ∷ []) new → b ≢ 10 → comes (Broken InvalidData) new ≡ comes (Data 0) old
 close-wrong_feed old mid new a b e r h ne = rw (e, r, h) (go new)
   where
-    go : (f : Option Feed) → comes (Broken InvalidData) f ≡ comes (Data 0) (given (13 ∷ []) (given (b ∷ []) f))
+    go : (f : Option Feed) → comes (Broken InvalidData) f ≡ comes (Data 0) (prepended (13 ∷ []) (prepended (b ∷ []) f))
     go None = refl
     go (Some f) = ap (λ d. Some (coming_of f.stop d)) (broken-is InvalidData f ∙ sym (no-close f.stop (13 ∷ b ∷ f.bytes) InvalidData ((λ e. ne (second_of 13 b e)), refl)))
 
-pub close-good : (old mid new : Option Feed) (a b : ℕ) → old ≡ given (a ∷ []) mid → a ≡ 13 → mid ≡ given (b ∷ []) new → b ≡ 10 → comes Line new ≡ comes (Data 0) old
+pub close-good : (old mid new : Option Feed) (a b : ℕ) → old ≡ prepended (a ∷ []) mid → a ≡ 13 → mid ≡ prepended (b ∷ []) new → b ≡ 10 → comes Line new ≡ comes (Data 0) old
 unfolding decoded_from
 close-good old mid new a b e r h s = rw (e, r, h, s) (go new)
   where
-    go : (f : Option Feed) → comes Line f ≡ comes (Data 0) (given (13 ∷ []) (given (10 ∷ []) f))
+    go : (f : Option Feed) → comes Line f ≡ comes (Data 0) (prepended (13 ∷ []) (prepended (10 ∷ []) f))
     go None = refl
     go (Some f) = ap (λ d. Some (coming_of f.stop d)) (sym (no-data f.stop (13 ∷ 10 ∷ f.bytes)))
 
@@ -234,34 +234,34 @@ lt-shift : (a b c : ℕ) (t : Bool) → nat_lt b c ≡ t → nat_lt (a + b) (a +
 lt-shift a b c true e = let h = ltb-true b c e in lt-ltb (a + b) (a + c) (omega arith)
 lt-shift a b c false e = let h = ltb-false b c e in le-ltb (a + b) (a + c) (omega arith)
 
-closed-front : (go : Go) (a b : List ℕ) (r : Result (List ℕ) ErrorKind) → closed go (a ++ b) r ≡ with_data a (closed go b r)
+closed-front : (go : Go) (a b : List ℕ) (r : Result (List ℕ) ErrorKind) → chunk_closed go (a ++ b) r ≡ prepend_decoded a (chunk_closed go b r)
 closed-front go a b (Err kind) = refl
 closed-front go a b (Ok rest) = ap (λ x. made x (go rest).ends) (append_assoc a b (go rest).body)
 
 taken-data : (go : Go) (stop : Stop) (front rest : List ℕ) (k : ℕ) (t : Bool)
-    → data_at go stop (length front + k) (front ++ rest) t ≡ with_data front (data_at go stop k rest t)
+    → data_at go stop (length front + k) (front ++ rest) t ≡ prepend_decoded front (data_at go stop k rest t)
 taken-data go stop front rest k true = refl
 taken-data go stop front rest k false =
     let e : take (length front + k) (front ++ rest) ≡ front ++ take k rest = take-append-add front rest k in
     let f : drop (length front + k) (front ++ rest) ≡ drop k rest = sym (drop-drop k (length front) (front ++ rest)) ∙ ap (λ x. drop k x) (drop_at front rest) in
     rw (e, f) (closed-front go front (take k rest) (after_data stop (drop k rest)))
 
-data-more : (stop : Stop) (front rest : List ℕ) (k : ℕ) → decoded_from (Data (length front + k)) (at (front ++ rest) stop) ≡ with_data front (decoded_from (Data k) (at rest stop))
+data-more : (stop : Stop) (front rest : List ℕ) (k : ℕ) → decoded_from (Data (length front + k)) (at (front ++ rest) stop) ≡ prepend_decoded front (decoded_from (Data k) (at rest stop))
 unfolding decoded_from
 data-more stop front rest k =
     let e : nat_lt (length (front ++ rest)) (length front + k) ≡ nat_lt (length rest) k =
     ap (λ n. nat_lt n (length front + k)) (length-append front rest) ∙ lt-shift (length front) (length rest) k (nat_lt (length rest) k) refl in
     ap (λ t. data_at (body_at stop) stop (length front + k) (front ++ rest) t) e ∙ taken-data (body_at stop) stop front rest k (nat_lt (length rest) k)
 
-data-given-at : (new : Option Feed) (front : List ℕ) (k : ℕ) → comes (Data (length front + k)) (given front new) ≡ with_front front (comes (Data k) new)
+data-given-at : (new : Option Feed) (front : List ℕ) (k : ℕ) → comes (Data (length front + k)) (prepended front new) ≡ prepended_data front (comes (Data k) new)
 data-given-at None front k = refl
 data-given-at (Some f) front k = ap (λ d. Some (coming_of f.stop d)) (data-more f.stop front f.bytes k)
 
-pub data-given : (old new : Option Feed) (front : List ℕ) (left n : ℕ) → old ≡ given front new → length front ≡ n → n ≤ left
-    → comes (Data left) old ≡ with_front front (comes (Data (left - n)) new)
+pub data-given : (old new : Option Feed) (front : List ℕ) (left n : ℕ) → old ≡ prepended front new → length front ≡ n → n ≤ left
+    → comes (Data left) old ≡ prepended_data front (comes (Data (left - n)) new)
 data-given old new front left n h e le =
     let split : left ≡ length front + (left - n) = omega arith in
-    ap (λ o. comes (Data left) o) h ∙ (ap (λ m. comes (Data m) (given front new)) split ∙ data-given-at new front (left - n))
+    ap (λ o. comes (Data left) o) h ∙ (ap (λ m. comes (Data m) (prepended front new)) split ∙ data-given-at new front (left - n))
 
 cut-at : (stop : Stop) (left : ℕ) → 0 < left → decoded_from (Data left) (at [] stop) ≡ broken [] (fault_of stop)
 unfolding decoded_from
@@ -295,7 +295,7 @@ takes-more a b c h k = (h.0 ++ k.0, given-along a b c h.0 k.0 (h.0 ++ k.0) h.1 k
 pub takes-none : (a b : Option Feed) → b ≡ a → TakesFront a b
 takes-none a b e = ([], sym e ∙ nothing b)
   where
-    nothing : (o : Option Feed) → o ≡ given [] o
+    nothing : (o : Option Feed) → o ≡ prepended [] o
     nothing None = refl
     nothing (Some f) = refl
 

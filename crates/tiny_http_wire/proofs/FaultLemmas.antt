@@ -3,7 +3,7 @@ use Rattle.std.proofs.Common.{ℕ, ◌+◌, ◌-◌, ◌^◌, min, List, Result,
 use Rattle.std.specs.IoError.{error_kind}
 use Rattle.std.specs.declared.io.Error.{Error}
 use Rattle.std.specs.declared.io.ErrorKind.{ErrorKind}
-use Rattle.tiny_http_device.specs.Device.{Sink, Took, Failed, Puts, SameFaults, Faulted, Uses}
+use Rattle.tiny_http_device.specs.Device.{Sink, Took, Failed, Puts, SameFaults, Faulted, CountsFaults}
 use Rattle.tiny_http_wire.specs.Answer.{Text, Prints}
 
 -- nothing was written
@@ -20,17 +20,17 @@ Took-same a b text h = record { failures = h.failures; last_kind = h.last_kind; 
 pub Failed-faulted : (a b : Sink) (text : List ℕ) (kind : ErrorKind) → Failed a b text kind → Faulted a b kind
 Failed-faulted a b text kind h = record { failures = h.failures; last_kind = h.last_kind; was_open = h.was_open }
 
-pub Puts-uses : {T : Type 0} (a b : Sink) (r : Result T Error) (text : List ℕ) → Puts a b r text → Uses a b r
+pub Puts-uses : {T : Type 0} (a b : Sink) (r : Result T Error) (text : List ℕ) → Puts a b r text → CountsFaults a b r
 Puts-uses a b (Ok x) text h = Took-same a b text h
 Puts-uses a b (Err e) text h = inr (Failed-faulted a b text (error_kind e) h)
 
-pub Prints-uses : {T : Type 0} (a b : Sink) (r : Result T Error) (text : Text) → Prints a b r text → Uses a b r
+pub Prints-uses : {T : Type 0} (a b : Sink) (r : Result T Error) (text : Text) → Prints a b r text → CountsFaults a b r
 Prints-uses a b (Ok x) text h = Took-same a b text.bytes h.1
 Prints-uses a b (Err e) text (inl h) = inl (Took-same a b text.bytes h.1)
 Prints-uses a b (Err e) text (inr h) = inr (Failed-faulted a b text.bytes (error_kind e) h)
 
 -- a call behind others that did not fail
-pub Uses-behind : {T : Type 0} (a b c : Sink) (r : Result T Error) → SameFaults a b → Uses b c r → Uses a c r
+pub Uses-behind : {T : Type 0} (a b c : Sink) (r : Result T Error) → SameFaults a b → CountsFaults b c r → CountsFaults a c r
 Uses-behind a b c (Ok x) h k = SameFaults-append a b c h k
 Uses-behind a b c (Err e) h (inl k) = inl (SameFaults-append a b c h k)
 Uses-behind a b c (Err e) h (inr k) = inr (record {

@@ -7,7 +7,7 @@ use Rattle.std.proofs.lemmas.List.{drop-drop, take_all, take-append-drop}
 use Rattle.tiny_http_device.specs.Device.{Feed, ReadsFrom, Fills, FilledTo, GatheredTo}
 use Rattle.tiny_http_device.specs.declared.device.Stop.TheVariants.{End, Fault}
 use Rattle.std.specs.declared.io.ErrorKind.TheVariants.{OutOfMemory}
-use Rattle.tiny_http_wire.proofs.BodyLemmas.{read_front}
+use Rattle.tiny_http_wire.proofs.BodyLemmas.{front_was_read}
 
 -- more of a buffer was filled
 pub FilledTo-more : (o p q : Option Feed) (at n : ℕ) (was buf : List ℕ) → at ≤ length was → length buf ≡ length was → at + n ≤ length was → take at buf ≡ take at was → FilledTo o p at was → ReadsFrom p q (Ok n) (drop at buf) → FilledTo o q (at + n) buf
@@ -15,7 +15,7 @@ FilledTo-more None p q at n was buf l m s e h r = tt
 FilledTo-more (Some f) None q at n was buf l m s e h r = absurd h
 FilledTo-more (Some f) (Some g) None at n was buf l m s e h r = r
 FilledTo-more (Some f) (Some g) (Some d) at n was buf l m s e h r =
-    let x = read_front g.bytes d.bytes (drop at buf) n (simp length-drop (omega arith)) r.0 in (
+    let x = front_was_read g.bytes d.bytes (drop at buf) n (simp length-drop (omega arith)) r.0 in (
       omega (arith, x.0, ap length h.2 ∙ length-drop at f.bytes, h.0),
       take-add at n buf ∙ ap (λ (y : List ℕ). y ++ take n (drop at buf)) (e ∙ h.1) ∙ ap (λ (y : List ℕ). take at f.bytes ++ y) (x.2 ∙ ap (λ (y : List ℕ). take n y) h.2) ∙ sym (take-add at n f.bytes),
       x.1 ∙ ap (λ (y : List ℕ). drop n y) h.2 ∙ drop-drop n at f.bytes,

@@ -5,38 +5,38 @@ use Rattle.std.specs.declared.io.ErrorKind.TheVariants.{InvalidData, UnexpectedE
 use Rattle.tiny_http_device.specs.declared.device.Stop.TheVariants.{End}
 use Rattle.tiny_http_head.specs.declared.common.Method.TheVariants.{Get}
 use Rattle.tiny_http_head.specs.Heads.{version, Cut, NotAscii, Malformed}
-use Rattle.tiny_http_head.specs.Reading.{head, Whole, Faulty}
+use Rattle.tiny_http_head.specs.Reading.{request_head_read, Whole, Faulty}
 use Rattle.tiny_http_wire.specs.ChunkReading.{decoded}
 
-plain_request : head (codes "GET /hello HTTP/1.1\r\n\r\n") ≡ Whole (record { method = Get; path = codes "/hello"; version = version 1 1; headers = [] }) []
+plain_request : request_head_read (codes "GET /hello HTTP/1.1\r\n\r\n") ≡ Whole (record { method = Get; path = codes "/hello"; version = version 1 1; headers = [] }) []
 plain_request = refl
 
-empty_first_line : head (codes "\r\n") ≡ Faulty None Malformed
+empty_first_line : request_head_read (codes "\r\n") ≡ Faulty None Malformed
 empty_first_line = refl
 
-no_version : head (codes "GET /hello\r\n") ≡ Faulty None Malformed
+no_version : request_head_read (codes "GET /hello\r\n") ≡ Faulty None Malformed
 no_version = refl
 
-no_such_version : head (codes "qsd qsd qsd\r\n") ≡ Faulty None Malformed
+no_such_version : request_head_read (codes "qsd qsd qsd\r\n") ≡ Faulty None Malformed
 no_such_version = refl
 
-lone_newline_in_request_line : head (codes "GET / HTTP/1.1\n\r\n\r\n") ≡ Whole (record { method = Get; path = codes "/"; version = version 1 1; headers = [] }) []
+lone_newline_in_request_line : request_head_read (codes "GET / HTTP/1.1\n\r\n\r\n") ≡ Whole (record { method = Get; path = codes "/"; version = version 1 1; headers = [] }) []
 lone_newline_in_request_line = refl
 
-lone_newline_in_value : head (codes "GET / HTTP/1.1\r\nHost: a\nX: b\r\n\r\n")
+lone_newline_in_value : request_head_read (codes "GET / HTTP/1.1\r\nHost: a\nX: b\r\n\r\n")
     ≡ Whole (record { method = Get; path = codes "/"; version = version 1 1; headers = record { field = codes "Host"; value = codes "a\nX: b" } ∷ [] }) []
 lone_newline_in_value = refl
 
-blank_before_colon : head (codes "GET / HTTP/1.0\r\nContent-Length : 5\r\n\r\nhello") ≡ Faulty (Some (version 1 0)) Malformed
+blank_before_colon : request_head_read (codes "GET / HTTP/1.0\r\nContent-Length : 5\r\n\r\nhello") ≡ Faulty (Some (version 1 0)) Malformed
 blank_before_colon = refl
 
-leading_blank : head (codes "GET / HTTP/1.0\r\n Host: a\r\n\r\nhello") ≡ Faulty (Some (version 1 0)) Malformed
+leading_blank : request_head_read (codes "GET / HTTP/1.0\r\n Host: a\r\n\r\nhello") ≡ Faulty (Some (version 1 0)) Malformed
 leading_blank = refl
 
-unfinished_head : head (codes "GET / HTTP/1.1\r\nHost: a") ≡ Faulty (Some (version 1 1)) Cut
+unfinished_head : request_head_read (codes "GET / HTTP/1.1\r\nHost: a") ≡ Faulty (Some (version 1 1)) Cut
 unfinished_head = refl
 
-byte_past_ascii : head (codes "GET / HTTP/1.1\r\nHost: " ++ 233 ∷ codes "\r\n") ≡ Faulty (Some (version 1 1)) NotAscii
+byte_past_ascii : request_head_read (codes "GET / HTTP/1.1\r\nHost: " ++ 233 ∷ codes "\r\n") ≡ Faulty (Some (version 1 1)) NotAscii
 byte_past_ascii = refl
 
 chunks_with_extension_and_trailer : decoded 100 End (codes "5;x=1\r\nhello\r\n0\r\nT: v\r\n\r\nGET /b HTTP/1.1\r\n\r\n") ≡ record { body = codes "hello"; ends = Ok (codes "GET /b HTTP/1.1\r\n\r\n") }

@@ -56,8 +56,8 @@ status_line version status = codes "HTTP/" ++ version_text version ++ codes " " 
 unfoldable pub field_line : List ℕ → List ℕ → List ℕ
 field_line field value = field ++ codes ": " ++ value ++ codes "\r\n"
 
-abbrev pub header_line : Header → List ℕ
-header_line h = field_line h.field h.value
+abbrev pub field_line_of : Header → List ℕ
+field_line_of h = field_line h.field h.value
 
 abbrev pub protocol_lines : List ℕ → List ℕ
 protocol_lines protocol = field_line (codes "Connection") (codes "upgrade") ++ field_line (codes "Upgrade") protocol
@@ -84,9 +84,9 @@ framing_line TransferEncoding = field_line (codes "Transfer-Encoding") (codes "c
 framing_line (ContentLength n) = length_line n
 
 -- the head: the status line, the headers in their order, an empty line
-unfoldable pub head : HTTPVersion → ℕ → Option (List ℕ) → List Header → HttpDate → FramingHeader → List ℕ
-head version status upgrade headers date framing =
-    status_line version status ++ upgrade_lines upgrade ++ server_line headers ++ date_line headers date ++ flat_map header_line headers ++ framing_line framing ++ codes "\r\n"
+unfoldable pub answer_head_text : HTTPVersion → ℕ → Option (List ℕ) → List Header → HttpDate → FramingHeader → List ℕ
+answer_head_text version status upgrade headers date framing =
+    status_line version status ++ upgrade_lines upgrade ++ server_line headers ++ date_line headers date ++ flat_map field_line_of headers ++ framing_line framing ++ codes "\r\n"
 
 -- whether the body is not sent: where the caller says so, and for the codes 100 to 199, 204 and 304 (RFC 9112, section
 -- 6.3)
@@ -94,8 +94,8 @@ abbrev pub is_withheld : Bool → ℕ → Bool
 is_withheld asked status = asked || ((nat_le 100 status && nat_lt status 200) || ((status == 204) || (status == 304)))
 
 -- a text behind another
-abbrev pub behind : List ℕ → Text → Text
-behind front text = record { bytes = front ++ text.bytes; ending = text.ending }
+abbrev pub prepend_text : List ℕ → Text → Text
+prepend_text front text = record { bytes = front ++ text.bytes; ending = text.ending }
 
 abbrev pub whole : List ℕ → Text
 whole bytes = record { bytes = bytes; ending = Whole }
@@ -113,8 +113,8 @@ abbrev pub chunked_body : Feed → Text
 chunked_body feed = chunked_until feed.stop feed.bytes
 
 -- no byte is sent, and this fault told
-abbrev pub nothing : ErrorKind → Text
-nothing kind = record { bytes = []; ending = Broken kind }
+abbrev pub nothing_sent : ErrorKind → Text
+nothing_sent kind = record { bytes = []; ending = Broken kind }
 
 -- how an answer is asked for
 pub record Printing : Type 0 where
@@ -125,40 +125,40 @@ pub record Printing : Type 0 where
   pub date : HttpDate
 
 -- the body, unless it is withheld
-abbrev pub unless : Bool → Text → Text
-unless withheld body = if withheld then whole [] else body
+abbrev pub body_unless_withheld : Bool → Text → Text
+body_unless_withheld withheld body = if withheld then whole [] else body
 
 -- a body that was read whole before its head: nothing is sent where the data fails
 abbrev pub gathered_body : Stop → List ℕ → Bool → List ℕ → Text
 gathered_body End front withheld bytes = whole (front ++ (if withheld then [] else bytes))
-gathered_body (Fault kind) front withheld bytes = nothing kind
+gathered_body (Fault kind) front withheld bytes = nothing_sent kind
 
 -- Head and body by the coding and the known length, where `top` is the head with what it tells of the
 -- body's length.
 abbrev pub as_it_is : Option ℕ → (FramingHeader → List ℕ) → Bool → Feed → Text
-as_it_is (Some n) top withheld feed = behind (top (ContentLength n)) (unless withheld (identity_body n feed))
+as_it_is (Some n) top withheld feed = prepend_text (top (ContentLength n)) (body_unless_withheld withheld (identity_body n feed))
 as_it_is None top withheld feed = gathered_body feed.stop (top (ContentLength (length feed.bytes))) withheld feed.bytes
 
 abbrev pub with_coding : Coding → Option ℕ → (FramingHeader → List ℕ) → Bool → Feed → Text
 with_coding Identity length top withheld feed = as_it_is length top withheld feed
-with_coding Chunked length top withheld feed = behind (top TransferEncoding) (unless withheld (chunked_body feed))
+with_coding Chunked length top withheld feed = prepend_text (top TransferEncoding) (body_unless_withheld withheld (chunked_body feed))
 
-abbrev pub is_ascii : List ℕ → Bool
-is_ascii text = list_all (λ b. nat_lt b 128) text
+abbrev pub is_ascii_text : List ℕ → Bool
+is_ascii_text text = list_all (λ b. nat_lt b 128) text
 
 -- the head of an answer
-abbrev pub top_of : Answer → Printing → FramingHeader → List ℕ
-top_of a p framing = head p.version a.status p.upgrade a.headers p.date framing
+abbrev pub head_text_of : Answer → Printing → FramingHeader → List ℕ
+head_text_of a p framing = answer_head_text p.version a.status p.upgrade a.headers p.date framing
 
 -- How the body of an answer is sent: as it is. The choice of chunks, by the length and by what the request's TE asks for
 -- (RFC 9112, sections 6.1 and 7.4), is not built yet.
-abbrev pub coding_for : Answer → Printing → Coding
-coding_for a p = Identity
+abbrev pub served_coding : Answer → Printing → Coding
+served_coding a p = Identity
 
 -- an upgrade is a head alone, and its protocol is ASCII
 abbrev pub with_upgrade : Option (List ℕ) → Answer → Feed → Printing → Text
-with_upgrade (Some protocol) a feed p = if is_ascii protocol then whole (top_of a p Neither) else nothing InvalidInput
-with_upgrade None a feed p = with_coding (coding_for a p) a.length (top_of a p) (is_withheld p.no_body a.status) feed
+with_upgrade (Some protocol) a feed p = if is_ascii_text protocol then whole (head_text_of a p Neither) else nothing_sent InvalidInput
+with_upgrade None a feed p = with_coding (served_coding a p) a.length (head_text_of a p) (is_withheld p.no_body a.status) feed
 
 -- the text of an answer with this data
 unfoldable pub text_of : Answer → Feed → Printing → Text
@@ -173,15 +173,15 @@ Prints old new (Err e) text = ((text.ending ≡ Broken (error_kind e)) × Took o
 -- A call that prints an answer without a coding prints its text; or finds no memory to gather data of unknown length:
 -- then nothing is sent.
 abbrev pub PrintsUncoded : {T : Type 0} → Sink → Sink → Result T Error → Option ℕ → Text → Type 0
-PrintsUncoded old new r length text = Prints old new r text ⊎ ((length ≡ None) × Prints old new r (nothing OutOfMemory))
+PrintsUncoded old new r length text = Prints old new r text ⊎ ((length ≡ None) × Prints old new r (nothing_sent OutOfMemory))
 
 -- a call that prints an answer
 abbrev pub PrintsAnswer : {T : Type 0} → Sink → Sink → Result T Error → Answer → Feed → Printing → Type 0
-PrintsAnswer old new r a feed p = Prints old new r (text_of a feed p) ⊎ ((p.upgrade ≡ None) × (coding_for a p ≡ Identity) × (a.length ≡ None) × Prints old new r (nothing OutOfMemory))
+PrintsAnswer old new r a feed p = Prints old new r (text_of a feed p) ⊎ ((p.upgrade ≡ None) × (served_coding a p ≡ Identity) × (a.length ≡ None) × Prints old new r (nothing_sent OutOfMemory))
 
 -- an answer whose data was gathered
 abbrev pub PrintsGathered : {T : Type 0} → Sink → Sink → Result T Error → List ℕ → Bool → Feed → Type 0
-PrintsGathered old new r front withheld feed = Prints old new r (gathered_body feed.stop front withheld feed.bytes) ⊎ Prints old new r (nothing OutOfMemory)
+PrintsGathered old new r front withheld feed = Prints old new r (gathered_body feed.stop front withheld feed.bytes) ⊎ Prints old new r (nothing_sent OutOfMemory)
 
 -- what a contract sees of a response: the answer, and its data
 pub record ResponseState (R : Type 0) : Type 0 where

@@ -2,11 +2,11 @@
 use Rattle.std.specs.Prelude.{◌≡◌, ℕ, Bool, true, false, ◌==◌, List, [], ◌++◌, length, Option, Some, None, ⊤}
 use Rattle.std.specs.declared.io.ErrorKind.{ErrorKind}
 use Rattle.tiny_http_text.specs.Bytes.{crlf}
-use Rattle.tiny_http_device.specs.Device.{Feed, given, fault_of}
-use Rattle.tiny_http_wire.specs.Chunks.{IsShortLine, LineFault}
+use Rattle.tiny_http_device.specs.Device.{Feed, prepended, fault_of}
+use Rattle.tiny_http_wire.specs.Chunks.{IsShortLine, ChunkLineFault}
 use Rattle.tiny_http_wire.specs.declared.chunked.size.Size.{Size}
 use Rattle.tiny_http_wire.specs.declared.chunked.size.Size.TheVariants.{Blank}
-use Rattle.tiny_http_wire.specs.declared.chunked.line.Line.{Line}
+use Rattle.tiny_http_wire.specs.declared.chunked.line.ChunkLine.{ChunkLine}
 use Rattle.tiny_http_wire.specs.declared.chunked.line.Scan.{Scan}
 use Rattle.tiny_http_wire.specs.ChunkSize.{size_step, size_after}
 
@@ -22,9 +22,9 @@ abbrev pub scan_step : Scan → ℕ → Scan
 scan_step s b = scan_with s.size s.after_return b (b == 13)
 
 -- a line was taken, and is this one
-pub record OneLine (old new : Option Feed) (line : Line) : Type 0 where
+pub record OneLine (old new : Option Feed) (line : ChunkLine) : Type 0 where
   pub text : List ℕ
-  pub gives : old ≡ given (text ++ crlf) new
+  pub gives : old ≡ prepended (text ++ crlf) new
   pub short : IsShortLine text
   pub length_is : line.length ≡ length text
   pub size_is : line.size ≡ size_after Blank text
@@ -32,8 +32,8 @@ pub record OneLine (old new : Option Feed) (line : Line) : Type 0 where
 -- no line stands there, and some bytes of what does were taken
 pub record NoLine (old new : Option Feed) (kind : ErrorKind) : Type 0 where
   pub gone : List ℕ
-  pub gives : old ≡ given gone new
-  pub fault : (feed : Feed) → new ≡ Some feed → LineFault (gone ++ feed.bytes) feed.stop kind
+  pub gives : old ≡ prepended gone new
+  pub fault : (feed : Feed) → new ≡ Some feed → ChunkLineFault (gone ++ feed.bytes) feed.stop kind
 
 -- no byte is left of the feed, if it is told, and its stop is told so
 abbrev pub CutBy : ErrorKind → Option Feed → Type 0

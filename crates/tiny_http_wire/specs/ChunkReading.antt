@@ -47,29 +47,29 @@ abbrev pub trailer_in : (List ℕ → Decoded) → LineRead → Decoded
 trailer_in go (Err e) = broken [] e
 trailer_in go (Ok l) = trailer_at go l.0 l.1
 
-abbrev pub trailer_part : ℕ → Stop → List ℕ → Decoded
-trailer_part zero stop bytes = trailer_in (λ rest. broken [] InvalidData) (short_line stop bytes)
-trailer_part (suc more) stop bytes = trailer_in (trailer_part more stop) (short_line stop bytes)
+abbrev pub trailer_section : ℕ → Stop → List ℕ → Decoded
+trailer_section zero stop bytes = trailer_in (λ rest. broken [] InvalidData) (short_line stop bytes)
+trailer_section (suc more) stop bytes = trailer_in (trailer_section more stop) (short_line stop bytes)
 
 abbrev pub after_data : Stop → List ℕ → Result (List ℕ) ErrorKind
 after_data stop [] = Err (fault_of stop)
 after_data stop (a ∷ []) = Err (if a == 13 then fault_of stop else InvalidData)
 after_data stop (a ∷ b ∷ bs) = if (a == 13 && b == 10) then Ok bs else Err InvalidData
 
-abbrev pub with_data : List ℕ → Decoded → Decoded
-with_data front d = record { body = front ++ d.body; ends = d.ends }
+abbrev pub prepend_decoded : List ℕ → Decoded → Decoded
+prepend_decoded front d = record { body = front ++ d.body; ends = d.ends }
 
-abbrev pub closed : (List ℕ → Decoded) → List ℕ → Result (List ℕ) ErrorKind → Decoded
-closed go front (Err e) = broken front e
-closed go front (Ok rest) = with_data front (go rest)
+abbrev pub chunk_closed : (List ℕ → Decoded) → List ℕ → Result (List ℕ) ErrorKind → Decoded
+chunk_closed go front (Err e) = broken front e
+chunk_closed go front (Ok rest) = prepend_decoded front (go rest)
 
 abbrev pub data_at : (List ℕ → Decoded) → Stop → ℕ → List ℕ → Bool → Decoded
 data_at go stop size bytes true = broken bytes (fault_of stop)
-data_at go stop size bytes false = closed go (take size bytes) (after_data stop (drop size bytes))
+data_at go stop size bytes false = chunk_closed go (take size bytes) (after_data stop (drop size bytes))
 
 abbrev pub sized : (List ℕ → Decoded) → Stop → List ℕ → Option ℕ → Decoded
 sized go stop rest None = broken [] InvalidData
-sized go stop rest (Some zero) = trailer_part most_trailers stop rest
+sized go stop rest (Some zero) = trailer_section most_trailers stop rest
 sized go stop rest (Some (suc m)) = data_at go stop (suc m) rest (nat_lt (length rest) (suc m))
 
 abbrev pub chunk_in : (List ℕ → Decoded) → Stop → LineRead → Decoded

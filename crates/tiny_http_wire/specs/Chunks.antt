@@ -86,8 +86,8 @@ abbrev pub HasNoShortLine : List ℕ → Type 0
 HasNoShortLine bytes = has_crlf (take (longest_line + 2) bytes) ≡ false
 
 -- where a line has to stand, none does: there is room for the longest one, or the bytes end
-abbrev pub LineFault : List ℕ → Stop → ErrorKind → Type 0
-LineFault bytes stop kind =
+abbrev pub ChunkLineFault : List ℕ → Stop → ErrorKind → Type 0
+ChunkLineFault bytes stop kind =
     HasNoShortLine bytes × (((longest_line + 2 ≤ length bytes) × (kind ≡ InvalidData)) ⊎ ((length bytes < longest_line + 2) × (kind ≡ fault_of stop)))
 
 -- what stands where the CR LF after a chunk's data has to
@@ -105,24 +105,24 @@ pub data Remainder : Type 0 where
   CutTrailer : (last : List ℕ) (trailers : List (List ℕ)) (next : List ℕ) → Remainder
   LongTrailer : (last : List ℕ) (trailers : List (List ℕ)) (next : List ℕ) → Remainder
 
-abbrev pub Breaks : Remainder → List ℕ → Stop → List ℕ → ErrorKind → Type 0
+abbrev pub RemainderBreaks : Remainder → List ℕ → Stop → List ℕ → ErrorKind → Type 0
 -- no size line
-Breaks NoSizeLine bytes stop part kind = (part ≡ []) × LineFault bytes stop kind
+RemainderBreaks NoSizeLine bytes stop part kind = (part ≡ []) × ChunkLineFault bytes stop kind
 -- a size line whose text is no size
-Breaks (BadSize text rest) bytes stop part kind =
+RemainderBreaks (BadSize text rest) bytes stop part kind =
     (bytes ≡ text ++ crlf ++ rest) × IsShortLine text × ((size : ℕ) → SizeText text size → ⊥) × (part ≡ []) × (kind ≡ InvalidData)
 -- the bytes end within the data
-Breaks (CutData text size) bytes stop part kind =
+RemainderBreaks (CutData text size) bytes stop part kind =
     (bytes ≡ text ++ crlf ++ part) × IsShortLine text × SizeText text size × (length part < size) × (kind ≡ fault_of stop)
 -- all the data stand, and no CR LF after them
-Breaks (NoClose text close) bytes stop part kind =
+RemainderBreaks (NoClose text close) bytes stop part kind =
     (bytes ≡ text ++ crlf ++ part ++ close) × IsShortLine text × SizeText text (length part) × (0 < length part) × CloseFault close stop kind
 -- a last chunk, and the trailer part breaks off
-Breaks (CutTrailer last trailers next) bytes stop part kind =
+RemainderBreaks (CutTrailer last trailers next) bytes stop part kind =
     (bytes ≡ lines_text (last ∷ trailers) ++ next) × IsLastLine last × AllByRecursion IsTrailerLine trailers × (length trailers ≤ most_trailers)
-    × LineFault next stop kind × (part ≡ [])
+    × ChunkLineFault next stop kind × (part ≡ [])
 -- a last chunk, and a trailer line too many
-Breaks (LongTrailer last trailers next) bytes stop part kind =
+RemainderBreaks (LongTrailer last trailers next) bytes stop part kind =
     (bytes ≡ lines_text (last ∷ trailers) ++ next) × IsLastLine last × AllByRecursion IsTrailerLine trailers × (length trailers ≡ most_trailers + 1)
     × (part ≡ []) × (kind ≡ InvalidData)
 
@@ -135,4 +135,4 @@ pub record CutChunks (bytes : List ℕ) (stop : Stop) (body : List ℕ) (kind : 
   pub joins : bytes ≡ flat_map chunk_text chunks ++ rest
   pub body_is : body ≡ data_of chunks ++ part
   pub are_chunks : AllByRecursion IsChunk chunks
-  pub breaks : Breaks way rest stop part kind
+  pub breaks : RemainderBreaks way rest stop part kind

@@ -11,7 +11,7 @@ use Rattle.tiny_http_wire.specs.declared.chunked.Next.TheVariants.{Line, Data, O
 use Rattle.tiny_http_wire.specs.declared.chunked.Decoding.{Decoding}
 use Rattle.tiny_http_wire.specs.declared.chunked.Decoder.{Decoder}
 use Rattle.tiny_http_device.specs.Device.{AnswersStop, Feed, TakesFront}
-use Rattle.tiny_http_wire.specs.ChunkReading.{Decoded, decoded, data_at, trailer_part, broken}
+use Rattle.tiny_http_wire.specs.ChunkReading.{Decoded, decoded, data_at, trailer_section, broken}
 
 -- the data that are still to come, and what the reader gives behind the body, or the fault
 pub record Coming : Type 0 where
@@ -31,7 +31,7 @@ decoded_from (Broken kind) feed = broken [] kind
 
 -- what is read behind the last chunk's line, where so many trailer lines may stand
 unfoldable pub trailers_from : ℕ → Feed → Decoded
-trailers_from most feed = trailer_part most feed.stop feed.bytes
+trailers_from most feed = trailer_section most feed.stop feed.bytes
 
 -- the rest of the bytes, with their stop, or the fault
 abbrev pub rest_at : Stop → Result (List ℕ) ErrorKind → Result Feed ErrorKind
@@ -77,8 +77,8 @@ abbrev pub prepend_data : List ℕ → Coming → Coming
 prepend_data bs c = record { bytes = bs ++ c.bytes; behind = c.behind }
 
 -- these data, and then what comes, where it is told
-abbrev pub with_front : List ℕ → Option Coming → Option Coming
-with_front bs c = option_map (prepend_data bs) c
+abbrev pub prepended_data : List ℕ → Option Coming → Option Coming
+prepended_data bs c = option_map (prepend_data bs) c
 
 -- the body is over, and this stands behind it
 abbrev pub over_at : Feed → Coming
@@ -119,7 +119,7 @@ decoder_feed feed d = option_map feed_of (decoder_coming feed d)
 -- empty buffer nothing changes, what was reported once is reported from then on, and of the reader's bytes a front is taken.
 pub record ReadsData {R : Type 0} (feed : R → Option Feed) (old new : Decoder R) (r : Result ℕ Error) (buf : List ℕ) : Type 0 where
   pub bound : IfOk r (λ n. n ≤ length buf)
-  pub bytes : IfOk r (λ n. decoder_coming feed old ≡ with_front (take n buf) (decoder_coming feed new))
+  pub bytes : IfOk r (λ n. decoder_coming feed old ≡ prepended_data (take n buf) (decoder_coming feed new))
   pub end : IfOk r (λ n. n ≡ 0 → 0 < length buf → decoder_coming feed old ≡ option_map over_at (feed (decoder_inner new)))
   pub fault : IfErr r (λ e. BreaksBy (error_kind e) (decoder_coming feed old))
   pub again : OnErr r (decoder_coming feed new ≡ decoder_coming feed old)

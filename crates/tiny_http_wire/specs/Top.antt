@@ -1,9 +1,9 @@
 -- The head of an answer, by what the printing functions pass on.
 use Rattle.std.specs.Prelude.{ℕ, List, Option}
 use Rattle.tiny_http_wire.specs.declared.coding.FramingHeader.{FramingHeader}
-use Rattle.tiny_http_wire.specs.declared.head.Top.{Top}
-use Rattle.tiny_http_wire.specs.Answer.{head}
+use Rattle.tiny_http_wire.specs.declared.answer_head.Top.{Top}
+use Rattle.tiny_http_wire.specs.Answer.{answer_head_text}
 
 -- the head, with what an upgrade puts in front, and how it tells the length of the body
-abbrev pub head_of : Top → Option (List ℕ) → FramingHeader → List ℕ
-head_of top upgrade framing = head top.version top.status.0 upgrade top.headers.now top.date framing
+abbrev pub top_text : Top → Option (List ℕ) → FramingHeader → List ℕ
+top_text top upgrade framing = answer_head_text top.version top.status.0 upgrade top.headers.now top.date framing

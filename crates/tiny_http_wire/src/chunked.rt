@@ -2,10 +2,10 @@
 ghost use Rattle.std.specs.Prelude.{◌≡◌, ℕ, ◌<◌, ◌≤◌, List, length, take, Option, None, Some, Ok, Err, IfOk, IfErr, OnOk, OnErr, IsSome, IfSome};
 ghost use Rattle.std.specs.Option.{option_map};
 ghost use Rattle.std.specs.IoError.{error_kind};
-ghost use Rattle.tiny_http_device.specs.Device.{AnswersStop, given, Reads, TakesFront};
+ghost use Rattle.tiny_http_device.specs.Device.{AnswersStop, prepended, Reads, TakesFront};
 ghost use Rattle.tiny_http_wire.specs.Chunks.{WholeChunks, CutChunks};
 ghost use Rattle.tiny_http_wire.specs.ChunkLine.{CutBy};
-ghost use Rattle.tiny_http_wire.specs.Decoding.{comes, trails, IsReady, next_stop, decoding_coming, decoding_stop, with_front, over_at, BreaksBy};
+ghost use Rattle.tiny_http_wire.specs.Decoding.{comes, trails, IsReady, next_stop, decoding_coming, decoding_stop, prepended_data, over_at, BreaksBy};
 
 mod line;
 mod size;
@@ -134,7 +134,7 @@ fn read_data<R: ReadDevice>(reader: &mut R, left: u64, buf: &mut [u8]) -> Result
     ensures bound { IfOk result (λ n. n ≤ length buf.new) }
     ensures most { IfOk result (λ n. n ≤ left) }
     ensures some { IfOk result (λ n. 0 < n) }
-    ensures bytes { IfOk result (λ n. R.feed reader.old ≡ given (take n buf.new) (R.feed reader.new)) }
+    ensures bytes { IfOk result (λ n. R.feed reader.old ≡ prepended (take n buf.new) (R.feed reader.new)) }
     ensures cut { IfErr result (λ e. CutBy (error_kind e) (R.feed reader.old)) }
     ensures again { OnErr result (R.feed reader.new ≡ R.feed reader.old) }
 {
@@ -186,7 +186,7 @@ impl Decoding {
     ) -> Result<usize, io::Error>
         ensures bound { IfOk result (λ n. n ≤ length buf.new) }
         // The bytes that came are the next of the data.
-        ensures data { IfOk result (λ n. decoding_coming self.old (R.feed reader.old) ≡ with_front (take n buf.new) (decoding_coming self.new (R.feed reader.new))) }
+        ensures data { IfOk result (λ n. decoding_coming self.old (R.feed reader.old) ≡ prepended_data (take n buf.new) (decoding_coming self.new (R.feed reader.new))) }
         // The end is told where the reader stands behind the body.
         ensures end { IfOk result (λ n. n ≡ 0 → 0 < length buf.new → decoding_coming self.old (R.feed reader.old) ≡ option_map over_at (R.feed reader.new)) }
         ensures fault { IfErr result (λ e. BreaksBy (error_kind e) (decoding_coming self.old (R.feed reader.old))) }

@@ -1,11 +1,11 @@
 //! The wire layer of a small HTTP server (HTTP/1.x, RFC 9110 and RFC 9112): devices, texts, heads and answers.
 #![tactic(auto)]
 
-mod body;
+mod answer_body;
+mod answer_head;
 pub mod chunked;
 pub mod coding;
 mod gather;
-mod head;
 pub mod laws;
 pub mod response;
 

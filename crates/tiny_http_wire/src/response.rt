@@ -1,15 +1,15 @@
 //! Answers to requests, and how they are printed.
 ghost use Rattle.std.specs.Prelude.{◌≡◌, Option, Some, None, IfSome, if◌then◌else◌, ◌∷◌, IfOk, vec_len, string_len, string_bytes, [], ◌<◌, ◌^◌, ◌++◌, length};
 ghost use Rattle.std.specs.Option.{option_copied};
-ghost use Rattle.tiny_http_wire.specs.Answer.{Answer, ResponseState, Prints, behind, whole, identity_body, is_withheld, is_ascii, PrintsGathered, PrintsUncoded, PrintsAnswer, as_it_is, nothing, text_plain, answer_with};
+ghost use Rattle.tiny_http_wire.specs.Answer.{Answer, ResponseState, Prints, prepend_text, whole, identity_body, is_withheld, is_ascii_text, PrintsGathered, PrintsUncoded, PrintsAnswer, as_it_is, nothing_sent, text_plain, answer_with};
 ghost use Rattle.tiny_http_device.specs.Cursor.{cursor_bytes};
-ghost use Rattle.tiny_http_wire.specs.Top.{head_of};
-ghost use Rattle.tiny_http_device.specs.Device.{Puts, Uses};
+ghost use Rattle.tiny_http_wire.specs.Top.{top_text};
+ghost use Rattle.tiny_http_device.specs.Device.{Puts, CountsFaults};
 
-use crate::body::put_exactly;
+use crate::answer_body::put_exactly;
 use crate::coding::FramingHeader;
 use crate::gather::gather;
-use crate::head::{Top, put_head};
+use crate::answer_head::{Top, put_head};
 use httpdate::HttpDate;
 use std::alloc::{AllocError, Global};
 use std::io;
@@ -169,7 +169,7 @@ impl<R> Response<R> {
               date = now;
             })) }
         // Whatever the data and the writer tell: a fault of the writer's is one that its count has.
-        ensures uses { Uses (W.sink writer.old) (W.sink writer.new) result }
+        ensures uses { CountsFaults (W.sink writer.old) (W.sink writer.new) result }
     {
         let mut data = self.reader;
         let headers = self.headers;
@@ -202,7 +202,7 @@ fn is_withheld(no_body: bool, status: u16) -> bool
 
 // Whether all bytes are below 128.
 fn is_ascii(text: &[u8]) -> bool
-    ensures { result ≡ is_ascii text.now }
+    ensures { result ≡ is_ascii_text text.now }
 {
     text.iter().all(|b| *b < 128)
 }
@@ -217,9 +217,9 @@ fn print_as_it_is<D: ReadDevice, W: WriteDevice>(
 ) -> Result<(), io::Error>
     ensures text { IfSome (D.feed source.old) (λ feed.
         Prints (W.sink writer.old) (W.sink writer.new) result
-        (behind (head_of top.now None (FramingHeader.ContentLength n))
+        (prepend_text (top_text top.now None (FramingHeader.ContentLength n))
         (if withheld then whole [] else identity_body n feed))) }
-    ensures uses { Uses (W.sink writer.old) (W.sink writer.new) result }
+    ensures uses { CountsFaults (W.sink writer.old) (W.sink writer.new) result }
 {
     put_head(writer, top, None, FramingHeader::ContentLength(n))?;
     if withheld {
@@ -236,7 +236,7 @@ fn print_bytes<W: WriteDevice>(
     withheld: bool,
 ) -> Result<(), io::Error>
     ensures { Puts (W.sink writer.old) (W.sink writer.new) result
-        (head_of top.now None (FramingHeader.ContentLength (length bytes.now))
+        (top_text top.now None (FramingHeader.ContentLength (length bytes.now))
         ++ (if withheld then [] else bytes.now)) }
 {
     put_head(writer, top, None, FramingHeader::ContentLength(bytes.len()))?;
@@ -256,9 +256,9 @@ fn print_gathered<D: ReadDevice, W: WriteDevice>(
 ) -> Result<(), io::Error>
     ensures text { IfSome (D.feed source.old) (λ feed. length feed.bytes < 2 ^ 63 →
         PrintsGathered (W.sink writer.old) (W.sink writer.new) result
-        (head_of top.now None (FramingHeader.ContentLength (length feed.bytes)))
+        (top_text top.now None (FramingHeader.ContentLength (length feed.bytes)))
         withheld feed) }
-    ensures uses { Uses (W.sink writer.old) (W.sink writer.new) result }
+    ensures uses { CountsFaults (W.sink writer.old) (W.sink writer.new) result }
 {
     let bytes = gather(alloc, source)?;
     print_bytes(bytes.as_slice(), writer, top, withheld)
@@ -275,9 +275,9 @@ fn print_uncoded<D: ReadDevice, W: WriteDevice>(
 ) -> Result<(), io::Error>
     ensures text { IfSome (D.feed source.old) (λ feed. length feed.bytes < 2 ^ 63 →
         PrintsUncoded (W.sink writer.old) (W.sink writer.new) result known
-        (as_it_is known (λ framing. head_of top.now None framing)
+        (as_it_is known (λ framing. top_text top.now None framing)
         (is_withheld no_body top.now.status.0) feed)) }
-    ensures uses { Uses (W.sink writer.old) (W.sink writer.new) result }
+    ensures uses { CountsFaults (W.sink writer.old) (W.sink writer.new) result }
 {
     let withheld = is_withheld(no_body, top.status.0);
     match known {
@@ -293,9 +293,9 @@ fn print_upgrade<W: WriteDevice>(
     protocol: &str,
 ) -> Result<(), io::Error>
     ensures { Prints (W.sink writer.old) (W.sink writer.new) result
-        (if is_ascii protocol.now
-        then whole (head_of top.now (Some protocol.now) FramingHeader.Neither)
-        else nothing ErrorKind.InvalidInput) }
+        (if is_ascii_text protocol.now
+        then whole (top_text top.now (Some protocol.now) FramingHeader.Neither)
+        else nothing_sent ErrorKind.InvalidInput) }
 {
     if !is_ascii(protocol.as_bytes()) {
         return Err(ErrorKind::InvalidInput.into());

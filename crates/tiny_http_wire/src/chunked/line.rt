@@ -1,6 +1,6 @@
 //! A size line or a trailer line, taken from a reader byte by byte (RFC 9112, section 7.1).
 ghost use Rattle.std.specs.Prelude.{◌≡◌, [], ◌∷◌, IfOk, IfErr, OnErr};
-ghost use Rattle.tiny_http_device.specs.Device.{given};
+ghost use Rattle.tiny_http_device.specs.Device.{prepended};
 ghost use Rattle.tiny_http_wire.specs.ChunkSize.{SizeFits};
 ghost use Rattle.tiny_http_wire.specs.ChunkLine.{scan_step, OneLine, NoLine, CutBy};
 
@@ -10,7 +10,7 @@ use tiny_http_device::device::ReadDevice;
 
 /// A line: the number of its bytes before the CR LF, and what they say of a size.
 #[derive(Clone, Copy, Drop)]
-pub(crate) struct Line {
+pub(crate) struct ChunkLine {
     pub(crate) length: usize,
     pub(crate) size: Size,
 }
@@ -56,7 +56,7 @@ impl Scan {
 
 /// Takes the next byte. Where there is none, the kind is what the stop in its place is told as.
 pub(crate) fn next_byte<R: ReadDevice>(reader: &mut R) -> Result<u8, ErrorKind>
-    ensures byte { IfOk result (λ b. R.feed reader.old ≡ given (b ∷ []) (R.feed reader.new)) }
+    ensures byte { IfOk result (λ b. R.feed reader.old ≡ prepended (b ∷ []) (R.feed reader.new)) }
     ensures cut { IfErr result (λ kind. CutBy kind (R.feed reader.old)) }
     ensures again { OnErr result (R.feed reader.new ≡ R.feed reader.old) }
 {
@@ -70,7 +70,7 @@ pub(crate) fn next_byte<R: ReadDevice>(reader: &mut R) -> Result<u8, ErrorKind>
 
 /// Takes the next line and its CR LF, if one begins at place 0 to 8192. If none begins there, and
 /// at least 8194 bytes follow, it is a fault of kind InvalidData; with fewer the stop is told.
-pub(crate) fn next_line<R: ReadDevice>(reader: &mut R) -> Result<Line, ErrorKind>
+pub(crate) fn next_line<R: ReadDevice>(reader: &mut R) -> Result<ChunkLine, ErrorKind>
     ensures line { IfOk result (OneLine (R.feed reader.old) (R.feed reader.new)) }
     ensures none { IfErr result (NoLine (R.feed reader.old) (R.feed reader.new)) }
 {
@@ -84,7 +84,7 @@ pub(crate) fn next_line<R: ReadDevice>(reader: &mut R) -> Result<Line, ErrorKind
             Err(kind) => return Err(kind),
         };
         if scan.after_return && b == b'\n' {
-            return Ok(Line {
+            return Ok(ChunkLine {
                 length: taken - 1,
                 size: scan.size,
             });

@@ -30,17 +30,17 @@ fn hex(b: u8) -> Option<u64>
 }
 
 // Bytes 9 and 32.
-fn is_blank(b: u8) -> bool
+fn is_bws(b: u8) -> bool
     ensures { result ≡ is_bws b }
 {
     b == b'\t' || b == b' '
 }
 
 // Digits of this number, and then a byte that is none.
-fn behind(value: u64, b: u8) -> Size
+fn digits_ended(value: u64, b: u8) -> Size
     ensures { result ≡ digits_ended value b }
 {
-    if is_blank(b) {
+    if is_bws(b) {
         Size::Behind(value)
     } else if b == b';' {
         Size::Extension(value)
@@ -58,7 +58,7 @@ impl Size {
     {
         match self {
             Size::Blank => {
-                if is_blank(b) {
+                if is_bws(b) {
                     Size::Blank
                 } else {
                     match hex(b) {
@@ -75,9 +75,9 @@ impl Size {
                         Size::Wrong
                     }
                 }
-                None => behind(value, b),
+                None => digits_ended(value, b),
             },
-            Size::Behind(value) => behind(value, b),
+            Size::Behind(value) => digits_ended(value, b),
             Size::Extension(value) => Size::Extension(value),
             Size::Wrong => Size::Wrong,
         }

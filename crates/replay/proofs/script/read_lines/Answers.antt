@@ -1,7 +1,7 @@
 use Rattle.std.proofs.Common.{rules, ◌≡◌, sym, subst, ◌+◌, ◌++◌, ◌∷◌, [], List, take}
 use Rattle.std.specs.List.{AllZip}
 use Rattle.replay.specs.Line.{IsLine}
-use Rattle.replay.specs.Script.{IsFirstBad}
+use Rattle.replay.specs.Script.{IsFirstBadLine}
 use Rattle.replay.specs.declared.line.Line.{Line}
 use Rattle.replay.proofs.ScriptLemmas.{texts, all_good, first_bad, read_on}
 use Rattle.replay.proofs.script.read_lines.Goals as goal
@@ -10,7 +10,7 @@ pub returns-in_default-clause-bad : goal.returns-in_default-clause-bad
 returns-in_default-clause-bad c = λ n e.
     let is_n : c.loop-i.i + 1 ≡ n = cc e in
     let good = all_good (texts (take c.loop-i.i c.args.lines.now)) c.loop-i.said.items c.loop-i.invariant in
-    subst (IsFirstBad (texts c.args.lines.now)) is_n
+    subst (IsFirstBadLine (texts c.args.lines.now)) is_n
     (first_bad c.args.lines.now c.loop-i.i _ c.loop-i-test.true good (λ g. let found = c.in_default.ensures.good.1 g in cc found))
 
 pub loop-i-preserved : goal.loop-i-preserved

@@ -2,9 +2,9 @@ use Rattle.std.proofs.Common.{rules, ◌≡◌, sym, ◌∙◌, subst, true, fal
 use Rattle.std.specs.Prelude.{if◌then◌else◌}
 use Rattle.std.specs.declared.io.ErrorKind.{ErrorKind}
 use Rattle.std.specs.IoError.{error_kind}
-use Rattle.tiny_http_wire.specs.Answer.{coding_for}
+use Rattle.tiny_http_wire.specs.Answer.{served_coding}
 use Rattle.tiny_http_stream.specs.Outlet.{output_of}
-use Rattle.tiny_http_core.specs.Steps.{Replied, Done, Fault, is_closed_client, fault_of_answer}
+use Rattle.tiny_http_core.specs.Steps.{ReplyValue, Done, Fault, is_closed_client, fault_of_answer}
 use Rattle.tiny_http_core.specs.Seen.{seen}
 use Rattle.tiny_http_core.specs.Sending.{IsHonest}
 use Rattle.tiny_http_core.proofs.SendLemmas.{or-false}
@@ -31,7 +31,7 @@ pub returns-in-Err-clause-honest : goal.returns-in-Err-clause-honest
 returns-in-Err-clause-honest g c kind e =
     let met : error_kind c.in-Err.fault ≡ kind = same-kind (error_kind c.in-Err.fault) kind (search (rules, e, c.fault_of_answer.ensures, c.kind.ensures)) in (
       c.in-Err.ensures.ended,
-      λ p is. (let H : ErrorKind → Type 0 = λ k. IsHonest (output_of c.args.outlet.now) (output_of c.send.new.outlet) (coding_for c.args.response.answer p) c.args.response.answer.length (g.D.ReadDevice.feed c.args.response.data_reader) k in
+      λ p is. (let H : ErrorKind → Type 0 = λ k. IsHonest (output_of c.args.outlet.now) (output_of c.send.new.outlet) (served_coding c.args.response.answer p) c.args.response.answer.length (g.D.ReadDevice.feed c.args.response.data_reader) k in
           subst H met (c.in-Err.ensures.honest p is)),
     )
 

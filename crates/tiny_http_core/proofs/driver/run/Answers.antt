@@ -4,7 +4,7 @@ use Rattle.std.proofs.lemmas.List.{map-append}
 use Rattle.std.proofs.lemmas.Grind.{common_steps}
 use Rattle.tiny_http_wire.specs.Device.{Feed}
 use Rattle.tiny_http_stream.specs.Source.{GoesOn}
-use Rattle.tiny_http_core.specs.Seen.{IsTold, seen}
+use Rattle.tiny_http_core.specs.Seen.{IsTimedStep, seen}
 use Rattle.tiny_http_stream.specs.Outlet.{OutletState, output_of, SentOn, outlet_writer}
 use Rattle.tiny_http_core.specs.Sending.{FailsOnce}
 use Rattle.tiny_http_stream.proofs.GoingOn.{goes-on_same, goes-on_more}
@@ -22,7 +22,7 @@ loop-timed-init g c =
       joins = grind (arith, common_steps);
       counted = grind (arith, common_steps);
       fits = grind (arith, common_steps);
-      follows = λ client dated tells fresh told. rw c.in-Ok.ensures.items (done-none (IsTold g.D.ReadDevice.feed) client writer new dated (c.new-connection.ensures.begins client tells fresh) told);
+      follows = λ client dated tells fresh told. rw c.in-Ok.ensures.items (done-none (IsTimedStep g.D.ReadDevice.feed) client writer new dated (c.new-connection.ensures.begins client tells fresh) told);
       source = subst P (sym c.new-connection.ensures.feed) (goes-on_same reader);
       fails_once = rw c.new-connection.ensures.outlet (inl refl);
       flushed = rw c.new-connection.ensures.outlet refl;
@@ -56,7 +56,7 @@ pub returns-clause-conversation : goal.returns-clause-conversation
 returns-clause-conversation g c feed dated tells fresh told =
     let whole : c.loop-timed.yielded ≡ c.args.steps.items =
     joins-end _ _ _ c.loop-timed.invariant.joins (sym c.loop-timed.timed-iterator.rest.ok.0 ∙ c.in-None.ensures.steps.0) in
-    let told_all : AllZip (IsTold g.D.ReadDevice.feed) c.loop-timed.yielded dated = rw whole told in
+    let told_all : AllZip (IsTimedStep g.D.ReadDevice.feed) c.loop-timed.yielded dated = rw whole told in
     c.into_parts-source.ensures.conversation feed (g.W.WriteDevice.sink c.args.writer) dated (map seen c.loop-timed.replies.items) (c.loop-timed.invariant.follows feed dated tells fresh told_all)
 
 pub returns-clause-fails_once : goal.returns-clause-fails_once

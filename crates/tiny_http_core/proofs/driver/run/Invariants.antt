@@ -2,9 +2,9 @@ use Rattle.std.proofs.Common.{[], ◌≡◌, ◌++◌, List, map, vec_len, vec_c
 use Rattle.std.specs.List.{AllZip}
 use Rattle.std.specs.Vec.Iter.{into_iter_items}
 use Rattle.tiny_http_wire.specs.Device.{Feed, Sink, HoldsNothing}
-use Rattle.tiny_http_core.specs.Conversation.{IsFresh, Dated}
+use Rattle.tiny_http_core.specs.Conversation.{IsFresh, TimedValue}
 use Rattle.tiny_http_stream.specs.Source.{GoesOn}
-use Rattle.tiny_http_core.specs.Seen.{IsTold, seen, TellHonestly}
+use Rattle.tiny_http_core.specs.Seen.{IsTimedStep, seen, TellHonestly}
 use Rattle.tiny_http_core.specs.Sending.{FailsOnce}
 use Rattle.tiny_http_stream.specs.Outlet.{output_of, SentOn}
 use Rattle.tiny_http_core.specs.declared.driver.Timed.{Timed}
@@ -18,7 +18,7 @@ pub record Goes {R W D : Type 0} (feed : D → Option Feed) (reader : Option Fee
   pub joins : all ≡ done ++ rest
   pub counted : count ≡ length done
   pub fits : length all ≤ room
-  pub follows : (client : Feed) (dated : List Dated) → reader ≡ Some client → IsFresh writer → AllZip (IsTold feed) done dated → HasDone client writer c dated (map seen replies)
+  pub follows : (client : Feed) (dated : List TimedValue) → reader ≡ Some client → IsFresh writer → AllZip (IsTimedStep feed) done dated → HasDone client writer c dated (map seen replies)
   pub source : GoesOn reader c.source.feed
   pub fails_once : FailsOnce writer (output_of c.outlet) c.outlet.ended
   pub flushed : c.outlet.held ≡ []

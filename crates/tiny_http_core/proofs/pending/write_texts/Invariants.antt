@@ -2,13 +2,13 @@ use Rattle.std.proofs.Common.{◌≡◌, ◌-◌, ◌∷◌, ◌++◌, List, len
 use Rattle.tiny_http_turns.specs.Turns.{Mark, Held}
 use Rattle.tiny_http_stream.specs.Outlet.{output_of, outlet_ended}
 use Rattle.tiny_http_core.specs.Sending.{FailsOnceUnlessEnded}
-use Rattle.tiny_http_core.proofs.PassLemmas.{Writes}
+use Rattle.tiny_http_core.proofs.PassLemmas.{WritesLeft}
 use Rattle.tiny_http_core.proofs.pending.write_texts.Given as goal
 
 abbrev pub invariant-loop-text : goal.invariant-loop-text
 invariant-loop-text g l = record {
   writes : (front rest : List Mark) → l.fn.turns.marks ≡ front ++ (Held ∷ rest) → length front ≡ l.fn.number
-      → Writes front rest l.turns.marks l.at l.fn.text.items (outlet_ended l.fn.outlet) (output_of l.fn.outlet) (output_of l.outlet) (outlet_ended l.outlet);
+      → WritesLeft front rest l.turns.marks l.at l.fn.text.items (outlet_ended l.fn.outlet) (output_of l.fn.outlet) (output_of l.outlet) (outlet_ended l.outlet);
   once : FailsOnceUnlessEnded (outlet_ended l.fn.outlet) (output_of l.fn.outlet) (output_of l.outlet) (outlet_ended l.outlet);
 }
 

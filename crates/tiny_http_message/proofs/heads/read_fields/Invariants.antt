@@ -1,11 +1,11 @@
 use Rattle.std.proofs.Common.{◌≡◌, ◌-◌, ◌^◌, vec_len}
-use Rattle.tiny_http_message.specs.HeadReads.{ReadFields}
+use Rattle.tiny_http_message.specs.HeadReads.{HasReadFields}
 use Rattle.tiny_http_stream.specs.Source.{GoesOn}
 use Rattle.tiny_http_message.proofs.heads.read_fields.Given as goal
 
 abbrev pub invariant-loop-header : goal.invariant-loop-header
 invariant-loop-header g l = record {
-  fields : ReadFields l.fn.source.feed l.source.feed l.headers.items;
+  fields : HasReadFields l.fn.source.feed l.source.feed l.headers.items;
   goes_on : GoesOn l.fn.source.feed l.source.feed;
   lazy : l.source.stop ≡ l.fn.source.stop;
   standing : l.source.standing ≡ l.fn.source.standing;

@@ -6,7 +6,7 @@ use Rattle.tiny_http_turns.specs.Turns.{Mark, first_unfinished}
 use Rattle.tiny_http_core.specs.Pending.{LeavesText}
 use Rattle.tiny_http_stream.specs.Outlet.{output_of, outlet_ended}
 use Rattle.tiny_http_core.specs.Connection.{Kept, kept}
-use Rattle.tiny_http_core.proofs.AskLemmas.{Answered}
+use Rattle.tiny_http_core.proofs.AskLemmas.{StepIsAnswered}
 use Rattle.tiny_http_stream.proofs.GoingOn.{goes-on_same}
 use Rattle.tiny_http_core.proofs.RespondLemmas.{no-such}
 use Rattle.tiny_http_core.proofs.DropLemmas.{drop-not_taken, drop-done}
@@ -25,7 +25,7 @@ returns-in_default g c =
     record {
       step = λ date. rw (← c.self.view_is) (takes-drop old new date n NoSuch
           (λ client before s low st.
-          let P : List Mark → List (Option Waiting) → Type 0 = λ m r. Answered client before (record k { marks = m; requests = r }) s date (Drop n) NoSuch in
+          let P : List Mark → List (Option Waiting) → Type 0 = λ m r. StepIsAnswered client before (record k { marks = m; requests = r }) s date (Drop n) NoSuch in
           let done = no-such client before k s date n (Drop n) refl (drop-not_taken n) st none.0 in
           subst (λ m. P m c.take.new.self.requests.items) (ap (λ t. t.marks) (sym c.take.ensures.turns)) (subst (λ r. P k.marks r) (sym none.1) done))
           (λ no. same-view q.source q.outlet c.take.new.self q.pending q.end (ap (λ t. t.marks) c.take.ensures.turns) none.1) refl (λ no. elim no [ ]) (reads-on old new refl (goes-on_same q.source.feed)) (λ kind e. cc));

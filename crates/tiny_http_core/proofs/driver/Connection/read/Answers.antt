@@ -5,11 +5,11 @@ use Rattle.tiny_http_core.specs.Steps.{Read, Given, Fault, NoSuch, Memory}
 use Rattle.tiny_http_turns.specs.Turns.{Mark}
 use Rattle.tiny_http_core.specs.Connection.{Kept, kept}
 use Rattle.tiny_http_core.specs.Seen.{seen}
-use Rattle.tiny_http_core.proofs.AskLemmas.{Answered}
+use Rattle.tiny_http_core.proofs.AskLemmas.{StepIsAnswered}
 use Rattle.tiny_http_core.proofs.BodySteps.{with_reader}
 use Rattle.tiny_http_core.proofs.RespondLemmas.{no-such, form-some}
 use Rattle.tiny_http_core.proofs.ReadSteps.{read-not_taken, read-none, read-memory, read-done}
-use Rattle.tiny_http_core.proofs.DriverLemmas.{viewed, takes-read, reads-on, stays}
+use Rattle.tiny_http_core.proofs.DriverLemmas.{viewed, takes-read, reads-on, stays, stands-after}
 use Rattle.tiny_http_core.proofs.driver.Connection.read.Goals.{in-Ok-fill, in-Err}
 use Rattle.tiny_http_core.proofs.driver.Connection.read.Goals as goal
 
@@ -28,7 +28,7 @@ returns-in_default g c =
     let old = viewed q.source q.outlet q.pending q.end in
     record {
       step = λ date. rw (← c.self.view_is) (takes-read old old date n c.args.count NoSuch
-          (λ client before s st. no-such client before (kept old) s date n (Read n c.args.count) refl (read-not_taken n c.args.count) st (sym c.form_at.ensures ∙ c.in_default.is)) (λ no. refl) refl (refl, refl, inl refl) (stays old));
+          (λ client before s st. no-such client before (kept old) s date n (Read n c.args.count) refl (read-not_taken n c.args.count) st (sym c.form_at.ensures ∙ c.in_default.is)) (λ no. refl) refl (refl, refl, inl (refl, refl)) (stays old));
     }
 
 pub returns-then-count-eq0 : goal.returns-then-count-eq0
@@ -41,8 +41,8 @@ returns-then-count-eq0 g c =
       step = λ date. rw (← c.self.view_is) (takes-read old old date n c.args.count (Given c.new.result.items)
           (λ client before s st.
           let w = form-some (slice_get k.requests n) c.in-Some.field-0 (sym c.form_at.ensures ∙ c.in-Some.is) in
-          let P : List ℕ → Type 0 = λ l. Answered client before k s date (Read n c.args.count) (Given l) in
-          subst P (none _ (search rules)) (read-none client before k s date n c.args.count w.0 st w.1 c.if-count-eq0.true)) (λ no. refl) refl (refl, refl, inl refl) (stays old));
+          let P : List ℕ → Type 0 = λ l. StepIsAnswered client before k s date (Read n c.args.count) (Given l) in
+          subst P (none _ (search rules)) (read-none client before k s date n c.args.count w.0 st w.1 c.if-count-eq0.true)) (λ no. refl) refl (refl, refl, inl (refl, refl)) (stays old));
     }
 
 pub returns-in_default-zeros : goal.returns-in_default-zeros
@@ -55,7 +55,7 @@ returns-in_default-zeros g c =
       step = λ date. rw (← c.self.view_is) (takes-read old old date n c.args.count Memory
           (λ client before s st.
           let w = form-some (slice_get k.requests n) c.in-Some.field-0 (sym c.form_at.ensures ∙ c.in-Some.is) in
-          read-memory client before k s date n c.args.count w.0 st w.1 (omega (arith, c.if-count-eq0.false))) (λ no. refl) refl (refl, refl, inl refl) (stays old));
+          read-memory client before k s date n c.args.count w.0 st w.1 (omega (arith, c.if-count-eq0.false))) (λ no. refl) refl (refl, refl, inl (refl, refl)) (stays old));
     }
 
 pub returns : goal.returns
@@ -73,15 +73,15 @@ returns g c =
             | in-Ok-fill b ↦
                 let fills = b.in-Ok-fill.ensures.fills w.0 w.1 in
                 let done = read-done client before k s date n c.args.count w.0 fills.0 q.source c.fill.new.source c.fill.new.self.requests.items (Ok b.in-Ok-fill.n) c.fill.new.buf st w.1 fills.1 (record { feed = refl; stop = refl; ends = refl; standing = refl }) b.in-Ok-fill.ensures.bound size (omega (arith, c.if-count-eq0.false)) fills.2 fills.3 fills.4 c.fill.ensures.goes_on in
-                let P : List Mark → List ℕ → Type 0 = λ m l. Answered client before (record (with_reader k c.fill.new.self.requests.items c.fill.new.source) { marks = m }) s date (Read n c.args.count) (Given l) in
+                let P : List Mark → List ℕ → Type 0 = λ m l. StepIsAnswered client before (record (with_reader k c.fill.new.self.requests.items c.fill.new.source) { marks = m }) s date (Read n c.args.count) (Given l) in
                 rw b.result-is (subst (λ l. P c.fill.new.self.turns.marks l) (ap (take b.in-Ok-fill.n) (sym (whole c.fill.new.buf c.in-Ok.bytes.items c.in-Ok.bytes.len (search (rules, c.in-Ok.ensures)) size c.in-Ok.ensures)) ∙ sym b.truncate.ensures.items) (subst (λ m. P m (take b.in-Ok-fill.n c.fill.new.buf)) (ap (λ t. t.marks) (sym c.fill.ensures.turns)) done))
             | in-Err b ↦
                 let fills = b.in-Err.ensures.fills w.0 w.1 in
                 let done = read-done client before k s date n c.args.count w.0 fills.0 q.source c.fill.new.source c.fill.new.self.requests.items (Err b.in-Err.kind) c.fill.new.buf st w.1 fills.1 (record { feed = refl; stop = refl; ends = refl; standing = refl }) tt size (omega (arith, c.if-count-eq0.false)) fills.2 fills.3 fills.4 c.fill.ensures.goes_on in
-                let P : List Mark → Type 0 = λ m. Answered client before (record (with_reader k c.fill.new.self.requests.items c.fill.new.source) { marks = m }) s date (Read n c.args.count) (Fault b.in-Err.kind) in
+                let P : List Mark → Type 0 = λ m. StepIsAnswered client before (record (with_reader k c.fill.new.self.requests.items c.fill.new.source) { marks = m }) s date (Read n c.args.count) (Fault b.in-Err.kind) in
                 rw b.result-is (subst P (ap (λ t. t.marks) (sym c.fill.ensures.turns)) done)
           ])
           (elim c.match-fill.branch [ in-Ok-fill b ↦ rw b.result-is (λ no. elim no [ ]) | in-Err b ↦ rw b.result-is (λ no. elim no [ ]) ]) refl
-          (let fills = c.fill.ensures.fills w.0 w.1 in (refl, ap (λ t. t.marks) c.fill.ensures.turns, inr (w.0, fills.0, w.1, fills.1)))
+          (let fills = c.fill.ensures.fills w.0 w.1 in (refl, ap (λ t. t.marks) c.fill.ensures.turns, inr (w.0, fills.0, w.1, fills.1, stands-after w.0.body fills.0 q.source c.fill.new.source fills.3 fills.4)))
           (reads-on old new refl c.fill.ensures.goes_on));
     }

@@ -1,8 +1,8 @@
 use Rattle.std.proofs.Common.{rules, ℕ, ◌≡◌, refl, sym, ap, ◌∙◌, subst, true, false, List, [], Option, Some, None}
 use Rattle.std.specs.Prelude.{slice_get, slice_set, IsTrue}
-use Rattle.tiny_http_wire.specs.Answer.{Answer, Printing, coding_for}
+use Rattle.tiny_http_wire.specs.Answer.{Answer, Printing, served_coding}
 use Rattle.tiny_http_message.specs.declared.waiting.Waiting.{Waiting}
-use Rattle.tiny_http_core.specs.Steps.{Replied, Handed, Ended, Given, Fault, Done, Refused, Memory, Respond, NotYet, NoSuch}
+use Rattle.tiny_http_core.specs.Steps.{ReplyValue, Handed, Ended, Given, Fault, Done, Refused, Memory, Respond, NotYet, NoSuch}
 use Rattle.tiny_http_core.specs.Driving.{IsDeclined, told_response}
 use Rattle.tiny_http_core.specs.Seen.{IsAnswered}
 use Rattle.tiny_http_core.specs.declared.driver.Step.TheVariants as step
@@ -13,7 +13,7 @@ use Rattle.tiny_http_core.specs.Pending.{waiting_form}
 use Rattle.tiny_http_stream.specs.Outlet.{output_of, outlet_ended}
 use Rattle.tiny_http_core.specs.Connection.{Kept, kept}
 use Rattle.tiny_http_core.specs.Seen.{seen, Answers, PrintedFor}
-use Rattle.tiny_http_core.proofs.AskLemmas.{Answered}
+use Rattle.tiny_http_core.proofs.AskLemmas.{StepIsAnswered}
 use Rattle.tiny_http_stream.proofs.GoingOn.{goes-on_same}
 use Rattle.tiny_http_core.proofs.OutputLemmas.{can-send}
 use Rattle.tiny_http_core.proofs.RespondLemmas.{no-such, respond-not_taken, form-some, respond-not_yet, respond-done, responds-by, after_number}
@@ -46,14 +46,14 @@ returns-then-not-hold g c =
           let w = form-some (slice_get k.requests n) c.in-Some.form kept_form in
           let late : c.hold.result ≡ false = search rules in
           let same = c.hold.ensures.not_yet late in
-          let P : List Mark → List (Option Waiting) → Type 0 = λ m r. Answered client before (record k { marks = m; requests = r }) s c.args.now (Respond n value) NotYet in
+          let P : List Mark → List (Option Waiting) → Type 0 = λ m r. StepIsAnswered client before (record k { marks = m; requests = r }) s c.args.now (Respond n value) NotYet in
           let done = respond-not_yet client before k s c.args.now n value w.0 st w.1 (λ h. let none : true ≡ false = sym (c.hold.ensures.held.1 h) ∙ late in cc) in
           subst (λ m. P m c.hold.new.self.requests.items) (sym same) (subst (λ r. P k.marks r) (ap (λ v. v.items) (sym c.hold.ensures.requests)) done))
           (λ no. same-view q.source q.outlet c.hold.new.self q.pending q.end (c.hold.ensures.not_yet (search rules)) (ap (λ v. v.items) c.hold.ensures.requests)) refl (λ no. elim no [ ]) (reads-on old new refl (goes-on_same q.source.feed)) (λ kind e. cc));
     }
 
 -- what an answer is replied is no refusal of the step
-not-declined : (n : ℕ) (r : ResponseState (Option Feed)) (reply : Replied) → IsAnswered reply → IsDeclined (step.Respond n r) reply → ⊥
+not-declined : (n : ℕ) (r : ResponseState (Option Feed)) (reply : ReplyValue) → IsAnswered reply → IsDeclined (step.Respond n r) reply → ⊥
 not-declined n r Done a d = elim d [ ]
 not-declined n r (Fault kind) a d = elim d [ ]
 not-declined n r NotYet a d = elim a [ ]
@@ -94,7 +94,7 @@ returns-in-Some-take g c =
           (λ e. let h = c.answer-reply.ensures.past e in (ap (λ o. output_of o) h.0, ap (λ o. outlet_ended o) h.0, h.1))
           (λ e. subst A (sym is.0) (c.answer-reply.ensures.sends value.content is.1 is.2 e (can-send before k.sink k.output_ended s.reached.slots s.failure st.output low e))))
           c.pass.ensures.passes c.pass.ensures.sends in
-          let P : List Mark → Type 0 = λ m. Answered client before (after_number k m taken.requests.items source (output_of last.outlet) (outlet_ended last.outlet)) s c.args.now (Respond n value) reply in
+          let P : List Mark → Type 0 = λ m. StepIsAnswered client before (after_number k m taken.requests.items source (output_of last.outlet) (outlet_ended last.outlet)) s c.args.now (Respond n value) reply in
           subst P (ap (λ t. t.marks) (sym c.take.ensures.turns)) done)
           (λ no. absurd (not-declined n (told_response g.D.ReadDevice.feed c.args.response) reply c.answer-reply.ensures.done no)) refl
           (λ done.
@@ -107,5 +107,5 @@ returns-in-Some-take g c =
             flushed = λ h. c.pass.ensures.flushed (c.answer-reply.ensures.flushed h);
             sent_on = λ h. c.pass.ensures.sent_on (c.answer-reply.ensures.sent_on h);
           })
-          (λ kind e. let h = c.answer-reply.ensures.honest kind e in let p : Printing = record { version = c.in-Some.form.version; request_headers = []; no_body = c.in-Some.form.no_body; upgrade = None; date = c.args.now } in (p, honest-more (outlet_ended mid) (outlet_ended last.outlet) k.sink (output_of mid) (output_of last.outlet) (coding_for c.args.response.answer p) c.args.response.answer.length (g.D.ReadDevice.feed c.args.response.data_reader) kind h.0 c.pass.ensures.fails_once (h.1 p (record { version = refl; no_body = refl; no_upgrade = refl; dated = refl })))));
+          (λ kind e. let h = c.answer-reply.ensures.honest kind e in let p : Printing = record { version = c.in-Some.form.version; request_headers = []; no_body = c.in-Some.form.no_body; upgrade = None; date = c.args.now } in (p, honest-more (outlet_ended mid) (outlet_ended last.outlet) k.sink (output_of mid) (output_of last.outlet) (served_coding c.args.response.answer p) c.args.response.answer.length (g.D.ReadDevice.feed c.args.response.data_reader) kind h.0 c.pass.ensures.fails_once (h.1 p (record { version = refl; no_body = refl; no_upgrade = refl; dated = refl })))));
     }

@@ -2,7 +2,7 @@ use Rattle.std.proofs.Common.{◌≡◌, refl, sym, ◌∙◌, subst, ◌+◌, �
 use Rattle.std.proofs.lemmas.Bool.{ne_eqb, lt-ltb}
 use Rattle.std.specs.Prelude.{◌==◌}
 use Rattle.tiny_http_wire.specs.declared.device.Stop.TheVariants.{End}
-use Rattle.tiny_http_message.specs.Body.{Remaining, remaining, with_bytes, BodyStops, NoneLeft, ReadsOn}
+use Rattle.tiny_http_message.specs.Body.{Remaining, remaining, prepended_body, BodyStops, NoneLeft, ReadsOn}
 use Rattle.tiny_http_stream.proofs.GoingOn.{goes-on_more}
 use Rattle.tiny_http_message.proofs.BodyReads.{read-more, moves-more, stays-settled, bytes-none, stops-none-left, standing-more}
 use Rattle.tiny_http_message.proofs.body.Body.fill.Goals as goal
@@ -43,7 +43,7 @@ returns-in-Ok-eq0-clause-fills g c =
     let same : new ≡ old = bytes-none old new (drop at buf) n h.bytes zero in
     let all = read-more was old new c.loop-at.buf buf at n inv.given h.bytes h.front h.bound in
     let none : at + n ≡ at = omega (arith, zero) in
-    let T : ℕ → Type 0 = λ k. was ≡ with_bytes (take k buf) new in
+    let T : ℕ → Type 0 = λ k. was ≡ prepended_body (take k buf) new in
     let M : ℕ → Bool → Type 0 = λ k t. ReadsOn c.loop-at.self k t c.read_behind.new.self in
     let moves : ReadsOn c.loop-at.self 0 true c.read_behind.new.self = subst (λ t. M 0 t) refl (subst (λ k. M k (k == 0)) zero h.moves) in
     let less : at < length buf = h.room in

@@ -1,12 +1,12 @@
 use Rattle.std.proofs.Common.{◌≡◌, ◌-◌, ◌<◌, ◌≤◌, true, false, length, take}
 use Rattle.tiny_http_stream.specs.Source.{GoesOn}
-use Rattle.tiny_http_message.specs.Body.{remaining, with_bytes, is_streaming, body_standing, ReadsOn}
+use Rattle.tiny_http_message.specs.Body.{remaining, prepended_body, is_streaming, body_standing, ReadsOn}
 use Rattle.tiny_http_message.proofs.body.Body.fill.Given as goal
 
 abbrev pub invariant-loop-at : goal.invariant-loop-at
 invariant-loop-at g l = record {
   within : l.at ≤ length l.buf;
-  given : remaining l.initial.self l.initial.source.feed ≡ with_bytes (take l.at l.buf) (remaining l.self l.source.feed);
+  given : remaining l.initial.self l.initial.source.feed ≡ prepended_body (take l.at l.buf) (remaining l.self l.source.feed);
   start : l.at ≡ 0 → l.self ≡ l.initial.self;
   moves : 0 < l.at → ReadsOn l.initial.self l.at false l.self;
   settled : is_streaming l.initial.self ≡ false → (l.source ≡ l.initial.source) × (is_streaming l.self ≡ false);

@@ -2,9 +2,9 @@ use Rattle.std.proofs.Common.{rules, ap, sym, subst, ◌∙◌}
 use Rattle.tiny_http_stream.specs.Source.{SourceState}
 use Rattle.tiny_http_message.specs.declared.body.Body.{Body}
 use Rattle.tiny_http_message.specs.declared.body.Body.TheVariants.{Counted, Chunked}
-use Rattle.tiny_http_stream.specs.Standing.{after_body, after_loss}
+use Rattle.tiny_http_stream.specs.Standing.{after_body, after_abandoned}
 use Rattle.tiny_http_message.specs.Body.{GivesUp}
-use Rattle.tiny_http_message.proofs.body.Body.give_up.Goals.{in-Counted, in-Chunked, in-Over, in-Held}
+use Rattle.tiny_http_message.proofs.body.Body.give_up.Goals.{in-Counted, in-Chunked, in-Over, in-WithHead}
 use Rattle.tiny_http_message.proofs.body.Body.give_up.Goals as goal
 
 pub returns-clause-gives_up : goal.returns-clause-gives_up
@@ -18,7 +18,7 @@ returns-clause-gives_up g c =
           subst P (sym w.in-Counted.is) (subst Q (sym (w.source-is ∙ w.stand_at.ensures)) (w.skip.ensures.feed, w.after_body.ensures ∙ ap after_body c.standing-standing.ensures, w.skip.ensures.alone))
       | in-Chunked w ↦
           let Q : S → Type 0 = λ x. GivesUp (Chunked w.in-Chunked.field-0) old x in
-          subst P (sym w.in-Chunked.is) (subst Q (sym (w.source-is ∙ w.stand_at-in-Chunked.ensures)) (w.end.ensures.feed, w.end.ensures.at_end, w.after_loss.ensures ∙ ap after_loss c.standing-standing.ensures, w.end.ensures.reader))
+          subst P (sym w.in-Chunked.is) (subst Q (sym (w.source-is ∙ w.stand_at-in-Chunked.ensures)) (w.end.ensures.feed, w.end.ensures.at_end, w.after_abandoned.ensures ∙ ap after_abandoned c.standing-standing.ensures, w.end.ensures.reader))
       | in-Over w ↦ search rules
-      | in-Held w ↦ search rules
+      | in-WithHead w ↦ search rules
     ]

@@ -4,7 +4,7 @@ use Rattle.std.specs.Option.{option_map}
 use Rattle.std.specs.IoError.{error_kind}
 use Rattle.tiny_http_wire.specs.declared.device.Stop.TheVariants.{End, Fault}
 use Rattle.tiny_http_message.specs.declared.body.Body.TheVariants.{Over}
-use Rattle.tiny_http_message.specs.Body.{remaining, with_bytes, counted_left}
+use Rattle.tiny_http_message.specs.Body.{remaining, prepended_body, counted_left}
 use Rattle.tiny_http_stream.proofs.PartLemmas.{nothing-given}
 use Rattle.tiny_http_message.proofs.BodyReads.{counted-bytes, counted-none, cut-is, cut-stops, taken-stops, read-nothing}
 use Rattle.tiny_http_message.proofs.body.Body.read_counted.Goals as goal
@@ -44,7 +44,7 @@ returns-in-Ok-clause-bytes g c =
     let e = c.in-Ok.ensures in
     let p = c.read_front.new.reader.feed in
     let bs = take n c.read_front.new.buf in
-    ap (λ b. remaining b o) c.requires.counted ∙ counted-bytes o p bs c.args.left n e.bytes (rw length-take (omega (arith, e.bound))) e.most ∙ ap (λ r. with_bytes bs r) (sym (c.counted.ensures.remaining p))
+    ap (λ b. remaining b o) c.requires.counted ∙ counted-bytes o p bs c.args.left n e.bytes (rw length-take (omega (arith, e.bound))) e.most ∙ ap (λ r. prepended_body bs r) (sym (c.counted.ensures.remaining p))
 
 pub returns-in-Err-clause-fault : goal.returns-in-Err-clause-fault
 returns-in-Err-clause-fault g c =

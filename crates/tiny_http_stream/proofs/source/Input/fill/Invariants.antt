@@ -1,7 +1,7 @@
 use Rattle.std.proofs.Common.{◌≡◌, ℕ, ◌+◌, ◌<◌, List, [], ◌∷◌, length, Option, None, Some}
 use Rattle.std.specs.Prelude.{IsSome}
 use Rattle.tiny_http_device.specs.declared.device.Stop.{Stop}
-use Rattle.tiny_http_stream.specs.Input.{input_feed, Leaves}
+use Rattle.tiny_http_stream.specs.Input.{input_feed, SkipsHeld}
 use Rattle.tiny_http_stream.proofs.source.Input.fill.Given as goal
 
 abbrev empty_rank : List ℕ → ℕ
@@ -21,7 +21,7 @@ invariant-loop-self g l = record {
   none_more : l.fn.self.held ≡ [] → IsSome l.fn.self.stop → l.self.held ≡ [];
   none_skipped : l.fn.self.skip ≡ 0 → l.self.skip ≡ 0;
   lazy : 0 < length l.self.held → l.self.stop ≡ l.fn.self.stop;
-  held : l.fn.self.skip < length l.fn.self.held → Leaves l.fn.self l.self;
+  held : l.fn.self.skip < length l.fn.self.held → SkipsHeld l.fn.self l.self;
 }
 
 abbrev pub decreases-loop-self : goal.decreases-loop-self

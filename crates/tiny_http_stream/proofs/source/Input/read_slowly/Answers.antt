@@ -1,7 +1,7 @@
 use Rattle.std.proofs.Common.{rules, ◌≡◌, ◌++◌, ◌∷◌, [], ap, sym, ◌∙◌}
-use Rattle.tiny_http_device.specs.Device.{given}
+use Rattle.tiny_http_device.specs.Device.{prepended}
 use Rattle.tiny_http_device.proofs.Feeds.{given-along}
-use Rattle.tiny_http_stream.specs.Line.{pending}
+use Rattle.tiny_http_stream.specs.Line.{held_return}
 use Rattle.tiny_http_stream.specs.Input.{input_feed}
 use Rattle.tiny_http_stream.proofs.Lines.{line-none}
 use Rattle.tiny_http_stream.proofs.source.Input.read_slowly.Goals as goal
@@ -9,9 +9,9 @@ use Rattle.tiny_http_stream.proofs.source.Input.read_slowly.Goals as goal
 pub loop-b-preserved : goal.loop-b-preserved
 loop-b-preserved g c =
     let feed = input_feed g.R.ReadDevice.feed in
-    let next : feed c.loop-b.self ≡ given (c.in-Some.b ∷ []) (feed c.pop_byte.new.self) = search rules in
+    let next : feed c.loop-b.self ≡ prepended (c.in-Some.b ∷ []) (feed c.pop_byte.new.self) = search rules in
     record {
-      feed = given-along _ (feed c.loop-b.self) (feed c.pop_byte.new.self) (c.loop-b.text.items ++ pending c.loop-b.after_return) (c.in-Some.b ∷ []) _ c.loop-b.invariant.feed next c.in_ok-go_on.ensures.bytes;
+      feed = given-along _ (feed c.loop-b.self) (feed c.pop_byte.new.self) (c.loop-b.text.items ++ held_return c.loop-b.after_return) (c.in-Some.b ∷ []) _ c.loop-b.invariant.feed next c.in_ok-go_on.ensures.bytes;
       passed = c.in_ok-go_on.ensures.passed;
       once = search rules;
       stays = search rules;
@@ -21,6 +21,6 @@ loop-b-preserved g c =
 pub returns-clause-none : goal.returns-clause-none
 returns-clause-none g c not_memory =
     let feed = input_feed g.R.ReadDevice.feed in
-    let text = c.loop-b.text.items ++ pending c.loop-b.after_return in
+    let text = c.loop-b.text.items ++ held_return c.loop-b.after_return in
     let same : feed c.pop_byte.new.self ≡ feed c.loop-b.self = search rules in
-    (text, line-none c.loop-b.text.items c.loop-b.after_return c.loop-b.invariant.passed, c.loop-b.invariant.feed ∙ ap (λ f. given text f) (sym same))
+    (text, line-none c.loop-b.text.items c.loop-b.after_return c.loop-b.invariant.passed, c.loop-b.invariant.feed ∙ ap (λ f. prepended text f) (sym same))

@@ -1,6 +1,6 @@
 use Rattle.std.proofs.Common.{◌≡◌, ◌+◌, ◌-◌, ◌≤◌, length, vec_len, vec_capacity}
 use Rattle.std.specs.Prelude.{IsSome}
-use Rattle.tiny_http_device.specs.Device.{given}
+use Rattle.tiny_http_device.specs.Device.{prepended}
 use Rattle.tiny_http_stream.specs.Input.{input_feed, input_stop, input_reader, input_held, input_skip}
 use Rattle.tiny_http_stream.proofs.source.Input.take_exactly.Given as goal
 
@@ -8,7 +8,7 @@ abbrev pub invariant-loop-self : goal.invariant-loop-self
 invariant-loop-self g l = record {
   within : vec_len l.body ≤ l.n;
   room : l.n ≤ vec_capacity l.body;
-  feed : input_feed g.R.ReadDevice.feed l.fn.self ≡ given l.body.items (input_feed g.R.ReadDevice.feed l.self);
+  feed : input_feed g.R.ReadDevice.feed l.fn.self ≡ prepended l.body.items (input_feed g.R.ReadDevice.feed l.self);
   once : IsSome (input_stop l.fn.self) → IsSome (input_stop l.self) × (input_reader l.self ≡ input_reader l.fn.self);
   lazy : input_stop l.self ≡ input_stop l.fn.self;
   held : input_skip l.fn.self + l.n ≤ length (input_held l.fn.self) → (input_reader l.self ≡ input_reader l.fn.self) × (input_skip l.self + (l.n - vec_len l.body) ≤ length (input_held l.self));

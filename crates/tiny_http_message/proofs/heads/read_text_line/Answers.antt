@@ -1,5 +1,5 @@
 use Rattle.tiny_http_message.proofs.HeadReading.{text-read, text-not-read}
-use Rattle.tiny_http_message.proofs.heads.read_text.Goals as goal
+use Rattle.tiny_http_message.proofs.heads.read_text_line.Goals as goal
 
 pub returns-in-Ok-clause-reads : goal.returns-in-Ok-clause-reads
 returns-in-Ok-clause-reads g c = text-read _ _ c.in-Ok.text c.in-Ok.ensures.line

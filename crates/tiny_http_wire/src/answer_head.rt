@@ -3,8 +3,8 @@ ghost use Rattle.std.specs.Prelude.{◌≡◌};
 ghost use Rattle.std.specs.List.{flat_map};
 ghost use Rattle.std.specs.Option.{option_copied};
 ghost use Rattle.tiny_http_device.specs.Device.{Puts};
-ghost use Rattle.tiny_http_wire.specs.Top.{head_of};
-ghost use Rattle.tiny_http_wire.specs.Answer.{has_header, status_line, field_line, header_line, protocol_lines, upgrade_lines, server_line, date_line, length_line, framing_line};
+ghost use Rattle.tiny_http_wire.specs.Top.{top_text};
+ghost use Rattle.tiny_http_wire.specs.Answer.{has_header, status_line, field_line, field_line_of, protocol_lines, upgrade_lines, server_line, date_line, length_line, framing_line};
 
 use crate::coding::FramingHeader;
 use httpdate::HttpDate;
@@ -61,7 +61,7 @@ fn put_field<W: WriteDevice>(writer: &mut W, field: &[u8], value: &[u8]) -> Resu
 
 // The line of a header.
 fn put_header<W: WriteDevice>(writer: &mut W, header: &Header) -> Result<(), io::Error>
-    ensures { Puts (W.sink writer.old) (W.sink writer.new) result (header_line header.now) }
+    ensures { Puts (W.sink writer.old) (W.sink writer.new) result (field_line_of header.now) }
 {
     let field = header.field.as_str();
     put_field(
@@ -73,7 +73,7 @@ fn put_header<W: WriteDevice>(writer: &mut W, header: &Header) -> Result<(), io:
 
 // The lines of a list of headers.
 fn put_headers<W: WriteDevice>(writer: &mut W, headers: &[Header]) -> Result<(), io::Error>
-    ensures { Puts (W.sink writer.old) (W.sink writer.new) result (flat_map header_line headers.now) }
+    ensures { Puts (W.sink writer.old) (W.sink writer.new) result (flat_map field_line_of headers.now) }
 {
     for header in headers {
         put_header(writer, header)?;
@@ -158,7 +158,7 @@ pub(crate) fn put_head<W: WriteDevice>(
     framing: FramingHeader,
 ) -> Result<(), io::Error>
     ensures { Puts (W.sink writer.old) (W.sink writer.new) result
-        (head_of top.now (option_copied upgrade.entry) framing) }
+        (top_text top.now (option_copied upgrade.entry) framing) }
 {
     put_status_line(writer, top.version, top.status)?;
     put_upgrade(writer, upgrade)?;

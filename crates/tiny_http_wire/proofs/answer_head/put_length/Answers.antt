@@ -1,5 +1,5 @@
 use Rattle.tiny_http_wire.specs.Answer.{field_line}
-use Rattle.tiny_http_wire.proofs.head.put_length.Goals as goal
+use Rattle.tiny_http_wire.proofs.answer_head.put_length.Goals as goal
 
 pub returns : goal.returns
 unfolding field_line

@@ -1,5 +1,5 @@
 use Rattle.tiny_http_wire.specs.Answer.{framing_line}
-use Rattle.tiny_http_wire.proofs.head.put_framing.Goals as goal
+use Rattle.tiny_http_wire.proofs.answer_head.put_framing.Goals as goal
 
 pub returns-in-ContentLength : goal.returns-in-ContentLength
 unfolding framing_line
