@@ -44,6 +44,18 @@ const ROWS: &[Row] = &[
         Some(EndOfRequests::Closed),
     ),
     (
+        b"POST / HTTP/1.1\r\nContent-Length: 1\r\n\r\nx",
+        None,
+        &[Ask, Ask],
+        Some(EndOfRequests::Closed),
+    ),
+    (
+        b"POST / HTTP/1.1\r\nContent-Length: 1\r\n\r\nx",
+        None,
+        &[Ask, Read(0, 2), Ask],
+        Some(EndOfRequests::Closed),
+    ),
+    (
         b"",
         Some(ErrorKind::TimedOut),
         &[Ask],
@@ -94,6 +106,12 @@ const ROWS: &[Row] = &[
     ),
     (
         b"GET / HTTP/1.0\r\n\r\nGET / HTTP/1.1\r\n\r\n",
+        None,
+        &[Ask, Ask],
+        Some(EndOfRequests::LastRequest),
+    ),
+    (
+        b"GET / HTTP/1.1\r\nConnection: close\r\n\r\nx",
         None,
         &[Ask, Ask],
         Some(EndOfRequests::LastRequest),

@@ -19,3 +19,21 @@ fn each_path_has_its_answer(rt: HostRuntime) -> Result<(), Fail> {
     assert_same(&rt, matches!(last, Some(Reply::Ended)), true);
     Ok(())
 }
+
+// Forty answers, which are more than 4,096 bytes.
+#[test]
+fn many_requests_are_answered(rt: HostRuntime) -> Result<(), Fail> {
+    let now = HttpDate::from_unix_secs(420_895_020)?;
+    let alloc = rt.alloc();
+    let answer = format!(in alloc; "HTTP/1.1 200 OK\r\n{EMPTY}")?;
+    let mut client = Vec::new(alloc);
+    let mut wanted = Vec::new(alloc);
+    for _ in 0..40 {
+        client.extend_from_slice(b"GET / HTTP/1.1\r\n\r\n")?;
+        wanted.extend_from_slice(answer.as_bytes())?;
+    }
+    let (outlet, last) = serve_bytes(alloc, client, now);
+    assert_same(&rt, outlet.into_inner().bytes(), wanted.as_slice());
+    assert_same(&rt, matches!(last, Some(Reply::Ended)), true);
+    Ok(())
+}

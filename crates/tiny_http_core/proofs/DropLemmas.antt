@@ -7,7 +7,7 @@ use Rattle.httpdate.specs.declared.date.HttpDate.{HttpDate}
 use Rattle.tiny_http_wire.specs.Device.{Feed, Sink}
 use Rattle.tiny_http_message.specs.declared.waiting.Waiting.{Waiting}
 use Rattle.tiny_http_message.specs.Pipeline.{Request}
-use Rattle.tiny_http_core.specs.Slots.{Slot, Unanswered, StepIsAnswered as AnsweredBy, ByServer, Raw, Upgraded, is_finished, joined, is_output_broken, turn_has_come}
+use Rattle.tiny_http_core.specs.Slots.{Slot, Unanswered, Answered as AnsweredBy, ByServer, Raw, Upgraded, is_finished, joined, is_output_broken, turn_has_come}
 use Rattle.tiny_http_core.specs.Steps.{Drop, Done, Outcome, Reached, changes, use_in_turn, at_slot, at_number}
 use Rattle.tiny_http_core.specs.Conversation.{Failure, State, flushed_after, WriterPart, HasOutcome}
 use Rattle.tiny_http_core.proofs.WritingLemmas.{FailsBetween, unreported, still-flushed}

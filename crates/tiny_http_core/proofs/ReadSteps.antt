@@ -12,13 +12,13 @@ use Rattle.tiny_http_wire.specs.declared.device.Stop.TheVariants.{End, Fault as 
 use Rattle.tiny_http_wire.specs.Device.{Feed, Sink}
 use Rattle.tiny_http_message.specs.declared.waiting.Waiting.{Waiting}
 use Rattle.tiny_http_message.specs.declared.framing.Form.{Form}
-use Rattle.tiny_http_message.specs.declared.framing.Form.TheVariants.{Rest, Nothing, Held, Counted, Chunked}
+use Rattle.tiny_http_message.specs.declared.framing.Form.TheVariants.{Rest, Nothing, WithHead, Counted, Chunked}
 use Rattle.tiny_http_message.specs.declared.body.Body.{Body}
 use Rattle.tiny_http_message.specs.declared.body.Body.TheVariants as body
 use Rattle.tiny_http_stream.specs.ToCome.{stopped}
 use Rattle.tiny_http_stream.specs.Source.{SourceState, GoesOn}
 use Rattle.tiny_http_message.specs.Pipeline.{Item, Request, body_length_or_0}
-use Rattle.tiny_http_core.specs.Slots.{Slot, Unanswered, StepIsAnswered as AnsweredBy, ByServer, Raw, Upgraded, is_chunked, joined, is_output_broken, last_slot, last_was_abandoned, turn_has_come, is_last_item, is_last_slot, rest_of}
+use Rattle.tiny_http_core.specs.Slots.{Slot, Unanswered, Answered as AnsweredBy, ByServer, Raw, Upgraded, is_chunked, joined, is_output_broken, last_slot, last_was_abandoned, turn_has_come, is_last_item, is_last_slot, rest_of}
 use Rattle.tiny_http_message.specs.Body.{body_finished}
 use Rattle.tiny_http_core.specs.Steps.{Read, ReplyValue, Given, Fault, Memory, NoSuch, Unused, Outcome, Reached, changes, read_reply, effect, at_slot, at_number}
 use Rattle.tiny_http_core.specs.Conversation.{State, PlaceAt, HasOutcome}
@@ -90,7 +90,7 @@ or-false false = refl
 -- what was read of a body fits it
 still-over : (form : Form) (n given : ℕ) (told more : Bool) → body_finished form n given told ≡ true → body_finished form n given (told || more) ≡ true
 still-over Nothing n given told more h = refl
-still-over Held n given told more h = refl
+still-over WithHead n given told more h = refl
 still-over Counted n given true more h = or-true (given == n)
 still-over Counted n given false more h = by (given == n) h
   where

@@ -12,7 +12,7 @@ use Rattle.tiny_http_wire.specs.Answer.{Text, Ending, Whole, Broken, Printing}
 use Rattle.tiny_http_message.specs.declared.waiting.AnswerForm.{AnswerForm}
 use Rattle.tiny_http_message.specs.declared.waiting.Waiting.{Waiting}
 use Rattle.tiny_http_message.specs.Pipeline.{Item, Asks, Refuses, Request}
-use Rattle.tiny_http_core.specs.Slots.{ResponseValue, Slot, Stage, Unanswered, StepIsAnswered as AnsweredBy, ByServer, Raw, Upgraded, is_stage_finished, is_finished, is_broken, is_slot_broken, segment, joined, is_output_broken, last_slot, turn_has_come, to_request, text_if, IsGathered}
+use Rattle.tiny_http_core.specs.Slots.{ResponseValue, Slot, Stage, Unanswered, Answered as AnsweredBy, ByServer, Raw, Upgraded, is_stage_finished, is_finished, is_broken, is_slot_broken, segment, joined, is_output_broken, last_slot, turn_has_come, to_request, text_if, IsGathered}
 use Rattle.tiny_http_core.specs.Steps.{StepValue, outcome, Respond, ReplyValue, Done, NoSuch, NotYet, WriterUse, Reported, Outcome, Reached, unchanged, changes, finished, accepts_step, fault_in, fault_of_answer, at_item, at_slot, at_number}
 use Rattle.tiny_http_core.specs.Conversation.{Failure, State, has_output_ended, finished_front, flushed_after, WriterPart, HasOutcome, GathersAt, MayLack}
 use Rattle.tiny_http_core.proofs.WritingLemmas.{FailsBetween, FailsTold, FailsBehind, broken_reply, used, WritesIf, IsAllFlushed, reported, still-flushed}

@@ -12,7 +12,7 @@ use Rattle.tiny_http_wire.specs.Device.{ending}
 use Rattle.tiny_http_wire.specs.Answer.{text_of, status_line, field_line, upgrade_lines, server_line, date_line, framing_line, answer_head_text}
 use Rattle.tiny_http_wire.specs.Common.{reason_phrase}
 use Rattle.tiny_http_message.specs.declared.framing.Form.{Form}
-use Rattle.tiny_http_message.specs.declared.framing.Form.TheVariants.{Nothing, Held}
+use Rattle.tiny_http_message.specs.declared.framing.Form.TheVariants.{Nothing, WithHead}
 use Rattle.tiny_http_message.specs.declared.framing.Framing.{Framing}
 use Rattle.tiny_http_message.specs.Framing.{framing}
 use Rattle.tiny_http_core.specs.Slots.{ResponseValue, own_response, text_type}
@@ -88,7 +88,7 @@ byte_past_ascii : (date : HttpDate) → conversed (ending (codes "GET / HTTP/1.1
 unfolding digits text_of status_line field_line upgrade_lines server_line date_line framing_line answer_head_text reason_phrase framing length_in
 byte_past_ascii date = refl
 
-held_body : (date : HttpDate) → conversed (ending (codes "GET / HTTP/1.1\r\nContent-Length: 3\r\n\r\nhello")) (on_date date (Ask ∷ Respond 0 (hello (codes "a")) ∷ Ask ∷ [])) ≡ gives (Handed 0 (message Get (codes "/") 1 1 (header (codes "Content-Length") (codes "3") ∷ [])) (framed Held (Some 3) false) ∷ Done ∷ Ended ∷ []) (output (text_of_length date (codes "1") (codes "a") ∷ []))
+held_body : (date : HttpDate) → conversed (ending (codes "GET / HTTP/1.1\r\nContent-Length: 3\r\n\r\nhello")) (on_date date (Ask ∷ Respond 0 (hello (codes "a")) ∷ Ask ∷ [])) ≡ gives (Handed 0 (message Get (codes "/") 1 1 (header (codes "Content-Length") (codes "3") ∷ [])) (framed WithHead (Some 3) false) ∷ Done ∷ Ended ∷ []) (output (text_of_length date (codes "1") (codes "a") ∷ []))
 unfolding digits text_of status_line field_line upgrade_lines server_line date_line framing_line answer_head_text reason_phrase framing length_in
 held_body date = refl
 
