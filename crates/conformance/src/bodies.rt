@@ -91,7 +91,7 @@ fn announced(alloc: Global, said: usize, sent: usize) -> Result<Vec<u8>, AllocEr
     Ok(client)
 }
 
-// The same, and a request behind them.
+// The same, and a request after them.
 fn followed(alloc: Global, said: usize, sent: usize) -> Result<Vec<u8>, AllocError> {
     let mut client = announced(alloc, said, sent)?;
     client.extend_from_slice(b"GET /b HTTP/1.1\r\n\r\n")?;

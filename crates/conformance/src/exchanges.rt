@@ -117,7 +117,7 @@ fn announced(
     Ok(exchange)
 }
 
-// A body that was read with its head, and a chunked one behind it.
+// A body that was read with its head, and a chunked one after it.
 fn assert_two_bodies(
     rt: &impl Abort,
     alloc: Global,
@@ -157,7 +157,7 @@ fn bodies_without_a_driver(rt: HostRuntime) -> Result<(), Fail> {
     Ok(())
 }
 
-// A body of 1500 bytes that is read from the stream, and a request behind it.
+// A body of 1500 bytes that is read from the stream, and a request after it.
 fn counted(alloc: Global) -> Result<Vec<u8>, Fail> {
     let mut client = b"POST /a HTTP/1.1\r\nContent-Length: 1500\r\n\r\n".to_vec(alloc)?;
     for _ in 0..1500 {
@@ -197,7 +197,7 @@ fn assert_first_of_two(
     Ok(())
 }
 
-// One request follows, and none behind it.
+// One request follows, and none after it.
 fn assert_last(rt: &impl Abort, alloc: Global, source: &mut Source<Pieces>) -> Result<(), Fail> {
     let _behind = request(rt, alloc, source, "/b")?;
     assert_ended(rt, alloc, source)
@@ -250,14 +250,14 @@ fn give_up(
     Ok(())
 }
 
-// A chunked body is given up before its end was told: no head follows.
+// A chunked body is given up before its end was reported: no head follows.
 fn assert_given_up(rt: &impl Abort, alloc: Global, most: usize, wanted: &[u8]) -> Result<(), Fail> {
     let mut source = source_of(alloc, CHUNKED, None, most)?;
     give_up(rt, alloc, &mut source, wanted.len(), wanted)?;
     assert_ended(rt, alloc, &mut source)
 }
 
-// A chunked body is given up behind its end: the next head follows.
+// A chunked body is given up after its end: the next head follows.
 fn assert_read_out(rt: &impl Abort, alloc: Global, most: usize) -> Result<(), Fail> {
     let mut source = source_of(alloc, CHUNKED, None, most)?;
     give_up(rt, alloc, &mut source, 3, b"hi")?;
@@ -276,7 +276,7 @@ fn no_head_stands_behind_a_chunked_body_given_up(rt: HostRuntime) -> Result<(), 
     Ok(())
 }
 
-// A read tells this fault.
+// A read reports this fault.
 fn assert_fault(
     rt: &impl Abort,
     exchange: &mut Exchange,
@@ -291,7 +291,7 @@ fn assert_fault(
     assert_same(rt, fault, Some(kind));
 }
 
-// The body of the next request is `abc`, and then each read tells this fault.
+// The body of the next request is `abc`, and then each read reports this fault.
 fn assert_broken_body(
     rt: &impl Abort,
     alloc: Global,
@@ -377,7 +377,7 @@ fn assert_refusal(
 
 const REFUSED: &[u8] = b"qsd qsd qsd\r\nGET / HTTP/1.1\r\n\r\n";
 
-// A head that is refused, and nothing behind it.
+// A head that is refused, and nothing after it.
 fn assert_refused(rt: &impl Abort, alloc: Global, most: usize) -> Result<(), Fail> {
     let mut source = source_of(alloc, REFUSED, None, most)?;
     let wanted = format!(in alloc; "HTTP/1.1 400 Bad Request\r\n{EMPTY}")?;

@@ -43,7 +43,7 @@ fn bytes_of(alloc: Global, length: usize) -> Result<Vec<u8>, Fail> {
     Ok(bytes)
 }
 
-// What is written behind a front goes out behind it.
+// What is written after a front goes out after it.
 fn assert_written(rt: &impl Abort, alloc: Global, bytes: &[u8]) -> Result<(), Fail> {
     let mut outlet = outlet_of(alloc, 10_000);
     outlet.write(b"front")?;
@@ -64,7 +64,7 @@ fn what_does_not_fit_is_sent(rt: HostRuntime) -> Result<(), Fail> {
     Ok(())
 }
 
-// An outlet whose flush told a fault behind three bytes.
+// An outlet whose flush reported a fault after three bytes.
 fn broken(rt: &impl Abort, alloc: Global) -> Result<Outlet<Budget>, Fail> {
     let mut outlet = outlet_of(alloc, 3);
     outlet.write(b"hello")?;

@@ -12,7 +12,7 @@ use tiny_http_wire::device::{Canned, Metered, WriteDevice};
 
 const THREE: &[u8] = b"GET / HTTP/1.1\r\n\r\nGET / HTTP/1.1\r\n\r\nGET / HTTP/1.1\r\n\r\n";
 
-// A drop out of turn, and answers before, in and behind their turn.
+// A drop out of turn, and answers before, in and after their turn.
 const OUT_OF_ORDER: &[Deed<'static>] = &[
     Ask,
     Ask,

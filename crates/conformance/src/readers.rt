@@ -76,7 +76,7 @@ fn a_part_that_is_finished_is_read_away(rt: HostRuntime) -> Result<(), Fail> {
     Ok(())
 }
 
-// A read tells that it comes too late.
+// A read reports that it comes too late.
 fn assert_late<R: ReadDevice>(rt: &impl Abort, reader: &mut R) {
     let mut buf = [0u8; 4];
     let fault = match reader.read_in(&mut buf) {

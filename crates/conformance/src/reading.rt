@@ -7,10 +7,10 @@ use std::io::ErrorKind;
 use std::process::Abort;
 use std::test::Fail;
 
-// The head of a chunked request, as the replies tell it.
+// The head of a chunked request, as the replies report it.
 const CHUNKED: &str = "0: POST / 1.1 [Transfer-Encoding: chunked]";
 
-// A run over a chunked body, behind its head: what the steps behind the first Ask are answered.
+// A run over a chunked body, after its head: what the steps after the first Ask are answered.
 fn chunked(alloc: Global, body: &[u8], replies: &str) -> Result<(Vec<u8>, String), AllocError> {
     let mut client = b"POST / HTTP/1.1\r\nTransfer-Encoding: chunked\r\n\r\n".to_vec(alloc)?;
     client.extend_from_slice(body)?;
@@ -20,7 +20,7 @@ fn chunked(alloc: Global, body: &[u8], replies: &str) -> Result<(Vec<u8>, String
 
 const WHOLE: &[u8] = b"5;x=1\r\nhello\r\n0\r\nT: v\r\n\r\nGET /b HTTP/1.1\r\n\r\n";
 
-// A body, the steps, what those behind the first Ask are answered, and the output.
+// A body, the steps, what those after the first Ask are answered, and the output.
 type Row<'a> = (&'a [u8], &'a [Deed<'a>], &'a str, &'a [&'a str]);
 
 const BODIES: &[Row<'static>] = &[
@@ -110,7 +110,7 @@ fn a_time_out_within_a_body_is_told(rt: HostRuntime) -> Result<(), Fail> {
     assert_late(&rt, rt.alloc(), chunked, CHUNKED)
 }
 
-// Reads of nothing, before any byte and behind a fault that was told.
+// Reads of nothing, before any byte and after a fault that was reported.
 const READS_OF_NOTHING: &[Deed<'static>] = &[
     Ask,
     Read(0, 0),
@@ -160,7 +160,7 @@ fn asks_at(n: usize) -> &'static str {
     }
 }
 
-// What the two Reads behind them are answered.
+// What the two Reads after them are answered.
 fn reads_at(n: usize) -> &'static str {
     match n {
         0..=106 => "no such; no such",

@@ -56,11 +56,11 @@ pub(crate) struct Case<'a> {
 /// How reader and writer of a run fail.
 #[derive(Clone, Copy, Debug)]
 pub(crate) struct Trouble {
-    /// The reader's fault behind the last byte, in place of an end.
+    /// The reader's fault after the last byte, in place of an end.
     pub reader: Option<ErrorKind>,
     /// How many bytes the writer takes.
     pub room: usize,
-    /// The writer's fault behind them.
+    /// The writer's fault after them.
     pub writer: ErrorKind,
 }
 
@@ -157,7 +157,7 @@ fn describe_head(summary: &mut String, head: &Head) -> Result<(), AllocError> {
     Ok(())
 }
 
-// Writes bytes that are ASCII, behind a space; nothing where there are none.
+// Writes bytes that are ASCII, after a space; nothing where there are none.
 fn describe_bytes(summary: &mut String, bytes: &[u8]) -> Result<(), AllocError> {
     summary.push_str("given")?;
     if !bytes.is_empty() {
@@ -197,7 +197,7 @@ fn describe(alloc: Global, replies: &[Reply]) -> Result<String, AllocError> {
     Ok(summary)
 }
 
-// What the writer took, and what is held back behind it.
+// What the writer took, and what is held back after it.
 fn output_of(alloc: Global, outlet: Outlet<Budget>) -> Result<Vec<u8>, Fail> {
     let held = outlet.held().to_vec(alloc)?;
     let mut output = outlet.into_inner().bytes().to_vec(alloc)?;

@@ -101,7 +101,7 @@ fn letters(alloc: Global, length: usize) -> Result<String, Fail> {
     Ok(text)
 }
 
-// The line of this text is read, and the next one behind it.
+// The line of this text is read, and the next one after it.
 fn assert_long(rt: &impl Abort, alloc: Global, text: &str) -> Result<(), Fail> {
     let mut client = text.as_bytes().to_vec(alloc)?;
     client.extend_from_slice(b"\r\nnext\r\n")?;
@@ -148,7 +148,7 @@ fn read<'a>(source: &mut Source<Pieces>, buf: &'a mut [u8]) -> Result<&'a [u8], 
     }
 }
 
-// Reads that give a body, and then tell the fault.
+// Reads that give a body, and then report the fault.
 fn assert_reads(rt: &impl Abort, source: &mut Source<Pieces>) {
     let mut room = [0u8; 3];
     assert_same(rt, read(source, &mut room), Ok(b"bod"));

@@ -28,7 +28,7 @@ fn told_of_leaving(leaving: Leaving<u8>) -> Told {
     }
 }
 
-// The same is told, and of this number.
+// The same is reported, and of this number.
 fn assert_told(
     rt: &impl Abort,
     number: u64,
@@ -46,7 +46,7 @@ fn assert_told(
     );
 }
 
-// Leaves this text at this number, of which that is told.
+// Leaves this text at this number, of which that is reported.
 fn assert_left(
     rt: &impl Abort,
     alloc: Global,
@@ -59,7 +59,7 @@ fn assert_left(
     Ok(())
 }
 
-// Finishes this number with this item, of which that is told.
+// Finishes this number with this item, of which that is reported.
 fn assert_finished(
     rt: &impl Abort,
     turns: &mut Turns<u8>,
@@ -78,7 +78,7 @@ fn assert_issued(rt: &impl Abort, turns: &mut Turns<u8>) -> Result<(), Fail> {
     Ok(())
 }
 
-// Texts are left behind the first number, and the first is taken.
+// Texts are left after the first number, and the first is taken.
 fn assert_texts_wait(rt: &impl Abort, alloc: Global, turns: &mut Turns<u8>) -> Result<(), Fail> {
     assert_left(rt, alloc, turns, (1, b"b"), ("left", None, None))?;
     assert_same(rt, turns.take(0), Some(7));
@@ -86,7 +86,7 @@ fn assert_texts_wait(rt: &impl Abort, alloc: Global, turns: &mut Turns<u8>) -> R
     assert_left(rt, alloc, turns, (2, b"c"), ("left", None, None))
 }
 
-// The texts come out, each behind the number before it.
+// The texts come out, each after the number before it.
 fn assert_texts_come_out(rt: &impl Abort, turns: &mut Turns<u8>) {
     assert_finished(rt, turns, (0, 7), ("go", Some(7), Some(b"b")));
     assert_finished(rt, turns, (1, 7), ("go", Some(7), Some(b"c")));
@@ -128,7 +128,7 @@ fn assert_put_back(rt: &impl Abort, turns: &mut Turns<u8>) {
     assert_same(rt, turns.take(0), Some(8));
 }
 
-// Behind its end no number is taken.
+// After its end no number is taken.
 fn assert_past(rt: &impl Abort, turns: &mut Turns<u8>) {
     assert_finished(rt, turns, (0, 8), ("passed", None, None));
     assert_same(rt, turns.take(0), None);

@@ -39,7 +39,7 @@ fn drain<R: ReadDevice>(alloc: Global, reader: &mut R) -> Result<(Vec<u8>, Optio
 #[derive(Clone, Copy)]
 struct Body<'a> {
     bytes: &'a [u8],
-    // How the reader fails behind them, in place of an end.
+    // How the reader fails after them, in place of an end.
     fault: Option<ErrorKind>,
     data: &'a [u8],
     stop: Stop,
@@ -60,7 +60,7 @@ fn assert_drained(
 }
 
 // The body, read so many bytes a call, gives its data and stops so, at each further read too.
-// It answers what the reader gives behind it.
+// It answers what the reader gives after it.
 fn decode(rt: &impl Abort, alloc: Global, body: Body<'_>, most: usize) -> Result<Vec<u8>, Fail> {
     let whole = Canned::new(body.bytes.to_vec(alloc)?, body.fault);
     let mut decoder = Decoder::new(Pieces { whole, most });
@@ -79,7 +79,7 @@ fn assert_body(rt: &impl Abort, alloc: Global, body: Body<'_>) -> Result<(), Fai
     Ok(())
 }
 
-// The same, and the reader stands behind it.
+// The same, and the reader stands after it.
 fn assert_whole(rt: &impl Abort, alloc: Global, body: Body<'_>, rest: &[u8]) -> Result<(), Fail> {
     for most in [1, 2, 1023, 1024] {
         let behind = decode(rt, alloc, body, most)?;
@@ -88,7 +88,7 @@ fn assert_whole(rt: &impl Abort, alloc: Global, body: Body<'_>, rest: &[u8]) -> 
     Ok(())
 }
 
-// The bytes, the data, and what stands behind the body.
+// The bytes, the data, and what stands after the body.
 const WHOLE_BODIES: &[(&[u8], &[u8], &[u8])] = &[
     (b"0\r\n\r\n", b"", b""),
     (b"5\r\nhello\r\n0\r\n\r\n", b"hello", b""),
@@ -200,7 +200,7 @@ fn long_line(alloc: Global, count: usize) -> Result<Vec<u8>, Fail> {
     Ok(bytes)
 }
 
-// The bytes, whose reader ends behind them, give these data and stop so.
+// The bytes, whose reader ends after them, give these data and stop so.
 fn assert_bytes(
     rt: &impl Abort,
     alloc: Global,

@@ -81,7 +81,7 @@ fn assert_front(
     Ok(())
 }
 
-// Behind the bytes there is the fault alone.
+// After the bytes there is the fault alone.
 fn assert_no_front(rt: &impl Abort, reader: &mut Canned) {
     let mut buf = [0u8; 4];
     let fault = kind_of(read_front(reader, 1, &mut buf));

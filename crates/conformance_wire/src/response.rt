@@ -225,7 +225,7 @@ fn an_answer_to_an_upgrade_sends_no_data(rt: HostRuntime) -> Result<(), Fail> {
     Ok(())
 }
 
-// A writer of this room takes the front of the answer, and its fault is told.
+// A writer of this room takes the front of the answer, and its fault is reported.
 fn assert_cut(rt: &impl Abort, alloc: Global, room: usize) -> Result<(), Fail> {
     let answer = text(alloc, "hello world")?;
     let printed = print(alloc, answer, Setting { room, ..PLAIN })?;

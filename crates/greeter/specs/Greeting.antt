@@ -43,7 +43,7 @@ abbrev pub is_handed : ReplyValue → Bool
 is_handed (Handed number message framing) = true
 is_handed _ = false
 
--- the reply to an Ask behind the greetings, if there was one
+-- the reply to an Ask after the greetings, if there was one
 abbrev pub last_reply : Option Reply → List ReplyValue
 last_reply None = []
 last_reply (Some r) = seen r ∷ []

@@ -16,7 +16,7 @@ own = numerals_by_value (AllDigits 10) tells_digits
 no_space : (ds : List ℕ) → AllDigits 10 ds → (i : ℕ) → i < length ds → get_or ds i 0 ≢ 32
 no_space ds h = not_in_digits own ds 32 h (λ r. let low : 48 ≤ 32 = r.0 in omega arith)
 
--- a text that begins by a number is cut behind the digits
+-- a text that begins by a number is cut after the digits
 pub number_cut : (text rest : List ℕ) (n : ℕ) (r : Option (Bor (List ℕ) × Bor (List ℕ))) → IsSplitOnceResult 32 text r → (b : BeginsByNumber text n rest) → MatchOption r ⊥ (λ x. (x.0.now ≡ b.0) × (x.1.now ≡ rest))
 number_cut text rest n r h b = split_after 32 text b.0 rest r h (lit< tt) b.1 (no_space b.0 b.2.0.1)
 

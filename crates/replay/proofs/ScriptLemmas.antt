@@ -16,7 +16,7 @@ use Rattle.replay.specs.Line.{IsLine, IsGood}
 use Rattle.replay.specs.Script.{IsFirstBadLine, IsScript, script_lines, said_step, date_behind, on_date, steps_from, timed_value, step_value}
 use Rattle.replay.specs.declared.line.Line.{Line}
 
--- the date behind lines
+-- the date after lines
 abbrev pub date_after : HttpDate → List Line → HttpDate
 date_after now [] = now
 date_after now (line ∷ lines) = date_after (date_behind now line) lines
@@ -48,7 +48,7 @@ all_good (l ∷ lines) (s ∷ said) z = ((z.0.0, (s, z.0.1)), all_good lines sai
 abbrev pub texts : List (Bor (List ℕ)) → List (List ℕ)
 texts lines = map (λ line. line.now) lines
 
--- the line behind good ones is the first bad one
+-- the line after good ones is the first bad one
 pub first_bad : (lines : List (Bor (List ℕ))) (i : ℕ) (none : Bor (List ℕ)) → i < length lines → AllByRecursion IsGood (texts (take i lines)) → ¬ (IsGood (get_or lines i none).now) → IsFirstBadLine (texts lines) (i + 1)
 first_bad lines i none l good bad =
     let cut : lines ≡ take i lines ++ get_or lines i none ∷ drop (suc i) lines = sym (take-append-drop i lines) ∙ ap (λ rest. take i lines ++ rest) (drop-cons lines i none l) in
@@ -83,11 +83,11 @@ no_bad script steps n s b =
     let good : AllByRecursion IsGood (b.0 ++ b.1 ∷ b.2) = subst (AllByRecursion IsGood) b.3 (all_good (script_lines script) s.0 s.2) in
     b.6 (good_at b.0 b.1 b.2 good)
 
--- data in memory are few enough to be told
+-- data in memory are few enough to be stated
 few : {A : Type 0} (v : Vec ℕ A) (n : ℕ) → length (drop n v.items) < 2 ^ 63
 few v n = let dropped = length-drop n v.items in omega (arith, v.ok.0, v.ok.1, v.small, dropped)
 
--- a step over data in memory tells what it is
+-- a step over data in memory states its data
 step_told : {A : Type 0} (step : Step (Cursor (Vec ℕ A))) → IsStep (λ c. Some (ending (cursor_bytes c))) step (step_value step)
 step_told AskStep = tt
 step_told (ReadStep number count) = (refl, refl)

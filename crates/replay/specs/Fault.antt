@@ -1,4 +1,4 @@
--- What the exit status tells.
+-- What the exit status reports.
 use Rattle.std.specs.Prelude.{ℕ}
 use Rattle.replay.specs.declared.fault.Fault.{Fault}
 use Rattle.replay.specs.declared.fault.Fault.TheVariants.{Usage, CannotRead, BadLine, OutOfMemory, CannotWrite}

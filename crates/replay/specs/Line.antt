@@ -27,7 +27,7 @@ WritesDate text date = WritesNumber text (unix_secs date) × (unix_secs date < 2
 abbrev pub IsDate : List ℕ → Type 0
 IsDate text = (date : HttpDate) × WritesDate text date
 
--- the grammar of what stands behind `respond`
+-- the grammar of what stands after `respond`
 abbrev pub WritesAnswer : List ℕ → Line → Type 0
 WritesAnswer words (Text number status text) = BeginsByNumbers words number status (codes "text " ++ text.now)
 WritesAnswer words (Empty number status) = BeginsByNumbers words number status (codes "empty")
@@ -41,11 +41,11 @@ WritesAnswer words (Drop number) = ⊥
 abbrev pub IsAnswer : List ℕ → Type 0
 IsAnswer words = (line : Line) × WritesAnswer words line
 
--- the line is an answer, behind its first word
+-- the line is an answer, after its first word
 abbrev pub WritesRespond : List ℕ → Line → Type 0
 WritesRespond text line = (words : List ℕ) × (text ≡ codes "respond " ++ words) × WritesAnswer words line
 
--- the grammar of what stands behind `read`: a number of 64 bits, a space, and one of 16 bits
+-- the grammar of what stands after `read`: a number of 64 bits, a space, and one of 16 bits
 abbrev pub WritesRead : List ℕ → ℕ → ℕ → Type 0
 WritesRead words number count =
     (digits : List ℕ) × BeginsByNumber words number digits × WritesNumber digits count × (number < 2 ^ 64) × (count < 2 ^ 16)

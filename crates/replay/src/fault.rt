@@ -1,9 +1,9 @@
-//! Why a run is not made or not told, as one line and an exit status.
+//! Why a run is not made or not reported, as one line and an exit status.
 ghost use Rattle.std.specs.Prelude.{◌≡◌, ◌<◌, ◌≤◌};
 
 use std::fmt;
 
-/// Why a run is not made or not told.
+/// Why a run is not made or not reported.
 #[derive(Clone, Copy, Debug, PartialEq, Eq)]
 pub(crate) enum Fault<'a> {
     Usage,
@@ -18,7 +18,7 @@ pub(crate) enum Fault<'a> {
 impl Fault<'_> {
     ghost use Rattle.replay.specs.Fault.{exit_status};
 
-    /// The exit status that tells it: 2 for what was asked wrongly, and 1 for what the system refused.
+    /// The exit status that reports it: 2 for what was asked wrongly, and 1 for what the system refused.
     pub(crate) fn status(&self) -> u8
         ensures value { result ≡ exit_status self.now }
         ensures some { 0 < result }

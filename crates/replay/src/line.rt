@@ -11,7 +11,7 @@ use httpdate::HttpDate;
 pub(crate) enum Line<'a> {
     /// Nothing: it is empty, or a comment.
     Blank,
-    /// The date of all the steps behind it.
+    /// The date of all the steps after it.
     Now(HttpDate),
     /// Asks for the next request.
     Ask,
@@ -36,7 +36,7 @@ fn number_in(digits: &str) -> Option<u64>
     digits.parse::<u64>().ok()
 }
 
-// The number that stands before the first space, and what stands behind it.
+// The number that stands before the first space, and what stands after it.
 fn number_before(text: &str) -> Option<(u64, &str)>
     ensures some { IfSome result (λ r. BeginsByNumber text.now r.0 r.1.now) }
     ensures found { (n : ℕ) → (rest : List ℕ) → n < 2 ^ 64 → BeginsByNumber text.now n rest
@@ -54,7 +54,7 @@ fn date_in(seconds: &str) -> Option<HttpDate>
     HttpDate::from_unix_secs(number_in(seconds)?).ok()
 }
 
-// What stands behind `respond`: a number, a code, and `empty`, or `text` and the text.
+// What stands after `respond`: a number, a code, and `empty`, or `text` and the text.
 fn answer_in(words: &str) -> Option<Line<'_>>
     ensures some { IfSome result (λ line. WritesAnswer words.now line) }
     ensures found { IsAnswer words.now → IsSome result }
@@ -69,7 +69,7 @@ fn answer_in(words: &str) -> Option<Line<'_>>
     }
 }
 
-// What stands behind `read`: a number, and how many bytes are read.
+// What stands after `read`: a number, and how many bytes are read.
 fn count_in(words: &str) -> Option<(u64, u16)>
     ensures some { IfSome result (λ r. WritesRead words.now r.0 r.1) }
     ensures found { (n : ℕ) → (count : ℕ) → WritesRead words.now n count → IsSome result }

@@ -36,7 +36,7 @@ struct Outcome {
     replies: Vec<Reply>,
 }
 
-// Runs the steps over the client's bytes, which then end. The writer is in memory, so only want of memory makes it fail.
+// Runs the steps over the client's bytes, which then end. The writer is in memory, so only lack of memory makes it fail.
 fn run_steps(
     alloc: Global,
     bytes: Vec<u8>,
@@ -96,7 +96,7 @@ fn replay<O: Write, E: Write>(
 ) -> Result<(), Fault<'static>>
     ensures runs { OnOk result (WritesReplay bytes.items script.now (O.contents out.old) (O.contents out.new)
         (E.contents err.old) (E.contents err.new)) }
-    // Behind a bad line nothing is run.
+    // After a bad line nothing is run.
     ensures refused { (n : ℕ) → IsFirstBadLine (script_lines script.now) n
         → IsErrAnd result (λ fault. (exit_status fault ≡ 2) ⊎ (fault ≡ Fault.OutOfMemory)) × (out.new ≡ out.old) }
     ensures bad { (n : ℕ) → result ≡ Err (Fault.BadLine n) → IsFirstBadLine (script_lines script.now) n }
@@ -114,7 +114,7 @@ fn replay<O: Write, E: Write>(
     }
 }
 
-// Tells a fault by a line, and gives the exit status that tells it.
+// Tells a fault by a line, and gives the exit status that reports it.
 fn tell<E: Write>(fault: &Fault<'_>, err: &mut E) -> u8
     ensures some { 0 < result }
     ensures bound { result ≤ 2 }
@@ -127,7 +127,7 @@ fn tell<E: Write>(fault: &Fault<'_>, err: &mut E) -> u8
 }
 
 /// Runs the steps of a script over a client's bytes. Writes the output to `out`, then a line for each reply to `err`, and
-/// gives the exit status: 0, or that of a fault, which is told by a line on `err`. Behind a bad line of the script nothing
+/// gives the exit status: 0, or that of a fault, which is reported by a line on `err`. After a bad line of the script nothing
 /// is run.
 pub fn replay_on<O: Write, E: Write>(
     alloc: Global,
@@ -139,7 +139,7 @@ pub fn replay_on<O: Write, E: Write>(
     ensures runs { result ≡ 0 → WritesReplay bytes.items script.now (O.contents out.old) (O.contents out.new)
         (E.contents err.old) (E.contents err.new) }
     ensures bound { result ≤ 2 }
-    // Behind a bad line nothing is run.
+    // After a bad line nothing is run.
     ensures refused { (n : ℕ) → IsFirstBadLine (script_lines script.now) n → (0 < result) × (out.new ≡ out.old) }
     ensures two { result ≡ 2 → (n : ℕ) × IsFirstBadLine (script_lines script.now) n }
 {

@@ -1,4 +1,4 @@
-//! The lines that tell what the steps were answered.
+//! The lines that report what the steps were answered.
 ghost use Rattle.std.specs.Prelude.{◌≡◌, Some};
 ghost use Rattle.replay.specs.Reply.{kind_name, length_text, handed_text, bytes_text, reply_text};
 ghost use Rattle.tiny_http_core.specs.HeadReads.{head_message};

@@ -20,7 +20,7 @@ module _ {J : Type 0} where
   abbrev pub new_pool : ℕ → Pool J
   new_pool running = record { jobs = []; idle = 0; running = running; closed = false }
 
-  -- Where more workers are idle than jobs wait, the job waits behind these, or comes back if room for it was refused. Else
+  -- Where more workers are idle than jobs wait, the job waits after these, or comes back if room for it was refused. Else
   -- it is to start on a worker more, or comes back if 2^64 - 1 run.
   abbrev pub Offers : Pool J → J → Offered J → Pool J → Type 0
   Offers old job Queued new = (length old.jobs < old.idle) × (new ≡ record old { jobs = old.jobs ++ job ∷ [] })

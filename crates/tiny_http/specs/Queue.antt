@@ -4,7 +4,7 @@ use Rattle.tiny_http.specs.declared.messages_queue.Popped.{Popped}
 use Rattle.tiny_http.specs.declared.messages_queue.Popped.TheVariants.{Value, Unblocked, Empty}
 
 module _ {T : Type 0} where
-  -- a pop takes the mark at the front and tells which it was, or that there is none
+  -- a pop takes the mark at the front and reports which it was, or that there is none
   abbrev pub Pops : List (Option T) → Popped T → List (Option T) → Type 0
   Pops old (Value x) new = old ≡ Some x ∷ new
   Pops old Unblocked new = old ≡ None ∷ new

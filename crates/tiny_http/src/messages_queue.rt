@@ -158,7 +158,7 @@ impl<T> MessagesQueue<T> {
 
     /// As `pop`, for so long at most, and then `None`. Each wait is for what remains of that time. Less than a
     /// millisecond counts as nothing, and nothing remains where the clock can't be read. The queue is looked at before the
-    /// first wait and behind each one.
+    /// first wait and after each one.
     pub fn pop_timeout<R: Wait + Clock>(&self, rt: &R, timeout: Duration) -> Option<T> {
         let mut state = self.state.lock(rt);
         match state.pop() {
@@ -179,7 +179,7 @@ impl<T> MessagesQueue<T> {
     }
 }
 
-// What is told of what a pop found.
+// What is reported of what a pop found.
 fn popped_value<T>(found: Popped<T>) -> Option<T>
     ensures { result ≡ popped_value found }
 {

@@ -1,4 +1,4 @@
--- A step on a request's body: from where the reader stands to where it stands behind it.
+-- A step on a request's body: from where the reader stands to where it stands after it.
 use Rattle.std.proofs.Common.{◌≡◌, refl, sym, ap, ◌∙◌, subst, ℕ, inl, Bool, true, false, not, ◌&&◌, List, [], ◌∷◌, ◌++◌, length, Option, Some, None, arith}
 use Rattle.std.specs.Option.{option_map}
 use Rattle.std.specs.declared.io.ErrorKind.{ErrorKind}
@@ -27,7 +27,7 @@ use Rattle.tiny_http_core.proofs.AskLemmas.{told-feed}
 use Rattle.tiny_http_message.proofs.BodyReads.{gives-up}
 use Rattle.tiny_http_core.proofs.ReaderLemmas.{last-snoc, body-snoc, last-within, body-within, settled-place, settled-set, waiting-kept, and-false}
 
--- the input and the bodies, behind a step of a number
+-- the input and the bodies, after a step of a number
 abbrev pub with_reader : Kept → List (Option Waiting) → {R : Type 0} → SourceState R → Kept
 with_reader k requests source = record k { requests = requests; standing = source.standing; feed = source.feed; stop = source.stop; is_over = source.is_over }
 
@@ -38,7 +38,7 @@ over-kept Nothing n given told h lost = cc
 over-kept WithHead n given told h lost = cc
 over-kept Counted n given told h lost = cc
 
--- behind a chunked body that was given up before its end no head follows
+-- after a chunked body that was given up before its end no head follows
 lost-chunked : {R : Type 0} (b : Body) (old new : SourceState R) (f : Feed) (r : Request) (given : ℕ) (told : Bool) → Fits b r.framing.form (body_length_or_0 r.framing) given told → GivesUp b old new → old.feed ≡ Some f
     → (is_chunked r.framing.form && not told) ≡ true → ((new.is_over ≡ true) × (new.stop ≡ Some End)) × (new.feed ≡ Some (stopped End))
 lost-chunked {R = R} (body.Chunked d) old new f r given told fits h e lost = (h.1, h.0 ∙ ap (λ (o : Option Feed). option_map (λ _. stopped End) o) e)
@@ -46,7 +46,7 @@ lost-chunked {R = R} (body.Counted left) old new f r given told fits h e lost = 
 lost-chunked {R = R} (body.WithHead bytes) old new f r given told fits h e lost = let no : true ≡ false = sym lost ∙ rw fits refl in cc
 lost-chunked {R = R} (body.Over stop) old new f r given told fits h e lost = absurd (over-kept r.framing.form (body_length_or_0 r.framing) given told fits lost)
 
--- where the next head is read behind a body that was given up
+-- where the next head is read after a body that was given up
 given-place : {R : Type 0} (b : Body) (old new : SourceState R) (f : Feed) (r : Request) (given : ℕ) (told over : Bool) (rest : List Item) → Fits b r.framing.form (body_length_or_0 r.framing) given told → GivesUp b old new → old.feed ≡ Some f
     → (is_streaming b ≡ false → (g : Feed) → behind_body (Some b) (Some g) ≡ Some g) → (is_chunked r.framing.form && not told) ≡ false → PlaceAt over (behind_body (Some b) old.feed) rest → PlaceAt over new.feed rest
 given-place b old new f r given told true rest fits h e quiet kept place = place

@@ -300,7 +300,7 @@ passes-fewer bytes start (h ∷ hs) p =
     let k = passes-fewer p.0 start hs p.3 in
     let goal : suc (length hs) + length start ≤ length bytes = omega arith in goal
 
--- an answer behind heads that are passed over, read with enough fuel
+-- an answer after heads that are passed over, read with enough fuel
 passes-in : (fuel : ℕ) (m : Method) (bytes start : List ℕ) (hs : List AnswerHead) (r : AnswerRead) → PassesOver bytes hs start → length hs < fuel → ((n : ℕ) → answer_within (suc n) m start ≡ r) → answer_within fuel m bytes ≡ r
 passes-in zero m bytes start hs r p lt k = absurd (omega arith)
 passes-in (suc n) m bytes start [] r p lt k =

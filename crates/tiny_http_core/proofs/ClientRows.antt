@@ -140,7 +140,7 @@ wrong_chunk_size : answer_read Get (codes "HTTP/1.1 200 OK\r\nTransfer-Encoding:
 unfolding says_chunked content_length decimal_read digits
 wrong_chunk_size = refl
 
--- the body's length has to be told, by decimal digits alone
+-- the body's length has to be said, by decimal digits alone
 no_length : answer_read Get (codes "HTTP/1.1 200 OK\r\n\r\nhello") ≡ Err Invalid
 unfolding says_chunked content_length decimal_read digits
 no_length = refl
@@ -198,7 +198,7 @@ two_spaces_malformed = subst (AnswerIs Get (codes "HTTP/1.1 200 OK\r\nX:  y\r\n"
 line_unfinished : (method : Method) (bytes : List ℕ) → IsUnfinished bytes → UnfinishedAnswer method bytes × (MalformedAnswer method bytes → ⊥)
 line_unfinished method bytes h = let u : UnfinishedAnswer method bytes = ([], bytes, refl, inl (inl h)) in (u, lack-one method bytes u)
 
--- and a line behind it
+-- and a line after it
 field_line_unfinished : (method : Method) (v : HTTPVersion) (status : ℕ) (bytes fields rest : List ℕ) (headers : List Header)
     → BeginsWithStatusLine bytes v status fields → BeginsWithFieldLines fields headers rest → IsUnfinished rest → UnfinishedAnswer method bytes × (MalformedAnswer method bytes → ⊥)
 field_line_unfinished method v status bytes fields rest headers s f h =

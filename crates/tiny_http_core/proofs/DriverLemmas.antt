@@ -83,7 +83,7 @@ end-final (place.Broken kind) date o p why outside last h = λ f e. inr (end-at 
 end-final place.Body date o p why outside last h = absurd (outside refl)
 end-final place.Last date o p why outside last h = last refl
 
--- what a step does to input and output, whatever they tell
+-- what a step does to input and output, whatever they state
 pub record Moves {R W : Type 0} (old new : ConnectionState R W) : Type 0 where
   pub goes_on : GoesOn old.source.feed new.source.feed
   pub fails_once : FailsOnceUnlessEnded old.outlet.ended (output_of old.outlet) (output_of new.outlet) new.outlet.ended
@@ -142,7 +142,7 @@ stands-after was body old new same moves = by (is_streaming was) same moves
     by true same moves = moves refl
     by false same moves = same refl
 
--- no fault is told
+-- no fault is reported
 abbrev pub TellsNone : ReplyValue → Type 0
 TellsNone reply = (kind : ErrorKind) → reply ≡ Fault kind → ⊥
 
@@ -196,7 +196,7 @@ begins {W = W} client before writer c m r o e feed stop outlet fresh =
     let st6 = subst (λ x. S (K x c.requests c.source.standing c.end c.source.stop c.outlet)) (sym m) st5 in
     record { fresh = fresh; items = items_of client; pipeline = feed-pipeline client; at = start_state (items_of client); run = refl; stands = st6 }
 
--- two calls, where behind a fault of the first the output has ended
+-- two calls, where after a fault of the first the output has ended
 pub fails-more : (was mid ended : Bool) (a b c : Sink) → FailsOnceUnlessEnded was a b mid → FailsOnceUnlessEnded mid b c ended → FailsOnceUnlessEnded was a c ended
 fails-more true true ended a b c h k = (k.0 ∙ h.0, k.1)
 fails-more true false ended a b c h k = let no : false ≡ true = h.1 in cc

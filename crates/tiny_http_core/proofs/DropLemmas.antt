@@ -1,4 +1,4 @@
--- A Drop: from where the connection stands to where it stands behind it.
+-- A Drop: from where the connection stands to where it stands after it.
 use Rattle.std.proofs.Common.{◌≡◌, refl, sym, ap, ◌∙◌, subst, ℕ, ◌-◌, ◌<◌, ◌^◌, ◌⊎◌, inl, ⊎_elim, Bool, true, false, ◌||◌, List, ◌∷◌, ◌++◌, length, Option, Some, None, eq-eqb}
 use Rattle.std.proofs.lemmas.Bool.{ne_eqb}
 use Rattle.std.specs.Prelude.{MatchBool, ◌==◌, is_some, slice_get, slice_set}
@@ -45,7 +45,7 @@ record DropSaid (before new : Sink) (ended : Bool) (slots : List Slot) (old : St
   pub numbers : AreKept slots final requests
   pub shape : AreInShape final
 
--- the connection behind a drop, by what is said of it
+-- the connection after a drop, by what is said of it
 drop-stands : {R : Type 0} (client : Feed) (before : Sink) (k : Kept) (s : State) (date asked : HttpDate) (n : ℕ) (r : Request) (given : ℕ) (told : Bool) (new : Sink) (ended : Bool) (final : List Mark) (requests : List (Option Waiting)) (source : SourceState R) (bs cs : List Slot) (t : Bool)
     → Stands client before k s → SlotAt s.reached.slots bs cs (open_slot asked r given told) n → list_all is_finished bs ≡ t → InputStands client (with_reader k requests source) (bs ++ (dropped asked r given told ∷ cs)) s.reached.rest
     → DropSaid before new ended (bs ++ (dropped asked r given told ∷ cs)) s t final requests → StepIsAnswered client before (after_number k final requests source new ended) s date (Drop n) Done

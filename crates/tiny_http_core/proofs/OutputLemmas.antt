@@ -1,4 +1,4 @@
--- The output, as texts are sent one behind another.
+-- The output, as texts are sent one after another.
 use Rattle.std.proofs.Common.{◌≡◌, refl, sym, ap, ◌∙◌, subst, ℕ, ◌+◌, ◌-◌, ◌<◌, ◌^◌, ◌⊎◌, inl, inr, ⊎_elim, Bool, true, false, ◌||◌, List, [], ◌∷◌, ◌++◌, length, Option, Some, None, arith, append-nil}
 use Rattle.std.specs.Prelude.{MatchBool, is_some}
 use Rattle.std.specs.List.{list_all}
@@ -21,7 +21,7 @@ or-none : (a : Bool) → (a || false) ≡ a
 or-none true = refl
 or-none false = refl
 
--- what stands behind a number whose turn has come: the texts that were left, up to one that waits
+-- what stands after a number whose turn has come: the texts that were left, up to one that waits
 pub joined_behind : (cs : List Slot) (rs : List Mark) (vs : List (Option Waiting)) → AreOpenOrLeft rs → AreKept cs rs vs → (joined cs ≡ left_text rs) × (is_output_broken cs ≡ false)
 joined_behind [] [] vs w h = (refl, refl)
 joined_behind [] (r ∷ rs) vs w h = absurd h
@@ -110,14 +110,14 @@ plain-more before sink e bs xs failure h fin is whole = output-same before sink 
     by-broken true e = joined-broken bs xs e
     by-broken false e = joined-front bs xs fin e ∙ ap (λ y. joined bs ++ y) is ∙ append-nil (joined bs)
 
--- the output behind a writer that took nothing
+-- the output after a writer that took nothing
 pub output-idle : (before sink new : Sink) (slots : List Slot) (failure : Option Failure) → OutputAt before sink true slots failure → Idles sink new → OutputAt before new true slots failure
 output-idle before sink new slots None h i = (i.bytes ∙ h.0, i.failures ∙ h.1, i.stays ∙ h.2, h.3, λ z. (let absent : true ≡ false = z in cc))
 output-idle before sink new slots (Some f) h i =
     let K : Option ErrorKind → Type 0 = λ x. Tells x f.kind in
     (i.bytes ∙ h.0, i.failures ∙ h.1, subst K (sym i.last_kind) h.2, h.3)
 
--- what was sent quietly behind some slots, as the output of more
+-- what was sent quietly after some slots, as the output of more
 pub record Goes (before new : Sink) (was ended : Bool) (old slots : List Slot) (failed : Option Failure) : Type 0 where
   pub failure : Option Failure
   pub output : OutputAt before new ended slots failure

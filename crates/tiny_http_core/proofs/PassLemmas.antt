@@ -14,7 +14,7 @@ use Rattle.tiny_http_core.specs.Pending.{left_text, with_left_finished, begins_l
 use Rattle.tiny_http_core.proofs.KeptLemmas.{get-at, set-at}
 use Rattle.tiny_http_core.proofs.SendLemmas.{sends-append, sends-can}
 
--- the place behind a place
+-- the place after a place
 get-next : {X : Type 0} (xs : List X) (x : X) (ys : List X) → slice_get (xs ++ (x ∷ ys)) (suc (length xs)) ≡ slice_get ys 0
 get-next [] x ys = refl
 get-next (z ∷ zs) x ys = get-next zs x ys
@@ -23,7 +23,7 @@ set-next : {X : Type 0} (xs : List X) (x y z : X) (ys : List X) → slice_set (x
 set-next [] x y z ys = refl
 set-next (w ∷ ws) x y z ys = ap (λ r. w ∷ r) (set-next ws x y z ys)
 
--- finishing a held number, by what stands behind it
+-- finishing a held number, by what stands after it
 finish-at : (f r : List Mark) → turn_outcome (Finish (length f)) (f ++ (Held ∷ r)) ≡ pass_to (slice_get r 0) (suc (length f)) (f ++ (Finished ∷ r))
 finish-at f r =
     ap (λ o. finish_at o (length f) (f ++ (Held ∷ r))) (get-at f Held r)
@@ -62,7 +62,7 @@ pub writes-first : (front rest marks : List Mark) (number : ℕ) (text : List �
     → WritesLeft front rest marks number text was old now ended
 writes-first front rest marks number text was old now ended e place sends = record { done = front; more = rest; marks_are = e; place = place; same = refl; written = text; texts = refl; sends = sends }
 
--- what finishing is told as, and what it leaves
+-- what finishing is reported as, and what it leaves
 pub record FinishingTold (marks new : List Mark) (number : ℕ) (r : Finishing (Unit {0})) (before behind : Option (Unit {0})) : Type 0 where
   pub marks_are : new ≡ marks_after_step (Finish number) marks
   pub item : Finishes (turn_answer (Finish number) marks) tt before r behind
@@ -159,14 +159,14 @@ writes-last front rest marks new number text was old now ended r before behind w
         let o = told-left w.done more new left r before behind t in
         absurd (goes text left (suc (length w.done)) r none o.1)
 
--- behind the texts the writer is flushed
+-- after the texts the writer is flushed
 pub flushed-behind : (was mid ended : Bool) (a b c : Sink) (text : List ℕ) → ((was ≡ false → CanSend a) → SendsUnlessEnded was a b mid text) → ((mid ≡ false → CanSend b) → SendsUnlessEnded mid b c ended []) → (was ≡ false → CanSend a) → SendsUnlessEnded was a c ended text
 flushed-behind was mid ended a b c text sends flushes can =
     let P : List ℕ → Type 0 = λ t. SendsUnlessEnded was a c ended t in
     let s = sends can in
     subst P (append-nil text) (sends-append was mid ended a b c text [] s (flushes (sends-can was mid a b text can s)))
 
--- What finishing a held number leaves: the texts behind it are sent, from that which comes out on.
+-- What finishing a held number leaves: the texts after it are sent, from that which comes out on.
 pub pass-goes : (front rest marks mid final : List Mark) (number : ℕ) (was : Bool) (old now : Sink) (ended : Bool) (r : Finishing (Unit {0})) (next : Vec ℕ) (u : Unit {0}) (before behind : Option (Unit {0}))
     → marks ≡ front ++ (Held ∷ rest) → length front ≡ number → FinishingTold marks mid number r before behind → r ≡ Go u next
     → ((f more : List Mark) → mid ≡ f ++ (Held ∷ more) → length f ≡ number + 1 → FinishesFront f more final × ((was ≡ false → CanSend old) → SendsUnlessEnded was old now ended (next.items ++ left_text more))) → IsFlushed now

@@ -1,4 +1,4 @@
--- A Read: from where the connection stands to where it stands behind it.
+-- A Read: from where the connection stands to where it stands after it.
 use Rattle.std.proofs.Common.{not, ◌&&◌, ◌≡◌, refl, sym, ap, ◌∙◌, subst, ℕ, ◌+◌, ◌-◌, ◌<◌, ◌≤◌, ◌⊎◌, inl, inr, Bool, true, false, ◌||◌, List, [], ◌∷◌, ◌++◌, length, take, drop, Option, Some, None, Result, Ok, Err, arith, length-append, eq-eqb, append-nil}
 use Rattle.std.specs.Prelude.{MatchBool, ◌==◌, nat_lt, slice_get, slice_set, ⊤, if◌then◌else◌}
 use Rattle.std.specs.Option.{option_map}
@@ -145,7 +145,7 @@ fits-on (body.Chunked d) (body.Over stop) form n given m told false fits h = abs
 fits-on (body.Chunked d) (body.WithHead bytes) form n given m told false fits h = absurd h
 fits-on (body.Chunked d) (body.Counted l) form n given m told false fits h = absurd h
 
--- how many bytes are given then, and whether the end is told
+-- how many bytes are given then, and whether the end is reported
 abbrev now_given : Request → ℕ → ℕ → ℕ
 now_given r given n = given + length (take n (drop given r.body.bytes))
 

@@ -146,7 +146,7 @@ open-by o b (inr (inr h)) = rw (h.2, h.3) (waiting-open h.0 h.1 h.4)
 pub held-by : (o : Option Slot) (b : Option Body) → LastKept o b → last_holds_reader o ≡ (not (is_last_slot o) && is_streaming_body b)
 held-by o b h = ap (λ t. not (is_last_slot o) && t) (open-by o b h)
 
--- behind a body that isn't read from the input the input stands
+-- after a body that isn't read from the input the input stands
 pub behind-settled : (o : Option Slot) (b : Option Body) (f : Feed) → LastKept o b → is_streaming_body b ≡ false → behind_body b (Some f) ≡ Some f
 behind-settled o b f (inl h) e = rw h.1 refl
 behind-settled o b f (inr (inl h)) e = rw h.2 refl

@@ -1,4 +1,4 @@
--- A Respond: from where the connection stands to where it stands behind it.
+-- A Respond: from where the connection stands to where it stands after it.
 use Rattle.std.proofs.Common.{◌≡◌, refl, sym, ap, ◌∙◌, subst, ℕ, ◌+◌, ◌-◌, ◌<◌, ◌^◌, ◌⊎◌, inl, inr, ⊎_elim, Bool, true, false, ◌&&◌, ◌||◌, List, [], ◌∷◌, ◌++◌, length, Option, Some, None, Result, Ok, Err, arith, append_assoc, append-nil}
 use Rattle.std.specs.Prelude.{MatchBool, is_some, slice_get, slice_set}
 use Rattle.std.specs.List.{list_all}
@@ -94,7 +94,7 @@ respond-not_yet client before k s date n v w st e never =
     let is = subst T (sym p.waiting.is) (rw (at.turn ∙ late) refl) in
     step-unchanged client before k s date (Respond n v) NotYet st (ap (at_slot true date s.reached n (Respond n v)) at.get ∙ is)
 
--- the slot behind the response
+-- the slot after the response
 abbrev pub answered_slot : HttpDate → Request → ℕ → Bool → ResponseValue → HttpDate → Bool → Slot
 answered_slot asked r given told v date found = finished (open_slot asked r given told) (AnsweredBy v date found)
 
@@ -194,14 +194,14 @@ own-past before sink was bs s1 text (Some f) h fin z =
     let M : Bool → Type 0 = λ b. OwnWrites b (Some f) (joined bs) text Done (Some f) in
     record { failure = Some f; output = h; writes = subst M (sym z) (refl, refl) }
 
--- The response and the texts behind it, as the step's part of the output.
+-- The response and the texts after it, as the step's part of the output.
 pub record Said (before new : Sink) (ended : Bool) (slots : List Slot) (was : State) (text : Text) (reply : ReplyValue) : Type 0 where
   pub failure : Option Failure
   pub output : OutputAt before new ended slots failure
   pub writes : WriterPart (used text) was Done slots reply failure
   pub same : failure ≡ None → has_output_ended was ≡ true → (was.failure ≡ None) × (joined was.reached.slots ≡ joined slots)
 
--- where nothing is written behind the response, it is as it was
+-- where nothing is written after the response, it is as it was
 own-alternatives : (was : Bool) (failed : Option Failure) (old : List Slot) (text : Text) (slots : List Slot) (reply : ReplyValue) (failure : Option Failure) → OwnWrites was failed (joined old) text reply failure → WritesIf was failed old text slots reply failure
 own-alternatives true failed old text slots reply failure h = h
 own-alternatives false failed old text slots reply failure (inl h) = inl h
@@ -210,7 +210,7 @@ own-alternatives false failed old text slots reply failure (inr (inr h)) =
     let P : Ending → Type 0 = λ x. FailsBehind old text.bytes (fault_in x) slots failure in
     inr (inr (h.2, subst P (sym h.1) h.3))
 
--- a fault behind the response, in the texts that were left
+-- a fault after the response, in the texts that were left
 behind-alternatives : (was : Bool) (failed : Option Failure) (old : List Slot) (text : Text) (slots : List Slot) (reply : ReplyValue) (own failure : Option Failure) → OwnWrites was failed (joined old) text reply own → is_some own ≡ false → text.ending ≡ Whole
     → finished_front old + 1 < finished_front slots → (failure ≡ None) ⊎ FailsBetween (joined old ++ text.bytes) (joined slots) failure → was ≡ false → WritesIf was failed old text slots reply failure
 behind-alternatives true failed old text slots reply own failure h none whole more left z = cc
@@ -220,7 +220,7 @@ behind-alternatives false failed old text slots reply own failure (inl h) none w
 behind-alternatives false failed old text slots reply own failure (inr (inl h)) none whole more left z = let absent : true ≡ false = ap is_some (sym h.1) ∙ none in cc
 behind-alternatives false failed old text slots reply own failure (inr (inr h)) none whole more left z = let absent : true ≡ false = ap is_some (sym h.3.1) ∙ none in cc
 
--- the output is open behind the response only where the response is whole, and was open before it
+-- the output is open after the response only where the response is whole, and was open before it
 open-whole : (before mid : Sink) (was : Bool) (bs : List Slot) (s1 : Slot) (text : Text) (failed : Option Failure) (reply : ReplyValue) → list_all is_finished bs ≡ true → is_slot_broken s1 ≡ is_broken text.ending → (is_some failed || is_output_broken bs) ≡ was
     → (o : OwnSaid before mid was false bs s1 text failed reply) → (is_some o.failure ≡ false) × (text.ending ≡ Whole) × (was ≡ false)
 open-whole before mid was bs s1 text failed reply fin broken over o =
@@ -400,7 +400,7 @@ output-before client before k s bs cs asked r given told st e =
     let s0 = open_slot asked r given told in
     output-same before k.sink k.output_ended s.reached.slots bs s.failure (ap joined e ∙ joined-waits bs s0 cs refl refl) (ap is_output_broken e ∙ breaks-waits bs s0 cs refl refl) st.output
 
--- what the connection keeps behind a step of a number
+-- what the connection keeps after a step of a number
 abbrev pub after_number : Kept → List Mark → List (Option Waiting) → {R : Type 0} → SourceState R → Sink → Bool → Kept
 after_number k marks requests source sink ended =
     record k { marks = marks; requests = requests; standing = source.standing; feed = source.feed; stop = source.stop; is_over = source.is_over; sink = sink; output_ended = ended }

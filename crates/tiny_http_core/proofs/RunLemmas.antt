@@ -44,7 +44,7 @@ run-more a mid new (x ∷ xs) (y ∷ ys) d r run step = (run.0, run.1, run-more 
 run-more a mid new [] (y ∷ ys) d r run step = elim run [ ]
 run-more a mid new (x ∷ xs) [] d r run step = elim run [ ]
 
--- the last of a list, where each is told by one
+-- the last of a list, where each is reported by one
 pub record Split {X : Type 0} (told : X → TimedValue → Type 0) (xs : List X) (x : X) (ds : List TimedValue) : Type 0 where
   pub front : List TimedValue
   pub last : TimedValue

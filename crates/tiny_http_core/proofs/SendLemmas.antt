@@ -151,7 +151,7 @@ printed-ended T o a b c n ended e ans p content told few h same m unended low z 
     by-cases (inl k) m2 = inl (broken-ended T a b c ended e (text_of ans content p) unended low k m2 z y)
     by-cases (inr k) m2 = inr ((k.0, k.1, k.2), broken-ended T a b c ended e (nothing_sent OutOfMemory) unended low k.3 m2 z y)
 
--- the writer's count, whatever reader and writer tell
+-- the writer's count, whatever reader and writer state
 pub flushed-once : {T U : Type 0} (a b c : Sink) (x : U) (r : Result T Error) (ended : Bool) → CountsFaults a b (Ok x) → Puts b c r [] → OnErr r (ended ≡ true) → FailsOnce a c ended
 flushed-once a b c x (Ok y) ended u p err = inl (p.failures ∙ u.failures)
 flushed-once a b c x (Err e) ended u p err = inr (p.failures ∙ ap next_count u.failures, err)
@@ -204,7 +204,7 @@ data-breaks T a b e ans f v no_body date same (inr k) =
     let P : Option ℕ → Type 0 = λ known. DataBreakOff Identity known f (error_kind e) in
     subst P (sym k.2) (⊎_elim (λ h. inr (nothing-breaks (error_kind e) OutOfMemory h.0)) (λ h. absurd (same h.failures)) k.3)
 
--- the count behind the outlet's end, where printing raised it, or where it stands at its greatest
+-- the count after the outlet's end, where printing raised it, or where it stands at its greatest
 rose : (a b c : Sink) (n : ℕ) (t : Bool) → (b.failures == n) ≡ t → n ≡ a.failures → b.failures ≡ next_count a.failures → MatchBool t (EndsQuietly b c) (DropsHeld b c) → c.failures ≡ next_count a.failures
 rose a b c n true e same u (inl s) = s.failures ∙ u
 rose a b c n true e same u (inr l) = l.1.failures ∙ ap next_count (eqb-true b.failures n e ∙ same)

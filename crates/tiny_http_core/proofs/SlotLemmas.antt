@@ -23,7 +23,7 @@ or-parts : (a b : Bool) → (a || b) ≡ false → (a ≡ false) × (b ≡ false
 or-parts true b h = cc
 or-parts false b h = (refl, h)
 
--- all before are finished, and none broke off: what is behind follows
+-- all before are finished, and none broke off: what is after follows
 pub joined-front : (xs ys : List Slot) → list_all is_finished xs ≡ true → is_output_broken xs ≡ false → joined (xs ++ ys) ≡ joined xs ++ joined ys
 joined-front [] ys a b = refl
 joined-front (x ∷ xs) ys a b =
@@ -38,7 +38,7 @@ joined-broken [] more b = cc
 joined-broken (x ∷ xs) more b =
     joined-cons x (xs ++ more) xs (λ f nb. let c : is_output_broken xs ≡ true = rw (nb, f) at b in joined-broken xs more c)
 
--- one that waits hides what is behind it
+-- one that waits hides what is after it
 pub joined-waits : (xs : List Slot) (s : Slot) (ys : List Slot) → segment s ≡ [] → is_finished s ≡ false → joined (xs ++ (s ∷ ys)) ≡ joined xs
 joined-waits [] s ys e f = rw (e, f) refl
 joined-waits (x ∷ xs) s ys e f = joined-cons x (xs ++ (s ∷ ys)) xs (λ g nb. joined-waits xs s ys e f)

@@ -68,7 +68,7 @@ abbrev pub PassesOver : List ℕ → List AnswerHead → List ℕ → Type 0
 PassesOver bytes [] rest = rest ≡ bytes
 PassesOver bytes (h ∷ hs) rest = (next : List ℕ) × BeginsWithAnswerHead bytes h next × (is_interim h.status ≡ true) × PassesOver next hs rest
 
--- how far the body behind a head reaches
+-- how far the body after a head reaches
 pub data Extent : Type 0 where
   NoBody : Extent
   OfChunks : Extent
@@ -106,7 +106,7 @@ pub record ClientAnswer : Type 0 where
   pub head : AnswerHead
   pub body : List ℕ
 
--- THE BYTES BEGIN WITH AN ANSWER to a request of this method, behind heads that are passed over, and the rest follows.
+-- THE BYTES BEGIN WITH AN ANSWER to a request of this method, after heads that are passed over, and the rest follows.
 pub record ReadsAnswer (method : Method) (bytes : List ℕ) (answer : ClientAnswer) (rest : List ℕ) : Type 0 where
   pub interim : List AnswerHead
   pub start : List ℕ
@@ -132,14 +132,14 @@ IsStatusLine text = (version : HTTPVersion) × (status : ℕ) × StatusLine text
 abbrev pub IsFieldLineOrEmpty : List ℕ → Type 0
 IsFieldLineOrEmpty text = (text ≡ []) ⊎ ((header : Header) × FieldLine text header)
 
--- the first line that is no good: the status-line, or, behind it and some field-lines, the next line
+-- the first line that is no good: the status-line, or, after it and some field-lines, the next line
 abbrev pub LacksHead : List ℕ → Lack → Type 0
 LacksHead bytes lack =
     LacksLine IsStatusLine bytes lack
     ⊎ ((version : HTTPVersion) × (status : ℕ) × (fields : List ℕ) × (headers : List Header) × (rest : List ℕ)
     × BeginsWithStatusLine bytes version status fields × BeginsWithFieldLines fields headers rest × LacksLine IsFieldLineOrEmpty rest lack)
 
--- the chunked body is cut or breaks a rule, there are fewer bytes than the length, or no length is told
+-- the chunked body is cut or breaks a rule, there are fewer bytes than the length, or no length is said
 abbrev pub LacksBody : Extent → List ℕ → Lack → Type 0
 LacksBody OfChunks bytes Unfinished = (front : List ℕ) × CutChunks bytes End front UnexpectedEof
 LacksBody OfChunks bytes Invalid = (front : List ℕ) × CutChunks bytes End front InvalidData
@@ -147,7 +147,7 @@ LacksBody (OfLength n) bytes Unfinished = length bytes < n
 LacksBody Untold bytes Invalid = Unit {0}
 LacksBody _ bytes _ = ⊥
 
--- behind the heads that are passed over no head stands, or no body behind the head
+-- after the heads that are passed over no head stands, or no body after the head
 abbrev pub LacksAnswer : Method → List ℕ → Lack → Type 0
 LacksAnswer method bytes lack =
     (interim : List AnswerHead) × (start : List ℕ) × PassesOver bytes interim start
@@ -157,7 +157,7 @@ LacksAnswer method bytes lack =
 abbrev pub UnfinishedAnswer : Method → List ℕ → Type 0
 UnfinishedAnswer method bytes = LacksAnswer method bytes Unfinished
 
--- THE BYTES BREAK A RULE: in a finished line of a head, in a chunked body, or by a head that doesn't tell the body's length.
+-- THE BYTES BREAK A RULE: in a finished line of a head, in a chunked body, or by a head that doesn't state the body's length.
 abbrev pub MalformedAnswer : Method → List ℕ → Type 0
 MalformedAnswer method bytes = LacksAnswer method bytes Invalid
 

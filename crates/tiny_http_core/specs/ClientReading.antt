@@ -27,7 +27,7 @@ abbrev pub decimal_of : ℕ → Option (List ℕ × List ℕ) → Option (ℕ ×
 decimal_of most None = None
 decimal_of most (Some l) = with_rest l.1 (decimal_read most l.0)
 
--- a number in front of the first c, and what stands behind that
+-- a number in front of the first c, and what stands after that
 abbrev pub decimal_until : ℕ → ℕ → List ℕ → Option (ℕ × List ℕ)
 decimal_until most c text = decimal_of most (cut c text)
 

@@ -53,7 +53,7 @@ kept c =
 abbrev pub answer_form_of : Request → AnswerForm
 answer_form_of r = record { version = r.message.version; no_body = is_head_method r.message.method }
 
--- a request that was handed out on this date and waits, while so many bytes of its body were given, and its end told or not
+-- a request that was handed out on this date and waits, while so many bytes of its body were given, and its end reported or not
 abbrev pub open_slot : HttpDate → Request → ℕ → Bool → Slot
 open_slot date r given told = record (new_slot date (Asks r)) { given = given; told = told }
 
@@ -108,7 +108,7 @@ AreSettled [] = ⊤
 AreSettled (w ∷ []) = ⊤
 AreSettled (w ∷ v ∷ ws) = IsSettled w × AreSettled (v ∷ ws)
 
--- where the input will stand behind this body
+-- where the input will stand after this body
 abbrev pub behind_body : Option Body → Option Feed → Option Feed
 behind_body None feed = feed
 behind_body (Some b) feed = option_map (λ (r : Remaining). r.behind) (remaining b feed)
@@ -155,7 +155,7 @@ pub record NextHead (k : Kept) (last : Option Slot) (rest : List Item) : Type 0 
   pub lost : last_was_abandoned last ≡ true → InputEnded k × (k.feed ≡ Some (stopped End))
   pub place : last_was_abandoned last ≡ false → PlaceAt (is_past_last k.standing) (behind_body (last_body k.requests) k.feed) rest
 
--- how the input stands to the bodies and to the rest of the pipeline, behind this much of the client's feed
+-- how the input stands to the bodies and to the rest of the pipeline, after this much of the client's feed
 pub record InputStands (client : Feed) (k : Kept) (slots : List Slot) (rest : List Item) : Type 0 where
   pub settled : AreSettled k.requests
   pub gives : GivesRest (last_body k.requests) (last_slot slots) k.feed
@@ -170,7 +170,7 @@ OutputAt before sink ended slots None =
 OutputAt before sink ended slots (Some f) =
     (sink.taken ≡ Some f.output) × (sink.failures ≡ before.failures + 1) × Tells sink.last_kind f.kind × (ended ≡ true)
 
--- the connection stands so, behind this much of the client's feed and over a writer that told this before
+-- the connection stands so, after this much of the client's feed and over a writer that stated this before
 pub record Stands (client : Feed) (before : Sink) (k : Kept) (s : State) : Type 0 where
   pub numbers : AreKept s.reached.slots k.marks k.requests
   pub shape : AreInShape k.marks

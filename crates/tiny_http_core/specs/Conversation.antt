@@ -153,7 +153,7 @@ abbrev pub start_state : List Item → State
 start_state items = record { reached = record { slots = []; rest = items; ended = false }; flushed = []; failure = None }
 
 -- The output: what the writer took and what is held are the joined segments, it took all that was flushed, it did not fail, and
--- the output has ended exactly if one of them broke off. Or the writer failed once: it tells that kind and those bytes,
+-- the output has ended exactly if one of them broke off. Or the writer failed once: it states that kind and those bytes,
 -- nothing is held, and the output has ended.
 abbrev pub IsOutput : List Slot → List ℕ → Option Failure → Sink → Sink → List ℕ → Bool → Type 0
 IsOutput slots flushed None before after held ended =
@@ -161,13 +161,13 @@ IsOutput slots flushed None before after held ended =
 IsOutput slots flushed (Some f) before after held ended =
     (after.failures ≡ before.failures + 1) × Tells after.last_kind f.kind × (after.taken ≡ Some f.output) × (held ≡ []) × (ended ≡ true)
 
--- what the bytes still ask: nothing behind the last head, else the pipeline from where the input stands
+-- what the bytes still ask: nothing after the last head, else the pipeline from where the input stands
 abbrev pub PlaceAt : Bool → Option Feed → List Item → Type 0
 PlaceAt true feed rest = rest ≡ []
 PlaceAt false None rest = ⊥
 PlaceAt false (Some f) rest = Pipeline (Some f.bytes) f.stop rest
 
--- The input stands within this number's body: what is left of the body comes next, and behind it what the pipeline still has.
+-- The input stands within this number's body: what is left of the body comes next, and after it what the pipeline still has.
 abbrev pub WithinBody : Slot → Item → Feed → List Item → Type 0
 WithinBody s (Asks r) left rest =
     (next : Place) × LeftAt r.framing.form (body_length_or_0 r.framing - s.given) left.bytes left.stop (rest_of r s.given) next
@@ -178,7 +178,7 @@ abbrev pub WithinLast : Option Slot → Option Feed → List Item → Type 0
 WithinLast (Some s) (Some left) rest = WithinBody s s.item left rest
 WithinLast _ _ rest = ⊥
 
--- How the input stands while the asking goes on: it has ended behind a chunked body that was given up before its end; it
+-- How the input stands while the asking goes on: it has ended after a chunked body that was given up before its end; it
 -- stands within the last body, while that is open; else what the bytes still ask is the rest of the pipeline.
 abbrev pub InputAt : Reached → Option Feed → Type 0
 InputAt old left =
@@ -196,7 +196,7 @@ pub record IsConversation (feed : Feed) (before : Sink) (steps : List TimedValue
   pub output : IsOutput end.reached.slots end.flushed end.failure before after held ended
   pub input : InputAt end.reached left
 
--- the writer as a run takes it: it tells that it took no bytes, it has not ended, and its count can rise
+-- the writer as a run takes it: it states that it took no bytes, it has not ended, and its count can rise
 pub record IsFresh (sink : Sink) : Type 0 where
   pub no_bytes : sink.taken ≡ Some []
   pub goes_on : sink.has_ended ≡ false

@@ -37,7 +37,7 @@ pub record HasDone {R W : Type 0} (client : Feed) (before : Sink) (c : Connectio
   pub run : Run (start_state items) steps replies at
   pub stands : Stands client before (kept c) at
 
--- a response with what its data tell, in their place
+-- a response with what its data state, in their place
 abbrev pub told_response : {D : Type 0} → (D → Option Feed) → ResponseState D → ResponseState (Option Feed)
 told_response feed r = record { answer = r.answer; data_reader = feed r.data_reader }
 
@@ -120,7 +120,7 @@ IsDeclined _ NoSuch = Unit {0}
 IsDeclined (step.Read k n) Memory = Unit {0}
 IsDeclined _ _ = ⊥
 
--- One step on a date: what was done is done with this step and its reply behind it. And whatever reader, writer and data
+-- One step on a date: what was done is done with this step and its reply after it. And whatever reader, writer and data
 -- state: a step that was not done changes nothing, why the requests end is kept, the other requests are left alone, the source
 -- goes on, the writer fails once at most, what is written is flushed, and a fault that is reported is one.
 pub record TakesStep {R W : Type 0} (old new : ConnectionState R W) (now : HttpDate) (step : Step (Option Feed)) (reply : ReplyValue) : Type 0 where

@@ -36,11 +36,11 @@ begins_left (Finished ∷ marks) = false
 abbrev pub SendsLeft : List Mark → Bool → Sink → Sink → Bool → Type 0
 SendsLeft rest was old new ended = MatchBool (begins_left rest) (SendsUnlessEnded was old new ended (left_text rest) × IsFlushed new) ((new ≡ old) × (ended ≡ was))
 
--- the number at the place of the held one is finished, and so are those behind it that were left
+-- the number at the place of the held one is finished, and so are those after it that were left
 abbrev pub FinishesFront : List Mark → List Mark → List Mark → Type 0
 FinishesFront front rest new = new ≡ front ++ (Finished ∷ with_left_finished rest)
 
--- An open number is left with a text: in its turn the text is sent, with those behind it; else it waits.
+-- An open number is left with a text: in its turn the text is sent, with those after it; else it waits.
 abbrev pub LeavesText : Bool → List Mark → List Mark → List Mark → List ℕ → Bool → Sink → Sink → Bool → Type 0
 LeavesText in_turn front rest marks text was old new ended =
     MatchBool in_turn

@@ -18,7 +18,7 @@ use Rattle.tiny_http_core.specs.Steps.{StepValue, Ask, Read, Respond, Drop, Repl
 use Rattle.tiny_http_core.specs.Conversation.{TimedValue}
 use Rattle.tiny_http_core.specs.Sending.{Sends, IsFlushed, IsHonest, FailsAtMostOnce}
 
--- the response tells its data, of fewer than 2^63 bytes
+-- the response states its data, of fewer than 2^63 bytes
 abbrev pub IsResponse : {D : Type 0} → (D → Option Feed) → ResponseState D → ResponseValue → Type 0
 IsResponse feed r value = (value.answer ≡ r.answer) × (feed r.data_reader ≡ Some value.content) × (length value.content.bytes < 2 ^ 63)
 
@@ -47,18 +47,18 @@ seen reply.NoSuch = NoSuch
 seen reply.Memory = Memory
 
 -- the step may fail by this kind, by the writer or by its own data, in the coding of some request, or by that of the body that
--- it reads; an Ask and a Drop tell no fault
+-- it reads; an Ask and a Drop report no fault
 abbrev pub MayFail : {D : Type 0} → (D → Option Feed) → Sink → Sink → Step D → ErrorKind → Type 0
 MayFail feed old new step.Ask kind = ⊥
 MayFail feed old new (step.Read k n) kind = Unit {0}
 MayFail feed old new (step.Drop k) kind = ⊥
 MayFail feed old new (step.Respond k r) kind = (p : Printing) × IsHonest old new (served_coding r.answer p) r.answer.length (feed r.data_reader) kind
 
--- a fault that an answer tells is the writer's, whose count rose, or that of the step's own data; of a body's nothing is said
+-- a fault that an answer reports is the writer's, whose count rose, or that of the step's own data; of a body's nothing is said
 abbrev pub TellsHonestly : {D : Type 0} → (D → Option Feed) → Sink → Sink → Timed D → Reply → Type 0
 TellsHonestly feed old new t reply = (kind : ErrorKind) → seen reply ≡ Fault kind → MayFail feed old new t.step kind
 
--- Steps that tell their faults so, while the writer's count goes from one number to another: a step raises it at most once.
+-- Steps that report their faults so, while the writer's count goes from one number to another: a step raises it at most once.
 abbrev pub TellHonestly : {D : Type 0} → (D → Option Feed) → Sink → List (Timed D) → List Reply → Sink → Type 0
 TellHonestly feed old [] [] new = new.failures ≡ old.failures
 TellHonestly feed old (t ∷ steps) (r ∷ replies) new =
@@ -73,7 +73,7 @@ pub record PrintedFor (form : AnswerForm) (date : HttpDate) (p : Printing) : Typ
   pub no_upgrade : p.upgrade ≡ None
   pub dated : p.date ≡ date
 
--- what a call that sends an answer is told as
+-- what a call that sends an answer is reported as
 abbrev pub reply_to : {T : Type 0} → Result T Error → ReplyValue
 reply_to (Ok x) = Done
 reply_to (Err e) = fault_of_answer (error_kind e)
@@ -84,6 +84,6 @@ IsAnswered Done = Unit {0}
 IsAnswered (Fault kind) = Unit {0}
 IsAnswered _ = ⊥
 
--- an answer with this data was sent and flushed, and the reply tells how that went
+-- an answer with this data was sent and flushed, and the reply reports how that went
 abbrev pub Answers : Sink → Sink → Bool → ReplyValue → Answer → Feed → Printing → Type 0
 Answers old new ended reply answer content p = (r : Result (Unit {0}) Error) × (reply ≡ reply_to r) × Sends old new ended r answer content p × IsFlushed new

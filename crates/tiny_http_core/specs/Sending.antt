@@ -23,7 +23,7 @@ pub record OutletTook (old new : Sink) (text : List ℕ) : Type 0 where
   pub sent : IsFront old.sent new.sent
   pub failures : new.failures ≡ old.failures
 
--- the writer failed once, with this kind, and tells a front of its bytes before and these, with all that it had sent on
+-- the writer failed once, with this kind, and states a front of its bytes before and these, with all that it had sent on
 pub record OutletFailed (old new : Sink) (text : List ℕ) (kind : ErrorKind) : Type 0 where
   pub bytes : IsKnownFront new.taken (append_known old.taken text)
   pub keeps : BeginsKnown old.sent new.taken
@@ -43,7 +43,7 @@ pub record DropsHeld (old new : Sink) : Type 0 where
   pub last_kind : new.last_kind ≡ old.last_kind
 
 -- A call that sends a text and flushes it: all was sent; or the text broke off, with its fault as the answer, and what there
--- is was sent, or lost; or the writer failed. Behind a fault the outlet has ended.
+-- is was sent, or lost; or the writer failed. After a fault the outlet has ended.
 abbrev pub SendsText : {T : Type 0} → Sink → Sink → Bool → Result T Error → Text → Type 0
 SendsText old new ended (Ok x) text = (text.ending ≡ Whole) × OutletTook old new text.bytes × (ended ≡ false) × (new.has_ended ≡ false)
 SendsText old new ended (Err e) text =
@@ -55,7 +55,7 @@ SendsText old new ended (Err e) text =
 abbrev pub Sends : {T : Type 0} → Sink → Sink → Bool → Result T Error → Answer → Feed → Printing → Type 0
 Sends old new ended r a feed p = SendsText old new ended r (text_of a feed p) ⊎ (IsGathered a p × SendsText old new ended r (nothing_sent OutOfMemory))
 
--- a call that sends a text, and tells no fault
+-- a call that sends a text, and reports no fault
 abbrev pub SendsQuietly : Sink → Sink → Bool → List ℕ → Type 0
 SendsQuietly old new ended text =
     ((ended ≡ false) × (new.has_ended ≡ false) × OutletTook old new text) ⊎ ((ended ≡ true) × (new.has_ended ≡ true) × (kind : ErrorKind) × OutletFailed old new text kind)
@@ -71,11 +71,11 @@ pub record Idles (old new : Sink) : Type 0 where
   pub last_kind : new.last_kind ≡ old.last_kind
   pub stays : new.has_ended ≡ old.has_ended
 
--- a call that sends a text and tells no fault, where an outlet that has ended sends nothing
+-- a call that sends a text and reports no fault, where an outlet that has ended sends nothing
 abbrev pub SendsUnlessEnded : Bool → Sink → Sink → Bool → List ℕ → Type 0
 SendsUnlessEnded was old new ended text = MatchBool was (Idles old new × (ended ≡ true)) (SendsQuietly old new ended text)
 
--- whatever reader and writer tell: the writer's count is as it was, or it failed once, and the outlet has ended
+-- whatever reader and writer state: the writer's count is as it was, or it failed once, and the outlet has ended
 abbrev pub FailsOnce : Sink → Sink → Bool → Type 0
 FailsOnce old new ended = (new.failures ≡ old.failures) ⊎ ((new.failures ≡ next_count old.failures) × (ended ≡ true))
 
@@ -94,7 +94,7 @@ DataBreakOff Identity (Some n) f kind = (length f.bytes < n) × (kind ≡ fault_
 DataBreakOff Identity None f kind = (f.stop ≡ Fault kind) ⊎ (kind ≡ OutOfMemory)
 DataBreakOff Chunked known f kind = f.stop ≡ Fault kind
 
--- the same; nothing is said of data that tell nothing
+-- the same; nothing is said of data that state nothing
 abbrev pub MayBreakOff : Coding → Option ℕ → Option Feed → ErrorKind → Type 0
 MayBreakOff coding known None kind = Unit {0}
 MayBreakOff coding known (Some f) kind = length f.bytes < 2 ^ 63 → DataBreakOff coding known f kind

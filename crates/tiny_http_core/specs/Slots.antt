@@ -32,7 +32,7 @@ pub data Stage : Type 0 where
   Upgraded : (protocol : List ℕ) (response : ResponseValue) (date : HttpDate) (written : List ℕ) (closed : Bool) → Stage
 
 -- A number that was reached: its item, the date of its Ask, the date of its 100 if that was sent, whether a 100 is still
--- owed, how many bytes of its body were given out, whether the body's end or fault was told, whether the body was given
+-- owed, how many bytes of its body were given out, whether the body's end or fault was reported, whether the body was given
 -- up, and what became of it.
 pub record Slot : Type 0 where
   pub item : Item
@@ -186,7 +186,7 @@ abbrev pub is_chunked : Form → Bool
 is_chunked Chunked = true
 is_chunked _ = false
 
--- a chunked body was given up before its end was told: where the next head begins isn't known
+-- a chunked body was given up before its end was reported: where the next head begins isn't known
 abbrev pub body_was_abandoned : Slot → Item → Bool
 body_was_abandoned s (Asks r) = is_chunked r.framing.form && (s.given_up && not s.told)
 body_was_abandoned s (Refuses refusal version withheld last) = false

@@ -86,7 +86,7 @@ asks_from date writer slots (Asks r ∷ items) =
 asks_from date writer slots (Refuses refusal version withheld last ∷ items) =
     asks_from date (if turn_has_come (length slots) slots then Unreported else writer) (slots ++ new_slot date (Refuses refusal version withheld last) ∷ []) items
 
--- The answer to an Ask: Ended once it was; NotYet while the last body handed out holds the reader; Ended behind a chunked
+-- The answer to an Ask: Ended once it was; NotYet while the last body handed out holds the reader; Ended after a chunked
 -- body that was given up before its end; else the next request of the pipeline, or its end.
 abbrev pub ask : HttpDate → Reached → Outcome
 ask date old =

@@ -34,7 +34,7 @@ use tiny_http_wire::response::Response;
 pub enum Step<D> {
     /// Reads the next head and hands it out. It is `NotYet` while the body of the last request that was handed out holds the
     /// reader: one that is counted or chunked, neither read to its end nor given up, of a request that isn't the
-    /// connection's last. Behind a chunked body that was given up before its end was told no head follows.
+    /// connection's last. After a chunked body that was given up before its end was reported no head follows.
     Ask,
     /// Reads the body of the request of this number, until there are so many bytes, 0 to 65535, or no more follow.
     Read(u64, u16),
@@ -60,7 +60,7 @@ pub enum Reply {
     Handed(u64, Head),
     /// The connection has no further request.
     Ended,
-    /// These bytes of the body. Where they are fewer than were asked for no byte follows: the next read tells the end by none,
+    /// These bytes of the body. Where they are fewer than were asked for no byte follows: the next read reports the end by none,
     /// or the fault.
     Given(Vec<u8>),
     /// The body ends by this fault; or the writer or the response's data failed so.
@@ -68,13 +68,13 @@ pub enum Reply {
     /// The step has to wait, an `Ask` for the last body to be read or given up, a `Respond` for its turn; nothing has
     /// changed.
     NotYet,
-    /// The step was done, and met no fault that is told.
+    /// The step was done, and met no fault that is reported.
     Done,
     /// An upgrade was refused, as its protocol isn't ASCII, and the request was dropped. No step of today is answered so.
     Refused,
     /// No request of this number takes the step; nothing has changed.
     NoSuch,
-    /// No memory was found. A `Read` has changed nothing; behind an `Ask` every later one is answered `Ended`.
+    /// No memory was found. A `Read` has changed nothing; after an `Ask` every later one is answered `Ended`.
     Memory,
 }
 
@@ -83,7 +83,7 @@ pub enum Reply {
 pub struct Record<R: ReadDevice, W: WriteDevice> {
     /// What each step was answered.
     pub replies: Vec<Reply>,
-    /// The reader, with the bytes that are held. It stands behind the last head that was read and what was read of its body.
+    /// The reader, with the bytes that are held. It stands after the last head that was read and what was read of its body.
     pub source: Source<R>,
     /// The writer, with what is held back. Its bytes and then those held are the output.
     pub outlet: Outlet<W>,
@@ -131,7 +131,7 @@ fn is_closed_client(kind: ErrorKind) -> bool
 }
 
 impl Reply {
-    // How a fault of an answer is told.
+    // How a fault of an answer is reported.
     fn fault_of_answer(kind: ErrorKind) -> Reply
         ensures { seen result ≡ fault_of_answer kind }
     {
@@ -372,7 +372,7 @@ impl<R: ReadDevice, W: WriteDevice> Connection<R, W> {
 }
 
 /// Runs the steps over a connection, one reply a step. It hands out exactly the requests that the grammar finds in the
-/// client's bytes, each body gives its own bytes and tells its end only there, and the output is one segment a request or
+/// client's bytes, each body gives its own bytes and reports its end only there, and the output is one segment a request or
 /// refused head, in order, whole up to the first fault.
 pub fn run<R: ReadDevice + Drop, W: WriteDevice + Drop, D: ReadDevice + Drop>(
     alloc: Global,
@@ -380,14 +380,14 @@ pub fn run<R: ReadDevice + Drop, W: WriteDevice + Drop, D: ReadDevice + Drop>(
     writer: W,
     steps: Vec<Timed<D>>,
 ) -> Result<Record<R, W>, RunError<R, W>>
-    // THE CONNECTION THEOREM: the reader tells its feed; the writer tells that it took nothing, has not ended, and its count
-    // can rise; the responses' data tell their feeds of fewer than 2^63 bytes.
+    // THE CONNECTION THEOREM: the reader states its feed; the writer states that it took nothing, has not ended, and its count
+    // can rise; the responses' data state their feeds of fewer than 2^63 bytes.
     ensures conversation { IfOk result (λ done. (feed : Feed) (dated : List TimedValue) → R.feed reader ≡ Some feed → IsFresh (W.sink writer) → AllZip (IsTimedStep D.feed) steps.items dated
         → IsConversation feed (W.sink writer) dated (map seen done.replies.items) (W.sink (outlet_writer done.outlet)) (outlet_held done.outlet) (outlet_ended done.outlet) done.source.feed) }
     // What the source still gives is the client's bytes from some place on.
     ensures source { IfOk result (λ done. GoesOn (R.feed reader) done.source.feed) }
 
-    // Whatever reader, writer and data tell.
+    // Whatever reader, writer and data state.
     ensures replies { IfOk result (λ done. vec_len done.replies ≡ vec_len steps) }
     ensures fails_once { IfOk result (λ done. FailsAtMostOnce (W.sink writer) (W.sink (outlet_writer done.outlet))) }
     ensures honest { IfOk result (λ done. TellHonestly D.feed (W.sink writer) steps.items done.replies.items (W.sink (outlet_writer done.outlet))) }

@@ -8,7 +8,7 @@ pub use tiny_http_message::laws::one_pipeline;
 pub use tiny_http_turns::laws::turns_pass_in_order;
 
 /// All bytes begin with an answer to a request of the method, or end before it does, or break a rule
-/// of the client's grammar: one of the three. There is one answer, and one rest behind it. The plain
+/// of the client's grammar: one of the three. There is one answer, and one rest after it. The plain
 /// reading finds which.
 pub fn one_client_answer()
     ensures some { (method : Method) (bytes : List ℕ) → ((answer : ClientAnswer) × (rest : List ℕ) × ReadsAnswer method bytes answer rest) ⊎ (UnfinishedAnswer method bytes ⊎ MalformedAnswer method bytes) }

@@ -127,7 +127,7 @@ impl Pending {
         self.turns.take(number).is_some()
     }
 
-    /// Finishes a number that is held, and so each behind it that was left, whose text is sent. No reply tells a fault that
+    /// Finishes a number that is held, and so each after it that was left, whose text is sent. No reply reports a fault that
     /// is met there.
     pub fn pass<W: WriteDevice>(&mut self, outlet: &mut Outlet<W>, number: u64)
         ensures passes { (front rest : List Mark) → self.old.turns.marks ≡ front ++ (Held ∷ rest) → length front ≡ number → FinishesFront front rest self.new.turns.marks }
@@ -161,7 +161,7 @@ impl Pending {
     }
 }
 
-// Writes the text of a number that is held and finishes it, and so each behind it that was left.
+// Writes the text of a number that is held and finishes it, and so each after it that was left.
 fn write_texts<W: WriteDevice>(
     turns: &mut Turns<()>,
     outlet: &mut Outlet<W>,

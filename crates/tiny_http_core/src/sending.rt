@@ -32,7 +32,7 @@ fn end_behind_fault<W: WriteDevice>(outlet: &mut Outlet<W>, failures: u64)
     }
 }
 
-/// Prints an answer and flushes it. Behind a fault nothing more is sent on the connection: where it was the data's, what
+/// Prints an answer and flushes it. After a fault nothing more is sent on the connection: where it was the data's, what
 /// is held is sent before.
 pub(crate) fn send<W: WriteDevice, D: ReadDevice + Drop>(
     alloc: Global,
@@ -60,7 +60,7 @@ pub(crate) fn send<W: WriteDevice, D: ReadDevice + Drop>(
     outlet.flush()
 }
 
-/// Writes a text. No reply tells a fault that is met there.
+/// Writes a text. No reply reports a fault that is met there.
 pub(crate) fn write_quietly<W: WriteDevice>(outlet: &mut Outlet<W>, text: &[u8])
     ensures sends { (outlet_ended outlet.old ≡ false → CanSend (output_of outlet.old))
         → SendsUnlessEnded (outlet_ended outlet.old) (output_of outlet.old) (output_of outlet.new) (outlet_ended outlet.new) text.now }
@@ -69,7 +69,7 @@ pub(crate) fn write_quietly<W: WriteDevice>(outlet: &mut Outlet<W>, text: &[u8])
     let _ = outlet.write(text);
 }
 
-/// Flushes what was written. No reply tells a fault that is met there.
+/// Flushes what was written. No reply reports a fault that is met there.
 pub(crate) fn flush_quietly<W: WriteDevice>(outlet: &mut Outlet<W>)
     ensures sends { (outlet_ended outlet.old ≡ false → CanSend (output_of outlet.old))
         → SendsUnlessEnded (outlet_ended outlet.old) (output_of outlet.old) (output_of outlet.new) (outlet_ended outlet.new) [] }

@@ -6,7 +6,7 @@ use Rattle.tiny_http_device.specs.declared.device.Stop.{Stop}
 use Rattle.std.specs.Io.KnownBytes.{append_known}
 use Rattle.tiny_http_device.specs.Device.{Feed, prepended, IsKnownFront}
 
--- the next n bytes, and then those behind them
+-- the next n bytes, and then those after them
 pub next_bytes : (s : List ℕ) (i n : ℕ) → take n (drop i s) ++ drop (i + n) s ≡ drop i s
 next_bytes s i n = ap (λ r. take n (drop i s) ++ r) (sym (drop-drop n i s)) ∙ take-append-drop n (drop i s)
 

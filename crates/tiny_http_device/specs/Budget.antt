@@ -12,10 +12,10 @@ budget_bytes b = b.bytes.items
 abbrev pub budget_room : Budget → ℕ
 budget_room b = b.room
 
--- the kind of its faults behind them
+-- the kind of its faults after them
 abbrev pub budget_kind : Budget → ErrorKind
 budget_kind b = b.kind
 
--- what it tells as a writer
+-- what it states as a writer
 abbrev pub budget_sink : Budget → Sink
 budget_sink b = record { taken = Some b.bytes.items; sent = b.bytes.items; failures = b.failures; last_kind = b.last; has_ended = false }

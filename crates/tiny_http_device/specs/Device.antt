@@ -1,4 +1,4 @@
--- What a device gives when it is read, and what it tells when it is written.
+-- What a device gives when it is read, and what it reports when it is written.
 use Rattle.std.specs.Prelude.{◌≡◌, ℕ, ◌+◌, ◌-◌, ◌*◌, ◌^◌, ◌<◌, ◌≤◌, min, Bool, true, false, List, [], ◌++◌, length, take, drop, Option, Some, None, Result, Ok, Err, IfOk, IfErr, OnErr, ⊤, ◌⊎◌}
 use Rattle.std.specs.Option.{option_map}
 use Rattle.std.specs.IoError.{error_kind}
@@ -19,7 +19,7 @@ abbrev pub bytes_of : Option Feed → Option (List ℕ)
 bytes_of None = None
 bytes_of (Some f) = Some f.bytes
 
--- a feed that ends behind these bytes
+-- a feed that ends after these bytes
 abbrev pub ending : List ℕ → Feed
 ending bs = record { bytes = bs; stop = End }
 
@@ -27,7 +27,7 @@ ending bs = record { bytes = bs; stop = End }
 abbrev pub prepend : List ℕ → Feed → Feed
 prepend bs feed = record { bytes = bs ++ feed.bytes; stop = feed.stop }
 
--- these bytes, and then the feed, where it is told
+-- these bytes, and then the feed, if it is stated
 abbrev pub prepended : List ℕ → Option Feed → Option Feed
 prepended bs feed = option_map (prepend bs) feed
 
@@ -35,7 +35,7 @@ prepended bs feed = option_map (prepend bs) feed
 abbrev pub TakesFront : Option Feed → Option Feed → Type 0
 TakesFront old new = (gone : List ℕ) × (old ≡ prepended gone new)
 
--- no byte is left of the feed, if it is told, and this is how it stops
+-- no byte is left of the feed, if it is stated, and this is how it stops
 abbrev pub StopsBy : Stop → Option Feed → Type 0
 StopsBy stop None = ⊤
 StopsBy stop (Some feed) = (feed.bytes ≡ []) × (feed.stop ≡ stop)
@@ -52,14 +52,14 @@ abbrev pub stop_of : Option ErrorKind → Stop
 stop_of None = End
 stop_of (Some kind) = Fault kind
 
--- what a stop in front of the last byte wanted is told as
+-- what a stop in front of the last byte wanted is reported as
 abbrev pub fault_of : Stop → ErrorKind
 fault_of End = UnexpectedEof
 fault_of (Fault kind) = kind
 
 -- ONE READ into a buffer: the bytes that came are the next of the feed and stand in the buffer's front; none of some only
--- behind the last byte, at the feed's end; an error comes behind the last byte alone, is the feed's fault, and takes nothing.
--- Nothing is said of the bytes where the feed isn't told.
+-- after the last byte, at the feed's end; an error comes after the last byte alone, is the feed's fault, and takes nothing.
+-- Nothing is said of the bytes where the feed isn't stated.
 pub record Reads (old new : Option Feed) (r : Result ℕ Error) (buf : List ℕ) : Type 0 where
   pub bound : IfOk r (λ n. n ≤ length buf)
   pub bytes : IfOk r (λ n. old ≡ prepended (take n buf) new)
@@ -67,8 +67,8 @@ pub record Reads (old new : Option Feed) (r : Result ℕ Error) (buf : List ℕ)
   pub fault : IfErr r (λ e. StopsBy (Fault (error_kind e)) old)
   pub again : OnErr r (new ≡ old)
 
--- One read by cases: it took the bytes that it gave from the front of the feed, none only behind its last byte
--- at its end. A fault comes behind the last byte alone, and changes nothing.
+-- One read by cases: it took the bytes that it gave from the front of the feed, none only after its last byte
+-- at its end. A fault comes after the last byte alone, and changes nothing.
 abbrev pub ReadsFrom : Option Feed → Option Feed → Result ℕ Error → List ℕ → Type 0
 ReadsFrom None new r buf = ⊤
 ReadsFrom (Some f) None r buf = ⊥
@@ -79,8 +79,8 @@ ReadsFrom (Some f) (Some g) (Err e) buf = (f.bytes ≡ []) × (f.stop ≡ Fault 
 abbrev pub IsFront : List ℕ → List ℕ → Type 0
 IsFront front whole = (rest : List ℕ) × (whole ≡ front ++ rest)
 
--- What a writer tells: the bytes that it took, if it tells; the front of them that it has sent on, which no failure
--- takes back; how often it failed, and how the last time, if it tells; and whether it has ended: it then answers Ok
+-- What a writer states: the bytes that it took, if it states them; the front of them that it has sent on, which no failure
+-- takes back; how often it failed, and how the last time, if it states them; and whether it has ended: it then answers Ok
 -- and takes no more.
 pub record Sink : Type 0 where
   pub taken : Option (List ℕ)
@@ -89,12 +89,12 @@ pub record Sink : Type 0 where
   pub last_kind : Option ErrorKind
   pub has_ended : Bool
 
--- what was sent on begins what was taken, if that is told
+-- what was sent on begins what was taken, if that is stated
 abbrev pub BeginsKnown : List ℕ → Option (List ℕ) → Type 0
 BeginsKnown sent None = ⊤
 BeginsKnown sent (Some taken) = IsFront sent taken
 
--- what was sent on is all that was taken, if that is told
+-- what was sent on is all that was taken, if that is stated
 abbrev pub IsAllKnown : List ℕ → Option (List ℕ) → Type 0
 IsAllKnown sent None = ⊤
 IsAllKnown sent (Some taken) = sent ≡ taken
@@ -103,7 +103,7 @@ IsAllKnown sent (Some taken) = sent ≡ taken
 abbrev pub HoldsNothing : Sink → Type 0
 HoldsNothing s = IsAllKnown s.sent s.taken
 
--- what is told is a front of these bytes
+-- what is stated is a front of these bytes
 abbrev pub IsKnownFront : Option (List ℕ) → Option (List ℕ) → Type 0
 IsKnownFront known whole = (rest : List ℕ) × (whole ≡ append_known known rest)
 
@@ -112,7 +112,7 @@ abbrev pub grown : Bool → Option (List ℕ) → List ℕ → Option (List ℕ)
 grown true known bs = known
 grown false known bs = append_known known bs
 
--- the kind that is told, if one is, is this one
+-- the kind that is stated, if one is, is this one
 abbrev pub Tells : Option ErrorKind → ErrorKind → Type 0
 Tells None kind = ⊤
 Tells (Some told) kind = told ≡ kind
@@ -129,7 +129,7 @@ pub record Took (old new : Sink) (text : List ℕ) : Type 0 where
   pub last_kind : new.last_kind ≡ old.last_kind
   pub stays : new.has_ended ≡ old.has_ended
 
--- the writer failed, and tells a front of its bytes before and the text, with all that it had sent on
+-- the writer failed, and states a front of its bytes before and the text, with all that it had sent on
 pub record Failed (old new : Sink) (text : List ℕ) (kind : ErrorKind) : Type 0 where
   pub bytes : IsKnownFront new.taken (append_known old.taken text)
   pub sent : IsFront old.sent new.sent
@@ -148,7 +148,7 @@ abbrev pub PutsFront : Sink → Sink → Result ℕ Error → List ℕ → Type 
 PutsFront old new (Ok n) text = (n ≤ length text) × (0 < length text → 0 < n) × Took old new (take n text)
 PutsFront old new (Err e) text = Failed old new text (error_kind e)
 
--- what a writer tells of its faults is as it was
+-- what a writer states of its faults is as it was
 pub record SameFaults (old new : Sink) : Type 0 where
   pub failures : new.failures ≡ old.failures
   pub last_kind : new.last_kind ≡ old.last_kind
@@ -160,7 +160,7 @@ pub record Faulted (old new : Sink) (kind : ErrorKind) : Type 0 where
   pub last_kind : Tells new.last_kind kind
   pub was_open : old.has_ended ≡ false
 
--- What a call that writes does to what a writer tells of its faults, whatever it writes: nothing where it answers Ok.
+-- What a call that writes does to what a writer states of its faults, whatever it writes: nothing where it answers Ok.
 -- At a fault either nothing, and the fault was not the writer's, or the count rose, and it was.
 abbrev pub CountsFaults : {T : Type 0} → Sink → Sink → Result T Error → Type 0
 CountsFaults old new (Ok x) = SameFaults old new
@@ -202,7 +202,7 @@ FilledTo None new n buf = ⊤
 FilledTo (Some f) None n buf = ⊥
 FilledTo (Some f) (Some g) n buf = (n ≤ length f.bytes) × (take n buf ≡ take n f.bytes) × (g.bytes ≡ drop n f.bytes) × (g.stop ≡ f.stop)
 
--- a call read all bytes of a feed that ends; else it told the fault, or found no memory
+-- a call read all bytes of a feed that ends; else it reported the fault, or found no memory
 abbrev pub Gathers : {T : Type 0} → (T → List ℕ) → Feed → Result T Error → Type 0
 Gathers items f (Ok all) = (items all ≡ f.bytes) × (f.stop ≡ End)
 Gathers items f (Err e) = (f.stop ≡ Fault (error_kind e)) ⊎ (error_kind e ≡ OutOfMemory)

@@ -7,6 +7,6 @@ use Rattle.tiny_http_device.specs.declared.device.Metered.{Metered}
 abbrev pub metered_inner : {S : Type 0} → Metered S → S
 metered_inner m = m.inner
 
--- what it tells as a writer: its failures, and no bytes
+-- what it states as a writer: its failures, and no bytes
 abbrev pub metered_sink : {S : Type 0} → Metered S → Sink
 metered_sink m = record { taken = None; sent = []; failures = m.failures; last_kind = m.last; has_ended = false }

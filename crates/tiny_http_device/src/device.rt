@@ -1,4 +1,4 @@
-//! What is read and what is written: readers that may tell what they give, and writers that count their failures.
+//! What is read and what is written: readers that may state what they give, and writers that count their failures.
 ghost use Rattle.std.specs.Prelude.{◌≡◌, ◌<◌, ◌≤◌, min, false, [], length, take, drop, Option, None, Some, Ok, IfOk, IfErr, OnOk, OnErr, vec_len, flat_map};
 ghost use Rattle.std.specs.IoError.{error_kind};
 ghost use Rattle.tiny_http_device.specs.Cursor.{cursor_bytes};
@@ -18,21 +18,21 @@ pub enum Stop {
     Fault(ErrorKind),
 }
 
-/// A reader whose contract may tell its feed: the bytes that it still gives, and how they stop.
+/// A reader whose contract may state its feed: the bytes that it still gives, and how they stop.
 pub trait ReadDevice {
-    /// The bytes that it still gives and how they stop, if it tells.
+    /// The bytes that it still gives and how they stop, if it states them.
     ghost feed: { Self → Option Feed } = { λ _. None };
 
     /// Reads some bytes into the front of `buf`, and says how many: 0 at the end, and where `buf`
-    /// is empty. Behind the last byte each call answers the stop. An error gives no byte.
+    /// is empty. After the last byte each call answers the stop. An error gives no byte.
     fn read_in(&mut self, buf: &mut [u8]) -> Result<usize, io::Error>
         ensures reads { Reads (feed self.old) (feed self.new) result buf.new }
         ensures empty { length buf.new ≡ 0 → (result ≡ Ok 0) × (self.new ≡ self.old) };
 }
 
-/// A writer that counts its failures, and may tell the bytes that it took and how it failed last.
+/// A writer that counts its failures, and may state the bytes that it took and how it failed last.
 pub trait WriteDevice {
-    /// The bytes that it took, if it tells, and those that it has sent on; its failures; and whether it has ended.
+    /// The bytes that it took, if it states them, and those that it has sent on; its failures; and whether it has ended.
     ghost sink: { Self → Sink };
 
     /// How often it has failed to write or to flush, up to 2^64 - 1.
@@ -131,7 +131,7 @@ impl ReadDevice for io::Empty {
 }
 
 /// A stream with a count of its failures to write, and the kind of the last of them. As a reader it
-/// tells no feed, as a writer it doesn't tell its bytes.
+/// states no feed, as a writer it doesn't state its bytes.
 #[derive(Drop)]
 pub struct Metered<S> {
     inner: S,
@@ -178,7 +178,7 @@ impl<S: Read> ReadDevice for Metered<S> {
     fn read_in(&mut self, buf: &mut [u8]) -> Result<usize, io::Error>
         ensures reads { Reads None None result buf.new }
         ensures empty { length buf.new ≡ 0 → (result ≡ Ok 0) × (self.new ≡ self.old) }
-        // What came is the stream's, if it tells what it still gives.
+        // What came is the stream's, if it states what it still gives.
         ensures stream { ReadConsumes (S.remaining (metered_inner self.old)) (S.remaining (metered_inner self.new)) result buf.new }
     {
         if buf.is_empty() {
@@ -202,7 +202,7 @@ impl<S: Write> WriteDevice for Metered<S> {
     /// Writes once to the stream. That it takes no byte of some is a fault of kind `WriteZero`.
     fn write_out(&mut self, buf: &[u8]) -> Result<usize, io::Error>
         ensures puts { PutsFront (metered_sink self.old) (metered_sink self.new) result buf.now }
-        // The stream took what was taken, and nothing at a fault, if it tells its bytes.
+        // The stream took what was taken, and nothing at a fault, if it states its bytes.
         ensures stream { WriteAppends (S.contents (metered_inner self.old)) (S.contents (metered_inner self.new)) result buf.now }
     {
         let outcome = match self.inner.write(buf) {
@@ -219,7 +219,7 @@ impl<S: Write> WriteDevice for Metered<S> {
     fn flush_out(&mut self) -> Result<(), io::Error>
         ensures puts { Puts (metered_sink self.old) (metered_sink self.new) result [] }
         ensures sent { OnOk result ((metered_sink self.new).has_ended ≡ false → HoldsNothing (metered_sink self.new)) }
-        // The stream's bytes stay, if it tells them.
+        // The stream's bytes stay, if it states them.
         ensures stream { Keeps (S.contents (metered_inner self.old)) (S.contents (metered_inner self.new)) }
     {
         let outcome = self.inner.flush();
@@ -353,7 +353,7 @@ impl WriteDevice for Budget {
     }
 }
 
-/// Reads once from the device, as `read_in`; its contract tells by cases what came of it.
+/// Reads once from the device, as `read_in`; its contract says by cases what came of it.
 pub fn read_some<R: ReadDevice>(reader: &mut R, buf: &mut [u8]) -> Result<usize, io::Error>
     ensures bound { IfOk result (λ n. n ≤ length buf.new) }
     ensures bytes { ReadsFrom (R.feed reader.old) (R.feed reader.new) result buf.new }

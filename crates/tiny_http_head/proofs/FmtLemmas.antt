@@ -1,4 +1,4 @@
--- One text written behind another, whatever options the formatter has.
+-- One text written after another, whatever options the formatter has.
 use Rattle.std.proofs.Common.{ap, ◌∙◌, List, ℕ, [], ◌∷◌, ◌++◌}
 use Rattle.std.specs.List.{FoldsTo, concat}
 use Rattle.std.specs.Fmt.{HasWrittenStyled}

@@ -175,7 +175,7 @@ some-header text (Some h) e s = (h, e)
 pub header-not-refused : (text : List ℕ) → AreAscii text → IsSome (header_line text) → ((h : Header) → IsHeader text h → ⊥) → ⊥
 header-not-refused text a s none = let h = some-header text (header_line text) refl s in none h.0 (a, header-line-is text h.0 h.1)
 
--- want of memory is no refusal, nor is an answer
+-- lack of memory is no refusal, nor is an answer
 pub memory-refused : {T : Type 0} (r : Result T ParseError) → IsErrAnd r (λ e. e ≡ Memory) → IsErrOf r Refused → ⊥
 memory-refused (Ok x) h e = cc
 memory-refused (Err e) h k = let same : Refused ≡ Memory = cc in cc

@@ -470,7 +470,7 @@ impl Header {
     }
 
     /// Reads a header line, without its end: the name stands before the first colon, the value,
-    /// trimmed, behind it (RFC 9112, section 5). `Refused` where there is no colon, white space
+    /// trimmed, after it (RFC 9112, section 5). `Refused` where there is no colon, white space
     /// (bytes 9 to 13 and 32) in the name, or a byte that isn't ASCII, and for no other reason;
     /// `Memory` where there is no memory for the copies.
     pub fn from_str(alloc: Global, text: &str) -> Result<Header, ParseError>
@@ -548,7 +548,7 @@ pub(crate) fn method_of(alloc: Global, text: &[u8]) -> Result<Method, AllocError
     Ok(Method::NonStandard(owned(alloc, text)?))
 }
 
-/// Reads a header line: the name stands before the first colon, the value, trimmed, behind it (RFC
+/// Reads a header line: the name stands before the first colon, the value, trimmed, after it (RFC
 /// 9112, section 5). `None` where there is no colon, or white space in the name. An error where the
 /// text is a header line and there is no memory for the answer.
 pub fn parse_header_line(alloc: Global, text: &[u8]) -> Result<Option<Header>, AllocError>

@@ -163,7 +163,7 @@ with-with (Some r) a b =
     let P : List ℕ → Remaining = λ bs. record { body = record { bytes = bs; stop = r.body.stop }; behind = r.behind } in
     ap Some (ap P (sym (append_assoc a b r.body.bytes)))
 
--- bytes behind others
+-- bytes after others
 pub read-more : (r p q : Option Remaining) (old new : List ℕ) (at n : ℕ) → r ≡ prepended_body (take at old) p → p ≡ prepended_body (take n (drop at new)) q → take at new ≡ take at old → at + n ≤ length new
     → r ≡ prepended_body (take (at + n) new) q
 read-more r p q old new at n first second front le =
@@ -210,7 +210,7 @@ gives-up (Chunked d) old new h = let P : Option Feed → Type 0 = λ x. GoesOn o
     ends None = tt
     ends (Some f) = record { gone = f.bytes; joins = sym (append-nil f.bytes) }
 
--- reads behind each other, the first of which may be none
+-- reads after each other, the first of which may be none
 pub moves-more : (a b c : Body) (at n : ℕ) (told : Bool) → (at ≡ 0 → b ≡ a) → (0 < at → ReadsOn a at false b) → ReadsOn b n told c → ReadsOn a (at + n) told c
 moves-more a b c zero n told same moves h =
     let P : Body → Type 0 = λ x. ReadsOn x n told c in

@@ -39,7 +39,7 @@ chunked-from n x = by (body_at x.stop x.bytes).body (body_at x.stop x.bytes).end
     by content (Ok rest) h = record { content = ending content; next = Some rest; stands = inl (rest, h, refl, refl); is = refl }
     by content (Err kind) h = record { content = breaking content kind; next = None; stands = inr (kind, h, refl, refl); is = refl }
 
--- the same behind some data
+-- the same after some data
 behind-data : (front content : List ℕ) (r : Result Feed ErrorKind) (b : Feed) (after : Feed) → chunks_left content r ≡ record { body = b; behind = after } → chunks_left (front ++ content) r ≡ record { body = prepend front b; behind = after }
 behind-data front content r b after e =
     let P : Remaining → Remaining = λ x. record { body = prepend front x.body; behind = x.behind } in

@@ -143,7 +143,7 @@ found-one stop (Ends answer) item next k = pair-eq answer item None next (sym k.
 found-one stop (Heads m f after) item next k =
     rw (body-one f.form (body_length_or_0 f) after stop k.0 k.1 k.2) (pair-eq _ _ _ _ (sym k.3) (sym k.4))
 
--- one head has one item and one place behind it
+-- one head has one item and one place after it
 one-head-one : (bytes : List ℕ) (stop : Stop) (item : Option Item) (next : Place) → OneHead bytes stop item next → found stop bytes ≡ (item, next)
 one-head-one bytes stop item next h = ap (λ x. found_in stop (served x)) (heading-one bytes stop h.0 h.1) ∙ found-one stop (served h.0) item next h.2
 
@@ -179,7 +179,7 @@ pipeline-one (Some bytes) stop (x ∷ xs) (y ∷ ys) h k =
     let P : Place → Type 0 = λ p. Pipeline p stop ys in
     cons-eq x y xs ys (some-eq x y s.0) (pipeline-one h.0 stop xs ys h.2 (subst P (sym s.1) k.2))
 
--- an item that stands at a place is the first of its pipeline, and the others stand behind it
+-- an item that stands at a place is the first of its pipeline, and the others stand after it
 pub pipeline-first : (bytes : List ℕ) (stop : Stop) (item : Item) (next : Place) (xs : List Item) → OneHead bytes stop (Some item) next → Pipeline (Some bytes) stop xs
     → (more : List Item) × (xs ≡ item ∷ more) × Pipeline next stop more
 pipeline-first bytes stop item next [] h k = none-some item (one-head bytes stop None (Some item) None next k h).0

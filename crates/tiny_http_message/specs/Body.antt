@@ -1,4 +1,4 @@
--- What is still to come of a request's body, and where the input stands behind it.
+-- What is still to come of a request's body, and where the input stands after it.
 use Rattle.std.specs.Prelude.{◌≡◌, ℕ, ◌+◌, ◌-◌, ◌^◌, ◌<◌, Bool, true, false, ◌||◌, ◌==◌, nat_lt, List, [], length, take, Option, Some, None, Result, Ok, Err, MatchBool, ⊤}
 use Rattle.std.specs.Option.{option_map}
 use Rattle.std.specs.declared.io.ErrorKind.{ErrorKind}
@@ -17,12 +17,12 @@ use Rattle.tiny_http_stream.specs.Source.{SourceState, IsAtEnd}
 use Rattle.tiny_http_stream.specs.declared.source.Standing.{Standing}
 use Rattle.tiny_http_stream.specs.Standing.{after_body, after_fault, after_abandoned}
 
--- What is still to come of a body, and the feed behind it; a feed without a byte, where no head follows.
+-- What is still to come of a body, and the feed after it; a feed without a byte, where no head follows.
 pub record Remaining : Type 0 where
   pub body : Feed
   pub behind : Feed
 
--- a chunked body that is whole ends, and the input goes on behind it; one that is cut or broken stops by its fault, and
+-- a chunked body that is whole ends, and the input goes on after it; one that is cut or broken stops by its fault, and
 -- no head follows
 abbrev pub chunks_left : List ℕ → Result Feed ErrorKind → Remaining
 chunks_left bytes (Ok feed) = record { body = ending bytes; behind = feed }
@@ -35,7 +35,7 @@ coming_left c = chunks_left c.bytes c.behind
 abbrev pub counted_left : ℕ → Feed → Remaining
 counted_left n feed = record { body = feed_front n feed; behind = skipped n feed }
 
--- the input stands behind the body already
+-- the input stands after the body already
 abbrev pub taken_left : Feed → Feed → Remaining
 taken_left body feed = record { body = body; behind = feed }
 
@@ -70,7 +70,7 @@ is_streaming (WithHead bytes) = false
 is_streaming (Counted n) = true
 is_streaming (Chunked decoding) = true
 
--- what is told from now on, where that is kept
+-- what is reported from now on, where that is kept
 abbrev pub body_stop : Body → Option Stop
 body_stop (Over stop) = Some stop
 body_stop (WithHead bytes) = None
@@ -89,15 +89,15 @@ abbrev pub IsChunked : Body → Type 0
 IsChunked (Chunked decoding) = ⊤
 IsChunked _ = ⊥
 
--- So many bytes were read, and the end or the fault was told or not. A counted body is over with its last byte, a chunked
--- one once its end or fault was told.
+-- So many bytes were read, and the end or the fault was reported or not. A counted body is over with its last byte, a chunked
+-- one once its end or fault was reported.
 abbrev pub ReadsOn : Body → ℕ → Bool → Body → Type 0
 ReadsOn (Over stop) n told new = (new ≡ Over stop) × (n ≡ 0)
 ReadsOn (WithHead bytes) n told new = IsWithHead new
 ReadsOn (Counted left) n told new = MatchBool (told || n == left) (IsBodyOver new) ((new ≡ Counted (left - n)) × (n < left))
 ReadsOn (Chunked decoding) n told new = MatchBool told (IsBodyOver new) (IsChunked new)
 
--- the body is finished: it is nothing or held, or all its bytes were given out, or its end or fault was told
+-- the body is finished: it is nothing or held, or all its bytes were given out, or its end or fault was reported
 abbrev pub body_finished : Form → ℕ → ℕ → Bool → Bool
 body_finished form.Nothing n given told = true
 body_finished form.WithHead n given told = true

@@ -20,15 +20,15 @@ exchange_of head waiting = record { head = head; waiting = waiting }
 abbrev pub exchange_head : Exchange → Head
 exchange_head x = x.head
 
--- what is still to come of its body, where the input still gives this, and what stands behind it
+-- what is still to come of its body, where the input still gives this, and what stands after it
 abbrev pub exchange_left : Exchange → Option Feed → Option Remaining
 exchange_left x feed = remaining x.waiting.body feed
 
--- the end or the fault that its body tells from now on, where that is kept
+-- the end or the fault that its body reports from now on, where that is kept
 abbrev pub exchange_stop : Exchange → Option Stop
 exchange_stop x = body_stop x.waiting.body
 
--- its body is read from the input, which has to stand behind it before the next head is read
+-- its body is read from the input, which has to stand after it before the next head is read
 abbrev pub exchange_streams : Exchange → Bool
 exchange_streams x = is_streaming x.waiting.body
 
@@ -36,7 +36,7 @@ exchange_streams x = is_streaming x.waiting.body
 abbrev pub exchange_standing : Exchange → Standing → Standing
 exchange_standing x standing = body_standing x.waiting.body standing
 
--- so many bytes of its body were read, and the end or the fault was told or not
+-- so many bytes of its body were read, and the end or the fault was reported or not
 abbrev pub ExchangeReadsOn : Exchange → ℕ → Bool → Exchange → Type 0
 ExchangeReadsOn x n told new = ReadsOn x.waiting.body n told new.waiting.body
 

@@ -180,7 +180,7 @@ abbrev pub place_feed : Stop → Place → Feed
 place_feed stop None = ending []
 place_feed stop (Some bytes) = record { bytes = bytes; stop = stop }
 
--- the body that stands here, and the place behind it, are to come
+-- the body that stands here, and the place after it, are to come
 abbrev pub ComesWith : Option Remaining → Stop → Feed → Place → Type 0
 ComesWith left stop body next = left ≡ Some (record { body = body; behind = place_feed stop next })
 
@@ -192,7 +192,7 @@ Begins f (Some x) new (Some b) =
     is_rest f.form ≡ false → (IsCutWithHead f.form (body_length_or_0 f) x.bytes → ⊥) × (body : Feed) × (next : Place) × BodyAt f.form (body_length_or_0 f) x.bytes x.stop body next
     × ComesWith (remaining b new) x.stop body next × Fits b f.form (body_length_or_0 f) 0 false
 
--- where the next head begins behind a request
+-- where the next head begins after a request
 abbrev pub place_after : Bool → Place → Place
 place_after true next = None
 place_after false next = next

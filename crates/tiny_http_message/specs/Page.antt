@@ -1,4 +1,4 @@
--- What a writer into room of its own tells.
+-- What a writer into room of its own reports.
 use Rattle.std.specs.Prelude.{Some, None, false}
 use Rattle.tiny_http_wire.specs.Device.{Sink}
 use Rattle.tiny_http_message.specs.declared.own_answer.Page.{Page}

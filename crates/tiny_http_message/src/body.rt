@@ -16,7 +16,7 @@ use tiny_http_wire::device::{ReadDevice, Stop, read_front};
 /// How far a request's body was read.
 #[derive(Drop)]
 pub enum Body {
-    /// No byte follows, and this is told.
+    /// No byte follows, and this is reported.
     Over(Stop),
     /// The bytes were read with the head.
     WithHead(Cursor<Vec<u8>>),
@@ -26,7 +26,7 @@ pub enum Body {
     Chunked(Decoding),
 }
 
-// What is told behind the last byte of a body.
+// What is reported after the last byte of a body.
 fn told(stop: Stop) -> Result<usize, io::Error>
     ensures { AnswersStop stop result }
 {
@@ -49,7 +49,7 @@ pub fn counted(left: usize) -> Body
 }
 
 impl Body {
-    // Reads some of the bytes that are left of a body of a known length. Behind one that is cut no head follows.
+    // Reads some of the bytes that are left of a body of a known length. After one that is cut no head follows.
     fn read_counted<R: ReadDevice>(
         &mut self,
         source: &mut Source<R>,
@@ -90,7 +90,7 @@ impl Body {
         }
     }
 
-    // Reads some of the data of a chunked body. Behind one that is cut or broken no head follows.
+    // Reads some of the data of a chunked body. After one that is cut or broken no head follows.
     fn read_chunked<R: ReadDevice>(
         &mut self,
         source: &mut Source<R>,
@@ -127,7 +127,7 @@ impl Body {
         }
     }
 
-    /// Reads some bytes of the body into the front of `buf`, and says how many. Behind the last byte each call answers the
+    /// Reads some bytes of the body into the front of `buf`, and says how many. After the last byte each call answers the
     /// end, or the fault by which the body is cut or broken; after a fault no head follows on the source.
     pub fn read<R: ReadDevice>(
         &mut self,
@@ -203,7 +203,7 @@ impl Body {
         self.read(source, &mut buf[at..])
     }
 
-    /// Reads until `buf` is full or no byte is left, and says how many bytes there are. A fault is told where it comes
+    /// Reads until `buf` is full or no byte is left, and says how many bytes there are. A fault is reported where it comes
     /// before any byte, else by the next read.
     pub fn fill<R: ReadDevice>(
         &mut self,
@@ -232,15 +232,15 @@ impl Body {
         Ok(at)
     }
 
-    /// Whether the next head stands behind bytes of this body that were not read.
+    /// Whether the next head stands after bytes of this body that were not read.
     pub fn holds_reader(&self) -> bool
         ensures { result ≡ is_streaming self.now }
     {
         matches!(self, Body::Counted(_) | Body::Chunked(_))
     }
 
-    /// Gives the body up: what is left of a counted one is skipped by the next head; behind a chunked one of which the end
-    /// wasn't told no head follows.
+    /// Gives the body up: what is left of a counted one is skipped by the next head; after a chunked one of which the end
+    /// wasn't reported no head follows.
     pub fn give_up<R: ReadDevice>(&mut self, source: &mut Source<R>)
         ensures over { self.new ≡ Body.Over Stop.End }
         ensures gives_up { GivesUp self.old source.old source.new }

@@ -39,7 +39,7 @@ pub struct Head {
     pub form: Form,
     /// Whether the client waits for a 100 before it sends the body (RFC 9110, section 10.1.1).
     pub owes_continue: bool,
-    /// Whether the connection ends behind this request (RFC 9112, section 9.3).
+    /// Whether the connection ends after this request (RFC 9112, section 9.3).
     pub is_last: bool,
 }
 
@@ -107,7 +107,7 @@ impl Exchange {
     }
 
     /// Reads some bytes of the body into the front of `buf`, and says how many: fewer than `buf` has room for also where
-    /// more follow, and 0 where `buf` is empty. Behind the last byte each call answers 0, or the fault by which the body is cut or broken (RFC 9112,
+    /// more follow, and 0 where `buf` is empty. After the last byte each call answers 0, or the fault by which the body is cut or broken (RFC 9112,
     /// sections 6.2 and 7.1): the reader's own; or InvalidData or UnexpectedEof of a chunked body. A body of a known length
     /// that is cut by the end of the input ends there. The source must be the one that the request was read from; after a
     /// fault the source has ended. A body that was given up answers 0. No memory is taken.
@@ -123,8 +123,8 @@ impl Exchange {
         ensures fault { IfErr result (λ e. BodyStops (Stop.Fault (error_kind e)) (exchange_left self.old source.old.feed)) }
         ensures again { OnErr result (exchange_left self.new source.new.feed ≡ exchange_left self.old source.old.feed) }
         ensures empty { length buf.new ≡ 0 → (result ≡ Ok 0) × (self.new ≡ self.old) × (source.new ≡ source.old) }
-        // Whatever the reader tells: a body holds the source no more once its end was told, a counted one with its last byte.
-        // Behind its first fault the source has ended. A fault is told again by each later read.
+        // Whatever the reader states: a body holds the source no more once its end was reported, a counted one with its last byte.
+        // After its first fault the source has ended. A fault is reported again by each later read.
         ensures moves { IfOk result (λ n. 0 < length buf.new → ExchangeReadsOn self.old n (n == 0) self.new) }
         ensures ended { IfOk result (λ n. n ≡ 0 → 0 < length buf.new → exchange_streams self.new ≡ false) }
         ensures settled { exchange_streams self.old ≡ false → (exchange_streams self.new ≡ false) × (source.new ≡ source.old) }
@@ -140,7 +140,7 @@ impl Exchange {
     }
 
     /// Gives the body up: each later read answers 0. The rest of a body of a known length is skipped before the next head;
-    /// behind a chunked one whose end or fault wasn't told the source has ended.
+    /// after a chunked one whose end or fault wasn't reported the source has ended.
     pub fn give_up<R: ReadDevice>(&mut self, source: &mut Source<R>)
         ensures gives_up { GivesUpBody self.old source.old source.new }
         ensures stop { exchange_stop self.new ≡ Some Stop.End }
@@ -237,7 +237,7 @@ fn hand_out(alloc: Global, head: Head, body: Body, now: HttpDate) -> Result<Exch
     Ok(Exchange { head, waiting })
 }
 
-// The body behind a head that is so framed; None where one that is read with its head is cut.
+// The body after a head that is so framed; None where one that is read with its head is cut.
 fn begin_body<R: ReadDevice>(
     alloc: Global,
     source: &mut Source<R>,

@@ -27,7 +27,7 @@ pub enum Form {
 }
 
 /// How a message is framed: its body's form, whether a 100 is owed, the length that it says, and whether the connection
-/// ends behind it.
+/// ends after it.
 #[derive(Clone, Copy, Debug, PartialEq, Eq)]
 pub struct Framing {
     pub form: Form,

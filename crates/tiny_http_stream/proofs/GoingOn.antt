@@ -21,7 +21,7 @@ pub goes-on_given : (a b : Option Feed) (bs : List ℕ) → a ≡ prepended bs b
 goes-on_given a None bs e = let P : Option Feed → Type 0 = λ x. GoesOn x None in subst P (sym e) tt
 goes-on_given a (Some g) bs e = let P : Option Feed → Type 0 = λ x. GoesOn x (Some g) in subst P (sym e) (record { gone = bs; joins = refl })
 
--- behind a first line
+-- after a first line
 past-line : (f : Feed) (new : Option Feed) (text rest : List ℕ) → Line f.bytes text rest → new ≡ Some (record { bytes = rest; stop = f.stop }) → GoesOn (Some f) new
 past-line f new text rest l e =
     let P : Option Feed → Type 0 = λ x. GoesOn (Some f) x in

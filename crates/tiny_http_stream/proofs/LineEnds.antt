@@ -64,7 +64,7 @@ pub scans-none : (flag : Bool) (bytes : List ℕ) (at : ℕ) → length bytes �
 scans-none false bytes at le s = let P : List ℕ → Type 0 = λ x. has_crlf x ≡ false in subst P (append-nil (take at bytes) ∙ take_all at bytes le) (s.goes_on [])
 scans-none true bytes at le s = let P : List ℕ → Type 0 = λ x. has_crlf x ≡ false in subst P (sym s.1 ∙ take_all at bytes le) (s.2.goes_on [])
 
--- where a line lies in what is held behind the bytes to be skipped, more is held than these
+-- where a line lies in what is held after the bytes to be skipped, more is held than these
 pub crlf-held : (n : ℕ) (bytes : List ℕ) → has_crlf (drop n bytes) ≡ true → n < length bytes
 crlf-held n bytes h = elim (cases_lt n (length bytes)) [ inl less ↦ less | inr le ↦ absurd (none (drop_all n bytes le) h) ]
   where

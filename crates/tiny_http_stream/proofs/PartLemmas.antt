@@ -1,4 +1,4 @@
--- The first bytes of a feed, and what stands behind them.
+-- The first bytes of a feed, and what stands after them.
 use Rattle.std.proofs.Common.{◌≡◌, refl, sym, ap, ◌∙◌, ℕ, ◌+◌, ◌-◌, ◌<◌, ◌≤◌, Bool, true, false, List, [], ◌∷◌, ◌++◌, length, take, drop, Option, Some, None, length-append, arith}
 use Rattle.std.specs.Prelude.{nat_lt}
 use Rattle.std.specs.Option.{option_map}
@@ -12,7 +12,7 @@ use Rattle.tiny_http_device.specs.declared.device.Stop.TheVariants.{End, Fault}
 use Rattle.tiny_http_device.specs.Device.{Feed, prepended, prepend, StopsBy}
 use Rattle.tiny_http_stream.specs.Parts.{stop_where, feed_front, feed_behind}
 
--- what stands behind a text
+-- what stands after a text
 drop-text : (xs ys : List ℕ) → drop (length xs) (xs ++ ys) ≡ ys
 drop-text xs ys = grind (arith, common_steps)
 

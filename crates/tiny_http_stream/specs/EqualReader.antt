@@ -18,7 +18,7 @@ equal_left r = r.left
 abbrev pub equal_feed : {R : Type 0} → (R → Option Feed) → EqualReader R → Option Feed
 equal_feed feed r = option_map (feed_front r.left) (feed r.inner)
 
--- ONE READ. Of what it still gives it is a read; what stands behind the part stays the same. And whatever the reader inside
+-- ONE READ. Of what it still gives it is a read; what stands after the part stays the same. And whatever the reader inside
 -- states: into an empty buffer, and where no byte is left, it answers 0 and changes nothing; the bytes that came are taken off
 -- those that are left, and a fault takes none off.
 pub record ReadsPart {R : Type 0} (feed : R → Option Feed) (old new : EqualReader R) (r : Result ℕ Error) (buf : List ℕ) : Type 0 where

@@ -17,7 +17,7 @@ abbrev pub feed_unless : Bool → Option Feed → Option Feed
 feed_unless true feed = option_map (λ f. ending []) feed
 feed_unless false feed = feed
 
--- behind the end nothing comes
+-- after the end nothing comes
 abbrev pub fused_feed : {R : Type 0} → (R → Option Feed) → FusedReader R → Option Feed
 fused_feed feed r = feed_unless r.over (feed r.inner)
 

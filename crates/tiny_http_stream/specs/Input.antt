@@ -5,7 +5,7 @@ use Rattle.tiny_http_device.specs.declared.device.Stop.{Stop}
 use Rattle.tiny_http_stream.specs.ToCome.{behind_held, to_come}
 use Rattle.tiny_http_stream.specs.declared.source.Input.{Input}
 
--- the feed that is still to come, where the reader tells its own
+-- the feed that is still to come, where the reader states its own
 abbrev pub input_feed : {R : Type 0} → (R → Option Feed) → Input R → Option Feed
 input_feed feed s = to_come s.skip s.held (behind_held s.stop (feed s.inner))
 

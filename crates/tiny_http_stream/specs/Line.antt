@@ -11,7 +11,7 @@ held_return false = []
 pub record BeginsNoLineEnd (text pend : List ℕ) : Type 0 where
   pub goes_on : (more : List ℕ) → has_crlf (text ++ (pend ++ more)) ≡ has_crlf (pend ++ more)
 
--- the first CR LF of these bytes stands behind n of them
+-- the first CR LF of these bytes stands after n of them
 pub record EndsLine (bytes : List ℕ) (n : ℕ) : Type 0 where
   pub within : n + 2 ≤ length bytes
   pub ends : take (n + 2) bytes ≡ take n bytes ++ (13 ∷ (10 ∷ []))

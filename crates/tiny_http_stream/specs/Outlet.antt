@@ -9,7 +9,7 @@ abbrev pub holding : Sink → List ℕ → Bool → Sink
 holding s held ended = record { taken = grown s.has_ended s.taken held; sent = s.sent; failures = s.failures; last_kind = s.last_kind; has_ended = ended || s.has_ended }
 
 -- What a clause sees of an `Outlet`: what is held back, whether it takes nothing more, the writer inside, and what that
--- tells.
+-- reports.
 pub record OutletState (W : Type 0) : Type 0 where
   pub held : List ℕ
   pub ended : Bool

@@ -1,4 +1,4 @@
--- The first bytes of a feed, and what stands behind them.
+-- The first bytes of a feed, and what stands after them.
 use Rattle.std.specs.Prelude.{ℕ, Bool, true, false, nat_lt, length, take, drop}
 use Rattle.tiny_http_device.specs.declared.device.Stop.{Stop}
 use Rattle.tiny_http_device.specs.declared.device.Stop.TheVariants.{End}
@@ -13,6 +13,6 @@ stop_where false stop = End
 unfoldable pub feed_front : ℕ → Feed → Feed
 feed_front size feed = record { bytes = take size feed.bytes; stop = stop_where (nat_lt (length feed.bytes) size) feed.stop }
 
--- and what stands behind them
+-- and what stands after them
 unfoldable pub feed_behind : ℕ → Feed → Feed
 feed_behind size feed = record { bytes = drop size feed.bytes; stop = feed.stop }

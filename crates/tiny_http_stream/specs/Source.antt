@@ -33,7 +33,7 @@ HoldsLine s = has_crlf (drop s.skip s.held) ≡ true
 abbrev pub IsAtEnd : {R : Type 0} → SourceState R → Type 0
 IsAtEnd s = (s.is_over ≡ true) × (s.stop ≡ Some End)
 
--- what is told in a line's place where the input stops
+-- what is reported in a line's place where the input stops
 abbrev pub line_fault_of : Stop → LineFault
 line_fault_of End = EndOfLines
 line_fault_of (Fault TimedOut) = LineTimedOut
@@ -64,7 +64,7 @@ pub record ReadsSource {R : Type 0} (old new : SourceState R) (r : Result ℕ Er
   pub held : old.skip < length old.held → new.reader ≡ old.reader
   pub standing : new.standing ≡ old.standing
 
--- the feed goes on behind this much
+-- the feed goes on after this much
 abbrev pub feed_from : Feed → List ℕ → Option Feed
 feed_from f rest = Some (record { bytes = rest; stop = f.stop })
 

@@ -9,7 +9,7 @@ use Rattle.tiny_http_device.specs.declared.device.Stop.TheVariants.{End}
 abbrev pub stopped : Stop → Feed
 stopped stop = record { bytes = []; stop = stop }
 
--- what comes behind the held bytes: the reader's feed, and nothing once the input has stopped
+-- what comes after the held bytes: the reader's feed, and nothing once the input has stopped
 abbrev pub behind_held : Option Stop → Option Feed → Option Feed
 behind_held None feed = feed
 behind_held (Some stop) feed = option_map (λ _. stopped stop) feed
@@ -18,16 +18,16 @@ behind_held (Some stop) feed = option_map (λ _. stopped stop) feed
 abbrev pub skipped : ℕ → Feed → Feed
 skipped n feed = if nat_le n (length feed.bytes) then record { bytes = drop n feed.bytes; stop = feed.stop } else stopped End
 
--- what is still to come, after n bytes are skipped of those that are held and those behind them
+-- what is still to come, after n bytes are skipped of those that are held and those after them
 abbrev pub to_come : ℕ → List ℕ → Option Feed → Option Feed
 to_come n held feed = option_map (skipped n) (prepended held feed)
 
--- a byte is still to come, where that is told
+-- a byte is still to come, if that is stated
 abbrev pub HasByte : Option Feed → Type 0
 HasByte None = ⊤
 HasByte (Some feed) = feed.bytes ≡ [] → ⊥
 
--- no byte is still to come, where that is told
+-- no byte is still to come, if that is stated
 abbrev pub HasNoByte : Option Feed → Type 0
 HasNoByte None = ⊤
 HasNoByte (Some feed) = feed.bytes ≡ []

@@ -7,7 +7,7 @@ use std::io;
 use std::io::Read;
 use tiny_http_device::device::{ReadDevice, Stop};
 
-/// A reader that isn't called again behind its end, and from then on answers the end. A fault is told as it comes.
+/// A reader that isn't called again after its end, and from then on answers the end. A fault is reported as it comes.
 #[derive(Drop)]
 pub struct FusedReader<R> {
     inner: R,
@@ -31,7 +31,7 @@ impl<R: ReadDevice> FusedReader<R> {
 impl<R: ReadDevice + Drop> FusedReader<R> {
     ghost use Rattle.tiny_http_stream.specs.FusedReader.{fused_inner};
 
-    /// The reader inside, or None once its end was told.
+    /// The reader inside, or None once its end was reported.
     pub fn into_inner(self) -> Option<R>
         ensures { result ≡ fused_inner self }
     {

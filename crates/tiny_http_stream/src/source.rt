@@ -20,7 +20,7 @@ use tiny_http_text::ascii::AsciiString;
 pub enum LineFault {
     /// The bytes ended before a CR LF.
     End,
-    /// The line has a byte from 128 on. The source goes on behind it.
+    /// The line has a byte from 128 on. The source goes on after it.
     NotAscii,
     /// The reader timed out before a CR LF.
     TimedOut,
@@ -190,7 +190,7 @@ impl<R: ReadDevice> Source<R> {
 
         // After an end or a fault the reader isn't called again.
         ensures once { IsSome self.old.stop → IsSome self.new.stop × (self.new.reader ≡ self.old.reader) }
-        // Whatever the reader tells: behind any fault but a line that isn't ASCII the source is over.
+        // Whatever the reader states: after any fault but a line that isn't ASCII the source is over.
         ensures over { IfErr result (λ fault. fault ≢ LineFault.NotAscii → (self.new.is_over ≡ true) × IsSome self.new.stop) }
         ensures memory { IfErr result (λ fault. fault ≡ LineFault.Memory → self.new.stop ≡ Some Stop.End) }
         ensures stop { IfErr result (λ fault. fault ≢ LineFault.NotAscii → fault ≢ LineFault.Memory → IfSome self.new.stop (λ stop. fault ≡ line_fault_of stop)) }
@@ -206,7 +206,7 @@ impl<R: ReadDevice> Source<R> {
         self.input.read_line(alloc)
     }
 
-    /// Reads some bytes. Behind them each call answers how the reader stopped.
+    /// Reads some bytes. After them each call answers how the reader stopped.
     pub fn read(&mut self, buf: &mut [u8]) -> Result<usize, io::Error>
         ensures reads { ReadsSource self.old self.new result buf.new }
     {
@@ -387,7 +387,7 @@ impl<R: ReadDevice> Input<R> {
         }
     }
 
-    // Takes n bytes off that are held, and the CR LF behind them.
+    // Takes n bytes off that are held, and the CR LF after them.
     fn take_line(&mut self, alloc: Global, n: usize) -> Result<Vec<u8>, LineFault>
         requires { n + 2 ≤ length self.old.held }
         ensures text { IfOk result (λ text. text.items ≡ take n self.old.held) }
@@ -443,7 +443,7 @@ impl<R: ReadDevice> Input<R> {
         ensures line { ReadsLine (input_feed R.feed self.old) (input_feed R.feed self.new) result }
         // After an end or a fault the reader isn't called again.
         ensures once { IsSome (input_stop self.old) → IsSome (input_stop self.new) × (input_reader self.new ≡ input_reader self.old) }
-        // Whatever the reader tells, an input that is over stays so, and a line's place has its stop.
+        // Whatever the reader states, an input that is over stays so, and a line's place has its stop.
         ensures over { IfErr result (λ fault. fault ≢ LineFault.NotAscii → IsInputOver self.new) }
         ensures memory { IfErr result (λ fault. fault ≡ LineFault.Memory → input_stop self.new ≡ Some Stop.End) }
         ensures stop { IfErr result (λ fault. fault ≢ LineFault.NotAscii → fault ≢ LineFault.Memory → IfSome (input_stop self.new) (λ stop. fault ≡ line_fault_of stop)) }
@@ -485,7 +485,7 @@ impl<R: ReadDevice> Input<R> {
         Ok(Some(body))
     }
 
-    // Why there is no line behind the input.
+    // Why there is no line after the input.
     fn line_fault(&self) -> LineFault
         ensures { IfSome (input_stop self.now) (λ stop. result ≡ line_fault_of stop) }
     {
@@ -529,7 +529,7 @@ impl<R: ReadDevice> Input<R> {
         self.held.pop()
     }
 
-    /// Reads some bytes. Behind them each call answers how the input stopped.
+    /// Reads some bytes. After them each call answers how the input stopped.
     pub fn read(&mut self, buf: &mut [u8]) -> Result<usize, io::Error>
         ensures bound { IfOk result (λ n. n ≤ length buf.new) }
         ensures bytes { IfOk result (λ n. input_feed R.feed self.old ≡ prepended (take n buf.new) (input_feed R.feed self.new)) }
@@ -577,7 +577,7 @@ fn line_end(bytes: &[u8]) -> Option<usize>
     None
 }
 
-// Takes a byte that doesn't end the line. A carriage return is kept once the byte behind it is known.
+// Takes a byte that doesn't end the line. A carriage return is kept once the byte after it is known.
 fn go_on(text: &mut Vec<u8>, after_return: &mut bool, b: u8) -> Result<(), LineFault>
     requires not_end { after_return.old ≡ true → b ≢ 10 }
     requires passed { BeginsNoLineEnd text.old.items (held_return after_return.old) }

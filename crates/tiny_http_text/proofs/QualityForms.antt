@@ -45,7 +45,7 @@ short_number-one ds some l d =
     let six : nat_le (length ds) 6 ≡ true = grind (arith, nat_tests) in
     rw (first, six, own.from ds d) refl
 
--- and behind it
+-- and after it
 thousandths-is : (ds : List ℕ) (n : ℕ) → thousandths ds ≡ Some n → (length ds ≤ 3) × AllDigits 10 ds × (n ≡ digits_value 10 ds * 10 ^ (3 - length ds))
 unfolding thousandths
 thousandths-is ds n h =

@@ -66,7 +66,7 @@ short_number-bound ds (Some n) l h =
     let second : digits_value 10 ds < 10 ^ 6 = digits_value_short own ds 6 (own.from ds h.0.0.1) l in
     (subst (λ k. k < 10 ^ length ds) (sym h.1) first, subst (λ k. k < 1000000) (sym h.1) second)
 
--- up to three digits behind a point
+-- up to three digits after a point
 pub no-thousandths : (ds : List ℕ) → length ds ≡ 0 → Some 0 ≡ thousandths ds
 unfolding thousandths
 no-thousandths [] h = refl
@@ -158,7 +158,7 @@ pub element-parted : (text w rest : List ℕ) → text ≡ w ++ semicolon ∷ re
 unfolding element
 element-parted text w rest e h = rw (e, parts-word semicolon w rest h) refl
 
--- behind an ASCII byte a text is a text
+-- after an ASCII byte a text is a text
 pub utf8-after : (c : ℕ) (text w rest : List ℕ) → c < 128 → text ≡ w ++ c ∷ rest → IsUtf8 text → IsUtf8 rest
 utf8-after c text w rest l e u =
     let long : length text ≡ length w + length (c ∷ rest) = ap length e ∙ length-append w (c ∷ rest) in

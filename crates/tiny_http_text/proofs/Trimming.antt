@@ -79,7 +79,7 @@ ascii-cut c text w rest e h =
 blank-ascii : (b : ℕ) → is_blank b ≡ true → b < 128
 blank-ascii b h = grind (arith, nat_tests)
 
--- behind white space a text is a text
+-- after white space a text is a text
 utf8-behind : (before core : List ℕ) → list_all is_blank before ≡ true → IsUtf8 (before ++ core) → IsUtf8 core
 utf8-behind [] core h u = u
 utf8-behind (b ∷ bs) core h u =
@@ -87,7 +87,7 @@ utf8-behind (b ∷ bs) core h u =
     let cut : IsCharBoundary (b ∷ (bs ++ core)) 1 = IsCharBoundary-after_ascii (b ∷ (bs ++ core)) 0 u (omega arith) (blank-ascii b k.0) in
     utf8-behind bs core k.1 (IsUtf8-drop (b ∷ (bs ++ core)) 1 u cut)
 
--- the text behind the white space at its front
+-- the text after the white space at its front
 pub record Behind (text core : List ℕ) : Type 0 where
   pub shorter : length core ≤ length text
   pub cut : IsCharBoundary text (length text - length core)

@@ -53,7 +53,7 @@ fn find(text: &[u8], c: u8) -> usize
     i
 }
 
-/// What stands before the first such byte, and behind it.
+/// What stands before the first such byte, and after it.
 pub fn cut(text: &[u8], c: u8) -> Option<(&[u8], &[u8])>
     ensures some { IfSome result (λ r. (text.now ≡ r.0.now ++ c ∷ r.1.now) × HasNo c r.0.now) }
     ensures none { IfNone result (HasNo c text.now) }

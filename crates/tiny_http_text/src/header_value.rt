@@ -12,7 +12,7 @@ use std::alloc::{AllocError, Global};
 // The quality of an element that gives none that can be read.
 const DEFAULT_QUALITY: u32 = 1000;
 
-// What stands before the first such character, and behind it.
+// What stands before the first such character, and after it.
 fn cut(text: &str, c: char) -> Option<(&str, &str)>
     requires { c < 128 }
     ensures some { IfSome result (λ r. (text.now ≡ r.0.now ++ c ∷ r.1.now) × HasNo c r.0.now) }
@@ -43,7 +43,7 @@ fn short_number(digits: &str) -> Option<u32>
     number(digits)
 }
 
-// What the last of one to three digits behind a point counts, in thousandths.
+// What the last of one to three digits after a point counts, in thousandths.
 fn scale(digits: usize) -> u32
     requires some { 1 ≤ digits }
     requires few { digits ≤ 3 }
@@ -56,7 +56,7 @@ fn scale(digits: usize) -> u32
     }
 }
 
-// The thousandths that up to three digits behind a point write.
+// The thousandths that up to three digits after a point write.
 fn thousandths(digits: &str) -> Option<u32>
     ensures value { result ≡ thousandths digits.now }
     ensures bound { IfSome result (λ n. n < 1000) }
@@ -116,7 +116,7 @@ fn element(text: &str) -> (&str, u32)
 /// their order, each with its quality in thousandths (RFC 9110, section 12.4.2; as tiny_http, but for
 /// the form of the numbers). A name stands before the first semicolon of its element, and is
 /// trimmed of white space (bytes 9 to 13 and 32). Its quality is that of the first of the further
-/// parts that begins, behind white space, with `q=` and can be read: one to six digits, and
+/// parts that begins, after white space, with `q=` and can be read: one to six digits, and
 /// optionally a point and up to three digits more, between white space. Where there is none it is
 /// 1000. An error where there is no memory for the list.
 pub fn parse_header_value(alloc: Global, value: &str) -> Result<Vec<(&str, u32)>, AllocError>

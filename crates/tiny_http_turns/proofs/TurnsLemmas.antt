@@ -105,7 +105,7 @@ moved-left (Finished ∷ marks) (suc k) text s ne e =
     let m = moved-left marks k text s (λ q. ne (ap suc q)) e in
     record { shape = m.shape; turn_is = ap suc m.turn_is; was_held = refl; is_held = m.is_held }
 
--- what is told, and the marks, once the turn has passed from a number that was held
+-- what is reported, and the marks, once the turn has passed from a number that was held
 abbrev pub Passed_on : List Mark → ℕ → TurnOutcome → Type 0
 Passed_on old turn (Goes number text, new) = (number ≡ turn) × Moved old new turn true true
 Passed_on old turn (Passed, new) = Moved old new turn true false
@@ -124,7 +124,7 @@ one_on old turn marks (Some (Left text)) p =
 one_on old turn marks (Some Finished) p =
     record { shape = p.shape; turn_is = ap suc p.turn_is; was_held = p.was_held; is_held = p.is_held }
 
--- right behind the number that was held
+-- right after the number that was held
 next_on : (marks : List Mark) → AreOpenOrLeft marks → Passed_on (Held ∷ marks) 1 (pass_to (slice_get marks 0) 1 (Finished ∷ marks))
 next_on [] w = record { shape = tt; turn_is = refl; was_held = refl; is_held = refl }
 next_on (Open ∷ marks) w = record { shape = w; turn_is = refl; was_held = refl; is_held = waiting-none_held marks w }

@@ -178,7 +178,7 @@ joins seen new m shape e near = split (is_any_held new) refl near
         let there : list_any (λ k. eqb k n) seen ≡ true = ap (list_any (λ k. eqb k n)) e ∙ among_below m n (omega (arith, at)) in
         (m, record { seen_is = ap (with_new seen) held ∙ (ap (λ (b : Bool). if b then seen else seen ++ n ∷ []) there ∙ e); near = inr at; now = λ h. at })
 
--- after a step, the numbers held so far end at the turn or behind it
+-- after a step, the numbers held so far end at the turn or after it
 nears : (seen : List ℕ) (old new : List Mark) (m : ℕ) → HeldSoFar seen old m → Advances old new → (m ≡ first_unfinished new) ⊎ (m ≡ suc (first_unfinished new))
 nears seen old new m h a = split a.turn h.near
   where

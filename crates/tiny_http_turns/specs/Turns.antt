@@ -69,7 +69,7 @@ pub data TurnStep : Type 0 where
   Finish : (number : ℕ) → TurnStep
   Leave : (number : ℕ) → (text : List ℕ) → TurnStep
 
--- what it is told
+-- what it is reported
 pub data TurnAnswer : Type 0 where
   -- the number was issued
   Issued : (number : ℕ) → TurnAnswer
@@ -119,7 +119,7 @@ pass_to (Some Held) k marks = (Passed, marks)
 pass_to (Some (Left text)) k marks = (Goes k text, slice_set marks k Held)
 pass_to (Some Finished) k marks = (Passed, marks)
 
--- what is told of that
+-- what is reported of that
 abbrev pub TellsPass : TurnAnswer → ℕ → Option (Vec ℕ) → Type 0
 TellsPass (Goes number text) at (Some with) = (number ≡ at) × (with.items ≡ text)
 TellsPass Passed at None = Unit {0}

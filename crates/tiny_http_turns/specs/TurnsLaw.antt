@@ -17,12 +17,12 @@ held_from n (Held ∷ marks) = n ∷ held_from (suc n) marks
 held_from n (Left text ∷ marks) = held_from (suc n) marks
 held_from n (Finished ∷ marks) = held_from (suc n) marks
 
--- a list, and behind it each of these numbers that is not in it yet
+-- a list, and after it each of these numbers that is not in it yet
 abbrev pub with_new : List ℕ → List ℕ → List ℕ
 with_new seen [] = seen
 with_new seen (n ∷ ns) = with_new (if list_any (λ m. m == n) seen then seen else seen ++ n ∷ []) ns
 
--- the numbers that are ever held, in the order in which each is first held, behind those seen before
+-- the numbers that are ever held, in the order in which each is first held, after those seen before
 abbrev pub first_held : List ℕ → List TurnStep → List Mark → List ℕ
 first_held seen [] marks = seen
 first_held seen (step ∷ steps) marks = first_held (with_new seen (held_from 0 (marks_after_step step marks))) steps (marks_after_step step marks)

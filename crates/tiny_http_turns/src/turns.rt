@@ -150,7 +150,7 @@ impl<T: Drop> Turns<T> {
         ensures in_order { IsInOrder self.new }
         ensures marks { self.new.marks ≡ marks_after_step (Finish number) self.old.marks }
         ensures item { Finishes (turn_answer (Finish number) self.old.marks) item self.old.slot result self.new.slot }
-        // The number behind it fits.
+        // The number after it fits.
         ensures bound { length self.new.marks < 2 ^ 64 }
     {
         let at = number as usize;

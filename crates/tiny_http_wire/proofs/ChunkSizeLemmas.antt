@@ -88,7 +88,7 @@ behind-after v (b ∷ bs) = behind-step v b bs (is_bws b) (b == 59) refl (bws-se
 abbrev trim_end : List ℕ → List ℕ
 trim_end p = skip_end_while is_bws p
 
--- digits behind these ones
+-- digits after these ones
 abbrev said : ℕ → ℕ → List ℕ → Option ℕ
 said v c d = cond (nat_le (c + length d) 16 && list_all is_hex d) (Some (digits_value_after 16 v d)) None
 

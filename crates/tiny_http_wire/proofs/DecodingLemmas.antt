@@ -152,7 +152,7 @@ trail-none old new kind m l = rw (l.gives) (go new l.fault)
     go None h = refl
     go (Some f) h = ap (λ d. Some (coming_of f.stop d)) (sym (trailer-faulty m f.stop (l.gone ++ f.bytes) kind (h f refl)))
 
--- the CR LF behind data
+-- the CR LF after data
 no-data : (stop : Stop) (bytes : List ℕ) → decoded_from (Data 0) (at bytes stop) ≡ chunk_closed (body_at stop) [] (after_data stop bytes)
 unfolding decoded_from
 no-data stop bytes = rw (le-ltb (length bytes) 0 (omega arith)) refl
@@ -283,7 +283,7 @@ broken-breaks (Some f) kind = ap (coming_of f.stop) (broken-is kind f)
 pub breaks : (f : Option Feed) (kind : ErrorKind) (d : Option Coming) → comes (Broken kind) f ≡ d → BreaksBy kind d
 breaks f kind d e = let P : Option Coming → Type 0 = λ x. BreaksBy kind x in subst P e (broken-breaks f kind)
 
--- nothing comes behind the body
+-- nothing comes after the body
 pub over-comes : (f : Option Feed) → comes Over f ≡ option_map over_at f
 over-comes None = refl
 over-comes (Some f) = ap (λ d. Some (coming_of f.stop d)) (over-is f)

@@ -1,4 +1,4 @@
--- What a writer tells of its faults, over one call and the next.
+-- What a writer states of its faults, over one call and the next.
 use Rattle.std.proofs.Common.{ℕ, ◌+◌, ◌-◌, ◌^◌, min, List, Result, Ok, Err, refl, sym, ap, ◌∙◌, inl, inr}
 use Rattle.std.specs.IoError.{error_kind}
 use Rattle.std.specs.declared.io.Error.{Error}
@@ -29,7 +29,7 @@ Prints-uses a b (Ok x) text h = Took-same a b text.bytes h.1
 Prints-uses a b (Err e) text (inl h) = inl (Took-same a b text.bytes h.1)
 Prints-uses a b (Err e) text (inr h) = inr (Failed-faulted a b text.bytes (error_kind e) h)
 
--- a call behind others that did not fail
+-- a call after others that did not fail
 pub Uses-behind : {T : Type 0} (a b c : Sink) (r : Result T Error) → SameFaults a b → CountsFaults b c r → CountsFaults a c r
 Uses-behind a b c (Ok x) h k = SameFaults-append a b c h k
 Uses-behind a b c (Err e) h (inl k) = inl (SameFaults-append a b c h k)

@@ -77,7 +77,7 @@ date_line headers date = if has_header headers (codes "Date") then [] else field
 abbrev pub length_line : ℕ → List ℕ
 length_line n = field_line (codes "Content-Length") (decimal n)
 
--- how the head tells the body's length, if it does
+-- how the head says the body's length, if it does
 unfoldable pub framing_line : FramingHeader → List ℕ
 framing_line Neither = []
 framing_line TransferEncoding = field_line (codes "Transfer-Encoding") (codes "chunked")
@@ -93,7 +93,7 @@ answer_head_text version status upgrade headers date framing =
 abbrev pub is_withheld : Bool → ℕ → Bool
 is_withheld asked status = asked || ((nat_le 100 status && nat_lt status 200) || ((status == 204) || (status == 304)))
 
--- a text behind another
+-- a text after another
 abbrev pub prepend_text : List ℕ → Text → Text
 prepend_text front text = record { bytes = front ++ text.bytes; ending = text.ending }
 
@@ -112,7 +112,7 @@ chunked_until (Fault kind) bytes = record { bytes = full_chunks bytes; ending = 
 abbrev pub chunked_body : Feed → Text
 chunked_body feed = chunked_until feed.stop feed.bytes
 
--- no byte is sent, and this fault told
+-- no byte is sent, and this fault reported
 abbrev pub nothing_sent : ErrorKind → Text
 nothing_sent kind = record { bytes = []; ending = Broken kind }
 
@@ -133,7 +133,7 @@ abbrev pub gathered_body : Stop → List ℕ → Bool → List ℕ → Text
 gathered_body End front withheld bytes = whole (front ++ (if withheld then [] else bytes))
 gathered_body (Fault kind) front withheld bytes = nothing_sent kind
 
--- Head and body by the coding and the known length, where `top` is the head with what it tells of the
+-- Head and body by the coding and the known length, where `top` is the head with what it says of the
 -- body's length.
 abbrev pub as_it_is : Option ℕ → (FramingHeader → List ℕ) → Bool → Feed → Text
 as_it_is (Some n) top withheld feed = prepend_text (top (ContentLength n)) (body_unless_withheld withheld (identity_body n feed))

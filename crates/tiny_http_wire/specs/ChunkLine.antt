@@ -10,7 +10,7 @@ use Rattle.tiny_http_wire.specs.declared.chunked.line.ChunkLine.{ChunkLine}
 use Rattle.tiny_http_wire.specs.declared.chunked.line.Scan.{Scan}
 use Rattle.tiny_http_wire.specs.ChunkSize.{size_step, size_after}
 
--- A byte more, behind a carriage return or not. A carriage return is held back: it may begin the line's end.
+-- A byte more, after a carriage return or not. A carriage return is held back: it may begin the line's end.
 abbrev pub scan_with : Size → Bool → ℕ → Bool → Scan
 scan_with size false b true = record { size = size; after_return = true }
 scan_with size false b false = record { size = size_step size b; after_return = false }
@@ -35,7 +35,7 @@ pub record NoLine (old new : Option Feed) (kind : ErrorKind) : Type 0 where
   pub gives : old ≡ prepended gone new
   pub fault : (feed : Feed) → new ≡ Some feed → ChunkLineFault (gone ++ feed.bytes) feed.stop kind
 
--- no byte is left of the feed, if it is told, and its stop is told so
+-- no byte is left of the feed, if it is stated, and its stop is stated so
 abbrev pub CutBy : ErrorKind → Option Feed → Type 0
 CutBy kind None = ⊤
 CutBy kind (Some feed) = (feed.bytes ≡ []) × (kind ≡ fault_of feed.stop)

@@ -20,7 +20,7 @@ size_said digits = if (nat_lt 0 (length digits) && (nat_le (length digits) 16 &&
 abbrev pub size_of : List ℕ → Option ℕ
 size_of text = size_said (digits_of text)
 
--- what a chunked body gives: its data, and the rest behind it or the fault
+-- what a chunked body gives: its data, and the rest after it or the fault
 pub record Decoded : Type 0 where
   pub body : List ℕ
   pub ends : Result (List ℕ) ErrorKind

@@ -10,7 +10,7 @@ use Rattle.tiny_http_wire.specs.declared.chunked.size.Size.TheVariants.{Blank, D
 unfoldable pub hex_of : ℕ → Option ℕ
 hex_of b = if is_hex b then Some (digit_value b) else None
 
--- behind the digits, by a byte that is no digit
+-- after the digits, by a byte that is no digit
 abbrev pub digits_ended : ℕ → ℕ → Size
 digits_ended value b = if is_bws b then Behind value else (if b == semicolon then Extension value else Wrong)
 
@@ -19,7 +19,7 @@ abbrev pub digits_begun : Option ℕ → Size
 digits_begun None = Wrong
 digits_begun (Some digit) = Digits digit 1
 
--- behind a digit, by the next byte
+-- after a digit, by the next byte
 abbrev pub more_digits : ℕ → ℕ → ℕ → Option ℕ → Size
 more_digits value count b None = digits_ended value b
 more_digits value count b (Some digit) = if nat_lt count 16 then Digits (value * 16 + digit) (count + 1) else Wrong
@@ -32,7 +32,7 @@ size_step (Behind value) b = digits_ended value b
 size_step (Extension value) b = Extension value
 size_step Wrong b = Wrong
 
--- behind these bytes
+-- after these bytes
 abbrev pub size_after : Size → List ℕ → Size
 size_after size [] = size
 size_after size (b ∷ bs) = size_after (size_step size b) bs

@@ -13,7 +13,7 @@ use Rattle.tiny_http_wire.specs.declared.chunked.Decoder.{Decoder}
 use Rattle.tiny_http_device.specs.Device.{AnswersStop, Feed, TakesFront}
 use Rattle.tiny_http_wire.specs.ChunkReading.{Decoded, decoded, data_at, trailer_section, broken}
 
--- the data that are still to come, and what the reader gives behind the body, or the fault
+-- the data that are still to come, and what the reader gives after the body, or the fault
 pub record Coming : Type 0 where
   pub bytes : List ℕ
   pub behind : Result Feed ErrorKind
@@ -29,7 +29,7 @@ decoded_from (Data left) feed = data_at (body_at feed.stop) feed.stop left feed.
 decoded_from Over feed = record { body = []; ends = Ok feed.bytes }
 decoded_from (Broken kind) feed = broken [] kind
 
--- what is read behind the last chunk's line, where so many trailer lines may stand
+-- what is read after the last chunk's line, where so many trailer lines may stand
 unfoldable pub trailers_from : ℕ → Feed → Decoded
 trailers_from most feed = trailer_section most feed.stop feed.bytes
 
@@ -42,15 +42,15 @@ rest_at stop (Err kind) = Err kind
 abbrev pub coming_of : Stop → Decoded → Coming
 coming_of stop d = record { bytes = d.body; behind = rest_at stop d.ends }
 
--- what comes of the body from here on, where the reader's feed is told
+-- what comes of the body from here on, where the reader's feed is stated
 abbrev pub comes : Next → Option Feed → Option Coming
 comes next feed = option_map (λ f. coming_of f.stop (decoded_from next f)) feed
 
--- what comes behind the last chunk's line, where so many trailer lines may stand
+-- what comes after the last chunk's line, where so many trailer lines may stand
 abbrev pub trails : ℕ → Option Feed → Option Coming
 trails most feed = option_map (λ f. coming_of f.stop (trailers_from most f)) feed
 
--- the data that a decoding still gives with a reader of this feed, and what stands behind the body, or the fault
+-- the data that a decoding still gives with a reader of this feed, and what stands after the body, or the fault
 abbrev pub decoding_coming : Decoding → Option Feed → Option Coming
 decoding_coming d feed = comes d.next feed
 
@@ -61,14 +61,14 @@ IsReady (Data left) = 0 < left
 IsReady Over = ⊤
 IsReady (Broken kind) = ⊤
 
--- the end or the fault that is told from now on
+-- the end or the fault that is reported from now on
 abbrev pub next_stop : Next → Option Stop
 next_stop Line = None
 next_stop (Data left) = None
 next_stop Over = Some End
 next_stop (Broken kind) = Some (Fault kind)
 
--- the end or the fault that a decoding tells from now on
+-- the end or the fault that a decoding reports from now on
 abbrev pub decoding_stop : Decoding → Option Stop
 decoding_stop d = next_stop d.next
 
@@ -76,15 +76,15 @@ decoding_stop d = next_stop d.next
 abbrev pub prepend_data : List ℕ → Coming → Coming
 prepend_data bs c = record { bytes = bs ++ c.bytes; behind = c.behind }
 
--- these data, and then what comes, where it is told
+-- these data, and then what comes, if it is stated
 abbrev pub prepended_data : List ℕ → Option Coming → Option Coming
 prepended_data bs c = option_map (prepend_data bs) c
 
--- the body is over, and this stands behind it
+-- the body is over, and this stands after it
 abbrev pub over_at : Feed → Coming
 over_at feed = record { bytes = []; behind = Ok feed }
 
--- nothing comes but this fault, if it is told what comes
+-- nothing comes but this fault, if what comes is stated
 abbrev pub BreaksBy : ErrorKind → Option Coming → Type 0
 BreaksBy kind None = ⊤
 BreaksBy kind (Some c) = c ≡ record { bytes = []; behind = Err kind }
@@ -93,11 +93,11 @@ BreaksBy kind (Some c) = c ≡ record { bytes = []; behind = Err kind }
 abbrev pub decoder_inner : {R : Type 0} → Decoder R → R
 decoder_inner d = d.inner
 
--- the data that it still gives, and what stands behind the body, or the fault
+-- the data that it still gives, and what stands after the body, or the fault
 abbrev pub decoder_coming : {R : Type 0} → (R → Option Feed) → Decoder R → Option Coming
 decoder_coming feed d = decoding_coming d.decoding (feed d.inner)
 
--- the end or the fault that it tells from now on
+-- the end or the fault that it reports from now on
 abbrev pub decoder_stop : {R : Type 0} → Decoder R → Option Stop
 decoder_stop d = decoding_stop d.decoding
 
@@ -115,7 +115,7 @@ abbrev pub decoder_feed : {R : Type 0} → (R → Option Feed) → Decoder R →
 decoder_feed feed d = option_map feed_of (decoder_coming feed d)
 
 -- ONE READ. The bytes that came are the next of the body's data; none of some only at the body's end, after which the reader
--- inside stands behind it; an error only where the data break off, and it takes none. And whatever the reader states: into an
+-- inside stands after it; an error only where the data break off, and it takes none. And whatever the reader states: into an
 -- empty buffer nothing changes, what was reported once is reported from then on, and of the reader's bytes a front is taken.
 pub record ReadsData {R : Type 0} (feed : R → Option Feed) (old new : Decoder R) (r : Result ℕ Error) (buf : List ℕ) : Type 0 where
   pub bound : IfOk r (λ n. n ≤ length buf)

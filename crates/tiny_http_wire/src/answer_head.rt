@@ -13,7 +13,7 @@ use std::io;
 use tiny_http_device::device::{WriteDevice, put, put_all};
 use tiny_http_head::common::{HTTPVersion, Header, StatusCode};
 
-/// What the head of an answer is made of, beside how it tells the length of the body.
+/// What the head of an answer is made of, beside how it says the length of the body.
 #[derive(Clone, Copy)]
 pub(crate) struct Top<'a> {
     pub(crate) version: HTTPVersion,

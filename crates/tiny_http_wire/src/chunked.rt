@@ -28,7 +28,7 @@ enum Next {
     Broken(ErrorKind),
 }
 
-// Takes the CR LF behind a chunk's data.
+// Takes the CR LF after a chunk's data.
 fn close_chunk<R: ReadDevice>(reader: &mut R) -> Result<(), ErrorKind>
     ensures closed { OnOk result (comes Next.Line (R.feed reader.new) ≡ comes (Next.Data 0) (R.feed reader.old)) }
     ensures broken { IfErr result (λ kind. comes (Next.Broken kind) (R.feed reader.new) ≡ comes (Next.Data 0) (R.feed reader.old)) }
@@ -82,7 +82,7 @@ fn skip_trailers<R: ReadDevice>(reader: &mut R) -> Next
     }
 }
 
-// Takes a size line, and behind that of the last chunk the trailer part.
+// Takes a size line, and after that of the last chunk the trailer part.
 fn open_chunk<R: ReadDevice>(reader: &mut R) -> Next
     ensures comes { comes result (R.feed reader.new) ≡ comes Next.Line (R.feed reader.old) }
     ensures ready { IsReady result }
@@ -167,17 +167,17 @@ impl Decoding {
 
     /// Reads some data into the front of `buf`, and says how many bytes: 0 at the end, and where
     /// `buf` is empty. Size lines, CR LFs and the trailer part are taken and not given, and nothing
-    /// behind the trailer part is taken (RFC 9112, section 7.1). It takes no memory.
+    /// after the trailer part is taken (RFC 9112, section 7.1). It takes no memory.
     ///
     /// A line has at most 8192 bytes before its CR LF, and the trailer part at most 128 lines. A
     /// size is 1 to 16 hexadecimal digits of either case: what stands before the first `;` of its
     /// line, without bytes 9 and 32 round it. Of an extension and of a trailer line the length alone
-    /// is checked. What breaks these rules, and other bytes than CR LF behind a chunk's data, is a
+    /// is checked. What breaks these rules, and other bytes than CR LF after a chunk's data, is a
     /// fault of kind InvalidData. Where the reader stops within the body, its end is a fault of kind
     /// UnexpectedEof, and its fault is one of the same kind. The data before a fault are given
     /// first, those of an unfinished chunk too.
     ///
-    /// The end is told once the trailer part was read. From then on, and from a fault on, each call
+    /// The end is reported once the trailer part was read. From then on, and from a fault on, each call
     /// answers the same, and does not call the reader.
     pub fn read<R: ReadDevice>(
         &mut self,
@@ -187,12 +187,12 @@ impl Decoding {
         ensures bound { IfOk result (λ n. n ≤ length buf.new) }
         // The bytes that came are the next of the data.
         ensures data { IfOk result (λ n. decoding_coming self.old (R.feed reader.old) ≡ prepended_data (take n buf.new) (decoding_coming self.new (R.feed reader.new))) }
-        // The end is told where the reader stands behind the body.
+        // The end is reported where the reader stands after the body.
         ensures end { IfOk result (λ n. n ≡ 0 → 0 < length buf.new → decoding_coming self.old (R.feed reader.old) ≡ option_map over_at (R.feed reader.new)) }
         ensures fault { IfErr result (λ e. BreaksBy (error_kind e) (decoding_coming self.old (R.feed reader.old))) }
         ensures again { OnErr result (decoding_coming self.new (R.feed reader.new) ≡ decoding_coming self.old (R.feed reader.old)) }
         ensures empty { length buf.new ≡ 0 → (result ≡ Ok 0) × (self.new ≡ self.old) × (reader.new ≡ reader.old) }
-        // Whatever the reader tells, behind the end or a fault it isn't called again, and the same is answered.
+        // Whatever the reader states, after the end or a fault it isn't called again, and the same is answered.
         ensures ended { IfOk result (λ n. n ≡ 0 → 0 < length buf.new → decoding_stop self.new ≡ Some Stop.End) }
         ensures broken { IfErr result (λ e. decoding_stop self.new ≡ Some (Stop.Fault (error_kind e))) }
         ensures stays { IsSome (decoding_stop self.old) → (self.new ≡ self.old) × (reader.new ≡ reader.old) }
@@ -220,7 +220,7 @@ impl Decoding {
         }
     }
 
-    /// The end or the fault that each read tells from now on, if it is known.
+    /// The end or the fault that each read reports from now on, if it is known.
     pub fn stop(&self) -> Option<Stop>
         ensures { result ≡ decoding_stop self.now }
     {
@@ -232,7 +232,7 @@ impl Decoding {
     }
 }
 
-/// The data of a chunked body, as a reader. It takes no byte of the reader inside behind the body's
+/// The data of a chunked body, as a reader. It takes no byte of the reader inside after the body's
 /// trailer part. Dropped or taken apart before its end it leaves the rest of the body unread.
 #[derive(Drop)]
 pub struct Decoder<R> {
@@ -261,7 +261,7 @@ impl<R: ReadDevice> Decoder<R> {
         }
     }
 
-    /// Reads some data into the front of `buf`, as `Decoding::read`: behind them each call answers
+    /// Reads some data into the front of `buf`, as `Decoding::read`: after them each call answers
     /// the end, or the fault.
     pub fn read(&mut self, buf: &mut [u8]) -> Result<usize, io::Error>
         ensures reads { ReadsData R.feed self.old self.new result buf.new }
@@ -269,7 +269,7 @@ impl<R: ReadDevice> Decoder<R> {
         self.decoding.read(&mut self.inner, buf)
     }
 
-    /// The reader inside. Once the end was told it stands behind the body.
+    /// The reader inside. Once the end was reported it stands after the body.
     pub fn into_inner(self) -> R
         ensures { result ≡ decoder_inner self }
     {

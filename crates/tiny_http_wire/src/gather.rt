@@ -36,7 +36,7 @@ fn fill<D: ReadDevice>(source: &mut D, buf: &mut [u8]) -> Result<usize, io::Erro
     Ok(at)
 }
 
-/// Reads all the data. Its fault is told, and want of memory as OutOfMemory.
+/// Reads all the data. Its fault is reported, and lack of memory as OutOfMemory.
 pub(crate) fn gather<D: ReadDevice>(alloc: Global, source: &mut D) -> Result<Vec<u8>, io::Error>
     ensures { IfSome (D.feed source.old) (λ feed. length feed.bytes < 2 ^ 63 → Gathers (λ v. v.items) feed result) }
 {

@@ -168,7 +168,7 @@ impl<R> Response<R> {
               upgrade = option_copied upgrade.entry;
               date = now;
             })) }
-        // Whatever the data and the writer tell: a fault of the writer's is one that its count has.
+        // Whatever the data and the writer state: a fault of the writer's is one that its count has.
         ensures uses { CountsFaults (W.sink writer.old) (W.sink writer.new) result }
     {
         let mut data = self.reader;

@@ -54,7 +54,7 @@ impl Scan {
     }
 }
 
-/// Takes the next byte. Where there is none, the kind is what the stop in its place is told as.
+/// Takes the next byte. Where there is none, the kind is what the stop in its place is reported as.
 pub(crate) fn next_byte<R: ReadDevice>(reader: &mut R) -> Result<u8, ErrorKind>
     ensures byte { IfOk result (λ b. R.feed reader.old ≡ prepended (b ∷ []) (R.feed reader.new)) }
     ensures cut { IfErr result (λ kind. CutBy kind (R.feed reader.old)) }
@@ -69,7 +69,7 @@ pub(crate) fn next_byte<R: ReadDevice>(reader: &mut R) -> Result<u8, ErrorKind>
 }
 
 /// Takes the next line and its CR LF, if one begins at place 0 to 8192. If none begins there, and
-/// at least 8194 bytes follow, it is a fault of kind InvalidData; with fewer the stop is told.
+/// at least 8194 bytes follow, it is a fault of kind InvalidData; with fewer the stop is reported.
 pub(crate) fn next_line<R: ReadDevice>(reader: &mut R) -> Result<ChunkLine, ErrorKind>
     ensures line { IfOk result (OneLine (R.feed reader.old) (R.feed reader.new)) }
     ensures none { IfErr result (NoLine (R.feed reader.old) (R.feed reader.new)) }

@@ -12,7 +12,7 @@ pub(crate) enum Size {
     Digits(u64, u8),
     /// Blanks, digits of this number, and blanks.
     Behind(u64),
-    /// The same, and a `;` behind it.
+    /// The same, and a `;` after it.
     Extension(u64),
     /// However the line goes on, it gives no size.
     Wrong,

@@ -7,7 +7,7 @@ use tiny_http_text::ascii::AsciiString;
 
 const ROOM: usize = 100_000;
 
-// How an answer is dated, and what it is printed as: the bytes, and the fault that is told.
+// How an answer is dated, and what it is printed as: the bytes, and the fault that is reported.
 fn print<R: ReadDevice + Drop>(
     alloc: Global,
     answer: Response<R>,
@@ -24,7 +24,7 @@ fn print<R: ReadDevice + Drop>(
     Ok((writer, fault))
 }
 
-// An answer 200 with data of this length, if it is told, whose reader ends or fails behind its
+// An answer 200 with data of this length, if it is known, whose reader ends or fails after its
 // bytes.
 fn canned(
     alloc: Global,
@@ -41,7 +41,7 @@ fn canned(
     })
 }
 
-// Prints an answer under HTTP/1.1, and compares what is written, and the fault that is told.
+// Prints an answer under HTTP/1.1, and compares what is written, and the fault that is reported.
 fn prints<R: ReadDevice + Drop>(
     rt: &impl Abort,
     alloc: Global,
@@ -55,10 +55,10 @@ fn prints<R: ReadDevice + Drop>(
     Ok(())
 }
 
-// Bytes of a reader and its fault, and the length that is told.
+// Bytes of a reader and its fault, and the length that is said.
 type Data<'a> = (&'a [u8], Option<ErrorKind>, Option<usize>);
 
-// Prints an answer of these data, behind the lines that each has.
+// Prints an answer of these data, after the lines that each has.
 fn prints_data(
     rt: &impl Abort,
     alloc: Global,
