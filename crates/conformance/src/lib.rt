@@ -1,5 +1,6 @@
 //! Tests of `tiny_http_core` and `greeter`: whole connections, where a client's bytes and steps go in and replies and output
-//! come out, and tables of what single calls answer.
+//! come out, and tables of what single calls answer. They stand apart because a crate with tests is proved once more with
+//! them.
 #![tactic(auto)]
 
 #[cfg(test)]

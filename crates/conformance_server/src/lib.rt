@@ -1,4 +1,4 @@
-//! Tests of `tiny_http`: what its public calls do, over threads.
+//! Tests of `tiny_http`: what its public calls do, over threads. Those that need private state stand beside its code.
 #![tactic(auto)]
 
 #[cfg(test)]

@@ -1,4 +1,5 @@
-//! Tests of the calls of `tiny_http_wire`, with tables of what they answer.
+//! Tests of the calls of `tiny_http_wire` and the crates beneath it, with tables of what they answer. They stand apart because
+//! a crate with tests is proved once more with them.
 #![tactic(auto)]
 
 #[cfg(test)]

@@ -1,4 +1,6 @@
-//! A server over a `Connection`: what it answers depends on what is asked.
+//! A server over a `Connection`: what it answers depends on what is asked. Its contract says that its answers are a
+//! conversation, so the connection theorem holds of a program that isn't a list of steps. It stands on `tiny_http_core` and
+//! `tiny_http_wire`.
 #![tactic(auto)]
 
 ghost use Rattle.std.specs.Prelude.{◌≡◌, Some};

@@ -1,4 +1,4 @@
-pub mod HexLemmas
+pub mod ReplyHex
 mod LineLemmas
 pub mod ReplyLemmas
 pub mod ScriptLemmas

@@ -1,4 +1,6 @@
-//! Runs the steps of a script over a client's bytes: `replay BYTES SCRIPT`.
+//! Runs the steps of a script over a client's bytes: `replay BYTES SCRIPT`. The output of the connection goes to standard
+//! output, a line for each step's reply to standard error. It stands on `tiny_http_core`, whose `run` it calls, and
+//! `tiny_http_wire`.
 #![tactic(auto)]
 
 ghost use Rattle.std.specs.Prelude.{◌≡◌, ◌<◌, ◌≤◌, ◌⊎◌, ℕ, ◌++◌, map, Err, IsErrAnd, IfOk, IfErr, OnOk};
@@ -114,7 +116,7 @@ fn replay<O: Write, E: Write>(
     }
 }
 
-// Tells a fault by a line, and gives the exit status that reports it.
+// Reports a fault by a line, and gives the exit status that reports it.
 fn tell<E: Write>(fault: &Fault<'_>, err: &mut E) -> u8
     ensures some { 0 < result }
     ensures bound { result ≤ 2 }

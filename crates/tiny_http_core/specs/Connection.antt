@@ -4,7 +4,7 @@ use Rattle.std.specs.Option.{option_map}
 use Rattle.httpdate.specs.declared.date.HttpDate.{HttpDate}
 use Rattle.tiny_http_wire.specs.declared.device.Stop.{Stop}
 use Rattle.tiny_http_wire.specs.declared.device.Stop.TheVariants.{End}
-use Rattle.tiny_http_wire.specs.Device.{Feed, Sink, IsFront, Tells, ending}
+use Rattle.tiny_http_wire.specs.Device.{Feed, Sink, IsFront, StatesKind, ending}
 use Rattle.tiny_http_message.specs.declared.body.Body.{Body}
 use Rattle.tiny_http_message.specs.declared.waiting.AnswerForm.{AnswerForm}
 use Rattle.tiny_http_message.specs.declared.waiting.Waiting.{Waiting}
@@ -168,7 +168,7 @@ OutputAt before sink ended slots None =
     (sink.taken ≡ Some (joined slots)) × (sink.failures ≡ before.failures) × (sink.has_ended ≡ ended) × (ended ≡ is_output_broken slots)
     × (ended ≡ false → IsFront (joined slots) sink.sent)
 OutputAt before sink ended slots (Some f) =
-    (sink.taken ≡ Some f.output) × (sink.failures ≡ before.failures + 1) × Tells sink.last_kind f.kind × (ended ≡ true)
+    (sink.taken ≡ Some f.output) × (sink.failures ≡ before.failures + 1) × StatesKind sink.last_kind f.kind × (ended ≡ true)
 
 -- the connection stands so, after this much of the client's feed and over a writer that stated this before
 pub record Stands (client : Feed) (before : Sink) (k : Kept) (s : State) : Type 0 where

@@ -3,7 +3,7 @@ use Rattle.std.specs.Prelude.{◌≡◌, ℕ, ◌+◌, ◌-◌, ◌^◌, ◌<◌
 use Rattle.std.specs.List.{AllByRecursion}
 use Rattle.std.specs.declared.io.ErrorKind.{ErrorKind}
 use Rattle.httpdate.specs.declared.date.HttpDate.{HttpDate}
-use Rattle.tiny_http_wire.specs.Device.{Feed, Sink, IsFront, Tells}
+use Rattle.tiny_http_wire.specs.Device.{Feed, Sink, IsFront, StatesKind}
 use Rattle.tiny_http_message.specs.Pipeline.{Item, Asks, Refuses, Place, body_length_or_0, Pipeline}
 use Rattle.tiny_http_message.specs.BodyLeft.{LeftAt}
 use Rattle.tiny_http_message.specs.HeadReads.{place_after}
@@ -159,7 +159,7 @@ abbrev pub IsOutput : List Slot → List ℕ → Option Failure → Sink → Sin
 IsOutput slots flushed None before after held ended =
     (after.failures ≡ before.failures) × (taken : List ℕ) × (after.taken ≡ Some taken) × (taken ++ held ≡ joined slots) × IsFront flushed taken × (ended ≡ is_output_broken slots)
 IsOutput slots flushed (Some f) before after held ended =
-    (after.failures ≡ before.failures + 1) × Tells after.last_kind f.kind × (after.taken ≡ Some f.output) × (held ≡ []) × (ended ≡ true)
+    (after.failures ≡ before.failures + 1) × StatesKind after.last_kind f.kind × (after.taken ≡ Some f.output) × (held ≡ []) × (ended ≡ true)
 
 -- what the bytes still ask: nothing after the last head, else the pipeline from where the input stands
 abbrev pub PlaceAt : Bool → Option Feed → List Item → Type 0

@@ -38,14 +38,14 @@ pub record HasDone {R W : Type 0} (client : Feed) (before : Sink) (c : Connectio
   pub stands : Stands client before (kept c) at
 
 -- a response with what its data state, in their place
-abbrev pub told_response : {D : Type 0} → (D → Option Feed) → ResponseState D → ResponseState (Option Feed)
-told_response feed r = record { answer = r.answer; data_reader = feed r.data_reader }
+abbrev pub stated_response : {D : Type 0} → (D → Option Feed) → ResponseState D → ResponseState (Option Feed)
+stated_response feed r = record { answer = r.answer; data_reader = feed r.data_reader }
 
-abbrev pub told_step : {D : Type 0} → (D → Option Feed) → Step D → Step (Option Feed)
-told_step feed step.Ask = step.Ask
-told_step feed (step.Read k n) = step.Read k n
-told_step feed (step.Respond k r) = step.Respond k (told_response feed r)
-told_step feed (step.Drop k) = step.Drop k
+abbrev pub stated_step : {D : Type 0} → (D → Option Feed) → Step D → Step (Option Feed)
+stated_step feed step.Ask = step.Ask
+stated_step feed (step.Read k n) = step.Read k n
+stated_step feed (step.Respond k r) = step.Respond k (stated_response feed r)
+stated_step feed (step.Drop k) = step.Drop k
 
 -- the head that stands there is refused, with this status
 abbrev pub IsRefusal : Feed → EndOfRequests → Type 0

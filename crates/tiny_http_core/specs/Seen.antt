@@ -55,16 +55,16 @@ MayFail feed old new (step.Drop k) kind = ⊥
 MayFail feed old new (step.Respond k r) kind = (p : Printing) × IsHonest old new (served_coding r.answer p) r.answer.length (feed r.data_reader) kind
 
 -- a fault that an answer reports is the writer's, whose count rose, or that of the step's own data; of a body's nothing is said
-abbrev pub TellsHonestly : {D : Type 0} → (D → Option Feed) → Sink → Sink → Timed D → Reply → Type 0
-TellsHonestly feed old new t reply = (kind : ErrorKind) → seen reply ≡ Fault kind → MayFail feed old new t.step kind
+abbrev pub ReportsHonestly : {D : Type 0} → (D → Option Feed) → Sink → Sink → Timed D → Reply → Type 0
+ReportsHonestly feed old new t reply = (kind : ErrorKind) → seen reply ≡ Fault kind → MayFail feed old new t.step kind
 
 -- Steps that report their faults so, while the writer's count goes from one number to another: a step raises it at most once.
-abbrev pub TellHonestly : {D : Type 0} → (D → Option Feed) → Sink → List (Timed D) → List Reply → Sink → Type 0
-TellHonestly feed old [] [] new = new.failures ≡ old.failures
-TellHonestly feed old (t ∷ steps) (r ∷ replies) new =
-    (mid : Sink) × FailsAtMostOnce old mid × TellsHonestly feed old mid t r × TellHonestly feed mid steps replies new
-TellHonestly feed old [] (r ∷ replies) new = ⊥
-TellHonestly feed old (t ∷ steps) [] new = ⊥
+abbrev pub ReportHonestly : {D : Type 0} → (D → Option Feed) → Sink → List (Timed D) → List Reply → Sink → Type 0
+ReportHonestly feed old [] [] new = new.failures ≡ old.failures
+ReportHonestly feed old (t ∷ steps) (r ∷ replies) new =
+    (mid : Sink) × FailsAtMostOnce old mid × ReportsHonestly feed old mid t r × ReportHonestly feed mid steps replies new
+ReportHonestly feed old [] (r ∷ replies) new = ⊥
+ReportHonestly feed old (t ∷ steps) [] new = ⊥
 
 -- how an answer to a request of this form is printed; the headers, by which the coding will be chosen, are the request's
 pub record PrintedFor (form : AnswerForm) (date : HttpDate) (p : Printing) : Type 0 where

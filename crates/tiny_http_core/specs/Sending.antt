@@ -6,7 +6,7 @@ use Rattle.std.specs.declared.io.ErrorKind.{ErrorKind}
 use Rattle.std.specs.declared.io.ErrorKind.TheVariants.{OutOfMemory}
 use Rattle.std.specs.Io.KnownBytes.{append_known}
 use Rattle.tiny_http_wire.specs.declared.device.Stop.TheVariants.{Fault}
-use Rattle.tiny_http_wire.specs.Device.{Feed, Sink, IsFront, BeginsKnown, HoldsNothing, IsKnownFront, Tells, next_count, fault_of}
+use Rattle.tiny_http_wire.specs.Device.{Feed, Sink, IsFront, BeginsKnown, HoldsNothing, IsKnownFront, StatesKind, next_count, fault_of}
 use Rattle.tiny_http_wire.specs.declared.coding.Coding.{Coding}
 use Rattle.tiny_http_wire.specs.declared.coding.Coding.TheVariants.{Identity, Chunked}
 use Rattle.tiny_http_wire.specs.Answer.{Answer, Text, Whole, Broken, Printing, text_of, nothing_sent}
@@ -28,7 +28,7 @@ pub record OutletFailed (old new : Sink) (text : List ℕ) (kind : ErrorKind) : 
   pub bytes : IsKnownFront new.taken (append_known old.taken text)
   pub keeps : BeginsKnown old.sent new.taken
   pub failures : new.failures ≡ next_count old.failures
-  pub last_kind : Tells new.last_kind kind
+  pub last_kind : StatesKind new.last_kind kind
 
 -- what was held was sent, or the writer failed in it
 abbrev pub EndsQuietly : Sink → Sink → Type 0

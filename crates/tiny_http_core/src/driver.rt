@@ -11,8 +11,8 @@ ghost use Rattle.tiny_http_core.specs.Steps.{ReplyValue, Done, Fault, is_closed_
 ghost use Rattle.std.specs.declared.io.ErrorKind.{ErrorKind};
 ghost use Rattle.tiny_http_stream.specs.Source.{GoesOn};
 ghost use Rattle.tiny_http_core.specs.Pending.{waiting_form};
-ghost use Rattle.tiny_http_core.specs.Driving.{HasDone, TakesStep, told_response, told_step};
-ghost use Rattle.tiny_http_core.specs.Seen.{seen, Answers, IsAnswered, PrintedFor, IsResponse, IsTimedStep, TellsHonestly, TellHonestly};
+ghost use Rattle.tiny_http_core.specs.Driving.{HasDone, TakesStep, stated_response, stated_step};
+ghost use Rattle.tiny_http_core.specs.Seen.{seen, Answers, IsAnswered, PrintedFor, IsResponse, IsTimedStep, ReportsHonestly, ReportHonestly};
 ghost use Rattle.tiny_http_stream.specs.Outlet.{output_of, outlet_ended, outlet_held, outlet_writer, SentOn};
 ghost use Rattle.tiny_http_core.specs.Sending.{CanSend, FailsOnceUnlessEnded, FailsAtMostOnce, IsHonest};
 
@@ -40,7 +40,8 @@ pub enum Step<D> {
     Read(u64, u16),
     /// Answers the request of this number in its turn, and gives its body up.
     Respond(u64, Response<D>),
-    /// Drops the request of this number, and gives its body up: it is answered by an empty 500, on the date on which it was handed out.
+    /// Drops the request of this number, and gives its body up: it is answered by an empty 500, on the date on which it was
+    /// handed out.
     Drop(u64),
 }
 
@@ -83,7 +84,8 @@ pub enum Reply {
 pub struct Record<R: ReadDevice, W: WriteDevice> {
     /// What each step was answered.
     pub replies: Vec<Reply>,
-    /// The reader, with the bytes that are held. It stands after the last head that was read and what was read of its body.
+    /// The reader, with the bytes that are held. While requests may follow it stands after the last head that was read, and
+    /// after what was read of that request's body.
     pub source: Source<R>,
     /// The writer, with what is held back. Its bytes and then those held are the output.
     pub outlet: Outlet<W>,
@@ -99,8 +101,9 @@ pub struct RunError<R, W> {
 }
 
 /// A connection over a reader and a writer, without threads. It hands out the client's requests one after another, reads
-/// their bodies when they are asked for, and sends the answers in the order of the requests, in whatever order they are made
-/// (RFC 9112, section 9.3.2). A program drives it call by call; each call is a step of the connection theorem.
+/// their bodies when they are asked for, and sends the answers in the order of the requests (RFC 9112, section 9.3.2): an
+/// answer that is made before its turn is refused by `NotYet`, and a drop waits for its turn. A program drives it call by call;
+/// each call is a step of the connection theorem.
 #[derive(Drop)]
 pub struct Connection<R: ReadDevice, W: WriteDevice> {
     source: Source<R>,
@@ -221,9 +224,9 @@ impl<R: ReadDevice, W: WriteDevice> Connection<R, W> {
     /// holds the reader: until that was read to its end, or the request was answered or dropped. It is `Ended` once the
     /// connection has no further request, from then on, and `end_of_requests` says why. A refused head is answered under a
     /// number of its own, in its turn, and ends the asking; so does `Memory`, and a chunked body that was given up before its
-    /// end. It reads no further than the head, and a body of up to 1024 bytes, and so waits for the client only while these,
-    /// and what was left of a counted body that was given up, have not come. After the last request the reader isn't called. `now` dates the answer to a refused head, and the 500 of
-    /// this request if it is dropped.
+    /// end. It waits for the client only until the head and a body of up to 1024 bytes have come, and before them the rest of a
+    /// counted body that was given up. After the last request the reader isn't called. `now` dates the answer to a refused
+    /// head, and the 500 of this request if it is dropped.
     pub fn ask(&mut self, alloc: Global, now: HttpDate) -> Reply
         ensures step { TakesStep self.old self.new now Step.Ask (seen result) }
     {
@@ -328,7 +331,7 @@ impl<R: ReadDevice, W: WriteDevice> Connection<R, W> {
         number: u64,
         response: Response<D>,
     ) -> Reply
-        ensures step { TakesStep self.old self.new now (Step.Respond number (told_response D.feed response)) (seen result) }
+        ensures step { TakesStep self.old self.new now (Step.Respond number (stated_response D.feed response)) (seen result) }
     {
         let Some(form) = self.pending.form_at(number) else {
             return Reply::NoSuch;
@@ -346,7 +349,7 @@ impl<R: ReadDevice, W: WriteDevice> Connection<R, W> {
 
     /// Does a step on its date: the call that it names.
     pub fn step<D: ReadDevice + Drop>(&mut self, alloc: Global, timed: Timed<D>) -> Reply
-        ensures step { TakesStep self.old self.new timed.now (told_step D.feed timed.step) (seen result) }
+        ensures step { TakesStep self.old self.new timed.now (stated_step D.feed timed.step) (seen result) }
     {
         let Timed { now, step } = timed;
         match step {
@@ -390,7 +393,7 @@ pub fn run<R: ReadDevice + Drop, W: WriteDevice + Drop, D: ReadDevice + Drop>(
     // Whatever reader, writer and data state.
     ensures replies { IfOk result (λ done. vec_len done.replies ≡ vec_len steps) }
     ensures fails_once { IfOk result (λ done. FailsAtMostOnce (W.sink writer) (W.sink (outlet_writer done.outlet))) }
-    ensures honest { IfOk result (λ done. TellHonestly D.feed (W.sink writer) steps.items done.replies.items (W.sink (outlet_writer done.outlet))) }
+    ensures honest { IfOk result (λ done. ReportHonestly D.feed (W.sink writer) steps.items done.replies.items (W.sink (outlet_writer done.outlet))) }
     // So far each step that writes flushes, and so does the writer.
     ensures flushed { IfOk result (λ done. outlet_held done.outlet ≡ []) }
     ensures sent_on { IfOk result (λ done. HoldsNothing (W.sink writer) → SentOn done.outlet) }

@@ -1,4 +1,6 @@
-//! One connection of a small HTTP server, without threads.
+//! One connection of a small HTTP server, without threads: `driver::Connection` hands out requests and sends answers in
+//! their order. It stands on `tiny_http_message` and `tiny_http_turns`, and names their modules and those of
+//! `tiny_http_stream` again.
 #![tactic(auto)]
 
 pub mod driver;

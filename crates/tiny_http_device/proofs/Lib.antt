@@ -1,3 +1,3 @@
 pub mod DeviceLemmas
-pub mod Feeds
-pub mod ReadLemmas
+pub mod DeviceFeeds
+pub mod DeviceReads

@@ -113,9 +113,9 @@ grown true known bs = known
 grown false known bs = append_known known bs
 
 -- the kind that is stated, if one is, is this one
-abbrev pub Tells : Option ErrorKind → ErrorKind → Type 0
-Tells None kind = ⊤
-Tells (Some told) kind = told ≡ kind
+abbrev pub StatesKind : Option ErrorKind → ErrorKind → Type 0
+StatesKind None kind = ⊤
+StatesKind (Some told) kind = told ≡ kind
 
 -- one failure more, up to the greatest number
 abbrev pub next_count : ℕ → ℕ
@@ -135,7 +135,7 @@ pub record Failed (old new : Sink) (text : List ℕ) (kind : ErrorKind) : Type 0
   pub sent : IsFront old.sent new.sent
   pub keeps : BeginsKnown new.sent new.taken
   pub failures : new.failures ≡ next_count old.failures
-  pub last_kind : Tells new.last_kind kind
+  pub last_kind : StatesKind new.last_kind kind
   pub was_open : old.has_ended ≡ false
 
 -- a call that writes a text took all of it, or the writer failed
@@ -157,7 +157,7 @@ pub record SameFaults (old new : Sink) : Type 0 where
 -- the writer failed by this kind, and had not ended
 pub record Faulted (old new : Sink) (kind : ErrorKind) : Type 0 where
   pub failures : new.failures ≡ next_count old.failures
-  pub last_kind : Tells new.last_kind kind
+  pub last_kind : StatesKind new.last_kind kind
   pub was_open : old.has_ended ≡ false
 
 -- What a call that writes does to what a writer states of its faults, whatever it writes: nothing where it answers Ok.

@@ -1,6 +1,6 @@
-pub mod LineLemmas
-pub mod HeadLemmas
-pub mod Parsing
-pub mod LengthLemmas
+pub mod LinesLemmas
+pub mod HeadsLemmas
+pub mod ReadingLemmas
+pub mod HeadsLengths
 pub mod FmtLemmas
-pub mod NameLemmas
+pub mod CommonLemmas

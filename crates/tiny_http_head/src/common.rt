@@ -448,7 +448,9 @@ impl fmt::Display for Method {
 /// A header: its name and its value (RFC 9110, section 5).
 #[derive(Debug, Drop)]
 pub struct Header {
+    /// The name.
     pub field: HeaderField,
+    /// The value, without the white space around it where it was read from a line.
     pub value: AsciiString,
 }
 

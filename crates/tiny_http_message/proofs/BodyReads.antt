@@ -15,9 +15,9 @@ use Rattle.tiny_http_stream.specs.Parts.{feed_front}
 use Rattle.tiny_http_message.specs.Body.{Remaining, remaining, counted_left, taken_left, prepend_body, prepended_body, BodyStops, NoneLeft, is_streaming, body_standing, IsBodyOver, ReadsOn, GivesUp}
 use Rattle.tiny_http_stream.specs.declared.source.Standing.{Standing}
 use Rattle.tiny_http_stream.specs.Source.{SourceState, GoesOn, IsRestOf}
-use Rattle.tiny_http_stream.proofs.GoingOn.{goes-on_same}
-use Rattle.tiny_http_stream.proofs.Inputs.{skipped-skipped, skipped-prepend, skipped-within, skipped-beyond}
-use Rattle.tiny_http_stream.proofs.PartLemmas.{part-more}
+use Rattle.tiny_http_stream.proofs.SourceGoesOn.{goes-on_same}
+use Rattle.tiny_http_stream.proofs.ToComeLemmas.{skipped-skipped, skipped-prepend, skipped-within, skipped-beyond}
+use Rattle.tiny_http_stream.proofs.PartsLemmas.{part-more}
 
 -- bytes that were given, and no others, are skipped
 skipped-front : (front : List ℕ) (f : Feed) (k : ℕ) → skipped (length front + k) (prepend front f) ≡ skipped k f

@@ -1,7 +1,7 @@
 pub mod BodyReads
-pub mod HeadReading
-pub mod HeadServing
-pub mod LeftLemmas
-pub mod Words
+pub mod HeadReadsLemmas
+pub mod HeadReadsServing
+pub mod BodyLeftLemmas
+pub mod BytesWords
 pub mod OwnAnswerLemmas
 pub mod PipelineLemmas

@@ -11,8 +11,8 @@ use Rattle.tiny_http_wire.specs.Heads.{Message, BeginsWithRequestHead, is_too_ne
 use Rattle.tiny_http_wire.specs.Chunks.{WholeChunks, CutChunks}
 use Rattle.tiny_http_wire.specs.Reading.{request_head_read, RequestHeadRead, Whole, Faulty}
 use Rattle.tiny_http_wire.specs.ChunkReading.{decoded}
-use Rattle.tiny_http_head.proofs.HeadLemmas.{head-is, HeadIs, head-one, head-fault, line-shorter, fields-fewer}
-use Rattle.tiny_http_wire.proofs.ChunkLemmas.{decoded-is, decoded-one, decoded-front}
+use Rattle.tiny_http_head.proofs.HeadsLemmas.{head-is, HeadIs, head-one, head-fault, line-shorter, fields-fewer}
+use Rattle.tiny_http_wire.proofs.ChunksLemmas.{decoded-is, decoded-one, decoded-front}
 use Rattle.tiny_http_message.specs.declared.framing.Form.{Form}
 use Rattle.tiny_http_message.specs.declared.framing.Form.TheVariants.{Rest, Nothing, WithHead, Counted, Chunked}
 use Rattle.tiny_http_message.specs.declared.framing.Framing.{Framing}

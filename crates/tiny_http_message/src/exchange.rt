@@ -28,14 +28,17 @@ use tiny_http_wire::device::{ReadDevice, Stop};
 /// What a request's head says.
 #[derive(Drop)]
 pub struct Head {
+    /// What is asked for.
     pub method: Method,
     /// The request's target, as it was sent; it may be empty.
     pub path: AsciiString,
+    /// The version of the request line.
     pub version: HTTPVersion,
     /// The headers, in their order.
     pub headers: Vec<Header>,
     /// The number of bytes that `Content-Length` says, where it can be read and no `Transfer-Encoding` hides it.
     pub body_length: Option<usize>,
+    /// How the body is read.
     pub form: Form,
     /// Whether the client waits for a 100 before it sends the body (RFC 9110, section 10.1.1).
     pub owes_continue: bool,

@@ -30,9 +30,13 @@ pub enum Form {
 /// ends after it.
 #[derive(Clone, Copy, Debug, PartialEq, Eq)]
 pub struct Framing {
+    /// How the body is read.
     pub form: Form,
+    /// Whether the client waits for a 100 before it sends the body.
     pub owes_continue: bool,
+    /// The length that `Content-Length` says, where it can be read and no `Transfer-Encoding` hides it.
     pub body_length: Option<usize>,
+    /// Whether the connection ends after the message.
     pub is_last: bool,
 }
 

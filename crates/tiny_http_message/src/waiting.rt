@@ -6,6 +6,7 @@ use tiny_http_wire::common::HTTPVersion;
 /// How the answer to a request is printed.
 #[derive(Clone, Copy, Debug, PartialEq, Eq)]
 pub struct AnswerForm {
+    /// The version of the request, in which it is answered.
     pub version: HTTPVersion,
     /// The body is withheld: the request is a `HEAD`.
     pub no_body: bool,
@@ -14,8 +15,10 @@ pub struct AnswerForm {
 /// What is kept of a request until it is answered.
 #[derive(Drop)]
 pub struct Waiting {
+    /// How its answer is printed.
     pub form: AnswerForm,
     /// What is sent if the request is dropped.
     pub dropped: DropText,
+    /// How far its body was read.
     pub body: Body,
 }

@@ -1,8 +1,8 @@
-pub mod PartLemmas
-pub mod Windows
-pub mod Inputs
-pub mod Lines
+pub mod PartsLemmas
+pub mod BufferLemmas
+pub mod ToComeLemmas
+pub mod LineLemmas
 pub mod LineEnds
-pub mod LineReads
-pub mod Holding
-pub mod GoingOn
+pub mod SourceLines
+pub mod OutletLemmas
+pub mod SourceGoesOn

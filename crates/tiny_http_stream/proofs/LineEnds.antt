@@ -10,9 +10,9 @@ use Rattle.std.specs.Prelude.{IfOk, OnOk}
 use Rattle.tiny_http_stream.specs.declared.source.Input.{Input}
 use Rattle.tiny_http_stream.specs.Input.{input_feed}
 use Rattle.tiny_http_stream.specs.ToCome.{to_come, behind_held}
-use Rattle.tiny_http_stream.proofs.Inputs.{skipped-within}
+use Rattle.tiny_http_stream.proofs.ToComeLemmas.{skipped-within}
 use Rattle.tiny_http_stream.specs.Line.{BeginsNoLineEnd, EndsLine}
-use Rattle.tiny_http_stream.proofs.Lines.{passed-nothing, passed-return, passed-plain, passed-two_returns, passed-lone_return}
+use Rattle.tiny_http_stream.proofs.LineLemmas.{passed-nothing, passed-return, passed-plain, passed-two_returns, passed-lone_return}
 
 -- no CR LF begins in the first bytes; the flag says that the last of them is a carriage return
 abbrev pub Scans : Bool → List ℕ → ℕ → Type 0

@@ -1,4 +1,4 @@
-// A queue of bytes in a fixed room.
+//! A queue of bytes in a fixed room.
 ghost use Rattle.std.specs.Prelude.{◌≡◌, ℕ, ◌+◌, ◌-◌, ◌≤◌, ◌==◌, min, List, [], ◌∷◌, ◌++◌, length, take, drop, Ok, IfOk, IfErr, OnOk, OnErr, IfSome, IfNone};
 ghost use Rattle.std.specs.IoError.{error_kind};
 ghost use Rattle.tiny_http_device.specs.Device.{prepended, StopsBy};
@@ -8,6 +8,7 @@ use std::io;
 use std::marker::Model;
 use tiny_http_device::device::ReadDevice;
 
+/// How many bytes a buffer holds.
 pub const CAPACITY: usize = 1024;
 
 /// Up to 1024 bytes, put in at the back and taken off at the front.
@@ -28,6 +29,7 @@ impl Model for Buffer {
 }
 
 impl Buffer {
+    /// A buffer without a byte.
     pub fn new() -> Buffer
         ensures { result ≡ [] }
     {
@@ -38,12 +40,14 @@ impl Buffer {
         }
     }
 
+    /// Whether no byte is held.
     pub fn is_empty(&self) -> bool
         ensures { result ≡ (length self.now == 0) }
     {
         self.start == self.end
     }
 
+    /// How many bytes are held, up to 1024.
     pub fn len(&self) -> usize
         ensures len { result ≡ length self.now }
         ensures bound { length self.now ≤ 1024 }
@@ -51,6 +55,7 @@ impl Buffer {
         self.end - self.start
     }
 
+    /// The bytes that are held, the front first.
     pub fn as_slice(&self) -> &[u8]
         ensures bytes { result.now ≡ self.now }
         ensures bound { length self.now ≤ 1024 }

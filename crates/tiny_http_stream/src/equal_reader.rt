@@ -49,8 +49,8 @@ impl<R: ReadDevice + Drop> EqualReader<R> {
         }
     }
 
-    /// Reads the rest of the bytes away, and hands the reader back: it stands after them, or has stopped before. A fault
-    /// that is met is reported by nothing.
+    /// Reads the rest of the bytes away, and hands the reader back: it stands after them, or has stopped before. Faults met
+    /// here are not reported.
     pub fn finish(self) -> R
         ensures { R.feed result ≡ option_map (feed_behind (equal_left self)) (R.feed (equal_inner self)) }
     {

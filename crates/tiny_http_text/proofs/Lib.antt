@@ -1,4 +1,4 @@
-pub mod TextLemmas
-pub mod Trimming
-pub mod QualityLemmas
-pub mod QualityForms
+pub mod BytesLemmas
+pub mod BytesTrimming
+pub mod QualityReadingLemmas
+pub mod QualitiesLemmas

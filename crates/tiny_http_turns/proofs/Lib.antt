@@ -1,5 +1,5 @@
 pub mod TurnsLemmas
 pub mod TurnsOutcomes
 pub mod TurnsKept
-pub mod TurnsOrder
-pub mod TurnsTexts
+pub mod TurnsLawOrder
+pub mod TurnsLawTexts

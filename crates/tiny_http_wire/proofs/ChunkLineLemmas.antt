@@ -11,7 +11,7 @@ use Rattle.tiny_http_text.specs.Bytes.{crlf}
 use Rattle.tiny_http_device.specs.Device.{Feed, prepended, fault_of}
 use Rattle.tiny_http_text.specs.Lines.{has_crlf}
 use Rattle.tiny_http_wire.specs.Chunks.{ChunkLineFault, longest_line}
-use Rattle.tiny_http_device.proofs.Feeds.{given-along}
+use Rattle.tiny_http_device.proofs.DeviceFeeds.{given-along}
 use Rattle.tiny_http_wire.specs.declared.chunked.size.Size.{Size}
 use Rattle.tiny_http_wire.specs.declared.chunked.size.Size.TheVariants.{Blank}
 use Rattle.tiny_http_wire.specs.declared.chunked.line.ChunkLine.{ChunkLine}

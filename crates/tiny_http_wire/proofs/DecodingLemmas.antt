@@ -10,10 +10,10 @@ use Rattle.std.specs.declared.io.ErrorKind.TheVariants.{InvalidData}
 use Rattle.tiny_http_device.specs.declared.device.Stop.{Stop}
 use Rattle.tiny_http_text.specs.Bytes.{crlf}
 use Rattle.tiny_http_device.specs.Device.{Feed, prepended, TakesFront, fault_of}
-use Rattle.tiny_http_device.proofs.Feeds.{given-along}
+use Rattle.tiny_http_device.proofs.DeviceFeeds.{given-along}
 use Rattle.tiny_http_wire.specs.Chunks.{IsShortLine, ChunkLineFault, CloseFault, SizeText, WholeChunks, CutChunks}
 use Rattle.tiny_http_wire.specs.ChunkReading.{decoded, data_at, chunk_closed, after_data, trailer_section, broken, prepend_decoded, size_of}
-use Rattle.tiny_http_wire.proofs.ChunkLemmas.{Go, made, IsDecoded, decoded-is, decoded-one, decoded-front, sized-line, short-one, short-fault, size-is, close-is, close-fault, trailer-end, trailer-more, trailer-faulty, at-cons, drop_at}
+use Rattle.tiny_http_wire.proofs.ChunksLemmas.{Go, made, IsDecoded, decoded-is, decoded-one, decoded-front, sized-line, short-one, short-fault, size-is, close-is, close-fault, trailer-end, trailer-more, trailer-faulty, at-cons, drop_at}
 use Rattle.tiny_http_wire.specs.declared.chunked.Next.TheVariants.{Line, Data, Over, Broken}
 use Rattle.tiny_http_wire.specs.declared.chunked.line.ChunkLine.{ChunkLine as TakenLine}
 use Rattle.tiny_http_wire.specs.ChunkSize.{size_value}

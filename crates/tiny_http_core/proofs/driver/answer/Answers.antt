@@ -7,7 +7,7 @@ use Rattle.tiny_http_stream.specs.Outlet.{output_of}
 use Rattle.tiny_http_core.specs.Steps.{ReplyValue, Done, Fault, is_closed_client, fault_of_answer}
 use Rattle.tiny_http_core.specs.Seen.{seen}
 use Rattle.tiny_http_core.specs.Sending.{IsHonest}
-use Rattle.tiny_http_core.proofs.SendLemmas.{or-false}
+use Rattle.tiny_http_core.proofs.SendingLemmas.{or-false}
 use Rattle.tiny_http_core.proofs.driver.answer.Goals as goal
 
 -- the fault that is reported is the one that was met

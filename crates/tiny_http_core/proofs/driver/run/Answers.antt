@@ -7,9 +7,9 @@ use Rattle.tiny_http_stream.specs.Source.{GoesOn}
 use Rattle.tiny_http_core.specs.Seen.{IsTimedStep, seen}
 use Rattle.tiny_http_stream.specs.Outlet.{OutletState, output_of, SentOn, outlet_writer}
 use Rattle.tiny_http_core.specs.Sending.{FailsOnce}
-use Rattle.tiny_http_stream.proofs.GoingOn.{goes-on_same, goes-on_more}
-use Rattle.tiny_http_core.proofs.RunLemmas.{joins-more, joins-end, fails-step, honest-step, honest-end}
-use Rattle.tiny_http_core.proofs.DriverLemmas.{done-none, done-step, tells-step}
+use Rattle.tiny_http_stream.proofs.SourceGoesOn.{goes-on_same, goes-on_more}
+use Rattle.tiny_http_core.proofs.ConversationRuns.{joins-more, joins-end, fails-step, honest-step, honest-end}
+use Rattle.tiny_http_core.proofs.DrivingLemmas.{done-none, done-step, tells-step}
 use Rattle.tiny_http_core.proofs.driver.run.Goals as goal
 
 pub loop-timed-init : goal.loop-timed-init

@@ -4,7 +4,7 @@ use Rattle.std.specs.Vec.Iter.{into_iter_items}
 use Rattle.tiny_http_wire.specs.Device.{Feed, Sink, HoldsNothing}
 use Rattle.tiny_http_core.specs.Conversation.{IsFresh, TimedValue}
 use Rattle.tiny_http_stream.specs.Source.{GoesOn}
-use Rattle.tiny_http_core.specs.Seen.{IsTimedStep, seen, TellHonestly}
+use Rattle.tiny_http_core.specs.Seen.{IsTimedStep, seen, ReportHonestly}
 use Rattle.tiny_http_core.specs.Sending.{FailsOnce}
 use Rattle.tiny_http_stream.specs.Outlet.{output_of, SentOn}
 use Rattle.tiny_http_core.specs.declared.driver.Timed.{Timed}
@@ -23,7 +23,7 @@ pub record Goes {R W D : Type 0} (feed : D → Option Feed) (reader : Option Fee
   pub fails_once : FailsOnce writer (output_of c.outlet) c.outlet.ended
   pub flushed : c.outlet.held ≡ []
   pub sent_on : HoldsNothing writer → SentOn c.outlet
-  pub honest : TellHonestly feed writer done replies (output_of c.outlet)
+  pub honest : ReportHonestly feed writer done replies (output_of c.outlet)
 
 abbrev pub invariant-loop-timed : goal.invariant-loop-timed
 invariant-loop-timed g l =

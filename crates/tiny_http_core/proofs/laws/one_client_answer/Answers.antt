@@ -1,6 +1,6 @@
 use Rattle.tiny_http_core.specs.ClientAnswer.{Unfinished, Invalid}
-use Rattle.tiny_http_core.proofs.ClientLaws.{answer-some, answer-same, answer-no_lack, lack-one}
-use Rattle.tiny_http_core.proofs.ClientLemmas.{answer-is}
+use Rattle.tiny_http_core.proofs.ClientAnswerLaws.{answer-some, answer-same, answer-no_lack, lack-one}
+use Rattle.tiny_http_core.proofs.ClientAnswerLemmas.{answer-is}
 use Rattle.tiny_http_core.proofs.laws.one_client_answer.Goals as goal
 
 pub returns : goal.returns

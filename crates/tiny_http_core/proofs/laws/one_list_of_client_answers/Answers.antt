@@ -1,4 +1,4 @@
-use Rattle.tiny_http_core.proofs.ClientLaws.{answers-some, answers-one}
+use Rattle.tiny_http_core.proofs.ClientAnswerLaws.{answers-some, answers-one}
 use Rattle.tiny_http_core.proofs.laws.one_list_of_client_answers.Goals as goal
 
 pub returns : goal.returns

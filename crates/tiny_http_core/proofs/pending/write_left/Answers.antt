@@ -1,5 +1,5 @@
-use Rattle.tiny_http_core.proofs.SendLemmas.{is-flushed}
-use Rattle.tiny_http_core.proofs.PassLemmas.{flushed-behind}
+use Rattle.tiny_http_core.proofs.SendingLemmas.{is-flushed}
+use Rattle.tiny_http_core.proofs.PendingLemmas.{flushed-behind}
 use Rattle.tiny_http_core.proofs.pending.write_left.Goals as goal
 
 pub returns-clause-passes : goal.returns-clause-passes

@@ -1,8 +1,8 @@
 use Rattle.std.proofs.Common.{subst, List, ℕ}
 use Rattle.tiny_http_stream.specs.Outlet.{output_of, outlet_ended}
 use Rattle.tiny_http_core.specs.Sending.{SendsUnlessEnded}
-use Rattle.tiny_http_core.proofs.SendLemmas.{once-append}
-use Rattle.tiny_http_core.proofs.PassLemmas.{writes-next, writes-last}
+use Rattle.tiny_http_core.proofs.SendingLemmas.{once-append}
+use Rattle.tiny_http_core.proofs.PendingLemmas.{writes-next, writes-last}
 use Rattle.tiny_http_core.proofs.pending.write_texts.Goals as goal
 
 pub loop-text-preserved : goal.loop-text-preserved

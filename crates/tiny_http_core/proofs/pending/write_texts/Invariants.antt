@@ -2,7 +2,7 @@ use Rattle.std.proofs.Common.{◌≡◌, ◌-◌, ◌∷◌, ◌++◌, List, len
 use Rattle.tiny_http_turns.specs.Turns.{Mark, Held}
 use Rattle.tiny_http_stream.specs.Outlet.{output_of, outlet_ended}
 use Rattle.tiny_http_core.specs.Sending.{FailsOnceUnlessEnded}
-use Rattle.tiny_http_core.proofs.PassLemmas.{WritesLeft}
+use Rattle.tiny_http_core.proofs.PendingLemmas.{WritesLeft}
 use Rattle.tiny_http_core.proofs.pending.write_texts.Given as goal
 
 abbrev pub invariant-loop-text : goal.invariant-loop-text

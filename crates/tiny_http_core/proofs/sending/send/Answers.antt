@@ -1,7 +1,7 @@
 use Rattle.std.proofs.Common.{◌≡◌, ap, true, Err}
 use Rattle.tiny_http_stream.specs.Outlet.{output_of, outlet_ended}
 use Rattle.std.specs.Prelude.{◌||◌}
-use Rattle.tiny_http_core.proofs.SendLemmas.{printed-flushed, printed-ended, ended-once, flushed-once, printed-honest, sends-for, or-false}
+use Rattle.tiny_http_core.proofs.SendingLemmas.{printed-flushed, printed-ended, ended-once, flushed-once, printed-honest, sends-for, or-false}
 use Rattle.tiny_http_core.proofs.sending.send.Goals as goal
 
 pub returns-in-Err-clause-sends : goal.returns-in-Err-clause-sends

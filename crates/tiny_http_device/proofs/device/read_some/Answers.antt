@@ -1,4 +1,4 @@
-use Rattle.tiny_http_device.proofs.ReadLemmas.{reads-from}
+use Rattle.tiny_http_device.proofs.DeviceReads.{reads-from}
 use Rattle.tiny_http_device.proofs.device.read_some.Goals as goal
 
 pub returns-clause-bytes : goal.returns-clause-bytes

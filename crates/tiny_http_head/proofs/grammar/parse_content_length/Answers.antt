@@ -1,5 +1,5 @@
 use Rattle.tiny_http_head.specs.Heads.{length_in}
-use Rattle.tiny_http_head.proofs.LengthLemmas.{length_of-some, length_of-none}
+use Rattle.tiny_http_head.proofs.HeadsLengths.{length_of-some, length_of-none}
 use Rattle.tiny_http_head.proofs.grammar.parse_content_length.Goals as goal
 
 pub returns-in-Ok : goal.returns-in-Ok

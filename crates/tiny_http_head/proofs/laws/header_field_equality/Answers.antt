@@ -1,6 +1,6 @@
 use Rattle.std.proofs.Common.{rules, ◌≡◌}
 use Rattle.tiny_http_head.specs.Common.{lowercase}
-use Rattle.tiny_http_head.proofs.NameLemmas.{names-from, names-to}
+use Rattle.tiny_http_head.proofs.CommonLemmas.{names-from, names-to}
 use Rattle.tiny_http_head.proofs.laws.header_field_equality.Goals as goal
 
 pub returns-clause-ignores_case : goal.returns-clause-ignores_case

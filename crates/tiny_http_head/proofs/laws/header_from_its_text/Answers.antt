@@ -1,4 +1,4 @@
-use Rattle.tiny_http_head.proofs.NameLemmas.{text-back, one-header}
+use Rattle.tiny_http_head.proofs.CommonLemmas.{text-back, one-header}
 use Rattle.tiny_http_head.proofs.laws.header_from_its_text.Goals as goal
 
 pub returns-clause-back : goal.returns-clause-back

@@ -1,4 +1,4 @@
-use Rattle.tiny_http_head.proofs.HeadLemmas.{request-line-one, request-line-is, header-line-one, header-line-is}
+use Rattle.tiny_http_head.proofs.HeadsLemmas.{request-line-one, request-line-is, header-line-one, header-line-is}
 use Rattle.tiny_http_head.proofs.laws.lines_by_the_grammar.Goals as goal
 
 pub returns-clause-request : goal.returns-clause-request

@@ -3,7 +3,7 @@ use Rattle.tiny_http_wire.specs.Device.{Feed}
 use Rattle.tiny_http_stream.specs.Source.{TakesExactly}
 use Rattle.std.specs.Global.{Vec}
 use Rattle.std.specs.Io.Cursor.{cursor_inner}
-use Rattle.tiny_http_message.proofs.HeadServing.{begins-rest, begins-nothing, begins-counted, begins-chunked, begins-held, begins-cut}
+use Rattle.tiny_http_message.proofs.HeadReadsServing.{begins-rest, begins-nothing, begins-counted, begins-chunked, begins-held, begins-cut}
 use Rattle.tiny_http_message.proofs.exchange.begin_body.Goals as goal
 
 pub returns-in-Rest-clause-begins : goal.returns-in-Rest-clause-begins

@@ -5,9 +5,9 @@ use Rattle.tiny_http_message.specs.declared.exchange.HeadRead.{HeadRead}
 use Rattle.tiny_http_message.specs.declared.exchange.HeadRead.TheVariants as read
 use Rattle.tiny_http_message.specs.declared.exchange.EndOfRequests.{EndOfRequests}
 use Rattle.tiny_http_message.specs.HeadReads.{ReadsHead, end_at}
-use Rattle.tiny_http_stream.proofs.GoingOn.{goes-on_more}
+use Rattle.tiny_http_stream.proofs.SourceGoesOn.{goes-on_more}
 use Rattle.tiny_http_message.proofs.BodyReads.{goes-on_end}
-use Rattle.tiny_http_message.proofs.HeadServing.{head-end}
+use Rattle.tiny_http_message.proofs.HeadReadsServing.{head-end}
 use Rattle.tiny_http_message.proofs.exchange.read_head.Goals as goal
 
 pub returns-in-Body-clause-goes_on : goal.returns-in-Body-clause-goes_on

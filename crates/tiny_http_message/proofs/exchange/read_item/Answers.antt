@@ -5,8 +5,8 @@ use Rattle.tiny_http_stream.specs.declared.source.Standing.TheVariants as at
 use Rattle.tiny_http_message.specs.declared.exchange.HeadRead.TheVariants as read
 use Rattle.tiny_http_message.specs.declared.exchange.EndOfRequests.TheVariants as because
 use Rattle.tiny_http_message.specs.HeadReads.{ReadsHead, cut_end}
-use Rattle.tiny_http_message.proofs.HeadServing.{head-closed, head-refused, head-unframed, head-unbuilt, head-cut, head-handed, cut-reason, begun-is}
-use Rattle.tiny_http_stream.proofs.GoingOn.{goes-on_more}
+use Rattle.tiny_http_message.proofs.HeadReadsServing.{head-closed, head-refused, head-unframed, head-unbuilt, head-cut, head-handed, cut-reason, begun-is}
+use Rattle.tiny_http_stream.proofs.SourceGoesOn.{goes-on_more}
 use Rattle.tiny_http_message.proofs.exchange.read_item.Goals as goal
 
 pub returns-then-not-has_byte-clause-reads : goal.returns-then-not-has_byte-clause-reads

@@ -1,6 +1,6 @@
 use Rattle.std.proofs.Common.{◌-◌, take, drop, length, sym, ◌∙◌, arith}
 use Rattle.std.proofs.lemmas.Slice.{between_to_end}
-use Rattle.tiny_http_message.proofs.Words.{word-past}
+use Rattle.tiny_http_message.proofs.BytesWords.{word-past}
 use Rattle.tiny_http_message.proofs.framing.contains_word.Goals as goal
 
 pub loop-i-preserved : goal.loop-i-preserved

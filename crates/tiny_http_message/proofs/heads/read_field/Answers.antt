@@ -1,6 +1,6 @@
 use Rattle.std.proofs.Common.{rules}
-use Rattle.tiny_http_message.proofs.HeadReading.{field-read, field-malformed}
-use Rattle.tiny_http_text.proofs.TextLemmas.{are-ascii}
+use Rattle.tiny_http_message.proofs.HeadReadsLemmas.{field-read, field-malformed}
+use Rattle.tiny_http_text.proofs.BytesLemmas.{are-ascii}
 use Rattle.tiny_http_message.proofs.heads.read_field.Goals as goal
 
 pub parse_header_line-requires : goal.parse_header_line-requires

@@ -1,7 +1,7 @@
 use Rattle.std.proofs.Common.{rules, ◌≡◌, refl, ◌∙◌, true}
 use Rattle.std.specs.Result.{is_ok}
-use Rattle.tiny_http_message.proofs.HeadReading.{fields-none, fields-more}
-use Rattle.tiny_http_stream.proofs.GoingOn.{goes-on_same, goes-on_more}
+use Rattle.tiny_http_message.proofs.HeadReadsLemmas.{fields-none, fields-more}
+use Rattle.tiny_http_stream.proofs.SourceGoesOn.{goes-on_same, goes-on_more}
 use Rattle.tiny_http_message.proofs.heads.read_fields.Goals as goal
 
 pub loop-header-init : goal.loop-header-init

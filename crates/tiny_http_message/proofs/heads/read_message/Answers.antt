@@ -1,5 +1,5 @@
-use Rattle.tiny_http_message.proofs.HeadReading.{message-fields_err}
-use Rattle.tiny_http_stream.proofs.GoingOn.{goes-on_more}
+use Rattle.tiny_http_message.proofs.HeadReadsLemmas.{message-fields_err}
+use Rattle.tiny_http_stream.proofs.SourceGoesOn.{goes-on_more}
 use Rattle.tiny_http_message.proofs.heads.read_message.Goals as goal
 
 pub returns-in-Err-read_fields-clause-reads : goal.returns-in-Err-read_fields-clause-reads

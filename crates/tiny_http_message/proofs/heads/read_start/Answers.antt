@@ -1,6 +1,6 @@
 use Rattle.std.proofs.Common.{rules}
-use Rattle.tiny_http_message.proofs.HeadReading.{start-read, start-malformed}
-use Rattle.tiny_http_text.proofs.TextLemmas.{are-ascii}
+use Rattle.tiny_http_message.proofs.HeadReadsLemmas.{start-read, start-malformed}
+use Rattle.tiny_http_text.proofs.BytesLemmas.{are-ascii}
 use Rattle.tiny_http_message.proofs.heads.read_start.Goals as goal
 
 pub parse_request_line-requires : goal.parse_request_line-requires

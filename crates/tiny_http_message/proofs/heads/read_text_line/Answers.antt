@@ -1,4 +1,4 @@
-use Rattle.tiny_http_message.proofs.HeadReading.{text-read, text-not-read}
+use Rattle.tiny_http_message.proofs.HeadReadsLemmas.{text-read, text-not-read}
 use Rattle.tiny_http_message.proofs.heads.read_text_line.Goals as goal
 
 pub returns-in-Ok-clause-reads : goal.returns-in-Ok-clause-reads

@@ -1,4 +1,4 @@
-use Rattle.tiny_http_text.proofs.Trimming.{first-part}
+use Rattle.tiny_http_text.proofs.BytesTrimming.{first-part}
 use Rattle.tiny_http_text.proofs.bytes.first_part.Goals as goal
 
 pub returns : goal.returns

@@ -1,4 +1,4 @@
-use Rattle.tiny_http_text.proofs.TextLemmas.{ascii-told}
+use Rattle.tiny_http_text.proofs.BytesLemmas.{ascii-told}
 use Rattle.tiny_http_text.proofs.bytes.is_ascii.Goals as goal
 
 pub returns : goal.returns

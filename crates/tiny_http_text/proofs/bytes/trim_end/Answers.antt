@@ -1,6 +1,6 @@
 use Rattle.std.proofs.Common.{rules, arith}
 use Rattle.tiny_http_text.specs.Bytes.{is_blank}
-use Rattle.tiny_http_text.proofs.Trimming.{end-here, end-none}
+use Rattle.tiny_http_text.proofs.BytesTrimming.{end-here, end-none}
 use Rattle.tiny_http_text.proofs.bytes.trim_end.Goals.{then-loop-end-test+else-is_blank, else-loop-end-test}
 use Rattle.tiny_http_text.proofs.bytes.trim_end.Goals as goal
 

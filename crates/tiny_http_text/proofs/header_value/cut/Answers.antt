@@ -1,4 +1,4 @@
-use Rattle.tiny_http_text.proofs.QualityLemmas.{cut-some, cut-none}
+use Rattle.tiny_http_text.proofs.QualityReadingLemmas.{cut-some, cut-none}
 use Rattle.tiny_http_text.proofs.header_value.cut.Goals as goal
 
 pub returns-clause-some : goal.returns-clause-some

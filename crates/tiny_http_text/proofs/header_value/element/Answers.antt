@@ -1,5 +1,5 @@
 use Rattle.std.proofs.Common.{ap, ◌∙◌, ℕ, List}
-use Rattle.tiny_http_text.proofs.QualityLemmas.{element-bare, element-parted}
+use Rattle.tiny_http_text.proofs.QualityReadingLemmas.{element-bare, element-parted}
 use Rattle.tiny_http_text.proofs.header_value.element.Goals as goal
 
 pub returns-in-None : goal.returns-in-None

@@ -2,7 +2,7 @@ use Rattle.std.proofs.Common.{◌∙◌, lit<}
 use Rattle.std.specs.Prelude.{unwrap_or}
 use Rattle.std.proofs.Common.{ap, ℕ, Option}
 use Rattle.tiny_http_text.specs.Bytes.{semicolon}
-use Rattle.tiny_http_text.proofs.QualityLemmas.{first-found, first-later, first-last, utf8-after}
+use Rattle.tiny_http_text.proofs.QualityReadingLemmas.{first-found, first-later, first-last, utf8-after}
 use Rattle.tiny_http_text.proofs.header_value.first_quality.Goals as goal
 
 pub returns-in-Some-parameter_quality : goal.returns-in-Some-parameter_quality

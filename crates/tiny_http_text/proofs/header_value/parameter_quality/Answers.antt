@@ -1,6 +1,6 @@
 use Rattle.std.proofs.Common.{sym, ap, ◌∙◌, ◌++◌, ℕ, List, codes}
 use Rattle.tiny_http_text.specs.QualityReading.{quality, behind_q, parameter_quality}
-use Rattle.tiny_http_text.proofs.QualityLemmas.{not-q, is-q}
+use Rattle.tiny_http_text.proofs.QualityReadingLemmas.{not-q, is-q}
 use Rattle.tiny_http_text.proofs.header_value.parameter_quality.Goals as goal
 
 pub returns-in_err-padded : goal.returns-in_err-padded

@@ -5,7 +5,7 @@ use Rattle.std.proofs.lemmas.Iterator.Splits.{YieldsList-from_str_split}
 use Rattle.std.proofs.lemmas.Result.{IfOk-weaker}
 use Rattle.tiny_http_text.specs.Qualities.{ListsQualities}
 use Rattle.tiny_http_text.specs.QualityReading.{element, qualities}
-use Rattle.tiny_http_text.proofs.QualityForms.{lists-is}
+use Rattle.tiny_http_text.proofs.QualitiesLemmas.{lists-is}
 use Rattle.tiny_http_text.proofs.header_value.parse_header_value.Goals as goal
 
 abbrev seen : Bor (List ℕ) × ℕ → List ℕ × ℕ

@@ -1,6 +1,6 @@
 use Rattle.std.proofs.Common.{sym, ap, ◌∙◌, ◌*◌, ℕ, Option, Some, None, add-zero}
 use Rattle.tiny_http_text.specs.QualityReading.{both, short_number, thousandths}
-use Rattle.tiny_http_text.proofs.QualityLemmas.{quality-whole, quality-parted}
+use Rattle.tiny_http_text.proofs.QualityReadingLemmas.{quality-whole, quality-parted}
 use Rattle.tiny_http_text.proofs.header_value.quality.Goals as goal
 
 pub returns-in_err-short_number-in-None : goal.returns-in_err-short_number-in-None

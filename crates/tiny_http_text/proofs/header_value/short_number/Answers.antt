@@ -1,5 +1,5 @@
 use Rattle.std.proofs.Common.{rules}
-use Rattle.tiny_http_text.proofs.QualityLemmas.{short_number-long, short_number-short, short_number-bound}
+use Rattle.tiny_http_text.proofs.QualityReadingLemmas.{short_number-long, short_number-short, short_number-bound}
 use Rattle.tiny_http_text.proofs.header_value.short_number.Goals as goal
 
 pub returns-then-digits-gt6-clause-value : goal.returns-then-digits-gt6-clause-value

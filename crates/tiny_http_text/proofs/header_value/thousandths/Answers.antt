@@ -1,5 +1,5 @@
 use Rattle.std.proofs.Common.{rules, ap, ◌∙◌, ◌*◌, ◌<◌, ℕ, Some, None, sym, subst, length}
-use Rattle.tiny_http_text.proofs.QualityLemmas.{no-thousandths, thousandths-long, scaled, scaled-bound}
+use Rattle.tiny_http_text.proofs.QualityReadingLemmas.{no-thousandths, thousandths-long, scaled, scaled-bound}
 use Rattle.tiny_http_text.proofs.header_value.thousandths.Goals as goal
 
 pub returns-then-is_empty-clause-value : goal.returns-then-is_empty-clause-value

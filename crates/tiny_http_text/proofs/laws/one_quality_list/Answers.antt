@@ -1,6 +1,6 @@
 use Rattle.std.proofs.Common.{sym, ◌∙◌}
 use Rattle.tiny_http_text.specs.QualityReading.{qualities}
-use Rattle.tiny_http_text.proofs.QualityForms.{lists-is, lists-one}
+use Rattle.tiny_http_text.proofs.QualitiesLemmas.{lists-is, lists-one}
 use Rattle.tiny_http_text.proofs.laws.one_quality_list.Goals as goal
 
 pub returns-clause-some : goal.returns-clause-some

@@ -1,5 +1,5 @@
 use Rattle.std.proofs.Common.{rules, ◌∙◌, length}
-use Rattle.tiny_http_text.proofs.Trimming.{before-blanks, range-front}
+use Rattle.tiny_http_text.proofs.BytesTrimming.{before-blanks, range-front}
 use Rattle.tiny_http_text.proofs.text.trim.Goals as goal
 
 pub range-requires-clause-end_boundary : goal.range-requires-clause-end_boundary

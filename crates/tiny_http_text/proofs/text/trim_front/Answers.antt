@@ -1,5 +1,5 @@
 use Rattle.std.proofs.Common.{rules, ◌∙◌}
-use Rattle.tiny_http_text.proofs.Trimming.{behind-blanks}
+use Rattle.tiny_http_text.proofs.BytesTrimming.{behind-blanks}
 use Rattle.tiny_http_text.proofs.text.trim_front.Goals as goal
 
 pub overflow_sub-text : goal.overflow_sub-text

@@ -1,7 +1,7 @@
 use Rattle.tiny_http_turns.specs.TurnsLaw.{marks_after}
 use Rattle.std.specs.Prelude.{[]}
-use Rattle.tiny_http_turns.proofs.TurnsOrder.{in_order, one_at_a_time}
-use Rattle.tiny_http_turns.proofs.TurnsTexts.{come_once, come_in_turn, go_holds}
+use Rattle.tiny_http_turns.proofs.TurnsLawOrder.{in_order, one_at_a_time}
+use Rattle.tiny_http_turns.proofs.TurnsLawTexts.{come_once, come_in_turn, go_holds}
 use Rattle.tiny_http_turns.proofs.laws.turns_pass_in_order.Goals as goal
 
 pub returns : goal.returns

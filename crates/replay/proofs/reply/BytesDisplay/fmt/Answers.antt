@@ -2,7 +2,7 @@ use Rattle.std.proofs.Common.{◌≡◌, ap, ◌<◌, get_or, Some, rules}
 use Rattle.std.proofs.Output.{has_written_append, has_written_of_eq}
 use Rattle.std.specs.Fmt.{styled_digits_output, DisplaysOnOk}
 use Rattle.replay.specs.Reply.{hex_byte}
-use Rattle.replay.proofs.HexLemmas.{byte_is, bytes_more}
+use Rattle.replay.proofs.ReplyHex.{byte_is, bytes_more}
 use Rattle.replay.proofs.reply.BytesDisplay.fmt.Goals as goal
 
 pub loop-byte-preserved : goal.loop-byte-preserved

@@ -13,9 +13,9 @@ use Rattle.tiny_http_turns.specs.Turns.{Mark, AreInShape, Open}
 use Rattle.tiny_http_stream.specs.Outlet.{output_of, outlet_ended}
 use Rattle.tiny_http_core.specs.Steps.{Ask, Ended, Memory, Handed, NotYet}
 use Rattle.tiny_http_core.specs.Connection.{Kept, kept}
-use Rattle.tiny_http_core.proofs.AskLemmas.{StepIsAnswered, ask-ended, ask-final, ask-memory, ask-not_yet, ask-handed, ask-refused, before-head, stands-before}
-use Rattle.tiny_http_core.proofs.OutputLemmas.{can-send}
-use Rattle.tiny_http_core.proofs.DriverLemmas.{viewed, none-of, end-refused, end-final, takes-ask, reads-on, stays}
+use Rattle.tiny_http_core.proofs.ConnectionAsk.{StepIsAnswered, ask-ended, ask-final, ask-memory, ask-not_yet, ask-handed, ask-refused, before-head, stands-before}
+use Rattle.tiny_http_core.proofs.ConnectionOutput.{can-send}
+use Rattle.tiny_http_core.proofs.DrivingLemmas.{viewed, none-of, end-refused, end-final, takes-ask, reads-on, stays}
 use Rattle.tiny_http_wire.specs.declared.common.StatusCode.{StatusCode}
 use Rattle.std.specs.Prelude.{is_some, IfOk}
 use Rattle.tiny_http_message.specs.declared.exchange.EndOfRequests.{EndOfRequests}

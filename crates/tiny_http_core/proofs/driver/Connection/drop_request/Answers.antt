@@ -6,11 +6,11 @@ use Rattle.tiny_http_turns.specs.Turns.{Mark, first_unfinished}
 use Rattle.tiny_http_core.specs.Pending.{LeavesText}
 use Rattle.tiny_http_stream.specs.Outlet.{output_of, outlet_ended}
 use Rattle.tiny_http_core.specs.Connection.{Kept, kept}
-use Rattle.tiny_http_core.proofs.AskLemmas.{StepIsAnswered}
-use Rattle.tiny_http_stream.proofs.GoingOn.{goes-on_same}
-use Rattle.tiny_http_core.proofs.RespondLemmas.{no-such}
-use Rattle.tiny_http_core.proofs.DropLemmas.{drop-not_taken, drop-done}
-use Rattle.tiny_http_core.proofs.DriverLemmas.{viewed, same-view, takes-drop, reads-on, gives-up-kept}
+use Rattle.tiny_http_core.proofs.ConnectionAsk.{StepIsAnswered}
+use Rattle.tiny_http_stream.proofs.SourceGoesOn.{goes-on_same}
+use Rattle.tiny_http_core.proofs.ConnectionRespond.{no-such}
+use Rattle.tiny_http_core.proofs.ConnectionDrop.{drop-not_taken, drop-done}
+use Rattle.tiny_http_core.proofs.DrivingLemmas.{viewed, same-view, takes-drop, reads-on, gives-up-kept}
 use Rattle.tiny_http_message.proofs.BodyReads.{gives-up}
 use Rattle.tiny_http_core.proofs.driver.Connection.drop_request.Goals as goal
 

@@ -2,8 +2,8 @@ use Rattle.std.proofs.Common.{refl, subst}
 use Rattle.tiny_http_wire.specs.Device.{Sink}
 use Rattle.tiny_http_core.specs.Conversation.{IsConversation}
 use Rattle.tiny_http_core.specs.Connection.{kept}
-use Rattle.tiny_http_core.proofs.DriverLemmas.{viewed}
-use Rattle.tiny_http_core.proofs.RunLemmas.{conversation}
+use Rattle.tiny_http_core.proofs.DrivingLemmas.{viewed}
+use Rattle.tiny_http_core.proofs.ConversationRuns.{conversation}
 use Rattle.tiny_http_core.proofs.driver.Connection.into_parts.Goals as goal
 
 pub returns-clause-conversation : goal.returns-clause-conversation

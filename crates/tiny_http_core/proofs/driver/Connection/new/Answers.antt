@@ -1,5 +1,5 @@
 use Rattle.std.proofs.Common.{refl, ◌∙◌, None}
-use Rattle.tiny_http_core.proofs.DriverLemmas.{viewed, begins}
+use Rattle.tiny_http_core.proofs.DrivingLemmas.{viewed, begins}
 use Rattle.tiny_http_core.proofs.driver.Connection.new.Goals as goal
 
 pub returns-clause-begins : goal.returns-clause-begins

@@ -5,11 +5,11 @@ use Rattle.tiny_http_core.specs.Steps.{Read, Given, Fault, NoSuch, Memory}
 use Rattle.tiny_http_turns.specs.Turns.{Mark}
 use Rattle.tiny_http_core.specs.Connection.{Kept, kept}
 use Rattle.tiny_http_core.specs.Seen.{seen}
-use Rattle.tiny_http_core.proofs.AskLemmas.{StepIsAnswered}
-use Rattle.tiny_http_core.proofs.BodySteps.{with_reader}
-use Rattle.tiny_http_core.proofs.RespondLemmas.{no-such, form-some}
-use Rattle.tiny_http_core.proofs.ReadSteps.{read-not_taken, read-none, read-memory, read-done}
-use Rattle.tiny_http_core.proofs.DriverLemmas.{viewed, takes-read, reads-on, stays, stands-after}
+use Rattle.tiny_http_core.proofs.ConnectionAsk.{StepIsAnswered}
+use Rattle.tiny_http_core.proofs.ConnectionBody.{with_reader}
+use Rattle.tiny_http_core.proofs.ConnectionRespond.{no-such, form-some}
+use Rattle.tiny_http_core.proofs.ConnectionRead.{read-not_taken, read-none, read-memory, read-done}
+use Rattle.tiny_http_core.proofs.DrivingLemmas.{viewed, takes-read, reads-on, stays, stands-after}
 use Rattle.tiny_http_core.proofs.driver.Connection.read.Goals.{in-Ok-fill, in-Err}
 use Rattle.tiny_http_core.proofs.driver.Connection.read.Goals as goal
 

@@ -3,7 +3,7 @@ use Rattle.std.specs.Prelude.{slice_get, slice_set, IsTrue}
 use Rattle.tiny_http_wire.specs.Answer.{Answer, Printing, served_coding}
 use Rattle.tiny_http_message.specs.declared.waiting.Waiting.{Waiting}
 use Rattle.tiny_http_core.specs.Steps.{ReplyValue, Handed, Ended, Given, Fault, Done, Refused, Memory, Respond, NotYet, NoSuch}
-use Rattle.tiny_http_core.specs.Driving.{IsDeclined, told_response}
+use Rattle.tiny_http_core.specs.Driving.{IsDeclined, stated_response}
 use Rattle.tiny_http_core.specs.Seen.{IsAnswered}
 use Rattle.tiny_http_core.specs.declared.driver.Step.TheVariants as step
 use Rattle.tiny_http_wire.specs.Answer.{ResponseState}
@@ -13,12 +13,12 @@ use Rattle.tiny_http_core.specs.Pending.{waiting_form}
 use Rattle.tiny_http_stream.specs.Outlet.{output_of, outlet_ended}
 use Rattle.tiny_http_core.specs.Connection.{Kept, kept}
 use Rattle.tiny_http_core.specs.Seen.{seen, Answers, PrintedFor}
-use Rattle.tiny_http_core.proofs.AskLemmas.{StepIsAnswered}
-use Rattle.tiny_http_stream.proofs.GoingOn.{goes-on_same}
-use Rattle.tiny_http_core.proofs.OutputLemmas.{can-send}
-use Rattle.tiny_http_core.proofs.RespondLemmas.{no-such, respond-not_taken, form-some, respond-not_yet, respond-done, responds-by, after_number}
+use Rattle.tiny_http_core.proofs.ConnectionAsk.{StepIsAnswered}
+use Rattle.tiny_http_stream.proofs.SourceGoesOn.{goes-on_same}
+use Rattle.tiny_http_core.proofs.ConnectionOutput.{can-send}
+use Rattle.tiny_http_core.proofs.ConnectionRespond.{no-such, respond-not_taken, form-some, respond-not_yet, respond-done, responds-by, after_number}
 use Rattle.tiny_http_message.proofs.BodyReads.{gives-up}
-use Rattle.tiny_http_core.proofs.DriverLemmas.{viewed, same-view, takes-respond, reads-on, stays, fails-more, honest-more, gives-up-kept}
+use Rattle.tiny_http_core.proofs.DrivingLemmas.{viewed, same-view, takes-respond, reads-on, stays, fails-more, honest-more, gives-up-kept}
 use Rattle.tiny_http_core.proofs.driver.Connection.respond.Goals as goal
 
 pub returns-in_default : goal.returns-in_default
@@ -96,7 +96,7 @@ returns-in-Some-take g c =
           c.pass.ensures.passes c.pass.ensures.sends in
           let P : List Mark → Type 0 = λ m. StepIsAnswered client before (after_number k m taken.requests.items source (output_of last.outlet) (outlet_ended last.outlet)) s c.args.now (Respond n value) reply in
           subst P (ap (λ t. t.marks) (sym c.take.ensures.turns)) done)
-          (λ no. absurd (not-declined n (told_response g.D.ReadDevice.feed c.args.response) reply c.answer-reply.ensures.done no)) refl
+          (λ no. absurd (not-declined n (stated_response g.D.ReadDevice.feed c.args.response) reply c.answer-reply.ensures.done no)) refl
           (λ done.
           let same : last.self.requests.items ≡ k.requests = ap (λ v. v.items) (c.pass.ensures.requests ∙ c.hold.ensures.requests) in
           let some = c.in-Some-take.ensures.some in

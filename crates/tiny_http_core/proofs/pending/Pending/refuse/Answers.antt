@@ -1,5 +1,5 @@
 use Rattle.std.proofs.Common.{sym, []}
-use Rattle.tiny_http_core.proofs.PassLemmas.{leaves-issued}
+use Rattle.tiny_http_core.proofs.PendingLemmas.{leaves-issued}
 use Rattle.tiny_http_core.proofs.pending.Pending.refuse.Goals as goal
 
 pub returns-clause-leaves : goal.returns-clause-leaves

@@ -1,7 +1,7 @@
 use Rattle.std.proofs.Common.{◌≡◌, refl, sym, ap, ◌∙◌, Option, Some, None, IfNone, slice_get, slice_set, ltb-true}
 use Rattle.tiny_http_message.specs.declared.waiting.Waiting.{Waiting}
 use Rattle.tiny_http_core.specs.Pending.{waiting_form}
-use Rattle.tiny_http_core.proofs.KeptLemmas.{set-same, stored}
+use Rattle.tiny_http_core.proofs.ConnectionKept.{set-same, stored}
 use Rattle.tiny_http_core.proofs.pending.Pending.take.Goals as goal
 
 pub returns-clause-none : goal.returns-clause-none

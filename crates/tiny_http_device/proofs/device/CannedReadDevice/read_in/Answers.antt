@@ -1,6 +1,6 @@
 use Rattle.std.proofs.Common.{rules, arith}
 use Rattle.std.proofs.lemmas.Grind.{common_steps}
-use Rattle.tiny_http_device.proofs.Feeds.{feed_goes_on}
+use Rattle.tiny_http_device.proofs.DeviceFeeds.{feed_goes_on}
 use Rattle.tiny_http_device.proofs.device.CannedReadDevice.read_in.Goals as goal
 
 pub returns-2-clause-reads : goal.returns-2-clause-reads

@@ -1,5 +1,5 @@
 use Rattle.std.proofs.Common.{rules, refl}
-use Rattle.tiny_http_head.proofs.HeadLemmas.{header-read, header-refused, header-not-refused, memory-refused, ok-refused}
+use Rattle.tiny_http_head.proofs.HeadsLemmas.{header-read, header-refused, header-not-refused, memory-refused, ok-refused}
 use Rattle.tiny_http_head.proofs.common.Header.from_str.Goals as goal
 
 pub returns-in_err-header-clause-refused : goal.returns-in_err-header-clause-refused

@@ -3,7 +3,7 @@ use Rattle.std.proofs.lemmas.Bool.{ne_eqb, lt-ltb}
 use Rattle.std.specs.Prelude.{◌==◌}
 use Rattle.tiny_http_wire.specs.declared.device.Stop.TheVariants.{End}
 use Rattle.tiny_http_message.specs.Body.{Remaining, remaining, prepended_body, BodyStops, NoneLeft, ReadsOn}
-use Rattle.tiny_http_stream.proofs.GoingOn.{goes-on_more}
+use Rattle.tiny_http_stream.proofs.SourceGoesOn.{goes-on_more}
 use Rattle.tiny_http_message.proofs.BodyReads.{read-more, moves-more, stays-settled, bytes-none, stops-none-left, standing-more}
 use Rattle.tiny_http_message.proofs.body.Body.fill.Goals as goal
 

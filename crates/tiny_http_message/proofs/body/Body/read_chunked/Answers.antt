@@ -1,4 +1,4 @@
-use Rattle.tiny_http_stream.proofs.GoingOn.{goes-on_given, goes-on_more}
+use Rattle.tiny_http_stream.proofs.SourceGoesOn.{goes-on_given, goes-on_more}
 use Rattle.tiny_http_message.proofs.BodyReads.{goes-on_end}
 use Rattle.tiny_http_message.proofs.body.Body.read_chunked.Goals as goal
 

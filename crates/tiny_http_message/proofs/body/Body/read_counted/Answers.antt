@@ -5,7 +5,7 @@ use Rattle.std.specs.IoError.{error_kind}
 use Rattle.tiny_http_wire.specs.declared.device.Stop.TheVariants.{End, Fault}
 use Rattle.tiny_http_message.specs.declared.body.Body.TheVariants.{Over}
 use Rattle.tiny_http_message.specs.Body.{remaining, prepended_body, counted_left}
-use Rattle.tiny_http_stream.proofs.PartLemmas.{nothing-given}
+use Rattle.tiny_http_stream.proofs.PartsLemmas.{nothing-given}
 use Rattle.tiny_http_message.proofs.BodyReads.{counted-bytes, counted-none, cut-is, cut-stops, taken-stops, read-nothing}
 use Rattle.tiny_http_message.proofs.body.Body.read_counted.Goals as goal
 

@@ -1,5 +1,5 @@
 use Rattle.std.proofs.Common.{◌≡◌, ℕ, ◌++◌, length, length-take, ap, ◌∙◌, arith}
-use Rattle.tiny_http_stream.proofs.Windows.{window-appended}
+use Rattle.tiny_http_stream.proofs.BufferLemmas.{window-appended}
 use Rattle.tiny_http_stream.proofs.buffer.Buffer.append.Goals as goal
 
 pub returns-clause-bytes : goal.returns-clause-bytes

@@ -1,5 +1,5 @@
 use Rattle.std.proofs.Common.{ap, ◌∙◌, drop, length, arith}
-use Rattle.tiny_http_stream.proofs.Windows.{window-consumed, length-window}
+use Rattle.tiny_http_stream.proofs.BufferLemmas.{window-consumed, length-window}
 use Rattle.tiny_http_stream.proofs.buffer.Buffer.consume.Goals as goal
 
 pub returns : goal.returns

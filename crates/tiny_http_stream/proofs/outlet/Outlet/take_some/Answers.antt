@@ -1,5 +1,5 @@
 use Rattle.std.proofs.Common.{arith}
-use Rattle.tiny_http_stream.proofs.Holding.{failed-for_more}
+use Rattle.tiny_http_stream.proofs.OutletLemmas.{failed-for_more}
 use Rattle.tiny_http_stream.proofs.outlet.Outlet.take_some.Goals as goal
 
 pub returns-in-Err-clause-puts : goal.returns-in-Err-clause-puts

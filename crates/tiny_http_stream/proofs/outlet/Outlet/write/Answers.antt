@@ -1,7 +1,7 @@
 use Rattle.std.proofs.Common.{arith, ◌∙◌, length-take, length-drop}
 use Rattle.std.proofs.lemmas.Result.{err_from_is_err_and}
 use Rattle.tiny_http_device.proofs.DeviceLemmas.{Took-at}
-use Rattle.tiny_http_stream.proofs.Holding.{failed-at}
+use Rattle.tiny_http_stream.proofs.OutletLemmas.{failed-at}
 use Rattle.tiny_http_stream.proofs.outlet.Outlet.write.Goals as goal
 
 pub loop-at-preserved : goal.loop-at-preserved

@@ -1,6 +1,6 @@
 use Rattle.std.proofs.Common.{◌-◌, ap, ◌∙◌, arith}
 use Rattle.tiny_http_stream.specs.ToCome.{behind_held, to_come}
-use Rattle.tiny_http_stream.proofs.Inputs.{to_come-passed}
+use Rattle.tiny_http_stream.proofs.ToComeLemmas.{to_come-passed}
 use Rattle.tiny_http_stream.proofs.source.Input.pass.Goals as goal
 
 pub returns-clause-feed : goal.returns-clause-feed

@@ -1,4 +1,4 @@
-use Rattle.tiny_http_stream.proofs.LineReads.{reads-ascii, reads-not_ascii}
+use Rattle.tiny_http_stream.proofs.SourceLines.{reads-ascii, reads-not_ascii}
 use Rattle.tiny_http_stream.proofs.source.Input.read_line.Goals as goal
 
 pub returns-in-Ok-clause-line : goal.returns-in-Ok-clause-line

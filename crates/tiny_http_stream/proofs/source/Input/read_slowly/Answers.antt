@@ -1,9 +1,9 @@
 use Rattle.std.proofs.Common.{rules, ◌≡◌, ◌++◌, ◌∷◌, [], ap, sym, ◌∙◌}
 use Rattle.tiny_http_device.specs.Device.{prepended}
-use Rattle.tiny_http_device.proofs.Feeds.{given-along}
+use Rattle.tiny_http_device.proofs.DeviceFeeds.{given-along}
 use Rattle.tiny_http_stream.specs.Line.{held_return}
 use Rattle.tiny_http_stream.specs.Input.{input_feed}
-use Rattle.tiny_http_stream.proofs.Lines.{line-none}
+use Rattle.tiny_http_stream.proofs.LineLemmas.{line-none}
 use Rattle.tiny_http_stream.proofs.source.Input.read_slowly.Goals as goal
 
 pub loop-b-preserved : goal.loop-b-preserved

@@ -1,4 +1,4 @@
-use Rattle.tiny_http_stream.proofs.GoingOn.{reads-goes_on}
+use Rattle.tiny_http_stream.proofs.SourceGoesOn.{reads-goes_on}
 use Rattle.tiny_http_stream.proofs.source.Source.read_line.Goals as goal
 
 pub returns-clause-goes_on : goal.returns-clause-goes_on

@@ -1,5 +1,5 @@
-use Rattle.tiny_http_text.proofs.TextLemmas.{are-ascii, ascii-at}
-use Rattle.tiny_http_text.proofs.Trimming.{ascii-trimmed}
+use Rattle.tiny_http_text.proofs.BytesLemmas.{are-ascii, ascii-at}
+use Rattle.tiny_http_text.proofs.BytesTrimming.{ascii-trimmed}
 use Rattle.tiny_http_text.proofs.ascii.AsciiStr.trim.Goals as goal
 
 pub invariant_of-result : goal.invariant_of-result

@@ -3,7 +3,7 @@ use Rattle.std.proofs.Common.{◌≡◌, refl, sym, ap, ◌∙◌, subst, ℕ, B
 use Rattle.std.specs.declared.io.ErrorKind.{ErrorKind}
 use Rattle.std.specs.Io.KnownBytes.{append_known}
 use Rattle.tiny_http_device.specs.Device.{Sink, grown, BeginsKnown, IsKnownFront, Took, Failed}
-use Rattle.tiny_http_device.proofs.Feeds.{front-more}
+use Rattle.tiny_http_device.proofs.DeviceFeeds.{front-more}
 use Rattle.std.proofs.lemmas.List.{take-append-drop, take_all}
 use Rattle.tiny_http_device.proofs.DeviceLemmas.{IsFront-same, Failed-append}
 use Rattle.tiny_http_stream.specs.Outlet.{holding}

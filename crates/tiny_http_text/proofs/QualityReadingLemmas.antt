@@ -14,8 +14,8 @@ use Rattle.std.proofs.lemmas.Str.Parse.{IsNumeralModel, numerals_by_value, tells
 use Rattle.std.proofs.lemmas.Int.Digits.{digits_value-lt}
 use Rattle.tiny_http_text.specs.Bytes.{is_blank, HasNo, parts, point, semicolon, trimmed}
 use Rattle.tiny_http_text.specs.QualityReading.{cut, short_number, thousandths, both, quality, behind_q, parameter_quality, first_quality, element}
-use Rattle.tiny_http_text.proofs.TextLemmas.{parts-word, parts-last}
-use Rattle.tiny_http_text.proofs.TextLemmas.{not_true, none-from}
+use Rattle.tiny_http_text.proofs.BytesLemmas.{parts-word, parts-last}
+use Rattle.tiny_http_text.proofs.BytesLemmas.{not_true, none-from}
 
 pub has-no : (c : ℕ) (xs : List ℕ) → ((i : ℕ) → i < length xs → get_or xs i 0 ≢ c) → HasNo c xs
 has-no c [] h = refl

@@ -14,7 +14,7 @@ use Rattle.tiny_http_wire.specs.Bytes.{is_blank, HasNo, HasNoBlank, has_bare_fro
 use Rattle.tiny_http_wire.specs.QualityReading.{cut}
 use Rattle.tiny_http_core.specs.ClientAnswer.{is_space, StatusLine, FieldLine}
 use Rattle.tiny_http_core.specs.ClientReading.{decimal_read, with_rest, decimal_of, decimal_until, status_read, minor_read, major_read, protocol_read, status_line_read, value_read, with_field, field_line_cut, field_line_read}
-use Rattle.tiny_http_head.proofs.LineLemmas.{both}
+use Rattle.tiny_http_head.proofs.LinesLemmas.{both}
 
 -- A digit is no other byte.
 other-byte : (b c : ℕ) (t : Bool) → (b == c) ≡ t → digit_value b < 10 → 10 ≤ digit_value c → not t ≡ true

@@ -32,20 +32,20 @@ use Rattle.tiny_http_core.specs.Slots.{Slot, is_finished, is_broken, is_slot_bro
 use Rattle.tiny_http_message.specs.OwnAnswer.{own_text, own_text_by, own_printing_to}
 use Rattle.tiny_http_core.specs.Steps.{StepValue, Ask, ReplyValue, Handed, Ended, NotYet, Memory, Unused, Unreported, Outcome, Reached, unchanged, ask, asks_from, outcome}
 use Rattle.tiny_http_core.specs.Conversation.{Failure, State, PlaceAt, WriterPart, flushed_after, HasOutcome, StepsTo}
-use Rattle.tiny_http_core.proofs.WritingLemmas.{IsAllFlushed, unreported, still-flushed}
+use Rattle.tiny_http_core.proofs.ConversationWriting.{IsAllFlushed, unreported, still-flushed}
 use Rattle.tiny_http_core.specs.Sending.{IsFlushed, SendsUnlessEnded}
 use Rattle.tiny_http_turns.specs.Turns.{Mark, Open, Left, Finished, AreInShape, first_unfinished}
 use Rattle.tiny_http_core.specs.Pending.{LeavesText, last_body, is_streaming_body}
 use Rattle.tiny_http_core.specs.Connection.{Kept, dropped, IsWaiting, AreKept, OutputAt, behind_body, GivesRest, InputEnded, is_past_last, is_in_body, NextHead, InputStands, Stands}
-use Rattle.tiny_http_message.proofs.HeadServing.{built-parts}
-use Rattle.tiny_http_stream.proofs.GoingOn.{goes-on_more}
+use Rattle.tiny_http_message.proofs.HeadReadsServing.{built-parts}
+use Rattle.tiny_http_stream.proofs.SourceGoesOn.{goes-on_more}
 use Rattle.tiny_http_message.proofs.PipelineLemmas.{pipeline-first, pipeline-none, feed-pipeline}
-use Rattle.tiny_http_core.proofs.ReaderLemmas.{LastKept, last-kept, last-snoc, body-snoc, settled-snoc, and-false, held-by, behind-settled, gives-settled}
+use Rattle.tiny_http_core.proofs.ConnectionReader.{LastKept, last-kept, last-snoc, body-snoc, settled-snoc, and-false, held-by, behind-settled, gives-settled}
 use Rattle.tiny_http_message.proofs.OwnAnswerLemmas.{own-whole}
-use Rattle.tiny_http_core.proofs.SlotLemmas.{joined-waits, joined-hidden, breaks-waits, breaks-hidden}
-use Rattle.tiny_http_core.proofs.KeptLemmas.{kept-append, kept-length, shape-issued, InTurn, OutOfTurn, turn-at}
-use Rattle.tiny_http_core.proofs.OutputLemmas.{ended-is, output-same, Goes, output-more}
-use Rattle.tiny_http_core.proofs.PassLemmas.{first-issued}
+use Rattle.tiny_http_core.proofs.SlotsLemmas.{joined-waits, joined-hidden, breaks-waits, breaks-hidden}
+use Rattle.tiny_http_core.proofs.ConnectionKept.{kept-append, kept-length, shape-issued, InTurn, OutOfTurn, turn-at}
+use Rattle.tiny_http_core.proofs.ConnectionOutput.{ended-is, output-same, Goes, output-more}
+use Rattle.tiny_http_core.proofs.PendingLemmas.{first-issued}
 
 -- the step was answered so
 abbrev pub StepIsAnswered : Feed → Sink → Kept → State → HttpDate → StepValue → ReplyValue → Type 0

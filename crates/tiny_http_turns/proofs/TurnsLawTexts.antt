@@ -4,7 +4,7 @@ use Rattle.std.proofs.Common.{◌≡◌, ◌≢◌, ℕ, ◌<◌, List, [], ◌�
 use Rattle.std.specs.Prelude.{slice_get, slice_set, Option, if◌then◌else◌}
 use Rattle.tiny_http_turns.specs.Turns.{Mark, Open, Held, Left, Finished, first_unfinished, AreInShape, TurnOutcome, Taken, Waits, Goes, Strange, take_at, put_back_at, pass_to, finish_at, leave_at, turn_outcome, turn_answer, marks_after_step, TurnStep, Issue, Take, PutBack, Finish, Leave}
 use Rattle.tiny_http_turns.specs.TurnsLaw.{marks_after, text_out, texts_out, text_left, texts_left, text_waiting}
-use Rattle.tiny_http_turns.proofs.TurnsOrder.{by_eq, shape_after}
+use Rattle.tiny_http_turns.proofs.TurnsLawOrder.{by_eq, shape_after}
 
 get-set_same : (marks : List Mark) (k : ℕ) (was mark : Mark) → slice_get marks k ≡ Some was → slice_get (slice_set marks k mark) k ≡ Some mark
 get-set_same [] k was mark e = cc

@@ -13,8 +13,8 @@ use Rattle.tiny_http_text.specs.Bytes.{is_blank, is_ascii, AreAscii, HasNo, part
 use Rattle.tiny_http_text.specs.Lines.{Line, has_crlf}
 use Rattle.tiny_http_head.specs.Heads.{method_of, version_of, RequestLine, HeaderLine, IsHeader, BeginsWithHeaderLines, Message, BeginsWithRequestHead, GrammarFault, Cut, NotAscii, Malformed, FaultyLine, FaultyHead, IsRequestLine, IsFieldOrEnd}
 use Rattle.tiny_http_head.specs.Reading.{front_while, line, three_parts, request_line, header_line, is_colon, FieldsRead, with_header, field_checked, field_at, field_in, fields, RequestHeadRead, Whole, Faulty, with_fields, start_checked, start_in, request_head_read}
-use Rattle.tiny_http_head.proofs.LineLemmas.{line-is, line-one, line-none}
-use Rattle.tiny_http_text.proofs.TextLemmas.{not_true, trims-is, trims-one, ArePartsOf, parts-are, parts-word, parts-last}
+use Rattle.tiny_http_head.proofs.LinesLemmas.{line-is, line-one, line-none}
+use Rattle.tiny_http_text.proofs.BytesLemmas.{not_true, trims-is, trims-one, ArePartsOf, parts-are, parts-word, parts-last}
 
 absurd_cons : {A : Type 0} (x : A) (xs : List A) (G : Type 0) → x ∷ xs ≡ [] → G
 absurd_cons x xs G h = cc

@@ -14,7 +14,7 @@ use Rattle.tiny_http_wire.specs.Bytes.{crlf}
 use Rattle.tiny_http_wire.specs.Chunks.{WholeChunks, CutChunks, CloseFault}
 use Rattle.tiny_http_wire.specs.ChunkReading.{Decoded, after_data, decoded, prepend_decoded, chunk_closed, data_at, broken}
 use Rattle.tiny_http_wire.specs.Decoding.{Coming, body_at, decoded_from, rest_at, coming_of, decoding_coming}
-use Rattle.tiny_http_wire.proofs.ChunkLemmas.{decoded-is, close-is}
+use Rattle.tiny_http_wire.proofs.ChunksLemmas.{decoded-is, close-is}
 use Rattle.tiny_http_message.specs.declared.body.Body.{Body}
 use Rattle.tiny_http_message.specs.declared.body.Body.TheVariants as body
 use Rattle.tiny_http_message.specs.declared.framing.Form.{Form}
@@ -23,7 +23,7 @@ use Rattle.tiny_http_message.specs.Pipeline.{Place, BodyAt}
 use Rattle.tiny_http_message.specs.HeadReads.{place_feed}
 use Rattle.tiny_http_message.specs.Body.{Remaining, remaining, counted_left, chunks_left, coming_left, is_streaming, Fits}
 use Rattle.tiny_http_message.specs.BodyLeft.{breaking, WithinChunk, LeftAt}
-use Rattle.tiny_http_message.proofs.HeadServing.{left-counted}
+use Rattle.tiny_http_message.proofs.HeadReadsServing.{left-counted}
 
 -- a chunked body from here on
 pub record ChunkedFrom (n : ℕ) (x : Feed) (left : Remaining) : Type 0 where

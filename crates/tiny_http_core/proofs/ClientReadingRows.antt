@@ -10,8 +10,8 @@ use Rattle.tiny_http_wire.specs.Lines.{IsUnfinished}
 use Rattle.tiny_http_wire.specs.Heads.{version}
 use Rattle.tiny_http_core.specs.ClientAnswer.{says_chunked, content_length, BeginsWithStatusLine, BeginsWithFieldLines, ReadsAnswer, Unfinished, Invalid, UnfinishedAnswer, MalformedAnswer}
 use Rattle.tiny_http_core.specs.ClientReading.{decimal_read, AnswerRead, answer_read}
-use Rattle.tiny_http_core.proofs.ClientLemmas.{AnswerIs, answer-is}
-use Rattle.tiny_http_core.proofs.ClientLaws.{lack-one}
+use Rattle.tiny_http_core.proofs.ClientAnswerLemmas.{AnswerIs, answer-is}
+use Rattle.tiny_http_core.proofs.ClientAnswerLaws.{lack-one}
 
 abbrev header : List ℕ → List ℕ → Header
 header field value = record { field = field; value = value }

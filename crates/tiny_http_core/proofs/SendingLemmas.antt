@@ -7,11 +7,11 @@ use Rattle.std.specs.declared.io.ErrorKind.{ErrorKind}
 use Rattle.std.specs.declared.io.ErrorKind.TheVariants.{OutOfMemory}
 use Rattle.std.specs.Io.KnownBytes.{append_known}
 use Rattle.std.proofs.lemmas.Bool.{ne_eqb, leb-false}
-use Rattle.tiny_http_wire.specs.Device.{Feed, Sink, IsFront, BeginsKnown, IsKnownFront, IsAllKnown, HoldsNothing, grown, Tells, Took, Failed, Puts, next_count, fault_of, CountsFaults}
+use Rattle.tiny_http_wire.specs.Device.{Feed, Sink, IsFront, BeginsKnown, IsKnownFront, IsAllKnown, HoldsNothing, grown, StatesKind, Took, Failed, Puts, next_count, fault_of, CountsFaults}
 use Rattle.tiny_http_wire.specs.Answer.{Answer, Text, Whole, Broken, Printing, Prints, PrintsAnswer, text_of, nothing_sent, gathered_body, body_unless_withheld, identity_body, as_it_is, is_withheld}
 use Rattle.tiny_http_device.proofs.DeviceLemmas.{IsFront-same, IsFront-append}
 use Rattle.tiny_http_stream.specs.Outlet.{holding, EndsOutlet}
-use Rattle.tiny_http_stream.proofs.Holding.{grown-nil}
+use Rattle.tiny_http_stream.proofs.OutletLemmas.{grown-nil}
 use Rattle.httpdate.specs.declared.date.HttpDate.{HttpDate}
 use Rattle.tiny_http_wire.specs.declared.common.HTTPVersion.{HTTPVersion}
 use Rattle.tiny_http_wire.specs.declared.coding.FramingHeader.{FramingHeader}
@@ -68,7 +68,7 @@ sent-lost a b c text kind s l =
 
 failed-abandoned : (a b c : Sink) (text : List ℕ) (kind : ErrorKind) → Failed a b text kind → DropsHeld b c → OutletFailed a c text kind
 failed-abandoned a b c text kind l d =
-    let P : Option ErrorKind → Type 0 = λ x. Tells x kind in
+    let P : Option ErrorKind → Type 0 = λ x. StatesKind x kind in
     record {
       bytes = fronts c.taken b.taken (append_known a.taken text) d.bytes l.bytes;
       keeps = begins a.sent c.sent c.taken (IsFront-append a.sent b.sent c.sent l.sent d.sent) d.keeps;
@@ -259,7 +259,7 @@ lost-idle : (a b c : Sink) (s t : List ℕ) (kind : ErrorKind) → OutletFailed 
 lost-idle a b c s t kind l i =
     let P : Option (List ℕ) → Type 0 = λ x. IsKnownFront x (append_known a.taken (s ++ t)) in
     let Q : Option (List ℕ) → Type 0 = λ x. BeginsKnown a.sent x in
-    let K : Option ErrorKind → Type 0 = λ x. Tells x kind in
+    let K : Option ErrorKind → Type 0 = λ x. StatesKind x kind in
     record {
       bytes = subst P (sym i.bytes) (l.bytes.0 ++ t, sym (known-append a.taken s t) ∙ ap (λ y. append_known y t) l.bytes.1 ∙ known-append b.taken l.bytes.0 t);
       keeps = subst Q (sym i.bytes) l.keeps;

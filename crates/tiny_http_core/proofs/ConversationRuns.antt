@@ -8,13 +8,13 @@ use Rattle.std.specs.Io.KnownBytes.{append_known}
 use Rattle.std.proofs.lemmas.Grind.{common_steps}
 use Rattle.tiny_http_wire.specs.Device.{Feed, Sink, IsFront, BeginsKnown, grown, next_count}
 use Rattle.tiny_http_device.proofs.DeviceLemmas.{IsFront-append}
-use Rattle.tiny_http_core.proofs.WritingLemmas.{IsAllFlushed}
+use Rattle.tiny_http_core.proofs.ConversationWriting.{IsAllFlushed}
 use Rattle.tiny_http_stream.specs.Outlet.{holding}
 use Rattle.tiny_http_stream.specs.Source.{GoesOn}
 use Rattle.tiny_http_message.specs.Pipeline.{Item, Place, Pipeline, body_length_or_0}
 use Rattle.tiny_http_message.specs.BodyLeft.{LeftAt}
 use Rattle.tiny_http_message.specs.HeadReads.{place_feed, place_after}
-use Rattle.tiny_http_message.proofs.LeftLemmas.{left-of}
+use Rattle.tiny_http_message.proofs.BodyLeftLemmas.{left-of}
 use Rattle.tiny_http_message.proofs.PipelineLemmas.{pipeline-none}
 use Rattle.tiny_http_wire.specs.declared.device.Stop.{Stop}
 use Rattle.tiny_http_core.specs.Slots.{Slot, joined, last_slot, last_is_open, last_was_abandoned, is_last_item, is_last_slot}
@@ -27,16 +27,16 @@ use Rattle.tiny_http_core.specs.Pending.{last_body, is_streaming_body}
 use Rattle.tiny_http_message.specs.declared.waiting.Waiting.{Waiting}
 use Rattle.tiny_http_message.specs.declared.body.Body.{Body}
 use Rattle.tiny_http_wire.specs.declared.device.Stop.TheVariants.{End}
-use Rattle.tiny_http_core.proofs.ReaderLemmas.{LastKept, done-open, waiting-open, open-by, behind-settled}
+use Rattle.tiny_http_core.proofs.ConnectionReader.{LastKept, done-open, waiting-open, open-by, behind-settled}
 use Rattle.tiny_http_core.specs.declared.driver.Timed.{Timed}
 use Rattle.tiny_http_core.specs.declared.driver.Reply.{Reply}
 use Rattle.std.specs.declared.io.ErrorKind.{ErrorKind}
 use Rattle.tiny_http_core.specs.declared.driver.Step.{Step}
 use Rattle.tiny_http_core.specs.declared.driver.Step.TheVariants as step
-use Rattle.tiny_http_core.specs.Seen.{TellsHonestly, TellHonestly, MayFail}
+use Rattle.tiny_http_core.specs.Seen.{ReportsHonestly, ReportHonestly, MayFail}
 use Rattle.tiny_http_core.specs.Sending.{FailsOnce, FailsOnceUnlessEnded, FailsAtMostOnce}
-use Rattle.tiny_http_core.proofs.SendLemmas.{grown-none}
-use Rattle.tiny_http_core.proofs.AskLemmas.{pipeline-empty, same-feed, told-feed, last-of}
+use Rattle.tiny_http_core.proofs.SendingLemmas.{grown-none}
+use Rattle.tiny_http_core.proofs.ConnectionAsk.{pipeline-empty, same-feed, told-feed, last-of}
 
 pub run-more : (a mid new : State) (xs : List TimedValue) (rs : List ReplyValue) (d : TimedValue) (r : ReplyValue) → Run a xs rs mid → StepsTo mid d.0 d.1 r new → Run a (xs ++ d ∷ []) (rs ++ r ∷ []) new
 run-more a mid new [] [] d r run step = (new, (let P : State → Type 0 = λ s. StepsTo s d.0 d.1 r new in subst P run step), refl)
@@ -222,8 +222,8 @@ fail-along feed a b c (step.Respond n r) kind e (p, inl h) = (p, inl (h ∙ ap n
 fail-along feed a b c (step.Respond n r) kind e (p, inr h) = (p, inr h)
 
 -- one step more
-pub honest-snoc : {D : Type 0} (feed : D → Option Feed) (a b c : Sink) (steps : List (Timed D)) (replies : List Reply) (t : Timed D) (r : Reply) → TellHonestly feed a steps replies b → FailsAtMostOnce b c → TellsHonestly feed b c t r
-    → TellHonestly feed a (steps ++ t ∷ []) (replies ++ r ∷ []) c
+pub honest-snoc : {D : Type 0} (feed : D → Option Feed) (a b c : Sink) (steps : List (Timed D)) (replies : List Reply) (t : Timed D) (r : Reply) → ReportHonestly feed a steps replies b → FailsAtMostOnce b c → ReportsHonestly feed b c t r
+    → ReportHonestly feed a (steps ++ t ∷ []) (replies ++ r ∷ []) c
 honest-snoc feed a b c [] [] t r h once k = (c, rise-along a b c h once, (λ kind told. fail-along feed a b c t.step kind h (k kind told)), refl)
 honest-snoc feed a b c [] (x ∷ replies) t r h once k = absurd h
 honest-snoc feed a b c (x ∷ steps) [] t r h once k = absurd h
@@ -236,11 +236,11 @@ at-most-once old new false ended (inl h) = inl h
 at-most-once old new false ended (inr h) = inr h.0
 
 pub honest-step : {D : Type 0} (feed : D → Option Feed) (writer old new : Sink) (was ended : Bool) (done : List (Timed D)) (replies : List Reply) (t : Timed D) (reply : Reply) → FailsOnceUnlessEnded was old new ended
-    → TellHonestly feed writer done replies old → TellsHonestly feed old new t reply → TellHonestly feed writer (done ++ t ∷ []) (replies ++ reply ∷ []) new
+    → ReportHonestly feed writer done replies old → ReportsHonestly feed old new t reply → ReportHonestly feed writer (done ++ t ∷ []) (replies ++ reply ∷ []) new
 honest-step feed writer old new was ended done replies t reply once h k = honest-snoc feed writer old new done replies t reply h (at-most-once old new was ended once) k
 
 -- the end counts as another sink does
-pub honest-end : {D : Type 0} (feed : D → Option Feed) (a b c : Sink) (steps : List (Timed D)) (replies : List Reply) → c.failures ≡ b.failures → TellHonestly feed a steps replies b → TellHonestly feed a steps replies c
+pub honest-end : {D : Type 0} (feed : D → Option Feed) (a b c : Sink) (steps : List (Timed D)) (replies : List Reply) → c.failures ≡ b.failures → ReportHonestly feed a steps replies b → ReportHonestly feed a steps replies c
 honest-end feed a b c [] [] e h = e ∙ h
 honest-end feed a b c [] (x ∷ replies) e h = absurd h
 honest-end feed a b c (x ∷ steps) [] e h = absurd h

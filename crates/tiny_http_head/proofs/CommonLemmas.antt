@@ -8,7 +8,7 @@ use Rattle.tiny_http_head.specs.declared.common.Header.{Header}
 use Rattle.tiny_http_text.specs.Bytes.{is_ascii, AreAscii, HasNo, IsTrimmed, IsWord, colon}
 use Rattle.tiny_http_head.specs.Common.{lowercase, IsSameLetter, IsSameButForCase, header_text}
 use Rattle.tiny_http_head.specs.Heads.{IsHeader}
-use Rattle.tiny_http_head.proofs.HeadLemmas.{header-line-one}
+use Rattle.tiny_http_head.proofs.HeadsLemmas.{header-line-one}
 
 -- a letter in upper case, or another byte
 abbrev IsUpper : ℕ → Type 0

@@ -5,17 +5,17 @@ use Rattle.std.specs.List.{list_all}
 use Rattle.std.specs.Io.KnownBytes.{append_known}
 use Rattle.std.specs.declared.io.ErrorKind.{ErrorKind}
 use Rattle.std.proofs.lemmas.Bool.{and_parts}
-use Rattle.tiny_http_wire.specs.Device.{Sink, IsFront, IsKnownFront, BeginsKnown, IsAllKnown, HoldsNothing, Tells, next_count}
+use Rattle.tiny_http_wire.specs.Device.{Sink, IsFront, IsKnownFront, BeginsKnown, IsAllKnown, HoldsNothing, StatesKind, next_count}
 use Rattle.tiny_http_device.proofs.DeviceLemmas.{IsFront-append}
 use Rattle.tiny_http_message.specs.declared.waiting.Waiting.{Waiting}
 use Rattle.tiny_http_core.specs.Slots.{Slot, is_finished, joined, is_output_broken}
 use Rattle.tiny_http_core.specs.Conversation.{Failure, finished_front}
-use Rattle.tiny_http_core.proofs.WritingLemmas.{FailsBetween}
+use Rattle.tiny_http_core.proofs.ConversationWriting.{FailsBetween}
 use Rattle.tiny_http_core.specs.Sending.{CanSend, IsFlushed, OutletFailed, Idles, SendsUnlessEnded}
 use Rattle.tiny_http_turns.specs.Turns.{Mark, Open, Held, Left, Finished, AreOpenOrLeft}
 use Rattle.tiny_http_core.specs.Pending.{left_text, begins_left}
 use Rattle.tiny_http_core.specs.Connection.{AreKept, OutputAt}
-use Rattle.tiny_http_core.proofs.SlotLemmas.{joined-front, joined-broken, breaks-front}
+use Rattle.tiny_http_core.proofs.SlotsLemmas.{joined-front, joined-broken, breaks-front}
 
 or-none : (a : Bool) → (a || false) ≡ a
 or-none true = refl
@@ -64,7 +64,7 @@ pub record LostOutput (before new : Sink) (from to : List ℕ) (kind : ErrorKind
   pub front : IsFront output to
   pub taken : new.taken ≡ Some output
   pub failures : new.failures ≡ before.failures + 1
-  pub told : Tells new.last_kind kind
+  pub told : StatesKind new.last_kind kind
 
 lost-front : (known text sent : List ℕ) (taken : Option (List ℕ)) → IsKnownFront taken (append_known (Some known) text) → BeginsKnown sent taken → (z : List ℕ) × (taken ≡ Some z) × IsFront z (known ++ text) × IsFront sent z
 lost-front known text sent None h k = let e : Some (known ++ text) ≡ None = h.1 in cc
@@ -114,7 +114,7 @@ plain-more before sink e bs xs failure h fin is whole = output-same before sink 
 pub output-idle : (before sink new : Sink) (slots : List Slot) (failure : Option Failure) → OutputAt before sink true slots failure → Idles sink new → OutputAt before new true slots failure
 output-idle before sink new slots None h i = (i.bytes ∙ h.0, i.failures ∙ h.1, i.stays ∙ h.2, h.3, λ z. (let absent : true ≡ false = z in cc))
 output-idle before sink new slots (Some f) h i =
-    let K : Option ErrorKind → Type 0 = λ x. Tells x f.kind in
+    let K : Option ErrorKind → Type 0 = λ x. StatesKind x f.kind in
     (i.bytes ∙ h.0, i.failures ∙ h.1, subst K (sym i.last_kind) h.2, h.3)
 
 -- what was sent quietly after some slots, as the output of more

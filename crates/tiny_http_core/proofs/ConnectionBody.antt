@@ -22,10 +22,10 @@ use Rattle.tiny_http_core.specs.Conversation.{PlaceAt}
 use Rattle.tiny_http_message.specs.Body.{Remaining, remaining, is_streaming, body_standing, Fits, GivesUp}
 use Rattle.tiny_http_core.specs.Pending.{last_body, is_streaming_body}
 use Rattle.tiny_http_core.specs.Connection.{Kept, open_slot, IsWaiting, IsSettled, AreSettled, behind_body, slot_rest, GivesRest, is_past_last, is_in_body, NextHead, InputStands}
-use Rattle.tiny_http_stream.proofs.GoingOn.{goes-on_more}
-use Rattle.tiny_http_core.proofs.AskLemmas.{told-feed}
+use Rattle.tiny_http_stream.proofs.SourceGoesOn.{goes-on_more}
+use Rattle.tiny_http_core.proofs.ConnectionAsk.{told-feed}
 use Rattle.tiny_http_message.proofs.BodyReads.{gives-up}
-use Rattle.tiny_http_core.proofs.ReaderLemmas.{last-snoc, body-snoc, last-within, body-within, settled-place, settled-set, waiting-kept, and-false}
+use Rattle.tiny_http_core.proofs.ConnectionReader.{last-snoc, body-snoc, last-within, body-within, settled-place, settled-set, waiting-kept, and-false}
 
 -- the input and the bodies, after a step of a number
 abbrev pub with_reader : Kept → List (Option Waiting) → {R : Type 0} → SourceState R → Kept

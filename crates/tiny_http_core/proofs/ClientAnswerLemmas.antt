@@ -17,10 +17,10 @@ use Rattle.tiny_http_wire.specs.Reading.{line}
 use Rattle.tiny_http_wire.specs.ChunkReading.{decoded, Decoded}
 use Rattle.tiny_http_core.specs.ClientAnswer.{StatusLine, FieldLine, BeginsWithFieldLines, AnswerHead, BeginsWithAnswerHead, is_interim, PassesOver, Extent, NoBody, OfChunks, OfLength, Untold, extent, BeginsWithBody, ClientAnswer, ReadsAnswer, Lack, Unfinished, Invalid, LacksLine, IsStatusLine, IsFieldLineOrEmpty, LacksHead, LacksBody, LacksAnswer}
 use Rattle.tiny_http_core.specs.ClientReading.{status_line_read, field_line_read, FieldLinesRead, with_field_line, field_line_checked, field_line_at, field_line_in, field_lines_read, AnswerHeadRead, with_field_lines, status_line_checked, status_line_in, answer_head_read, AnswerBodyRead, lack_of, chunks_read, front_read, answer_body_read, AnswerRead, with_head, behind_head, answer_at, answer_within, answer_read}
-use Rattle.tiny_http_head.proofs.LineLemmas.{line-is, line-one, line-none}
-use Rattle.tiny_http_head.proofs.HeadLemmas.{line-shorter}
-use Rattle.tiny_http_wire.proofs.ChunkLemmas.{decoded-one, decoded-front, decoded-is, IsDecoded, made}
-use Rattle.tiny_http_core.proofs.ClientLines.{status-line-one, status-line-are, field-line-one, field-line-are}
+use Rattle.tiny_http_head.proofs.LinesLemmas.{line-is, line-one, line-none}
+use Rattle.tiny_http_head.proofs.HeadsLemmas.{line-shorter}
+use Rattle.tiny_http_wire.proofs.ChunksLemmas.{decoded-one, decoded-front, decoded-is, IsDecoded, made}
+use Rattle.tiny_http_core.proofs.ClientReadingLines.{status-line-one, status-line-are, field-line-one, field-line-are}
 
 no-cons : {G : Type 0} (f rest : List ℕ) (c : ℕ) → [] ≡ f ++ c ∷ rest → G
 no-cons [] rest c h = cc

@@ -17,8 +17,8 @@ use Rattle.tiny_http_wire.specs.Chunks.{longest_line, most_trailers, is_bws, is_
 use Rattle.tiny_http_device.specs.Device.{fault_of}
 use Rattle.tiny_http_head.specs.Reading.{line, front_while}
 use Rattle.tiny_http_wire.specs.ChunkReading.{digits_of, size_said, size_of, Decoded, broken, LineRead, short_in, short_line, trailer_at, trailer_in, trailer_section, after_data, prepend_decoded, chunk_closed, data_at, sized, chunk_in, decoded}
-use Rattle.tiny_http_head.proofs.LineLemmas.{line-is, line-front, line-none}
-use Rattle.tiny_http_text.proofs.TextLemmas.{trims-is, trims-one}
+use Rattle.tiny_http_head.proofs.LinesLemmas.{line-is, line-front, line-none}
+use Rattle.tiny_http_text.proofs.BytesLemmas.{trims-is, trims-one}
 
 abbrev before_semicolon : ℕ → Bool
 before_semicolon b = not (b == semicolon)

@@ -6,7 +6,7 @@ use Rattle.std.proofs.lemmas.Bool.{and_parts, cases_lt}
 use Rattle.std.proofs.lemmas.List.{take-append-drop, take_all}
 use Rattle.std.proofs.lemmas.List.Folds.{list_all-append, list_all_more}
 use Rattle.tiny_http_text.specs.Bytes.{HasNo, has_bare_end, is_blank, is_ascii, AreAscii, parts, skip_while, skip_end_while, trimmed}
-use Rattle.tiny_http_text.proofs.TextLemmas.{end-core, trims-is, parts-word, parts-last, front, back}
+use Rattle.tiny_http_text.proofs.BytesLemmas.{end-core, trims-is, parts-word, parts-last, front, back}
 use Rattle.std.specs.Str.{IsUtf8, IsCharBoundary}
 use Rattle.std.proofs.Math.Seq.{drop-append_seam, take-append_seam, get_or-append_seam}
 use Rattle.std.proofs.lemmas.Bool.Decides.{nat_tests}

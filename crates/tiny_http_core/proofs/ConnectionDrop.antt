@@ -10,19 +10,19 @@ use Rattle.tiny_http_message.specs.Pipeline.{Request}
 use Rattle.tiny_http_core.specs.Slots.{Slot, Unanswered, Answered as AnsweredBy, ByServer, Raw, Upgraded, is_finished, joined, is_output_broken, turn_has_come}
 use Rattle.tiny_http_core.specs.Steps.{Drop, Done, Outcome, Reached, changes, use_in_turn, at_slot, at_number}
 use Rattle.tiny_http_core.specs.Conversation.{Failure, State, flushed_after, WriterPart, HasOutcome}
-use Rattle.tiny_http_core.proofs.WritingLemmas.{FailsBetween, unreported, still-flushed}
+use Rattle.tiny_http_core.proofs.ConversationWriting.{FailsBetween, unreported, still-flushed}
 use Rattle.tiny_http_core.specs.Sending.{CanSend}
 use Rattle.tiny_http_turns.specs.Turns.{Mark, Open, Left, Finished, AreInShape, first_unfinished}
 use Rattle.tiny_http_core.specs.Pending.{left_text, with_left_finished, LeavesText}
 use Rattle.tiny_http_core.specs.Connection.{Kept, open_slot, dropped, AreKept, OutputAt, InputStands, Stands}
 use Rattle.tiny_http_stream.specs.Source.{SourceState}
 use Rattle.tiny_http_message.specs.Body.{GivesUp}
-use Rattle.tiny_http_core.proofs.BodySteps.{IsInput, with_reader, reader-given_up}
-use Rattle.tiny_http_core.proofs.AskLemmas.{StepIsAnswered, dropped-whole}
-use Rattle.tiny_http_core.proofs.SlotLemmas.{joined-hidden, joined-waits, breaks-hidden}
-use Rattle.tiny_http_core.proofs.KeptLemmas.{kept-append, kept-passed, kept-many, KeptAt, place-of, InTurn, OutOfTurn, turn-at}
-use Rattle.tiny_http_core.proofs.OutputLemmas.{joined_behind, ended-is, output-same, can-send, output-more}
-use Rattle.tiny_http_core.proofs.RespondLemmas.{TakesNone, SlotAt, slot-at, set-place, output-before, after_number, reader-after}
+use Rattle.tiny_http_core.proofs.ConnectionBody.{IsInput, with_reader, reader-given_up}
+use Rattle.tiny_http_core.proofs.ConnectionAsk.{StepIsAnswered, dropped-whole}
+use Rattle.tiny_http_core.proofs.SlotsLemmas.{joined-hidden, joined-waits, breaks-hidden}
+use Rattle.tiny_http_core.proofs.ConnectionKept.{kept-append, kept-passed, kept-many, KeptAt, place-of, InTurn, OutOfTurn, turn-at}
+use Rattle.tiny_http_core.proofs.ConnectionOutput.{joined_behind, ended-is, output-same, can-send, output-more}
+use Rattle.tiny_http_core.proofs.ConnectionRespond.{TakesNone, SlotAt, slot-at, set-place, output-before, after_number, reader-after}
 
 pub drop-not_taken : (n : ℕ) → TakesNone (Drop n)
 drop-not_taken n Unanswered owed e = cc

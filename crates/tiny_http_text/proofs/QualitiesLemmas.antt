@@ -9,8 +9,8 @@ use Rattle.std.proofs.lemmas.Str.Parse.{IsNumeralModel, numerals_by_value, tells
 use Rattle.tiny_http_text.specs.Bytes.{is_blank, HasNo, parts, comma, point, semicolon, skip_while, trimmed}
 use Rattle.tiny_http_text.specs.Qualities.{IsQuality, GivesQuality, FirstQuality, Element, Elements, ListsQualities}
 use Rattle.tiny_http_text.specs.QualityReading.{cut, short_number, thousandths, both, quality_cut, quality, behind_q, parameter_quality, first_quality, element_parts, element, qualities}
-use Rattle.tiny_http_text.proofs.TextLemmas.{front, trims-is, trims-one, skip-blanks, ArePartsOf, parts-are}
-use Rattle.tiny_http_text.proofs.QualityLemmas.{has-no, quality-whole, quality-parted}
+use Rattle.tiny_http_text.proofs.BytesLemmas.{front, trims-is, trims-one, skip-blanks, ArePartsOf, parts-are}
+use Rattle.tiny_http_text.proofs.QualityReadingLemmas.{has-no, quality-whole, quality-parted}
 
 plain : IsNumeralModel (AllDigits 10) (digits_value 10)
 plain = numerals_by_value (AllDigits 10) tells_digits

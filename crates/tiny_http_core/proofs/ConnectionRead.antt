@@ -26,15 +26,15 @@ use Rattle.tiny_http_message.specs.Body.{Remaining, remaining, taken_left, prepe
 use Rattle.tiny_http_turns.specs.Turns.{Mark, Open}
 use Rattle.tiny_http_core.specs.Pending.{last_body, is_streaming_body}
 use Rattle.tiny_http_core.specs.Connection.{Kept, open_slot, IsWaiting, AreKept, AreSettled, behind_body, slot_rest, GivesRest, is_past_last, InputStands, Stands}
-use Rattle.tiny_http_stream.proofs.GoingOn.{goes-on_more}
-use Rattle.tiny_http_core.proofs.AskLemmas.{StepIsAnswered, step-unchanged, settled-any, told-feed}
+use Rattle.tiny_http_stream.proofs.SourceGoesOn.{goes-on_more}
+use Rattle.tiny_http_core.proofs.ConnectionAsk.{StepIsAnswered, step-unchanged, settled-any, told-feed}
 use Rattle.tiny_http_message.proofs.BodyReads.{stays-settled}
-use Rattle.tiny_http_core.proofs.BodySteps.{IsInput, StandsOn, stands-on, last-waits, with_reader, reader-within}
-use Rattle.tiny_http_core.proofs.KeptLemmas.{KeptAt, place-of, kept-append, kept-many}
-use Rattle.tiny_http_core.proofs.OutputLemmas.{output-same}
-use Rattle.tiny_http_core.proofs.ReaderLemmas.{last-snoc, body-snoc, settled-place, settled-set, and-false}
-use Rattle.tiny_http_core.proofs.RespondLemmas.{TakesNone, SlotAt, slot-at, set-place}
-use Rattle.tiny_http_core.proofs.SlotLemmas.{joined-waits, breaks-waits}
+use Rattle.tiny_http_core.proofs.ConnectionBody.{IsInput, StandsOn, stands-on, last-waits, with_reader, reader-within}
+use Rattle.tiny_http_core.proofs.ConnectionKept.{KeptAt, place-of, kept-append, kept-many}
+use Rattle.tiny_http_core.proofs.ConnectionOutput.{output-same}
+use Rattle.tiny_http_core.proofs.ConnectionReader.{last-snoc, body-snoc, settled-place, settled-set, and-false}
+use Rattle.tiny_http_core.proofs.ConnectionRespond.{TakesNone, SlotAt, slot-at, set-place}
+use Rattle.tiny_http_core.proofs.SlotsLemmas.{joined-waits, breaks-waits}
 
 -- how much was read of what is left
 record Counts (left bs xs : List ℕ) (m n : ℕ) : Type 0 where

@@ -19,15 +19,15 @@ use Rattle.tiny_http_core.specs.Steps.{StepValue, Ask, Read, Respond, Drop, Repl
 use Rattle.tiny_http_core.specs.Conversation.{State, TimedValue, IsFresh, start_state}
 use Rattle.tiny_http_wire.specs.declared.coding.Coding.{Coding}
 use Rattle.tiny_http_core.specs.Sending.{FailsOnceUnlessEnded, IsHonest}
-use Rattle.tiny_http_core.specs.Seen.{seen, IsResponse, IsStep, IsTimedStep, MayFail, TellsHonestly, IsAnswered}
+use Rattle.tiny_http_core.specs.Seen.{seen, IsResponse, IsStep, IsTimedStep, MayFail, ReportsHonestly, IsAnswered}
 use Rattle.tiny_http_message.specs.declared.body.Body.{Body}
 use Rattle.tiny_http_message.specs.Body.{GivesUp, is_streaming, body_standing}
 use Rattle.std.specs.Prelude.{MatchBool}
 use Rattle.tiny_http_core.specs.Connection.{Kept, ConnectionState, kept, Stands}
-use Rattle.tiny_http_core.specs.Driving.{HasDone, TakesStep, AskEnds, StepEnds, IsDeclined, told_response, told_step, StepLeaves, AskLeaves, LetsGo, StandsAfter}
-use Rattle.tiny_http_core.proofs.AskLemmas.{StepIsAnswered}
-use Rattle.tiny_http_stream.proofs.GoingOn.{goes-on_same}
-use Rattle.tiny_http_core.proofs.StepLemmas.{is-ask, is-read, is-respond, is-drop, step-ask, step-read, step-respond, step-drop}
+use Rattle.tiny_http_core.specs.Driving.{HasDone, TakesStep, AskEnds, StepEnds, IsDeclined, stated_response, stated_step, StepLeaves, AskLeaves, LetsGo, StandsAfter}
+use Rattle.tiny_http_core.proofs.ConnectionAsk.{StepIsAnswered}
+use Rattle.tiny_http_stream.proofs.SourceGoesOn.{goes-on_same}
+use Rattle.tiny_http_core.proofs.SeenLemmas.{is-ask, is-read, is-respond, is-drop, step-ask, step-read, step-respond, step-drop}
 use Rattle.tiny_http_turns.specs.Turns.{Mark}
 use Rattle.std.specs.Prelude.{is_some}
 use Rattle.tiny_http_message.specs.declared.exchange.EndOfRequests.{EndOfRequests}
@@ -42,7 +42,7 @@ use Rattle.tiny_http_message.specs.Pipeline.{BadRequest, OneHead}
 use Rattle.tiny_http_core.specs.Driving.{IsRefusal, EndsRequestsAt}
 use Rattle.tiny_http_message.specs.PipelineReading.{items_of}
 use Rattle.tiny_http_message.proofs.PipelineLemmas.{feed-pipeline}
-use Rattle.tiny_http_core.proofs.RunLemmas.{run-more, stands-begun, fails-step, split}
+use Rattle.tiny_http_core.proofs.ConversationRuns.{run-more, stands-begun, fails-step, split}
 
 -- the fields as they are seen
 abbrev pub viewed : {R W : Type 0} → SourceState R → OutletState W → Pending → Option EndOfRequests → ConnectionState R W
@@ -172,11 +172,11 @@ takes-read old new now n m reply answers declined ends leaves moves =
 
 pub takes-respond : {R W D : Type 0} (feed : D → Option Feed) (old new : ConnectionState R W) (now : HttpDate) (n : ℕ) (r : ResponseState D) (reply : ReplyValue)
     → ((client : Feed) (before : Sink) (s : State) (value : ResponseValue) → before.failures < 2 ^ 64 - 1 → IsResponse feed r value → Stands client before (kept old) s → StepIsAnswered client before (kept new) s now (Respond n value) reply)
-    → (IsDeclined (step.Respond n (told_response feed r)) reply → new ≡ old) → new.end ≡ old.end → (IsAnswered reply → LetsGo n old new) → Moves old new → ((kind : ErrorKind) → reply ≡ Fault kind → MayFail (λ f. f) (output_of old.outlet) (output_of new.outlet) (step.Respond n (told_response feed r)) kind)
-    → TakesStep old new now (step.Respond n (told_response feed r)) reply
+    → (IsDeclined (step.Respond n (stated_response feed r)) reply → new ≡ old) → new.end ≡ old.end → (IsAnswered reply → LetsGo n old new) → Moves old new → ((kind : ErrorKind) → reply ≡ Fault kind → MayFail (λ f. f) (output_of old.outlet) (output_of new.outlet) (step.Respond n (stated_response feed r)) kind)
+    → TakesStep old new now (step.Respond n (stated_response feed r)) reply
 takes-respond feed old new now n r reply answers declined ends leaves moves honest =
-    takes old new now (step.Respond n (told_response feed r)) reply
-    (λ client before s asked low is st. step-respond {D = Option Feed} (λ f. f) client before (kept new) s now (now, asked) (step.Respond n (told_response feed r)) n (told_response feed r) reply refl refl is (λ v h. answers client before s v low h st))
+    takes old new now (step.Respond n (stated_response feed r)) reply
+    (λ client before s asked low is st. step-respond {D = Option Feed} (λ f. f) client before (kept new) s now (now, asked) (step.Respond n (stated_response feed r)) n (stated_response feed r) reply refl refl is (λ v h. answers client before s v low h st))
     declined ends leaves moves honest
 
 -- a connection at its begin
@@ -208,21 +208,21 @@ honest-more true ended a b c coding known feed kind e k (inr h) = inr h
 honest-more false ended a b c coding known feed kind e k h = let no : false ≡ true = e in cc
 
 -- a step, and what it is in place of its data
-is-told : {D : Type 0} (feed : D → Option Feed) (x : Step D) (asked : StepValue) → IsStep feed x asked → IsStep (λ f. f) (told_step feed x) asked
+is-told : {D : Type 0} (feed : D → Option Feed) (x : Step D) (asked : StepValue) → IsStep feed x asked → IsStep (λ f. f) (stated_step feed x) asked
 is-told feed step.Ask asked h = subst (λ y. (let a : Step (Option Feed) = step.Ask in IsStep (λ f. f) a y)) (sym (is-ask feed asked h)) tt
 is-told feed (step.Read k n) asked h = subst (λ y. (let a : Step (Option Feed) = step.Read k n in IsStep (λ f. f) a y)) (sym (is-read feed k n asked h)) (refl, refl)
 is-told feed (step.Respond k r) asked h =
     let s = is-respond feed k r asked h in
-    subst (λ y. IsStep (λ f. f) (step.Respond k (told_response feed r)) y) (sym s.is) (refl, s.response)
+    subst (λ y. IsStep (λ f. f) (step.Respond k (stated_response feed r)) y) (sym s.is) (refl, s.response)
 is-told feed (step.Drop k) asked h = subst (λ y. (let a : Step (Option Feed) = step.Drop k in IsStep (λ f. f) a y)) (sym (is-drop feed k asked h)) refl
 
-may-fail : {D : Type 0} (feed : D → Option Feed) (a b : Sink) (x : Step D) (kind : ErrorKind) → MayFail (λ f. f) a b (told_step feed x) kind → MayFail feed a b x kind
+may-fail : {D : Type 0} (feed : D → Option Feed) (a b : Sink) (x : Step D) (kind : ErrorKind) → MayFail (λ f. f) a b (stated_step feed x) kind → MayFail feed a b x kind
 may-fail feed a b step.Ask kind h = h
 may-fail feed a b (step.Read k n) kind h = h
 may-fail feed a b (step.Respond k r) kind h = h
 may-fail feed a b (step.Drop k) kind h = h
 
-pub tells-step : {D : Type 0} (feed : D → Option Feed) (a b : Sink) (t : Timed D) (reply : Reply) → ((kind : ErrorKind) → seen reply ≡ Fault kind → MayFail (λ f. f) a b (told_step feed t.step) kind) → TellsHonestly feed a b t reply
+pub tells-step : {D : Type 0} (feed : D → Option Feed) (a b : Sink) (t : Timed D) (reply : Reply) → ((kind : ErrorKind) → seen reply ≡ Fault kind → MayFail (λ f. f) a b (stated_step feed t.step) kind) → ReportsHonestly feed a b t reply
 tells-step feed a b t reply h kind e = may-fail feed a b t.step kind (h kind e)
 
 pub done-none : {R W X : Type 0} (told : X → TimedValue → Type 0) (client : Feed) (before : Sink) (c : ConnectionState R W) (dated : List TimedValue) → HasDone client before c [] [] → AllZip told [] dated → HasDone client before c dated []
@@ -230,7 +230,7 @@ done-none told client before c [] h t = h
 done-none told client before c (d ∷ ds) h t = elim t [ ]
 
 pub done-step : {R W D : Type 0} (feed : D → Option Feed) (client : Feed) (before : Sink) (old new : ConnectionState R W) (t : Timed D) (done : List (Timed D)) (replies : List ReplyValue) (reply : ReplyValue) (dated : List TimedValue)
-    → ((ds : List TimedValue) → AllZip (IsTimedStep feed) done ds → HasDone client before old ds replies) → TakesStep old new t.now (told_step feed t.step) reply → AllZip (IsTimedStep feed) (done ++ t ∷ []) dated
+    → ((ds : List TimedValue) → AllZip (IsTimedStep feed) done ds → HasDone client before old ds replies) → TakesStep old new t.now (stated_step feed t.step) reply → AllZip (IsTimedStep feed) (done ++ t ∷ []) dated
     → HasDone client before new dated (replies ++ reply ∷ [])
 done-step feed client before old new t done replies reply dated has step told =
     let p = split (IsTimedStep feed) done t dated told in

@@ -15,7 +15,7 @@ use Rattle.tiny_http_message.specs.Pipeline.{Item, Asks, Refuses, Request}
 use Rattle.tiny_http_core.specs.Slots.{ResponseValue, Slot, Stage, Unanswered, Answered as AnsweredBy, ByServer, Raw, Upgraded, is_stage_finished, is_finished, is_broken, is_slot_broken, segment, joined, is_output_broken, last_slot, turn_has_come, to_request, text_if, IsGathered}
 use Rattle.tiny_http_core.specs.Steps.{StepValue, outcome, Respond, ReplyValue, Done, NoSuch, NotYet, WriterUse, Reported, Outcome, Reached, unchanged, changes, finished, accepts_step, fault_in, fault_of_answer, at_item, at_slot, at_number}
 use Rattle.tiny_http_core.specs.Conversation.{Failure, State, has_output_ended, finished_front, flushed_after, WriterPart, HasOutcome, GathersAt, MayLack}
-use Rattle.tiny_http_core.proofs.WritingLemmas.{FailsBetween, FailsTold, FailsBehind, broken_reply, used, WritesIf, IsAllFlushed, reported, still-flushed}
+use Rattle.tiny_http_core.proofs.ConversationWriting.{FailsBetween, FailsTold, FailsBehind, broken_reply, used, WritesIf, IsAllFlushed, reported, still-flushed}
 use Rattle.tiny_http_core.specs.Seen.{PrintedFor, Answers, reply_to}
 use Rattle.tiny_http_core.specs.Sending.{CanSend, OutletTook, OutletFailed, IsFlushed, SendsText, Sends, SendsUnlessEnded}
 use Rattle.tiny_http_turns.specs.Turns.{Mark, Open, Held, Finished, AreInShape, first_unfinished}
@@ -23,13 +23,13 @@ use Rattle.tiny_http_core.specs.Pending.{left_text, with_left_finished, begins_l
 use Rattle.tiny_http_core.specs.Connection.{Kept, answer_form_of, open_slot, IsWaiting, AreKept, OutputAt, InputStands, Stands}
 use Rattle.tiny_http_stream.specs.Source.{SourceState}
 use Rattle.tiny_http_message.specs.Body.{GivesUp}
-use Rattle.tiny_http_core.proofs.BodySteps.{IsInput, with_reader, next-same, reader-given_up}
-use Rattle.tiny_http_core.proofs.AskLemmas.{StepIsAnswered, step-unchanged}
-use Rattle.tiny_http_core.proofs.SlotLemmas.{all-snoc, joined-front, joined-broken, joined-waits, breaks-front, breaks-waits}
-use Rattle.tiny_http_core.proofs.KeptLemmas.{get-at, set-at, take-at, kept-append, kept-many, kept-passed, none-waits, place-of, InTurn, OutOfTurn, turn-at}
-use Rattle.tiny_http_core.proofs.OutputLemmas.{joined_behind, front-all, left-finished, lost-output, all-firm, ended-is, output-same, plain-more, can-send, output-more}
-use Rattle.tiny_http_core.proofs.PassLemmas.{none-left}
-use Rattle.tiny_http_core.proofs.SendLemmas.{or-false}
+use Rattle.tiny_http_core.proofs.ConnectionBody.{IsInput, with_reader, next-same, reader-given_up}
+use Rattle.tiny_http_core.proofs.ConnectionAsk.{StepIsAnswered, step-unchanged}
+use Rattle.tiny_http_core.proofs.SlotsLemmas.{all-snoc, joined-front, joined-broken, joined-waits, breaks-front, breaks-waits}
+use Rattle.tiny_http_core.proofs.ConnectionKept.{get-at, set-at, take-at, kept-append, kept-many, kept-passed, none-waits, place-of, InTurn, OutOfTurn, turn-at}
+use Rattle.tiny_http_core.proofs.ConnectionOutput.{joined_behind, front-all, left-finished, lost-output, all-firm, ended-is, output-same, plain-more, can-send, output-more}
+use Rattle.tiny_http_core.proofs.PendingLemmas.{none-left}
+use Rattle.tiny_http_core.proofs.SendingLemmas.{or-false}
 
 -- a number that is finished takes no such step
 abbrev pub TakesNone : StepValue → Type 0

@@ -10,7 +10,7 @@ use Rattle.tiny_http_core.specs.Steps.{StepValue, Ask, AsReader, Read, Respond, 
 use Rattle.tiny_http_core.specs.Conversation.{State, TimedValue}
 use Rattle.tiny_http_core.specs.Seen.{IsResponse, IsStep}
 use Rattle.tiny_http_core.specs.Connection.{Kept}
-use Rattle.tiny_http_core.proofs.AskLemmas.{StepIsAnswered}
+use Rattle.tiny_http_core.proofs.ConnectionAsk.{StepIsAnswered}
 
 pub is-ask : {D : Type 0} (feed : D → Option Feed) (x : StepValue) → (let a : Step D = step.Ask in IsStep feed a x) → x ≡ Ask
 is-ask feed Ask h = refl

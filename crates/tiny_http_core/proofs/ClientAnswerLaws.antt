@@ -3,7 +3,7 @@ use Rattle.std.proofs.Common.{◌≡◌, refl, sym, ap, ◌∙◌, subst, ℕ, i
 use Rattle.tiny_http_wire.specs.declared.common.Method.{Method}
 use Rattle.tiny_http_core.specs.ClientAnswer.{ClientAnswer, ReadsAnswer, Lack, Unfinished, Invalid, LacksAnswer, UnfinishedAnswer, MalformedAnswer, ReadsAnswers}
 use Rattle.tiny_http_core.specs.ClientReading.{AnswerRead, answer_read}
-use Rattle.tiny_http_core.proofs.ClientLemmas.{AnswerIs, answer-is, answer-one, answer-fault}
+use Rattle.tiny_http_core.proofs.ClientAnswerLemmas.{AnswerIs, answer-is, answer-one, answer-fault}
 
 abbrev StandsAnswer : Method → List ℕ → Type 0
 StandsAnswer m bytes = (a : ClientAnswer) × (rest : List ℕ) × ReadsAnswer m bytes a rest

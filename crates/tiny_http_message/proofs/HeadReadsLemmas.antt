@@ -6,8 +6,8 @@ use Rattle.tiny_http_wire.specs.Bytes.{AreAscii}
 use Rattle.tiny_http_wire.specs.Lines.{Line}
 use Rattle.tiny_http_wire.specs.Heads.{BeginsWithHeaderLines, HeaderLine, IsRequestLine, IsFieldOrEnd}
 use Rattle.tiny_http_wire.specs.Reading as reading
-use Rattle.tiny_http_text.proofs.TextLemmas.{are-ascii, not-ascii}
-use Rattle.tiny_http_head.proofs.HeadLemmas.{request-line-is, request-line-one, header-line-is, header-line-one}
+use Rattle.tiny_http_text.proofs.BytesLemmas.{are-ascii, not-ascii}
+use Rattle.tiny_http_head.proofs.HeadsLemmas.{request-line-is, request-line-one, header-line-is, header-line-one}
 use Rattle.tiny_http_wire.specs.declared.common.Method.{Method}
 use Rattle.tiny_http_wire.specs.declared.common.HTTPVersion.{HTTPVersion}
 use Rattle.tiny_http_message.specs.declared.heads.Message.{Message}

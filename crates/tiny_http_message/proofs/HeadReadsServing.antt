@@ -18,7 +18,7 @@ use Rattle.tiny_http_wire.specs.Device.{Feed, ending}
 use Rattle.tiny_http_wire.specs.Chunks.{WholeChunks, CutChunks}
 use Rattle.tiny_http_wire.specs.ChunkReading.{decoded}
 use Rattle.tiny_http_wire.specs.Decoding.{Coming, decoding_coming}
-use Rattle.tiny_http_wire.proofs.ChunkLemmas.{decoded-is}
+use Rattle.tiny_http_wire.proofs.ChunksLemmas.{decoded-is}
 use Rattle.tiny_http_wire.specs.Heads.{Message as Texted, BeginsWithRequestHead, FaultyHead, Cut, NotAscii, Malformed, version, is_too_new}
 use Rattle.tiny_http_message.specs.declared.heads.Message.{Message}
 use Rattle.tiny_http_message.specs.declared.framing.Form.{Form}
@@ -49,7 +49,7 @@ use Rattle.tiny_http_stream.specs.ToCome.{HasByte, HasNoByte}
 use Rattle.tiny_http_wire.specs.Device.{StopsBy}
 use Rattle.tiny_http_wire.specs.Bytes.{crlf}
 use Rattle.std.specs.Prelude.{IfSome, IsSome}
-use Rattle.tiny_http_stream.proofs.Inputs.{skipped-within, skipped-beyond}
+use Rattle.tiny_http_stream.proofs.ToComeLemmas.{skipped-within, skipped-beyond}
 use Rattle.tiny_http_message.proofs.PipelineLemmas.{sized-is}
 
 not_served : (t : Bool) → ◌≡◌ {A = Option Item} None (served_answer (if t then Some (Refuses RequestTimeout (version 1 1) false true) else None))
