@@ -82,14 +82,14 @@ LetsGo k old new =
     (new.requests ≡ slice_set old.requests k None) × ((w : Waiting) → slice_get old.requests k ≡ Some (Some w) → GivesUp w.body old.source new.source)
 
 -- where a source stands after the head of a request that is framed so, and its body read so far
-abbrev pub standing_after : Framing → Body → Standing
-standing_after f body = if f.is_last then at.Last else if is_streaming body then at.Body else at.Head
+abbrev pub after_head : Framing → Body → Standing
+after_head f body = if f.is_last then at.Last else if is_streaming body then at.Body else at.Head
 
 -- What an Ask leaves of requests, source and output, by its reply: a request was added, and the source stands after its head; or
 -- none was, and nothing is sent where memory was refused; or a refused head has its number.
 abbrev pub AskLeaves : {R W : Type 0} → ConnectionState R W → ConnectionState R W → ReplyValue → Type 0
 AskLeaves old new (Handed k message framing) =
-    (k ≡ length old.marks) × ((w : Waiting) × (new.requests ≡ old.requests ++ Some w ∷ []) × (new.source.standing ≡ standing_after framing w.body))
+    (k ≡ length old.marks) × ((w : Waiting) × (new.requests ≡ old.requests ++ Some w ∷ []) × (new.source.standing ≡ after_head framing w.body))
     × (new.outlet ≡ old.outlet)
 AskLeaves old new Memory = (new.requests ≡ old.requests) × (new.marks ≡ old.marks) × (new.outlet ≡ old.outlet)
 AskLeaves old new Ended =

@@ -80,7 +80,7 @@ pub data Heading : Type 0 where
   Ends : (answer : Option Item) → Heading
   Heads : (message : Message) (framing : Framing) (after : List ℕ) → Heading
 
--- The first faulty line of the head decides; then the expectation; then a held body that is cut. Else the head stands.
+-- The first faulty line of the head decides; then the expectation; then a body that is read with its head that is cut. Else the head stands.
 abbrev pub HeadAt : List ℕ → Stop → Heading → Type 0
 HeadAt bytes stop (Ends answer) =
     ((v : Option HTTPVersion) × (fault : GrammarFault) × FaultyHead bytes v fault × (answer ≡ fault_answer v fault stop))

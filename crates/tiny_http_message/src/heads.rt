@@ -39,7 +39,10 @@ fn head_fault(fault: LineFault) -> HeadFault
 }
 
 // The next line.
-fn read_text_line<R: ReadDevice>(alloc: Global, source: &mut Source<R>) -> Result<AsciiString, HeadFault>
+fn read_text_line<R: ReadDevice>(
+    alloc: Global,
+    source: &mut Source<R>,
+) -> Result<AsciiString, HeadFault>
     ensures reads { ReadsText source.old.feed source.new.feed result }
     ensures goes_on { GoesOn source.old.feed source.new.feed }
     ensures cut { result ≡ Err HeadFault.Cut → IsCutOff source.old source.new }

@@ -7,9 +7,9 @@ ghost use Rattle.tiny_http_wire.specs.Top.{top_text};
 ghost use Rattle.tiny_http_device.specs.Device.{Puts, CountsFaults};
 
 use crate::answer_body::put_exactly;
+use crate::answer_head::{Top, put_head};
 use crate::coding::FramingHeader;
 use crate::gather::gather;
-use crate::answer_head::{Top, put_head};
 use httpdate::HttpDate;
 use std::alloc::{AllocError, Global};
 use std::io;
