@@ -25,13 +25,16 @@ fn read_body<R: ReadDevice + Drop, W: WriteDevice + Drop>(
 ) -> io::Result<Option<Vec<u8>>> {
     let mut body = Vec::new(alloc);
     for _ in 0..PIECES {
-        match connection.read(alloc, number, PIECE) {
-            Reply::Given(bytes) if bytes.is_empty() => return Ok(Some(body)),
-            Reply::Given(bytes) => body.extend_from_slice(bytes.as_slice())?,
+        let piece = match connection.read(alloc, number, PIECE) {
+            Reply::Given(bytes) => bytes,
             Reply::Fault(kind) => return Err(kind.into()),
             Reply::Memory => return Err(ErrorKind::OutOfMemory.into()),
-            _ => return Err(ErrorKind::Other.into()),
+            _other => return Err(ErrorKind::Other.into()),
+        };
+        if piece.is_empty() {
+            return Ok(Some(body));
         }
+        body.extend_from_slice(piece.as_slice())?;
     }
     Ok(None)
 }
