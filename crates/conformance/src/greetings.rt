@@ -20,7 +20,7 @@ fn each_path_has_its_answer(rt: HostRuntime) -> Result<(), Fail> {
     Ok(())
 }
 
-// Forty answers, which are more than 4,096 bytes.
+// Fifty answers, which are more than 4,096 bytes.
 #[test]
 fn many_requests_are_answered(rt: HostRuntime) -> Result<(), Fail> {
     let now = HttpDate::from_unix_secs(420_895_020)?;
@@ -28,7 +28,7 @@ fn many_requests_are_answered(rt: HostRuntime) -> Result<(), Fail> {
     let answer = format!(in alloc; "HTTP/1.1 200 OK\r\n{EMPTY}")?;
     let mut client = Vec::new(alloc);
     let mut wanted = Vec::new(alloc);
-    for _ in 0..40 {
+    for _ in 0..50 {
         client.extend_from_slice(b"GET / HTTP/1.1\r\n\r\n")?;
         wanted.extend_from_slice(answer.as_bytes())?;
     }
