@@ -14,8 +14,8 @@ use tiny_http_wire::response::Response;
 /// How many bytes one read asks for.
 const PIECE: u16 = 1024;
 
-/// How many reads a body may take. A read gives fewer bytes than it asks for only before the end.
-const PIECES: u16 = 1024;
+/// How many reads a body may take: two that give bytes, and one that finds the end. So a body has 2,048 bytes at most.
+const PIECES: u16 = 3;
 
 // The whole body of a request; or none where it takes too many reads.
 fn read_body<R: ReadDevice + Drop, W: WriteDevice + Drop>(
