@@ -94,7 +94,7 @@ fn a_dropped_request_is_answered_500(rt: HostRuntime) -> Result<(), Fail> {
 }
 
 #[test]
-fn a_drop_tells_no_fault_of_the_writer(rt: HostRuntime) -> Result<(), Fail> {
+fn a_drop_reports_no_fault_of_the_writer(rt: HostRuntime) -> Result<(), Fail> {
     let case = Case {
         client: b"GET / HTTP/1.1\r\n\r\nGET / HTTP/1.1\r\n\r\n",
         deeds: &[Ask, Drop(0), Ask, Text(1, "b")],
@@ -105,7 +105,7 @@ fn a_drop_tells_no_fault_of_the_writer(rt: HostRuntime) -> Result<(), Fail> {
 }
 
 #[test]
-fn a_fault_is_told_before_a_drop(rt: HostRuntime) -> Result<(), Fail> {
+fn a_fault_is_reported_before_a_drop(rt: HostRuntime) -> Result<(), Fail> {
     let case = Case {
         client: b"GET / HTTP/1.1\r\n\r\nGET / HTTP/1.1\r\n\r\n",
         deeds: &[Ask, Text(0, "a"), Ask, Drop(1)],
@@ -133,7 +133,7 @@ fn a_refused_request_takes_no_answer(rt: HostRuntime) -> Result<(), Fail> {
 }
 
 #[test]
-fn a_fault_of_the_writer_is_told_once(rt: HostRuntime) -> Result<(), Fail> {
+fn a_fault_of_the_writer_is_reported_once(rt: HostRuntime) -> Result<(), Fail> {
     let case = Case {
         client: b"GET / HTTP/1.1\r\n\r\nGET / HTTP/1.1\r\n\r\n",
         deeds: &[Ask, Text(0, "a"), Ask, Text(1, "b")],
@@ -163,7 +163,7 @@ fn a_client_that_went_away_is_no_fault(rt: HostRuntime) -> Result<(), Fail> {
 }
 
 #[test]
-fn no_reply_tells_a_fault_of_a_refusal(rt: HostRuntime) -> Result<(), Fail> {
+fn no_reply_reports_a_fault_of_a_refusal(rt: HostRuntime) -> Result<(), Fail> {
     let case = Case {
         client: b"qsd qsd qsd\r\n",
         deeds: &[Ask, Ask],

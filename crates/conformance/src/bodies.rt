@@ -100,17 +100,17 @@ fn followed(alloc: Global, said: usize, sent: usize) -> Result<Vec<u8>, AllocErr
 
 // Replies, where `*` stands for so many bytes of the body.
 fn replies_of(alloc: Global, replies: &str, count: usize) -> Result<String, AllocError> {
-    let mut told = String::new(alloc);
+    let mut wanted = String::new(alloc);
     for c in replies.chars() {
         if c == '*' {
             for _ in 0..count {
-                told.push('x')?;
+                wanted.push('x')?;
             }
         } else {
-            told.push(c)?;
+            wanted.push(c)?;
         }
     }
-    Ok(told)
+    Ok(wanted)
 }
 
 #[test]
@@ -168,10 +168,10 @@ fn a_longer_body_holds_the_next_head(rt: HostRuntime) -> Result<(), Fail> {
         (Text(0, "x"), "done", ANSWER),
         (Drop(0), "done", ERROR),
     ] {
-        let told = format!(in alloc;
+        let wanted = format!(in alloc;
             "0: POST / 1.1 [Content-Length: 1025] length 1025; given *; not yet; {reply}; 1: GET /b 1.1"
         )?;
-        let replies = replies_of(alloc, told.as_str(), 1024)?;
+        let replies = replies_of(alloc, wanted.as_str(), 1024)?;
         let case = Case {
             client: client.as_slice(),
             deeds: &[Ask, Read(0, 1024), Ask, deed, Ask],
@@ -271,11 +271,11 @@ fn a_body_is_read_behind_a_later_request(rt: HostRuntime) -> Result<(), Fail> {
             "0: POST / 1.1 [Content-Length: 1025] length 1025; given *; 1: GET /b 1.1; given; given",
         ),
     ] {
-        let told = replies_of(alloc, replies, 1025)?;
+        let wanted = replies_of(alloc, replies, 1025)?;
         let case = Case {
             client,
             deeds,
-            replies: told.as_str(),
+            replies: wanted.as_str(),
             output: &[],
         };
         assert_case(&rt, alloc, &case)?;

@@ -101,7 +101,7 @@ fn a_number_takes_one_answer(rt: HostRuntime) -> Result<(), Fail> {
 }
 
 #[test]
-fn a_fault_is_told_where_it_is_met(rt: HostRuntime) -> Result<(), Fail> {
+fn a_fault_is_reported_where_it_is_met(rt: HostRuntime) -> Result<(), Fail> {
     let client = b"GET / HTTP/1.1\r\n\r\nGET / HTTP/1.1\r\n\r\n";
     for (kind, replies) in [
         (
@@ -125,7 +125,7 @@ fn a_fault_is_told_where_it_is_met(rt: HostRuntime) -> Result<(), Fail> {
 }
 
 #[test]
-fn no_reply_tells_a_fault_in_a_text_that_waited(rt: HostRuntime) -> Result<(), Fail> {
+fn no_reply_reports_a_fault_in_a_text_that_waited(rt: HostRuntime) -> Result<(), Fail> {
     let case = Case {
         client: b"GET / HTTP/1.1\r\n\r\nGET / HTTP/1.1\r\n\r\nGET / HTTP/1.1\r\n\r\n",
         deeds: &[Ask, Ask, Ask, Drop(1), Text(0, "a"), Text(2, "c")],

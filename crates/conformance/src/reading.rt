@@ -14,8 +14,8 @@ const CHUNKED: &str = "0: POST / 1.1 [Transfer-Encoding: chunked]";
 fn chunked(alloc: Global, body: &[u8], replies: &str) -> Result<(Vec<u8>, String), AllocError> {
     let mut client = b"POST / HTTP/1.1\r\nTransfer-Encoding: chunked\r\n\r\n".to_vec(alloc)?;
     client.extend_from_slice(body)?;
-    let told = format!(in alloc; "{CHUNKED}; {replies}")?;
-    Ok((client, told))
+    let wanted = format!(in alloc; "{CHUNKED}; {replies}")?;
+    Ok((client, wanted))
 }
 
 const WHOLE: &[u8] = b"5;x=1\r\nhello\r\n0\r\nT: v\r\n\r\nGET /b HTTP/1.1\r\n\r\n";
@@ -54,11 +54,11 @@ const BODIES: &[Row<'static>] = &[
 // The run over this chunked body comes out so.
 fn assert_chunked(rt: &impl Abort, alloc: Global, row: Row<'_>) -> Result<(), Fail> {
     let (body, deeds, replies, output) = row;
-    let (client, told) = chunked(alloc, body, replies)?;
+    let (client, wanted) = chunked(alloc, body, replies)?;
     let case = Case {
         client: client.as_slice(),
         deeds,
-        replies: told.as_str(),
+        replies: wanted.as_str(),
         output,
     };
     assert_case(rt, alloc, &case)
@@ -95,14 +95,14 @@ fn assert_timed_out(rt: &impl Abort, alloc: Global, head: &str, row: Row<'_>) ->
 // A body of this client is read, and one is given up.
 fn assert_late(rt: &impl Abort, alloc: Global, client: &[u8], head: &str) -> Result<(), Fail> {
     let reads = [Ask, Read(0, 10), Read(0, 1), Read(0, 1), Ask];
-    let told = "given abc; fault TimedOut; fault TimedOut; ended";
-    assert_timed_out(rt, alloc, head, (client, &reads, told, &[]))?;
+    let wanted = "given abc; fault TimedOut; fault TimedOut; ended";
+    assert_timed_out(rt, alloc, head, (client, &reads, wanted, &[]))?;
     let gives_up = [Ask, Text(0, "x"), Ask];
     assert_timed_out(rt, alloc, head, (client, &gives_up, "done; ended", ANSWER))
 }
 
 #[test]
-fn a_time_out_within_a_body_is_told(rt: HostRuntime) -> Result<(), Fail> {
+fn a_time_out_within_a_body_is_reported(rt: HostRuntime) -> Result<(), Fail> {
     let counted = b"GET / HTTP/1.1\r\nContent-Length: 2000\r\n\r\nabc";
     let head = "0: GET / 1.1 [Content-Length: 2000] length 2000";
     assert_late(&rt, rt.alloc(), counted, head)?;
@@ -131,7 +131,7 @@ fn a_read_of_nothing_changes_nothing(rt: HostRuntime) -> Result<(), Fail> {
         output: &[],
     };
     assert_troubled(&rt, rt.alloc(), &case, TIMES_OUT)?;
-    let (client, told) = chunked(
+    let (client, wanted) = chunked(
         rt.alloc(),
         b"3\r\nabcXY",
         "given; not yet; given abc; given; fault InvalidData; given; fault InvalidData",
@@ -139,7 +139,7 @@ fn a_read_of_nothing_changes_nothing(rt: HostRuntime) -> Result<(), Fail> {
     let case = Case {
         client: client.as_slice(),
         deeds: READS_OF_NOTHING,
-        replies: told.as_str(),
+        replies: wanted.as_str(),
         output: &[],
     };
     assert_case(&rt, rt.alloc(), &case)

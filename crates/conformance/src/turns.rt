@@ -10,9 +10,9 @@ fn text(alloc: Global, text: &[u8]) -> Result<Vec<u8>, Fail> {
 }
 
 // What became of a turn, in a word: the item and the text, if they come out.
-type Told = (&'static str, Option<u8>, Option<Vec<u8>>);
+type Reported = (&'static str, Option<u8>, Option<Vec<u8>>);
 
-fn told(finishing: Finishing<u8>) -> Told {
+fn reported(finishing: Finishing<u8>) -> Reported {
     match finishing {
         Finishing::Passed => ("passed", None, None),
         Finishing::Go(item, text) => ("go", Some(item), Some(text)),
@@ -20,7 +20,7 @@ fn told(finishing: Finishing<u8>) -> Told {
     }
 }
 
-fn told_of_leaving(leaving: Leaving<u8>) -> Told {
+fn reported_of_leaving(leaving: Leaving<u8>) -> Reported {
     match leaving {
         Leaving::Left => ("left", None, None),
         Leaving::Go(item, text) => ("go", Some(item), Some(text)),
@@ -29,19 +29,19 @@ fn told_of_leaving(leaving: Leaving<u8>) -> Told {
 }
 
 // The same is reported, and of this number.
-fn assert_told(
+fn assert_reported(
     rt: &impl Abort,
     number: u64,
-    told: &Told,
+    reported: &Reported,
     wanted: (&str, Option<u8>, Option<&[u8]>),
 ) {
-    let text = match &told.2 {
+    let text = match &reported.2 {
         Some(text) => Some(text.as_slice()),
         None => None,
     };
     assert_same(
         rt,
-        (number, told.0, told.1, text),
+        (number, reported.0, reported.1, text),
         (number, wanted.0, wanted.1, wanted.2),
     );
 }
@@ -55,7 +55,7 @@ fn assert_left(
     wanted: (&str, Option<u8>, Option<&[u8]>),
 ) -> Result<(), Fail> {
     let leaving = turns.leave(number, text(alloc, bytes)?);
-    assert_told(rt, number, &told_of_leaving(leaving), wanted);
+    assert_reported(rt, number, &reported_of_leaving(leaving), wanted);
     Ok(())
 }
 
@@ -66,7 +66,7 @@ fn assert_finished(
     (number, item): (u64, u8),
     wanted: (&str, Option<u8>, Option<&[u8]>),
 ) {
-    assert_told(rt, number, &told(turns.finish(number, item)), wanted);
+    assert_reported(rt, number, &reported(turns.finish(number, item)), wanted);
 }
 
 // Issues three numbers; the second waits for the first.

@@ -30,7 +30,7 @@ fn marks_come_in_order(rt: HostRuntime) -> Result<(), Fail> {
 }
 
 #[test]
-fn a_mark_is_told_from_an_empty_queue(rt: HostRuntime) -> Result<(), Fail> {
+fn a_mark_is_no_empty_queue(rt: HostRuntime) -> Result<(), Fail> {
     let mut queue = QueueState::new(rt.alloc());
     assert_eq!(rt; queue.pop(), Popped::Empty);
     queue.unblock()?;

@@ -54,8 +54,8 @@ fn assert_drained(
     stop: Stop,
 ) -> Result<(), Fail> {
     let nothing = decoder.read(&mut [])?;
-    let (found, told) = drain(alloc, decoder)?;
-    assert_same(rt, (nothing, found.as_slice(), told), (0, data, Some(stop)));
+    let (found, end) = drain(alloc, decoder)?;
+    assert_same(rt, (nothing, found.as_slice(), end), (0, data, Some(stop)));
     Ok(())
 }
 

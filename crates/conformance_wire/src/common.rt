@@ -197,8 +197,8 @@ fn headers_are_shown(rt: HostRuntime) -> Result<(), Fail> {
 
 // Names are equal but for case.
 fn assert_names(rt: &impl Abort, field: &HeaderField, same: &HeaderField, other: &HeaderField) {
-    let told = (field.equiv("content-Type"), field.equiv("Content_type"));
-    assert_same(rt, told, (true, false));
+    let found = (field.equiv("content-Type"), field.equiv("Content_type"));
+    assert_same(rt, found, (true, false));
     assert_same(rt, (field == same, field != other), (true, true));
 }
 

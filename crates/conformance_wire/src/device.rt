@@ -115,8 +115,8 @@ fn assert_taken(rt: &impl Abort, budget: &mut Budget) -> Result<(), Fail> {
 // Fails at this, for the time of this count.
 fn assert_failing(rt: &impl Abort, mut budget: &mut Budget, count: u64) {
     let fault = kind_of(put_all(&mut budget, &[b" ", b"world"]));
-    let told = (fault, WriteDevice::failures(&budget));
-    assert_same(rt, told, (Some(ErrorKind::BrokenPipe), count));
+    let found = (fault, WriteDevice::failures(&budget));
+    assert_same(rt, found, (Some(ErrorKind::BrokenPipe), count));
 }
 
 #[test]

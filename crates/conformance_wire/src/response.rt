@@ -234,8 +234,8 @@ fn assert_cut(rt: &impl Abort, alloc: Global, room: usize) -> Result<(), Fail> {
         Some(printed.bytes.as_slice()),
         HELLO.as_bytes().get(..room),
     );
-    let told = (printed.fault, printed.failures);
-    assert_same(rt, told, (Some(ErrorKind::Other), 1));
+    let found = (printed.fault, printed.failures);
+    assert_same(rt, found, (Some(ErrorKind::Other), 1));
     Ok(())
 }
 

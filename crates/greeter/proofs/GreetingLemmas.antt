@@ -4,7 +4,7 @@ use Rattle.httpdate.specs.declared.date.HttpDate.{HttpDate}
 use Rattle.tiny_http_wire.specs.Device.{Feed, Sink}
 use Rattle.tiny_http_core.specs.HeadReads.{head_message, head_framing}
 use Rattle.tiny_http_core.specs.Steps.{Ask, Respond, ReplyValue, Handed}
-use Rattle.tiny_http_core.specs.Slots.{own_response}
+use Rattle.tiny_http_core.specs.ResponseValue.{response_of}
 use Rattle.tiny_http_core.specs.Conversation.{TimedValue}
 use Rattle.tiny_http_core.specs.Connection.{ConnectionState}
 use Rattle.tiny_http_core.specs.Driving.{HasDone}
@@ -25,16 +25,16 @@ by_path-more : (greetings : List Greeting) (g : Greeting) → AreByPath greeting
 by_path-more [] g h s = (s, tt)
 by_path-more (x ∷ greetings) g h s = (h.0, by_path-more greetings g h.1 s)
 
-steps-more : (now : HttpDate) (greetings : List Greeting) (g : Greeting) → (steps_of now greetings ++ (now, Ask) ∷ []) ++ (now, Respond g.number (own_response g.status [] [])) ∷ [] ≡ steps_of now (greetings ++ g ∷ [])
+steps-more : (now : HttpDate) (greetings : List Greeting) (g : Greeting) → (steps_of now greetings ++ (now, Ask) ∷ []) ++ (now, Respond g.number (response_of g.status [] [])) ∷ [] ≡ steps_of now (greetings ++ g ∷ [])
 steps-more now [] g = refl
-steps-more now (x ∷ greetings) g = ap (λ (l : List TimedValue). (now, Ask) ∷ (now, Respond x.number (own_response x.status [] [])) ∷ l) (steps-more now greetings g)
+steps-more now (x ∷ greetings) g = ap (λ (l : List TimedValue). (now, Ask) ∷ (now, Respond x.number (response_of x.status [] [])) ∷ l) (steps-more now greetings g)
 
 replies-more : (greetings : List Greeting) (g : Greeting) → (replies_of greetings ++ Handed g.number (head_message g.head) (head_framing g.head) ∷ []) ++ g.reply ∷ [] ≡ replies_of (greetings ++ g ∷ [])
 replies-more [] g = refl
 replies-more (x ∷ greetings) g = ap (λ (l : List ReplyValue). Handed x.number (head_message x.head) (head_framing x.head) ∷ x.reply ∷ l) (replies-more greetings g)
 
 pub greeted-more : {R W : Type 0} (client : Feed) (before : Sink) (now : HttpDate) (new : ConnectionState R W) (greetings : List Greeting) (g : Greeting) (count : ℕ) → length greetings ≡ count → AreByPath greetings → IsStatus g.head.path g.status
-    → HasDone client before new ((steps_of now greetings ++ (now, Ask) ∷ []) ++ (now, Respond g.number (own_response g.status [] [])) ∷ []) ((replies_of greetings ++ Handed g.number (head_message g.head) (head_framing g.head) ∷ []) ++ g.reply ∷ []) → Greeted client before now new (count + 1)
+    → HasDone client before new ((steps_of now greetings ++ (now, Ask) ∷ []) ++ (now, Respond g.number (response_of g.status [] [])) ∷ []) ((replies_of greetings ++ Handed g.number (head_message g.head) (head_framing g.head) ∷ []) ++ g.reply ∷ []) → Greeted client before now new (count + 1)
 greeted-more client before now new greetings g count counted h s done =
     let P : List TimedValue → List ReplyValue → Type 0 = λ x y. HasDone client before new x y in
     record { greetings = greetings ++ g ∷ []; counted = omega (arith, counted, length-append greetings (g ∷ [])); by_path = by_path-more greetings g h s; done = subst (λ y. P (steps_of now (greetings ++ g ∷ [])) y) (replies-more greetings g) (subst (λ x. P x ((replies_of greetings ++ Handed g.number (head_message g.head) (head_framing g.head) ∷ []) ++ g.reply ∷ [])) (steps-more now greetings g) done) }

@@ -8,7 +8,7 @@ use Rattle.tiny_http_core.specs.declared.exchange.Head.{Head}
 use Rattle.tiny_http_core.specs.declared.driver.Reply.{Reply}
 use Rattle.tiny_http_core.specs.Seen.{seen}
 use Rattle.tiny_http_core.specs.HeadReads.{head_message, head_framing}
-use Rattle.tiny_http_core.specs.Slots.{own_response}
+use Rattle.tiny_http_core.specs.ResponseValue.{response_of}
 use Rattle.tiny_http_core.specs.Steps.{Ask, Respond, ReplyValue, Handed}
 use Rattle.tiny_http_core.specs.Conversation.{TimedValue, IsConversation}
 
@@ -32,7 +32,7 @@ AreByPath (g ∷ greetings) = IsStatus g.head.path g.status × AreByPath greetin
 -- the steps of these greetings: an Ask and a Respond each, by an empty response of this status
 abbrev pub steps_of : HttpDate → List Greeting → List TimedValue
 steps_of now [] = []
-steps_of now (g ∷ greetings) = (now, Ask) ∷ (now, Respond g.number (own_response g.status [] [])) ∷ steps_of now greetings
+steps_of now (g ∷ greetings) = (now, Ask) ∷ (now, Respond g.number (response_of g.status [] [])) ∷ steps_of now greetings
 
 -- and their replies
 abbrev pub replies_of : List Greeting → List ReplyValue
@@ -55,11 +55,11 @@ EndsGreetings greetings (Some r) = is_handed (seen r) ≡ false
 
 -- Some greetings by the path, and after them an Ask with this reply, are a conversation with this client: the writer took what
 -- is its output, but for what is held.
-pub record Greets (client : Feed) (before : Sink) (now : HttpDate) (after : Sink) (held : List ℕ) (ended : Bool) (left : Option Feed) (last : Option Reply) : Type 0 where
+pub record Greets (client : Feed) (before : Sink) (now : HttpDate) (after : Sink) (held : List ℕ) (ended : Bool) (unread : Option Feed) (last : Option Reply) : Type 0 where
   pub greetings : List Greeting
   pub by_path : AreByPath greetings
   pub ends : EndsGreetings greetings last
-  pub conversation : IsConversation client before (steps_of now greetings ++ map (λ _. (now, Ask)) (last_reply last)) (replies_of greetings ++ last_reply last) after held ended left
+  pub conversation : IsConversation client before (steps_of now greetings ++ map (λ _. (now, Ask)) (last_reply last)) (replies_of greetings ++ last_reply last) after held ended unread
 
 -- a writer that took nothing
 abbrev pub nothing_taken : Sink
@@ -67,5 +67,5 @@ nothing_taken = record { taken = Some []; sent = []; failures = 0; last_kind = N
 
 -- The same with a client that sends these bytes and ends, over a writer in memory that took nothing before.
 pub record GreetsClient (client : List ℕ) (now : HttpDate) (writer : Budget) (held : List ℕ) (ended : Bool) (last : Option Reply) : Type 0 where
-  pub left : Option Feed
-  pub greets : Greets (ending client) nothing_taken now (budget_sink writer) held ended left last
+  pub unread : Option Feed
+  pub greets : Greets (ending client) nothing_taken now (budget_sink writer) held ended unread last

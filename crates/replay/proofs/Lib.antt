@@ -1,4 +1,4 @@
 pub mod ReplyHex
-mod LineLemmas
+mod ScriptLineLemmas
 pub mod ReplyLemmas
 pub mod ScriptLemmas

@@ -12,33 +12,33 @@ use Rattle.tiny_http_wire.specs.Device.{ending}
 use Rattle.tiny_http_wire.specs.Cursor.{cursor_bytes}
 use Rattle.std.specs.declared.io.Cursor.{Cursor}
 use Rattle.std.specs.Io.Cursor.{cursor_position, cursor_inner}
-use Rattle.replay.specs.Line.{IsLine, IsGood}
+use Rattle.replay.specs.ScriptLine.{IsLine, IsGood}
 use Rattle.replay.specs.Script.{IsFirstBadLine, IsScript, script_lines, said_step, date_behind, on_date, steps_from, timed_value, step_value}
-use Rattle.replay.specs.declared.line.Line.{Line}
+use Rattle.replay.specs.declared.line.ScriptLine.{ScriptLine}
 
 -- the date after lines
-abbrev pub date_after : HttpDate → List Line → HttpDate
+abbrev pub date_after : HttpDate → List ScriptLine → HttpDate
 date_after now [] = now
 date_after now (line ∷ lines) = date_after (date_behind now line) lines
 
-pub date_after-push : (now : HttpDate) (lines : List Line) (line : Line) → date_after now (lines ++ line ∷ []) ≡ date_behind (date_after now lines) line
+pub date_after-push : (now : HttpDate) (lines : List ScriptLine) (line : ScriptLine) → date_after now (lines ++ line ∷ []) ≡ date_behind (date_after now lines) line
 date_after-push now [] line = refl
 date_after-push now (l ∷ lines) line = date_after-push (date_behind now l) lines line
 
-pub steps_from-push : (now : HttpDate) (lines : List Line) (line : Line) → steps_from now (lines ++ line ∷ []) ≡ steps_from now lines ++ on_date (date_behind (date_after now lines) line) (said_step line)
+pub steps_from-push : (now : HttpDate) (lines : List ScriptLine) (line : ScriptLine) → steps_from now (lines ++ line ∷ []) ≡ steps_from now lines ++ on_date (date_behind (date_after now lines) line) (said_step line)
 steps_from-push now [] line = search rules
 steps_from-push now (l ∷ lines) line =
     let here = on_date (date_behind now l) (said_step l) in
     ap (λ steps. here ++ steps) (steps_from-push (date_behind now l) lines line) ∙ search rules
 
-pub all_zip-push : (lines : List (List ℕ)) (said : List Line) (bytes : List ℕ) (line : Line) → AllZip IsLine lines said → IsLine bytes line → AllZip IsLine (lines ++ bytes ∷ []) (said ++ line ∷ [])
+pub all_zip-push : (lines : List (List ℕ)) (said : List ScriptLine) (bytes : List ℕ) (line : ScriptLine) → AllZip IsLine lines said → IsLine bytes line → AllZip IsLine (lines ++ bytes ∷ []) (said ++ line ∷ [])
 all_zip-push [] [] bytes line z h = (h, tt)
 all_zip-push [] (s ∷ said) bytes line z h = absurd z
 all_zip-push (l ∷ lines) [] bytes line z h = absurd z
 all_zip-push (l ∷ lines) (s ∷ said) bytes line z h = (z.0, all_zip-push lines said bytes line z.1 h)
 
 -- lines that say something are good
-pub all_good : (lines : List (List ℕ)) (said : List Line) → AllZip IsLine lines said → AllByRecursion IsGood lines
+pub all_good : (lines : List (List ℕ)) (said : List ScriptLine) → AllZip IsLine lines said → AllByRecursion IsGood lines
 all_good [] [] z = tt
 all_good [] (s ∷ said) z = absurd z
 all_good (l ∷ lines) [] z = absurd z
@@ -55,11 +55,11 @@ first_bad lines i none l good bad =
     (texts (take i lines), (get_or lines i none).now, texts (drop (suc i) lines), ap texts cut ∙ map-append (λ (b : Bor (List ℕ)). b.now) (take i lines) (get_or lines i none ∷ drop (suc i) lines), ap (λ n. n + 1) (length-map (take i lines) (λ (b : Bor (List ℕ)). b.now) ∙ length-take-le i lines (omega arith)), good, bad)
 
 -- one line more
-pub read_on : (lines : List (Bor (List ℕ))) (i : ℕ) (none : Bor (List ℕ)) (said : List Line) (line : Line) → i < length lines → AllZip IsLine (texts (take i lines)) said → IsLine (get_or lines i none).now line → AllZip IsLine (texts (take (i + 1) lines)) (said ++ line ∷ [])
+pub read_on : (lines : List (Bor (List ℕ))) (i : ℕ) (none : Bor (List ℕ)) (said : List ScriptLine) (line : ScriptLine) → i < length lines → AllZip IsLine (texts (take i lines)) said → IsLine (get_or lines i none).now line → AllZip IsLine (texts (take (i + 1) lines)) (said ++ line ∷ [])
 read_on lines i none said line l z h = rw (map_more (λ (b : Bor (List ℕ)). b.now) lines i none l) (all_zip-push (texts (take i lines)) said (get_or lines i none).now line z h)
 
 -- one line's step more
-pub step_on : (first : HttpDate) (lines : List Line) (i : ℕ) (line : Line) (now date : HttpDate) (before after : List TimedValue)
+pub step_on : (first : HttpDate) (lines : List ScriptLine) (i : ℕ) (line : ScriptLine) (now date : HttpDate) (before after : List TimedValue)
     → i < length lines → line ≡ get_or lines i line
     → before ≡ steps_from first (take i lines) → now ≡ date_after first (take i lines)
     → date ≡ date_behind now line → after ≡ before ++ on_date date (said_step line)
@@ -88,12 +88,12 @@ few : {A : Type 0} (v : Vec ℕ A) (n : ℕ) → length (drop n v.items) < 2 ^ 6
 few v n = let dropped = length-drop n v.items in omega (arith, v.ok.0, v.ok.1, v.small, dropped)
 
 -- a step over data in memory states its data
-step_told : {A : Type 0} (step : Step (Cursor (Vec ℕ A))) → IsStep (λ c. Some (ending (cursor_bytes c))) step (step_value step)
-step_told AskStep = tt
-step_told (ReadStep number count) = (refl, refl)
-step_told (RespondStep number response) = (refl, (refl, refl, few (cursor_inner response.data_reader) (cursor_position response.data_reader)))
-step_told (DropStep number) = refl
+step_stated : {A : Type 0} (step : Step (Cursor (Vec ℕ A))) → IsStep (λ c. Some (ending (cursor_bytes c))) step (step_value step)
+step_stated AskStep = tt
+step_stated (ReadStep number count) = (refl, refl)
+step_stated (RespondStep number response) = (refl, (refl, refl, few (cursor_inner response.data_reader) (cursor_position response.data_reader)))
+step_stated (DropStep number) = refl
 
-pub told : {A : Type 0} (steps : List (Timed (Cursor (Vec ℕ A)))) → AllZip (IsTimedStep (λ c. Some (ending (cursor_bytes c)))) steps (map timed_value steps)
-told [] = tt
-told (t ∷ steps) = ((refl, step_told t.step), told steps)
+pub steps_stated : {A : Type 0} (steps : List (Timed (Cursor (Vec ℕ A)))) → AllZip (IsTimedStep (λ c. Some (ending (cursor_bytes c)))) steps (map timed_value steps)
+steps_stated [] = tt
+steps_stated (t ∷ steps) = ((refl, step_stated t.step), steps_stated steps)

@@ -1,4 +1,4 @@
-pub mod Fault
-pub mod Line
+pub mod ReplayFault
+pub mod ScriptLine
 pub mod Reply
 pub mod Script

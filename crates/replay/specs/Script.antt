@@ -5,19 +5,19 @@ use Rattle.std.specs.Io.KnownBytes.{Appends}
 use Rattle.std.specs.declared.io.Cursor.{Cursor}
 use Rattle.httpdate.specs.declared.date.HttpDate.{HttpDate}
 use Rattle.httpdate.specs.Date.{unix_secs}
-use Rattle.tiny_http_wire.specs.Answer.{answer_with, text_plain}
+use Rattle.tiny_http_wire.specs.Answer.{text_plain}
 use Rattle.tiny_http_wire.specs.Cursor.{cursor_bytes}
 use Rattle.tiny_http_wire.specs.Device.{Feed, Sink, ending}
-use Rattle.tiny_http_core.specs.Slots.{ResponseValue}
+use Rattle.tiny_http_core.specs.ResponseValue.{response_of}
 use Rattle.tiny_http_core.specs.Steps.{StepValue, Ask, Read, Respond, Drop, ReplyValue}
 use Rattle.tiny_http_core.specs.Conversation.{TimedValue, IsFresh, IsConversation}
 use Rattle.tiny_http_core.specs.declared.driver.Step.{Step}
 use Rattle.tiny_http_core.specs.declared.driver.Step.TheVariants.{Ask as AskStep, Read as ReadStep, Respond as RespondStep, Drop as DropStep}
 use Rattle.tiny_http_core.specs.declared.driver.Timed.{Timed}
 use Rattle.replay.specs.Reply.{reply_line}
-use Rattle.replay.specs.Line.{IsLine, IsGood}
-use Rattle.replay.specs.declared.line.Line.{Line}
-use Rattle.replay.specs.declared.line.Line.TheVariants.{Blank, Now, Ask as AskLine, Read as ReadLine, Text, Empty, Drop as DropLine}
+use Rattle.replay.specs.ScriptLine.{IsLine, IsGood}
+use Rattle.replay.specs.declared.line.ScriptLine.{ScriptLine}
+use Rattle.replay.specs.declared.line.ScriptLine.TheVariants.{Blank, Now, Ask as AskLine, Read as ReadLine, Text, Empty, Drop as DropLine}
 
 -- a LF ends a line, and so does the end
 abbrev pub script_lines : List ℕ → List (List ℕ)
@@ -29,26 +29,18 @@ IsFirstBadLine lines n =
     (front : List (List ℕ)) × (bad : List ℕ) × (rest : List (List ℕ))
     × (lines ≡ front ++ bad ∷ rest) × (length front + 1 ≡ n) × AllByRecursion IsGood front × ¬ (IsGood bad)
 
--- the answer of a text under a code
-abbrev pub text_response : ℕ → List ℕ → ResponseValue
-text_response status text = record { answer = answer_with status (text_plain ∷ []) (length text); content = ending text }
-
--- the answer without data under a code
-abbrev pub empty_response : ℕ → ResponseValue
-empty_response status = record { answer = answer_with status [] 0; content = ending [] }
-
 -- the step that a line names, if it names one
-abbrev pub said_step : Line → Option StepValue
+abbrev pub said_step : ScriptLine → Option StepValue
 said_step Blank = None
 said_step (Now date) = None
 said_step AskLine = Some Ask
 said_step (ReadLine number count) = Some (Read number count)
-said_step (Text number status text) = Some (Respond number (text_response status text.now))
-said_step (Empty number status) = Some (Respond number (empty_response status))
+said_step (Text number status text) = Some (Respond number (response_of status (text_plain ∷ []) text.now))
+said_step (Empty number status) = Some (Respond number (response_of status [] []))
 said_step (DropLine number) = Some (Drop number)
 
 -- the date of the steps from a line on
-abbrev pub date_behind : HttpDate → Line → HttpDate
+abbrev pub date_behind : HttpDate → ScriptLine → HttpDate
 date_behind now Blank = now
 date_behind now (Now date) = date
 date_behind now AskLine = now
@@ -63,14 +55,14 @@ on_date now None = []
 on_date now (Some step) = (now, step) ∷ []
 
 -- the steps of lines, from a date on
-abbrev pub steps_from : HttpDate → List Line → List TimedValue
+abbrev pub steps_from : HttpDate → List ScriptLine → List TimedValue
 steps_from now [] = []
 steps_from now (line ∷ lines) = on_date (date_behind now line) (said_step line) ++ steps_from (date_behind now line) lines
 
 -- these are the steps of a script; until a date is set it is second 420895020
 abbrev pub IsScript : List ℕ → List TimedValue → Type 0
 IsScript script steps =
-    (lines : List Line) × (first : HttpDate)
+    (lines : List ScriptLine) × (first : HttpDate)
     × AllZip IsLine (script_lines script) lines × (unix_secs first ≡ 420_895_020) × (steps ≡ steps_from first lines)
 
 -- a step over data in memory, as a value
@@ -92,8 +84,8 @@ pub record HasRun (client : List ℕ) (steps : List TimedValue) (replies : List 
   pub held : List ℕ
   pub fresh : IsFresh before
   pub ended : Bool
-  pub left : Option Feed
-  pub conversation : IsConversation (ending client) before steps replies after held ended left
+  pub unread : Option Feed
+  pub conversation : IsConversation (ending client) before steps replies after held ended unread
   pub no_fault : after.failures ≡ before.failures
   pub took : after.taken ≡ Some taken
   pub output_is : output ≡ taken ++ held

@@ -5,7 +5,7 @@ use std::fmt;
 
 /// Why a run is not made or not reported.
 #[derive(Clone, Copy, Debug, PartialEq, Eq)]
-pub(crate) enum Fault<'a> {
+pub(crate) enum ReplayFault<'a> {
     Usage,
     /// The file of this name.
     CannotRead(&'a str),
@@ -15,8 +15,8 @@ pub(crate) enum Fault<'a> {
     CannotWrite,
 }
 
-impl Fault<'_> {
-    ghost use Rattle.replay.specs.Fault.{exit_status};
+impl ReplayFault<'_> {
+    ghost use Rattle.replay.specs.ReplayFault.{exit_status};
 
     /// The exit status that reports it: 2 for what was asked wrongly, and 1 for what the system refused.
     pub(crate) fn status(&self) -> u8
@@ -25,20 +25,20 @@ impl Fault<'_> {
         ensures bound { result ≤ 2 }
     {
         match self {
-            Fault::Usage | Fault::CannotRead(_) | Fault::BadLine(_) => 2,
-            Fault::OutOfMemory | Fault::CannotWrite => 1,
+            ReplayFault::Usage | ReplayFault::CannotRead(_) | ReplayFault::BadLine(_) => 2,
+            ReplayFault::OutOfMemory | ReplayFault::CannotWrite => 1,
         }
     }
 }
 
-impl fmt::Display for Fault<'_> {
+impl fmt::Display for ReplayFault<'_> {
     fn fmt<W: fmt::Write>(&self, f: &mut fmt::Formatter<W>) -> fmt::Result {
         match self {
-            Fault::Usage => write!(f, "usage: replay BYTES SCRIPT"),
-            Fault::CannotRead(name) => write!(f, "cannot read {name}"),
-            Fault::BadLine(number) => write!(f, "bad line {number}"),
-            Fault::OutOfMemory => write!(f, "out of memory"),
-            Fault::CannotWrite => write!(f, "cannot write"),
+            ReplayFault::Usage => write!(f, "usage: replay BYTES SCRIPT"),
+            ReplayFault::CannotRead(name) => write!(f, "cannot read {name}"),
+            ReplayFault::BadLine(number) => write!(f, "bad line {number}"),
+            ReplayFault::OutOfMemory => write!(f, "out of memory"),
+            ReplayFault::CannotWrite => write!(f, "cannot write"),
         }
     }
 }

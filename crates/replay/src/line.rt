@@ -2,13 +2,13 @@
 ghost use Rattle.std.specs.Prelude.{◌≡◌, ◌<◌, ◌^◌, ℕ, List, ◌↔◌, IfSome, IsSomeAnd, IsSome};
 ghost use Rattle.std.specs.Option.{SomeIff};
 ghost use Rattle.std.specs.Str.Parse.{IsNumeral, digits_value};
-ghost use Rattle.replay.specs.Line.{BeginsByNumber, WritesDate, IsDate, WritesAnswer, IsAnswer, WritesRead, SaysLine, SaysSome, IsLine, IsGood};
+ghost use Rattle.replay.specs.ScriptLine.{BeginsByNumber, WritesDate, IsDate, WritesAnswer, IsAnswer, WritesRead, SaysLine, SaysSome, IsLine, IsGood};
 
 use httpdate::HttpDate;
 
 /// What a line says.
 #[derive(Clone, Copy, Debug)]
-pub(crate) enum Line<'a> {
+pub(crate) enum ScriptLine<'a> {
     /// Nothing: it is empty, or a comment.
     Blank,
     /// The date of all the steps after it.
@@ -55,7 +55,7 @@ fn date_in(seconds: &str) -> Option<HttpDate>
 }
 
 // What stands after `respond`: a number, a code, and `empty`, or `text` and the text.
-fn answer_in(words: &str) -> Option<Line<'_>>
+fn answer_in(words: &str) -> Option<ScriptLine<'_>>
     ensures some { IfSome result (λ line. WritesAnswer words.now line) }
     ensures found { IsAnswer words.now → IsSome result }
 {
@@ -63,8 +63,8 @@ fn answer_in(words: &str) -> Option<Line<'_>>
     let (status, content) = number_before(behind)?;
     let status = u16::try_from(status).ok()?;
     match content.strip_prefix("text ") {
-        Some(text) => Some(Line::Text(number, status, text)),
-        None if content == "empty" => Some(Line::Empty(number, status)),
+        Some(text) => Some(ScriptLine::Text(number, status, text)),
+        None if content == "empty" => Some(ScriptLine::Empty(number, status)),
         None => None,
     }
 }
@@ -80,31 +80,31 @@ fn count_in(words: &str) -> Option<(u64, u16)>
 }
 
 // What a text says; None where it says nothing known.
-fn text_in(text: &str) -> Option<Line<'_>>
+fn text_in(text: &str) -> Option<ScriptLine<'_>>
     ensures some { IfSome result (λ line. SaysLine text.now line) }
     ensures found { SaysSome text.now → IsSome result }
 {
     if text.is_empty() || text.starts_with('#') {
-        return Some(Line::Blank);
+        return Some(ScriptLine::Blank);
     }
     if text == "ask" {
-        return Some(Line::Ask);
+        return Some(ScriptLine::Ask);
     }
     if let Some(seconds) = text.strip_prefix("now ") {
-        return Some(Line::Now(date_in(seconds)?));
+        return Some(ScriptLine::Now(date_in(seconds)?));
     }
     if let Some(number) = text.strip_prefix("drop ") {
-        return Some(Line::Drop(number_in(number)?));
+        return Some(ScriptLine::Drop(number_in(number)?));
     }
     if let Some(words) = text.strip_prefix("read ") {
         let (number, count) = count_in(words)?;
-        return Some(Line::Read(number, count));
+        return Some(ScriptLine::Read(number, count));
     }
     answer_in(text.strip_prefix("respond ")?)
 }
 
 /// What a line says; None for a line that says nothing known, or that has a byte from 128 on.
-pub(crate) fn line_in(bytes: &[u8]) -> Option<Line<'_>>
+pub(crate) fn line_in(bytes: &[u8]) -> Option<ScriptLine<'_>>
     ensures says { IfSome result (λ line. IsLine bytes.now line) }
     ensures good { IsSome result ↔ IsGood bytes.now }
 {

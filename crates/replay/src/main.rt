@@ -4,7 +4,7 @@
 #![tactic(auto)]
 
 ghost use Rattle.std.specs.Prelude.{◌≡◌, ◌<◌, ◌≤◌, ◌⊎◌, ℕ, ◌++◌, map, Err, IsErrAnd, IfOk, IfErr, OnOk};
-ghost use Rattle.replay.specs.Fault.{exit_status};
+ghost use Rattle.replay.specs.ReplayFault.{exit_status};
 ghost use Rattle.replay.specs.Script.{script_lines, IsFirstBadLine, timed_value, HasRun, WritesReplay};
 ghost use Rattle.std.specs.Io.KnownBytes.{Appends};
 ghost use Rattle.std.specs.List.{flat_map};
@@ -19,7 +19,7 @@ mod script;
 #[cfg(test)]
 mod tests;
 
-use crate::fault::Fault;
+use crate::fault::ReplayFault;
 use crate::reply::ReplyLine;
 use crate::script::{Data, ScriptFault, read_script};
 use std::alloc::Global;
@@ -32,7 +32,7 @@ use tiny_http_wire::device::{Budget, Canned, WriteDevice};
 
 /// What a run left: the writer with what it took, what was held back, and what the steps were answered.
 #[derive(Drop)]
-struct Outcome {
+struct Replayed {
     writer: Budget,
     held: Vec<u8>,
     replies: Vec<Reply>,
@@ -43,24 +43,24 @@ fn run_steps(
     alloc: Global,
     bytes: Vec<u8>,
     steps: Vec<Timed<Data>>,
-) -> Result<Outcome, Fault<'static>>
+) -> Result<Replayed, ReplayFault<'static>>
     ensures runs { IfOk result (λ o. HasRun bytes.items (map timed_value steps.items) (map seen o.replies.items)
         (budget_bytes o.writer ++ o.held.items)) }
-    ensures memory { IfErr result (λ fault. fault ≡ Fault.OutOfMemory) }
+    ensures memory { IfErr result (λ fault. fault ≡ ReplayFault.OutOfMemory) }
 {
     let reader = Canned::new(bytes, None);
     let writer = Budget::new(alloc, usize::MAX, ErrorKind::OutOfMemory);
     let Ok(record) = run(alloc, reader, writer, steps) else {
-        return Err(Fault::OutOfMemory);
+        return Err(ReplayFault::OutOfMemory);
     };
     let outlet = record.outlet;
     if outlet.failures() > 0 {
-        return Err(Fault::OutOfMemory);
+        return Err(ReplayFault::OutOfMemory);
     }
     let Ok(held) = outlet.held().to_vec(alloc) else {
-        return Err(Fault::OutOfMemory);
+        return Err(ReplayFault::OutOfMemory);
     };
-    Ok(Outcome {
+    Ok(Replayed {
         writer: outlet.into_inner(),
         held,
         replies: record.replies,
@@ -70,7 +70,7 @@ fn run_steps(
 // Writes the output to the one, and a line for each reply to the other.
 #[tactic(auto, using(crate::proofs::ReplyLemmas::line_more))]
 fn write_outcome<O: Write, E: Write>(
-    outcome: &Outcome,
+    outcome: &Replayed,
     out: &mut O,
     err: &mut E,
 ) -> Result<(), io::Error>
@@ -95,36 +95,36 @@ fn replay<O: Write, E: Write>(
     script: &[u8],
     out: &mut O,
     err: &mut E,
-) -> Result<(), Fault<'static>>
+) -> Result<(), ReplayFault<'static>>
     ensures runs { OnOk result (WritesReplay bytes.items script.now (O.contents out.old) (O.contents out.new)
         (E.contents err.old) (E.contents err.new)) }
     // After a bad line nothing is run.
     ensures refused { (n : ℕ) → IsFirstBadLine (script_lines script.now) n
-        → IsErrAnd result (λ fault. (exit_status fault ≡ 2) ⊎ (fault ≡ Fault.OutOfMemory)) × (out.new ≡ out.old) }
-    ensures bad { (n : ℕ) → result ≡ Err (Fault.BadLine n) → IsFirstBadLine (script_lines script.now) n }
-    ensures kinds { IfErr result (λ fault. exit_status fault ≡ 2 → (n : ℕ) × (fault ≡ Fault.BadLine n)) }
+        → IsErrAnd result (λ fault. (exit_status fault ≡ 2) ⊎ (fault ≡ ReplayFault.OutOfMemory)) × (out.new ≡ out.old) }
+    ensures bad { (n : ℕ) → result ≡ Err (ReplayFault.BadLine n) → IsFirstBadLine (script_lines script.now) n }
+    ensures kinds { IfErr result (λ fault. exit_status fault ≡ 2 → (n : ℕ) × (fault ≡ ReplayFault.BadLine n)) }
 {
     let steps = match read_script(alloc, script) {
         Ok(steps) => steps,
-        Err(ScriptFault::BadLine(number)) => return Err(Fault::BadLine(number)),
-        Err(ScriptFault::OutOfMemory) => return Err(Fault::OutOfMemory),
+        Err(ScriptFault::BadLine(number)) => return Err(ReplayFault::BadLine(number)),
+        Err(ScriptFault::OutOfMemory) => return Err(ReplayFault::OutOfMemory),
     };
     let outcome = run_steps(alloc, bytes, steps)?;
     match write_outcome(&outcome, out, err) {
         Ok(()) => Ok(()),
-        Err(_) => Err(Fault::CannotWrite),
+        Err(_) => Err(ReplayFault::CannotWrite),
     }
 }
 
 // Reports a fault by a line, and gives the exit status that reports it.
-fn tell<E: Write>(fault: &Fault<'_>, err: &mut E) -> u8
+fn report<E: Write>(fault: &ReplayFault<'_>, err: &mut E) -> u8
     ensures some { 0 < result }
     ensures bound { result ≤ 2 }
     ensures two { result ≡ 2 → exit_status fault.now ≡ 2 }
 {
     match writeln!(err, "replay: {fault}") {
         Ok(()) => fault.status(),
-        Err(_) => Fault::CannotWrite.status(),
+        Err(_) => ReplayFault::CannotWrite.status(),
     }
 }
 
@@ -147,16 +147,16 @@ pub fn replay_on<O: Write, E: Write>(
 {
     match replay(alloc, bytes, script, out, err) {
         Ok(()) => 0,
-        Err(fault) => tell(&fault, err),
+        Err(fault) => report(&fault, err),
     }
 }
 
 // All bytes of a file.
-fn read_file<'a, R: Files + AllocGlobal>(rt: &R, name: &'a str) -> Result<Vec<u8>, Fault<'a>> {
+fn read_file<'a, R: Files + AllocGlobal>(rt: &R, name: &'a str) -> Result<Vec<u8>, ReplayFault<'a>> {
     match fs::read(rt, name) {
         Ok(bytes) => Ok(bytes),
-        Err(fault) if fault.kind() == ErrorKind::OutOfMemory => Err(Fault::OutOfMemory),
-        Err(_) => Err(Fault::CannotRead(name)),
+        Err(fault) if fault.kind() == ErrorKind::OutOfMemory => Err(ReplayFault::OutOfMemory),
+        Err(_) => Err(ReplayFault::CannotRead(name)),
     }
 }
 
@@ -164,9 +164,9 @@ fn read_file<'a, R: Files + AllocGlobal>(rt: &R, name: &'a str) -> Result<Vec<u8
 fn read_files<'a, R: Files + AllocGlobal>(
     rt: &R,
     words: &'a [String],
-) -> Result<(Vec<u8>, Vec<u8>), Fault<'a>> {
+) -> Result<(Vec<u8>, Vec<u8>), ReplayFault<'a>> {
     let [_, bytes, script] = words else {
-        return Err(Fault::Usage);
+        return Err(ReplayFault::Usage);
     };
     let bytes = read_file(rt, bytes.as_str())?;
     let script = read_file(rt, script.as_str())?;
@@ -174,14 +174,14 @@ fn read_files<'a, R: Files + AllocGlobal>(
 }
 
 // The words of the command line, the program's name first. One that isn't UTF-8 can't name a file here.
-fn words<R: Env + AllocGlobal>(rt: &R) -> Result<Vec<String>, Fault<'static>> {
+fn words<R: Env + AllocGlobal>(rt: &R) -> Result<Vec<String>, ReplayFault<'static>> {
     match env::args(rt) {
         Ok(words) => match words.collect(rt.alloc()) {
             Ok(words) => Ok(words),
-            Err(_) => Err(Fault::OutOfMemory),
+            Err(_) => Err(ReplayFault::OutOfMemory),
         },
-        Err(fault) if fault.kind() == ErrorKind::OutOfMemory => Err(Fault::OutOfMemory),
-        Err(_) => Err(Fault::Usage),
+        Err(fault) if fault.kind() == ErrorKind::OutOfMemory => Err(ReplayFault::OutOfMemory),
+        Err(_) => Err(ReplayFault::Usage),
     }
 }
 
@@ -190,11 +190,11 @@ fn main(rt: HostRuntime) -> ExitCode {
     let mut err = rt.stderr();
     let words = match words(&rt) {
         Ok(words) => words,
-        Err(fault) => return ExitCode::from(tell(&fault, &mut err)),
+        Err(fault) => return ExitCode::from(report(&fault, &mut err)),
     };
     let (bytes, script) = match read_files(&rt, words.as_slice()) {
         Ok(files) => files,
-        Err(fault) => return ExitCode::from(tell(&fault, &mut err)),
+        Err(fault) => return ExitCode::from(report(&fault, &mut err)),
     };
     let status = replay_on(rt.alloc(), bytes, script.as_slice(), &mut out, &mut err);
     ExitCode::from(status)

@@ -71,7 +71,7 @@ impl fmt::Display for Bytes<'_> {
     }
 }
 
-// The kinds of fault that the replies tell apart.
+// The kinds of fault that the replies report apart.
 fn name_of(kind: ErrorKind) -> &'static str
     ensures { result.now ≡ kind_name kind }
 {

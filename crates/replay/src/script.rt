@@ -3,10 +3,10 @@ ghost use Rattle.std.specs.Prelude.{◌≡◌, ℕ, ◌++◌, map, Err, IfOk};
 ghost use Rattle.std.specs.Option.{option_map};
 ghost use Rattle.std.specs.List.{AllZip};
 ghost use Rattle.httpdate.specs.Date.{unix_secs};
-ghost use Rattle.replay.specs.Line.{IsLine};
+ghost use Rattle.replay.specs.ScriptLine.{IsLine};
 ghost use Rattle.replay.specs.Script.{script_lines, IsFirstBadLine, said_step, date_behind, on_date, steps_from, IsScript, step_value, timed_value};
 
-use crate::line::{Line, line_in};
+use crate::line::{ScriptLine, line_in};
 use httpdate::HttpDate;
 use std::alloc::{AllocError, Global};
 use std::io::Cursor;
@@ -43,7 +43,7 @@ fn split_lines(alloc: Global, script: &[u8]) -> Result<Vec<&[u8]>, AllocError>
 }
 
 // What the lines say; or the first one that says nothing.
-fn read_lines<'a>(alloc: Global, lines: &[&'a [u8]]) -> Result<Vec<Line<'a>>, ScriptFault>
+fn read_lines<'a>(alloc: Global, lines: &[&'a [u8]]) -> Result<Vec<ScriptLine<'a>>, ScriptFault>
     ensures says { IfOk result (λ said. AllZip IsLine (map (λ line. line.now) lines.now) said.items) }
     ensures bad { (n : ℕ) → result ≡ Err (ScriptFault.BadLine n)
         → IsFirstBadLine (map (λ line. line.now) lines.now) n }
@@ -61,34 +61,34 @@ fn read_lines<'a>(alloc: Global, lines: &[&'a [u8]]) -> Result<Vec<Line<'a>>, Sc
 }
 
 // The step that a line names, if it names one.
-fn step_in(alloc: Global, line: &Line<'_>) -> Result<Option<Step<Data>>, AllocError>
+fn step_in(alloc: Global, line: &ScriptLine<'_>) -> Result<Option<Step<Data>>, AllocError>
     ensures { IfOk result (λ step. option_map step_value step ≡ said_step line.now) }
 {
     match line {
-        Line::Blank | Line::Now(_) => Ok(None),
-        Line::Ask => Ok(Some(Step::Ask)),
-        Line::Read(number, count) => Ok(Some(Step::Read(*number, *count))),
-        Line::Text(number, status, text) => {
+        ScriptLine::Blank | ScriptLine::Now(_) => Ok(None),
+        ScriptLine::Ask => Ok(Some(Step::Ask)),
+        ScriptLine::Read(number, count) => Ok(Some(Step::Read(*number, *count))),
+        ScriptLine::Text(number, status, text) => {
             let text = String::from_str(alloc, text)?;
             let response = Response::from_string(alloc, text)?;
             let response = response.with_status_code(StatusCode(*status));
             Ok(Some(Step::Respond(*number, response)))
         }
-        Line::Empty(number, status) => {
+        ScriptLine::Empty(number, status) => {
             let response = Response::from_data(alloc, Vec::new(alloc));
             let response = response.with_status_code(StatusCode(*status));
             Ok(Some(Step::Respond(*number, response)))
         }
-        Line::Drop(number) => Ok(Some(Step::Drop(*number))),
+        ScriptLine::Drop(number) => Ok(Some(Step::Drop(*number))),
     }
 }
 
 // The date from a line on.
-fn date_from(now: HttpDate, line: &Line<'_>) -> HttpDate
+fn date_from(now: HttpDate, line: &ScriptLine<'_>) -> HttpDate
     ensures { result ≡ date_behind now line.now }
 {
     match line {
-        Line::Now(date) => *date,
+        ScriptLine::Now(date) => *date,
         _ => now,
     }
 }
@@ -98,7 +98,7 @@ fn add_step(
     alloc: Global,
     steps: &mut Vec<Timed<Data>>,
     now: HttpDate,
-    line: &Line<'_>,
+    line: &ScriptLine<'_>,
 ) -> Result<(), AllocError>
     ensures { IfOk result (λ _. map timed_value steps.new.items
         ≡ map timed_value steps.old.items ++ on_date now (said_step line.now)) }
@@ -113,7 +113,7 @@ fn add_step(
 fn read_steps(
     alloc: Global,
     first: HttpDate,
-    lines: &[Line<'_>],
+    lines: &[ScriptLine<'_>],
 ) -> Result<Vec<Timed<Data>>, AllocError>
     ensures { IfOk result (λ steps. map timed_value steps.items ≡ steps_from first lines.now) }
 {

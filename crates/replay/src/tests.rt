@@ -1,7 +1,7 @@
 //! Scripts as a whole: what is written, and the exit status.
-use crate::fault::Fault;
+use crate::fault::ReplayFault;
 use crate::reply::ReplyLine;
-use crate::{read_files, replay_on, tell};
+use crate::{read_files, replay_on, report};
 use std::alloc::{AllocError, Global};
 use std::io::ErrorKind;
 use std::process::Abort;
@@ -149,7 +149,7 @@ fn bodies_are_read(rt: HostRuntime) -> Result<(), Fail> {
 }
 
 #[test]
-fn bytes_are_told_in_hexadecimal(rt: HostRuntime) -> Result<(), Fail> {
+fn bytes_are_printed_in_hexadecimal(rt: HostRuntime) -> Result<(), Fail> {
     for (bytes, want) in [
         (b"".as_slice(), "given"),
         (b"\0", "given 00"),
@@ -292,7 +292,7 @@ fn no_step_of_a_later_stage(rt: HostRuntime) -> Result<(), Fail> {
 }
 
 #[test]
-fn the_first_bad_line_is_told(rt: HostRuntime) -> Result<(), Fail> {
+fn the_first_bad_line_is_reported(rt: HostRuntime) -> Result<(), Fail> {
     for (script, number) in [
         ("ask\nrespond 0 200 text x\nbad\nworse\n", 3),
         ("\n# one\n\nask \nask", 4),
@@ -324,7 +324,7 @@ fn a_writer_that_refuses(rt: HostRuntime) -> Result<(), Fail> {
 }
 
 #[test]
-fn a_teller_that_refuses(rt: HostRuntime) -> Result<(), Fail> {
+fn a_writer_that_refuses(rt: HostRuntime) -> Result<(), Fail> {
     let alloc = rt.alloc();
     let (bytes, script) = HELLO;
     for script in [script, "bad"] {
@@ -341,17 +341,17 @@ fn a_teller_that_refuses(rt: HostRuntime) -> Result<(), Fail> {
 }
 
 #[test]
-fn faults_are_told(rt: HostRuntime) -> Result<(), Fail> {
+fn faults_are_reported(rt: HostRuntime) -> Result<(), Fail> {
     let alloc = rt.alloc();
     for (fault, line, status) in [
-        (Fault::Usage, "replay: usage: replay BYTES SCRIPT\n", 2),
-        (Fault::CannotRead("a b"), "replay: cannot read a b\n", 2),
-        (Fault::BadLine(12), "replay: bad line 12\n", 2),
-        (Fault::OutOfMemory, "replay: out of memory\n", 1),
-        (Fault::CannotWrite, "replay: cannot write\n", 1),
+        (ReplayFault::Usage, "replay: usage: replay BYTES SCRIPT\n", 2),
+        (ReplayFault::CannotRead("a b"), "replay: cannot read a b\n", 2),
+        (ReplayFault::BadLine(12), "replay: bad line 12\n", 2),
+        (ReplayFault::OutOfMemory, "replay: out of memory\n", 1),
+        (ReplayFault::CannotWrite, "replay: cannot write\n", 1),
     ] {
         let mut err = Vec::new(alloc);
-        assert_eq!(rt; tell(&fault, &mut err), status);
+        assert_eq!(rt; report(&fault, &mut err), status);
         assert_eq!(rt; err.as_slice(), line.as_bytes());
     }
     Ok(())
@@ -362,11 +362,11 @@ fn the_bytes_are_read_first(rt: HostRuntime) -> Result<(), Fail> {
     let alloc = rt.alloc();
     let mut words = Vec::new(alloc);
     for word in ["replay", "missing.request", "missing.script"] {
-        assert_eq!(rt; read_files(&rt, words.as_slice()).err(), Some(Fault::Usage));
+        assert_eq!(rt; read_files(&rt, words.as_slice()).err(), Some(ReplayFault::Usage));
         words.push(String::from_str(alloc, word)?)?;
     }
     let fault = read_files(&rt, words.as_slice()).err();
-    assert_eq!(rt; fault, Some(Fault::CannotRead("missing.request")));
+    assert_eq!(rt; fault, Some(ReplayFault::CannotRead("missing.request")));
     Ok(())
 }
 

@@ -21,8 +21,8 @@ ok-parts a b rest other e =
     let p : ◌≡◌ {A = ClientAnswer × List ℕ} (a, rest) (b, other) = cc in
     (ap (λ (x : ClientAnswer × List ℕ). x.0) p, ap (λ (x : ClientAnswer × List ℕ). x.1) p)
 
-ok-err : (a : ClientAnswer × List ℕ) (t : Lack) → ◌≡◌ {A = AnswerRead} (Ok a) (Err t) → ⊥
-ok-err a t e = cc
+client_law-ok-err : (a : ClientAnswer × List ℕ) (t : Lack) → ◌≡◌ {A = AnswerRead} (Ok a) (Err t) → ⊥
+client_law-ok-err a t e = cc
 
 unfinished-invalid : ◌≡◌ {A = AnswerRead} (Err Unfinished) (Err Invalid) → ⊥
 unfinished-invalid e = cc
@@ -31,7 +31,7 @@ pub answer-same : (m : Method) (bytes : List ℕ) (a b : ClientAnswer) (rest oth
 answer-same m bytes a b rest other h k = ok-parts a b rest other (sym (answer-one m bytes a rest h) ∙ answer-one m bytes b other k)
 
 pub answer-no_lack : (m : Method) (bytes : List ℕ) (t : Lack) (a : ClientAnswer) (rest : List ℕ) → ReadsAnswer m bytes a rest → LacksAnswer m bytes t → ⊥
-answer-no_lack m bytes t a rest h k = ok-err (a, rest) t (sym (answer-one m bytes a rest h) ∙ answer-fault m bytes t k)
+answer-no_lack m bytes t a rest h k = client_law-ok-err (a, rest) t (sym (answer-one m bytes a rest h) ∙ answer-fault m bytes t k)
 
 pub lack-one : (m : Method) (bytes : List ℕ) → UnfinishedAnswer m bytes → MalformedAnswer m bytes → ⊥
 lack-one m bytes h k = unfinished-invalid (sym (answer-fault m bytes Unfinished h) ∙ answer-fault m bytes Invalid k)

@@ -38,15 +38,15 @@ cut-front c (b ∷ bs) rest h =
 abbrev CutsAt : ℕ → List ℕ → List ℕ × List ℕ → Type 0
 CutsAt c text l = (text ≡ l.0 ++ c ∷ l.1) × HasNo c l.0
 
-cut-step : (c b : ℕ) (bs : List ℕ) (t : Bool) → (b == c) ≡ t → (o : Option (List ℕ × List ℕ)) → MatchOption o (Unit {0}) (CutsAt c bs)
+client_line-cut-step : (c b : ℕ) (bs : List ℕ) (t : Bool) → (b == c) ≡ t → (o : Option (List ℕ × List ℕ)) → MatchOption o (Unit {0}) (CutsAt c bs)
     → MatchOption (cond t (Some ([], bs)) (option_map (λ (l : List ℕ × List ℕ). (b ∷ l.0, l.1)) o)) (Unit {0}) (CutsAt c (b ∷ bs))
-cut-step c b bs true e o h = (ap (λ x. x ∷ bs) (eqb-true b c e), refl)
-cut-step c b bs false e None h = tt
-cut-step c b bs false e (Some l) h = (ap (λ x. b ∷ x) h.0, rw e h.1)
+client_line-cut-step c b bs true e o h = (ap (λ x. x ∷ bs) (eqb-true b c e), refl)
+client_line-cut-step c b bs false e None h = tt
+client_line-cut-step c b bs false e (Some l) h = (ap (λ x. b ∷ x) h.0, rw e h.1)
 
-cut-is : (c : ℕ) (text : List ℕ) → MatchOption (cut c text) (Unit {0}) (CutsAt c text)
-cut-is c [] = tt
-cut-is c (b ∷ bs) = cut-step c b bs (b == c) refl (cut c bs) (cut-is c bs)
+client_line-cut-is : (c : ℕ) (text : List ℕ) → MatchOption (cut c text) (Unit {0}) (CutsAt c text)
+client_line-cut-is c [] = tt
+client_line-cut-is c (b ∷ bs) = client_line-cut-step c b bs (b == c) refl (cut c bs) (client_line-cut-is c bs)
 
 cond-some : {A : Type 0} (t : Bool) (o : Option A) (y : A) → cond t o None ≡ Some y → (t ≡ true) × (o ≡ Some y)
 cond-some true o y e = (refl, e)
@@ -89,7 +89,7 @@ number-of-is most c text None h = tt
 number-of-is most c text (Some l) h = with-rest-is most c text l.0 l.1 h.0 (decimal_read most l.0) refl
 
 until-is : (most c : ℕ) (text : List ℕ) → MatchOption (decimal_until most c text) (Unit {0}) (Numbers most c text)
-until-is most c text = number-of-is most c text (cut c text) (cut-is c text)
+until-is most c text = number-of-is most c text (cut c text) (client_line-cut-is c text)
 
 -- a text is one status line
 pub status-line-one : (text : List ℕ) (v : HTTPVersion) (status : ℕ) → StatusLine text v status → status_line_read text ≡ Some (v, status)
@@ -101,62 +101,62 @@ status-line-one text v status s =
       until-one 65535 space status s.phrase (omega arith) s.status_fits (omega arith),
     ) refl
 
-abbrev IsStatus : List ℕ → HTTPVersion × ℕ → Type 0
-IsStatus text r = StatusLine text r.0 r.1
+abbrev ClientLineIsStatus : List ℕ → HTTPVersion × ℕ → Type 0
+ClientLineIsStatus text r = StatusLine text r.0 r.1
 
 status-read-is : (text t2 : List ℕ) (major minor : ℕ) → text ≡ codes "HTTP/" ++ (decimal major ++ point ∷ (decimal minor ++ space ∷ t2)) → major ≤ 255 → minor ≤ 255
-    → (o : Option (ℕ × List ℕ)) → MatchOption o (Unit {0}) (Numbers 65535 space t2) → MatchOption (status_read major minor o) (Unit {0}) (IsStatus text)
+    → (o : Option (ℕ × List ℕ)) → MatchOption o (Unit {0}) (Numbers 65535 space t2) → MatchOption (status_read major minor o) (Unit {0}) (ClientLineIsStatus text)
 status-read-is text t2 major minor j h k None n = tt
 status-read-is text t2 major minor j h k (Some c) n =
     record { phrase = c.1; joins = j ∙ ap (λ x. codes "HTTP/" ++ (decimal major ++ point ∷ (decimal minor ++ space ∷ x))) n.0; major_fits = h; minor_fits = k; status_fits = n.1 }
 
 minor-read-is : (text t1 : List ℕ) (major : ℕ) → text ≡ codes "HTTP/" ++ (decimal major ++ point ∷ t1) → major ≤ 255
-    → (o : Option (ℕ × List ℕ)) → MatchOption o (Unit {0}) (Numbers 255 space t1) → MatchOption (minor_read major o) (Unit {0}) (IsStatus text)
+    → (o : Option (ℕ × List ℕ)) → MatchOption o (Unit {0}) (Numbers 255 space t1) → MatchOption (minor_read major o) (Unit {0}) (ClientLineIsStatus text)
 minor-read-is text t1 major j h None n = tt
 minor-read-is text t1 major j h (Some b) n =
     status-read-is text b.1 major b.0 (j ∙ ap (λ x. codes "HTTP/" ++ (decimal major ++ point ∷ x)) n.0) h n.1 (decimal_until 65535 space b.1) (until-is 65535 space b.1)
 
-major-read-is : (text t0 : List ℕ) → text ≡ codes "HTTP/" ++ t0 → (o : Option (ℕ × List ℕ)) → MatchOption o (Unit {0}) (Numbers 255 point t0) → MatchOption (major_read o) (Unit {0}) (IsStatus text)
+major-read-is : (text t0 : List ℕ) → text ≡ codes "HTTP/" ++ t0 → (o : Option (ℕ × List ℕ)) → MatchOption o (Unit {0}) (Numbers 255 point t0) → MatchOption (major_read o) (Unit {0}) (ClientLineIsStatus text)
 major-read-is text t0 j None n = tt
 major-read-is text t0 j (Some a) n =
     minor-read-is text a.1 a.0 (j ∙ ap (λ x. codes "HTTP/" ++ x) n.0) n.1 (decimal_until 255 space a.1) (until-is 255 space a.1)
 
-word-step : (text : List ℕ) (w : List ℕ × List ℕ) (t : Bool) → CutsAt 47 text w → bytes_eq w.0 (codes "HTTP") ≡ t → MatchOption (cond t (major_read (decimal_until 255 point w.1)) None) (Unit {0}) (IsStatus text)
+word-step : (text : List ℕ) (w : List ℕ × List ℕ) (t : Bool) → CutsAt 47 text w → bytes_eq w.0 (codes "HTTP") ≡ t → MatchOption (cond t (major_read (decimal_until 255 point w.1)) None) (Unit {0}) (ClientLineIsStatus text)
 word-step text w false h e = tt
 word-step text w true h e =
     major-read-is text w.1 (h.0 ∙ ap (λ x. x ++ 47 ∷ w.1) ((bytes_eq-Decides w.0 (codes "HTTP")).0 e)) (decimal_until 255 point w.1) (until-is 255 point w.1)
 
-word-read-is : (text : List ℕ) (o : Option (List ℕ × List ℕ)) → MatchOption o (Unit {0}) (CutsAt 47 text) → MatchOption (protocol_read o) (Unit {0}) (IsStatus text)
+word-read-is : (text : List ℕ) (o : Option (List ℕ × List ℕ)) → MatchOption o (Unit {0}) (CutsAt 47 text) → MatchOption (protocol_read o) (Unit {0}) (ClientLineIsStatus text)
 word-read-is text None h = tt
 word-read-is text (Some w) h = word-step text w (bytes_eq w.0 (codes "HTTP")) h refl
 
-pub status-line-are : (text : List ℕ) → MatchOption (status_line_read text) (Unit {0}) (IsStatus text)
-status-line-are text = word-read-is text (cut 47 text) (cut-is 47 text)
+pub status-line-are : (text : List ℕ) → MatchOption (status_line_read text) (Unit {0}) (ClientLineIsStatus text)
+status-line-are text = word-read-is text (cut 47 text) (client_line-cut-is 47 text)
 
 -- a text is one field line
 pub field-line-one : (text : List ℕ) (h : Header) → FieldLine text h → field_line_read text ≡ Some h
 field-line-one text h l = rw (l.joins, cut-front colon h.field (space ∷ h.value) l.no_colon, l.no_blank, l.one_space) refl
 
-abbrev IsFieldLine : List ℕ → Header → Type 0
-IsFieldLine text h = FieldLine text h
+abbrev ClientLineIsFieldLine : List ℕ → Header → Type 0
+ClientLineIsFieldLine text h = FieldLine text h
 
 value-step : (field bs : List ℕ) (b : ℕ) (text : List ℕ) → text ≡ field ++ colon ∷ b ∷ bs → HasNo colon field → HasNoBlank field
-    → (t u : Bool) → (b == space) ≡ t → has_bare_front is_space bs ≡ u → MatchOption (with_field field (cond (t && u) (Some bs) None)) (Unit {0}) (IsFieldLine text)
+    → (t u : Bool) → (b == space) ≡ t → has_bare_front is_space bs ≡ u → MatchOption (with_field field (cond (t && u) (Some bs) None)) (Unit {0}) (ClientLineIsFieldLine text)
 value-step field bs b text j h k true true e f = record { joins = j ∙ ap (λ x. field ++ colon ∷ x ∷ bs) (eqb-true b space e); no_colon = h; no_blank = k; one_space = f }
 value-step field bs b text j h k true false e f = tt
 value-step field bs b text j h k false u e f = tt
 
-value-is : (field after text : List ℕ) → text ≡ field ++ colon ∷ after → HasNo colon field → HasNoBlank field → MatchOption (with_field field (value_read after)) (Unit {0}) (IsFieldLine text)
+value-is : (field after text : List ℕ) → text ≡ field ++ colon ∷ after → HasNo colon field → HasNoBlank field → MatchOption (with_field field (value_read after)) (Unit {0}) (ClientLineIsFieldLine text)
 value-is field [] text j h k = tt
 value-is field (b ∷ bs) text j h k = value-step field bs b text j h k (b == space) (has_bare_front is_space bs) refl refl
 
-field-step : (text : List ℕ) (l : List ℕ × List ℕ) (t : Bool) → CutsAt colon text l → list_all (λ b. not (is_blank b)) l.0 ≡ t → MatchOption (cond t (with_field l.0 (value_read l.1)) None) (Unit {0}) (IsFieldLine text)
+field-step : (text : List ℕ) (l : List ℕ × List ℕ) (t : Bool) → CutsAt colon text l → list_all (λ b. not (is_blank b)) l.0 ≡ t → MatchOption (cond t (with_field l.0 (value_read l.1)) None) (Unit {0}) (ClientLineIsFieldLine text)
 field-step text l false h e = tt
 field-step text l true h e = value-is l.0 l.1 text h.0 h.1 e
 
-field-read-is : (text : List ℕ) (o : Option (List ℕ × List ℕ)) → MatchOption o (Unit {0}) (CutsAt colon text) → MatchOption (field_line_cut o) (Unit {0}) (IsFieldLine text)
+field-read-is : (text : List ℕ) (o : Option (List ℕ × List ℕ)) → MatchOption o (Unit {0}) (CutsAt colon text) → MatchOption (field_line_cut o) (Unit {0}) (ClientLineIsFieldLine text)
 field-read-is text None h = tt
 field-read-is text (Some l) h = field-step text l (list_all (λ b. not (is_blank b)) l.0) h refl
 
-pub field-line-are : (text : List ℕ) → MatchOption (field_line_read text) (Unit {0}) (IsFieldLine text)
-field-line-are text = field-read-is text (cut colon text) (cut-is colon text)
+pub field-line-are : (text : List ℕ) → MatchOption (field_line_read text) (Unit {0}) (ClientLineIsFieldLine text)
+field-line-are text = field-read-is text (cut colon text) (client_line-cut-is colon text)

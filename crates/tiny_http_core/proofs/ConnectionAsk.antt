@@ -20,16 +20,17 @@ use Rattle.tiny_http_message.specs.declared.waiting.AnswerForm.{AnswerForm}
 use Rattle.tiny_http_message.specs.declared.waiting.Waiting.{Waiting}
 use Rattle.tiny_http_message.specs.Framing.{is_built}
 use Rattle.tiny_http_stream.specs.Source.{GoesOn}
-use Rattle.tiny_http_message.specs.Pipeline.{Item, Asks, Refuses, BadRequest, RequestTimeout, ExpectationFailed, VersionNotSupported, Request, Place, Heading, Ends, Heads, OneHead, FoundAt, served, served_answer, is_head_method, Pipeline}
-use Rattle.tiny_http_message.specs.HeadReads.{ReadsHead, IsBeforeHead, standing_of, place_after, place_feed, request_of, bad_request_item, head_message, head_framing}
+use Rattle.tiny_http_message.specs.Pipeline.{Item, Asks, Refuses, BadRequest, RequestTimeout, ExpectationFailed, VersionNotSupported, Request, Place, Heading, Ends, Heads, OneHead, FoundAt, served, served_answer, is_head_method, Pipeline, place_after}
+use Rattle.tiny_http_message.specs.HeadReads.{ReadsHead, IsBeforeHead, standing_of, place_feed, request_of, bad_request_item, head_message, head_framing}
 use Rattle.tiny_http_message.specs.declared.exchange.EndOfRequests.{EndOfRequests}
 use Rattle.tiny_http_stream.specs.declared.source.Standing.{Standing}
 use Rattle.tiny_http_stream.specs.declared.source.Standing.TheVariants as in_place
 use Rattle.tiny_http_wire.specs.declared.common.StatusCode.{StatusCode}
 use Rattle.tiny_http_message.specs.Exchange.{KeepsRequest}
-use Rattle.tiny_http_message.specs.Body.{Remaining, remaining, taken_left, is_streaming}
+use Rattle.tiny_http_message.specs.Body.{Remaining, remaining, taken_remaining, is_streaming}
 use Rattle.tiny_http_core.specs.Slots.{Slot, is_finished, is_broken, is_slot_broken, segment, joined, new_slot, turn_has_come, is_chunked, last_slot, last_holds_reader, last_was_abandoned, is_last_slot}
-use Rattle.tiny_http_message.specs.OwnAnswer.{own_text, own_text_by, own_printing_to}
+use Rattle.tiny_http_message.specs.ResponseValue.{printing_to}
+use Rattle.tiny_http_message.specs.OwnAnswer.{own_text, own_text_by}
 use Rattle.tiny_http_core.specs.Steps.{StepValue, Ask, ReplyValue, Handed, Ended, NotYet, Memory, Unused, Unreported, Outcome, Reached, unchanged, ask, asks_from, outcome}
 use Rattle.tiny_http_core.specs.Conversation.{Failure, State, PlaceAt, WriterPart, flushed_after, HasOutcome, StepsTo}
 use Rattle.tiny_http_core.proofs.ConversationWriting.{IsAllFlushed, unreported, still-flushed}
@@ -46,6 +47,7 @@ use Rattle.tiny_http_core.proofs.SlotsLemmas.{joined-waits, joined-hidden, break
 use Rattle.tiny_http_core.proofs.ConnectionKept.{kept-append, kept-length, shape-issued, InTurn, OutOfTurn, turn-at}
 use Rattle.tiny_http_core.proofs.ConnectionOutput.{ended-is, output-same, Goes, output-more}
 use Rattle.tiny_http_core.proofs.PendingLemmas.{first-issued}
+use Rattle.tiny_http_stream.proofs.SourceGoesOn.{goes-on_same}
 
 -- the step was answered so
 abbrev pub StepIsAnswered : Feed → Sink → Kept → State → HttpDate → StepValue → ReplyValue → Type 0
@@ -59,17 +61,17 @@ step-unchanged client before k s date step reply h e =
     (s, h, inl (true, tt, subst P (sym e) (refl, refl, (refl, refl))))
 
 -- what an Ask comes to
-ask-ends : (date : HttpDate) (old : Reached) → old.ended ≡ true → ask date old ≡ unchanged old Ended
+ask-ends : (date : HttpDate) (old : Reached) → old.asking_ended ≡ true → ask date old ≡ unchanged old Ended
 ask-ends date old e = rw e refl
 
-ask-held : (date : HttpDate) (old : Reached) → old.ended ≡ false → last_holds_reader (last_slot old.slots) ≡ true → ask date old ≡ unchanged old NotYet
+ask-held : (date : HttpDate) (old : Reached) → old.asking_ended ≡ false → last_holds_reader (last_slot old.slots) ≡ true → ask date old ≡ unchanged old NotYet
 ask-held date old e h = rw (e, h) refl
 
-ask-lost : (date : HttpDate) (old : Reached) → old.ended ≡ false → last_holds_reader (last_slot old.slots) ≡ false → last_was_abandoned (last_slot old.slots) ≡ true
-    → ask date old ≡ record { reply = Ended; slots = old.slots; rest = old.rest; ended = true; writer = Unused }
+ask-lost : (date : HttpDate) (old : Reached) → old.asking_ended ≡ false → last_holds_reader (last_slot old.slots) ≡ false → last_was_abandoned (last_slot old.slots) ≡ true
+    → ask date old ≡ record { reply = Ended; slots = old.slots; rest = old.rest; asking_ended = true; writer = Unused }
 ask-lost date old e h l = rw (e, h, l) refl
 
-ask-goes : (date : HttpDate) (old : Reached) → old.ended ≡ false → last_holds_reader (last_slot old.slots) ≡ false → last_was_abandoned (last_slot old.slots) ≡ false
+ask-goes : (date : HttpDate) (old : Reached) → old.asking_ended ≡ false → last_holds_reader (last_slot old.slots) ≡ false → last_was_abandoned (last_slot old.slots) ≡ false
     → ask date old ≡ asks_from date Unused old.slots old.rest
 ask-goes date old e h l = rw (e, h, l) refl
 
@@ -100,14 +102,14 @@ one-head-unowed bytes stop r next h = found-unowed stop h.0 r next h.2
 -- where the asking goes on the rest of the pipeline stands where the input does
 pub record Going (k : Kept) (s : State) : Type 0 where
   pub feed : Feed
-  pub told : k.feed ≡ Some feed
+  pub end_reported : k.feed ≡ Some feed
   pub unheld : last_holds_reader (last_slot s.reached.slots) ≡ false
   pub kept : last_was_abandoned (last_slot s.reached.slots) ≡ false
   pub pipeline : Pipeline (Some feed.bytes) feed.stop s.reached.rest
 
-pub told-feed : (client : Feed) (o : Option Feed) → GoesOn (Some client) o → (f : Feed) × (o ≡ Some f)
-told-feed client None h = absurd h
-told-feed client (Some f) h = (f, refl)
+pub stated-feed : (client : Feed) (o : Option Feed) → GoesOn (Some client) o → (f : Feed) × (o ≡ Some f)
+stated-feed client None h = absurd h
+stated-feed client (Some f) h = (f, refl)
 
 pub last-of : (client : Feed) (before : Sink) (k : Kept) (s : State) → Stands client before k s → LastKept (last_slot s.reached.slots) (last_body k.requests)
 last-of client before k s h = last-kept s.reached.slots k.marks k.requests h.numbers
@@ -115,28 +117,28 @@ last-of client before k s h = last-kept s.reached.slots k.marks k.requests h.num
 unheld : (client : Feed) (before : Sink) (k : Kept) (s : State) → Stands client before k s → is_streaming_body (last_body k.requests) ≡ false → last_holds_reader (last_slot s.reached.slots) ≡ false
 unheld client before k s h quiet = held-by (last_slot s.reached.slots) (last_body k.requests) (last-of client before k s h) ∙ rw quiet (and-false (not (is_last_slot (last_slot s.reached.slots))))
 
-going : (client : Feed) (before : Sink) (k : Kept) (s : State) → Stands client before k s → k.ended ≡ false → is_past_last k.standing ≡ false → is_streaming_body (last_body k.requests) ≡ false → (InputEnded k → ⊥) → Going k s
+going : (client : Feed) (before : Sink) (k : Kept) (s : State) → Stands client before k s → k.asking_ended ≡ false → is_past_last k.standing ≡ false → is_streaming_body (last_body k.requests) ≡ false → (InputEnded k → ⊥) → Going k s
 going client before k s h e o quiet open_input =
-    let f = told-feed client k.feed h.reader.source in
+    let f = stated-feed client k.feed h.reader.source in
     let next = h.reader.next e in
     let kept : last_was_abandoned (last_slot s.reached.slots) ≡ false = by next (last_was_abandoned (last_slot s.reached.slots)) refl in
     let here : behind_body (last_body k.requests) k.feed ≡ Some f.0 = ap (behind_body (last_body k.requests)) f.1 ∙ behind-settled (last_slot s.reached.slots) (last_body k.requests) f.0 (last-of client before k s h) quiet in
     let P : Bool → Type 0 = λ x. PlaceAt x (behind_body (last_body k.requests) k.feed) s.reached.rest in
     let Q : Option Feed → Type 0 = λ x. PlaceAt false x s.reached.rest in
-    record { feed = f.0; told = f.1; unheld = unheld client before k s h quiet; kept = kept; pipeline = subst Q here (subst P o (next.place kept)) }
+    record { feed = f.0; end_reported = f.1; unheld = unheld client before k s h quiet; kept = kept; pipeline = subst Q here (subst P o (next.place kept)) }
   where
     by : NextHead k (last_slot s.reached.slots) s.reached.rest → (t : Bool) → last_was_abandoned (last_slot s.reached.slots) ≡ t → t ≡ false
     by next true z = absurd (open_input (next.lost z).0)
     by next false z = refl
 
 -- the texts of the server's own
-pub dropped-text : (asked : HttpDate) (r : Request) (given : ℕ) (told : Bool) → own_text_by 500 (own_printing_to r.message.headers r.message.version (is_head_method r.message.method) asked) ≡ segment (dropped asked r given told)
+pub dropped-text : (asked : HttpDate) (r : Request) (given : ℕ) (end_reported : Bool) → own_text_by 500 (printing_to r.message.headers r.message.version (is_head_method r.message.method) asked) ≡ segment (dropped asked r given end_reported)
 unfolding text_of
-dropped-text asked r given told = refl
+dropped-text asked r given end_reported = refl
 
-pub dropped-whole : (asked : HttpDate) (r : Request) (given : ℕ) (told : Bool) → is_slot_broken (dropped asked r given told) ≡ false
+pub dropped-whole : (asked : HttpDate) (r : Request) (given : ℕ) (end_reported : Bool) → is_slot_broken (dropped asked r given end_reported) ≡ false
 unfolding text_of
-dropped-whole asked r given told = ap is_broken (own-whole 500 r.message.version (is_head_method r.message.method) asked)
+dropped-whole asked r given end_reported = ap is_broken (own-whole 500 r.message.version (is_head_method r.message.method) asked)
 
 refused-whole : (date : HttpDate) (v : HTTPVersion) → is_slot_broken (new_slot date (bad_request_item v)) ≡ false
 unfolding text_of
@@ -156,11 +158,11 @@ output-waiting before sink e slots date r failure h =
     output-same before sink e slots (slots ++ (n ∷ [])) failure (sym (joined-waits slots n [] refl refl)) (sym (breaks-waits slots n [] refl refl)) h
 
 -- a body that isn't read from the input gives the same wherever that stands
-pub settled-any : (b : Body) (p : Option Feed) (content behind : Feed) → remaining b p ≡ Some (record { body = content; behind = behind }) → is_streaming b ≡ false → (f : Feed) → remaining b (Some f) ≡ Some (taken_left content f)
+pub settled-any : (b : Body) (p : Option Feed) (content behind : Feed) → remaining b p ≡ Some (record { body = content; behind = behind }) → is_streaming b ≡ false → (f : Feed) → remaining b (Some f) ≡ Some (taken_remaining content f)
 settled-any (body.Over stop) None content behind h e f = cc
-settled-any (body.Over stop) (Some g) content behind h e f = ap (λ (x : Option Remaining). option_map (λ (r : Remaining). taken_left r.body f) x) h
+settled-any (body.Over stop) (Some g) content behind h e f = ap (λ (x : Option Remaining). option_map (λ (r : Remaining). taken_remaining r.body f) x) h
 settled-any (body.WithHead bytes) None content behind h e f = cc
-settled-any (body.WithHead bytes) (Some g) content behind h e f = ap (λ (x : Option Remaining). option_map (λ (r : Remaining). taken_left r.body f) x) h
+settled-any (body.WithHead bytes) (Some g) content behind h e f = ap (λ (x : Option Remaining). option_map (λ (r : Remaining). taken_remaining r.body f) x) h
 settled-any (body.Counted left) p content behind h e f = cc
 settled-any (body.Chunked d) p content behind h e f = cc
 
@@ -171,10 +173,10 @@ kept-handed date x p content behind k left unowed = record {
   request = request_of x.head content;
   date = date;
   given = 0;
-  told = false;
+  end_reported = false;
   is = refl;
   unowed = unowed;
-  form = let F : HTTPVersion → Bool → AnswerForm = λ v b. record { version = v; no_body = b } in ap (λ v. F v x.waiting.form.no_body) k.answer.version ∙ ap (F x.head.version) k.answer.no_body;
+  answer_form = let F : HTTPVersion → Bool → AnswerForm = λ v b. record { version = v; no_body = b } in ap (λ v. F v x.waiting.answer_form.no_body) k.answer.version ∙ ap (F x.head.version) k.answer.no_body;
   text = k.answer.text ∙ dropped-text date (request_of x.head content) 0 false;
   fits = k.body;
   settled = settled-any x.waiting.body p content behind left;
@@ -242,43 +244,43 @@ handed-reader client k slots rest more date r w p stop over at close next old qu
       source = source;
     }
 
-pub ask-handed : (client : Feed) (before : Sink) (k : Kept) (s : State) (date : HttpDate) (x : Exchange) (from_here : Standing) (p : Option Feed) (stop : Option Stop) (over : Bool) (at : Standing) (n : ℕ) → Stands client before k s → k.ended ≡ false → is_past_last k.standing ≡ false → is_streaming_body (last_body k.requests) ≡ false
+pub ask-handed : (client : Feed) (before : Sink) (k : Kept) (s : State) (date : HttpDate) (x : Exchange) (from_here : Standing) (p : Option Feed) (stop : Option Stop) (over : Bool) (at : Standing) (n : ℕ) → Stands client before k s → k.asking_ended ≡ false → is_past_last k.standing ≡ false → is_streaming_body (last_body k.requests) ≡ false
     → (InputEnded k → ⊥) → ReadsHead from_here date k.feed p (Ok (read.Request x)) → GoesOn k.feed p → n ≡ length k.marks → AreInShape (k.marks ++ (Open ∷ [])) → at ≡ standing_of x
     → StepIsAnswered client before (after_handed k x.waiting p stop over at) s date Ask (Handed n (head_message x.head) (head_framing x.head))
 ask-handed client before k s date x from_here p stop over at n st e o quiet open_input reads goes number shape stands =
     let g = going client before k s st e o quiet open_input in
     let P : Option Feed → Type 0 = λ y. ReadsHead from_here date y p (Ok (read.Request x)) in
-    let found = subst P g.told reads in
+    let found = subst P g.end_reported reads in
     let h = x.head in
     let r = request_of h found.0 in
     let first = pipeline-first g.feed.bytes g.feed.stop (Asks r) (place_after h.is_last found.1) s.reached.rest found.2 g.pipeline in
     let y = handed_slot date r in
     let slots = s.reached.slots ++ (y ∷ []) in
-    let ends : s.reached.ended ≡ false = st.ended ∙ e in
+    let ends : s.reached.asking_ended ≡ false = st.asking_ended ∙ e in
     let F : List Item → Outcome = λ z. asks_from date Unused s.reached.slots z in
     let is : ask date s.reached ≡ asks_from date Unused s.reached.slots (Asks r ∷ first.0) = ask-goes date s.reached ends g.unheld g.kept ∙ ap F first.1 in
-    let new : State = record { reached = record { slots = slots; rest = first.0; ended = false }; flushed = s.flushed; failure = s.failure } in
+    let new : State = record { reached = record { slots = slots; rest = first.0; asking_ended = false }; flushed = s.flushed; failure = s.failure } in
     let G : Outcome → Type 0 = λ z. HasOutcome z s (Handed n (head_message h) (head_framing h)) new in
-    let told : n ≡ length s.reached.slots = number ∙ sym (kept-length s.reached.slots k.marks k.requests st.numbers) in
+    let end_reported : n ≡ length s.reached.slots = number ∙ sym (kept-length s.reached.slots k.marks k.requests st.numbers) in
     let waits = kept-handed date x p found.0 (place_feed g.feed.stop found.1) found.4 found.3 (one-head-unowed g.feed.bytes g.feed.stop r (place_after h.is_last found.1) found.2) in (
       new,
       record {
         numbers = kept-append s.reached.slots k.marks k.requests (y ∷ []) (Open ∷ []) (Some x.waiting ∷ []) st.numbers (waits, tt);
         shape = shape;
-        ended = sym e;
+        asking_ended = sym e;
         flushed = λ none. st.flushed none ∙ sym (joined-waits s.reached.slots y [] refl refl);
         reader = handed-reader client k s.reached.slots s.reached.rest first.0 date r x.waiting p stop over at g.feed.stop found.1 st.reader quiet found.3 first.2 (goes-on_more (Some client) k.feed p st.reader.source goes) (stands-for x found.0 at stands);
         output = output-waiting before k.sink k.output_ended s.reached.slots date r s.failure st.output;
       },
-      inl (true, tt, subst G (sym is) (refl, refl, (ap (λ z. Handed z (head_message h) (head_framing h)) told, refl))),
+      inl (true, tt, subst G (sym is) (refl, refl, (ap (λ z. Handed z (head_message h) (head_framing h)) end_reported, refl))),
     )
 
 -- the body of the last request holds the reader
-pub ask-not_yet : (client : Feed) (before : Sink) (k : Kept) (s : State) (date : HttpDate) → Stands client before k s → k.ended ≡ false → k.standing ≡ in_place.Body → StepIsAnswered client before k s date Ask NotYet
+pub ask-not_yet : (client : Feed) (before : Sink) (k : Kept) (s : State) (date : HttpDate) → Stands client before k s → k.asking_ended ≡ false → k.standing ≡ in_place.Body → StepIsAnswered client before k s date Ask NotYet
 ask-not_yet client before k s date st e held =
     let slots = s.reached.slots in
     let is : last_holds_reader (last_slot slots) ≡ true = held-by (last_slot slots) (last_body k.requests) (last-of client before k s st) ∙ sym (st.reader.next e).within ∙ ap is_in_body held in
-    step-unchanged client before k s date Ask NotYet st (ask-held date s.reached (st.ended ∙ e) is)
+    step-unchanged client before k s date Ask NotYet st (ask-held date s.reached (st.asking_ended ∙ e) is)
 
 -- in front of a head the last body isn't read from the input, and the last head wasn't read
 pub record BeforeHead (k : Kept) (s : State) : Type 0 where
@@ -286,7 +288,7 @@ pub record BeforeHead (k : Kept) (s : State) : Type 0 where
   pub more : is_last_slot (last_slot s.reached.slots) ≡ false
   pub quiet : is_streaming_body (last_body k.requests) ≡ false
 
-pub before-head : (client : Feed) (before : Sink) (k : Kept) (s : State) → Stands client before k s → k.ended ≡ false → IsBeforeHead k.standing → BeforeHead k s
+pub before-head : (client : Feed) (before : Sink) (k : Kept) (s : State) → Stands client before k s → k.asking_ended ≡ false → IsBeforeHead k.standing → BeforeHead k s
 before-head client before k s st e here =
     let n = st.reader.next e in
     let past = not-past k.standing here in
@@ -311,7 +313,7 @@ before-head client before k s st e here =
 
 -- the pipeline has ended
 abbrev ends_with : Reached → Outcome
-ends_with old = record { reply = Ended; slots = old.slots; rest = []; ended = true; writer = Unused }
+ends_with old = record { reply = Ended; slots = old.slots; rest = []; asking_ended = true; writer = Unused }
 
 abbrev pub after_end : Kept → Option Feed → Option Stop → Bool → Standing → Kept
 after_end k p stop over at = record k { ended = true; feed = p; stop = stop; is_over = over; standing = at }
@@ -321,15 +323,11 @@ end-reader : (client : Feed) (before : Sink) (k : Kept) (s : State) (p : Option 
     → InputStands client (after_end k p stop over at) s.reached.slots rest
 end-reader client before k s p stop over at rest st quiet goes =
     let source = goes-on_more (Some client) k.feed p st.reader.source goes in
-    let f = told-feed client p source in
+    let f = stated-feed client p source in
     let P : Option Feed → Type 0 = λ y. GivesRest (last_body k.requests) (last_slot s.reached.slots) y in
     record { settled = st.reader.settled; gives = subst P (sym f.1) (gives-settled (last_slot s.reached.slots) (last_body k.requests) f.0 (last-of client before k s st) quiet); next = λ e. cc; source = source }
 
-pub same-feed : (x : Option Feed) → GoesOn x x
-same-feed None = tt
-same-feed (Some f) = record { gone = []; joins = refl }
-
-pub ask-over : (client : Feed) (before : Sink) (k : Kept) (s : State) (date : HttpDate) → Stands client before k s → k.ended ≡ false → is_past_last k.standing ≡ true
+pub ask-over : (client : Feed) (before : Sink) (k : Kept) (s : State) (date : HttpDate) → Stands client before k s → k.asking_ended ≡ false → is_past_last k.standing ≡ true
     → StepIsAnswered client before (after_end k k.feed k.stop k.is_over k.standing) s date Ask Ended
 ask-over client before k s date st e o = by (last_was_abandoned (last_slot s.reached.slots)) refl
   where
@@ -349,26 +347,26 @@ ask-over client before k s date st e o = by (last_was_abandoned (last_slot s.rea
 
     by : (t : Bool) → last_was_abandoned (last_slot slots) ≡ t → StepIsAnswered client before (after_end k k.feed k.stop k.is_over k.standing) s date Ask Ended
     by true l =
-        let new : State = record { reached = record { slots = slots; rest = s.reached.rest; ended = true }; flushed = s.flushed; failure = s.failure } in
+        let new : State = record { reached = record { slots = slots; rest = s.reached.rest; asking_ended = true }; flushed = s.flushed; failure = s.failure } in
         let G : Outcome → Type 0 = λ x. HasOutcome x s Ended new in (
           new,
-          record { numbers = st.numbers; shape = st.shape; ended = refl; flushed = st.flushed; reader = ended_reader s.reached.rest; output = st.output },
-          inl (true, tt, subst G (sym (ask-lost date s.reached (st.ended ∙ e) unheld_now l)) (refl, refl, (refl, refl))),
+          record { numbers = st.numbers; shape = st.shape; asking_ended = refl; flushed = st.flushed; reader = ended_reader s.reached.rest; output = st.output },
+          inl (true, tt, subst G (sym (ask-lost date s.reached (st.asking_ended ∙ e) unheld_now l)) (refl, refl, (refl, refl))),
         )
     by false l =
         let P : Bool → Type 0 = λ x. PlaceAt x (behind_body (last_body k.requests) k.feed) s.reached.rest in
         let none : s.reached.rest ≡ [] = subst P o (next.place l) in
         let F : List Item → Outcome = λ x. asks_from date Unused slots x in
-        let is : ask date s.reached ≡ ends_with s.reached = ask-goes date s.reached (st.ended ∙ e) unheld_now l ∙ ap F none in
-        let new : State = record { reached = record { slots = slots; rest = []; ended = true }; flushed = s.flushed; failure = s.failure } in
+        let is : ask date s.reached ≡ ends_with s.reached = ask-goes date s.reached (st.asking_ended ∙ e) unheld_now l ∙ ap F none in
+        let new : State = record { reached = record { slots = slots; rest = []; asking_ended = true }; flushed = s.flushed; failure = s.failure } in
         let G : Outcome → Type 0 = λ x. HasOutcome x s Ended new in (
           new,
-          record { numbers = st.numbers; shape = st.shape; ended = refl; flushed = st.flushed; reader = ended_reader []; output = st.output },
+          record { numbers = st.numbers; shape = st.shape; asking_ended = refl; flushed = st.flushed; reader = ended_reader []; output = st.output },
           inl (true, tt, subst G (sym is) (refl, refl, (refl, refl))),
         )
 
 -- no head follows
-pub ask-none : (client : Feed) (before : Sink) (k : Kept) (s : State) (date : HttpDate) (from_here : Standing) (why : EndOfRequests) (p : Option Feed) (stop : Option Stop) (over : Bool) (at : Standing) → Stands client before k s → k.ended ≡ false → is_past_last k.standing ≡ false → is_streaming_body (last_body k.requests) ≡ false
+pub ask-none : (client : Feed) (before : Sink) (k : Kept) (s : State) (date : HttpDate) (from_here : Standing) (why : EndOfRequests) (p : Option Feed) (stop : Option Stop) (over : Bool) (at : Standing) → Stands client before k s → k.asking_ended ≡ false → is_past_last k.standing ≡ false → is_streaming_body (last_body k.requests) ≡ false
     → ReadsHead from_here date k.feed p (Ok (read.Ended why)) → GoesOn k.feed p
     → StepIsAnswered client before (after_end k p stop over at) s date Ask Ended
 ask-none client before k s date from_here why p stop over at st e o quiet reads goes = by (last_was_abandoned (last_slot s.reached.slots)) refl
@@ -381,39 +379,39 @@ ask-none client before k s date from_here why p stop over at st e o quiet reads 
 
     by : (t : Bool) → last_was_abandoned (last_slot slots) ≡ t → StepIsAnswered client before (after_end k p stop over at) s date Ask Ended
     by true l =
-        let new : State = record { reached = record { slots = slots; rest = s.reached.rest; ended = true }; flushed = s.flushed; failure = s.failure } in
+        let new : State = record { reached = record { slots = slots; rest = s.reached.rest; asking_ended = true }; flushed = s.flushed; failure = s.failure } in
         let G : Outcome → Type 0 = λ x. HasOutcome x s Ended new in (
           new,
-          record { numbers = st.numbers; shape = st.shape; ended = refl; flushed = st.flushed; reader = end-reader client before k s p stop over at s.reached.rest st quiet goes; output = st.output },
-          inl (true, tt, subst G (sym (ask-lost date s.reached (st.ended ∙ e) quiet_now l)) (refl, refl, (refl, refl))),
+          record { numbers = st.numbers; shape = st.shape; asking_ended = refl; flushed = st.flushed; reader = end-reader client before k s p stop over at s.reached.rest st quiet goes; output = st.output },
+          inl (true, tt, subst G (sym (ask-lost date s.reached (st.asking_ended ∙ e) quiet_now l)) (refl, refl, (refl, refl))),
         )
     by false l =
-        let f = told-feed client k.feed st.reader.source in
+        let f = stated-feed client k.feed st.reader.source in
         let here : behind_body (last_body k.requests) k.feed ≡ Some f.0 = ap (behind_body (last_body k.requests)) f.1 ∙ behind-settled (last_slot slots) (last_body k.requests) f.0 (last-of client before k s st) quiet in
         let P : Bool → Type 0 = λ x. PlaceAt x (behind_body (last_body k.requests) k.feed) s.reached.rest in
         let Q : Option Feed → Type 0 = λ x. PlaceAt false x s.reached.rest in
         let R : Option Feed → Type 0 = λ x. ReadsHead from_here date x p (Ok (read.Ended why)) in
         let none = pipeline-none f.0.bytes f.0.stop s.reached.rest (subst R f.1 reads).0 (subst Q here (subst P o ((st.reader.next e).place l))) in
         let F : List Item → Outcome = λ x. asks_from date Unused slots x in
-        let is : ask date s.reached ≡ ends_with s.reached = ask-goes date s.reached (st.ended ∙ e) quiet_now l ∙ ap F none in
-        let new : State = record { reached = record { slots = slots; rest = []; ended = true }; flushed = s.flushed; failure = s.failure } in
+        let is : ask date s.reached ≡ ends_with s.reached = ask-goes date s.reached (st.asking_ended ∙ e) quiet_now l ∙ ap F none in
+        let new : State = record { reached = record { slots = slots; rest = []; asking_ended = true }; flushed = s.flushed; failure = s.failure } in
         let G : Outcome → Type 0 = λ x. HasOutcome x s Ended new in (
           new,
-          record { numbers = st.numbers; shape = st.shape; ended = refl; flushed = st.flushed; reader = end-reader client before k s p stop over at [] st quiet goes; output = st.output },
+          record { numbers = st.numbers; shape = st.shape; asking_ended = refl; flushed = st.flushed; reader = end-reader client before k s p stop over at [] st quiet goes; output = st.output },
           inl (true, tt, subst G (sym is) (refl, refl, (refl, refl))),
         )
 
 -- no memory was found
-pub ask-memory : (client : Feed) (before : Sink) (k : Kept) (s : State) (date : HttpDate) (p : Option Feed) (stop : Option Stop) (over : Bool) (at : Standing) → Stands client before k s → k.ended ≡ false → is_past_last k.standing ≡ false → is_streaming_body (last_body k.requests) ≡ false → is_last_slot (last_slot s.reached.slots) ≡ false → (InputEnded k → ⊥) → GoesOn k.feed p
+pub ask-memory : (client : Feed) (before : Sink) (k : Kept) (s : State) (date : HttpDate) (p : Option Feed) (stop : Option Stop) (over : Bool) (at : Standing) → Stands client before k s → k.asking_ended ≡ false → is_past_last k.standing ≡ false → is_streaming_body (last_body k.requests) ≡ false → is_last_slot (last_slot s.reached.slots) ≡ false → (InputEnded k → ⊥) → GoesOn k.feed p
     → StepIsAnswered client before (after_end k p stop over at) s date Ask Memory
 ask-memory client before k s date p stop over at st e o quiet more open_input goes =
     let g = going client before k s st e o quiet open_input in
-    let new : State = record { reached = record { slots = s.reached.slots; rest = s.reached.rest; ended = true }; flushed = s.flushed; failure = s.failure } in
-    let R : List Slot → Reached = λ x. record { slots = x; rest = s.reached.rest; ended = true } in (
+    let new : State = record { reached = record { slots = s.reached.slots; rest = s.reached.rest; asking_ended = true }; flushed = s.flushed; failure = s.failure } in
+    let R : List Slot → Reached = λ x. record { slots = x; rest = s.reached.rest; asking_ended = true } in (
       new,
-      record { numbers = st.numbers; shape = st.shape; ended = refl; flushed = st.flushed; reader = end-reader client before k s p stop over at s.reached.rest st quiet goes; output = st.output },
+      record { numbers = st.numbers; shape = st.shape; asking_ended = refl; flushed = st.flushed; reader = end-reader client before k s p stop over at s.reached.rest st quiet goes; output = st.output },
       inr (
-        st.ended ∙ e,
+        st.asking_ended ∙ e,
         more,
         g.unheld,
         g.kept,
@@ -427,7 +425,7 @@ ask-memory client before k s date p stop over at st e o quiet more open_input go
 
 -- a refused head has its number, and its answer was sent, or waits for its turn
 abbrev pub after_refused : Kept → List Mark → Option Feed → Option Stop → Bool → Standing → Sink → Bool → Kept
-after_refused k marks p stop over at sink ended = record k { marks = marks; requests = k.requests ++ (None ∷ []); ended = true; feed = p; stop = stop; is_over = over; standing = at; sink = sink; output_ended = ended }
+after_refused k marks p stop over at sink ended = record k { marks = marks; requests = k.requests ++ (None ∷ []); asking_ended = true; feed = p; stop = stop; is_over = over; standing = at; sink = sink; output_ended = ended }
 
 refused-output : (before sink new : Sink) (e ended : Bool) (slots : List Slot) (n : Slot) (s : State) → OutputAt before sink e slots s.failure → s.reached.slots ≡ slots → list_all is_finished slots ≡ true → is_finished n ≡ true → is_slot_broken n ≡ false
     → before.failures < 2 ^ 64 - 1 → SendsUnlessEnded e sink new ended (segment n ++ []) → IsFlushed new → Goes before new e ended slots (slots ++ (n ∷ [])) s.failure
@@ -490,29 +488,29 @@ refuses before sink new e ended s marks final requests n text h firm kept shape 
     (turn-at slots marks requests [] kept (shape-issued marks shape))
 
 pub ask-refused : (client : Feed) (before : Sink) (k : Kept) (s : State) (date : HttpDate) (from_here : Standing) (status : StatusCode) (text : Vec ℕ) (is_last : Bool) (p : Option Feed) (stop : Option Stop) (over : Bool) (at : Standing) (marks : List Mark) (sink : Sink) (ended : Bool) → Stands client before k s → before.failures < 2 ^ 64 - 1
-    → k.ended ≡ false → is_past_last k.standing ≡ false → is_streaming_body (last_body k.requests) ≡ false → (InputEnded k → ⊥) → ReadsHead from_here date k.feed p (Ok (read.Refused status text is_last)) → GoesOn k.feed p
+    → k.asking_ended ≡ false → is_past_last k.standing ≡ false → is_streaming_body (last_body k.requests) ≡ false → (InputEnded k → ⊥) → ReadsHead from_here date k.feed p (Ok (read.Refused status text is_last)) → GoesOn k.feed p
     → LeavesText (length k.marks == first_unfinished k.marks) k.marks [] marks text.items k.output_ended k.sink sink ended
     → StepIsAnswered client before (after_refused k marks p stop over at sink ended) s date Ask Ended
 ask-refused client before k s date from_here status text is_last p stop over at marks sink ended st low e o quiet open_input reads goes leaves =
     let g = going client before k s st e o quiet open_input in
     let P : Option Feed → Type 0 = λ y. ReadsHead from_here date y p (Ok (read.Refused status text is_last)) in
-    let found = subst P g.told reads in
+    let found = subst P g.end_reported reads in
     let v = found.0 in
     let first = pipeline-first g.feed.bytes g.feed.stop (bad_request_item v) None s.reached.rest found.1 g.pipeline in
     let none = no-items g.feed.stop first.0 first.2 in
     let n = new_slot date (bad_request_item v) in
     let slots = s.reached.slots ++ (n ∷ []) in
     let F : List Item → Outcome = λ y. asks_from date Unused s.reached.slots y in
-    let is : ask date s.reached ≡ asks_from date Unused s.reached.slots (bad_request_item v ∷ []) = ask-goes date s.reached (st.ended ∙ e) g.unheld g.kept ∙ ap F (first.1 ∙ ap (λ y. bad_request_item v ∷ y) none) in
+    let is : ask date s.reached ≡ asks_from date Unused s.reached.slots (bad_request_item v ∷ []) = ask-goes date s.reached (st.asking_ended ∙ e) g.unheld g.kept ∙ ap F (first.1 ∙ ap (λ y. bad_request_item v ∷ y) none) in
     let out = refuses before k.sink sink k.output_ended ended s k.marks marks k.requests n text.items st.output st.flushed st.numbers st.shape refl refl (refused-whole date v) (refused-text date v ∙ sym found.2) low leaves in
-    let new : State = record { reached = record { slots = slots; rest = []; ended = true }; flushed = flushed_after (if turn_has_come (length s.reached.slots) s.reached.slots then Unreported else Unused) s slots; failure = out.failure } in
+    let new : State = record { reached = record { slots = slots; rest = []; asking_ended = true }; flushed = flushed_after (if turn_has_come (length s.reached.slots) s.reached.slots then Unreported else Unused) s slots; failure = out.failure } in
     let G : Outcome → Type 0 = λ y. HasOutcome y s Ended new in
     let B : Option Body → Type 0 = λ b. GivesRest b (last_slot slots) p in (
       new,
       record {
         numbers = out.numbers;
         shape = out.shape;
-        ended = refl;
+        asking_ended = refl;
         flushed = out.flushed;
         reader = record {
           settled = settled-snoc k.requests None st.reader.settled quiet;
@@ -525,11 +523,11 @@ ask-refused client before k s date from_here status text is_last p stop over at 
       inl (true, tt, subst G (sym is) (refl, refl, out.writes)),
     )
 
-pub ask-ended : (client : Feed) (before : Sink) (k : Kept) (s : State) (date : HttpDate) → Stands client before k s → k.ended ≡ true → StepIsAnswered client before k s date Ask Ended
-ask-ended client before k s date st e = step-unchanged client before k s date Ask Ended st (ask-ends date s.reached (st.ended ∙ e))
+pub ask-ended : (client : Feed) (before : Sink) (k : Kept) (s : State) (date : HttpDate) → Stands client before k s → k.asking_ended ≡ true → StepIsAnswered client before k s date Ask Ended
+ask-ended client before k s date st e = step-unchanged client before k s date Ask Ended st (ask-ends date s.reached (st.asking_ended ∙ e))
 
 -- no request follows: the last one was read, or none stands in front of the input
-pub ask-final : (client : Feed) (before : Sink) (k : Kept) (s : State) (date : HttpDate) (why : EndOfRequests) (p : Option Feed) (stop : Option Stop) (over : Bool) (at : Standing) → Stands client before k s → k.ended ≡ false → (k.standing ≡ in_place.Body → ⊥)
+pub ask-final : (client : Feed) (before : Sink) (k : Kept) (s : State) (date : HttpDate) (why : EndOfRequests) (p : Option Feed) (stop : Option Stop) (over : Bool) (at : Standing) → Stands client before k s → k.asking_ended ≡ false → (k.standing ≡ in_place.Body → ⊥)
     → (k.standing ≡ in_place.Last → (p ≡ k.feed) × (stop ≡ k.stop) × (over ≡ k.is_over) × (at ≡ k.standing)) → (IsBeforeHead k.standing → ReadsHead k.standing date k.feed p (Ok (read.Ended why))) → GoesOn k.feed p
     → StepIsAnswered client before (after_end k p stop over at) s date Ask Ended
 ask-final client before k s date why p stop over at st e outside left reads goes = by k.standing refl

@@ -17,13 +17,13 @@ use Rattle.tiny_http_stream.specs.Source.{SourceState, GoesOn}
 use Rattle.tiny_http_message.specs.Pipeline.{Item, Request, body_length_or_0}
 use Rattle.tiny_http_core.specs.Slots.{Slot, Stage, is_chunked, last_slot, last_was_abandoned, is_last_item, is_last_slot}
 use Rattle.tiny_http_message.specs.Body.{body_finished}
-use Rattle.tiny_http_core.specs.Steps.{finished}
+use Rattle.tiny_http_core.specs.Steps.{finished_as}
 use Rattle.tiny_http_core.specs.Conversation.{PlaceAt}
 use Rattle.tiny_http_message.specs.Body.{Remaining, remaining, is_streaming, body_standing, Fits, GivesUp}
 use Rattle.tiny_http_core.specs.Pending.{last_body, is_streaming_body}
 use Rattle.tiny_http_core.specs.Connection.{Kept, open_slot, IsWaiting, IsSettled, AreSettled, behind_body, slot_rest, GivesRest, is_past_last, is_in_body, NextHead, InputStands}
 use Rattle.tiny_http_stream.proofs.SourceGoesOn.{goes-on_more}
-use Rattle.tiny_http_core.proofs.ConnectionAsk.{told-feed}
+use Rattle.tiny_http_core.proofs.ConnectionAsk.{stated-feed}
 use Rattle.tiny_http_message.proofs.BodyReads.{gives-up}
 use Rattle.tiny_http_core.proofs.ConnectionReader.{last-snoc, body-snoc, last-within, body-within, settled-place, settled-set, waiting-kept, and-false}
 
@@ -31,36 +31,36 @@ use Rattle.tiny_http_core.proofs.ConnectionReader.{last-snoc, body-snoc, last-wi
 abbrev pub with_reader : Kept → List (Option Waiting) → {R : Type 0} → SourceState R → Kept
 with_reader k requests source = record k { requests = requests; standing = source.standing; feed = source.feed; stop = source.stop; is_over = source.is_over }
 
-over-kept : (form : Form) (n given : ℕ) (told : Bool) → body_finished form n given told ≡ true → (is_chunked form && not told) ≡ true → ⊥
-over-kept Chunked n given told h lost = let no : true ≡ false = sym lost ∙ rw h refl in cc
-over-kept Rest n given told h lost = cc
-over-kept Nothing n given told h lost = cc
-over-kept WithHead n given told h lost = cc
-over-kept Counted n given told h lost = cc
+over-kept : (form : Form) (n given : ℕ) (end_reported : Bool) → body_finished form n given end_reported ≡ true → (is_chunked form && not end_reported) ≡ true → ⊥
+over-kept Chunked n given end_reported h lost = let no : true ≡ false = sym lost ∙ rw h refl in cc
+over-kept Rest n given end_reported h lost = cc
+over-kept Nothing n given end_reported h lost = cc
+over-kept WithHead n given end_reported h lost = cc
+over-kept Counted n given end_reported h lost = cc
 
 -- after a chunked body that was given up before its end no head follows
-lost-chunked : {R : Type 0} (b : Body) (old new : SourceState R) (f : Feed) (r : Request) (given : ℕ) (told : Bool) → Fits b r.framing.form (body_length_or_0 r.framing) given told → GivesUp b old new → old.feed ≡ Some f
-    → (is_chunked r.framing.form && not told) ≡ true → ((new.is_over ≡ true) × (new.stop ≡ Some End)) × (new.feed ≡ Some (stopped End))
-lost-chunked {R = R} (body.Chunked d) old new f r given told fits h e lost = (h.1, h.0 ∙ ap (λ (o : Option Feed). option_map (λ _. stopped End) o) e)
-lost-chunked {R = R} (body.Counted left) old new f r given told fits h e lost = let no : true ≡ false = sym lost ∙ rw fits.0 refl in cc
-lost-chunked {R = R} (body.WithHead bytes) old new f r given told fits h e lost = let no : true ≡ false = sym lost ∙ rw fits refl in cc
-lost-chunked {R = R} (body.Over stop) old new f r given told fits h e lost = absurd (over-kept r.framing.form (body_length_or_0 r.framing) given told fits lost)
+lost-chunked : {R : Type 0} (b : Body) (old new : SourceState R) (f : Feed) (r : Request) (given : ℕ) (end_reported : Bool) → Fits b r.framing.form (body_length_or_0 r.framing) given end_reported → GivesUp b old new → old.feed ≡ Some f
+    → (is_chunked r.framing.form && not end_reported) ≡ true → ((new.is_over ≡ true) × (new.stop ≡ Some End)) × (new.feed ≡ Some (stopped End))
+lost-chunked {R = R} (body.Chunked d) old new f r given end_reported fits h e lost = (h.1, h.0 ∙ ap (λ (o : Option Feed). option_map (λ _. stopped End) o) e)
+lost-chunked {R = R} (body.Counted left) old new f r given end_reported fits h e lost = let no : true ≡ false = sym lost ∙ rw fits.0 refl in cc
+lost-chunked {R = R} (body.WithHead bytes) old new f r given end_reported fits h e lost = let no : true ≡ false = sym lost ∙ rw fits refl in cc
+lost-chunked {R = R} (body.Over stop) old new f r given end_reported fits h e lost = absurd (over-kept r.framing.form (body_length_or_0 r.framing) given end_reported fits lost)
 
 -- where the next head is read after a body that was given up
-given-place : {R : Type 0} (b : Body) (old new : SourceState R) (f : Feed) (r : Request) (given : ℕ) (told over : Bool) (rest : List Item) → Fits b r.framing.form (body_length_or_0 r.framing) given told → GivesUp b old new → old.feed ≡ Some f
-    → (is_streaming b ≡ false → (g : Feed) → behind_body (Some b) (Some g) ≡ Some g) → (is_chunked r.framing.form && not told) ≡ false → PlaceAt over (behind_body (Some b) old.feed) rest → PlaceAt over new.feed rest
-given-place b old new f r given told true rest fits h e quiet kept place = place
-given-place {R = R} (body.Over stop) old new f r given told false rest fits h e quiet kept place =
+given-place : {R : Type 0} (b : Body) (old new : SourceState R) (f : Feed) (r : Request) (given : ℕ) (end_reported over : Bool) (rest : List Item) → Fits b r.framing.form (body_length_or_0 r.framing) given end_reported → GivesUp b old new → old.feed ≡ Some f
+    → (is_streaming b ≡ false → (g : Feed) → behind_body (Some b) (Some g) ≡ Some g) → (is_chunked r.framing.form && not end_reported) ≡ false → PlaceAt over (behind_body (Some b) old.feed) rest → PlaceAt over new.feed rest
+given-place b old new f r given end_reported true rest fits h e quiet kept place = place
+given-place {R = R} (body.Over stop) old new f r given end_reported false rest fits h e quiet kept place =
     let P : Option Feed → Type 0 = λ o. PlaceAt false o rest in
     subst P (ap (behind_body (Some (body.Over stop))) e ∙ quiet refl f ∙ sym e ∙ ap (λ (x : SourceState R). x.feed) (sym h)) place
-given-place {R = R} (body.WithHead bytes) old new f r given told false rest fits h e quiet kept place =
+given-place {R = R} (body.WithHead bytes) old new f r given end_reported false rest fits h e quiet kept place =
     let P : Option Feed → Type 0 = λ o. PlaceAt false o rest in
     subst P (ap (behind_body (Some (body.WithHead bytes))) e ∙ quiet refl f ∙ sym e ∙ ap (λ (x : SourceState R). x.feed) (sym h)) place
-given-place {R = R} (body.Counted left) old new f r given told false rest fits h e quiet kept place =
+given-place {R = R} (body.Counted left) old new f r given end_reported false rest fits h e quiet kept place =
     let P : Option Feed → Type 0 = λ o. PlaceAt false o rest in
     let skips : behind_body (Some (body.Counted left)) old.feed ≡ option_map (skipped left) old.feed = rw e refl in
     subst P (skips ∙ sym h.0) place
-given-place {R = R} (body.Chunked d) old new f r given told false rest fits h e quiet kept place =
+given-place {R = R} (body.Chunked d) old new f r given end_reported false rest fits h e quiet kept place =
     let no : true ≡ false = rw (fits.0, fits.1) refl ∙ kept in cc
 
 -- where the input stands after a body, whether the last head was read is the same, and it isn't within a body
@@ -186,17 +186,17 @@ reader-within client k source bs cs us vs rest s t c v x u from reader is quiet 
 -- what is known of the last number, while it waits
 pub record LastWaits {R : Type 0} (k : Kept) (source : SourceState R) (bs : List Slot) (s : Slot) (w : Waiting) (rest : List Item) : Type 0 where
   pub feed : Feed
-  pub told : source.feed ≡ Some feed
+  pub end_reported : source.feed ≡ Some feed
   pub content : last_body k.requests ≡ Some w.body
   pub gives : option_map (λ (x : Remaining). x.body) (remaining w.body source.feed) ≡ Some (slot_rest s)
-  pub is_last : k.ended ≡ false → is_past_last source.standing ≡ is_last_item s.item
-  pub within : k.ended ≡ false → is_in_body source.standing ≡ (not (is_last_item s.item) && is_streaming w.body)
-  pub place : k.ended ≡ false → PlaceAt (is_past_last source.standing) (behind_body (Some w.body) source.feed) rest
+  pub is_last : k.asking_ended ≡ false → is_past_last source.standing ≡ is_last_item s.item
+  pub within : k.asking_ended ≡ false → is_in_body source.standing ≡ (not (is_last_item s.item) && is_streaming w.body)
+  pub place : k.asking_ended ≡ false → PlaceAt (is_past_last source.standing) (behind_body (Some w.body) source.feed) rest
 
 pub last-waits : {R : Type 0} (client : Feed) (k : Kept) (source : SourceState R) (bs : List Slot) (us : List (Option Waiting)) (rest : List Item) (s : Slot) (w : Waiting) → IsWaiting s w → IsInput k source → InputStands client k (bs ++ (s ∷ [])) rest → k.requests ≡ us ++ (Some w ∷ [])
     → LastWaits k source bs s w rest
 last-waits client k source bs us rest s w h from reader is =
-    let f = told-feed client k.feed reader.source in
+    let f = stated-feed client k.feed reader.source in
     let last : last_slot (bs ++ (s ∷ [])) ≡ Some s = last-snoc None bs s in
     let content : last_body k.requests ≡ Some w.body = ap last_body is ∙ body-snoc us (Some w) in
     let G : Option Body → Option Slot → Option Feed → Type 0 = λ b o z. GivesRest b o z in
@@ -205,7 +205,7 @@ last-waits client k source bs us rest s w h from reader is =
     let W : Option Slot → Option Body → Bool = λ x y. not (is_last_slot x) && is_streaming_body y in
     record {
       feed = f.0;
-      told = sym from.feed ∙ f.1;
+      end_reported = sym from.feed ∙ f.1;
       content = content;
       gives = subst (λ b. G b (Some s) source.feed) content (subst (λ o. G (last_body k.requests) o source.feed) last (subst (λ z. G (last_body k.requests) (last_slot (bs ++ (s ∷ []))) z) from.feed reader.gives));
       is_last = λ e. sym over ∙ (reader.next e).is_last ∙ ap is_last_slot last;
@@ -216,9 +216,9 @@ last-waits client k source bs us rest s w h from reader is =
 -- the last number's body is given up
 reader-last : {R : Type 0} (client : Feed) (k : Kept) (old new : SourceState R) (bs : List Slot) (us : List (Option Waiting)) (rest : List Item) (s : Slot) (w : Waiting) (stage : Stage) → (h : IsWaiting s w) → IsInput k old → InputStands client k (bs ++ (s ∷ [])) rest
     → k.requests ≡ us ++ (Some w ∷ []) → GivesUp w.body old new
-    → InputStands client (with_reader k (us ++ (None ∷ [])) new) (bs ++ (finished (open_slot h.date h.request h.given h.told) stage ∷ [])) rest
+    → InputStands client (with_reader k (us ++ (None ∷ [])) new) (bs ++ (finished_as (open_slot h.date h.request h.given h.end_reported) stage ∷ [])) rest
 reader-last client k old new bs us rest s w stage h from reader is gives =
-    let t = finished (open_slot h.date h.request h.given h.told) stage in
+    let t = finished_as (open_slot h.date h.request h.given h.end_reported) stage in
     let r = h.request in
     let last : last_slot (bs ++ (t ∷ [])) ≡ Some t = last-snoc None bs t in
     let content : last_body (us ++ (None ∷ [])) ≡ None = body-snoc us None in
@@ -236,9 +236,9 @@ reader-last client k old new bs us rest s w stage h from reader is gives =
       next = λ e. record {
         is_last = past ∙ l.is_last e ∙ ap (λ (x : Slot). is_last_item x.item) h.is ∙ ap is_last_slot (sym last);
         within = given-within w.body old new (is_last_item s.item) gives (l.within e) ∙ sym (ap W content ∙ and-false (not (is_last_slot (last_slot (bs ++ (t ∷ []))))));
-        lost = λ lost. lost-chunked w.body old new l.feed r h.given h.told h.fits gives l.told (sym (ap last_was_abandoned last) ∙ lost);
+        lost = λ lost. lost-chunked w.body old new l.feed r h.given h.end_reported h.fits gives l.end_reported (sym (ap last_was_abandoned last) ∙ lost);
         place = λ kept. subst (λ x. P x (last_body (us ++ (None ∷ [])))) (sym past) (subst (λ y. P (is_past_last old.standing) y) (sym content)
-            (given-place w.body old new l.feed r h.given h.told (is_past_last old.standing) rest h.fits gives l.told (λ quiet f. ap B (h.settled quiet f)) (sym (ap last_was_abandoned last) ∙ kept) (l.place e)));
+            (given-place w.body old new l.feed r h.given h.end_reported (is_past_last old.standing) rest h.fits gives l.end_reported (λ quiet f. ap B (h.settled quiet f)) (sym (ap last_was_abandoned last) ∙ kept) (l.place e)));
       };
       source = goes-on_more (Some client) k.feed new.feed reader.source (subst S (sym from.feed) (gives-up w.body old new gives));
     }
@@ -246,13 +246,13 @@ reader-last client k old new bs us rest s w stage h from reader is gives =
 -- A number's body is given up. `bs`, `cs`: the numbers before and behind; `us`, `vs`: what is kept of them.
 pub reader-given_up : {R : Type 0} (client : Feed) (k : Kept) (old new : SourceState R) (bs cs : List Slot) (us vs : List (Option Waiting)) (rest : List Item) (s : Slot) (w : Waiting) (stage : Stage) → (h : IsWaiting s w) → IsInput k old → InputStands client k (bs ++ (s ∷ cs)) rest
     → k.requests ≡ us ++ (Some w ∷ vs) → length cs ≡ length vs → GivesUp w.body old new
-    → InputStands client (with_reader k (us ++ (None ∷ vs)) new) (bs ++ (finished (open_slot h.date h.request h.given h.told) stage ∷ cs)) rest
+    → InputStands client (with_reader k (us ++ (None ∷ vs)) new) (bs ++ (finished_as (open_slot h.date h.request h.given h.end_reported) stage ∷ cs)) rest
 reader-given_up client k old new bs [] us [] rest s w stage h from reader is same gives = reader-last client k old new bs us rest s w stage h from reader is gives
 reader-given_up client k old new bs [] us (v ∷ vs) rest s w stage h from reader is same gives = absurd (omega (arith, same))
 reader-given_up client k old new bs (c ∷ cs) us [] rest s w stage h from reader is same gives = absurd (omega (arith, same))
 reader-given_up {R = R} client k old new bs (c ∷ cs) us (v ∷ vs) rest s w stage h from reader is same gives =
     let A : List (Option Waiting) → Type 0 = λ x. AreSettled x in
     let quiet = settled-place us (Some w) v vs (subst A is reader.settled) in
-    let t = finished (open_slot h.date h.request h.given h.told) stage in
+    let t = finished_as (open_slot h.date h.request h.given h.end_reported) stage in
     let P : SourceState R → Type 0 = λ x. InputStands client (with_reader k (us ++ (None ∷ (v ∷ vs))) x) (bs ++ (t ∷ (c ∷ cs))) rest in
     subst P (sym (given-same w.body old new gives quiet)) (reader-within client k old bs cs us vs rest s t c v None (Some w) from reader is tt)

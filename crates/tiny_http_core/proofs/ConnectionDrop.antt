@@ -31,10 +31,10 @@ drop-not_taken n ByServer owed e = refl
 drop-not_taken n (Raw w c) owed e = refl
 drop-not_taken n (Upgraded p r d w c) owed e = refl
 
-at-drop : (date asked : HttpDate) (old : Reached) (n : ℕ) (r : Request) (given : ℕ) (told t : Bool) → slice_get old.slots n ≡ Some (open_slot asked r given told) → turn_has_come n old.slots ≡ t
-    → at_number true date old n (Drop n) ≡ changes old n (dropped asked r given told) Done (use_in_turn t)
-at-drop date asked old n r given told t e turn =
-    ap (at_slot true date old n (Drop n)) e ∙ ap (λ b. changes old n (dropped asked r given told) Done (use_in_turn b)) turn
+at-drop : (date asked : HttpDate) (old : Reached) (n : ℕ) (r : Request) (given : ℕ) (end_reported t : Bool) → slice_get old.slots n ≡ Some (open_slot asked r given end_reported) → turn_has_come n old.slots ≡ t
+    → at_number true date old n (Drop n) ≡ changes old n (dropped asked r given end_reported) Done (use_in_turn t)
+at-drop date asked old n r given end_reported t e turn =
+    ap (at_slot true date old n (Drop n)) e ∙ ap (λ b. changes old n (dropped asked r given end_reported) Done (use_in_turn b)) turn
 
 -- what the drop leaves, in its turn or out of it
 record DropSaid (before new : Sink) (ended : Bool) (slots : List Slot) (old : State) (t : Bool) (final : List Mark) (requests : List (Option Waiting)) : Type 0 where
@@ -46,22 +46,22 @@ record DropSaid (before new : Sink) (ended : Bool) (slots : List Slot) (old : St
   pub shape : AreInShape final
 
 -- the connection after a drop, by what is said of it
-drop-stands : {R : Type 0} (client : Feed) (before : Sink) (k : Kept) (s : State) (date asked : HttpDate) (n : ℕ) (r : Request) (given : ℕ) (told : Bool) (new : Sink) (ended : Bool) (final : List Mark) (requests : List (Option Waiting)) (source : SourceState R) (bs cs : List Slot) (t : Bool)
-    → Stands client before k s → SlotAt s.reached.slots bs cs (open_slot asked r given told) n → list_all is_finished bs ≡ t → InputStands client (with_reader k requests source) (bs ++ (dropped asked r given told ∷ cs)) s.reached.rest
-    → DropSaid before new ended (bs ++ (dropped asked r given told ∷ cs)) s t final requests → StepIsAnswered client before (after_number k final requests source new ended) s date (Drop n) Done
-drop-stands client before k s date asked n r given told new ended final requests source bs cs t st at turn reader said =
-    let s1 = dropped asked r given told in
+drop-stands : {R : Type 0} (client : Feed) (before : Sink) (k : Kept) (s : State) (date asked : HttpDate) (n : ℕ) (r : Request) (given : ℕ) (end_reported : Bool) (new : Sink) (ended : Bool) (final : List Mark) (requests : List (Option Waiting)) (source : SourceState R) (bs cs : List Slot) (t : Bool)
+    → Stands client before k s → SlotAt s.reached.slots bs cs (open_slot asked r given end_reported) n → list_all is_finished bs ≡ t → InputStands client (with_reader k requests source) (bs ++ (dropped asked r given end_reported ∷ cs)) s.reached.rest
+    → DropSaid before new ended (bs ++ (dropped asked r given end_reported ∷ cs)) s t final requests → StepIsAnswered client before (after_number k final requests source new ended) s date (Drop n) Done
+drop-stands client before k s date asked n r given end_reported new ended final requests source bs cs t st at turn reader said =
+    let s1 = dropped asked r given end_reported in
     let slots = bs ++ (s1 ∷ cs) in
-    let is = at-drop date asked s.reached n r given told t at.get (at.turn ∙ turn) in
-    let new_state : State = record { reached = record { slots = slots; rest = s.reached.rest; ended = s.reached.ended }; flushed = flushed_after (use_in_turn t) s slots; failure = said.failure } in
-    let R : List Slot → Reached = λ l. record { slots = l; rest = s.reached.rest; ended = s.reached.ended } in
+    let is = at-drop date asked s.reached n r given end_reported t at.get (at.turn ∙ turn) in
+    let new_state : State = record { reached = record { slots = slots; rest = s.reached.rest; asking_ended = s.reached.asking_ended }; flushed = flushed_after (use_in_turn t) s slots; failure = said.failure } in
+    let R : List Slot → Reached = λ l. record { slots = l; rest = s.reached.rest; asking_ended = s.reached.asking_ended } in
     let W : List Slot → Type 0 = λ l. WriterPart (use_in_turn t) s Done l Done said.failure in
     let G : Outcome → Type 0 = λ x. HasOutcome x s Done new_state in (
       new_state,
       record {
         numbers = said.numbers;
         shape = said.shape;
-        ended = st.ended;
+        asking_ended = st.asking_ended;
         flushed = said.flushed;
         reader = reader-after client k final requests source new ended slots s.reached.rest reader;
         output = said.output;
@@ -88,10 +88,10 @@ drop-done {R = R} client before k s date n w new ended final requests old source
     asked = p.waiting.date
 
     s0 : Slot
-    s0 = open_slot asked r p.waiting.given p.waiting.told
+    s0 = open_slot asked r p.waiting.given p.waiting.end_reported
 
     s1 : Slot
-    s1 = dropped asked r p.waiting.given p.waiting.told
+    s1 = dropped asked r p.waiting.given p.waiting.end_reported
 
     slots_are : s.reached.slots ≡ p.bs ++ (s0 ∷ p.cs)
     slots_are = p.slots_are ∙ ap (λ x. p.bs ++ (x ∷ p.cs)) p.waiting.is
@@ -106,7 +106,7 @@ drop-done {R = R} client before k s date n w new ended final requests old source
         subst Q (sym requests_now) (reader-given_up client k old source p.bs p.cs p.us p.vs s.reached.rest p.s w ByServer p.waiting from (subst P p.slots_are st.reader) p.requests_are (kept-many p.cs p.rs p.vs p.behind) gives)
 
     out : OutputAt before k.sink k.output_ended p.bs s.failure
-    out = output-before client before k s p.bs p.cs asked r p.waiting.given p.waiting.told st slots_are
+    out = output-before client before k s p.bs p.cs asked r p.waiting.given p.waiting.end_reported st slots_are
 
     left : LeavesText (n == first_unfinished k.marks) p.fs p.rs final w.dropped.items k.output_ended k.sink new ended
     left = leaves p.fs p.rs p.marks_are p.marks_before (can-send before k.sink k.output_ended p.bs s.failure out low)
@@ -118,14 +118,14 @@ drop-done {R = R} client before k s date n w new ended final requests old source
         subst M (sym f) (subst Q (sym requests_now) h)
 
     ends : (t : Bool) → list_all is_finished p.bs ≡ t → DropSaid before new ended (p.bs ++ (s1 ∷ p.cs)) s t final requests → StepIsAnswered client before (after_number k final requests source new ended) s date (Drop n) Done
-    ends t turn said = drop-stands client before k s date asked n r p.waiting.given p.waiting.told new ended final requests source p.bs p.cs t st (slot-at s.reached.slots p.bs p.cs s0 n slots_are p.slots_before) turn reader said
+    ends t turn said = drop-stands client before k s date asked n r p.waiting.given p.waiting.end_reported new ended final requests source p.bs p.cs t st (slot-at s.reached.slots p.bs p.cs s0 n slots_are p.slots_before) turn reader said
 
     in-turn : InTurn p.bs p.fs p.rs → StepIsAnswered client before (after_number k final requests source new ended) s date (Drop n) Done
     in-turn t =
         let come : (n == first_unfinished k.marks) ≡ true = eq-eqb n (first_unfinished k.marks) (sym p.marks_before ∙ t.turn ∙ ap first_unfinished (sym p.marks_are)) in
         let l = subst (λ (b : Bool). LeavesText b p.fs p.rs final w.dropped.items k.output_ended k.sink new ended) come left in
         let b = joined_behind p.cs p.rs p.vs t.waiting p.behind in
-        let whole = dropped-whole asked r p.waiting.given p.waiting.told in
+        let whole = dropped-whole asked r p.waiting.given p.waiting.end_reported in
         let text : joined (s1 ∷ p.cs) ≡ w.dropped.items ++ left_text p.rs = rw whole (ap (λ y. y ++ joined p.cs) (sym p.waiting.text) ∙ ap (λ y. w.dropped.items ++ y) b.0) in
         let go = output-more before k.sink new k.output_ended ended p.bs (s1 ∷ p.cs) (w.dropped.items ++ left_text p.rs) s.failure out t.finished text (rw whole b.1) low l.1 l.2 in
         let over = ended-is before k.sink k.output_ended s.reached.slots s.failure st.output in
@@ -152,6 +152,6 @@ drop-done {R = R} client before k s date n w new ended final requests old source
           output = subst (λ y. O new y) (sym l.3) (subst (λ x. O x k.output_ended) (sym l.2) hidden);
           writes = (refl, refl);
           flushed = λ none. st.flushed none ∙ ap joined slots_are ∙ joined-waits p.bs s0 p.cs refl refl ∙ sym (joined-hidden p.bs (s1 ∷ p.cs) t.unfinished);
-          numbers = kept (Left w.dropped.items) p.rs l.0 (kept-append p.bs p.fs p.us (s1 ∷ p.cs) (Left w.dropped.items ∷ p.rs) (None ∷ p.vs) p.before (record { done = record { finished = refl; given_up = refl }; whole = dropped-whole asked r p.waiting.given p.waiting.told; same = sym p.waiting.text }, p.behind));
+          numbers = kept (Left w.dropped.items) p.rs l.0 (kept-append p.bs p.fs p.us (s1 ∷ p.cs) (Left w.dropped.items ∷ p.rs) (None ∷ p.vs) p.before (record { done = record { finished = refl; given_up = refl }; whole = dropped-whole asked r p.waiting.given p.waiting.end_reported; same = sym p.waiting.text }, p.behind));
           shape = l.1;
         })

@@ -6,7 +6,7 @@ use Rattle.std.proofs.lemmas.Option.{slice_get-get_or}
 use Rattle.tiny_http_message.specs.declared.waiting.Waiting.{Waiting}
 use Rattle.tiny_http_core.specs.Slots.{Slot, is_finished}
 use Rattle.tiny_http_turns.specs.Turns.{Mark, Open, Held, Left, Finished, AreInShape, AreOpenOrLeft, first_unfinished}
-use Rattle.tiny_http_core.specs.Pending.{with_left_finished, waiting_form}
+use Rattle.tiny_http_core.specs.Pending.{with_left_finished, waiting_answer_form}
 use Rattle.tiny_http_core.specs.Connection.{IsWaiting, IsKept, AreKept}
 
 -- a place of a list
@@ -150,7 +150,7 @@ kept-finished s Held h = absurd h
 kept-finished s (Left text) h = h.done.finished
 kept-finished s Finished h = h.finished
 
-pub none-waits : (slots : List Slot) (marks : List Mark) (requests : List (Option Waiting)) (n : ℕ) → AreKept slots marks requests → waiting_form (slice_get requests n) ≡ None → (x : Slot) → slice_get slots n ≡ Some x → is_finished x ≡ true
+pub none-waits : (slots : List Slot) (marks : List Mark) (requests : List (Option Waiting)) (n : ℕ) → AreKept slots marks requests → waiting_answer_form (slice_get requests n) ≡ None → (x : Slot) → slice_get slots n ≡ Some x → is_finished x ≡ true
 none-waits [] ms us n h none x e = cc
 none-waits (s ∷ ss) [] us n h none x e = absurd h
 none-waits (s ∷ ss) (m ∷ ms) [] n h none x e = absurd h
@@ -189,9 +189,9 @@ pub record OutOfTurn (bs : List Slot) (fs rs : List Mark) : Type 0 where
   pub unfinished : list_all is_finished bs ≡ false
   pub turn : length fs ≡ first_unfinished (fs ++ (Open ∷ rs)) → ⊥
 
-later : (s : Slot) (bs : List Slot) (fs rs : List Mark) → is_finished s ≡ true → InTurn bs fs rs ⊎ OutOfTurn bs fs rs → InTurn (s ∷ bs) (Finished ∷ fs) rs ⊎ OutOfTurn (s ∷ bs) (Finished ∷ fs) rs
-later s bs fs rs f (inl t) = inl (record { finished = rw (f, t.finished) refl; turn = ap suc t.turn; waiting = t.waiting; shape = t.shape })
-later s bs fs rs f (inr t) = inr (record { unfinished = rw (f, t.unfinished) refl; turn = λ e. t.turn (let same : suc (length fs) ≡ suc (first_unfinished (fs ++ (Open ∷ rs))) = e in cc) })
+kept-later : (s : Slot) (bs : List Slot) (fs rs : List Mark) → is_finished s ≡ true → InTurn bs fs rs ⊎ OutOfTurn bs fs rs → InTurn (s ∷ bs) (Finished ∷ fs) rs ⊎ OutOfTurn (s ∷ bs) (Finished ∷ fs) rs
+kept-later s bs fs rs f (inl t) = inl (record { finished = rw (f, t.finished) refl; turn = ap suc t.turn; waiting = t.waiting; shape = t.shape })
+kept-later s bs fs rs f (inr t) = inr (record { unfinished = rw (f, t.unfinished) refl; turn = λ e. t.turn (let same : suc (length fs) ≡ suc (first_unfinished (fs ++ (Open ∷ rs))) = e in cc) })
 
 pub turn-at : (bs : List Slot) (fs : List Mark) (us : List (Option Waiting)) (rs : List Mark) → AreKept bs fs us → AreInShape (fs ++ (Open ∷ rs)) → InTurn bs fs rs ⊎ OutOfTurn bs fs rs
 turn-at [] [] us rs h shape = inl (record { finished = refl; turn = refl; waiting = shape; shape = passed-shape rs shape })
@@ -204,7 +204,7 @@ turn-at (b ∷ bs) (Open ∷ fs) (Some w ∷ us) rs h shape =
     inr (record { unfinished = rw open_is refl; turn = λ e. (let no : suc (length fs) ≡ 0 = e in cc) })
 turn-at (b ∷ bs) (Held ∷ fs) (u ∷ us) rs h shape = absurd h.0
 turn-at (b ∷ bs) (Left text ∷ fs) (u ∷ us) rs h shape = absurd shape
-turn-at (b ∷ bs) (Finished ∷ fs) (None ∷ us) rs h shape = later b bs fs rs h.0.finished (turn-at bs fs us rs h.1 shape)
+turn-at (b ∷ bs) (Finished ∷ fs) (None ∷ us) rs h shape = kept-later b bs fs rs h.0.finished (turn-at bs fs us rs h.1 shape)
 turn-at (b ∷ bs) (Finished ∷ fs) (Some w ∷ us) rs h shape = absurd h.0
 
 -- what is stored at a place

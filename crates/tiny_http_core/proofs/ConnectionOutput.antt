@@ -16,10 +16,7 @@ use Rattle.tiny_http_turns.specs.Turns.{Mark, Open, Held, Left, Finished, AreOpe
 use Rattle.tiny_http_core.specs.Pending.{left_text, begins_left}
 use Rattle.tiny_http_core.specs.Connection.{AreKept, OutputAt}
 use Rattle.tiny_http_core.proofs.SlotsLemmas.{joined-front, joined-broken, breaks-front}
-
-or-none : (a : Bool) → (a || false) ≡ a
-or-none true = refl
-or-none false = refl
+use Rattle.std.proofs.Math.Bool.{or-false}
 
 -- what stands after a number whose turn has come: the texts that were left, up to one that waits
 pub joined_behind : (cs : List Slot) (rs : List Mark) (vs : List (Option Waiting)) → AreOpenOrLeft rs → AreKept cs rs vs → (joined cs ≡ left_text rs) × (is_output_broken cs ≡ false)
@@ -64,7 +61,7 @@ pub record LostOutput (before new : Sink) (from to : List ℕ) (kind : ErrorKind
   pub front : IsFront output to
   pub taken : new.taken ≡ Some output
   pub failures : new.failures ≡ before.failures + 1
-  pub told : StatesKind new.last_kind kind
+  pub stated : StatesKind new.last_kind kind
 
 lost-front : (known text sent : List ℕ) (taken : Option (List ℕ)) → IsKnownFront taken (append_known (Some known) text) → BeginsKnown sent taken → (z : List ℕ) × (taken ≡ Some z) × IsFront z (known ++ text) × IsFront sent z
 lost-front known text sent None h k = let e : Some (known ++ text) ≡ None = h.1 in cc
@@ -79,7 +76,7 @@ lost-output before sink new known text kind front fails firm low l =
     let P : Option (List ℕ) → Type 0 = λ x. IsKnownFront new.taken (append_known x text) in
     let z = lost-front known text sink.sent new.taken (subst P front l.bytes) l.keeps in
     let C : ℕ → Type 0 = λ x. new.failures ≡ next_count x in
-    record { output = z.0; begins = IsFront-append known sink.sent z.0 firm z.3; front = z.2; taken = z.1; failures = count-next before.failures new.failures low (subst C fails l.failures); told = l.last_kind }
+    record { output = z.0; begins = IsFront-append known sink.sent z.0 firm z.3; front = z.2; taken = z.1; failures = count-next before.failures new.failures low (subst C fails l.failures); stated = l.last_kind }
 
 -- what is all sent on can't be lost
 pub all-firm : (s : Sink) (text : List ℕ) → s.taken ≡ Some text → HoldsNothing s → IsFront text s.sent
@@ -104,7 +101,7 @@ pub plain-more : (before sink : Sink) (e : Bool) (bs xs : List Slot) (failure : 
 plain-more before sink e bs xs failure h fin is whole = output-same before sink e bs (bs ++ xs) failure (sym (by-broken (is_output_broken bs) refl)) (sym breaks) h
   where
     breaks : is_output_broken (bs ++ xs) ≡ is_output_broken bs
-    breaks = breaks-front bs xs fin ∙ ap (λ x. is_output_broken bs || x) whole ∙ or-none (is_output_broken bs)
+    breaks = breaks-front bs xs fin ∙ ap (λ x. is_output_broken bs || x) whole ∙ or-false (is_output_broken bs)
 
     by-broken : (t : Bool) → is_output_broken bs ≡ t → joined (bs ++ xs) ≡ joined bs
     by-broken true e = joined-broken bs xs e
@@ -157,7 +154,7 @@ output-more before sink new false ended bs xs text None h fin is whole low sends
     let S : List ℕ → Type 0 = λ x. IsFront z.output x in
     record {
       failure = Some f;
-      output = (z.taken, z.failures, z.told, k.0);
+      output = (z.taken, z.failures, z.stated, k.0);
       writes = inr (f, refl, z.begins, subst S longer z.front);
       same = λ n z. (let no : false ≡ true = z in cc);
     })

@@ -22,12 +22,12 @@ use Rattle.tiny_http_core.specs.Slots.{Slot, Unanswered, Answered as AnsweredBy,
 use Rattle.tiny_http_message.specs.Body.{body_finished}
 use Rattle.tiny_http_core.specs.Steps.{Read, ReplyValue, Given, Fault, Memory, NoSuch, Unused, Outcome, Reached, changes, read_reply, effect, at_slot, at_number}
 use Rattle.tiny_http_core.specs.Conversation.{State, PlaceAt, HasOutcome}
-use Rattle.tiny_http_message.specs.Body.{Remaining, remaining, taken_left, prepend_body, prepended_body, BodyStops, NoneLeft, is_streaming, body_standing, IsBodyOver, ReadsOn, Fits, FillsFromBody}
+use Rattle.tiny_http_message.specs.Body.{Remaining, remaining, taken_remaining, prepend_body, prepended_body, BodyStops, NoneRemains, is_streaming, body_standing, IsBodyOver, ReadsOn, Fits, FillsFromBody}
 use Rattle.tiny_http_turns.specs.Turns.{Mark, Open}
 use Rattle.tiny_http_core.specs.Pending.{last_body, is_streaming_body}
 use Rattle.tiny_http_core.specs.Connection.{Kept, open_slot, IsWaiting, AreKept, AreSettled, behind_body, slot_rest, GivesRest, is_past_last, InputStands, Stands}
 use Rattle.tiny_http_stream.proofs.SourceGoesOn.{goes-on_more}
-use Rattle.tiny_http_core.proofs.ConnectionAsk.{StepIsAnswered, step-unchanged, settled-any, told-feed}
+use Rattle.tiny_http_core.proofs.ConnectionAsk.{StepIsAnswered, step-unchanged, settled-any, stated-feed}
 use Rattle.tiny_http_message.proofs.BodyReads.{stays-settled}
 use Rattle.tiny_http_core.proofs.ConnectionBody.{IsInput, StandsOn, stands-on, last-waits, with_reader, reader-within}
 use Rattle.tiny_http_core.proofs.ConnectionKept.{KeptAt, place-of, kept-append, kept-many}
@@ -35,6 +35,9 @@ use Rattle.tiny_http_core.proofs.ConnectionOutput.{output-same}
 use Rattle.tiny_http_core.proofs.ConnectionReader.{last-snoc, body-snoc, settled-place, settled-set, and-false}
 use Rattle.tiny_http_core.proofs.ConnectionRespond.{TakesNone, SlotAt, slot-at, set-place}
 use Rattle.tiny_http_core.proofs.SlotsLemmas.{joined-waits, breaks-waits}
+use Rattle.std.proofs.Math.Bool.{or-true, or-false}
+use Rattle.std.proofs.Math.Seq.{take-append_seam}
+use Rattle.std.proofs.Math.Seq.{drop-append_seam}
 
 -- how much was read of what is left
 record Counts (left bs xs : List ℕ) (m n : ℕ) : Type 0 where
@@ -64,33 +67,15 @@ counts left bs xs m n e len le none = by (cases_lt m n)
     by (inr ge) =
         let all : m ≡ n = omega (arith, ge, le) in
         record {
-          front = rw (e, sym all, sym len) (front-of bs xs);
-          behind = rw (e, sym len) (behind-of bs xs);
+          front = rw (e, sym all, sym len) (take-append_seam bs xs);
+          behind = rw (e, sym len) (drop-append_seam bs xs);
           short = le-ltb (length left) n (omega (arith, long, all)) ∙ sym (le-ltb m n (omega (arith, all)));
         }
-      where
-        front-of : (bs xs : List ℕ) → take (length bs) (bs ++ xs) ≡ bs
-        front-of [] [] = refl
-        front-of [] (x ∷ xs) = refl
-        front-of (b ∷ bs) xs = ap (λ r. b ∷ r) (front-of bs xs)
-
-        behind-of : (bs xs : List ℕ) → drop (length bs) (bs ++ xs) ≡ xs
-        behind-of [] [] = refl
-        behind-of [] (x ∷ xs) = refl
-        behind-of (b ∷ bs) xs = behind-of bs xs
-
-or-true : (a : Bool) → (a || true) ≡ true
-or-true true = refl
-or-true false = refl
-
-or-false : (a : Bool) → (a || false) ≡ a
-or-false true = refl
-or-false false = refl
 
 -- what was read of a body fits it
-still-over : (form : Form) (n given : ℕ) (told more : Bool) → body_finished form n given told ≡ true → body_finished form n given (told || more) ≡ true
-still-over Nothing n given told more h = refl
-still-over WithHead n given told more h = refl
+still-over : (form : Form) (n given : ℕ) (end_reported more : Bool) → body_finished form n given end_reported ≡ true → body_finished form n given (end_reported || more) ≡ true
+still-over Nothing n given end_reported more h = refl
+still-over WithHead n given end_reported more h = refl
 still-over Counted n given true more h = or-true (given == n)
 still-over Counted n given false more h = by (given == n) h
   where
@@ -102,22 +87,22 @@ still-over Chunked n given false more h = cc
 still-over Rest n given true more h = refl
 still-over Rest n given false more h = cc
 
-fits-on : (b c : Body) (form : Form) (n given m : ℕ) (told more : Bool) → Fits b form n given told → ReadsOn b m more c → Fits c form n (given + m) (told || more)
-fits-on (body.Over stop) c form n given m told more fits h =
-    let P : Body → Type 0 = λ x. Fits x form n (given + m) (told || more) in
+fits-on : (b c : Body) (form : Form) (n given m : ℕ) (end_reported more : Bool) → Fits b form n given end_reported → ReadsOn b m more c → Fits c form n (given + m) (end_reported || more)
+fits-on (body.Over stop) c form n given m end_reported more fits h =
+    let P : Body → Type 0 = λ x. Fits x form n (given + m) (end_reported || more) in
     let same : given + m ≡ given = omega (arith, h.1) in
-    subst P (sym h.0) (ap (λ k. body_finished form n k (told || more)) same ∙ still-over form n given told more fits)
-fits-on (body.WithHead bytes) (body.WithHead left) form n given m told more fits h = fits
-fits-on (body.WithHead bytes) (body.Over stop) form n given m told more fits h = absurd h
-fits-on (body.WithHead bytes) (body.Counted left) form n given m told more fits h = absurd h
-fits-on (body.WithHead bytes) (body.Chunked d) form n given m told more fits h = absurd h
-fits-on (body.Counted left) c form n given m told more fits h = by (more || (m == left)) refl h
+    subst P (sym h.0) (ap (λ k. body_finished form n k (end_reported || more)) same ∙ still-over form n given end_reported more fits)
+fits-on (body.WithHead bytes) (body.WithHead left) form n given m end_reported more fits h = fits
+fits-on (body.WithHead bytes) (body.Over stop) form n given m end_reported more fits h = absurd h
+fits-on (body.WithHead bytes) (body.Counted left) form n given m end_reported more fits h = absurd h
+fits-on (body.WithHead bytes) (body.Chunked d) form n given m end_reported more fits h = absurd h
+fits-on (body.Counted left) c form n given m end_reported more fits h = by (more || (m == left)) refl h
   where
-    over : (c : Body) → IsBodyOver c → (more || (m == left)) ≡ true → Fits c form n (given + m) (told || more)
+    over : (c : Body) → IsBodyOver c → (more || (m == left)) ≡ true → Fits c form n (given + m) (end_reported || more)
     over (body.Over stop) i e = rw fits.0 (at more e)
       where
-        at : (t : Bool) → (t || (m == left)) ≡ true → ((given + m) == n || (told || t)) ≡ true
-        at true e = ap (λ x. (given + m) == n || x) (or-true told) ∙ or-true ((given + m) == n)
+        at : (t : Bool) → (t || (m == left)) ≡ true → ((given + m) == n || (end_reported || t)) ≡ true
+        at true e = ap (λ x. (given + m) == n || x) (or-true end_reported) ∙ or-true ((given + m) == n)
         at false e = rw (eq-eqb (given + m) n (omega (arith, fits.1, eqb-true m left e))) refl
     over (body.WithHead bytes) i e = absurd i
     over (body.Counted l) i e = absurd i
@@ -127,30 +112,30 @@ fits-on (body.Counted left) c form n given m told more fits h = by (more || (m =
     neither true b e = cc
     neither false b e = refl
 
-    by : (t : Bool) → (more || (m == left)) ≡ t → MatchBool t (IsBodyOver c) ((c ≡ body.Counted (left - m)) × (m < left)) → Fits c form n (given + m) (told || more)
+    by : (t : Bool) → (more || (m == left)) ≡ t → MatchBool t (IsBodyOver c) ((c ≡ body.Counted (left - m)) × (m < left)) → Fits c form n (given + m) (end_reported || more)
     by true e k = over c k e
     by false e k =
-        let P : Body → Type 0 = λ x. Fits x form n (given + m) (told || more) in
-        let untold : (told || more) ≡ false = rw (fits.3, neither more (m == left) e) refl in
-        subst P (sym k.0) (fits.0, omega (arith, fits.1, k.1), omega (arith, k.1), untold)
-fits-on (body.Chunked d) c form n given m told true fits h = over c h
+        let P : Body → Type 0 = λ x. Fits x form n (given + m) (end_reported || more) in
+        let unreported : (end_reported || more) ≡ false = rw (fits.3, neither more (m == left) e) refl in
+        subst P (sym k.0) (fits.0, omega (arith, fits.1, k.1), omega (arith, k.1), unreported)
+fits-on (body.Chunked d) c form n given m end_reported true fits h = over c h
   where
-    over : (c : Body) → IsBodyOver c → Fits c form n (given + m) (told || true)
-    over (body.Over stop) i = rw (fits.0, or-true told) refl
+    over : (c : Body) → IsBodyOver c → Fits c form n (given + m) (end_reported || true)
+    over (body.Over stop) i = rw (fits.0, or-true end_reported) refl
     over (body.WithHead bytes) i = absurd i
     over (body.Counted l) i = absurd i
     over (body.Chunked d) i = absurd i
-fits-on (body.Chunked d) (body.Chunked e) form n given m told false fits h = (fits.0, or-false told ∙ fits.1)
-fits-on (body.Chunked d) (body.Over stop) form n given m told false fits h = absurd h
-fits-on (body.Chunked d) (body.WithHead bytes) form n given m told false fits h = absurd h
-fits-on (body.Chunked d) (body.Counted l) form n given m told false fits h = absurd h
+fits-on (body.Chunked d) (body.Chunked e) form n given m end_reported false fits h = (fits.0, or-false end_reported ∙ fits.1)
+fits-on (body.Chunked d) (body.Over stop) form n given m end_reported false fits h = absurd h
+fits-on (body.Chunked d) (body.WithHead bytes) form n given m end_reported false fits h = absurd h
+fits-on (body.Chunked d) (body.Counted l) form n given m end_reported false fits h = absurd h
 
 -- how many bytes are given then, and whether the end is reported
 abbrev now_given : Request → ℕ → ℕ → ℕ
 now_given r given n = given + length (take n (drop given r.body.bytes))
 
-abbrev now_told : Request → ℕ → Bool → ℕ → Bool
-now_told r given told n = told || nat_lt (length (drop given r.body.bytes)) n
+abbrev end_now_reported : Request → ℕ → Bool → ℕ → Bool
+end_now_reported r given end_reported n = end_reported || nat_lt (length (drop given r.body.bytes)) n
 
 -- the reply to a read that filled a buffer so
 abbrev pub reply_for : Result ℕ ErrorKind → List ℕ → ReplyValue
@@ -163,12 +148,12 @@ IfBound (Ok m) buf = m ≤ length buf
 IfBound (Err kind) buf = ⊤
 
 -- what a read leaves of a request's body
-record ReadOn (b c : Body) (old new : Option Feed) (r : Request) (given : ℕ) (told : Bool) (n : ℕ) (reply : ReplyValue) : Type 0 where
+record ReadOn (b c : Body) (old new : Option Feed) (r : Request) (given : ℕ) (end_reported : Bool) (n : ℕ) (reply : ReplyValue) : Type 0 where
   x : Remaining
   is : remaining c new ≡ Some x
   rest : x.body ≡ rest_of r (now_given r given n)
   behind : behind_body (Some c) new ≡ behind_body (Some b) old
-  fits : Fits c r.framing.form (body_length_or_0 r.framing) (now_given r given n) (now_told r given told n)
+  fits : Fits c r.framing.form (body_length_or_0 r.framing) (now_given r given n) (end_now_reported r given end_reported n)
   reply_is : reply ≡ read_reply n (drop given r.body.bytes) r.body.stop
   stays : is_streaming b ≡ false → is_streaming c ≡ false
 
@@ -186,9 +171,9 @@ given-reply n (a ∷ left) bs stop e end = ap Given (sym e)
 abbrev B : Option Remaining → Option Feed
 B o = option_map (λ (y : Remaining). y.behind) o
 
-read-given : (b c : Body) (old new : Option Feed) (r : Request) (given : ℕ) (told : Bool) (n m : ℕ) (buf : List ℕ) (y : Remaining) → remaining b old ≡ Some y → y.body ≡ rest_of r given → Fits b r.framing.form (body_length_or_0 r.framing) given told
-    → m ≤ length buf → length buf ≡ n → 0 < n → FillsFromBody b old c new (Ok m) buf → ReadOn b c old new r given told n (Given (take m buf))
-read-given b c old new r given told n m buf y here rest fits le size some fills =
+read-given : (b c : Body) (old new : Option Feed) (r : Request) (given : ℕ) (end_reported : Bool) (n m : ℕ) (buf : List ℕ) (y : Remaining) → remaining b old ≡ Some y → y.body ≡ rest_of r given → Fits b r.framing.form (body_length_or_0 r.framing) given end_reported
+    → m ≤ length buf → length buf ≡ n → 0 < n → FillsFromBody b old c new (Ok m) buf → ReadOn b c old new r given end_reported n (Given (take m buf))
+read-given b c old new r given end_reported n m buf y here rest fits le size some fills =
     let bs = take m buf in
     let left = drop given r.body.bytes in
     let t = taken y (remaining c new) bs (sym here ∙ fills.0) in
@@ -197,13 +182,13 @@ read-given b c old new r given told n m buf y here rest fits le size some fills 
     let bytes : left ≡ bs ++ x.body.bytes = ap (λ (f : Feed). f.bytes) whole in
     let stop : r.body.stop ≡ x.body.stop = ap (λ (f : Feed). f.stop) whole in
     let len : length bs ≡ m = grind (arith, common_steps) in
-    let N : Option Remaining → Type 0 = λ o. NoneLeft o in
+    let N : Option Remaining → Type 0 = λ o. NoneRemains o in
     let k = counts left bs x.body.bytes m n bytes len (omega (arith, le, size)) (λ lt. subst N t.1 (fills.2 (omega (arith, lt, size)))) in
     let count : now_given r given n ≡ given + m = ap (λ l. given + length l) k.front ∙ ap (λ j. given + j) len in
     let F : List ℕ → Stop → Feed = λ l s. record { bytes = l; stop = s } in
     let E : Option Remaining → Type 0 = λ o. BodyStops End o in
-    let on = fits-on b c r.framing.form (body_length_or_0 r.framing) given m told (nat_lt m (length buf)) fits (fills.1 (omega (arith, size, some))) in
-    let G : ℕ → Bool → Type 0 = λ j u. Fits c r.framing.form (body_length_or_0 r.framing) j (told || u) in
+    let on = fits-on b c r.framing.form (body_length_or_0 r.framing) given m end_reported (nat_lt m (length buf)) fits (fills.1 (omega (arith, size, some))) in
+    let G : ℕ → Bool → Type 0 = λ j u. Fits c r.framing.form (body_length_or_0 r.framing) j (end_reported || u) in
     let short : nat_lt m (length buf) ≡ nat_lt (length left) n = ap (λ j. nat_lt m j) size ∙ sym k.short in
     record {
       x = x;
@@ -220,9 +205,9 @@ read-given b c old new r given told n m buf y here rest fits le size some fills 
     none-read left [] xs m e empty len = sym len
     none-read left (z ∷ bs) xs m e empty len = let no : z ∷ (bs ++ xs) ≡ [] = sym e ∙ empty in cc
 
-read-fault : (b c : Body) (old new : Option Feed) (r : Request) (given : ℕ) (told : Bool) (n : ℕ) (kind : ErrorKind) (buf : List ℕ) (y : Remaining) → remaining b old ≡ Some y → y.body ≡ rest_of r given → Fits b r.framing.form (body_length_or_0 r.framing) given told
-    → 0 < n → FillsFromBody b old c new (Err kind) buf → ReadOn b c old new r given told n (Fault kind)
-read-fault b c old new r given told n kind buf y here rest fits some fills =
+read-fault : (b c : Body) (old new : Option Feed) (r : Request) (given : ℕ) (end_reported : Bool) (n : ℕ) (kind : ErrorKind) (buf : List ℕ) (y : Remaining) → remaining b old ≡ Some y → y.body ≡ rest_of r given → Fits b r.framing.form (body_length_or_0 r.framing) given end_reported
+    → 0 < n → FillsFromBody b old c new (Err kind) buf → ReadOn b c old new r given end_reported n (Fault kind)
+read-fault b c old new r given end_reported n kind buf y here rest fits some fills =
     let left = drop given r.body.bytes in
     let E : Option Remaining → Type 0 = λ o. BodyStops (Faults kind) o in
     let ends : rest_of r given ≡ stopped (Faults kind) = sym rest ∙ subst E here fills.2 in
@@ -232,41 +217,41 @@ read-fault b c old new r given told n kind buf y here rest fits some fills =
     let count : now_given r given n ≡ given + 0 = ap (λ j. given + j) none in
     let same : now_given r given n ≡ given = omega (arith, count) in
     let zero : length left ≡ 0 = ap length empty in
-    let told_now : nat_lt (length left) n ≡ true = lt-ltb (length left) n (omega (arith, zero, some)) in
-    let G : ℕ → Bool → Type 0 = λ j u. Fits c r.framing.form (body_length_or_0 r.framing) j (told || u) in
+    let reported_now : nat_lt (length left) n ≡ true = lt-ltb (length left) n (omega (arith, zero, some)) in
+    let G : ℕ → Bool → Type 0 = λ j u. Fits c r.framing.form (body_length_or_0 r.framing) j (end_reported || u) in
     let P : List ℕ → Stop → Type 0 = λ l s. Fault kind ≡ read_reply n l s in
-    let on = fits-on b c r.framing.form (body_length_or_0 r.framing) given 0 told true fits fills.1 in
+    let on = fits-on b c r.framing.form (body_length_or_0 r.framing) given 0 end_reported true fits fills.1 in
     record {
       x = y;
       is = fills.0 ∙ here;
       rest = rest ∙ ap (λ j. rest_of r j) (sym same);
       behind = ap B fills.0;
-      fits = subst (λ j. G j (nat_lt (length left) n)) (sym count) (subst (λ u. G (given + 0) u) (sym told_now) on);
+      fits = subst (λ j. G j (nat_lt (length left) n)) (sym count) (subst (λ u. G (given + 0) u) (sym reported_now) on);
       reply_is = subst (λ l. P l r.body.stop) (sym empty) (subst (λ s. P [] s) (sym stop) refl);
       stays = stays-settled b c 0 true fills.1;
     }
 
-read-on : (b c : Body) (old new : Option Feed) (r : Request) (given : ℕ) (told : Bool) (n : ℕ) (result : Result ℕ ErrorKind) (buf : List ℕ) (y : Remaining) → remaining b old ≡ Some y → y.body ≡ rest_of r given → Fits b r.framing.form (body_length_or_0 r.framing) given told
-    → IfBound result buf → length buf ≡ n → 0 < n → FillsFromBody b old c new result buf → ReadOn b c old new r given told n (reply_for result buf)
-read-on b c old new r given told n (Ok m) buf y here rest fits le size some fills = read-given b c old new r given told n m buf y here rest fits le size some fills
-read-on b c old new r given told n (Err kind) buf y here rest fits le size some fills = read-fault b c old new r given told n kind buf y here rest fits some fills
+read-on : (b c : Body) (old new : Option Feed) (r : Request) (given : ℕ) (end_reported : Bool) (n : ℕ) (result : Result ℕ ErrorKind) (buf : List ℕ) (y : Remaining) → remaining b old ≡ Some y → y.body ≡ rest_of r given → Fits b r.framing.form (body_length_or_0 r.framing) given end_reported
+    → IfBound result buf → length buf ≡ n → 0 < n → FillsFromBody b old c new result buf → ReadOn b c old new r given end_reported n (reply_for result buf)
+read-on b c old new r given end_reported n (Ok m) buf y here rest fits le size some fills = read-given b c old new r given end_reported n m buf y here rest fits le size some fills
+read-on b c old new r given end_reported n (Err kind) buf y here rest fits le size some fills = read-fault b c old new r given end_reported n kind buf y here rest fits some fills
 
 -- the slot of a request, of which so much was read
 abbrev read_slot : (s : Slot) (w : Waiting) → IsWaiting s w → ℕ → Slot
-read_slot s w h n = open_slot h.date h.request (now_given h.request h.given n) (now_told h.request h.given h.told n)
+read_slot s w h n = open_slot h.date h.request (now_given h.request h.given n) (end_now_reported h.request h.given h.end_reported n)
 
 abbrev with_body : Waiting → Body → Waiting
 with_body w b = record w { body = b }
 
-still-waiting : (s : Slot) (w : Waiting) (h : IsWaiting s w) (c : Body) (old new : Option Feed) (n : ℕ) (reply : ReplyValue) → ReadOn w.body c old new h.request h.given h.told n reply → IsWaiting (read_slot s w h n) (with_body w c)
+still-waiting : (s : Slot) (w : Waiting) (h : IsWaiting s w) (c : Body) (old new : Option Feed) (n : ℕ) (reply : ReplyValue) → ReadOn w.body c old new h.request h.given h.end_reported n reply → IsWaiting (read_slot s w h n) (with_body w c)
 still-waiting s w h c old new n reply k = record {
   request = h.request;
   date = h.date;
   given = now_given h.request h.given n;
-  told = now_told h.request h.given h.told n;
+  end_reported = end_now_reported h.request h.given h.end_reported n;
   is = refl;
   unowed = h.unowed;
-  form = h.form;
+  answer_form = h.answer_form;
   text = h.text;
   fits = k.fits;
   settled = settled-any c new (rest_of h.request (now_given h.request h.given n)) k.x.behind (k.is ∙ (let R : Feed → Option Remaining = λ f. Some (record { body = f; behind = k.x.behind }) in ap R k.rest));
@@ -274,7 +259,7 @@ still-waiting s w h c old new n reply k = record {
 
 -- the last number's body is read
 read-last : {R : Type 0} (client : Feed) (k : Kept) (old new : SourceState R) (bs : List Slot) (us : List (Option Waiting)) (rest : List Item) (s : Slot) (w : Waiting) (c : Body) (n : ℕ) (reply : ReplyValue) → (h : IsWaiting s w) → IsInput k old → InputStands client k (bs ++ (s ∷ [])) rest
-    → k.requests ≡ us ++ (Some w ∷ []) → ReadOn w.body c old.feed new.feed h.request h.given h.told n reply → (is_streaming w.body ≡ false → new ≡ old) → (is_streaming w.body ≡ true → new.standing ≡ body_standing c old.standing) → GoesOn old.feed new.feed
+    → k.requests ≡ us ++ (Some w ∷ []) → ReadOn w.body c old.feed new.feed h.request h.given h.end_reported n reply → (is_streaming w.body ≡ false → new ≡ old) → (is_streaming w.body ≡ true → new.standing ≡ body_standing c old.standing) → GoesOn old.feed new.feed
     → InputStands client (with_reader k (us ++ (Some (with_body w c) ∷ [])) new) (bs ++ (read_slot s w h n ∷ [])) rest
 read-last {R = R} client k old new bs us rest s w c n reply h from reader is on leaves stands goes =
     let t = read_slot s w h n in
@@ -286,7 +271,7 @@ read-last {R = R} client k old new bs us rest s w c n reply h from reader is on 
     let P : Bool → Option Body → Type 0 = λ x b. PlaceAt x (behind_body b new.feed) rest in
     let Q : Option Feed → Type 0 = λ f. PlaceAt (is_past_last old.standing) f rest in
     let W : Option Slot → Option Body → Bool = λ x y. not (is_last_slot x) && is_streaming_body y in
-    let same : (e : k.ended ≡ false) → StandsOn c old.standing new.standing (is_last_item s.item) =
+    let same : (e : k.asking_ended ≡ false) → StandsOn c old.standing new.standing (is_last_item s.item) =
     λ e. stands-on w.body c old.standing new.standing (is_last_item s.item) stands (λ quiet. ap (λ (x : SourceState R). x.standing) (leaves quiet)) on.stays (l.within e) in
     let item : is_last_item s.item ≡ is_last_item t.item = ap (λ (x : Slot). is_last_item x.item) h.is in
     let S : Option Feed → Type 0 = λ f. GoesOn f new.feed in
@@ -304,7 +289,7 @@ read-last {R = R} client k old new bs us rest s w c n reply h from reader is on 
     }
 
 reader-read : {R : Type 0} (client : Feed) (k : Kept) (old new : SourceState R) (bs cs : List Slot) (us vs : List (Option Waiting)) (rest : List Item) (s : Slot) (w : Waiting) (c : Body) (n : ℕ) (reply : ReplyValue) → (h : IsWaiting s w) → IsInput k old → InputStands client k (bs ++ (s ∷ cs)) rest
-    → k.requests ≡ us ++ (Some w ∷ vs) → length cs ≡ length vs → ReadOn w.body c old.feed new.feed h.request h.given h.told n reply → (is_streaming w.body ≡ false → new ≡ old) → (is_streaming w.body ≡ true → new.standing ≡ body_standing c old.standing) → GoesOn old.feed new.feed
+    → k.requests ≡ us ++ (Some w ∷ vs) → length cs ≡ length vs → ReadOn w.body c old.feed new.feed h.request h.given h.end_reported n reply → (is_streaming w.body ≡ false → new ≡ old) → (is_streaming w.body ≡ true → new.standing ≡ body_standing c old.standing) → GoesOn old.feed new.feed
     → InputStands client (with_reader k (us ++ (Some (with_body w c) ∷ vs)) new) (bs ++ (read_slot s w h n ∷ cs)) rest
 reader-read client k old new bs [] us [] rest s w c n reply h from reader is same on leaves stands goes = read-last client k old new bs us rest s w c n reply h from reader is on leaves stands goes
 reader-read client k old new bs [] us (v ∷ vs) rest s w c n reply h from reader is same on leaves stands goes = absurd (omega (arith, same))
@@ -317,23 +302,23 @@ reader-read {R = R} client k old new bs (d ∷ cs) us (v ∷ vs) rest s w c n re
     subst P (sym (leaves quiet)) (reader-within client k old bs cs us vs rest s t d v (Some (with_body w c)) (Some w) from reader is (on.stays quiet))
 
 -- what is left of a number's body, as its reader sees it
-left-of : {R : Type 0} (client : Feed) (k : Kept) (old : SourceState R) (bs cs : List Slot) (us vs : List (Option Waiting)) (rest : List Item) (s : Slot) (w : Waiting) → (h : IsWaiting s w) → IsInput k old → InputStands client k (bs ++ (s ∷ cs)) rest
+read-remains-of : {R : Type 0} (client : Feed) (k : Kept) (old : SourceState R) (bs cs : List Slot) (us vs : List (Option Waiting)) (rest : List Item) (s : Slot) (w : Waiting) → (h : IsWaiting s w) → IsInput k old → InputStands client k (bs ++ (s ∷ cs)) rest
     → k.requests ≡ us ++ (Some w ∷ vs) → length cs ≡ length vs → (y : Remaining) × (remaining w.body old.feed ≡ Some y) × (y.body ≡ rest_of h.request h.given)
-left-of client k old bs [] us [] rest s w h from reader is same =
+read-remains-of client k old bs [] us [] rest s w h from reader is same =
     let l = last-waits client k old bs us rest s w h from reader is in
-    told (remaining w.body old.feed) refl (l.gives ∙ ap (λ (x : Slot). Some (slot_rest x)) h.is)
+    end_reported (remaining w.body old.feed) refl (l.gives ∙ ap (λ (x : Slot). Some (slot_rest x)) h.is)
   where
-    told : (o : Option Remaining) → remaining w.body old.feed ≡ o → option_map (λ (x : Remaining). x.body) o ≡ Some (rest_of h.request h.given) → (y : Remaining) × (remaining w.body old.feed ≡ Some y) × (y.body ≡ rest_of h.request h.given)
-    told None e g = let no : None ≡ Some (rest_of h.request h.given) = g in cc
-    told (Some y) e g = (y, e, (let same : Some y.body ≡ Some (rest_of h.request h.given) = g in cc))
-left-of client k old bs [] us (v ∷ vs) rest s w h from reader is same = absurd (omega (arith, same))
-left-of client k old bs (d ∷ cs) us [] rest s w h from reader is same = absurd (omega (arith, same))
-left-of client k old bs (d ∷ cs) us (v ∷ vs) rest s w h from reader is same =
+    end_reported : (o : Option Remaining) → remaining w.body old.feed ≡ o → option_map (λ (x : Remaining). x.body) o ≡ Some (rest_of h.request h.given) → (y : Remaining) × (remaining w.body old.feed ≡ Some y) × (y.body ≡ rest_of h.request h.given)
+    end_reported None e g = let no : None ≡ Some (rest_of h.request h.given) = g in cc
+    end_reported (Some y) e g = (y, e, (let same : Some y.body ≡ Some (rest_of h.request h.given) = g in cc))
+read-remains-of client k old bs [] us (v ∷ vs) rest s w h from reader is same = absurd (omega (arith, same))
+read-remains-of client k old bs (d ∷ cs) us [] rest s w h from reader is same = absurd (omega (arith, same))
+read-remains-of client k old bs (d ∷ cs) us (v ∷ vs) rest s w h from reader is same =
     let A : List (Option Waiting) → Type 0 = λ x. AreSettled x in
     let quiet = settled-place us (Some w) v vs (subst A is reader.settled) in
-    let f = told-feed client k.feed reader.source in
+    let f = stated-feed client k.feed reader.source in
     let e : old.feed ≡ Some f.0 = sym from.feed ∙ f.1 in
-    (taken_left (rest_of h.request h.given) f.0, ap (remaining w.body) e ∙ h.settled quiet f.0, refl)
+    (taken_remaining (rest_of h.request h.given) f.0, ap (remaining w.body) e ∙ h.settled quiet f.0, refl)
 
 pub read-not_taken : (k n : ℕ) → TakesNone (Read k n)
 read-not_taken k n Unanswered owed e = cc
@@ -346,7 +331,7 @@ read-not_taken k n (Upgraded p r d w false) owed e = cc
 
 -- the step at a request that waits
 at-read : (date : HttpDate) (old : Reached) (k n : ℕ) (s : Slot) (w : Waiting) (h : IsWaiting s w) → slice_get old.slots k ≡ Some s
-    → at_number true date old k (Read k n) ≡ effect true date old h.request (open_slot h.date h.request h.given h.told) (turn_has_come k old.slots) (Read k n)
+    → at_number true date old k (Read k n) ≡ effect true date old h.request (open_slot h.date h.request h.given h.end_reported) (turn_has_come k old.slots) (Read k n)
 at-read date old k n s w h e =
     let T : Slot → Outcome = λ x. at_slot true date old k (Read k n) (Some x) in
     ap (at_slot true date old k (Read k n)) e ∙ ap T h.is ∙ rw h.unowed refl
@@ -384,7 +369,7 @@ read-done {R = R} client before k s date j n w c old new requests result buf st 
       record {
         numbers = subst M (sym p.marks_are) (kept-append p.bs p.fs p.us (s1 ∷ p.cs) (Open ∷ p.rs) (Some (with_body w c) ∷ p.vs) p.before (still-waiting p.s w h c old.feed new.feed n (reply_for result buf) on, p.behind));
         shape = st.shape;
-        ended = st.ended;
+        asking_ended = st.asking_ended;
         flushed = λ none. st.flushed none ∙ joined_same;
         reader = reader-read client k old new p.bs p.cs p.us p.vs s.reached.rest p.s w c n (reply_for result buf) h from (subst P p.slots_are st.reader) p.requests_are many on leaves stands goes;
         output = output-same before k.sink k.output_ended s.reached.slots slots s.failure joined_same breaks_same st.output;
@@ -416,28 +401,28 @@ read-done {R = R} client before k s date j n w c old new requests result buf st 
     set : requests ≡ p.us ++ (Some (with_body w c) ∷ p.vs)
     set = requests_are ∙ set-place k.requests p.us p.vs j (Some w) (Some (with_body w c)) p.requests_are p.requests_before
 
-    on : ReadOn w.body c old.feed new.feed h.request h.given h.told n (reply_for result buf)
+    on : ReadOn w.body c old.feed new.feed h.request h.given h.end_reported n (reply_for result buf)
     on =
-        let y = left-of client k old p.bs p.cs p.us p.vs s.reached.rest p.s w h from (subst P p.slots_are st.reader) p.requests_are many in
-        read-on w.body c old.feed new.feed h.request h.given h.told n result buf y.0 y.1 y.2 h.fits bound size some fills
+        let y = read-remains-of client k old p.bs p.cs p.us p.vs s.reached.rest p.s w h from (subst P p.slots_are st.reader) p.requests_are many in
+        read-on w.body c old.feed new.feed h.request h.given h.end_reported n result buf y.0 y.1 y.2 h.fits bound size some fills
 
     at : SlotAt s.reached.slots p.bs p.cs p.s j
     at = slot-at s.reached.slots p.bs p.cs p.s j p.slots_are p.slots_before
 
-    open_is : s.reached.slots ≡ p.bs ++ (open_slot h.date h.request h.given h.told ∷ p.cs)
+    open_is : s.reached.slots ≡ p.bs ++ (open_slot h.date h.request h.given h.end_reported ∷ p.cs)
     open_is = p.slots_are ∙ ap (λ x. p.bs ++ (x ∷ p.cs)) h.is
 
     joined_same : joined s.reached.slots ≡ joined slots
-    joined_same = ap joined open_is ∙ joined-waits p.bs (open_slot h.date h.request h.given h.told) p.cs refl refl ∙ sym (joined-waits p.bs s1 p.cs refl refl)
+    joined_same = ap joined open_is ∙ joined-waits p.bs (open_slot h.date h.request h.given h.end_reported) p.cs refl refl ∙ sym (joined-waits p.bs s1 p.cs refl refl)
 
     breaks_same : is_output_broken s.reached.slots ≡ is_output_broken slots
-    breaks_same = ap is_output_broken open_is ∙ breaks-waits p.bs (open_slot h.date h.request h.given h.told) p.cs refl refl ∙ sym (breaks-waits p.bs s1 p.cs refl refl)
+    breaks_same = ap is_output_broken open_is ∙ breaks-waits p.bs (open_slot h.date h.request h.given h.end_reported) p.cs refl refl ∙ sym (breaks-waits p.bs s1 p.cs refl refl)
 
     state : State
-    state = record { reached = record { slots = slots; rest = s.reached.rest; ended = s.reached.ended }; flushed = s.flushed; failure = s.failure }
+    state = record { reached = record { slots = slots; rest = s.reached.rest; asking_ended = s.reached.asking_ended }; flushed = s.flushed; failure = s.failure }
 
     L : List Slot → Reached
-    L l = record { slots = l; rest = s.reached.rest; ended = s.reached.ended }
+    L l = record { slots = l; rest = s.reached.rest; asking_ended = s.reached.asking_ended }
 
     G : Outcome → Type 0
     G o = HasOutcome o s (reply_for result buf) state

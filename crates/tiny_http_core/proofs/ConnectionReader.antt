@@ -16,6 +16,7 @@ use Rattle.tiny_http_turns.specs.Turns.{Mark, Open, Held, Left, Finished}
 use Rattle.tiny_http_message.specs.Body.{Remaining, remaining, is_streaming, Fits}
 use Rattle.tiny_http_core.specs.Pending.{last_body, is_streaming_body}
 use Rattle.tiny_http_core.specs.Connection.{IsWaiting, IsDone, IsKept, AreKept, IsSettled, AreSettled, behind_body, slot_rest, GivesRest}
+use Rattle.std.proofs.Math.Bool.{or-true}
 
 -- the body at a place is read from the input
 abbrev pub held_at : Option (Option Waiting) → Bool
@@ -31,8 +32,8 @@ held-last (w ∷ v ∷ ws) =
     let less : length (w ∷ v ∷ ws) - 1 ≡ suc (length (v ∷ ws) - 1) = omega arith in
     ap (λ n. held_at (slice_get (w ∷ v ∷ ws) n)) less ∙ held-last (v ∷ ws)
 
-pub held-is : (ws l : List (Option Waiting)) (o : Option (Option Waiting)) → l ≡ ws → o ≡ slice_get l (length l - 1) → held_at o ≡ is_streaming_body (last_body ws)
-held-is ws l o e at = ap held_at at ∙ held-last l ∙ ap (λ x. is_streaming_body (last_body x)) e
+pub reader-held-is : (ws l : List (Option Waiting)) (o : Option (Option Waiting)) → l ≡ ws → o ≡ slice_get l (length l - 1) → held_at o ≡ is_streaming_body (last_body ws)
+reader-held-is ws l o e at = ap held_at at ∙ held-last l ∙ ap (λ x. is_streaming_body (last_body x)) e
 
 -- the last of some, and what is kept of it
 abbrev pub LastKept : Option Slot → Option Body → Type 0
@@ -111,11 +112,11 @@ pub and-false : (f : Bool) → (f && false) ≡ false
 and-false true = refl
 and-false false = refl
 
-pub fits-streams : (b : Body) (form : Form) (n given : ℕ) (told : Bool) → Fits b form n given told → (is_form_streamed form && not (body_finished form n given told || false)) ≡ is_streaming b
-fits-streams (body.Over stop) form n given told h = rw h (and-false (is_form_streamed form))
-fits-streams (body.WithHead bytes) form n given told h = rw h refl
-fits-streams (body.Counted left) form n given told h = rw (h.0, h.3, ne_eqb given n (λ e. absurd (omega (arith, e, h.1, h.2)))) refl
-fits-streams (body.Chunked d) form n given told h = rw (h.0, h.1) refl
+pub fits-streams : (b : Body) (form : Form) (n given : ℕ) (end_reported : Bool) → Fits b form n given end_reported → (is_form_streamed form && not (body_finished form n given end_reported || false)) ≡ is_streaming b
+fits-streams (body.Over stop) form n given end_reported h = rw h (and-false (is_form_streamed form))
+fits-streams (body.WithHead bytes) form n given end_reported h = rw h refl
+fits-streams (body.Counted left) form n given end_reported h = rw (h.0, h.3, ne_eqb given n (λ e. absurd (omega (arith, e, h.1, h.2)))) refl
+fits-streams (body.Chunked d) form n given end_reported h = rw (h.0, h.1) refl
 
 pub waiting-kept : (s : Slot) (w : Waiting) (h : IsWaiting s w) → last_was_abandoned (Some s) ≡ false
 waiting-kept s w h = let P : Slot → Type 0 = λ x. last_was_abandoned (Some x) ≡ false in subst P (sym h.is) (and-false (is_chunked h.request.framing.form))
@@ -124,14 +125,10 @@ waiting-kept s w h = let P : Slot → Type 0 = λ x. last_was_abandoned (Some x)
 pub waiting-open : (s : Slot) (w : Waiting) (h : IsWaiting s w) → last_is_open (Some s) ≡ is_streaming w.body
 waiting-open s w h =
     let P : Slot → Type 0 = λ x. last_is_open (Some x) ≡ is_streaming w.body in
-    subst P (sym h.is) (fits-streams w.body h.request.framing.form (body_length_or_0 h.request.framing) h.given h.told h.fits)
+    subst P (sym h.is) (fits-streams w.body h.request.framing.form (body_length_or_0 h.request.framing) h.given h.end_reported h.fits)
 
 pub done-open : (s : Slot) → IsDone s → last_is_open (Some s) ≡ false
 done-open s d = at s.item
-  where
-    or-true : (a : Bool) → (a || true) ≡ true
-    or-true true = refl
-    or-true false = refl
 
     at : (item : Item) → body_is_open s item ≡ false
     at (Asks r) = rw (d.given_up, or-true (is_body_finished r s)) (and-false (is_form_streamed r.framing.form))

@@ -12,14 +12,15 @@ use Rattle.tiny_http_wire.specs.Answer.{Text, Ending, Whole, Broken, Printing}
 use Rattle.tiny_http_message.specs.declared.waiting.AnswerForm.{AnswerForm}
 use Rattle.tiny_http_message.specs.declared.waiting.Waiting.{Waiting}
 use Rattle.tiny_http_message.specs.Pipeline.{Item, Asks, Refuses, Request}
-use Rattle.tiny_http_core.specs.Slots.{ResponseValue, Slot, Stage, Unanswered, Answered as AnsweredBy, ByServer, Raw, Upgraded, is_stage_finished, is_finished, is_broken, is_slot_broken, segment, joined, is_output_broken, last_slot, turn_has_come, to_request, text_if, IsGathered}
-use Rattle.tiny_http_core.specs.Steps.{StepValue, outcome, Respond, ReplyValue, Done, NoSuch, NotYet, WriterUse, Reported, Outcome, Reached, unchanged, changes, finished, accepts_step, fault_in, fault_of_answer, at_item, at_slot, at_number}
+use Rattle.tiny_http_message.specs.ResponseValue.{ResponseValue}
+use Rattle.tiny_http_core.specs.Slots.{Slot, Stage, Unanswered, Answered as AnsweredBy, ByServer, Raw, Upgraded, is_stage_finished, is_finished, is_broken, is_slot_broken, segment, joined, is_output_broken, last_slot, turn_has_come, to_request, text_if, IsGathered}
+use Rattle.tiny_http_core.specs.Steps.{StepValue, outcome, Respond, ReplyValue, Done, NoSuch, NotYet, WriterUse, Reported, Outcome, Reached, unchanged, changes, finished_as, accepts_step, fault_in, fault_of_answer, at_item, at_slot, at_number}
 use Rattle.tiny_http_core.specs.Conversation.{Failure, State, has_output_ended, finished_front, flushed_after, WriterPart, HasOutcome, GathersAt, MayLack}
-use Rattle.tiny_http_core.proofs.ConversationWriting.{FailsBetween, FailsTold, FailsBehind, broken_reply, used, WritesIf, IsAllFlushed, reported, still-flushed}
+use Rattle.tiny_http_core.proofs.ConversationWriting.{FailsBetween, FailsReported, FailsBehind, broken_reply, used, WritesIf, IsAllFlushed, reported, still-flushed}
 use Rattle.tiny_http_core.specs.Seen.{PrintedFor, Answers, reply_to}
 use Rattle.tiny_http_core.specs.Sending.{CanSend, OutletTook, OutletFailed, IsFlushed, SendsText, Sends, SendsUnlessEnded}
 use Rattle.tiny_http_turns.specs.Turns.{Mark, Open, Held, Finished, AreInShape, first_unfinished}
-use Rattle.tiny_http_core.specs.Pending.{left_text, with_left_finished, begins_left, SendsLeft, FinishesFront, waiting_form}
+use Rattle.tiny_http_core.specs.Pending.{left_text, with_left_finished, begins_left, SendsLeft, FinishesFront, waiting_answer_form}
 use Rattle.tiny_http_core.specs.Connection.{Kept, answer_form_of, open_slot, IsWaiting, AreKept, OutputAt, InputStands, Stands}
 use Rattle.tiny_http_stream.specs.Source.{SourceState}
 use Rattle.tiny_http_message.specs.Body.{GivesUp}
@@ -29,7 +30,7 @@ use Rattle.tiny_http_core.proofs.SlotsLemmas.{all-snoc, joined-front, joined-bro
 use Rattle.tiny_http_core.proofs.ConnectionKept.{get-at, set-at, take-at, kept-append, kept-many, kept-passed, none-waits, place-of, InTurn, OutOfTurn, turn-at}
 use Rattle.tiny_http_core.proofs.ConnectionOutput.{joined_behind, front-all, left-finished, lost-output, all-firm, ended-is, output-same, plain-more, can-send, output-more}
 use Rattle.tiny_http_core.proofs.PendingLemmas.{none-left}
-use Rattle.tiny_http_core.proofs.SendingLemmas.{or-false}
+use Rattle.tiny_http_core.proofs.SlotsLemmas.{or-parts}
 
 -- a number that is finished takes no such step
 abbrev pub TakesNone : StepValue → Type 0
@@ -42,8 +43,8 @@ respond-not_taken n v ByServer owed e = refl
 respond-not_taken n v (Raw w c) owed e = refl
 respond-not_taken n v (Upgraded p r d w c) owed e = refl
 
-nothing-at : (date : HttpDate) (old : Reached) (n : ℕ) (step : StepValue) → TakesNone step → ((x : Slot) → slice_get old.slots n ≡ Some x → is_finished x ≡ true) → at_number true date old n step ≡ unchanged old NoSuch
-nothing-at date old n step free h = at (slice_get old.slots n) refl
+respond-nothing-at : (date : HttpDate) (old : Reached) (n : ℕ) (step : StepValue) → TakesNone step → ((x : Slot) → slice_get old.slots n ≡ Some x → is_finished x ≡ true) → at_number true date old n step ≡ unchanged old NoSuch
+respond-nothing-at date old n step free h = at (slice_get old.slots n) refl
   where
     of : (x : Slot) (item : Item) → is_finished x ≡ true → at_item true date old n step x item ≡ unchanged old NoSuch
     of x (Refuses a b c d) f = refl
@@ -54,16 +55,16 @@ nothing-at date old n step free h = at (slice_get old.slots n) refl
     at (Some x) e = of x x.item (h x e)
 
 -- no request of this number takes the step
-pub no-such : (client : Feed) (before : Sink) (k : Kept) (s : State) (date : HttpDate) (n : ℕ) (step : StepValue) → outcome true date s.reached step ≡ at_number true date s.reached n step → TakesNone step → Stands client before k s → waiting_form (slice_get k.requests n) ≡ None
+pub no-such : (client : Feed) (before : Sink) (k : Kept) (s : State) (date : HttpDate) (n : ℕ) (step : StepValue) → outcome true date s.reached step ≡ at_number true date s.reached n step → TakesNone step → Stands client before k s → waiting_answer_form (slice_get k.requests n) ≡ None
     → StepIsAnswered client before k s date step NoSuch
 no-such client before k s date n step at free st none =
-    step-unchanged client before k s date step NoSuch st (at ∙ nothing-at date s.reached n step free (none-waits s.reached.slots k.marks k.requests n st.numbers none))
+    step-unchanged client before k s date step NoSuch st (at ∙ respond-nothing-at date s.reached n step free (none-waits s.reached.slots k.marks k.requests n st.numbers none))
 
 -- a number that waits is kept
-pub form-some : (o : Option (Option Waiting)) (form : AnswerForm) → waiting_form o ≡ Some form → (w : Waiting) × (o ≡ Some (Some w)) × (w.form ≡ form)
-form-some None form e = cc
-form-some (Some None) form e = cc
-form-some (Some (Some w)) form e = (w, refl, (let same : w.form ≡ form = cc in same))
+pub answer-form-some : (o : Option (Option Waiting)) (answer_form : AnswerForm) → waiting_answer_form o ≡ Some answer_form → (w : Waiting) × (o ≡ Some (Some w)) × (w.answer_form ≡ answer_form)
+answer-form-some None answer_form e = cc
+answer-form-some (Some None) answer_form e = cc
+answer-form-some (Some (Some w)) answer_form e = (w, refl, (let same : w.answer_form ≡ answer_form = cc in same))
 
 -- the place of such a number, in the slots
 pub record SlotAt (slots bs cs : List Slot) (s0 : Slot) (n : ℕ) : Type 0 where
@@ -96,25 +97,25 @@ respond-not_yet client before k s date n v w st e never =
 
 -- the slot after the response
 abbrev pub answered_slot : HttpDate → Request → ℕ → Bool → ResponseValue → HttpDate → Bool → Slot
-answered_slot asked r given told v date found = finished (open_slot asked r given told) (AnsweredBy v date found)
+answered_slot asked r given end_reported v date found = finished_as (open_slot asked r given end_reported) (AnsweredBy v date found)
 
 abbrev pub response_sent : Bool → ResponseValue → Request → HttpDate → Text
 response_sent found v r date = text_if found v (to_request r date)
 
-at-turn : (date asked : HttpDate) (old : Reached) (n : ℕ) (v : ResponseValue) (r : Request) (given : ℕ) (told found : Bool) → slice_get old.slots n ≡ Some (open_slot asked r given told) → turn_has_come n old.slots ≡ true
-    → at_number found date old n (Respond n v) ≡ changes old n (answered_slot asked r given told v date found) Done (used (response_sent found v r date))
-at-turn date asked old n v r given told found e t = ap (at_slot found date old n (Respond n v)) e ∙ rw t refl
+at-turn : (date asked : HttpDate) (old : Reached) (n : ℕ) (v : ResponseValue) (r : Request) (given : ℕ) (end_reported found : Bool) → slice_get old.slots n ≡ Some (open_slot asked r given end_reported) → turn_has_come n old.slots ≡ true
+    → at_number found date old n (Respond n v) ≡ changes old n (answered_slot asked r given end_reported v date found) Done (used (response_sent found v r date))
+at-turn date asked old n v r given end_reported found e t = ap (at_slot found date old n (Respond n v)) e ∙ rw t refl
 
 -- how the response is printed
-printed-for : (r : Request) (form : AnswerForm) (date : HttpDate) → form ≡ answer_form_of r → PrintedFor form date (to_request r date)
-printed-for r form date e = record { version = ap (λ (x : AnswerForm). x.version) (sym e); no_body = ap (λ (x : AnswerForm). x.no_body) (sym e); no_upgrade = refl; dated = refl }
+printed-for : (r : Request) (answer_form : AnswerForm) (date : HttpDate) → answer_form ≡ answer_form_of r → PrintedFor answer_form date (to_request r date)
+printed-for r answer_form date e = record { version = ap (λ (x : AnswerForm). x.version) (sym e); no_body = ap (λ (x : AnswerForm). x.no_body) (sym e); no_upgrade = refl; dated = refl }
 
 -- what becomes of the response's own text, with the step's reply: it was sent, or broke off, or the writer failed in it
 abbrev pub OwnWrites : Bool → Option Failure → List ℕ → Text → ReplyValue → Option Failure → Type 0
 OwnWrites was failed known text reply failure =
     MatchBool was ((reply ≡ Done) × (failure ≡ failed))
     (((reply ≡ broken_reply fault_of_answer Done (fault_in text.ending)) × (failure ≡ None))
-    ⊎ (FailsTold fault_of_answer reply known (known ++ text.bytes) failure
+    ⊎ (FailsReported fault_of_answer reply known (known ++ text.bytes) failure
     ⊎ ((kind : ErrorKind) × (text.ending ≡ Broken kind) × (reply ≡ broken_reply fault_of_answer Done (fault_in text.ending)) × FailsBetween known (known ++ text.bytes) failure)))
 
 pub record OwnSaid (before mid : Sink) (was ended : Bool) (bs : List Slot) (s1 : Slot) (text : Text) (failed : Option Failure) (reply : ReplyValue) : Type 0 where
@@ -122,8 +123,8 @@ pub record OwnSaid (before mid : Sink) (was ended : Bool) (bs : List Slot) (s1 :
   pub output : OutputAt before mid ended (bs ++ (s1 ∷ [])) failure
   pub writes : OwnWrites was failed (joined bs) text reply failure
 
-told-broken : (text : Text) (kind : ErrorKind) (reply : ReplyValue) → text.ending ≡ Broken kind → reply ≡ fault_of_answer kind → reply ≡ broken_reply fault_of_answer Done (fault_in text.ending)
-told-broken text kind reply e t = t ∙ ap (λ x. broken_reply fault_of_answer Done (fault_in x)) (sym e)
+reported-broken : (text : Text) (kind : ErrorKind) (reply : ReplyValue) → text.ending ≡ Broken kind → reply ≡ fault_of_answer kind → reply ≡ broken_reply fault_of_answer Done (fault_in text.ending)
+reported-broken text kind reply e t = t ∙ ap (λ x. broken_reply fault_of_answer Done (fault_in x)) (sym e)
 
 own-said : {T : Type 0} (before sink mid : Sink) (ended : Bool) (bs : List Slot) (s1 : Slot) (text : Text) (r : Result T Error) (reply : ReplyValue) → OutputAt before sink false bs None → list_all is_finished bs ≡ true → is_finished s1 ≡ true
     → segment s1 ≡ text.bytes → is_slot_broken s1 ≡ is_broken text.ending → before.failures < 2 ^ 64 - 1 → SendsText sink mid ended r text → IsFlushed mid → reply ≡ reply_to r → OwnSaid before mid false ended bs s1 text None reply
@@ -152,7 +153,7 @@ own-said before sink mid ended bs s1 text (Err e) reply h fin over own broken lo
         record {
           failure = None;
           output = (x.bytes ∙ ap (λ y. append_known y text.bytes) h.0 ∙ ap Some longer, x.failures ∙ h.1, d.1 ∙ sym d.0, d.0 ∙ sym breaks, λ z. (let absent : true ≡ false = sym d.0 ∙ z in cc));
-          writes = inl (told-broken text (error_kind e) reply b t, refl);
+          writes = inl (reported-broken text (error_kind e) reply b t, refl);
         }
 
     broken-lost : text.ending ≡ Broken (error_kind e) → (kind : ErrorKind) → OutletFailed sink mid text.bytes kind → OwnSaid before mid false ended bs s1 text None reply
@@ -161,8 +162,8 @@ own-said before sink mid ended bs s1 text (Err e) reply h fin over own broken lo
         let f : Failure = record { kind = kind; output = z.output } in
         record {
           failure = Some f;
-          output = (z.taken, z.failures, z.told, d.0);
-          writes = inr (inr (error_kind e, b, told-broken text (error_kind e) reply b t, (f, refl, z.begins, z.front)));
+          output = (z.taken, z.failures, z.end_reported, d.0);
+          writes = inr (inr (error_kind e, b, reported-broken text (error_kind e) reply b t, (f, refl, z.begins, z.front)));
         }
 
     lost : OutletFailed sink mid text.bytes (error_kind e) → OwnSaid before mid false ended bs s1 text None reply
@@ -171,7 +172,7 @@ own-said before sink mid ended bs s1 text (Err e) reply h fin over own broken lo
         let f : Failure = record { kind = error_kind e; output = z.output } in
         record {
           failure = Some f;
-          output = (z.taken, z.failures, z.told, d.0);
+          output = (z.taken, z.failures, z.end_reported, d.0);
           writes = inr (inl (f, refl, t, z.begins, z.front));
         }
 
@@ -225,10 +226,10 @@ open-whole : (before mid : Sink) (was : Bool) (bs : List Slot) (s1 : Slot) (text
     → (o : OwnSaid before mid was false bs s1 text failed reply) → (is_some o.failure ≡ false) × (text.ending ≡ Whole) × (was ≡ false)
 open-whole before mid was bs s1 text failed reply fin broken over o =
     let open_is : (is_some o.failure || is_output_broken (bs ++ (s1 ∷ []))) ≡ false = ended-is before mid false (bs ++ (s1 ∷ [])) o.failure o.output in
-    let parts = or-false (is_some o.failure) (is_output_broken (bs ++ (s1 ∷ []))) open_is in
+    let parts = or-parts (is_some o.failure) (is_output_broken (bs ++ (s1 ∷ []))) open_is in
     let breaks : (is_output_broken bs || is_output_broken (s1 ∷ [])) ≡ false = sym (breaks-front bs (s1 ∷ []) fin) ∙ parts.1 in
-    let two = or-false (is_output_broken bs) (is_output_broken (s1 ∷ [])) breaks in
-    let whole : is_slot_broken s1 ≡ false = (or-false (is_slot_broken s1) (is_finished s1 && false) two.1).0 in
+    let two = or-parts (is_output_broken bs) (is_output_broken (s1 ∷ [])) breaks in
+    let whole : is_slot_broken s1 ≡ false = (or-parts (is_slot_broken s1) (is_finished s1 && false) two.1).0 in
     (parts.0, unbroken text.ending (sym broken ∙ whole), by-was was refl)
   where
     unbroken : (x : Ending) → is_broken x ≡ false → x ≡ Whole
@@ -241,8 +242,8 @@ open-whole before mid was bs s1 text failed reply fin broken over o =
         let M : Bool → Type 0 = λ b. OwnWrites b failed (joined bs) text reply o.failure in
         let kept = subst M e o.writes in
         let open_is = ended-is before mid false (bs ++ (s1 ∷ [])) o.failure o.output in
-        let parts = or-false (is_some o.failure) (is_output_broken (bs ++ (s1 ∷ []))) open_is in
-        let two = or-false (is_output_broken bs) (is_output_broken (s1 ∷ [])) (sym (breaks-front bs (s1 ∷ []) fin) ∙ parts.1) in
+        let parts = or-parts (is_some o.failure) (is_output_broken (bs ++ (s1 ∷ []))) open_is in
+        let two = or-parts (is_output_broken bs) (is_output_broken (s1 ∷ [])) (sym (breaks-front bs (s1 ∷ []) fin) ∙ parts.1) in
         sym over ∙ ap (λ f. is_some f || is_output_broken bs) (sym kept.1) ∙ ap (λ b. b || is_output_broken bs) parts.0 ∙ two.0
 
 pub respond-left : (before mid new : Sink) (was mid_ended ended : Bool) (bs : List Slot) (s0 s1 : Slot) (cs : List Slot) (fs rs : List Mark) (vs : List (Option Waiting)) (old : State) (text : Text) (reply : ReplyValue)
@@ -322,7 +323,7 @@ respond-left before mid new was mid_ended ended bs s0 s1 cs fs rs vs old text re
             let O : Bool → Type 0 = λ m. OwnSaid before mid was m bs s1 text old.failure reply in
             let said = subst O z o in
             let w = open-whole before mid was bs s1 text old.failure reply fin broken over2 said in
-            let none_broken : is_output_broken bs ≡ false = (or-false (is_some old.failure) (is_output_broken bs) (over2 ∙ w.2)).1 in
+            let none_broken : is_output_broken bs ≡ false = (or-parts (is_some old.failure) (is_output_broken bs) (over2 ∙ w.2)).1 in
             let from : joined (bs ++ (s1 ∷ [])) ≡ joined old.reached.slots ++ text.bytes =
             joined-front bs (s1 ∷ []) fin none_broken ∙ ap (λ y. joined bs ++ y) (rw (done, broken ∙ ap is_broken w.1) (append-nil (segment s1)) ∙ own) ∙ ap (λ y. y ++ text.bytes) (sym known) in
             let F : List ℕ → Type 0 = λ y. (failure ≡ None) ⊎ FailsBetween y (joined ((bs ++ (s1 ∷ [])) ++ cs)) failure in
@@ -334,7 +335,7 @@ respond-left before mid new was mid_ended ended bs s0 s1 cs fs rs vs old text re
     by-left false e h = nothing-left e h.0 h.1
 
 -- a number that waits, in its turn
-pub record Answerable (k : Kept) (s : State) (n : ℕ) (form : AnswerForm) : Type 0 where
+pub record Answerable (k : Kept) (s : State) (n : ℕ) (answer_form : AnswerForm) : Type 0 where
   pub bs : List Slot
   pub cs : List Slot
   pub fs : List Mark
@@ -345,12 +346,12 @@ pub record Answerable (k : Kept) (s : State) (n : ℕ) (form : AnswerForm) : Typ
   pub slot : Slot
   pub waits : IsWaiting slot waiting
   pub slots_were : s.reached.slots ≡ bs ++ (slot ∷ cs)
-  pub slots_are : s.reached.slots ≡ bs ++ (open_slot waits.date waits.request waits.given waits.told ∷ cs)
+  pub slots_are : s.reached.slots ≡ bs ++ (open_slot waits.date waits.request waits.given waits.end_reported ∷ cs)
   pub marks_are : k.marks ≡ fs ++ (Open ∷ rs)
   pub requests_are : k.requests ≡ us ++ (Some waiting ∷ vs)
-  pub at : SlotAt s.reached.slots bs cs (open_slot waits.date waits.request waits.given waits.told) n
+  pub at : SlotAt s.reached.slots bs cs (open_slot waits.date waits.request waits.given waits.end_reported) n
   pub place : length fs ≡ n
-  pub form_is : form ≡ answer_form_of waits.request
+  pub answer_form_is : answer_form ≡ answer_form_of waits.request
   pub kept : slice_get k.requests n ≡ Some (Some waiting)
   pub as_many : length cs ≡ length vs
   pub requests_set : slice_set k.requests n None ≡ us ++ (None ∷ vs)
@@ -362,9 +363,9 @@ pub record Answerable (k : Kept) (s : State) (n : ℕ) (form : AnswerForm) : Typ
 pub set-place : {X : Type 0} (xs us vs : List X) (n : ℕ) (x y : X) → xs ≡ us ++ (x ∷ vs) → length us ≡ n → slice_set xs n y ≡ us ++ (y ∷ vs)
 set-place xs us vs n x y e place = ap (λ l. slice_set l n y) e ∙ ap (λ m. slice_set (us ++ (x ∷ vs)) m y) (sym place) ∙ set-at us x y vs
 
-pub answerable : (client : Feed) (before : Sink) (k : Kept) (s : State) (n : ℕ) (form : AnswerForm) → Stands client before k s → waiting_form (slice_get k.requests n) ≡ Some form → n ≡ first_unfinished k.marks → Answerable k s n form
-answerable client before k s n form st e first =
-    let w = form-some (slice_get k.requests n) form e in
+pub answerable : (client : Feed) (before : Sink) (k : Kept) (s : State) (n : ℕ) (answer_form : AnswerForm) → Stands client before k s → waiting_answer_form (slice_get k.requests n) ≡ Some answer_form → n ≡ first_unfinished k.marks → Answerable k s n answer_form
+answerable client before k s n answer_form st e first =
+    let w = answer-form-some (slice_get k.requests n) answer_form e in
     let p = place-of s.reached.slots k.marks k.requests n w.0 st.numbers w.1 in
     let slots_are = p.slots_are ∙ ap (λ x. p.bs ++ (x ∷ p.cs)) p.waiting.is in
     let S : List Mark → Type 0 = λ m. AreInShape m in
@@ -382,9 +383,9 @@ answerable client before k s n form st e first =
       slots_are = slots_are;
       marks_are = p.marks_are;
       requests_are = p.requests_are;
-      at = slot-at s.reached.slots p.bs p.cs (open_slot p.waiting.date p.waiting.request p.waiting.given p.waiting.told) n slots_are p.slots_before;
+      at = slot-at s.reached.slots p.bs p.cs (open_slot p.waiting.date p.waiting.request p.waiting.given p.waiting.end_reported) n slots_are p.slots_before;
       place = p.marks_before;
-      form_is = sym w.2 ∙ p.waiting.form;
+      answer_form_is = sym w.2 ∙ p.waiting.answer_form;
       kept = w.1;
       as_many = kept-many p.cs p.rs p.vs p.behind;
       requests_set = set-place k.requests p.us p.vs n (Some w.0) None p.requests_are p.requests_before;
@@ -395,9 +396,9 @@ answerable client before k s n form st e first =
     }
 
 -- the output up to such a number
-pub output-before : (client : Feed) (before : Sink) (k : Kept) (s : State) (bs cs : List Slot) (asked : HttpDate) (r : Request) (given : ℕ) (told : Bool) → Stands client before k s → s.reached.slots ≡ bs ++ (open_slot asked r given told ∷ cs) → OutputAt before k.sink k.output_ended bs s.failure
-output-before client before k s bs cs asked r given told st e =
-    let s0 = open_slot asked r given told in
+pub output-before : (client : Feed) (before : Sink) (k : Kept) (s : State) (bs cs : List Slot) (asked : HttpDate) (r : Request) (given : ℕ) (end_reported : Bool) → Stands client before k s → s.reached.slots ≡ bs ++ (open_slot asked r given end_reported ∷ cs) → OutputAt before k.sink k.output_ended bs s.failure
+output-before client before k s bs cs asked r given end_reported st e =
+    let s0 = open_slot asked r given end_reported in
     output-same before k.sink k.output_ended s.reached.slots bs s.failure (ap joined e ∙ joined-waits bs s0 cs refl refl) (ap is_output_broken e ∙ breaks-waits bs s0 cs refl refl) st.output
 
 -- what the connection keeps after a step of a number
@@ -411,20 +412,20 @@ pub reader-after : {R : Type 0} (client : Feed) (k : Kept) (marks : List Mark) (
 reader-after client k marks requests source sink ended slots rest r =
     record { settled = r.settled; gives = r.gives; next = λ e. next-same (with_reader k requests source) (after_number k marks requests source sink ended) (last_slot slots) (last_slot slots) rest refl refl refl refl refl refl (r.next e); source = r.source }
 
-respond-stands : {R : Type 0} (client : Feed) (before : Sink) (k : Kept) (s : State) (date : HttpDate) (n : ℕ) (v : ResponseValue) (form : AnswerForm) (found : Bool) (mid new : Sink) (mid_ended ended : Bool) (final : List Mark) (requests : List (Option Waiting)) (source : SourceState R) (reply : ReplyValue)
-    → Stands client before k s → before.failures < 2 ^ 64 - 1 → (a : Answerable k s n form) → (found ≡ true) ⊎ IsGathered v.answer (to_request a.waits.request date) → requests ≡ slice_set k.requests n None → InputStands client (with_reader k (a.us ++ (None ∷ a.vs)) source) (a.bs ++ (answered_slot a.waits.date a.waits.request a.waits.given a.waits.told v date found ∷ a.cs)) s.reached.rest → FinishesFront a.fs a.rs final
-    → OwnSaid before mid k.output_ended mid_ended a.bs (answered_slot a.waits.date a.waits.request a.waits.given a.waits.told v date found) (response_sent found v a.waits.request date) s.failure reply → SendsLeft a.rs mid_ended mid new ended
+respond-stands : {R : Type 0} (client : Feed) (before : Sink) (k : Kept) (s : State) (date : HttpDate) (n : ℕ) (v : ResponseValue) (answer_form : AnswerForm) (found : Bool) (mid new : Sink) (mid_ended ended : Bool) (final : List Mark) (requests : List (Option Waiting)) (source : SourceState R) (reply : ReplyValue)
+    → Stands client before k s → before.failures < 2 ^ 64 - 1 → (a : Answerable k s n answer_form) → (found ≡ true) ⊎ IsGathered v.answer (to_request a.waits.request date) → requests ≡ slice_set k.requests n None → InputStands client (with_reader k (a.us ++ (None ∷ a.vs)) source) (a.bs ++ (answered_slot a.waits.date a.waits.request a.waits.given a.waits.end_reported v date found ∷ a.cs)) s.reached.rest → FinishesFront a.fs a.rs final
+    → OwnSaid before mid k.output_ended mid_ended a.bs (answered_slot a.waits.date a.waits.request a.waits.given a.waits.end_reported v date found) (response_sent found v a.waits.request date) s.failure reply → SendsLeft a.rs mid_ended mid new ended
     → StepIsAnswered client before (after_number k final requests source new ended) s date (Respond n v) reply
-respond-stands client before k s date n v form found mid new mid_ended ended final requests source reply st low a lack requests_are reader passes own sends =
-    let s0 = open_slot a.waits.date a.waits.request a.waits.given a.waits.told in
-    let s1 = answered_slot a.waits.date a.waits.request a.waits.given a.waits.told v date found in
+respond-stands client before k s date n v answer_form found mid new mid_ended ended final requests source reply st low a lack requests_are reader passes own sends =
+    let s0 = open_slot a.waits.date a.waits.request a.waits.given a.waits.end_reported in
+    let s1 = answered_slot a.waits.date a.waits.request a.waits.given a.waits.end_reported v date found in
     let text = response_sent found v a.waits.request date in
-    let over = ended-is before k.sink k.output_ended a.bs s.failure (output-before client before k s a.bs a.cs a.waits.date a.waits.request a.waits.given a.waits.told st a.slots_are) in
+    let over = ended-is before k.sink k.output_ended a.bs s.failure (output-before client before k s a.bs a.cs a.waits.date a.waits.request a.waits.given a.waits.end_reported st a.slots_are) in
     let said = respond-left before mid new k.output_ended mid_ended ended a.bs s0 s1 a.cs a.fs a.rs a.vs s text reply a.slots_are (ended-is before k.sink k.output_ended s.reached.slots s.failure st.output) st.flushed a.turn.finished refl refl refl refl refl over own a.turn a.behind low sends in
-    let is = at-turn date a.waits.date s.reached n v a.waits.request a.waits.given a.waits.told found a.at.get (a.at.turn ∙ a.turn.finished) in
+    let is = at-turn date a.waits.date s.reached n v a.waits.request a.waits.given a.waits.end_reported found a.at.get (a.at.turn ∙ a.turn.finished) in
     let slots = a.bs ++ (s1 ∷ a.cs) in
-    let new_state : State = record { reached = record { slots = slots; rest = s.reached.rest; ended = s.reached.ended }; flushed = flushed_after (used text) s slots; failure = said.failure } in
-    let R : List Slot → Reached = λ l. record { slots = l; rest = s.reached.rest; ended = s.reached.ended } in
+    let new_state : State = record { reached = record { slots = slots; rest = s.reached.rest; asking_ended = s.reached.asking_ended }; flushed = flushed_after (used text) s slots; failure = said.failure } in
+    let R : List Slot → Reached = λ l. record { slots = l; rest = s.reached.rest; asking_ended = s.reached.asking_ended } in
     let W : List Slot → Type 0 = λ l. WriterPart (used text) s Done l reply said.failure in
     let G : Outcome → Type 0 = λ x. HasOutcome x s reply new_state in
     let has = subst G (sym is) (ap R (sym (a.at.set s1)), ap (flushed_after (used text) s) (sym (a.at.set s1)), subst W (sym (a.at.set s1)) said.writes) in
@@ -435,7 +436,7 @@ respond-stands client before k s date n v form found mid new mid_ended ended fin
       record {
         numbers = subst M (sym passes) (subst Q (sym (requests_are ∙ a.requests_set)) (kept-append a.bs a.fs a.us (s1 ∷ a.cs) (Finished ∷ with_left_finished a.rs) (None ∷ a.vs) a.before (record { finished = refl; given_up = refl }, kept-passed a.cs a.rs a.vs a.behind)));
         shape = subst K (sym passes) a.turn.shape;
-        ended = st.ended;
+        asking_ended = st.asking_ended;
         flushed = still-flushed s k.output_ended slots said.failure (ended-is before k.sink k.output_ended s.reached.slots s.failure st.output) st.flushed (λ none z. said.same none (ended-is before k.sink k.output_ended s.reached.slots s.failure st.output ∙ z));
         reader = reader-after client k final requests source new ended slots s.reached.rest (subst (λ q. InputStands client (with_reader k q source) slots s.reached.rest) (sym (requests_are ∙ a.requests_set)) reader);
         output = said.output;
@@ -443,68 +444,68 @@ respond-stands client before k s date n v form found mid new mid_ended ended fin
       inl (found, lacks found lack a.at.get, has),
     )
   where
-    lacks : (t : Bool) → (t ≡ true) ⊎ IsGathered v.answer (to_request a.waits.request date) → slice_get s.reached.slots n ≡ Some (open_slot a.waits.date a.waits.request a.waits.given a.waits.told) → MayLack t date s.reached (Respond n v)
+    lacks : (t : Bool) → (t ≡ true) ⊎ IsGathered v.answer (to_request a.waits.request date) → slice_get s.reached.slots n ≡ Some (open_slot a.waits.date a.waits.request a.waits.given a.waits.end_reported) → MayLack t date s.reached (Respond n v)
     lacks true l g = tt
     lacks false (inl e) g = cc
     lacks false (inr x) g = let P : Option Slot → Type 0 = λ o. GathersAt date v o in subst P (sym g) x
 
 -- what the call that answers did
 pub RespondsBy : Kept → Sink → Bool → ReplyValue → ResponseValue → AnswerForm → HttpDate → Type 0
-RespondsBy k mid mid_ended reply v form date =
+RespondsBy k mid mid_ended reply v answer_form date =
     ((k.output_ended ≡ true) × (mid ≡ k.sink) × (mid_ended ≡ k.output_ended) × (reply ≡ Done))
-    ⊎ ((k.output_ended ≡ false) × ((p : Printing) → PrintedFor form date p → Answers k.sink mid mid_ended reply v.answer v.content p))
+    ⊎ ((k.output_ended ≡ false) × ((p : Printing) → PrintedFor answer_form date p → Answers k.sink mid mid_ended reply v.answer v.content p))
 
-pub respond-done : {R : Type 0} (client : Feed) (before : Sink) (k : Kept) (s : State) (date : HttpDate) (n : ℕ) (v : ResponseValue) (form : AnswerForm) (mid new : Sink) (mid_ended ended : Bool) (marks final : List Mark) (requests : List (Option Waiting)) (old source : SourceState R) (reply : ReplyValue)
-    → Stands client before k s → IsInput k old → ((w : Waiting) → slice_get k.requests n ≡ Some (Some w) → GivesUp w.body old source) → before.failures < 2 ^ 64 - 1 → waiting_form (slice_get k.requests n) ≡ Some form → n ≡ first_unfinished k.marks → marks ≡ slice_set k.marks n Held → requests ≡ slice_set k.requests n None
-    → RespondsBy k mid mid_ended reply v form date
+pub respond-done : {R : Type 0} (client : Feed) (before : Sink) (k : Kept) (s : State) (date : HttpDate) (n : ℕ) (v : ResponseValue) (answer_form : AnswerForm) (mid new : Sink) (mid_ended ended : Bool) (marks final : List Mark) (requests : List (Option Waiting)) (old source : SourceState R) (reply : ReplyValue)
+    → Stands client before k s → IsInput k old → ((w : Waiting) → slice_get k.requests n ≡ Some (Some w) → GivesUp w.body old source) → before.failures < 2 ^ 64 - 1 → waiting_answer_form (slice_get k.requests n) ≡ Some answer_form → n ≡ first_unfinished k.marks → marks ≡ slice_set k.marks n Held → requests ≡ slice_set k.requests n None
+    → RespondsBy k mid mid_ended reply v answer_form date
     → ((front rest : List Mark) → marks ≡ front ++ (Held ∷ rest) → length front ≡ n → FinishesFront front rest final)
     → ((front rest : List Mark) → marks ≡ front ++ (Held ∷ rest) → length front ≡ n → (mid_ended ≡ false → CanSend mid) → SendsLeft rest mid_ended mid new ended)
     → StepIsAnswered client before (after_number k final requests source new ended) s date (Respond n v) reply
 unfolding RespondsBy
-respond-done {R = R} client before k s date n v form mid new mid_ended ended marks final requests old source reply st from gives low e first marks_are requests_are own passes sends = by-own own
+respond-done {R = R} client before k s date n v answer_form mid new mid_ended ended marks final requests old source reply st from gives low e first marks_are requests_are own passes sends = by-own own
   where
-    a : Answerable k s n form
-    a = answerable client before k s n form st e first
+    a : Answerable k s n answer_form
+    a = answerable client before k s n answer_form st e first
 
     held : marks ≡ a.fs ++ (Held ∷ a.rs)
     held = marks_are ∙ a.marks_set
 
     out : OutputAt before k.sink k.output_ended a.bs s.failure
-    out = output-before client before k s a.bs a.cs a.waits.date a.waits.request a.waits.given a.waits.told st a.slots_are
+    out = output-before client before k s a.bs a.cs a.waits.date a.waits.request a.waits.given a.waits.end_reported st a.slots_are
 
-    reader : (found : Bool) → InputStands client (with_reader k (a.us ++ (None ∷ a.vs)) source) (a.bs ++ (answered_slot a.waits.date a.waits.request a.waits.given a.waits.told v date found ∷ a.cs)) s.reached.rest
+    reader : (found : Bool) → InputStands client (with_reader k (a.us ++ (None ∷ a.vs)) source) (a.bs ++ (answered_slot a.waits.date a.waits.request a.waits.given a.waits.end_reported v date found ∷ a.cs)) s.reached.rest
     reader found =
         let P : List Slot → Type 0 = λ l. InputStands client k l s.reached.rest in
         reader-given_up client k old source a.bs a.cs a.us a.vs s.reached.rest a.slot a.waiting (AnsweredBy v date found) a.waits from (subst P a.slots_were st.reader) a.requests_are a.as_many (gives a.waiting a.kept)
 
-    answered : (found : Bool) → (found ≡ true) ⊎ IsGathered v.answer (to_request a.waits.request date) → OwnSaid before mid k.output_ended mid_ended a.bs (answered_slot a.waits.date a.waits.request a.waits.given a.waits.told v date found) (response_sent found v a.waits.request date) s.failure reply
+    answered : (found : Bool) → (found ≡ true) ⊎ IsGathered v.answer (to_request a.waits.request date) → OwnSaid before mid k.output_ended mid_ended a.bs (answered_slot a.waits.date a.waits.request a.waits.given a.waits.end_reported v date found) (response_sent found v a.waits.request date) s.failure reply
         → StepIsAnswered client before (after_number k final requests source new ended) s date (Respond n v) reply
     answered found lack o =
-        respond-stands client before k s date n v form found mid new mid_ended ended final requests source reply st low a lack requests_are (reader found) (passes a.fs a.rs held a.place) o
-        (sends a.fs a.rs held a.place (can-send before mid mid_ended (a.bs ++ (answered_slot a.waits.date a.waits.request a.waits.given a.waits.told v date found ∷ [])) o.failure o.output low))
+        respond-stands client before k s date n v answer_form found mid new mid_ended ended final requests source reply st low a lack requests_are (reader found) (passes a.fs a.rs held a.place) o
+        (sends a.fs a.rs held a.place (can-send before mid mid_ended (a.bs ++ (answered_slot a.waits.date a.waits.request a.waits.given a.waits.end_reported v date found ∷ [])) o.failure o.output low))
 
-    by-own : RespondsBy k mid mid_ended reply v form date → StepIsAnswered client before (after_number k final requests source new ended) s date (Respond n v) reply
+    by-own : RespondsBy k mid mid_ended reply v answer_form date → StepIsAnswered client before (after_number k final requests source new ended) s date (Respond n v) reply
     by-own (inl h) =
-        let s1 = answered_slot a.waits.date a.waits.request a.waits.given a.waits.told v date true in
+        let s1 = answered_slot a.waits.date a.waits.request a.waits.given a.waits.end_reported v date true in
         let o = own-past before k.sink k.output_ended a.bs s1 (response_sent true v a.waits.request date) s.failure out a.turn.finished h.0 in
         let P : Sink → Bool → ReplyValue → Type 0 = λ x y z. OwnSaid before x k.output_ended y a.bs s1 (response_sent true v a.waits.request date) s.failure z in
         answered true (inl refl) (subst (λ x. P x mid_ended reply) (sym h.1) (subst (λ y. P k.sink y reply) (sym h.2) (subst (λ z. P k.sink k.output_ended z) (sym h.3) o)))
     by-own (inr h) =
-        let own = h.1 (to_request a.waits.request date) (printed-for a.waits.request form date a.form_is) in
+        let own = h.1 (to_request a.waits.request date) (printed-for a.waits.request answer_form date a.answer_form_is) in
         let r = own.0 in
         ⊎_elim
         (λ x. answered true (inl refl)
-        (own-sent {T = Unit {0}} before k.sink mid k.output_ended mid_ended a.bs (answered_slot a.waits.date a.waits.request a.waits.given a.waits.told v date true) (response_sent true v a.waits.request date) s.failure r reply out a.turn.finished refl refl refl low h.0
+        (own-sent {T = Unit {0}} before k.sink mid k.output_ended mid_ended a.bs (answered_slot a.waits.date a.waits.request a.waits.given a.waits.end_reported v date true) (response_sent true v a.waits.request date) s.failure r reply out a.turn.finished refl refl refl low h.0
         x own.3 own.1))
         (λ x. answered false (inr (refl, refl, x.0.2))
-        (own-sent {T = Unit {0}} before k.sink mid k.output_ended mid_ended a.bs (answered_slot a.waits.date a.waits.request a.waits.given a.waits.told v date false) (response_sent false v a.waits.request date) s.failure r reply out a.turn.finished refl refl refl low h.0 x.1 own.3 own.1))
+        (own-sent {T = Unit {0}} before k.sink mid k.output_ended mid_ended a.bs (answered_slot a.waits.date a.waits.request a.waits.given a.waits.end_reported v date false) (response_sent false v a.waits.request date) s.failure r reply out a.turn.finished refl refl refl low h.0 x.1 own.3 own.1))
         own.2
 
-pub responds-by : (k : Kept) (mid : Sink) (mid_ended : Bool) (reply : ReplyValue) (v : ResponseValue) (form : AnswerForm) (date : HttpDate) → (k.output_ended ≡ true → (mid ≡ k.sink) × (mid_ended ≡ k.output_ended) × (reply ≡ Done))
-    → (k.output_ended ≡ false → (p : Printing) → PrintedFor form date p → Answers k.sink mid mid_ended reply v.answer v.content p) → RespondsBy k mid mid_ended reply v form date
+pub responds-by : (k : Kept) (mid : Sink) (mid_ended : Bool) (reply : ReplyValue) (v : ResponseValue) (answer_form : AnswerForm) (date : HttpDate) → (k.output_ended ≡ true → (mid ≡ k.sink) × (mid_ended ≡ k.output_ended) × (reply ≡ Done))
+    → (k.output_ended ≡ false → (p : Printing) → PrintedFor answer_form date p → Answers k.sink mid mid_ended reply v.answer v.content p) → RespondsBy k mid mid_ended reply v answer_form date
 unfolding RespondsBy
-responds-by k mid mid_ended reply v form date past open_is = by k.output_ended refl
+responds-by k mid mid_ended reply v answer_form date past open_is = by k.output_ended refl
   where
-    by : (t : Bool) → k.output_ended ≡ t → RespondsBy k mid mid_ended reply v form date
+    by : (t : Bool) → k.output_ended ≡ t → RespondsBy k mid mid_ended reply v answer_form date
     by true e = let h = past e in inl (e, h.0, h.1, h.2)
     by false e = inr (e, open_is e)

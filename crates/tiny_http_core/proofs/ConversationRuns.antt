@@ -11,10 +11,10 @@ use Rattle.tiny_http_device.proofs.DeviceLemmas.{IsFront-append}
 use Rattle.tiny_http_core.proofs.ConversationWriting.{IsAllFlushed}
 use Rattle.tiny_http_stream.specs.Outlet.{holding}
 use Rattle.tiny_http_stream.specs.Source.{GoesOn}
-use Rattle.tiny_http_message.specs.Pipeline.{Item, Place, Pipeline, body_length_or_0}
-use Rattle.tiny_http_message.specs.BodyLeft.{LeftAt}
-use Rattle.tiny_http_message.specs.HeadReads.{place_feed, place_after}
-use Rattle.tiny_http_message.proofs.BodyLeftLemmas.{left-of}
+use Rattle.tiny_http_message.specs.Pipeline.{Item, Place, Pipeline, body_length_or_0, place_after}
+use Rattle.tiny_http_message.specs.BodyRemains.{RemainsAt}
+use Rattle.tiny_http_message.specs.HeadReads.{place_feed}
+use Rattle.tiny_http_message.proofs.BodyRemainsLemmas.{remains-of}
 use Rattle.tiny_http_message.proofs.PipelineLemmas.{pipeline-none}
 use Rattle.tiny_http_wire.specs.declared.device.Stop.{Stop}
 use Rattle.tiny_http_core.specs.Slots.{Slot, joined, last_slot, last_is_open, last_was_abandoned, is_last_item, is_last_slot}
@@ -35,8 +35,9 @@ use Rattle.tiny_http_core.specs.declared.driver.Step.{Step}
 use Rattle.tiny_http_core.specs.declared.driver.Step.TheVariants as step
 use Rattle.tiny_http_core.specs.Seen.{ReportsHonestly, ReportHonestly, MayFail}
 use Rattle.tiny_http_core.specs.Sending.{FailsOnce, FailsOnceUnlessEnded, FailsAtMostOnce}
-use Rattle.tiny_http_core.proofs.SendingLemmas.{grown-none}
-use Rattle.tiny_http_core.proofs.ConnectionAsk.{pipeline-empty, same-feed, told-feed, last-of}
+use Rattle.tiny_http_device.proofs.DeviceLemmas.{grown-nil}
+use Rattle.tiny_http_stream.proofs.SourceGoesOn.{goes-on_same}
+use Rattle.tiny_http_core.proofs.ConnectionAsk.{pipeline-empty, stated-feed, last-of}
 
 pub run-more : (a mid new : State) (xs : List TimedValue) (rs : List ReplyValue) (d : TimedValue) (r : ReplyValue) → Run a xs rs mid → StepsTo mid d.0 d.1 r new → Run a (xs ++ d ∷ []) (rs ++ r ∷ []) new
 run-more a mid new [] [] d r run step = (new, (let P : State → Type 0 = λ s. StepsTo s d.0 d.1 r new in subst P run step), refl)
@@ -45,20 +46,20 @@ run-more a mid new [] (y ∷ ys) d r run step = elim run [ ]
 run-more a mid new (x ∷ xs) [] d r run step = elim run [ ]
 
 -- the last of a list, where each is reported by one
-pub record Split {X : Type 0} (told : X → TimedValue → Type 0) (xs : List X) (x : X) (ds : List TimedValue) : Type 0 where
+pub record Split {X : Type 0} (related : X → TimedValue → Type 0) (xs : List X) (x : X) (ds : List TimedValue) : Type 0 where
   pub front : List TimedValue
   pub last : TimedValue
   pub joins : ds ≡ front ++ last ∷ []
-  pub all : AllZip told xs front
-  pub one : told x last
+  pub all : AllZip related xs front
+  pub one : related x last
 
-pub split : {X : Type 0} (told : X → TimedValue → Type 0) (xs : List X) (x : X) (ds : List TimedValue) → AllZip told (xs ++ x ∷ []) ds → Split told xs x ds
-split told [] x [] h = elim h [ ]
-split told [] x (d ∷ []) h = record { front = []; last = d; joins = refl; all = tt; one = h.0 }
-split told [] x (d ∷ e ∷ ds) h = elim h.1 [ ]
-split told (y ∷ ys) x [] h = elim h [ ]
-split told (y ∷ ys) x (d ∷ ds) h =
-    let s = split told ys x ds h.1 in
+pub split : {X : Type 0} (related : X → TimedValue → Type 0) (xs : List X) (x : X) (ds : List TimedValue) → AllZip related (xs ++ x ∷ []) ds → Split related xs x ds
+split related [] x [] h = elim h [ ]
+split related [] x (d ∷ []) h = record { front = []; last = d; joins = refl; all = tt; one = h.0 }
+split related [] x (d ∷ e ∷ ds) h = elim h.1 [ ]
+split related (y ∷ ys) x [] h = elim h [ ]
+split related (y ∷ ys) x (d ∷ ds) h =
+    let s = split related ys x ds h.1 in
     record { front = d ∷ s.front; last = s.last; joins = ap (λ t. d ∷ t) s.joins; all = (h.0, s.all); one = s.one }
 
 pub has_room : {X : Type 0} (all done rest more : List X) (x : X) (count room : ℕ) → all ≡ done ++ rest → rest ≡ x ∷ more → count ≡ length done → length all ≤ room → count < room
@@ -73,7 +74,7 @@ joins-end all done (x ∷ rest) joins len = absurd (omega arith)
 
 -- the connection at its begin
 abbrev pub begun : Option Feed → Bool → Sink → Kept
-begun feed is_over sink = record { marks = []; requests = []; standing = at.Head; ended = false; feed = feed; stop = None; is_over = is_over; sink = holding sink [] false; output_ended = false }
+begun feed is_over sink = record { marks = []; requests = []; standing = at.Head; asking_ended = false; feed = feed; stop = None; is_over = is_over; sink = holding sink [] false; output_ended = false }
 
 pub stands-begun : (client : Feed) (feed : Option Feed) (is_over : Bool) (sink : Sink) (items : List Item) → feed ≡ Some client → IsFresh sink → Pipeline (Some client.bytes) client.stop items → Stands client sink (begun feed is_over sink) (start_state items)
 stands-begun client feed is_over sink items e fresh h =
@@ -82,15 +83,15 @@ stands-begun client feed is_over sink items e fresh h =
     record {
       numbers = tt;
       shape = tt;
-      ended = refl;
+      asking_ended = refl;
       flushed = λ none. refl;
       reader = record {
         settled = tt;
         gives = tt;
         next = λ z. record { is_last = refl; within = refl; lost = λ l. cc; place = λ l. subst P (sym e) h };
-        source = subst G (sym e) (same-feed (Some client));
+        source = subst G (sym e) (goes-on_same (Some client));
       };
-      output = (grown-none sink.has_ended sink.taken ∙ fresh.no_bytes, refl, fresh.goes_on, refl, λ z. (sink.sent, refl));
+      output = (grown-nil sink.has_ended sink.taken ∙ fresh.no_bytes, refl, fresh.unended, refl, λ z. (sink.sent, refl));
     }
 
 -- what the bytes still ask from a place on
@@ -105,29 +106,29 @@ within : (s : Slot) (w : Waiting) (f : Feed) (rest : List Item) (o : Option Rema
 within s w f rest None h is_streaming_body e g p = let no : None ≡ Some (slot_rest s) = g in cc
 within s w f rest (Some x) h is_streaming_body e g p =
     let same : x.body ≡ slot_rest s = cc in
-    let k = left-of w.body h.request.framing.form (body_length_or_0 h.request.framing) h.given h.told f x h.fits is_streaming_body e in
+    let k = remains-of w.body h.request.framing.form (body_length_or_0 h.request.framing) h.given h.end_reported f x h.fits is_streaming_body e in
     let content : x.body ≡ k.content = ap (λ (r : Remaining). r.body) k.is in
     let behind : x.behind ≡ place_feed f.stop k.next = ap (λ (r : Remaining). r.behind) k.is in
     let P : Slot → Type 0 = λ y. x.body ≡ slot_rest y → PlaceAt (is_last_item y.item) (Some x.behind) rest → WithinBody y y.item f rest in
-    let A : Feed → Type 0 = λ b. LeftAt h.request.framing.form (body_length_or_0 h.request.framing - h.given) f.bytes f.stop b k.next in
+    let A : Feed → Type 0 = λ b. RemainsAt h.request.framing.form (body_length_or_0 h.request.framing - h.given) f.bytes f.stop b k.next in
     let B : Feed → Type 0 = λ b. PlaceAt h.request.framing.is_last (Some b) rest in
     subst P (sym h.is) (λ is place. (k.next, subst A (sym content ∙ is) k.stands, place-pipeline h.request.framing.is_last f.stop k.next rest (subst B behind place))) same p
 
 within-last : (last : Option Slot) (b : Option Body) (feed : Option Feed) (f : Feed) (rest : List Item) → feed ≡ Some f → LastKept last b → last_is_open last ≡ true → GivesRest b last feed → PlaceAt (is_last_slot last) (behind_body b feed) rest → WithinLast last feed rest
-within-last last b feed f rest told (inl n) h g p = let no : false ≡ true = ap last_is_open (sym n.0) ∙ h in cc
-within-last last b feed f rest told (inr (inl d)) h g p = let no : false ≡ true = sym (done-open d.0 d.3) ∙ ap last_is_open (sym d.1) ∙ h in cc
-within-last last b feed f rest told (inr (inr w)) h g p =
+within-last last b feed f rest stated (inl n) h g p = let no : false ≡ true = ap last_is_open (sym n.0) ∙ h in cc
+within-last last b feed f rest stated (inr (inl d)) h g p = let no : false ≡ true = sym (done-open d.0 d.3) ∙ ap last_is_open (sym d.1) ∙ h in cc
+within-last last b feed f rest stated (inr (inr w)) h g p =
     let G : Option Slot → Option Body → Option Feed → Type 0 = λ x y z. GivesRest y x z in
     let P : Option Slot → Option Body → Option Feed → Type 0 = λ x y z. PlaceAt (is_last_slot x) (behind_body y z) rest in
     let Q : Option Slot → Option Feed → Type 0 = λ x z. WithinLast x z rest in
-    let gives = subst (λ z. G (Some w.0) (Some w.1.body) z) told (subst (λ y. G (Some w.0) y feed) w.3 (subst (λ x. G x b feed) w.2 g)) in
-    let place = subst (λ z. P (Some w.0) (Some w.1.body) z) told (subst (λ y. P (Some w.0) y feed) w.3 (subst (λ x. P x b feed) w.2 p)) in
+    let gives = subst (λ z. G (Some w.0) (Some w.1.body) z) stated (subst (λ y. G (Some w.0) y feed) w.3 (subst (λ x. G x b feed) w.2 g)) in
+    let place = subst (λ z. P (Some w.0) (Some w.1.body) z) stated (subst (λ y. P (Some w.0) y feed) w.3 (subst (λ x. P x b feed) w.2 p)) in
     let inside = within w.0 w.1 f rest (remaining w.1.body (Some f)) w.4 (sym (waiting-open w.0 w.1 w.4) ∙ ap last_is_open (sym w.2) ∙ h) refl gives place in
-    subst (λ z. Q last z) (sym told) (subst (λ x. Q x (Some f)) (sym w.2) inside)
+    subst (λ z. Q last z) (sym stated) (subst (λ x. Q x (Some f)) (sym w.2) inside)
 
 -- how the input stands at the end
 input-end : (client : Feed) (before : Sink) (k : Kept) (s : State) → Stands client before k s → InputAt s.reached k.feed
-input-end client before k s st = by-ended s.reached.ended refl
+input-end client before k s st = by-ended s.reached.asking_ended refl
   where
     last : Option Slot
     last = last_slot s.reached.slots
@@ -135,32 +136,32 @@ input-end client before k s st = by-ended s.reached.ended refl
     over : Bool
     over = is_last_slot last
 
-    place : k.ended ≡ false → last_was_abandoned last ≡ false → PlaceAt over (behind_body (last_body k.requests) k.feed) s.reached.rest
+    place : k.asking_ended ≡ false → last_was_abandoned last ≡ false → PlaceAt over (behind_body (last_body k.requests) k.feed) s.reached.rest
     place e l =
         let P : Bool → Type 0 = λ x. PlaceAt x (behind_body (last_body k.requests) k.feed) s.reached.rest in
         subst P (st.reader.next e).is_last ((st.reader.next e).place l)
 
-    quiet : k.ended ≡ false → last_is_open last ≡ false → last_was_abandoned last ≡ false → PlaceAt over k.feed s.reached.rest
+    quiet : k.asking_ended ≡ false → last_is_open last ≡ false → last_was_abandoned last ≡ false → PlaceAt over k.feed s.reached.rest
     quiet e h l =
-        let f = told-feed client k.feed st.reader.source in
+        let f = stated-feed client k.feed st.reader.source in
         let free : is_streaming_body (last_body k.requests) ≡ false = sym (open-by last (last_body k.requests) (last-of client before k s st)) ∙ h in
         let here : behind_body (last_body k.requests) k.feed ≡ k.feed = ap (behind_body (last_body k.requests)) f.1 ∙ behind-settled last (last_body k.requests) f.0 (last-of client before k s st) free ∙ sym f.1 in
         let P : Option Feed → Type 0 = λ x. PlaceAt over x s.reached.rest in
         subst P here (place e l)
 
-    by-held : (t : Bool) → last_is_open last ≡ t → k.ended ≡ false → last_was_abandoned last ≡ false → MatchBool t (WithinLast last k.feed s.reached.rest) (PlaceAt over k.feed s.reached.rest)
+    by-held : (t : Bool) → last_is_open last ≡ t → k.asking_ended ≡ false → last_was_abandoned last ≡ false → MatchBool t (WithinLast last k.feed s.reached.rest) (PlaceAt over k.feed s.reached.rest)
     by-held true h e l =
-        let f = told-feed client k.feed st.reader.source in
+        let f = stated-feed client k.feed st.reader.source in
         within-last last (last_body k.requests) k.feed f.0 s.reached.rest f.1 (last-of client before k s st) h st.reader.gives (place e l)
     by-held false h e l = quiet e h l
 
-    by-lost : (t : Bool) → last_was_abandoned last ≡ t → k.ended ≡ false → MatchBool t (k.feed ≡ Some (stopped End)) (MatchBool (last_is_open last) (WithinLast last k.feed s.reached.rest) (PlaceAt over k.feed s.reached.rest))
+    by-lost : (t : Bool) → last_was_abandoned last ≡ t → k.asking_ended ≡ false → MatchBool t (k.feed ≡ Some (stopped End)) (MatchBool (last_is_open last) (WithinLast last k.feed s.reached.rest) (PlaceAt over k.feed s.reached.rest))
     by-lost true l e = ((st.reader.next e).lost l).1
     by-lost false l e = by-held (last_is_open last) refl e l
 
-    by-ended : (t : Bool) → s.reached.ended ≡ t → MatchBool t (Unit {0}) (MatchBool (last_was_abandoned last) (k.feed ≡ Some (stopped End)) (MatchBool (last_is_open last) (WithinLast last k.feed s.reached.rest) (PlaceAt over k.feed s.reached.rest)))
+    by-ended : (t : Bool) → s.reached.asking_ended ≡ t → MatchBool t (Unit {0}) (MatchBool (last_was_abandoned last) (k.feed ≡ Some (stopped End)) (MatchBool (last_is_open last) (WithinLast last k.feed s.reached.rest) (PlaceAt over k.feed s.reached.rest)))
     by-ended true e = tt
-    by-ended false e = by-lost (last_was_abandoned last) refl (sym st.ended ∙ e)
+    by-ended false e = by-lost (last_was_abandoned last) refl (sym st.asking_ended ∙ e)
 
 -- what the writer took and what is held
 sent-held : (held : List ℕ) (taken : Option (List ℕ)) (whole : List ℕ) → append_known taken held ≡ Some whole → (sent : List ℕ) × (taken ≡ Some sent) × (sent ++ held ≡ whole)
@@ -180,7 +181,7 @@ output-end before sink held ended s empty begins firm h = by-failure s.failure f
     whole : (e : Bool) (slots : List Slot) → s.flushed ≡ joined slots → (e ≡ true → held ≡ []) → OutputAt before (holding sink held e) e slots None → IsOutput slots s.flushed None before sink held e
     whole true slots all empty h =
         let none = empty refl in
-        let bare : sink.taken ≡ Some (joined slots) = sym (grown-none sink.has_ended sink.taken) ∙ ap (grown sink.has_ended sink.taken) (sym none) ∙ h.0 in
+        let bare : sink.taken ≡ Some (joined slots) = sym (grown-nil sink.has_ended sink.taken) ∙ ap (grown sink.has_ended sink.taken) (sym none) ∙ h.0 in
         (h.1, joined slots, bare, ap (λ x. joined slots ++ x) none ∙ append-nil (joined slots), ([], sym all ∙ sym (append-nil s.flushed)), h.3)
     whole false slots all empty h =
         let z = sent-held held sink.taken (joined slots) (ap (λ x. grown x sink.taken held) (sym h.2) ∙ h.0) in
@@ -191,7 +192,7 @@ output-end before sink held ended s empty begins firm h = by-failure s.failure f
     by-failure None firm h = whole ended s.reached.slots (firm refl) empty h
     by-failure (Some f) firm h =
         let none = empty h.3 in
-        (h.1, h.2, sym (grown-none sink.has_ended sink.taken) ∙ ap (grown sink.has_ended sink.taken) (sym none) ∙ h.0, none, h.3)
+        (h.1, h.2, sym (grown-nil sink.has_ended sink.taken) ∙ ap (grown sink.has_ended sink.taken) (sym none) ∙ h.0, none, h.3)
 
 -- a run to where the connection stands is a conversation, with what is then held and left
 pub conversation : (client : Feed) (before sink : Sink) (held : List ℕ) (k : Kept) (ended : Bool) (items : List Item) (end : State) (replies : List ReplyValue) (dated : List TimedValue) → k.sink ≡ holding sink held ended → k.output_ended ≡ ended → (ended ≡ true → held ≡ []) → BeginsKnown sink.sent sink.taken
@@ -224,7 +225,7 @@ fail-along feed a b c (step.Respond n r) kind e (p, inr h) = (p, inr h)
 -- one step more
 pub honest-snoc : {D : Type 0} (feed : D → Option Feed) (a b c : Sink) (steps : List (Timed D)) (replies : List Reply) (t : Timed D) (r : Reply) → ReportHonestly feed a steps replies b → FailsAtMostOnce b c → ReportsHonestly feed b c t r
     → ReportHonestly feed a (steps ++ t ∷ []) (replies ++ r ∷ []) c
-honest-snoc feed a b c [] [] t r h once k = (c, rise-along a b c h once, (λ kind told. fail-along feed a b c t.step kind h (k kind told)), refl)
+honest-snoc feed a b c [] [] t r h once k = (c, rise-along a b c h once, (λ kind stated. fail-along feed a b c t.step kind h (k kind stated)), refl)
 honest-snoc feed a b c [] (x ∷ replies) t r h once k = absurd h
 honest-snoc feed a b c (x ∷ steps) [] t r h once k = absurd h
 honest-snoc feed a b c (x ∷ steps) (y ∷ replies) t r h once k = (h.0, h.1, h.2, honest-snoc feed h.0 b c steps replies t r h.3 once k)

@@ -13,8 +13,8 @@ abbrev pub FailsBetween : List ℕ → List ℕ → Option Failure → Type 0
 FailsBetween from to failure = (f : Failure) × (failure ≡ Some f) × IsFront from f.output × IsFront f.output to
 
 -- the same, and the fault is reported
-abbrev pub FailsTold : (ErrorKind → ReplyValue) → ReplyValue → List ℕ → List ℕ → Option Failure → Type 0
-FailsTold tell reply from to failure = (f : Failure) × (failure ≡ Some f) × (reply ≡ tell f.kind) × IsFront from f.output × IsFront f.output to
+abbrev pub FailsReported : (ErrorKind → ReplyValue) → ReplyValue → List ℕ → List ℕ → Option Failure → Type 0
+FailsReported report reply from to failure = (f : Failure) × (failure ≡ Some f) × (reply ≡ report f.kind) × IsFront from f.output × IsFront f.output to
 
 -- the writer failed after the step's own text
 abbrev pub FailsBehind : List Slot → List ℕ → Option ErrorKind → List Slot → Option Failure → Type 0
@@ -24,7 +24,7 @@ FailsBehind before own (Some kind) slots failure = FailsBetween (joined before) 
 
 -- the reply where the writer takes all
 abbrev pub broken_reply : (ErrorKind → ReplyValue) → ReplyValue → Option ErrorKind → ReplyValue
-broken_reply tell planned broken = unwrap_or (option_map tell broken) planned
+broken_reply report planned broken = unwrap_or (option_map report broken) planned
 
 -- how an answer uses the writer
 abbrev pub used : Text → WriterUse
@@ -34,7 +34,7 @@ used text = Reported text.bytes (fault_in text.ending) true fault_of_answer
 abbrev pub Alternatives : List Slot → Text → List Slot → ReplyValue → Option Failure → Type 0
 Alternatives old text slots reply failure =
     ((reply ≡ broken_reply fault_of_answer Done (fault_in text.ending)) × (failure ≡ None))
-    ⊎ (FailsTold fault_of_answer reply (joined old) (joined old ++ text.bytes) failure
+    ⊎ (FailsReported fault_of_answer reply (joined old) (joined old ++ text.bytes) failure
     ⊎ ((reply ≡ broken_reply fault_of_answer Done (fault_in text.ending)) × FailsBehind old text.bytes (fault_in text.ending) slots failure))
 
 abbrev pub WritesIf : Bool → Option Failure → List Slot → Text → List Slot → ReplyValue → Option Failure → Type 0

@@ -14,7 +14,7 @@ use Rattle.tiny_http_core.specs.declared.driver.Step.TheVariants as step
 use Rattle.tiny_http_core.specs.declared.pending.Pending.{Pending}
 use Rattle.tiny_http_stream.specs.Source.{SourceState, GoesOn}
 use Rattle.tiny_http_stream.specs.Outlet.{OutletState, output_of, SentOn}
-use Rattle.tiny_http_core.specs.Slots.{ResponseValue}
+use Rattle.tiny_http_message.specs.ResponseValue.{ResponseValue}
 use Rattle.tiny_http_core.specs.Steps.{StepValue, Ask, Read, Respond, Drop, ReplyValue, Fault}
 use Rattle.tiny_http_core.specs.Conversation.{State, TimedValue, IsFresh, start_state}
 use Rattle.tiny_http_wire.specs.declared.coding.Coding.{Coding}
@@ -43,6 +43,7 @@ use Rattle.tiny_http_core.specs.Driving.{IsRefusal, EndsRequestsAt}
 use Rattle.tiny_http_message.specs.PipelineReading.{items_of}
 use Rattle.tiny_http_message.proofs.PipelineLemmas.{feed-pipeline}
 use Rattle.tiny_http_core.proofs.ConversationRuns.{run-more, stands-begun, fails-step, split}
+use Rattle.tiny_http_core.proofs.SendingLemmas.{once-none, once-append}
 
 -- the fields as they are seen
 abbrev pub viewed : {R W : Type 0} → SourceState R → OutletState W → Pending → Option EndOfRequests → ConnectionState R W
@@ -90,23 +91,19 @@ pub record Moves {R W : Type 0} (old new : ConnectionState R W) : Type 0 where
   pub flushed : old.outlet.held ≡ [] → new.outlet.held ≡ []
   pub sent_on : SentOn old.outlet → SentOn new.outlet
 
-fails-none : (ended : Bool) (sink : Sink) → FailsOnceUnlessEnded ended sink sink ended
-fails-none true sink = (refl, refl)
-fails-none false sink = inl refl
-
 -- nothing is written
-pub reads-on : {R W : Type 0} (old new : ConnectionState R W) → old.outlet ≡ new.outlet → GoesOn old.source.feed new.source.feed → Moves old new
-reads-on {W = W} old new e h =
+pub driving-reads-on : {R W : Type 0} (old new : ConnectionState R W) → old.outlet ≡ new.outlet → GoesOn old.source.feed new.source.feed → Moves old new
+driving-reads-on {W = W} old new e h =
     let P : OutletState W → Type 0 = λ o. FailsOnceUnlessEnded old.outlet.ended (output_of old.outlet) (output_of o) o.ended in
     record {
       goes_on = h;
-      fails_once = subst P e (fails-none old.outlet.ended (output_of old.outlet));
+      fails_once = subst P e (once-none old.outlet.ended (output_of old.outlet));
       flushed = λ none. ap (λ o. o.held) (sym e) ∙ none;
       sent_on = λ s. subst (λ o. SentOn o) e s;
     }
 
-pub stays : {R W : Type 0} (c : ConnectionState R W) → Moves c c
-stays c = reads-on c c refl (goes-on_same c.source.feed)
+pub moves-none : {R W : Type 0} (c : ConnectionState R W) → Moves c c
+moves-none c = driving-reads-on c c refl (goes-on_same c.source.feed)
 
 pub takes : {R W : Type 0} (old new : ConnectionState R W) (now : HttpDate) (x : Step (Option Feed)) (reply : ReplyValue)
     → ((client : Feed) (before : Sink) (s : State) (asked : StepValue) → before.failures < 2 ^ 64 - 1 → IsStep (λ f. f) x asked → Stands client before (kept old) s → StepIsAnswered client before (kept new) s now asked reply)
@@ -143,12 +140,12 @@ stands-after was body old new same moves = by (is_streaming was) same moves
     by false same moves = same refl
 
 -- no fault is reported
-abbrev pub TellsNone : ReplyValue → Type 0
-TellsNone reply = (kind : ErrorKind) → reply ≡ Fault kind → ⊥
+abbrev pub ReportsNoFault : ReplyValue → Type 0
+ReportsNoFault reply = (kind : ErrorKind) → reply ≡ Fault kind → ⊥
 
 pub takes-ask : {R W : Type 0} (old new : ConnectionState R W) (now : HttpDate) (reply : ReplyValue)
     → ((client : Feed) (before : Sink) (s : State) → before.failures < 2 ^ 64 - 1 → Stands client before (kept old) s → StepIsAnswered client before (kept new) s now Ask reply)
-    → (IsDeclined step.Ask reply → new ≡ old) → AskEnds old new reply → AskLeaves old new reply → Moves old new → TellsNone reply → TakesStep old new now step.Ask reply
+    → (IsDeclined step.Ask reply → new ≡ old) → AskEnds old new reply → AskLeaves old new reply → Moves old new → ReportsNoFault reply → TakesStep old new now step.Ask reply
 takes-ask old new now reply answers declined ends leaves moves none =
     takes old new now step.Ask reply
     (λ client before s asked low is st. step-ask {D = Option Feed} (λ f. f) client before (kept new) s now (now, asked) step.Ask reply refl refl is (answers client before s low st))
@@ -156,7 +153,7 @@ takes-ask old new now reply answers declined ends leaves moves none =
 
 pub takes-drop : {R W : Type 0} (old new : ConnectionState R W) (now : HttpDate) (n : ℕ) (reply : ReplyValue)
     → ((client : Feed) (before : Sink) (s : State) → before.failures < 2 ^ 64 - 1 → Stands client before (kept old) s → StepIsAnswered client before (kept new) s now (Drop n) reply)
-    → (IsDeclined (step.Drop n) reply → new ≡ old) → new.end ≡ old.end → (IsAnswered reply → LetsGo n old new) → Moves old new → TellsNone reply → TakesStep old new now (step.Drop n) reply
+    → (IsDeclined (step.Drop n) reply → new ≡ old) → new.end ≡ old.end → (IsAnswered reply → LetsGo n old new) → Moves old new → ReportsNoFault reply → TakesStep old new now (step.Drop n) reply
 takes-drop old new now n reply answers declined ends leaves moves none =
     takes old new now (step.Drop n) reply
     (λ client before s asked low is st. step-drop {D = Option Feed} (λ f. f) client before (kept new) s (now, asked) (step.Drop n) n reply refl is (answers client before s low st))
@@ -181,12 +178,12 @@ takes-respond feed old new now n r reply answers declined ends leaves moves hone
 
 -- a connection at its begin
 pub begins : {R W : Type 0} (client : Feed) (before : Sink) (writer : W) (c : ConnectionState R W) → c.marks ≡ [] → c.requests ≡ [] → c.source.standing ≡ place.Head → c.end ≡ None → c.source.feed ≡ Some client → c.source.stop ≡ None
-    → c.outlet ≡ record { held = []; ended = false; writer = writer; tells = before } → IsFresh before → HasDone client before c [] []
+    → c.outlet ≡ record { held = []; ended = false; writer = writer; sink = before } → IsFresh before → HasDone client before c [] []
 begins {W = W} client before writer c m r o e feed stop outlet fresh =
     let K : List Mark → List (Option Waiting) → Standing → Option EndOfRequests → Option Stop → OutletState W → Kept = λ m r o e s w.
-    record { marks = m; requests = r; standing = o; ended = is_some e; feed = c.source.feed; stop = s; is_over = c.source.is_over; sink = output_of w; output_ended = w.ended } in
+    record { marks = m; requests = r; standing = o; asking_ended = is_some e; feed = c.source.feed; stop = s; is_over = c.source.is_over; sink = output_of w; output_ended = w.ended } in
     let S : Kept → Type 0 = λ k. Stands client before k (start_state (items_of client)) in
-    let none : OutletState W = record { held = []; ended = false; writer = writer; tells = before } in
+    let none : OutletState W = record { held = []; ended = false; writer = writer; sink = before } in
     let st = stands-begun client c.source.feed c.source.is_over before (items_of client) feed fresh (feed-pipeline client) in
     let st1 = subst (λ w. S (K [] [] place.Head None None w)) (sym outlet) st in
     let st2 = subst (λ s. S (K [] [] place.Head None s c.outlet)) (sym stop) st1 in
@@ -196,25 +193,19 @@ begins {W = W} client before writer c m r o e feed stop outlet fresh =
     let st6 = subst (λ x. S (K x c.requests c.source.standing c.end c.source.stop c.outlet)) (sym m) st5 in
     record { fresh = fresh; items = items_of client; pipeline = feed-pipeline client; at = start_state (items_of client); run = refl; stands = st6 }
 
--- two calls, where after a fault of the first the output has ended
-pub fails-more : (was mid ended : Bool) (a b c : Sink) → FailsOnceUnlessEnded was a b mid → FailsOnceUnlessEnded mid b c ended → FailsOnceUnlessEnded was a c ended
-fails-more true true ended a b c h k = (k.0 ∙ h.0, k.1)
-fails-more true false ended a b c h k = let no : false ≡ true = h.1 in cc
-fails-more false mid ended a b c h k = fails-step a b c mid ended h k
-
 pub honest-more : (mid ended : Bool) (a b c : Sink) (coding : Coding) (known : Option ℕ) (feed : Option Feed) (kind : ErrorKind) → mid ≡ true → FailsOnceUnlessEnded mid b c ended → IsHonest a b coding known feed kind → IsHonest a c coding known feed kind
 honest-more true ended a b c coding known feed kind e k (inl h) = inl (k.0 ∙ h)
 honest-more true ended a b c coding known feed kind e k (inr h) = inr h
 honest-more false ended a b c coding known feed kind e k h = let no : false ≡ true = e in cc
 
 -- a step, and what it is in place of its data
-is-told : {D : Type 0} (feed : D → Option Feed) (x : Step D) (asked : StepValue) → IsStep feed x asked → IsStep (λ f. f) (stated_step feed x) asked
-is-told feed step.Ask asked h = subst (λ y. (let a : Step (Option Feed) = step.Ask in IsStep (λ f. f) a y)) (sym (is-ask feed asked h)) tt
-is-told feed (step.Read k n) asked h = subst (λ y. (let a : Step (Option Feed) = step.Read k n in IsStep (λ f. f) a y)) (sym (is-read feed k n asked h)) (refl, refl)
-is-told feed (step.Respond k r) asked h =
+is-stated : {D : Type 0} (feed : D → Option Feed) (x : Step D) (asked : StepValue) → IsStep feed x asked → IsStep (λ f. f) (stated_step feed x) asked
+is-stated feed step.Ask asked h = subst (λ y. (let a : Step (Option Feed) = step.Ask in IsStep (λ f. f) a y)) (sym (is-ask feed asked h)) tt
+is-stated feed (step.Read k n) asked h = subst (λ y. (let a : Step (Option Feed) = step.Read k n in IsStep (λ f. f) a y)) (sym (is-read feed k n asked h)) (refl, refl)
+is-stated feed (step.Respond k r) asked h =
     let s = is-respond feed k r asked h in
     subst (λ y. IsStep (λ f. f) (step.Respond k (stated_response feed r)) y) (sym s.is) (refl, s.response)
-is-told feed (step.Drop k) asked h = subst (λ y. (let a : Step (Option Feed) = step.Drop k in IsStep (λ f. f) a y)) (sym (is-drop feed k asked h)) refl
+is-stated feed (step.Drop k) asked h = subst (λ y. (let a : Step (Option Feed) = step.Drop k in IsStep (λ f. f) a y)) (sym (is-drop feed k asked h)) refl
 
 may-fail : {D : Type 0} (feed : D → Option Feed) (a b : Sink) (x : Step D) (kind : ErrorKind) → MayFail (λ f. f) a b (stated_step feed x) kind → MayFail feed a b x kind
 may-fail feed a b step.Ask kind h = h
@@ -222,18 +213,18 @@ may-fail feed a b (step.Read k n) kind h = h
 may-fail feed a b (step.Respond k r) kind h = h
 may-fail feed a b (step.Drop k) kind h = h
 
-pub tells-step : {D : Type 0} (feed : D → Option Feed) (a b : Sink) (t : Timed D) (reply : Reply) → ((kind : ErrorKind) → seen reply ≡ Fault kind → MayFail (λ f. f) a b (stated_step feed t.step) kind) → ReportsHonestly feed a b t reply
-tells-step feed a b t reply h kind e = may-fail feed a b t.step kind (h kind e)
+pub reports-step : {D : Type 0} (feed : D → Option Feed) (a b : Sink) (t : Timed D) (reply : Reply) → ((kind : ErrorKind) → seen reply ≡ Fault kind → MayFail (λ f. f) a b (stated_step feed t.step) kind) → ReportsHonestly feed a b t reply
+reports-step feed a b t reply h kind e = may-fail feed a b t.step kind (h kind e)
 
-pub done-none : {R W X : Type 0} (told : X → TimedValue → Type 0) (client : Feed) (before : Sink) (c : ConnectionState R W) (dated : List TimedValue) → HasDone client before c [] [] → AllZip told [] dated → HasDone client before c dated []
-done-none told client before c [] h t = h
-done-none told client before c (d ∷ ds) h t = elim t [ ]
+pub done-none : {R W X : Type 0} (stated : X → TimedValue → Type 0) (client : Feed) (before : Sink) (c : ConnectionState R W) (dated : List TimedValue) → HasDone client before c [] [] → AllZip stated [] dated → HasDone client before c dated []
+done-none stated client before c [] h t = h
+done-none stated client before c (d ∷ ds) h t = elim t [ ]
 
 pub done-step : {R W D : Type 0} (feed : D → Option Feed) (client : Feed) (before : Sink) (old new : ConnectionState R W) (t : Timed D) (done : List (Timed D)) (replies : List ReplyValue) (reply : ReplyValue) (dated : List TimedValue)
     → ((ds : List TimedValue) → AllZip (IsTimedStep feed) done ds → HasDone client before old ds replies) → TakesStep old new t.now (stated_step feed t.step) reply → AllZip (IsTimedStep feed) (done ++ t ∷ []) dated
     → HasDone client before new dated (replies ++ reply ∷ [])
-done-step feed client before old new t done replies reply dated has step told =
-    let p = split (IsTimedStep feed) done t dated told in
-    let more = step.does client before p.front replies p.last.1 (is-told feed t.step p.last.1 p.one.1) (has p.front p.all) in
+done-step feed client before old new t done replies reply dated has step stated =
+    let p = split (IsTimedStep feed) done t dated stated in
+    let more = step.does client before p.front replies p.last.1 (is-stated feed t.step p.last.1 p.one.1) (has p.front p.all) in
     let H : List TimedValue → Type 0 = λ ds. HasDone client before new ds (replies ++ reply ∷ []) in
     subst H (sym p.joins) (subst (λ (x : HttpDate). H (p.front ++ (x, p.last.1) ∷ [])) (sym p.one.0) more)

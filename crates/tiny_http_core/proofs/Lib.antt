@@ -13,7 +13,7 @@ pub mod PendingLemmas
 pub mod SeenLemmas
 pub mod ConversationRuns
 pub mod DrivingLemmas
-pub mod ReadingRows
+pub mod ConversationReadingRows
 pub mod ClientReadingRows
 pub mod ClientReadingLines
 pub mod ClientAnswerLemmas

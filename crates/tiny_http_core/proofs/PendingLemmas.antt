@@ -63,29 +63,29 @@ pub writes-first : (front rest marks : List Mark) (number : ℕ) (text : List �
 writes-first front rest marks number text was old now ended e place sends = record { done = front; more = rest; marks_are = e; place = place; same = refl; written = text; texts = refl; sends = sends }
 
 -- what finishing is reported as, and what it leaves
-pub record FinishingTold (marks new : List Mark) (number : ℕ) (r : Finishing (Unit {0})) (before behind : Option (Unit {0})) : Type 0 where
+pub record FinishingReported (marks new : List Mark) (number : ℕ) (r : Finishing (Unit {0})) (before behind : Option (Unit {0})) : Type 0 where
   pub marks_are : new ≡ marks_after_step (Finish number) marks
   pub item : Finishes (turn_answer (Finish number) marks) tt before r behind
 
-told-at : (done more new : List Mark) (marks : List Mark) (number : ℕ) (r : Finishing (Unit {0})) (before behind : Option (Unit {0})) → marks ≡ done ++ (Held ∷ more) → length done ≡ number → FinishingTold marks new number r before behind
-    → FinishingTold (done ++ (Held ∷ more)) new (length done) r before behind
-told-at done more new marks number r before behind e place t =
-    let P : List Mark → Type 0 = λ m. FinishingTold m new number r before behind in
-    let Q : ℕ → Type 0 = λ n. FinishingTold (done ++ (Held ∷ more)) new n r before behind in
+finishing-at : (done more new : List Mark) (marks : List Mark) (number : ℕ) (r : Finishing (Unit {0})) (before behind : Option (Unit {0})) → marks ≡ done ++ (Held ∷ more) → length done ≡ number → FinishingReported marks new number r before behind
+    → FinishingReported (done ++ (Held ∷ more)) new (length done) r before behind
+finishing-at done more new marks number r before behind e place t =
+    let P : List Mark → Type 0 = λ m. FinishingReported m new number r before behind in
+    let Q : ℕ → Type 0 = λ n. FinishingReported (done ++ (Held ∷ more)) new n r before behind in
     subst Q (sym place) (subst P e t)
 
-abbrev OutcomeTold : TurnOutcome → List Mark → Finishing (Unit {0}) → Option (Unit {0}) → Option (Unit {0}) → Type 0
-OutcomeTold o new r before behind = (new ≡ o.1) × Finishes o.0 tt before r behind
+abbrev OutcomeReported : TurnOutcome → List Mark → Finishing (Unit {0}) → Option (Unit {0}) → Option (Unit {0}) → Type 0
+OutcomeReported o new r before behind = (new ≡ o.1) × Finishes o.0 tt before r behind
 
-told-left : (done more new : List Mark) (text : List ℕ) (r : Finishing (Unit {0})) (before behind : Option (Unit {0})) → FinishingTold (done ++ (Held ∷ (Left text ∷ more))) new (length done) r before behind
-    → OutcomeTold (Goes (suc (length done)) text, (done ++ (Finished ∷ [])) ++ (Held ∷ more)) new r before behind
-told-left done more new text r before behind t =
-    let P : TurnOutcome → Type 0 = λ o. OutcomeTold o new r before behind in
+finishing-left : (done more new : List Mark) (text : List ℕ) (r : Finishing (Unit {0})) (before behind : Option (Unit {0})) → FinishingReported (done ++ (Held ∷ (Left text ∷ more))) new (length done) r before behind
+    → OutcomeReported (Goes (suc (length done)) text, (done ++ (Finished ∷ [])) ++ (Held ∷ more)) new r before behind
+finishing-left done more new text r before behind t =
+    let P : TurnOutcome → Type 0 = λ o. OutcomeReported o new r before behind in
     subst P (finish-left done text more) (t.marks_are, t.item)
 
-told-other : (done more new : List Mark) (r : Finishing (Unit {0})) (before behind : Option (Unit {0})) → begins_left more ≡ false → FinishingTold (done ++ (Held ∷ more)) new (length done) r before behind → OutcomeTold (Passed, done ++ (Finished ∷ more)) new r before behind
-told-other done more new r before behind e t =
-    let P : TurnOutcome → Type 0 = λ o. OutcomeTold o new r before behind in
+finishing-other : (done more new : List Mark) (r : Finishing (Unit {0})) (before behind : Option (Unit {0})) → begins_left more ≡ false → FinishingReported (done ++ (Held ∷ more)) new (length done) r before behind → OutcomeReported (Passed, done ++ (Finished ∷ more)) new r before behind
+finishing-other done more new r before behind e t =
+    let P : TurnOutcome → Type 0 = λ o. OutcomeReported o new r before behind in
     subst P (finish-other done more e) (t.marks_are, t.item)
 
 -- one number more
@@ -96,49 +96,49 @@ next-left : (front rest new : List Mark) (number : ℕ) (text : List ℕ) (was :
     → front ++ (Finished ∷ with_left_finished rest) ≡ done ++ (Finished ∷ (Finished ∷ with_left_finished more)) → text ++ left_text rest ≡ written ++ (left ++ left_text more) → next ≡ left
     → ((was ≡ false → CanSend old) → SendsUnlessEnded was old now ended written) → ((ended ≡ false → CanSend now) → SendsUnlessEnded ended now later over next)
     → NextWrites front rest new number text was old later over
-next-left front rest new number text was old now later ended over done more written left next place is same texts told sends sent = record {
+next-left front rest new number text was old now later ended over done more written left next place is same texts stated sends sent = record {
   done = done ++ (Finished ∷ []);
   more = more;
   marks_are = is;
   place = length-append done (Finished ∷ []) ∙ ap (λ n. n + 1) place;
   same = same ∙ sym (append_assoc done (Finished ∷ []) (Finished ∷ with_left_finished more));
   written = written ++ next;
-  texts = texts ∙ ap (λ t. written ++ (t ++ left_text more)) (sym told) ∙ sym (append_assoc written next (left_text more));
+  texts = texts ∙ ap (λ t. written ++ (t ++ left_text more)) (sym stated) ∙ sym (append_assoc written next (left_text more));
   sends = λ can. sends-append was ended over old now later written next (sends can) (sent (sends-can was ended old now written can (sends can)));
 }
 
 pub writes-next : (front rest marks new : List Mark) (number : ℕ) (text : List ℕ) (was : Bool) (old now later : Sink) (ended over : Bool) (r : Finishing (Unit {0})) (next : Vec ℕ) (u : Unit {0}) (before behind : Option (Unit {0}))
-    → WritesLeft front rest marks number text was old now ended → FinishingTold marks new number r before behind → r ≡ Go u next → ((ended ≡ false → CanSend now) → SendsUnlessEnded ended now later over next.items)
+    → WritesLeft front rest marks number text was old now ended → FinishingReported marks new number r before behind → r ≡ Go u next → ((ended ≡ false → CanSend now) → SendsUnlessEnded ended now later over next.items)
     → WritesLeft front rest new (number + 1) text was old later over
-writes-next front rest marks new number text was old now later ended over r next u before behind w told is sent =
-    by-more w.more w.same w.texts (told-at w.done w.more new marks number (Go u next) before behind w.marks_are w.place (subst (λ x. FinishingTold marks new number x before behind) is told))
+writes-next front rest marks new number text was old now later ended over r next u before behind w stated is sent =
+    by-more w.more w.same w.texts (finishing-at w.done w.more new marks number (Go u next) before behind w.marks_are w.place (subst (λ x. FinishingReported marks new number x before behind) is stated))
   where
-    other : (more : List Mark) → begins_left more ≡ false → FinishingTold (w.done ++ (Held ∷ more)) new (length w.done) (Go u next) before behind → NextWrites front rest new number text was old later over
-    other more e t = let no = told-other w.done more new (Go u next) before behind e t in absurd no.1
+    other : (more : List Mark) → begins_left more ≡ false → FinishingReported (w.done ++ (Held ∷ more)) new (length w.done) (Go u next) before behind → NextWrites front rest new number text was old later over
+    other more e t = let no = finishing-other w.done more new (Go u next) before behind e t in absurd no.1
 
     by-more : (more : List Mark) → front ++ (Finished ∷ with_left_finished rest) ≡ w.done ++ (Finished ∷ with_left_finished more) → text ++ left_text rest ≡ w.written ++ left_text more
-        → FinishingTold (w.done ++ (Held ∷ more)) new (length w.done) (Go u next) before behind → NextWrites front rest new number text was old later over
+        → FinishingReported (w.done ++ (Held ∷ more)) new (length w.done) (Go u next) before behind → NextWrites front rest new number text was old later over
     by-more [] same texts t = other [] refl t
     by-more (Open ∷ more) same texts t = other (Open ∷ more) refl t
     by-more (Held ∷ more) same texts t = other (Held ∷ more) refl t
     by-more (Finished ∷ more) same texts t = other (Finished ∷ more) refl t
     by-more (Left left ∷ more) same texts t =
-        let o = told-left w.done more new left (Go u next) before behind t in
+        let o = finishing-left w.done more new left (Go u next) before behind t in
         next-left front rest new number text was old now later ended over w.done more w.written left next.items w.place o.0 same texts o.1.1 w.sends sent
 
 -- the last number
 pub writes-last : (front rest marks new : List Mark) (number : ℕ) (text : List ℕ) (was : Bool) (old now : Sink) (ended : Bool) (r : Finishing (Unit {0})) (before behind : Option (Unit {0}))
-    → WritesLeft front rest marks number text was old now ended → FinishingTold marks new number r before behind → ((u : Unit {0}) (next : Vec ℕ) → r ≡ Go u next → ⊥)
+    → WritesLeft front rest marks number text was old now ended → FinishingReported marks new number r before behind → ((u : Unit {0}) (next : Vec ℕ) → r ≡ Go u next → ⊥)
     → FinishesFront front rest new × ((was ≡ false → CanSend old) → SendsUnlessEnded was old now ended (text ++ left_text rest))
-writes-last front rest marks new number text was old now ended r before behind w told none =
-    by-more w.more w.same w.texts (told-at w.done w.more new marks number r before behind w.marks_are w.place told)
+writes-last front rest marks new number text was old now ended r before behind w stated none =
+    by-more w.more w.same w.texts (finishing-at w.done w.more new marks number r before behind w.marks_are w.place stated)
   where
     Ends : Type 0
     Ends = FinishesFront front rest new × ((was ≡ false → CanSend old) → SendsUnlessEnded was old now ended (text ++ left_text rest))
 
-    other : (more : List Mark) → begins_left more ≡ false → front ++ (Finished ∷ with_left_finished rest) ≡ w.done ++ (Finished ∷ with_left_finished more) → text ++ left_text rest ≡ w.written ++ left_text more → FinishingTold (w.done ++ (Held ∷ more)) new (length w.done) r before behind → Ends
+    other : (more : List Mark) → begins_left more ≡ false → front ++ (Finished ∷ with_left_finished rest) ≡ w.done ++ (Finished ∷ with_left_finished more) → text ++ left_text rest ≡ w.written ++ left_text more → FinishingReported (w.done ++ (Held ∷ more)) new (length w.done) r before behind → Ends
     other more e same texts t =
-        let o = told-other w.done more new r before behind e t in
+        let o = finishing-other w.done more new r before behind e t in
         let n = none-left more e in
         let P : List ℕ → Type 0 = λ x. SendsUnlessEnded was old now ended x in (
           o.0 ∙ ap (λ x. w.done ++ (Finished ∷ x)) (sym n.1) ∙ sym same,
@@ -150,13 +150,13 @@ writes-last front rest marks new number text was old now ended r before behind w
     goes text next n (Go u v) never f = never u v refl
     goes text next n (IsStrange u) never f = f
 
-    by-more : (more : List Mark) → front ++ (Finished ∷ with_left_finished rest) ≡ w.done ++ (Finished ∷ with_left_finished more) → text ++ left_text rest ≡ w.written ++ left_text more → FinishingTold (w.done ++ (Held ∷ more)) new (length w.done) r before behind → Ends
+    by-more : (more : List Mark) → front ++ (Finished ∷ with_left_finished rest) ≡ w.done ++ (Finished ∷ with_left_finished more) → text ++ left_text rest ≡ w.written ++ left_text more → FinishingReported (w.done ++ (Held ∷ more)) new (length w.done) r before behind → Ends
     by-more [] same texts t = other [] refl same texts t
     by-more (Open ∷ more) same texts t = other (Open ∷ more) refl same texts t
     by-more (Held ∷ more) same texts t = other (Held ∷ more) refl same texts t
     by-more (Finished ∷ more) same texts t = other (Finished ∷ more) refl same texts t
     by-more (Left left ∷ more) same texts t =
-        let o = told-left w.done more new left r before behind t in
+        let o = finishing-left w.done more new left r before behind t in
         absurd (goes text left (suc (length w.done)) r none o.1)
 
 -- after the texts the writer is flushed
@@ -168,40 +168,40 @@ flushed-behind was mid ended a b c text sends flushes can =
 
 -- What finishing a held number leaves: the texts after it are sent, from that which comes out on.
 pub pass-goes : (front rest marks mid final : List Mark) (number : ℕ) (was : Bool) (old now : Sink) (ended : Bool) (r : Finishing (Unit {0})) (next : Vec ℕ) (u : Unit {0}) (before behind : Option (Unit {0}))
-    → marks ≡ front ++ (Held ∷ rest) → length front ≡ number → FinishingTold marks mid number r before behind → r ≡ Go u next
+    → marks ≡ front ++ (Held ∷ rest) → length front ≡ number → FinishingReported marks mid number r before behind → r ≡ Go u next
     → ((f more : List Mark) → mid ≡ f ++ (Held ∷ more) → length f ≡ number + 1 → FinishesFront f more final × ((was ≡ false → CanSend old) → SendsUnlessEnded was old now ended (next.items ++ left_text more))) → IsFlushed now
     → FinishesFront front rest final × ((was ≡ false → CanSend old) → SendsLeft rest was old now ended)
-pass-goes front rest marks mid final number was old now ended r next u before behind e place told is more_sent flushed =
-    by-rest rest (told-at front rest mid marks number (Go u next) before behind e place (subst (λ x. FinishingTold marks mid number x before behind) is told))
+pass-goes front rest marks mid final number was old now ended r next u before behind e place stated is more_sent flushed =
+    by-rest rest (finishing-at front rest mid marks number (Go u next) before behind e place (subst (λ x. FinishingReported marks mid number x before behind) is stated))
   where
     Ends : List Mark → Type 0
     Ends x = FinishesFront front x final × ((was ≡ false → CanSend old) → SendsLeft x was old now ended)
 
-    other : (x : List Mark) → begins_left x ≡ false → FinishingTold (front ++ (Held ∷ x)) mid (length front) (Go u next) before behind → Ends x
-    other x f t = let none = told-other front x mid (Go u next) before behind f t in absurd none.1
+    other : (x : List Mark) → begins_left x ≡ false → FinishingReported (front ++ (Held ∷ x)) mid (length front) (Go u next) before behind → Ends x
+    other x f t = let none = finishing-other front x mid (Go u next) before behind f t in absurd none.1
 
-    by-rest : (x : List Mark) → FinishingTold (front ++ (Held ∷ x)) mid (length front) (Go u next) before behind → Ends x
+    by-rest : (x : List Mark) → FinishingReported (front ++ (Held ∷ x)) mid (length front) (Go u next) before behind → Ends x
     by-rest [] t = other [] refl t
     by-rest (Open ∷ x) t = other (Open ∷ x) refl t
     by-rest (Held ∷ x) t = other (Held ∷ x) refl t
     by-rest (Finished ∷ x) t = other (Finished ∷ x) refl t
     by-rest (Left left ∷ x) t =
-        let o = told-left front x mid left (Go u next) before behind t in
+        let o = finishing-left front x mid left (Go u next) before behind t in
         let s = more_sent (front ++ (Finished ∷ [])) x o.0 (length-append front (Finished ∷ []) ∙ ap (λ n. n + 1) place) in
         let P : List ℕ → Type 0 = λ y. SendsUnlessEnded was old now ended (y ++ left_text x) in
         (s.0 ∙ append_assoc front (Finished ∷ []) (Finished ∷ with_left_finished x), λ can. (subst P o.1.1 (s.1 can), flushed))
 
 pub pass-ends : (front rest marks mid : List Mark) (number : ℕ) (was : Bool) (old : Sink) (r : Finishing (Unit {0})) (before behind : Option (Unit {0}))
-    → marks ≡ front ++ (Held ∷ rest) → length front ≡ number → FinishingTold marks mid number r before behind → ((u : Unit {0}) (next : Vec ℕ) → r ≡ Go u next → ⊥)
+    → marks ≡ front ++ (Held ∷ rest) → length front ≡ number → FinishingReported marks mid number r before behind → ((u : Unit {0}) (next : Vec ℕ) → r ≡ Go u next → ⊥)
     → FinishesFront front rest mid × SendsLeft rest was old old was
-pass-ends front rest marks mid number was old r before behind e place told none = by-rest rest (told-at front rest mid marks number r before behind e place told)
+pass-ends front rest marks mid number was old r before behind e place stated none = by-rest rest (finishing-at front rest mid marks number r before behind e place stated)
   where
     Ends : List Mark → Type 0
     Ends x = FinishesFront front x mid × SendsLeft x was old old was
 
-    other : (x : List Mark) → begins_left x ≡ false → FinishingTold (front ++ (Held ∷ x)) mid (length front) r before behind → Ends x
+    other : (x : List Mark) → begins_left x ≡ false → FinishingReported (front ++ (Held ∷ x)) mid (length front) r before behind → Ends x
     other x f t =
-        let o = told-other front x mid r before behind f t in
+        let o = finishing-other front x mid r before behind f t in
         let P : Bool → Type 0 = λ b. MatchBool b (SendsUnlessEnded was old old was (left_text x) × IsFlushed old) ((old ≡ old) × (was ≡ was)) in
         (o.0 ∙ ap (λ y. front ++ (Finished ∷ y)) (sym (none-left x f).1), subst P (sym f) (refl, refl))
 
@@ -210,15 +210,15 @@ pass-ends front rest marks mid number was old r before behind e place told none 
     goes next n (Go u v) never f = never u v refl
     goes next n (IsStrange u) never f = f
 
-    by-rest : (x : List Mark) → FinishingTold (front ++ (Held ∷ x)) mid (length front) r before behind → Ends x
+    by-rest : (x : List Mark) → FinishingReported (front ++ (Held ∷ x)) mid (length front) r before behind → Ends x
     by-rest [] t = other [] refl t
     by-rest (Open ∷ x) t = other (Open ∷ x) refl t
     by-rest (Held ∷ x) t = other (Held ∷ x) refl t
     by-rest (Finished ∷ x) t = other (Finished ∷ x) refl t
-    by-rest (Left left ∷ x) t = let o = told-left front x mid left r before behind t in absurd (goes left (suc (length front)) r none o.1)
+    by-rest (Left left ∷ x) t = let o = finishing-left front x mid left r before behind t in absurd (goes left (suc (length front)) r none o.1)
 
 -- what leaving an open number leaves
-pub record ToldLeft (marks new : List Mark) (number : ℕ) (text : List ℕ) (r : Leaving (Unit {0})) (before behind : Option (Unit {0})) : Type 0 where
+pub record LeavingReported (marks new : List Mark) (number : ℕ) (text : List ℕ) (r : Leaving (Unit {0})) (before behind : Option (Unit {0})) : Type 0 where
   pub marks_are : new ≡ marks_after_step (Leave number text) marks
   pub item : LeavesTurn (turn_answer (Leave number text) marks) before r behind
 
@@ -234,22 +234,22 @@ leave-at front rest text false e =
 abbrev OutcomeLeft : TurnOutcome → List Mark → Leaving (Unit {0}) → Option (Unit {0}) → Option (Unit {0}) → Type 0
 OutcomeLeft o new r before behind = (new ≡ o.1) × LeavesTurn o.0 before r behind
 
-told_left-at : (front rest marks new : List Mark) (number : ℕ) (text : List ℕ) (t : Bool) (r : Leaving (Unit {0})) (before behind : Option (Unit {0})) → marks ≡ front ++ (Open ∷ rest) → length front ≡ number → (number == first_unfinished marks) ≡ t
-    → ToldLeft marks new number text r before behind → OutcomeLeft (leave-outcome t front rest text (length front)) new r before behind
-told_left-at front rest marks new number text t r before behind e place turn told =
-    let P : List Mark → Type 0 = λ m. ToldLeft m new number text r before behind in
-    let Q : ℕ → Type 0 = λ n. ToldLeft (front ++ (Open ∷ rest)) new n text r before behind in
+leaving-at : (front rest marks new : List Mark) (number : ℕ) (text : List ℕ) (t : Bool) (r : Leaving (Unit {0})) (before behind : Option (Unit {0})) → marks ≡ front ++ (Open ∷ rest) → length front ≡ number → (number == first_unfinished marks) ≡ t
+    → LeavingReported marks new number text r before behind → OutcomeLeft (leave-outcome t front rest text (length front)) new r before behind
+leaving-at front rest marks new number text t r before behind e place turn stated =
+    let P : List Mark → Type 0 = λ m. LeavingReported m new number text r before behind in
+    let Q : ℕ → Type 0 = λ n. LeavingReported (front ++ (Open ∷ rest)) new n text r before behind in
     let R : TurnOutcome → Type 0 = λ o. OutcomeLeft o new r before behind in
-    let x = subst Q (sym place) (subst P e told) in
+    let x = subst Q (sym place) (subst P e stated) in
     let same : (length front == first_unfinished (front ++ (Open ∷ rest))) ≡ t = ap (λ n. n == first_unfinished (front ++ (Open ∷ rest))) place ∙ ap (λ m. number == first_unfinished m) (sym e) ∙ turn in
     subst R (leave-at front rest text t same) (x.marks_are, x.item)
 
 pub leave-goes : (front rest marks mid final : List Mark) (number : ℕ) (text : List ℕ) (was : Bool) (old now : Sink) (ended : Bool) (r : Leaving (Unit {0})) (u : Unit {0}) (back : Vec ℕ) (before behind : Option (Unit {0}))
-    → marks ≡ front ++ (Open ∷ rest) → length front ≡ number → ToldLeft marks mid number text r before behind → r ≡ LeaveGo u back
+    → marks ≡ front ++ (Open ∷ rest) → length front ≡ number → LeavingReported marks mid number text r before behind → r ≡ LeaveGo u back
     → (mid ≡ front ++ (Held ∷ rest) → FinishesFront front rest final × SendsUnlessEnded was old now ended (back.items ++ left_text rest)) → IsFlushed now
     → LeavesText (number == first_unfinished marks) front rest final text was old now ended
-leave-goes front rest marks mid final number text was old now ended r u back before behind e place told is more flushed =
-    by-turn (number == first_unfinished marks) (told_left-at front rest marks mid number text (number == first_unfinished marks) (LeaveGo u back) before behind e place refl (subst (λ x. ToldLeft marks mid number text x before behind) is told))
+leave-goes front rest marks mid final number text was old now ended r u back before behind e place stated is more flushed =
+    by-turn (number == first_unfinished marks) (leaving-at front rest marks mid number text (number == first_unfinished marks) (LeaveGo u back) before behind e place refl (subst (λ x. LeavingReported marks mid number text x before behind) is stated))
   where
     by-turn : (t : Bool) → OutcomeLeft (leave-outcome t front rest text (length front)) mid (LeaveGo u back) before behind → LeavesText t front rest final text was old now ended
     by-turn true o =
@@ -259,10 +259,10 @@ leave-goes front rest marks mid final number text was old now ended r u back bef
     by-turn false o = absurd o.1
 
 pub leave-stays : (front rest marks mid : List Mark) (number : ℕ) (text : List ℕ) (was : Bool) (old : Sink) (r : Leaving (Unit {0})) (before behind : Option (Unit {0}))
-    → marks ≡ front ++ (Open ∷ rest) → length front ≡ number → ToldLeft marks mid number text r before behind → ((u : Unit {0}) (back : Vec ℕ) → r ≡ LeaveGo u back → ⊥) → AreInShape mid
+    → marks ≡ front ++ (Open ∷ rest) → length front ≡ number → LeavingReported marks mid number text r before behind → ((u : Unit {0}) (back : Vec ℕ) → r ≡ LeaveGo u back → ⊥) → AreInShape mid
     → LeavesText (number == first_unfinished marks) front rest mid text was old old was
-leave-stays front rest marks mid number text was old r before behind e place told none shape =
-    by-turn (number == first_unfinished marks) (told_left-at front rest marks mid number text (number == first_unfinished marks) r before behind e place refl told)
+leave-stays front rest marks mid number text was old r before behind e place stated none shape =
+    by-turn (number == first_unfinished marks) (leaving-at front rest marks mid number text (number == first_unfinished marks) r before behind e place refl stated)
   where
     goes : (n : ℕ) (x : Leaving (Unit {0})) → ((u : Unit {0}) (v : Vec ℕ) → x ≡ LeaveGo u v → ⊥) → LeavesTurn (Goes n text) before x behind → ⊥
     goes n IsLeft never f = f

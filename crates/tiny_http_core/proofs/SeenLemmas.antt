@@ -5,7 +5,7 @@ use Rattle.tiny_http_wire.specs.Answer.{ResponseState}
 use Rattle.httpdate.specs.declared.date.HttpDate.{HttpDate}
 use Rattle.tiny_http_core.specs.declared.driver.Step.{Step}
 use Rattle.tiny_http_core.specs.declared.driver.Step.TheVariants as step
-use Rattle.tiny_http_core.specs.Slots.{ResponseValue}
+use Rattle.tiny_http_message.specs.ResponseValue.{ResponseValue}
 use Rattle.tiny_http_core.specs.Steps.{StepValue, Ask, AsReader, Read, Respond, IntoWriter, Write, Flush, Upgrade, Finish, Drop, ReplyValue}
 use Rattle.tiny_http_core.specs.Conversation.{State, TimedValue}
 use Rattle.tiny_http_core.specs.Seen.{IsResponse, IsStep}
@@ -55,26 +55,26 @@ is-drop feed n (Drop k) h = ap (λ m. Drop m) h
 
 pub step-drop : {D : Type 0} (feed : D → Option Feed) (client : Feed) (before : Sink) (k : Kept) (s : State) (d : TimedValue) (x : Step D) (n : ℕ) (reply : ReplyValue) → x ≡ step.Drop n → IsStep feed x d.1
     → StepIsAnswered client before k s d.0 (Drop n) reply → StepIsAnswered client before k s d.0 d.1 reply
-step-drop feed client before k s d x n reply e told h =
+step-drop feed client before k s d x n reply e stated h =
     let P : Step _ → Type 0 = λ y. IsStep feed y d.1 in
-    let is = is-drop feed n d.1 (subst P e told) in
+    let is = is-drop feed n d.1 (subst P e stated) in
     let Q : StepValue → Type 0 = λ y. StepIsAnswered client before k s d.0 y reply in
     subst Q (sym is) h
 
 pub step-ask : {D : Type 0} (feed : D → Option Feed) (client : Feed) (before : Sink) (k : Kept) (s : State) (now : HttpDate) (d : TimedValue) (x : Step D) (reply : ReplyValue) → x ≡ step.Ask → d.0 ≡ now → IsStep feed x d.1
     → StepIsAnswered client before k s now Ask reply → StepIsAnswered client before k s d.0 d.1 reply
-step-ask feed client before k s now d x reply e date told h =
+step-ask feed client before k s now d x reply e date stated h =
     let P : Step _ → Type 0 = λ y. IsStep feed y d.1 in
-    let is = is-ask feed d.1 (subst P e told) in
+    let is = is-ask feed d.1 (subst P e stated) in
     let Q : StepValue → Type 0 = λ y. StepIsAnswered client before k s now y reply in
     let R : HttpDate → Type 0 = λ y. StepIsAnswered client before k s y d.1 reply in
     subst R (sym date) (subst Q (sym is) h)
 
 pub step-respond : {D : Type 0} (feed : D → Option Feed) (client : Feed) (before : Sink) (k : Kept) (s : State) (now : HttpDate) (d : TimedValue) (x : Step D) (n : ℕ) (r : ResponseState D) (reply : ReplyValue) → x ≡ step.Respond n r → d.0 ≡ now → IsStep feed x d.1
     → ((v : ResponseValue) → IsResponse feed r v → StepIsAnswered client before k s now (Respond n v) reply) → StepIsAnswered client before k s d.0 d.1 reply
-step-respond feed client before k s now d x n r reply e date told h =
+step-respond feed client before k s now d x n r reply e date stated h =
     let P : Step _ → Type 0 = λ y. IsStep feed y d.1 in
-    let is = is-respond feed n r d.1 (subst P e told) in
+    let is = is-respond feed n r d.1 (subst P e stated) in
     let Q : StepValue → Type 0 = λ y. StepIsAnswered client before k s now y reply in
     let R : HttpDate → Type 0 = λ y. StepIsAnswered client before k s y d.1 reply in
     subst R (sym date) (subst Q (sym is.is) (h is.value is.response))
@@ -93,8 +93,8 @@ is-read feed n m (Drop k) h = elim h [ ]
 
 pub step-read : {D : Type 0} (feed : D → Option Feed) (client : Feed) (before : Sink) (k : Kept) (s : State) (d : TimedValue) (x : Step D) (n m : ℕ) (reply : ReplyValue) → x ≡ step.Read n m → IsStep feed x d.1
     → StepIsAnswered client before k s d.0 (Read n m) reply → StepIsAnswered client before k s d.0 d.1 reply
-step-read feed client before k s d x n m reply e told h =
+step-read feed client before k s d x n m reply e stated h =
     let P : Step _ → Type 0 = λ y. IsStep feed y d.1 in
-    let is = is-read feed n m d.1 (subst P e told) in
+    let is = is-read feed n m d.1 (subst P e stated) in
     let Q : StepValue → Type 0 = λ y. StepIsAnswered client before k s d.0 y reply in
     subst Q (sym is) h

@@ -11,7 +11,6 @@ use Rattle.tiny_http_wire.specs.Device.{Feed, Sink, IsFront, BeginsKnown, IsKnow
 use Rattle.tiny_http_wire.specs.Answer.{Answer, Text, Whole, Broken, Printing, Prints, PrintsAnswer, text_of, nothing_sent, gathered_body, body_unless_withheld, identity_body, as_it_is, is_withheld}
 use Rattle.tiny_http_device.proofs.DeviceLemmas.{IsFront-same, IsFront-append}
 use Rattle.tiny_http_stream.specs.Outlet.{holding, EndsOutlet}
-use Rattle.tiny_http_stream.proofs.OutletLemmas.{grown-nil}
 use Rattle.httpdate.specs.declared.date.HttpDate.{HttpDate}
 use Rattle.tiny_http_wire.specs.declared.common.HTTPVersion.{HTTPVersion}
 use Rattle.tiny_http_wire.specs.declared.coding.FramingHeader.{FramingHeader}
@@ -22,10 +21,9 @@ use Rattle.tiny_http_message.specs.declared.waiting.AnswerForm.{AnswerForm}
 use Rattle.tiny_http_core.specs.Seen.{PrintedFor}
 use Rattle.tiny_http_wire.specs.declared.device.Stop.TheVariants.{End, Fault}
 use Rattle.tiny_http_core.specs.Sending.{CanSend, OutletTook, OutletFailed, Idles, EndsQuietly, DropsHeld, SendsText, Sends, SendsQuietly, IsFlushed, SendsUnlessEnded, FailsOnce, FailsOnceUnlessEnded, DataBreakOff, IsHonest}
-
-pub or-false : (a b : Bool) → (a || b) ≡ false → (a ≡ false) × (b ≡ false)
-or-false true b h = cc
-or-false false b h = (refl, h)
+use Rattle.tiny_http_core.proofs.SlotsLemmas.{or-parts}
+use Rattle.tiny_http_device.proofs.DeviceFeeds.{append_known-append}
+use Rattle.tiny_http_device.proofs.DeviceLemmas.{grown-nil}
 
 pub append-none : (known : Option (List ℕ)) → append_known known [] ≡ known
 append-none None = refl
@@ -46,12 +44,12 @@ taken-sent a b text unended t = record {
 }
 
 -- what was sent on stays so
-pub begins : (xs ys : List ℕ) (known : Option (List ℕ)) → IsFront xs ys → BeginsKnown ys known → BeginsKnown xs known
-begins xs ys None h k = tt
-begins xs ys (Some zs) h k = IsFront-append xs ys zs h k
+pub begins_known : (xs ys : List ℕ) (known : Option (List ℕ)) → IsFront xs ys → BeginsKnown ys known → BeginsKnown xs known
+begins_known xs ys None h k = tt
+begins_known xs ys (Some zs) h k = IsFront-append xs ys zs h k
 
 failed-lost : (a b : Sink) (text : List ℕ) (kind : ErrorKind) → Failed a b text kind → OutletFailed a b text kind
-failed-lost a b text kind f = record { bytes = f.bytes; keeps = begins a.sent b.sent b.taken f.sent f.keeps; failures = f.failures; last_kind = f.last_kind }
+failed-lost a b text kind f = record { bytes = f.bytes; keeps = begins_known a.sent b.sent b.taken f.sent f.keeps; failures = f.failures; last_kind = f.last_kind }
 
 sent-none : (a b c : Sink) (text : List ℕ) → OutletTook a b text → OutletTook b c [] → OutletTook a c text
 sent-none a b c text s t = record { bytes = t.bytes ∙ append-none b.taken ∙ s.bytes; sent = IsFront-append a.sent b.sent c.sent s.sent t.sent; failures = t.failures ∙ s.failures }
@@ -61,7 +59,7 @@ sent-lost a b c text kind s l =
     let P : Option (List ℕ) → Type 0 = λ x. IsKnownFront c.taken x in
     record {
       bytes = subst P (append-none b.taken ∙ s.bytes) l.bytes;
-      keeps = begins a.sent b.sent c.taken s.sent l.keeps;
+      keeps = begins_known a.sent b.sent c.taken s.sent l.keeps;
       failures = l.failures ∙ ap next_count s.failures;
       last_kind = l.last_kind;
     }
@@ -71,7 +69,7 @@ failed-abandoned a b c text kind l d =
     let P : Option ErrorKind → Type 0 = λ x. StatesKind x kind in
     record {
       bytes = fronts c.taken b.taken (append_known a.taken text) d.bytes l.bytes;
-      keeps = begins a.sent c.sent c.taken (IsFront-append a.sent b.sent c.sent l.sent d.sent) d.keeps;
+      keeps = begins_known a.sent c.sent c.taken (IsFront-append a.sent b.sent c.sent l.sent d.sent) d.keeps;
       failures = d.failures ∙ l.failures;
       last_kind = subst P (sym d.last_kind) l.last_kind;
     }
@@ -86,15 +84,11 @@ grown-front : (ended : Bool) (known : Option (List ℕ)) (held : List ℕ) → I
 grown-front true known held = ([], sym (append-none known))
 grown-front false known held = (held, refl)
 
-pub grown-none : (ended : Bool) (known : Option (List ℕ)) → grown ended known [] ≡ known
-grown-none true known = refl
-grown-none false known = append-none known
-
 pub given-up : (s : Sink) (held : List ℕ) (was now : Bool) → BeginsKnown s.sent s.taken → DropsHeld (holding s held was) (holding s [] now)
-given-up s held was now begins =
+given-up s held was now begins_known =
     let Q : Option (List ℕ) → Type 0 = λ x. BeginsKnown s.sent x in
     let P : Option (List ℕ) → Type 0 = λ x. IsKnownFront x (grown s.has_ended s.taken held) in
-    record { bytes = subst P (sym (grown-none s.has_ended s.taken)) (grown-front s.has_ended s.taken held); sent = IsFront-same s.sent; keeps = subst Q (sym (grown-none s.has_ended s.taken)) begins; failures = refl; last_kind = refl }
+    record { bytes = subst P (sym (grown-nil s.has_ended s.taken)) (grown-front s.has_ended s.taken held); sent = IsFront-same s.sent; keeps = subst Q (sym (grown-nil s.has_ended s.taken)) begins_known; failures = refl; last_kind = refl }
 
 -- all of the text was printed; then it is flushed
 whole-flushed : {T U : Type 0} (a b c : Sink) (was ended : Bool) (x : U) (r : Result T Error) (text : Text) → a.has_ended ≡ false → Prints a b (Ok x) text → Puts b c r []
@@ -111,9 +105,9 @@ not-whole kind e = cc
 pub printed-flushed : {T U : Type 0} (o : Option Feed) (a b c : Sink) (was ended : Bool) (x : U) (r : Result T Error) (ans : Answer) (p : Printing) → (content : Feed) → o ≡ Some content → length content.bytes < 2 ^ 63
     → IfSome o (λ feed. length feed.bytes < 2 ^ 63 → PrintsAnswer a b (Ok x) ans feed p) → Puts b c r [] → a.has_ended ≡ false
     → (b.has_ended ≡ false → was ≡ false) → (ended ≡ true → c.has_ended ≡ true) → OnErr r (ended ≡ true) → OnOk r (ended ≡ was) → Sends a c ended r ans content p
-printed-flushed o a b c was ended x r ans p content told few h f unended w z err ok =
+printed-flushed o a b c was ended x r ans p content stated few h f unended w z err ok =
     let P : Option Feed → Type 0 = λ y. IfSome y (λ feed. length feed.bytes < 2 ^ 63 → PrintsAnswer a b (Ok x) ans feed p) in
-    by-cases (subst P told h few)
+    by-cases (subst P stated h few)
   where
     by-cases : PrintsAnswer a b (Ok x) ans content p → Sends a c ended r ans content p
     by-cases (inl k) = inl (whole-flushed a b c was ended x r (text_of ans content p) unended k f w z err ok)
@@ -141,11 +135,11 @@ broken-ended T a b c ended e text unended low (inr h) m z y =
 pub printed-ended : (T : Type 0) (o : Option Feed) (a b c : Sink) (n : ℕ) (ended : Bool) (e : Error) (ans : Answer) (p : Printing) → (content : Feed) → o ≡ Some content → length content.bytes < 2 ^ 63
     → IfSome o (λ feed. length feed.bytes < 2 ^ 63 → PrintsAnswer {T = T} a b (Err e) ans feed p) → n ≡ a.failures → MatchBool (b.failures == n) (EndsQuietly b c) (DropsHeld b c)
     → a.has_ended ≡ false → a.failures < 2 ^ 64 - 1 → ended ≡ true → c.has_ended ≡ true → Sends {T = T} a c ended (Err e) ans content p
-printed-ended T o a b c n ended e ans p content told few h same m unended low z y =
+printed-ended T o a b c n ended e ans p content stated few h same m unended low z y =
     let P : Option Feed → Type 0 = λ y. IfSome y (λ feed. length feed.bytes < 2 ^ 63 → PrintsAnswer {T = T} a b (Err e) ans feed p) in
     let Q : ℕ → Type 0 = λ k. MatchBool (b.failures == k) (EndsQuietly b c) (DropsHeld b c) in
     let m2 = subst Q same m in
-    by-cases (subst P told h few) m2
+    by-cases (subst P stated h few) m2
   where
     by-cases : PrintsAnswer {T = T} a b (Err e) ans content p → MatchBool (b.failures == a.failures) (EndsQuietly b c) (DropsHeld b c) → Sends {T = T} a c ended (Err e) ans content p
     by-cases (inl k) m2 = inl (broken-ended T a b c ended e (text_of ans content p) unended low k m2 z y)
@@ -223,24 +217,19 @@ pub printed-honest : (T : Type 0) (o : Option Feed) (a b c : Sink) (n : ℕ) (e 
 printed-honest T o a b c n e ans v no_body date h (inl u) same m = honest-by T o a b c n e ans v no_body date (next_count a.failures == a.failures) refl u.failures h same m
 printed-honest T o a b c n e ans v no_body date h (inr u) same m = inl (rose a b c n (b.failures == n) refl same u.failures m)
 
--- the same for a request of the form that the driver keeps
-same-text : (a : Answer) (f : Feed) (form : AnswerForm) (date : HttpDate) (p : Printing) → PrintedFor form date p → text_of a f p ≡ text_of a f (plainly form.version form.no_body date)
+-- the same for a request of the answer_form that the driver keeps
+same-text : (a : Answer) (f : Feed) (answer_form : AnswerForm) (date : HttpDate) (p : Printing) → PrintedFor answer_form date p → text_of a f p ≡ text_of a f (plainly answer_form.version answer_form.no_body date)
 unfolding text_of
-same-text a f form date p h = rw (h.version, h.no_body, h.no_upgrade, h.dated) refl
+same-text a f answer_form date p h = rw (h.version, h.no_body, h.no_upgrade, h.dated) refl
 
-pub sends-for : (T : Type 0) (old new : Sink) (ended : Bool) (r : Result T Error) (a : Answer) (f : Feed) (form : AnswerForm) (date : HttpDate) (p : Printing) → PrintedFor form date p → Sends {T = T} old new ended r a f (plainly form.version form.no_body date) → Sends {T = T} old new ended r a f p
-sends-for T old new ended r a f form date p h s =
+pub sends-for : (T : Type 0) (old new : Sink) (ended : Bool) (r : Result T Error) (a : Answer) (f : Feed) (answer_form : AnswerForm) (date : HttpDate) (p : Printing) → PrintedFor answer_form date p → Sends {T = T} old new ended r a f (plainly answer_form.version answer_form.no_body date) → Sends {T = T} old new ended r a f p
+sends-for T old new ended r a f answer_form date p h s =
     let P : Text → Type 0 = λ t. SendsText {T = T} old new ended r t in
-    ⊎_elim (λ x. inl (subst P (sym (same-text a f form date p h)) x)) (λ x. inr ((h.no_upgrade, refl, x.0.2), x.1)) s
-
--- one text after another, each sent quietly
-known-append : (known : Option (List ℕ)) (s t : List ℕ) → append_known (append_known known s) t ≡ append_known known (s ++ t)
-known-append None s t = refl
-known-append (Some xs) s t = ap Some (append_assoc xs s t)
+    ⊎_elim (λ x. inl (subst P (sym (same-text a f answer_form date p h)) x)) (λ x. inr ((h.no_upgrade, refl, x.0.2), x.1)) s
 
 sent-append : (a b c : Sink) (s t : List ℕ) → OutletTook a b s → OutletTook b c t → OutletTook a c (s ++ t)
 sent-append a b c s t h k = record {
-  bytes = k.bytes ∙ ap (λ y. append_known y t) h.bytes ∙ known-append a.taken s t;
+  bytes = k.bytes ∙ ap (λ y. append_known y t) h.bytes ∙ append_known-append a.taken s t;
   sent = IsFront-append a.sent b.sent c.sent h.sent k.sent;
   failures = k.failures ∙ h.failures;
 }
@@ -249,8 +238,8 @@ sent-then_lost : (a b c : Sink) (s t : List ℕ) (kind : ErrorKind) → OutletTo
 sent-then_lost a b c s t kind h l =
     let P : Option (List ℕ) → Type 0 = λ x. IsKnownFront c.taken x in
     record {
-      bytes = subst P (ap (λ y. append_known y t) h.bytes ∙ known-append a.taken s t) l.bytes;
-      keeps = begins a.sent b.sent c.taken h.sent l.keeps;
+      bytes = subst P (ap (λ y. append_known y t) h.bytes ∙ append_known-append a.taken s t) l.bytes;
+      keeps = begins_known a.sent b.sent c.taken h.sent l.keeps;
       failures = l.failures ∙ ap next_count h.failures;
       last_kind = l.last_kind;
     }
@@ -261,7 +250,7 @@ lost-idle a b c s t kind l i =
     let Q : Option (List ℕ) → Type 0 = λ x. BeginsKnown a.sent x in
     let K : Option ErrorKind → Type 0 = λ x. StatesKind x kind in
     record {
-      bytes = subst P (sym i.bytes) (l.bytes.0 ++ t, sym (known-append a.taken s t) ∙ ap (λ y. append_known y t) l.bytes.1 ∙ known-append b.taken l.bytes.0 t);
+      bytes = subst P (sym i.bytes) (l.bytes.0 ++ t, sym (append_known-append a.taken s t) ∙ ap (λ y. append_known y t) l.bytes.1 ∙ append_known-append b.taken l.bytes.0 t);
       keeps = subst Q (sym i.bytes) l.keeps;
       failures = i.failures ∙ l.failures;
       last_kind = subst K (sym i.last_kind) l.last_kind;

@@ -19,7 +19,7 @@ goes-on false b u v w h = refl
 joined-cons : (x : Slot) (ys zs : List Slot) → (is_finished x ≡ true → is_slot_broken x ≡ false → joined ys ≡ joined zs) → joined (x ∷ ys) ≡ joined (x ∷ zs)
 joined-cons x ys zs h = goes-on (is_finished x) (is_slot_broken x) (joined ys) (joined zs) (segment x) h
 
-or-parts : (a b : Bool) → (a || b) ≡ false → (a ≡ false) × (b ≡ false)
+pub or-parts : (a b : Bool) → (a || b) ≡ false → (a ≡ false) × (b ≡ false)
 or-parts true b h = cc
 or-parts false b h = (refl, h)
 

@@ -73,7 +73,7 @@ pub data Extent : Type 0 where
   NoBody : Extent
   OfChunks : Extent
   OfLength : ℕ → Extent
-  Untold : Extent
+  OfUnknownLength : Extent
 
 -- no body follows an answer to a HEAD, a 204 and a 304
 abbrev pub has_no_body : Method → ℕ → Bool
@@ -88,7 +88,7 @@ unfoldable pub content_length : List Header → Option ℕ
 content_length headers = option_and_then length_of (value_of (codes "Content-Length") headers)
 
 abbrev pub extent_of_length : Option ℕ → Extent
-extent_of_length None = Untold
+extent_of_length None = OfUnknownLength
 extent_of_length (Some n) = OfLength n
 
 abbrev pub extent : Method → AnswerHead → Extent
@@ -99,7 +99,7 @@ abbrev pub BeginsWithBody : Extent → List ℕ → List ℕ → List ℕ → Ty
 BeginsWithBody NoBody bytes body rest = (body ≡ []) × (rest ≡ bytes)
 BeginsWithBody OfChunks bytes body rest = WholeChunks bytes body rest
 BeginsWithBody (OfLength n) bytes body rest = (bytes ≡ body ++ rest) × (length body ≡ n)
-BeginsWithBody Untold bytes body rest = ⊥
+BeginsWithBody OfUnknownLength bytes body rest = ⊥
 
 -- an answer as a client gets it
 pub record ClientAnswer : Type 0 where
@@ -144,7 +144,7 @@ abbrev pub LacksBody : Extent → List ℕ → Lack → Type 0
 LacksBody OfChunks bytes Unfinished = (front : List ℕ) × CutChunks bytes End front UnexpectedEof
 LacksBody OfChunks bytes Invalid = (front : List ℕ) × CutChunks bytes End front InvalidData
 LacksBody (OfLength n) bytes Unfinished = length bytes < n
-LacksBody Untold bytes Invalid = Unit {0}
+LacksBody OfUnknownLength bytes Invalid = Unit {0}
 LacksBody _ bytes _ = ⊥
 
 -- after the heads that are passed over no head stands, or no body after the head

@@ -10,10 +10,10 @@ use Rattle.tiny_http_wire.specs.declared.common.HTTPVersion.{HTTPVersion}
 use Rattle.tiny_http_wire.specs.declared.common.Header.{Header}
 use Rattle.tiny_http_wire.specs.declared.device.Stop.TheVariants.{End}
 use Rattle.tiny_http_wire.specs.Bytes.{is_ascii, is_blank, has_bare_front, space, colon, point}
-use Rattle.tiny_http_wire.specs.Reading.{line}
+use Rattle.tiny_http_wire.specs.HeadReading.{line}
 use Rattle.tiny_http_wire.specs.QualityReading.{cut}
 use Rattle.tiny_http_wire.specs.ChunkReading.{decoded}
-use Rattle.tiny_http_core.specs.ClientAnswer.{is_space, AnswerHead, ClientAnswer, is_interim, Extent, NoBody, OfChunks, OfLength, Untold, extent, Lack, Unfinished, Invalid}
+use Rattle.tiny_http_core.specs.ClientAnswer.{is_space, AnswerHead, ClientAnswer, is_interim, Extent, NoBody, OfChunks, OfLength, OfUnknownLength, extent, Lack, Unfinished, Invalid}
 
 -- a number up to the greatest, in decimal without leading zeros
 unfoldable pub decimal_read : ℕ → List ℕ → Option ℕ
@@ -130,7 +130,7 @@ abbrev pub answer_body_read : Extent → List ℕ → AnswerBodyRead
 answer_body_read NoBody bytes = Ok ([], bytes)
 answer_body_read OfChunks bytes = let d = decoded (length bytes + 1) End bytes in chunks_read d.body d.ends
 answer_body_read (OfLength n) bytes = front_read n bytes (nat_lt (length bytes) n)
-answer_body_read Untold bytes = Err Invalid
+answer_body_read OfUnknownLength bytes = Err Invalid
 
 -- the answer and what follows it
 abbrev pub AnswerRead : Type 0

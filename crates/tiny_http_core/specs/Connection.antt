@@ -10,7 +10,7 @@ use Rattle.tiny_http_message.specs.declared.waiting.AnswerForm.{AnswerForm}
 use Rattle.tiny_http_message.specs.declared.waiting.Waiting.{Waiting}
 use Rattle.tiny_http_stream.specs.Source.{SourceState, GoesOn}
 use Rattle.tiny_http_stream.specs.ToCome.{stopped}
-use Rattle.tiny_http_message.specs.Body.{Remaining, remaining, taken_left, is_streaming, Fits}
+use Rattle.tiny_http_message.specs.Body.{Remaining, remaining, taken_remaining, is_streaming, Fits}
 use Rattle.tiny_http_core.specs.Pending.{last_body, is_streaming_body}
 use Rattle.tiny_http_message.specs.declared.exchange.EndOfRequests.{EndOfRequests}
 use Rattle.tiny_http_stream.specs.declared.source.Standing.{Standing}
@@ -18,7 +18,7 @@ use Rattle.tiny_http_stream.specs.declared.source.Standing.TheVariants as at
 use Rattle.tiny_http_stream.specs.Outlet.{OutletState, output_of}
 use Rattle.tiny_http_message.specs.Pipeline.{Item, Asks, Refuses, Request, is_head_method, body_length_or_0}
 use Rattle.tiny_http_core.specs.Slots.{Slot, ByServer, is_finished, is_slot_broken, segment, joined, is_output_broken, new_slot, last_slot, is_last_slot, last_was_abandoned, rest_of}
-use Rattle.tiny_http_core.specs.Steps.{finished}
+use Rattle.tiny_http_core.specs.Steps.{finished_as}
 use Rattle.tiny_http_turns.specs.Turns.{Mark, Open, Left, Finished, AreInShape}
 use Rattle.tiny_http_core.specs.Conversation.{State, Failure, PlaceAt}
 
@@ -29,7 +29,7 @@ pub record Kept : Type 0 where
   pub marks : List Mark
   pub requests : List (Option Waiting)
   pub standing : Standing
-  pub ended : Bool
+  pub asking_ended : Bool
   pub feed : Option Feed
   pub stop : Option Stop
   pub is_over : Bool
@@ -47,7 +47,7 @@ pub record ConnectionState (R W : Type 0) : Type 0 where
 
 abbrev pub kept : {R W : Type 0} → ConnectionState R W → Kept
 kept c =
-    record { marks = c.marks; requests = c.requests; standing = c.source.standing; ended = is_some c.end; feed = c.source.feed; stop = c.source.stop; is_over = c.source.is_over; sink = output_of c.outlet; output_ended = c.outlet.ended }
+    record { marks = c.marks; requests = c.requests; standing = c.source.standing; asking_ended = is_some c.end; feed = c.source.feed; stop = c.source.stop; is_over = c.source.is_over; sink = output_of c.outlet; output_ended = c.outlet.ended }
 
 -- how a request is answered
 abbrev pub answer_form_of : Request → AnswerForm
@@ -55,25 +55,25 @@ answer_form_of r = record { version = r.message.version; no_body = is_head_metho
 
 -- a request that was handed out on this date and waits, while so many bytes of its body were given, and its end reported or not
 abbrev pub open_slot : HttpDate → Request → ℕ → Bool → Slot
-open_slot date r given told = record (new_slot date (Asks r)) { given = given; told = told }
+open_slot date r given end_reported = record (new_slot date (Asks r)) { given = given; end_reported = end_reported }
 
 -- what becomes of it if it is dropped
 abbrev pub dropped : HttpDate → Request → ℕ → Bool → Slot
-dropped date r given told = finished (open_slot date r given told) ByServer
+dropped date r given end_reported = finished_as (open_slot date r given end_reported) ByServer
 
 -- a request that was handed out on some date and waits
 pub record IsWaiting (s : Slot) (w : Waiting) : Type 0 where
   pub request : Request
   pub date : HttpDate
   pub given : ℕ
-  pub told : Bool
-  pub is : s ≡ open_slot date request given told
+  pub end_reported : Bool
+  pub is : s ≡ open_slot date request given end_reported
   pub unowed : request.framing.owes_continue ≡ false
-  pub form : w.form ≡ answer_form_of request
-  pub text : w.dropped.items ≡ segment (dropped date request given told)
-  pub fits : Fits w.body request.framing.form (body_length_or_0 request.framing) given told
+  pub answer_form : w.answer_form ≡ answer_form_of request
+  pub text : w.dropped.items ≡ segment (dropped date request given end_reported)
+  pub fits : Fits w.body request.framing.form (body_length_or_0 request.framing) given end_reported
   -- where the body isn't read from the input, this is left of it
-  pub settled : is_streaming w.body ≡ false → (f : Feed) → remaining w.body (Some f) ≡ Some (taken_left (rest_of request given) f)
+  pub settled : is_streaming w.body ≡ false → (f : Feed) → remaining w.body (Some f) ≡ Some (taken_remaining (rest_of request given) f)
 
 -- a number that is finished
 pub record IsDone (s : Slot) : Type 0 where
@@ -159,7 +159,7 @@ pub record NextHead (k : Kept) (last : Option Slot) (rest : List Item) : Type 0 
 pub record InputStands (client : Feed) (k : Kept) (slots : List Slot) (rest : List Item) : Type 0 where
   pub settled : AreSettled k.requests
   pub gives : GivesRest (last_body k.requests) (last_slot slots) k.feed
-  pub next : k.ended ≡ false → NextHead k (last_slot slots) rest
+  pub next : k.asking_ended ≡ false → NextHead k (last_slot slots) rest
   pub source : GoesOn (Some client) k.feed
 
 -- the output so far: the joined segments, which no failure takes back; or what the writer took when it failed
@@ -174,7 +174,7 @@ OutputAt before sink ended slots (Some f) =
 pub record Stands (client : Feed) (before : Sink) (k : Kept) (s : State) : Type 0 where
   pub numbers : AreKept s.reached.slots k.marks k.requests
   pub shape : AreInShape k.marks
-  pub ended : s.reached.ended ≡ k.ended
+  pub asking_ended : s.reached.asking_ended ≡ k.asking_ended
   pub flushed : s.failure ≡ None → s.flushed ≡ joined s.reached.slots
   pub reader : InputStands client k s.reached.slots s.reached.rest
   pub output : OutputAt before k.sink k.output_ended s.reached.slots s.failure

@@ -4,12 +4,12 @@ use Rattle.std.specs.List.{AllByRecursion}
 use Rattle.std.specs.declared.io.ErrorKind.{ErrorKind}
 use Rattle.httpdate.specs.declared.date.HttpDate.{HttpDate}
 use Rattle.tiny_http_wire.specs.Device.{Feed, Sink, IsFront, StatesKind}
-use Rattle.tiny_http_message.specs.Pipeline.{Item, Asks, Refuses, Place, body_length_or_0, Pipeline}
-use Rattle.tiny_http_message.specs.BodyLeft.{LeftAt}
-use Rattle.tiny_http_message.specs.HeadReads.{place_after}
+use Rattle.tiny_http_message.specs.Pipeline.{Item, Asks, Refuses, Place, body_length_or_0, Pipeline, place_after}
+use Rattle.tiny_http_message.specs.BodyRemains.{RemainsAt}
 use Rattle.tiny_http_wire.specs.declared.device.Stop.TheVariants.{End}
 use Rattle.tiny_http_stream.specs.ToCome.{stopped}
-use Rattle.tiny_http_core.specs.Slots.{ResponseValue, Slot, is_finished, joined, is_output_broken, new_slot, rest_of, last_slot, last_is_open, is_last_slot, last_holds_reader, last_was_abandoned, turn_has_come, IsGathered, to_request}
+use Rattle.tiny_http_message.specs.ResponseValue.{ResponseValue}
+use Rattle.tiny_http_core.specs.Slots.{Slot, is_finished, joined, is_output_broken, new_slot, rest_of, last_slot, last_is_open, is_last_slot, last_holds_reader, last_was_abandoned, turn_has_come, IsGathered, to_request}
 use Rattle.tiny_http_core.specs.Steps.{StepValue, Ask, Read, Respond, ReplyValue, NoSuch, Memory, WriterUse, Unused, Unreported, Reported, use_in_turn, Outcome, Reached, outcome}
 
 -- the writer's first fault: its kind, and all that the writer took
@@ -51,15 +51,15 @@ MayFare Unused old slots (FailsWithin f) = ⊥
 MayFare Unused old slots (FailsAfter f) = ⊥
 MayFare Unreported old slots (FailsWithin f) = ⊥
 MayFare Unreported old slots (FailsAfter f) = FallsBetween old.flushed (joined slots) f
-MayFare (Reported own broken flushes tell) old slots (FailsWithin f) = FallsBetween old.flushed (joined old.reached.slots ++ own) f
-MayFare (Reported own None flushes tell) old slots (FailsAfter f) =
+MayFare (Reported own broken flushes report) old slots (FailsWithin f) = FallsBetween old.flushed (joined old.reached.slots ++ own) f
+MayFare (Reported own None flushes report) old slots (FailsAfter f) =
     (finished_front old.reached.slots + 1 < finished_front slots) × FallsBetween (joined old.reached.slots ++ own) (joined slots) f
-MayFare (Reported own (Some kind) flushes tell) old slots (FailsAfter f) = FallsBetween old.flushed (joined old.reached.slots ++ own) f
+MayFare (Reported own (Some kind) flushes report) old slots (FailsAfter f) = FallsBetween old.flushed (joined old.reached.slots ++ own) f
 
 -- the reply: the fault in the step's own text, or that of its data; else what was planned
 abbrev pub reply_in : WriterUse → ReplyValue → Fares → ReplyValue
-reply_in (Reported own broken flushes tell) planned (FailsWithin f) = tell f.kind
-reply_in (Reported own broken flushes tell) planned _ = unwrap_or (option_map tell broken) planned
+reply_in (Reported own broken flushes report) planned (FailsWithin f) = report f.kind
+reply_in (Reported own broken flushes report) planned _ = unwrap_or (option_map report broken) planned
 reply_in _ planned _ = planned
 
 abbrev pub failure_in : Fares → Option Failure
@@ -82,14 +82,14 @@ WriterPart writer old planned slots reply failure =
 abbrev pub flushes : WriterUse → Bool
 flushes Unused = false
 flushes Unreported = true
-flushes (Reported own broken flushed tell) = flushed
+flushes (Reported own broken flushed report) = flushed
 
 -- what has been flushed after a step
 abbrev pub flushed_after : WriterUse → State → List Slot → List ℕ
 flushed_after writer old slots = if (flushes writer && not (is_silent writer old)) then joined slots else old.flushed
 
 abbrev pub reached_by : Outcome → Reached
-reached_by o = record { slots = o.slots; rest = o.rest; ended = o.ended }
+reached_by o = record { slots = o.slots; rest = o.rest; asking_ended = o.asking_ended }
 
 -- the step has this outcome
 abbrev pub HasOutcome : Outcome → State → ReplyValue → State → Type 0
@@ -124,11 +124,11 @@ answers_to slots (item ∷ refused) = use_in_turn (turn_has_come (length slots) 
 abbrev pub FindsNoMemory : HttpDate → State → StepValue → ReplyValue → State → Type 0
 FindsNoMemory date old (Read k n) reply new = 0 < n × ((outcome true date old.reached (Read k n)).reply ≡ NoSuch → ⊥) × (reply ≡ Memory) × (new ≡ old)
 FindsNoMemory date old Ask reply new =
-    (old.reached.ended ≡ false) × (is_last_slot (last_slot old.reached.slots) ≡ false) × (last_holds_reader (last_slot old.reached.slots) ≡ false)
+    (old.reached.asking_ended ≡ false) × (is_last_slot (last_slot old.reached.slots) ≡ false) × (last_holds_reader (last_slot old.reached.slots) ≡ false)
     × (last_was_abandoned (last_slot old.reached.slots) ≡ false)
     × (refused : List Item) × (rest : List Item) × (old.reached.rest ≡ refused ++ rest) × AllByRecursion IsPassedOver refused
     × (let slots = old.reached.slots ++ map (new_slot date) refused in
-    HasOutcome (record { reply = Memory; slots = slots; rest = rest; ended = true; writer = answers_to old.reached.slots refused }) old reply new)
+    HasOutcome (record { reply = Memory; slots = slots; rest = rest; asking_ended = true; writer = answers_to old.reached.slots refused }) old reply new)
 FindsNoMemory date old _ reply new = ⊥
 
 -- One step on a date may be answered so and leave this.
@@ -150,7 +150,7 @@ Run old (s ∷ steps) [] new = ⊥
 
 -- nothing is reached of a pipeline
 abbrev pub start_state : List Item → State
-start_state items = record { reached = record { slots = []; rest = items; ended = false }; flushed = []; failure = None }
+start_state items = record { reached = record { slots = []; rest = items; asking_ended = false }; flushed = []; failure = None }
 
 -- The output: what the writer took and what is held are the joined segments, it took all that was flushed, it did not fail, and
 -- the output has ended exactly if one of them broke off. Or the writer failed once: it states that kind and those bytes,
@@ -169,35 +169,35 @@ PlaceAt false (Some f) rest = Pipeline (Some f.bytes) f.stop rest
 
 -- The input stands within this number's body: what is left of the body comes next, and after it what the pipeline still has.
 abbrev pub WithinBody : Slot → Item → Feed → List Item → Type 0
-WithinBody s (Asks r) left rest =
-    (next : Place) × LeftAt r.framing.form (body_length_or_0 r.framing - s.given) left.bytes left.stop (rest_of r s.given) next
-    × Pipeline (place_after r.framing.is_last next) left.stop rest
-WithinBody s (Refuses refusal version withheld last) left rest = ⊥
+WithinBody s (Asks r) feed rest =
+    (next : Place) × RemainsAt r.framing.form (body_length_or_0 r.framing - s.given) feed.bytes feed.stop (rest_of r s.given) next
+    × Pipeline (place_after r.framing.is_last next) feed.stop rest
+WithinBody s (Refuses refusal version withheld last) feed rest = ⊥
 
 abbrev pub WithinLast : Option Slot → Option Feed → List Item → Type 0
-WithinLast (Some s) (Some left) rest = WithinBody s s.item left rest
+WithinLast (Some s) (Some feed) rest = WithinBody s s.item feed rest
 WithinLast _ _ rest = ⊥
 
 -- How the input stands while the asking goes on: it has ended after a chunked body that was given up before its end; it
 -- stands within the last body, while that is open; else what the bytes still ask is the rest of the pipeline.
 abbrev pub InputAt : Reached → Option Feed → Type 0
-InputAt old left =
-    MatchBool old.ended (Unit {0})
-    (MatchBool (last_was_abandoned (last_slot old.slots)) (left ≡ Some (stopped End))
-    (MatchBool (last_is_open (last_slot old.slots)) (WithinLast (last_slot old.slots) left old.rest) (PlaceAt (is_last_slot (last_slot old.slots)) left old.rest)))
+InputAt old feed =
+    MatchBool old.asking_ended (Unit {0})
+    (MatchBool (last_was_abandoned (last_slot old.slots)) (feed ≡ Some (stopped End))
+    (MatchBool (last_is_open (last_slot old.slots)) (WithinLast (last_slot old.slots) feed old.rest) (PlaceAt (is_last_slot (last_slot old.slots)) feed old.rest)))
 
 -- THE CONNECTION THEOREM: replies and output are those of a run over the pipeline that stands in the feed; and this of the
 -- feed is left.
-pub record IsConversation (feed : Feed) (before : Sink) (steps : List TimedValue) (replies : List ReplyValue) (after : Sink) (held : List ℕ) (ended : Bool) (left : Option Feed) : Type 0 where
+pub record IsConversation (feed : Feed) (before : Sink) (steps : List TimedValue) (replies : List ReplyValue) (after : Sink) (held : List ℕ) (ended : Bool) (unread : Option Feed) : Type 0 where
   pub items : List Item
   pub end : State
   pub pipeline : Pipeline (Some feed.bytes) feed.stop items
   pub run : Run (start_state items) steps replies end
   pub output : IsOutput end.reached.slots end.flushed end.failure before after held ended
-  pub input : InputAt end.reached left
+  pub input : InputAt end.reached unread
 
 -- the writer as a run takes it: it states that it took no bytes, it has not ended, and its count can rise
 pub record IsFresh (sink : Sink) : Type 0 where
   pub no_bytes : sink.taken ≡ Some []
-  pub goes_on : sink.has_ended ≡ false
+  pub unended : sink.has_ended ≡ false
   pub can_count : sink.failures < 2 ^ 64 - 1

@@ -48,10 +48,10 @@ LeavesText in_turn front rest marks text was old new ended =
     ((marks ≡ front ++ (Left text ∷ rest)) × AreInShape marks × (new ≡ old) × (ended ≡ was))
 
 -- what is kept of the request of a number that waits for its answer
-abbrev pub waiting_form : Option (Option Waiting) → Option AnswerForm
-waiting_form None = None
-waiting_form (Some None) = None
-waiting_form (Some (Some w)) = Some w.form
+abbrev pub waiting_answer_form : Option (Option Waiting) → Option AnswerForm
+waiting_answer_form None = None
+waiting_answer_form (Some None) = None
+waiting_answer_form (Some (Some w)) = Some w.answer_form
 
 -- the body of the last of these, if that waits
 abbrev pub last_body : List (Option Waiting) → Option Body

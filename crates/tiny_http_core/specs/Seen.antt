@@ -13,7 +13,7 @@ use Rattle.tiny_http_message.specs.declared.waiting.AnswerForm.{AnswerForm}
 use Rattle.tiny_http_core.specs.declared.driver.Reply.{Reply}
 use Rattle.tiny_http_core.specs.declared.driver.Reply.TheVariants as reply
 use Rattle.tiny_http_message.specs.HeadReads.{head_message, head_framing}
-use Rattle.tiny_http_core.specs.Slots.{ResponseValue}
+use Rattle.tiny_http_message.specs.ResponseValue.{ResponseValue}
 use Rattle.tiny_http_core.specs.Steps.{StepValue, Ask, Read, Respond, Drop, ReplyValue, Handed, Ended, Given, Fault, NotYet, Done, Refused, NoSuch, Memory, fault_of_answer}
 use Rattle.tiny_http_core.specs.Conversation.{TimedValue}
 use Rattle.tiny_http_core.specs.Sending.{Sends, IsFlushed, IsHonest, FailsAtMostOnce}
@@ -67,9 +67,9 @@ ReportHonestly feed old [] (r ∷ replies) new = ⊥
 ReportHonestly feed old (t ∷ steps) [] new = ⊥
 
 -- how an answer to a request of this form is printed; the headers, by which the coding will be chosen, are the request's
-pub record PrintedFor (form : AnswerForm) (date : HttpDate) (p : Printing) : Type 0 where
-  pub version : p.version ≡ form.version
-  pub no_body : p.no_body ≡ form.no_body
+pub record PrintedFor (answer_form : AnswerForm) (date : HttpDate) (p : Printing) : Type 0 where
+  pub version : p.version ≡ answer_form.version
+  pub no_body : p.no_body ≡ answer_form.no_body
   pub no_upgrade : p.upgrade ≡ None
   pub dated : p.date ≡ date
 

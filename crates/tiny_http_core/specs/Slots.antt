@@ -3,20 +3,15 @@ use Rattle.std.specs.Prelude.{◌≡◌, ℕ, Bool, true, false, not, ◌&&◌, 
 use Rattle.std.specs.List.{list_all, last_or}
 use Rattle.std.specs.declared.io.ErrorKind.TheVariants.{OutOfMemory}
 use Rattle.httpdate.specs.declared.date.HttpDate.{HttpDate}
-use Rattle.tiny_http_wire.specs.declared.common.Header.{Header}
 use Rattle.tiny_http_wire.specs.declared.coding.Coding.TheVariants as coding
-use Rattle.tiny_http_wire.specs.Device.{Feed, ending}
-use Rattle.tiny_http_wire.specs.Answer.{Answer, Text, Ending, Whole, Broken, Printing, text_of, served_coding, prepend_text, whole, nothing_sent}
+use Rattle.tiny_http_wire.specs.Device.{Feed}
+use Rattle.tiny_http_wire.specs.Answer.{Answer, Text, Ending, Whole, Broken, Printing, text_plain, served_coding, prepend_text, whole, nothing_sent}
 use Rattle.tiny_http_message.specs.declared.framing.Form.{Form}
 use Rattle.tiny_http_message.specs.declared.framing.Form.TheVariants.{Rest, Nothing, WithHead, Counted, Chunked}
 use Rattle.tiny_http_message.specs.Pipeline.{Item, Asks, Refuses, Refusal, VersionNotSupported, refusal_status, Request, is_head_method, body_length_or_0}
+use Rattle.tiny_http_message.specs.ResponseValue.{ResponseValue, response_of, response_text, printing_to}
 use Rattle.tiny_http_message.specs.OwnAnswer.{own_printing}
 use Rattle.tiny_http_message.specs.Body.{body_finished}
-
--- a response: the answer, and what its data give
-pub record ResponseValue : Type 0 where
-  pub answer : Answer
-  pub content : Feed
 
 -- what became of a number
 pub data Stage : Type 0 where
@@ -40,37 +35,29 @@ pub record Slot : Type 0 where
   pub continued : Option HttpDate
   pub owed : Bool
   pub given : ℕ
-  pub told : Bool
+  pub end_reported : Bool
   pub given_up : Bool
   pub stage : Stage
-
--- an answer of the server's own: an empty one, or a text
-abbrev pub own_response : ℕ → List Header → List ℕ → ResponseValue
-own_response status headers text =
-    record { answer = record { status = status; headers = headers; length = Some (length text); threshold = 32768 }; content = ending text }
 
 abbrev pub too_new_text : List ℕ
 too_new_text = codes "This server only supports HTTP versions 1.0 and 1.1"
 
-abbrev pub text_type : List Header
-text_type = record { field = codes "Content-Type"; value = codes "text/plain; charset=UTF-8" } ∷ []
-
 -- what a refused head is answered: a text for a version that is too new, else nothing but the status
 abbrev pub refusal_response : Refusal → ResponseValue
-refusal_response VersionNotSupported = own_response (refusal_status VersionNotSupported) text_type too_new_text
-refusal_response refusal = own_response (refusal_status refusal) [] []
+refusal_response VersionNotSupported = response_of (refusal_status VersionNotSupported) (text_plain ∷ []) too_new_text
+refusal_response refusal = response_of (refusal_status refusal) [] []
 
 -- what a dropped request is answered
 abbrev pub drop_response : ResponseValue
-drop_response = own_response 500 [] []
+drop_response = response_of 500 [] []
 
 -- the 100 of a request that expects it
 abbrev pub continue_response : ResponseValue
-continue_response = own_response 100 [] []
+continue_response = response_of 100 [] []
 
 -- an answer to a request: in its version, by its headers, without a body for HEAD
 abbrev pub to_request : Request → HttpDate → Printing
-to_request r date = record { version = r.message.version; request_headers = r.message.headers; no_body = is_head_method r.message.method; upgrade = None; date = date }
+to_request r date = printing_to r.message.headers r.message.version (is_head_method r.message.method) date
 
 -- how an answer under an item is printed
 abbrev pub printing_for : Item → HttpDate → Printing
@@ -80,9 +67,6 @@ printing_for (Refuses refusal version withheld last) date = own_printing version
 abbrev pub server_response : Item → ResponseValue
 server_response (Asks r) = drop_response
 server_response (Refuses refusal version withheld last) = refusal_response refusal
-
-abbrev pub response_text : ResponseValue → Printing → Text
-response_text r p = text_of r.answer r.content p
 
 -- the text of a response; no byte where its data had to be read whole first and no memory was found
 abbrev pub text_if : Bool → ResponseValue → Printing → Text
@@ -149,20 +133,16 @@ is_output_broken (s ∷ slots) = is_slot_broken s || (is_finished s && is_output
 -- the slot of an item that is reached
 abbrev pub new_slot : HttpDate → Item → Slot
 new_slot date (Asks r) =
-    record { item = Asks r; date = date; continued = None; owed = r.framing.owes_continue; given = 0; told = false; given_up = false; stage = Unanswered }
+    record { item = Asks r; date = date; continued = None; owed = r.framing.owes_continue; given = 0; end_reported = false; given_up = false; stage = Unanswered }
 new_slot date (Refuses refusal version withheld last) =
-    record { item = Refuses refusal version withheld last; date = date; continued = None; owed = false; given = 0; told = false; given_up = true; stage = ByServer }
-
--- the bytes that the body's reader still has
-abbrev pub body_left : Slot → Request → List ℕ
-body_left s r = drop s.given r.body.bytes
+    record { item = Refuses refusal version withheld last; date = date; continued = None; owed = false; given = 0; end_reported = false; given_up = true; stage = ByServer }
 
 -- what is left of a request's body
 abbrev pub rest_of : Request → ℕ → Feed
 rest_of r given = record { bytes = drop given r.body.bytes; stop = r.body.stop }
 
 abbrev pub is_body_finished : Request → Slot → Bool
-is_body_finished r s = body_finished r.framing.form (body_length_or_0 r.framing) s.given s.told
+is_body_finished r s = body_finished r.framing.form (body_length_or_0 r.framing) s.given s.end_reported
 
 -- forms whose body is read from the stream, up to where the next head begins, or to its end
 abbrev pub is_form_streamed : Form → Bool
@@ -188,7 +168,7 @@ is_chunked _ = false
 
 -- a chunked body was given up before its end was reported: where the next head begins isn't known
 abbrev pub body_was_abandoned : Slot → Item → Bool
-body_was_abandoned s (Asks r) = is_chunked r.framing.form && (s.given_up && not s.told)
+body_was_abandoned s (Asks r) = is_chunked r.framing.form && (s.given_up && not s.end_reported)
 body_was_abandoned s (Refuses refusal version withheld last) = false
 
 abbrev pub last_slot : List Slot → Option Slot

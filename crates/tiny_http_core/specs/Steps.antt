@@ -11,7 +11,8 @@ use Rattle.tiny_http_wire.specs.Heads.{Message}
 use Rattle.tiny_http_wire.specs.Answer.{Ending, Whole, Broken}
 use Rattle.tiny_http_message.specs.declared.framing.Framing.{Framing}
 use Rattle.tiny_http_message.specs.Pipeline.{Item, Asks, Refuses, Request}
-use Rattle.tiny_http_core.specs.Slots.{ResponseValue, Slot, Stage, Unanswered, Answered, ByServer, Raw, Upgraded, turn_has_come, to_request, text_if, new_slot, body_left, last_slot, last_holds_reader, last_was_abandoned}
+use Rattle.tiny_http_message.specs.ResponseValue.{ResponseValue}
+use Rattle.tiny_http_core.specs.Slots.{Slot, Stage, Unanswered, Answered, ByServer, Raw, Upgraded, turn_has_come, to_request, text_if, new_slot, last_slot, last_holds_reader, last_was_abandoned}
 
 -- a step, with its response as a value
 pub data StepValue : Type 0 where
@@ -55,34 +56,34 @@ fault_of_answer kind = if is_closed_client kind then Done else Fault kind
 pub data WriterUse : Type 0 where
   Unused : WriterUse
   Unreported : WriterUse
-  Reported : (own : List ℕ) (broken : Option ErrorKind) (flushes : Bool) (tell : ErrorKind → ReplyValue) → WriterUse
+  Reported : (own : List ℕ) (broken : Option ErrorKind) (flushes : Bool) (report : ErrorKind → ReplyValue) → WriterUse
 
 -- What a step answers and leaves, so far as the writer has no say in it.
 pub record Outcome : Type 0 where
   pub reply : ReplyValue
   pub slots : List Slot
   pub rest : List Item
-  pub ended : Bool
+  pub asking_ended : Bool
   pub writer : WriterUse
 
 -- What is reached of a pipeline, what isn't yet, and whether the asking has ended.
 pub record Reached : Type 0 where
   pub slots : List Slot
   pub rest : List Item
-  pub ended : Bool
+  pub asking_ended : Bool
 
 abbrev pub unchanged : Reached → ReplyValue → Outcome
-unchanged old reply = record { reply = reply; slots = old.slots; rest = old.rest; ended = old.ended; writer = Unused }
+unchanged old reply = record { reply = reply; slots = old.slots; rest = old.rest; asking_ended = old.asking_ended; writer = Unused }
 
 -- the step changes one slot
 abbrev pub changes : Reached → ℕ → Slot → ReplyValue → WriterUse → Outcome
-changes old k s reply writer = record { reply = reply; slots = slice_set old.slots k s; rest = old.rest; ended = old.ended; writer = writer }
+changes old k s reply writer = record { reply = reply; slots = slice_set old.slots k s; rest = old.rest; asking_ended = old.asking_ended; writer = writer }
 
 -- an Ask goes to the next request, past the refused heads before it
 abbrev pub asks_from : HttpDate → WriterUse → List Slot → List Item → Outcome
-asks_from date writer slots [] = record { reply = Ended; slots = slots; rest = []; ended = true; writer = writer }
+asks_from date writer slots [] = record { reply = Ended; slots = slots; rest = []; asking_ended = true; writer = writer }
 asks_from date writer slots (Asks r ∷ items) =
-    record { reply = Handed (length slots) r.message r.framing; slots = slots ++ new_slot date (Asks r) ∷ []; rest = items; ended = false; writer = writer }
+    record { reply = Handed (length slots) r.message r.framing; slots = slots ++ new_slot date (Asks r) ∷ []; rest = items; asking_ended = false; writer = writer }
 asks_from date writer slots (Refuses refusal version withheld last ∷ items) =
     asks_from date (if turn_has_come (length slots) slots then Unreported else writer) (slots ++ new_slot date (Refuses refusal version withheld last) ∷ []) items
 
@@ -90,9 +91,9 @@ asks_from date writer slots (Refuses refusal version withheld last ∷ items) =
 -- body that was given up before its end; else the next request of the pipeline, or its end.
 abbrev pub ask : HttpDate → Reached → Outcome
 ask date old =
-    if old.ended then unchanged old Ended else
+    if old.asking_ended then unchanged old Ended else
     if last_holds_reader (last_slot old.slots) then unchanged old NotYet else
-    if last_was_abandoned (last_slot old.slots) then record { reply = Ended; slots = old.slots; rest = old.rest; ended = true; writer = Unused } else
+    if last_was_abandoned (last_slot old.slots) then record { reply = Ended; slots = old.slots; rest = old.rest; asking_ended = true; writer = Unused } else
     asks_from date Unused old.slots old.rest
 
 -- the bytes that a read gives, or how the body closes
@@ -105,8 +106,8 @@ read_reply n [] close = close_reply close
 read_reply n (b ∷ left) close = Given (take n (b ∷ left))
 
 -- the number ends so, and its body is given up
-abbrev pub finished : Slot → Stage → Slot
-finished s stage = record s { stage = stage; given_up = true; owed = false }
+abbrev pub finished_as : Slot → Stage → Slot
+finished_as s stage = record s { stage = stage; given_up = true; owed = false }
 
 -- more bytes were written, or the stream ends
 abbrev pub written_to : List ℕ → Stage → Stage
@@ -164,20 +165,20 @@ effect found date old r s turn (AsReader k) =
     if s.owed then changes old k (record s { owed = false; continued = Some date }) Done Unreported else unchanged old Done
 effect found date old r s turn (Read k n) =
     if n == 0 then unchanged old (Given [])
-    else changes old k (record s { given = s.given + length (take n (body_left s r)); told = s.told || nat_lt (length (body_left s r)) n })
-    (read_reply n (body_left s r) r.body.stop) Unused
+    else changes old k (record s { given = s.given + length (take n (rest_of r s.given).bytes); end_reported = s.end_reported || nat_lt (length (rest_of r s.given).bytes) n })
+    (read_reply n (rest_of r s.given).bytes r.body.stop) Unused
 effect found date old r s turn (Respond k response) =
     let text = text_if found response (to_request r date) in
-    changes old k (finished s (Answered response date found)) Done (Reported text.bytes (fault_in text.ending) true fault_of_answer)
+    changes old k (finished_as s (Answered response date found)) Done (Reported text.bytes (fault_in text.ending) true fault_of_answer)
 effect found date old r s turn (IntoWriter k) = changes old k (record s { stage = Raw [] false; given_up = true; owed = false }) Done Unused
 effect found date old r s turn (Write k bytes) = changes old k (record s { stage = written_to bytes s.stage }) Done (Reported bytes None false Fault)
 effect found date old r s turn (Flush k) = changes old k s Done (Reported [] None true Fault)
 effect found date old r s turn (Upgrade k protocol response) =
     if list_all is_ascii protocol
     then changes old k (record s { stage = Upgraded protocol response date [] false; owed = false }) Done Unreported
-    else changes old k (finished s ByServer) Refused (use_in_turn turn)
-effect found date old r s turn (Finish k) = changes old k (finished s (stage_closed s.stage)) Done (use_in_turn turn)
-effect found date old r s turn (Drop k) = changes old k (finished s ByServer) Done (use_in_turn turn)
+    else changes old k (finished_as s ByServer) Refused (use_in_turn turn)
+effect found date old r s turn (Finish k) = changes old k (finished_as s (stage_closed s.stage)) Done (use_in_turn turn)
+effect found date old r s turn (Drop k) = changes old k (finished_as s ByServer) Done (use_in_turn turn)
 effect found date old r s turn Ask = unchanged old NoSuch
 
 abbrev pub at_item : Bool → HttpDate → Reached → ℕ → StepValue → Slot → Item → Outcome

@@ -3,14 +3,14 @@ ghost use Rattle.std.specs.Prelude.{◌≡◌, ◌-◌, ◌<◌, ◌^◌, true, 
 ghost use Rattle.std.specs.List.{AllZip};
 ghost use Rattle.tiny_http_wire.specs.Device.{Feed, Sink, HoldsNothing};
 ghost use Rattle.tiny_http_wire.specs.Answer.{Printing, served_coding};
-ghost use Rattle.tiny_http_core.specs.Slots.{ResponseValue};
+ghost use Rattle.tiny_http_message.specs.ResponseValue.{ResponseValue};
 ghost use Rattle.tiny_http_message.specs.Pipeline.{Item, Pipeline};
 ghost use Rattle.tiny_http_core.specs.Conversation.{IsConversation, IsFresh, TimedValue};
 ghost use Rattle.httpdate.specs.declared.date.HttpDate.{HttpDate as Date};
 ghost use Rattle.tiny_http_core.specs.Steps.{ReplyValue, Done, Fault, is_closed_client, fault_of_answer};
 ghost use Rattle.std.specs.declared.io.ErrorKind.{ErrorKind};
 ghost use Rattle.tiny_http_stream.specs.Source.{GoesOn};
-ghost use Rattle.tiny_http_core.specs.Pending.{waiting_form};
+ghost use Rattle.tiny_http_core.specs.Pending.{waiting_answer_form};
 ghost use Rattle.tiny_http_core.specs.Driving.{HasDone, TakesStep, stated_response, stated_step};
 ghost use Rattle.tiny_http_core.specs.Seen.{seen, Answers, IsAnswered, PrintedFor, IsResponse, IsTimedStep, ReportsHonestly, ReportHonestly};
 ghost use Rattle.tiny_http_stream.specs.Outlet.{output_of, outlet_ended, outlet_held, outlet_writer, SentOn};
@@ -151,24 +151,24 @@ fn answer<W: WriteDevice, D: ReadDevice + Drop>(
     alloc: Global,
     outlet: &mut Outlet<W>,
     response: Response<D>,
-    form: AnswerForm,
+    answer_form: AnswerForm,
     now: HttpDate,
 ) -> Reply
     ensures past { outlet_ended outlet.old ≡ true → (outlet.new ≡ outlet.old) × (seen result ≡ Done) }
     ensures sends { (content : Feed) → D.feed response.data_reader ≡ Some content → length content.bytes < 2 ^ 63
-        → outlet_ended outlet.old ≡ false → CanSend (output_of outlet.old) → (p : Printing) → PrintedFor form now p
+        → outlet_ended outlet.old ≡ false → CanSend (output_of outlet.old) → (p : Printing) → PrintedFor answer_form now p
         → Answers (output_of outlet.old) (output_of outlet.new) (outlet_ended outlet.new) (seen result) response.answer content p }
     ensures fails_once { FailsOnceUnlessEnded (outlet_ended outlet.old) (output_of outlet.old) (output_of outlet.new) (outlet_ended outlet.new) }
     ensures flushed { outlet_held outlet.old ≡ [] → outlet_held outlet.new ≡ [] }
     ensures sent_on { SentOn outlet.old → SentOn outlet.new }
     ensures done { IsAnswered (seen result) }
     ensures honest { (kind : ErrorKind) → seen result ≡ Fault kind → (outlet_ended outlet.new ≡ true)
-        × ((p : Printing) → PrintedFor form now p → IsHonest (output_of outlet.old) (output_of outlet.new) (served_coding response.answer p) response.answer.length (D.feed response.data_reader) kind) }
+        × ((p : Printing) → PrintedFor answer_form now p → IsHonest (output_of outlet.old) (output_of outlet.new) (served_coding response.answer p) response.answer.length (D.feed response.data_reader) kind) }
 {
     if outlet.is_ended() {
         return Reply::Done;
     }
-    match send(alloc, outlet, response, form, now) {
+    match send(alloc, outlet, response, answer_form, now) {
         Ok(()) => Reply::Done,
         Err(fault) => Reply::fault_of_answer(fault.kind()),
     }
@@ -189,7 +189,7 @@ impl<R: ReadDevice, W: WriteDevice> Connection<R, W> {
         ensures begins { (client : Feed) → R.feed reader ≡ Some client → IsFresh (W.sink writer) → HasDone client (W.sink writer) result [] [] }
         ensures open { (result.end ≡ None) × (result.requests ≡ []) }
         ensures source { (result.source.feed ≡ R.feed reader) × (result.source.standing ≡ Standing.Head) }
-        ensures outlet { result.outlet ≡ record { held = []; ended = false; writer = writer; tells = W.sink writer } }
+        ensures outlet { result.outlet ≡ record { held = []; ended = false; writer = writer; sink = W.sink writer } }
     {
         Connection {
             source: Source::new(reader),
@@ -215,9 +215,9 @@ impl<R: ReadDevice, W: WriteDevice> Connection<R, W> {
 
     /// Whether the request of this number waits for its answer.
     pub fn is_open(&self, number: u64) -> bool
-        ensures { result ≡ is_some (waiting_form (slice_get self.now.requests number)) }
+        ensures { result ≡ is_some (waiting_answer_form (slice_get self.now.requests number)) }
     {
-        self.pending.form_at(number).is_some()
+        self.pending.answer_form_at(number).is_some()
     }
 
     /// Goes to the next request, and hands it out with its number: `Handed`. It is `NotYet` while the body of the last request
@@ -277,7 +277,7 @@ impl<R: ReadDevice, W: WriteDevice> Connection<R, W> {
     pub fn read(&mut self, alloc: Global, number: u64, count: u16) -> Reply
         ensures step { (date : Date) → TakesStep self.old self.new date (Step.Read number count) (seen result) }
     {
-        let Some(_) = self.pending.form_at(number) else {
+        let Some(_) = self.pending.answer_form_at(number) else {
             return Reply::NoSuch;
         };
         if count == 0 {
@@ -333,13 +333,13 @@ impl<R: ReadDevice, W: WriteDevice> Connection<R, W> {
     ) -> Reply
         ensures step { TakesStep self.old self.new now (Step.Respond number (stated_response D.feed response)) (seen result) }
     {
-        let Some(form) = self.pending.form_at(number) else {
+        let Some(answer_form) = self.pending.answer_form_at(number) else {
             return Reply::NoSuch;
         };
         if !self.pending.hold(number) {
             return Reply::NotYet;
         }
-        let reply = answer(alloc, &mut self.outlet, response, form, now);
+        let reply = answer(alloc, &mut self.outlet, response, answer_form, now);
         self.pending.pass(&mut self.outlet, number);
         if let Some(Waiting { mut body, .. }) = self.pending.take(number) {
             body.give_up(&mut self.source);
@@ -367,9 +367,9 @@ impl<R: ReadDevice, W: WriteDevice> Connection<R, W> {
             → IsConversation client before steps replies (W.sink (outlet_writer result.1)) (outlet_held result.1) (outlet_ended result.1) result.0.feed }
         ensures source { result.0 ≡ self.source }
         ensures outlet { result.1 ≡ self.outlet }
-        ensures tells { result.1.tells ≡ W.sink (outlet_writer result.1) }
+        ensures sink { result.1.sink ≡ W.sink (outlet_writer result.1) }
     {
-        self.outlet.tell();
+        self.outlet.facts();
         (self.source, self.outlet)
     }
 }

@@ -6,7 +6,7 @@ ghost use Rattle.tiny_http_core.specs.Sending.{CanSend, IsFlushed, SendsUnlessEn
 ghost use Rattle.tiny_http_message.specs.declared.body.Body.{Body};
 ghost use Rattle.tiny_http_stream.specs.Source.{GoesOn};
 ghost use Rattle.tiny_http_message.specs.Body.{is_streaming, body_standing, FillsFromBody};
-ghost use Rattle.tiny_http_core.specs.Pending.{left_text, SendsLeft, FinishesFront, LeavesText, waiting_form};
+ghost use Rattle.tiny_http_core.specs.Pending.{left_text, SendsLeft, FinishesFront, LeavesText, waiting_answer_form};
 
 use crate::sending::{flush_quietly, write_quietly};
 use std::alloc::Global;
@@ -73,11 +73,11 @@ impl Pending {
     }
 
     /// How the answer of this number is printed, if it waits for it.
-    pub fn form_at(&self, number: u64) -> Option<AnswerForm>
-        ensures { result ≡ waiting_form (slice_get self.now.requests.items number) }
+    pub fn answer_form_at(&self, number: u64) -> Option<AnswerForm>
+        ensures { result ≡ waiting_answer_form (slice_get self.now.requests.items number) }
     {
         match self.requests.get(number as usize) {
-            Some(Some(waiting)) => Some(waiting.form),
+            Some(Some(waiting)) => Some(waiting.answer_form),
             _ => None,
         }
     }
@@ -110,7 +110,7 @@ impl Pending {
     pub fn take(&mut self, number: u64) -> Option<Waiting>
         ensures some { IfSome result (λ w. (slice_get self.old.requests.items number ≡ Some (Some w))
             × (self.new.requests.items ≡ slice_set self.old.requests.items number None)) }
-        ensures none { IfNone result ((waiting_form (slice_get self.old.requests.items number) ≡ None) × (self.new.requests.items ≡ self.old.requests.items)) }
+        ensures none { IfNone result ((waiting_answer_form (slice_get self.old.requests.items number) ≡ None) × (self.new.requests.items ≡ self.old.requests.items)) }
         ensures turns { self.new.turns ≡ self.old.turns }
     {
         let entry = self.requests.get_mut(number as usize)?;

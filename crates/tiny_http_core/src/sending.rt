@@ -38,21 +38,21 @@ pub(crate) fn send<W: WriteDevice, D: ReadDevice + Drop>(
     alloc: Global,
     outlet: &mut Outlet<W>,
     response: Response<D>,
-    form: AnswerForm,
+    answer_form: AnswerForm,
     now: HttpDate,
 ) -> Result<(), io::Error>
     ensures sends { (content : Feed) → D.feed response.data_reader ≡ Some content → length content.bytes < 2 ^ 63
-        → CanSend (output_of outlet.old) → (p : Printing) → PrintedFor form now p
+        → CanSend (output_of outlet.old) → (p : Printing) → PrintedFor answer_form now p
         → Sends (output_of outlet.old) (output_of outlet.new) (outlet_ended outlet.new) result response.answer content p }
     ensures fails_once { FailsOnce (output_of outlet.old) (output_of outlet.new) (outlet_ended outlet.new) }
-    ensures honest { IfErr result (λ e. (p : Printing) → PrintedFor form now p
+    ensures honest { IfErr result (λ e. (p : Printing) → PrintedFor answer_form now p
         → IsHonest (output_of outlet.old) (output_of outlet.new) (served_coding response.answer p) response.answer.length (D.feed response.data_reader) (error_kind e)) }
     ensures ended { OnErr result (outlet_ended outlet.new ≡ true) }
     ensures flushed { outlet_held outlet.new ≡ [] }
     ensures sent_on { SentOn outlet.new }
 {
     let failures = outlet.failures();
-    let printed = response.raw_print(alloc, outlet, form.version, &[], form.no_body, None, now);
+    let printed = response.raw_print(alloc, outlet, answer_form.version, &[], answer_form.no_body, None, now);
     if let Err(fault) = printed {
         end_behind_fault(outlet, failures);
         return Err(fault);

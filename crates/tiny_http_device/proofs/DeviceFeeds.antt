@@ -1,6 +1,8 @@
 -- Lemmas on what readers give and writers take.
-use Rattle.std.proofs.Common.{◌≡◌, ℕ, ◌+◌, ◌-◌, List, ◌++◌, length, take, drop, None, Some, Option, refl, sym, ap, ◌∙◌, arith, append_assoc}
+use Rattle.std.proofs.Common.{◌≡◌, ℕ, ◌+◌, ◌-◌, Bool, true, false, List, [], ◌++◌, length, take, drop, None, Some, Option, refl, sym, ap, ◌∙◌, arith, append_assoc}
 use Rattle.std.proofs.lemmas.List.{take-append-drop, drop-drop}
+use Rattle.std.specs.Prelude.{nat_lt}
+use Rattle.std.proofs.lemmas.Bool.{ltb-true, ltb-false, lt-ltb, le-ltb}
 use Rattle.std.proofs.lemmas.Slice.{between_to_end}
 use Rattle.tiny_http_device.specs.declared.device.Stop.{Stop}
 use Rattle.std.specs.Io.KnownBytes.{append_known}
@@ -34,3 +36,13 @@ append_known-append (Some xs) a b = ap Some (append_assoc xs a b)
 -- a front of some bytes is a front of more
 pub front-more : (new whole : Option (List ℕ)) (more : List ℕ) → IsKnownFront new whole → IsKnownFront new (append_known whole more)
 front-more new whole more (rest, e) = (rest ++ more, ap (λ k. append_known k more) e ∙ append_known-append new rest more)
+
+-- nothing prepended changes nothing
+pub prepended-nothing : (f : Option Feed) → f ≡ prepended [] f
+prepended-nothing None = refl
+prepended-nothing (Some f) = refl
+
+-- what is the case of two numbers is so of both with the same more
+pub lt-shift : (a b c : ℕ) (t : Bool) → nat_lt b c ≡ t → nat_lt (a + b) (a + c) ≡ t
+lt-shift a b c true e = let h = ltb-true b c e in lt-ltb (a + b) (a + c) (omega arith)
+lt-shift a b c false e = let h = ltb-false b c e in le-ltb (a + b) (a + c) (omega arith)

@@ -9,8 +9,9 @@ use Rattle.std.specs.List.{flat_map}
 use Rattle.std.proofs.lemmas.List.Concat.{flat_map-append, flat_map-cons}
 use Rattle.std.proofs.lemmas.List.{append-nil, take-append-drop, take-take, take_more}
 use Rattle.tiny_http_device.specs.Device.{Sink, grown, IsFront, IsKnownFront, Took, Failed, Puts}
+use Rattle.tiny_http_device.proofs.DeviceFeeds.{append_known-append}
 
-grown-nil : (ended : Bool) (known : Option (List ℕ)) → grown ended known [] ≡ known
+pub grown-nil : (ended : Bool) (known : Option (List ℕ)) → grown ended known [] ≡ known
 grown-nil true known = refl
 grown-nil false None = refl
 grown-nil false (Some xs) = ap Some (append-nil xs)
@@ -19,10 +20,6 @@ grown-append : (ended : Bool) (known : Option (List ℕ)) (s t : List ℕ) → g
 grown-append true known s t = refl
 grown-append false None s t = refl
 grown-append false (Some xs) s t = ap Some (append_assoc xs s t)
-
-append_known-append : (known : Option (List ℕ)) (s t : List ℕ) → append_known (append_known known s) t ≡ append_known known (s ++ t)
-append_known-append None s t = refl
-append_known-append (Some xs) s t = ap Some (append_assoc xs s t)
 
 IsFrontOf-append : (a known : Option (List ℕ)) (s t : List ℕ) → IsKnownFront a (append_known known s) → IsKnownFront a (append_known known (s ++ t))
 IsFrontOf-append a known s t h = (h.0 ++ t, sym (append_known-append known s t) ∙ ap (λ k. append_known k t) h.1 ∙ append_known-append a h.0 t)

@@ -115,7 +115,7 @@ grown false known bs = append_known known bs
 -- the kind that is stated, if one is, is this one
 abbrev pub StatesKind : Option ErrorKind → ErrorKind → Type 0
 StatesKind None kind = ⊤
-StatesKind (Some told) kind = told ≡ kind
+StatesKind (Some stated) kind = stated ≡ kind
 
 -- one failure more, up to the greatest number
 abbrev pub next_count : ℕ → ℕ

@@ -12,7 +12,7 @@ use Rattle.tiny_http_head.specs.declared.common.ParseError.TheVariants.{Refused,
 use Rattle.tiny_http_text.specs.Bytes.{is_blank, is_ascii, AreAscii, HasNo, parts, Trims, IsEmptyOrBegins, space, colon, trimmed}
 use Rattle.tiny_http_text.specs.Lines.{Line, has_crlf}
 use Rattle.tiny_http_head.specs.Heads.{method_of, version_of, RequestLine, HeaderLine, IsHeader, BeginsWithHeaderLines, Message, BeginsWithRequestHead, GrammarFault, Cut, NotAscii, Malformed, FaultyLine, FaultyHead, IsRequestLine, IsFieldOrEnd}
-use Rattle.tiny_http_head.specs.Reading.{front_while, line, three_parts, request_line, header_line, is_colon, FieldsRead, with_header, field_checked, field_at, field_in, fields, RequestHeadRead, Whole, Faulty, with_fields, start_checked, start_in, request_head_read}
+use Rattle.tiny_http_head.specs.HeadReading.{front_while, line, three_parts, request_line, header_line, is_colon, FieldsRead, with_header, field_checked, field_at, field_in, fields, RequestHeadRead, Whole, Faulty, with_fields, start_checked, start_in, request_head_read}
 use Rattle.tiny_http_head.proofs.LinesLemmas.{line-is, line-one, line-none}
 use Rattle.tiny_http_text.proofs.BytesLemmas.{not_true, trims-is, trims-one, ArePartsOf, parts-are, parts-word, parts-last}
 
@@ -240,7 +240,7 @@ fields-fewer bytes rest (h ∷ hs) f =
     let k = fields-fewer f.1 rest hs f.5 in
     let goal : suc (length hs) + length rest ≤ length bytes = omega arith in goal
 
-fewer_than : (n m k : ℕ) → n + m ≤ k → n < k + 1
+pub fewer_than : (n m k : ℕ) → n + m ≤ k → n < k + 1
 fewer_than n m k h = omega arith
 
 -- a head is read as it stands

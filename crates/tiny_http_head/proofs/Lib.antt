@@ -1,6 +1,6 @@
 pub mod LinesLemmas
 pub mod HeadsLemmas
-pub mod ReadingLemmas
+pub mod HeadReadingLemmas
 pub mod HeadsLengths
 pub mod FmtLemmas
 pub mod CommonLemmas

@@ -4,7 +4,7 @@ use Rattle.std.specs.Prelude.{◌==◌, option_map, MatchOption}
 use Rattle.std.proofs.Common.{eqb-true}
 use Rattle.tiny_http_text.specs.Bytes.{crlf}
 use Rattle.tiny_http_text.specs.Lines.{Line, has_crlf}
-use Rattle.tiny_http_head.specs.Reading.{line}
+use Rattle.tiny_http_head.specs.HeadReading.{line}
 
 pub both : (a b : Bool) → (a && b) ≡ true → (a ≡ true) × (b ≡ true)
 both true true h = (refl, refl)

@@ -1,4 +1,4 @@
 pub mod Common
 pub mod Number
 pub mod Heads
-pub mod Reading
+pub mod HeadReading

@@ -7,7 +7,7 @@ ghost use Rattle.std.proofs.Common.{rules};
 ghost use Rattle.tiny_http_text.specs.Bytes.{AreAscii};
 ghost use Rattle.tiny_http_head.specs.Number.{code_of};
 ghost use Rattle.tiny_http_head.specs.Heads.{method_of};
-ghost use Rattle.tiny_http_head.specs.Reading.{header_line};
+ghost use Rattle.tiny_http_head.specs.HeadReading.{header_line};
 
 use itoa::Buffer;
 use std::alloc::{AllocError, Global};
@@ -16,7 +16,7 @@ use std::fmt;
 use std::marker::Model;
 use thiserror::Error;
 use tiny_http_text::ascii::{AsciiStr, AsciiString, FromAsciiError};
-use tiny_http_text::bytes::{cut, has_no_blank, is, is_ascii, trim};
+use tiny_http_text::bytes::{cut, has_no_blank, is, are_ascii, trim};
 use tiny_http_text::copies::owned;
 
 /// Why a text isn't read.
@@ -263,7 +263,7 @@ impl HeaderField {
     ghost use Rattle.tiny_http_head.specs.Common.{same_name};
     ghost use Rattle.tiny_http_text.specs.Bytes.{IsWord};
     ghost use Rattle.tiny_http_text.specs.Ascii.{IsFirstNotAscii};
-    ghost use Rattle.tiny_http_text.specs.Refused.{refused_bytes, bad_place};
+    ghost use Rattle.tiny_http_text.specs.FromAsciiError.{refused_bytes, bad_place};
 
     /// Takes any ASCII bytes, and no others: a refusal hands them back.
     pub fn from_bytes(bytes: Vec<u8>) -> Result<HeaderField, FromAsciiError>
@@ -284,7 +284,7 @@ impl HeaderField {
         ensures refused { IsErrOf result ParseError.Refused ↔ ¬ (IsWord text.now) }
     {
         let text = text.as_bytes();
-        if !is_ascii(text) || !has_no_blank(text) {
+        if !are_ascii(text) || !has_no_blank(text) {
             return Err(ParseError::Refused);
         }
         let text = owned(alloc, text)?;
@@ -387,7 +387,7 @@ impl Method {
         ensures refused { IsErrOf result ParseError.Refused ↔ ¬ (AreAscii text.now) }
     {
         let text = text.as_bytes();
-        if !is_ascii(text) {
+        if !are_ascii(text) {
             return Err(ParseError::Refused);
         }
         let method = method_of(alloc, text)?;
@@ -480,7 +480,7 @@ impl Header {
         ensures refused { IsErrOf result ParseError.Refused ↔ ((h : Header) → IsHeader text.now h → ⊥) }
     {
         let text = text.as_bytes();
-        if !is_ascii(text) {
+        if !are_ascii(text) {
             return Err(ParseError::Refused);
         }
         match parse_header_line(alloc, text)? {

@@ -2,7 +2,7 @@
 ghost use Rattle.std.specs.Prelude.{◌≡◌, IfOk, OnErr, IfSome, IfNone, IsSome, None};
 ghost use Rattle.tiny_http_text.specs.Bytes.{AreAscii};
 ghost use Rattle.tiny_http_head.specs.Heads.{length_in, version_of};
-ghost use Rattle.tiny_http_head.specs.Reading.{request_line, HasParts};
+ghost use Rattle.tiny_http_head.specs.HeadReading.{request_line, HasParts};
 
 pub use crate::common::parse_header_line;
 use crate::common::{HTTPVersion, Method, method_of};

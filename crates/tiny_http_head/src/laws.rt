@@ -9,7 +9,7 @@ ghost use Rattle.tiny_http_head.specs.declared.common.Header.{Header};
 ghost use Rattle.tiny_http_text.specs.Bytes.{AreAscii, HasNo, IsTrimmed, IsWord, colon};
 ghost use Rattle.tiny_http_head.specs.Common.{IsSameButForCase, same_name, is_code, code_order, is_version, version_order, IsBefore, HasItsOwnName, method_text, header_text};
 ghost use Rattle.tiny_http_head.specs.Heads.{IsHeader, method_of, RequestLine, HeaderLine};
-ghost use Rattle.tiny_http_head.specs.Reading.{request_line, header_line};
+ghost use Rattle.tiny_http_head.specs.HeadReading.{request_line, header_line};
 
 use crate::common::{HTTPVersion, HeaderField, Method, StatusCode};
 use std::hash::Hash;

@@ -11,13 +11,14 @@ use Rattle.tiny_http_wire.specs.Device.{Feed, prepended, prepend, StopsBy}
 use Rattle.tiny_http_message.specs.declared.body.Body.{Body}
 use Rattle.tiny_http_message.specs.declared.body.Body.TheVariants.{Over, WithHead, Counted, Chunked}
 use Rattle.tiny_http_stream.specs.ToCome.{skipped, stopped}
-use Rattle.tiny_http_stream.specs.Parts.{feed_front}
-use Rattle.tiny_http_message.specs.Body.{Remaining, remaining, counted_left, taken_left, prepend_body, prepended_body, BodyStops, NoneLeft, is_streaming, body_standing, IsBodyOver, ReadsOn, GivesUp}
+use Rattle.tiny_http_stream.specs.FeedParts.{feed_front}
+use Rattle.tiny_http_message.specs.Body.{Remaining, remaining, counted_remaining, taken_remaining, prepend_body, prepended_body, BodyStops, NoneRemains, is_streaming, body_standing, IsBodyOver, ReadsOn, GivesUp}
 use Rattle.tiny_http_stream.specs.declared.source.Standing.{Standing}
 use Rattle.tiny_http_stream.specs.Source.{SourceState, GoesOn, IsRestOf}
 use Rattle.tiny_http_stream.proofs.SourceGoesOn.{goes-on_same}
 use Rattle.tiny_http_stream.proofs.ToComeLemmas.{skipped-skipped, skipped-prepend, skipped-within, skipped-beyond}
-use Rattle.tiny_http_stream.proofs.PartsLemmas.{part-more}
+use Rattle.tiny_http_stream.proofs.FeedPartsLemmas.{part-more}
+use Rattle.std.proofs.Math.Bool.{or-true}
 
 -- bytes that were given, and no others, are skipped
 skipped-front : (front : List ℕ) (f : Feed) (k : ℕ) → skipped (length front + k) (prepend front f) ≡ skipped k f
@@ -31,24 +32,24 @@ skipped-front front f k =
         all [] = refl
         all (x ∷ xs) = all xs
 
-counted-at : (front : List ℕ) (f : Feed) (k : ℕ) → counted_left (length front + k) (prepend front f) ≡ prepend_body front (counted_left k f)
+counted-at : (front : List ℕ) (f : Feed) (k : ℕ) → counted_remaining (length front + k) (prepend front f) ≡ prepend_body front (counted_remaining k f)
 counted-at front f k =
     let R : Feed → Feed → Remaining = λ body behind. record { body = body; behind = behind } in
     ap (λ b. R b (skipped (length front + k) (prepend front f))) (part-more f.stop front f.bytes k) ∙ ap (R (prepend front (feed_front k f))) (skipped-front front f k)
 
 -- some of the bytes of a counted body
 pub counted-bytes : (old new : Option Feed) (front : List ℕ) (left n : ℕ) → old ≡ prepended front new → length front ≡ n → n ≤ left
-    → option_map (counted_left left) old ≡ prepended_body front (option_map (counted_left (left - n)) new)
+    → option_map (counted_remaining left) old ≡ prepended_body front (option_map (counted_remaining (left - n)) new)
 counted-bytes old new front left n h e le =
     let split : left ≡ length front + (left - n) = omega arith in
-    ap (λ o. option_map (counted_left left) o) h ∙ (ap (λ m. option_map (counted_left m) (prepended front new)) split ∙ at new)
+    ap (λ o. option_map (counted_remaining left) o) h ∙ (ap (λ m. option_map (counted_remaining m) (prepended front new)) split ∙ at new)
   where
-    at : (f : Option Feed) → option_map (counted_left (length front + (left - n))) (prepended front f) ≡ prepended_body front (option_map (counted_left (left - n)) f)
+    at : (f : Option Feed) → option_map (counted_remaining (length front + (left - n))) (prepended front f) ≡ prepended_body front (option_map (counted_remaining (left - n)) f)
     at None = refl
     at (Some f) = ap Some (counted-at front f (left - n))
 
 -- none is left
-pub counted-none : (o : Option Feed) → option_map (counted_left 0) o ≡ option_map (taken_left (stopped End)) o
+pub counted-none : (o : Option Feed) → option_map (counted_remaining 0) o ≡ option_map (taken_remaining (stopped End)) o
 unfolding feed_front
 counted-none None = refl
 counted-none (Some f) =
@@ -56,7 +57,7 @@ counted-none (Some f) =
     ap Some (rw (le-ltb (length f.bytes) 0 (omega arith)) (ap (R (stopped End)) (skipped-within 0 f (omega arith))))
 
 -- the input ended before the body did
-cut : (f : Feed) (left : ℕ) (stop : Stop) → 0 < left → f.bytes ≡ [] → f.stop ≡ stop → counted_left left f ≡ taken_left (stopped stop) (stopped End)
+cut : (f : Feed) (left : ℕ) (stop : Stop) → 0 < left → f.bytes ≡ [] → f.stop ≡ stop → counted_remaining left f ≡ taken_remaining (stopped stop) (stopped End)
 unfolding feed_front
 cut f left stop some none e =
     let z : length f.bytes ≡ 0 = ap length none in
@@ -68,11 +69,11 @@ cut f left stop some none e =
         let z : length f.bytes ≡ 0 = ap length none in
         rw (lt-ltb (length f.bytes) left (omega arith), none, e, take-nil {A = ℕ} left) refl
 
-pub counted-cut : (o : Option Feed) (left : ℕ) (stop : Stop) → 0 < left → StopsBy stop o → option_map (counted_left left) o ≡ option_map (taken_left (stopped stop)) (option_map (λ _. stopped End) o)
+pub counted-cut : (o : Option Feed) (left : ℕ) (stop : Stop) → 0 < left → StopsBy stop o → option_map (counted_remaining left) o ≡ option_map (taken_remaining (stopped stop)) (option_map (λ _. stopped End) o)
 counted-cut None left stop some h = refl
 counted-cut (Some f) left stop some h = ap Some (cut f left stop some h.0 h.1)
 
-pub taken-stops : (stop : Stop) (o : Option Feed) (r : Option Remaining) → r ≡ option_map (taken_left (stopped stop)) o → BodyStops stop r
+pub taken-stops : (stop : Stop) (o : Option Feed) (r : Option Remaining) → r ≡ option_map (taken_remaining (stopped stop)) o → BodyStops stop r
 taken-stops stop None r e = rw e tt
 taken-stops stop (Some f) r e = rw e refl
 
@@ -81,11 +82,11 @@ nothing-read None bs e = refl
 nothing-read (Some r) bs e = rw e refl
 
 -- the input ended, or failed, in front of the last byte of a counted body: the body is over, and the input
-pub cut-is : (b : Body) (old mid new : Option Feed) (left : ℕ) (stop : Stop) → b ≡ Counted left → 0 < left → StopsBy stop old → mid ≡ old → new ≡ option_map (λ _. stopped End) mid
+pub body-cut-is : (b : Body) (old mid new : Option Feed) (left : ℕ) (stop : Stop) → b ≡ Counted left → 0 < left → StopsBy stop old → mid ≡ old → new ≡ option_map (λ _. stopped End) mid
     → remaining b old ≡ remaining (Over stop) new
-cut-is b old mid new left stop e some stops same ends =
-    let g : Option Feed → Option Remaining = λ o. option_map (taken_left (stopped stop)) (option_map (λ _. stopped End) o) in
-    ap (λ x. remaining x old) e ∙ counted-cut old left stop some stops ∙ ap g (sym same) ∙ ap (λ o. option_map (taken_left (stopped stop)) o) (sym ends)
+body-cut-is b old mid new left stop e some stops same ends =
+    let g : Option Feed → Option Remaining = λ o. option_map (taken_remaining (stopped stop)) (option_map (λ _. stopped End) o) in
+    ap (λ x. remaining x old) e ∙ counted-cut old left stop some stops ∙ ap g (sym same) ∙ ap (λ o. option_map (taken_remaining (stopped stop)) o) (sym ends)
 
 pub cut-stops : (b : Body) (old : Option Feed) (left : ℕ) (stop : Stop) → b ≡ Counted left → 0 < left → StopsBy stop old → BodyStops stop (remaining b old)
 cut-stops b old left stop e some stops =
@@ -94,42 +95,38 @@ cut-stops b old left stop e some stops =
 pub read-nothing : (r q : Option Remaining) → r ≡ q → r ≡ prepended_body [] q
 read-nothing r q e = e ∙ nothing-read q [] refl
 
-told-true : (told : Bool) → (told || true) ≡ true
-told-true true = refl
-told-true false = refl
-
 -- reads one after another
-pub reads-on : (a b c : Body) (m n : ℕ) (told : Bool) → ReadsOn a m false b → ReadsOn b n told c → ReadsOn a (m + n) told c
-reads-on (Over stop) b c m n told h k =
-    let P : Body → Type 0 = λ x. ReadsOn x n told c in
+pub reads-on : (a b c : Body) (m n : ℕ) (end_reported : Bool) → ReadsOn a m false b → ReadsOn b n end_reported c → ReadsOn a (m + n) end_reported c
+reads-on (Over stop) b c m n end_reported h k =
+    let P : Body → Type 0 = λ x. ReadsOn x n end_reported c in
     let l = subst P h.0 k in
     (l.0, omega (arith, h.1, l.1))
-reads-on (WithHead bytes) (WithHead more) c m n told h k = k
-reads-on (WithHead bytes) (Over stop) c m n told h k = absurd h
-reads-on (WithHead bytes) (Counted left) c m n told h k = absurd h
-reads-on (WithHead bytes) (Chunked d) c m n told h k = absurd h
-reads-on (Chunked d) (Chunked more) c m n told h k = k
-reads-on (Chunked d) (Over stop) c m n told h k = absurd h
-reads-on (Chunked d) (Counted left) c m n told h k = absurd h
-reads-on (Chunked d) (WithHead bytes) c m n told h k = absurd h
-reads-on (Counted left) b c m n told h k = by (m == left) refl h
+reads-on (WithHead bytes) (WithHead more) c m n end_reported h k = k
+reads-on (WithHead bytes) (Over stop) c m n end_reported h k = absurd h
+reads-on (WithHead bytes) (Counted left) c m n end_reported h k = absurd h
+reads-on (WithHead bytes) (Chunked d) c m n end_reported h k = absurd h
+reads-on (Chunked d) (Chunked more) c m n end_reported h k = k
+reads-on (Chunked d) (Over stop) c m n end_reported h k = absurd h
+reads-on (Chunked d) (Counted left) c m n end_reported h k = absurd h
+reads-on (Chunked d) (WithHead bytes) c m n end_reported h k = absurd h
+reads-on (Counted left) b c m n end_reported h k = by (m == left) refl h
   where
-    by : (t : Bool) → (m == left) ≡ t → MatchBool t (IsBodyOver b) ((b ≡ Counted (left - m)) × (m < left)) → ReadsOn (Counted left) (m + n) told c
+    by : (t : Bool) → (m == left) ≡ t → MatchBool t (IsBodyOver b) ((b ≡ Counted (left - m)) × (m < left)) → ReadsOn (Counted left) (m + n) end_reported c
     by true e h = over b e h k
       where
-        over : (b : Body) → (m == left) ≡ true → IsBodyOver b → ReadsOn b n told c → ReadsOn (Counted left) (m + n) told c
+        over : (b : Body) → (m == left) ≡ true → IsBodyOver b → ReadsOn b n end_reported c → ReadsOn (Counted left) (m + n) end_reported c
         over (Over stop) e h k =
             let all : ((m + n) == left) ≡ true = eq-eqb (m + n) left (omega (arith, eqb-true m left e, k.1)) in
             let P : Bool → Type 0 = λ t. MatchBool t (IsBodyOver c) ((c ≡ Counted (left - (m + n))) × (m + n < left)) in
             let over_now : IsBodyOver c = (let Q : Body → Type 0 = λ x. IsBodyOver x in subst Q (sym k.0) tt) in
-            subst P (sym (ap (λ x. told || x) all ∙ told-true told)) over_now
+            subst P (sym (ap (λ x. end_reported || x) all ∙ or-true end_reported)) over_now
         over (WithHead bytes) e h k = absurd h
         over (Counted l) e h k = absurd h
         over (Chunked d) e h k = absurd h
     by false e h =
-        let P : Body → Type 0 = λ x. ReadsOn x n told c in
+        let P : Body → Type 0 = λ x. ReadsOn x n end_reported c in
         let l = subst P h.0 k in
-        more (told || (n == (left - m))) refl l
+        more (end_reported || (n == (left - m))) refl l
       where
         to : (t : Bool) → MatchBool t (IsBodyOver c) ((c ≡ Counted ((left - m) - n)) × (n < left - m)) → MatchBool t (IsBodyOver c) ((c ≡ Counted (left - (m + n))) × (m + n < left))
         to true l = l
@@ -142,20 +139,20 @@ reads-on (Counted left) b c m n told h k = by (m == left) refl h
             at true x = sym (eq-eqb (m + n) left (omega (arith, eqb-true n (left - m) x, h.1)))
             at false x = sym (ne_eqb (m + n) left (λ y. (let no : true ≡ false = sym (eq-eqb n (left - m) (omega (arith, y, h.1))) ∙ x in cc)))
 
-        more : (t : Bool) → (told || (n == (left - m))) ≡ t → MatchBool t (IsBodyOver c) ((c ≡ Counted ((left - m) - n)) × (n < left - m)) → ReadsOn (Counted left) (m + n) told c
+        more : (t : Bool) → (end_reported || (n == (left - m))) ≡ t → MatchBool t (IsBodyOver c) ((c ≡ Counted ((left - m) - n)) × (n < left - m)) → ReadsOn (Counted left) (m + n) end_reported c
         more t x l =
             let P : Bool → Type 0 = λ t. MatchBool t (IsBodyOver c) ((c ≡ Counted (left - (m + n))) × (m + n < left)) in
-            subst P (sym (ap (λ y. told || y) (sym same) ∙ x)) (to t l)
+            subst P (sym (ap (λ y. end_reported || y) (sym same) ∙ x)) (to t l)
 
 -- a body that isn't read from the input stays so
-pub stays-settled : (a b : Body) (n : ℕ) (told : Bool) → ReadsOn a n told b → is_streaming a ≡ false → is_streaming b ≡ false
-stays-settled (Over stop) b n told h e = ap is_streaming h.0
-stays-settled (WithHead bytes) (WithHead more) n told h e = refl
-stays-settled (WithHead bytes) (Over stop) n told h e = refl
-stays-settled (WithHead bytes) (Counted left) n told h e = absurd h
-stays-settled (WithHead bytes) (Chunked d) n told h e = absurd h
-stays-settled (Counted left) b n told h e = cc
-stays-settled (Chunked d) b n told h e = cc
+pub stays-settled : (a b : Body) (n : ℕ) (end_reported : Bool) → ReadsOn a n end_reported b → is_streaming a ≡ false → is_streaming b ≡ false
+stays-settled (Over stop) b n end_reported h e = ap is_streaming h.0
+stays-settled (WithHead bytes) (WithHead more) n end_reported h e = refl
+stays-settled (WithHead bytes) (Over stop) n end_reported h e = refl
+stays-settled (WithHead bytes) (Counted left) n end_reported h e = absurd h
+stays-settled (WithHead bytes) (Chunked d) n end_reported h e = absurd h
+stays-settled (Counted left) b n end_reported h e = cc
+stays-settled (Chunked d) b n end_reported h e = cc
 
 with-with : (r : Option Remaining) (a b : List ℕ) → prepended_body a (prepended_body b r) ≡ prepended_body (a ++ b) r
 with-with None a b = refl
@@ -181,20 +178,23 @@ pub bytes-none : (r q : Option Remaining) (old : List ℕ) (at : ℕ) → r ≡ 
 bytes-none r None old at e z = sym e
 bytes-none r (Some q) old at e z = sym (e ∙ rw z refl)
 
-pub stops-none-left : (r : Option Remaining) (stop : Stop) → BodyStops stop r → NoneLeft r
+pub stops-none-left : (r : Option Remaining) (stop : Stop) → BodyStops stop r → NoneRemains r
 stops-none-left None stop h = tt
 stops-none-left (Some r) stop h = ap (λ (f : Feed). f.bytes) h
 
+-- a state that is the same goes on
+goes-on_equal : {R : Type 0} (old new : SourceState R) → new ≡ old → GoesOn old.feed new.feed
+goes-on_equal {R = R} old new e = let P : SourceState R → Type 0 = λ x. GoesOn old.feed x.feed in subst P (sym e) (goes-on_same old.feed)
+
+-- and so does one that ends
+goes-on_stopped : (o : Option Feed) → GoesOn o (option_map (λ _. stopped End) o)
+goes-on_stopped None = tt
+goes-on_stopped (Some f) = record { gone = f.bytes; joins = sym (append-nil f.bytes) }
+
 -- a body that was given up
 pub gives-up : {R : Type 0} (b : Body) (old new : SourceState R) → GivesUp b old new → GoesOn old.feed new.feed
-gives-up (Over stop) old new h = ap-goes old new h
-  where
-    ap-goes : {R : Type 0} (old new : SourceState R) → new ≡ old → GoesOn old.feed new.feed
-    ap-goes {R = R} old new e = let P : SourceState R → Type 0 = λ x. GoesOn old.feed x.feed in subst P (sym e) (goes-on_same old.feed)
-gives-up (WithHead bytes) old new h = ap-goes old new h
-  where
-    ap-goes : {R : Type 0} (old new : SourceState R) → new ≡ old → GoesOn old.feed new.feed
-    ap-goes {R = R} old new e = let P : SourceState R → Type 0 = λ x. GoesOn old.feed x.feed in subst P (sym e) (goes-on_same old.feed)
+gives-up (Over stop) old new h = goes-on_equal old new h
+gives-up (WithHead bytes) old new h = goes-on_equal old new h
 gives-up (Counted left) old new h = let P : Option Feed → Type 0 = λ x. GoesOn old.feed x in subst P (sym h.0) (skips old.feed)
   where
     skips : (o : Option Feed) → GoesOn o (option_map (skipped left) o)
@@ -204,37 +204,29 @@ gives-up (Counted left) old new h = let P : Option Feed → Type 0 = λ x. GoesO
         at : (length f.bytes < left) ⊎ (left ≤ length f.bytes) → IsRestOf f (skipped left f)
         at (inl past) = let P : Feed → Type 0 = λ x. IsRestOf f x in subst P (sym (skipped-beyond left f past)) (record { gone = f.bytes; joins = sym (append-nil f.bytes) })
         at (inr within) = let P : Feed → Type 0 = λ x. IsRestOf f x in subst P (sym (skipped-within left f within)) (record { gone = take left f.bytes; joins = sym (take-append-drop left f.bytes) })
-gives-up (Chunked d) old new h = let P : Option Feed → Type 0 = λ x. GoesOn old.feed x in subst P (sym h.0) (ends old.feed)
-  where
-    ends : (o : Option Feed) → GoesOn o (option_map (λ _. stopped End) o)
-    ends None = tt
-    ends (Some f) = record { gone = f.bytes; joins = sym (append-nil f.bytes) }
+gives-up (Chunked d) old new h = let P : Option Feed → Type 0 = λ x. GoesOn old.feed x in subst P (sym h.0) (goes-on_stopped old.feed)
 
 -- reads after each other, the first of which may be none
-pub moves-more : (a b c : Body) (at n : ℕ) (told : Bool) → (at ≡ 0 → b ≡ a) → (0 < at → ReadsOn a at false b) → ReadsOn b n told c → ReadsOn a (at + n) told c
-moves-more a b c zero n told same moves h =
-    let P : Body → Type 0 = λ x. ReadsOn x n told c in
-    let Q : ℕ → Type 0 = λ k. ReadsOn a k told c in
+pub moves-more : (a b c : Body) (at n : ℕ) (end_reported : Bool) → (at ≡ 0 → b ≡ a) → (0 < at → ReadsOn a at false b) → ReadsOn b n end_reported c → ReadsOn a (at + n) end_reported c
+moves-more a b c zero n end_reported same moves h =
+    let P : Body → Type 0 = λ x. ReadsOn x n end_reported c in
+    let Q : ℕ → Type 0 = λ k. ReadsOn a k end_reported c in
     subst Q (omega arith) (subst P (same refl) h)
-moves-more a b c (suc at) n told same moves h = reads-on a b c (suc at) n told (moves (omega arith)) h
+moves-more a b c (suc at) n end_reported same moves h = reads-on a b c (suc at) n end_reported (moves (omega arith)) h
 
 -- at an end that was made
 pub goes-on_end : (old new : Option Feed) → new ≡ option_map (λ _. stopped End) old → GoesOn old new
-goes-on_end old new e = let P : Option Feed → Type 0 = λ x. GoesOn old x in subst P (sym e) (ends old)
-  where
-    ends : (o : Option Feed) → GoesOn o (option_map (λ _. stopped End) o)
-    ends None = tt
-    ends (Some f) = record { gone = f.bytes; joins = sym (append-nil f.bytes) }
+goes-on_end old new e = let P : Option Feed → Type 0 = λ x. GoesOn old x in subst P (sym e) (goes-on_stopped old)
 
 -- a read after another, from a body that was read from the input
-pub standing-more : {R : Type 0} (b c : Body) (n : ℕ) (told : Bool) (first : Standing) (mid new : SourceState R) → ReadsOn b n told c → (is_streaming b ≡ false → new ≡ mid) → (is_streaming b ≡ true → new.standing ≡ body_standing c mid.standing)
+pub standing-more : {R : Type 0} (b c : Body) (n : ℕ) (end_reported : Bool) (first : Standing) (mid new : SourceState R) → ReadsOn b n end_reported c → (is_streaming b ≡ false → new ≡ mid) → (is_streaming b ≡ true → new.standing ≡ body_standing c mid.standing)
     → mid.standing ≡ body_standing b first → new.standing ≡ body_standing c first
-standing-more {R = R} (Over stop) c n told first mid new on settled goes was =
+standing-more {R = R} (Over stop) c n end_reported first mid new on settled goes was =
     let P : Body → Type 0 = λ x. new.standing ≡ body_standing x first in
     subst P (sym on.0) (ap (λ (s : SourceState R). s.standing) (settled refl) ∙ was)
-standing-more {R = R} (WithHead bytes) (WithHead more) n told first mid new on settled goes was = ap (λ (s : SourceState R). s.standing) (settled refl) ∙ was
-standing-more (WithHead bytes) (Over stop) n told first mid new on settled goes was = absurd on
-standing-more (WithHead bytes) (Counted left) n told first mid new on settled goes was = absurd on
-standing-more (WithHead bytes) (Chunked d) n told first mid new on settled goes was = absurd on
-standing-more (Counted left) c n told first mid new on settled goes was = goes refl ∙ ap (body_standing c) was
-standing-more (Chunked d) c n told first mid new on settled goes was = goes refl ∙ ap (body_standing c) was
+standing-more {R = R} (WithHead bytes) (WithHead more) n end_reported first mid new on settled goes was = ap (λ (s : SourceState R). s.standing) (settled refl) ∙ was
+standing-more (WithHead bytes) (Over stop) n end_reported first mid new on settled goes was = absurd on
+standing-more (WithHead bytes) (Counted left) n end_reported first mid new on settled goes was = absurd on
+standing-more (WithHead bytes) (Chunked d) n end_reported first mid new on settled goes was = absurd on
+standing-more (Counted left) c n end_reported first mid new on settled goes was = goes refl ∙ ap (body_standing c) was
+standing-more (Chunked d) c n end_reported first mid new on settled goes was = goes refl ∙ ap (body_standing c) was

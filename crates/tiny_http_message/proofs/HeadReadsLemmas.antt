@@ -5,7 +5,7 @@ use Rattle.tiny_http_wire.specs.Device.{Feed}
 use Rattle.tiny_http_wire.specs.Bytes.{AreAscii}
 use Rattle.tiny_http_wire.specs.Lines.{Line}
 use Rattle.tiny_http_wire.specs.Heads.{BeginsWithHeaderLines, HeaderLine, IsRequestLine, IsFieldOrEnd}
-use Rattle.tiny_http_wire.specs.Reading as reading
+use Rattle.tiny_http_wire.specs.HeadReading as reading
 use Rattle.tiny_http_text.proofs.BytesLemmas.{are-ascii, not-ascii}
 use Rattle.tiny_http_head.proofs.HeadsLemmas.{request-line-is, request-line-one, header-line-is, header-line-one}
 use Rattle.tiny_http_wire.specs.declared.common.Method.{Method}
@@ -65,9 +65,9 @@ pub field-read : (o p : Option Feed) (text : List ℕ) (x : Header) → ReadsTex
 field-read None p text x h e = tt
 field-read (Some f) p text x h e = (text, h.0, h.1, h.2, header-line-is text x (sym e), h.3)
 
-pub field-malformed : (o p : Option Feed) (text : List ℕ) → ReadsText o p (Ok text) → (length text ≡ 0 → ⊥) → ◌≡◌ {A = Option Header} None (reading.header_line text) → ReadsField o p (Err fault.Malformed)
-field-malformed None p text h n e = tt
-field-malformed (Some f) p text h n e = (text, h.0, h.1, h.2, no-field)
+pub head_reads-field-malformed : (o p : Option Feed) (text : List ℕ) → ReadsText o p (Ok text) → (length text ≡ 0 → ⊥) → ◌≡◌ {A = Option Header} None (reading.header_line text) → ReadsField o p (Err fault.Malformed)
+head_reads-field-malformed None p text h n e = tt
+head_reads-field-malformed (Some f) p text h n e = (text, h.0, h.1, h.2, no-field)
   where
     none-some : {r : Header} → ◌≡◌ {A = Option Header} None (Some r) → ⊥
     none-some x = cc

@@ -33,13 +33,13 @@ use Rattle.tiny_http_message.specs.declared.heads.HeadFault.TheVariants as fault
 use Rattle.tiny_http_message.specs.declared.body.Body.{Body}
 use Rattle.tiny_http_message.specs.declared.body.Body.TheVariants as body
 use Rattle.tiny_http_message.specs.Framing.{framing, is_built, is_rest}
-use Rattle.tiny_http_stream.specs.Parts.{feed_front}
+use Rattle.tiny_http_stream.specs.FeedParts.{feed_front}
 use Rattle.tiny_http_stream.specs.ToCome.{skipped}
-use Rattle.tiny_http_message.specs.Body.{Remaining, remaining, counted_left, coming_left, Fits, IsBodyOver, ReadsOn}
+use Rattle.tiny_http_message.specs.Body.{Remaining, remaining, counted_remaining, coming_remaining, Fits, IsBodyOver, ReadsOn}
 use Rattle.tiny_http_message.specs.Exchange.{KeepsHead}
 use Rattle.tiny_http_stream.specs.Source.{TakesExactly, feed_from}
-use Rattle.tiny_http_message.specs.Pipeline.{Item, Asks, Refuses, BadRequest, RequestTimeout, ExpectationFailed, Place, Heading, Ends, Heads, IsCutWithHead, cut_answer, is_timed_out, body_length_or_0, served, served_answer, BodyAt, FoundAt, OneHead, item_of, goes_on}
-use Rattle.tiny_http_message.specs.HeadReads.{ReadsMessage, ReadsHead, RefusesBy, Begins, ComesWith, IsCutOff, IsUnserved, IsBeforeHead, cut_end, end_at, place_feed, place_after, message_of, head_message, head_framing}
+use Rattle.tiny_http_message.specs.Pipeline.{Item, Asks, Refuses, BadRequest, RequestTimeout, ExpectationFailed, Place, Heading, Ends, Heads, IsCutWithHead, cut_answer, is_timed_out, body_length_or_0, served, served_answer, BodyAt, FoundAt, OneHead, item_of, next_place, place_after}
+use Rattle.tiny_http_message.specs.HeadReads.{ReadsMessage, ReadsHead, RefusesBy, Begins, ComesWith, IsCutOff, IsUnserved, IsBeforeHead, cut_end, end_at, place_feed, message_of, head_message, head_framing}
 use Rattle.tiny_http_message.specs.declared.exchange.EndOfRequests.{EndOfRequests}
 use Rattle.tiny_http_message.specs.declared.exchange.EndOfRequests.TheVariants as because
 use Rattle.tiny_http_stream.specs.declared.source.Standing.{Standing}
@@ -50,7 +50,8 @@ use Rattle.tiny_http_wire.specs.Device.{StopsBy}
 use Rattle.tiny_http_wire.specs.Bytes.{crlf}
 use Rattle.std.specs.Prelude.{IfSome, IsSome}
 use Rattle.tiny_http_stream.proofs.ToComeLemmas.{skipped-within, skipped-beyond}
-use Rattle.tiny_http_message.proofs.PipelineLemmas.{sized-is}
+use Rattle.tiny_http_message.specs.PipelineReading.{is_cut_with_head}
+use Rattle.tiny_http_message.proofs.PipelineLemmas.{pipeline-sized-is, cut-with_head, with_head-cut}
 
 not_served : (t : Bool) → ◌≡◌ {A = Option Item} None (served_answer (if t then Some (Refuses RequestTimeout (version 1 1) false true) else None))
 not_served true = refl
@@ -84,30 +85,12 @@ head-unframed date (Some f) p m h e =
     let P : Option Framing → Type 0 = λ x. IsUnserved x m.version h.0 in
     ((Ends (Some (Refuses ExpectationFailed m.version false true)), inr (inl (message_of m, h.0, h.1, e, refl)), (refl, refl)), inr (inr (message_of m, h.0, h.1, subst P (sym e) tt, refl)))
 
-abbrev pub is_cut_held : Form → ℕ → List ℕ → Bool
-is_cut_held WithHead n after = nat_lt (length after) n
-is_cut_held _ n after = false
-
-pub cut-held : (form : Form) (n : ℕ) (after : List ℕ) → is_cut_held form n after ≡ true → IsCutWithHead form n after
-cut-held WithHead n after c = ltb-true (length after) n c
-cut-held Nothing n after c = cc
-cut-held Counted n after c = cc
-cut-held Rest n after c = cc
-cut-held Chunked n after c = cc
-
-pub held-cut : (form : Form) (n : ℕ) (after : List ℕ) → IsCutWithHead form n after → is_cut_held form n after ≡ true
-held-cut WithHead n after c = lt-ltb (length after) n c
-held-cut Nothing n after c = elim c [ ]
-held-cut Counted n after c = elim c [ ]
-held-cut Rest n after c = elim c [ ]
-held-cut Chunked n after c = elim c [ ]
-
 -- a head that isn't built
 unbuilt : (bytes : List ℕ) (stop : Stop) (m : Texted) (f : Framing) (after : List ℕ) → BeginsWithRequestHead bytes m after → framing m.version m.headers ≡ Some f → is_built m.version f ≡ false
-    → (t : Bool) → is_cut_held f.form (body_length_or_0 f) after ≡ t → OneHead bytes stop None None
-unbuilt bytes stop m f after h e b true c = (Ends (cut_answer stop), inr (inr (m, after, f, h, e, cut-held f.form (body_length_or_0 f) after c, refl)), (cut-unanswered stop, refl))
+    → (t : Bool) → is_cut_with_head f.form (body_length_or_0 f) after ≡ t → OneHead bytes stop None None
+unbuilt bytes stop m f after h e b true c = (Ends (cut_answer stop), inr (inr (m, after, f, h, e, cut-with_head f.form (body_length_or_0 f) after c, refl)), (cut-unanswered stop, refl))
 unbuilt bytes stop m f after h e b false c =
-    let not_cut : IsCutWithHead f.form (body_length_or_0 f) after → ⊥ = λ k. (let x : true ≡ false = sym (held-cut f.form (body_length_or_0 f) after k) ∙ c in cc) in
+    let not_cut : IsCutWithHead f.form (body_length_or_0 f) after → ⊥ = λ k. (let x : true ≡ false = sym (with_head-cut f.form (body_length_or_0 f) after k) ∙ c in cc) in
     let P : Heading → Type 0 = λ x. FoundAt stop x None None in
     let same : Ends None ≡ served (Heads m f after) = rw b refl in
     (Heads m f after, (h, e, not_cut), subst P same (refl, refl))
@@ -127,7 +110,7 @@ head-unbuilt date (Some x) p q m f y h e begins b =
     let B : Option Feed → Type 0 = λ z. Begins f z q (Some y) in
     let started = subst B h.2 begins in
     let whole : IsCutWithHead f.form (body_length_or_0 f) h.0 → ⊥ = uncut f.form (body_length_or_0 f) h.0 (λ r. (started r).0) in
-    (unbuilt x.bytes x.stop (message_of m) f h.0 h.1 e b (is_cut_held f.form (body_length_or_0 f) h.0) refl, inr (inr (message_of m, h.0, h.1, subst P (sym e) (b, whole), refl)))
+    (unbuilt x.bytes x.stop (message_of m) f h.0 h.1 e b (is_cut_with_head f.form (body_length_or_0 f) h.0) refl, inr (inr (message_of m, h.0, h.1, subst P (sym e) (b, whole), refl)))
 
 -- what is built is no version above 1.1, owes no 100, and names no upgrade
 pub record Built (v : HTTPVersion) (f : Framing) : Type 0 where
@@ -158,7 +141,7 @@ nothing-at : (n : ℕ) (x : Feed) → BeginsAt Nothing n x (Some x) (body.Over E
 nothing-at n x = (λ k. k, ending [], Some x.bytes, (refl, refl), refl, refl)
 
 pub begins-nothing : (f : Framing) (o : Option Feed) → f.form ≡ Nothing → Begins f o o (Some (body.Over End))
-begins-nothing f o e = begins-with f Nothing o o (body.Over End) e (λ x told. (let P : Option Feed → Type 0 = λ y. BeginsAt Nothing (body_length_or_0 f) x y (body.Over End) in subst P (sym told) (nothing-at (body_length_or_0 f) x)))
+begins-nothing f o e = begins-with f Nothing o o (body.Over End) e (λ x end_reported. (let P : Option Feed → Type 0 = λ y. BeginsAt Nothing (body_length_or_0 f) x y (body.Over End) in subst P (sym end_reported) (nothing-at (body_length_or_0 f) x)))
 
 -- a body of a known length
 counted-fits : (b : Body) (n : ℕ) → ReadsOn (body.Counted n) 0 false b → Fits b Counted n 0 false
@@ -179,37 +162,37 @@ counted-fits b n h = by (0 == n) refl h
 abbrev pair : Feed → Feed → Remaining
 pair content behind = record { body = content; behind = behind }
 
-all-of : (n : ℕ) (x : Feed) → length x.bytes < n → counted_left n x ≡ pair x (ending [])
+all-of : (n : ℕ) (x : Feed) → length x.bytes < n → counted_remaining n x ≡ pair x (ending [])
 unfolding feed_front
 all-of n x lt =
     let P : List ℕ → Feed = λ bs. record { bytes = bs; stop = x.stop } in
     ap (λ y. pair y (skipped n x)) (rw (lt-ltb (length x.bytes) n lt) (ap P (take_all n x.bytes (omega (arith, lt))))) ∙ ap (pair x) (skipped-beyond n x lt)
 
-front-of : (n : ℕ) (x : Feed) → n ≤ length x.bytes → counted_left n x ≡ pair (ending (take n x.bytes)) (record { bytes = drop n x.bytes; stop = x.stop })
+front-of : (n : ℕ) (x : Feed) → n ≤ length x.bytes → counted_remaining n x ≡ pair (ending (take n x.bytes)) (record { bytes = drop n x.bytes; stop = x.stop })
 unfolding feed_front
 front-of n x le = rw (le-ltb (length x.bytes) n le) (ap (pair (ending (take n x.bytes))) (skipped-within n x le))
 
-counted-at : (n : ℕ) (x : Feed) (b : Body) → remaining b (Some x) ≡ Some (counted_left n x) → Fits b Counted n 0 false → BeginsAt Counted n x (Some x) b
-counted-at n x b left fits = by (nat_lt (length x.bytes) n) refl
+serving-counted-at : (n : ℕ) (x : Feed) (b : Body) → remaining b (Some x) ≡ Some (counted_remaining n x) → Fits b Counted n 0 false → BeginsAt Counted n x (Some x) b
+serving-counted-at n x b left fits = by (nat_lt (length x.bytes) n) refl
   where
     by : (t : Bool) → nat_lt (length x.bytes) n ≡ t → BeginsAt Counted n x (Some x) b
-    by true e = (λ k. k, x, None, sized-is n x.bytes x.stop true e, left ∙ ap Some (all-of n x (ltb-true (length x.bytes) n e)), fits)
-    by false e = (λ k. k, ending (take n x.bytes), Some (drop n x.bytes), sized-is n x.bytes x.stop false e, left ∙ ap Some (front-of n x (ltb-false (length x.bytes) n e)), fits)
+    by true e = (λ k. k, x, None, pipeline-sized-is n x.bytes x.stop true e, left ∙ ap Some (all-of n x (ltb-true (length x.bytes) n e)), fits)
+    by false e = (λ k. k, ending (take n x.bytes), Some (drop n x.bytes), pipeline-sized-is n x.bytes x.stop false e, left ∙ ap Some (front-of n x (ltb-false (length x.bytes) n e)), fits)
 
 -- what is left of a counted body
-pub left-counted : (n : ℕ) (x : Feed) → (content : Feed) × (next : Place) × BodyAt Counted n x.bytes x.stop content next × (counted_left n x ≡ pair content (place_feed x.stop next))
-left-counted n x = by (nat_lt (length x.bytes) n) refl
+pub remains-counted : (n : ℕ) (x : Feed) → (content : Feed) × (next : Place) × BodyAt Counted n x.bytes x.stop content next × (counted_remaining n x ≡ pair content (place_feed x.stop next))
+remains-counted n x = by (nat_lt (length x.bytes) n) refl
   where
-    by : (t : Bool) → nat_lt (length x.bytes) n ≡ t → (content : Feed) × (next : Place) × BodyAt Counted n x.bytes x.stop content next × (counted_left n x ≡ pair content (place_feed x.stop next))
-    by true e = (x, None, sized-is n x.bytes x.stop true e, all-of n x (ltb-true (length x.bytes) n e))
-    by false e = (ending (take n x.bytes), Some (drop n x.bytes), sized-is n x.bytes x.stop false e, front-of n x (ltb-false (length x.bytes) n e))
+    by : (t : Bool) → nat_lt (length x.bytes) n ≡ t → (content : Feed) × (next : Place) × BodyAt Counted n x.bytes x.stop content next × (counted_remaining n x ≡ pair content (place_feed x.stop next))
+    by true e = (x, None, pipeline-sized-is n x.bytes x.stop true e, all-of n x (ltb-true (length x.bytes) n e))
+    by false e = (ending (take n x.bytes), Some (drop n x.bytes), pipeline-sized-is n x.bytes x.stop false e, front-of n x (ltb-false (length x.bytes) n e))
 
-pub begins-counted : (f : Framing) (o : Option Feed) (b : Body) (n : ℕ) → f.form ≡ Counted → n ≡ body_length_or_0 f → ((feed : Option Feed) → remaining b feed ≡ option_map (counted_left n) feed) → ReadsOn (body.Counted n) 0 false b → Begins f o o (Some b)
+pub begins-counted : (f : Framing) (o : Option Feed) (b : Body) (n : ℕ) → f.form ≡ Counted → n ≡ body_length_or_0 f → ((feed : Option Feed) → remaining b feed ≡ option_map (counted_remaining n) feed) → ReadsOn (body.Counted n) 0 false b → Begins f o o (Some b)
 begins-counted f o b n e is left moves =
     let P : ℕ → Type 0 = λ k. Fits b Counted k 0 false in
-    let Q : ℕ → Feed → Type 0 = λ k x. remaining b (Some x) ≡ Some (counted_left k x) in
+    let Q : ℕ → Feed → Type 0 = λ k x. remaining b (Some x) ≡ Some (counted_remaining k x) in
     let R : Option Feed → Feed → Type 0 = λ y x. BeginsAt Counted (body_length_or_0 f) x y b in
-    begins-with f Counted o o b e (λ x told. subst (λ y. R y x) (sym told) (counted-at (body_length_or_0 f) x b (subst (λ k. Q k x) is (left (Some x))) (subst P is (counted-fits b n moves))))
+    begins-with f Counted o o b e (λ x end_reported. subst (λ y. R y x) (sym end_reported) (serving-counted-at (body_length_or_0 f) x b (subst (λ k. Q k x) is (left (Some x))) (subst P is (counted-fits b n moves))))
 
 -- a chunked body
 pub begins-chunked : (f : Framing) (o : Option Feed) (d : Decoding) → f.form ≡ Chunked
@@ -219,17 +202,17 @@ pub begins-chunked : (f : Framing) (o : Option Feed) (d : Decoding) → f.form �
 begins-chunked f o d e whole front =
     let R : Option Feed → Feed → Type 0 = λ y x. BeginsAt Chunked (body_length_or_0 f) x y (body.Chunked d) in
     begins-with f Chunked o o (body.Chunked d) e
-    (λ x told. subst (λ y. R y x) (sym told) (at x (decoded (length x.bytes + 1) x.stop x.bytes).body (decoded (length x.bytes + 1) x.stop x.bytes).ends (decoded-is (length x.bytes + 1) x.bytes x.stop (omega arith))))
+    (λ x end_reported. subst (λ y. R y x) (sym end_reported) (at x (decoded (length x.bytes + 1) x.stop x.bytes).body (decoded (length x.bytes + 1) x.stop x.bytes).ends (decoded-is (length x.bytes + 1) x.bytes x.stop (omega arith))))
   where
     at : (x : Feed) (content : List ℕ) (r : Result (List ℕ) ErrorKind) → MatchResult r (λ rest. WholeChunks x.bytes content rest) (λ kind. CutChunks x.bytes x.stop content kind) → BeginsAt Chunked (body_length_or_0 f) x (Some x) (body.Chunked d)
     at x content (Ok rest) h =
-        (λ k. k, ending content, Some rest, inl (rest, h, refl, refl), ap (λ (c : Option Coming). option_map coming_left c) (whole x.bytes content rest x.stop h), (refl, refl))
+        (λ k. k, ending content, Some rest, inl (rest, h, refl, refl), ap (λ (c : Option Coming). option_map coming_remaining c) (whole x.bytes content rest x.stop h), (refl, refl))
     at x content (Err kind) h =
-        (λ k. k, record { bytes = content; stop = Faults kind }, None, inr (kind, h, refl, refl), ap (λ (c : Option Coming). option_map coming_left c) (front x.bytes content x.stop kind h), (refl, refl))
+        (λ k. k, record { bytes = content; stop = Faults kind }, None, inr (kind, h, refl, refl), ap (λ (c : Option Coming). option_map coming_remaining c) (front x.bytes content x.stop kind h), (refl, refl))
 
 -- a body that is read with its head
 pub begins-held : (f : Framing) (o new : Option Feed) (c : Cursor (Vec ℕ)) (v : Vec ℕ) (n : ℕ) → f.form ≡ WithHead → n ≡ body_length_or_0 f → cursor_bytes c ≡ v.items → TakesExactly (λ (w : Vec ℕ). w.items) n o new (Some v) → Begins f o new (Some (body.WithHead c))
-begins-held f o new c v n e is bytes h = begins-with f WithHead o new (body.WithHead c) e (λ x told. at x (let P : Option Feed → Type 0 = λ y. TakesExactly (λ (w : Vec ℕ). w.items) n y new (Some v) in subst P told h))
+begins-held f o new c v n e is bytes h = begins-with f WithHead o new (body.WithHead c) e (λ x end_reported. at x (let P : Option Feed → Type 0 = λ y. TakesExactly (λ (w : Vec ℕ). w.items) n y new (Some v) in subst P end_reported h))
   where
     at : (x : Feed) → TakesExactly (λ (w : Vec ℕ). w.items) n (Some x) new (Some v) → BeginsAt WithHead (body_length_or_0 f) x new (body.WithHead c)
     at x k =
@@ -258,15 +241,11 @@ head-whole x q m f after b h e built begins =
     let content = k.1 in
     let next = k.2 in
     let item : Some (Asks (record { message = m; framing = f; body = content })) ≡ Some (item_of m f content) = rw parts.version_is refl in
-    let place : place_after f.is_last next ≡ goes_on m f next = rw parts.version_is (place-is f.is_last next) in
+    let place : place_after f.is_last next ≡ next_place m f next = rw parts.version_is refl in
     let found : FoundAt x.stop (Heads m f after) (Some (Asks (record { message = m; framing = f; body = content }))) (place_after f.is_last next) = (content, next, k.3, item, place) in
     let Q : Heading → Type 0 = λ y. FoundAt x.stop y (Some (Asks (record { message = m; framing = f; body = content }))) (place_after f.is_last next) in
     let same : Heads m f after ≡ served (Heads m f after) = rw built refl in
     (content, next, (Heads m f after, (h, e, k.0), subst Q same found), k.4, k.5)
-  where
-    place-is : (last : Bool) (next : Place) → place_after last next ≡ (if last then None else next)
-    place-is true next = refl
-    place-is false next = refl
 
 -- the request under a message and a framing that are those of a head
 abbrev IsHanded : Feed → Option Feed → Body → Texted → Framing → Type 0
@@ -310,7 +289,7 @@ pub cut-reason : {R : Type 0} (old new : SourceState R) (stop : Option Stop) (be
 cut-reason old new None begun why f e cut over h = let no : false ≡ true = (over cut.over).0 in cc
 cut-reason old new (Some stop) begun why f e cut over h =
     let P : Option Feed → Type 0 = λ x. StopsBy stop x in
-    let stops = subst P (cut.left f e) (over cut.over).1 in
+    let stops = subst P (cut.remains f e) (over cut.over).1 in
     h ∙ ap (λ s. cut_end s begun) (sym stops.1)
 
 -- no byte of a head has come

@@ -1,7 +1,7 @@
 pub mod BodyReads
 pub mod HeadReadsLemmas
 pub mod HeadReadsServing
-pub mod BodyLeftLemmas
+pub mod BodyRemainsLemmas
 pub mod BytesWords
 pub mod OwnAnswerLemmas
 pub mod PipelineLemmas

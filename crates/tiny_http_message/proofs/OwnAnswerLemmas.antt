@@ -13,7 +13,8 @@ use Rattle.tiny_http_wire.specs.Common.{reason_phrase}
 use Rattle.tiny_http_wire.specs.Device.{Sink, Failed, ending}
 use Rattle.tiny_http_wire.specs.Answer.{Answer, answer_with, Ending, Whole, Broken, PrintsAnswer, text_of, body_unless_withheld, identity_body, is_withheld, answer_head_text, status_line, field_line, upgrade_lines, server_line, date_line, framing_line}
 use Rattle.tiny_http_wire.specs.declared.common.Header.{Header}
-use Rattle.tiny_http_message.specs.OwnAnswer.{own_text, own_text_by, own_printing, own_printing_to}
+use Rattle.tiny_http_message.specs.ResponseValue.{printing_to}
+use Rattle.tiny_http_message.specs.OwnAnswer.{own_text, own_text_by, own_printing}
 
 -- an answer of the server's own is whole
 pub own-whole : (status : ℕ) (v : HTTPVersion) (withheld : Bool) (date : HttpDate) → (text_of (answer_with status [] 0) (ending []) (own_printing v withheld date)).ending ≡ Whole
@@ -64,6 +65,6 @@ no-fault old new e a v withheld d bytes same o n z full fits (inr k) =
     cc
 
 -- the request's headers make no difference so far
-pub own-text-any : (headers : List Header) (status : ℕ) (v : HTTPVersion) (withheld : Bool) (d : HttpDate) → own_text status v withheld d ≡ own_text_by status (own_printing_to headers v withheld d)
+pub own-text-any : (headers : List Header) (status : ℕ) (v : HTTPVersion) (withheld : Bool) (d : HttpDate) → own_text status v withheld d ≡ own_text_by status (printing_to headers v withheld d)
 unfolding text_of
 own-text-any headers status v withheld d = refl

@@ -9,7 +9,7 @@ use Rattle.tiny_http_wire.specs.declared.device.Stop.TheVariants.{End, Fault as 
 use Rattle.tiny_http_wire.specs.Device.{Feed, ending}
 use Rattle.tiny_http_wire.specs.Heads.{Message, BeginsWithRequestHead, is_too_new}
 use Rattle.tiny_http_wire.specs.Chunks.{WholeChunks, CutChunks}
-use Rattle.tiny_http_wire.specs.Reading.{request_head_read, RequestHeadRead, Whole, Faulty}
+use Rattle.tiny_http_wire.specs.HeadReading.{request_head_read, RequestHeadRead, Whole, Faulty}
 use Rattle.tiny_http_wire.specs.ChunkReading.{decoded}
 use Rattle.tiny_http_head.proofs.HeadsLemmas.{head-is, HeadIs, head-one, head-fault, line-shorter, fields-fewer}
 use Rattle.tiny_http_wire.proofs.ChunksLemmas.{decoded-is, decoded-one, decoded-front}
@@ -17,38 +17,38 @@ use Rattle.tiny_http_message.specs.declared.framing.Form.{Form}
 use Rattle.tiny_http_message.specs.declared.framing.Form.TheVariants.{Rest, Nothing, WithHead, Counted, Chunked}
 use Rattle.tiny_http_message.specs.declared.framing.Framing.{Framing}
 use Rattle.tiny_http_message.specs.Framing.{framing, is_built}
-use Rattle.tiny_http_message.specs.Pipeline.{Item, Place, Heading, Ends, Heads, HeadAt, IsCutWithHead, cut_answer, body_length_or_0, served, served_answer, BodyAt, SizedBody, FoundAt, OneHead, item_of, goes_on, ends_too_new, Pipeline}
+use Rattle.tiny_http_message.specs.Pipeline.{Item, Place, Heading, Ends, Heads, HeadAt, IsCutWithHead, cut_answer, body_length_or_0, served, served_answer, BodyAt, SizedBody, FoundAt, OneHead, item_of, next_place, ends_too_new, Pipeline, place_after}
 use Rattle.tiny_http_message.specs.PipelineReading.{BodyRead, chunked_read, sized_read, body_read, is_cut_with_head, framed, heading, heading_of, items_at, items_from, items_of}
 
-cut-held : (form : Form) (n : ℕ) (after : List ℕ) → is_cut_with_head form n after ≡ true → IsCutWithHead form n after
-cut-held WithHead n after c = ltb-true (length after) n c
-cut-held Nothing n after c = cc
-cut-held Counted n after c = cc
-cut-held Rest n after c = cc
-cut-held Chunked n after c = cc
+pub cut-with_head : (form : Form) (n : ℕ) (after : List ℕ) → is_cut_with_head form n after ≡ true → IsCutWithHead form n after
+cut-with_head WithHead n after c = ltb-true (length after) n c
+cut-with_head Nothing n after c = cc
+cut-with_head Counted n after c = cc
+cut-with_head Rest n after c = cc
+cut-with_head Chunked n after c = cc
 
-held-cut : (form : Form) (n : ℕ) (after : List ℕ) → IsCutWithHead form n after → is_cut_with_head form n after ≡ true
-held-cut WithHead n after c = lt-ltb (length after) n c
-held-cut Nothing n after c = elim c [ ]
-held-cut Counted n after c = elim c [ ]
-held-cut Rest n after c = elim c [ ]
-held-cut Chunked n after c = elim c [ ]
+pub with_head-cut : (form : Form) (n : ℕ) (after : List ℕ) → IsCutWithHead form n after → is_cut_with_head form n after ≡ true
+with_head-cut WithHead n after c = lt-ltb (length after) n c
+with_head-cut Nothing n after c = elim c [ ]
+with_head-cut Counted n after c = elim c [ ]
+with_head-cut Rest n after c = elim c [ ]
+with_head-cut Chunked n after c = elim c [ ]
 
 not-cut : (form : Form) (n : ℕ) (after : List ℕ) → is_cut_with_head form n after ≡ false → IsCutWithHead form n after → ⊥
-not-cut form n after c h = let e : true ≡ false = sym (held-cut form n after h) ∙ c in cc
+not-cut form n after c h = let e : true ≡ false = sym (with_head-cut form n after h) ∙ c in cc
 
 cut-not : (form : Form) (n : ℕ) (after : List ℕ) → (t : Bool) → is_cut_with_head form n after ≡ t → (IsCutWithHead form n after → ⊥) → t ≡ false
-cut-not form n after true e h = absurd (h (cut-held form n after e))
+cut-not form n after true e h = absurd (h (cut-with_head form n after e))
 cut-not form n after false e h = refl
 
-cut-step : (m : Message) (after : List ℕ) (stop : Stop) (bytes : List ℕ) (f : Framing) → BeginsWithRequestHead bytes m after → framing m.version m.headers ≡ Some f → (t : Bool) → is_cut_with_head f.form (body_length_or_0 f) after ≡ t
+pipeline-cut-step : (m : Message) (after : List ℕ) (stop : Stop) (bytes : List ℕ) (f : Framing) → BeginsWithRequestHead bytes m after → framing m.version m.headers ≡ Some f → (t : Bool) → is_cut_with_head f.form (body_length_or_0 f) after ≡ t
     → HeadAt bytes stop (if t then Ends (cut_answer stop) else Heads m f after)
-cut-step m after stop bytes f h e true c = inr (inr (m, after, f, h, e, cut-held f.form (body_length_or_0 f) after c, refl))
-cut-step m after stop bytes f h e false c = (h, e, not-cut f.form (body_length_or_0 f) after c)
+pipeline-cut-step m after stop bytes f h e true c = inr (inr (m, after, f, h, e, cut-with_head f.form (body_length_or_0 f) after c, refl))
+pipeline-cut-step m after stop bytes f h e false c = (h, e, not-cut f.form (body_length_or_0 f) after c)
 
 framed-is : (m : Message) (after : List ℕ) (stop : Stop) (bytes : List ℕ) → BeginsWithRequestHead bytes m after → (o : Option Framing) → framing m.version m.headers ≡ o → HeadAt bytes stop (framed m after stop o)
 framed-is m after stop bytes h None e = inr (inl (m, after, h, e, refl))
-framed-is m after stop bytes h (Some f) e = cut-step m after stop bytes f h e (is_cut_with_head f.form (body_length_or_0 f) after) refl
+framed-is m after stop bytes h (Some f) e = pipeline-cut-step m after stop bytes f h e (is_cut_with_head f.form (body_length_or_0 f) after) refl
 
 read-is : (bytes : List ℕ) (stop : Stop) (r : RequestHeadRead) → HeadIs bytes r → HeadAt bytes stop (heading stop r)
 read-is bytes stop (Faulty v fault) h = inl (v, fault, h, refl)
@@ -64,7 +64,7 @@ heading-one bytes stop (Ends answer) h =
     ⊎_elim (λ k. rw (head-fault bytes k.0 k.1 k.2) (ap Ends (sym k.3)))
     (⊎_elim
     (λ k. rw (head-one bytes k.0 k.1 k.2, k.3) (ap Ends (sym k.4)))
-    (λ k. rw (head-one bytes k.0 k.1 k.3, k.4, held-cut k.2.form (body_length_or_0 k.2) k.1 k.5) (ap Ends (sym k.6))))
+    (λ k. rw (head-one bytes k.0 k.1 k.3, k.4, with_head-cut k.2.form (body_length_or_0 k.2) k.1 k.5) (ap Ends (sym k.6))))
     h
 heading-one bytes stop (Heads m f after) h =
     rw (head-one bytes m after h.0, h.1, cut-not f.form (body_length_or_0 f) after (is_cut_with_head f.form (body_length_or_0 f) after) refl h.2) refl
@@ -74,11 +74,11 @@ chunked-is : (n : ℕ) (after : List ℕ) (stop : Stop) (body : List ℕ) (e : R
 chunked-is n after stop body (Ok rest) h = inl (rest, h, refl, refl)
 chunked-is n after stop body (Err kind) h = inr (kind, h, refl, refl)
 
-pub sized-is : (n : ℕ) (after : List ℕ) (stop : Stop) (t : Bool) → nat_lt (length after) n ≡ t
+pub pipeline-sized-is : (n : ℕ) (after : List ℕ) (stop : Stop) (t : Bool) → nat_lt (length after) n ≡ t
     → (let r : BodyRead = (if t then record { body = record { bytes = after; stop = stop }; next = None } else record { body = ending (take n after); next = Some (drop n after) }) in
     BodyAt Counted n after stop r.body r.next)
-sized-is n after stop true e = inr (ltb-true (length after) n e, refl, refl)
-sized-is n after stop false e = let k = ltb-false (length after) n e in inl (drop n after, grind (arith, common_steps), grind (arith, common_steps), refl, refl)
+pipeline-sized-is n after stop true e = inr (ltb-true (length after) n e, refl, refl)
+pipeline-sized-is n after stop false e = let k = ltb-false (length after) n e in inl (drop n after, grind (arith, common_steps), grind (arith, common_steps), refl, refl)
 
 held-is : (n : ℕ) (after : List ℕ) (stop : Stop) (t : Bool) → nat_lt (length after) n ≡ t → (length after < n → ⊥)
     → (let r : BodyRead = (if t then record { body = record { bytes = after; stop = stop }; next = None } else record { body = ending (take n after); next = Some (drop n after) }) in
@@ -89,7 +89,7 @@ held-is n after stop false e h = let k = ltb-false (length after) n e in (drop n
 body-is : (form : Form) (n : ℕ) (after : List ℕ) (stop : Stop) → (IsCutWithHead form n after → ⊥) → BodyAt form n after stop (body_read form n after stop).body (body_read form n after stop).next
 body-is Nothing n after stop h = (refl, refl)
 body-is WithHead n after stop h = held-is n after stop (nat_lt (length after) n) refl h
-body-is Counted n after stop h = sized-is n after stop (nat_lt (length after) n) refl
+body-is Counted n after stop h = pipeline-sized-is n after stop (nat_lt (length after) n) refl
 body-is Rest n after stop h = (refl, refl)
 body-is Chunked n after stop h = chunked-is n after stop (decoded (length after + 1) stop after).body (decoded (length after + 1) stop after).ends (decoded-is (length after + 1) after stop (omega arith))
 
@@ -130,7 +130,7 @@ Found = Option Item × Place
 abbrev found_in : Stop → Heading → Found
 found_in stop (Ends answer) = (answer, None)
 found_in stop (Heads m f after) =
-    let b = body_read f.form (body_length_or_0 f) after stop in (Some (item_of m f b.body), goes_on m f b.next)
+    let b = body_read f.form (body_length_or_0 f) after stop in (Some (item_of m f b.body), next_place m f b.next)
 
 abbrev found : Stop → List ℕ → Found
 found stop bytes = found_in stop (served (heading_of stop bytes))
@@ -147,8 +147,8 @@ found-one stop (Heads m f after) item next k =
 one-head-one : (bytes : List ℕ) (stop : Stop) (item : Option Item) (next : Place) → OneHead bytes stop item next → found stop bytes ≡ (item, next)
 one-head-one bytes stop item next h = ap (λ x. found_in stop (served x)) (heading-one bytes stop h.0 h.1) ∙ found-one stop (served h.0) item next h.2
 
-same : (i j : Option Item) (p q : Place) (f : Found) → f ≡ (i, p) → f ≡ (j, q) → (i ≡ j) × (p ≡ q)
-same i j p q f e g =
+one-found : (i j : Option Item) (p q : Place) (f : Found) → f ≡ (i, p) → f ≡ (j, q) → (i ≡ j) × (p ≡ q)
+one-found i j p q f e g =
     let item : Found → Option Item = λ x. x.0 in
     let place : Found → Place = λ x. x.1 in
     (sym (ap item e) ∙ ap item g, sym (ap place e) ∙ ap place g)
@@ -156,15 +156,15 @@ same i j p q f e g =
 none-some : {G : Type 0} (y : Item) → None ≡ Some y → G
 none-some y e = cc
 
-some-eq : (x y : Item) → Some x ≡ Some y → x ≡ y
-some-eq x y e = cc
+pipeline-some-eq : (x y : Item) → Some x ≡ Some y → x ≡ y
+pipeline-some-eq x y e = cc
 
 cons-eq : (x y : Item) (xs ys : List Item) → x ≡ y → xs ≡ ys → x ∷ xs ≡ y ∷ ys
 cons-eq x y xs ys e f = cc
 
 -- two ways to read one head are the same
 pub one-head : (bytes : List ℕ) (stop : Stop) (i j : Option Item) (p q : Place) → OneHead bytes stop i p → OneHead bytes stop j q → (i ≡ j) × (p ≡ q)
-one-head bytes stop i j p q h k = same i j p q (found stop bytes) (one-head-one bytes stop i p h) (one-head-one bytes stop j q k)
+one-head bytes stop i j p q h k = one-found i j p q (found stop bytes) (one-head-one bytes stop i p h) (one-head-one bytes stop j q k)
 
 -- each feed has at most one pipeline
 pub pipeline-one : (place : Place) (stop : Stop) (xs ys : List Item) → Pipeline place stop xs → Pipeline place stop ys → xs ≡ ys
@@ -177,7 +177,7 @@ pipeline-one (Some bytes) stop (x ∷ xs) [] h k = none-some x (one-head bytes s
 pipeline-one (Some bytes) stop (x ∷ xs) (y ∷ ys) h k =
     let s = one-head bytes stop (Some x) (Some y) h.0 k.0 h.1 k.1 in
     let P : Place → Type 0 = λ p. Pipeline p stop ys in
-    cons-eq x y xs ys (some-eq x y s.0) (pipeline-one h.0 stop xs ys h.2 (subst P (sym s.1) k.2))
+    cons-eq x y xs ys (pipeline-some-eq x y s.0) (pipeline-one h.0 stop xs ys h.2 (subst P (sym s.1) k.2))
 
 -- an item that stands at a place is the first of its pipeline, and the others stand after it
 pub pipeline-first : (bytes : List ℕ) (stop : Stop) (item : Item) (next : Place) (xs : List Item) → OneHead bytes stop (Some item) next → Pipeline (Some bytes) stop xs
@@ -186,7 +186,7 @@ pipeline-first bytes stop item next [] h k = none-some item (one-head bytes stop
 pipeline-first bytes stop item next (x ∷ xs) h k =
     let s = one-head bytes stop (Some item) (Some x) next k.0 h k.1 in
     let P : Place → Type 0 = λ p. Pipeline p stop xs in
-    (xs, cons-eq x item xs xs (sym (some-eq item x s.0)) refl, subst P (sym s.1) k.2)
+    (xs, cons-eq x item xs xs (sym (pipeline-some-eq item x s.0)) refl, subst P (sym s.1) k.2)
 
 -- where no item stands the pipeline ends
 pub pipeline-none : (bytes : List ℕ) (stop : Stop) (xs : List Item) → OneHead bytes stop None None → Pipeline (Some bytes) stop xs → xs ≡ []
@@ -211,10 +211,10 @@ body-shorter Chunked n after stop body next h = ⊎_elim (λ k. rw k.3 (chunks-s
     chunks-shorter : (bytes body rest : List ℕ) → WholeChunks bytes body rest → length rest ≤ length bytes
     chunks-shorter bytes body rest c = rw c.joins (simp length-append (omega arith))
 
-goes-shorter : (m : Message) (f : Framing) (next : Place) → place_len (goes_on m f next) ≤ place_len next
+goes-shorter : (m : Message) (f : Framing) (next : Place) → place_len (next_place m f next) ≤ place_len next
 goes-shorter m f next = chosen (if is_too_new m.version then ends_too_new f.form else f.is_last) next
   where
-    chosen : (t : Bool) (next : Place) → place_len (if t then None else next) ≤ place_len next
+    chosen : (t : Bool) (next : Place) → place_len (place_after t next) ≤ place_len next
     chosen true next = omega arith
     chosen false next = omega arith
 
@@ -243,8 +243,8 @@ heads-is fuel stop bytes go m f after h true b =
     let g = goes-shorter m f r.next in
     let s = head-shorter bytes m after h.0 in
     let same : Heads m f after ≡ served (Heads m f after) = rw b refl in
-    let P : Heading → Type 0 = λ x. FoundAt stop x (Some (item_of m f r.body)) (goes_on m f r.next) in
-    (goes_on m f r.next, (Heads m f after, h, subst P same (r.body, r.next, k, refl, refl)), go (goes_on m f r.next) (omega arith))
+    let P : Heading → Type 0 = λ x. FoundAt stop x (Some (item_of m f r.body)) (next_place m f r.next) in
+    (next_place m f r.next, (Heads m f after, h, subst P same (r.body, r.next, k, refl, refl)), go (next_place m f r.next) (omega arith))
 
 one-is : (fuel : ℕ) (stop : Stop) (bytes : List ℕ) → ((p : Place) → place_len p < length bytes → Pipeline p stop (items_from fuel stop p))
     → (h : Heading) → HeadAt bytes stop h → Pipeline (Some bytes) stop (items_at (items_from fuel stop) stop (served h))

@@ -12,7 +12,7 @@ use Rattle.tiny_http_message.specs.declared.body.Body.TheVariants.{Over, WithHea
 use Rattle.tiny_http_message.specs.declared.framing.Form.{Form}
 use Rattle.tiny_http_message.specs.declared.framing.Form.TheVariants as form
 use Rattle.tiny_http_stream.specs.ToCome.{skipped, stopped}
-use Rattle.tiny_http_stream.specs.Parts.{feed_front}
+use Rattle.tiny_http_stream.specs.FeedParts.{feed_front}
 use Rattle.tiny_http_stream.specs.Source.{SourceState, IsAtEnd}
 use Rattle.tiny_http_stream.specs.declared.source.Standing.{Standing}
 use Rattle.tiny_http_stream.specs.Standing.{after_body, after_fault, after_abandoned}
@@ -24,27 +24,27 @@ pub record Remaining : Type 0 where
 
 -- a chunked body that is whole ends, and the input goes on after it; one that is cut or broken stops by its fault, and
 -- no head follows
-abbrev pub chunks_left : List ℕ → Result Feed ErrorKind → Remaining
-chunks_left bytes (Ok feed) = record { body = ending bytes; behind = feed }
-chunks_left bytes (Err kind) = record { body = record { bytes = bytes; stop = Fault kind }; behind = stopped End }
+abbrev pub chunks_remaining : List ℕ → Result Feed ErrorKind → Remaining
+chunks_remaining bytes (Ok feed) = record { body = ending bytes; behind = feed }
+chunks_remaining bytes (Err kind) = record { body = record { bytes = bytes; stop = Fault kind }; behind = stopped End }
 
-abbrev pub coming_left : Coming → Remaining
-coming_left c = chunks_left c.bytes c.behind
+abbrev pub coming_remaining : Coming → Remaining
+coming_remaining c = chunks_remaining c.bytes c.behind
 
 -- so many bytes of the input; where there are fewer no head follows
-abbrev pub counted_left : ℕ → Feed → Remaining
-counted_left n feed = record { body = feed_front n feed; behind = skipped n feed }
+abbrev pub counted_remaining : ℕ → Feed → Remaining
+counted_remaining n feed = record { body = feed_front n feed; behind = skipped n feed }
 
 -- the input stands after the body already
-abbrev pub taken_left : Feed → Feed → Remaining
-taken_left body feed = record { body = body; behind = feed }
+abbrev pub taken_remaining : Feed → Feed → Remaining
+taken_remaining body feed = record { body = body; behind = feed }
 
 -- what is still to come of the body, where the input still gives this
 abbrev pub remaining : Body → Option Feed → Option Remaining
-remaining (Over stop) feed = option_map (taken_left (stopped stop)) feed
-remaining (WithHead bytes) feed = option_map (taken_left (ending (cursor_bytes bytes))) feed
-remaining (Counted n) feed = option_map (counted_left n) feed
-remaining (Chunked decoding) feed = option_map coming_left (decoding_coming decoding feed)
+remaining (Over stop) feed = option_map (taken_remaining (stopped stop)) feed
+remaining (WithHead bytes) feed = option_map (taken_remaining (ending (cursor_bytes bytes))) feed
+remaining (Counted n) feed = option_map (counted_remaining n) feed
+remaining (Chunked decoding) feed = option_map coming_remaining (decoding_coming decoding feed)
 
 -- these bytes of the body, and then what remains
 abbrev pub prepend_body : List ℕ → Remaining → Remaining
@@ -59,9 +59,9 @@ BodyStops stop None = ⊤
 BodyStops stop (Some r) = r.body ≡ stopped stop
 
 -- no byte of the body is left
-abbrev pub NoneLeft : Option Remaining → Type 0
-NoneLeft None = ⊤
-NoneLeft (Some r) = r.body.bytes ≡ []
+abbrev pub NoneRemains : Option Remaining → Type 0
+NoneRemains None = ⊤
+NoneRemains (Some r) = r.body.bytes ≡ []
 
 -- the body is read from the input
 abbrev pub is_streaming : Body → Bool
@@ -92,31 +92,31 @@ IsChunked _ = ⊥
 -- So many bytes were read, and the end or the fault was reported or not. A counted body is over with its last byte, a chunked
 -- one once its end or fault was reported.
 abbrev pub ReadsOn : Body → ℕ → Bool → Body → Type 0
-ReadsOn (Over stop) n told new = (new ≡ Over stop) × (n ≡ 0)
-ReadsOn (WithHead bytes) n told new = IsWithHead new
-ReadsOn (Counted left) n told new = MatchBool (told || n == left) (IsBodyOver new) ((new ≡ Counted (left - n)) × (n < left))
-ReadsOn (Chunked decoding) n told new = MatchBool told (IsBodyOver new) (IsChunked new)
+ReadsOn (Over stop) n end_reported new = (new ≡ Over stop) × (n ≡ 0)
+ReadsOn (WithHead bytes) n end_reported new = IsWithHead new
+ReadsOn (Counted left) n end_reported new = MatchBool (end_reported || n == left) (IsBodyOver new) ((new ≡ Counted (left - n)) × (n < left))
+ReadsOn (Chunked decoding) n end_reported new = MatchBool end_reported (IsBodyOver new) (IsChunked new)
 
 -- the body is finished: it is nothing or held, or all its bytes were given out, or its end or fault was reported
 abbrev pub body_finished : Form → ℕ → ℕ → Bool → Bool
-body_finished form.Nothing n given told = true
-body_finished form.WithHead n given told = true
-body_finished form.Counted n given told = given == n || told
-body_finished form.Chunked n given told = told
-body_finished form.Rest n given told = told
+body_finished form.Nothing n given end_reported = true
+body_finished form.WithHead n given end_reported = true
+body_finished form.Counted n given end_reported = given == n || end_reported
+body_finished form.Chunked n given end_reported = end_reported
+body_finished form.Rest n given end_reported = end_reported
 
 -- what was read of the body fits its form and length
 abbrev pub Fits : Body → Form → ℕ → ℕ → Bool → Type 0
-Fits (Over stop) shape n given told = body_finished shape n given told ≡ true
-Fits (WithHead bytes) shape n given told = shape ≡ form.WithHead
-Fits (Counted left) shape n given told = (shape ≡ form.Counted) × (given + left ≡ n) × (0 < left) × (told ≡ false)
-Fits (Chunked decoding) shape n given told = (shape ≡ form.Chunked) × (told ≡ false)
+Fits (Over stop) shape n given end_reported = body_finished shape n given end_reported ≡ true
+Fits (WithHead bytes) shape n given end_reported = shape ≡ form.WithHead
+Fits (Counted left) shape n given end_reported = (shape ≡ form.Counted) × (given + left ≡ n) × (0 < left) × (end_reported ≡ false)
+Fits (Chunked decoding) shape n given end_reported = (shape ≡ form.Chunked) × (end_reported ≡ false)
 
 -- A buffer was filled from the body: with all its bytes; or with fewer, and none is left; or a fault came before any byte.
 abbrev pub FillsFromBody : Body → Option Feed → Body → Option Feed → Result ℕ ErrorKind → List ℕ → Type 0
 FillsFromBody old from new to (Ok n) buf =
     (remaining old from ≡ prepended_body (take n buf) (remaining new to)) × (0 < length buf → ReadsOn old n (nat_lt n (length buf)) new)
-    × (n < length buf → NoneLeft (remaining new to)) × (n ≡ 0 → 0 < length buf → BodyStops End (remaining old from))
+    × (n < length buf → NoneRemains (remaining new to)) × (n ≡ 0 → 0 < length buf → BodyStops End (remaining old from))
 FillsFromBody old from new to (Err kind) buf =
     (remaining new to ≡ remaining old from) × ReadsOn old 0 true new × BodyStops (Fault kind) (remaining old from)
 

@@ -9,7 +9,8 @@ use Rattle.tiny_http_message.specs.declared.exchange.Exchange.{Exchange}
 use Rattle.tiny_http_stream.specs.Source.{SourceState}
 use Rattle.tiny_http_stream.specs.declared.source.Standing.{Standing}
 use Rattle.tiny_http_message.specs.Pipeline.{is_head_method}
-use Rattle.tiny_http_message.specs.OwnAnswer.{own_printing_to, own_text_by}
+use Rattle.tiny_http_message.specs.ResponseValue.{printing_to}
+use Rattle.tiny_http_message.specs.OwnAnswer.{own_text_by}
 use Rattle.tiny_http_message.specs.Body.{Remaining, remaining, body_stop, body_standing, is_streaming, ReadsOn, Fits, GivesUp}
 
 -- a request of this head, of which this is kept
@@ -38,7 +39,7 @@ exchange_standing x standing = body_standing x.waiting.body standing
 
 -- so many bytes of its body were read, and the end or the fault was reported or not
 abbrev pub ExchangeReadsOn : Exchange → ℕ → Bool → Exchange → Type 0
-ExchangeReadsOn x n told new = ReadsOn x.waiting.body n told new.waiting.body
+ExchangeReadsOn x n end_reported new = ReadsOn x.waiting.body n end_reported new.waiting.body
 
 -- its body is given up
 abbrev pub GivesUpBody : {R : Type 0} → Exchange → SourceState R → SourceState R → Type 0
@@ -46,9 +47,9 @@ GivesUpBody x old new = GivesUp x.waiting.body old new
 
 -- this is kept of a request with this head that was handed out on this date
 pub record KeepsHead (w : Waiting) (h : Head) (date : HttpDate) : Type 0 where
-  pub version : w.form.version ≡ h.version
-  pub no_body : w.form.no_body ≡ is_head_method h.method
-  pub text : w.dropped.items ≡ own_text_by 500 (own_printing_to h.headers.items h.version (is_head_method h.method) date)
+  pub version : w.answer_form.version ≡ h.version
+  pub no_body : w.answer_form.no_body ≡ is_head_method h.method
+  pub text : w.dropped.items ≡ own_text_by 500 (printing_to h.headers.items h.version (is_head_method h.method) date)
 
 -- what is kept of a request that was read on this date, of whose body nothing was read yet
 pub record KeepsRequest (x : Exchange) (date : HttpDate) : Type 0 where

@@ -30,7 +30,7 @@ use Rattle.tiny_http_message.specs.declared.heads.HeadFault.TheVariants as fault
 use Rattle.tiny_http_message.specs.declared.body.Body.{Body}
 use Rattle.tiny_http_message.specs.Framing.{framing, is_built, is_rest}
 use Rattle.tiny_http_stream.specs.Source.{SourceState, feed_from, IsAtEnd}
-use Rattle.tiny_http_message.specs.Pipeline.{Request, Item, Asks, Refuses, BadRequest, Place, IsCutWithHead, BodyAt, OneHead, body_length_or_0}
+use Rattle.tiny_http_message.specs.Pipeline.{Request, Item, Asks, Refuses, BadRequest, Place, IsCutWithHead, BodyAt, OneHead, body_length_or_0, place_after}
 use Rattle.tiny_http_message.specs.OwnAnswer.{own_text}
 use Rattle.tiny_http_message.specs.Body.{Remaining, remaining, Fits}
 use Rattle.tiny_http_message.specs.Exchange.{exchange_head, exchange_left, exchange_streams, KeepsRequest}
@@ -122,7 +122,7 @@ bad_request_item v = Refuses BadRequest v false true
 -- nothing is left of the input, and it stopped as its feed does
 pub record IsCutOff {R : Type 0} (old new : SourceState R) : Type 0 where
   pub over : new.is_over ≡ true
-  pub left : (f : Feed) → old.feed ≡ Some f → new.feed ≡ Some (stopped f.stop)
+  pub remains : (f : Feed) → old.feed ≡ Some f → new.feed ≡ Some (stopped f.stop)
 
 -- why no request comes where the input stopped so, in front of a head or after bytes of one
 abbrev pub cut_end : Stop → Bool → EndOfRequests
@@ -191,11 +191,6 @@ Begins f (Some x) new None = IsCutWithHead f.form (body_length_or_0 f) x.bytes
 Begins f (Some x) new (Some b) =
     is_rest f.form ≡ false → (IsCutWithHead f.form (body_length_or_0 f) x.bytes → ⊥) × (body : Feed) × (next : Place) × BodyAt f.form (body_length_or_0 f) x.bytes x.stop body next
     × ComesWith (remaining b new) x.stop body next × Fits b f.form (body_length_or_0 f) 0 false
-
--- where the next head begins after a request
-abbrev pub place_after : Bool → Place → Place
-place_after true next = None
-place_after false next = next
 
 -- ONE HEAD, read at a place: the item that stands there, what is still to come of its body, and where the next head begins
 -- after that, unless the request is the last; or why no request comes.

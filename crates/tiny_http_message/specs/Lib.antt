@@ -1,10 +1,11 @@
 pub mod Framing
+pub mod ResponseValue
 pub mod OwnAnswer
 pub mod Page
 pub mod TextState
 pub mod Pipeline
 pub mod PipelineReading
 pub mod Body
-pub mod BodyLeft
+pub mod BodyRemains
 pub mod Exchange
 pub mod HeadReads

@@ -117,6 +117,11 @@ BodyAt Chunked n after stop body next =
     ((rest : List ℕ) × WholeChunks after body.bytes rest × (body.stop ≡ End) × (next ≡ Some rest))
     ⊎ ((kind : ErrorKind) × CutChunks after stop body.bytes kind × (body.stop ≡ Faults kind) × (next ≡ None))
 
+-- where the next head begins after a request
+abbrev pub place_after : Bool → Place → Place
+place_after true next = None
+place_after false next = next
+
 -- a version above 1.1 is refused, and the body is passed over where that can be done
 abbrev pub ends_too_new : Form → Bool
 ends_too_new Rest = true
@@ -127,14 +132,15 @@ abbrev pub item_of : Message → Framing → Feed → Item
 item_of m f body =
     if is_too_new m.version then Refuses VersionNotSupported (version 1 1) (is_head_method m.method) (ends_too_new f.form) else Asks (record { message = m; framing = f; body = body })
 
-abbrev pub goes_on : Message → Framing → Place → Place
-goes_on m f next = if (if is_too_new m.version then ends_too_new f.form else f.is_last) then None else next
+-- where the next head begins after one of this message and framing
+abbrev pub next_place : Message → Framing → Place → Place
+next_place m f next = place_after (if is_too_new m.version then ends_too_new f.form else f.is_last) next
 
 -- what a heading is: an item, if any, and where the next one begins
 abbrev pub FoundAt : Stop → Heading → Option Item → Place → Type 0
 FoundAt stop (Ends answer) item next = (item ≡ answer) × (next ≡ None)
 FoundAt stop (Heads m f after) item next =
-    (body : Feed) × (behind : Place) × BodyAt f.form (body_length_or_0 f) after stop body behind × (item ≡ Some (item_of m f body)) × (next ≡ goes_on m f behind)
+    (body : Feed) × (behind : Place) × BodyAt f.form (body_length_or_0 f) after stop body behind × (item ≡ Some (item_of m f body)) × (next ≡ next_place m f behind)
 
 -- One head: the item that it is, if any, and where the next one begins.
 abbrev pub OneHead : List ℕ → Stop → Option Item → Place → Type 0

@@ -4,13 +4,13 @@ use Rattle.tiny_http_wire.specs.declared.device.Stop.{Stop}
 use Rattle.tiny_http_wire.specs.declared.device.Stop.TheVariants.{End, Fault as Faults}
 use Rattle.tiny_http_wire.specs.Device.{Feed}
 use Rattle.tiny_http_wire.specs.Heads.{Message}
-use Rattle.tiny_http_wire.specs.Reading.{request_head_read, RequestHeadRead, Whole, Faulty}
+use Rattle.tiny_http_wire.specs.HeadReading.{request_head_read, RequestHeadRead, Whole, Faulty}
 use Rattle.tiny_http_wire.specs.ChunkReading.{decoded, Decoded}
 use Rattle.tiny_http_message.specs.declared.framing.Form.{Form}
 use Rattle.tiny_http_message.specs.declared.framing.Form.TheVariants.{Rest, Nothing, WithHead, Counted, Chunked}
 use Rattle.tiny_http_message.specs.declared.framing.Framing.{Framing}
 use Rattle.tiny_http_message.specs.Framing.{framing}
-use Rattle.tiny_http_message.specs.Pipeline.{Item, Refuses, ExpectationFailed, Place, Heading, Ends, Heads, fault_answer, cut_answer, body_length_or_0, served, item_of, goes_on}
+use Rattle.tiny_http_message.specs.Pipeline.{Item, Refuses, ExpectationFailed, Place, Heading, Ends, Heads, fault_answer, cut_answer, body_length_or_0, served, item_of, next_place}
 
 -- a body and where the next head begins
 pub record BodyRead : Type 0 where
@@ -57,7 +57,7 @@ items_at go stop (Ends None) = []
 items_at go stop (Ends (Some item)) = item ∷ []
 items_at go stop (Heads m f after) =
     let b = body_read f.form (body_length_or_0 f) after stop in
-    item_of m f b.body ∷ go (goes_on m f b.next)
+    item_of m f b.body ∷ go (next_place m f b.next)
 
 abbrev pub items_from : ℕ → Stop → Place → List Item
 items_from zero stop place = []

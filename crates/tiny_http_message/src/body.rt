@@ -5,7 +5,7 @@ ghost use Rattle.std.specs.IoError.{error_kind};
 ghost use Rattle.tiny_http_wire.specs.Device.{AnswersStop, Feed};
 ghost use Rattle.tiny_http_stream.specs.Source.{GoesOn, IsAtEnd};
 ghost use Rattle.tiny_http_stream.specs.ToCome.{skipped};
-ghost use Rattle.tiny_http_message.specs.Body.{remaining, counted_left, prepended_body, BodyStops, is_streaming, body_stop, body_standing, ReadsOn, FillsFromBody, GivesUp};
+ghost use Rattle.tiny_http_message.specs.Body.{remaining, counted_remaining, prepended_body, BodyStops, is_streaming, body_stop, body_standing, ReadsOn, FillsFromBody, GivesUp};
 
 use std::io;
 use std::io::{Cursor, ErrorKind};
@@ -27,7 +27,7 @@ pub enum Body {
 }
 
 // What is reported after the last byte of a body.
-fn told(stop: Stop) -> Result<usize, io::Error>
+fn report(stop: Stop) -> Result<usize, io::Error>
     ensures { AnswersStop stop result }
 {
     match stop {
@@ -38,7 +38,7 @@ fn told(stop: Stop) -> Result<usize, io::Error>
 
 /// The body of which so many bytes of the input are left.
 pub fn counted(left: usize) -> Body
-    ensures remaining { (feed : Option Feed) → remaining result feed ≡ option_map (counted_left left) feed }
+    ensures remaining { (feed : Option Feed) → remaining result feed ≡ option_map (counted_remaining left) feed }
     ensures moves { ReadsOn (Body.Counted left) 0 false result }
 {
     if left == 0 {
@@ -144,7 +144,7 @@ impl Body {
         ensures broken { IfErr result (λ e. ReadsOn self.old 0 true self.new × (self.new ≡ Body.Over (Stop.Fault (error_kind e)))) }
         ensures settled { is_streaming self.old ≡ false → source.new ≡ source.old }
         ensures at_end { OnErr result (body_stop self.old ≡ None → IsAtEnd source.new) }
-        ensures tells { IfSome (body_stop self.old) (λ stop. 0 < length buf.new → AnswersStop stop result × (self.new ≡ self.old)) }
+        ensures reports_stop { IfSome (body_stop self.old) (λ stop. 0 < length buf.new → AnswersStop stop result × (self.new ≡ self.old)) }
         ensures goes_on { GoesOn source.old.feed source.new.feed }
         ensures standing { is_streaming self.old ≡ true → source.new.standing ≡ body_standing self.new source.old.standing }
     {
@@ -153,7 +153,7 @@ impl Body {
         }
         let standing = source.standing();
         let read = match self {
-            Body::Over(stop) => return told(*stop),
+            Body::Over(stop) => return report(*stop),
             Body::WithHead(bytes) => return bytes.read_in(buf),
             Body::Counted(left) => {
                 let left = *left;

@@ -133,7 +133,7 @@ impl Exchange {
         ensures settled { exchange_streams self.old ≡ false → (exchange_streams self.new ≡ false) × (source.new ≡ source.old) }
         ensures at_end { OnErr result (exchange_stop self.old ≡ None → IsAtEnd source.new) }
         ensures broken { IfErr result (λ e. exchange_stop self.new ≡ Some (Stop.Fault (error_kind e))) }
-        ensures tells { IfSome (exchange_stop self.old) (λ stop. 0 < length buf.new → AnswersStop stop result × (exchange_stop self.new ≡ Some stop) × (source.new ≡ source.old)) }
+        ensures reports_stop { IfSome (exchange_stop self.old) (λ stop. 0 < length buf.new → AnswersStop stop result × (exchange_stop self.new ≡ Some stop) × (source.new ≡ source.old)) }
         ensures head { exchange_head self.new ≡ exchange_head self.old }
         ensures goes_on { GoesOn source.old.feed source.new.feed }
         // The source stands at the next head once the body is over.
@@ -227,13 +227,13 @@ fn head_of(message: Message, framing: Framing) -> Head
 fn hand_out(alloc: Global, head: Head, body: Body, now: HttpDate) -> Result<Exchange, AllocError>
     ensures { IfOk result (λ x. (x.head ≡ head) × (x.waiting.body ≡ body) × KeepsHead x.waiting head now) }
 {
-    let form = AnswerForm {
+    let answer_form = AnswerForm {
         version: head.version,
         no_body: is_head(&head.method),
     };
-    let dropped = DropText::new(alloc, form.version, form.no_body, now)?;
+    let dropped = DropText::new(alloc, answer_form.version, answer_form.no_body, now)?;
     let waiting = Waiting {
-        form,
+        answer_form,
         dropped,
         body,
     };

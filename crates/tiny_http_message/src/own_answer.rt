@@ -2,7 +2,8 @@
 ghost use Rattle.std.specs.Prelude.{◌≡◌, ◌<◌, ◌≤◌, List, [], IfOk, length, vec_len, vec_capacity};
 ghost use Rattle.httpdate.specs.Date.{date_text};
 ghost use Rattle.tiny_http_wire.specs.declared.common.Header.{Header};
-ghost use Rattle.tiny_http_message.specs.OwnAnswer.{own_text, own_text_by, own_printing_to};
+ghost use Rattle.tiny_http_message.specs.ResponseValue.{printing_to};
+ghost use Rattle.tiny_http_message.specs.OwnAnswer.{own_text, own_text_by};
 
 use httpdate::HttpDate;
 use std::alloc::{AllocError, Global};
@@ -114,7 +115,7 @@ impl DropText {
         no_body: bool,
         now: HttpDate,
     ) -> Result<DropText, AllocError>
-        ensures { IfOk result (λ text. (headers : List Header) → text.items ≡ own_text_by 500 (own_printing_to headers version no_body now)) }
+        ensures { IfOk result (λ text. (headers : List Header) → text.items ≡ own_text_by 500 (printing_to headers version no_body now)) }
     {
         let room = Vec::with_capacity(alloc, OWN_ANSWER)?;
         Ok(DropText {

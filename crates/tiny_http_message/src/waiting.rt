@@ -16,7 +16,7 @@ pub struct AnswerForm {
 #[derive(Drop)]
 pub struct Waiting {
     /// How its answer is printed.
-    pub form: AnswerForm,
+    pub answer_form: AnswerForm,
     /// What is sent if the request is dropped.
     pub dropped: DropText,
     /// How far its body was read.

@@ -1,8 +1,8 @@
-pub mod PartsLemmas
+pub mod FeedPartsLemmas
 pub mod BufferLemmas
 pub mod ToComeLemmas
-pub mod LineLemmas
-pub mod LineEnds
+pub mod LineEndsLemmas
+pub mod LineEndsScanning
 pub mod SourceLines
 pub mod OutletLemmas
 pub mod SourceGoesOn

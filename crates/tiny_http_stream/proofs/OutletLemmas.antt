@@ -7,16 +7,12 @@ use Rattle.tiny_http_device.proofs.DeviceFeeds.{front-more}
 use Rattle.std.proofs.lemmas.List.{take-append-drop, take_all}
 use Rattle.tiny_http_device.proofs.DeviceLemmas.{IsFront-same, Failed-append}
 use Rattle.tiny_http_stream.specs.Outlet.{holding}
+use Rattle.tiny_http_device.proofs.DeviceLemmas.{grown-nil}
 
-pub grown-nil : (ended : Bool) (known : Option (List ℕ)) → grown ended known [] ≡ known
-grown-nil true known = refl
-grown-nil false None = refl
-grown-nil false (Some xs) = ap Some (append-nil xs)
-
-grown-append : (ended : Bool) (known : Option (List ℕ)) (s t : List ℕ) → grown ended known (s ++ t) ≡ grown ended (grown ended known s) t
-grown-append true known s t = refl
-grown-append false None s t = refl
-grown-append false (Some xs) s t = ap Some (sym (append_assoc xs s t))
+outlet-grown-append : (ended : Bool) (known : Option (List ℕ)) (s t : List ℕ) → grown ended known (s ++ t) ≡ grown ended (grown ended known s) t
+outlet-grown-append true known s t = refl
+outlet-grown-append false None s t = refl
+outlet-grown-append false (Some xs) s t = ap Some (sym (append_assoc xs s t))
 
 -- what was held is sent
 pub held-sent : (a b : Sink) (held : List ℕ) → Took a b held → Took (holding a held false) (holding b [] false) []
@@ -45,7 +41,7 @@ held-failed a b held kind f =
 -- more is held
 pub held-more : (a : Sink) (held more new : List ℕ) → new ≡ held ++ more → Took (holding a held false) (holding a new false) more
 held-more a held more new e = record {
-  bytes = ap (grown a.has_ended a.taken) e ∙ grown-append a.has_ended a.taken held more;
+  bytes = ap (grown a.has_ended a.taken) e ∙ outlet-grown-append a.has_ended a.taken held more;
   sent = IsFront-same a.sent;
   failures = refl;
   last_kind = refl;

@@ -2,10 +2,10 @@
 use Rattle.std.proofs.Common.{◌≡◌, ℕ, List, [], ◌∷◌, ◌++◌, Option, None, Some, Ok, Err, refl}
 use Rattle.std.specs.Str.{IsAscii, IsNotAscii}
 use Rattle.tiny_http_device.specs.Device.{Feed, prepended}
-use Rattle.tiny_http_stream.specs.Line.{BeginsNoLineEnd}
+use Rattle.tiny_http_stream.specs.LineEnds.{BeginsNoLineEnd}
 use Rattle.tiny_http_stream.specs.Source.{ReadsLine}
 use Rattle.tiny_http_stream.specs.declared.source.LineFault.TheVariants.{NotAscii}
-use Rattle.tiny_http_stream.proofs.LineLemmas.{line-at_end}
+use Rattle.tiny_http_stream.proofs.LineEndsLemmas.{line-at_end}
 
 -- a first line that is no ASCII
 pub reads-not_ascii : (f0 f1 : Option Feed) (text : List ℕ) → f0 ≡ prepended (text ++ (13 ∷ (10 ∷ []))) f1 → BeginsNoLineEnd text (13 ∷ []) → IsNotAscii text →

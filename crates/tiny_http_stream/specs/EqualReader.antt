@@ -4,7 +4,7 @@ use Rattle.std.specs.declared.io.Error.{Error}
 use Rattle.std.specs.Option.{option_map}
 use Rattle.tiny_http_device.specs.Device.{Feed, Reads}
 use Rattle.tiny_http_stream.specs.declared.equal_reader.EqualReader.{EqualReader}
-use Rattle.tiny_http_stream.specs.Parts.{feed_front, feed_behind}
+use Rattle.tiny_http_stream.specs.FeedParts.{feed_front, feed_behind}
 
 -- the reader inside
 abbrev pub equal_inner : {R : Type 0} → EqualReader R → R
@@ -26,5 +26,5 @@ pub record ReadsPart {R : Type 0} (feed : R → Option Feed) (old new : EqualRea
   pub empty : length buf ≡ 0 → (r ≡ Ok 0) × (new ≡ old)
   pub past : equal_left old ≡ 0 → (r ≡ Ok 0) × (new ≡ old)
   pub count : IfOk r (λ n. equal_left old ≡ n + equal_left new)
-  pub kept : OnErr r (equal_left new ≡ equal_left old)
+  pub fault_takes_none : OnErr r (equal_left new ≡ equal_left old)
   pub behind : option_map (feed_behind (equal_left new)) (feed (equal_inner new)) ≡ option_map (feed_behind (equal_left old)) (feed (equal_inner old))

@@ -27,6 +27,6 @@ pub record ReadsFused {R : Type 0} (feed : R → Option Feed) (old new : FusedRe
   pub reads : Reads (fused_feed feed old) (fused_feed feed new) r buf
   pub empty : length buf ≡ 0 → (r ≡ Ok 0) × (new ≡ old)
   pub over : IfOk r (λ n. n ≡ 0 → 0 < length buf → fused_inner new ≡ None)
-  pub kept : IfOk r (λ n. 0 < n → IsSome (fused_inner new))
+  pub keeps_reader : IfOk r (λ n. 0 < n → IsSome (fused_inner new))
   pub failed : OnErr r (IsSome (fused_inner new))
   pub stays : fused_inner old ≡ None → (r ≡ Ok 0) × (new ≡ old)

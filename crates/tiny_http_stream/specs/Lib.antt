@@ -1,9 +1,9 @@
-pub mod Line
+pub mod LineEnds
 pub mod ToCome
 pub mod Input
 pub mod Standing
 pub mod Source
 pub mod Outlet
-pub mod Parts
+pub mod FeedParts
 pub mod EqualReader
 pub mod FusedReader

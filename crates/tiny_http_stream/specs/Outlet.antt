@@ -14,11 +14,11 @@ pub record OutletState (W : Type 0) : Type 0 where
   pub held : List ℕ
   pub ended : Bool
   pub writer : W
-  pub tells : Sink
+  pub sink : Sink
 
 -- what its writer took and what is held back, as one sink
 abbrev pub output_of : {W : Type 0} → OutletState W → Sink
-output_of o = holding o.tells o.held o.ended
+output_of o = holding o.sink o.held o.ended
 
 -- the bytes that are held back
 abbrev pub outlet_held : {W : Type 0} → OutletState W → List ℕ
@@ -34,7 +34,7 @@ outlet_writer o = o.writer
 
 -- an outlet that still takes bytes has a writer that holds none of them back
 abbrev pub SentOn : {W : Type 0} → OutletState W → Type 0
-SentOn o = (output_of o).has_ended ≡ false → HoldsNothing o.tells
+SentOn o = (output_of o).has_ended ≡ false → HoldsNothing o.sink
 
 -- what was held was sent; or the writer failed in it
 abbrev pub EndsOutlet : {T : Type 0} → Sink → Sink → Result T Error → Type 0

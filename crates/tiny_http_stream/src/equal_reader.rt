@@ -3,7 +3,7 @@ ghost use Rattle.std.specs.Prelude.{◌≡◌, ◌<◌, ◌≤◌, ◌+◌, leng
 ghost use Rattle.std.specs.Option.{option_map};
 ghost use Rattle.std.specs.IoError.{error_kind};
 ghost use Rattle.tiny_http_device.specs.Device.{prepended, StopsBy};
-ghost use Rattle.tiny_http_stream.specs.Parts.{feed_behind};
+ghost use Rattle.tiny_http_stream.specs.FeedParts.{feed_behind};
 
 use std::io;
 use std::io::Read;
@@ -69,7 +69,7 @@ impl<R: ReadDevice + Drop> EqualReader<R> {
         ensures empty { length buf.new ≡ 0 → (result ≡ Ok 0) × (self.new ≡ self.old) }
         ensures past { equal_left self.old ≡ 0 → (result ≡ Ok 0) × (self.new ≡ self.old) }
         ensures count { IfOk result (λ n. equal_left self.old ≡ n + equal_left self.new) }
-        ensures kept { OnErr result (equal_left self.new ≡ equal_left self.old) }
+        ensures fault_takes_none { OnErr result (equal_left self.new ≡ equal_left self.old) }
         // What is read away, now or later, stays the same.
         ensures behind { option_map (feed_behind (equal_left self.new)) (R.feed (equal_inner self.new)) ≡ option_map (feed_behind (equal_left self.old)) (R.feed (equal_inner self.old)) }
     {

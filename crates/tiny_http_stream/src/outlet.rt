@@ -21,7 +21,7 @@ impl<W: WriteDevice> Model for Outlet<W> {
 
     ghost Value = { OutletState W };
 
-    ghost view = { λ o. record { held = o.held; ended = o.ended; writer = o.inner; tells = W.sink o.inner } };
+    ghost view = { λ o. record { held = o.held; ended = o.ended; writer = o.inner; sink = W.sink o.inner } };
 }
 
 impl<W: WriteDevice> Outlet<W> {
@@ -32,7 +32,7 @@ impl<W: WriteDevice> Outlet<W> {
         ensures held { outlet_held result ≡ [] }
         ensures writer { outlet_writer result ≡ inner }
         ensures open { outlet_ended result ≡ false }
-        ensures tells { result.tells ≡ W.sink inner }
+        ensures sink { result.sink ≡ W.sink inner }
     {
         Outlet {
             inner,
@@ -130,10 +130,10 @@ impl<W: WriteDevice> Outlet<W> {
     }
 
     /// Does nothing; for the crates above. Its contract says what always holds between an outlet and its writer.
-    pub fn tell(&self)
-        ensures tells { self.now.tells ≡ W.sink self.now.writer }
+    pub fn facts(&self)
+        ensures sink { self.now.sink ≡ W.sink self.now.writer }
         ensures none { self.now.ended ≡ true → self.now.held ≡ [] }
-        ensures begins { BeginsKnown self.now.tells.sent self.now.tells.taken }
+        ensures begins { BeginsKnown self.now.sink.sent self.now.sink.taken }
     {
         let _ = self.inner.failures();
     }
@@ -150,7 +150,7 @@ impl<W: WriteDevice> Outlet<W> {
         ensures ends { EndsOutlet (output_of self.old) (output_of self.new) result }
         ensures held { outlet_held self.new ≡ [] }
         // The writer is flushed.
-        ensures sent { outlet_ended self.old ≡ false → OnOk result (self.new.tells.has_ended ≡ false → HoldsNothing self.new.tells) }
+        ensures sent { outlet_ended self.old ≡ false → OnOk result (self.new.sink.has_ended ≡ false → HoldsNothing self.new.sink) }
         ensures ended { outlet_ended self.new ≡ true }
     {
         let sent = self.flush();
@@ -162,7 +162,7 @@ impl<W: WriteDevice> Outlet<W> {
     /// The writer's count of failures; for the crates above, as `abandon` is.
     pub fn writer_failures(&self) -> u64
         ensures count { result ≡ (output_of self.now).failures }
-        ensures sent { let s = self.now.tells in BeginsKnown s.sent s.taken }
+        ensures sent { let s = self.now.sink in BeginsKnown s.sent s.taken }
     {
         self.inner.failures()
     }
@@ -172,7 +172,7 @@ impl<W: WriteDevice> Outlet<W> {
         ensures held { outlet_held self.new ≡ [] }
         ensures ended { outlet_ended self.new ≡ true }
         ensures writer { outlet_writer self.new ≡ outlet_writer self.old }
-        ensures tells { self.new.tells ≡ self.old.tells }
+        ensures sink { self.new.sink ≡ self.old.sink }
     {
         self.held.clear();
         self.ended = true;
@@ -181,7 +181,7 @@ impl<W: WriteDevice> Outlet<W> {
     /// The writer. What is held is dropped.
     pub fn into_inner(self) -> W
         ensures inner { result ≡ outlet_writer self }
-        ensures tells { W.sink result ≡ self.tells }
+        ensures sink { W.sink result ≡ self.sink }
     {
         self.inner
     }

@@ -4,7 +4,7 @@ ghost use Rattle.std.specs.Option.{option_map};
 ghost use Rattle.std.specs.IoError.{error_kind};
 ghost use Rattle.tiny_http_device.specs.Device.{AnswersStop, prepended, StopsBy};
 ghost use Rattle.tiny_http_text.specs.Lines.{IsUnfinished, has_crlf};
-ghost use Rattle.tiny_http_stream.specs.Line.{held_return, BeginsNoLineEnd, EndsLine};
+ghost use Rattle.tiny_http_stream.specs.LineEnds.{held_return, BeginsNoLineEnd, EndsLine};
 ghost use Rattle.tiny_http_stream.specs.ToCome.{skipped, stopped, HasByte, HasNoByte};
 
 use crate::buffer::Buffer;
@@ -370,7 +370,7 @@ impl<R: ReadDevice> Input<R> {
     fn take_first_line(&mut self, alloc: Global) -> Result<Vec<u8>, LineFault>
         ensures text { IfOk result (λ text. input_feed R.feed self.old ≡ prepended (text.items ++ (13 ∷ (10 ∷ []))) (input_feed R.feed self.new)) }
         ensures first { IfOk result (λ text. BeginsNoLineEnd text.items (13 ∷ [])) }
-        ensures told { OnErr result (IsSome (input_feed R.feed self.old) → IsSome (input_feed R.feed self.new)) }
+        ensures still_stated { OnErr result (IsSome (input_feed R.feed self.old) → IsSome (input_feed R.feed self.new)) }
         ensures none { IfErr result (λ fault. fault ≢ LineFault.Memory → (gone : List ℕ) × IsUnfinished gone
             × (input_feed R.feed self.old ≡ prepended gone (input_feed R.feed self.new))) }
         ensures fault { IfErr result (λ fault. fault ≢ LineFault.Memory → IsInputOver self.new
@@ -406,7 +406,7 @@ impl<R: ReadDevice> Input<R> {
     fn read_slowly(&mut self, alloc: Global) -> Result<Vec<u8>, LineFault>
         ensures text { IfOk result (λ text. input_feed R.feed self.old ≡ prepended (text.items ++ (13 ∷ (10 ∷ []))) (input_feed R.feed self.new)) }
         ensures first { IfOk result (λ text. BeginsNoLineEnd text.items (13 ∷ [])) }
-        ensures told { OnErr result (IsSome (input_feed R.feed self.old) → IsSome (input_feed R.feed self.new)) }
+        ensures still_stated { OnErr result (IsSome (input_feed R.feed self.old) → IsSome (input_feed R.feed self.new)) }
         ensures none { IfErr result (λ fault. fault ≢ LineFault.Memory → (gone : List ℕ) × IsUnfinished gone
             × (input_feed R.feed self.old ≡ prepended gone (input_feed R.feed self.new))) }
         ensures fault { IfErr result (λ fault. fault ≢ LineFault.Memory → IsInputOver self.new

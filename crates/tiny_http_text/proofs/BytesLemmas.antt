@@ -151,9 +151,9 @@ is-all-ascii : (text : List ℕ) (t : Bool) → (AreAscii text → ⊥) → list
 is-all-ascii text true h e = absurd (h e)
 is-all-ascii text false h e = refl
 
-pub ascii-told : (text : List ℕ) (told : Bool) → MatchBool told (IsAscii text) (IsNotAscii text) → told ≡ list_all is_ascii text
-ascii-told text true h = sym (are-ascii text h)
-ascii-told text false h = is-all-ascii text (list_all is_ascii text) (not-ascii text h) refl
+pub ascii-stated : (text : List ℕ) (all_ascii : Bool) → MatchBool all_ascii (IsAscii text) (IsNotAscii text) → all_ascii ≡ list_all is_ascii text
+ascii-stated text true h = sym (are-ascii text h)
+ascii-stated text false h = is-all-ascii text (list_all is_ascii text) (not-ascii text h) refl
 
 -- what isn't true is false
 pub not_true : (t : Bool) → (t ≡ true → ⊥) → t ≡ false

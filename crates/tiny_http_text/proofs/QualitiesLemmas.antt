@@ -10,13 +10,10 @@ use Rattle.tiny_http_text.specs.Bytes.{is_blank, HasNo, parts, comma, point, sem
 use Rattle.tiny_http_text.specs.Qualities.{IsQuality, GivesQuality, FirstQuality, Element, Elements, ListsQualities}
 use Rattle.tiny_http_text.specs.QualityReading.{cut, short_number, thousandths, both, quality_cut, quality, behind_q, parameter_quality, first_quality, element_parts, element, qualities}
 use Rattle.tiny_http_text.proofs.BytesLemmas.{front, trims-is, trims-one, skip-blanks, ArePartsOf, parts-are}
-use Rattle.tiny_http_text.proofs.QualityReadingLemmas.{has-no, quality-whole, quality-parted}
+use Rattle.tiny_http_text.proofs.QualityReadingLemmas.{numerals, has-no, quality-whole, quality-parted}
 
 plain : IsNumeralModel (AllDigits 10) (digits_value 10)
 plain = numerals_by_value (AllDigits 10) tells_digits
-
-own : IsNumeralModel (λ ds. all_ascii_digits ds ≡ true) (digits_value 10)
-own = numerals_by_value _ tells_all_ascii_digits
 
 if-some : (b : Bool) (v n : ℕ) → (if b then Some v else None) ≡ Some n → (b ≡ true) × (n ≡ v)
 if-some true v n h = (refl, cc)
@@ -36,14 +33,14 @@ short_number-is ds n h =
     let b = and_parts _ _ a.1 in
     let some = ltb-true 0 (length ds) a.0 in
     let few : nat_le (length ds) 6 ≡ true = b.0 in
-    (omega (arith, some), grind (arith, nat_tests), own.to ds b.1, k.1)
+    (omega (arith, some), grind (arith, nat_tests), numerals.to ds b.1, k.1)
 
 short_number-one : (ds : List ℕ) → 1 ≤ length ds → length ds ≤ 6 → AllDigits 10 ds → short_number ds ≡ Some (digits_value 10 ds)
 unfolding short_number
 short_number-one ds some l d =
     let first : ltb 0 (length ds) ≡ true = lt-ltb 0 (length ds) some in
     let six : nat_le (length ds) 6 ≡ true = grind (arith, nat_tests) in
-    rw (first, six, own.from ds d) refl
+    rw (first, six, numerals.from ds d) refl
 
 -- and after it
 thousandths-is : (ds : List ℕ) (n : ℕ) → thousandths ds ≡ Some n → (length ds ≤ 3) × AllDigits 10 ds × (n ≡ digits_value 10 ds * 10 ^ (3 - length ds))
@@ -52,13 +49,13 @@ thousandths-is ds n h =
     let k = if-some _ _ n h in
     let a = and_parts _ _ k.0 in
     let few : nat_le (length ds) 3 ≡ true = a.0 in
-    (grind (arith, nat_tests), own.to ds a.1, k.1)
+    (grind (arith, nat_tests), numerals.to ds a.1, k.1)
 
 thousandths-one : (ds : List ℕ) → length ds ≤ 3 → AllDigits 10 ds → thousandths ds ≡ Some (digits_value 10 ds * 10 ^ (3 - length ds))
 unfolding thousandths
 thousandths-one ds l d =
     let three : nat_le (length ds) 3 ≡ true = grind (arith, nat_tests) in
-    rw (three, own.from ds d) refl
+    rw (three, numerals.from ds d) refl
 
 cut-step : (c b : ℕ) (bs : List ℕ) (t : Bool) (o : Option (List ℕ × List ℕ)) (r : List ℕ × List ℕ) → (b == c) ≡ t → ((s : List ℕ × List ℕ) → o ≡ Some s → bs ≡ s.0 ++ c ∷ s.1)
     → (if t then Some ([], bs) else option_map (λ s. (b ∷ s.0, s.1)) o) ≡ Some r → b ∷ bs ≡ r.0 ++ c ∷ r.1

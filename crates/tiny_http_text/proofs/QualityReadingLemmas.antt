@@ -36,8 +36,9 @@ pub cut-none : (c : ℕ) (bs : List ℕ) (r : Cut) → c < 128 → IsSplitOnceRe
 cut-none c bs None l h = has-no c bs (split_parts c bs None h l)
 cut-none c bs (Some x) l h = tt
 
-own : IsNumeralModel (λ ds. all_ascii_digits ds ≡ true) (digits_value 10)
-own = numerals_by_value _ tells_all_ascii_digits
+-- a numeral is one digit or more
+pub numerals : IsNumeralModel (λ ds. all_ascii_digits ds ≡ true) (digits_value 10)
+numerals = numerals_by_value _ tells_all_ascii_digits
 
 -- one to six digits
 pub short_number-long : (ds : List ℕ) → 6 < length ds → None ≡ short_number ds
@@ -51,19 +52,19 @@ unfolding short_number
 short_number-short ds (Some n) l h =
     let some : ltb 0 (length ds) ≡ true = lt-ltb 0 (length ds) h.0.0.0 in
     let short : nat_le (length ds) 6 ≡ true = grind (arith, nat_tests) in
-    let digits : all_ascii_digits ds ≡ true = own.from ds h.0.0.1 in
+    let digits : all_ascii_digits ds ≡ true = numerals.from ds h.0.0.1 in
     rw (some, short, digits) (ap Some h.1)
 short_number-short ds None l h = none-from _ _ (λ t.
     let first = and_parts _ _ t in
     let digits = (and_parts _ _ first.1).1 in
-    let small = digits_value_short own ds 6 digits l in
-    h ((ltb-true 0 (length ds) first.0, own.to ds digits), omega (arith, small)))
+    let small = digits_value_short numerals ds 6 digits l in
+    h ((ltb-true 0 (length ds) first.0, numerals.to ds digits), omega (arith, small)))
 
 pub short_number-bound : (ds : List ℕ) (r : Option ℕ) → length ds ≤ 6 → SomeIff r (IsNumeral 10 ds × (digits_value 10 ds < 2 ^ 32)) (digits_value 10 ds) → IfSome r (λ n. (n < 10 ^ length ds) × (n < 1000000))
 short_number-bound ds None l h = tt
 short_number-bound ds (Some n) l h =
     let first : digits_value 10 ds < 10 ^ length ds = digits_value-lt 10 ds h.0.0.1 in
-    let second : digits_value 10 ds < 10 ^ 6 = digits_value_short own ds 6 (own.from ds h.0.0.1) l in
+    let second : digits_value 10 ds < 10 ^ 6 = digits_value_short numerals ds 6 (numerals.from ds h.0.0.1) l in
     (subst (λ k. k < 10 ^ length ds) (sym h.1) first, subst (λ k. k < 1000000) (sym h.1) second)
 
 -- up to three digits after a point

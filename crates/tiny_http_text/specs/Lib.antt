@@ -1,6 +1,6 @@
 pub mod Ascii
 pub mod Bytes
 pub mod Lines
-pub mod Refused
+pub mod FromAsciiError
 pub mod Qualities
 pub mod QualityReading

@@ -52,7 +52,7 @@ pub struct FromAsciiError {
 }
 
 impl FromAsciiError {
-    ghost use Rattle.tiny_http_text.specs.Refused.{refused_bytes, bad_place};
+    ghost use Rattle.tiny_http_text.specs.FromAsciiError.{refused_bytes, bad_place};
 
     /// Gives the bytes back as they were handed in.
     pub fn into_source(self) -> Vec<u8>
@@ -84,7 +84,7 @@ fn ascii_len(bytes: &[u8]) -> usize
 }
 
 impl AsciiString {
-    ghost use Rattle.tiny_http_text.specs.Refused.{refused_bytes, bad_place};
+    ghost use Rattle.tiny_http_text.specs.FromAsciiError.{refused_bytes, bad_place};
 
     /// Takes bytes that are all below 128, and no others. A refusal hands them back.
     pub fn from_ascii(bytes: Vec<u8>) -> Result<AsciiString, FromAsciiError>

@@ -80,7 +80,7 @@ pub fn first_part(text: &[u8], c: u8) -> &[u8]
 }
 
 /// Whether all bytes are below 128.
-pub fn is_ascii(text: &[u8]) -> bool
+pub fn are_ascii(text: &[u8]) -> bool
     ensures { result ≡ list_all is_ascii text.now }
 {
     text.is_ascii()

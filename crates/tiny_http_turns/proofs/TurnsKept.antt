@@ -1,4 +1,4 @@
--- What the calls of `Turns` keep of the marks and the slot, and what they give.
+-- What the calls of `Turns` keep of the marks and the resting, and what they give.
 use Prim.Native.Nat.{zero, suc}
 use Rattle.std.proofs.Common.{◌≡◌, ◌≢◌, ℕ, Bool, true, false, List, [], ◌∷◌, ◌++◌, map, Some, None, refl, ap, arith, sym, ◌∙◌, subst, not, get_or}
 use Rattle.std.specs.Prelude.{slice_get, slice_set, Option, is_some}
@@ -8,19 +8,19 @@ use Rattle.tiny_http_turns.specs.declared.turns.Entry.{Entry}
 use Rattle.tiny_http_turns.specs.declared.turns.Entry.TheVariants.{Open as OpenEntry, Held as HeldEntry, Left as LeftEntry, Finished as FinishedEntry}
 use Rattle.tiny_http_turns.specs.declared.turns.Finishing.TheVariants.{Passed as IsPassed, Go as FinishGo}
 use Rattle.tiny_http_turns.specs.declared.turns.Leaving.TheVariants.{Left as IsLeft, Go as LeaveGo}
-use Rattle.tiny_http_turns.specs.Turns.{Mark, Open, Held, Left, Finished, mark_of, TurnsState, HasTurn, first_unfinished, is_any_held, pass_to, TellsPass, is_left_mark, TurnAnswer, Issued, Taken, Opened, Passed, Waits, Goes, Strange, TurnOutcome, turn_outcome, turn_answer, marks_after_step, Take, PutBack, Finish, Leave}
+use Rattle.tiny_http_turns.specs.Turns.{Mark, Open, Held, Left, Finished, mark_of, TurnsState, HasTurn, first_unfinished, is_any_held, pass_to, ReportsPass, is_left_mark, TurnAnswer, Issued, Taken, Opened, Passed, Waits, Goes, Strange, TurnOutcome, turn_outcome, turn_answer, marks_after_step, Take, PutBack, Finish, Leave}
 use Rattle.tiny_http_turns.specs.TurnsCalls.{TakesTurn, Finishes, LeavesTurn}
 use Rattle.tiny_http_turns.proofs.TurnsLemmas.{Moved, Passed_on, moved-issue, moved-hold, moved-open, moved-left, moved-finish}
 use Rattle.tiny_http_turns.proofs.TurnsOutcomes.{outcome-take, outcome-put_back, outcome-finish, outcome-leave_go, outcome-leave_wait}
 
 -- the next mark stays where one is set
-slice_get-set_next : (marks : List Mark) (k : ℕ) (mark : Mark) → slice_get (slice_set marks k mark) (suc k) ≡ slice_get marks (suc k)
+pub slice_get-set_next : (marks : List Mark) (k : ℕ) (mark : Mark) → slice_get (slice_set marks k mark) (suc k) ≡ slice_get marks (suc k)
 slice_get-set_next [] k mark = refl
 slice_get-set_next (m ∷ marks) zero mark = refl
 slice_get-set_next (m ∷ marks) (suc k) mark = slice_get-set_next marks k mark
 
 -- the turn has passed to a number that is not left
-on-none : (old : List Mark) (turn : ℕ) (o : TurnOutcome) → Passed_on old turn o → TellsPass o.0 turn None → (o.0 ≡ Passed) × Moved old o.1 turn true false
+on-none : (old : List Mark) (turn : ℕ) (o : TurnOutcome) → Passed_on old turn o → ReportsPass o.0 turn None → (o.0 ≡ Passed) × Moved old o.1 turn true false
 on-none old turn (Issued k, new) m p = absurd p
 on-none old turn (Taken, new) m p = absurd p
 on-none old turn (Opened, new) m p = absurd p
@@ -30,13 +30,13 @@ on-none old turn (Goes k text, new) m p = absurd p
 on-none old turn (Strange, new) m p = absurd p
 
 -- the turn has passed to one that was left
-on-some : (old : List Mark) (turn : ℕ) (o : TurnOutcome) (text : Vec ℕ) → Passed_on old turn o → TellsPass o.0 turn (Some text) → (o.0 ≡ Goes turn text.items) × Moved old o.1 turn true true
+on-some : (old : List Mark) (turn : ℕ) (o : TurnOutcome) (text : Vec ℕ) → Passed_on old turn o → ReportsPass o.0 turn (Some text) → (o.0 ≡ Goes turn text.items) × Moved old o.1 turn true true
 on-some old turn (Issued k, new) text m p = absurd p
 on-some old turn (Taken, new) text m p = absurd p
 on-some old turn (Opened, new) text m p = absurd p
 on-some old turn (Passed, new) text m p = absurd p
 on-some old turn (Waits, new) text m p = absurd p
-on-some old turn (Goes k told, new) text m p = (grind (arith, p.0, p.1), m.1)
+on-some old turn (Goes k stated, new) text m p = (grind (arith, p.0, p.1), m.1)
 on-some old turn (Strange, new) text m p = absurd p
 
 -- a mark that was read is left
@@ -49,7 +49,7 @@ module _ (items : List Entry) (at : ℕ) (x : Entry) (e : is_left_mark (slice_ge
   pub hold-left_marks : (text : Vec ℕ) (new : Entry) → x ≡ LeftEntry text → new ≡ HeldEntry → map mark_of (slice_set items at new) ≡ (pass_to (slice_get (map mark_of items) at) at (map mark_of items)).1
   hold-left_marks text new l h = rw (map-set mark_of items at new, h, left-read items at x e r, l) refl
 
-  pub hold-left_text : (text : Vec ℕ) → x ≡ LeftEntry text → TellsPass (pass_to (slice_get (map mark_of items) at) at (map mark_of items)).0 at (Some text)
+  pub hold-left_text : (text : Vec ℕ) → x ≡ LeftEntry text → ReportsPass (pass_to (slice_get (map mark_of items) at) at (map mark_of items)).0 at (Some text)
   hold-left_text text l = rw (left-read items at x e r, l) (refl, refl)
 
   left-is : (y : Entry) → is_left_mark (Some (mark_of y)) ≡ true → ((text : Vec ℕ) → y ≡ LeftEntry text → ⊥) → ⊥
@@ -62,41 +62,41 @@ module _ (items : List Entry) (at : ℕ) (x : Entry) (e : is_left_mark (slice_ge
   left-only n = left-is x (ap is_left_mark (sym (left-read items at x e r)) ∙ e) n
 
 module _ {T : Type 0} where
-  none_if_not : (slot : Option T) → is_some slot ≡ false → slot ≡ None
+  none_if_not : (resting : Option T) → is_some resting ≡ false → resting ≡ None
   none_if_not None e = refl
   none_if_not (Some item) e = cc
 
   abbrev pub state_of : List Entry → Option T → TurnsState T
-  state_of items slot = record { marks = map mark_of items; slot = slot }
+  state_of items resting = record { marks = map mark_of items; resting = resting }
 
-  -- marks that moved on, with the slot that fits
-  kept-moved : (old new : List Mark) (turn now : ℕ) (was is : Bool) (slot : Option T) → Moved old new turn was is → now ≡ turn → is_some slot ≡ not is → HasTurn now (record { marks = new; slot = slot })
-  kept-moved old new turn now was is slot m n e = record {
-    in_order = record { shape = m.shape; item = e ∙ ap not (sym m.is_held) };
+  -- marks that moved on, with the resting that fits
+  kept-moved : (old new : List Mark) (turn now : ℕ) (was is : Bool) (resting : Option T) → Moved old new turn was is → now ≡ turn → is_some resting ≡ not is → HasTurn now (record { marks = new; resting = resting })
+  kept-moved old new turn now was is resting m n e = record {
+    in_order = record { shape = m.shape; rests = e ∙ ap not (sym m.is_held) };
     turn_is = n ∙ sym m.turn_is;
   }
 
   -- the same of stored marks
-  kept-stored : (old : List Mark) (items : List Entry) (new : List Mark) (turn now : ℕ) (was is : Bool) (slot : Option T) → map mark_of items ≡ new → Moved old new turn was is → now ≡ turn → is_some slot ≡ not is → HasTurn now (state_of items slot)
-  kept-stored old items new turn now was is slot e m n s =
-      subst (λ (marks : List Mark). HasTurn now (record { marks = marks; slot = slot })) (sym e) (kept-moved old new turn now was is slot m n s)
+  kept-stored : (old : List Mark) (items : List Entry) (new : List Mark) (turn now : ℕ) (was is : Bool) (resting : Option T) → map mark_of items ≡ new → Moved old new turn was is → now ≡ turn → is_some resting ≡ not is → HasTurn now (state_of items resting)
+  kept-stored old items new turn now was is resting e m n s =
+      subst (λ (marks : List Mark). HasTurn now (record { marks = marks; resting = resting })) (sym e) (kept-moved old new turn now was is resting m n s)
 
-  module _ (items : List Entry) (turn at : ℕ) (slot : Option T) (kept : HasTurn turn (state_of items slot)) where
+  module _ (items : List Entry) (turn at : ℕ) (resting : Option T) (kept : HasTurn turn (state_of items resting)) where
     -- the item is there where no number is held
-    pub item-there : is_any_held (map mark_of items) ≡ false → is_some slot ≡ true
-    item-there e = kept.in_order.item ∙ ap not e
+    pub item-there : is_any_held (map mark_of items) ≡ false → is_some resting ≡ true
+    item-there e = kept.in_order.rests ∙ ap not e
 
-    pub kept-issue : HasTurn turn (state_of (items ++ OpenEntry ∷ []) slot)
+    pub kept-issue : HasTurn turn (state_of (items ++ OpenEntry ∷ []) resting)
     kept-issue =
-        kept-stored (map mark_of items) (items ++ OpenEntry ∷ []) (map mark_of items ++ Open ∷ []) (first_unfinished (map mark_of items)) turn (is_any_held (map mark_of items)) (is_any_held (map mark_of items)) slot (map-append mark_of items (OpenEntry ∷ [])) (moved-issue (map mark_of items) kept.in_order.shape) kept.turn_is kept.in_order.item
+        kept-stored (map mark_of items) (items ++ OpenEntry ∷ []) (map mark_of items ++ Open ∷ []) (first_unfinished (map mark_of items)) turn (is_any_held (map mark_of items)) (is_any_held (map mark_of items)) resting (map-append mark_of items (OpenEntry ∷ [])) (moved-issue (map mark_of items) kept.in_order.shape) kept.turn_is kept.in_order.rests
 
     module _ (is_open : slice_get (map mark_of items) at ≡ Some Open) where
       module _ (in_turn : at ≡ turn) where
         held : Moved (map mark_of items) (slice_set (map mark_of items) at Held) (first_unfinished (map mark_of items)) false true
         held = moved-hold (map mark_of items) at kept.in_order.shape is_open (in_turn ∙ kept.turn_is)
 
-        pub slot-there : is_some slot ≡ true
-        slot-there = item-there held.was_held
+        pub item-rests : is_some resting ≡ true
+        item-rests = item-there held.was_held
 
         pub kept-hold : (new : Option T) → new ≡ None → HasTurn turn (state_of (slice_set items at HeldEntry) new)
         kept-hold new e =
@@ -105,31 +105,31 @@ module _ {T : Type 0} where
         pub marks-take : map mark_of (slice_set items at HeldEntry) ≡ marks_after_step (Take at) (map mark_of items)
         marks-take = map-set mark_of items at HeldEntry ∙ sym (ap (λ (o : TurnOutcome). o.1) (outcome-take (map mark_of items) at is_open (in_turn ∙ kept.turn_is)))
 
-        pub takes-hold : (result new : Option T) → result ≡ slot → new ≡ None → TakesTurn (turn_answer (Take at) (map mark_of items)) slot result new
+        pub takes-hold : (result new : Option T) → result ≡ resting → new ≡ None → TakesTurn (turn_answer (Take at) (map mark_of items)) resting result new
         takes-hold result new e n =
-            subst (λ (a : TurnAnswer). TakesTurn a slot result new) (sym (ap (λ (o : TurnOutcome). o.0) (outcome-take (map mark_of items) at is_open (in_turn ∙ kept.turn_is)))) (e, ap is_some e ∙ slot-there, n)
+            subst (λ (a : TurnAnswer). TakesTurn a resting result new) (sym (ap (λ (o : TurnOutcome). o.0) (outcome-take (map mark_of items) at is_open (in_turn ∙ kept.turn_is)))) (e, ap is_some e ∙ item-rests, n)
 
         pub marks-leave_go : (text : List ℕ) → map mark_of (slice_set items at HeldEntry) ≡ marks_after_step (Leave at text) (map mark_of items)
         marks-leave_go text = map-set mark_of items at HeldEntry ∙ sym (ap (λ (o : TurnOutcome). o.1) (outcome-leave_go (map mark_of items) at text is_open (in_turn ∙ kept.turn_is)))
 
-        pub leaves-go : (text : Vec ℕ) (item : T) (new : Option T) → slot ≡ Some item → new ≡ None → LeavesTurn (turn_answer (Leave at text.items) (map mark_of items)) slot (LeaveGo item text) new
+        pub leaves-go : (text : Vec ℕ) (item : T) (new : Option T) → resting ≡ Some item → new ≡ None → LeavesTurn (turn_answer (Leave at text.items) (map mark_of items)) resting (LeaveGo item text) new
         leaves-go text item new e n =
-            subst (λ (a : TurnAnswer). LeavesTurn a slot (LeaveGo item text) new) (sym (ap (λ (o : TurnOutcome). o.0) (outcome-leave_go (map mark_of items) at text.items is_open (in_turn ∙ kept.turn_is)))) (e, refl, n)
+            subst (λ (a : TurnAnswer). LeavesTurn a resting (LeaveGo item text) new) (sym (ap (λ (o : TurnOutcome). o.0) (outcome-leave_go (map mark_of items) at text.items is_open (in_turn ∙ kept.turn_is)))) (e, refl, n)
 
       module _ (text : Vec ℕ) (not_yet : at ≢ turn) where
         later : at ≢ first_unfinished (map mark_of items)
         later e = not_yet (e ∙ sym kept.turn_is)
 
-        pub kept-left : HasTurn turn (state_of (slice_set items at (LeftEntry text)) slot)
+        pub kept-left : HasTurn turn (state_of (slice_set items at (LeftEntry text)) resting)
         kept-left =
-            kept-stored (map mark_of items) (slice_set items at (LeftEntry text)) (slice_set (map mark_of items) at (Left text.items)) (first_unfinished (map mark_of items)) turn (is_any_held (map mark_of items)) (is_any_held (map mark_of items)) slot (map-set mark_of items at (LeftEntry text)) (moved-left (map mark_of items) at text.items kept.in_order.shape later is_open) kept.turn_is kept.in_order.item
+            kept-stored (map mark_of items) (slice_set items at (LeftEntry text)) (slice_set (map mark_of items) at (Left text.items)) (first_unfinished (map mark_of items)) turn (is_any_held (map mark_of items)) (is_any_held (map mark_of items)) resting (map-set mark_of items at (LeftEntry text)) (moved-left (map mark_of items) at text.items kept.in_order.shape later is_open) kept.turn_is kept.in_order.rests
 
         pub marks-leave_wait : map mark_of (slice_set items at (LeftEntry text)) ≡ marks_after_step (Leave at text.items) (map mark_of items)
         marks-leave_wait = map-set mark_of items at (LeftEntry text) ∙ sym (ap (λ (o : TurnOutcome). o.1) (outcome-leave_wait (map mark_of items) at text.items is_open later))
 
-        pub leaves-wait : LeavesTurn (turn_answer (Leave at text.items) (map mark_of items)) slot IsLeft slot
+        pub leaves-wait : LeavesTurn (turn_answer (Leave at text.items) (map mark_of items)) resting IsLeft resting
         leaves-wait =
-            subst (λ (a : TurnAnswer). LeavesTurn a slot IsLeft slot) (sym (ap (λ (o : TurnOutcome). o.0) (outcome-leave_wait (map mark_of items) at text.items is_open later))) refl
+            subst (λ (a : TurnAnswer). LeavesTurn a resting IsLeft resting) (sym (ap (λ (o : TurnOutcome). o.0) (outcome-leave_wait (map mark_of items) at text.items is_open later))) refl
 
     module _ (is_held : slice_get (map mark_of items) at ≡ Some Held) where
       pub kept-open : (item : T) → HasTurn turn (state_of (slice_set items at OpenEntry) (Some item))
@@ -157,20 +157,20 @@ module _ {T : Type 0} where
         pub marks-finish : map mark_of new ≡ marks_after_step (Finish at) (map mark_of items)
         marks-finish = stored ∙ ap (λ (o : TurnOutcome). o.1) passed_on-is
 
-        pub kept-pass : (item : T) → TellsPass passed_on.0 (suc at) None → HasTurn (suc at) (state_of new (Some item))
+        pub kept-pass : (item : T) → ReportsPass passed_on.0 (suc at) None → HasTurn (suc at) (state_of new (Some item))
         kept-pass item p =
             kept-stored (map mark_of items) new passed_on.1 (suc at) (suc at) true false (Some item) stored (on-none (map mark_of items) (suc at) passed_on moves p).1 refl refl
 
-        pub finishes-pass : (item : T) → TellsPass passed_on.0 (suc at) None → Finishes (turn_answer (Finish at) (map mark_of items)) item slot IsPassed (Some item)
+        pub finishes-pass : (item : T) → ReportsPass passed_on.0 (suc at) None → Finishes (turn_answer (Finish at) (map mark_of items)) item resting IsPassed (Some item)
         finishes-pass item p =
-            subst (λ (a : TurnAnswer). Finishes a item slot IsPassed (Some item)) (sym (on-none (map mark_of items) (suc at) passed_on moves p).0 ∙ ap (λ (o : TurnOutcome). o.0) passed_on-is) refl
+            subst (λ (a : TurnAnswer). Finishes a item resting IsPassed (Some item)) (sym (on-none (map mark_of items) (suc at) passed_on moves p).0 ∙ ap (λ (o : TurnOutcome). o.0) passed_on-is) refl
 
-        pub kept-go : (text : Vec ℕ) → TellsPass passed_on.0 (suc at) (Some text) → HasTurn (suc at) (state_of new slot)
+        pub kept-go : (text : Vec ℕ) → ReportsPass passed_on.0 (suc at) (Some text) → HasTurn (suc at) (state_of new resting)
         kept-go text p =
             let m = (on-some (map mark_of items) (suc at) passed_on text moves p).1 in
-            kept-stored (map mark_of items) new passed_on.1 (suc at) (suc at) true true slot stored m refl (kept.in_order.item ∙ ap not m.was_held)
+            kept-stored (map mark_of items) new passed_on.1 (suc at) (suc at) true true resting stored m refl (kept.in_order.rests ∙ ap not m.was_held)
 
-        pub finishes-go : (item : T) (text : Vec ℕ) → TellsPass passed_on.0 (suc at) (Some text) → Finishes (turn_answer (Finish at) (map mark_of items)) item slot (FinishGo item text) slot
+        pub finishes-go : (item : T) (text : Vec ℕ) → ReportsPass passed_on.0 (suc at) (Some text) → Finishes (turn_answer (Finish at) (map mark_of items)) item resting (FinishGo item text) resting
         finishes-go item text p =
             let m = on-some (map mark_of items) (suc at) passed_on text moves p in
-            subst (λ (a : TurnAnswer). Finishes a item slot (FinishGo item text) slot) (sym m.0 ∙ ap (λ (o : TurnOutcome). o.0) passed_on-is) (refl, refl, none_if_not slot (kept.in_order.item ∙ ap not m.1.was_held))
+            subst (λ (a : TurnAnswer). Finishes a item resting (FinishGo item text) resting) (sym m.0 ∙ ap (λ (o : TurnOutcome). o.0) passed_on-is) (refl, refl, none_if_not resting (kept.in_order.rests ∙ ap not m.1.was_held))

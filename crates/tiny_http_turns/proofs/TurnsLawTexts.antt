@@ -5,6 +5,7 @@ use Rattle.std.specs.Prelude.{slice_get, slice_set, Option, if◌then◌else◌}
 use Rattle.tiny_http_turns.specs.Turns.{Mark, Open, Held, Left, Finished, first_unfinished, AreInShape, TurnOutcome, Taken, Waits, Goes, Strange, take_at, put_back_at, pass_to, finish_at, leave_at, turn_outcome, turn_answer, marks_after_step, TurnStep, Issue, Take, PutBack, Finish, Leave}
 use Rattle.tiny_http_turns.specs.TurnsLaw.{marks_after, text_out, texts_out, text_left, texts_left, text_waiting}
 use Rattle.tiny_http_turns.proofs.TurnsLawOrder.{by_eq, shape_after}
+use Rattle.tiny_http_turns.proofs.TurnsKept.{slice_get-set_next}
 
 get-set_same : (marks : List Mark) (k : ℕ) (was mark : Mark) → slice_get marks k ≡ Some was → slice_get (slice_set marks k mark) k ≡ Some mark
 get-set_same [] k was mark e = cc
@@ -76,15 +77,12 @@ put_back_balances (Some Held) n marks k e = quiet marks k n Held Open e refl ref
 put_back_balances (Some (Left text)) n marks k e = same marks n
 put_back_balances (Some Finished) n marks k e = same marks n
 
-get-set_next : (marks : List Mark) (k : ℕ) (mark : Mark) → slice_get (slice_set marks k mark) (suc k) ≡ slice_get marks (suc k)
-get-set_next marks k mark = get-set_other marks k (suc k) mark (λ e. absurd (omega (arith, e)))
-
 pass_balances : (o : Option Mark) (n : ℕ) (marks : List Mark) (k : ℕ) → slice_get marks k ≡ Some Held → slice_get marks (suc k) ≡ o → Balances n (Finish k) marks (pass_to o (suc k) (slice_set marks k Finished))
 pass_balances None n marks k e f = quiet marks k n Held Finished e refl refl ∙ same marks n
 pass_balances (Some Open) n marks k e f = quiet marks k n Held Finished e refl refl ∙ same marks n
 pass_balances (Some Held) n marks k e f = quiet marks k n Held Finished e refl refl ∙ same marks n
 pass_balances (Some (Left text)) n marks k e f =
-    comes (slice_set marks k Finished) (suc k) n text (get-set_next marks k Finished ∙ f) ∙ (quiet marks k n Held Finished e refl refl ∙ same marks n)
+    comes (slice_set marks k Finished) (suc k) n text (slice_get-set_next marks k Finished ∙ f) ∙ (quiet marks k n Held Finished e refl refl ∙ same marks n)
 pass_balances (Some Finished) n marks k e f = quiet marks k n Held Finished e refl refl ∙ same marks n
 
 finish_balances : (o : Option Mark) (n : ℕ) (marks : List Mark) (k : ℕ) → slice_get marks k ≡ o → Balances n (Finish k) marks (finish_at o k marks)
@@ -150,8 +148,8 @@ IsHeldNow old new n = (slice_get old n ≡ Some Held → ⊥) × (slice_get new 
 abbrev HoldsIt : List Mark → TurnOutcome → Type 0
 HoldsIt old o = (n : ℕ) (text : List ℕ) → o.0 ≡ Goes n text → IsHeldNow old o.1 n
 
-held_there : (old marks : List Mark) (k n : ℕ) (was : Mark) (text told : List ℕ) → slice_get old k ≡ Some was → (Some was ≡ Some Held → ⊥) → slice_get marks k ≡ Some was → Goes k text ≡ Goes n told → IsHeldNow old (slice_set marks k Held) n
-held_there old marks k n was text told was_so other e g =
+held_there : (old marks : List Mark) (k n : ℕ) (was : Mark) (text stated : List ℕ) → slice_get old k ≡ Some was → (Some was ≡ Some Held → ⊥) → slice_get marks k ≡ Some was → Goes k text ≡ Goes n stated → IsHeldNow old (slice_set marks k Held) n
+held_there old marks k n was text stated was_so other e g =
     let same_number : k ≡ n = cc in
     subst (λ (j : ℕ). IsHeldNow old (slice_set marks k Held) j) same_number (λ h. other (sym was_so ∙ h), get-set_same marks k was Held e)
 
@@ -174,23 +172,23 @@ pass_holds : (o : Option Mark) (old marks : List Mark) (k : ℕ) → slice_get o
 pass_holds None old marks k was f n text e = cc
 pass_holds (Some Open) old marks k was f n text e = cc
 pass_holds (Some Held) old marks k was f n text e = cc
-pass_holds (Some (Left text)) old marks k was f n told e = held_there old marks k n (Left text) text told was (λ h. cc) f e
+pass_holds (Some (Left text)) old marks k was f n stated e = held_there old marks k n (Left text) text stated was (λ h. cc) f e
 pass_holds (Some Finished) old marks k was f n text e = cc
 
 finish_holds : (o : Option Mark) (marks : List Mark) (k : ℕ) → HoldsIt marks (finish_at o k marks)
 finish_holds None marks k n text e = cc
 finish_holds (Some Open) marks k n text e = cc
-finish_holds (Some Held) marks k n text e = pass_holds (slice_get marks (suc k)) marks (slice_set marks k Finished) (suc k) refl (get-set_next marks k Finished) n text e
+finish_holds (Some Held) marks k n text e = pass_holds (slice_get marks (suc k)) marks (slice_set marks k Finished) (suc k) refl (slice_get-set_next marks k Finished) n text e
 finish_holds (Some (Left was)) marks k n text e = cc
 finish_holds (Some Finished) marks k n text e = cc
 
 leave_holds : (o : Option Mark) (marks : List Mark) (k : ℕ) (text : List ℕ) → slice_get marks k ≡ o → HoldsIt marks (leave_at o k text marks)
-leave_holds None marks k text f = λ n told e. cc
+leave_holds None marks k text f = λ n stated e. cc
 leave_holds (Some Open) marks k text f =
-    by_eq k (first_unfinished marks) (λ b. HoldsIt marks (if b then (Goes k text, slice_set marks k Held) else (Waits, slice_set marks k (Left text)))) (λ t n told e. held_there marks marks k n Open text told f (λ h. cc) f e) (λ ne n told e. cc)
-leave_holds (Some Held) marks k text f = λ n told e. cc
-leave_holds (Some (Left was)) marks k text f = λ n told e. cc
-leave_holds (Some Finished) marks k text f = λ n told e. cc
+    by_eq k (first_unfinished marks) (λ b. HoldsIt marks (if b then (Goes k text, slice_set marks k Held) else (Waits, slice_set marks k (Left text)))) (λ t n stated e. held_there marks marks k n Open text stated f (λ h. cc) f e) (λ ne n stated e. cc)
+leave_holds (Some Held) marks k text f = λ n stated e. cc
+leave_holds (Some (Left was)) marks k text f = λ n stated e. cc
+leave_holds (Some Finished) marks k text f = λ n stated e. cc
 
 pub go_holds : (step : TurnStep) (marks : List Mark) (n : ℕ) (text : List ℕ) → turn_answer step marks ≡ Goes n text → IsHeldNow marks (marks_after_step step marks) n
 go_holds Issue marks n text e = cc

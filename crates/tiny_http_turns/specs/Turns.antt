@@ -22,7 +22,7 @@ mark_of IsFinished = Finished
 -- the marks of all numbers, and the item where no number holds it
 pub record TurnsState (T : Type 0) : Type 0 where
   pub marks : List Mark
-  pub slot : Option T
+  pub resting : Option T
 
 -- the first number that is not finished, or the next to be issued
 abbrev pub first_unfinished : List Mark → ℕ
@@ -56,10 +56,10 @@ is_any_held (Held ∷ marks) = true
 is_any_held (Left text ∷ marks) = is_any_held marks
 is_any_held (Finished ∷ marks) = is_any_held marks
 
--- the marks have their shape, and the item lies in the slot exactly if no number is held
+-- the marks have their shape, and the item rests here exactly if no number is held
 pub record IsInOrder {T : Type 0} (turns : TurnsState T) : Type 0 where
   pub shape : AreInShape turns.marks
-  pub item : is_some turns.slot ≡ not (is_any_held turns.marks)
+  pub rests : is_some turns.resting ≡ not (is_any_held turns.marks)
 
 -- what a call asks
 pub data TurnStep : Type 0 where
@@ -120,10 +120,10 @@ pass_to (Some (Left text)) k marks = (Goes k text, slice_set marks k Held)
 pass_to (Some Finished) k marks = (Passed, marks)
 
 -- what is reported of that
-abbrev pub TellsPass : TurnAnswer → ℕ → Option (Vec ℕ) → Type 0
-TellsPass (Goes number text) at (Some with) = (number ≡ at) × (with.items ≡ text)
-TellsPass Passed at None = Unit {0}
-TellsPass _ at result = ⊥
+abbrev pub ReportsPass : TurnAnswer → ℕ → Option (Vec ℕ) → Type 0
+ReportsPass (Goes number text) at (Some with) = (number ≡ at) × (with.items ≡ text)
+ReportsPass Passed at None = Unit {0}
+ReportsPass _ at result = ⊥
 
 -- a held number is finished, and the turn passes to the next
 abbrev pub finish_at : Option Mark → ℕ → List Mark → TurnOutcome

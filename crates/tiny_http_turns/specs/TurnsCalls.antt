@@ -8,23 +8,23 @@ use Rattle.tiny_http_turns.specs.declared.turns.Leaving.{Leaving}
 use Rattle.tiny_http_turns.specs.declared.turns.Leaving.TheVariants.{Left as IsLeft, Go as LeaveGo, Strange as LeaveStrange}
 
 module _ {T : Type 0} where
-  -- no number is issued, and the item lies in the slot
+  -- no number is issued, and the item rests here
   abbrev pub new_turns : T → TurnsState T
-  new_turns item = record { marks = []; slot = Some item }
+  new_turns item = record { marks = []; resting = Some item }
 
-  -- the item comes out of the slot exactly if this call holds the number
+  -- the item is taken out exactly if this call holds the number
   abbrev pub TakesTurn : TurnAnswer → Option T → Option T → Option T → Type 0
   TakesTurn Taken old result new = (result ≡ old) × IsSome result × (new ≡ None)
   TakesTurn Strange old result new = (result ≡ None) × (new ≡ old)
   TakesTurn _ old result new = ⊥
 
-  -- the item lies in the slot exactly if the number is open again; else it comes back
+  -- the item rests here exactly if the number is open again; else it comes back
   abbrev pub PutsBack : {U : Type 0} → TurnAnswer → T → Option T → Result U T → Option T → Type 0
   PutsBack Opened item old (Ok done) new = new ≡ Some item
   PutsBack Strange item old (Err back) new = (back ≡ item) × (new ≡ old)
   PutsBack _ item old result new = ⊥
 
-  -- the item lies in the slot, or goes on with the text of the next number, or comes back
+  -- the item rests here, or goes on with the text of the next number, or comes back
   abbrev pub Finishes : TurnAnswer → T → Option T → Finishing T → Option T → Type 0
   Finishes Passed item old IsPassed new = new ≡ Some item
   Finishes (Goes number text) item old (FinishGo on with) new = (on ≡ item) × (with.items ≡ text) × (new ≡ None)

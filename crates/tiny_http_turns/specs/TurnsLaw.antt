@@ -49,16 +49,16 @@ texts_out n (step ∷ steps) marks = text_out n (turn_answer step marks) ++ text
 
 -- the text with which the number is left, if that is not refused
 abbrev pub text_left : ℕ → TurnStep → TurnAnswer → List (List ℕ)
-text_left n Issue told = []
-text_left n (Take k) told = []
-text_left n (PutBack k) told = []
-text_left n (Finish k) told = []
+text_left n Issue texts = []
+text_left n (Take k) texts = []
+text_left n (PutBack k) texts = []
+text_left n (Finish k) texts = []
 text_left n (Leave k text) (Issued j) = if k == n then text ∷ [] else []
 text_left n (Leave k text) Taken = if k == n then text ∷ [] else []
 text_left n (Leave k text) Opened = if k == n then text ∷ [] else []
 text_left n (Leave k text) Passed = if k == n then text ∷ [] else []
 text_left n (Leave k text) Waits = if k == n then text ∷ [] else []
-text_left n (Leave k text) (Goes j told) = if k == n then text ∷ [] else []
+text_left n (Leave k text) (Goes j texts) = if k == n then text ∷ [] else []
 text_left n (Leave k text) Strange = []
 
 -- all of them, in order

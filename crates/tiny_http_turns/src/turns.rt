@@ -1,6 +1,6 @@
 //! One item, and numbers that have it in turn.
 ghost use Rattle.std.specs.Prelude.{◌≡◌, ◌-◌, ◌^◌, ◌<◌, ◌↔◌, length, map, IfOk, OnOk, OnErr, IsSome, IsTrue, slice_get, Some};
-ghost use Rattle.tiny_http_turns.specs.Turns.{Issue, Take, PutBack, Finish, Leave, Issued, Open, Held, first_unfinished, mark_of, marks_after_step, turn_answer, pass_to, TellsPass, is_left_mark};
+ghost use Rattle.tiny_http_turns.specs.Turns.{Issue, Take, PutBack, Finish, Leave, Issued, Open, Held, first_unfinished, mark_of, marks_after_step, turn_answer, pass_to, ReportsPass, is_left_mark};
 
 use std::alloc::Global;
 use std::marker::Model;
@@ -21,7 +21,7 @@ pub enum TurnsError {
 /// What became of a turn that was to be finished.
 #[derive(Drop)]
 pub enum Finishing<T> {
-    /// It is finished. The item lies in the slot, for the next number that takes it.
+    /// It is finished. The item rests here, for the next number that takes it.
     Passed,
     /// It is finished, and the next number, which was left, is held: the item, and the text that it was left with, which
     /// is to be written before that number is finished.
@@ -56,13 +56,12 @@ enum Entry {
 }
 
 /// An item, as the output of a connection, that numbers from 0 on have in turn: each once all before it are finished. No
-/// call waits, and but for `issue` none takes memory. A contract sees one mark a number, and the item where it lies in
-/// the slot.
+/// call waits, and but for `issue` none takes memory. A contract sees one mark a number, and the item where it rests.
 #[derive(Drop)]
 pub struct Turns<T> {
     entries: Vec<Entry>,
     turn: usize,
-    slot: Option<T>,
+    resting: Option<T>,
 }
 
 impl<T> Model for Turns<T> {
@@ -71,16 +70,16 @@ impl<T> Model for Turns<T> {
 
     ghost Value = { TurnsState T };
 
-    ghost view = { λ t. record { marks = map mark_of t.entries.items; slot = t.slot } };
+    ghost view = { λ t. record { marks = map mark_of t.entries.items; resting = t.resting } };
 
-    ghost invariant = { λ t. HasTurn t.turn (record { marks = map mark_of t.entries.items; slot = t.slot }) };
+    ghost invariant = { λ t. HasTurn t.turn (record { marks = map mark_of t.entries.items; resting = t.resting }) };
 }
 
 impl<T: Drop> Turns<T> {
     ghost use Rattle.tiny_http_turns.specs.Turns.{IsInOrder};
     ghost use Rattle.tiny_http_turns.specs.TurnsCalls.{new_turns, TakesTurn, PutsBack, Finishes, LeavesTurn, GivesBack};
 
-    /// No number is issued, and the item lies in the slot.
+    /// No number is issued, and the item rests here.
     pub fn new(alloc: Global, item: T) -> Turns<T>
         ensures in_order { IsInOrder result }
         ensures new { result ≡ new_turns item }
@@ -88,7 +87,7 @@ impl<T: Drop> Turns<T> {
         Turns {
             entries: Vec::new(alloc),
             turn: 0,
-            slot: Some(item),
+            resting: Some(item),
         }
     }
 
@@ -98,7 +97,7 @@ impl<T: Drop> Turns<T> {
         ensures in_order { IsInOrder self.new }
         ensures number { IfOk result (λ n. turn_answer Issue self.old.marks ≡ Issued n) }
         ensures marks { OnOk result (self.new.marks ≡ marks_after_step Issue self.old.marks) }
-        ensures slot { OnOk result (self.new.slot ≡ self.old.slot) }
+        ensures resting { OnOk result (self.new.resting ≡ self.old.resting) }
         ensures err { OnErr result (self.new ≡ self.old) }
         ensures exhausted { (result ≡ Err TurnsError.Exhausted) ↔ (length self.old.marks ≡ 2 ^ 64 - 1) }
     {
@@ -117,13 +116,13 @@ impl<T: Drop> Turns<T> {
     pub fn take(&mut self, number: u64) -> Option<T>
         ensures in_order { IsInOrder self.new }
         ensures marks { self.new.marks ≡ marks_after_step (Take number) self.old.marks }
-        ensures item { TakesTurn (turn_answer (Take number) self.old.marks) self.old.slot result self.new.slot }
+        ensures item { TakesTurn (turn_answer (Take number) self.old.marks) self.old.resting result self.new.resting }
         ensures held { IsSome result ↔ ((slice_get self.old.marks number ≡ Some Open) × (number ≡ first_unfinished self.old.marks)) }
     {
         let at = number as usize;
         if at == self.turn && is_open(&self.entries, at) {
             self.entries[at] = Entry::Held;
-            self.slot.take()
+            self.resting.take()
         } else {
             None
         }
@@ -134,14 +133,14 @@ impl<T: Drop> Turns<T> {
     pub fn put_back(&mut self, number: u64, item: T) -> Result<(), T>
         ensures in_order { IsInOrder self.new }
         ensures marks { self.new.marks ≡ marks_after_step (PutBack number) self.old.marks }
-        ensures item { PutsBack (turn_answer (PutBack number) self.old.marks) item self.old.slot result self.new.slot }
+        ensures item { PutsBack (turn_answer (PutBack number) self.old.marks) item self.old.resting result self.new.resting }
     {
         let at = number as usize;
         if !is_held(&self.entries, at) {
             return Err(item);
         }
         self.entries[at] = Entry::Open;
-        self.slot = Some(item);
+        self.resting = Some(item);
         Ok(())
     }
 
@@ -149,7 +148,7 @@ impl<T: Drop> Turns<T> {
     pub fn finish(&mut self, number: u64, item: T) -> Finishing<T>
         ensures in_order { IsInOrder self.new }
         ensures marks { self.new.marks ≡ marks_after_step (Finish number) self.old.marks }
-        ensures item { Finishes (turn_answer (Finish number) self.old.marks) item self.old.slot result self.new.slot }
+        ensures item { Finishes (turn_answer (Finish number) self.old.marks) item self.old.resting result self.new.resting }
         // The number after it fits.
         ensures bound { length self.new.marks < 2 ^ 64 }
     {
@@ -162,7 +161,7 @@ impl<T: Drop> Turns<T> {
         match hold_left(&mut self.entries, at + 1) {
             Some(text) => Finishing::Go(item, text),
             None => {
-                self.slot = Some(item);
+                self.resting = Some(item);
                 Finishing::Passed
             }
         }
@@ -172,7 +171,7 @@ impl<T: Drop> Turns<T> {
     pub fn leave(&mut self, number: u64, text: Vec<u8>) -> Leaving<T>
         ensures in_order { IsInOrder self.new }
         ensures marks { self.new.marks ≡ marks_after_step (Leave number text.items) self.old.marks }
-        ensures item { LeavesTurn (turn_answer (Leave number text.items) self.old.marks) self.old.slot result self.new.slot }
+        ensures item { LeavesTurn (turn_answer (Leave number text.items) self.old.marks) self.old.resting result self.new.resting }
         ensures back { GivesBack result text }
     {
         let at = number as usize;
@@ -183,7 +182,7 @@ impl<T: Drop> Turns<T> {
             self.entries[at] = Entry::Left(text);
             return Leaving::Left;
         }
-        match self.slot.take() {
+        match self.resting.take() {
             Some(item) => {
                 self.entries[at] = Entry::Held;
                 Leaving::Go(item, text)
@@ -192,16 +191,16 @@ impl<T: Drop> Turns<T> {
         }
     }
 
-    /// The item, if it lies in the slot, that is, if no number is held.
+    /// The item, if it rests here, that is, if no number is held.
     pub fn into_item(self) -> Option<T>
-        ensures { result ≡ self.slot }
+        ensures { result ≡ self.resting }
     {
         let Turns {
             entries: _,
             turn: _,
-            slot,
+            resting,
         } = self;
-        slot
+        resting
     }
 }
 
@@ -229,7 +228,7 @@ fn is_left(entries: &[Entry], at: usize) -> bool
 // Holds a number that was left, and gives its text.
 fn hold_left(entries: &mut Vec<Entry>, at: usize) -> Option<Vec<u8>>
     ensures marks { let old = map mark_of entries.old.items in map mark_of entries.new.items ≡ (pass_to (slice_get old at) at old).1 }
-    ensures text { let old = map mark_of entries.old.items in TellsPass (pass_to (slice_get old at) at old).0 at result }
+    ensures text { let old = map mark_of entries.old.items in ReportsPass (pass_to (slice_get old at) at old).0 at result }
 {
     if !is_left(entries, at) {
         return None;

@@ -19,6 +19,8 @@ use Rattle.tiny_http_wire.specs.declared.chunked.line.Scan.{Scan}
 use Rattle.tiny_http_wire.specs.ChunkSize.{size_step, size_after, SizeFits}
 use Rattle.tiny_http_wire.specs.ChunkLine.{scan_with, scan_step, OneLine, NoLine, CutBy}
 use Rattle.tiny_http_wire.proofs.ChunkSizeLemmas.{size_after-push}
+use Rattle.tiny_http_text.proofs.LinesLemmas.{line-plain, line-return, clear-front}
+use Rattle.tiny_http_device.proofs.DeviceFeeds.{prepended-nothing}
 
 -- a carriage return that may begin the end of the line, or nothing
 abbrev pub held_return : Bool → List ℕ
@@ -31,13 +33,6 @@ pub record Scanned (taken : List ℕ) (size : Size) (after_return : Bool) : Type
   pub taken_is : taken ≡ text ++ held_return after_return
   pub clear : (more : List ℕ) → has_crlf (text ++ (held_return after_return ++ more)) ≡ has_crlf (held_return after_return ++ more)
   pub size_is : size ≡ size_after Blank text
-
-plain : (b : ℕ) (more : List ℕ) → b ≢ 13 → has_crlf (b ∷ more) ≡ has_crlf more
-plain b [] ne = refl
-plain b (c ∷ cs) ne = rw (ne_eqb b 13 ne) refl
-
-lone : (b : ℕ) (more : List ℕ) → b ≢ 10 → has_crlf (13 ∷ b ∷ more) ≡ has_crlf (b ∷ more)
-lone b more ne = rw (ne_eqb b 10 ne) refl
 
 not13 : (b : ℕ) → (b == 13) ≡ false → b ≢ 13
 not13 b e h = let f : (13 == 13) ≡ false = rw h at e in cc
@@ -54,7 +49,7 @@ scanned-step taken size false b false e ne s =
     record {
       text = s.text ++ b ∷ [];
       taken_is = rw (s.taken_is, append-nil s.text, append-nil (s.text ++ b ∷ [])) refl;
-      clear = λ more. ap has_crlf (append_assoc s.text (b ∷ []) more) ∙ (s.clear (b ∷ more) ∙ plain b more (not13 b e));
+      clear = λ more. ap has_crlf (append_assoc s.text (b ∷ []) more) ∙ (s.clear (b ∷ more) ∙ line-plain b more (not13 b e));
       size_is = ap (λ z. size_step z b) s.size_is ∙ sym (size_after-push Blank s.text b);
     }
 scanned-step taken size true b true e ne s =
@@ -69,19 +64,9 @@ scanned-step taken size true b false e ne s =
     record {
       text = (s.text ++ 13 ∷ []) ++ b ∷ [];
       taken_is = rw (s.taken_is, append-nil ((s.text ++ 13 ∷ []) ++ b ∷ [])) refl;
-      clear = λ more. ap has_crlf (append_assoc (s.text ++ 13 ∷ []) (b ∷ []) more ∙ append_assoc s.text (13 ∷ []) (b ∷ more)) ∙ (s.clear (b ∷ more) ∙ (lone b more (ne refl) ∙ plain b more (not13 b e)));
+      clear = λ more. ap has_crlf (append_assoc (s.text ++ 13 ∷ []) (b ∷ []) more ∙ append_assoc s.text (13 ∷ []) (b ∷ more)) ∙ (s.clear (b ∷ more) ∙ (line-return b more (ne refl) ∙ line-plain b more (not13 b e)));
       size_is = ap (λ z. size_step (size_step z 13) b) s.size_is ∙ (ap (λ z. size_step z b) (sym (size_after-push Blank s.text 13)) ∙ sym (size_after-push Blank (s.text ++ 13 ∷ []) b));
     }
-
--- a front of bytes without CR LF has none
-front-clear : (a b : List ℕ) → has_crlf (a ++ b) ≡ false → has_crlf a ≡ false
-front-clear [] b h = refl
-front-clear (x ∷ []) b h = refl
-front-clear (x ∷ y ∷ ys) b h = go (x == 13 && y == 10) (has_crlf ((y ∷ ys) ++ b)) (has_crlf (y ∷ ys)) (front-clear (y ∷ ys) b) h
-  where
-    go : (t u v : Bool) → (u ≡ false → v ≡ false) → cond t true u ≡ false → cond t true v ≡ false
-    go true u v k h = cc
-    go false u v k h = k h
 
 pending-clear : (flag : Bool) → has_crlf (held_return flag ++ []) ≡ false
 pending-clear true = refl
@@ -99,13 +84,9 @@ pub record LineSoFar (old new : Option Feed) (scan : Scan) (count : ℕ) : Type 
   pub count_is : length taken ≡ count
   pub fits : SizeFits scan.size
 
-pub nothing-taken : (old : Option Feed) → old ≡ prepended [] old
-nothing-taken None = refl
-nothing-taken (Some f) = refl
-
 pub so_far-none : (feed : Option Feed) (scan : Scan) → scan ≡ record { size = Blank; after_return = false } → LineSoFar feed feed scan 0
 so_far-none feed scan e =
-    rw e (record { taken = []; gives = nothing-taken feed; scanned = record { text = []; taken_is = refl; clear = λ more. refl; size_is = refl }; count_is = refl; fits = tt })
+    rw e (record { taken = []; gives = prepended-nothing feed; scanned = record { text = []; taken_is = refl; clear = λ more. refl; size_is = refl }; count_is = refl; fits = tt })
 
 pub so_far-more : (old mid new : Option Feed) (scan next : Scan) (count : ℕ) (b : ℕ) → LineSoFar old mid scan count → mid ≡ prepended (b ∷ []) new
     → (scan.after_return ≡ true → b ≢ 10) → next ≡ scan_step scan b → SizeFits next.size → LineSoFar old new next (count + 1)
@@ -130,7 +111,7 @@ so_far-line old mid new scan count line s g flag lt n z =
     record {
       text = text;
       gives = given-along old mid new s.taken (10 ∷ []) (text ++ crlf) s.gives g (sym (ap (λ x. x ++ 10 ∷ []) t ∙ seam text));
-      short = (omega (arith, len, s.count_is), front-clear text (13 ∷ []) (rw (← t) (taken-clear s.taken scan.size scan.after_return s.scanned)));
+      short = (omega (arith, len, s.count_is), clear-front text (13 ∷ []) (rw (← t) (taken-clear s.taken scan.size scan.after_return s.scanned)));
       length_is = n ∙ omega (arith, len, s.count_is);
       size_is = z ∙ s.scanned.size_is;
     }
@@ -152,7 +133,7 @@ so_far-long old new scan count s n =
 cut-fault : (taken bytes : List ℕ) (stop : Stop) (kind : ErrorKind) → length taken < 8194 → has_crlf taken ≡ false → bytes ≡ [] → kind ≡ fault_of stop → ChunkLineFault (taken ++ bytes) stop kind
 cut-fault taken bytes stop kind n h e k =
     let w : taken ++ bytes ≡ taken = ap (λ b. taken ++ b) e ∙ append-nil taken in
-    let full : has_crlf (take (longest_line + 2) taken) ≡ false = front-clear (take (longest_line + 2) taken) (drop (longest_line + 2) taken) (rw take-append-drop h) in
+    let full : has_crlf (take (longest_line + 2) taken) ≡ false = clear-front (take (longest_line + 2) taken) (drop (longest_line + 2) taken) (rw take-append-drop h) in
     let P : List ℕ → Type 0 = λ x. ChunkLineFault x stop kind in
     subst P (sym w) (full, inr (omega arith, k))
 

@@ -8,7 +8,7 @@ use Rattle.std.proofs.Math.Nat.{pow-le-pow_right, pow-suc}
 use Rattle.std.proofs.lemmas.Bool.{ltb-true, ltb-false, lt-ltb, le-ltb, le-leb, lt-leb}
 use Rattle.tiny_http_text.specs.Bytes.{semicolon, skip_while, skip_end_while}
 use Rattle.tiny_http_wire.specs.Chunks.{is_bws, is_hex}
-use Rattle.tiny_http_head.specs.Reading.{front_while}
+use Rattle.tiny_http_head.specs.HeadReading.{front_while}
 use Rattle.tiny_http_wire.specs.ChunkReading.{size_said, size_of}
 use Rattle.tiny_http_wire.specs.declared.chunked.size.Size.{Size}
 use Rattle.tiny_http_wire.specs.declared.chunked.size.Size.TheVariants.{Blank, Digits, Behind, Extension, Wrong}
@@ -74,16 +74,16 @@ hex-semi b h = go b (b == 59) refl h
 abbrev blank_or_none : ℕ → List ℕ → Option ℕ
 blank_or_none v p = cond (list_all is_bws p) (Some v) None
 
-behind-step : (v b : ℕ) (bs : List ℕ) (s t : Bool) → is_bws b ≡ s → (s ≡ true → t ≡ false) → size_value (size_after (Behind v) bs) ≡ blank_or_none v (part bs)
+size-behind-step : (v b : ℕ) (bs : List ℕ) (s t : Bool) → is_bws b ≡ s → (s ≡ true → t ≡ false) → size_value (size_after (Behind v) bs) ≡ blank_or_none v (part bs)
     → size_value (size_after (cond s (Behind v) (cond t (Extension v) Wrong)) bs) ≡ blank_or_none v (cond (not t) (b ∷ part bs) [])
-behind-step v b bs true true e x ih = no-true (x refl)
-behind-step v b bs true false e x ih = rw e ih
-behind-step v b bs false true e x ih = extension-after v bs
-behind-step v b bs false false e x ih = rw e (wrong-after bs)
+size-behind-step v b bs true true e x ih = no-true (x refl)
+size-behind-step v b bs true false e x ih = rw e ih
+size-behind-step v b bs false true e x ih = extension-after v bs
+size-behind-step v b bs false false e x ih = rw e (wrong-after bs)
 
 behind-after : (v : ℕ) (bs : List ℕ) → size_value (size_after (Behind v) bs) ≡ blank_or_none v (part bs)
 behind-after v [] = refl
-behind-after v (b ∷ bs) = behind-step v b bs (is_bws b) (b == 59) refl (bws-semi b) (behind-after v bs)
+behind-after v (b ∷ bs) = size-behind-step v b bs (is_bws b) (b == 59) refl (bws-semi b) (behind-after v bs)
 
 abbrev trim_end : List ℕ → List ℕ
 trim_end p = skip_end_while is_bws p
@@ -165,5 +165,5 @@ pub size_after-push : (size : Size) (text : List ℕ) (b : ℕ) → size_after s
 size_after-push size [] b = refl
 size_after-push size (c ∷ cs) b = size_after-push (size_step size c) cs b
 
-pub not_below : (a b : ℕ) → (a < b → ⊥) → b ≤ a
-not_below a b h = omega (arith, h)
+pub size-not_below : (a b : ℕ) → (a < b → ⊥) → b ≤ a
+size-not_below a b h = omega (arith, h)

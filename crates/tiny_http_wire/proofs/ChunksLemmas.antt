@@ -15,10 +15,12 @@ use Rattle.tiny_http_text.specs.Bytes.{HasNo, IsEmptyOrBegins, semicolon, crlf}
 use Rattle.tiny_http_text.specs.Lines.{Line}
 use Rattle.tiny_http_wire.specs.Chunks.{longest_line, most_trailers, is_bws, is_hex, SizeText, IsShortLine, Chunk, chunk_text, IsChunk, IsLastLine, IsTrailerLine, lines_text, data_of, WholeChunks, HasNoShortLine, ChunkLineFault, CloseFault, Remainder, NoSizeLine, BadSize, CutData, NoClose, CutTrailer, LongTrailer, RemainderBreaks, CutChunks}
 use Rattle.tiny_http_device.specs.Device.{fault_of}
-use Rattle.tiny_http_head.specs.Reading.{line, front_while}
+use Rattle.tiny_http_head.specs.HeadReading.{line, front_while}
 use Rattle.tiny_http_wire.specs.ChunkReading.{digits_of, size_said, size_of, Decoded, broken, LineRead, short_in, short_line, trailer_at, trailer_in, trailer_section, after_data, prepend_decoded, chunk_closed, data_at, sized, chunk_in, decoded}
 use Rattle.tiny_http_head.proofs.LinesLemmas.{line-is, line-front, line-none}
 use Rattle.tiny_http_text.proofs.BytesLemmas.{trims-is, trims-one}
+use Rattle.std.proofs.Math.Seq.{take-append_seam}
+use Rattle.std.proofs.Math.Seq.{drop-append_seam}
 
 abbrev before_semicolon : ℕ → Bool
 before_semicolon b = not (b == semicolon)
@@ -186,10 +188,10 @@ close-fault stop (a ∷ []) kind h =
 close-fault stop (a ∷ b ∷ bs) kind h =
     rw (not_both (a == 13) (b == 10) (λ k. h.0 (pair-crlf a b (eqb-true a 13 k.0, eqb-true b 10 k.1)))) (ap Err (sym h.1))
 
-head_of : (a b : ℕ) → a ∷ b ∷ [] ≡ crlf → a ≡ 13
+pub head_of : (a b : ℕ) → a ∷ b ∷ [] ≡ crlf → a ≡ 13
 head_of a b e = cc
 
-next_of : (a b : ℕ) → a ∷ b ∷ [] ≡ crlf → b ≡ 10
+pub next_of : (a b : ℕ) → a ∷ b ∷ [] ≡ crlf → b ≡ 10
 next_of a b e = cc
 
 not_same : (a : ℕ) → a ≡ 13 → (a == 13) ≡ false → ⊥
@@ -220,12 +222,6 @@ sized-at : (go : Go) (stop : Stop) (rest : List ℕ) (n : ℕ) → 0 < n → siz
 sized-at go stop rest zero h = absurd (omega arith)
 sized-at go stop rest (suc m) h = refl
 
-take_at : (xs ys : List ℕ) → take (length xs) (xs ++ ys) ≡ xs
-take_at xs ys = grind (arith, common_steps)
-
-pub drop_at : (xs ys : List ℕ) → drop (length xs) (xs ++ ys) ≡ ys
-drop_at xs ys = grind (arith, common_steps)
-
 not-shorter : (xs ys : List ℕ) → nat_lt (length (xs ++ ys)) (length xs) ≡ false
 not-shorter xs ys = le-ltb (length (xs ++ ys)) (length xs) (simp length-append (omega arith))
 
@@ -239,7 +235,7 @@ last-line : (fuel : ℕ) (stop : Stop) (text rest : List ℕ) → IsLastLine tex
 last-line fuel stop text rest h = rw (short-one stop text rest h.0, size-one text 0 h.1) refl
 
 data-closed : (go : Go) (stop : Stop) (bytes close : List ℕ) → data_at go stop (length bytes) (bytes ++ close) (nat_lt (length (bytes ++ close)) (length bytes)) ≡ chunk_closed go bytes (after_data stop close)
-data-closed go stop bytes close = rw (not-shorter bytes close, take_at bytes close, drop_at bytes close) refl
+data-closed go stop bytes close = rw (not-shorter bytes close, take-append_seam bytes close, drop-append_seam bytes close) refl
 
 chunk-group : (c : Chunk) (rest : List ℕ) → chunk_text c ++ rest ≡ c.size_line ++ crlf ++ (c.bytes ++ (crlf ++ rest))
 chunk-group c rest = append_assoc (c.size_line ++ crlf ++ c.bytes) crlf rest ∙ append_assoc (c.size_line ++ crlf) c.bytes (crlf ++ rest)
@@ -283,7 +279,7 @@ decoded-one bytes body rest stop c =
     let tail = lines_text (c.last ∷ c.trailers) ++ (crlf ++ rest) in
     let few : length c.chunks < length bytes + 1 = rw c.joins (chunks-fewer c.chunks tail) in
     let last : (n : ℕ) → decoded (suc n) stop tail ≡ made [] (Ok rest) =
-    λ n. rw (regroup c.last c.trailers (crlf ++ rest)) (last-line n stop c.last (lines_text c.trailers ++ (crlf ++ rest)) c.is_last ∙ trailer-whole most_trailers stop c.trailers rest c.are_trailers c.few_trailers) in
+    λ n. rw (regroup c.last c.trailers (crlf ++ rest)) (last-line n stop c.last (lines_text c.trailers ++ (crlf ++ rest)) c.is_last_chunk ∙ trailer-whole most_trailers stop c.trailers rest c.are_trailers c.few_trailers) in
     let go = chunks-front (length bytes + 1) stop c.chunks tail [] (Ok rest) c.are_chunks few last in
     let P : List ℕ → Type 0 = λ x. decoded (length bytes + 1) stop x ≡ made body (Ok rest) in
     subst P (sym c.joins) (go ∙ ap (λ x. made x (Ok rest)) (append-nil (data_of c.chunks) ∙ sym c.body_is))
@@ -385,7 +381,7 @@ no-chunks bytes stop part kind way h = record { chunks = []; rest = bytes; part 
 
 after-last : (bytes text rest : List ℕ) (stop : Stop) (body : List ℕ) (e : Result (List ℕ) ErrorKind) → bytes ≡ text ++ crlf ++ rest → IsLastLine text → body ≡ [] → MatchResult e (TrailerWhole most_trailers rest) (TrailerBroken most_trailers rest stop) → IsDecoded bytes stop (made body e)
 after-last bytes text rest stop body (Ok r) j h b k =
-    record { chunks = []; last = text; trailers = k.0; joins = all-cons text k.0 bytes rest (crlf ++ r) j k.1; body_is = b; are_chunks = tt; is_last = h; are_trailers = k.2; few_trailers = k.3 }
+    record { chunks = []; last = text; trailers = k.0; joins = all-cons text k.0 bytes rest (crlf ++ r) j k.1; body_is = b; are_chunks = tt; is_last_chunk = h; are_trailers = k.2; few_trailers = k.3 }
 after-last bytes text rest stop body (Err kind) j h b k =
     ⊎_elim
     (λ t. no-chunks bytes stop body kind (CutTrailer text t.0 t.1) (all-cons text t.0 bytes rest t.1 j t.2, h, t.3, t.4, t.5, b))
@@ -396,7 +392,7 @@ after-last bytes text rest stop body (Err kind) j h b k =
 chunk-more : (bytes : List ℕ) (c : Chunk) (rest : List ℕ) (stop : Stop) (body : List ℕ) (e : Result (List ℕ) ErrorKind) → bytes ≡ chunk_text c ++ rest → IsChunk c → IsDecoded rest stop (made body e) → IsDecoded bytes stop (made (c.bytes ++ body) e)
 chunk-more bytes c rest stop body (Ok r) j h d =
     let tail = lines_text (d.last ∷ d.trailers) ++ (crlf ++ r) in
-    record { chunks = c ∷ d.chunks; last = d.last; trailers = d.trailers; joins = j ∙ (ap (λ x. chunk_text c ++ x) d.joins ∙ sym (append_assoc (chunk_text c) (joined_chunks d.chunks) tail)); body_is = ap (λ x. c.bytes ++ x) d.body_is; are_chunks = (h, d.are_chunks); is_last = d.is_last; are_trailers = d.are_trailers; few_trailers = d.few_trailers }
+    record { chunks = c ∷ d.chunks; last = d.last; trailers = d.trailers; joins = j ∙ (ap (λ x. chunk_text c ++ x) d.joins ∙ sym (append_assoc (chunk_text c) (joined_chunks d.chunks) tail)); body_is = ap (λ x. c.bytes ++ x) d.body_is; are_chunks = (h, d.are_chunks); is_last_chunk = d.is_last_chunk; are_trailers = d.are_trailers; few_trailers = d.few_trailers }
 chunk-more bytes c rest stop body (Err kind) j h d =
     record {
       chunks = c ∷ d.chunks;

@@ -13,16 +13,19 @@ use Rattle.tiny_http_device.specs.Device.{Feed, prepended, TakesFront, fault_of}
 use Rattle.tiny_http_device.proofs.DeviceFeeds.{given-along}
 use Rattle.tiny_http_wire.specs.Chunks.{IsShortLine, ChunkLineFault, CloseFault, SizeText, WholeChunks, CutChunks}
 use Rattle.tiny_http_wire.specs.ChunkReading.{decoded, data_at, chunk_closed, after_data, trailer_section, broken, prepend_decoded, size_of}
-use Rattle.tiny_http_wire.proofs.ChunksLemmas.{Go, made, IsDecoded, decoded-is, decoded-one, decoded-front, sized-line, short-one, short-fault, size-is, close-is, close-fault, trailer-end, trailer-more, trailer-faulty, at-cons, drop_at}
+use Rattle.tiny_http_wire.proofs.ChunksLemmas.{Go, made, IsDecoded, decoded-is, decoded-one, decoded-front, sized-line, short-one, short-fault, size-is, close-is, close-fault, trailer-end, trailer-more, trailer-faulty, at-cons}
 use Rattle.tiny_http_wire.specs.declared.chunked.Next.TheVariants.{Line, Data, Over, Broken}
 use Rattle.tiny_http_wire.specs.declared.chunked.line.ChunkLine.{ChunkLine as TakenLine}
 use Rattle.tiny_http_wire.specs.ChunkSize.{size_value}
 use Rattle.tiny_http_wire.specs.ChunkLine.{OneLine, NoLine, CutBy}
 use Rattle.tiny_http_wire.specs.Decoding.{Coming, coming_of, body_at, decoded_from, trailers_from, comes, trails, prepended_data, over_at, BreaksBy}
 use Rattle.tiny_http_wire.proofs.ChunkSizeLemmas.{size-read}
+use Rattle.tiny_http_wire.proofs.ChunksLemmas.{head_of, next_of}
+use Rattle.tiny_http_device.proofs.DeviceFeeds.{lt-shift, prepended-nothing}
+use Rattle.std.proofs.Math.Seq.{take-append_seam, drop-append_seam}
 
-abbrev at : List ℕ → Stop → Feed
-at bytes stop = record { bytes = bytes; stop = stop }
+abbrev feed_at : List ℕ → Stop → Feed
+feed_at bytes stop = record { bytes = bytes; stop = stop }
 
 -- the measure of the plain reading doesn't matter
 fuel-same-at : (bytes body : List ℕ) (stop : Stop) (e : Result (List ℕ) ErrorKind) → IsDecoded bytes stop (made body e) → made body e ≡ body_at stop bytes
@@ -49,7 +52,7 @@ more_fuel : (stop : Stop) (bytes : List ℕ) → body_at stop bytes ≡ decoded 
 more_fuel stop bytes = ap (λ k. decoded k stop bytes) (add-one (length bytes))
 
 -- a size line
-at-size : (stop : Stop) (text rest : List ℕ) (n : ℕ) → IsShortLine text → SizeText text n → 0 < n → decoded_from Line (at (text ++ crlf ++ rest) stop) ≡ decoded_from (Data n) (at rest stop)
+at-size : (stop : Stop) (text rest : List ℕ) (n : ℕ) → IsShortLine text → SizeText text n → 0 < n → decoded_from Line (feed_at (text ++ crlf ++ rest) stop) ≡ decoded_from (Data n) (feed_at rest stop)
 unfolding decoded_from
 at-size stop text rest n s z p =
     let bytes = text ++ crlf ++ rest in
@@ -57,16 +60,16 @@ at-size stop text rest n s z p =
     more_fuel stop bytes ∙ (sized-line (length bytes) stop text rest n s z p
     ∙ data-same (decoded (length bytes) stop) (body_at stop) stop n rest (length bytes) (λ x l. fuel-same (length bytes) x stop l) long (nat_lt (length rest) n))
 
-at-last : (stop : Stop) (text rest : List ℕ) → IsShortLine text → size_of text ≡ Some 0 → decoded_from Line (at (text ++ crlf ++ rest) stop) ≡ trailers_from 128 (at rest stop)
+at-last : (stop : Stop) (text rest : List ℕ) → IsShortLine text → size_of text ≡ Some 0 → decoded_from Line (feed_at (text ++ crlf ++ rest) stop) ≡ trailers_from 128 (feed_at rest stop)
 unfolding decoded_from trailers_from
 at-last stop text rest s z =
     more_fuel stop (text ++ crlf ++ rest) ∙ rw (short-one stop text rest s, z) refl
 
-at-bad : (stop : Stop) (text rest : List ℕ) → IsShortLine text → size_of text ≡ None → decoded_from Line (at (text ++ crlf ++ rest) stop) ≡ broken [] InvalidData
+at-bad : (stop : Stop) (text rest : List ℕ) → IsShortLine text → size_of text ≡ None → decoded_from Line (feed_at (text ++ crlf ++ rest) stop) ≡ broken [] InvalidData
 unfolding decoded_from
 at-bad stop text rest s z = more_fuel stop (text ++ crlf ++ rest) ∙ rw (short-one stop text rest s, z) refl
 
-at-none : (stop : Stop) (bytes : List ℕ) (kind : ErrorKind) → ChunkLineFault bytes stop kind → decoded_from Line (at bytes stop) ≡ broken [] kind
+at-none : (stop : Stop) (bytes : List ℕ) (kind : ErrorKind) → ChunkLineFault bytes stop kind → decoded_from Line (feed_at bytes stop) ≡ broken [] kind
 unfolding decoded_from
 at-none stop bytes kind h = more_fuel stop bytes ∙ rw (short-fault stop bytes kind h) refl
 
@@ -153,26 +156,20 @@ trail-none old new kind m l = rw (l.gives) (go new l.fault)
     go (Some f) h = ap (λ d. Some (coming_of f.stop d)) (sym (trailer-faulty m f.stop (l.gone ++ f.bytes) kind (h f refl)))
 
 -- the CR LF after data
-no-data : (stop : Stop) (bytes : List ℕ) → decoded_from (Data 0) (at bytes stop) ≡ chunk_closed (body_at stop) [] (after_data stop bytes)
+no-data : (stop : Stop) (bytes : List ℕ) → decoded_from (Data 0) (feed_at bytes stop) ≡ chunk_closed (body_at stop) [] (after_data stop bytes)
 unfolding decoded_from
 no-data stop bytes = rw (le-ltb (length bytes) 0 (omega arith)) refl
 
-no-close : (stop : Stop) (bytes : List ℕ) (kind : ErrorKind) → CloseFault bytes stop kind → decoded_from (Data 0) (at bytes stop) ≡ broken [] kind
+no-close : (stop : Stop) (bytes : List ℕ) (kind : ErrorKind) → CloseFault bytes stop kind → decoded_from (Data 0) (feed_at bytes stop) ≡ broken [] kind
 no-close stop bytes kind h = no-data stop bytes ∙ rw (close-fault stop bytes kind h) refl
-
-first_of : (a b : ℕ) → a ∷ b ∷ [] ≡ crlf → a ≡ 13
-first_of a b e = cc
-
-second_of : (a b : ℕ) → a ∷ b ∷ [] ≡ crlf → b ≡ 10
-second_of a b e = cc
 
 not-return : (stop : Stop) (b : ℕ) (bytes : List ℕ) → b ≢ 13 → CloseFault (b ∷ bytes) stop InvalidData
 not-return stop b [] ne = inr (ne, refl)
-not-return stop b (c ∷ cs) ne = ((λ e. ne (first_of b c e)), refl)
+not-return stop b (c ∷ cs) ne = ((λ e. ne (head_of b c e)), refl)
 
 cut-close : (old : Option Feed) (kind : ErrorKind) → CutBy kind old → comes (Broken kind) old ≡ comes (Data 0) old
 cut-close None kind h = refl
-cut-close (Some f) kind h = ap (λ d. Some (coming_of f.stop d)) (broken-is kind f ∙ sym (let P : List ℕ → Type 0 = λ bs. decoded_from (Data 0) (at bs f.stop) ≡ broken [] kind in subst P (sym h.0) (no-close f.stop [] kind h.1)))
+cut-close (Some f) kind h = ap (λ d. Some (coming_of f.stop d)) (broken-is kind f ∙ sym (let P : List ℕ → Type 0 = λ bs. decoded_from (Data 0) (feed_at bs f.stop) ≡ broken [] kind in subst P (sym h.0) (no-close f.stop [] kind h.1)))
 
 pub close-cut : (old new : Option Feed) (kind : ErrorKind) → CutBy kind old → new ≡ old → comes (Broken kind) new ≡ comes (Data 0) old
 close-cut old new kind h e = rw e (cut-close old kind h)
@@ -186,7 +183,7 @@ close-wrong old new b e ne = rw e (go new)
 
 cut-line_feed : (mid : Option Feed) (kind : ErrorKind) → CutBy kind mid → comes (Broken kind) mid ≡ comes (Data 0) (prepended (13 ∷ []) mid)
 cut-line_feed None kind h = refl
-cut-line_feed (Some f) kind h = ap (λ d. Some (coming_of f.stop d)) (broken-is kind f ∙ sym (let P : List ℕ → Type 0 = λ bs. decoded_from (Data 0) (at (13 ∷ bs) f.stop) ≡ broken [] kind in subst P (sym h.0) (no-close f.stop (13 ∷ []) kind (inl (refl, h.1)))))
+cut-line_feed (Some f) kind h = ap (λ d. Some (coming_of f.stop d)) (broken-is kind f ∙ sym (let P : List ℕ → Type 0 = λ bs. decoded_from (Data 0) (feed_at (13 ∷ bs) f.stop) ≡ broken [] kind in subst P (sym h.0) (no-close f.stop (13 ∷ []) kind (inl (refl, h.1)))))
 
 pub close-cut_feed : (old mid new : Option Feed) (kind : ErrorKind) (a : ℕ) → old ≡ prepended (a ∷ []) mid → a ≡ 13 → CutBy kind mid → new ≡ mid → comes (Broken kind) new ≡ comes (Data 0) old
 close-cut_feed old mid new kind a e r h s = rw (e, s, r) (cut-line_feed mid kind h)
@@ -196,7 +193,7 @@ close-wrong_feed old mid new a b e r h ne = rw (e, r, h) (go new)
   where
     go : (f : Option Feed) → comes (Broken InvalidData) f ≡ comes (Data 0) (prepended (13 ∷ []) (prepended (b ∷ []) f))
     go None = refl
-    go (Some f) = ap (λ d. Some (coming_of f.stop d)) (broken-is InvalidData f ∙ sym (no-close f.stop (13 ∷ b ∷ f.bytes) InvalidData ((λ e. ne (second_of 13 b e)), refl)))
+    go (Some f) = ap (λ d. Some (coming_of f.stop d)) (broken-is InvalidData f ∙ sym (no-close f.stop (13 ∷ b ∷ f.bytes) InvalidData ((λ e. ne (next_of 13 b e)), refl)))
 
 pub close-good : (old mid new : Option Feed) (a b : ℕ) → old ≡ prepended (a ∷ []) mid → a ≡ 13 → mid ≡ prepended (b ∷ []) new → b ≡ 10 → comes Line new ≡ comes (Data 0) old
 unfolding decoded_from
@@ -216,7 +213,7 @@ unfolding decoded_from
 front-at feed body kind h = decoded-front feed.bytes body feed.stop kind h
 
 pub begins-whole : (o : Option Feed) (feed : Feed) (body rest : List ℕ) → o ≡ Some feed → WholeChunks feed.bytes body rest
-    → comes Line o ≡ Some (record { bytes = body; behind = Ok (at rest feed.stop) })
+    → comes Line o ≡ Some (record { bytes = body; behind = Ok (feed_at rest feed.stop) })
 begins-whole o feed body rest e h = rw e (ap (λ d. Some (coming_of feed.stop d)) (whole-at feed body rest h))
 
 pub begins-front : (o : Option Feed) (feed : Feed) (body : List ℕ) (kind : ErrorKind) → o ≡ Some feed → CutChunks feed.bytes feed.stop body kind
@@ -229,11 +226,6 @@ one_less most n h = omega arith
 pub none_left : (most n : ℕ) → most ≤ n → 0 ≡ most - n
 none_left most n h = omega arith
 
--- some data are taken
-lt-shift : (a b c : ℕ) (t : Bool) → nat_lt b c ≡ t → nat_lt (a + b) (a + c) ≡ t
-lt-shift a b c true e = let h = ltb-true b c e in lt-ltb (a + b) (a + c) (omega arith)
-lt-shift a b c false e = let h = ltb-false b c e in le-ltb (a + b) (a + c) (omega arith)
-
 closed-front : (go : Go) (a b : List ℕ) (r : Result (List ℕ) ErrorKind) → chunk_closed go (a ++ b) r ≡ prepend_decoded a (chunk_closed go b r)
 closed-front go a b (Err kind) = refl
 closed-front go a b (Ok rest) = ap (λ x. made x (go rest).ends) (append_assoc a b (go rest).body)
@@ -243,10 +235,10 @@ taken-data : (go : Go) (stop : Stop) (front rest : List ℕ) (k : ℕ) (t : Bool
 taken-data go stop front rest k true = refl
 taken-data go stop front rest k false =
     let e : take (length front + k) (front ++ rest) ≡ front ++ take k rest = take-append-add front rest k in
-    let f : drop (length front + k) (front ++ rest) ≡ drop k rest = sym (drop-drop k (length front) (front ++ rest)) ∙ ap (λ x. drop k x) (drop_at front rest) in
+    let f : drop (length front + k) (front ++ rest) ≡ drop k rest = sym (drop-drop k (length front) (front ++ rest)) ∙ ap (λ x. drop k x) (drop-append_seam front rest) in
     rw (e, f) (closed-front go front (take k rest) (after_data stop (drop k rest)))
 
-data-more : (stop : Stop) (front rest : List ℕ) (k : ℕ) → decoded_from (Data (length front + k)) (at (front ++ rest) stop) ≡ prepend_decoded front (decoded_from (Data k) (at rest stop))
+data-more : (stop : Stop) (front rest : List ℕ) (k : ℕ) → decoded_from (Data (length front + k)) (feed_at (front ++ rest) stop) ≡ prepend_decoded front (decoded_from (Data k) (feed_at rest stop))
 unfolding decoded_from
 data-more stop front rest k =
     let e : nat_lt (length (front ++ rest)) (length front + k) ≡ nat_lt (length rest) k =
@@ -263,14 +255,14 @@ data-given old new front left n h e le =
     let split : left ≡ length front + (left - n) = omega arith in
     ap (λ o. comes (Data left) o) h ∙ (ap (λ m. comes (Data m) (prepended front new)) split ∙ data-given-at new front (left - n))
 
-cut-at : (stop : Stop) (left : ℕ) → 0 < left → decoded_from (Data left) (at [] stop) ≡ broken [] (fault_of stop)
+decoding-cut-at : (stop : Stop) (left : ℕ) → 0 < left → decoded_from (Data left) (feed_at [] stop) ≡ broken [] (fault_of stop)
 unfolding decoded_from
-cut-at stop left h = rw (lt-ltb 0 left h) refl
+decoding-cut-at stop left h = rw (lt-ltb 0 left h) refl
 
 cut-data : (old : Option Feed) (kind : ErrorKind) (left : ℕ) → 0 < left → CutBy kind old → comes (Broken kind) old ≡ comes (Data left) old
 cut-data None kind left p h = refl
 cut-data (Some f) kind left p h =
-    ap (λ d. Some (coming_of f.stop d)) (broken-is kind f ∙ sym (let P : List ℕ → Type 0 = λ bs. decoded_from (Data left) (at bs f.stop) ≡ broken [] kind in subst P (sym h.0) (cut-at f.stop left p ∙ ap (λ k. broken [] k) (sym h.1))))
+    ap (λ d. Some (coming_of f.stop d)) (broken-is kind f ∙ sym (let P : List ℕ → Type 0 = λ bs. decoded_from (Data left) (feed_at bs f.stop) ≡ broken [] kind in subst P (sym h.0) (decoding-cut-at f.stop left p ∙ ap (λ k. broken [] k) (sym h.1))))
 
 pub data-cut : (old new : Option Feed) (kind : ErrorKind) (left : ℕ) → 0 < left → CutBy kind old → new ≡ old → comes (Broken kind) new ≡ comes (Data left) old
 data-cut old new kind left p h e = rw e (cut-data old kind left p h)
@@ -283,7 +275,7 @@ broken-breaks (Some f) kind = ap (coming_of f.stop) (broken-is kind f)
 pub breaks : (f : Option Feed) (kind : ErrorKind) (d : Option Coming) → comes (Broken kind) f ≡ d → BreaksBy kind d
 breaks f kind d e = let P : Option Coming → Type 0 = λ x. BreaksBy kind x in subst P e (broken-breaks f kind)
 
--- nothing comes after the body
+-- prepended-nothing comes after the body
 pub over-comes : (f : Option Feed) → comes Over f ≡ option_map over_at f
 over-comes None = refl
 over-comes (Some f) = ap (λ d. Some (coming_of f.stop d)) (over-is f)
@@ -293,11 +285,7 @@ pub takes-more : (a b c : Option Feed) → TakesFront a b → TakesFront b c →
 takes-more a b c h k = (h.0 ++ k.0, given-along a b c h.0 k.0 (h.0 ++ k.0) h.1 k.1 refl)
 
 pub takes-none : (a b : Option Feed) → b ≡ a → TakesFront a b
-takes-none a b e = ([], sym e ∙ nothing b)
-  where
-    nothing : (o : Option Feed) → o ≡ prepended [] o
-    nothing None = refl
-    nothing (Some f) = refl
+takes-none a b e = ([], sym e ∙ prepended-nothing b)
 
 pub line-takes : (a b : Option Feed) (line : TakenLine) → OneLine a b line → TakesFront a b
 line-takes a b line h = (h.text ++ crlf, h.gives)

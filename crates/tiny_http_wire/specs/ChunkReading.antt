@@ -8,7 +8,7 @@ use Rattle.tiny_http_device.specs.declared.device.Stop.{Stop}
 use Rattle.tiny_http_text.specs.Bytes.{semicolon, trimmed}
 use Rattle.tiny_http_device.specs.Device.{fault_of}
 use Rattle.tiny_http_wire.specs.Chunks.{is_bws, is_hex, longest_line, most_trailers}
-use Rattle.tiny_http_head.specs.Reading.{line, front_while}
+use Rattle.tiny_http_head.specs.HeadReading.{line, front_while}
 
 -- the size that a size line gives
 abbrev pub digits_of : List ℕ → List ℕ

@@ -77,7 +77,7 @@ pub record WholeChunks (bytes body rest : List ℕ) : Type 0 where
   pub joins : bytes ≡ flat_map chunk_text chunks ++ (lines_text (last ∷ trailers) ++ (crlf ++ rest))
   pub body_is : body ≡ data_of chunks
   pub are_chunks : AllByRecursion IsChunk chunks
-  pub is_last : IsLastLine last
+  pub is_last_chunk : IsLastLine last
   pub are_trailers : AllByRecursion IsTrailerLine trailers
   pub few_trailers : length trailers ≤ most_trailers
 

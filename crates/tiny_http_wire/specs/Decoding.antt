@@ -124,8 +124,8 @@ pub record ReadsData {R : Type 0} (feed : R → Option Feed) (old new : Decoder 
   pub fault : IfErr r (λ e. BreaksBy (error_kind e) (decoder_coming feed old))
   pub again : OnErr r (decoder_coming feed new ≡ decoder_coming feed old)
   pub empty : length buf ≡ 0 → (r ≡ Ok 0) × (new ≡ old)
-  pub ended : IfOk r (λ n. n ≡ 0 → 0 < length buf → decoder_stop new ≡ Some End)
+  pub zero_is_end : IfOk r (λ n. n ≡ 0 → 0 < length buf → decoder_stop new ≡ Some End)
   pub broken : IfErr r (λ e. decoder_stop new ≡ Some (Fault (error_kind e)))
   pub stays : IsSome (decoder_stop old) → new ≡ old
-  pub tells : IfSome (decoder_stop old) (λ stop. 0 < length buf → AnswersStop stop r)
+  pub reports_stop : IfSome (decoder_stop old) (λ stop. 0 < length buf → AnswersStop stop r)
   pub takes : TakesFront (feed (decoder_inner old)) (feed (decoder_inner new))

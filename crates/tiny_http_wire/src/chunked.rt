@@ -193,10 +193,10 @@ impl Decoding {
         ensures again { OnErr result (decoding_coming self.new (R.feed reader.new) ≡ decoding_coming self.old (R.feed reader.old)) }
         ensures empty { length buf.new ≡ 0 → (result ≡ Ok 0) × (self.new ≡ self.old) × (reader.new ≡ reader.old) }
         // Whatever the reader states, after the end or a fault it isn't called again, and the same is answered.
-        ensures ended { IfOk result (λ n. n ≡ 0 → 0 < length buf.new → decoding_stop self.new ≡ Some Stop.End) }
+        ensures zero_is_end { IfOk result (λ n. n ≡ 0 → 0 < length buf.new → decoding_stop self.new ≡ Some Stop.End) }
         ensures broken { IfErr result (λ e. decoding_stop self.new ≡ Some (Stop.Fault (error_kind e))) }
         ensures stays { IsSome (decoding_stop self.old) → (self.new ≡ self.old) × (reader.new ≡ reader.old) }
-        ensures tells { IfSome (decoding_stop self.old) (λ stop. 0 < length buf.new → AnswersStop stop result) }
+        ensures reports_stop { IfSome (decoding_stop self.old) (λ stop. 0 < length buf.new → AnswersStop stop result) }
         // Only bytes at the front of what the reader gives are taken.
         ensures takes { TakesFront (R.feed reader.old) (R.feed reader.new) }
     {

@@ -10,9 +10,9 @@ pub returns : goal.returns
 returns c =
     let before = budget_sink c.new-writer.result in
     let none : c.new-writer.result.failures ≡ 0 = ap (λ (s : Sink). s.failures) c.new-writer.ensures.sink in
-    let fresh : IsFresh before = record { no_bytes = ap (λ (s : Sink). s.taken) c.new-writer.ensures.sink; goes_on = refl; can_count = rw none (lit< tt) } in
+    let fresh : IsFresh before = record { no_bytes = ap (λ (s : Sink). s.taken) c.new-writer.ensures.sink; unended = refl; can_count = rw none (lit< tt) } in
     let outlet = c.serve-outlet.result.1 in
     let last = c.serve-outlet.result.2 in
-    let left = c.serve-outlet.result.0.feed in
-    let P : Sink → Type 0 = λ s. Greets (ending c.args.bytes.items) s c.args.now (budget_sink (outlet_writer outlet)) (outlet_held outlet) (outlet_ended outlet) left last in
-    record { left = left; greets = subst P c.new-writer.ensures.sink (c.serve-outlet.ensures (ending c.args.bytes.items) (ap Some c.new-reader.ensures) fresh) }
+    let unread = c.serve-outlet.result.0.feed in
+    let P : Sink → Type 0 = λ s. Greets (ending c.args.bytes.items) s c.args.now (budget_sink (outlet_writer outlet)) (outlet_held outlet) (outlet_ended outlet) unread last in
+    record { unread = unread; greets = subst P c.new-writer.ensures.sink (c.serve-outlet.ensures (ending c.args.bytes.items) (ap Some c.new-reader.ensures) fresh) }

@@ -10,10 +10,10 @@ fn a_pop_that_is_woken_for_nothing_comes_back(rt: HostRuntime) -> Result<(), Fai
     let queue: Arc<MessagesQueue<u8>> = MessagesQueue::with_capacity(alloc, 8)?;
     let is_back = Arc::new(alloc, AtomicBool::new(false))?;
     let theirs = Arc::try_clone(&queue)?;
-    let told = Arc::try_clone(&is_back)?;
+    let comes_back = Arc::try_clone(&is_back)?;
     let popper = thread::spawn(&rt, move || {
         let found = theirs.pop_timeout(&rt, Duration::from_millis(100));
-        told.store(true, Ordering::SeqCst);
+        comes_back.store(true, Ordering::SeqCst);
         found
     })
     .map_err(|_| "no thread")?;

@@ -49,8 +49,8 @@ fn prints<R: ReadDevice + Drop>(
     no_body: bool,
     (text, fault): (&str, Option<ErrorKind>),
 ) -> Result<(), Fail> {
-    let (writer, told) = print(alloc, answer, HTTPVersion(1, 1), no_body)?;
-    let found = (writer.bytes(), told, writer.failures());
+    let (writer, outcome) = print(alloc, answer, HTTPVersion(1, 1), no_body)?;
+    let found = (writer.bytes(), outcome, writer.failures());
     assert_eq!(rt; found, (text.as_bytes(), fault, 0));
     Ok(())
 }

@@ -1,6 +1,6 @@
 use Rattle.std.proofs.Common.{arith, ◌<◌, ◌^◌}
-use Rattle.replay.specs.Line.{BeginsByNumber}
-use Rattle.replay.proofs.LineLemmas.{answer_parts, none_fits, no_answer}
+use Rattle.replay.specs.ScriptLine.{BeginsByNumber}
+use Rattle.replay.proofs.ScriptLineLemmas.{answer_parts, none_fits, no_answer}
 use Rattle.replay.proofs.line.answer_in.Goals as goal
 
 pub returns-in_err-number-clause-found : goal.returns-in_err-number-clause-found

@@ -1,5 +1,5 @@
 use Rattle.std.proofs.Common.{arith, ◌<◌, ◌^◌}
-use Rattle.replay.proofs.LineLemmas.{none_fits, number_read}
+use Rattle.replay.proofs.ScriptLineLemmas.{none_fits, number_read}
 use Rattle.replay.proofs.line.count_in.Goals as goal
 
 pub returns-in_err-number-clause-found : goal.returns-in_err-number-clause-found

@@ -1,5 +1,5 @@
 use Rattle.std.proofs.Common.{◌∙◌, Some, None}
-use Rattle.replay.proofs.LineLemmas.{number_cut, number_read}
+use Rattle.replay.proofs.ScriptLineLemmas.{number_cut, number_read}
 use Rattle.replay.proofs.line.number_before.Goals as goal
 
 pub returns-in_err-digits-clause-found : goal.returns-in_err-digits-clause-found

@@ -1,5 +1,5 @@
 use Rattle.std.proofs.Common.{◌≡◌, ◌++◌, codes}
-use Rattle.replay.proofs.LineLemmas.{only_now, only_read}
+use Rattle.replay.proofs.ScriptLineLemmas.{only_now, only_read}
 use Rattle.replay.proofs.line.text_in.Goals as goal
 
 pub returns-in_err-date_in-clause-found : goal.returns-in_err-date_in-clause-found

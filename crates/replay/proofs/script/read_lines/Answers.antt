@@ -1,8 +1,8 @@
 use Rattle.std.proofs.Common.{rules, ◌≡◌, sym, subst, ◌+◌, ◌++◌, ◌∷◌, [], List, take}
 use Rattle.std.specs.List.{AllZip}
-use Rattle.replay.specs.Line.{IsLine}
+use Rattle.replay.specs.ScriptLine.{IsLine}
 use Rattle.replay.specs.Script.{IsFirstBadLine}
-use Rattle.replay.specs.declared.line.Line.{Line}
+use Rattle.replay.specs.declared.line.ScriptLine.{ScriptLine}
 use Rattle.replay.proofs.ScriptLemmas.{texts, all_good, first_bad, read_on}
 use Rattle.replay.proofs.script.read_lines.Goals as goal
 
@@ -16,5 +16,5 @@ returns-in_default-clause-bad c = λ n e.
 pub loop-i-preserved : goal.loop-i-preserved
 loop-i-preserved c =
     let pushed : c.push.new.self.items ≡ c.loop-i.said.items ++ c.in-Some.line ∷ [] = search rules in
-    let read : List Line → Type 0 = λ said. AllZip IsLine (texts (take (c.loop-i.i + 1) c.args.lines.now)) said in
+    let read : List ScriptLine → Type 0 = λ said. AllZip IsLine (texts (take (c.loop-i.i + 1) c.args.lines.now)) said in
     subst read (sym pushed) (read_on c.args.lines.now c.loop-i.i _ c.loop-i.said.items c.in-Some.line c.loop-i-test.true c.loop-i.invariant c.in-Some.ensures.says)

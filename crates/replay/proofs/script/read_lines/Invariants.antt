@@ -1,6 +1,6 @@
 use Rattle.std.proofs.Common.{map, take, List, ℕ, Bor}
 use Rattle.std.specs.List.{AllZip}
-use Rattle.replay.specs.Line.{IsLine}
+use Rattle.replay.specs.ScriptLine.{IsLine}
 use Rattle.replay.proofs.script.read_lines.Given as goal
 
 abbrev pub invariant-loop-i : goal.invariant-loop-i

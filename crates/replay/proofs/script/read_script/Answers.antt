@@ -1,6 +1,6 @@
 use Rattle.std.proofs.Common.{ap, ◌∙◌, subst, List, ℕ}
 use Rattle.std.specs.List.{AllZip}
-use Rattle.replay.specs.Line.{IsLine}
+use Rattle.replay.specs.ScriptLine.{IsLine}
 use Rattle.replay.specs.Script.{steps_from}
 use Rattle.replay.proofs.ScriptLemmas.{texts}
 use Rattle.replay.proofs.script.read_script.Goals as goal

@@ -7,7 +7,7 @@ use Rattle.tiny_http_stream.specs.Outlet.{output_of}
 use Rattle.tiny_http_core.specs.Steps.{ReplyValue, Done, Fault, is_closed_client, fault_of_answer}
 use Rattle.tiny_http_core.specs.Seen.{seen}
 use Rattle.tiny_http_core.specs.Sending.{IsHonest}
-use Rattle.tiny_http_core.proofs.SendingLemmas.{or-false}
+use Rattle.tiny_http_core.proofs.SlotsLemmas.{or-parts}
 use Rattle.tiny_http_core.proofs.driver.answer.Goals as goal
 
 -- the fault that is reported is the one that was met
@@ -19,12 +19,12 @@ same-kind met kind e = by (is_closed_client met) e
     by false e = let same : Fault met ≡ Fault kind = e in cc
 
 pub returns-in-Err-clause-sends : goal.returns-in-Err-clause-sends
-returns-in-Err-clause-sends g c content told few open_is can p is =
+returns-in-Err-clause-sends g c content stated few open_is can p is =
     let new = c.send.new.outlet in (
       Err c.in-Err.fault,
       search (rules, c.fault_of_answer.ensures, c.kind.ensures),
-      c.in-Err.ensures.sends content told few can p is,
-      λ z. (let no : true ≡ false = sym c.in-Err.ensures.ended ∙ (or-false new.ended new.tells.has_ended z).0 in cc),
+      c.in-Err.ensures.sends content stated few can p is,
+      λ z. (let no : true ≡ false = sym c.in-Err.ensures.ended ∙ (or-parts new.ended new.sink.has_ended z).0 in cc),
     )
 
 pub returns-in-Err-clause-honest : goal.returns-in-Err-clause-honest

@@ -9,7 +9,7 @@ use Rattle.tiny_http_stream.specs.Outlet.{OutletState, output_of, SentOn, outlet
 use Rattle.tiny_http_core.specs.Sending.{FailsOnce}
 use Rattle.tiny_http_stream.proofs.SourceGoesOn.{goes-on_same, goes-on_more}
 use Rattle.tiny_http_core.proofs.ConversationRuns.{joins-more, joins-end, fails-step, honest-step, honest-end}
-use Rattle.tiny_http_core.proofs.DrivingLemmas.{done-none, done-step, tells-step}
+use Rattle.tiny_http_core.proofs.DrivingLemmas.{done-none, done-step, reports-step}
 use Rattle.tiny_http_core.proofs.driver.run.Goals as goal
 
 pub loop-timed-init : goal.loop-timed-init
@@ -22,7 +22,7 @@ loop-timed-init g c =
       joins = grind (arith, common_steps);
       counted = grind (arith, common_steps);
       fits = grind (arith, common_steps);
-      follows = λ client dated tells fresh told. rw c.in-Ok.ensures.items (done-none (IsTimedStep g.D.ReadDevice.feed) client writer new dated (c.new-connection.ensures.begins client tells fresh) told);
+      follows = λ client dated states fresh stated. rw c.in-Ok.ensures.items (done-none (IsTimedStep g.D.ReadDevice.feed) client writer new dated (c.new-connection.ensures.begins client states fresh) stated);
       source = subst P (sym c.new-connection.ensures.source.0) (goes-on_same reader);
       fails_once = rw c.new-connection.ensures.outlet (inl refl);
       flushed = rw c.new-connection.ensures.outlet refl;
@@ -41,34 +41,34 @@ loop-timed-preserved g c =
       joins = joins-more _ _ _ _ c.in-Some.timed inv.joins c.in-Some.ensures.steps.0;
       counted = grind (arith, common_steps);
       fits = grind (arith, common_steps);
-      follows = λ client dated tells fresh told. rw (c.push_reserved.ensures.items, map-append)
-          (done-step g.D.ReadDevice.feed client writer old new c.in-Some.timed c.loop-timed.yielded (map seen c.loop-timed.replies.items) (seen c.step-reply.result) dated (λ ds t. inv.follows client ds tells fresh t) step told);
+      follows = λ client dated states fresh stated. rw (c.push_reserved.ensures.items, map-append)
+          (done-step g.D.ReadDevice.feed client writer old new c.in-Some.timed c.loop-timed.yielded (map seen c.loop-timed.replies.items) (seen c.step-reply.result) dated (λ ds t. inv.follows client ds states fresh t) step stated);
       source = goes-on_more _ _ _ inv.source step.goes_on;
       fails_once = fails-step writer (output_of old.outlet) (output_of new.outlet) old.outlet.ended new.outlet.ended inv.fails_once step.fails_once;
       flushed = step.flushed inv.flushed;
       sent_on = λ none. step.sent_on (inv.sent_on none);
       honest = rw c.push_reserved.ensures.items
           (honest-step g.D.ReadDevice.feed writer (output_of old.outlet) (output_of new.outlet) old.outlet.ended new.outlet.ended c.loop-timed.yielded c.loop-timed.replies.items c.in-Some.timed c.step-reply.result step.fails_once inv.honest
-          (tells-step g.D.ReadDevice.feed (output_of old.outlet) (output_of new.outlet) c.in-Some.timed c.step-reply.result step.honest));
+          (reports-step g.D.ReadDevice.feed (output_of old.outlet) (output_of new.outlet) c.in-Some.timed c.step-reply.result step.honest));
     }
 
 pub returns-clause-conversation : goal.returns-clause-conversation
-returns-clause-conversation g c feed dated tells fresh told =
+returns-clause-conversation g c feed dated states fresh stated =
     let whole : c.loop-timed.yielded ≡ c.args.steps.items =
     joins-end _ _ _ c.loop-timed.invariant.joins (sym c.loop-timed.timed-iterator.rest.ok.0 ∙ c.in-None.ensures.steps.0) in
-    let told_all : AllZip (IsTimedStep g.D.ReadDevice.feed) c.loop-timed.yielded dated = rw whole told in
-    c.into_parts-source.ensures.conversation feed (g.W.WriteDevice.sink c.args.writer) dated (map seen c.loop-timed.replies.items) (c.loop-timed.invariant.follows feed dated tells fresh told_all)
+    let stated_all : AllZip (IsTimedStep g.D.ReadDevice.feed) c.loop-timed.yielded dated = rw whole stated in
+    c.into_parts-source.ensures.conversation feed (g.W.WriteDevice.sink c.args.writer) dated (map seen c.loop-timed.replies.items) (c.loop-timed.invariant.follows feed dated states fresh stated_all)
 
 pub returns-clause-fails_once : goal.returns-clause-fails_once
 returns-clause-fails_once g c =
     let P : OutletState g.row.W.Denot → Type 0 = λ o. FailsOnce (g.W.WriteDevice.sink c.args.writer) (output_of o) o.ended in
-    rw (← c.into_parts-source.ensures.tells) (⊎_elim (λ h. inl h) (λ h. inr h.0) (subst P (sym c.into_parts-source.ensures.outlet) c.loop-timed.invariant.fails_once))
+    rw (← c.into_parts-source.ensures.sink) (⊎_elim (λ h. inl h) (λ h. inr h.0) (subst P (sym c.into_parts-source.ensures.outlet) c.loop-timed.invariant.fails_once))
 
 pub returns-clause-honest : goal.returns-clause-honest
 returns-clause-honest g c =
     let whole : c.loop-timed.yielded ≡ c.args.steps.items =
     joins-end _ _ _ c.loop-timed.invariant.joins (sym c.loop-timed.timed-iterator.rest.ok.0 ∙ c.in-None.ensures.steps.0) in
-    rw (← whole) (honest-end g.D.ReadDevice.feed (g.W.WriteDevice.sink c.args.writer) (output_of c.loop-timed.connection.outlet) (g.W.WriteDevice.sink (outlet_writer c.into_parts-source.result.1)) c.loop-timed.yielded c.loop-timed.replies.items (rw (← c.into_parts-source.ensures.tells, c.into_parts-source.ensures.outlet) refl) c.loop-timed.invariant.honest)
+    rw (← whole) (honest-end g.D.ReadDevice.feed (g.W.WriteDevice.sink c.args.writer) (output_of c.loop-timed.connection.outlet) (g.W.WriteDevice.sink (outlet_writer c.into_parts-source.result.1)) c.loop-timed.yielded c.loop-timed.replies.items (rw (← c.into_parts-source.ensures.sink, c.into_parts-source.ensures.outlet) refl) c.loop-timed.invariant.honest)
 
 pub returns-clause-source : goal.returns-clause-source
 returns-clause-source g c = rw c.into_parts-source.ensures.source c.loop-timed.invariant.source

@@ -8,4 +8,4 @@ returns-clause-passes g c front rest e place =
     (h.0, flushed-behind _ _ _ _ _ _ _ h.1 c.flush_quietly.ensures.sends)
 
 pub returns-clause-is_flushed : goal.returns-clause-is_flushed
-returns-clause-is_flushed g c = let o = c.flush_quietly.new.outlet in is-flushed o.tells o.held o.ended c.flush_quietly.ensures.flushed c.flush_quietly.ensures.sent_on
+returns-clause-is_flushed g c = let o = c.flush_quietly.new.outlet in is-flushed o.sink o.held o.ended c.flush_quietly.ensures.flushed c.flush_quietly.ensures.sent_on

@@ -14,14 +14,14 @@ loop-text-preserved g c =
     let P : List ℕ → Type 0 = λ t. SendsUnlessEnded (outlet_ended now) (output_of now) (output_of later) (outlet_ended later) t in
     record {
       writes = λ front rest e place. writes-next front rest c.loop-text.turns.marks c.finish.new.self.marks c.loop-text.at c.args.text.items (outlet_ended was) (output_of was) (output_of now) (output_of later) (outlet_ended now) (outlet_ended later)
-          c.finish.result c.in-Go.text c.in-Go.field-0 c.loop-text.turns.slot c.finish.new.self.slot
+          c.finish.result c.in-Go.text c.in-Go.field-0 c.loop-text.turns.resting c.finish.new.self.resting
           (c.loop-text.invariant.writes front rest e place) (record { marks_are = c.finish.ensures.marks; item = c.finish.ensures.item }) c.in-Go.is (λ can. subst P c.deref-in-Go.ensures.value (c.write_quietly-in-Go.ensures.sends can));
       once = once-append (outlet_ended was) (outlet_ended now) (outlet_ended later) (output_of was) (output_of now) (output_of later) c.loop-text.invariant.once c.write_quietly-in-Go.ensures.fails_once;
     }
 
 pub returns : goal.returns
 returns g c = record {
-  passes = λ front rest e place. writes-last front rest c.loop-text.turns.marks c.finish.new.self.marks c.loop-text.at c.args.text.items _ _ _ _ c.finish.result c.loop-text.turns.slot c.finish.new.self.slot (c.loop-text.invariant.writes front rest e place)
+  passes = λ front rest e place. writes-last front rest c.loop-text.turns.marks c.finish.new.self.marks c.loop-text.at c.args.text.items _ _ _ _ c.finish.result c.loop-text.turns.resting c.finish.new.self.resting (c.loop-text.invariant.writes front rest e place)
       (record { marks_are = c.finish.ensures.marks; item = c.finish.ensures.item }) c.in_default.not-Go;
   fails_once = c.loop-text.invariant.once;
 }

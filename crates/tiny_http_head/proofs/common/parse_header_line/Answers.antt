@@ -1,7 +1,7 @@
 use Rattle.std.proofs.Common.{rules}
 use Rattle.tiny_http_text.specs.Bytes.{colon}
 use Rattle.tiny_http_text.proofs.BytesTrimming.{ascii-cut, ascii-trimmed}
-use Rattle.tiny_http_head.proofs.ReadingLemmas.{no-colon, header-there, blank-field, header-made}
+use Rattle.tiny_http_head.proofs.HeadReadingLemmas.{no-colon, header-there, blank-field, header-made}
 use Rattle.tiny_http_head.proofs.common.parse_header_line.Goals as goal
 
 pub returns-in_default-clause-value : goal.returns-in_default-clause-value

@@ -1,4 +1,4 @@
-use Rattle.tiny_http_head.proofs.ReadingLemmas.{one-part, two-parts, has-parts}
+use Rattle.tiny_http_head.proofs.HeadReadingLemmas.{one-part, two-parts, has-parts}
 use Rattle.tiny_http_head.proofs.grammar.split_request_line.Goals as goal
 
 pub returns-in_default-clause-none : goal.returns-in_default-clause-none

@@ -1,8 +1,8 @@
 use Rattle.std.proofs.Common.{sym, ap, ◌∙◌}
 use Rattle.std.specs.Option.{option_map}
-use Rattle.tiny_http_message.specs.Body.{counted_left}
+use Rattle.tiny_http_message.specs.Body.{counted_remaining}
 use Rattle.tiny_http_message.proofs.BodyReads.{counted-none}
 use Rattle.tiny_http_message.proofs.body.counted.Goals as goal
 
 pub returns-then-left-eq0-clause-remaining : goal.returns-then-left-eq0-clause-remaining
-returns-then-left-eq0-clause-remaining c feed = sym (ap (λ n. option_map (counted_left n) feed) c.if-left-eq0.true ∙ counted-none feed)
+returns-then-left-eq0-clause-remaining c feed = sym (ap (λ n. option_map (counted_remaining n) feed) c.if-left-eq0.true ∙ counted-none feed)

@@ -35,5 +35,5 @@ returns-in-Ok-None-clause-cut g c none =
     let items : Vec ℕ → List ℕ = λ v. v.items in
     record {
       over = taken.over refl;
-      left = λ f e. let P : Option Feed → Type 0 = λ o. TakesExactly items c.unwrap_or-length.result o c.take_exactly.new.self.feed None in (subst P e taken.takes).1;
+      remains = λ f e. let P : Option Feed → Type 0 = λ o. TakesExactly items c.unwrap_or-length.result o c.take_exactly.new.self.feed None in (subst P e taken.takes).1;
     }

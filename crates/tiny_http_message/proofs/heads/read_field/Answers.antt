@@ -1,5 +1,5 @@
 use Rattle.std.proofs.Common.{rules}
-use Rattle.tiny_http_message.proofs.HeadReadsLemmas.{field-read, field-malformed}
+use Rattle.tiny_http_message.proofs.HeadReadsLemmas.{field-read, head_reads-field-malformed}
 use Rattle.tiny_http_text.proofs.BytesLemmas.{are-ascii}
 use Rattle.tiny_http_message.proofs.heads.read_field.Goals as goal
 
@@ -12,4 +12,4 @@ returns-in-Ok-Some-clause-reads g c =
 
 pub returns-in-Ok-None-clause-reads : goal.returns-in-Ok-None-clause-reads
 returns-in-Ok-None-clause-reads g c =
-    field-malformed _ _ c.in_ok-text.text c.in_ok-text.ensures.reads (λ e. search (rules, e)) (search (rules, c.as_bytes.ensures.value, c.as_str.ensures.value))
+    head_reads-field-malformed _ _ c.in_ok-text.text c.in_ok-text.ensures.reads (λ e. search (rules, e)) (search (rules, c.as_bytes.ensures.value, c.as_str.ensures.value))

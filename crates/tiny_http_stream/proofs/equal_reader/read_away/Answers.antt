@@ -1,7 +1,7 @@
 use Rattle.std.proofs.Common.{◌<◌, ◌∙◌, arith, length, take}
 use Rattle.std.proofs.lemmas.List.{length-take-le}
 use Rattle.tiny_http_device.specs.declared.device.Stop.TheVariants.{End}
-use Rattle.tiny_http_stream.proofs.PartsLemmas.{last-stop, last-none, last-bytes, nothing-given}
+use Rattle.tiny_http_stream.proofs.FeedPartsLemmas.{last-stop, last-none, last-bytes, nothing-given}
 use Rattle.tiny_http_stream.proofs.equal_reader.read_away.Goals as goal
 
 pub returns-in-Err : goal.returns-in-Err

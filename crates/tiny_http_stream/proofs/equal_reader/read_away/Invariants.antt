@@ -1,6 +1,6 @@
 use Rattle.std.proofs.Common.{◌≡◌}
 use Rattle.std.specs.Option.{option_map}
-use Rattle.tiny_http_stream.specs.Parts.{feed_behind}
+use Rattle.tiny_http_stream.specs.FeedParts.{feed_behind}
 use Rattle.tiny_http_stream.proofs.equal_reader.read_away.Given as goal
 
 abbrev pub invariant-loop-left : goal.invariant-loop-left

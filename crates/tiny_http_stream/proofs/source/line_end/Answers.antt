@@ -1,5 +1,5 @@
 use Rattle.std.proofs.Common.{arith, refl}
-use Rattle.tiny_http_stream.proofs.LineEnds.{scans-nothing, scans-before, scans-on, scans-end, scans-none, not-end}
+use Rattle.tiny_http_stream.proofs.LineEndsScanning.{scans-nothing, scans-before, scans-on, scans-end, scans-none, not-end}
 use Rattle.tiny_http_stream.proofs.source.line_end.Goals as goal
 
 pub loop-at-init : goal.loop-at-init

@@ -1,5 +1,5 @@
 use Rattle.std.proofs.Common.{length, ◌-◌, ◌≤◌}
-use Rattle.tiny_http_stream.proofs.LineEnds.{Scans}
+use Rattle.tiny_http_stream.proofs.LineEndsScanning.{Scans}
 use Rattle.tiny_http_stream.proofs.source.line_end.Given as goal
 
 abbrev pub invariant-loop-at : goal.invariant-loop-at

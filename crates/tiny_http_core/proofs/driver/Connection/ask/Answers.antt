@@ -15,7 +15,7 @@ use Rattle.tiny_http_core.specs.Steps.{Ask, Ended, Memory, Handed, NotYet}
 use Rattle.tiny_http_core.specs.Connection.{Kept, kept}
 use Rattle.tiny_http_core.proofs.ConnectionAsk.{StepIsAnswered, ask-ended, ask-final, ask-memory, ask-not_yet, ask-handed, ask-refused, before-head, stands-before}
 use Rattle.tiny_http_core.proofs.ConnectionOutput.{can-send}
-use Rattle.tiny_http_core.proofs.DrivingLemmas.{viewed, none-of, end-refused, end-final, takes-ask, reads-on, stays}
+use Rattle.tiny_http_core.proofs.DrivingLemmas.{viewed, none-of, end-refused, end-final, takes-ask, driving-reads-on, moves-none}
 use Rattle.tiny_http_wire.specs.declared.common.StatusCode.{StatusCode}
 use Rattle.std.specs.Prelude.{is_some, IfOk}
 use Rattle.tiny_http_message.specs.declared.exchange.EndOfRequests.{EndOfRequests}
@@ -42,7 +42,7 @@ returns-then-is_some g c =
     record {
       step = rw (← c.self.view_is) (takes-ask old old c.args.now Ended
           (λ client before s low st. ask-ended client before (kept old) s c.args.now st some)
-          (λ no. refl) (λ is. refl, λ is. refl, λ none. (let no : false ≡ true = ap is_some (sym none) ∙ some in cc)) (inl (refl, refl, refl)) (stays old) (λ kind e. cc));
+          (λ no. refl) (λ is. refl, λ is. refl, λ none. (let no : false ≡ true = ap is_some (sym none) ∙ some in cc)) (inl (refl, refl, refl)) (moves-none old) (λ kind e. cc));
     }
 
 pub returns-then-matches : goal.returns-then-matches
@@ -57,7 +57,7 @@ returns-then-matches g c =
     record {
       step = rw (← c.self.view_is) (takes-ask old old c.args.now NotYet
           (λ client before s low st. ask-not_yet client before (kept old) s c.args.now st open_is here)
-          (λ no. refl) (none-of q.end open_is) tt (stays old) (λ kind e. cc));
+          (λ no. refl) (none-of q.end open_is) tt (moves-none old) (λ kind e. cc));
     }
 
 -- the last request was read, and the answer is another
@@ -103,7 +103,7 @@ returns-in-Ok g c =
           let P : List Mark → List (Option Waiting) → Type 0 = λ m r.
           StepIsAnswered client before (record k { marks = m; requests = r; standing = source.standing; feed = source.feed; stop = source.stop; is_over = source.is_over }) s c.args.now Ask (Handed c.in-Ok.number (head_message x.head) (head_framing x.head)) in
           subst (λ m. P m c.issue.new.self.requests.items) (sym e.marks) (subst (λ r. P (k.marks ++ (Open ∷ [])) r) (sym e.requests) done))
-          (λ no. elim no [ ]) (none-of q.end open_is, none-of q.end open_is, lazy-of c.read_head.result x is h.lazy) (e.number, (x.waiting, e.requests, (let S : Result HeadRead AllocError → Type 0 = λ r. source.standing ≡ standing_read r q.source.standing in subst S is h.standing)), refl) (reads-on old new refl h.goes_on) (λ kind e. cc));
+          (λ no. elim no [ ]) (none-of q.end open_is, none-of q.end open_is, lazy-of c.read_head.result x is h.lazy) (e.number, (x.waiting, e.requests, (let S : Result HeadRead AllocError → Type 0 = λ r. source.standing ≡ standing_read r q.source.standing in subst S is h.standing)), refl) (driving-reads-on old new refl h.goes_on) (λ kind e. cc));
     }
 
 pub returns-in-Err-issue : goal.returns-in-Err-issue
@@ -128,11 +128,11 @@ returns-in-Err-issue g c =
       step = rw (← c.self.view_is) (takes-ask old new c.args.now Memory
           (λ client before s low st.
           let n = before-head client before k s st open_is here in
-          let P : List Mark → List (Option Waiting) → Type 0 = λ m r. StepIsAnswered client before (record k { marks = m; requests = r; ended = true; standing = source.standing; feed = source.feed; stop = source.stop; is_over = source.is_over }) s c.args.now Ask Memory in
+          let P : List Mark → List (Option Waiting) → Type 0 = λ m r. StepIsAnswered client before (record k { marks = m; requests = r; asking_ended = true; standing = source.standing; feed = source.feed; stop = source.stop; is_over = source.is_over }) s c.args.now Ask Memory in
           let done = ask-memory client before k s c.args.now source.feed source.stop source.is_over source.standing st open_is n.unread n.quiet n.more
           (λ i. not-ended c.read_head.result x (h.at_end i).0 is) h.goes_on in
           subst (λ m. P m c.issue.new.self.requests.items) (ap (λ t. t.marks) (sym e.0)) (subst (λ r. P k.marks r) (sym e.1) done))
-          (λ no. elim no [ ]) (none-of q.end open_is, refl, here, h.begun (λ end. not-ended c.read_head.result x end is)) (e.1, ap (λ t. t.marks) e.0, refl) (reads-on old new refl h.goes_on) (λ kind e. cc));
+          (λ no. elim no [ ]) (none-of q.end open_is, refl, here, h.begun (λ end. not-ended c.read_head.result x end is)) (e.1, ap (λ t. t.marks) e.0, refl) (driving-reads-on old new refl h.goes_on) (λ kind e. cc));
     }
 
 pub returns-in-Ok-Ended : goal.returns-in-Ok-Ended
@@ -159,7 +159,7 @@ returns-in-Ok-Ended g c =
           (λ here. subst R is (h.reads here)) h.goes_on)
           (λ no. elim no [ ])
           (λ some. absurd (some-none open_is some), λ i. (h.last i).1, λ none. (why, refl, end-final q.source.standing c.args.now q.source.feed source.feed why outside (λ i. last-reason why (sym is ∙ (h.last i).0)) (λ here. subst R is (h.reads here))))
-          (inl (refl, refl, refl)) (reads-on old new refl h.goes_on) (λ kind e. cc));
+          (inl (refl, refl, refl)) (driving-reads-on old new refl h.goes_on) (λ kind e. cc));
     }
 
 pub returns-in-Err : goal.returns-in-Err
@@ -183,7 +183,7 @@ returns-in-Err g c =
           let n = before-head client before k s st open_is here in
           ask-memory client before k s c.args.now source.feed source.stop source.is_over source.standing st open_is n.unread n.quiet n.more
           (λ i. not-memory c.read_head.result c.in-Err.field-0 (h.at_end i).0 c.in-Err.is) h.goes_on)
-          (λ no. elim no [ ]) (none-of q.end open_is, refl, here, h.begun (λ end. not-memory c.read_head.result c.in-Err.field-0 end c.in-Err.is)) (refl, refl, refl) (reads-on old new refl h.goes_on) (λ kind e. cc));
+          (λ no. elim no [ ]) (none-of q.end open_is, refl, here, h.begun (λ end. not-memory c.read_head.result c.in-Err.field-0 end c.in-Err.is)) (refl, refl, refl) (driving-reads-on old new refl h.goes_on) (λ kind e. cc));
     }
 
 pub returns-in-Ok-refuse : goal.returns-in-Ok-refuse
@@ -216,7 +216,7 @@ returns-in-Ok-refuse g c =
           let done = ask-refused client before k s c.args.now q.source.standing status text is_last source.feed source.stop source.is_over source.standing left.self.turns.marks (output_of left.outlet) (outlet_ended left.outlet) st low open_is n.unread n.quiet
           (λ i. not-refused c.read_head.result status text is_last (h.at_end i).0 is) reads h.goes_on (e.leaves (can-send before k.sink k.output_ended s.reached.slots s.failure st.output low)) in
           let P : List (Option Waiting) → Type 0 = λ r.
-          StepIsAnswered client before (record k { marks = left.self.turns.marks; requests = r; ended = true; standing = source.standing; feed = source.feed; stop = source.stop; is_over = source.is_over; sink = output_of left.outlet; output_ended = outlet_ended left.outlet }) s c.args.now Ask Ended in
+          StepIsAnswered client before (record k { marks = left.self.turns.marks; requests = r; asking_ended = true; standing = source.standing; feed = source.feed; stop = source.stop; is_over = source.is_over; sink = output_of left.outlet; output_ended = outlet_ended left.outlet }) s c.args.now Ask Ended in
           subst (λ r. P r) (sym e.requests) done)
           (λ no. elim no [ ])
           (λ some. absurd (some-none open_is some), λ i. absurd (last i), λ none. (because.Refused status, refl, end-refused q.source.standing c.args.now q.source.feed source.feed status text is_last here reads))
@@ -251,7 +251,7 @@ returns-in-Err-refuse g c =
           (λ client before s low st.
           let n = before-head client before k s st open_is here in
           let P : List Mark → List (Option Waiting) → Outlet g.row.W.Denot → Type 0 = λ m r o.
-          StepIsAnswered client before (record k { marks = m; requests = r; ended = true; standing = source.standing; feed = source.feed; stop = source.stop; is_over = source.is_over; sink = output_of o; output_ended = outlet_ended o }) s c.args.now Ask Memory in
+          StepIsAnswered client before (record k { marks = m; requests = r; asking_ended = true; standing = source.standing; feed = source.feed; stop = source.stop; is_over = source.is_over; sink = output_of o; output_ended = outlet_ended o }) s c.args.now Ask Memory in
           let done = ask-memory client before k s c.args.now source.feed source.stop source.is_over source.standing st open_is n.unread n.quiet n.more
           (λ i. not-refused c.read_head.result status text is_last (h.at_end i).0 is) h.goes_on in
           subst (λ m. P m left.self.requests.items left.outlet) (ap (λ t. t.marks) (sym e.0)) (subst (λ r. P k.marks r left.outlet) (sym e.1) (subst (λ o. P k.marks k.requests o) (sym e.2) done)))

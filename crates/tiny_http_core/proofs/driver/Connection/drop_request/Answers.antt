@@ -10,7 +10,7 @@ use Rattle.tiny_http_core.proofs.ConnectionAsk.{StepIsAnswered}
 use Rattle.tiny_http_stream.proofs.SourceGoesOn.{goes-on_same}
 use Rattle.tiny_http_core.proofs.ConnectionRespond.{no-such}
 use Rattle.tiny_http_core.proofs.ConnectionDrop.{drop-not_taken, drop-done}
-use Rattle.tiny_http_core.proofs.DrivingLemmas.{viewed, same-view, takes-drop, reads-on, gives-up-kept}
+use Rattle.tiny_http_core.proofs.DrivingLemmas.{viewed, same-view, takes-drop, driving-reads-on, gives-up-kept}
 use Rattle.tiny_http_message.proofs.BodyReads.{gives-up}
 use Rattle.tiny_http_core.proofs.driver.Connection.drop_request.Goals as goal
 
@@ -28,7 +28,7 @@ returns-in_default g c =
           let P : List Mark → List (Option Waiting) → Type 0 = λ m r. StepIsAnswered client before (record k { marks = m; requests = r }) s date (Drop n) NoSuch in
           let done = no-such client before k s date n (Drop n) refl (drop-not_taken n) st none.0 in
           subst (λ m. P m c.take.new.self.requests.items) (ap (λ t. t.marks) (sym c.take.ensures.turns)) (subst (λ r. P k.marks r) (sym none.1) done))
-          (λ no. same-view q.source q.outlet c.take.new.self q.pending q.end (ap (λ t. t.marks) c.take.ensures.turns) none.1) refl (λ no. elim no [ ]) (reads-on old new refl (goes-on_same q.source.feed)) (λ kind e. cc));
+          (λ no. same-view q.source q.outlet c.take.new.self q.pending q.end (ap (λ t. t.marks) c.take.ensures.turns) none.1) refl (λ no. elim no [ ]) (driving-reads-on old new refl (goes-on_same q.source.feed)) (λ kind e. cc));
     }
 
 pub returns : goal.returns

@@ -7,9 +7,9 @@ use Rattle.tiny_http_core.specs.Connection.{Kept, kept}
 use Rattle.tiny_http_core.specs.Seen.{seen}
 use Rattle.tiny_http_core.proofs.ConnectionAsk.{StepIsAnswered}
 use Rattle.tiny_http_core.proofs.ConnectionBody.{with_reader}
-use Rattle.tiny_http_core.proofs.ConnectionRespond.{no-such, form-some}
+use Rattle.tiny_http_core.proofs.ConnectionRespond.{no-such, answer-form-some}
 use Rattle.tiny_http_core.proofs.ConnectionRead.{read-not_taken, read-none, read-memory, read-done}
-use Rattle.tiny_http_core.proofs.DrivingLemmas.{viewed, takes-read, reads-on, stays, stands-after}
+use Rattle.tiny_http_core.proofs.DrivingLemmas.{viewed, takes-read, driving-reads-on, moves-none, stands-after}
 use Rattle.tiny_http_core.proofs.driver.Connection.read.Goals.{in-Ok-fill, in-Err}
 use Rattle.tiny_http_core.proofs.driver.Connection.read.Goals as goal
 
@@ -28,7 +28,7 @@ returns-in_default g c =
     let old = viewed q.source q.outlet q.pending q.end in
     record {
       step = λ date. rw (← c.self.view_is) (takes-read old old date n c.args.count NoSuch
-          (λ client before s st. no-such client before (kept old) s date n (Read n c.args.count) refl (read-not_taken n c.args.count) st (sym c.form_at.ensures ∙ c.in_default.is)) (λ no. refl) refl (refl, refl, inl (refl, refl)) (stays old));
+          (λ client before s st. no-such client before (kept old) s date n (Read n c.args.count) refl (read-not_taken n c.args.count) st (sym c.answer_form_at.ensures ∙ c.in_default.is)) (λ no. refl) refl (refl, refl, inl (refl, refl)) (moves-none old));
     }
 
 pub returns-then-count-eq0 : goal.returns-then-count-eq0
@@ -40,9 +40,9 @@ returns-then-count-eq0 g c =
     record {
       step = λ date. rw (← c.self.view_is) (takes-read old old date n c.args.count (Given c.new.result.items)
           (λ client before s st.
-          let w = form-some (slice_get k.requests n) c.in-Some.field-0 (sym c.form_at.ensures ∙ c.in-Some.is) in
+          let w = answer-form-some (slice_get k.requests n) c.in-Some.field-0 (sym c.answer_form_at.ensures ∙ c.in-Some.is) in
           let P : List ℕ → Type 0 = λ l. StepIsAnswered client before k s date (Read n c.args.count) (Given l) in
-          subst P (none _ (search rules)) (read-none client before k s date n c.args.count w.0 st w.1 c.if-count-eq0.true)) (λ no. refl) refl (refl, refl, inl (refl, refl)) (stays old));
+          subst P (none _ (search rules)) (read-none client before k s date n c.args.count w.0 st w.1 c.if-count-eq0.true)) (λ no. refl) refl (refl, refl, inl (refl, refl)) (moves-none old));
     }
 
 pub returns-in_default-zeros : goal.returns-in_default-zeros
@@ -54,8 +54,8 @@ returns-in_default-zeros g c =
     record {
       step = λ date. rw (← c.self.view_is) (takes-read old old date n c.args.count Memory
           (λ client before s st.
-          let w = form-some (slice_get k.requests n) c.in-Some.field-0 (sym c.form_at.ensures ∙ c.in-Some.is) in
-          read-memory client before k s date n c.args.count w.0 st w.1 (omega (arith, c.if-count-eq0.false))) (λ no. refl) refl (refl, refl, inl (refl, refl)) (stays old));
+          let w = answer-form-some (slice_get k.requests n) c.in-Some.field-0 (sym c.answer_form_at.ensures ∙ c.in-Some.is) in
+          read-memory client before k s date n c.args.count w.0 st w.1 (omega (arith, c.if-count-eq0.false))) (λ no. refl) refl (refl, refl, inl (refl, refl)) (moves-none old));
     }
 
 pub returns : goal.returns
@@ -65,7 +65,7 @@ returns g c =
     let old = viewed q.source q.outlet q.pending q.end in
     let new = viewed c.fill.new.source q.outlet c.fill.new.self q.end in
     let k : Kept = kept old in
-    let w = form-some (slice_get k.requests n) c.in-Some.field-0 (sym c.form_at.ensures ∙ c.in-Some.is) in
+    let w = answer-form-some (slice_get k.requests n) c.in-Some.field-0 (sym c.answer_form_at.ensures ∙ c.in-Some.is) in
     let size : length c.fill.new.buf ≡ c.args.count = search (rules, c.in-Ok.ensures) in
     record {
       step = λ date. rw (← c.self.view_is) (takes-read old new date n c.args.count (seen c.match-fill.result)
@@ -83,5 +83,5 @@ returns g c =
           ])
           (elim c.match-fill.branch [ in-Ok-fill b ↦ rw b.result-is (λ no. elim no [ ]) | in-Err b ↦ rw b.result-is (λ no. elim no [ ]) ]) refl
           (let fills = c.fill.ensures.fills w.0 w.1 in (refl, ap (λ t. t.marks) c.fill.ensures.turns, inr (w.0, fills.0, w.1, fills.1, stands-after w.0.body fills.0 q.source c.fill.new.source fills.3 fills.4)))
-          (reads-on old new refl c.fill.ensures.goes_on));
+          (driving-reads-on old new refl c.fill.ensures.goes_on));
     }

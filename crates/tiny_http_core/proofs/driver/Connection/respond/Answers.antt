@@ -9,16 +9,16 @@ use Rattle.tiny_http_core.specs.declared.driver.Step.TheVariants as step
 use Rattle.tiny_http_wire.specs.Answer.{ResponseState}
 use Rattle.tiny_http_wire.specs.Device.{Feed}
 use Rattle.tiny_http_turns.specs.Turns.{Mark}
-use Rattle.tiny_http_core.specs.Pending.{waiting_form}
+use Rattle.tiny_http_core.specs.Pending.{waiting_answer_form}
 use Rattle.tiny_http_stream.specs.Outlet.{output_of, outlet_ended}
 use Rattle.tiny_http_core.specs.Connection.{Kept, kept}
 use Rattle.tiny_http_core.specs.Seen.{seen, Answers, PrintedFor}
 use Rattle.tiny_http_core.proofs.ConnectionAsk.{StepIsAnswered}
 use Rattle.tiny_http_stream.proofs.SourceGoesOn.{goes-on_same}
 use Rattle.tiny_http_core.proofs.ConnectionOutput.{can-send}
-use Rattle.tiny_http_core.proofs.ConnectionRespond.{no-such, respond-not_taken, form-some, respond-not_yet, respond-done, responds-by, after_number}
+use Rattle.tiny_http_core.proofs.ConnectionRespond.{no-such, respond-not_taken, answer-form-some, respond-not_yet, respond-done, responds-by, after_number}
 use Rattle.tiny_http_message.proofs.BodyReads.{gives-up}
-use Rattle.tiny_http_core.proofs.DrivingLemmas.{viewed, same-view, takes-respond, reads-on, stays, fails-more, honest-more, gives-up-kept}
+use Rattle.tiny_http_core.proofs.DrivingLemmas.{viewed, same-view, takes-respond, driving-reads-on, moves-none, once-append, honest-more, gives-up-kept}
 use Rattle.tiny_http_core.proofs.driver.Connection.respond.Goals as goal
 
 pub returns-in_default : goal.returns-in_default
@@ -28,8 +28,8 @@ returns-in_default g c =
     let old = viewed q.source q.outlet q.pending q.end in
     record {
       step = rw (← c.self.view_is) (takes-respond g.D.ReadDevice.feed old old c.args.now n c.args.response NoSuch
-          (λ client before s value low is st. no-such client before (kept old) s c.args.now n (Respond n value) refl (respond-not_taken n value) st (sym c.form_at.ensures ∙ c.in_default.is))
-          (λ no. refl) refl (λ no. elim no [ ]) (stays old) (λ kind e. cc));
+          (λ client before s value low is st. no-such client before (kept old) s c.args.now n (Respond n value) refl (respond-not_taken n value) st (sym c.answer_form_at.ensures ∙ c.in_default.is))
+          (λ no. refl) refl (λ no. elim no [ ]) (moves-none old) (λ kind e. cc));
     }
 
 pub returns-then-not-hold : goal.returns-then-not-hold
@@ -42,14 +42,14 @@ returns-then-not-hold g c =
     record {
       step = rw (← c.self.view_is) (takes-respond g.D.ReadDevice.feed old new c.args.now n c.args.response NotYet
           (λ client before s value low is st.
-          let kept_form : waiting_form (slice_get k.requests n) ≡ Some c.in-Some.form = sym c.form_at.ensures ∙ c.in-Some.is in
-          let w = form-some (slice_get k.requests n) c.in-Some.form kept_form in
+          let kept_answer_form : waiting_answer_form (slice_get k.requests n) ≡ Some c.in-Some.answer_form = sym c.answer_form_at.ensures ∙ c.in-Some.is in
+          let w = answer-form-some (slice_get k.requests n) c.in-Some.answer_form kept_answer_form in
           let late : c.hold.result ≡ false = search rules in
           let same = c.hold.ensures.not_yet late in
           let P : List Mark → List (Option Waiting) → Type 0 = λ m r. StepIsAnswered client before (record k { marks = m; requests = r }) s c.args.now (Respond n value) NotYet in
           let done = respond-not_yet client before k s c.args.now n value w.0 st w.1 (λ h. let none : true ≡ false = sym (c.hold.ensures.held.1 h) ∙ late in cc) in
           subst (λ m. P m c.hold.new.self.requests.items) (sym same) (subst (λ r. P k.marks r) (ap (λ v. v.items) (sym c.hold.ensures.requests)) done))
-          (λ no. same-view q.source q.outlet c.hold.new.self q.pending q.end (c.hold.ensures.not_yet (search rules)) (ap (λ v. v.items) c.hold.ensures.requests)) refl (λ no. elim no [ ]) (reads-on old new refl (goes-on_same q.source.feed)) (λ kind e. cc));
+          (λ no. same-view q.source q.outlet c.hold.new.self q.pending q.end (c.hold.ensures.not_yet (search rules)) (ap (λ v. v.items) c.hold.ensures.requests)) refl (λ no. elim no [ ]) (driving-reads-on old new refl (goes-on_same q.source.feed)) (λ kind e. cc));
     }
 
 -- what an answer is replied is no refusal of the step
@@ -81,16 +81,16 @@ returns-in-Some-take g c =
     record {
       step = rw (← c.self.view_is) (takes-respond g.D.ReadDevice.feed old new c.args.now n c.args.response reply
           (λ client before s value low is st.
-          let kept_form : waiting_form (slice_get k.requests n) ≡ Some c.in-Some.form = sym c.form_at.ensures ∙ c.in-Some.is in
+          let kept_answer_form : waiting_answer_form (slice_get k.requests n) ≡ Some c.in-Some.answer_form = sym c.answer_form_at.ensures ∙ c.in-Some.is in
           let held : IsTrue c.hold.result = search rules in
-          let A : Answer → Type 0 = λ a. (p : Printing) → PrintedFor c.in-Some.form c.args.now p → Answers k.sink (output_of mid) (outlet_ended mid) reply a value.content p in
+          let A : Answer → Type 0 = λ a. (p : Printing) → PrintedFor c.in-Some.answer_form c.args.now p → Answers k.sink (output_of mid) (outlet_ended mid) reply a value.content p in
           let same : last.self.requests.items ≡ k.requests = ap (λ v. v.items) (c.pass.ensures.requests ∙ c.hold.ensures.requests) in
           let some = c.in-Some-take.ensures.some in
           let got : slice_get k.requests n ≡ Some (Some w0) = ap (λ l. slice_get l n) (sym same) ∙ some.0 in
           let requests : taken.requests.items ≡ slice_set k.requests n None = some.1 ∙ ap (λ l. slice_set l n None) same in
-          let done = respond-done client before k s c.args.now n value c.in-Some.form (output_of mid) (output_of last.outlet) (outlet_ended mid) (outlet_ended last.outlet) c.hold.new.self.turns.marks last.self.turns.marks taken.requests.items q.source source reply
-          st (record { feed = refl; stop = refl; ends = refl; standing = refl }) (gives-up-kept q.source source (slice_get k.requests n) w0 got c.give_up.ensures.gives_up) low kept_form (c.hold.ensures.held.0 held).1 (c.hold.ensures.marks held) requests
-          (responds-by k (output_of mid) (outlet_ended mid) reply value c.in-Some.form c.args.now
+          let done = respond-done client before k s c.args.now n value c.in-Some.answer_form (output_of mid) (output_of last.outlet) (outlet_ended mid) (outlet_ended last.outlet) c.hold.new.self.turns.marks last.self.turns.marks taken.requests.items q.source source reply
+          st (record { feed = refl; stop = refl; ends = refl; standing = refl }) (gives-up-kept q.source source (slice_get k.requests n) w0 got c.give_up.ensures.gives_up) low kept_answer_form (c.hold.ensures.held.0 held).1 (c.hold.ensures.marks held) requests
+          (responds-by k (output_of mid) (outlet_ended mid) reply value c.in-Some.answer_form c.args.now
           (λ e. let h = c.answer-reply.ensures.past e in (ap (λ o. output_of o) h.0, ap (λ o. outlet_ended o) h.0, h.1))
           (λ e. subst A (sym is.0) (c.answer-reply.ensures.sends value.content is.1 is.2 e (can-send before k.sink k.output_ended s.reached.slots s.failure st.output low e))))
           c.pass.ensures.passes c.pass.ensures.sends in
@@ -103,9 +103,9 @@ returns-in-Some-take g c =
           (some.1 ∙ ap (λ l. slice_set l n None) same, gives-up-kept q.source source (slice_get k.requests n) w0 (ap (λ l. slice_get l n) (sym same) ∙ some.0) c.give_up.ensures.gives_up))
           (record {
             goes_on = gives-up w0.body q.source source c.give_up.ensures.gives_up;
-            fails_once = fails-more (outlet_ended q.outlet) (outlet_ended mid) (outlet_ended last.outlet) k.sink (output_of mid) (output_of last.outlet) c.answer-reply.ensures.fails_once c.pass.ensures.fails_once;
+            fails_once = once-append (outlet_ended q.outlet) (outlet_ended mid) (outlet_ended last.outlet) k.sink (output_of mid) (output_of last.outlet) c.answer-reply.ensures.fails_once c.pass.ensures.fails_once;
             flushed = λ h. c.pass.ensures.flushed (c.answer-reply.ensures.flushed h);
             sent_on = λ h. c.pass.ensures.sent_on (c.answer-reply.ensures.sent_on h);
           })
-          (λ kind e. let h = c.answer-reply.ensures.honest kind e in let p : Printing = record { version = c.in-Some.form.version; request_headers = []; no_body = c.in-Some.form.no_body; upgrade = None; date = c.args.now } in (p, honest-more (outlet_ended mid) (outlet_ended last.outlet) k.sink (output_of mid) (output_of last.outlet) (served_coding c.args.response.answer p) c.args.response.answer.length (g.D.ReadDevice.feed c.args.response.data_reader) kind h.0 c.pass.ensures.fails_once (h.1 p (record { version = refl; no_body = refl; no_upgrade = refl; dated = refl })))));
+          (λ kind e. let h = c.answer-reply.ensures.honest kind e in let p : Printing = record { version = c.in-Some.answer_form.version; request_headers = []; no_body = c.in-Some.answer_form.no_body; upgrade = None; date = c.args.now } in (p, honest-more (outlet_ended mid) (outlet_ended last.outlet) k.sink (output_of mid) (output_of last.outlet) (served_coding c.args.response.answer p) c.args.response.answer.length (g.D.ReadDevice.feed c.args.response.data_reader) kind h.0 c.pass.ensures.fails_once (h.1 p (record { version = refl; no_body = refl; no_upgrade = refl; dated = refl })))));
     }

@@ -2,7 +2,7 @@ use Rattle.std.proofs.Common.{◌≡◌, refl, sym, ◌∙◌, subst, ◌+◌, �
 use Rattle.std.proofs.lemmas.Bool.{ne_eqb, lt-ltb}
 use Rattle.std.specs.Prelude.{◌==◌}
 use Rattle.tiny_http_wire.specs.declared.device.Stop.TheVariants.{End}
-use Rattle.tiny_http_message.specs.Body.{Remaining, remaining, prepended_body, BodyStops, NoneLeft, ReadsOn}
+use Rattle.tiny_http_message.specs.Body.{Remaining, remaining, prepended_body, BodyStops, NoneRemains, ReadsOn}
 use Rattle.tiny_http_stream.proofs.SourceGoesOn.{goes-on_more}
 use Rattle.tiny_http_message.proofs.BodyReads.{read-more, moves-more, stays-settled, bytes-none, stops-none-left, standing-more}
 use Rattle.tiny_http_message.proofs.body.Body.fill.Goals as goal
@@ -50,7 +50,7 @@ returns-in-Ok-eq0-clause-fills g c =
     let F : ℕ → Bool → Type 0 = λ k t. ReadsOn c.args.self.now k t c.read_behind.new.self in
     let on : ReadsOn c.args.self.now (at + 0) true c.read_behind.new.self = moves-more c.args.self.now c.loop-at.self c.read_behind.new.self at 0 true inv.start inv.moves moves in
     let zero_more : at + 0 ≡ at = omega arith in
-    let P : Option Remaining → Type 0 = λ r. NoneLeft r in
+    let P : Option Remaining → Type 0 = λ r. NoneRemains r in
     let Q : Option Remaining → Type 0 = λ r. BodyStops End r in (
       subst T none all,
       λ some. subst (λ t. F at t) (sym (lt-ltb at (length buf) less)) (subst (λ k. F k true) zero_more on),

@@ -4,21 +4,21 @@ use Rattle.std.specs.Option.{option_map}
 use Rattle.std.specs.IoError.{error_kind}
 use Rattle.tiny_http_wire.specs.declared.device.Stop.TheVariants.{End, Fault}
 use Rattle.tiny_http_message.specs.declared.body.Body.TheVariants.{Over}
-use Rattle.tiny_http_message.specs.Body.{remaining, prepended_body, counted_left}
-use Rattle.tiny_http_stream.proofs.PartsLemmas.{nothing-given}
-use Rattle.tiny_http_message.proofs.BodyReads.{counted-bytes, counted-none, cut-is, cut-stops, taken-stops, read-nothing}
+use Rattle.tiny_http_message.specs.Body.{remaining, prepended_body, counted_remaining}
+use Rattle.tiny_http_stream.proofs.FeedPartsLemmas.{nothing-given}
+use Rattle.tiny_http_message.proofs.BodyReads.{counted-bytes, counted-none, body-cut-is, cut-stops, taken-stops, read-nothing}
 use Rattle.tiny_http_message.proofs.body.Body.read_counted.Goals as goal
 
 pub returns-then-left-eq0-clause-bytes : goal.returns-then-left-eq0-clause-bytes
 returns-then-left-eq0-clause-bytes g c =
     let o = c.args.source.now.feed in
-    let is = ap (λ b. remaining b o) c.requires.counted ∙ ap (λ n. option_map (counted_left n) o) c.if-left-eq0.true ∙ counted-none o in
+    let is = ap (λ b. remaining b o) c.requires.counted ∙ ap (λ n. option_map (counted_remaining n) o) c.if-left-eq0.true ∙ counted-none o in
     read-nothing (remaining c.args.self.now o) (remaining (Over End) o) is
 
 pub returns-then-left-eq0-clause-end : goal.returns-then-left-eq0-clause-end
 returns-then-left-eq0-clause-end g c z =
     let o = c.args.source.now.feed in
-    taken-stops End o (remaining c.args.self.now o) (ap (λ b. remaining b o) c.requires.counted ∙ ap (λ n. option_map (counted_left n) o) c.if-left-eq0.true ∙ counted-none o)
+    taken-stops End o (remaining c.args.self.now o) (ap (λ b. remaining b o) c.requires.counted ∙ ap (λ n. option_map (counted_remaining n) o) c.if-left-eq0.true ∙ counted-none o)
 
 pub returns-in-Ok-eq0-clause-bytes : goal.returns-in-Ok-eq0-clause-bytes
 returns-in-Ok-eq0-clause-bytes g c =
@@ -29,7 +29,7 @@ returns-in-Ok-eq0-clause-bytes g c =
     let room : 0 < length c.read_front.new.buf = omega (arith, c.read_front.ensures.len, c.requires.room) in
     let stops = e.end c.in-Ok-eq0.field-0-test some room in
     read-nothing (remaining c.args.self.now o) (remaining (Over End) c.end.new.self.feed)
-    (cut-is c.args.self.now o c.read_front.new.reader.feed c.end.new.self.feed c.args.left End c.requires.counted some stops same c.end.ensures.feed)
+    (body-cut-is c.args.self.now o c.read_front.new.reader.feed c.end.new.self.feed c.args.left End c.requires.counted some stops same c.end.ensures.feed)
 
 pub returns-in-Ok-eq0-clause-end : goal.returns-in-Ok-eq0-clause-end
 returns-in-Ok-eq0-clause-end g c z =
@@ -53,4 +53,4 @@ returns-in-Err-clause-fault g c =
 pub returns-in-Err-clause-again : goal.returns-in-Err-clause-again
 returns-in-Err-clause-again g c =
     let o = c.args.source.now.feed in
-    rw c.kind.ensures (sym (cut-is c.args.self.now o c.read_front.new.reader.feed c.end-in-Err.new.self.feed c.args.left (Fault (error_kind c.in-Err.e)) c.requires.counted (omega (arith, c.if-left-eq0.false)) c.in-Err.ensures.fault c.in-Err.ensures.again c.end-in-Err.ensures.feed))
+    rw c.kind.ensures (sym (body-cut-is c.args.self.now o c.read_front.new.reader.feed c.end-in-Err.new.self.feed c.args.left (Fault (error_kind c.in-Err.e)) c.requires.counted (omega (arith, c.if-left-eq0.false)) c.in-Err.ensures.fault c.in-Err.ensures.again c.end-in-Err.ensures.feed))

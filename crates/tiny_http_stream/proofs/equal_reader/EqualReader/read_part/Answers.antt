@@ -1,7 +1,7 @@
 use Rattle.std.proofs.Common.{arith, take}
 use Rattle.std.proofs.lemmas.List.{length-take-le}
 use Rattle.std.specs.IoError.{error_kind}
-use Rattle.tiny_http_stream.proofs.PartsLemmas.{part-none, part-fault, part-bytes, part-end, last-bytes}
+use Rattle.tiny_http_stream.proofs.FeedPartsLemmas.{part-none, part-fault, part-bytes, part-end, last-bytes}
 use Rattle.tiny_http_stream.proofs.equal_reader.EqualReader.read_part.Goals as goal
 
 pub returns-in-Ok-clause-bytes : goal.returns-in-Ok-clause-bytes

@@ -1,9 +1,9 @@
 use Rattle.std.proofs.Common.{rules, ◌≡◌, ◌++◌, ◌∷◌, [], ap, sym, ◌∙◌}
 use Rattle.tiny_http_device.specs.Device.{prepended}
 use Rattle.tiny_http_device.proofs.DeviceFeeds.{given-along}
-use Rattle.tiny_http_stream.specs.Line.{held_return}
+use Rattle.tiny_http_stream.specs.LineEnds.{held_return}
 use Rattle.tiny_http_stream.specs.Input.{input_feed}
-use Rattle.tiny_http_stream.proofs.LineLemmas.{line-none}
+use Rattle.tiny_http_stream.proofs.LineEndsLemmas.{line_ends-line-none}
 use Rattle.tiny_http_stream.proofs.source.Input.read_slowly.Goals as goal
 
 pub loop-b-preserved : goal.loop-b-preserved
@@ -23,4 +23,4 @@ returns-clause-none g c not_memory =
     let feed = input_feed g.R.ReadDevice.feed in
     let text = c.loop-b.text.items ++ held_return c.loop-b.after_return in
     let same : feed c.pop_byte.new.self ≡ feed c.loop-b.self = search rules in
-    (text, line-none c.loop-b.text.items c.loop-b.after_return c.loop-b.invariant.passed, c.loop-b.invariant.feed ∙ ap (λ f. prepended text f) (sym same))
+    (text, line_ends-line-none c.loop-b.text.items c.loop-b.after_return c.loop-b.invariant.passed, c.loop-b.invariant.feed ∙ ap (λ f. prepended text f) (sym same))

@@ -1,7 +1,7 @@
 use Rattle.std.proofs.Common.{◌≡◌, ◌+◌, ◌-◌, ◌*◌, ◌^◌, ◌++◌, length, vec_len}
 use Rattle.std.specs.Prelude.{IsSome}
 use Rattle.tiny_http_device.specs.Device.{prepended}
-use Rattle.tiny_http_stream.specs.Line.{BeginsNoLineEnd, held_return}
+use Rattle.tiny_http_stream.specs.LineEnds.{BeginsNoLineEnd, held_return}
 use Rattle.tiny_http_stream.specs.Input.{input_feed, input_stop, input_reader, IsInputOver}
 use Rattle.tiny_http_stream.proofs.source.Input.read_slowly.Given as goal
 

@@ -1,7 +1,7 @@
 use Rattle.std.proofs.Common.{ℕ, List, subst, ap, ◌∙◌}
 use Rattle.tiny_http_stream.specs.Input.{input_reader}
-use Rattle.tiny_http_stream.specs.Line.{EndsLine}
-use Rattle.tiny_http_stream.proofs.LineEnds.{line-given, crlf-held}
+use Rattle.tiny_http_stream.specs.LineEnds.{EndsLine}
+use Rattle.tiny_http_stream.proofs.LineEndsScanning.{line-given, crlf-held}
 use Rattle.tiny_http_stream.proofs.source.Input.take_first_line.Goals as goal
 
 pub returns-in-Some-clause-text : goal.returns-in-Some-clause-text

@@ -1,6 +1,6 @@
 use Rattle.std.proofs.Common.{ap, ◌∙◌}
 use Rattle.std.specs.Char.{digit_value}
-use Rattle.tiny_http_wire.proofs.ChunkSizeLemmas.{hex_of-some, hex_of-none, not_below}
+use Rattle.tiny_http_wire.proofs.ChunkSizeLemmas.{hex_of-some, hex_of-none, size-not_below}
 use Rattle.tiny_http_wire.proofs.chunked.size.hex.Goals as goal
 
 pub returns-in-Some-clause-is : goal.returns-in-Some-clause-is
@@ -13,4 +13,4 @@ pub returns-in-None-clause-is : goal.returns-in-None-clause-is
 returns-in-None-clause-is c =
     let v = c.in-None.ensures.value in
     let e = c.from.ensures in
-    hex_of-none c.args.b (not_below _ _ (rw e at v))
+    hex_of-none c.args.b (size-not_below _ _ (rw e at v))

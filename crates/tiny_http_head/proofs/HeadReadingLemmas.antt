@@ -4,7 +4,7 @@ use Rattle.std.specs.Prelude.{◌==◌, IsSome, OnErr}
 use Rattle.std.specs.List.{list_all, list_any}
 use Rattle.std.proofs.lemmas.Bool.{and_parts, not-true}
 use Rattle.tiny_http_text.specs.Bytes.{HasNo, is_blank, parts, space, colon, trimmed}
-use Rattle.tiny_http_head.specs.Reading.{three_parts, request_line, header_line, is_colon, HasParts}
+use Rattle.tiny_http_head.specs.HeadReading.{three_parts, request_line, header_line, is_colon, HasParts}
 use Rattle.tiny_http_text.proofs.BytesLemmas.{trims-is, parts-word, parts-last}
 use Rattle.tiny_http_text.proofs.BytesTrimming.{ascii-trimmed, ascii-cut}
 use Rattle.tiny_http_head.proofs.HeadsLemmas.{take-front, any-front, header-line-one}

@@ -11,8 +11,8 @@ use Rattle.tiny_http_stream.specs.declared.source.Input.{Input}
 use Rattle.tiny_http_stream.specs.Input.{input_feed}
 use Rattle.tiny_http_stream.specs.ToCome.{to_come, behind_held}
 use Rattle.tiny_http_stream.proofs.ToComeLemmas.{skipped-within}
-use Rattle.tiny_http_stream.specs.Line.{BeginsNoLineEnd, EndsLine}
-use Rattle.tiny_http_stream.proofs.LineLemmas.{passed-nothing, passed-return, passed-plain, passed-two_returns, passed-lone_return}
+use Rattle.tiny_http_stream.specs.LineEnds.{BeginsNoLineEnd, EndsLine}
+use Rattle.tiny_http_stream.proofs.LineEndsLemmas.{passed-nothing, passed-return, passed-plain, passed-two_returns, passed-lone_return}
 
 -- no CR LF begins in the first bytes; the flag says that the last of them is a carriage return
 abbrev pub Scans : Bool → List ℕ → ℕ → Type 0
@@ -61,8 +61,8 @@ scans-end true bytes at e within b s =
 
 -- the flag was never followed by a line feed up to the end
 pub scans-none : (flag : Bool) (bytes : List ℕ) (at : ℕ) → length bytes ≤ at → Scans flag bytes at → has_crlf bytes ≡ false
-scans-none false bytes at le s = let P : List ℕ → Type 0 = λ x. has_crlf x ≡ false in subst P (append-nil (take at bytes) ∙ take_all at bytes le) (s.goes_on [])
-scans-none true bytes at le s = let P : List ℕ → Type 0 = λ x. has_crlf x ≡ false in subst P (sym s.1 ∙ take_all at bytes le) (s.2.goes_on [])
+scans-none false bytes at le s = let P : List ℕ → Type 0 = λ x. has_crlf x ≡ false in subst P (append-nil (take at bytes) ∙ take_all at bytes le) (s.none_begins [])
+scans-none true bytes at le s = let P : List ℕ → Type 0 = λ x. has_crlf x ≡ false in subst P (sym s.1 ∙ take_all at bytes le) (s.2.none_begins [])
 
 -- where a line lies in what is held after the bytes to be skipped, more is held than these
 pub crlf-held : (n : ℕ) (bytes : List ℕ) → has_crlf (drop n bytes) ≡ true → n < length bytes

@@ -9,7 +9,7 @@ held_return false = []
 
 -- however the bytes go on, no CR LF begins in this text
 pub record BeginsNoLineEnd (text pend : List ℕ) : Type 0 where
-  pub goes_on : (more : List ℕ) → has_crlf (text ++ (pend ++ more)) ≡ has_crlf (pend ++ more)
+  pub none_begins : (more : List ℕ) → has_crlf (text ++ (pend ++ more)) ≡ has_crlf (pend ++ more)
 
 -- the first CR LF of these bytes stands after n of them
 pub record EndsLine (bytes : List ℕ) (n : ℕ) : Type 0 where

@@ -27,10 +27,10 @@ IsMet bytes body next = ((body ≡ ending []) × (next ≡ Some bytes)) ⊎ ((ki
 
 -- WHAT IS LEFT OF A BODY, of which so many bytes are left where it is counted. Of a chunked one: what is left of a chunk, and
 -- a chunked body; or a chunked body; or nothing. Of another: a body of its form.
-abbrev pub LeftAt : Form → ℕ → List ℕ → Stop → Feed → Place → Type 0
-LeftAt Chunked n bytes stop body next =
+abbrev pub RemainsAt : Form → ℕ → List ℕ → Stop → Feed → Place → Type 0
+RemainsAt Chunked n bytes stop body next =
     BodyAt Chunked n bytes stop body next ⊎ (((left : ℕ) × WithinChunk left bytes stop body next) ⊎ IsMet bytes body next)
-LeftAt Nothing n bytes stop body next = BodyAt Nothing n bytes stop body next
-LeftAt WithHead n bytes stop body next = BodyAt WithHead n bytes stop body next
-LeftAt Counted n bytes stop body next = BodyAt Counted n bytes stop body next
-LeftAt Rest n bytes stop body next = BodyAt Rest n bytes stop body next
+RemainsAt Nothing n bytes stop body next = BodyAt Nothing n bytes stop body next
+RemainsAt WithHead n bytes stop body next = BodyAt WithHead n bytes stop body next
+RemainsAt Counted n bytes stop body next = BodyAt Counted n bytes stop body next
+RemainsAt Rest n bytes stop body next = BodyAt Rest n bytes stop body next

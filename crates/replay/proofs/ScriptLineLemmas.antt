@@ -7,14 +7,14 @@ use Rattle.std.proofs.lemmas.Str.Parse.{IsNumeralModel, numerals_by_value, tells
 use Rattle.std.proofs.lemmas.Str.Pattern.{IsSplitOnceResult, split_after}
 use Rattle.std.specs.Str.{bytes_eq}
 use Rattle.std.specs.Str.Pattern.{LacksTextAt}
-use Rattle.replay.specs.Line.{WritesNumber, BeginsByNumber, BeginsByNumbers, IsAnswer, SaysSome, IsDate, WritesRead}
-use Rattle.replay.specs.declared.line.Line.TheVariants.{Blank, Now, Ask, Read, Text, Empty, Drop}
+use Rattle.replay.specs.ScriptLine.{WritesNumber, BeginsByNumber, BeginsByNumbers, IsAnswer, SaysSome, IsDate, WritesRead}
+use Rattle.replay.specs.declared.line.ScriptLine.TheVariants.{Blank, Now, Ask, Read, Text, Empty, Drop}
 
-own : IsNumeralModel (AllDigits 10) (digits_value 10)
-own = numerals_by_value (AllDigits 10) tells_digits
+script_line-own : IsNumeralModel (AllDigits 10) (digits_value 10)
+script_line-own = numerals_by_value (AllDigits 10) tells_digits
 
 no_space : (ds : List ℕ) → AllDigits 10 ds → (i : ℕ) → i < length ds → get_or ds i 0 ≢ 32
-no_space ds h = not_in_digits own ds 32 h (λ r. let low : 48 ≤ 32 = r.0 in omega arith)
+no_space ds h = not_in_digits script_line-own ds 32 h (λ r. let low : 48 ≤ 32 = r.0 in omega arith)
 
 -- a text that begins by a number is cut after the digits
 pub number_cut : (text rest : List ℕ) (n : ℕ) (r : Option (Bor (List ℕ) × Bor (List ℕ))) → IsSplitOnceResult 32 text r → (b : BeginsByNumber text n rest) → MatchOption r ⊥ (λ x. (x.0.now ≡ b.0) × (x.1.now ≡ rest))
@@ -90,9 +90,9 @@ pub none_fits : {T E : Type 0} (r : Result T E) (P : Type 0) (v : T) → OkIff r
 none_fits (Ok x) P v h was p = absurd (cc was)
 none_fits (Err e) P v h was p = h p
 
-pub told_error : {T E : Type 0} (r : Result T E) (P : T → Type 0) (Q : E → Type 0) → MatchResult r P Q → false ≡ is_ok r → (e : E) × Q e
-told_error (Ok x) P Q h was = absurd (cc was)
-told_error (Err e) P Q h was = (e, h)
+pub error_stated : {T E : Type 0} (r : Result T E) (P : T → Type 0) (Q : E → Type 0) → MatchResult r P Q → false ≡ is_ok r → (e : E) × Q e
+error_stated (Ok x) P Q h was = absurd (cc was)
+error_stated (Err e) P Q h was = (e, h)
 
 -- no third form of an answer
 pub no_answer : (content other : List ℕ) (b : Bool) → LacksTextAt (codes "text ") content 0 → b ≡ bytes_eq content (codes "empty") → b ≡ false → ((text : List ℕ) × (other ≡ codes "text " ++ text)) ⊎ (other ≡ codes "empty") → content ≡ other → ⊥

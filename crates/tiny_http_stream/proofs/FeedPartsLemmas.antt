@@ -10,21 +10,15 @@ use Rattle.std.specs.declared.io.ErrorKind.{ErrorKind}
 use Rattle.tiny_http_device.specs.declared.device.Stop.{Stop}
 use Rattle.tiny_http_device.specs.declared.device.Stop.TheVariants.{End, Fault}
 use Rattle.tiny_http_device.specs.Device.{Feed, prepended, prepend, StopsBy}
-use Rattle.tiny_http_stream.specs.Parts.{stop_where, feed_front, feed_behind}
-
--- what stands after a text
-drop-text : (xs ys : List ℕ) → drop (length xs) (xs ++ ys) ≡ ys
-drop-text xs ys = grind (arith, common_steps)
+use Rattle.tiny_http_stream.specs.FeedParts.{stop_where, feed_front, feed_behind}
+use Rattle.std.proofs.Math.Seq.{drop-append_seam}
+use Rattle.tiny_http_device.proofs.DeviceFeeds.{lt-shift, prepended-nothing}
 
 abbrev at : List ℕ → Stop → Feed
 at bytes stop = record { bytes = bytes; stop = stop }
 
-pub lt-shift : (a b c : ℕ) (t : Bool) → nat_lt b c ≡ t → nat_lt (a + b) (a + c) ≡ t
-lt-shift a b c true e = let h = ltb-true b c e in lt-ltb (a + b) (a + c) (omega arith)
-lt-shift a b c false e = let h = ltb-false b c e in le-ltb (a + b) (a + c) (omega arith)
-
 pub drop-more : (front rest : List ℕ) (k : ℕ) → drop (length front + k) (front ++ rest) ≡ drop k rest
-drop-more front rest k = sym (drop-drop k (length front) (front ++ rest)) ∙ ap (λ x. drop k x) (drop-text front rest)
+drop-more front rest k = sym (drop-drop k (length front) (front ++ rest)) ∙ ap (λ x. drop k x) (drop-append_seam front rest)
 
 pub part-more : (stop : Stop) (front rest : List ℕ) (k : ℕ) → feed_front (length front + k) (at (front ++ rest) stop) ≡ prepend front (feed_front k (at rest stop))
 unfolding feed_front
@@ -100,9 +94,5 @@ last-none None n e = refl
 last-none (Some f) n e = rw e refl
 
 pub nothing-given : (old new : Option Feed) (front : List ℕ) → old ≡ prepended front new → length front ≡ 0 → new ≡ old
-nothing-given old new [] h e = let go : (f : Option Feed) → f ≡ prepended [] f = λ f. given-nothing f in go new ∙ sym h
-  where
-    given-nothing : (f : Option Feed) → f ≡ prepended [] f
-    given-nothing None = refl
-    given-nothing (Some f) = refl
+nothing-given old new [] h e = let go : (f : Option Feed) → f ≡ prepended [] f = λ f. prepended-nothing f in go new ∙ sym h
 nothing-given old new (b ∷ bs) h e = absurd (omega arith)

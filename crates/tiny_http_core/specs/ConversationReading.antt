@@ -30,5 +30,5 @@ pub record Conversed : Type 0 where
 
 abbrev pub conversed : Feed → List TimedValue → Conversed
 conversed feed steps =
-    let r = run_from (record { slots = []; rest = items_of feed; ended = false }) steps in
+    let r = run_from (record { slots = []; rest = items_of feed; asking_ended = false }) steps in
     record { replies = r.replies; output = joined r.end.slots }

@@ -15,16 +15,16 @@ use Rattle.tiny_http_message.specs.declared.framing.Form.{Form}
 use Rattle.tiny_http_message.specs.declared.framing.Form.TheVariants.{Nothing, WithHead}
 use Rattle.tiny_http_message.specs.declared.framing.Framing.{Framing}
 use Rattle.tiny_http_message.specs.Framing.{framing}
-use Rattle.tiny_http_core.specs.Slots.{ResponseValue, own_response, text_type}
+use Rattle.tiny_http_message.specs.ResponseValue.{ResponseValue, response_of}
 use Rattle.tiny_http_core.specs.Steps.{StepValue, Ask, Respond, Drop, ReplyValue, Handed, Ended, NotYet, Done}
 use Rattle.tiny_http_core.specs.Conversation.{TimedValue}
-use Rattle.tiny_http_core.specs.Reading.{conversed, Conversed}
+use Rattle.tiny_http_core.specs.ConversationReading.{conversed, Conversed}
 
 abbrev on_date : HttpDate → List StepValue → List TimedValue
 on_date date steps = map (λ s. (date, s)) steps
 
 abbrev hello : List ℕ → ResponseValue
-hello text = own_response 200 text_type text
+hello text = response_of 200 (record { field = codes "Content-Type"; value = codes "text/plain; charset=UTF-8" } ∷ []) text
 
 -- an answer: its status line, the server's name, the date, the headers, what frames the body, and the body
 abbrev answer : List ℕ → HttpDate → List ℕ → List ℕ → List ℕ → List ℕ

@@ -5,7 +5,7 @@ use Rattle.std.specs.declared.io.ErrorKind.TheVariants.{InvalidData, UnexpectedE
 use Rattle.tiny_http_device.specs.declared.device.Stop.TheVariants.{End}
 use Rattle.tiny_http_head.specs.declared.common.Method.TheVariants.{Get}
 use Rattle.tiny_http_head.specs.Heads.{version, Cut, NotAscii, Malformed}
-use Rattle.tiny_http_head.specs.Reading.{request_head_read, Whole, Faulty}
+use Rattle.tiny_http_head.specs.HeadReading.{request_head_read, Whole, Faulty}
 use Rattle.tiny_http_wire.specs.ChunkReading.{decoded}
 
 plain_request : request_head_read (codes "GET /hello HTTP/1.1\r\n\r\n") ≡ Whole (record { method = Get; path = codes "/hello"; version = version 1 1; headers = [] }) []

@@ -21,9 +21,9 @@ use Rattle.tiny_http_message.specs.declared.framing.Form.{Form}
 use Rattle.tiny_http_message.specs.declared.framing.Form.TheVariants.{Counted, Chunked}
 use Rattle.tiny_http_message.specs.Pipeline.{Place, BodyAt}
 use Rattle.tiny_http_message.specs.HeadReads.{place_feed}
-use Rattle.tiny_http_message.specs.Body.{Remaining, remaining, counted_left, chunks_left, coming_left, is_streaming, Fits}
-use Rattle.tiny_http_message.specs.BodyLeft.{breaking, WithinChunk, LeftAt}
-use Rattle.tiny_http_message.proofs.HeadReadsServing.{left-counted}
+use Rattle.tiny_http_message.specs.Body.{Remaining, remaining, counted_remaining, chunks_remaining, coming_remaining, is_streaming, Fits}
+use Rattle.tiny_http_message.specs.BodyRemains.{breaking, WithinChunk, RemainsAt}
+use Rattle.tiny_http_message.proofs.HeadReadsServing.{remains-counted}
 
 -- a chunked body from here on
 pub record ChunkedFrom (n : ℕ) (x : Feed) (left : Remaining) : Type 0 where
@@ -32,35 +32,35 @@ pub record ChunkedFrom (n : ℕ) (x : Feed) (left : Remaining) : Type 0 where
   pub stands : BodyAt Chunked n x.bytes x.stop content next
   pub is : left ≡ record { body = content; behind = place_feed x.stop next }
 
-chunked-from : (n : ℕ) (x : Feed) → ChunkedFrom n x (coming_left (coming_of x.stop (body_at x.stop x.bytes)))
+chunked-from : (n : ℕ) (x : Feed) → ChunkedFrom n x (coming_remaining (coming_of x.stop (body_at x.stop x.bytes)))
 chunked-from n x = by (body_at x.stop x.bytes).body (body_at x.stop x.bytes).ends (decoded-is (length x.bytes + 1) x.bytes x.stop (omega arith))
   where
-    by : (content : List ℕ) (r : Result (List ℕ) ErrorKind) → MatchResult r (λ rest. WholeChunks x.bytes content rest) (λ kind. CutChunks x.bytes x.stop content kind) → ChunkedFrom n x (chunks_left content (rest_at x.stop r))
+    by : (content : List ℕ) (r : Result (List ℕ) ErrorKind) → MatchResult r (λ rest. WholeChunks x.bytes content rest) (λ kind. CutChunks x.bytes x.stop content kind) → ChunkedFrom n x (chunks_remaining content (rest_at x.stop r))
     by content (Ok rest) h = record { content = ending content; next = Some rest; stands = inl (rest, h, refl, refl); is = refl }
     by content (Err kind) h = record { content = breaking content kind; next = None; stands = inr (kind, h, refl, refl); is = refl }
 
 -- the same after some data
-behind-data : (front content : List ℕ) (r : Result Feed ErrorKind) (b : Feed) (after : Feed) → chunks_left content r ≡ record { body = b; behind = after } → chunks_left (front ++ content) r ≡ record { body = prepend front b; behind = after }
+behind-data : (front content : List ℕ) (r : Result Feed ErrorKind) (b : Feed) (after : Feed) → chunks_remaining content r ≡ record { body = b; behind = after } → chunks_remaining (front ++ content) r ≡ record { body = prepend front b; behind = after }
 behind-data front content r b after e =
     let P : Remaining → Remaining = λ x. record { body = prepend front x.body; behind = x.behind } in
     by r ∙ ap P e
   where
-    by : (r : Result Feed ErrorKind) → chunks_left (front ++ content) r ≡ (let x = chunks_left content r in record { body = prepend front x.body; behind = x.behind })
+    by : (r : Result Feed ErrorKind) → chunks_remaining (front ++ content) r ≡ (let x = chunks_remaining content r in record { body = prepend front x.body; behind = x.behind })
     by (Ok feed) = refl
     by (Err kind) = refl
 
 -- what is left, by where the decoding stands
-pub record LeftFrom (form : Form) (n : ℕ) (x : Feed) (left : Remaining) : Type 0 where
+pub record RemainsFrom (form : Form) (n : ℕ) (x : Feed) (left : Remaining) : Type 0 where
   pub content : Feed
   pub next : Place
-  pub stands : LeftAt form n x.bytes x.stop content next
+  pub stands : RemainsAt form n x.bytes x.stop content next
   pub is : left ≡ record { body = content; behind = place_feed x.stop next }
 
-left-data : (n size : ℕ) (x : Feed) → LeftFrom Chunked n x (coming_left (coming_of x.stop (data_at (body_at x.stop) x.stop size x.bytes (nat_lt (length x.bytes) size))))
-left-data n size x = by (nat_lt (length x.bytes) size) refl
+remains-data : (n size : ℕ) (x : Feed) → RemainsFrom Chunked n x (coming_remaining (coming_of x.stop (data_at (body_at x.stop) x.stop size x.bytes (nat_lt (length x.bytes) size))))
+remains-data n size x = by (nat_lt (length x.bytes) size) refl
   where
     L : Decoded → Type 0
-    L d = LeftFrom Chunked n x (coming_left (coming_of x.stop d))
+    L d = RemainsFrom Chunked n x (coming_remaining (coming_of x.stop d))
 
     split : x.bytes ≡ take size x.bytes ++ drop size x.bytes
     split = sym (take-append-drop size x.bytes)
@@ -86,26 +86,26 @@ left-data n size x = by (nat_lt (length x.bytes) size) refl
     by true e = record { content = breaking x.bytes (fault_of x.stop); next = None; stands = inr (inl (size, inr (inr (ltb-true (length x.bytes) size e, refl, refl)))); is = refl }
     by false e = by-close (ltb-false (length x.bytes) size e) (after_data x.stop (drop size x.bytes)) (close-is x.stop (drop size x.bytes))
 
-left-next : (n : ℕ) (next : Next) (x : Feed) → LeftFrom Chunked n x (coming_left (coming_of x.stop (decoded_from next x)))
+remains-next : (n : ℕ) (next : Next) (x : Feed) → RemainsFrom Chunked n x (coming_remaining (coming_of x.stop (decoded_from next x)))
 unfolding decoded_from
-left-next n Line x = let k = chunked-from n x in record { content = k.content; next = k.next; stands = inl k.stands; is = k.is }
-left-next n (Data size) x = left-data n size x
-left-next n Over x = record { content = ending []; next = Some x.bytes; stands = inr (inr (inl (refl, refl))); is = refl }
-left-next n (Broken kind) x = record { content = breaking [] kind; next = None; stands = inr (inr (inr (kind, refl, refl))); is = refl }
+remains-next n Line x = let k = chunked-from n x in record { content = k.content; next = k.next; stands = inl k.stands; is = k.is }
+remains-next n (Data size) x = remains-data n size x
+remains-next n Over x = record { content = ending []; next = Some x.bytes; stands = inr (inr (inl (refl, refl))); is = refl }
+remains-next n (Broken kind) x = record { content = breaking [] kind; next = None; stands = inr (inr (inr (kind, refl, refl))); is = refl }
 
 -- what is left of a body that is read from the input
-pub left-of : (b : Body) (form : Form) (n given : ℕ) (told : Bool) (x : Feed) (left : Remaining) → Fits b form n given told → is_streaming b ≡ true → remaining b (Some x) ≡ Some left → LeftFrom form (n - given) x left
-left-of (body.Over stop) form n given told x left fits streams e = cc
-left-of (body.WithHead bytes) form n given told x left fits streams e = cc
-left-of (body.Counted count) form n given told x left fits streams e =
-    let k = left-counted count x in
-    let F : Form → Type 0 = λ f. LeftFrom f (n - given) x left in
-    let N : ℕ → Type 0 = λ m. LeftFrom Counted m x left in
-    let same : counted_left count x ≡ left = cc in
+pub remains-of : (b : Body) (form : Form) (n given : ℕ) (end_reported : Bool) (x : Feed) (left : Remaining) → Fits b form n given end_reported → is_streaming b ≡ true → remaining b (Some x) ≡ Some left → RemainsFrom form (n - given) x left
+remains-of (body.Over stop) form n given end_reported x left fits streams e = cc
+remains-of (body.WithHead bytes) form n given end_reported x left fits streams e = cc
+remains-of (body.Counted count) form n given end_reported x left fits streams e =
+    let k = remains-counted count x in
+    let F : Form → Type 0 = λ f. RemainsFrom f (n - given) x left in
+    let N : ℕ → Type 0 = λ m. RemainsFrom Counted m x left in
+    let same : counted_remaining count x ≡ left = cc in
     let some : count ≡ n - given = omega (arith, fits.1) in
     subst F (sym fits.0) (subst N some (record { content = k.0; next = k.1; stands = k.2; is = sym same ∙ k.3 }))
-left-of (body.Chunked d) form n given told x left fits streams e =
-    let k = left-next (n - given) d.next x in
-    let F : Form → Type 0 = λ f. LeftFrom f (n - given) x left in
-    let same : coming_left (coming_of x.stop (decoded_from d.next x)) ≡ left = cc in
+remains-of (body.Chunked d) form n given end_reported x left fits streams e =
+    let k = remains-next (n - given) d.next x in
+    let F : Form → Type 0 = λ f. RemainsFrom f (n - given) x left in
+    let same : coming_remaining (coming_of x.stop (decoded_from d.next x)) ≡ left = cc in
     subst F (sym fits.0) (record { content = k.content; next = k.next; stands = k.stands; is = sym same ∙ k.is })

@@ -3,8 +3,8 @@ use Rattle.std.specs.Prelude.{◌≡◌, ◌⊎◌, ◌<◌, ◌^◌, ℕ, List,
 use Rattle.std.specs.Str.Parse.{IsNumeral, digits_value}
 use Rattle.httpdate.specs.Date.{unix_secs}
 use Rattle.httpdate.specs.declared.date.HttpDate.{HttpDate}
-use Rattle.replay.specs.declared.line.Line.{Line}
-use Rattle.replay.specs.declared.line.Line.TheVariants.{Blank, Now, Ask, Read, Text, Empty, Drop}
+use Rattle.replay.specs.declared.line.ScriptLine.{ScriptLine}
+use Rattle.replay.specs.declared.line.ScriptLine.TheVariants.{Blank, Now, Ask, Read, Text, Empty, Drop}
 
 -- the text is one decimal digit or more, and they write this number
 abbrev pub WritesNumber : List ℕ → ℕ → Type 0
@@ -28,7 +28,7 @@ abbrev pub IsDate : List ℕ → Type 0
 IsDate text = (date : HttpDate) × WritesDate text date
 
 -- the grammar of what stands after `respond`
-abbrev pub WritesAnswer : List ℕ → Line → Type 0
+abbrev pub WritesAnswer : List ℕ → ScriptLine → Type 0
 WritesAnswer words (Text number status text) = BeginsByNumbers words number status (codes "text " ++ text.now)
 WritesAnswer words (Empty number status) = BeginsByNumbers words number status (codes "empty")
 WritesAnswer words Blank = ⊥
@@ -39,10 +39,10 @@ WritesAnswer words (Drop number) = ⊥
 
 -- the words are some answer
 abbrev pub IsAnswer : List ℕ → Type 0
-IsAnswer words = (line : Line) × WritesAnswer words line
+IsAnswer words = (line : ScriptLine) × WritesAnswer words line
 
 -- the line is an answer, after its first word
-abbrev pub WritesRespond : List ℕ → Line → Type 0
+abbrev pub WritesRespond : List ℕ → ScriptLine → Type 0
 WritesRespond text line = (words : List ℕ) × (text ≡ codes "respond " ++ words) × WritesAnswer words line
 
 -- the grammar of what stands after `read`: a number of 64 bits, a space, and one of 16 bits
@@ -51,7 +51,7 @@ WritesRead words number count =
     (digits : List ℕ) × BeginsByNumber words number digits × WritesNumber digits count × (number < 2 ^ 64) × (count < 2 ^ 16)
 
 -- the grammar of a line: which text says what
-abbrev pub SaysLine : List ℕ → Line → Type 0
+abbrev pub SaysLine : List ℕ → ScriptLine → Type 0
 SaysLine text Blank = (text ≡ []) ⊎ ((comment : List ℕ) × (text ≡ codes "#" ++ comment))
 SaysLine text (Now date) = (digits : List ℕ) × (text ≡ codes "now " ++ digits) × WritesDate digits date
 SaysLine text Ask = text ≡ codes "ask"
@@ -62,10 +62,10 @@ SaysLine text (Drop number) = (digits : List ℕ) × (text ≡ codes "drop " ++ 
 
 -- the text says something
 abbrev pub SaysSome : List ℕ → Type 0
-SaysSome text = (line : Line) × SaysLine text line
+SaysSome text = (line : ScriptLine) × SaysLine text line
 
 -- the line is ASCII and says this
-abbrev pub IsLine : List ℕ → Line → Type 0
+abbrev pub IsLine : List ℕ → ScriptLine → Type 0
 IsLine bytes line = IsAscii bytes × SaysLine bytes line
 
 -- the line is ASCII and says something

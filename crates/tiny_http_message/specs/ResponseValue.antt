@@ -1,0 +1,23 @@
+-- Responses as values, their texts, and how they are printed.
+use Rattle.std.specs.Prelude.{ℕ, Bool, List, length, None}
+use Rattle.httpdate.specs.declared.date.HttpDate.{HttpDate}
+use Rattle.tiny_http_wire.specs.declared.common.HTTPVersion.{HTTPVersion}
+use Rattle.tiny_http_wire.specs.declared.common.Header.{Header}
+use Rattle.tiny_http_wire.specs.Device.{Feed, ending}
+use Rattle.tiny_http_wire.specs.Answer.{Answer, Text, Printing, answer_with, text_of}
+
+-- a response: the answer, and what its data give
+pub record ResponseValue : Type 0 where
+  pub answer : Answer
+  pub content : Feed
+
+-- a response with these headers, whose data are a text
+abbrev pub response_of : ℕ → List Header → List ℕ → ResponseValue
+response_of status headers text = record { answer = answer_with status headers (length text); content = ending text }
+
+abbrev pub response_text : ResponseValue → Printing → Text
+response_text r p = text_of r.answer r.content p
+
+-- how an answer to a request with these headers is printed
+abbrev pub printing_to : List Header → HTTPVersion → Bool → HttpDate → Printing
+printing_to headers version withheld date = record { version = version; request_headers = headers; no_body = withheld; upgrade = None; date = date }
