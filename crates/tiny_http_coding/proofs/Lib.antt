@@ -1,0 +1,2 @@
+pub mod CodingRows
+pub mod AskedLemmas
