@@ -6,7 +6,7 @@ use Rattle.std.proofs.lemmas.Bool.Decides.{nat_tests}
 use Rattle.std.proofs.lemmas.List.{at_drop_more}
 use Rattle.tiny_http_text.specs.QualityReading.{element}
 use Rattle.tiny_http_coding.specs.declared.coding.Coding.{Coding}
-use Rattle.tiny_http_coding.specs.Coding.{Weighed, coding_named, supported_codings, greatest_quality, most_wanted}
+use Rattle.tiny_http_coding.specs.Coding.{Weighed, coding_named, supported_codings, greatest_quality}
 
 -- the first of the codings that has this quality, where that is above the greatest so far
 abbrev pub wanted_at : ℕ → Option Coding → ℕ → List Weighed → Option Coding

@@ -1,2 +1,3 @@
 pub mod CodingRows
 pub mod AskedLemmas
+pub mod AskedLaws

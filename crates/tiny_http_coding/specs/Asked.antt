@@ -1,5 +1,5 @@
 -- The coding that a request asks for, as a relation (RFC 9110, sections 10.1.4 and 12.4.2; RFC 9112, section 7.4).
-use Rattle.std.specs.Prelude.{◌≡◌, ◌≢◌, ℕ, ◌<◌, ◌≤◌, ◌⊎◌, IsTrue, IsSome, List, [], ◌∷◌, ◌++◌, Option, Some, None, codes}
+use Rattle.std.specs.Prelude.{◌≡◌, ◌≢◌, ℕ, ◌<◌, ◌≤◌, ◌⊎◌, IsTrue, List, [], ◌∷◌, ◌++◌, Option, Some, None, codes}
 use Rattle.std.specs.List.{All}
 use Rattle.tiny_http_head.specs.declared.common.Header.{Header}
 use Rattle.tiny_http_head.specs.Common.{same_name}
@@ -8,19 +8,19 @@ use Rattle.tiny_http_coding.specs.declared.coding.Coding.{Coding}
 use Rattle.tiny_http_coding.specs.Coding.{coding_named}
 
 -- an element of the value of TE: a name and its quality, in thousandths
-abbrev pub Element : Type 0
-Element = List ℕ × ℕ
+abbrev pub TeElement : Type 0
+TeElement = List ℕ × ℕ
 
 -- the element names a supported coding
-abbrev pub IsSupported : Element → Type 0
+abbrev pub IsSupported : TeElement → Type 0
 IsSupported e = coding_named e.0 ≢ None
 
 -- one of the elements names the coding, with a quality above 0: no supported one has a greater quality, and no supported
 -- one before it an equal one
-pub record IsChosen (elements : List Element) (coding : Coding) : Type 0 where
-  pub before : List Element
-  pub chosen : Element
-  pub after : List Element
+pub record IsChosen (elements : List TeElement) (coding : Coding) : Type 0 where
+  pub before : List TeElement
+  pub chosen : TeElement
+  pub after : List TeElement
   pub joins : elements ≡ before ++ chosen ∷ after
   pub names : coding_named chosen.0 ≡ Some coding
   pub above_0 : 0 < chosen.1
@@ -28,7 +28,7 @@ pub record IsChosen (elements : List Element) (coding : Coding) : Type 0 where
   pub none_equal_before : All (λ e. IsSupported e → e.1 ≢ chosen.1) before
 
 -- the elements choose this coding; or none, where each supported one has quality 0
-abbrev pub Choose : List Element → Option Coding → Type 0
+abbrev pub Choose : List TeElement → Option Coding → Type 0
 Choose elements None = All (λ e. IsSupported e → e.1 ≡ 0) elements
 Choose elements (Some coding) = IsChosen elements coding
 
@@ -39,4 +39,4 @@ IsTe h = IsTrue (same_name h.field (codes "TE"))
 abbrev pub AsksFor : List Header → Option Coding → Type 0
 AsksFor [] asked = asked ≡ None
 AsksFor (h ∷ hs) asked =
-    (IsTe h × (elements : List Element) × ListsQualities h.value elements × Choose elements asked) ⊎ (¬ (IsTe h) × AsksFor hs asked)
+    (IsTe h × (elements : List TeElement) × ListsQualities h.value elements × Choose elements asked) ⊎ (¬ (IsTe h) × AsksFor hs asked)

@@ -1,12 +1,10 @@
-use Rattle.std.proofs.Common.{rules, ◌≡◌, ◌+◌, ◌<◌, ap, sym, ◌∙◌, ℕ, List, ◌∷◌, [], ◌++◌, length, get_or, drop, Option, Some, None, Bor, lit<, arith, inl, inr}
-use Rattle.std.proofs.lemmas.Iterator.{YieldsList}
+use Rattle.std.proofs.Common.{rules, ◌≡◌, sym, ◌∙◌, length, Some, lit<, arith, inl, inr}
 use Rattle.std.proofs.lemmas.Iterator.Consumers.{YieldsList-turn, YieldsList-end, YieldsList-at}
 use Rattle.std.proofs.lemmas.Iterator.Splits.{YieldsList-from_str_split}
-use Rattle.std.proofs.lemmas.List.{at_drop_more, at_drop_all, length_push}
+use Rattle.std.proofs.lemmas.List.{at_drop_all, length_push}
 use Rattle.tiny_http_text.specs.Bytes.{parts, comma}
-use Rattle.tiny_http_text.specs.QualityReading.{element, qualities}
-use Rattle.tiny_http_coding.specs.declared.coding.Coding.{Coding}
-use Rattle.tiny_http_coding.specs.Coding.{coding_named, supported_codings, most_wanted}
+use Rattle.tiny_http_text.specs.QualityReading.{qualities}
+use Rattle.tiny_http_coding.specs.Coding.{coding_named}
 use Rattle.tiny_http_coding.proofs.AskedLemmas.{wanted_in, take-here, pass-here, wanted-last}
 use Rattle.tiny_http_coding.proofs.coding.most_wanted.Goals as goal
 use Rattle.tiny_http_coding.proofs.coding.most_wanted.Goals.{else-quality-greatest-via-else-quality-greatest, else-quality-greatest-via-then-quality-greatest+in-None-1}

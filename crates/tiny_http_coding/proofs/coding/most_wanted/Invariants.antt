@@ -1,7 +1,5 @@
 use Rattle.std.proofs.Common.{◌≡◌, drop, length, None}
 use Rattle.tiny_http_text.specs.Bytes.{parts, comma}
-use Rattle.tiny_http_text.specs.QualityReading.{qualities}
-use Rattle.tiny_http_coding.specs.Coding.{supported_codings, most_wanted}
 use Rattle.tiny_http_coding.proofs.AskedLemmas.{wanted_in}
 use Rattle.tiny_http_coding.proofs.coding.most_wanted.Given as goal
 
