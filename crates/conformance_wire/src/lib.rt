@@ -7,6 +7,8 @@ mod ascii;
 #[cfg(test)]
 mod chunked;
 #[cfg(test)]
+mod coding;
+#[cfg(test)]
 mod common;
 #[cfg(test)]
 mod device;

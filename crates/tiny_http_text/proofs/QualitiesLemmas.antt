@@ -187,7 +187,7 @@ element-step : (text : List ℕ) (ps : List (List ℕ)) → parts semicolon text
 element-step text [] e h = absurd h
 element-step text (w ∷ ws) e h = record { padded = w; parameters = ws; splits = e; trims = trims-is is_blank w; quality = first-is ws }
 
-element-is : (text : List ℕ) → Element text (element text).0 (element text).1
+pub element-is : (text : List ℕ) → Element text (element text).0 (element text).1
 unfolding element
 element-is text = element-step text (parts semicolon text) refl (parts-are semicolon text)
 

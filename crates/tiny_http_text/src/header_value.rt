@@ -3,7 +3,7 @@ ghost use Rattle.std.specs.Prelude.{◌≡◌, ◌-◌, ◌^◌, ◌<◌, ◌≤
 ghost use Rattle.std.specs.Option.{SomeIff};
 ghost use Rattle.std.specs.Str.Parse.{IsNumeral, digits_value};
 ghost use Rattle.tiny_http_text.specs.Bytes.{HasNo, parts, semicolon};
-ghost use Rattle.tiny_http_text.specs.Qualities.{ListsQualities};
+ghost use Rattle.tiny_http_text.specs.Qualities.{Element, ListsQualities};
 ghost use Rattle.tiny_http_text.specs.QualityReading.{short_number, thousandths, quality, parameter_quality, first_quality, element};
 
 use crate::text::{trim, trim_front};
@@ -102,9 +102,11 @@ fn first_quality(parameters: &str) -> u32
     parameter_quality(rest).unwrap_or(DEFAULT_QUALITY)
 }
 
-// An element's name and quality.
-fn element(text: &str) -> (&str, u32)
-    ensures { (result.0.now, result.1) ≡ element text.now }
+/// Reads one element of such a value, the text between two commas: its name and its quality in
+/// thousandths, as `parse_header_value` says. It takes no memory.
+pub fn parse_element(text: &str) -> (&str, u32)
+    ensures computed { (result.0.now, result.1) ≡ element text.now }
+    ensures element { Element text.now result.0.now result.1 }
 {
     match cut(text, ';') {
         None => (trim(text), DEFAULT_QUALITY),
@@ -122,5 +124,8 @@ fn element(text: &str) -> (&str, u32)
 pub fn parse_header_value(alloc: Global, value: &str) -> Result<Vec<(&str, u32)>, AllocError>
     ensures { IfOk result (λ list. ListsQualities value.now (map (λ e. (e.0.now, e.1)) list.items)) }
 {
-    value.split(',').map(|text| element(text)).collect(alloc)
+    value
+        .split(',')
+        .map(|text| parse_element(text))
+        .collect(alloc)
 }

@@ -5,7 +5,7 @@ use Rattle.std.specs.declared.io.Error.{Error}
 use Rattle.std.specs.declared.io.ErrorKind.TheVariants.{InvalidInput}
 use Rattle.httpdate.specs.declared.date.HttpDate.{HttpDate}
 use Rattle.tiny_http_head.specs.declared.common.HTTPVersion.{HTTPVersion}
-use Rattle.tiny_http_wire.specs.declared.coding.FramingHeader.TheVariants.{Neither}
+use Rattle.tiny_http_coding.specs.declared.coding.FramingHeader.TheVariants.{Neither}
 use Rattle.tiny_http_device.specs.Device.{Feed, Sink}
 use Rattle.tiny_http_wire.specs.Answer.{Answer, Prints, PrintsUncoded, PrintsAnswer, whole, nothing_sent, answer_head_text, is_ascii_text, is_withheld, as_it_is, text_of}
 

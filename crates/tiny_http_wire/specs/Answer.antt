@@ -9,10 +9,10 @@ use Rattle.httpdate.specs.Date.{date_text}
 use Rattle.httpdate.specs.declared.date.HttpDate.{HttpDate}
 use Rattle.tiny_http_head.specs.declared.common.HTTPVersion.{HTTPVersion}
 use Rattle.tiny_http_head.specs.declared.common.Header.{Header}
-use Rattle.tiny_http_wire.specs.declared.coding.Coding.{Coding}
-use Rattle.tiny_http_wire.specs.declared.coding.Coding.TheVariants.{Identity, Chunked}
-use Rattle.tiny_http_wire.specs.declared.coding.FramingHeader.{FramingHeader}
-use Rattle.tiny_http_wire.specs.declared.coding.FramingHeader.TheVariants.{Neither, TransferEncoding, ContentLength}
+use Rattle.tiny_http_coding.specs.declared.coding.Coding.{Coding}
+use Rattle.tiny_http_coding.specs.declared.coding.Coding.TheVariants.{Identity, Chunked}
+use Rattle.tiny_http_coding.specs.declared.coding.FramingHeader.{FramingHeader}
+use Rattle.tiny_http_coding.specs.declared.coding.FramingHeader.TheVariants.{Neither, TransferEncoding, ContentLength}
 use Rattle.tiny_http_head.specs.Common.{version_text, same_name, reason_phrase}
 use Rattle.tiny_http_device.specs.Device.{Feed, fault_of, Sink, Took, Failed}
 use Rattle.tiny_http_device.specs.declared.device.Stop.{Stop}

@@ -1,6 +1,6 @@
 -- The head of an answer, by what the printing functions pass on.
 use Rattle.std.specs.Prelude.{ℕ, List, Option}
-use Rattle.tiny_http_wire.specs.declared.coding.FramingHeader.{FramingHeader}
+use Rattle.tiny_http_coding.specs.declared.coding.FramingHeader.{FramingHeader}
 use Rattle.tiny_http_wire.specs.declared.answer_head.Top.{Top}
 use Rattle.tiny_http_wire.specs.Answer.{answer_head_text}
 

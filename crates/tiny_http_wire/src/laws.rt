@@ -4,6 +4,7 @@ ghost use Rattle.std.specs.declared.io.ErrorKind.{ErrorKind};
 ghost use Rattle.tiny_http_device.specs.declared.device.Stop.{Stop};
 ghost use Rattle.tiny_http_wire.specs.Chunks.{WholeChunks, CutChunks};
 
+pub use tiny_http_coding::laws::one_coding_asked;
 pub use tiny_http_head::laws::{
     header_field_equality, header_from_its_text, http_version_order, lines_by_the_grammar,
     method_from_its_name, method_hash, status_code_order,

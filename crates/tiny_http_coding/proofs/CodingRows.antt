@@ -4,9 +4,9 @@ use Rattle.std.specs.Prelude.{codes}
 use Rattle.tiny_http_head.specs.declared.common.Header.{Header}
 use Rattle.tiny_http_head.specs.Heads.{version}
 use Rattle.tiny_http_text.specs.QualityReading.{short_number, thousandths, quality, parameter_quality, first_quality, element, qualities}
-use Rattle.tiny_http_wire.specs.declared.coding.Coding.{Coding}
-use Rattle.tiny_http_wire.specs.declared.coding.Coding.TheVariants.{Identity, Chunked}
-use Rattle.tiny_http_wire.specs.Coding.{coding_of, coding_asked}
+use Rattle.tiny_http_coding.specs.declared.coding.Coding.{Coding}
+use Rattle.tiny_http_coding.specs.declared.coding.Coding.TheVariants.{Identity, Chunked}
+use Rattle.tiny_http_coding.specs.Coding.{coding_of, coding_asked}
 
 abbrev te : List ℕ → Header
 te value = record { field = codes "TE"; value = value }

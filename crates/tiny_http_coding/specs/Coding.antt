@@ -4,8 +4,8 @@ use Rattle.tiny_http_head.specs.declared.common.HTTPVersion.{HTTPVersion}
 use Rattle.tiny_http_head.specs.declared.common.Header.{Header}
 use Rattle.tiny_http_head.specs.Common.{same_name}
 use Rattle.tiny_http_text.specs.QualityReading.{qualities}
-use Rattle.tiny_http_wire.specs.declared.coding.Coding.{Coding}
-use Rattle.tiny_http_wire.specs.declared.coding.Coding.TheVariants.{Identity, Chunked}
+use Rattle.tiny_http_coding.specs.declared.coding.Coding.{Coding}
+use Rattle.tiny_http_coding.specs.declared.coding.Coding.TheVariants.{Identity, Chunked}
 
 -- a coding with the quality that a request gives it, in thousandths
 abbrev pub Weighed : Type 0
@@ -48,7 +48,12 @@ is_up_to_1_0 v = nat_lt v.0 1 || (v.0 == 1 && v.1 == 0)
 abbrev pub takes_identity_alone : HTTPVersion → ℕ → Bool
 takes_identity_alone version status = is_up_to_1_0 version || (nat_lt status 200 || status == 204)
 
--- THE CODING, from the version and the headers of the request, and the status, the threshold and the length of the answer
+-- THE CODING of an answer: by the version of the request and the coding that it asks for, and the status, the threshold
+-- and the length of the answer
+abbrev pub chosen_coding : HTTPVersion → Option Coding → ℕ → ℕ → Option ℕ → Coding
+chosen_coding version asked status threshold length =
+    if takes_identity_alone version status then Identity else coding_by asked threshold length
+
+-- the same, by the version and the headers of the request
 abbrev pub coding_of : HTTPVersion → List Header → ℕ → ℕ → Option ℕ → Coding
-coding_of version request_headers status threshold length =
-    if takes_identity_alone version status then Identity else coding_by (coding_asked request_headers) threshold length
+coding_of version request_headers status threshold length = chosen_coding version (coding_asked request_headers) status threshold length

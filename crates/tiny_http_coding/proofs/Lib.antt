@@ -1,0 +1,3 @@
+pub mod CodingRows
+pub mod AskedLemmas
+pub mod AskedLaws
