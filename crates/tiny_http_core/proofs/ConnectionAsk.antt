@@ -16,7 +16,9 @@ use Rattle.tiny_http_message.specs.declared.exchange.Exchange.{Exchange}
 use Rattle.tiny_http_message.specs.declared.body.Body.{Body}
 use Rattle.tiny_http_message.specs.declared.body.Body.TheVariants as body
 use Rattle.tiny_http_message.specs.declared.exchange.HeadRead.TheVariants as read
-use Rattle.tiny_http_message.specs.declared.waiting.AnswerForm.{AnswerForm}
+use Rattle.tiny_http_wire.specs.declared.answer_form.AnswerForm.{AnswerForm}
+use Rattle.tiny_http_wire.specs.declared.coding.Coding.{Coding}
+use Rattle.tiny_http_wire.specs.Coding.{coding_asked}
 use Rattle.tiny_http_message.specs.declared.waiting.Waiting.{Waiting}
 use Rattle.tiny_http_message.specs.Framing.{is_built}
 use Rattle.tiny_http_stream.specs.Source.{GoesOn}
@@ -132,17 +134,17 @@ going client before k s h e o quiet open_input =
     by next false z = refl
 
 -- the texts of the server's own
-pub dropped-text : (asked : HttpDate) (r : Request) (given : ℕ) (end_reported : Bool) → own_text_by 500 (printing_to r.message.headers r.message.version (is_head_method r.message.method) asked) ≡ segment (dropped asked r given end_reported)
+pub dropped-text : (asked : HttpDate) (r : Request) (given : ℕ) (end_reported : Bool) → own_text_by 500 (printing_to (coding_asked r.message.headers) r.message.version (is_head_method r.message.method) asked) ≡ segment (dropped asked r given end_reported)
 unfolding text_of
 dropped-text asked r given end_reported = refl
 
 pub dropped-whole : (asked : HttpDate) (r : Request) (given : ℕ) (end_reported : Bool) → is_slot_broken (dropped asked r given end_reported) ≡ false
 unfolding text_of
-dropped-whole asked r given end_reported = ap is_broken (own-whole 500 r.message.version (is_head_method r.message.method) asked)
+dropped-whole asked r given end_reported = ap is_broken (own-whole 500 (coding_asked r.message.headers) r.message.version (is_head_method r.message.method) asked)
 
 refused-whole : (date : HttpDate) (v : HTTPVersion) → is_slot_broken (new_slot date (bad_request_item v)) ≡ false
 unfolding text_of
-refused-whole date v = refl
+refused-whole date v = ap is_broken (own-whole 400 None v false date)
 
 refused-text : (date : HttpDate) (v : HTTPVersion) → segment (new_slot date (bad_request_item v)) ≡ own_text 400 v false date
 unfolding text_of
@@ -176,7 +178,9 @@ kept-handed date x p content behind k left unowed = record {
   end_reported = false;
   is = refl;
   unowed = unowed;
-  answer_form = let F : HTTPVersion → Bool → AnswerForm = λ v b. record { version = v; no_body = b } in ap (λ v. F v x.waiting.answer_form.no_body) k.answer.version ∙ ap (F x.head.version) k.answer.no_body;
+  answer_form =
+      let F : HTTPVersion → Option Coding → Bool → AnswerForm = λ v a b. record { version = v; asked_coding = a; no_body = b } in
+      ap (λ v. F v x.waiting.answer_form.asked_coding x.waiting.answer_form.no_body) k.answer.version ∙ ap (λ a. F x.head.version a x.waiting.answer_form.no_body) k.answer.asked_coding ∙ ap (F x.head.version (coding_asked x.head.headers.items)) k.answer.no_body;
   text = k.answer.text ∙ dropped-text date (request_of x.head content) 0 false;
   fits = k.body;
   settled = settled-any x.waiting.body p content behind left;

@@ -8,8 +8,8 @@ use Rattle.std.specs.declared.io.Error.{Error}
 use Rattle.std.specs.declared.io.ErrorKind.{ErrorKind}
 use Rattle.httpdate.specs.declared.date.HttpDate.{HttpDate}
 use Rattle.tiny_http_wire.specs.Device.{Feed, Sink}
-use Rattle.tiny_http_wire.specs.Answer.{Text, Ending, Whole, Broken, Printing}
-use Rattle.tiny_http_message.specs.declared.waiting.AnswerForm.{AnswerForm}
+use Rattle.tiny_http_wire.specs.Answer.{Text, Ending, Whole, Broken}
+use Rattle.tiny_http_wire.specs.declared.answer_form.AnswerForm.{AnswerForm}
 use Rattle.tiny_http_message.specs.declared.waiting.Waiting.{Waiting}
 use Rattle.tiny_http_message.specs.Pipeline.{Item, Asks, Refuses, Request}
 use Rattle.tiny_http_message.specs.ResponseValue.{ResponseValue}
@@ -17,7 +17,7 @@ use Rattle.tiny_http_core.specs.Slots.{Slot, Stage, Unanswered, Answered as Answ
 use Rattle.tiny_http_core.specs.Steps.{StepValue, outcome, Respond, ReplyValue, Done, NoSuch, NotYet, WriterUse, Reported, Outcome, Reached, unchanged, changes, finished_as, accepts_step, fault_in, fault_of_answer, at_item, at_slot, at_number}
 use Rattle.tiny_http_core.specs.Conversation.{Failure, State, has_output_ended, finished_front, flushed_after, WriterPart, HasOutcome, GathersAt, MayLack}
 use Rattle.tiny_http_core.proofs.ConversationWriting.{FailsBetween, FailsReported, FailsBehind, broken_reply, used, WritesIf, IsAllFlushed, reported, still-flushed}
-use Rattle.tiny_http_core.specs.Seen.{PrintedFor, Answers, reply_to}
+use Rattle.tiny_http_core.specs.Seen.{printing_in, Answers, reply_to}
 use Rattle.tiny_http_core.specs.Sending.{CanSend, OutletTook, OutletFailed, IsFlushed, SendsText, Sends, SendsUnlessEnded}
 use Rattle.tiny_http_turns.specs.Turns.{Mark, Open, Held, Finished, AreInShape, first_unfinished}
 use Rattle.tiny_http_core.specs.Pending.{left_text, with_left_finished, begins_left, SendsLeft, FinishesFront, waiting_answer_form}
@@ -107,8 +107,8 @@ at-turn : (date asked : HttpDate) (old : Reached) (n : ℕ) (v : ResponseValue) 
 at-turn date asked old n v r given end_reported found e t = ap (at_slot found date old n (Respond n v)) e ∙ rw t refl
 
 -- how the response is printed
-printed-for : (r : Request) (answer_form : AnswerForm) (date : HttpDate) → answer_form ≡ answer_form_of r → PrintedFor answer_form date (to_request r date)
-printed-for r answer_form date e = record { version = ap (λ (x : AnswerForm). x.version) (sym e); no_body = ap (λ (x : AnswerForm). x.no_body) (sym e); no_upgrade = refl; dated = refl }
+printed-for : (r : Request) (answer_form : AnswerForm) (date : HttpDate) → answer_form ≡ answer_form_of r → printing_in answer_form date ≡ to_request r date
+printed-for r answer_form date e = ap (λ x. printing_in x date) e
 
 -- what becomes of the response's own text, with the step's reply: it was sent, or broke off, or the writer failed in it
 abbrev pub OwnWrites : Bool → Option Failure → List ℕ → Text → ReplyValue → Option Failure → Type 0
@@ -453,7 +453,7 @@ respond-stands client before k s date n v answer_form found mid new mid_ended en
 pub RespondsBy : Kept → Sink → Bool → ReplyValue → ResponseValue → AnswerForm → HttpDate → Type 0
 RespondsBy k mid mid_ended reply v answer_form date =
     ((k.output_ended ≡ true) × (mid ≡ k.sink) × (mid_ended ≡ k.output_ended) × (reply ≡ Done))
-    ⊎ ((k.output_ended ≡ false) × ((p : Printing) → PrintedFor answer_form date p → Answers k.sink mid mid_ended reply v.answer v.content p))
+    ⊎ ((k.output_ended ≡ false) × Answers k.sink mid mid_ended reply v.answer v.content (printing_in answer_form date))
 
 pub respond-done : {R : Type 0} (client : Feed) (before : Sink) (k : Kept) (s : State) (date : HttpDate) (n : ℕ) (v : ResponseValue) (answer_form : AnswerForm) (mid new : Sink) (mid_ended ended : Bool) (marks final : List Mark) (requests : List (Option Waiting)) (old source : SourceState R) (reply : ReplyValue)
     → Stands client before k s → IsInput k old → ((w : Waiting) → slice_get k.requests n ≡ Some (Some w) → GivesUp w.body old source) → before.failures < 2 ^ 64 - 1 → waiting_answer_form (slice_get k.requests n) ≡ Some answer_form → n ≡ first_unfinished k.marks → marks ≡ slice_set k.marks n Held → requests ≡ slice_set k.requests n None
@@ -491,18 +491,18 @@ respond-done {R = R} client before k s date n v answer_form mid new mid_ended en
         let P : Sink → Bool → ReplyValue → Type 0 = λ x y z. OwnSaid before x k.output_ended y a.bs s1 (response_sent true v a.waits.request date) s.failure z in
         answered true (inl refl) (subst (λ x. P x mid_ended reply) (sym h.1) (subst (λ y. P k.sink y reply) (sym h.2) (subst (λ z. P k.sink k.output_ended z) (sym h.3) o)))
     by-own (inr h) =
-        let own = h.1 (to_request a.waits.request date) (printed-for a.waits.request answer_form date a.answer_form_is) in
+        let own = subst (λ p. Answers k.sink mid mid_ended reply v.answer v.content p) (printed-for a.waits.request answer_form date a.answer_form_is) h.1 in
         let r = own.0 in
         ⊎_elim
         (λ x. answered true (inl refl)
         (own-sent {T = Unit {0}} before k.sink mid k.output_ended mid_ended a.bs (answered_slot a.waits.date a.waits.request a.waits.given a.waits.end_reported v date true) (response_sent true v a.waits.request date) s.failure r reply out a.turn.finished refl refl refl low h.0
         x own.3 own.1))
-        (λ x. answered false (inr (refl, refl, x.0.2))
+        (λ x. answered false (inr x.0)
         (own-sent {T = Unit {0}} before k.sink mid k.output_ended mid_ended a.bs (answered_slot a.waits.date a.waits.request a.waits.given a.waits.end_reported v date false) (response_sent false v a.waits.request date) s.failure r reply out a.turn.finished refl refl refl low h.0 x.1 own.3 own.1))
         own.2
 
 pub responds-by : (k : Kept) (mid : Sink) (mid_ended : Bool) (reply : ReplyValue) (v : ResponseValue) (answer_form : AnswerForm) (date : HttpDate) → (k.output_ended ≡ true → (mid ≡ k.sink) × (mid_ended ≡ k.output_ended) × (reply ≡ Done))
-    → (k.output_ended ≡ false → (p : Printing) → PrintedFor answer_form date p → Answers k.sink mid mid_ended reply v.answer v.content p) → RespondsBy k mid mid_ended reply v answer_form date
+    → (k.output_ended ≡ false → Answers k.sink mid mid_ended reply v.answer v.content (printing_in answer_form date)) → RespondsBy k mid mid_ended reply v answer_form date
 unfolding RespondsBy
 responds-by k mid mid_ended reply v answer_form date past open_is = by k.output_ended refl
   where

@@ -8,17 +8,17 @@ use Rattle.std.specs.declared.io.ErrorKind.TheVariants.{OutOfMemory}
 use Rattle.std.specs.Io.KnownBytes.{append_known}
 use Rattle.std.proofs.lemmas.Bool.{ne_eqb, leb-false}
 use Rattle.tiny_http_wire.specs.Device.{Feed, Sink, IsFront, BeginsKnown, IsKnownFront, IsAllKnown, HoldsNothing, grown, StatesKind, Took, Failed, Puts, next_count, fault_of, CountsFaults}
-use Rattle.tiny_http_wire.specs.Answer.{Answer, Text, Whole, Broken, Printing, Prints, PrintsAnswer, text_of, nothing_sent, gathered_body, body_unless_withheld, identity_body, as_it_is, is_withheld}
+use Rattle.tiny_http_wire.specs.Answer.{Answer, Text, Whole, Broken, Printing, Prints, PrintsAnswer, text_of, answer_coding, with_coding, chunked_body, chunked_until, nothing_sent, gathered_body, body_unless_withheld, identity_body, as_it_is, is_withheld}
 use Rattle.tiny_http_device.proofs.DeviceLemmas.{IsFront-same, IsFront-append}
 use Rattle.tiny_http_stream.specs.Outlet.{holding, EndsOutlet}
 use Rattle.httpdate.specs.declared.date.HttpDate.{HttpDate}
 use Rattle.tiny_http_wire.specs.declared.common.HTTPVersion.{HTTPVersion}
 use Rattle.tiny_http_wire.specs.declared.coding.FramingHeader.{FramingHeader}
 use Rattle.tiny_http_wire.specs.declared.coding.FramingHeader.TheVariants.{ContentLength}
-use Rattle.tiny_http_wire.specs.declared.coding.Coding.TheVariants.{Identity}
+use Rattle.tiny_http_wire.specs.declared.coding.Coding.{Coding}
+use Rattle.tiny_http_wire.specs.declared.coding.Coding.TheVariants.{Identity, Chunked}
 use Rattle.tiny_http_wire.specs.declared.device.Stop.{Stop}
-use Rattle.tiny_http_message.specs.declared.waiting.AnswerForm.{AnswerForm}
-use Rattle.tiny_http_core.specs.Seen.{PrintedFor}
+use Rattle.tiny_http_message.specs.ResponseValue.{printing_to}
 use Rattle.tiny_http_wire.specs.declared.device.Stop.TheVariants.{End, Fault}
 use Rattle.tiny_http_core.specs.Sending.{CanSend, OutletTook, OutletFailed, Idles, EndsQuietly, DropsHeld, SendsText, Sends, SendsQuietly, IsFlushed, SendsUnlessEnded, FailsOnce, FailsOnceUnlessEnded, DataBreakOff, IsHonest}
 use Rattle.tiny_http_core.proofs.SlotsLemmas.{or-parts}
@@ -180,23 +180,32 @@ uncoded-breaks : (len : Option ℕ) (top : FramingHeader → List ℕ) (withheld
 uncoded-breaks (Some n) top withheld f kind e = sized-breaks withheld n f kind e
 uncoded-breaks None top withheld f kind e = inl (gathered-breaks f.stop (top (ContentLength (length f.bytes))) withheld f.bytes kind e)
 
-abbrev pub plainly : HTTPVersion → Bool → HttpDate → Printing
-plainly v no_body date = record { version = v; request_headers = []; no_body = no_body; upgrade = None; date = date }
+chunks-break : (stop : Stop) (bytes : List ℕ) (kind : ErrorKind) → (chunked_until stop bytes).ending ≡ Broken kind → stop ≡ Fault kind
+chunks-break End bytes kind e = cc
+chunks-break (Fault k) bytes kind e = cc
 
-text-breaks : (a : Answer) (f : Feed) (v : HTTPVersion) (no_body : Bool) (date : HttpDate) (kind : ErrorKind) → (text_of a f (plainly v no_body date)).ending ≡ Broken kind → DataBreakOff Identity a.length f kind
+chunked-breaks : (withheld : Bool) (f : Feed) (kind : ErrorKind) → (body_unless_withheld withheld (chunked_body f)).ending ≡ Broken kind → f.stop ≡ Fault kind
+chunked-breaks true f kind e = cc
+chunked-breaks false f kind e = chunks-break f.stop f.bytes kind e
+
+coded-breaks : (coding : Coding) (len : Option ℕ) (top : FramingHeader → List ℕ) (withheld : Bool) (f : Feed) (kind : ErrorKind) → (with_coding coding len top withheld f).ending ≡ Broken kind → DataBreakOff coding len f kind
+coded-breaks Identity len top withheld f kind e = uncoded-breaks len top withheld f kind e
+coded-breaks Chunked len top withheld f kind e = chunked-breaks withheld f kind e
+
+text-breaks : (a : Answer) (f : Feed) (asked : Option Coding) (v : HTTPVersion) (no_body : Bool) (date : HttpDate) (kind : ErrorKind) → (text_of a f (printing_to asked v no_body date)).ending ≡ Broken kind → DataBreakOff (answer_coding a (printing_to asked v no_body date)) a.length f kind
 unfolding text_of
-text-breaks a f v no_body date kind e = uncoded-breaks a.length _ (is_withheld no_body a.status) f kind e
+text-breaks a f asked v no_body date kind e = coded-breaks (answer_coding a (printing_to asked v no_body date)) a.length _ (is_withheld no_body a.status) f kind e
 
 nothing-breaks : (kind sort : ErrorKind) → (nothing_sent sort).ending ≡ Broken kind → kind ≡ sort
 nothing-breaks kind sort e = cc
 
-data-breaks : (T : Type 0) (a b : Sink) (e : Error) (ans : Answer) (f : Feed) (v : HTTPVersion) (no_body : Bool) (date : HttpDate) → (b.failures ≡ next_count a.failures → ⊥) → PrintsAnswer {T = T} a b (Err e) ans f (plainly v no_body date)
-    → DataBreakOff Identity ans.length f (error_kind e)
-data-breaks T a b e ans f v no_body date same (inl (inl h)) = text-breaks ans f v no_body date (error_kind e) h.0
-data-breaks T a b e ans f v no_body date same (inl (inr h)) = absurd (same h.failures)
-data-breaks T a b e ans f v no_body date same (inr k) =
-    let P : Option ℕ → Type 0 = λ known. DataBreakOff Identity known f (error_kind e) in
-    subst P (sym k.2) (⊎_elim (λ h. inr (nothing-breaks (error_kind e) OutOfMemory h.0)) (λ h. absurd (same h.failures)) k.3)
+data-breaks : (T : Type 0) (a b : Sink) (e : Error) (ans : Answer) (f : Feed) (asked : Option Coding) (v : HTTPVersion) (no_body : Bool) (date : HttpDate) → (b.failures ≡ next_count a.failures → ⊥) → PrintsAnswer {T = T} a b (Err e) ans f (printing_to asked v no_body date)
+    → DataBreakOff (answer_coding ans (printing_to asked v no_body date)) ans.length f (error_kind e)
+data-breaks T a b e ans f asked v no_body date same (inl (inl h)) = text-breaks ans f asked v no_body date (error_kind e) h.0
+data-breaks T a b e ans f asked v no_body date same (inl (inr h)) = absurd (same h.failures)
+data-breaks T a b e ans f asked v no_body date same (inr k) =
+    let P : Coding → Option ℕ → Type 0 = λ coding known. DataBreakOff coding known f (error_kind e) in
+    subst (λ c. P c ans.length) (sym k.1) (subst (P Identity) (sym k.2) (⊎_elim (λ h. inr (nothing-breaks (error_kind e) OutOfMemory h.0)) (λ h. absurd (same h.failures)) k.3))
 
 -- the count after the outlet's end, where printing raised it, or where it stands at its greatest
 rose : (a b c : Sink) (n : ℕ) (t : Bool) → (b.failures == n) ≡ t → n ≡ a.failures → b.failures ≡ next_count a.failures → MatchBool t (EndsQuietly b c) (DropsHeld b c) → c.failures ≡ next_count a.failures
@@ -204,28 +213,18 @@ rose a b c n true e same u (inl s) = s.failures ∙ u
 rose a b c n true e same u (inr l) = l.1.failures ∙ ap next_count (eqb-true b.failures n e ∙ same)
 rose a b c n false e same u m = m.failures ∙ u
 
-honest-by : (T : Type 0) (o : Option Feed) (a b c : Sink) (n : ℕ) (e : Error) (ans : Answer) (v : HTTPVersion) (no_body : Bool) (date : HttpDate) (t : Bool) → (next_count a.failures == a.failures) ≡ t → b.failures ≡ a.failures
-    → IfSome o (λ feed. length feed.bytes < 2 ^ 63 → PrintsAnswer {T = T} a b (Err e) ans feed (plainly v no_body date)) → n ≡ a.failures → MatchBool (b.failures == n) (EndsQuietly b c) (DropsHeld b c) → IsHonest a c Identity ans.length o (error_kind e)
-honest-by T o a b c n e ans v no_body date true top u h same m = inl (rose a b c n (b.failures == n) refl same (u ∙ sym (eqb-true (next_count a.failures) a.failures top)) m)
-honest-by T None a b c n e ans v no_body date false top u h same m = inr tt
-honest-by T (Some f) a b c n e ans v no_body date false top u h same m =
+honest-by : (T : Type 0) (o : Option Feed) (a b c : Sink) (n : ℕ) (e : Error) (ans : Answer) (asked : Option Coding) (v : HTTPVersion) (no_body : Bool) (date : HttpDate) (t : Bool) → (next_count a.failures == a.failures) ≡ t → b.failures ≡ a.failures
+    → IfSome o (λ feed. length feed.bytes < 2 ^ 63 → PrintsAnswer {T = T} a b (Err e) ans feed (printing_to asked v no_body date)) → n ≡ a.failures → MatchBool (b.failures == n) (EndsQuietly b c) (DropsHeld b c) → IsHonest a c (answer_coding ans (printing_to asked v no_body date)) ans.length o (error_kind e)
+honest-by T o a b c n e ans asked v no_body date true top u h same m = inl (rose a b c n (b.failures == n) refl same (u ∙ sym (eqb-true (next_count a.failures) a.failures top)) m)
+honest-by T None a b c n e ans asked v no_body date false top u h same m = inr tt
+honest-by T (Some f) a b c n e ans asked v no_body date false top u h same m =
     let low : b.failures ≡ next_count a.failures → ⊥ = λ q. (let z : true ≡ false = sym (eq-eqb (next_count a.failures) a.failures (sym q ∙ u)) ∙ top in cc) in
-    inr (λ few. data-breaks T a b e ans f v no_body date low (h few))
+    inr (λ few. data-breaks T a b e ans f asked v no_body date low (h few))
 
-pub printed-honest : (T : Type 0) (o : Option Feed) (a b c : Sink) (n : ℕ) (e : Error) (ans : Answer) (v : HTTPVersion) (no_body : Bool) (date : HttpDate) → IfSome o (λ feed. length feed.bytes < 2 ^ 63 → PrintsAnswer {T = T} a b (Err e) ans feed (plainly v no_body date))
-    → CountsFaults {T = T} a b (Err e) → n ≡ a.failures → MatchBool (b.failures == n) (EndsQuietly b c) (DropsHeld b c) → IsHonest a c Identity ans.length o (error_kind e)
-printed-honest T o a b c n e ans v no_body date h (inl u) same m = honest-by T o a b c n e ans v no_body date (next_count a.failures == a.failures) refl u.failures h same m
-printed-honest T o a b c n e ans v no_body date h (inr u) same m = inl (rose a b c n (b.failures == n) refl same u.failures m)
-
--- the same for a request of the answer_form that the driver keeps
-same-text : (a : Answer) (f : Feed) (answer_form : AnswerForm) (date : HttpDate) (p : Printing) → PrintedFor answer_form date p → text_of a f p ≡ text_of a f (plainly answer_form.version answer_form.no_body date)
-unfolding text_of
-same-text a f answer_form date p h = rw (h.version, h.no_body, h.no_upgrade, h.dated) refl
-
-pub sends-for : (T : Type 0) (old new : Sink) (ended : Bool) (r : Result T Error) (a : Answer) (f : Feed) (answer_form : AnswerForm) (date : HttpDate) (p : Printing) → PrintedFor answer_form date p → Sends {T = T} old new ended r a f (plainly answer_form.version answer_form.no_body date) → Sends {T = T} old new ended r a f p
-sends-for T old new ended r a f answer_form date p h s =
-    let P : Text → Type 0 = λ t. SendsText {T = T} old new ended r t in
-    ⊎_elim (λ x. inl (subst P (sym (same-text a f answer_form date p h)) x)) (λ x. inr ((h.no_upgrade, refl, x.0.2), x.1)) s
+pub printed-honest : (T : Type 0) (o : Option Feed) (a b c : Sink) (n : ℕ) (e : Error) (ans : Answer) (asked : Option Coding) (v : HTTPVersion) (no_body : Bool) (date : HttpDate) → IfSome o (λ feed. length feed.bytes < 2 ^ 63 → PrintsAnswer {T = T} a b (Err e) ans feed (printing_to asked v no_body date))
+    → CountsFaults {T = T} a b (Err e) → n ≡ a.failures → MatchBool (b.failures == n) (EndsQuietly b c) (DropsHeld b c) → IsHonest a c (answer_coding ans (printing_to asked v no_body date)) ans.length o (error_kind e)
+printed-honest T o a b c n e ans asked v no_body date h (inl u) same m = honest-by T o a b c n e ans asked v no_body date (next_count a.failures == a.failures) refl u.failures h same m
+printed-honest T o a b c n e ans asked v no_body date h (inr u) same m = inl (rose a b c n (b.failures == n) refl same u.failures m)
 
 sent-append : (a b c : Sink) (s t : List ℕ) → OutletTook a b s → OutletTook b c t → OutletTook a c (s ++ t)
 sent-append a b c s t h k = record {

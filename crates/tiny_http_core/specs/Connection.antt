@@ -4,9 +4,10 @@ use Rattle.std.specs.Option.{option_map}
 use Rattle.httpdate.specs.declared.date.HttpDate.{HttpDate}
 use Rattle.tiny_http_wire.specs.declared.device.Stop.{Stop}
 use Rattle.tiny_http_wire.specs.declared.device.Stop.TheVariants.{End}
+use Rattle.tiny_http_wire.specs.Coding.{coding_asked}
 use Rattle.tiny_http_wire.specs.Device.{Feed, Sink, IsFront, StatesKind, ending}
 use Rattle.tiny_http_message.specs.declared.body.Body.{Body}
-use Rattle.tiny_http_message.specs.declared.waiting.AnswerForm.{AnswerForm}
+use Rattle.tiny_http_wire.specs.declared.answer_form.AnswerForm.{AnswerForm}
 use Rattle.tiny_http_message.specs.declared.waiting.Waiting.{Waiting}
 use Rattle.tiny_http_stream.specs.Source.{SourceState, GoesOn}
 use Rattle.tiny_http_stream.specs.ToCome.{stopped}
@@ -51,7 +52,7 @@ kept c =
 
 -- how a request is answered
 abbrev pub answer_form_of : Request → AnswerForm
-answer_form_of r = record { version = r.message.version; no_body = is_head_method r.message.method }
+answer_form_of r = record { version = r.message.version; asked_coding = coding_asked r.message.headers; no_body = is_head_method r.message.method }
 
 -- a request that was handed out on this date and waits, while so many bytes of its body were given, and its end reported or not
 abbrev pub open_slot : HttpDate → Request → ℕ → Bool → Slot

@@ -1,7 +1,7 @@
 -- Numbers whose turn comes, and what is sent as it does.
 use Rattle.std.specs.Prelude.{◌≡◌, ℕ, Bool, true, false, List, [], ◌∷◌, ◌++◌, Option, Some, None, MatchBool}
 use Rattle.tiny_http_wire.specs.Device.{Sink}
-use Rattle.tiny_http_message.specs.declared.waiting.AnswerForm.{AnswerForm}
+use Rattle.tiny_http_wire.specs.declared.answer_form.AnswerForm.{AnswerForm}
 use Rattle.tiny_http_message.specs.declared.waiting.Waiting.{Waiting}
 use Rattle.tiny_http_message.specs.declared.body.Body.{Body}
 use Rattle.tiny_http_message.specs.Body.{is_streaming}

@@ -5,15 +5,15 @@ use Rattle.std.specs.declared.io.Error.{Error}
 use Rattle.std.specs.declared.io.ErrorKind.{ErrorKind}
 use Rattle.httpdate.specs.declared.date.HttpDate.{HttpDate}
 use Rattle.tiny_http_wire.specs.Device.{Feed, Sink}
-use Rattle.tiny_http_wire.specs.Answer.{Answer, Printing, served_coding, ResponseState}
+use Rattle.tiny_http_wire.specs.Answer.{Answer, Printing, answer_coding, ResponseState}
 use Rattle.tiny_http_core.specs.declared.driver.Step.{Step}
 use Rattle.tiny_http_core.specs.declared.driver.Step.TheVariants as step
 use Rattle.tiny_http_core.specs.declared.driver.Timed.{Timed}
-use Rattle.tiny_http_message.specs.declared.waiting.AnswerForm.{AnswerForm}
+use Rattle.tiny_http_wire.specs.declared.answer_form.AnswerForm.{AnswerForm}
 use Rattle.tiny_http_core.specs.declared.driver.Reply.{Reply}
 use Rattle.tiny_http_core.specs.declared.driver.Reply.TheVariants as reply
 use Rattle.tiny_http_message.specs.HeadReads.{head_message, head_framing}
-use Rattle.tiny_http_message.specs.ResponseValue.{ResponseValue}
+use Rattle.tiny_http_message.specs.ResponseValue.{ResponseValue, printing_to}
 use Rattle.tiny_http_core.specs.Steps.{StepValue, Ask, Read, Respond, Drop, ReplyValue, Handed, Ended, Given, Fault, NotYet, Done, Refused, NoSuch, Memory, fault_of_answer}
 use Rattle.tiny_http_core.specs.Conversation.{TimedValue}
 use Rattle.tiny_http_core.specs.Sending.{Sends, IsFlushed, IsHonest, FailsAtMostOnce}
@@ -52,7 +52,7 @@ abbrev pub MayFail : {D : Type 0} → (D → Option Feed) → Sink → Sink → 
 MayFail feed old new step.Ask kind = ⊥
 MayFail feed old new (step.Read k n) kind = Unit {0}
 MayFail feed old new (step.Drop k) kind = ⊥
-MayFail feed old new (step.Respond k r) kind = (p : Printing) × IsHonest old new (served_coding r.answer p) r.answer.length (feed r.data_reader) kind
+MayFail feed old new (step.Respond k r) kind = (p : Printing) × IsHonest old new (answer_coding r.answer p) r.answer.length (feed r.data_reader) kind
 
 -- a fault that an answer reports is the writer's, whose count rose, or that of the step's own data; of a body's nothing is said
 abbrev pub ReportsHonestly : {D : Type 0} → (D → Option Feed) → Sink → Sink → Timed D → Reply → Type 0
@@ -66,12 +66,9 @@ ReportHonestly feed old (t ∷ steps) (r ∷ replies) new =
 ReportHonestly feed old [] (r ∷ replies) new = ⊥
 ReportHonestly feed old (t ∷ steps) [] new = ⊥
 
--- how an answer to a request of this form is printed; the headers, by which the coding will be chosen, are the request's
-pub record PrintedFor (answer_form : AnswerForm) (date : HttpDate) (p : Printing) : Type 0 where
-  pub version : p.version ≡ answer_form.version
-  pub no_body : p.no_body ≡ answer_form.no_body
-  pub no_upgrade : p.upgrade ≡ None
-  pub dated : p.date ≡ date
+-- how an answer to a request of this form is printed
+abbrev pub printing_in : AnswerForm → HttpDate → Printing
+printing_in form date = printing_to form.asked_coding form.version form.no_body date
 
 -- what a call that sends an answer is reported as
 abbrev pub reply_to : {T : Type 0} → Result T Error → ReplyValue

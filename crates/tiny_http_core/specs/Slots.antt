@@ -4,8 +4,9 @@ use Rattle.std.specs.List.{list_all, last_or}
 use Rattle.std.specs.declared.io.ErrorKind.TheVariants.{OutOfMemory}
 use Rattle.httpdate.specs.declared.date.HttpDate.{HttpDate}
 use Rattle.tiny_http_wire.specs.declared.coding.Coding.TheVariants as coding
+use Rattle.tiny_http_wire.specs.Coding.{coding_asked}
 use Rattle.tiny_http_wire.specs.Device.{Feed}
-use Rattle.tiny_http_wire.specs.Answer.{Answer, Text, Ending, Whole, Broken, Printing, text_plain, served_coding, prepend_text, whole, nothing_sent}
+use Rattle.tiny_http_wire.specs.Answer.{Answer, Text, Ending, Whole, Broken, Printing, text_plain, answer_coding, prepend_text, whole, nothing_sent}
 use Rattle.tiny_http_message.specs.declared.framing.Form.{Form}
 use Rattle.tiny_http_message.specs.declared.framing.Form.TheVariants.{Rest, Nothing, WithHead, Counted, Chunked}
 use Rattle.tiny_http_message.specs.Pipeline.{Item, Asks, Refuses, Refusal, VersionNotSupported, refusal_status, Request, is_head_method, body_length_or_0}
@@ -57,7 +58,7 @@ continue_response = response_of 100 [] []
 
 -- an answer to a request: in its version, by its headers, without a body for HEAD
 abbrev pub to_request : Request → HttpDate → Printing
-to_request r date = printing_to r.message.headers r.message.version (is_head_method r.message.method) date
+to_request r date = printing_to (coding_asked r.message.headers) r.message.version (is_head_method r.message.method) date
 
 -- how an answer under an item is printed
 abbrev pub printing_for : Item → HttpDate → Printing
@@ -75,7 +76,7 @@ text_if false r p = nothing_sent OutOfMemory
 
 -- the data of this answer are read whole before its head
 abbrev pub IsGathered : Answer → Printing → Type 0
-IsGathered a p = (p.upgrade ≡ None) × (served_coding a p ≡ coding.Identity) × (a.length ≡ None)
+IsGathered a p = (p.upgrade ≡ None) × (answer_coding a p ≡ coding.Identity) × (a.length ≡ None)
 
 -- what a stage sends
 abbrev pub stage_text : Item → HttpDate → Stage → Text

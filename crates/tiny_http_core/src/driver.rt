@@ -2,7 +2,7 @@
 ghost use Rattle.std.specs.Prelude.{◌≡◌, ◌-◌, ◌<◌, ◌^◌, true, false, List, [], length, Some, None, map, Ok, IfOk, IfErr, vec_len, is_some, slice_get};
 ghost use Rattle.std.specs.List.{AllZip};
 ghost use Rattle.tiny_http_wire.specs.Device.{Feed, Sink, HoldsNothing};
-ghost use Rattle.tiny_http_wire.specs.Answer.{Printing, served_coding};
+ghost use Rattle.tiny_http_wire.specs.Answer.{answer_coding};
 ghost use Rattle.tiny_http_message.specs.ResponseValue.{ResponseValue};
 ghost use Rattle.tiny_http_message.specs.Pipeline.{Item, Pipeline};
 ghost use Rattle.tiny_http_core.specs.Conversation.{IsConversation, IsFresh, TimedValue};
@@ -12,7 +12,7 @@ ghost use Rattle.std.specs.declared.io.ErrorKind.{ErrorKind};
 ghost use Rattle.tiny_http_stream.specs.Source.{GoesOn};
 ghost use Rattle.tiny_http_core.specs.Pending.{waiting_answer_form};
 ghost use Rattle.tiny_http_core.specs.Driving.{HasDone, TakesStep, stated_response, stated_step};
-ghost use Rattle.tiny_http_core.specs.Seen.{seen, Answers, IsAnswered, PrintedFor, IsResponse, IsTimedStep, ReportsHonestly, ReportHonestly};
+ghost use Rattle.tiny_http_core.specs.Seen.{seen, Answers, IsAnswered, printing_in, IsResponse, IsTimedStep, ReportsHonestly, ReportHonestly};
 ghost use Rattle.tiny_http_stream.specs.Outlet.{output_of, outlet_ended, outlet_held, outlet_writer, SentOn};
 ghost use Rattle.tiny_http_core.specs.Sending.{CanSend, FailsOnceUnlessEnded, FailsAtMostOnce, IsHonest};
 
@@ -23,9 +23,10 @@ use std::alloc::{AllocError, Global};
 use std::io::ErrorKind;
 use std::marker::Model;
 use tiny_http_message::exchange::{EndOfRequests, Head, HeadRead, read_head};
-use tiny_http_message::waiting::{AnswerForm, Waiting};
+use tiny_http_message::waiting::Waiting;
 use tiny_http_stream::outlet::Outlet;
 use tiny_http_stream::source::{Source, Standing};
+use tiny_http_wire::answer_form::AnswerForm;
 use tiny_http_wire::device::{ReadDevice, WriteDevice};
 use tiny_http_wire::response::Response;
 
@@ -156,14 +157,14 @@ fn answer<W: WriteDevice, D: ReadDevice + Drop>(
 ) -> Reply
     ensures past { outlet_ended outlet.old ≡ true → (outlet.new ≡ outlet.old) × (seen result ≡ Done) }
     ensures sends { (content : Feed) → D.feed response.data_reader ≡ Some content → length content.bytes < 2 ^ 63
-        → outlet_ended outlet.old ≡ false → CanSend (output_of outlet.old) → (p : Printing) → PrintedFor answer_form now p
-        → Answers (output_of outlet.old) (output_of outlet.new) (outlet_ended outlet.new) (seen result) response.answer content p }
+        → outlet_ended outlet.old ≡ false → CanSend (output_of outlet.old)
+        → Answers (output_of outlet.old) (output_of outlet.new) (outlet_ended outlet.new) (seen result) response.answer content (printing_in answer_form now) }
     ensures fails_once { FailsOnceUnlessEnded (outlet_ended outlet.old) (output_of outlet.old) (output_of outlet.new) (outlet_ended outlet.new) }
     ensures flushed { outlet_held outlet.old ≡ [] → outlet_held outlet.new ≡ [] }
     ensures sent_on { SentOn outlet.old → SentOn outlet.new }
     ensures done { IsAnswered (seen result) }
     ensures honest { (kind : ErrorKind) → seen result ≡ Fault kind → (outlet_ended outlet.new ≡ true)
-        × ((p : Printing) → PrintedFor answer_form now p → IsHonest (output_of outlet.old) (output_of outlet.new) (served_coding response.answer p) response.answer.length (D.feed response.data_reader) kind) }
+        × IsHonest (output_of outlet.old) (output_of outlet.new) (answer_coding response.answer (printing_in answer_form now)) response.answer.length (D.feed response.data_reader) kind }
 {
     if outlet.is_ended() {
         return Reply::Done;

@@ -11,10 +11,11 @@ ghost use Rattle.tiny_http_core.specs.Pending.{left_text, SendsLeft, FinishesFro
 use crate::sending::{flush_quietly, write_quietly};
 use std::alloc::Global;
 use std::io::ErrorKind;
-use tiny_http_message::waiting::{AnswerForm, Waiting};
+use tiny_http_message::waiting::Waiting;
 use tiny_http_stream::outlet::Outlet;
 use tiny_http_stream::source::Source;
 use tiny_http_turns::turns::{Finishing, Leaving, Turns, TurnsError};
+use tiny_http_wire::answer_form::AnswerForm;
 use tiny_http_wire::device::{ReadDevice, WriteDevice};
 
 /// The numbers of a connection: their turns, and what is kept of each that waits for its answer.

@@ -2,16 +2,16 @@
 ghost use Rattle.std.specs.Prelude.{◌≡◌, ◌<◌, ◌^◌, ◌==◌, true, false, [], length, Some, None, IfErr, OnErr, MatchBool};
 ghost use Rattle.std.specs.IoError.{error_kind};
 ghost use Rattle.tiny_http_wire.specs.Device.{Feed};
-ghost use Rattle.tiny_http_wire.specs.Answer.{Printing, served_coding};
-ghost use Rattle.tiny_http_core.specs.Seen.{PrintedFor};
+ghost use Rattle.tiny_http_wire.specs.Answer.{answer_coding};
+ghost use Rattle.tiny_http_core.specs.Seen.{printing_in};
 ghost use Rattle.tiny_http_stream.specs.Outlet.{output_of, outlet_ended, outlet_held, SentOn};
 ghost use Rattle.tiny_http_core.specs.Sending.{Sends, SendsUnlessEnded, EndsQuietly, DropsHeld, CanSend, FailsOnce, FailsOnceUnlessEnded, IsHonest};
 
 use httpdate::HttpDate;
 use std::alloc::Global;
 use std::io;
-use tiny_http_message::waiting::AnswerForm;
 use tiny_http_stream::outlet::Outlet;
+use tiny_http_wire::answer_form::AnswerForm;
 use tiny_http_wire::device::{ReadDevice, WriteDevice};
 use tiny_http_wire::response::Response;
 
@@ -42,17 +42,17 @@ pub(crate) fn send<W: WriteDevice, D: ReadDevice + Drop>(
     now: HttpDate,
 ) -> Result<(), io::Error>
     ensures sends { (content : Feed) → D.feed response.data_reader ≡ Some content → length content.bytes < 2 ^ 63
-        → CanSend (output_of outlet.old) → (p : Printing) → PrintedFor answer_form now p
-        → Sends (output_of outlet.old) (output_of outlet.new) (outlet_ended outlet.new) result response.answer content p }
+        → CanSend (output_of outlet.old)
+        → Sends (output_of outlet.old) (output_of outlet.new) (outlet_ended outlet.new) result response.answer content (printing_in answer_form now) }
     ensures fails_once { FailsOnce (output_of outlet.old) (output_of outlet.new) (outlet_ended outlet.new) }
-    ensures honest { IfErr result (λ e. (p : Printing) → PrintedFor answer_form now p
-        → IsHonest (output_of outlet.old) (output_of outlet.new) (served_coding response.answer p) response.answer.length (D.feed response.data_reader) (error_kind e)) }
+    ensures honest { IfErr result (λ e.
+        IsHonest (output_of outlet.old) (output_of outlet.new) (answer_coding response.answer (printing_in answer_form now)) response.answer.length (D.feed response.data_reader) (error_kind e)) }
     ensures ended { OnErr result (outlet_ended outlet.new ≡ true) }
     ensures flushed { outlet_held outlet.new ≡ [] }
     ensures sent_on { SentOn outlet.new }
 {
     let failures = outlet.failures();
-    let printed = response.raw_print(alloc, outlet, answer_form.version, &[], answer_form.no_body, None, now);
+    let printed = response.print(alloc, outlet, answer_form, None, now);
     if let Err(fault) = printed {
         end_behind_fault(outlet, failures);
         return Err(fault);

@@ -1,6 +1,6 @@
 -- The text of a dropped request's 500 fits into its room.
 use Rattle.std.specs.Fmt.{digits}
-use Rattle.std.proofs.Common.{◌≡◌, refl, sym, ap, ◌∙◌, subst, ℕ, ◌<◌, ◌≤◌, inl, inr, Bool, true, false, List, [], ◌++◌, length, Some, None, Err, decimal, codes, length-append, arith}
+use Rattle.std.proofs.Common.{◌≡◌, refl, sym, ap, ◌∙◌, subst, ℕ, ◌<◌, ◌≤◌, inl, inr, Bool, true, false, List, [], ◌++◌, length, Option, Some, None, Err, decimal, codes, length-append, arith}
 use Rattle.std.specs.IoError.{error_kind}
 use Rattle.std.specs.declared.io.Error.{Error}
 use Rattle.std.specs.declared.io.ErrorKind.{ErrorKind}
@@ -8,36 +8,65 @@ use Rattle.std.proofs.lemmas.Fmt.{length-decimal-le}
 use Rattle.httpdate.specs.Date.{date_text}
 use Rattle.httpdate.specs.declared.date.HttpDate.{HttpDate}
 use Rattle.tiny_http_wire.specs.declared.common.HTTPVersion.{HTTPVersion}
-use Rattle.tiny_http_wire.specs.declared.coding.FramingHeader.TheVariants.{ContentLength}
+use Rattle.tiny_http_wire.specs.declared.coding.Coding.{Coding}
+use Rattle.tiny_http_wire.specs.declared.coding.Coding.TheVariants.{Identity, Chunked}
+use Rattle.tiny_http_wire.specs.declared.coding.FramingHeader.{FramingHeader}
+use Rattle.tiny_http_wire.specs.declared.coding.FramingHeader.TheVariants.{ContentLength, TransferEncoding}
+use Rattle.tiny_http_wire.specs.Chunked.{full_chunks, left_over}
 use Rattle.tiny_http_wire.specs.Common.{reason_phrase}
 use Rattle.tiny_http_wire.specs.Device.{Sink, Failed, ending}
-use Rattle.tiny_http_wire.specs.Answer.{Answer, answer_with, Ending, Whole, Broken, PrintsAnswer, text_of, body_unless_withheld, identity_body, is_withheld, answer_head_text, status_line, field_line, upgrade_lines, server_line, date_line, framing_line}
-use Rattle.tiny_http_wire.specs.declared.common.Header.{Header}
+use Rattle.tiny_http_wire.specs.Answer.{Answer, Printing, answer_with, answer_coding, with_coding, chunked_body, Ending, Whole, Broken, PrintsAnswer, text_of, body_unless_withheld, identity_body, is_withheld, answer_head_text, status_line, field_line, upgrade_lines, server_line, date_line, framing_line}
 use Rattle.tiny_http_message.specs.ResponseValue.{printing_to}
-use Rattle.tiny_http_message.specs.OwnAnswer.{own_text, own_text_by, own_printing}
+use Rattle.tiny_http_message.specs.OwnAnswer.{own_text_by}
 
--- an answer of the server's own is whole
-pub own-whole : (status : ℕ) (v : HTTPVersion) (withheld : Bool) (date : HttpDate) → (text_of (answer_with status [] 0) (ending []) (own_printing v withheld date)).ending ≡ Whole
+-- an answer of the server's own is whole, however it is coded
+coded-whole : (coding : Coding) (top : FramingHeader → List ℕ) (withheld : Bool) → (with_coding coding (Some 0) top withheld (ending [])).ending ≡ Whole
+coded-whole Identity top true = refl
+coded-whole Identity top false = refl
+coded-whole Chunked top true = refl
+coded-whole Chunked top false = refl
+
+pub own-whole : (status : ℕ) (asked : Option Coding) (v : HTTPVersion) (withheld : Bool) (date : HttpDate) → (text_of (answer_with status [] 0) (ending []) (printing_to asked v withheld date)).ending ≡ Whole
 unfolding text_of
-own-whole status v withheld date =
-    elim (is_withheld withheld status) as (λ t. (body_unless_withheld t (identity_body 0 (ending []))).ending ≡ Whole) [ true ↦ refl | false ↦ refl ]
+own-whole status asked v withheld date =
+    coded-whole (answer_coding (answer_with status [] 0) (printing_to asked v withheld date)) (λ framing. answer_head_text v status None [] date framing) (is_withheld withheld status)
 
-pieces : (x y t : List ℕ) → length x ≤ 3 → length y ≤ 3 → length t ≡ 29
-    → length ((codes "HTTP/" ++ (x ++ codes "." ++ y) ++ codes " " ++ codes "500" ++ codes " " ++ codes "Internal Server Error" ++ codes "\r\n") ++ [] ++ codes "Server: tiny-http (Rust)\r\n" ++ (codes "Date" ++ codes ": " ++ t ++ codes "\r\n") ++ [] ++ codes "Content-Length: 0\r\n" ++ codes "\r\n") < 128
-pieces x y t a b e = simp length-append (omega (arith, a, b, e))
+pieces : (x y t f : List ℕ) → length x ≤ 3 → length y ≤ 3 → length t ≡ 29 → length f ≤ 28
+    → length ((codes "HTTP/" ++ (x ++ codes "." ++ y) ++ codes " " ++ codes "500" ++ codes " " ++ codes "Internal Server Error" ++ codes "\r\n") ++ [] ++ codes "Server: tiny-http (Rust)\r\n" ++ (codes "Date" ++ codes ": " ++ t ++ codes "\r\n") ++ [] ++ f ++ codes "\r\n") ≤ 133
+pieces x y t f a b e g = simp length-append (omega (arith, a, b, e, g))
 
-head-length : (v : HTTPVersion) (d : HttpDate) → v.0 < 256 → v.1 < 256 → length (date_text d) ≡ 29 → length (answer_head_text v 500 None [] d (ContentLength 0)) < 128
-unfolding digits answer_head_text status_line field_line upgrade_lines server_line date_line framing_line reason_phrase
-head-length v d a b e =
+head-length : (v : HTTPVersion) (d : HttpDate) (framing : FramingHeader) → v.0 < 256 → v.1 < 256 → length (date_text d) ≡ 29 → length (framing_line framing) ≤ 28 → length (answer_head_text v 500 None [] d framing) ≤ 133
+unfolding digits answer_head_text status_line field_line upgrade_lines server_line date_line reason_phrase
+head-length v d framing a b e g =
     let x : length (decimal v.0) ≤ 3 = length-decimal-le 3 v.0 (omega arith) (omega arith) (omega arith) in
     let y : length (decimal v.1) ≤ 3 = length-decimal-le 3 v.1 (omega arith) (omega arith) (omega arith) in
-    pieces (decimal v.0) (decimal v.1) (date_text d) x y e
+    pieces (decimal v.0) (decimal v.1) (date_text d) (framing_line framing) x y e g
 
-pub own-length : (v : HTTPVersion) (withheld : Bool) (d : HttpDate) → v.0 < 256 → v.1 < 256 → length (date_text d) ≡ 29 → length (own_text 500 v withheld d) < 128
+no-length : length (framing_line (ContentLength 0)) ≤ 28
+unfolding digits framing_line field_line
+no-length = omega arith
+
+chunked-line : length (framing_line TransferEncoding) ≤ 28
+unfolding framing_line field_line
+chunked-line = omega arith
+
+-- no body, and a last chunk alone
+no-chunk : length (chunked_body (ending [])).bytes ≤ 5
+unfolding full_chunks left_over
+no-chunk = omega arith
+
+coded-length : (coding : Coding) (v : HTTPVersion) (withheld : Bool) (d : HttpDate) → v.0 < 256 → v.1 < 256 → length (date_text d) ≡ 29 → length (with_coding coding (Some 0) (λ framing. answer_head_text v 500 None [] d framing) withheld (ending [])).bytes < 144
+coded-length Identity v true d a b e = let h = head-length v d (ContentLength 0) a b e no-length in simp length-append (omega (arith, h))
+coded-length Identity v false d a b e = let h = head-length v d (ContentLength 0) a b e no-length in simp length-append (omega (arith, h))
+coded-length Chunked v true d a b e = let h = head-length v d TransferEncoding a b e chunked-line in simp length-append (omega (arith, h))
+coded-length Chunked v false d a b e =
+    let h = head-length v d TransferEncoding a b e chunked-line in
+    let l = length-append (answer_head_text v 500 None [] d TransferEncoding) (chunked_body (ending [])).bytes in
+    omega (arith, h, l, no-chunk)
+
+pub own-length : (asked : Option Coding) (v : HTTPVersion) (withheld : Bool) (d : HttpDate) → v.0 < 256 → v.1 < 256 → length (date_text d) ≡ 29 → length (own_text_by 500 (printing_to asked v withheld d)) < 144
 unfolding text_of
-own-length v withheld d a b e =
-    let h = head-length v d a b e in
-    elim (is_withheld withheld 500) as (λ t. length (answer_head_text v 500 None [] d (ContentLength 0) ++ (body_unless_withheld t (identity_body 0 (ending []))).bytes) < 128) [ true ↦ simp length-append (omega (arith, h)) | false ↦ simp length-append (omega (arith, h)) ]
+own-length asked v withheld d a b e = coded-length (answer_coding (answer_with 500 [] 0) (printing_to asked v withheld d)) v (is_withheld withheld 500) d a b e
 
 whole-broken : (t : Ending) (kind : ErrorKind) → t ≡ Whole → t ≡ Broken kind → ⊥
 whole-broken Whole kind h k = cc
@@ -50,21 +79,16 @@ full-front old new bytes text kind o n f =
     omega (arith, ap length s ∙ length-append bytes f.bytes.0)
 
 -- a writer into room for such a text doesn't fail
-pub no-fault : (old new : Sink) (e : Error) (a : Answer) (v : HTTPVersion) (withheld : Bool) (d : HttpDate) (bytes : List ℕ) → a ≡ answer_with 500 [] 0 → old.taken ≡ Some [] → new.taken ≡ Some bytes → old.failures ≡ 0 → (0 < new.failures → 128 ≤ length bytes) → length (own_text 500 v withheld d) < 128
-    → PrintsAnswer {T = Unit {0}} old new (Err e) a (ending []) (own_printing v withheld d) → ⊥
-no-fault old new e a v withheld d bytes same o n z full fits (inl (inl k)) =
-    whole-broken _ (error_kind e) (ap (λ x. (text_of x (ending []) (own_printing v withheld d)).ending) same ∙ own-whole 500 v withheld d) k.0
-no-fault old new e a v withheld d bytes same o n z full fits (inl (inr f)) =
-    let P : Answer → Type 0 = λ x. Failed old new (text_of x (ending []) (own_printing v withheld d)).bytes (error_kind e) in
+pub no-fault : (old new : Sink) (e : Error) (a : Answer) (p : Printing) (bytes : List ℕ) → a ≡ answer_with 500 [] 0 → old.taken ≡ Some [] → new.taken ≡ Some bytes → old.failures ≡ 0 → (0 < new.failures → 144 ≤ length bytes)
+    → (text_of (answer_with 500 [] 0) (ending []) p).ending ≡ Whole → length (own_text_by 500 p) < 144 → PrintsAnswer {T = Unit {0}} old new (Err e) a (ending []) p → ⊥
+no-fault old new e a p bytes same o n z full all fits (inl (inl k)) =
+    whole-broken _ (error_kind e) (ap (λ x. (text_of x (ending []) p).ending) same ∙ all) k.0
+no-fault old new e a p bytes same o n z full all fits (inl (inr f)) =
+    let P : Answer → Type 0 = λ x. Failed old new (text_of x (ending []) p).bytes (error_kind e) in
     let front = full-front old new bytes _ (error_kind e) o n (subst P same f) in
     let rose : new.failures ≡ 1 = f.failures ∙ rw z refl in
     let long = full (rw rose (omega arith)) in
     omega (arith, front, long, fits)
-no-fault old new e a v withheld d bytes same o n z full fits (inr k) =
+no-fault old new e a p bytes same o n z full all fits (inr k) =
     let none : Some 0 ≡ None = sym (ap (λ (x : Answer). x.length) same) ∙ k.2 in
     cc
-
--- the request's headers make no difference so far
-pub own-text-any : (headers : List Header) (status : ℕ) (v : HTTPVersion) (withheld : Bool) (d : HttpDate) → own_text status v withheld d ≡ own_text_by status (printing_to headers v withheld d)
-unfolding text_of
-own-text-any headers status v withheld d = refl

@@ -10,6 +10,7 @@ use Rattle.tiny_http_stream.specs.Source.{SourceState}
 use Rattle.tiny_http_stream.specs.declared.source.Standing.{Standing}
 use Rattle.tiny_http_message.specs.Pipeline.{is_head_method}
 use Rattle.tiny_http_message.specs.ResponseValue.{printing_to}
+use Rattle.tiny_http_wire.specs.Coding.{coding_asked}
 use Rattle.tiny_http_message.specs.OwnAnswer.{own_text_by}
 use Rattle.tiny_http_message.specs.Body.{Remaining, remaining, body_stop, body_standing, is_streaming, ReadsOn, Fits, GivesUp}
 
@@ -48,8 +49,9 @@ GivesUpBody x old new = GivesUp x.waiting.body old new
 -- this is kept of a request with this head that was handed out on this date
 pub record KeepsHead (w : Waiting) (h : Head) (date : HttpDate) : Type 0 where
   pub version : w.answer_form.version ≡ h.version
+  pub asked_coding : w.answer_form.asked_coding ≡ coding_asked h.headers.items
   pub no_body : w.answer_form.no_body ≡ is_head_method h.method
-  pub text : w.dropped.items ≡ own_text_by 500 (printing_to h.headers.items h.version (is_head_method h.method) date)
+  pub text : w.dropped.items ≡ own_text_by 500 (printing_to (coding_asked h.headers.items) h.version (is_head_method h.method) date)
 
 -- what is kept of a request that was read on this date, of whose body nothing was read yet
 pub record KeepsRequest (x : Exchange) (date : HttpDate) : Type 0 where

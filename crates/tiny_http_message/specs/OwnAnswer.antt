@@ -1,13 +1,13 @@
 -- What the server answers of its own: this status, no headers of its own and no data.
-use Rattle.std.specs.Prelude.{ℕ, Bool, List, []}
+use Rattle.std.specs.Prelude.{ℕ, Bool, List, [], None}
 use Rattle.httpdate.specs.declared.date.HttpDate.{HttpDate}
 use Rattle.tiny_http_wire.specs.declared.common.HTTPVersion.{HTTPVersion}
 use Rattle.tiny_http_wire.specs.Answer.{Printing}
 use Rattle.tiny_http_message.specs.ResponseValue.{response_of, response_text, printing_to}
 
--- how such an answer is printed to a head that is refused, whose headers aren't known
+-- how such an answer is printed to a head that is refused, which asks for no coding
 abbrev pub own_printing : HTTPVersion → Bool → HttpDate → Printing
-own_printing version withheld date = printing_to [] version withheld date
+own_printing version withheld date = printing_to None version withheld date
 
 -- the text of such an answer, printed so
 abbrev pub own_text_by : ℕ → Printing → List ℕ

@@ -1,8 +1,9 @@
 -- Responses as values, their texts, and how they are printed.
-use Rattle.std.specs.Prelude.{ℕ, Bool, List, length, None}
+use Rattle.std.specs.Prelude.{ℕ, Bool, List, length, Option, None}
 use Rattle.httpdate.specs.declared.date.HttpDate.{HttpDate}
 use Rattle.tiny_http_wire.specs.declared.common.HTTPVersion.{HTTPVersion}
 use Rattle.tiny_http_wire.specs.declared.common.Header.{Header}
+use Rattle.tiny_http_wire.specs.declared.coding.Coding.{Coding}
 use Rattle.tiny_http_wire.specs.Device.{Feed, ending}
 use Rattle.tiny_http_wire.specs.Answer.{Answer, Text, Printing, answer_with, text_of}
 
@@ -18,6 +19,6 @@ response_of status headers text = record { answer = answer_with status headers (
 abbrev pub response_text : ResponseValue → Printing → Text
 response_text r p = text_of r.answer r.content p
 
--- how an answer to a request with these headers is printed
-abbrev pub printing_to : List Header → HTTPVersion → Bool → HttpDate → Printing
-printing_to headers version withheld date = record { version = version; request_headers = headers; no_body = withheld; upgrade = None; date = date }
+-- how an answer to a request is printed that asks for this coding
+abbrev pub printing_to : Option Coding → HTTPVersion → Bool → HttpDate → Printing
+printing_to asked version withheld date = record { version = version; asked_coding = asked; no_body = withheld; upgrade = None; date = date }

@@ -14,14 +14,16 @@ pub use crate::framing::Form;
 use crate::framing::{Framing, framing_of, is_built};
 use crate::heads::{HeadFault, Message, read_message};
 use crate::own_answer::{DropText, own_answer};
-use crate::waiting::{AnswerForm, Waiting};
+use crate::waiting::Waiting;
 use httpdate::HttpDate;
 use std::alloc::{AllocError, Global};
 use std::io;
 use std::io::{Cursor, ErrorKind};
 use tiny_http_stream::source::{Source, Standing};
+use tiny_http_wire::answer_form::AnswerForm;
 use tiny_http_wire::ascii::AsciiString;
 use tiny_http_wire::chunked::Decoding;
+use tiny_http_wire::coding::asked_coding;
 use tiny_http_wire::common::{HTTPVersion, Header, Method, StatusCode};
 use tiny_http_wire::device::{ReadDevice, Stop};
 
@@ -229,9 +231,10 @@ fn hand_out(alloc: Global, head: Head, body: Body, now: HttpDate) -> Result<Exch
 {
     let answer_form = AnswerForm {
         version: head.version,
+        asked_coding: asked_coding(head.headers.as_slice()),
         no_body: is_head(&head.method),
     };
-    let dropped = DropText::new(alloc, answer_form.version, answer_form.no_body, now)?;
+    let dropped = DropText::new(alloc, answer_form, now)?;
     let waiting = Waiting {
         answer_form,
         dropped,

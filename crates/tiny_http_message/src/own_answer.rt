@@ -1,7 +1,6 @@
 //! Answers of the server's own: the text of a refused head, and the text of a dropped request, which is printed as it is dropped.
-ghost use Rattle.std.specs.Prelude.{◌≡◌, ◌<◌, ◌≤◌, List, [], IfOk, length, vec_len, vec_capacity};
+ghost use Rattle.std.specs.Prelude.{◌≡◌, ◌<◌, ◌≤◌, IfOk, length, vec_len, vec_capacity};
 ghost use Rattle.httpdate.specs.Date.{date_text};
-ghost use Rattle.tiny_http_wire.specs.declared.common.Header.{Header};
 ghost use Rattle.tiny_http_message.specs.ResponseValue.{printing_to};
 ghost use Rattle.tiny_http_message.specs.OwnAnswer.{own_text, own_text_by};
 
@@ -10,12 +9,13 @@ use std::alloc::{AllocError, Global};
 use std::io;
 use std::io::ErrorKind;
 use std::marker::Model;
+use tiny_http_wire::answer_form::AnswerForm;
 use tiny_http_wire::common::{HTTPVersion, StatusCode};
 use tiny_http_wire::device::{Budget, WriteDevice};
 use tiny_http_wire::response::Response;
 
 // How many bytes the text has, at most.
-const OWN_ANSWER: usize = 128;
+const OWN_ANSWER: usize = 144;
 
 /// The text of an answer of the server's own: this code, no headers of its own and no data. An error where there is no
 /// memory for it.
@@ -31,20 +31,25 @@ pub fn own_answer(
     let bytes = Vec::with_capacity(alloc, OWN_ANSWER)?;
     let mut writer = Budget::from_vec(bytes, usize::MAX, ErrorKind::OutOfMemory);
     let answer = Response::empty(alloc, status);
-    match answer.raw_print(alloc, &mut writer, version, &[], no_body, None, now) {
+    let form = AnswerForm {
+        version,
+        asked_coding: None,
+        no_body,
+    };
+    match answer.print(alloc, &mut writer, form, None, now) {
         Ok(()) => Ok(writer.into_bytes()),
         Err(_) => Err(AllocError),
     }
 }
 
-// A writer into room that was taken before: it takes 128 bytes, and then each write of a byte fails.
+// A writer into room that was taken before: it takes 144 bytes, and then each write of a byte fails.
 #[derive(Drop)]
 struct Page {
     bytes: Vec<u8>,
     failures: u64,
-    ghost room: { 128 ≤ vec_capacity bytes },
-    ghost within: { vec_len bytes ≤ 128 },
-    ghost full: { 0 < failures → 128 ≤ length bytes.items },
+    ghost room: { 144 ≤ vec_capacity bytes },
+    ghost within: { vec_len bytes ≤ 144 },
+    ghost full: { 0 < failures → 144 ≤ length bytes.items },
 }
 
 impl WriteDevice for Page {
@@ -90,52 +95,37 @@ fn date_length(now: HttpDate) -> usize
 #[derive(Drop)]
 pub struct DropText {
     room: Vec<u8>,
-    version: HTTPVersion,
-    no_body: bool,
+    form: AnswerForm,
     now: HttpDate,
 }
 
 impl Model for DropText {
     ghost use Rattle.std.specs.Prelude.{◌≡◌, ◌<◌, ◌≤◌, [], vec_len, vec_capacity};
-    ghost use Rattle.tiny_http_message.specs.OwnAnswer.{own_text};
+    ghost use Rattle.tiny_http_message.specs.ResponseValue.{printing_to};
+    ghost use Rattle.tiny_http_message.specs.OwnAnswer.{own_text_by};
     ghost use Rattle.tiny_http_message.specs.TextState.{TextState};
 
     ghost Value = { TextState };
 
-    ghost view = { λ t. record { items = own_text 500 t.version t.no_body t.now } };
+    ghost view = { λ t. record { items = own_text_by 500 (printing_to t.form.asked_coding t.form.version t.form.no_body t.now) } };
 
-    ghost invariant = { λ t. (t.room.items ≡ []) × (vec_len t.room ≡ 0) × (128 ≤ vec_capacity t.room) × (t.version.0 < 256) × (t.version.1 < 256) };
+    ghost invariant = { λ t. (t.room.items ≡ []) × (vec_len t.room ≡ 0) × (144 ≤ vec_capacity t.room) × (t.form.version.0 < 256) × (t.form.version.1 < 256) };
 }
 
 impl DropText {
-    /// An error where there is no memory for it. So far the request's headers make no difference to the text.
-    pub fn new(
-        alloc: Global,
-        version: HTTPVersion,
-        no_body: bool,
-        now: HttpDate,
-    ) -> Result<DropText, AllocError>
-        ensures { IfOk result (λ text. (headers : List Header) → text.items ≡ own_text_by 500 (printing_to headers version no_body now)) }
+    /// An error where there is no memory for it.
+    pub fn new(alloc: Global, form: AnswerForm, now: HttpDate) -> Result<DropText, AllocError>
+        ensures { IfOk result (λ text. text.items ≡ own_text_by 500 (printing_to form.asked_coding form.version form.no_body now)) }
     {
         let room = Vec::with_capacity(alloc, OWN_ANSWER)?;
-        Ok(DropText {
-            room,
-            version,
-            no_body,
-            now,
-        })
+        Ok(DropText { room, form, now })
     }
 
     /// The text itself. It takes no memory.
     pub fn into_text(self) -> Vec<u8>
         ensures { result.items ≡ self.items }
     {
-        let DropText {
-            room,
-            version,
-            no_body,
-            now,
-        } = self;
+        let DropText { room, form, now } = self;
         let alloc = *room.allocator();
         let _length = date_length(now);
         let mut page = Page {
@@ -143,7 +133,7 @@ impl DropText {
             failures: 0,
         };
         let answer = Response::empty(alloc, StatusCode(500));
-        match answer.raw_print(alloc, &mut page, version, &[], no_body, None, now) {
+        match answer.print(alloc, &mut page, form, None, now) {
             Ok(()) => page.bytes,
             Err(_) => unreachable!(),
         }

@@ -1,16 +1,7 @@
 //! What is kept of a request until it is answered.
 use crate::body::Body;
 use crate::own_answer::DropText;
-use tiny_http_wire::common::HTTPVersion;
-
-/// How the answer to a request is printed.
-#[derive(Clone, Copy, Debug, PartialEq, Eq)]
-pub struct AnswerForm {
-    /// The version of the request, in which it is answered.
-    pub version: HTTPVersion,
-    /// The body is withheld: the request is a `HEAD`.
-    pub no_body: bool,
-}
+use tiny_http_wire::answer_form::AnswerForm;
 
 /// What is kept of a request until it is answered.
 #[derive(Drop)]

@@ -119,7 +119,7 @@ nothing_sent kind = record { bytes = []; ending = Broken kind }
 -- how an answer is asked for
 pub record Printing : Type 0 where
   pub version : HTTPVersion
-  pub request_headers : List Header
+  pub asked_coding : Option Coding
   pub no_body : Bool
   pub upgrade : Option (List ℕ)
   pub date : HttpDate
@@ -150,15 +150,14 @@ is_ascii_text text = list_all (λ b. nat_lt b 128) text
 abbrev pub head_text_of : Answer → Printing → FramingHeader → List ℕ
 head_text_of a p framing = answer_head_text p.version a.status p.upgrade a.headers p.date framing
 
--- How the body of an answer is sent: as it is. The choice of chunks, by the length and by what the request's TE asks for
--- (RFC 9112, sections 6.1 and 7.4), is not built yet.
-abbrev pub served_coding : Answer → Printing → Coding
-served_coding a p = Identity
+-- THE CODING of an answer's body (RFC 9112, sections 6.1 and 7.4)
+unfoldable pub answer_coding : Answer → Printing → Coding
+answer_coding a p = Identity
 
 -- an upgrade is a head alone, and its protocol is ASCII
 abbrev pub with_upgrade : Option (List ℕ) → Answer → Feed → Printing → Text
 with_upgrade (Some protocol) a feed p = if is_ascii_text protocol then whole (head_text_of a p Neither) else nothing_sent InvalidInput
-with_upgrade None a feed p = with_coding (served_coding a p) a.length (head_text_of a p) (is_withheld p.no_body a.status) feed
+with_upgrade None a feed p = with_coding (answer_coding a p) a.length (head_text_of a p) (is_withheld p.no_body a.status) feed
 
 -- the text of an answer with this data
 unfoldable pub text_of : Answer → Feed → Printing → Text
@@ -177,7 +176,7 @@ PrintsUncoded old new r length text = Prints old new r text ⊎ ((length ≡ Non
 
 -- a call that prints an answer
 abbrev pub PrintsAnswer : {T : Type 0} → Sink → Sink → Result T Error → Answer → Feed → Printing → Type 0
-PrintsAnswer old new r a feed p = Prints old new r (text_of a feed p) ⊎ ((p.upgrade ≡ None) × (served_coding a p ≡ Identity) × (a.length ≡ None) × Prints old new r (nothing_sent OutOfMemory))
+PrintsAnswer old new r a feed p = Prints old new r (text_of a feed p) ⊎ ((p.upgrade ≡ None) × (answer_coding a p ≡ Identity) × (a.length ≡ None) × Prints old new r (nothing_sent OutOfMemory))
 
 -- an answer whose data was gathered
 abbrev pub PrintsGathered : {T : Type 0} → Sink → Sink → Result T Error → List ℕ → Bool → Feed → Type 0

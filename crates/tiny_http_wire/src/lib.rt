@@ -7,6 +7,7 @@ mod answer_head;
 pub mod chunked;
 mod gather;
 pub mod laws;
+pub mod answer_form;
 pub mod response;
 
 pub use tiny_http_coding::coding;

@@ -4,11 +4,13 @@ ghost use Rattle.std.specs.Option.{option_copied};
 ghost use Rattle.tiny_http_wire.specs.Answer.{Answer, ResponseState, Prints, prepend_text, whole, identity_body, is_withheld, is_ascii_text, PrintsGathered, PrintsUncoded, PrintsAnswer, as_it_is, nothing_sent, text_plain, answer_with};
 ghost use Rattle.tiny_http_device.specs.Cursor.{cursor_bytes};
 ghost use Rattle.tiny_http_wire.specs.Top.{top_text};
+ghost use Rattle.tiny_http_coding.specs.Coding.{coding_asked};
 ghost use Rattle.tiny_http_device.specs.Device.{Puts, CountsFaults};
 
 use crate::answer_body::put_exactly;
+use crate::answer_form::AnswerForm;
 use crate::answer_head::{Top, put_head};
-use crate::coding::FramingHeader;
+use tiny_http_coding::coding::{FramingHeader, asked_coding};
 use crate::gather::gather;
 use httpdate::HttpDate;
 use std::alloc::{AllocError, Global};
@@ -139,14 +141,13 @@ impl<R> Response<R> {
         self.threshold
     }
 
-    /// Prints head and body for a request of this version, dated `now` (RFC 9112, sections 4 to 6);
-    /// for an upgrade to a protocol the head alone. The body is withheld for `no_body` (HEAD) and
-    /// the codes 100 to 199, 204 and 304.
+    /// Prints head and body for a request of this version with these headers, dated `now` (RFC 9112, sections 4 to 7); for
+    /// an upgrade to a protocol the head alone. The body is withheld for `no_body` (HEAD) and the codes 100 to 199, 204 and
+    /// 304. What the request's `TE` header asks for decides how the body is coded, as `coding::choose` says.
     ///
-    /// The first fault, of the writer or of the data, is the answer, and nothing is written behind
-    /// it. Data that ends before its length is UnexpectedEof. Data of unknown length is read whole
-    /// first: a fault of it, or OutOfMemory, leaves nothing written, as InvalidInput does for a
-    /// protocol that isn't ASCII. It doesn't flush.
+    /// The first fault, of the writer or of the data, is reported, and nothing is written after it. Data that end before
+    /// their length are UnexpectedEof. Data of unknown length that aren't sent in chunks are read whole first: a fault of
+    /// them, or OutOfMemory, leaves nothing written, as InvalidInput does for a protocol that isn't ASCII. It doesn't flush.
     pub fn raw_print<W: WriteDevice>(
         self,
         alloc: Global,
@@ -163,7 +164,7 @@ impl<R> Response<R> {
             PrintsAnswer (W.sink writer.old) (W.sink writer.new) result self.answer feed
             (record {
               version = version;
-              request_headers = request_headers.now;
+              asked_coding = coding_asked request_headers.now;
               no_body = no_body;
               upgrade = option_copied upgrade.entry;
               date = now;
@@ -171,17 +172,47 @@ impl<R> Response<R> {
         // Whatever the data and the writer state: a fault of the writer's is one that its count has.
         ensures uses { CountsFaults (W.sink writer.old) (W.sink writer.new) result }
     {
+        let form = AnswerForm {
+            version,
+            asked_coding: asked_coding(request_headers),
+            no_body,
+        };
+        self.print(alloc, writer, form, upgrade, now)
+    }
+
+    /// The same for a request whose headers aren't there any more: `form` has what the answer needs of it.
+    pub fn print<W: WriteDevice>(
+        self,
+        alloc: Global,
+        writer: &mut W,
+        form: AnswerForm,
+        upgrade: Option<&str>,
+        now: HttpDate,
+    ) -> Result<(), io::Error>
+    where
+        R: ReadDevice + Drop,
+        ensures text { IfSome (R.feed self.data_reader) (λ feed. length feed.bytes < 2 ^ 63 →
+            PrintsAnswer (W.sink writer.old) (W.sink writer.new) result self.answer feed
+            (record {
+              version = form.version;
+              asked_coding = form.asked_coding;
+              no_body = form.no_body;
+              upgrade = option_copied upgrade.entry;
+              date = now;
+            })) }
+        ensures uses { CountsFaults (W.sink writer.old) (W.sink writer.new) result }
+    {
         let mut data = self.reader;
         let headers = self.headers;
         let top = Top {
-            version,
+            version: form.version,
             status: self.status,
             headers: &headers,
             date: now,
         };
         match upgrade {
             Some(protocol) => print_upgrade(writer, &top, protocol),
-            None => print_uncoded(alloc, &mut data, writer, &top, self.data_length, no_body),
+            None => print_uncoded(alloc, &mut data, writer, &top, self.data_length, form.no_body),
         }
     }
 

@@ -2,10 +2,10 @@ use Rattle.std.proofs.Common.{rules, ◌≡◌, sym, ◌∙◌, subst, true, fal
 use Rattle.std.specs.Prelude.{if◌then◌else◌}
 use Rattle.std.specs.declared.io.ErrorKind.{ErrorKind}
 use Rattle.std.specs.IoError.{error_kind}
-use Rattle.tiny_http_wire.specs.Answer.{served_coding}
+use Rattle.tiny_http_wire.specs.Answer.{answer_coding}
 use Rattle.tiny_http_stream.specs.Outlet.{output_of}
 use Rattle.tiny_http_core.specs.Steps.{ReplyValue, Done, Fault, is_closed_client, fault_of_answer}
-use Rattle.tiny_http_core.specs.Seen.{seen}
+use Rattle.tiny_http_core.specs.Seen.{seen, printing_in}
 use Rattle.tiny_http_core.specs.Sending.{IsHonest}
 use Rattle.tiny_http_core.proofs.SlotsLemmas.{or-parts}
 use Rattle.tiny_http_core.proofs.driver.answer.Goals as goal
@@ -19,11 +19,11 @@ same-kind met kind e = by (is_closed_client met) e
     by false e = let same : Fault met ≡ Fault kind = e in cc
 
 pub returns-in-Err-clause-sends : goal.returns-in-Err-clause-sends
-returns-in-Err-clause-sends g c content stated few open_is can p is =
+returns-in-Err-clause-sends g c content stated few open_is can =
     let new = c.send.new.outlet in (
       Err c.in-Err.fault,
       search (rules, c.fault_of_answer.ensures, c.kind.ensures),
-      c.in-Err.ensures.sends content stated few can p is,
+      c.in-Err.ensures.sends content stated few can,
       λ z. (let no : true ≡ false = sym c.in-Err.ensures.ended ∙ (or-parts new.ended new.sink.has_ended z).0 in cc),
     )
 
@@ -31,8 +31,8 @@ pub returns-in-Err-clause-honest : goal.returns-in-Err-clause-honest
 returns-in-Err-clause-honest g c kind e =
     let met : error_kind c.in-Err.fault ≡ kind = same-kind (error_kind c.in-Err.fault) kind (search (rules, e, c.fault_of_answer.ensures, c.kind.ensures)) in (
       c.in-Err.ensures.ended,
-      λ p is. (let H : ErrorKind → Type 0 = λ k. IsHonest (output_of c.args.outlet.now) (output_of c.send.new.outlet) (served_coding c.args.response.answer p) c.args.response.answer.length (g.D.ReadDevice.feed c.args.response.data_reader) k in
-          subst H met (c.in-Err.ensures.honest p is)),
+      (let H : ErrorKind → Type 0 = λ k. IsHonest (output_of c.args.outlet.now) (output_of c.send.new.outlet) (answer_coding c.args.response.answer (printing_in c.args.answer_form c.args.now)) c.args.response.answer.length (g.D.ReadDevice.feed c.args.response.data_reader) k in
+          subst H met c.in-Err.ensures.honest),
     )
 
 pub returns-in-Ok-clause-honest : goal.returns-in-Ok-clause-honest

@@ -1,6 +1,6 @@
 use Rattle.std.proofs.Common.{rules, ℕ, ◌≡◌, refl, sym, ap, ◌∙◌, subst, true, false, List, [], Option, Some, None}
 use Rattle.std.specs.Prelude.{slice_get, slice_set, IsTrue}
-use Rattle.tiny_http_wire.specs.Answer.{Answer, Printing, served_coding}
+use Rattle.tiny_http_wire.specs.Answer.{Answer, answer_coding}
 use Rattle.tiny_http_message.specs.declared.waiting.Waiting.{Waiting}
 use Rattle.tiny_http_core.specs.Steps.{ReplyValue, Handed, Ended, Given, Fault, Done, Refused, Memory, Respond, NotYet, NoSuch}
 use Rattle.tiny_http_core.specs.Driving.{IsDeclined, stated_response}
@@ -12,7 +12,7 @@ use Rattle.tiny_http_turns.specs.Turns.{Mark}
 use Rattle.tiny_http_core.specs.Pending.{waiting_answer_form}
 use Rattle.tiny_http_stream.specs.Outlet.{output_of, outlet_ended}
 use Rattle.tiny_http_core.specs.Connection.{Kept, kept}
-use Rattle.tiny_http_core.specs.Seen.{seen, Answers, PrintedFor}
+use Rattle.tiny_http_core.specs.Seen.{seen, Answers, printing_in}
 use Rattle.tiny_http_core.proofs.ConnectionAsk.{StepIsAnswered}
 use Rattle.tiny_http_stream.proofs.SourceGoesOn.{goes-on_same}
 use Rattle.tiny_http_core.proofs.ConnectionOutput.{can-send}
@@ -83,7 +83,7 @@ returns-in-Some-take g c =
           (λ client before s value low is st.
           let kept_answer_form : waiting_answer_form (slice_get k.requests n) ≡ Some c.in-Some.answer_form = sym c.answer_form_at.ensures ∙ c.in-Some.is in
           let held : IsTrue c.hold.result = search rules in
-          let A : Answer → Type 0 = λ a. (p : Printing) → PrintedFor c.in-Some.answer_form c.args.now p → Answers k.sink (output_of mid) (outlet_ended mid) reply a value.content p in
+          let A : Answer → Type 0 = λ a. Answers k.sink (output_of mid) (outlet_ended mid) reply a value.content (printing_in c.in-Some.answer_form c.args.now) in
           let same : last.self.requests.items ≡ k.requests = ap (λ v. v.items) (c.pass.ensures.requests ∙ c.hold.ensures.requests) in
           let some = c.in-Some-take.ensures.some in
           let got : slice_get k.requests n ≡ Some (Some w0) = ap (λ l. slice_get l n) (sym same) ∙ some.0 in
@@ -107,5 +107,5 @@ returns-in-Some-take g c =
             flushed = λ h. c.pass.ensures.flushed (c.answer-reply.ensures.flushed h);
             sent_on = λ h. c.pass.ensures.sent_on (c.answer-reply.ensures.sent_on h);
           })
-          (λ kind e. let h = c.answer-reply.ensures.honest kind e in let p : Printing = record { version = c.in-Some.answer_form.version; request_headers = []; no_body = c.in-Some.answer_form.no_body; upgrade = None; date = c.args.now } in (p, honest-more (outlet_ended mid) (outlet_ended last.outlet) k.sink (output_of mid) (output_of last.outlet) (served_coding c.args.response.answer p) c.args.response.answer.length (g.D.ReadDevice.feed c.args.response.data_reader) kind h.0 c.pass.ensures.fails_once (h.1 p (record { version = refl; no_body = refl; no_upgrade = refl; dated = refl })))));
+          (λ kind e. let h = c.answer-reply.ensures.honest kind e in let p = printing_in c.in-Some.answer_form c.args.now in (p, honest-more (outlet_ended mid) (outlet_ended last.outlet) k.sink (output_of mid) (output_of last.outlet) (answer_coding c.args.response.answer p) c.args.response.answer.length (g.D.ReadDevice.feed c.args.response.data_reader) kind h.0 c.pass.ensures.fails_once h.1)));
     }
