@@ -2,3 +2,4 @@ pub mod BytesLemmas
 pub mod BytesTrimming
 pub mod QualityReadingLemmas
 pub mod QualitiesLemmas
+pub mod NumberLemmas

@@ -12,4 +12,4 @@ pub mod response;
 
 pub use tiny_http_device::device;
 pub use tiny_http_head::{common, grammar};
-pub use tiny_http_text::{ascii, header_value};
+pub use tiny_http_text::{ascii, header_value, number};
