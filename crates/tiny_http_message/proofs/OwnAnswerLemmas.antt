@@ -11,7 +11,8 @@ use Rattle.tiny_http_wire.specs.declared.common.HTTPVersion.{HTTPVersion}
 use Rattle.tiny_http_wire.specs.declared.coding.FramingHeader.TheVariants.{ContentLength}
 use Rattle.tiny_http_wire.specs.Common.{reason_phrase}
 use Rattle.tiny_http_wire.specs.Device.{Sink, Failed, ending}
-use Rattle.tiny_http_wire.specs.Answer.{Answer, answer_with, Ending, Whole, Broken, PrintsAnswer, text_of, body_unless_withheld, identity_body, is_withheld, answer_head_text, status_line, field_line, upgrade_lines, server_line, date_line, framing_line}
+use Rattle.tiny_http_wire.specs.Answer.{Answer, answer_with, PrintsAnswer, text_of, body_unless_withheld, is_withheld, answer_head_text, status_line, field_line, upgrade_lines, server_line, date_line, framing_line}
+use Rattle.tiny_http_encoding.specs.Text.{Ending, Whole, Broken, identity_body}
 use Rattle.tiny_http_wire.specs.declared.common.Header.{Header}
 use Rattle.tiny_http_message.specs.OwnAnswer.{own_text, own_text_by, own_printing, own_printing_to}
 

@@ -1,12 +1,10 @@
 //! The wire layer of a small HTTP server (HTTP/1.x, RFC 9110 and RFC 9112): chunked bodies, and how answers are printed.
-//! It stands on `tiny_http_device`, `tiny_http_text` and `tiny_http_head`, and names their modules again.
+//! It stands on `tiny_http_device`, `tiny_http_text`, `tiny_http_head` and `tiny_http_encoding`, and names their modules again.
 #![tactic(auto)]
 
-mod answer_body;
 mod answer_head;
 pub mod chunked;
 pub mod coding;
-mod gather;
 pub mod laws;
 pub mod response;
 

@@ -4,7 +4,7 @@ use Rattle.std.specs.IoError.{error_kind}
 use Rattle.std.specs.declared.io.Error.{Error}
 use Rattle.std.specs.declared.io.ErrorKind.{ErrorKind}
 use Rattle.tiny_http_device.specs.Device.{Sink, Took, Failed, Puts, SameFaults, Faulted, CountsFaults}
-use Rattle.tiny_http_wire.specs.Answer.{Text, Prints}
+use Rattle.tiny_http_encoding.specs.Text.{Text, Prints}
 
 -- nothing was written
 pub SameFaults-none : (a : Sink) → SameFaults a a

@@ -1,6 +1,6 @@
 use Rattle.std.proofs.Common.{◌≡◌, length}
 use Rattle.tiny_http_device.specs.Device.{GatheredTo}
-use Rattle.tiny_http_wire.proofs.gather.gather.Given as goal
+use Rattle.tiny_http_encoding.proofs.gather.gather.Given as goal
 
 abbrev pub invariant-loop-turn : goal.invariant-loop-turn
 invariant-loop-turn g l = record {

@@ -1,7 +1,7 @@
 use Rattle.std.proofs.Common.{arith}
 use Rattle.std.proofs.lemmas.Result.{err_from_is_err_and}
-use Rattle.tiny_http_wire.proofs.DeviceGathers.{FilledTo-more, Fills-broken}
-use Rattle.tiny_http_wire.proofs.gather.fill.Goals as goal
+use Rattle.tiny_http_encoding.proofs.DeviceGathers.{FilledTo-more, Fills-broken}
+use Rattle.tiny_http_encoding.proofs.gather.fill.Goals as goal
 
 pub returns-in_err-n-clause-bytes : goal.returns-in_err-n-clause-bytes
 returns-in_err-n-clause-bytes g c =

@@ -1,7 +1,7 @@
 use Rattle.std.proofs.Common.{arith}
 use Rattle.std.proofs.lemmas.Result.{err_from_is_err_and}
-use Rattle.tiny_http_wire.proofs.DeviceGathers.{GatheredTo-more, Gathers-last, Gathers-fault, Gathers-full, Gathers-endless}
-use Rattle.tiny_http_wire.proofs.gather.gather.Goals as goal
+use Rattle.tiny_http_encoding.proofs.DeviceGathers.{GatheredTo-more, Gathers-last, Gathers-fault, Gathers-full, Gathers-endless}
+use Rattle.tiny_http_encoding.proofs.gather.gather.Goals as goal
 
 pub returns-in_err-n : goal.returns-in_err-n
 returns-in_err-n g c =

@@ -1,6 +1,6 @@
 use Rattle.std.proofs.Common.{◌-◌, ◌≤◌, length}
 use Rattle.tiny_http_device.specs.Device.{FilledTo}
-use Rattle.tiny_http_wire.proofs.gather.fill.Given as goal
+use Rattle.tiny_http_encoding.proofs.gather.fill.Given as goal
 
 abbrev pub invariant-loop-at : goal.invariant-loop-at
 invariant-loop-at g l = record {

@@ -7,7 +7,7 @@ use Rattle.std.proofs.lemmas.List.{drop-drop, take_all, take-append-drop}
 use Rattle.tiny_http_device.specs.Device.{Feed, ReadsFrom, Fills, FilledTo, GatheredTo}
 use Rattle.tiny_http_device.specs.declared.device.Stop.TheVariants.{End, Fault}
 use Rattle.std.specs.declared.io.ErrorKind.TheVariants.{OutOfMemory}
-use Rattle.tiny_http_wire.proofs.DeviceCopies.{front_was_read}
+use Rattle.tiny_http_encoding.proofs.DeviceCopies.{front_was_read}
 
 -- more of a buffer was filled
 pub FilledTo-more : (o p q : Option Feed) (at n : ℕ) (was buf : List ℕ) → at ≤ length was → length buf ≡ length was → at + n ≤ length was → take at buf ≡ take at was → FilledTo o p at was → ReadsFrom p q (Ok n) (drop at buf) → FilledTo o q (at + n) buf

@@ -1,4 +1,4 @@
-//! The data of an answer, read whole.
+//! Data that are read a buffer at a time, or whole.
 ghost use Rattle.std.specs.Prelude.{◌≡◌, ◌<◌, ◌≤◌, ◌+◌, ◌^◌, length, drop, take, IfOk, IfSome};
 ghost use Rattle.tiny_http_device.specs.Device.{Fills, ReadsFrom, Gathers};
 
@@ -7,7 +7,7 @@ use std::io;
 use std::io::ErrorKind;
 use tiny_http_device::device::{ReadDevice, read_some};
 
-/// How many bytes of an answer's data are read at a time, at most.
+/// How many bytes of the data are read at a time, at most.
 pub(crate) const PIECE: usize = 8192;
 
 // Reads into the buffer from `at` on.
@@ -20,8 +20,8 @@ fn read_behind<D: ReadDevice>(source: &mut D, buf: &mut [u8], at: usize) -> Resu
     read_some(source, &mut buf[at..])
 }
 
-// Reads until the buffer is full or the data ends, and says how many bytes there are.
-fn fill<D: ReadDevice>(source: &mut D, buf: &mut [u8]) -> Result<usize, io::Error>
+/// Reads until the buffer is full or the data end, and says how many bytes there are.
+pub(crate) fn fill<D: ReadDevice>(source: &mut D, buf: &mut [u8]) -> Result<usize, io::Error>
     ensures bound { IfOk result (λ n. n ≤ length buf.old) }
     ensures bytes { Fills (D.feed source.old) (D.feed source.new) result buf.new }
 {
@@ -36,8 +36,8 @@ fn fill<D: ReadDevice>(source: &mut D, buf: &mut [u8]) -> Result<usize, io::Erro
     Ok(at)
 }
 
-/// Reads all the data. Its fault is reported, and lack of memory as OutOfMemory.
-pub(crate) fn gather<D: ReadDevice>(alloc: Global, source: &mut D) -> Result<Vec<u8>, io::Error>
+/// Reads all the data into memory. Its fault is reported, and lack of memory as OutOfMemory.
+pub fn gather<D: ReadDevice>(alloc: Global, source: &mut D) -> Result<Vec<u8>, io::Error>
     ensures { IfSome (D.feed source.old) (λ feed. length feed.bytes < 2 ^ 63 → Gathers (λ v. v.items) feed result) }
 {
     let mut all = Vec::new(alloc);

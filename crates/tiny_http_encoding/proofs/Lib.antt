@@ -1,0 +1,3 @@
+pub mod DeviceCopies
+pub mod DeviceGathers
+pub mod DeviceFaults

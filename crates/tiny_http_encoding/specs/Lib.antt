@@ -1,0 +1,3 @@
+pub mod Text
+pub mod ChunkedPrinting
+pub use Rattle.tiny_http_device.specs.Device
