@@ -2,5 +2,7 @@
 //! `tiny_http_device` and `tiny_http_text`; `tiny_http_wire` names `encoder` again.
 #![tactic(auto)]
 
+pub mod chunks;
+pub mod encoder;
 pub mod gather;
 pub mod identity;
