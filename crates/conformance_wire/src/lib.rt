@@ -17,6 +17,8 @@ mod grammar;
 #[cfg(test)]
 mod header_value;
 #[cfg(test)]
+mod number;
+#[cfg(test)]
 mod response;
 #[cfg(test)]
 mod same;

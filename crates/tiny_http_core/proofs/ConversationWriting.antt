@@ -3,7 +3,7 @@ use Rattle.std.proofs.Common.{◌≡◌, refl, sym, ap, ◌∙◌, subst, ℕ, �
 use Rattle.std.specs.Prelude.{MatchBool, is_some, unwrap_or, option_map, if◌then◌else◌}
 use Rattle.std.specs.declared.io.ErrorKind.{ErrorKind}
 use Rattle.tiny_http_wire.specs.Device.{IsFront}
-use Rattle.tiny_http_wire.specs.Answer.{Text}
+use Rattle.tiny_http_encoding.specs.Text.{Text}
 use Rattle.tiny_http_core.specs.Slots.{Slot, joined}
 use Rattle.tiny_http_core.specs.Steps.{ReplyValue, Done, WriterUse, Unreported, Reported, fault_in, fault_of_answer}
 use Rattle.tiny_http_core.specs.Conversation.{Failure, State, has_output_ended, finished_front, Fares, Well, FailsWithin, FailsAfter, MayFare, reply_in, failure_in, WriterPart}

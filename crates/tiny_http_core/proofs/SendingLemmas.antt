@@ -8,7 +8,8 @@ use Rattle.std.specs.declared.io.ErrorKind.TheVariants.{OutOfMemory}
 use Rattle.std.specs.Io.KnownBytes.{append_known}
 use Rattle.std.proofs.lemmas.Bool.{ne_eqb, leb-false}
 use Rattle.tiny_http_wire.specs.Device.{Feed, Sink, IsFront, BeginsKnown, IsKnownFront, IsAllKnown, HoldsNothing, grown, StatesKind, Took, Failed, Puts, next_count, fault_of, CountsFaults}
-use Rattle.tiny_http_wire.specs.Answer.{Answer, Text, Whole, Broken, Printing, Prints, PrintsAnswer, text_of, answer_coding, with_coding, chunked_body, chunked_until, nothing_sent, gathered_body, body_unless_withheld, identity_body, as_it_is, is_withheld}
+use Rattle.tiny_http_wire.specs.Answer.{Answer, Printing, PrintsAnswer, text_of, answer_coding, with_coding, gathered_body, body_unless_withheld, as_it_is, is_withheld}
+use Rattle.tiny_http_encoding.specs.Text.{Text, Whole, Broken, Prints, nothing_sent, identity_body, chunked_body, chunked_until}
 use Rattle.tiny_http_device.proofs.DeviceLemmas.{IsFront-same, IsFront-append}
 use Rattle.tiny_http_stream.specs.Outlet.{holding, EndsOutlet}
 use Rattle.httpdate.specs.declared.date.HttpDate.{HttpDate}

@@ -9,7 +9,8 @@ use Rattle.tiny_http_wire.specs.declared.device.Stop.TheVariants.{Fault}
 use Rattle.tiny_http_wire.specs.Device.{Feed, Sink, IsFront, BeginsKnown, HoldsNothing, IsKnownFront, StatesKind, next_count, fault_of}
 use Rattle.tiny_http_wire.specs.declared.coding.Coding.{Coding}
 use Rattle.tiny_http_wire.specs.declared.coding.Coding.TheVariants.{Identity, Chunked}
-use Rattle.tiny_http_wire.specs.Answer.{Answer, Text, Whole, Broken, Printing, text_of, nothing_sent}
+use Rattle.tiny_http_wire.specs.Answer.{Answer, Printing, text_of}
+use Rattle.tiny_http_encoding.specs.Text.{Text, Whole, Broken, nothing_sent}
 use Rattle.tiny_http_core.specs.Slots.{IsGathered}
 
 -- the writer takes bytes, and its count can rise

@@ -8,7 +8,7 @@ use Rattle.tiny_http_wire.specs.declared.device.Stop.{Stop}
 use Rattle.tiny_http_wire.specs.declared.device.Stop.TheVariants.{End, Fault as Faults}
 use Rattle.tiny_http_wire.specs.Bytes.{is_ascii}
 use Rattle.tiny_http_wire.specs.Heads.{Message}
-use Rattle.tiny_http_wire.specs.Answer.{Ending, Whole, Broken}
+use Rattle.tiny_http_encoding.specs.Text.{Ending, Whole, Broken}
 use Rattle.tiny_http_message.specs.declared.framing.Framing.{Framing}
 use Rattle.tiny_http_message.specs.Pipeline.{Item, Asks, Refuses, Request}
 use Rattle.tiny_http_message.specs.ResponseValue.{ResponseValue}

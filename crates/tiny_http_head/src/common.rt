@@ -9,7 +9,6 @@ ghost use Rattle.tiny_http_head.specs.Number.{code_of};
 ghost use Rattle.tiny_http_head.specs.Heads.{method_of};
 ghost use Rattle.tiny_http_head.specs.HeadReading.{header_line};
 
-use itoa::Buffer;
 use std::alloc::{AllocError, Global};
 use std::cmp::Ordering;
 use std::fmt;
@@ -18,6 +17,7 @@ use thiserror::Error;
 use tiny_http_text::ascii::{AsciiStr, AsciiString, FromAsciiError};
 use tiny_http_text::bytes::{cut, has_no_blank, is, are_ascii, trim};
 use tiny_http_text::copies::owned;
+use tiny_http_text::number::Numeral;
 
 /// Why a text isn't read.
 #[derive(Clone, Copy, Debug, PartialEq, Eq, Error)]
@@ -235,10 +235,9 @@ impl fmt::Display for HTTPVersion {
 
     /// Writes `major.minor`, in decimal. Width and the like change nothing.
     fn fmt<W: fmt::Write>(&self, f: &mut fmt::Formatter<W>) -> fmt::Result {
-        let mut digits = Buffer::new();
-        f.write_str(digits.format(self.0))?;
+        f.write_str(Numeral::decimal(self.0.into()).as_str())?;
         f.write_str(".")?;
-        f.write_str(digits.format(self.1))
+        f.write_str(Numeral::decimal(self.1.into()).as_str())
     }
 }
 

@@ -12,10 +12,11 @@ use Rattle.tiny_http_wire.specs.declared.coding.Coding.{Coding}
 use Rattle.tiny_http_wire.specs.declared.coding.Coding.TheVariants.{Identity, Chunked}
 use Rattle.tiny_http_wire.specs.declared.coding.FramingHeader.{FramingHeader}
 use Rattle.tiny_http_wire.specs.declared.coding.FramingHeader.TheVariants.{ContentLength, TransferEncoding}
-use Rattle.tiny_http_wire.specs.Chunked.{full_chunks, left_over}
+use Rattle.tiny_http_encoding.specs.ChunkedPrinting.{full_chunks, left_over}
 use Rattle.tiny_http_wire.specs.Common.{reason_phrase}
 use Rattle.tiny_http_wire.specs.Device.{Sink, Failed, ending}
-use Rattle.tiny_http_wire.specs.Answer.{Answer, Printing, answer_with, answer_coding, with_coding, chunked_body, Ending, Whole, Broken, PrintsAnswer, text_of, body_unless_withheld, identity_body, is_withheld, answer_head_text, status_line, field_line, upgrade_lines, server_line, date_line, framing_line}
+use Rattle.tiny_http_encoding.specs.Text.{Ending, Whole, Broken, identity_body, chunked_body}
+use Rattle.tiny_http_wire.specs.Answer.{Answer, Printing, answer_with, answer_coding, with_coding, PrintsAnswer, text_of, body_unless_withheld, is_withheld, answer_head_text, status_line, field_line, upgrade_lines, server_line, date_line, framing_line}
 use Rattle.tiny_http_message.specs.ResponseValue.{printing_to}
 use Rattle.tiny_http_message.specs.OwnAnswer.{own_text_by}
 

@@ -5,7 +5,8 @@ use Rattle.tiny_http_wire.specs.declared.common.HTTPVersion.{HTTPVersion}
 use Rattle.tiny_http_wire.specs.declared.common.Header.{Header}
 use Rattle.tiny_http_wire.specs.declared.coding.Coding.{Coding}
 use Rattle.tiny_http_wire.specs.Device.{Feed, ending}
-use Rattle.tiny_http_wire.specs.Answer.{Answer, Text, Printing, answer_with, text_of}
+use Rattle.tiny_http_encoding.specs.Text.{Text}
+use Rattle.tiny_http_wire.specs.Answer.{Answer, Printing, answer_with, text_of}
 
 -- a response: the answer, and what its data give
 pub record ResponseValue : Type 0 where

@@ -3,3 +3,4 @@ pub mod BytesTrimming
 pub mod QualityReadingLemmas
 pub mod QualitiesLemmas
 pub mod LinesLemmas
+pub mod NumberLemmas

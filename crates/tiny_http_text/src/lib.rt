@@ -7,4 +7,5 @@ pub mod bytes;
 pub mod copies;
 pub mod header_value;
 pub mod laws;
+pub mod number;
 pub mod text;

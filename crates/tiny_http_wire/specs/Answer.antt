@@ -1,7 +1,6 @@
 -- Answers, and the text that is sent for one (RFC 9112, sections 4, 5 and 6).
-use Rattle.std.specs.Prelude.{◌≡◌, ℕ, Bool, ◌&&◌, ◌||◌, List, [], ◌++◌, length, take, Option, Some, None, Result, Ok, Err, codes, decimal, nat_lt, nat_le, ◌==◌, if◌then◌else◌, ◌⊎◌}
+use Rattle.std.specs.Prelude.{◌≡◌, ℕ, Bool, ◌||◌, ◌&&◌, List, [], ◌++◌, length, Option, Some, None, Result, codes, decimal, nat_lt, nat_le, ◌==◌, if◌then◌else◌, ◌⊎◌}
 use Rattle.std.specs.List.{flat_map, list_any, list_all}
-use Rattle.std.specs.IoError.{error_kind}
 use Rattle.std.specs.declared.io.Error.{Error}
 use Rattle.std.specs.declared.io.ErrorKind.{ErrorKind}
 use Rattle.std.specs.declared.io.ErrorKind.TheVariants.{InvalidInput, OutOfMemory}
@@ -14,10 +13,10 @@ use Rattle.tiny_http_coding.specs.declared.coding.Coding.TheVariants.{Identity, 
 use Rattle.tiny_http_coding.specs.declared.coding.FramingHeader.{FramingHeader}
 use Rattle.tiny_http_coding.specs.declared.coding.FramingHeader.TheVariants.{Neither, TransferEncoding, ContentLength}
 use Rattle.tiny_http_head.specs.Common.{version_text, same_name, reason_phrase}
-use Rattle.tiny_http_device.specs.Device.{Feed, fault_of, Sink, Took, Failed}
+use Rattle.tiny_http_device.specs.Device.{Feed, Sink}
 use Rattle.tiny_http_device.specs.declared.device.Stop.{Stop}
 use Rattle.tiny_http_device.specs.declared.device.Stop.TheVariants.{End, Fault}
-use Rattle.tiny_http_wire.specs.Chunked.{full_chunks, chunked}
+use Rattle.tiny_http_encoding.specs.Text.{Text, prepend_text, whole, nothing_sent, identity_body, chunked_body, Prints}
 
 -- an answer without its data
 pub record Answer : Type 0 where
@@ -33,16 +32,6 @@ answer_with status headers length = record { status = status; headers = headers;
 -- the header of a plain text
 unfoldable pub text_plain : Header
 text_plain = record { field = codes "Content-Type"; value = codes "text/plain; charset=UTF-8" }
-
--- how a text ends: whole, or broken off by a fault
-pub data Ending : Type 0 where
-  Whole : Ending
-  Broken : ErrorKind → Ending
-
--- bytes to send, and how they end
-pub record Text : Type 0 where
-  pub bytes : List ℕ
-  pub ending : Ending
 
 -- some header of the list has this name
 abbrev pub has_header : List Header → List ℕ → Bool
@@ -93,29 +82,6 @@ answer_head_text version status upgrade headers date framing =
 abbrev pub is_withheld : Bool → ℕ → Bool
 is_withheld asked status = asked || ((nat_le 100 status && nat_lt status 200) || ((status == 204) || (status == 304)))
 
--- a text after another
-abbrev pub prepend_text : List ℕ → Text → Text
-prepend_text front text = record { bytes = front ++ text.bytes; ending = text.ending }
-
-abbrev pub whole : List ℕ → Text
-whole bytes = record { bytes = bytes; ending = Whole }
-
--- a body that is sent as it is, cut at its length (RFC 9112, section 6.2): whole if there are so many bytes
-abbrev pub identity_body : ℕ → Feed → Text
-identity_body n feed = record { bytes = take n feed.bytes; ending = if nat_le n (length feed.bytes) then Whole else Broken (fault_of feed.stop) }
-
--- a body that is sent in chunks, up to its last full one where its data fails
-abbrev pub chunked_until : Stop → List ℕ → Text
-chunked_until End bytes = whole (chunked bytes)
-chunked_until (Fault kind) bytes = record { bytes = full_chunks bytes; ending = Broken kind }
-
-abbrev pub chunked_body : Feed → Text
-chunked_body feed = chunked_until feed.stop feed.bytes
-
--- no byte is sent, and this fault reported
-abbrev pub nothing_sent : ErrorKind → Text
-nothing_sent kind = record { bytes = []; ending = Broken kind }
-
 -- how an answer is asked for
 pub record Printing : Type 0 where
   pub version : HTTPVersion
@@ -162,12 +128,6 @@ with_upgrade None a feed p = with_coding (answer_coding a p) a.length (head_text
 -- the text of an answer with this data
 unfoldable pub text_of : Answer → Feed → Printing → Text
 text_of a feed p = with_upgrade p.upgrade a feed p
-
--- What a call that prints a text comes to: all of it is written, or all up to where it breaks off, with
--- its fault as the answer, or the writer failed within it.
-abbrev pub Prints : {T : Type 0} → Sink → Sink → Result T Error → Text → Type 0
-Prints old new (Ok x) text = (text.ending ≡ Whole) × Took old new text.bytes
-Prints old new (Err e) text = ((text.ending ≡ Broken (error_kind e)) × Took old new text.bytes) ⊎ Failed old new text.bytes (error_kind e)
 
 -- A call that prints an answer without a coding prints its text; or finds no memory to gather data of unknown length:
 -- then nothing is sent.

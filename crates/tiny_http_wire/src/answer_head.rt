@@ -8,10 +8,10 @@ ghost use Rattle.tiny_http_wire.specs.Answer.{has_header, status_line, field_lin
 
 use crate::coding::FramingHeader;
 use httpdate::HttpDate;
-use itoa::Buffer;
 use std::io;
 use tiny_http_device::device::{WriteDevice, put, put_all};
 use tiny_http_head::common::{HTTPVersion, Header, StatusCode};
+use tiny_http_text::number::Numeral;
 
 /// What the head of an answer is made of, beside how it says the length of the body.
 #[derive(Clone, Copy)]
@@ -38,15 +38,21 @@ fn put_status_line<W: WriteDevice>(
 ) -> Result<(), io::Error>
     ensures { Puts (W.sink writer.old) (W.sink writer.new) result (status_line version status.0) }
 {
-    let (mut major, mut minor, mut code) = (Buffer::new(), Buffer::new(), Buffer::new());
-    let major = major.format(version.0).as_bytes();
-    let minor = minor.format(version.1).as_bytes();
-    let code = code.format(status.0).as_bytes();
-    let phrase = status.default_reason_phrase().as_bytes();
+    let major = Numeral::decimal(version.0.into());
+    let minor = Numeral::decimal(version.1.into());
+    let code = Numeral::decimal(status.0.into());
     put_all(
         writer,
         &[
-            b"HTTP/", major, b".", minor, b" ", code, b" ", phrase, b"\r\n",
+            b"HTTP/",
+            major.as_bytes(),
+            b".",
+            minor.as_bytes(),
+            b" ",
+            code.as_bytes(),
+            b" ",
+            status.default_reason_phrase().as_bytes(),
+            b"\r\n",
         ],
     )
 }
@@ -132,9 +138,11 @@ fn put_date<W: WriteDevice>(
 fn put_length<W: WriteDevice>(writer: &mut W, n: usize) -> Result<(), io::Error>
     ensures { Puts (W.sink writer.old) (W.sink writer.new) result (length_line n) }
 {
-    let mut digits = Buffer::new();
-    let digits = digits.format(n).as_bytes();
-    put_all(writer, &[b"Content-Length: ", digits, b"\r\n"])
+    let digits = Numeral::decimal(n as u64);
+    put_all(
+        writer,
+        &[b"Content-Length: ", digits.as_bytes(), b"\r\n"],
+    )
 }
 
 // The line that frames the body, if there is one.

@@ -1,16 +1,16 @@
 //! The wire layer of a small HTTP server (HTTP/1.x, RFC 9110 and RFC 9112): chunked bodies, and how answers are printed.
-//! It stands on `tiny_http_device`, `tiny_http_text`, `tiny_http_head` and `tiny_http_coding`, and names their modules again.
+//! It stands on `tiny_http_device`, `tiny_http_text`, `tiny_http_head`, `tiny_http_encoding` and `tiny_http_coding`, and names
+//! their modules again.
 #![tactic(auto)]
 
-mod answer_body;
 mod answer_head;
 pub mod chunked;
-mod gather;
 pub mod laws;
 pub mod answer_form;
 pub mod response;
 
 pub use tiny_http_coding::coding;
 pub use tiny_http_device::device;
+pub use tiny_http_encoding::encoder;
 pub use tiny_http_head::{common, grammar};
-pub use tiny_http_text::{ascii, header_value};
+pub use tiny_http_text::{ascii, header_value, number};

@@ -1,23 +1,23 @@
 //! Answers to requests, and how they are printed.
 ghost use Rattle.std.specs.Prelude.{◌≡◌, Option, Some, None, IfSome, if◌then◌else◌, ◌∷◌, IfOk, vec_len, string_len, string_bytes, [], ◌<◌, ◌^◌, ◌++◌, length};
 ghost use Rattle.std.specs.Option.{option_copied};
-ghost use Rattle.tiny_http_wire.specs.Answer.{Answer, ResponseState, Prints, prepend_text, whole, identity_body, is_withheld, is_ascii_text, PrintsGathered, PrintsUncoded, PrintsAnswer, as_it_is, nothing_sent, text_plain, answer_with};
+ghost use Rattle.tiny_http_wire.specs.Answer.{Answer, ResponseState, is_withheld, is_ascii_text, PrintsGathered, PrintsUncoded, PrintsAnswer, as_it_is, text_plain, answer_with};
+ghost use Rattle.tiny_http_encoding.specs.Text.{Prints, prepend_text, whole, identity_body, nothing_sent};
 ghost use Rattle.tiny_http_device.specs.Cursor.{cursor_bytes};
 ghost use Rattle.tiny_http_wire.specs.Top.{top_text};
 ghost use Rattle.tiny_http_coding.specs.Coding.{coding_asked};
 ghost use Rattle.tiny_http_device.specs.Device.{Puts, CountsFaults};
 
-use crate::answer_body::put_exactly;
 use crate::answer_form::AnswerForm;
 use crate::answer_head::{Top, put_head};
-use tiny_http_coding::coding::{FramingHeader, asked_coding};
-use crate::gather::gather;
 use httpdate::HttpDate;
 use std::alloc::{AllocError, Global};
 use std::io;
 use std::io::{Cursor, ErrorKind};
 use std::marker::Model;
 use tiny_http_device::device::{ReadDevice, WriteDevice, put};
+use tiny_http_encoding::gather::gather;
+use tiny_http_encoding::identity::put_exactly;
 use tiny_http_head::common::{HTTPVersion, Header, HeaderField, StatusCode};
 use tiny_http_text::copies::owned;
 

@@ -3,4 +3,4 @@ use Rattle.tiny_http_wire.proofs.answer_head.put_length.Goals as goal
 
 pub returns : goal.returns
 unfolding field_line
-returns g c = rw (← c.format.ensures.text, ← c.as_bytes-digits.ensures.value) c.put_all.ensures
+returns g c = rw (← c.decimal-digits.ensures, ← c.as_bytes.ensures.value) c.put_all.ensures

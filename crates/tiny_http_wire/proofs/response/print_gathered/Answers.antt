@@ -2,8 +2,8 @@ use Rattle.std.proofs.Common.{None, length, inl}
 use Rattle.std.proofs.lemmas.Result.{err_from_is_err_and}
 use Rattle.tiny_http_wire.specs.Top.{top_text}
 use Rattle.tiny_http_coding.specs.declared.coding.FramingHeader.TheVariants.{ContentLength}
-use Rattle.tiny_http_wire.proofs.DeviceFaults.{SameFaults-none, Puts-uses}
-use Rattle.tiny_http_wire.proofs.DeviceCopies.{Gathered-fault, Gathered-printed}
+use Rattle.tiny_http_encoding.proofs.DeviceFaults.{SameFaults-none, Puts-uses}
+use Rattle.tiny_http_wire.proofs.AnswerLemmas.{Gathered-fault, Gathered-printed}
 use Rattle.tiny_http_wire.proofs.response.print_gathered.Goals as goal
 
 pub returns-in_err-bytes-clause-text : goal.returns-in_err-bytes-clause-text

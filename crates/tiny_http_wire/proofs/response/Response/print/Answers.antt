@@ -1,5 +1,5 @@
 use Rattle.tiny_http_wire.specs.Answer.{Answer}
-use Rattle.tiny_http_wire.proofs.DeviceFaults.{Prints-uses}
+use Rattle.tiny_http_encoding.proofs.DeviceFaults.{Prints-uses}
 use Rattle.tiny_http_wire.proofs.AnswerLemmas.{Answered-upgrade, Answered-uncoded}
 use Rattle.tiny_http_wire.proofs.response.Response.print.Goals as goal
 

@@ -1,0 +1,4 @@
+pub mod Text
+pub mod ChunkedPrinting
+pub mod Encoder
+pub use Rattle.tiny_http_device.specs.Device

@@ -1,0 +1,93 @@
+//! Numbers as texts, written without memory.
+ghost use Rattle.std.specs.Prelude.{◌≡◌, ◌<◌, ◌≤◌, false, decimal, IsAscii};
+ghost use Rattle.std.specs.Fmt.{digits, digit_glyph};
+
+use std::marker::Model;
+
+// How many digits the greatest number has in base 10. Greater bases need fewer.
+const MOST_DIGITS: usize = 20;
+
+/// The digits of a number, in a small buffer of its own. A contract sees it as the list of the digits.
+#[derive(Drop)]
+pub struct Numeral {
+    buffer: [u8; 20],
+    start: usize,
+}
+
+impl Model for Numeral {
+    ghost use Rattle.std.specs.Prelude.{ℕ, List, ◌<◌, drop};
+    ghost use Rattle.std.specs.Str.{IsAscii};
+
+    ghost Value = { List ℕ };
+
+    ghost view = { λ n. drop n.start n.buffer };
+
+    ghost invariant = { λ n. (n.start < 20) × IsAscii (drop n.start n.buffer) };
+}
+
+// The digit of a value, in lower case.
+#[inline(always)]
+fn glyph(value: u8) -> u8
+    requires { value < 16 }
+    ensures value { result ≡ digit_glyph false value }
+    ensures ascii { result < 128 }
+{
+    if value < 10 {
+        b'0' + value
+    } else {
+        b'a' + (value - 10)
+    }
+}
+
+impl Numeral {
+    /// The number in base 10, without leading zeros: 1 to 20 digits.
+    pub fn decimal(number: u64) -> Numeral
+        ensures { result ≡ decimal number }
+    {
+        Numeral::in_base(number, 10)
+    }
+
+    /// The number in base 16, in lower case and without leading zeros: 1 to 16 digits.
+    pub fn hexadecimal(number: u64) -> Numeral
+        ensures { result ≡ digits 16 false number }
+    {
+        Numeral::in_base(number, 16)
+    }
+
+    /// The digits, the highest first.
+    pub fn as_bytes(&self) -> &[u8]
+        ensures value { result.now ≡ self.now }
+        ensures ascii { IsAscii self.now }
+    {
+        &self.buffer[self.start..]
+    }
+
+    /// The digits as a text.
+    pub fn as_str(&self) -> &str
+        ensures { result.now ≡ self.now }
+    {
+        match str::from_utf8(self.as_bytes()) {
+            Ok(text) => text,
+            Err(_) => unreachable!(),
+        }
+    }
+
+    // The number in the base. It is inlined, so that the base is a constant where it divides.
+    #[inline(always)]
+    fn in_base(number: u64, base: u64) -> Numeral
+        requires low { 10 ≤ base }
+        requires high { base ≤ 16 }
+        ensures { result ≡ digits base false number }
+    {
+        let mut buffer = [0u8; MOST_DIGITS];
+        let mut start = MOST_DIGITS - 1;
+        let mut rest = number;
+        while rest >= base {
+            buffer[start] = glyph((rest % base) as u8);
+            rest /= base;
+            start -= 1;
+        }
+        buffer[start] = glyph(rest as u8);
+        Numeral { buffer, start }
+    }
+}
