@@ -2,6 +2,7 @@
 //! It stands on `tiny_http_device`, `tiny_http_text` and `tiny_http_head`, and names their modules again.
 #![tactic(auto)]
 
+mod add_header;
 mod answer_body;
 mod answer_head;
 pub mod chunked;

@@ -1,0 +1,65 @@
+//! Headers that are added to an answer (RFC 9110, sections 7.6.1, 7.8 and 8.3; RFC 9112, section 6).
+ghost use Rattle.std.specs.Prelude.{◌≡◌, ◌≤◌, ◌<◌, ◌+◌, ℕ, List, [], ◌∷◌, length, take, drop};
+ghost use Rattle.tiny_http_wire.specs.Answer.{has_header};
+ghost use Rattle.tiny_http_wire.specs.AddHeader.{is_reserved, with_value};
+ghost use Rattle.tiny_http_wire.specs.HeaderPlace.{place_of};
+
+use crate::answer_head::has_header;
+use std::mem;
+use tiny_http_head::common::{Header, HeaderField};
+use tiny_http_head::grammar::parse_content_length;
+use tiny_http_text::ascii::AsciiString;
+
+/// Where a header goes that is added to an answer.
+#[derive(Clone, Copy)]
+pub(crate) enum Place {
+    /// It is left out.
+    Nowhere,
+    /// It is the length of the data, in bytes.
+    Length(usize),
+    /// Its value replaces that of the `Content-Type`.
+    ContentType,
+    /// Behind the others.
+    Last,
+}
+
+// Whether a header of this name is never added.
+fn is_reserved(name: &HeaderField) -> bool
+    ensures { result ≡ is_reserved name.now }
+{
+    name.equiv("Connection")
+        || name.equiv("Trailer")
+        || name.equiv("Transfer-Encoding")
+        || name.equiv("Upgrade")
+}
+
+/// Where a header goes beside these.
+pub(crate) fn place_of(header: &Header, headers: &[Header]) -> Place
+    ensures { result ≡ place_of header.now headers.now }
+{
+    if is_reserved(&header.field) {
+        return Place::Nowhere;
+    }
+    if header.field.equiv("Content-Length") {
+        return match parse_content_length(header.value.as_str()) {
+            Some(length) => Place::Length(length),
+            None => Place::Nowhere,
+        };
+    }
+    if header.field.equiv("Content-Type") && has_header(headers, "Content-Type") {
+        return Place::ContentType;
+    }
+    Place::Last
+}
+
+/// Puts a value into the first header of this name, and gives its old value for it.
+pub(crate) fn replace_value(headers: &mut [Header], name: &str, value: &mut AsciiString)
+    ensures { headers.new ≡ with_value name.now value.old headers.old }
+{
+    for header in headers.iter_mut() {
+        if header.field.equiv(name) {
+            mem::swap(&mut header.value, value);
+            return;
+        }
+    }
+}
