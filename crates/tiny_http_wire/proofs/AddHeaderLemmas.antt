@@ -1,9 +1,15 @@
 -- Headers that are added to an answer.
-use Rattle.std.proofs.Common.{◌≡◌, ℕ, ◌<◌, ◌+◌, List, ◌∷◌, ◌++◌, length, take, drop, get_or, set, true, sym, ap, ◌∙◌, drop-cons, add-one}
+use Rattle.std.proofs.Common.{◌≡◌, ℕ, ◌<◌, ◌+◌, Bool, true, false, Option, Some, None, List, [], ◌∷◌, ◌++◌, length, take, drop, get_or, set, refl, sym, ap, ◌∙◌, drop-cons, add-one, codes, if◌then◌else◌}
+use Rattle.std.proofs.Math.Seq.{take-append_seam}
 use Rattle.std.proofs.lemmas.List.{set_split}
 use Rattle.tiny_http_head.specs.declared.common.Header.{Header}
 use Rattle.tiny_http_head.specs.Common.{same_name}
-use Rattle.tiny_http_wire.specs.AddHeader.{with_value}
+use Rattle.tiny_http_head.specs.Heads.{length_in}
+use Rattle.tiny_http_wire.specs.Answer.{Answer}
+use Rattle.tiny_http_wire.specs.AddHeader.{is_reserved, is_second_type, is_put_last, with_value, with_length, add_header}
+use Rattle.tiny_http_wire.specs.HeaderPlace.{place_of_length, place_of, placed}
+use Rattle.tiny_http_wire.specs.declared.add_header.Place.{Place}
+use Rattle.tiny_http_wire.specs.declared.add_header.Place.TheVariants.{Nowhere, Length, ContentType, Last}
 
 with_value-here : (name value : List ℕ) (xs : List Header) (i : ℕ) (d : Header) → i < length xs → same_name (get_or xs i d).field name ≡ true → with_value name value (drop i xs) ≡ (record (get_or xs i d) { value = value }) ∷ drop (i + 1) xs
 with_value-here name value xs i d l t = ap (with_value name value) (drop-cons xs i d l) ∙ rw t (ap (λ (k : ℕ). (record (get_or xs i d) { value = value }) ∷ drop k xs) (sym (add-one i)))
@@ -12,3 +18,37 @@ with_value-here name value xs i d l t = ap (with_value name value) (drop-cons xs
 pub with_value-set : (name value : List ℕ) (now : List Header) (i : ℕ) (x : Header) → i < length now → with_value name value now ≡ take i now ++ with_value name value (drop i now) → same_name (get_or now i x).field name ≡ true → set now i (record (get_or now i x) { value = value }) ≡ with_value name value now
 with_value-set name value now i x l passed t =
     set_split now i (record (get_or now i x) { value = value }) l ∙ ap (λ (k : ℕ). take i now ++ ((record (get_or now i x) { value = value }) ∷ drop k now)) (sym (add-one i)) ∙ ap (λ (y : List Header). take i now ++ y) (sym (with_value-here name value now i x l t)) ∙ sym passed
+
+-- ---- where a header goes
+
+length-placed : (n : Option ℕ) (h : Header) (a : Answer) → placed (place_of_length n) h a ≡ with_length n a
+length-placed None h a = refl
+length-placed (Some n) h a = refl
+
+placed-cases : (r l t : Bool) (n : Option ℕ) (h : Header) (a : Answer) → placed (if r then Nowhere else if l then place_of_length n else if t then ContentType else Last) h a ≡ (if r then a else if l then with_length n a else record a { headers = if t then with_value (codes "Content-Type") h.value a.headers else a.headers ++ h ∷ [] })
+placed-cases true l t n h a = refl
+placed-cases false true t n h a = length-placed n h a
+placed-cases false false true n h a = refl
+placed-cases false false false n h a = refl
+
+-- the place that was found gives the answer with the header added
+pub placed-is : (p : Place) (h : Header) (a : Answer) → p ≡ place_of h a.headers → placed p h a ≡ add_header h a
+placed-is p h a e = ap (λ (q : Place). placed q h a) e ∙ placed-cases (is_reserved h.field) (same_name h.field (codes "Content-Length")) (is_second_type h a.headers) (length_in h.value) h a
+
+length-not_last : (n : Option ℕ) → Last ≡ place_of_length n → ⊥
+length-not_last None e = cc
+length-not_last (Some n) e = cc
+
+last-cases : (r l t : Bool) (n : Option ℕ) → Last ≡ (if r then Nowhere else if l then place_of_length n else if t then ContentType else Last) → (if r then false else if l then false else if t then false else true) ≡ true
+last-cases true l t n e = cc
+last-cases false true t n e = absurd (length-not_last n e)
+last-cases false false true n e = cc
+last-cases false false false n e = refl
+
+-- the last place is that of a header that is put last
+pub last-is : (p : Place) (h : Header) (hs : List Header) → p ≡ Last → p ≡ place_of h hs → is_put_last h hs ≡ true
+last-is p h hs last e = last-cases (is_reserved h.field) (same_name h.field (codes "Content-Length")) (is_second_type h hs) (length_in h.value) (sym last ∙ e)
+
+-- a list that was lent whole, as it is written back
+pub written_back : (n : ℕ) (new old : List Header) → length new ≡ n → take n (new ++ drop (length new) old) ≡ new
+written_back n new old e = rw (← e) (take-append_seam new (drop (length new) old))

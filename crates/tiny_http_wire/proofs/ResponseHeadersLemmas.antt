@@ -1,5 +1,5 @@
 -- The law of an answer's headers, kept by each header that is added.
-use Rattle.std.proofs.Common.{◌≡◌, ℕ, ◌+◌, ◌≤◌, Bool, true, false, ◌&&◌, ◌||◌, List, [], ◌∷◌, ◌++◌, Option, Some, None, refl, sym, ap, ◌∙◌, arith, codes, cond, if◌then◌else◌}
+use Rattle.std.proofs.Common.{◌≡◌, ℕ, ◌+◌, ◌≤◌, Bool, true, false, ◌&&◌, ◌||◌, List, [], ◌∷◌, ◌++◌, Option, Some, None, Result, Ok, Err, OnOk, IfErr, refl, sym, subst, ap, ◌∙◌, arith, codes, cond, if◌then◌else◌}
 use Rattle.std.specs.List.{list_any, count_by, sum_by}
 use Rattle.std.proofs.lemmas.List.Folds.{list_any-append}
 use Rattle.std.proofs.lemmas.List.Sums.{sum_by-cons, sum_by_push}
@@ -8,6 +8,7 @@ use Rattle.tiny_http_head.specs.Common.{same_name}
 use Rattle.tiny_http_head.specs.Heads.{length_in}
 use Rattle.tiny_http_wire.specs.Answer.{Answer, has_header}
 use Rattle.tiny_http_wire.specs.AddHeader.{is_reserved, is_second_type, with_value, with_length, headers_with, add_header, with_headers}
+use Rattle.tiny_http_wire.specs.HeaderPlace.{answer_of, Adds}
 use Rattle.tiny_http_wire.specs.ResponseHeaders.{count_named, HasNone, IsResponseHeaders}
 
 -- ---- a value that is replaced leaves the names
@@ -117,3 +118,13 @@ IsResponseHeaders-add h a law = add-cases (is_reserved h.field) (same_name h.fie
 pub IsResponseHeaders-added : (hs : List Header) (a : Answer) → IsResponseHeaders a.headers → IsResponseHeaders (with_headers hs a).headers
 IsResponseHeaders-added [] a law = law
 IsResponseHeaders-added (h ∷ hs) a law = IsResponseHeaders-added hs (add_header h a) (IsResponseHeaders-add h a law)
+
+pub IsResponseHeaders-Adds : (h : Header) (headers more : List Header) (length known : Option ℕ) → Adds h headers length more known → IsResponseHeaders headers → IsResponseHeaders more
+IsResponseHeaders-Adds h headers more length known adds law =
+    let start : Answer = answer_of 0 0 headers length in
+    subst IsResponseHeaders (sym (ap (λ (a : Answer). a.headers) (adds 0 0))) (IsResponseHeaders-add h start law)
+
+-- a call that adds a header, or leaves the list as it was
+pub IsResponseHeaders-tried : {T : Type 0} (r : Result T Header) (h : Header) (headers more : List Header) (length known : Option ℕ) → OnOk r (Adds h headers length more known) → IfErr r (λ e. (e ≡ h) × (more ≡ headers) × (known ≡ length)) → IsResponseHeaders headers → IsResponseHeaders more
+IsResponseHeaders-tried (Ok x) h headers more length known adds same law = IsResponseHeaders-Adds h headers more length known adds law
+IsResponseHeaders-tried (Err e) h headers more length known adds same law = subst IsResponseHeaders (sym same.1) law

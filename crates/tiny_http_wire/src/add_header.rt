@@ -1,8 +1,8 @@
 //! Headers that are added to an answer (RFC 9110, sections 7.6.1, 7.8 and 8.3; RFC 9112, section 6).
-ghost use Rattle.std.specs.Prelude.{◌≡◌, ◌≤◌, ◌<◌, ◌+◌, ℕ, List, [], ◌∷◌, length, take, drop};
+ghost use Rattle.std.specs.Prelude.{◌≡◌, IfErr, OnOk, OnErr, IsTrue};
 ghost use Rattle.tiny_http_wire.specs.Answer.{has_header};
-ghost use Rattle.tiny_http_wire.specs.AddHeader.{is_reserved, with_value};
-ghost use Rattle.tiny_http_wire.specs.HeaderPlace.{place_of};
+ghost use Rattle.tiny_http_wire.specs.AddHeader.{is_reserved, is_put_last, with_value};
+ghost use Rattle.tiny_http_wire.specs.HeaderPlace.{place_of, Adds};
 
 use crate::answer_head::has_header;
 use std::mem;
@@ -12,7 +12,7 @@ use tiny_http_text::ascii::AsciiString;
 
 /// Where a header goes that is added to an answer.
 #[derive(Clone, Copy)]
-pub(crate) enum Place {
+enum Place {
     /// It is left out.
     Nowhere,
     /// It is the length of the data, in bytes.
@@ -33,8 +33,8 @@ fn is_reserved(name: &HeaderField) -> bool
         || name.equiv("Upgrade")
 }
 
-/// Where a header goes beside these.
-pub(crate) fn place_of(header: &Header, headers: &[Header]) -> Place
+// Where a header goes beside these.
+fn place_of(header: &Header, headers: &[Header]) -> Place
     ensures { result ≡ place_of header.now headers.now }
 {
     if is_reserved(&header.field) {
@@ -52,8 +52,8 @@ pub(crate) fn place_of(header: &Header, headers: &[Header]) -> Place
     Place::Last
 }
 
-/// Puts a value into the first header of this name, and gives its old value for it.
-pub(crate) fn replace_value(headers: &mut [Header], name: &str, value: &mut AsciiString)
+// Puts a value into the first header of this name, and gives its old value for it.
+fn replace_value(headers: &mut [Header], name: &str, value: &mut AsciiString)
     ensures { headers.new ≡ with_value name.now value.old headers.old }
 {
     for header in headers.iter_mut() {
@@ -61,5 +61,30 @@ pub(crate) fn replace_value(headers: &mut [Header], name: &str, value: &mut Asci
             mem::swap(&mut header.value, value);
             return;
         }
+    }
+}
+
+/// Adds a header to the list of an answer, or to the length of its data. Without memory for it the
+/// header comes back, and nothing is changed.
+pub(crate) fn add(
+    headers: &mut Vec<Header>,
+    length: &mut Option<usize>,
+    mut header: Header,
+) -> Result<(), Header>
+    ensures added { OnOk result (Adds header headers.old.items length.old headers.new.items length.new) }
+    ensures refused { IfErr result (λ h. (h ≡ header) × (headers.new.items ≡ headers.old.items) × (length.new ≡ length.old)) }
+    ensures memory { OnErr result (IsTrue (is_put_last header headers.old.items)) }
+{
+    match place_of(&header, headers) {
+        Place::Nowhere => Ok(()),
+        Place::Length(known) => {
+            *length = Some(known);
+            Ok(())
+        }
+        Place::ContentType => {
+            replace_value(headers, "Content-Type", &mut header.value);
+            Ok(())
+        }
+        Place::Last => headers.push(header).map_err(|refused| refused.value),
     }
 }

@@ -1,11 +1,14 @@
 //! Answers to requests, and how they are printed.
-ghost use Rattle.std.specs.Prelude.{◌≡◌, Option, Some, None, IfSome, if◌then◌else◌, ◌∷◌, IfOk, vec_len, string_len, string_bytes, [], ◌<◌, ◌^◌, ◌++◌, length};
+ghost use Rattle.std.specs.Prelude.{◌≡◌, Option, Some, None, IfSome, if◌then◌else◌, ◌∷◌, IfOk, IfErr, OnOk, OnErr, IsTrue, vec_len, string_len, string_bytes, [], ◌<◌, ◌^◌, ◌++◌, length};
 ghost use Rattle.std.specs.Option.{option_copied};
+ghost use Rattle.tiny_http_wire.specs.AddHeader.{add_header, is_put_last, with_headers};
+ghost use Rattle.tiny_http_wire.specs.ResponseHeaders.{IsResponseHeaders};
 ghost use Rattle.tiny_http_wire.specs.Answer.{Answer, ResponseState, Prints, prepend_text, whole, identity_body, is_withheld, is_ascii_text, PrintsGathered, PrintsUncoded, PrintsAnswer, as_it_is, nothing_sent, text_plain, answer_with};
 ghost use Rattle.tiny_http_device.specs.Cursor.{cursor_bytes};
 ghost use Rattle.tiny_http_wire.specs.Top.{top_text};
 ghost use Rattle.tiny_http_device.specs.Device.{Puts, CountsFaults};
 
+use crate::add_header::add;
 use crate::answer_body::put_exactly;
 use crate::answer_head::{Top, put_head};
 use crate::coding::FramingHeader;
@@ -32,10 +35,13 @@ pub struct Response<R> {
 
 impl<R> Model for Response<R> {
     ghost use Rattle.tiny_http_wire.specs.Answer.{ResponseState};
+    ghost use Rattle.tiny_http_wire.specs.ResponseHeaders.{IsResponseHeaders};
 
     ghost Value = { ResponseState R };
 
     ghost view = { λ r. record { answer = record { status = r.status.0; headers = r.headers.items; length = r.data_length; threshold = r.threshold }; data_reader = r.reader } };
+
+    ghost invariant = { λ r. IsResponseHeaders r.headers.items };
 }
 
 // The length in bytes from which data is sent in chunks, until another is set.
@@ -111,6 +117,45 @@ impl<R> Response<R> {
         self
     }
 
+    /// The same answer with other data, of this length in bytes, if it is known. The threshold is
+    /// kept.
+    pub fn with_data<S>(self, reader: S, data_length: Option<usize>) -> Response<S>
+    where
+        R: Drop,
+        ensures { result ≡ record { answer = record self.answer { length = data_length }; data_reader = reader } }
+    {
+        Response {
+            reader,
+            status: self.status,
+            headers: self.headers,
+            data_length,
+            threshold: self.threshold,
+        }
+    }
+
+    /// The same answer with another threshold: the length in bytes from which data is sent in
+    /// chunks.
+    pub fn with_chunked_threshold(mut self, length: usize) -> Response<R>
+        ensures { result ≡ record self { answer = record self.answer { threshold = length } } }
+    {
+        self.threshold = length;
+        self
+    }
+
+    /// Adds a header (as tiny_http). `Connection`, `Trailer`, `Transfer-Encoding` and `Upgrade` are
+    /// left out, in any case of letters. A `Content-Length` is kept as the length of the data, if it
+    /// can be read: an optional `+`, then digits, at most 18446744073709551615; else it is left out.
+    /// A second `Content-Type` replaces the value of the first, at its place. Any other header is
+    /// put last, and that alone takes memory: without it the header comes back, and the answer is
+    /// unchanged.
+    pub fn add_header(&mut self, header: Header) -> Result<(), Header>
+        ensures added { OnOk result (self.new ≡ record self.old { answer = add_header header self.old.answer }) }
+        ensures refused { IfErr result (λ h. (h ≡ header) × (self.new ≡ self.old)) }
+        ensures memory { OnErr result (IsTrue (is_put_last header self.old.answer.headers)) }
+    {
+        add(&mut self.headers, &mut self.data_length, header)
+    }
+
     /// The status code.
     pub fn status_code(&self) -> StatusCode
         ensures { result.0 ≡ self.now.answer.status }
@@ -127,7 +172,10 @@ impl<R> Response<R> {
 
     /// The headers, in the order in which they are sent.
     pub fn headers(&self) -> &[Header]
-        ensures { result.now ≡ self.now.answer.headers }
+        ensures value { result.now ≡ self.now.answer.headers }
+        // It never holds `Connection`, `Trailer`, `Transfer-Encoding`, `Upgrade` or `Content-Length`, and `Content-Type`
+        // at most once.
+        ensures law { IsResponseHeaders result.now }
     {
         self.headers.as_slice()
     }
