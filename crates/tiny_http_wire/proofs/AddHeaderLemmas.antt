@@ -1,13 +1,14 @@
 -- Headers that are added to an answer.
-use Rattle.std.proofs.Common.{◌≡◌, ℕ, ◌<◌, ◌+◌, Bool, true, false, Option, Some, None, List, [], ◌∷◌, ◌++◌, length, take, drop, get_or, set, refl, sym, ap, ◌∙◌, drop-cons, add-one, codes, if◌then◌else◌}
+use Rattle.std.proofs.Common.{◌≡◌, ℕ, ◌<◌, ◌+◌, Bool, true, false, ◌||◌, Option, Some, None, Result, Ok, Err, OnErr, List, [], ◌∷◌, ◌++◌, length, take, drop, get_or, set, refl, sym, ap, ◌∙◌, drop-cons, add-one, arith, codes, if◌then◌else◌}
+use Rattle.std.proofs.lemmas.Bool.{false≢true}
 use Rattle.std.proofs.Math.Seq.{take-append_seam}
 use Rattle.std.proofs.lemmas.List.{set_split}
 use Rattle.tiny_http_head.specs.declared.common.Header.{Header}
 use Rattle.tiny_http_head.specs.Common.{same_name}
 use Rattle.tiny_http_head.specs.Heads.{length_in}
 use Rattle.tiny_http_wire.specs.Answer.{Answer}
-use Rattle.tiny_http_wire.specs.AddHeader.{is_reserved, is_second_type, is_put_last, with_value, with_length, add_header}
-use Rattle.tiny_http_wire.specs.HeaderPlace.{place_of_length, place_of, placed}
+use Rattle.tiny_http_wire.specs.AddHeader.{is_reserved, is_second_type, is_put_last, with_value, with_length, add_header, with_headers, is_some_put_last}
+use Rattle.tiny_http_wire.specs.HeaderPlace.{place_of_length, place_of, placed, answer_of, Adds}
 use Rattle.tiny_http_wire.specs.declared.add_header.Place.{Place}
 use Rattle.tiny_http_wire.specs.declared.add_header.Place.TheVariants.{Nowhere, Length, ContentType, Last}
 
@@ -52,3 +53,38 @@ last-is p h hs last e = last-cases (is_reserved h.field) (same_name h.field (cod
 -- a list that was lent whole, as it is written back
 pub written_back : (n : ℕ) (new old : List Header) → length new ≡ n → take n (new ++ drop (length new) old) ≡ new
 written_back n new old e = rw (← e) (take-append_seam new (drop (length new) old))
+
+-- ---- headers that are added one after another
+
+-- one more, of those that were left
+pub added-more : (whole : ℕ → ℕ → Answer) (hs rest : List Header) (h : Header) (headers more : List Header) (length known : Option ℕ) → hs ≡ h ∷ rest → Adds h headers length more known → ((status threshold : ℕ) → with_headers hs (answer_of status threshold headers length) ≡ whole status threshold) → (status threshold : ℕ) → with_headers rest (answer_of status threshold more known) ≡ whole status threshold
+added-more whole hs rest h headers more length known cut adds inv status threshold =
+    ap (with_headers rest) (adds status threshold) ∙ ap (λ (xs : List Header). with_headers xs (answer_of status threshold headers length)) (sym cut) ∙ inv status threshold
+
+-- none is left
+pub added-end : (whole : ℕ → ℕ → Answer) (hs headers : List Header) (known : Option ℕ) → length hs ≡ 0 → ((status threshold : ℕ) → with_headers hs (answer_of status threshold headers known) ≡ whole status threshold) → (status threshold : ℕ) → answer_of status threshold headers known ≡ whole status threshold
+added-end whole [] headers known none inv status threshold = inv status threshold
+added-end whole (h ∷ hs) headers known none inv status threshold = absurd (omega (arith, none))
+
+or-left : (a b : Bool) → a ≡ true → (a || b) ≡ true
+or-left true b e = refl
+or-left false b e = absurd (false≢true e)
+
+or-right : (a b : Bool) → b ≡ true → (a || b) ≡ true
+or-right true b e = refl
+or-right false b e = e
+
+-- one of the rest is put last, or the first is
+pub some-more : (P : Type 0) (hs rest : List Header) (h : Header) (headers more : List Header) (length known : Option ℕ) → hs ≡ h ∷ rest → Adds h headers length more known → (is_some_put_last hs (answer_of 0 0 headers length) ≡ true → P) → is_some_put_last rest (answer_of 0 0 more known) ≡ true → P
+some-more P hs rest h headers more length known cut adds inv some =
+    let start : Answer = answer_of 0 0 headers length in
+    inv (ap (λ (xs : List Header). is_some_put_last xs start) cut ∙ or-right (is_put_last h headers) (is_some_put_last rest (add_header h start)) (ap (is_some_put_last rest) (sym (adds 0 0)) ∙ some))
+
+pub some-first : (P : Type 0) (hs rest : List Header) (h : Header) (headers : List Header) (length : Option ℕ) → hs ≡ h ∷ rest → is_put_last h headers ≡ true → (is_some_put_last hs (answer_of 0 0 headers length) ≡ true → P) → P
+some-first P hs rest h headers length cut last inv =
+    let start : Answer = answer_of 0 0 headers length in
+    inv (ap (λ (xs : List Header). is_some_put_last xs start) cut ∙ or-left (is_put_last h headers) (is_some_put_last rest (add_header h start)) last)
+
+pub at_err : {T E : Type 0} (r : Result T E) (P : Type 0) → P → OnErr r P
+at_err (Ok x) P p = tt
+at_err (Err e) P p = p

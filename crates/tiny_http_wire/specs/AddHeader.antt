@@ -49,3 +49,8 @@ is_put_last h headers =
 abbrev pub with_headers : List Header → Answer → Answer
 with_headers [] a = a
 with_headers (h ∷ hs) a = with_headers hs (add_header h a)
+
+-- whether one of these headers is put last when they are added one after another
+abbrev pub is_some_put_last : List Header → Answer → Bool
+is_some_put_last [] a = false
+is_some_put_last (h ∷ hs) a = is_put_last h a.headers || is_some_put_last hs (add_header h a)

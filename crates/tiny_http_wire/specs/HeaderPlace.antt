@@ -4,7 +4,7 @@ use Rattle.tiny_http_head.specs.declared.common.Header.{Header}
 use Rattle.tiny_http_head.specs.Common.{same_name}
 use Rattle.tiny_http_head.specs.Heads.{length_in}
 use Rattle.tiny_http_wire.specs.Answer.{Answer}
-use Rattle.tiny_http_wire.specs.AddHeader.{is_reserved, is_second_type, with_value, add_header}
+use Rattle.tiny_http_wire.specs.AddHeader.{is_reserved, is_second_type, with_value, add_header, with_headers}
 use Rattle.tiny_http_wire.specs.declared.add_header.Place.{Place}
 use Rattle.tiny_http_wire.specs.declared.add_header.Place.TheVariants.{Nowhere, Length, ContentType, Last}
 
@@ -33,3 +33,7 @@ answer_of status threshold headers length = record { status = status; headers = 
 -- a list and a length after a header was added to an answer that had these, whatever else it has
 abbrev pub Adds : Header → List Header → Option ℕ → List Header → Option ℕ → Type 0
 Adds h headers length more known = (status threshold : ℕ) → answer_of status threshold more known ≡ add_header h (answer_of status threshold headers length)
+
+-- the same of headers that were added one after another
+abbrev pub AddsAll : List Header → List Header → Option ℕ → List Header → Option ℕ → Type 0
+AddsAll hs headers length more known = (status threshold : ℕ) → answer_of status threshold more known ≡ with_headers hs (answer_of status threshold headers length)

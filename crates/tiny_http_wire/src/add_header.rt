@@ -1,8 +1,8 @@
 //! Headers that are added to an answer (RFC 9110, sections 7.6.1, 7.8 and 8.3; RFC 9112, section 6).
 ghost use Rattle.std.specs.Prelude.{◌≡◌, IfErr, OnOk, OnErr, IsTrue};
 ghost use Rattle.tiny_http_wire.specs.Answer.{has_header};
-ghost use Rattle.tiny_http_wire.specs.AddHeader.{is_reserved, is_put_last, with_value};
-ghost use Rattle.tiny_http_wire.specs.HeaderPlace.{place_of, Adds};
+ghost use Rattle.tiny_http_wire.specs.AddHeader.{is_reserved, is_put_last, is_some_put_last, with_value};
+ghost use Rattle.tiny_http_wire.specs.HeaderPlace.{place_of, answer_of, Adds, AddsAll};
 
 use crate::answer_head::has_header;
 use std::mem;
@@ -87,4 +87,19 @@ pub(crate) fn add(
         }
         Place::Last => headers.push(header).map_err(|refused| refused.value),
     }
+}
+
+/// Adds these headers one after another. The first for which there is no memory comes back.
+pub(crate) fn add_all(
+    headers: &mut Vec<Header>,
+    length: &mut Option<usize>,
+    more: Vec<Header>,
+) -> Result<(), Header>
+    ensures added { OnOk result (AddsAll more.items headers.old.items length.old headers.new.items length.new) }
+    ensures memory { OnErr result (IsTrue (is_some_put_last more.items (answer_of 0 0 headers.old.items length.old))) }
+{
+    for header in more {
+        add(headers, length, header)?;
+    }
+    Ok(())
 }
