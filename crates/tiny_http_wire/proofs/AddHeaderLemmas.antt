@@ -1,8 +1,8 @@
 -- Headers that are added to an answer.
 use Rattle.std.proofs.Common.{◌≡◌, ℕ, ◌<◌, ◌+◌, Bool, true, false, ◌||◌, Option, Some, None, Result, Ok, Err, OnErr, List, [], ◌∷◌, ◌++◌, length, take, drop, get_or, set, refl, sym, ap, ◌∙◌, drop-cons, add-one, arith, codes, if◌then◌else◌}
 use Rattle.std.proofs.lemmas.Bool.{false≢true}
-use Rattle.std.proofs.Math.Seq.{take-append_seam}
-use Rattle.std.proofs.lemmas.List.{set_split}
+use Rattle.std.proofs.Math.Seq.{take-append_seam, drop-append-add}
+use Rattle.std.proofs.lemmas.List.{set_split, drop-set-lt, drop-drop}
 use Rattle.tiny_http_head.specs.declared.common.Header.{Header}
 use Rattle.tiny_http_head.specs.Common.{same_name}
 use Rattle.tiny_http_head.specs.Heads.{length_in}
@@ -75,16 +75,30 @@ or-right true b e = refl
 or-right false b e = e
 
 -- one of the rest is put last, or the first is
-pub some-more : (P : Type 0) (hs rest : List Header) (h : Header) (headers more : List Header) (length known : Option ℕ) → hs ≡ h ∷ rest → Adds h headers length more known → (is_some_put_last hs (answer_of 0 0 headers length) ≡ true → P) → is_some_put_last rest (answer_of 0 0 more known) ≡ true → P
-some-more P hs rest h headers more length known cut adds inv some =
-    let start : Answer = answer_of 0 0 headers length in
-    inv (ap (λ (xs : List Header). is_some_put_last xs start) cut ∙ or-right (is_put_last h headers) (is_some_put_last rest (add_header h start)) (ap (is_some_put_last rest) (sym (adds 0 0)) ∙ some))
+pub some-more : (status threshold : ℕ) (P : Type 0) (hs rest : List Header) (h : Header) (headers more : List Header) (length known : Option ℕ) → hs ≡ h ∷ rest → Adds h headers length more known → (is_some_put_last hs (answer_of status threshold headers length) ≡ true → P) → is_some_put_last rest (answer_of status threshold more known) ≡ true → P
+some-more status threshold P hs rest h headers more length known cut adds inv some =
+    let start : Answer = answer_of status threshold headers length in
+    inv (ap (λ (xs : List Header). is_some_put_last xs start) cut ∙ or-right (is_put_last h headers) (is_some_put_last rest (add_header h start)) (ap (is_some_put_last rest) (sym (adds status threshold)) ∙ some))
 
-pub some-first : (P : Type 0) (hs rest : List Header) (h : Header) (headers : List Header) (length : Option ℕ) → hs ≡ h ∷ rest → is_put_last h headers ≡ true → (is_some_put_last hs (answer_of 0 0 headers length) ≡ true → P) → P
-some-first P hs rest h headers length cut last inv =
-    let start : Answer = answer_of 0 0 headers length in
+pub some-first : (status threshold : ℕ) (P : Type 0) (hs rest : List Header) (h : Header) (headers : List Header) (length : Option ℕ) → hs ≡ h ∷ rest → is_put_last h headers ≡ true → (is_some_put_last hs (answer_of status threshold headers length) ≡ true → P) → P
+some-first status threshold P hs rest h headers length cut last inv =
+    let start : Answer = answer_of status threshold headers length in
     inv (ap (λ (xs : List Header). is_some_put_last xs start) cut ∙ or-left (is_put_last h headers) (is_some_put_last rest (add_header h start)) last)
 
 pub at_err : {T E : Type 0} (r : Result T E) (P : Type 0) → P → OnErr r P
 at_err (Ok x) P p = tt
 at_err (Err e) P p = p
+
+-- ---- in one room: the list in front, and the headers that are not added yet behind it
+
+behind-joined : (xs all : List Header) (y : Header) → drop (length xs + 1) (xs ++ set (drop (length xs) all) 0 y) ≡ drop (length xs + 1) all
+behind-joined xs all y =
+    drop-append-add xs (set (drop (length xs) all) 0 y) 1 ∙ drop-set-lt 1 (drop (length xs) all) 0 y (omega arith) ∙ drop-drop 1 (length xs) all
+
+-- what follows the one that was written
+pub behind-written : (at : ℕ) (xs rest all : List Header) (y : Header) → length xs ≡ at → rest ≡ drop at all → drop (at + 1) (xs ++ set rest 0 y) ≡ drop (at + 1) all
+behind-written at xs rest all y e is = rw (is, ← e) (behind-joined xs all y)
+
+-- the first of those that are left
+pub left-first : (xs ys : List Header) (i : ℕ) (h : Header) → i < length xs → drop (i + 1) ys ≡ drop (i + 1) xs → drop i xs ≡ get_or xs i h ∷ drop (i + 1) ys
+left-first xs ys i h within behind = drop-cons xs i h within ∙ ap (λ (k : ℕ). get_or xs i h ∷ drop k xs) (sym (add-one i)) ∙ ap (λ (rest : List Header). get_or xs i h ∷ rest) (sym behind)

@@ -8,7 +8,7 @@ use Rattle.tiny_http_head.specs.Common.{same_name}
 use Rattle.tiny_http_head.specs.Heads.{length_in}
 use Rattle.tiny_http_wire.specs.Answer.{Answer, has_header}
 use Rattle.tiny_http_wire.specs.AddHeader.{is_reserved, is_second_type, with_value, with_length, headers_with, add_header, with_headers}
-use Rattle.tiny_http_wire.specs.HeaderPlace.{answer_of, Adds}
+use Rattle.tiny_http_wire.specs.HeaderPlace.{answer_of, Adds, AddsAll}
 use Rattle.tiny_http_wire.specs.ResponseHeaders.{count_named, HasNone, IsResponseHeaders}
 
 -- ---- a value that is replaced leaves the names
@@ -128,3 +128,14 @@ IsResponseHeaders-Adds h headers more length known adds law =
 pub IsResponseHeaders-tried : {T : Type 0} (r : Result T Header) (h : Header) (headers more : List Header) (length known : Option ℕ) → OnOk r (Adds h headers length more known) → IfErr r (λ e. (e ≡ h) × (more ≡ headers) × (known ≡ length)) → IsResponseHeaders headers → IsResponseHeaders more
 IsResponseHeaders-tried (Ok x) h headers more length known adds same law = IsResponseHeaders-Adds h headers more length known adds law
 IsResponseHeaders-tried (Err e) h headers more length known adds same law = subst IsResponseHeaders (sym same.1) law
+
+-- headers that were added one after another
+pub IsResponseHeaders-AddsAll : (hs headers more : List Header) (length known : Option ℕ) → AddsAll hs headers length more known → IsResponseHeaders headers → IsResponseHeaders more
+IsResponseHeaders-AddsAll hs headers more length known adds law =
+    let start : Answer = answer_of 0 0 headers length in
+    subst IsResponseHeaders (sym (ap (λ (a : Answer). a.headers) (adds 0 0))) (IsResponseHeaders-added hs start law)
+
+-- headers that were added to none, and others to these
+pub IsResponseHeaders-made : (hs more headers list : List Header) (length known all : Option ℕ) → AddsAll hs [] length headers known → AddsAll more headers known list all → IsResponseHeaders list
+IsResponseHeaders-made hs more headers list length known all first second =
+    IsResponseHeaders-AddsAll more headers list known all second (IsResponseHeaders-AddsAll hs [] headers length known first IsResponseHeaders-nil)

@@ -50,6 +50,10 @@ abbrev pub with_headers : List Header → Answer → Answer
 with_headers [] a = a
 with_headers (h ∷ hs) a = with_headers hs (add_header h a)
 
+-- an answer as it is made: these headers are added to none, and the threshold is the first
+abbrev pub first_answer : ℕ → List Header → Option ℕ → Answer
+first_answer status headers length = with_headers headers (record { status = status; headers = []; length = length; threshold = 32768 })
+
 -- whether one of these headers is put last when they are added one after another
 abbrev pub is_some_put_last : List Header → Answer → Bool
 is_some_put_last [] a = false

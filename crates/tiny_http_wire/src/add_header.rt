@@ -1,5 +1,5 @@
 //! Headers that are added to an answer (RFC 9110, sections 7.6.1, 7.8 and 8.3; RFC 9112, section 6).
-ghost use Rattle.std.specs.Prelude.{◌≡◌, IfErr, OnOk, OnErr, IsTrue};
+ghost use Rattle.std.specs.Prelude.{◌≡◌, ℕ, ◌≤◌, ◌<◌, ◌+◌, IfErr, OnOk, OnErr, IsTrue, [], length, take, drop, slice_index_or, codes};
 ghost use Rattle.tiny_http_wire.specs.Answer.{has_header};
 ghost use Rattle.tiny_http_wire.specs.AddHeader.{is_reserved, is_put_last, is_some_put_last, with_value};
 ghost use Rattle.tiny_http_wire.specs.HeaderPlace.{place_of, answer_of, Adds, AddsAll};
@@ -96,10 +96,79 @@ pub(crate) fn add_all(
     more: Vec<Header>,
 ) -> Result<(), Header>
     ensures added { OnOk result (AddsAll more.items headers.old.items length.old headers.new.items length.new) }
-    ensures memory { OnErr result (IsTrue (is_some_put_last more.items (answer_of 0 0 headers.old.items length.old))) }
+    ensures memory { OnErr result ((status threshold : ℕ) → IsTrue (is_some_put_last more.items (answer_of status threshold headers.old.items length.old))) }
 {
     for header in more {
         add(headers, length, header)?;
     }
     Ok(())
+}
+
+// Where the header at `at` goes beside the first `kept`.
+fn place_at(headers: &[Header], kept: usize, at: usize) -> Place
+    requires order { kept ≤ at }
+    requires within { at < length headers.now }
+    ensures { (d : Header) → result ≡ place_of (slice_index_or headers.now at d) (take kept headers.now) }
+{
+    place_of(&headers[at], &headers[..kept])
+}
+
+// Puts the value of the header at `at` into the first `Content-Type` among the first `kept`.
+fn replace_type(headers: &mut [Header], kept: usize, at: usize)
+    requires order { kept ≤ at }
+    requires within { at < length headers.old }
+    ensures front { (d : Header) → take kept headers.new ≡ with_value (codes "Content-Type") (slice_index_or headers.old at d).value (take kept headers.old) }
+    ensures behind { drop (at + 1) headers.new ≡ drop (at + 1) headers.old }
+{
+    let (front, rest) = headers.split_at_mut(at);
+    replace_value(&mut front[..kept], "Content-Type", &mut rest[0].value);
+}
+
+// Adds the header at `at` to the first `kept`, and says how many these are then. The headers behind
+// it stay.
+fn add_at(headers: &mut [Header], known: &mut Option<usize>, kept: usize, at: usize) -> usize
+    requires order { kept ≤ at }
+    requires within { at < length headers.old }
+    ensures bound { result ≤ at + 1 }
+    ensures behind { drop (at + 1) headers.new ≡ drop (at + 1) headers.old }
+    ensures added { (d : Header) → Adds (slice_index_or headers.old at d) (take kept headers.old) known.old (take result headers.new) known.new }
+{
+    match place_at(headers, kept, at) {
+        Place::Nowhere => kept,
+        Place::Length(length) => {
+            *known = Some(length);
+            kept
+        }
+        Place::ContentType => {
+            replace_type(headers, kept, at);
+            kept
+        }
+        Place::Last => {
+            headers.swap(kept, at);
+            kept + 1
+        }
+    }
+}
+
+// Adds all the headers to an empty list that lies in front of them, and says how many it has.
+fn add_each(headers: &mut [Header], known: &mut Option<usize>) -> usize
+    ensures bound { result ≤ length headers.new }
+    ensures added { AddsAll headers.old [] known.old (take result headers.new) known.new }
+{
+    let mut kept = 0;
+    for at in 0..headers.len() {
+        kept = add_at(headers, known, kept, at);
+    }
+    kept
+}
+
+/// Makes of these headers what adding them one after another to an empty list comes to, in their
+/// room, and gives the length of the data then.
+pub(crate) fn add_in_place(headers: &mut Vec<Header>, data_length: Option<usize>) -> Option<usize>
+    ensures { AddsAll headers.old.items [] data_length headers.new.items result }
+{
+    let mut known = data_length;
+    let kept = add_each(headers, &mut known);
+    headers.truncate(kept);
+    known
 }

@@ -1,14 +1,14 @@
 //! Answers to requests, and how they are printed.
 ghost use Rattle.std.specs.Prelude.{◌≡◌, Option, Some, None, IfSome, if◌then◌else◌, ◌∷◌, IfOk, IfErr, OnOk, OnErr, IsTrue, vec_len, string_len, string_bytes, [], ◌<◌, ◌^◌, ◌++◌, length};
 ghost use Rattle.std.specs.Option.{option_copied};
-ghost use Rattle.tiny_http_wire.specs.AddHeader.{add_header, is_put_last, with_headers};
+ghost use Rattle.tiny_http_wire.specs.AddHeader.{add_header, is_put_last, is_some_put_last, with_headers, first_answer};
 ghost use Rattle.tiny_http_wire.specs.ResponseHeaders.{IsResponseHeaders};
 ghost use Rattle.tiny_http_wire.specs.Answer.{Answer, ResponseState, Prints, prepend_text, whole, identity_body, is_withheld, is_ascii_text, PrintsGathered, PrintsUncoded, PrintsAnswer, as_it_is, nothing_sent, text_plain, answer_with};
 ghost use Rattle.tiny_http_device.specs.Cursor.{cursor_bytes};
 ghost use Rattle.tiny_http_wire.specs.Top.{top_text};
 ghost use Rattle.tiny_http_device.specs.Device.{Puts, CountsFaults};
 
-use crate::add_header::add;
+use crate::add_header::{add, add_all, add_in_place};
 use crate::answer_body::put_exactly;
 use crate::answer_head::{Top, put_head};
 use crate::coding::FramingHeader;
@@ -108,7 +108,53 @@ impl Response<io::Empty> {
     }
 }
 
+/// What `Response::new` gives back where it finds no memory for a header: the data.
+#[derive(Drop)]
+pub struct Refused<R> {
+    /// The reader of the data, as it was given.
+    pub reader: R,
+}
+
+/// What `Response::with_header` gives back where it finds no memory for the header: both, as they
+/// were given.
+#[derive(Drop)]
+pub struct NotAdded<R> {
+    /// The answer, without the header.
+    pub response: Response<R>,
+    /// The header.
+    pub header: Header,
+}
+
 impl<R> Response<R> {
+    /// An answer with this code and data, of this length in bytes, if it is known. Each of `headers`
+    /// and then each of `more` is added as `add_header` does. The room of `headers` is used for the
+    /// list: only a header of `more` takes memory. An error where there is none for it: the data
+    /// comes back.
+    pub fn new(
+        status: StatusCode,
+        headers: Vec<Header>,
+        reader: R,
+        data_length: Option<usize>,
+        more: Vec<Header>,
+    ) -> Result<Response<R>, Refused<R>>
+        ensures made { IfOk result (λ r. r ≡ record { answer = with_headers more.items (first_answer status.0 headers.items data_length); data_reader = reader }) }
+        ensures refused { IfErr result (λ e. e.reader ≡ reader) }
+        ensures memory { OnErr result (IsTrue (is_some_put_last more.items (first_answer status.0 headers.items data_length))) }
+    {
+        let mut headers = headers;
+        let mut data_length = add_in_place(&mut headers, data_length);
+        match add_all(&mut headers, &mut data_length, more) {
+            Ok(()) => Ok(Response {
+                reader,
+                status,
+                headers,
+                data_length,
+                threshold: THRESHOLD,
+            }),
+            Err(_) => Err(Refused { reader }),
+        }
+    }
+
     /// The same answer with another code.
     pub fn with_status_code(mut self, code: StatusCode) -> Response<R>
         ensures { result ≡ record self { answer = record self.answer { status = code.0 } } }
@@ -154,6 +200,22 @@ impl<R> Response<R> {
         ensures memory { OnErr result (IsTrue (is_put_last header self.old.answer.headers)) }
     {
         add(&mut self.headers, &mut self.data_length, header)
+    }
+
+    /// The same answer with a header more, as `add_header` does. An error where there is no memory
+    /// for it: both come back.
+    pub fn with_header(mut self, header: Header) -> Result<Response<R>, NotAdded<R>>
+        ensures added { IfOk result (λ r. r ≡ record self { answer = add_header header self.answer }) }
+        ensures refused { IfErr result (λ e. (e.response ≡ self) × (e.header ≡ header)) }
+        ensures memory { OnErr result (IsTrue (is_put_last header self.answer.headers)) }
+    {
+        match self.add_header(header) {
+            Ok(()) => Ok(self),
+            Err(header) => Err(NotAdded {
+                response: self,
+                header,
+            }),
+        }
     }
 
     /// The status code.

@@ -8,5 +8,5 @@ use Rattle.tiny_http_wire.proofs.add_header.add_all.Given as goal
 abbrev pub invariant-loop-header : goal.invariant-loop-header
 invariant-loop-header l = record {
   added : (status threshold : ℕ) → with_headers (into_iter_items l.header-iterator) (answer_of status threshold l.headers.items l.length) ≡ with_headers l.fn.more.items (answer_of status threshold l.fn.headers.items l.fn.length);
-  memory : is_some_put_last (into_iter_items l.header-iterator) (answer_of 0 0 l.headers.items l.length) ≡ true → is_some_put_last l.fn.more.items (answer_of 0 0 l.fn.headers.items l.fn.length) ≡ true;
+  memory : (status threshold : ℕ) → is_some_put_last (into_iter_items l.header-iterator) (answer_of status threshold l.headers.items l.length) ≡ true → is_some_put_last l.fn.more.items (answer_of status threshold l.fn.headers.items l.fn.length) ≡ true;
 }
