@@ -1,12 +1,12 @@
 -- The law of an answer's headers, kept by each header that is added.
-use Rattle.std.proofs.Common.{◌≡◌, ℕ, ◌+◌, ◌≤◌, Bool, true, false, ◌&&◌, ◌||◌, List, [], ◌∷◌, ◌++◌, Option, Some, None, Result, Ok, Err, OnOk, IfErr, refl, sym, subst, ap, ◌∙◌, arith, codes, cond, if◌then◌else◌}
+use Rattle.std.proofs.Common.{◌≡◌, ℕ, ◌+◌, ◌≤◌, Bool, true, false, ◌&&◌, ◌||◌, List, [], ◌∷◌, ◌++◌, Option, Some, None, Result, Ok, Err, OnOk, IfErr, refl, sym, subst, ap, ◌∙◌, arith, lit≤, codes, cond, if◌then◌else◌}
 use Rattle.std.specs.List.{list_any, count_by, sum_by}
 use Rattle.std.proofs.lemmas.List.Folds.{list_any-append}
 use Rattle.std.proofs.lemmas.List.Sums.{sum_by-cons, sum_by_push}
 use Rattle.tiny_http_head.specs.declared.common.Header.{Header}
 use Rattle.tiny_http_head.specs.Common.{same_name}
 use Rattle.tiny_http_head.specs.Heads.{length_in}
-use Rattle.tiny_http_wire.specs.Answer.{Answer, has_header}
+use Rattle.tiny_http_wire.specs.Answer.{Answer, has_header, text_plain}
 use Rattle.tiny_http_wire.specs.AddHeader.{is_reserved, is_second_type, with_value, with_length, headers_with, add_header, with_headers}
 use Rattle.tiny_http_wire.specs.HeaderPlace.{answer_of, Adds, AddsAll}
 use Rattle.tiny_http_wire.specs.ResponseHeaders.{count_named, HasNone, IsResponseHeaders}
@@ -139,3 +139,15 @@ IsResponseHeaders-AddsAll hs headers more length known adds law =
 pub IsResponseHeaders-made : (hs more headers list : List Header) (length known all : Option ℕ) → AddsAll hs [] length headers known → AddsAll more headers known list all → IsResponseHeaders list
 IsResponseHeaders-made hs more headers list length known all first second =
     IsResponseHeaders-AddsAll more headers list known all second (IsResponseHeaders-AddsAll hs [] headers length known first IsResponseHeaders-nil)
+
+text_plain-law : IsResponseHeaders (text_plain ∷ [])
+unfolding text_plain
+text_plain-law = record { connection = refl; trailer = refl; transfer_encoding = refl; upgrade = refl; content_length = refl; content_type = lit≤ tt }
+
+text_plain-tried : (pushed : Bool) → IsResponseHeaders (if pushed then text_plain ∷ [] else [])
+text_plain-tried true = text_plain-law
+text_plain-tried false = IsResponseHeaders-nil
+
+-- a plain text's header, pushed to an empty list or refused
+pub IsResponseHeaders-text_plain : (pushed : Bool) (list none : List Header) (h : Header) → list ≡ (if pushed then none ++ h ∷ [] else none) → none ≡ [] → h ≡ text_plain → IsResponseHeaders list
+IsResponseHeaders-text_plain pushed list none h after empty is = rw (after, empty, is) (text_plain-tried pushed)

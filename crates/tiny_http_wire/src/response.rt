@@ -5,6 +5,7 @@ ghost use Rattle.tiny_http_wire.specs.AddHeader.{add_header, is_put_last, is_som
 ghost use Rattle.tiny_http_wire.specs.ResponseHeaders.{IsResponseHeaders};
 ghost use Rattle.tiny_http_wire.specs.Answer.{Answer, ResponseState, Prints, prepend_text, whole, identity_body, is_withheld, is_ascii_text, PrintsGathered, PrintsUncoded, PrintsAnswer, as_it_is, nothing_sent, text_plain, answer_with};
 ghost use Rattle.tiny_http_device.specs.Cursor.{cursor_bytes};
+ghost use Rattle.tiny_http_device.specs.Metered.{metered_inner};
 ghost use Rattle.tiny_http_wire.specs.Top.{top_text};
 ghost use Rattle.tiny_http_device.specs.Device.{Puts, CountsFaults};
 
@@ -15,10 +16,11 @@ use crate::coding::FramingHeader;
 use crate::gather::gather;
 use httpdate::HttpDate;
 use std::alloc::{AllocError, Global};
+use std::fs::OpenFile;
 use std::io;
-use std::io::{Cursor, ErrorKind};
+use std::io::{Cursor, ErrorKind, Read};
 use std::marker::Model;
-use tiny_http_device::device::{ReadDevice, WriteDevice, put};
+use tiny_http_device::device::{Metered, ReadDevice, WriteDevice, put};
 use tiny_http_head::common::{HTTPVersion, Header, HeaderField, StatusCode};
 use tiny_http_text::copies::owned;
 
@@ -32,6 +34,9 @@ pub struct Response<R> {
     data_length: Option<usize>,
     threshold: usize,
 }
+
+/// An answer whose data any reader gives (as tiny_http).
+pub type ResponseBox = Response<Metered<Box<dyn Read + Send + Drop>>>;
 
 impl<R> Model for Response<R> {
     ghost use Rattle.tiny_http_wire.specs.Answer.{ResponseState};
@@ -55,6 +60,26 @@ fn text_plain(alloc: Global) -> Result<Header, AllocError>
     let field = HeaderField::from_text(owned(alloc, b"Content-Type")?);
     let value = owned(alloc, b"text/plain; charset=UTF-8")?;
     Ok(Header { field, value })
+}
+
+impl<F: Read + OpenFile> Response<Metered<F>> {
+    /// An answer 200 with an open file as its data, and no headers (as tiny_http). The length is the
+    /// file's, by its metadata, and unknown where these can't be read. It takes no memory.
+    pub fn from_file(alloc: Global, file: F) -> Response<Metered<F>>
+        ensures status { result.answer.status ≡ 200 }
+        ensures headers { result.answer.headers ≡ [] }
+        ensures threshold { result.answer.threshold ≡ 32768 }
+        ensures file { metered_inner result.data_reader ≡ file }
+    {
+        let length = file.metadata().ok().map(|of| of.len() as usize);
+        Response {
+            reader: Metered::new(file),
+            status: StatusCode(200),
+            headers: Vec::new(alloc),
+            data_length: length,
+            threshold: THRESHOLD,
+        }
+    }
 }
 
 impl Response<Cursor<Vec<u8>>> {
@@ -106,7 +131,33 @@ impl Response<io::Empty> {
     {
         Response::empty(alloc, status)
     }
+
+    /// A copy, or an error where there is no memory for it.
+    pub fn try_clone(&self) -> Result<Response<io::Empty>, AllocError>
+        ensures { IfOk result (λ r. r ≡ self.now) }
+    {
+        let headers = copies_of(*self.headers.allocator(), &self.headers)?;
+        Ok(Response {
+            reader: io::empty(),
+            status: self.status,
+            headers,
+            data_length: self.data_length,
+            threshold: self.threshold,
+        })
+    }
 }
+
+// Copies of the headers, in a list of just their room.
+fn copies_of(alloc: Global, headers: &[Header]) -> Result<Vec<Header>, AllocError>
+    ensures { IfOk result (λ list. list.items ≡ headers.now) }
+{
+    let mut list = Vec::with_capacity(alloc, headers.len())?;
+    for header in headers {
+        list.push(header.try_clone()?)?;
+    }
+    Ok(list)
+}
+
 
 /// What `Response::new` gives back where it finds no memory for a header: the data.
 #[derive(Drop)]
