@@ -23,7 +23,7 @@ pub(crate) struct Top<'a> {
 }
 
 // Whether some header has this name.
-fn has_header(headers: &[Header], name: &str) -> bool
+pub(crate) fn has_header(headers: &[Header], name: &str) -> bool
     ensures { result ≡ has_header headers.now name.now }
 {
     headers.iter().any(|h| h.field.equiv(name))

@@ -1,8 +1,12 @@
 //! Laws of the definitions, each the contract of a function that does nothing.
-ghost use Rattle.std.specs.Prelude.{◌≡◌, ◌⊎◌, ℕ, List};
+ghost use Rattle.std.specs.Prelude.{◌≡◌, ◌⊎◌, ℕ, List, []};
 ghost use Rattle.std.specs.declared.io.ErrorKind.{ErrorKind};
 ghost use Rattle.tiny_http_device.specs.declared.device.Stop.{Stop};
+ghost use Rattle.tiny_http_head.specs.declared.common.Header.{Header};
+ghost use Rattle.tiny_http_wire.specs.AddHeader.{add_header, with_headers};
+ghost use Rattle.tiny_http_wire.specs.Answer.{Answer as AnyAnswer};
 ghost use Rattle.tiny_http_wire.specs.Chunks.{WholeChunks, CutChunks};
+ghost use Rattle.tiny_http_wire.specs.ResponseHeaders.{IsResponseHeaders};
 
 pub use tiny_http_coding::laws::one_coding_asked;
 pub use tiny_http_head::laws::{
@@ -17,4 +21,14 @@ pub fn one_chunked_body()
     ensures one_whole { (bytes body rest other remainder : List ℕ) → WholeChunks bytes body rest → WholeChunks bytes other remainder → (body ≡ other) × (rest ≡ remainder) }
     ensures one_front { (bytes body other : List ℕ) (stop : Stop) (kind sort : ErrorKind) → CutChunks bytes stop body kind → CutChunks bytes stop other sort → (body ≡ other) × (kind ≡ sort) }
     ensures not_both { (bytes body rest other : List ℕ) (stop : Stop) (kind : ErrorKind) → WholeChunks bytes body rest → CutChunks bytes stop other kind → ⊥ }
+{}
+
+/// The list of an answer's headers never holds `Connection`, `Trailer`, `Transfer-Encoding`,
+/// `Upgrade` or `Content-Length`, in any case of letters, and holds `Content-Type` at most once: so
+/// is the empty list, and each header that is added keeps it so (RFC 9110, sections 7.6.1, 7.8 and
+/// 8.3; RFC 9112, section 6).
+pub fn response_headers()
+    ensures none { IsResponseHeaders [] }
+    ensures one_more { (h : Header) (a : AnyAnswer) → IsResponseHeaders a.headers → IsResponseHeaders (add_header h a).headers }
+    ensures more { (hs : List Header) (a : AnyAnswer) → IsResponseHeaders a.headers → IsResponseHeaders (with_headers hs a).headers }
 {}

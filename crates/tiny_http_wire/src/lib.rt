@@ -3,6 +3,7 @@
 //! their modules again.
 #![tactic(auto)]
 
+mod add_header;
 mod answer_head;
 pub mod chunked;
 pub mod laws;

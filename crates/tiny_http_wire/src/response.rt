@@ -1,21 +1,28 @@
 //! Answers to requests, and how they are printed.
-ghost use Rattle.std.specs.Prelude.{◌≡◌, Option, Some, None, IfSome, if◌then◌else◌, ◌∷◌, IfOk, vec_len, string_len, string_bytes, [], ◌<◌, ◌^◌, ◌++◌, length};
+ghost use Rattle.std.specs.Prelude.{◌≡◌, Option, Some, None, IfSome, if◌then◌else◌, ◌∷◌, IfOk, IfErr, OnOk, OnErr, IsTrue, vec_len, string_len, string_bytes, [], ◌<◌, ◌^◌, ◌++◌, length};
 ghost use Rattle.std.specs.Option.{option_copied};
-ghost use Rattle.tiny_http_wire.specs.Answer.{Answer, ResponseState, is_withheld, is_ascii_text, PrintsGathered, PrintsUncoded, PrintsAnswer, as_it_is, text_plain, answer_with};
-ghost use Rattle.tiny_http_encoding.specs.Text.{Prints, prepend_text, whole, identity_body, nothing_sent};
+ghost use Rattle.tiny_http_wire.specs.AddHeader.{add_header, is_put_last, is_some_put_last, with_headers, first_answer};
+ghost use Rattle.tiny_http_wire.specs.ResponseHeaders.{IsResponseHeaders};
+ghost use Rattle.tiny_http_wire.specs.Answer.{Answer, ResponseState, is_withheld, is_ascii_text, PrintsGathered, PrintsUncoded, PrintsAnswer, as_it_is, with_coding, body_unless_withheld, answer_coding, text_plain, answer_with};
+ghost use Rattle.tiny_http_encoding.specs.Text.{Prints, prepend_text, whole, identity_body, chunked_body, nothing_sent};
 ghost use Rattle.tiny_http_device.specs.Cursor.{cursor_bytes};
+ghost use Rattle.tiny_http_device.specs.Metered.{metered_inner};
 ghost use Rattle.tiny_http_wire.specs.Top.{top_text};
 ghost use Rattle.tiny_http_coding.specs.Coding.{coding_asked};
 ghost use Rattle.tiny_http_device.specs.Device.{Puts, CountsFaults};
 
+use crate::add_header::{add, add_all, add_in_place};
 use crate::answer_form::AnswerForm;
 use crate::answer_head::{Top, put_head};
 use httpdate::HttpDate;
 use std::alloc::{AllocError, Global};
+use std::fs::OpenFile;
 use std::io;
-use std::io::{Cursor, ErrorKind};
+use std::io::{Cursor, ErrorKind, Read};
 use std::marker::Model;
-use tiny_http_device::device::{ReadDevice, WriteDevice, put};
+use tiny_http_coding::coding::{Coding, FramingHeader, asked_coding, choose};
+use tiny_http_device::device::{Metered, ReadDevice, WriteDevice, put};
+use tiny_http_encoding::chunks::put_chunked;
 use tiny_http_encoding::gather::gather;
 use tiny_http_encoding::identity::put_exactly;
 use tiny_http_head::common::{HTTPVersion, Header, HeaderField, StatusCode};
@@ -32,12 +39,18 @@ pub struct Response<R> {
     threshold: usize,
 }
 
+/// An answer whose data any reader gives (as tiny_http).
+pub type ResponseBox = Response<Metered<Box<dyn Read + Send + Drop>>>;
+
 impl<R> Model for Response<R> {
     ghost use Rattle.tiny_http_wire.specs.Answer.{ResponseState};
+    ghost use Rattle.tiny_http_wire.specs.ResponseHeaders.{IsResponseHeaders};
 
     ghost Value = { ResponseState R };
 
     ghost view = { λ r. record { answer = record { status = r.status.0; headers = r.headers.items; length = r.data_length; threshold = r.threshold }; data_reader = r.reader } };
+
+    ghost invariant = { λ r. IsResponseHeaders r.headers.items };
 }
 
 // The length in bytes from which data is sent in chunks, until another is set.
@@ -51,6 +64,26 @@ fn text_plain(alloc: Global) -> Result<Header, AllocError>
     let field = HeaderField::from_text(owned(alloc, b"Content-Type")?);
     let value = owned(alloc, b"text/plain; charset=UTF-8")?;
     Ok(Header { field, value })
+}
+
+impl<F: Read + OpenFile> Response<Metered<F>> {
+    /// An answer 200 with an open file as its data, and no headers (as tiny_http). The length is the
+    /// file's, by its metadata, and unknown where these can't be read. It takes no memory.
+    pub fn from_file(alloc: Global, file: F) -> Response<Metered<F>>
+        ensures status { result.answer.status ≡ 200 }
+        ensures headers { result.answer.headers ≡ [] }
+        ensures threshold { result.answer.threshold ≡ 32768 }
+        ensures file { metered_inner result.data_reader ≡ file }
+    {
+        let length = file.metadata().ok().map(|of| of.len() as usize);
+        Response {
+            reader: Metered::new(file),
+            status: StatusCode(200),
+            headers: Vec::new(alloc),
+            data_length: length,
+            threshold: THRESHOLD,
+        }
+    }
 }
 
 impl Response<Cursor<Vec<u8>>> {
@@ -102,15 +135,142 @@ impl Response<io::Empty> {
     {
         Response::empty(alloc, status)
     }
+
+    /// A copy, or an error where there is no memory for it.
+    pub fn try_clone(&self) -> Result<Response<io::Empty>, AllocError>
+        ensures { IfOk result (λ r. r ≡ self.now) }
+    {
+        let headers = copies_of(*self.headers.allocator(), &self.headers)?;
+        Ok(Response {
+            reader: io::empty(),
+            status: self.status,
+            headers,
+            data_length: self.data_length,
+            threshold: self.threshold,
+        })
+    }
+}
+
+// Copies of the headers, in a list of just their room.
+fn copies_of(alloc: Global, headers: &[Header]) -> Result<Vec<Header>, AllocError>
+    ensures { IfOk result (λ list. list.items ≡ headers.now) }
+{
+    let mut list = Vec::with_capacity(alloc, headers.len())?;
+    for header in headers {
+        list.push(header.try_clone()?)?;
+    }
+    Ok(list)
+}
+
+
+/// What `Response::new` gives back where it finds no memory for a header: the data.
+#[derive(Drop)]
+pub struct Refused<R> {
+    /// The reader of the data, as it was given.
+    pub reader: R,
+}
+
+/// What `Response::with_header` gives back where it finds no memory for the header: both, as they
+/// were given.
+#[derive(Drop)]
+pub struct NotAdded<R> {
+    /// The answer, without the header.
+    pub response: Response<R>,
+    /// The header.
+    pub header: Header,
 }
 
 impl<R> Response<R> {
+    /// An answer with this code and data, of this length in bytes, if it is known. Each of `headers`
+    /// and then each of `more` is added as `add_header` does. The room of `headers` is used for the
+    /// list: only a header of `more` takes memory. An error where there is none for it: the data
+    /// comes back.
+    pub fn new(
+        status: StatusCode,
+        headers: Vec<Header>,
+        reader: R,
+        data_length: Option<usize>,
+        more: Vec<Header>,
+    ) -> Result<Response<R>, Refused<R>>
+        ensures made { IfOk result (λ r. r ≡ record { answer = with_headers more.items (first_answer status.0 headers.items data_length); data_reader = reader }) }
+        ensures refused { IfErr result (λ e. e.reader ≡ reader) }
+        ensures memory { OnErr result (IsTrue (is_some_put_last more.items (first_answer status.0 headers.items data_length))) }
+    {
+        let mut headers = headers;
+        let mut data_length = add_in_place(&mut headers, data_length);
+        match add_all(&mut headers, &mut data_length, more) {
+            Ok(()) => Ok(Response {
+                reader,
+                status,
+                headers,
+                data_length,
+                threshold: THRESHOLD,
+            }),
+            Err(_) => Err(Refused { reader }),
+        }
+    }
+
     /// The same answer with another code.
     pub fn with_status_code(mut self, code: StatusCode) -> Response<R>
         ensures { result ≡ record self { answer = record self.answer { status = code.0 } } }
     {
         self.status = code;
         self
+    }
+
+    /// The same answer with other data, of this length in bytes, if it is known. The threshold is
+    /// kept.
+    pub fn with_data<S>(self, reader: S, data_length: Option<usize>) -> Response<S>
+    where
+        R: Drop,
+        ensures { result ≡ record { answer = record self.answer { length = data_length }; data_reader = reader } }
+    {
+        Response {
+            reader,
+            status: self.status,
+            headers: self.headers,
+            data_length,
+            threshold: self.threshold,
+        }
+    }
+
+    /// The same answer with another threshold: the length in bytes from which data is sent in
+    /// chunks.
+    pub fn with_chunked_threshold(mut self, length: usize) -> Response<R>
+        ensures { result ≡ record self { answer = record self.answer { threshold = length } } }
+    {
+        self.threshold = length;
+        self
+    }
+
+    /// Adds a header (as tiny_http). `Connection`, `Trailer`, `Transfer-Encoding` and `Upgrade` are
+    /// left out, in any case of letters. A `Content-Length` is kept as the length of the data, if it
+    /// can be read: an optional `+`, then digits, at most 18446744073709551615; else it is left out.
+    /// A second `Content-Type` replaces the value of the first, at its place. Any other header is
+    /// put last, and that alone takes memory: without it the header comes back, and the answer is
+    /// unchanged.
+    pub fn add_header(&mut self, header: Header) -> Result<(), Header>
+        ensures added { OnOk result (self.new ≡ record self.old { answer = add_header header self.old.answer }) }
+        ensures refused { IfErr result (λ h. (h ≡ header) × (self.new ≡ self.old)) }
+        ensures memory { OnErr result (IsTrue (is_put_last header self.old.answer.headers)) }
+    {
+        add(&mut self.headers, &mut self.data_length, header)
+    }
+
+    /// The same answer with a header more, as `add_header` does. An error where there is no memory
+    /// for it: both come back.
+    pub fn with_header(mut self, header: Header) -> Result<Response<R>, NotAdded<R>>
+        ensures added { IfOk result (λ r. r ≡ record self { answer = add_header header self.answer }) }
+        ensures refused { IfErr result (λ e. (e.response ≡ self) × (e.header ≡ header)) }
+        ensures memory { OnErr result (IsTrue (is_put_last header self.answer.headers)) }
+    {
+        match self.add_header(header) {
+            Ok(()) => Ok(self),
+            Err(header) => Err(NotAdded {
+                response: self,
+                header,
+            }),
+        }
     }
 
     /// The status code.
@@ -129,7 +289,10 @@ impl<R> Response<R> {
 
     /// The headers, in the order in which they are sent.
     pub fn headers(&self) -> &[Header]
-        ensures { result.now ≡ self.now.answer.headers }
+        ensures value { result.now ≡ self.now.answer.headers }
+        // It never holds `Connection`, `Trailer`, `Transfer-Encoding`, `Upgrade` or `Content-Length`, and `Content-Type`
+        // at most once.
+        ensures law { IsResponseHeaders result.now }
     {
         self.headers.as_slice()
     }

@@ -1,0 +1,35 @@
+use Rattle.std.proofs.Common.{◌≡◌, ◌∙◌, sym, ap, true, ℕ, List}
+use Rattle.tiny_http_head.specs.declared.common.Header.{Header}
+use Rattle.tiny_http_wire.specs.Answer.{Answer}
+use Rattle.tiny_http_wire.specs.AddHeader.{with_headers, is_some_put_last}
+use Rattle.tiny_http_wire.specs.HeaderPlace.{answer_of}
+use Rattle.std.specs.Vec.Iter.{into_iter_items}
+use Rattle.tiny_http_wire.proofs.AddHeaderLemmas.{added-more, added-end, some-more, some-first, at_err}
+use Rattle.tiny_http_wire.proofs.add_header.add_all.Goals as goal
+
+pub loop-header-init : goal.loop-header-init
+loop-header-init c =
+    let all = c.into_iter-header-iterator.ensures.into_iter_gives in
+    record { added = λ status threshold. ap (λ (hs : List Header). with_headers hs (answer_of status threshold c.args.headers.now.items c.args.length.now)) all.0; memory = λ status threshold some. ap (λ (hs : List Header). is_some_put_last hs (answer_of status threshold c.args.headers.now.items c.args.length.now)) (sym all.0) ∙ some }
+
+pub loop-header-preserved : goal.loop-header-preserved
+loop-header-preserved c =
+    let loop = c.loop-header in
+    let whole : ℕ → ℕ → Answer = λ status threshold. with_headers c.args.more.items (answer_of status threshold c.args.headers.now.items c.args.length.now) in
+    record {
+      added = added-more whole (into_iter_items loop.header-iterator) (into_iter_items c.next.new.self) c.in-Some.header loop.headers.items c.add.new.headers.items loop.length c.add.new.length c.in-Some.ensures.steps.0 c.in_ok-add.ensures.added loop.invariant.added;
+      memory = λ status threshold. some-more status threshold _ (into_iter_items loop.header-iterator) (into_iter_items c.next.new.self) c.in-Some.header loop.headers.items c.add.new.headers.items loop.length c.add.new.length c.in-Some.ensures.steps.0 c.in_ok-add.ensures.added (loop.invariant.memory status threshold);
+    }
+
+pub returns-in_err-add-clause-memory : goal.returns-in_err-add-clause-memory
+returns-in_err-add-clause-memory c =
+    let loop = c.loop-header in
+    let some : (status threshold : ℕ) → is_some_put_last c.args.more.items (answer_of status threshold c.args.headers.now.items c.args.length.now) ≡ true =
+        λ status threshold. some-first status threshold _ (into_iter_items loop.header-iterator) (into_iter_items c.next.new.self) c.in-Some.header loop.headers.items loop.length c.in-Some.ensures.steps.0 c.in_err-add.ensures.memory (loop.invariant.memory status threshold) in
+    at_err _ _ some
+
+pub returns-clause-added : goal.returns-clause-added
+returns-clause-added c =
+    let loop = c.loop-header in
+    let whole : ℕ → ℕ → Answer = λ status threshold. with_headers c.args.more.items (answer_of status threshold c.args.headers.now.items c.args.length.now) in
+    added-end whole (into_iter_items loop.header-iterator) loop.headers.items loop.length (sym loop.header-iterator.rest.ok.0 ∙ c.in-None.ensures.steps.0) loop.invariant.added

@@ -1,0 +1,18 @@
+use Rattle.std.proofs.Common.{ℕ, ◌+◌, [], take, drop, get_or, arith}
+use Rattle.tiny_http_head.specs.declared.common.Header.{Header}
+use Rattle.tiny_http_wire.specs.Answer.{Answer}
+use Rattle.tiny_http_wire.specs.AddHeader.{with_headers}
+use Rattle.tiny_http_wire.specs.HeaderPlace.{answer_of}
+use Rattle.tiny_http_wire.proofs.AddHeaderLemmas.{added-more, left-first}
+use Rattle.tiny_http_wire.proofs.add_header.add_each.Goals as goal
+
+pub loop-at-preserved : goal.loop-at-preserved
+loop-at-preserved c =
+    let loop = c.loop-at in
+    let after = c.add_at-kept in
+    let none : Header = record { field = []; value = [] } in
+    let whole : ℕ → ℕ → Answer = λ status threshold. with_headers c.args.headers.now (answer_of status threshold [] c.args.known.now) in
+    record {
+      order = after.ensures.bound;
+      added = added-more whole (drop loop.at loop.headers) (drop (loop.at + 1) after.new.headers) (get_or loop.headers loop.at none) (take loop.kept loop.headers) (take after.result after.new.headers) loop.known after.new.known (left-first loop.headers after.new.headers loop.at none (omega arith) after.ensures.behind) (after.ensures.added none) loop.invariant.added;
+    }

@@ -1,0 +1,11 @@
+use Rattle.std.proofs.Common.{◌≡◌, ◌≤◌, ℕ, [], take, drop}
+use Rattle.tiny_http_wire.specs.AddHeader.{with_headers}
+use Rattle.tiny_http_wire.specs.HeaderPlace.{answer_of}
+use Rattle.tiny_http_wire.proofs.add_header.add_each.Given as goal
+
+-- with the headers that are left it comes to the same as with all
+abbrev pub invariant-loop-at : goal.invariant-loop-at
+invariant-loop-at l = record {
+  order : l.kept ≤ l.at;
+  added : (status threshold : ℕ) → with_headers (drop l.at l.headers) (answer_of status threshold (take l.kept l.headers) l.known) ≡ with_headers l.fn.headers (answer_of status threshold [] l.fn.known);
+}
