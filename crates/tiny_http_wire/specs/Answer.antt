@@ -8,6 +8,7 @@ use Rattle.httpdate.specs.Date.{date_text}
 use Rattle.httpdate.specs.declared.date.HttpDate.{HttpDate}
 use Rattle.tiny_http_head.specs.declared.common.HTTPVersion.{HTTPVersion}
 use Rattle.tiny_http_head.specs.declared.common.Header.{Header}
+use Rattle.tiny_http_coding.specs.Coding.{chosen_coding}
 use Rattle.tiny_http_coding.specs.declared.coding.Coding.{Coding}
 use Rattle.tiny_http_coding.specs.declared.coding.Coding.TheVariants.{Identity, Chunked}
 use Rattle.tiny_http_coding.specs.declared.coding.FramingHeader.{FramingHeader}
@@ -118,7 +119,7 @@ head_text_of a p framing = answer_head_text p.version a.status p.upgrade a.heade
 
 -- THE CODING of an answer's body (RFC 9112, sections 6.1 and 7.4)
 unfoldable pub answer_coding : Answer → Printing → Coding
-answer_coding a p = Identity
+answer_coding a p = chosen_coding p.version p.asked_coding a.status a.threshold a.length
 
 -- an upgrade is a head alone, and its protocol is ASCII
 abbrev pub with_upgrade : Option (List ℕ) → Answer → Feed → Printing → Text

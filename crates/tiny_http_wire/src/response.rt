@@ -3,7 +3,7 @@ ghost use Rattle.std.specs.Prelude.{◌≡◌, Option, Some, None, IfSome, if◌
 ghost use Rattle.std.specs.Option.{option_copied};
 ghost use Rattle.tiny_http_wire.specs.AddHeader.{add_header, is_put_last, is_some_put_last, with_headers, first_answer};
 ghost use Rattle.tiny_http_wire.specs.ResponseHeaders.{IsResponseHeaders};
-ghost use Rattle.tiny_http_wire.specs.Answer.{Answer, ResponseState, is_withheld, is_ascii_text, PrintsGathered, PrintsUncoded, PrintsAnswer, as_it_is, with_coding, body_unless_withheld, answer_coding, text_plain, answer_with};
+ghost use Rattle.tiny_http_wire.specs.Answer.{Answer, ResponseState, is_withheld, is_ascii_text, PrintsGathered, PrintsUncoded, PrintsAnswer, as_it_is, body_unless_withheld, text_plain, answer_with};
 ghost use Rattle.tiny_http_encoding.specs.Text.{Prints, prepend_text, whole, identity_body, chunked_body, nothing_sent};
 ghost use Rattle.tiny_http_device.specs.Cursor.{cursor_bytes};
 ghost use Rattle.tiny_http_device.specs.Metered.{metered_inner};
@@ -373,9 +373,21 @@ impl<R> Response<R> {
             headers: &headers,
             date: now,
         };
-        match upgrade {
-            Some(protocol) => print_upgrade(writer, &top, protocol),
-            None => print_uncoded(alloc, &mut data, writer, &top, self.data_length, form.no_body),
+        if let Some(protocol) = upgrade {
+            return print_upgrade(writer, &top, protocol);
+        }
+        let known = self.data_length;
+        let coding = choose(
+            form.version,
+            form.asked_coding,
+            self.status,
+            known,
+            self.threshold,
+        );
+        let withheld = is_withheld(form.no_body, self.status.0);
+        match coding {
+            Coding::Chunked => print_in_chunks(&mut data, writer, &top, withheld),
+            Coding::Identity => print_uncoded(alloc, &mut data, writer, &top, known, withheld),
         }
     }
 
@@ -465,19 +477,37 @@ fn print_uncoded<D: ReadDevice, W: WriteDevice>(
     writer: &mut W,
     top: &Top<'_>,
     known: Option<usize>,
-    no_body: bool,
+    withheld: bool,
 ) -> Result<(), io::Error>
     ensures text { IfSome (D.feed source.old) (λ feed. length feed.bytes < 2 ^ 63 →
         PrintsUncoded (W.sink writer.old) (W.sink writer.new) result known
-        (as_it_is known (λ framing. top_text top.now None framing)
-        (is_withheld no_body top.now.status.0) feed)) }
+        (as_it_is known (λ framing. top_text top.now None framing) withheld feed)) }
     ensures uses { CountsFaults (W.sink writer.old) (W.sink writer.new) result }
 {
-    let withheld = is_withheld(no_body, top.status.0);
     match known {
         Some(n) => print_as_it_is(source, writer, top, withheld, n),
         None => print_gathered(alloc, source, writer, top, withheld),
     }
+}
+
+// Prints an answer whose body is sent in chunks.
+fn print_in_chunks<D: ReadDevice, W: WriteDevice>(
+    source: &mut D,
+    writer: &mut W,
+    top: &Top<'_>,
+    withheld: bool,
+) -> Result<(), io::Error>
+    ensures text { IfSome (D.feed source.old) (λ feed. length feed.bytes < 2 ^ 63 →
+        Prints (W.sink writer.old) (W.sink writer.new) result
+        (prepend_text (top_text top.now None FramingHeader.TransferEncoding)
+        (body_unless_withheld withheld (chunked_body feed)))) }
+    ensures uses { CountsFaults (W.sink writer.old) (W.sink writer.new) result }
+{
+    put_head(writer, top, None, FramingHeader::TransferEncoding)?;
+    if withheld {
+        return Ok(());
+    }
+    put_chunked(source, writer)
 }
 
 // Prints an upgrade's answer.
