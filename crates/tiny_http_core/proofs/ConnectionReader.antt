@@ -129,7 +129,7 @@ waiting-open s w h =
 
 pub done-open : (s : Slot) → IsDone s → last_is_open (Some s) ≡ false
 done-open s d = at s.item
-
+  where
     at : (item : Item) → body_is_open s item ≡ false
     at (Asks r) = rw (d.given_up, or-true (is_body_finished r s)) (and-false (is_form_streamed r.framing.form))
     at (Refuses a b c d) = refl
