@@ -320,7 +320,7 @@ abbrev ends_with : Reached → Outcome
 ends_with old = record { reply = Ended; slots = old.slots; rest = []; asking_ended = true; writer = Unused }
 
 abbrev pub after_end : Kept → Option Feed → Option Stop → Bool → Standing → Kept
-after_end k p stop over at = record k { ended = true; feed = p; stop = stop; is_over = over; standing = at }
+after_end k p stop over at = record k { asking_ended = true; feed = p; stop = stop; is_over = over; standing = at }
 
 -- the input was read, and the last body isn't read from it
 end-reader : (client : Feed) (before : Sink) (k : Kept) (s : State) (p : Option Feed) (stop : Option Stop) (over : Bool) (at : Standing) (rest : List Item) → Stands client before k s → is_streaming_body (last_body k.requests) ≡ false → GoesOn k.feed p

@@ -162,7 +162,7 @@ own-said before sink mid ended bs s1 text (Err e) reply h fin over own broken lo
         let f : Failure = record { kind = kind; output = z.output } in
         record {
           failure = Some f;
-          output = (z.taken, z.failures, z.end_reported, d.0);
+          output = (z.taken, z.failures, z.stated, d.0);
           writes = inr (inr (error_kind e, b, reported-broken text (error_kind e) reply b t, (f, refl, z.begins, z.front)));
         }
 
@@ -172,7 +172,7 @@ own-said before sink mid ended bs s1 text (Err e) reply h fin over own broken lo
         let f : Failure = record { kind = error_kind e; output = z.output } in
         record {
           failure = Some f;
-          output = (z.taken, z.failures, z.end_reported, d.0);
+          output = (z.taken, z.failures, z.stated, d.0);
           writes = inr (inl (f, refl, t, z.begins, z.front));
         }
 

@@ -18,7 +18,8 @@ use Rattle.tiny_http_stream.proofs.SourceGoesOn.{goes-on_same}
 use Rattle.tiny_http_core.proofs.ConnectionOutput.{can-send}
 use Rattle.tiny_http_core.proofs.ConnectionRespond.{no-such, respond-not_taken, answer-form-some, respond-not_yet, respond-done, responds-by, after_number}
 use Rattle.tiny_http_message.proofs.BodyReads.{gives-up}
-use Rattle.tiny_http_core.proofs.DrivingLemmas.{viewed, same-view, takes-respond, driving-reads-on, moves-none, once-append, honest-more, gives-up-kept}
+use Rattle.tiny_http_core.proofs.SendingLemmas.{once-append}
+use Rattle.tiny_http_core.proofs.DrivingLemmas.{viewed, same-view, takes-respond, driving-reads-on, moves-none, honest-more, gives-up-kept}
 use Rattle.tiny_http_core.proofs.driver.Connection.respond.Goals as goal
 
 pub returns-in_default : goal.returns-in_default
