@@ -104,7 +104,7 @@ one-head-unowed bytes stop r next h = found-unowed stop h.0 r next h.2
 -- where the asking goes on the rest of the pipeline stands where the input does
 pub record Going (k : Kept) (s : State) : Type 0 where
   pub feed : Feed
-  pub end_reported : k.feed ≡ Some feed
+  pub stated : k.feed ≡ Some feed
   pub unheld : last_holds_reader (last_slot s.reached.slots) ≡ false
   pub kept : last_was_abandoned (last_slot s.reached.slots) ≡ false
   pub pipeline : Pipeline (Some feed.bytes) feed.stop s.reached.rest
@@ -127,7 +127,7 @@ going client before k s h e o quiet open_input =
     let here : behind_body (last_body k.requests) k.feed ≡ Some f.0 = ap (behind_body (last_body k.requests)) f.1 ∙ behind-settled (last_slot s.reached.slots) (last_body k.requests) f.0 (last-of client before k s h) quiet in
     let P : Bool → Type 0 = λ x. PlaceAt x (behind_body (last_body k.requests) k.feed) s.reached.rest in
     let Q : Option Feed → Type 0 = λ x. PlaceAt false x s.reached.rest in
-    record { feed = f.0; end_reported = f.1; unheld = unheld client before k s h quiet; kept = kept; pipeline = subst Q here (subst P o (next.place kept)) }
+    record { feed = f.0; stated = f.1; unheld = unheld client before k s h quiet; kept = kept; pipeline = subst Q here (subst P o (next.place kept)) }
   where
     by : NextHead k (last_slot s.reached.slots) s.reached.rest → (t : Bool) → last_was_abandoned (last_slot s.reached.slots) ≡ t → t ≡ false
     by next true z = absurd (open_input (next.lost z).0)
@@ -254,7 +254,7 @@ pub ask-handed : (client : Feed) (before : Sink) (k : Kept) (s : State) (date : 
 ask-handed client before k s date x from_here p stop over at n st e o quiet open_input reads goes number shape stands =
     let g = going client before k s st e o quiet open_input in
     let P : Option Feed → Type 0 = λ y. ReadsHead from_here date y p (Ok (read.Request x)) in
-    let found = subst P g.end_reported reads in
+    let found = subst P g.stated reads in
     let h = x.head in
     let r = request_of h found.0 in
     let first = pipeline-first g.feed.bytes g.feed.stop (Asks r) (place_after h.is_last found.1) s.reached.rest found.2 g.pipeline in
@@ -498,7 +498,7 @@ pub ask-refused : (client : Feed) (before : Sink) (k : Kept) (s : State) (date :
 ask-refused client before k s date from_here status text is_last p stop over at marks sink ended st low e o quiet open_input reads goes leaves =
     let g = going client before k s st e o quiet open_input in
     let P : Option Feed → Type 0 = λ y. ReadsHead from_here date y p (Ok (read.Refused status text is_last)) in
-    let found = subst P g.end_reported reads in
+    let found = subst P g.stated reads in
     let v = found.0 in
     let first = pipeline-first g.feed.bytes g.feed.stop (bad_request_item v) None s.reached.rest found.1 g.pipeline in
     let none = no-items g.feed.stop first.0 first.2 in

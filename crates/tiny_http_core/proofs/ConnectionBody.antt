@@ -186,7 +186,7 @@ reader-within client k source bs cs us vs rest s t c v x u from reader is quiet 
 -- what is known of the last number, while it waits
 pub record LastWaits {R : Type 0} (k : Kept) (source : SourceState R) (bs : List Slot) (s : Slot) (w : Waiting) (rest : List Item) : Type 0 where
   pub feed : Feed
-  pub end_reported : source.feed ≡ Some feed
+  pub stated : source.feed ≡ Some feed
   pub content : last_body k.requests ≡ Some w.body
   pub gives : option_map (λ (x : Remaining). x.body) (remaining w.body source.feed) ≡ Some (slot_rest s)
   pub is_last : k.asking_ended ≡ false → is_past_last source.standing ≡ is_last_item s.item
@@ -205,7 +205,7 @@ last-waits client k source bs us rest s w h from reader is =
     let W : Option Slot → Option Body → Bool = λ x y. not (is_last_slot x) && is_streaming_body y in
     record {
       feed = f.0;
-      end_reported = sym from.feed ∙ f.1;
+      stated = sym from.feed ∙ f.1;
       content = content;
       gives = subst (λ b. G b (Some s) source.feed) content (subst (λ o. G (last_body k.requests) o source.feed) last (subst (λ z. G (last_body k.requests) (last_slot (bs ++ (s ∷ []))) z) from.feed reader.gives));
       is_last = λ e. sym over ∙ (reader.next e).is_last ∙ ap is_last_slot last;
@@ -236,9 +236,9 @@ reader-last client k old new bs us rest s w stage h from reader is gives =
       next = λ e. record {
         is_last = past ∙ l.is_last e ∙ ap (λ (x : Slot). is_last_item x.item) h.is ∙ ap is_last_slot (sym last);
         within = given-within w.body old new (is_last_item s.item) gives (l.within e) ∙ sym (ap W content ∙ and-false (not (is_last_slot (last_slot (bs ++ (t ∷ []))))));
-        lost = λ lost. lost-chunked w.body old new l.feed r h.given h.end_reported h.fits gives l.end_reported (sym (ap last_was_abandoned last) ∙ lost);
+        lost = λ lost. lost-chunked w.body old new l.feed r h.given h.end_reported h.fits gives l.stated (sym (ap last_was_abandoned last) ∙ lost);
         place = λ kept. subst (λ x. P x (last_body (us ++ (None ∷ [])))) (sym past) (subst (λ y. P (is_past_last old.standing) y) (sym content)
-            (given-place w.body old new l.feed r h.given h.end_reported (is_past_last old.standing) rest h.fits gives l.end_reported (λ quiet f. ap B (h.settled quiet f)) (sym (ap last_was_abandoned last) ∙ kept) (l.place e)));
+            (given-place w.body old new l.feed r h.given h.end_reported (is_past_last old.standing) rest h.fits gives l.stated (λ quiet f. ap B (h.settled quiet f)) (sym (ap last_was_abandoned last) ∙ kept) (l.place e)));
       };
       source = goes-on_more (Some client) k.feed new.feed reader.source (subst S (sym from.feed) (gives-up w.body old new gives));
     }
