@@ -31,12 +31,12 @@ use Rattle.tiny_http_wire.specs.declared.common.StatusCode.{StatusCode}
 use Rattle.tiny_http_message.specs.Exchange.{KeepsRequest}
 use Rattle.tiny_http_message.specs.Body.{Remaining, remaining, taken_remaining, is_streaming}
 use Rattle.tiny_http_core.specs.Slots.{Slot, is_finished, is_broken, is_slot_broken, segment, joined, new_slot, turn_has_come, is_chunked, last_slot, last_holds_reader, last_was_abandoned, is_last_slot}
-use Rattle.tiny_http_message.specs.ResponseValue.{printing_to}
+use Rattle.tiny_http_sending.specs.ResponseValue.{printing_to}
 use Rattle.tiny_http_message.specs.OwnAnswer.{own_text, own_text_by}
 use Rattle.tiny_http_core.specs.Steps.{StepValue, Ask, ReplyValue, Handed, Ended, NotYet, Memory, Unused, Unreported, Outcome, Reached, unchanged, ask, asks_from, outcome}
 use Rattle.tiny_http_core.specs.Conversation.{Failure, State, PlaceAt, WriterPart, flushed_after, HasOutcome, StepsTo}
 use Rattle.tiny_http_core.proofs.ConversationWriting.{IsAllFlushed, unreported, still-flushed}
-use Rattle.tiny_http_core.specs.Sending.{IsFlushed, SendsUnlessEnded}
+use Rattle.tiny_http_sending.specs.Sending.{IsFlushed, SendsUnlessEnded}
 use Rattle.tiny_http_turns.specs.Turns.{Mark, Open, Left, Finished, AreInShape, first_unfinished}
 use Rattle.tiny_http_core.specs.Pending.{LeavesText, last_body, is_streaming_body}
 use Rattle.tiny_http_core.specs.Connection.{Kept, dropped, IsWaiting, AreKept, OutputAt, behind_body, GivesRest, InputEnded, is_past_last, is_in_body, NextHead, InputStands, Stands}

@@ -11,7 +11,7 @@ use Rattle.tiny_http_core.specs.Slots.{Slot, Unanswered, Answered as AnsweredBy,
 use Rattle.tiny_http_core.specs.Steps.{Drop, Done, Outcome, Reached, changes, use_in_turn, at_slot, at_number}
 use Rattle.tiny_http_core.specs.Conversation.{Failure, State, flushed_after, WriterPart, HasOutcome}
 use Rattle.tiny_http_core.proofs.ConversationWriting.{FailsBetween, unreported, still-flushed}
-use Rattle.tiny_http_core.specs.Sending.{CanSend}
+use Rattle.tiny_http_sending.specs.Sending.{CanSend}
 use Rattle.tiny_http_turns.specs.Turns.{Mark, Open, Left, Finished, AreInShape, first_unfinished}
 use Rattle.tiny_http_core.specs.Pending.{left_text, with_left_finished, LeavesText}
 use Rattle.tiny_http_core.specs.Connection.{Kept, open_slot, dropped, AreKept, OutputAt, InputStands, Stands}

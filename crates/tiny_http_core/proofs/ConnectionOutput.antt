@@ -11,7 +11,7 @@ use Rattle.tiny_http_message.specs.declared.waiting.Waiting.{Waiting}
 use Rattle.tiny_http_core.specs.Slots.{Slot, is_finished, joined, is_output_broken}
 use Rattle.tiny_http_core.specs.Conversation.{Failure, finished_front}
 use Rattle.tiny_http_core.proofs.ConversationWriting.{FailsBetween}
-use Rattle.tiny_http_core.specs.Sending.{CanSend, IsFlushed, OutletFailed, Idles, SendsUnlessEnded}
+use Rattle.tiny_http_sending.specs.Sending.{CanSend, IsFlushed, OutletFailed, Idles, SendsUnlessEnded}
 use Rattle.tiny_http_turns.specs.Turns.{Mark, Open, Held, Left, Finished, AreOpenOrLeft}
 use Rattle.tiny_http_core.specs.Pending.{left_text, begins_left}
 use Rattle.tiny_http_core.specs.Connection.{AreKept, OutputAt}

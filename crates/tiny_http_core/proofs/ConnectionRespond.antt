@@ -12,13 +12,15 @@ use Rattle.tiny_http_encoding.specs.Text.{Text, Ending, Whole, Broken}
 use Rattle.tiny_http_wire.specs.declared.answer_form.AnswerForm.{AnswerForm}
 use Rattle.tiny_http_message.specs.declared.waiting.Waiting.{Waiting}
 use Rattle.tiny_http_message.specs.Pipeline.{Item, Asks, Refuses, Request}
-use Rattle.tiny_http_message.specs.ResponseValue.{ResponseValue}
-use Rattle.tiny_http_core.specs.Slots.{Slot, Stage, Unanswered, Answered as AnsweredBy, ByServer, Raw, Upgraded, is_stage_finished, is_finished, is_broken, is_slot_broken, segment, joined, is_output_broken, last_slot, turn_has_come, to_request, text_if, IsGathered}
+use Rattle.tiny_http_sending.specs.ResponseValue.{ResponseValue}
+use Rattle.tiny_http_sending.specs.Sending.{IsGathered}
+use Rattle.tiny_http_core.specs.Slots.{Slot, Stage, Unanswered, Answered as AnsweredBy, ByServer, Raw, Upgraded, is_stage_finished, is_finished, is_broken, is_slot_broken, segment, joined, is_output_broken, last_slot, turn_has_come, to_request, text_if}
 use Rattle.tiny_http_core.specs.Steps.{StepValue, outcome, Respond, ReplyValue, Done, NoSuch, NotYet, WriterUse, Reported, Outcome, Reached, unchanged, changes, finished_as, accepts_step, fault_in, fault_of_answer, at_item, at_slot, at_number}
 use Rattle.tiny_http_core.specs.Conversation.{Failure, State, has_output_ended, finished_front, flushed_after, WriterPart, HasOutcome, GathersAt, MayLack}
 use Rattle.tiny_http_core.proofs.ConversationWriting.{FailsBetween, FailsReported, FailsBehind, broken_reply, used, WritesIf, IsAllFlushed, reported, still-flushed}
-use Rattle.tiny_http_core.specs.Seen.{printing_in, Answers, reply_to}
-use Rattle.tiny_http_core.specs.Sending.{CanSend, OutletTook, OutletFailed, IsFlushed, SendsText, Sends, SendsUnlessEnded}
+use Rattle.tiny_http_sending.specs.ResponseValue.{printing_in}
+use Rattle.tiny_http_core.specs.Seen.{Answers, reply_to}
+use Rattle.tiny_http_sending.specs.Sending.{CanSend, OutletTook, OutletFailed, IsFlushed, SendsText, Sends, SendsUnlessEnded}
 use Rattle.tiny_http_turns.specs.Turns.{Mark, Open, Held, Finished, AreInShape, first_unfinished}
 use Rattle.tiny_http_core.specs.Pending.{left_text, with_left_finished, begins_left, SendsLeft, FinishesFront, waiting_answer_form}
 use Rattle.tiny_http_core.specs.Connection.{Kept, answer_form_of, open_slot, IsWaiting, AreKept, OutputAt, InputStands, Stands}
@@ -30,7 +32,7 @@ use Rattle.tiny_http_core.proofs.SlotsLemmas.{all-snoc, joined-front, joined-bro
 use Rattle.tiny_http_core.proofs.ConnectionKept.{get-at, set-at, take-at, kept-append, kept-many, kept-passed, none-waits, place-of, InTurn, OutOfTurn, turn-at}
 use Rattle.tiny_http_core.proofs.ConnectionOutput.{joined_behind, front-all, left-finished, lost-output, all-firm, ended-is, output-same, plain-more, can-send, output-more}
 use Rattle.tiny_http_core.proofs.PendingLemmas.{none-left}
-use Rattle.tiny_http_core.proofs.SlotsLemmas.{or-parts}
+use Rattle.tiny_http_sending.proofs.SendingLemmas.{or-parts}
 
 -- a number that is finished takes no such step
 abbrev pub TakesNone : StepValue → Type 0

@@ -15,7 +15,7 @@ use Rattle.tiny_http_message.specs.declared.framing.Form.{Form}
 use Rattle.tiny_http_message.specs.declared.framing.Form.TheVariants.{Nothing, WithHead}
 use Rattle.tiny_http_message.specs.declared.framing.Framing.{Framing}
 use Rattle.tiny_http_message.specs.Framing.{framing}
-use Rattle.tiny_http_message.specs.ResponseValue.{ResponseValue, response_of}
+use Rattle.tiny_http_sending.specs.ResponseValue.{ResponseValue, response_of}
 use Rattle.tiny_http_core.specs.Steps.{StepValue, Ask, Respond, Drop, ReplyValue, Handed, Ended, NotYet, Done}
 use Rattle.tiny_http_core.specs.Conversation.{TimedValue}
 use Rattle.tiny_http_core.specs.ConversationReading.{conversed, Conversed}

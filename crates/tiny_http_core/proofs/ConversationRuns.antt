@@ -34,7 +34,7 @@ use Rattle.std.specs.declared.io.ErrorKind.{ErrorKind}
 use Rattle.tiny_http_core.specs.declared.driver.Step.{Step}
 use Rattle.tiny_http_core.specs.declared.driver.Step.TheVariants as step
 use Rattle.tiny_http_core.specs.Seen.{ReportsHonestly, ReportHonestly, MayFail}
-use Rattle.tiny_http_core.specs.Sending.{FailsOnce, FailsOnceUnlessEnded, FailsAtMostOnce}
+use Rattle.tiny_http_sending.specs.Sending.{FailsOnce, FailsOnceUnlessEnded, FailsAtMostOnce}
 use Rattle.tiny_http_device.proofs.DeviceLemmas.{grown-nil}
 use Rattle.tiny_http_stream.proofs.SourceGoesOn.{goes-on_same}
 use Rattle.tiny_http_core.proofs.ConnectionAsk.{pipeline-empty, stated-feed, last-of}

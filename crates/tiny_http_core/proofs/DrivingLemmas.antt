@@ -14,11 +14,11 @@ use Rattle.tiny_http_core.specs.declared.driver.Step.TheVariants as step
 use Rattle.tiny_http_core.specs.declared.pending.Pending.{Pending}
 use Rattle.tiny_http_stream.specs.Source.{SourceState, GoesOn}
 use Rattle.tiny_http_stream.specs.Outlet.{OutletState, output_of, SentOn}
-use Rattle.tiny_http_message.specs.ResponseValue.{ResponseValue}
+use Rattle.tiny_http_sending.specs.ResponseValue.{ResponseValue}
 use Rattle.tiny_http_core.specs.Steps.{StepValue, Ask, Read, Respond, Drop, ReplyValue, Fault}
 use Rattle.tiny_http_core.specs.Conversation.{State, TimedValue, IsFresh, start_state}
 use Rattle.tiny_http_wire.specs.declared.coding.Coding.{Coding}
-use Rattle.tiny_http_core.specs.Sending.{FailsOnceUnlessEnded, IsHonest}
+use Rattle.tiny_http_sending.specs.Sending.{FailsOnceUnlessEnded, IsHonest}
 use Rattle.tiny_http_core.specs.Seen.{seen, IsResponse, IsStep, IsTimedStep, MayFail, ReportsHonestly, IsAnswered}
 use Rattle.tiny_http_message.specs.declared.body.Body.{Body}
 use Rattle.tiny_http_message.specs.Body.{GivesUp, is_streaming, body_standing}
@@ -43,7 +43,7 @@ use Rattle.tiny_http_core.specs.Driving.{IsRefusal, EndsRequestsAt}
 use Rattle.tiny_http_message.specs.PipelineReading.{items_of}
 use Rattle.tiny_http_message.proofs.PipelineLemmas.{feed-pipeline}
 use Rattle.tiny_http_core.proofs.ConversationRuns.{run-more, stands-begun, fails-step, split}
-use Rattle.tiny_http_core.proofs.SendingLemmas.{once-none, once-append}
+use Rattle.tiny_http_sending.proofs.SendingLemmas.{once-none, once-append}
 
 -- the fields as they are seen
 abbrev pub viewed : {R W : Type 0} → SourceState R → OutletState W → Pending → Option EndOfRequests → ConnectionState R W

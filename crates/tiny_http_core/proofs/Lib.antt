@@ -1,4 +1,3 @@
-pub mod SendingLemmas
 pub mod SlotsLemmas
 pub mod ConnectionReader
 pub mod ConnectionKept

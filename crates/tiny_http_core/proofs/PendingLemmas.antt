@@ -7,12 +7,12 @@ use Rattle.tiny_http_turns.specs.declared.turns.Finishing.{Finishing}
 use Rattle.tiny_http_turns.specs.declared.turns.Finishing.TheVariants.{Passed as IsPassed, Go, Strange as IsStrange}
 use Rattle.tiny_http_turns.specs.declared.turns.Leaving.{Leaving}
 use Rattle.tiny_http_turns.specs.declared.turns.Leaving.TheVariants.{Left as IsLeft, Go as LeaveGo, Strange as LeaveStrange}
-use Rattle.tiny_http_core.specs.Sending.{CanSend, IsFlushed, SendsUnlessEnded}
+use Rattle.tiny_http_sending.specs.Sending.{CanSend, IsFlushed, SendsUnlessEnded}
 use Rattle.tiny_http_turns.specs.Turns.{Mark, Open, Held, Left, Finished, AreInShape, first_unfinished, Goes, Passed, Waits, TurnOutcome, Finish, Leave, turn_outcome, turn_answer, marks_after_step, finish_at, pass_to, leave_at}
 use Rattle.tiny_http_turns.specs.TurnsCalls.{Finishes, LeavesTurn}
 use Rattle.tiny_http_core.specs.Pending.{left_text, with_left_finished, begins_left, SendsLeft, FinishesFront, LeavesText}
 use Rattle.tiny_http_core.proofs.ConnectionKept.{get-at, set-at}
-use Rattle.tiny_http_core.proofs.SendingLemmas.{sends-append, sends-can}
+use Rattle.tiny_http_sending.proofs.SendingLemmas.{sends-append, sends-can}
 
 -- the place after a place
 get-next : {X : Type 0} (xs : List X) (x : X) (ys : List X) → slice_get (xs ++ (x ∷ ys)) (suc (length xs)) ≡ slice_get ys 0

@@ -5,7 +5,7 @@ use Rattle.tiny_http_wire.specs.Answer.{ResponseState}
 use Rattle.httpdate.specs.declared.date.HttpDate.{HttpDate}
 use Rattle.tiny_http_core.specs.declared.driver.Step.{Step}
 use Rattle.tiny_http_core.specs.declared.driver.Step.TheVariants as step
-use Rattle.tiny_http_message.specs.ResponseValue.{ResponseValue}
+use Rattle.tiny_http_sending.specs.ResponseValue.{ResponseValue}
 use Rattle.tiny_http_core.specs.Steps.{StepValue, Ask, AsReader, Read, Respond, IntoWriter, Write, Flush, Upgrade, Finish, Drop, ReplyValue}
 use Rattle.tiny_http_core.specs.Conversation.{State, TimedValue}
 use Rattle.tiny_http_core.specs.Seen.{IsResponse, IsStep}

@@ -4,6 +4,7 @@ use Rattle.std.specs.Prelude.{if◌then◌else◌}
 use Rattle.std.specs.List.{list_all}
 use Rattle.std.proofs.lemmas.Bool.{and_parts}
 use Rattle.tiny_http_core.specs.Slots.{Slot, is_finished, is_slot_broken, segment, joined, is_output_broken}
+use Rattle.tiny_http_sending.proofs.SendingLemmas.{or-parts}
 
 -- a test of all, and of one more
 pub all-snoc : {X : Type 0} (p : X → Bool) (xs : List X) (x : X) → list_all p xs ≡ true → p x ≡ true → list_all p (xs ++ x ∷ []) ≡ true
@@ -18,10 +19,6 @@ goes-on false b u v w h = refl
 
 joined-cons : (x : Slot) (ys zs : List Slot) → (is_finished x ≡ true → is_slot_broken x ≡ false → joined ys ≡ joined zs) → joined (x ∷ ys) ≡ joined (x ∷ zs)
 joined-cons x ys zs h = goes-on (is_finished x) (is_slot_broken x) (joined ys) (joined zs) (segment x) h
-
-pub or-parts : (a b : Bool) → (a || b) ≡ false → (a ≡ false) × (b ≡ false)
-or-parts true b h = cc
-or-parts false b h = (refl, h)
 
 -- all before are finished, and none broke off: what is after follows
 pub joined-front : (xs ys : List Slot) → list_all is_finished xs ≡ true → is_output_broken xs ≡ false → joined (xs ++ ys) ≡ joined xs ++ joined ys

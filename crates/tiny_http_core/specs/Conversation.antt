@@ -8,8 +8,9 @@ use Rattle.tiny_http_message.specs.Pipeline.{Item, Asks, Refuses, Place, body_le
 use Rattle.tiny_http_message.specs.BodyRemains.{RemainsAt}
 use Rattle.tiny_http_wire.specs.declared.device.Stop.TheVariants.{End}
 use Rattle.tiny_http_stream.specs.ToCome.{stopped}
-use Rattle.tiny_http_message.specs.ResponseValue.{ResponseValue}
-use Rattle.tiny_http_core.specs.Slots.{Slot, is_finished, joined, is_output_broken, new_slot, rest_of, last_slot, last_is_open, is_last_slot, last_holds_reader, last_was_abandoned, turn_has_come, IsGathered, to_request}
+use Rattle.tiny_http_sending.specs.ResponseValue.{ResponseValue}
+use Rattle.tiny_http_sending.specs.Sending.{IsGathered}
+use Rattle.tiny_http_core.specs.Slots.{Slot, is_finished, joined, is_output_broken, new_slot, rest_of, last_slot, last_is_open, is_last_slot, last_holds_reader, last_was_abandoned, turn_has_come, to_request}
 use Rattle.tiny_http_core.specs.Steps.{StepValue, Ask, Read, Respond, ReplyValue, NoSuch, Memory, WriterUse, Unused, Unreported, Reported, use_in_turn, Outcome, Reached, outcome}
 
 -- the writer's first fault: its kind, and all that the writer took

@@ -20,7 +20,7 @@ use Rattle.tiny_http_stream.specs.Outlet.{output_of, SentOn}
 use Rattle.tiny_http_message.specs.Pipeline.{Item, Refuses, Refusal, refusal_status, OneHead, Pipeline}
 use Rattle.tiny_http_core.specs.Steps.{StepValue, ReplyValue, Handed, Ended, NotYet, NoSuch, Memory, Fault}
 use Rattle.tiny_http_core.specs.Conversation.{State, TimedValue, Run, start_state, IsFresh}
-use Rattle.tiny_http_core.specs.Sending.{FailsOnceUnlessEnded}
+use Rattle.tiny_http_sending.specs.Sending.{FailsOnceUnlessEnded}
 use Rattle.tiny_http_message.specs.declared.body.Body.{Body}
 use Rattle.tiny_http_message.specs.declared.waiting.Waiting.{Waiting}
 use Rattle.tiny_http_message.specs.Body.{GivesUp, is_streaming, body_standing}

@@ -2,7 +2,6 @@ pub mod Slots
 pub mod Steps
 pub mod Conversation
 pub mod Seen
-pub mod Sending
 pub mod Pending
 pub mod Connection
 pub mod Driving
@@ -18,7 +17,8 @@ pub use Rattle.tiny_http_stream.specs.FeedParts
 pub use Rattle.tiny_http_stream.specs.EqualReader
 pub use Rattle.tiny_http_stream.specs.FusedReader
 pub use Rattle.tiny_http_message.specs.Framing
-pub use Rattle.tiny_http_message.specs.ResponseValue
+pub use Rattle.tiny_http_sending.specs.ResponseValue
+pub use Rattle.tiny_http_sending.specs.Sending
 pub use Rattle.tiny_http_message.specs.OwnAnswer
 pub use Rattle.tiny_http_message.specs.Page
 pub use Rattle.tiny_http_message.specs.TextState

@@ -5,7 +5,7 @@ use Rattle.tiny_http_wire.specs.declared.answer_form.AnswerForm.{AnswerForm}
 use Rattle.tiny_http_message.specs.declared.waiting.Waiting.{Waiting}
 use Rattle.tiny_http_message.specs.declared.body.Body.{Body}
 use Rattle.tiny_http_message.specs.Body.{is_streaming}
-use Rattle.tiny_http_core.specs.Sending.{SendsUnlessEnded, IsFlushed}
+use Rattle.tiny_http_sending.specs.Sending.{SendsUnlessEnded, IsFlushed}
 use Rattle.tiny_http_turns.specs.Turns.{Mark, Open, Held, Left, Finished, AreInShape}
 
 -- the texts that were left at the front of these numbers

@@ -13,10 +13,10 @@ use Rattle.tiny_http_wire.specs.declared.answer_form.AnswerForm.{AnswerForm}
 use Rattle.tiny_http_core.specs.declared.driver.Reply.{Reply}
 use Rattle.tiny_http_core.specs.declared.driver.Reply.TheVariants as reply
 use Rattle.tiny_http_message.specs.HeadReads.{head_message, head_framing}
-use Rattle.tiny_http_message.specs.ResponseValue.{ResponseValue, printing_to}
+use Rattle.tiny_http_sending.specs.ResponseValue.{ResponseValue}
 use Rattle.tiny_http_core.specs.Steps.{StepValue, Ask, Read, Respond, Drop, ReplyValue, Handed, Ended, Given, Fault, NotYet, Done, Refused, NoSuch, Memory, fault_of_answer}
 use Rattle.tiny_http_core.specs.Conversation.{TimedValue}
-use Rattle.tiny_http_core.specs.Sending.{Sends, IsFlushed, IsHonest, FailsAtMostOnce}
+use Rattle.tiny_http_sending.specs.Sending.{Sends, IsFlushed, IsHonest, FailsAtMostOnce}
 
 -- the response states its data, of fewer than 2^63 bytes
 abbrev pub IsResponse : {D : Type 0} → (D → Option Feed) → ResponseState D → ResponseValue → Type 0
@@ -65,10 +65,6 @@ ReportHonestly feed old (t ∷ steps) (r ∷ replies) new =
     (mid : Sink) × FailsAtMostOnce old mid × ReportsHonestly feed old mid t r × ReportHonestly feed mid steps replies new
 ReportHonestly feed old [] (r ∷ replies) new = ⊥
 ReportHonestly feed old (t ∷ steps) [] new = ⊥
-
--- how an answer to a request of this form is printed
-abbrev pub printing_in : AnswerForm → HttpDate → Printing
-printing_in form date = printing_to form.asked_coding form.version form.no_body date
 
 -- what a call that sends an answer is reported as
 abbrev pub reply_to : {T : Type 0} → Result T Error → ReplyValue

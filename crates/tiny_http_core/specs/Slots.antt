@@ -3,15 +3,14 @@ use Rattle.std.specs.Prelude.{◌≡◌, ℕ, Bool, true, false, not, ◌&&◌, 
 use Rattle.std.specs.List.{list_all, last_or}
 use Rattle.std.specs.declared.io.ErrorKind.TheVariants.{OutOfMemory}
 use Rattle.httpdate.specs.declared.date.HttpDate.{HttpDate}
-use Rattle.tiny_http_wire.specs.declared.coding.Coding.TheVariants as coding
 use Rattle.tiny_http_wire.specs.Coding.{coding_asked}
 use Rattle.tiny_http_wire.specs.Device.{Feed}
-use Rattle.tiny_http_wire.specs.Answer.{Answer, Printing, text_plain, answer_coding}
+use Rattle.tiny_http_wire.specs.Answer.{Answer, Printing, text_plain}
 use Rattle.tiny_http_encoding.specs.Text.{Text, Ending, Whole, Broken, prepend_text, whole, nothing_sent}
 use Rattle.tiny_http_message.specs.declared.framing.Form.{Form}
 use Rattle.tiny_http_message.specs.declared.framing.Form.TheVariants.{Rest, Nothing, WithHead, Counted, Chunked}
 use Rattle.tiny_http_message.specs.Pipeline.{Item, Asks, Refuses, Refusal, VersionNotSupported, refusal_status, Request, is_head_method, body_length_or_0}
-use Rattle.tiny_http_message.specs.ResponseValue.{ResponseValue, response_of, response_text, printing_to}
+use Rattle.tiny_http_sending.specs.ResponseValue.{ResponseValue, response_of, response_text, printing_to}
 use Rattle.tiny_http_message.specs.OwnAnswer.{own_printing}
 use Rattle.tiny_http_message.specs.Body.{body_finished}
 
@@ -74,10 +73,6 @@ server_response (Refuses refusal version withheld last) = refusal_response refus
 abbrev pub text_if : Bool → ResponseValue → Printing → Text
 text_if true r p = response_text r p
 text_if false r p = nothing_sent OutOfMemory
-
--- the data of this answer are read whole before its head
-abbrev pub IsGathered : Answer → Printing → Type 0
-IsGathered a p = (p.upgrade ≡ None) × (answer_coding a p ≡ coding.Identity) × (a.length ≡ None)
 
 -- what a stage sends
 abbrev pub stage_text : Item → HttpDate → Stage → Text

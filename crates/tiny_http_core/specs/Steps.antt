@@ -11,7 +11,7 @@ use Rattle.tiny_http_wire.specs.Heads.{Message}
 use Rattle.tiny_http_encoding.specs.Text.{Ending, Whole, Broken}
 use Rattle.tiny_http_message.specs.declared.framing.Framing.{Framing}
 use Rattle.tiny_http_message.specs.Pipeline.{Item, Asks, Refuses, Request}
-use Rattle.tiny_http_message.specs.ResponseValue.{ResponseValue}
+use Rattle.tiny_http_sending.specs.ResponseValue.{ResponseValue}
 use Rattle.tiny_http_core.specs.Slots.{Slot, Stage, Unanswered, Answered, ByServer, Raw, Upgraded, turn_has_come, to_request, text_if, new_slot, rest_of, last_slot, last_holds_reader, last_was_abandoned}
 
 -- a step, with its response as a value

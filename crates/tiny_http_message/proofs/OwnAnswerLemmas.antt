@@ -17,7 +17,7 @@ use Rattle.tiny_http_wire.specs.Common.{reason_phrase}
 use Rattle.tiny_http_wire.specs.Device.{Sink, Failed, ending}
 use Rattle.tiny_http_encoding.specs.Text.{Ending, Whole, Broken, identity_body, chunked_body}
 use Rattle.tiny_http_wire.specs.Answer.{Answer, Printing, answer_with, answer_coding, with_coding, PrintsAnswer, text_of, body_unless_withheld, is_withheld, answer_head_text, status_line, field_line, upgrade_lines, server_line, date_line, framing_line}
-use Rattle.tiny_http_message.specs.ResponseValue.{printing_to}
+use Rattle.tiny_http_sending.specs.ResponseValue.{printing_to}
 use Rattle.tiny_http_message.specs.OwnAnswer.{own_text_by}
 
 -- an answer of the server's own is whole, however it is coded

@@ -9,8 +9,9 @@ use Rattle.tiny_http_message.specs.declared.exchange.Exchange.{Exchange}
 use Rattle.tiny_http_stream.specs.Source.{SourceState}
 use Rattle.tiny_http_stream.specs.declared.source.Standing.{Standing}
 use Rattle.tiny_http_message.specs.Pipeline.{is_head_method}
-use Rattle.tiny_http_message.specs.ResponseValue.{printing_to}
+use Rattle.tiny_http_sending.specs.ResponseValue.{printing_to, printing_in}
 use Rattle.tiny_http_wire.specs.Coding.{coding_asked}
+use Rattle.tiny_http_wire.specs.Answer.{Printing}
 use Rattle.tiny_http_message.specs.OwnAnswer.{own_text_by}
 use Rattle.tiny_http_message.specs.Body.{Remaining, remaining, body_stop, body_standing, is_streaming, ReadsOn, Fits, GivesUp}
 
@@ -29,6 +30,10 @@ exchange_left x feed = remaining x.waiting.body feed
 -- the end or the fault that its body reports from now on, where that is kept
 abbrev pub exchange_stop : Exchange → Option Stop
 exchange_stop x = body_stop x.waiting.body
+
+-- how its answer of this date is printed
+abbrev pub exchange_printing : Exchange → HttpDate → Printing
+exchange_printing x date = printing_in x.waiting.answer_form date
 
 -- its body is read from the input, which has to stand after it before the next head is read
 abbrev pub exchange_streams : Exchange → Bool

@@ -1,5 +1,4 @@
 pub mod Framing
-pub mod ResponseValue
 pub mod OwnAnswer
 pub mod Page
 pub mod TextState

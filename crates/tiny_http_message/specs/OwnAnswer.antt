@@ -3,7 +3,7 @@ use Rattle.std.specs.Prelude.{ℕ, Bool, List, [], None}
 use Rattle.httpdate.specs.declared.date.HttpDate.{HttpDate}
 use Rattle.tiny_http_wire.specs.declared.common.HTTPVersion.{HTTPVersion}
 use Rattle.tiny_http_wire.specs.Answer.{Printing}
-use Rattle.tiny_http_message.specs.ResponseValue.{response_of, response_text, printing_to}
+use Rattle.tiny_http_sending.specs.ResponseValue.{response_of, response_text, printing_to}
 
 -- how such an answer is printed to a head that is refused, which asks for no coding
 abbrev pub own_printing : HTTPVersion → Bool → HttpDate → Printing

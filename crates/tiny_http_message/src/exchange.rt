@@ -1,5 +1,5 @@
 //! A request without locks: its head, its body on the connection's input, and what becomes of both.
-ghost use Rattle.std.specs.Prelude.{◌≡◌, ◌<◌, ◌≤◌, ◌==◌, true, false, length, take, None, Ok, IfOk, IfErr, IfSome, IsSome, OnErr};
+ghost use Rattle.std.specs.Prelude.{◌≡◌, ◌<◌, ◌≤◌, ◌==◌, ◌^◌, true, false, [], length, take, Some, None, Ok, IfOk, IfErr, IfSome, IsSome, OnErr};
 ghost use Rattle.std.specs.IoError.{error_kind};
 ghost use Rattle.tiny_http_wire.specs.Device.{AnswersStop};
 ghost use Rattle.tiny_http_stream.specs.Source.{GoesOn, IsAtEnd};
@@ -8,6 +8,10 @@ ghost use Rattle.tiny_http_message.specs.Pipeline.{is_head_method};
 ghost use Rattle.tiny_http_message.specs.Body.{prepended_body, BodyStops};
 ghost use Rattle.tiny_http_message.specs.HeadReads.{ReadsHead, EndsUnlessHanded, RefusesBy, Begins, IsCutOff, IsRequest, IsRefusedHead, IsOkEnd, IsBeforeHead, cut_end, end_at, standing_of, standing_read, message_of, head_message, head_framing};
 ghost use Rattle.tiny_http_message.specs.Exchange.{KeepsHead};
+ghost use Rattle.tiny_http_wire.specs.Device.{Feed};
+ghost use Rattle.tiny_http_wire.specs.Answer.{answer_coding};
+ghost use Rattle.tiny_http_stream.specs.Outlet.{output_of, outlet_ended, outlet_held, SentOn};
+ghost use Rattle.tiny_http_sending.specs.Sending.{CanSend, Sends, FailsOnceUnlessEnded, IsHonest};
 
 use crate::body::{Body, counted};
 pub use crate::framing::Form;
@@ -19,13 +23,16 @@ use httpdate::HttpDate;
 use std::alloc::{AllocError, Global};
 use std::io;
 use std::io::{Cursor, ErrorKind};
+use tiny_http_sending::sending::send;
+use tiny_http_stream::outlet::Outlet;
 use tiny_http_stream::source::{Source, Standing};
 use tiny_http_wire::answer_form::AnswerForm;
 use tiny_http_wire::ascii::AsciiString;
 use tiny_http_wire::chunked::Decoding;
 use tiny_http_wire::coding::asked_coding;
 use tiny_http_wire::common::{HTTPVersion, Header, Method, StatusCode};
-use tiny_http_wire::device::{ReadDevice, Stop};
+use tiny_http_wire::device::{ReadDevice, Stop, WriteDevice};
+use tiny_http_wire::response::Response;
 
 /// What a request's head says.
 #[derive(Drop)]
@@ -102,7 +109,7 @@ pub enum HeadRead {
 }
 
 impl Exchange {
-    ghost use Rattle.tiny_http_message.specs.Exchange.{exchange_of, exchange_head, exchange_left, exchange_stop, exchange_streams, exchange_standing, ExchangeReadsOn, GivesUpBody};
+    ghost use Rattle.tiny_http_message.specs.Exchange.{exchange_printing, exchange_of, exchange_head, exchange_left, exchange_stop, exchange_streams, exchange_standing, ExchangeReadsOn, GivesUpBody};
 
     /// What the request's head says.
     pub fn head(&self) -> &Head
@@ -142,6 +149,34 @@ impl Exchange {
         ensures standing { exchange_streams self.old ≡ true → source.new.standing ≡ exchange_standing self.new source.old.standing }
     {
         self.waiting.body.read(source, buf)
+    }
+
+    /// Sends the answer to this request, printed for it and dated `now`, and flushes it. Whoever calls it keeps the order of
+    /// the answers, and gives the body up. On an outlet that has ended nothing is sent, the data aren't read, and the result
+    /// is `Ok`. The first fault is the error: the data's, or the writer's; then the outlet has ended, and what was held
+    /// before a fault of the data is sent.
+    pub fn respond_on<W: WriteDevice, D: ReadDevice + Drop>(
+        &self,
+        alloc: Global,
+        outlet: &mut Outlet<W>,
+        response: Response<D>,
+        now: HttpDate,
+    ) -> Result<(), io::Error>
+        ensures past { outlet_ended outlet.old ≡ true → (outlet.new ≡ outlet.old) × (result ≡ Ok tt) }
+        ensures sends { (content : Feed) → D.feed response.data_reader ≡ Some content → length content.bytes < 2 ^ 63
+            → outlet_ended outlet.old ≡ false → CanSend (output_of outlet.old)
+            → Sends (output_of outlet.old) (output_of outlet.new) (outlet_ended outlet.new) result response.answer content (exchange_printing self.now now) }
+        ensures fails_once { FailsOnceUnlessEnded (outlet_ended outlet.old) (output_of outlet.old) (output_of outlet.new) (outlet_ended outlet.new) }
+        ensures honest { IfErr result (λ e.
+            IsHonest (output_of outlet.old) (output_of outlet.new) (answer_coding response.answer (exchange_printing self.now now)) response.answer.length (D.feed response.data_reader) (error_kind e)) }
+        ensures ended { OnErr result (outlet_ended outlet.new ≡ true) }
+        ensures flushed { outlet_held outlet.old ≡ [] → outlet_held outlet.new ≡ [] }
+        ensures sent_on { SentOn outlet.old → SentOn outlet.new }
+    {
+        if outlet.is_ended() {
+            return Ok(());
+        }
+        send(alloc, outlet, response, self.waiting.answer_form, now)
     }
 
     /// Gives the body up: each later read answers 0. The rest of a body of a known length is skipped before the next head;

@@ -1,7 +1,7 @@
 //! Answers of the server's own: the text of a refused head, and the text of a dropped request, which is printed as it is dropped.
 ghost use Rattle.std.specs.Prelude.{◌≡◌, ◌<◌, ◌≤◌, IfOk, length, vec_len, vec_capacity};
 ghost use Rattle.httpdate.specs.Date.{date_text};
-ghost use Rattle.tiny_http_message.specs.ResponseValue.{printing_to};
+ghost use Rattle.tiny_http_sending.specs.ResponseValue.{printing_to};
 ghost use Rattle.tiny_http_message.specs.OwnAnswer.{own_text, own_text_by};
 
 use httpdate::HttpDate;
@@ -101,7 +101,7 @@ pub struct DropText {
 
 impl Model for DropText {
     ghost use Rattle.std.specs.Prelude.{◌≡◌, ◌<◌, ◌≤◌, [], vec_len, vec_capacity};
-    ghost use Rattle.tiny_http_message.specs.ResponseValue.{printing_to};
+    ghost use Rattle.tiny_http_sending.specs.ResponseValue.{printing_to};
     ghost use Rattle.tiny_http_message.specs.OwnAnswer.{own_text_by};
     ghost use Rattle.tiny_http_message.specs.TextState.{TextState};
 

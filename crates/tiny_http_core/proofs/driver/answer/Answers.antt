@@ -5,9 +5,10 @@ use Rattle.std.specs.IoError.{error_kind}
 use Rattle.tiny_http_wire.specs.Answer.{answer_coding}
 use Rattle.tiny_http_stream.specs.Outlet.{output_of}
 use Rattle.tiny_http_core.specs.Steps.{ReplyValue, Done, Fault, is_closed_client, fault_of_answer}
-use Rattle.tiny_http_core.specs.Seen.{seen, printing_in}
-use Rattle.tiny_http_core.specs.Sending.{IsHonest}
-use Rattle.tiny_http_core.proofs.SlotsLemmas.{or-parts}
+use Rattle.tiny_http_sending.specs.ResponseValue.{printing_in}
+use Rattle.tiny_http_core.specs.Seen.{seen}
+use Rattle.tiny_http_sending.specs.Sending.{IsHonest}
+use Rattle.tiny_http_sending.proofs.SendingLemmas.{or-parts}
 use Rattle.tiny_http_core.proofs.driver.answer.Goals as goal
 
 -- the fault that is reported is the one that was met

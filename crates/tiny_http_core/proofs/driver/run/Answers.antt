@@ -6,7 +6,7 @@ use Rattle.tiny_http_wire.specs.Device.{Feed}
 use Rattle.tiny_http_stream.specs.Source.{GoesOn}
 use Rattle.tiny_http_core.specs.Seen.{IsTimedStep, seen}
 use Rattle.tiny_http_stream.specs.Outlet.{OutletState, output_of, SentOn, outlet_writer}
-use Rattle.tiny_http_core.specs.Sending.{FailsOnce}
+use Rattle.tiny_http_sending.specs.Sending.{FailsOnce}
 use Rattle.tiny_http_stream.proofs.SourceGoesOn.{goes-on_same, goes-on_more}
 use Rattle.tiny_http_core.proofs.ConversationRuns.{joins-more, joins-end, fails-step, honest-step, honest-end}
 use Rattle.tiny_http_core.proofs.DrivingLemmas.{done-none, done-step, reports-step}

@@ -5,7 +5,7 @@ use Rattle.tiny_http_wire.specs.Device.{Feed, Sink, HoldsNothing}
 use Rattle.tiny_http_core.specs.Conversation.{IsFresh, TimedValue}
 use Rattle.tiny_http_stream.specs.Source.{GoesOn}
 use Rattle.tiny_http_core.specs.Seen.{IsTimedStep, seen, ReportHonestly}
-use Rattle.tiny_http_core.specs.Sending.{FailsOnce}
+use Rattle.tiny_http_sending.specs.Sending.{FailsOnce}
 use Rattle.tiny_http_stream.specs.Outlet.{output_of, SentOn}
 use Rattle.tiny_http_core.specs.declared.driver.Timed.{Timed}
 use Rattle.tiny_http_core.specs.declared.driver.Reply.{Reply}

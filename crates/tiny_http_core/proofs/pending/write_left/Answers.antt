@@ -1,4 +1,4 @@
-use Rattle.tiny_http_core.proofs.SendingLemmas.{is-flushed}
+use Rattle.tiny_http_sending.proofs.SendingLemmas.{is-flushed}
 use Rattle.tiny_http_core.proofs.PendingLemmas.{flushed-behind}
 use Rattle.tiny_http_core.proofs.pending.write_left.Goals as goal
 

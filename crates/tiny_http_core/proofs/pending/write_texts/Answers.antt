@@ -1,7 +1,7 @@
 use Rattle.std.proofs.Common.{subst, List, ℕ}
 use Rattle.tiny_http_stream.specs.Outlet.{output_of, outlet_ended}
-use Rattle.tiny_http_core.specs.Sending.{SendsUnlessEnded}
-use Rattle.tiny_http_core.proofs.SendingLemmas.{once-append}
+use Rattle.tiny_http_sending.specs.Sending.{SendsUnlessEnded}
+use Rattle.tiny_http_sending.proofs.SendingLemmas.{once-append}
 use Rattle.tiny_http_core.proofs.PendingLemmas.{writes-next, writes-last}
 use Rattle.tiny_http_core.proofs.pending.write_texts.Goals as goal
 

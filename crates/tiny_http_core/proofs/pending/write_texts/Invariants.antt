@@ -1,7 +1,7 @@
 use Rattle.std.proofs.Common.{◌≡◌, ◌-◌, ◌∷◌, ◌++◌, List, length}
 use Rattle.tiny_http_turns.specs.Turns.{Mark, Held}
 use Rattle.tiny_http_stream.specs.Outlet.{output_of, outlet_ended}
-use Rattle.tiny_http_core.specs.Sending.{FailsOnceUnlessEnded}
+use Rattle.tiny_http_sending.specs.Sending.{FailsOnceUnlessEnded}
 use Rattle.tiny_http_core.proofs.PendingLemmas.{WritesLeft}
 use Rattle.tiny_http_core.proofs.pending.write_texts.Given as goal
 

@@ -12,13 +12,14 @@ use Rattle.tiny_http_turns.specs.Turns.{Mark}
 use Rattle.tiny_http_core.specs.Pending.{waiting_answer_form}
 use Rattle.tiny_http_stream.specs.Outlet.{output_of, outlet_ended}
 use Rattle.tiny_http_core.specs.Connection.{Kept, kept}
-use Rattle.tiny_http_core.specs.Seen.{seen, Answers, printing_in}
+use Rattle.tiny_http_sending.specs.ResponseValue.{printing_in}
+use Rattle.tiny_http_core.specs.Seen.{seen, Answers}
 use Rattle.tiny_http_core.proofs.ConnectionAsk.{StepIsAnswered}
 use Rattle.tiny_http_stream.proofs.SourceGoesOn.{goes-on_same}
 use Rattle.tiny_http_core.proofs.ConnectionOutput.{can-send}
 use Rattle.tiny_http_core.proofs.ConnectionRespond.{no-such, respond-not_taken, answer-form-some, respond-not_yet, respond-done, responds-by, after_number}
 use Rattle.tiny_http_message.proofs.BodyReads.{gives-up}
-use Rattle.tiny_http_core.proofs.SendingLemmas.{once-append}
+use Rattle.tiny_http_sending.proofs.SendingLemmas.{once-append}
 use Rattle.tiny_http_core.proofs.DrivingLemmas.{viewed, same-view, takes-respond, driving-reads-on, moves-none, honest-more, gives-up-kept}
 use Rattle.tiny_http_core.proofs.driver.Connection.respond.Goals as goal
 

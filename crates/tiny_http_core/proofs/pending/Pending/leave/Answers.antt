@@ -1,7 +1,7 @@
 use Rattle.std.proofs.Common.{refl}
 use Rattle.tiny_http_stream.specs.Outlet.{output_of, outlet_ended}
 use Rattle.tiny_http_core.proofs.PendingLemmas.{leave-goes, leave-stays}
-use Rattle.tiny_http_core.proofs.SendingLemmas.{once-none}
+use Rattle.tiny_http_sending.proofs.SendingLemmas.{once-none}
 use Rattle.tiny_http_core.proofs.pending.Pending.leave.Goals as goal
 
 pub returns-in-Go-clause-leaves : goal.returns-in-Go-clause-leaves

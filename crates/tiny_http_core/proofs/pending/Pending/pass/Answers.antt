@@ -1,7 +1,7 @@
 use Rattle.std.proofs.Common.{refl}
 use Rattle.tiny_http_stream.specs.Outlet.{output_of, outlet_ended}
 use Rattle.tiny_http_core.proofs.PendingLemmas.{pass-goes, pass-ends}
-use Rattle.tiny_http_core.proofs.SendingLemmas.{once-none}
+use Rattle.tiny_http_sending.proofs.SendingLemmas.{once-none}
 use Rattle.tiny_http_core.proofs.pending.Pending.pass.Goals as goal
 
 pub returns-in-Go-clause-passes : goal.returns-in-Go-clause-passes

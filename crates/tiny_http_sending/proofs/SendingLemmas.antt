@@ -19,12 +19,16 @@ use Rattle.tiny_http_wire.specs.declared.coding.FramingHeader.TheVariants.{Conte
 use Rattle.tiny_http_wire.specs.declared.coding.Coding.{Coding}
 use Rattle.tiny_http_wire.specs.declared.coding.Coding.TheVariants.{Identity, Chunked}
 use Rattle.tiny_http_wire.specs.declared.device.Stop.{Stop}
-use Rattle.tiny_http_message.specs.ResponseValue.{printing_to}
+use Rattle.tiny_http_sending.specs.ResponseValue.{printing_to}
 use Rattle.tiny_http_wire.specs.declared.device.Stop.TheVariants.{End, Fault}
-use Rattle.tiny_http_core.specs.Sending.{CanSend, OutletTook, OutletFailed, Idles, EndsQuietly, DropsHeld, SendsText, Sends, SendsQuietly, IsFlushed, SendsUnlessEnded, FailsOnce, FailsOnceUnlessEnded, DataBreakOff, IsHonest}
-use Rattle.tiny_http_core.proofs.SlotsLemmas.{or-parts}
+use Rattle.tiny_http_sending.specs.Sending.{CanSend, OutletTook, OutletFailed, Idles, EndsQuietly, DropsHeld, SendsText, Sends, SendsQuietly, IsFlushed, SendsUnlessEnded, FailsOnce, FailsOnceUnlessEnded, DataBreakOff, IsHonest}
 use Rattle.tiny_http_device.proofs.DeviceFeeds.{append_known-append}
 use Rattle.tiny_http_device.proofs.DeviceLemmas.{grown-nil}
+
+-- neither holds
+pub or-parts : (a b : Bool) → (a || b) ≡ false → (a ≡ false) × (b ≡ false)
+or-parts true b h = cc
+or-parts false b h = (refl, h)
 
 pub append-none : (known : Option (List ℕ)) → append_known known [] ≡ known
 append-none None = refl

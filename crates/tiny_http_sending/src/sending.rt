@@ -3,9 +3,9 @@ ghost use Rattle.std.specs.Prelude.{◌≡◌, ◌<◌, ◌^◌, ◌==◌, true,
 ghost use Rattle.std.specs.IoError.{error_kind};
 ghost use Rattle.tiny_http_wire.specs.Device.{Feed};
 ghost use Rattle.tiny_http_wire.specs.Answer.{answer_coding};
-ghost use Rattle.tiny_http_core.specs.Seen.{printing_in};
+ghost use Rattle.tiny_http_sending.specs.ResponseValue.{printing_in};
 ghost use Rattle.tiny_http_stream.specs.Outlet.{output_of, outlet_ended, outlet_held, SentOn};
-ghost use Rattle.tiny_http_core.specs.Sending.{Sends, SendsUnlessEnded, EndsQuietly, DropsHeld, CanSend, FailsOnce, FailsOnceUnlessEnded, IsHonest};
+ghost use Rattle.tiny_http_sending.specs.Sending.{Sends, SendsUnlessEnded, EndsQuietly, DropsHeld, CanSend, FailsOnce, FailsOnceUnlessEnded, IsHonest};
 
 use httpdate::HttpDate;
 use std::alloc::Global;
@@ -32,9 +32,9 @@ fn end_behind_fault<W: WriteDevice>(outlet: &mut Outlet<W>, failures: u64)
     }
 }
 
-/// Prints an answer and flushes it. After a fault nothing more is sent on the connection: where it was the data's, what
-/// is held is sent before.
-pub(crate) fn send<W: WriteDevice, D: ReadDevice + Drop>(
+/// Prints an answer and flushes it. The first fault is the error: the data's, or the writer's. After it nothing more is sent
+/// on the connection; what was held before a fault of the data is sent.
+pub fn send<W: WriteDevice, D: ReadDevice + Drop>(
     alloc: Global,
     outlet: &mut Outlet<W>,
     response: Response<D>,
@@ -61,7 +61,7 @@ pub(crate) fn send<W: WriteDevice, D: ReadDevice + Drop>(
 }
 
 /// Writes a text. No reply reports a fault that is met there.
-pub(crate) fn write_quietly<W: WriteDevice>(outlet: &mut Outlet<W>, text: &[u8])
+pub fn write_quietly<W: WriteDevice>(outlet: &mut Outlet<W>, text: &[u8])
     ensures sends { (outlet_ended outlet.old ≡ false → CanSend (output_of outlet.old))
         → SendsUnlessEnded (outlet_ended outlet.old) (output_of outlet.old) (output_of outlet.new) (outlet_ended outlet.new) text.now }
     ensures fails_once { FailsOnceUnlessEnded (outlet_ended outlet.old) (output_of outlet.old) (output_of outlet.new) (outlet_ended outlet.new) }
@@ -70,7 +70,7 @@ pub(crate) fn write_quietly<W: WriteDevice>(outlet: &mut Outlet<W>, text: &[u8])
 }
 
 /// Flushes what was written. No reply reports a fault that is met there.
-pub(crate) fn flush_quietly<W: WriteDevice>(outlet: &mut Outlet<W>)
+pub fn flush_quietly<W: WriteDevice>(outlet: &mut Outlet<W>)
     ensures sends { (outlet_ended outlet.old ≡ false → CanSend (output_of outlet.old))
         → SendsUnlessEnded (outlet_ended outlet.old) (output_of outlet.old) (output_of outlet.new) (outlet_ended outlet.new) [] }
     ensures fails_once { FailsOnceUnlessEnded (outlet_ended outlet.old) (output_of outlet.old) (output_of outlet.new) (outlet_ended outlet.new) }

@@ -1,9 +1,9 @@
 use Rattle.std.proofs.Common.{◌≡◌, ap, true, Err}
 use Rattle.tiny_http_stream.specs.Outlet.{output_of, outlet_ended}
 use Rattle.std.specs.Prelude.{◌||◌}
-use Rattle.tiny_http_core.proofs.SendingLemmas.{printed-flushed, printed-ended, ended-once, flushed-once, printed-honest}
-use Rattle.tiny_http_core.proofs.sending.send.Goals as goal
-use Rattle.tiny_http_core.proofs.SlotsLemmas.{or-parts}
+use Rattle.tiny_http_sending.proofs.SendingLemmas.{printed-flushed, printed-ended, ended-once, flushed-once, printed-honest}
+use Rattle.tiny_http_sending.proofs.sending.send.Goals as goal
+use Rattle.tiny_http_sending.proofs.SendingLemmas.{or-parts}
 
 pub returns-in-Err-clause-sends : goal.returns-in-Err-clause-sends
 returns-in-Err-clause-sends g c content stated few can =

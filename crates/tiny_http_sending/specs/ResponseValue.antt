@@ -3,6 +3,7 @@ use Rattle.std.specs.Prelude.{ℕ, Bool, List, length, Option, None}
 use Rattle.httpdate.specs.declared.date.HttpDate.{HttpDate}
 use Rattle.tiny_http_wire.specs.declared.common.HTTPVersion.{HTTPVersion}
 use Rattle.tiny_http_wire.specs.declared.common.Header.{Header}
+use Rattle.tiny_http_wire.specs.declared.answer_form.AnswerForm.{AnswerForm}
 use Rattle.tiny_http_wire.specs.declared.coding.Coding.{Coding}
 use Rattle.tiny_http_wire.specs.Device.{Feed, ending}
 use Rattle.tiny_http_encoding.specs.Text.{Text}
@@ -23,3 +24,7 @@ response_text r p = text_of r.answer r.content p
 -- how an answer to a request is printed that asks for this coding
 abbrev pub printing_to : Option Coding → HTTPVersion → Bool → HttpDate → Printing
 printing_to asked version withheld date = record { version = version; asked_coding = asked; no_body = withheld; upgrade = None; date = date }
+
+-- how an answer to a request of this form is printed
+abbrev pub printing_in : AnswerForm → HttpDate → Printing
+printing_in form date = printing_to form.asked_coding form.version form.no_body date

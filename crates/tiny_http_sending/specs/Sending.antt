@@ -9,9 +9,12 @@ use Rattle.tiny_http_wire.specs.declared.device.Stop.TheVariants.{Fault}
 use Rattle.tiny_http_wire.specs.Device.{Feed, Sink, IsFront, BeginsKnown, HoldsNothing, IsKnownFront, StatesKind, next_count, fault_of}
 use Rattle.tiny_http_wire.specs.declared.coding.Coding.{Coding}
 use Rattle.tiny_http_wire.specs.declared.coding.Coding.TheVariants.{Identity, Chunked}
-use Rattle.tiny_http_wire.specs.Answer.{Answer, Printing, text_of}
+use Rattle.tiny_http_wire.specs.Answer.{Answer, Printing, answer_coding, text_of}
 use Rattle.tiny_http_encoding.specs.Text.{Text, Whole, Broken, nothing_sent}
-use Rattle.tiny_http_core.specs.Slots.{IsGathered}
+
+-- the data of this answer are read whole before its head
+abbrev pub IsGathered : Answer → Printing → Type 0
+IsGathered a p = (p.upgrade ≡ None) × (answer_coding a p ≡ Identity) × (a.length ≡ None)
 
 -- the writer takes bytes, and its count can rise
 pub record CanSend (sink : Sink) : Type 0 where

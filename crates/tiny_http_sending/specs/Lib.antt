@@ -1,0 +1,2 @@
+pub mod ResponseValue
+pub mod Sending
