@@ -7,9 +7,13 @@ mod ascii;
 #[cfg(test)]
 mod chunked;
 #[cfg(test)]
+mod chunks;
+#[cfg(test)]
 mod common;
 #[cfg(test)]
 mod device;
+#[cfg(test)]
+mod encoder;
 #[cfg(test)]
 mod grammar;
 #[cfg(test)]

@@ -9,5 +9,6 @@ pub mod laws;
 pub mod response;
 
 pub use tiny_http_device::device;
+pub use tiny_http_encoding::encoder;
 pub use tiny_http_head::{common, grammar};
 pub use tiny_http_text::{ascii, header_value, number};
