@@ -8,10 +8,13 @@ mod ascii;
 mod chunked;
 #[cfg(test)]
 mod coding;
+mod chunks;
 #[cfg(test)]
 mod common;
 #[cfg(test)]
 mod device;
+#[cfg(test)]
+mod encoder;
 #[cfg(test)]
 mod grammar;
 #[cfg(test)]

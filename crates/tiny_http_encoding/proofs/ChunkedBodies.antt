@@ -89,4 +89,3 @@ pub Prints-endless : {T : Type 0} (o p : Option Feed) (a b : Sink) (i : ℕ) (r 
 Prints-endless None p a b i r l h = tt
 Prints-endless (Some f) None a b i r l h = absurd h
 Prints-endless (Some f) (Some g) a b i r l h = λ few. absurd (omega (arith, h.0))
-

@@ -1,8 +1,8 @@
 -- Full chunks and what is left over of bytes, and of bytes with more after them.
-use Rattle.std.proofs.Common.{◌≡◌, ℕ, zero, suc, ◌+◌, ◌-◌, ◌*◌, ◌/◌, ◌<◌, ◌≤◌, ◌==◌, if◌then◌else◌, false, List, [], ◌∷◌, ◌++◌, length, take, drop, codes, refl, sym, ap, ◌∙◌, subst, append_assoc, arith, length-take, length-drop, length-append, zero-add}
+use Rattle.std.proofs.Common.{◌≡◌, ℕ, zero, suc, ◌+◌, ◌-◌, ◌*◌, ◌/◌, ◌<◌, ◌≤◌, ◌==◌, false, List, [], ◌∷◌, ◌++◌, length, take, drop, refl, sym, ap, ◌∙◌, append_assoc, arith, length-drop, length-append, zero-add}
 use Rattle.std.proofs.Math.Nat.{zero-mul}
-use Rattle.std.proofs.lemmas.List.{append-nil, drop-drop, take_at, drop_at, take_all, take-append-drop}
-use Rattle.tiny_http_encoding.specs.ChunkedPrinting.{printed_chunk, first_chunks, full_chunks, left_over, short_chunk, chunked}
+use Rattle.std.proofs.lemmas.List.{append-nil, drop-drop, take_all}
+use Rattle.tiny_http_encoding.specs.ChunkedPrinting.{printed_chunk, first_chunks, full_chunks, left_over, short_chunk}
 
 -- so many chunks, and so many more
 pub first_chunks-add : (k m : ℕ) (xs : List ℕ) → first_chunks (k + m) xs ≡ first_chunks k xs ++ first_chunks m (drop (k * 8192) xs)

@@ -1,13 +1,11 @@
 -- One call of an encoder after others.
-use Rattle.std.proofs.Common.{◌≡◌, ℕ, ◌+◌, ◌<◌, ◌≤◌, List, [], ◌++◌, length, take, drop, Result, Ok, Err, codes, refl, sym, ap, ◌∙◌, subst, append_assoc, arith, length-append}
-use Rattle.std.specs.IoError.{error_kind}
-use Rattle.std.specs.declared.io.Error.{Error}
+use Rattle.std.proofs.Common.{◌≡◌, ℕ, ◌<◌, List, [], ◌++◌, length, take, drop, codes, sym, ap, ◌∙◌, subst, append_assoc, arith, length-append}
 use Rattle.std.specs.declared.io.ErrorKind.{ErrorKind}
 use Rattle.std.proofs.lemmas.List.{append-nil, take_at, take-append-drop}
-use Rattle.tiny_http_device.specs.Device.{Sink, Took, Failed, SameFaults, CountsFaults}
+use Rattle.tiny_http_device.specs.Device.{Sink, Took, Failed}
 use Rattle.tiny_http_device.proofs.DeviceLemmas.{Took-nil, Took-append, Failed-append, Failed-front}
 use Rattle.tiny_http_encoding.specs.ChunkedPrinting.{printed_chunk, first_chunks, full_chunks, left_over, short_chunk, chunked}
-use Rattle.tiny_http_encoding.specs.Encoder.{Encoded, Encodes}
+use Rattle.tiny_http_encoding.specs.Encoder.{Encoded}
 use Rattle.tiny_http_encoding.proofs.ChunkedPrintingLemmas.{full_chunks-short, left_over-short, full_chunks-one, left_over-one, full_chunks-front, full_chunks-append, left_over-append}
 
 -- bytes after those that are held: still no chunk, or just one, or a failure in it

@@ -1,10 +1,10 @@
 -- What a contract sees of an `Encoder`.
-use Rattle.std.specs.Prelude.{◌≡◌, ℕ, ◌<◌, ◌≤◌, Bool, false, List, ◌++◌, length, take, codes, Result, Ok, Err, IfErr, IsErr}
+use Rattle.std.specs.Prelude.{◌≡◌, ℕ, ◌<◌, ◌≤◌, Bool, false, List, ◌++◌, length, take, Result, Ok, Err, IfErr, IsErr}
 use Rattle.std.specs.IoError.{error_kind}
 use Rattle.std.specs.declared.io.Error.{Error}
 use Rattle.std.specs.declared.io.ErrorKind.TheVariants.{BrokenPipe}
-use Rattle.tiny_http_device.specs.Device.{Sink, Took, Failed, Puts}
-use Rattle.tiny_http_encoding.specs.ChunkedPrinting.{full_chunks, left_over, short_chunk}
+use Rattle.tiny_http_device.specs.Device.{Sink, Took, Failed}
+use Rattle.tiny_http_encoding.specs.ChunkedPrinting.{full_chunks, left_over}
 
 -- The writer inside, what it states, the bytes that don't fill a chunk yet, and whether the writer has failed.
 pub record EncoderState (W : Type 0) : Type 0 where
@@ -36,10 +36,6 @@ HasEncoded start given e = (e.failed ≡ false) × Encoded start e.tells given e
 abbrev pub Encodes : Sink → Sink → List ℕ → List ℕ → Result ℕ Error → List ℕ → Type 0
 Encodes old new was held (Ok n) text = (n ≤ length text) × (0 < length text → 0 < n) × Took old new (full_chunks (was ++ take n text)) × (held ≡ left_over (was ++ take n text))
 Encodes old new was held (Err e) text = Failed old new (full_chunks (was ++ text)) (error_kind e)
-
--- the bytes that are held were written as the last chunk, with the end of the body; or the writer failed within them
-abbrev pub Ends : {T : Type 0} → Sink → Sink → List ℕ → Result T Error → Type 0
-Ends old new held r = Puts old new r (short_chunk held ++ codes "0\r\n\r\n")
 
 -- the answer after the writer's first fault
 abbrev pub IsBroken : {T : Type 0} → Result T Error → Type 0

@@ -3,7 +3,7 @@ ghost use Rattle.std.specs.Prelude.{◌≡◌, ◌+◌, ◌<◌, ◌≤◌, ◌+
 ghost use Rattle.std.specs.IoError.{error_kind};
 ghost use Rattle.tiny_http_device.specs.Device.{Sink, Took, Failed, CountsFaults, HoldsNothing};
 ghost use Rattle.tiny_http_encoding.specs.ChunkedPrinting.{full_chunks, chunked};
-ghost use Rattle.tiny_http_encoding.specs.Encoder.{Encodes, Ends};
+ghost use Rattle.tiny_http_encoding.specs.Encoder.{Encodes};
 
 use crate::chunks::{CHUNK, put_chunk, put_last};
 use std::io;
@@ -19,7 +19,7 @@ use tiny_http_device::device::WriteDevice;
 #[derive(Drop)]
 pub struct Encoder<W: WriteDevice> {
     inner: W,
-    held: [u8; 8192],
+    held: [u8; CHUNK],
     len: usize,
     failed: bool,
 }
@@ -48,7 +48,7 @@ fn copy_to(held: &mut [u8], at: usize, bytes: &[u8], count: usize)
 // buffer. Where they fill a chunk it is written.
 fn encode<W: WriteDevice>(
     writer: &mut W,
-    held: &mut [u8; 8192],
+    held: &mut [u8; CHUNK],
     len: &mut usize,
     bytes: &[u8],
 ) -> Result<usize, io::Error>
@@ -81,7 +81,7 @@ impl<W: WriteDevice> Encoder<W> {
     {
         Encoder {
             inner,
-            held: [0; 8192],
+            held: [0; CHUNK],
             len: 0,
             failed: false,
         }
@@ -95,19 +95,11 @@ impl<W: WriteDevice> Encoder<W> {
         &self.inner
     }
 
-    // Sends what is held as a chunk, and the end of the body.
-    fn end(&mut self) -> Result<(), io::Error>
-        requires open { self.old.failed ≡ false }
-        ensures { Ends (W.sink self.old.writer) (W.sink self.new.writer) self.old.held result }
-    {
-        put_last(&mut self.inner, &self.held[..self.len])
-    }
-
     /// Sends the bytes that are held as a chunk, if there are any, and the end of the body, and gives the
     /// writer back: it then took all the bytes that the encoder was given, in chunks of 8192, the last of
     /// 1 to 8192. It doesn't flush. The error is the writer's fault; or of kind `BrokenPipe` after an
     /// earlier one, and then the writer is left as it was.
-    pub fn finish(self) -> Result<W, io::Error>
+    pub fn finish(mut self) -> Result<W, io::Error>
     where
         W: Drop,
         ensures body { IfOk result (λ w. (start : Sink) (given : List ℕ) → HasEncoded start given self → Took start (W.sink w) (chunked given)) }
@@ -117,9 +109,8 @@ impl<W: WriteDevice> Encoder<W> {
         if self.failed {
             return Err(ErrorKind::BrokenPipe.into());
         }
-        let mut encoder = self;
-        encoder.end()?;
-        Ok(encoder.inner)
+        put_last(&mut self.inner, &self.held[..self.len])?;
+        Ok(self.inner)
     }
 }
 

@@ -139,10 +139,7 @@ fn put_length<W: WriteDevice>(writer: &mut W, n: usize) -> Result<(), io::Error>
     ensures { Puts (W.sink writer.old) (W.sink writer.new) result (length_line n) }
 {
     let digits = Numeral::decimal(n as u64);
-    put_all(
-        writer,
-        &[b"Content-Length: ", digits.as_bytes(), b"\r\n"],
-    )
+    put_all(writer, &[b"Content-Length: ", digits.as_bytes(), b"\r\n"])
 }
 
 // The line that frames the body, if there is one.

@@ -1,4 +1,4 @@
-use Rattle.std.proofs.Common.{◌≡◌, Ok, Err, arith, inl, inr}
+use Rattle.std.proofs.Common.{Err, arith, inl, inr}
 use Rattle.std.proofs.lemmas.Result.{err_from_is_err_and}
 use Rattle.tiny_http_encoding.proofs.DeviceFaults.{SameFaults-append, Took-same, Failed-faulted, Puts-uses, Uses-behind}
 use Rattle.tiny_http_encoding.proofs.ChunkedBodies.{ChunkedTo-more, Prints-fault, Prints-last, Prints-cut, Prints-endless}

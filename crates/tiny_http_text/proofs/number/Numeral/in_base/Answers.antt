@@ -26,7 +26,7 @@ loop-rest-preserved c =
     let more : List ℕ = set c.loop-rest.buffer c.loop-rest.start c.glyph.result in
     let before : List ℕ = drop (c.loop-rest.start + 1) c.loop-rest.buffer in
     let there : drop (c.loop-rest.start - 1 + 1) more ≡ c.glyph.result ∷ before =
-        ap (λ (k : ℕ). drop k more) at ∙ drop-set c.loop-rest.buffer c.loop-rest.start c.glyph.result (omega arith) in
+    ap (λ (k : ℕ). drop k more) at ∙ drop-set c.loop-rest.buffer c.loop-rest.start c.glyph.result (omega arith) in
     let written : drop (c.loop-rest.start - 1 + 1) more ≡ digit_glyph false (c.loop-rest.rest % c.args.base) ∷ before = there ∙ ap (λ (x : ℕ). x ∷ before) c.glyph.ensures.value in
     record {
       size = simp length-set h.size;
@@ -48,5 +48,5 @@ returns c =
     let next : 45 + c.loop-rest.start ≡ suc (44 + c.loop-rest.start) = omega arith in
     let before : List ℕ = drop (c.loop-rest.start + 1) c.loop-rest.buffer in
     let written : drop c.loop-rest.start (set c.loop-rest.buffer c.loop-rest.start c.glyph-2.result) ≡ digit_glyph false c.loop-rest.rest ∷ before =
-        drop-set c.loop-rest.buffer c.loop-rest.start c.glyph-2.result (omega arith) ∙ ap (λ (x : ℕ). x ∷ before) c.glyph-2.ensures.value in
+    drop-set c.loop-rest.buffer c.loop-rest.start c.glyph-2.result (omega arith) ∙ ap (λ (x : ℕ). x ∷ before) c.glyph-2.ensures.value in
     sym (h.text ∙ ap (λ (k : ℕ). spelled k c.args.base c.loop-rest.rest before) next ∙ digits-last (44 + c.loop-rest.start) c.args.base c.loop-rest.rest _ _ c.loop-rest-test.false written)
