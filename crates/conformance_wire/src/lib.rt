@@ -7,8 +7,9 @@ mod ascii;
 #[cfg(test)]
 mod chunked;
 #[cfg(test)]
-mod coding;
 mod chunks;
+#[cfg(test)]
+mod coding;
 #[cfg(test)]
 mod common;
 #[cfg(test)]

@@ -246,3 +246,7 @@ fn a_writer_that_fails(rt: HostRuntime) -> Result<(), Fail> {
     }
     Ok(())
 }
+
+mod added;
+mod data;
+mod file;

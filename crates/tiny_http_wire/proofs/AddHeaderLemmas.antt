@@ -10,7 +10,7 @@ use Rattle.tiny_http_wire.specs.Answer.{Answer}
 use Rattle.tiny_http_wire.specs.AddHeader.{is_reserved, is_second_type, is_put_last, with_value, with_length, add_header, with_headers, is_some_put_last}
 use Rattle.tiny_http_wire.specs.HeaderPlace.{place_of_length, place_of, placed, answer_of, Adds}
 use Rattle.tiny_http_wire.specs.declared.add_header.Place.{Place}
-use Rattle.tiny_http_wire.specs.declared.add_header.Place.TheVariants.{Nowhere, Length, ContentType, Last}
+use Rattle.tiny_http_wire.specs.declared.add_header.Place.TheVariants.{Nowhere, ContentType, Last}
 
 with_value-here : (name value : List ℕ) (xs : List Header) (i : ℕ) (d : Header) → i < length xs → same_name (get_or xs i d).field name ≡ true → with_value name value (drop i xs) ≡ (record (get_or xs i d) { value = value }) ∷ drop (i + 1) xs
 with_value-here name value xs i d l t = ap (with_value name value) (drop-cons xs i d l) ∙ rw t (ap (λ (k : ℕ). (record (get_or xs i d) { value = value }) ∷ drop k xs) (sym (add-one i)))

@@ -1,13 +1,12 @@
 -- The law of an answer's headers, kept by each header that is added.
 use Rattle.std.proofs.Common.{◌≡◌, ℕ, ◌+◌, ◌≤◌, Bool, true, false, ◌&&◌, ◌||◌, List, [], ◌∷◌, ◌++◌, Option, Some, None, Result, Ok, Err, OnOk, IfErr, refl, sym, subst, ap, ◌∙◌, arith, lit≤, codes, cond, if◌then◌else◌}
-use Rattle.std.specs.List.{list_any, count_by, sum_by}
 use Rattle.std.proofs.lemmas.List.Folds.{list_any-append}
 use Rattle.std.proofs.lemmas.List.Sums.{sum_by-cons, sum_by_push}
 use Rattle.tiny_http_head.specs.declared.common.Header.{Header}
 use Rattle.tiny_http_head.specs.Common.{same_name}
 use Rattle.tiny_http_head.specs.Heads.{length_in}
 use Rattle.tiny_http_wire.specs.Answer.{Answer, has_header, text_plain}
-use Rattle.tiny_http_wire.specs.AddHeader.{is_reserved, is_second_type, with_value, with_length, headers_with, add_header, with_headers}
+use Rattle.tiny_http_wire.specs.AddHeader.{is_reserved, is_second_type, with_value, with_length, add_header, with_headers}
 use Rattle.tiny_http_wire.specs.HeaderPlace.{answer_of, Adds, AddsAll}
 use Rattle.tiny_http_wire.specs.ResponseHeaders.{count_named, HasNone, IsResponseHeaders}
 

@@ -162,7 +162,6 @@ fn copies_of(alloc: Global, headers: &[Header]) -> Result<Vec<Header>, AllocErro
     Ok(list)
 }
 
-
 /// What `Response::new` gives back where it finds no memory for a header: the data.
 #[derive(Drop)]
 pub struct Refused<R> {
@@ -297,7 +296,7 @@ impl<R> Response<R> {
         self.headers.as_slice()
     }
 
-    /// The length in bytes from which data is sent in chunks: 32768.
+    /// The length in bytes from which data is sent in chunks: 32768, until another is set.
     pub fn chunked_threshold(&self) -> usize
         ensures { result ≡ self.now.answer.threshold }
     {
@@ -526,6 +525,3 @@ fn print_upgrade<W: WriteDevice>(
     }
     put_head(writer, top, Some(protocol), FramingHeader::Neither)
 }
-
-#[cfg(test)]
-mod tests;

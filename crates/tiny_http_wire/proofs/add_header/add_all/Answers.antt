@@ -25,7 +25,7 @@ pub returns-in_err-add-clause-memory : goal.returns-in_err-add-clause-memory
 returns-in_err-add-clause-memory c =
     let loop = c.loop-header in
     let some : (status threshold : ℕ) → is_some_put_last c.args.more.items (answer_of status threshold c.args.headers.now.items c.args.length.now) ≡ true =
-        λ status threshold. some-first status threshold _ (into_iter_items loop.header-iterator) (into_iter_items c.next.new.self) c.in-Some.header loop.headers.items loop.length c.in-Some.ensures.steps.0 c.in_err-add.ensures.memory (loop.invariant.memory status threshold) in
+    λ status threshold. some-first status threshold _ (into_iter_items loop.header-iterator) (into_iter_items c.next.new.self) c.in-Some.header loop.headers.items loop.length c.in-Some.ensures.steps.0 c.in_err-add.ensures.memory (loop.invariant.memory status threshold) in
     at_err _ _ some
 
 pub returns-clause-added : goal.returns-clause-added

@@ -1,4 +1,4 @@
-use Rattle.std.proofs.Common.{arith, length, ◌++◌, drop}
+use Rattle.std.proofs.Common.{arith, ◌++◌, drop}
 use Rattle.std.proofs.lemmas.Grind.{common_steps}
 use Rattle.tiny_http_wire.proofs.AddHeaderLemmas.{behind-written}
 use Rattle.tiny_http_wire.proofs.add_header.replace_type.Goals as goal

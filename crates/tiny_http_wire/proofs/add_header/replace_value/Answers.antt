@@ -1,7 +1,5 @@
-use Rattle.std.proofs.Common.{◌≡◌, true, get_or, sym, ap, ◌∙◌, arith}
-use Rattle.tiny_http_head.specs.declared.common.Header.{Header}
+use Rattle.std.proofs.Common.{◌≡◌, true, get_or, sym, ◌∙◌, arith}
 use Rattle.tiny_http_head.specs.Common.{same_name}
-use Rattle.tiny_http_wire.specs.AddHeader.{with_value}
 use Rattle.tiny_http_wire.proofs.AddHeaderLemmas.{with_value-set}
 use Rattle.tiny_http_wire.proofs.add_header.replace_value.Goals as goal
 
