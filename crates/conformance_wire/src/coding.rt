@@ -9,7 +9,9 @@ use tiny_http_wire::common::{HTTPVersion, Header, StatusCode};
 const THRESHOLD: usize = 32768;
 
 const NOTHING: Option<Coding> = None;
+
 const IDENTITY: Option<Coding> = Some(Coding::Identity);
+
 const CHUNKED: Option<Coding> = Some(Coding::Chunked);
 
 // The header lines of a request, and the coding that they ask for.
@@ -23,7 +25,10 @@ const ASKED: &[(&[&str], Option<Coding>)] = &[
     // As tiny_http: of two with one quality the earlier.
     (&["TE: identity;q=0.5, chunked;q=0.5"], IDENTITY),
     (&["TE: chunked, identity"], CHUNKED),
-    (&["TE: chunked;q=0.3, identity;q=0.7, chunked;q=0.7"], IDENTITY),
+    (
+        &["TE: chunked;q=0.3, identity;q=0.7, chunked;q=0.7"],
+        IDENTITY,
+    ),
     (&["TE: identity;q=0.5, chunked;q=0.501"], CHUNKED),
     (&["TE: chunked;q=0.3, identity;q=0.29"], CHUNKED),
     (&["TE: chunked;q=0.3, identity"], IDENTITY),
@@ -81,11 +86,27 @@ const CHOSEN: &[Choice] = &[
     (1, 1, NOTHING, 200, Some(0), 0, Coding::Chunked),
     (1, 1, NOTHING, 200, Some(9), 10, Coding::Identity),
     (1, 1, NOTHING, 200, Some(10), 10, Coding::Chunked),
-    (1, 1, NOTHING, 200, Some(usize::MAX - 1), usize::MAX, Coding::Identity),
+    (
+        1,
+        1,
+        NOTHING,
+        200,
+        Some(usize::MAX - 1),
+        usize::MAX,
+        Coding::Identity,
+    ),
     (1, 1, NOTHING, 200, None, usize::MAX, Coding::Chunked),
     // A wish comes before the length.
     (1, 1, IDENTITY, 200, None, THRESHOLD, Coding::Identity),
-    (1, 1, IDENTITY, 200, Some(32768), THRESHOLD, Coding::Identity),
+    (
+        1,
+        1,
+        IDENTITY,
+        200,
+        Some(32768),
+        THRESHOLD,
+        Coding::Identity,
+    ),
     (1, 1, CHUNKED, 200, Some(11), THRESHOLD, Coding::Chunked),
     // RFC 9112, section 6.1: no transfer coding for a version below 1.1.
     (0, 9, CHUNKED, 200, None, THRESHOLD, Coding::Identity),

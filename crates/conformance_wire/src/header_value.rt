@@ -1,7 +1,7 @@
 //! Header values, read.
 use crate::same::assert_same;
 use std::test::Fail;
-use tiny_http_wire::header_value::parse_header_value;
+use tiny_http_wire::header_value::{parse_element, parse_header_value};
 
 // The names of each value, with their qualities in thousandths.
 const VALUES: &[(&str, &[(&str, u32)])] = &[
@@ -49,4 +49,21 @@ fn names_and_qualities(rt: HostRuntime) -> Result<(), Fail> {
         assert_same(&rt, (*value, list.as_slice()), (*value, *wanted));
     }
     Ok(())
+}
+
+// The name of each element, with its quality in thousandths.
+const ELEMENTS: &[(&str, (&str, u32))] = &[
+    (" chunked ; q=0.5", ("chunked", 500)),
+    ("trailers", ("trailers", 1000)),
+    ("a;b=c;q=0", ("a", 0)),
+    // A comma is like any other byte within an element.
+    ("a;q=0,b", ("a", 1000)),
+    ("", ("", 1000)),
+];
+
+#[test]
+fn elements(rt: HostRuntime) {
+    for (text, wanted) in ELEMENTS {
+        assert_same(&rt, (*text, parse_element(text)), (*text, *wanted));
+    }
 }
