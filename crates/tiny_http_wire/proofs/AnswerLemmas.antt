@@ -25,25 +25,25 @@ Answered-upgrade None a b r ans version asked no_body protocol date h = tt
 Answered-upgrade (Some f) a b r ans version asked no_body protocol date h = λ few. inl h
 
 -- any other answer: in chunks, or not coded
-PrintsIn : {T : Type 0} → Option Feed → Sink → Sink → Result T Error → Coding → Option ℕ → (FramingHeader → List ℕ) → Bool → Type 0
+abbrev pub PrintsIn : {T : Type 0} → Option Feed → Sink → Sink → Result T Error → Coding → Option ℕ → (FramingHeader → List ℕ) → Bool → Type 0
 PrintsIn o a b r Identity known top withheld = IfSome o (λ f. length f.bytes < 2 ^ 63 → PrintsUncoded a b r known (as_it_is known top withheld f))
 PrintsIn o a b r Chunked known top withheld = IfSome o (λ f. length f.bytes < 2 ^ 63 → Prints a b r (prepend_text (top TransferEncoding) (body_unless_withheld withheld (chunked_body f))))
 
 coded : {T : Type 0} (f : Feed) (a b : Sink) (r : Result T Error) (coding : Coding) (known : Option ℕ) (top : FramingHeader → List ℕ) (withheld : Bool) → length f.bytes < 2 ^ 63 → PrintsIn (Some f) a b r coding known top withheld
     → Prints a b r (with_coding coding known top withheld f) ⊎ ((coding ≡ Identity) × (known ≡ None) × Prints a b r (nothing_sent OutOfMemory))
-coded f a b r Identity known top withheld few h = ⊎_elim (λ x. inl x) (λ x. inr (refl, x)) (h few)
+coded f a b r Identity known top withheld few h = ⊎_elim (λ x. inl x) (λ x. inr (refl, x.0, x.1)) (h few)
 coded f a b r Chunked known top withheld few h = inl (h few)
 
-pub Answered-coded : {T : Type 0} (o : Option Feed) (a b : Sink) (r : Result T Error) (ans : Answer) (version : HTTPVersion) (asked : Option Coding) (no_body : Bool) (date : HttpDate) (coding : Coding) → coding ≡ chosen_coding version asked ans.status ans.threshold ans.length
-    → PrintsIn o a b r coding ans.length (λ framing. answer_head_text version ans.status None ans.headers date framing) (is_withheld no_body ans.status)
+pub Answered-coded : {T : Type 0} (o : Option Feed) (a b : Sink) (r : Result T Error) (ans : Answer) (version : HTTPVersion) (asked : Option Coding) (no_body : Bool) (date : HttpDate) (coding : Coding) (withheld : Bool) → coding ≡ chosen_coding version asked ans.status ans.threshold ans.length → withheld ≡ is_withheld no_body ans.status
+    → PrintsIn o a b r coding ans.length (λ framing. answer_head_text version ans.status None ans.headers date framing) withheld
     → IfSome o (λ f. length f.bytes < 2 ^ 63 → PrintsAnswer a b r ans f (record { version = version; asked_coding = asked; no_body = no_body; upgrade = None; date = date }))
 unfolding text_of answer_coding
-Answered-coded None a b r ans version asked no_body date coding e h = tt
-Answered-coded {T = T} (Some f) a b r ans version asked no_body date coding e h = λ few.
+Answered-coded None a b r ans version asked no_body date coding withheld e w h = tt
+Answered-coded {T = T} (Some f) a b r ans version asked no_body date coding withheld e w h = λ few.
     let top : FramingHeader → List ℕ = λ framing. answer_head_text version ans.status None ans.headers date framing in
-    let withheld = is_withheld no_body ans.status in
-    let P : Coding → Type 0 = λ x. Prints a b r (with_coding x ans.length top withheld f) ⊎ ((x ≡ Identity) × (ans.length ≡ None) × Prints a b r (nothing_sent OutOfMemory)) in
-    ⊎_elim (λ x. inl x) (λ x. inr (refl, x)) (subst P e (coded f a b r coding ans.length top withheld few h))
+    let W : Bool → Type 0 = λ x. PrintsIn (Some f) a b r coding ans.length top x in
+    let P : Coding → Type 0 = λ x. Prints a b r (with_coding x ans.length top (is_withheld no_body ans.status) f) ⊎ ((x ≡ Identity) × (ans.length ≡ None) × Prints a b r (nothing_sent OutOfMemory)) in
+    ⊎_elim (λ x. inl x) (λ x. inr (refl, x.0, x.1, x.2)) (subst P e (coded f a b r coding ans.length top (is_withheld no_body ans.status) few (subst W w h)))
 
 pub few-failed : (o : Option Feed) (a b : Sink) (front : List ℕ) (e : Error) (body : Feed → Text) → Failed a b front (error_kind e) → IfSome o (λ f. length f.bytes < 2 ^ 63 → Prints {T = Unit {0}} a b (Err e) (prepend_text front (body f)))
 few-failed None a b front e body h = tt

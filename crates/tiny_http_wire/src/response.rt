@@ -372,9 +372,6 @@ impl<R> Response<R> {
             headers: &headers,
             date: now,
         };
-        if let Some(protocol) = upgrade {
-            return print_upgrade(writer, &top, protocol);
-        }
         let known = self.data_length;
         let coding = choose(
             form.version,
@@ -384,9 +381,12 @@ impl<R> Response<R> {
             self.threshold,
         );
         let withheld = is_withheld(form.no_body, self.status.0);
-        match coding {
-            Coding::Chunked => print_in_chunks(&mut data, writer, &top, withheld),
-            Coding::Identity => print_uncoded(alloc, &mut data, writer, &top, known, withheld),
+        match (upgrade, coding) {
+            (Some(protocol), _) => print_upgrade(writer, &top, protocol),
+            (None, Coding::Chunked) => print_in_chunks(&mut data, writer, &top, withheld),
+            (None, Coding::Identity) => {
+                print_uncoded(alloc, &mut data, writer, &top, known, withheld)
+            }
         }
     }
 
