@@ -76,13 +76,7 @@ impl<F: Read + OpenFile> Response<Metered<F>> {
         ensures file { metered_inner result.data_reader ≡ file }
     {
         let length = file.metadata().ok().map(|of| of.len() as usize);
-        Response {
-            reader: Metered::new(file),
-            status: StatusCode(200),
-            headers: Vec::new(alloc),
-            data_length: length,
-            threshold: THRESHOLD,
-        }
+        Response::without_headers(alloc, StatusCode(200), Metered::new(file), length)
     }
 }
 
@@ -105,13 +99,7 @@ impl Response<Cursor<Vec<u8>>> {
         ensures bytes { cursor_bytes result.data_reader ≡ bytes.items }
     {
         let length = bytes.len();
-        Response {
-            reader: Cursor::new(bytes),
-            status: StatusCode(200),
-            headers: Vec::new(alloc),
-            data_length: Some(length),
-            threshold: THRESHOLD,
-        }
+        Response::without_headers(alloc, StatusCode(200), Cursor::new(bytes), Some(length))
     }
 }
 
@@ -120,13 +108,7 @@ impl Response<io::Empty> {
     pub fn empty(alloc: Global, status: StatusCode) -> Response<io::Empty>
         ensures { result.answer ≡ answer_with status.0 [] 0 }
     {
-        Response {
-            reader: io::empty(),
-            status,
-            headers: Vec::new(alloc),
-            data_length: Some(0),
-            threshold: THRESHOLD,
-        }
+        Response::without_headers(alloc, status, io::empty(), Some(0))
     }
 
     /// The same as `empty`.
@@ -180,6 +162,24 @@ pub struct NotAdded<R> {
 }
 
 impl<R> Response<R> {
+    // An answer without headers. It takes no memory.
+    fn without_headers(
+        alloc: Global,
+        status: StatusCode,
+        reader: R,
+        data_length: Option<usize>,
+    ) -> Response<R>
+        ensures { result ≡ record { answer = first_answer status.0 [] data_length; data_reader = reader } }
+    {
+        Response {
+            reader,
+            status,
+            headers: Vec::new(alloc),
+            data_length,
+            threshold: THRESHOLD,
+        }
+    }
+
     /// An answer with this code and data, of this length in bytes, if it is known. Each of `headers`
     /// and then each of `more` is added as `add_header` does. The room of `headers` is used for the
     /// list: only a header of `more` takes memory. An error where there is none for it: the data
