@@ -109,6 +109,21 @@ attained : (ws : List Weighed) (q : ℕ) → 0 < q → q ≡ greatest_quality ws
 attained [] q l h = absurd (omega arith)
 attained (w ∷ ws) q l h = attained-at w ws q (w.1 == q) refl h (attained ws q l)
 
+chosen-from : (es : List TeElement) (q : ℕ) (c : Coding) → 0 < q → AtMost q es → Found es q c → IsChosen es c
+chosen-from es q c some most f = record {
+  before = f.before;
+  chosen = f.chosen;
+  after = f.after;
+  joins = f.joins;
+  names = f.names;
+  above_0 = let h = f.has in omega arith;
+  none_greater = raised q f.chosen.1 es (let h = f.has in omega arith) most;
+  none_equal_before = subst (λ n. HaveNot n f.before) (sym f.has) f.none_before;
+}
+
+carried : (es : List TeElement) (o : Option Weighed) (w : Weighed) → o ≡ Some w → IsChosen es w.0 → Choose es (option_map (λ x. x.0) o)
+carried es o w h is = subst (λ (x : Option Weighed). Choose es (option_map (λ y. y.0) x)) (sym h) is
+
 -- the computed choice is one
 choose-at : (es : List TeElement) (t : Bool) → nat_lt 0 (greatest_quality (supported_codings es)) ≡ t
     → Choose es (if t then option_map (λ w. w.0) (find (λ w. w.1 == greatest_quality (supported_codings es)) (supported_codings es)) else None)
@@ -116,18 +131,7 @@ choose-at es true e =
     let q = greatest_quality (supported_codings es) in
     let some : 0 < q = grind (arith, nat_tests) in
     let a = attained (supported_codings es) q some refl in
-    let f = found es q a.0 a.1 in
-    let is : IsChosen es a.0.0 = record {
-      before = f.before;
-      chosen = f.chosen;
-      after = f.after;
-      joins = f.joins;
-      names = f.names;
-      above_0 = let h = f.has in omega arith;
-      none_greater = raised q f.chosen.1 es (let h = f.has in omega arith) (at-most es);
-      none_equal_before = subst (λ n. HaveNot n f.before) (sym f.has) f.none_before;
-    } in
-    subst (Choose es) (ap (option_map (λ (w : Weighed). w.0)) (sym a.1)) is
+    carried es (find (λ w. w.1 == q) (supported_codings es)) a.0 a.1 (chosen-from es q a.0.0 some (at-most es) (found es q a.0 a.1))
 choose-at es false e =
     let q = greatest_quality (supported_codings es) in
     let none : q ≡ 0 = grind (arith, nat_tests) in

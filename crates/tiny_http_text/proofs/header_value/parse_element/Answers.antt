@@ -19,7 +19,7 @@ returns-in-Some c =
     let cut = c.in-Some.ensures.some in
     let pair : List ℕ → ℕ → List ℕ × ℕ = λ name q. (name, q) in
     let is =
-        ap (λ name. pair name c.first_quality.result) c.trim-in-Some.ensures ∙ ap (pair _) c.first_quality.ensures
-        ∙ element-parted c.args.text.now c.in-Some.name.now c.in-Some.parameters.now cut.0 cut.1
+    ap (λ name. pair name c.first_quality.result) c.trim-in-Some.ensures ∙ ap (pair _) c.first_quality.ensures
+    ∙ element-parted c.args.text.now c.in-Some.name.now c.in-Some.parameters.now cut.0 cut.1
     in
     record { computed = is; element = of-computed c.args.text.now (pair c.trim-in-Some.result.now c.first_quality.result) is }
