@@ -9,7 +9,7 @@ use Rattle.tiny_http_encoding.specs.ChunkedPrinting.{full_chunks, left_over}
 -- The writer inside, what it states, the bytes that don't fill a chunk yet, and whether the writer has failed.
 pub record EncoderState (W : Type 0) : Type 0 where
   pub writer : W
-  pub tells : Sink
+  pub sink : Sink
   pub held : List ℕ
   pub failed : Bool
 
@@ -29,7 +29,7 @@ pub record Encoded (start now : Sink) (given held : List ℕ) : Type 0 where
 -- From this state of its writer on an encoder was given these bytes, and did not fail: their full chunks were written,
 -- and the rest is held.
 abbrev pub HasEncoded : {W : Type 0} → Sink → List ℕ → EncoderState W → Type 0
-HasEncoded start given e = (e.failed ≡ false) × Encoded start e.tells given e.held
+HasEncoded start given e = (e.failed ≡ false) × Encoded start e.sink given e.held
 
 -- A call took bytes from the front of a text: with those that were held before them they are written as full chunks, and
 -- the rest is held. Or the writer failed within the full chunks of all of them.

@@ -30,7 +30,7 @@ impl<W: WriteDevice> Model for Encoder<W> {
 
     ghost Value = { EncoderState W };
 
-    ghost view = { λ e. record { writer = e.inner; tells = W.sink e.inner; held = take e.len e.held; failed = e.failed } };
+    ghost view = { λ e. record { writer = e.inner; sink = W.sink e.inner; held = take e.len e.held; failed = e.failed } };
 
     ghost invariant = { λ e. e.len < 8192 };
 }
@@ -90,7 +90,7 @@ impl<W: WriteDevice> Encoder<W> {
     /// The writer. What is held isn't written yet.
     pub fn get_ref(&self) -> &W
         ensures writer { result.now ≡ encoder_writer self.now }
-        ensures tells { self.now.tells ≡ W.sink result.now }
+        ensures sink { self.now.sink ≡ W.sink result.now }
     {
         &self.inner
     }
@@ -125,12 +125,12 @@ impl<W: WriteDevice> Write for Encoder<W> {
         ensures bound { WritesAtMost result buf.now }
         ensures some { IfOk result (λ n. 0 < length buf.now → 0 < n) }
         ensures body { IfOk result (λ n. (start : Sink) (given : List ℕ) → HasEncoded start given self.old → HasEncoded start (given ++ take n buf.now) self.new) }
-        ensures fault { IfErr result (λ e. (start : Sink) (given : List ℕ) → HasEncoded start given self.old → Failed start self.new.tells (full_chunks (given ++ buf.now)) (error_kind e)) }
+        ensures fault { IfErr result (λ e. (start : Sink) (given : List ℕ) → HasEncoded start given self.old → Failed start self.new.sink (full_chunks (given ++ buf.now)) (error_kind e)) }
         ensures open { OnOk result (encoder_failed self.old ≡ false) }
         ensures ended { OnErr result (encoder_failed self.new ≡ true) }
         ensures after { encoder_failed self.old ≡ true → IsBroken result × (self.new ≡ self.old) }
         ensures empty { length buf.now ≡ 0 → encoder_failed self.old ≡ false → (result ≡ Ok 0) × (self.new ≡ self.old) }
-        ensures uses { CountsFaults self.old.tells self.new.tells result }
+        ensures uses { CountsFaults self.old.sink self.new.sink result }
     {
         if self.failed {
             return Err(ErrorKind::BrokenPipe.into());
@@ -150,12 +150,12 @@ impl<W: WriteDevice> Write for Encoder<W> {
     /// Flushes the writer. What is held stays: it doesn't become a chunk. Errors as `write`.
     fn flush(&mut self) -> io::Result<()>
         ensures body { OnOk result ((start : Sink) (given : List ℕ) → HasEncoded start given self.old → HasEncoded start given self.new) }
-        ensures fault { IfErr result (λ e. (start : Sink) (given : List ℕ) → HasEncoded start given self.old → Failed start self.new.tells (full_chunks given) (error_kind e)) }
-        ensures sent { OnOk result (self.new.tells.has_ended ≡ false → HoldsNothing self.new.tells) }
+        ensures fault { IfErr result (λ e. (start : Sink) (given : List ℕ) → HasEncoded start given self.old → Failed start self.new.sink (full_chunks given) (error_kind e)) }
+        ensures sent { OnOk result (self.new.sink.has_ended ≡ false → HoldsNothing self.new.sink) }
         ensures open { OnOk result (encoder_failed self.old ≡ false) }
         ensures ended { OnErr result (encoder_failed self.new ≡ true) }
         ensures after { encoder_failed self.old ≡ true → IsBroken result × (self.new ≡ self.old) }
-        ensures uses { CountsFaults self.old.tells self.new.tells result }
+        ensures uses { CountsFaults self.old.sink self.new.sink result }
     {
         if self.failed {
             return Err(ErrorKind::BrokenPipe.into());

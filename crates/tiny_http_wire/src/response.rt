@@ -235,11 +235,12 @@ impl<R> Response<R> {
 
     /// The same answer with another threshold: the length in bytes from which data is sent in
     /// chunks.
-    pub fn with_chunked_threshold(mut self, length: usize) -> Response<R>
+    pub fn with_chunked_threshold(self, length: usize) -> Response<R>
         ensures { result ≡ record self { answer = record self.answer { threshold = length } } }
     {
-        self.threshold = length;
-        self
+        let mut response = self;
+        response.threshold = length;
+        response
     }
 
     /// Adds a header (as tiny_http). `Connection`, `Trailer`, `Transfer-Encoding` and `Upgrade` are
@@ -372,13 +373,13 @@ impl<R> Response<R> {
             headers: &headers,
             date: now,
         };
-        let known = self.data_length;
+        let (known, threshold) = (self.data_length, self.threshold);
         let coding = choose(
             form.version,
             form.asked_coding,
             self.status,
             known,
-            self.threshold,
+            threshold,
         );
         let withheld = is_withheld(form.no_body, self.status.0);
         match (upgrade, coding) {
