@@ -113,7 +113,7 @@ abbrev got : ℕ → ReplyValue
 got k = Handed k (message Get (codes "/") 1 1 []) plain
 
 answers_in_order : (date : HttpDate) → conversed (ending three) (on_date date (Ask ∷ Ask ∷ Ask ∷ Drop 1 ∷ Respond 2 (hello (codes "c")) ∷ Respond 0 (hello (codes "a")) ∷ Respond 2 (hello (codes "c")) ∷ [])) ≡ gives (got 0 ∷ got 1 ∷ got 2 ∷ Done ∷ NotYet ∷ Done ∷ Done ∷ []) (output (text_of_length date (codes "1") (codes "a") ∷ empty (codes "1.1 500 Internal Server Error") date ∷ text_of_length date (codes "1") (codes "c") ∷ []))
-unfolding three digits text_of status_line field_line upgrade_lines server_line date_line framing_line answer_head_text reason_phrase framing length_in
+unfolding three digits text_of answer_coding coding_asked status_line field_line upgrade_lines server_line date_line framing_line answer_head_text reason_phrase framing length_in
 answers_in_order date = refl
 
 -- nothing is written before the first number is answered
