@@ -134,11 +134,6 @@ IsResponseHeaders-AddsAll hs headers more length known adds law =
     let start : Answer = answer_of 0 0 headers length in
     subst IsResponseHeaders (sym (ap (λ (a : Answer). a.headers) (adds 0 0))) (IsResponseHeaders-added hs start law)
 
--- headers that were added to none, and others to these
-pub IsResponseHeaders-made : (hs more headers list : List Header) (length known all : Option ℕ) → AddsAll hs [] length headers known → AddsAll more headers known list all → IsResponseHeaders list
-IsResponseHeaders-made hs more headers list length known all first second =
-    IsResponseHeaders-AddsAll more headers list known all second (IsResponseHeaders-AddsAll hs [] headers length known first IsResponseHeaders-nil)
-
 text_plain-law : IsResponseHeaders (text_plain ∷ [])
 unfolding text_plain
 text_plain-law = record { connection = refl; trailer = refl; transfer_encoding = refl; upgrade = refl; content_length = refl; content_type = lit≤ tt }

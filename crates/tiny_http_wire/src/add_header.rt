@@ -2,6 +2,7 @@
 ghost use Rattle.std.specs.Prelude.{◌≡◌, ℕ, ◌≤◌, ◌<◌, ◌+◌, IfErr, OnOk, OnErr, IsTrue, [], length, take, drop, slice_index_or, codes};
 ghost use Rattle.tiny_http_wire.specs.Answer.{has_header};
 ghost use Rattle.tiny_http_wire.specs.AddHeader.{is_reserved, is_put_last, is_some_put_last, with_value};
+ghost use Rattle.tiny_http_wire.specs.ResponseHeaders.{IsResponseHeaders};
 ghost use Rattle.tiny_http_wire.specs.HeaderPlace.{place_of, answer_of, Adds, AddsAll};
 
 use crate::answer_head::has_header;
@@ -96,6 +97,7 @@ pub(crate) fn add_all(
     more: Vec<Header>,
 ) -> Result<(), Header>
     ensures added { OnOk result (AddsAll more.items headers.old.items length.old headers.new.items length.new) }
+    ensures law { OnOk result (IsResponseHeaders headers.old.items → IsResponseHeaders headers.new.items) }
     ensures memory { OnErr result ((status threshold : ℕ) → IsTrue (is_some_put_last more.items (answer_of status threshold headers.old.items length.old))) }
 {
     for header in more {
@@ -154,6 +156,7 @@ fn add_at(headers: &mut [Header], known: &mut Option<usize>, kept: usize, at: us
 fn add_each(headers: &mut [Header], known: &mut Option<usize>) -> usize
     ensures bound { result ≤ length headers.new }
     ensures added { AddsAll headers.old [] known.old (take result headers.new) known.new }
+    ensures law { IsResponseHeaders (take result headers.new) }
 {
     let mut kept = 0;
     for at in 0..headers.len() {
@@ -165,7 +168,8 @@ fn add_each(headers: &mut [Header], known: &mut Option<usize>) -> usize
 /// Makes of these headers what adding them one after another to an empty list comes to, in their
 /// room, and gives the length of the data then.
 pub(crate) fn add_in_place(headers: &mut Vec<Header>, data_length: Option<usize>) -> Option<usize>
-    ensures { AddsAll headers.old.items [] data_length headers.new.items result }
+    ensures added { AddsAll headers.old.items [] data_length headers.new.items result }
+    ensures law { IsResponseHeaders headers.new.items }
 {
     let mut known = data_length;
     let kept = add_each(headers, &mut known);

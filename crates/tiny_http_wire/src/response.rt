@@ -68,7 +68,7 @@ fn text_plain(alloc: Global) -> Result<Header, AllocError>
 
 impl<F: Read + OpenFile> Response<Metered<F>> {
     /// An answer 200 with an open file as its data, and no headers (as tiny_http). The length is the
-    /// file's, by its metadata, and unknown where these can't be read. It takes no memory.
+    /// file's, by its metadata, and unknown where that can't be read. It takes no memory.
     pub fn from_file(alloc: Global, file: F) -> Response<Metered<F>>
         ensures status { result.answer.status ≡ 200 }
         ensures headers { result.answer.headers ≡ [] }
@@ -186,7 +186,7 @@ impl<R> Response<R> {
     /// comes back.
     pub fn new(
         status: StatusCode,
-        headers: Vec<Header>,
+        mut headers: Vec<Header>,
         reader: R,
         data_length: Option<usize>,
         more: Vec<Header>,
@@ -195,7 +195,6 @@ impl<R> Response<R> {
         ensures refused { IfErr result (λ e. e.reader ≡ reader) }
         ensures memory { OnErr result (IsTrue (is_some_put_last more.items (first_answer status.0 headers.items data_length))) }
     {
-        let mut headers = headers;
         let mut data_length = add_in_place(&mut headers, data_length);
         match add_all(&mut headers, &mut data_length, more) {
             Ok(()) => Ok(Response {

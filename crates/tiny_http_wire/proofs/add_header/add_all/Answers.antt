@@ -5,6 +5,7 @@ use Rattle.tiny_http_wire.specs.AddHeader.{with_headers, is_some_put_last}
 use Rattle.tiny_http_wire.specs.HeaderPlace.{answer_of}
 use Rattle.std.specs.Vec.Iter.{into_iter_items}
 use Rattle.tiny_http_wire.proofs.AddHeaderLemmas.{added-more, added-end, some-more, some-first, at_err}
+use Rattle.tiny_http_wire.proofs.ResponseHeadersLemmas.{IsResponseHeaders-AddsAll}
 use Rattle.tiny_http_wire.proofs.add_header.add_all.Goals as goal
 
 pub loop-header-init : goal.loop-header-init
@@ -33,3 +34,6 @@ returns-clause-added c =
     let loop = c.loop-header in
     let whole : ℕ → ℕ → Answer = λ status threshold. with_headers c.args.more.items (answer_of status threshold c.args.headers.now.items c.args.length.now) in
     added-end whole (into_iter_items loop.header-iterator) loop.headers.items loop.length (sym loop.header-iterator.rest.ok.0 ∙ c.in-None.ensures.steps.0) loop.invariant.added
+
+pub returns-clause-law : goal.returns-clause-law
+returns-clause-law c = IsResponseHeaders-AddsAll c.args.more.items c.args.headers.now.items c.loop-header.headers.items c.args.length.now c.loop-header.length (returns-clause-added c)

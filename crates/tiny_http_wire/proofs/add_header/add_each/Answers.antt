@@ -3,7 +3,9 @@ use Rattle.tiny_http_head.specs.declared.common.Header.{Header}
 use Rattle.tiny_http_wire.specs.Answer.{Answer}
 use Rattle.tiny_http_wire.specs.AddHeader.{with_headers}
 use Rattle.tiny_http_wire.specs.HeaderPlace.{answer_of}
-use Rattle.tiny_http_wire.proofs.AddHeaderLemmas.{added-more, left-first}
+use Rattle.tiny_http_wire.proofs.AddHeaderLemmas.{added-more, added-end, left-first}
+use Rattle.std.proofs.lemmas.Grind.{common_steps}
+use Rattle.tiny_http_wire.proofs.ResponseHeadersLemmas.{IsResponseHeaders-none, IsResponseHeaders-AddsAll}
 use Rattle.tiny_http_wire.proofs.add_header.add_each.Goals as goal
 
 pub loop-at-preserved : goal.loop-at-preserved
@@ -16,3 +18,9 @@ loop-at-preserved c =
       order = after.ensures.bound;
       added = added-more whole (drop loop.at loop.headers) (drop (loop.at + 1) after.new.headers) (get_or loop.headers loop.at none) (take loop.kept loop.headers) (take after.result after.new.headers) loop.known after.new.known (left-first loop.headers after.new.headers loop.at none (omega arith) after.ensures.behind) (after.ensures.added none) loop.invariant.added;
     }
+
+pub returns-clause-law : goal.returns-clause-law
+returns-clause-law c =
+    let loop = c.loop-at in
+    let whole : ℕ → ℕ → Answer = λ status threshold. with_headers c.args.headers.now (answer_of status threshold [] c.args.known.now) in
+    IsResponseHeaders-AddsAll c.args.headers.now [] (take loop.kept loop.headers) c.args.known.now loop.known (added-end whole (drop loop.at loop.headers) (take loop.kept loop.headers) loop.known (grind (arith, common_steps)) loop.invariant.added) IsResponseHeaders-none
