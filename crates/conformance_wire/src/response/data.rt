@@ -1,6 +1,6 @@
 //! Answers whose data ends, fails or goes on behind its length, printed.
 use super::{PLAIN, Setting, V1_0, assert_printed, print};
-use crate::same::{assert_holds, assert_same};
+use crate::same::assert_same;
 use std::alloc::Global;
 use std::io::ErrorKind;
 use std::process::Abort;
