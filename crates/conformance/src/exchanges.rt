@@ -10,8 +10,8 @@ use tiny_http_core::exchange::{Exchange, HeadRead, read_head};
 use tiny_http_core::source::Source;
 use tiny_http_wire::device::Canned;
 
-// A source of these bytes and then this fault, if any, in pieces of at most so many.
-fn source_of(
+/// A source of these bytes and then this fault, if any, in pieces of at most so many.
+pub(crate) fn source_of(
     alloc: Global,
     client: &[u8],
     fault: Option<ErrorKind>,
@@ -21,12 +21,12 @@ fn source_of(
     Ok(Source::new(Pieces::new(reader, most)))
 }
 
-fn date() -> Result<HttpDate, Fail> {
+pub(crate) fn date() -> Result<HttpDate, Fail> {
     Ok(HttpDate::from_unix_secs(420_895_020)?)
 }
 
-// The request that is read next, of this target.
-fn request(
+/// The request that is read next, of this target.
+pub(crate) fn request(
     rt: &impl Abort,
     alloc: Global,
     source: &mut Source<Pieces>,

@@ -6,7 +6,13 @@
 #[cfg(test)]
 mod answers;
 #[cfg(test)]
+mod answers_alone;
+#[cfg(test)]
 mod bodies;
+#[cfg(test)]
+mod broken_answers;
+#[cfg(test)]
+mod codings;
 #[cfg(test)]
 mod ends;
 #[cfg(test)]

@@ -4,7 +4,7 @@ use httpdate::HttpDate;
 use std::alloc::{AllocError, Global};
 use std::fmt::Write;
 use std::io;
-use std::io::{Cursor, ErrorKind};
+use std::io::ErrorKind;
 use std::process::Abort;
 use std::test::Fail;
 use tiny_http_core::driver::{Reply, Step, Timed, run};
@@ -18,11 +18,16 @@ use tiny_http_wire::response::Response;
 pub(crate) const EMPTY: &str =
     "Server: tiny-http (Rust)\r\nDate: Wed, 04 May 1983 11:17:00 GMT\r\nContent-Length: 0\r\n\r\n";
 
+/// The headers of each answer without headers of its own, but for the framing.
+pub(crate) const DATED: &str =
+    "Server: tiny-http (Rust)\r\nDate: Wed, 04 May 1983 11:17:00 GMT\r\n";
+
 /// The headers of each answer that has a text, but for the length.
 pub(crate) const TEXT: &str =
     "Server: tiny-http (Rust)\r\nDate: Wed, 04 May 1983 11:17:00 GMT\r\nContent-Type: text/plain; charset=UTF-8\r\n";
 
-const SECONDS: u64 = 420_895_020;
+/// The date of each run, in seconds since 1970.
+pub(crate) const SECONDS: u64 = 420_895_020;
 
 /// More bytes than any run writes.
 pub(crate) const AMPLE: usize = 1_000_000;
@@ -37,6 +42,8 @@ pub(crate) enum Deed<'a> {
     Text(u64, &'a str),
     /// Answers the request of this number by a code and a text.
     Coded(u64, u16, &'a str),
+    /// Answers the request of this number by 200 and data of unknown length, which end, or fail by this kind.
+    Data(u64, &'a [u8], Option<ErrorKind>),
     /// Drops the request of this number.
     Drop(u64),
 }
@@ -112,11 +119,24 @@ impl ReadDevice for Pieces {
 pub(crate) const SIZES: [usize; 4] = [1, 2, 1023, 1024];
 
 // The answer 200 with this text.
-fn text(alloc: Global, text: &str) -> Result<Response<Cursor<Vec<u8>>>, AllocError> {
-    Response::from_string(alloc, String::from_str(alloc, text)?)
+fn text(alloc: Global, text: &str) -> Result<Response<Canned>, AllocError> {
+    let answer = Response::from_string(alloc, String::from_str(alloc, text)?)?;
+    let length = answer.data_length();
+    let data = Canned::new(text.as_bytes().to_vec(alloc)?, None);
+    Ok(answer.with_data(data, length))
 }
 
-fn step_of(alloc: Global, deed: Deed<'_>) -> Result<Step<Cursor<Vec<u8>>>, AllocError> {
+// The answer 200 with these data, of unknown length.
+fn data(
+    alloc: Global,
+    bytes: &[u8],
+    fault: Option<ErrorKind>,
+) -> Result<Response<Canned>, AllocError> {
+    let data = Canned::new(bytes.to_vec(alloc)?, fault);
+    Ok(Response::empty(alloc, StatusCode(200)).with_data(data, None))
+}
+
+fn step_of(alloc: Global, deed: Deed<'_>) -> Result<Step<Canned>, AllocError> {
     Ok(match deed {
         Deed::Ask => Step::Ask,
         Deed::Read(number, count) => Step::Read(number, count),
@@ -125,14 +145,12 @@ fn step_of(alloc: Global, deed: Deed<'_>) -> Result<Step<Cursor<Vec<u8>>>, Alloc
             let answer = text(alloc, words)?;
             Step::Respond(number, answer.with_status_code(StatusCode(code)))
         }
+        Deed::Data(number, bytes, fault) => Step::Respond(number, data(alloc, bytes, fault)?),
         Deed::Drop(number) => Step::Drop(number),
     })
 }
 
-pub(crate) fn steps_of(
-    alloc: Global,
-    deeds: &[Deed<'_>],
-) -> Result<Vec<Timed<Cursor<Vec<u8>>>>, Fail> {
+pub(crate) fn steps_of(alloc: Global, deeds: &[Deed<'_>]) -> Result<Vec<Timed<Canned>>, Fail> {
     let now = HttpDate::from_unix_secs(SECONDS)?;
     let mut steps = Vec::new(alloc);
     for deed in deeds {
@@ -186,7 +204,8 @@ fn describe_reply(summary: &mut String, reply: &Reply) -> Result<(), AllocError>
     }
 }
 
-fn describe(alloc: Global, replies: &[Reply]) -> Result<String, AllocError> {
+/// The replies in words, with `; ` between two.
+pub(crate) fn describe(alloc: Global, replies: &[Reply]) -> Result<String, AllocError> {
     let mut summary = String::new(alloc);
     for reply in replies {
         if !summary.is_empty() {
@@ -197,8 +216,8 @@ fn describe(alloc: Global, replies: &[Reply]) -> Result<String, AllocError> {
     Ok(summary)
 }
 
-// What the writer took, and what is held back after it.
-fn output_of(alloc: Global, outlet: Outlet<Budget>) -> Result<Vec<u8>, Fail> {
+/// What the writer took, and what is held back after it.
+pub(crate) fn output_of(alloc: Global, outlet: Outlet<Budget>) -> Result<Vec<u8>, Fail> {
     let held = outlet.held().to_vec(alloc)?;
     let mut output = outlet.into_inner().bytes().to_vec(alloc)?;
     output.extend_from_slice(held.as_slice())?;
@@ -234,8 +253,8 @@ fn assert_text(
     Ok(())
 }
 
-// The pieces together.
-fn joined(alloc: Global, pieces: &[&str]) -> Result<String, Fail> {
+/// The pieces together.
+pub(crate) fn joined(alloc: Global, pieces: &[&str]) -> Result<String, Fail> {
     let mut text = String::new(alloc);
     for piece in pieces {
         text.push_str(piece)?;

@@ -52,7 +52,8 @@ const ASKED: &[(&[&str], Option<Coding>)] = &[
     (&["Transfer-Encoding: chunked", "Accept: identity"], NOTHING),
 ];
 
-fn headers(alloc: Global, lines: &[&str]) -> Result<Vec<Header>, Fail> {
+/// The headers of these lines.
+pub(crate) fn headers(alloc: Global, lines: &[&str]) -> Result<Vec<Header>, Fail> {
     let mut headers = Vec::new(alloc);
     for line in lines {
         headers.push(Header::from_str(alloc, line)?)?;

@@ -99,16 +99,16 @@ fn what_a_write_takes(rt: HostRuntime) -> Result<(), Fail> {
     Ok(())
 }
 
-// A stream that fails once, by this kind, after it took so many bytes.
+/// A stream that fails once, by a time-out, after it took so many bytes. It takes what comes later.
 #[derive(Drop)]
-struct FailsOnce {
-    taken: Vec<u8>,
+pub(crate) struct FailsOnce {
+    pub taken: Vec<u8>,
     room: usize,
     has_failed: bool,
 }
 
 impl FailsOnce {
-    fn new(alloc: Global, room: usize) -> FailsOnce {
+    pub(crate) fn new(alloc: Global, room: usize) -> FailsOnce {
         FailsOnce {
             taken: Vec::new(alloc),
             room,

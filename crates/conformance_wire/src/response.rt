@@ -1,4 +1,5 @@
 //! Answers, made and printed into a writer of bounded room.
+use crate::coding::headers;
 use crate::same::{assert_holds, assert_same, assert_shown};
 use httpdate::HttpDate;
 use std::alloc::Global;
@@ -73,6 +74,8 @@ struct Printed {
 // How an answer is printed.
 #[derive(Clone, Copy)]
 struct Setting<'a> {
+    // The header lines of the request.
+    lines: &'a [&'a str],
     version: HTTPVersion,
     no_body: bool,
     upgrade: Option<&'a str>,
@@ -81,33 +84,52 @@ struct Setting<'a> {
 }
 
 const PLAIN: Setting<'static> = Setting {
+    lines: &[],
     version: V1_1,
     no_body: false,
     upgrade: None,
     room: ROOM,
 };
 
+// Prints the answer into this writer, and answers the fault, if there is one.
+fn print_into<R: ReadDevice + Drop, W: WriteDevice>(
+    alloc: Global,
+    answer: Response<R>,
+    writer: &mut W,
+    setting: Setting<'_>,
+) -> Result<Option<ErrorKind>, Fail> {
+    let Setting {
+        lines,
+        version,
+        no_body,
+        upgrade,
+        room: _,
+    } = setting;
+    let headers = headers(alloc, lines)?;
+    let now = HttpDate::from_unix_secs(420895020)?;
+    let outcome = answer.raw_print(
+        alloc,
+        writer,
+        version,
+        headers.as_slice(),
+        no_body,
+        upgrade,
+        now,
+    );
+    let fault = outcome.err().map(|e| e.kind());
+    if fault == Some(ErrorKind::OutOfMemory) {
+        return Err("no memory for what is printed".into());
+    }
+    Ok(fault)
+}
+
 fn print<R: ReadDevice + Drop>(
     alloc: Global,
     answer: Response<R>,
     setting: Setting<'_>,
 ) -> Result<Printed, Fail> {
-    let Setting {
-        version,
-        no_body,
-        upgrade,
-        room,
-    } = setting;
-    let now = HttpDate::from_unix_secs(420895020)?;
-    let mut writer = Budget::new(alloc, room, ErrorKind::Other);
-    let outcome = answer.raw_print(alloc, &mut writer, version, &[], no_body, upgrade, now);
-    let fault = match outcome {
-        Ok(()) => None,
-        Err(e) => Some(e.kind()),
-    };
-    if fault == Some(ErrorKind::OutOfMemory) {
-        return Err("no memory for what is printed".into());
-    }
+    let mut writer = Budget::new(alloc, setting.room, ErrorKind::Other);
+    let fault = print_into(alloc, answer, &mut writer, setting)?;
     Ok(Printed {
         fault,
         bytes: writer.bytes().to_vec(alloc)?,
@@ -199,11 +221,18 @@ const NO_PROTOCOL: &str = "w\u{e9}";
 
 #[test]
 fn upgrades(rt: HostRuntime) -> Result<(), Fail> {
-    for (protocol, wanted, fault) in [
-        ("websocket", SWITCHING, None),
-        (NO_PROTOCOL, "", Some(ErrorKind::InvalidInput)),
+    for (lines, protocol, wanted, fault) in [
+        ([].as_slice(), "websocket", SWITCHING, None),
+        (["TE: chunked"].as_slice(), "websocket", SWITCHING, None),
+        (
+            [].as_slice(),
+            NO_PROTOCOL,
+            "",
+            Some(ErrorKind::InvalidInput),
+        ),
     ] {
         let setting = Setting {
+            lines,
             upgrade: Some(protocol),
             ..PLAIN
         };
@@ -248,5 +277,6 @@ fn a_writer_that_fails(rt: HostRuntime) -> Result<(), Fail> {
 }
 
 mod added;
+mod coded;
 mod data;
 mod file;

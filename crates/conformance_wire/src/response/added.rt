@@ -265,24 +265,28 @@ fn other_data_of_unknown_length(rt: HostRuntime) -> Result<(), Fail> {
     Ok(())
 }
 
-const OWN: &[(Field, &str)] = &[
+// What is sent under an answer's own `Date` and `Server`: each stands where it was added.
+const OWN: &[(&[Field], &str)] = &[
     (
-        ("daTE", "mine"),
+        &[("daTE", "mine")],
         "HTTP/1.1 200 OK\r\nServer: tiny-http (Rust)\r\ndaTE: mine\r\nContent-Length: 0\r\n\r\n",
     ),
     (
-        ("Server", "mine"),
+        &[("Server", "mine")],
         "HTTP/1.1 200 OK\r\nDate: Wed, 04 May 1983 11:17:00 GMT\r\nServer: mine\r\nContent-Length: 0\r\n\r\n",
+    ),
+    (
+        &[("Date", "x"), ("Server", "y")],
+        "HTTP/1.1 200 OK\r\nDate: x\r\nServer: y\r\nContent-Length: 0\r\n\r\n",
     ),
 ];
 
 #[test]
 fn own_date_and_server(rt: HostRuntime) -> Result<(), Fail> {
-    for (field, whole) in OWN {
-        let answer = Response::empty(rt.alloc(), StatusCode(200))
-            .with_header(header(rt.alloc(), *field)?)
-            .ok()
-            .ok_or("no memory for a header")?;
+    for (fields, whole) in OWN {
+        let answer = added_one_by_one(rt.alloc(), fields)?
+            .with_status_code(StatusCode(200))
+            .with_data(io::empty(), Some(0));
         assert_printed(&rt, rt.alloc(), answer, PLAIN, (whole, None))?;
     }
     Ok(())

@@ -1,6 +1,6 @@
 //! Answers whose data ends, fails or goes on behind its length, printed.
 use super::{PLAIN, Setting, V1_0, assert_printed, print};
-use crate::same::{assert_holds, assert_same};
+use crate::same::assert_same;
 use std::alloc::Global;
 use std::io::ErrorKind;
 use std::process::Abort;
@@ -9,11 +9,14 @@ use tiny_http_wire::common::StatusCode;
 use tiny_http_wire::device::{Canned, ReadDevice};
 use tiny_http_wire::response::Response;
 
-// Bytes of a reader and its fault, and the length that is said.
-type Data<'a> = (&'a [u8], Option<ErrorKind>, Option<usize>);
+/// Bytes of a reader and its fault, and the length that is said.
+pub(crate) type Data<'a> = (&'a [u8], Option<ErrorKind>, Option<usize>);
 
-// An answer 200 with these data.
-fn canned(alloc: Global, (bytes, fault, length): Data<'_>) -> Result<Response<Canned>, Fail> {
+/// An answer 200 with these data.
+pub(crate) fn canned(
+    alloc: Global,
+    (bytes, fault, length): Data<'_>,
+) -> Result<Response<Canned>, Fail> {
     let reader = Canned::new(bytes.to_vec(alloc)?, fault);
     Ok(Response::empty(alloc, StatusCode(200)).with_data(reader, length))
 }
@@ -56,7 +59,10 @@ const DATA: &[(Data<'static>, (&str, Option<ErrorKind>))] = &[
     ),
     (
         (b"abcd", None, None),
-        ("Content-Length: 4\r\n\r\nabcd", None),
+        (
+            "Transfer-Encoding: chunked\r\n\r\n4\r\nabcd\r\n0\r\n\r\n",
+            None,
+        ),
     ),
 ];
 
@@ -75,11 +81,17 @@ fn data_that_is_withheld_is_not_read(rt: HostRuntime) -> Result<(), Fail> {
     assert_data_printed(&rt, rt.alloc(), fails, true, wanted)
 }
 
-// What an answer that says 3 bytes leaves of its data.
-fn assert_left(rt: &impl Abort, alloc: Global, no_body: bool, left: &[u8]) -> Result<(), Fail> {
+// What an answer that says 3 bytes, or no length, leaves of its data.
+fn assert_left(
+    rt: &impl Abort,
+    alloc: Global,
+    setting: Setting<'_>,
+    length: Option<usize>,
+    left: &[u8],
+) -> Result<(), Fail> {
     let mut data = Canned::new(b"hello".to_vec(alloc)?, None);
-    let answer = Response::empty(alloc, StatusCode(200)).with_data(&mut data, Some(3));
-    let printed = print(alloc, answer, Setting { no_body, ..PLAIN })?;
+    let answer = Response::empty(alloc, StatusCode(200)).with_data(&mut data, length);
+    let printed = print(alloc, answer, setting)?;
     assert_same(rt, printed.fault, None);
     let mut rest = [0; 8];
     let count = data.read_in(&mut rest)?;
@@ -89,41 +101,38 @@ fn assert_left(rt: &impl Abort, alloc: Global, no_body: bool, left: &[u8]) -> Re
 
 #[test]
 fn data_past_the_length_is_left(rt: HostRuntime) -> Result<(), Fail> {
-    assert_left(&rt, rt.alloc(), false, b"lo")?;
-    assert_left(&rt, rt.alloc(), true, b"hello")
+    for (no_body, left) in [(false, "lo"), (true, "hello")] {
+        let setting = Setting { no_body, ..PLAIN };
+        assert_left(&rt, rt.alloc(), setting, Some(3), left.as_bytes())?;
+    }
+    Ok(())
+}
+
+// A body that isn't coded has its length in its head, also where it is withheld.
+#[test]
+fn data_of_unknown_length_are_read_for_their_length(rt: HostRuntime) -> Result<(), Fail> {
+    for no_body in [false, true] {
+        let setting = Setting {
+            version: V1_0,
+            no_body,
+            ..PLAIN
+        };
+        assert_left(&rt, rt.alloc(), setting, None, b"")?;
+    }
+    Ok(())
 }
 
 #[test]
 fn data_of_unknown_length_that_fails_leaves_nothing_written(rt: HostRuntime) -> Result<(), Fail> {
     for no_body in [false, true] {
-        let answer = canned(rt.alloc(), (b"abcd", Some(ErrorKind::Other), None))?;
-        let setting = Setting { no_body, ..PLAIN };
+        let answer = canned(rt.alloc(), (&[b'x'; 8197], Some(ErrorKind::Other), None))?;
+        let setting = Setting {
+            version: V1_0,
+            no_body,
+            ..PLAIN
+        };
         let wanted = ("", Some(ErrorKind::Other));
         assert_printed(&rt, rt.alloc(), answer, setting, wanted)?;
     }
-    Ok(())
-}
-
-const LONG_HEAD: &str =
-    "HTTP/1.0 200 OK\r\nServer: tiny-http (Rust)\r\nDate: Wed, 04 May 1983 11:17:00 GMT\r\nContent-Length: 8193\r\n\r\n";
-
-// The bytes are the head and then the data.
-fn is_long(bytes: &[u8]) -> bool {
-    let data = [b'x'; 8193];
-    bytes.len() == LONG_HEAD.len() + 8193
-        && bytes.starts_with(LONG_HEAD.as_bytes())
-        && bytes.ends_with(&data)
-}
-
-#[test]
-fn long_data_of_unknown_length(rt: HostRuntime) -> Result<(), Fail> {
-    let answer = canned(rt.alloc(), (&[b'x'; 8193], None, None))?;
-    let setting = Setting {
-        version: V1_0,
-        ..PLAIN
-    };
-    let printed = print(rt.alloc(), answer, setting)?;
-    assert_same(&rt, printed.fault, None);
-    assert_holds(&rt, "the head and 8193 bytes", is_long(&printed.bytes));
     Ok(())
 }

@@ -46,9 +46,13 @@ impl OpenFile for Stand {
 const HELLO: &str =
     "HTTP/1.1 200 OK\r\nServer: tiny-http (Rust)\r\nDate: Wed, 04 May 1983 11:17:00 GMT\r\nContent-Length: 5\r\n\r\nhello";
 
+// Without a length.
+const HELLO_IN_CHUNKS: &str =
+    "HTTP/1.1 200 OK\r\nServer: tiny-http (Rust)\r\nDate: Wed, 04 May 1983 11:17:00 GMT\r\nTransfer-Encoding: chunked\r\n\r\n5\r\nhello\r\n0\r\n\r\n";
+
 #[test]
 fn a_file_by_its_metadata(rt: HostRuntime) -> Result<(), Fail> {
-    for length in [Some(5), None] {
+    for (length, whole) in [(Some(5), HELLO), (None, HELLO_IN_CHUNKS)] {
         let file = Stand {
             bytes: Cursor::new(b"hello".to_vec(rt.alloc())?),
             length,
@@ -58,7 +62,7 @@ fn a_file_by_its_metadata(rt: HostRuntime) -> Result<(), Fail> {
         assert_same(&rt, answer.data_length(), length.map(|n| n as usize));
         assert_holds(&rt, "no headers", answer.headers().is_empty());
         assert_same(&rt, answer.chunked_threshold(), 32768);
-        assert_printed(&rt, rt.alloc(), answer, PLAIN, (HELLO, None))?;
+        assert_printed(&rt, rt.alloc(), answer, PLAIN, (whole, None))?;
     }
     Ok(())
 }

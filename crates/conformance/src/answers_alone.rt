@@ -1,0 +1,178 @@
+//! Answers to requests that were read without a driver, sent on an outlet.
+use crate::broken_answers::{Watched, lent};
+use crate::exchanges::{date, request, source_of};
+use crate::runs::{AMPLE, DATED, TEXT, joined, output_of};
+use crate::same::{assert_holds, assert_same};
+use std::alloc::Global;
+use std::io::{Cursor, ErrorKind};
+use std::process::Abort;
+use std::test::Fail;
+use tiny_http_core::exchange::Exchange;
+use tiny_http_core::outlet::Outlet;
+use tiny_http_wire::common::Method;
+use tiny_http_wire::device::{Budget, ReadDevice};
+use tiny_http_wire::response::Response;
+
+// A request, and what answers it.
+const ROWS: &[(&[u8], &[&str])] = &[
+    (
+        b"GET / HTTP/1.1\r\nTE: chunked\r\n\r\n",
+        &[
+            "HTTP/1.1 200 OK\r\n",
+            TEXT,
+            "Transfer-Encoding: chunked\r\n\r\nb\r\nhello world\r\n0\r\n\r\n",
+        ],
+    ),
+    (
+        b"GET / HTTP/1.1\r\nHost: a\r\n\r\n",
+        &[
+            "HTTP/1.1 200 OK\r\n",
+            TEXT,
+            "Content-Length: 11\r\n\r\nhello world",
+        ],
+    ),
+    (
+        b"HEAD / HTTP/1.1\r\n\r\n",
+        &["HTTP/1.1 200 OK\r\n", TEXT, "Content-Length: 11\r\n\r\n"],
+    ),
+    (
+        b"HEAD / HTTP/1.1\r\nTE: chunked\r\n\r\n",
+        &[
+            "HTTP/1.1 200 OK\r\n",
+            TEXT,
+            "Transfer-Encoding: chunked\r\n\r\n",
+        ],
+    ),
+    (
+        b"POST / HTTP/1.0\r\nTE: chunked\r\nContent-Length: 2\r\n\r\nok",
+        &[
+            "HTTP/1.0 200 OK\r\n",
+            TEXT,
+            "Content-Length: 11\r\n\r\nhello world",
+        ],
+    ),
+];
+
+fn hello(alloc: Global) -> Result<Response<Cursor<Vec<u8>>>, Fail> {
+    let text = String::from_str(alloc, "hello world")?;
+    Ok(Response::from_string(alloc, text)?)
+}
+
+// The request that these bytes are.
+fn exchange_of(rt: &impl Abort, alloc: Global, client: &[u8]) -> Result<Exchange, Fail> {
+    let mut source = source_of(alloc, client, None, 1024)?;
+    request(rt, alloc, &mut source, "/")
+}
+
+fn outlet_of(alloc: Global, room: usize) -> Outlet<Budget> {
+    Outlet::new(Budget::new(alloc, room, ErrorKind::TimedOut))
+}
+
+// What an answer to this request is printed as, by its head alone.
+fn printed(alloc: Global, exchange: &Exchange) -> Result<Vec<u8>, Fail> {
+    let head = exchange.head();
+    let no_body = matches!(head.method, Method::Head);
+    let headers = head.headers.as_slice();
+    let mut writer = Budget::new(alloc, AMPLE, ErrorKind::Other);
+    hello(alloc)?.raw_print(
+        alloc,
+        &mut writer,
+        head.version,
+        headers,
+        no_body,
+        None,
+        date()?,
+    )?;
+    Ok(writer.into_bytes())
+}
+
+// What is sent of an answer to this request, and nothing of it is held back.
+fn sent(rt: &impl Abort, alloc: Global, exchange: &Exchange) -> Result<Vec<u8>, Fail> {
+    let mut outlet = outlet_of(alloc, AMPLE);
+    exchange.respond_on(alloc, &mut outlet, hello(alloc)?, date()?)?;
+    assert_same(rt, (outlet.is_ended(), outlet.held().len()), (false, 0));
+    output_of(alloc, outlet)
+}
+
+fn assert_row(rt: &impl Abort, alloc: Global, client: &[u8], pieces: &[&str]) -> Result<(), Fail> {
+    let exchange = exchange_of(rt, alloc, client)?;
+    let wanted = joined(alloc, pieces)?;
+    let bytes = sent(rt, alloc, &exchange)?;
+    assert_same(rt, str::from_utf8(&bytes)?, wanted.as_str());
+    let bytes = printed(alloc, &exchange)?;
+    assert_same(rt, str::from_utf8(&bytes)?, wanted.as_str());
+    Ok(())
+}
+
+#[test]
+fn an_answer_is_sent_as_it_is_printed(rt: HostRuntime) -> Result<(), Fail> {
+    for (client, pieces) in ROWS {
+        assert_row(&rt, rt.alloc(), client, pieces)?;
+    }
+    Ok(())
+}
+
+const ASKS_FOR_CHUNKS: &[u8] = b"GET / HTTP/1.1\r\nTE: chunked\r\n\r\n";
+
+// The fault of an answer, if there was one.
+fn fault_of<D: ReadDevice + Drop>(
+    alloc: Global,
+    exchange: &Exchange,
+    outlet: &mut Outlet<Budget>,
+    answer: Response<D>,
+) -> Result<Option<ErrorKind>, Fail> {
+    let outcome = exchange.respond_on(alloc, outlet, answer, date()?);
+    Ok(outcome.err().map(|e| e.kind()))
+}
+
+// On this outlet, which has ended, an answer is no error, and its data aren't read.
+fn assert_passed_over(
+    rt: &impl Abort,
+    alloc: Global,
+    exchange: &Exchange,
+    outlet: &mut Outlet<Budget>,
+) -> Result<(), Fail> {
+    assert_holds(rt, "the outlet has ended", outlet.is_ended());
+    let mut data = Watched::new(alloc, b"hello", None)?;
+    let fault = fault_of(alloc, exchange, outlet, lent(alloc, &mut data))?;
+    assert_same(rt, (fault, data.reads), (None, 0));
+    Ok(())
+}
+
+#[test]
+fn on_an_outlet_that_has_ended_nothing_is_sent(rt: HostRuntime) -> Result<(), Fail> {
+    let alloc = rt.alloc();
+    let exchange = exchange_of(&rt, alloc, ASKS_FOR_CHUNKS)?;
+    let mut outlet = outlet_of(alloc, AMPLE);
+    outlet.write(b"before")?;
+    outlet.end()?;
+    assert_passed_over(&rt, alloc, &exchange, &mut outlet)?;
+    assert_same(&rt, output_of(alloc, outlet)?.as_slice(), b"before");
+    Ok(())
+}
+
+#[test]
+fn data_that_fail_end_the_outlet(rt: HostRuntime) -> Result<(), Fail> {
+    let alloc = rt.alloc();
+    let exchange = exchange_of(&rt, alloc, ASKS_FOR_CHUNKS)?;
+    let mut outlet = outlet_of(alloc, AMPLE);
+    let mut data = Watched::new(alloc, b"hello", Some(ErrorKind::Other))?;
+    let fault = fault_of(alloc, &exchange, &mut outlet, lent(alloc, &mut data))?;
+    assert_same(&rt, fault, Some(ErrorKind::Other));
+    assert_passed_over(&rt, alloc, &exchange, &mut outlet)?;
+    let wanted = format!(in alloc; "HTTP/1.1 200 OK\r\n{DATED}Transfer-Encoding: chunked\r\n\r\n")?;
+    assert_same(&rt, output_of(alloc, outlet)?.as_slice(), wanted.as_bytes());
+    Ok(())
+}
+
+#[test]
+fn a_writer_that_fails_ends_the_outlet(rt: HostRuntime) -> Result<(), Fail> {
+    let alloc = rt.alloc();
+    let exchange = exchange_of(&rt, alloc, ASKS_FOR_CHUNKS)?;
+    let mut outlet = outlet_of(alloc, 10);
+    let fault = fault_of(alloc, &exchange, &mut outlet, hello(alloc)?)?;
+    assert_same(&rt, fault, Some(ErrorKind::TimedOut));
+    assert_passed_over(&rt, alloc, &exchange, &mut outlet)?;
+    assert_same(&rt, output_of(alloc, outlet)?.as_slice(), b"HTTP/1.1 2");
+    Ok(())
+}

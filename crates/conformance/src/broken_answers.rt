@@ -1,0 +1,150 @@
+//! Answers whose data fail: the output ends with what was sent of them.
+use crate::runs::Deed::{Ask, Data, Drop, Text};
+use crate::runs::{AMPLE, Case, DATED, Deed, SECONDS, assert_case, describe, output_of};
+use crate::same::assert_same;
+use httpdate::HttpDate;
+use std::alloc::Global;
+use std::io;
+use std::io::ErrorKind;
+use std::process::Abort;
+use std::test::Fail;
+use tiny_http_core::driver::{Connection, Reply};
+use tiny_http_wire::common::StatusCode;
+use tiny_http_wire::device::{Budget, Canned, ReadDevice};
+use tiny_http_wire::response::Response;
+
+// A full chunk of data, and five bytes more.
+const BYTES: &[u8] = &[b'x'; 8197];
+
+// The full chunk.
+const CHUNK: &[u8] = &[b'x'; 8192];
+
+const THREE: &[u8] = b"GET /a HTTP/1.1\r\n\r\nGET /b HTTP/1.1\r\n\r\nGET /c HTTP/1.1\r\n\r\n";
+
+const THREE_OLDER: &[u8] =
+    b"GET /a HTTP/1.0\r\nConnection: keep-alive\r\n\r\nGET /b HTTP/1.0\r\nConnection: keep-alive\r\n\r\nGET /c HTTP/1.0\r\nConnection: keep-alive\r\n\r\n";
+
+// An answer that breaks, before it a drop out of turn and after it an answer.
+const DEEDS: &[Deed<'static>] = &[
+    Ask,
+    Ask,
+    Ask,
+    Drop(1),
+    Data(0, BYTES, Some(ErrorKind::Other)),
+    Text(2, "c"),
+    Ask,
+];
+
+#[test]
+fn after_a_broken_answer_nothing_is_sent(rt: HostRuntime) -> Result<(), Fail> {
+    let case = Case {
+        client: THREE,
+        deeds: DEEDS,
+        replies: "0: GET /a 1.1; 1: GET /b 1.1; 2: GET /c 1.1; done; fault Other; done; ended",
+        output: &[
+            "HTTP/1.1 200 OK\r\n",
+            DATED,
+            "Transfer-Encoding: chunked\r\n\r\n2000\r\n",
+            str::from_utf8(CHUNK)?,
+            "\r\n",
+        ],
+    };
+    assert_case(&rt, rt.alloc(), &case)
+}
+
+// Data of unknown length that aren't sent in chunks are read whole before the head.
+#[test]
+fn of_an_older_client_nothing_is_sent(rt: HostRuntime) -> Result<(), Fail> {
+    let case = Case {
+        client: THREE_OLDER,
+        deeds: DEEDS,
+        replies: "0: GET /a 1.0 [Connection: keep-alive]; 1: GET /b 1.0 [Connection: keep-alive]; 2: GET /c 1.0 [Connection: keep-alive]; done; fault Other; done; ended",
+        output: &[],
+    };
+    assert_case(&rt, rt.alloc(), &case)
+}
+
+/// Data whose reads are counted.
+#[derive(Drop)]
+pub(crate) struct Watched {
+    inner: Canned,
+    pub reads: u64,
+}
+
+impl Watched {
+    pub(crate) fn new(
+        alloc: Global,
+        bytes: &[u8],
+        fault: Option<ErrorKind>,
+    ) -> Result<Watched, Fail> {
+        let inner = Canned::new(bytes.to_vec(alloc)?, fault);
+        Ok(Watched { inner, reads: 0 })
+    }
+}
+
+impl ReadDevice for Watched {
+    fn read_in(&mut self, buf: &mut [u8]) -> Result<usize, io::Error> {
+        self.reads = self.reads.saturating_add(1);
+        self.inner.read_in(buf)
+    }
+}
+
+/// The answer 200 with these data, of unknown length, which are lent to it.
+pub(crate) fn lent(alloc: Global, data: &mut Watched) -> Response<&mut Watched> {
+    Response::empty(alloc, StatusCode(200)).with_data(data, None)
+}
+
+// A connection that has handed out three requests.
+fn asked(alloc: Global, now: HttpDate) -> Result<Connection<Canned, Budget>, Fail> {
+    let reader = Canned::new(THREE.to_vec(alloc)?, None);
+    let writer = Budget::new(alloc, AMPLE, ErrorKind::Other);
+    let mut connection = Connection::new(alloc, reader, writer);
+    for _ in 0..3 {
+        let Reply::Handed(_, _) = connection.ask(alloc, now) else {
+            return Err("no request".into());
+        };
+    }
+    Ok(connection)
+}
+
+// The replies to three answers, by these data in turn.
+fn answered(
+    alloc: Global,
+    now: HttpDate,
+    connection: &mut Connection<Canned, Budget>,
+    data: [&mut Watched; 3],
+) -> Result<String, Fail> {
+    let [first, second, third] = data;
+    let replies = [
+        connection.respond(alloc, now, 0, lent(alloc, first)),
+        connection.respond(alloc, now, 1, lent(alloc, second)),
+        connection.respond(alloc, now, 2, lent(alloc, third)),
+    ];
+    Ok(describe(alloc, &replies)?)
+}
+
+const WHOLE: &str =
+    "HTTP/1.1 200 OK\r\nServer: tiny-http (Rust)\r\nDate: Wed, 04 May 1983 11:17:00 GMT\r\nTransfer-Encoding: chunked\r\n\r\n5\r\nhello\r\n0\r\n\r\n";
+
+const BROKEN: &str =
+    "HTTP/1.1 200 OK\r\nServer: tiny-http (Rust)\r\nDate: Wed, 04 May 1983 11:17:00 GMT\r\nTransfer-Encoding: chunked\r\n\r\n";
+
+// A whole answer, one whose data fail before a full chunk, and one that isn't sent.
+#[test]
+fn data_are_not_read_after_a_broken_answer(rt: HostRuntime) -> Result<(), Fail> {
+    let alloc = rt.alloc();
+    let now = HttpDate::from_unix_secs(SECONDS)?;
+    let mut connection = asked(alloc, now)?;
+    let mut whole = Watched::new(alloc, b"hello", None)?;
+    let mut broken = Watched::new(alloc, b"hello", Some(ErrorKind::Other))?;
+    let mut unread = Watched::new(alloc, b"hello", None)?;
+    let data = [&mut whole, &mut broken, &mut unread];
+    let replies = answered(alloc, now, &mut connection, data)?;
+    assert_same(&rt, replies.as_str(), "done; fault Other; done");
+    assert_same(&rt, unread.reads, 0);
+    let (_source, outlet) = connection.into_parts();
+    let wanted = format!(in alloc; "{WHOLE}{BROKEN}")?;
+    let output = output_of(alloc, outlet)?;
+    assert_same(&rt, str::from_utf8(&output)?, wanted.as_str());
+    Ok(())
+}
