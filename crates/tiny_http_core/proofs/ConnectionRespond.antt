@@ -16,7 +16,7 @@ use Rattle.tiny_http_sending.specs.ResponseValue.{ResponseValue}
 use Rattle.tiny_http_sending.specs.Sending.{IsGathered}
 use Rattle.tiny_http_core.specs.Slots.{Slot, Stage, Unanswered, Answered as AnsweredBy, ByServer, Raw, Upgraded, is_stage_finished, is_finished, is_broken, is_slot_broken, segment, joined, is_output_broken, last_slot, turn_has_come, to_request, text_if}
 use Rattle.tiny_http_core.specs.Steps.{StepValue, outcome, Respond, ReplyValue, Done, NoSuch, NotYet, WriterUse, Reported, Outcome, Reached, unchanged, changes, finished_as, accepts_step, fault_in, fault_of_answer, at_item, at_slot, at_number}
-use Rattle.tiny_http_core.specs.Conversation.{Failure, State, has_output_ended, finished_front, flushed_after, WriterPart, HasOutcome, GathersAt, MayLack}
+use Rattle.tiny_http_core.specs.Conversation.{Failure, State, has_output_ended, finished_front, flushed_after, CanMeet, WriterPart, HasOutcome, GathersAt, MayLack}
 use Rattle.tiny_http_core.proofs.ConversationWriting.{FailsBetween, FailsReported, FailsBehind, broken_reply, used, WritesIf, IsAllFlushed, reported, still-flushed}
 use Rattle.tiny_http_sending.specs.ResponseValue.{printing_in}
 use Rattle.tiny_http_core.specs.Seen.{Answers, reply_to}
@@ -117,7 +117,7 @@ abbrev pub OwnWrites : Bool → Option Failure → List ℕ → Text → ReplyVa
 OwnWrites was failed known text reply failure =
     MatchBool was ((reply ≡ Done) × (failure ≡ failed))
     (((reply ≡ broken_reply fault_of_answer Done (fault_in text.ending)) × (failure ≡ None))
-    ⊎ (FailsReported fault_of_answer reply known (known ++ text.bytes) failure
+    ⊎ ((CanMeet text.bytes (fault_in text.ending) × FailsReported fault_of_answer reply known (known ++ text.bytes) failure)
     ⊎ ((kind : ErrorKind) × (text.ending ≡ Broken kind) × (reply ≡ broken_reply fault_of_answer Done (fault_in text.ending)) × FailsBetween known (known ++ text.bytes) failure)))
 
 pub record OwnSaid (before mid : Sink) (was ended : Bool) (bs : List Slot) (s1 : Slot) (text : Text) (failed : Option Failure) (reply : ReplyValue) : Type 0 where
@@ -142,7 +142,7 @@ own-said before sink mid ended bs s1 text (Ok x) reply h fin over own broken low
       writes = inl (t ∙ ap (λ y. broken_reply fault_of_answer Done (fault_in y)) (sym d.0), refl);
     }
 own-said before sink mid ended bs s1 text (Err e) reply h fin over own broken low d flushed t =
-    ⊎_elim (λ k. ⊎_elim (λ x. broken-sent k.0 x) (λ x. broken-lost k.0 x.0 x.1) k.1) (λ l. lost l) d.2
+    ⊎_elim (λ k. ⊎_elim (λ x. broken-sent k.0 x) (λ x. broken-lost k.0 x.0 x.1) k.1) (λ l. lost l.0 l.1 text.bytes refl) d.2
   where
     none : is_output_broken bs ≡ false
     none = sym h.3
@@ -168,14 +168,18 @@ own-said before sink mid ended bs s1 text (Err e) reply h fin over own broken lo
           writes = inr (inr (error_kind e, b, reported-broken text (error_kind e) reply b t, (f, refl, z.begins, z.front)));
         }
 
-    lost : OutletFailed sink mid text.bytes (error_kind e) → OwnSaid before mid false ended bs s1 text None reply
-    lost l =
+    lost : (text.bytes ≡ [] → text.ending ≡ Broken (error_kind e)) → OutletFailed sink mid text.bytes (error_kind e) → (own : List ℕ) → text.bytes ≡ own → OwnSaid before mid false ended bs s1 text None reply
+    lost u l [] z = broken-lost (u z) (error_kind e) l
+    lost u l (b ∷ more) z = within l (let C : List ℕ → Type 0 = λ x. CanMeet x (fault_in text.ending) in subst C (sym z) tt)
+
+    within : OutletFailed sink mid text.bytes (error_kind e) → CanMeet text.bytes (fault_in text.ending) → OwnSaid before mid false ended bs s1 text None reply
+    within l can =
         let z = lost-output before sink mid (joined bs) text.bytes (error_kind e) h.0 h.1 (h.4 refl) low l in
         let f : Failure = record { kind = error_kind e; output = z.output } in
         record {
           failure = Some f;
           output = (z.taken, z.failures, z.stated, d.0);
-          writes = inr (inl (f, refl, t, z.begins, z.front));
+          writes = inr (inl (can, (f, refl, t, z.begins, z.front)));
         }
 
 pub own-sent : {T : Type 0} (before sink mid : Sink) (was ended : Bool) (bs : List Slot) (s1 : Slot) (text : Text) (failed : Option Failure) (r : Result T Error) (reply : ReplyValue) → OutputAt before sink was bs failed → list_all is_finished bs ≡ true → is_finished s1 ≡ true
@@ -220,7 +224,7 @@ behind-alternatives true failed old text slots reply own failure h none whole mo
 behind-alternatives false failed old text slots reply own failure (inl h) none whole more left z =
     let P : Ending → Type 0 = λ x. FailsBehind old text.bytes (fault_in x) slots failure in
     ⊎_elim (λ k. inl (h.0, k)) (λ k. inr (inr (h.0, subst P (sym whole) (more, k)))) left
-behind-alternatives false failed old text slots reply own failure (inr (inl h)) none whole more left z = let absent : true ≡ false = ap is_some (sym h.1) ∙ none in cc
+behind-alternatives false failed old text slots reply own failure (inr (inl h)) none whole more left z = let absent : true ≡ false = ap is_some (sym h.1.1) ∙ none in cc
 behind-alternatives false failed old text slots reply own failure (inr (inr h)) none whole more left z = let absent : true ≡ false = ap is_some (sym h.3.1) ∙ none in cc
 
 -- the output is open after the response only where the response is whole, and was open before it

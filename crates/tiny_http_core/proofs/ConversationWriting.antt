@@ -6,7 +6,7 @@ use Rattle.tiny_http_wire.specs.Device.{IsFront}
 use Rattle.tiny_http_encoding.specs.Text.{Text}
 use Rattle.tiny_http_core.specs.Slots.{Slot, joined}
 use Rattle.tiny_http_core.specs.Steps.{ReplyValue, Done, WriterUse, Unreported, Reported, fault_in, fault_of_answer}
-use Rattle.tiny_http_core.specs.Conversation.{Failure, State, has_output_ended, finished_front, Fares, Well, FailsWithin, FailsAfter, MayFare, reply_in, failure_in, WriterPart}
+use Rattle.tiny_http_core.specs.Conversation.{Failure, State, has_output_ended, finished_front, Fares, Well, FailsWithin, FailsAfter, CanMeet, MayFare, reply_in, failure_in, WriterPart}
 
 -- the writer failed while the output grew from one text to another
 abbrev pub FailsBetween : List ℕ → List ℕ → Option Failure → Type 0
@@ -34,7 +34,7 @@ used text = Reported text.bytes (fault_in text.ending) true fault_of_answer
 abbrev pub Alternatives : List Slot → Text → List Slot → ReplyValue → Option Failure → Type 0
 Alternatives old text slots reply failure =
     ((reply ≡ broken_reply fault_of_answer Done (fault_in text.ending)) × (failure ≡ None))
-    ⊎ (FailsReported fault_of_answer reply (joined old) (joined old ++ text.bytes) failure
+    ⊎ ((CanMeet text.bytes (fault_in text.ending) × FailsReported fault_of_answer reply (joined old) (joined old ++ text.bytes) failure)
     ⊎ ((reply ≡ broken_reply fault_of_answer Done (fault_in text.ending)) × FailsBehind old text.bytes (fault_in text.ending) slots failure))
 
 abbrev pub WritesIf : Bool → Option Failure → List Slot → Text → List Slot → ReplyValue → Option Failure → Type 0
@@ -85,8 +85,8 @@ reported s was text slots reply failure over firm h = subst W (sym over) (by was
     by true firm h = h
     by false firm (inl x) = (Well, tt, x.0, x.1)
     by false firm (inr (inl x)) =
-        let F : List ℕ → Type 0 = λ y. IsFront y x.0.output in
-        (FailsWithin x.0, (subst F (sym (firm refl)) x.3, x.4), x.2, x.1)
+        let F : List ℕ → Type 0 = λ y. IsFront y x.1.0.output in
+        (FailsWithin x.1.0, (x.0, (subst F (sym (firm refl)) x.1.3, x.1.4)), x.1.2, x.1.1)
     by false firm (inr (inr x)) =
         let a = after (fault_in text.ending) (firm refl) x.1 in
         (FailsAfter a.0, a.2, x.0, a.1)

@@ -45,6 +45,11 @@ pub data Fares : Type 0 where
 abbrev pub FallsBetween : List ℕ → List ℕ → Failure → Type 0
 FallsBetween from to f = IsFront from f.output × IsFront f.output to
 
+-- a step can meet the writer's fault in a text of its own, unless its data broke off before a byte of that
+abbrev pub CanMeet : List ℕ → Option ErrorKind → Type 0
+CanMeet [] (Some kind) = ⊥
+CanMeet own broken = Unit {0}
+
 -- how it may fare: a fault falls after what was flushed, and within what the step leaves to send
 abbrev pub MayFare : WriterUse → State → List Slot → Fares → Type 0
 MayFare writer old slots Well = Unit {0}
@@ -52,7 +57,7 @@ MayFare Unused old slots (FailsWithin f) = ⊥
 MayFare Unused old slots (FailsAfter f) = ⊥
 MayFare Unreported old slots (FailsWithin f) = ⊥
 MayFare Unreported old slots (FailsAfter f) = FallsBetween old.flushed (joined slots) f
-MayFare (Reported own broken flushes report) old slots (FailsWithin f) = FallsBetween old.flushed (joined old.reached.slots ++ own) f
+MayFare (Reported own broken flushes report) old slots (FailsWithin f) = CanMeet own broken × FallsBetween old.flushed (joined old.reached.slots ++ own) f
 MayFare (Reported own None flushes report) old slots (FailsAfter f) =
     (finished_front old.reached.slots + 1 < finished_front slots) × FallsBetween (joined old.reached.slots ++ own) (joined slots) f
 MayFare (Reported own (Some kind) flushes report) old slots (FailsAfter f) = FallsBetween old.flushed (joined old.reached.slots ++ own) f

@@ -1,6 +1,6 @@
 -- The text of a dropped request's 500 fits into its room.
 use Rattle.std.specs.Fmt.{digits}
-use Rattle.std.proofs.Common.{◌≡◌, refl, sym, ap, ◌∙◌, subst, ℕ, ◌<◌, ◌≤◌, inl, inr, Bool, true, false, List, [], ◌++◌, length, Option, Some, None, Err, decimal, codes, length-append, arith}
+use Rattle.std.proofs.Common.{◌≡◌, refl, sym, ap, ◌∙◌, subst, ℕ, ◌<◌, ◌≤◌, inl, inr, ⊎_elim,  Bool, true, false, List, [], ◌++◌, length, Option, Some, None, Err, decimal, codes, length-append, arith}
 use Rattle.std.specs.IoError.{error_kind}
 use Rattle.std.specs.declared.io.Error.{Error}
 use Rattle.std.specs.declared.io.ErrorKind.{ErrorKind}
@@ -14,7 +14,7 @@ use Rattle.tiny_http_wire.specs.declared.coding.FramingHeader.{FramingHeader}
 use Rattle.tiny_http_wire.specs.declared.coding.FramingHeader.TheVariants.{ContentLength, TransferEncoding}
 use Rattle.tiny_http_encoding.specs.ChunkedPrinting.{full_chunks, left_over}
 use Rattle.tiny_http_wire.specs.Common.{reason_phrase}
-use Rattle.tiny_http_wire.specs.Device.{Sink, Failed, ending}
+use Rattle.tiny_http_wire.specs.Device.{Sink, Took, Failed, ending}
 use Rattle.tiny_http_encoding.specs.Text.{Ending, Whole, Broken, identity_body, chunked_body}
 use Rattle.tiny_http_wire.specs.Answer.{Answer, Printing, answer_with, answer_coding, with_coding, PrintsAnswer, text_of, body_unless_withheld, is_withheld, answer_head_text, status_line, field_line, upgrade_lines, server_line, date_line, framing_line}
 use Rattle.tiny_http_sending.specs.ResponseValue.{printing_to}
@@ -82,14 +82,18 @@ full-front old new bytes text kind o n f =
 -- a writer into room for such a text doesn't fail
 pub no-fault : (old new : Sink) (e : Error) (a : Answer) (p : Printing) (bytes : List ℕ) → a ≡ answer_with 500 [] 0 → old.taken ≡ Some [] → new.taken ≡ Some bytes → old.failures ≡ 0 → (0 < new.failures → 144 ≤ length bytes)
     → (text_of (answer_with 500 [] 0) (ending []) p).ending ≡ Whole → length (own_text_by 500 p) < 144 → PrintsAnswer {T = Unit {0}} old new (Err e) a (ending []) p → ⊥
-no-fault old new e a p bytes same o n z full all fits (inl (inl k)) =
-    whole-broken _ (error_kind e) (ap (λ x. (text_of x (ending []) p).ending) same ∙ all) k.0
-no-fault old new e a p bytes same o n z full all fits (inl (inr f)) =
-    let P : Answer → Type 0 = λ x. Failed old new (text_of x (ending []) p).bytes (error_kind e) in
-    let front = full-front old new bytes _ (error_kind e) o n (subst P same f) in
-    let rose : new.failures ≡ 1 = f.failures ∙ rw z refl in
-    let long = full (rw rose (omega arith)) in
-    omega (arith, front, long, fits)
+no-fault old new e a p bytes same o n z full all fits (inl k) = ⊎_elim whole failed k.0
+  where
+    whole : ((text_of a (ending []) p).ending ≡ Broken (error_kind e)) × Took old new (text_of a (ending []) p).bytes → ⊥
+    whole h = whole-broken _ (error_kind e) (ap (λ x. (text_of x (ending []) p).ending) same ∙ all) h.0
+
+    failed : Failed old new (text_of a (ending []) p).bytes (error_kind e) → ⊥
+    failed f =
+        let P : Answer → Type 0 = λ x. Failed old new (text_of x (ending []) p).bytes (error_kind e) in
+        let front = full-front old new bytes _ (error_kind e) o n (subst P same f) in
+        let rose : new.failures ≡ 1 = f.failures ∙ rw z refl in
+        let long = full (rw rose (omega arith)) in
+        omega (arith, front, long, fits)
 no-fault old new e a p bytes same o n z full all fits (inr k) =
     let none : Some 0 ≡ None = sym (ap (λ (x : Answer). x.length) same) ∙ k.2 in
     cc

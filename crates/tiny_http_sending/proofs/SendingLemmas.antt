@@ -10,7 +10,8 @@ use Rattle.std.proofs.lemmas.Bool.{ne_eqb, leb-false}
 use Rattle.tiny_http_wire.specs.Device.{Feed, Sink, IsFront, BeginsKnown, IsKnownFront, IsAllKnown, HoldsNothing, grown, StatesKind, Took, Failed, Puts, next_count, fault_of, CountsFaults}
 use Rattle.tiny_http_wire.specs.Answer.{Answer, Printing, PrintsAnswer, text_of, answer_coding, with_coding, gathered_body, body_unless_withheld, as_it_is, is_withheld}
 use Rattle.tiny_http_encoding.specs.Text.{Text, Whole, Broken, Prints, nothing_sent, identity_body, chunked_body, chunked_until}
-use Rattle.tiny_http_device.proofs.DeviceLemmas.{IsFront-same, IsFront-append}
+use Rattle.tiny_http_device.proofs.DeviceLemmas.{IsFront-same, IsFront-append, Took-nil}
+use Rattle.tiny_http_wire.proofs.AnswerLemmas.{text-some}
 use Rattle.tiny_http_stream.specs.Outlet.{holding, EndsOutlet}
 use Rattle.httpdate.specs.declared.date.HttpDate.{HttpDate}
 use Rattle.tiny_http_wire.specs.declared.common.HTTPVersion.{HTTPVersion}
@@ -97,34 +98,35 @@ given-up s held was now begins_known =
 
 -- all of the text was printed; then it is flushed
 whole-flushed : {T U : Type 0} (a b c : Sink) (was ended : Bool) (x : U) (r : Result T Error) (text : Text) → a.has_ended ≡ false → Prints a b (Ok x) text → Puts b c r []
-    → (b.has_ended ≡ false → was ≡ false) → (ended ≡ true → c.has_ended ≡ true) → OnErr r (ended ≡ true) → OnOk r (ended ≡ was) → SendsText a c ended r text
-whole-flushed a b c was ended x (Ok y) text unended h p w z err ok =
+    → (b.has_ended ≡ false → was ≡ false) → (ended ≡ true → c.has_ended ≡ true) → OnErr r (ended ≡ true) → OnOk r (ended ≡ was) → (text.bytes ≡ [] → ⊥) → SendsText a c ended r text
+whole-flushed a b c was ended x (Ok y) text unended h p w z err ok some =
     let still : b.has_ended ≡ false = h.1.stays ∙ unended in
     (h.0, sent-none a b c text.bytes (taken-sent a b text.bytes unended h.1) (taken-sent b c [] still p), ok ∙ w still, p.stays ∙ still)
-whole-flushed a b c was ended x (Err e) text unended h p w z err ok =
-    (err, z err, inr (sent-lost a b c text.bytes (error_kind e) (taken-sent a b text.bytes unended h.1) (failed-lost b c [] (error_kind e) p)))
+whole-flushed a b c was ended x (Err e) text unended h p w z err ok some =
+    (err, z err, inr (λ none. absurd (some none), sent-lost a b c text.bytes (error_kind e) (taken-sent a b text.bytes unended h.1) (failed-lost b c [] (error_kind e) p)))
 
-not-whole : {G : Type 0} (kind : ErrorKind) → ((nothing_sent kind).ending ≡ Whole) → G
-not-whole kind e = cc
-
-pub printed-flushed : {T U : Type 0} (o : Option Feed) (a b c : Sink) (was ended : Bool) (x : U) (r : Result T Error) (ans : Answer) (p : Printing) → (content : Feed) → o ≡ Some content → length content.bytes < 2 ^ 63
+pub printed-flushed : {T U : Type 0} (o : Option Feed) (a b c : Sink) (was ended : Bool) (x : U) (r : Result T Error) (ans : Answer) (p : Printing) → p.upgrade ≡ None → (content : Feed) → o ≡ Some content → length content.bytes < 2 ^ 63
     → IfSome o (λ feed. length feed.bytes < 2 ^ 63 → PrintsAnswer a b (Ok x) ans feed p) → Puts b c r [] → a.has_ended ≡ false
     → (b.has_ended ≡ false → was ≡ false) → (ended ≡ true → c.has_ended ≡ true) → OnErr r (ended ≡ true) → OnOk r (ended ≡ was) → Sends a c ended r ans content p
-printed-flushed o a b c was ended x r ans p content stated few h f unended w z err ok =
+printed-flushed o a b c was ended x r ans p up content stated few h f unended w z err ok =
     let P : Option Feed → Type 0 = λ y. IfSome y (λ feed. length feed.bytes < 2 ^ 63 → PrintsAnswer a b (Ok x) ans feed p) in
     by-cases (subst P stated h few)
   where
     by-cases : PrintsAnswer a b (Ok x) ans content p → Sends a c ended r ans content p
-    by-cases (inl k) = inl (whole-flushed a b c was ended x r (text_of ans content p) unended k f w z err ok)
-    by-cases (inr k) = not-whole OutOfMemory k.3.0
+    by-cases (inl k) = inl (whole-flushed a b c was ended x r (text_of ans content p) unended k.0 f w z err ok (text-some ans content p up k.0.0))
+    by-cases (inr k) = absurd k.3
 
 -- the text broke off, or the writer failed; then the outlet was ended
 count-rose : (n : ℕ) → n < 2 ^ 64 - 1 → (next_count n == n) ≡ false
 count-rose n lt = ne_eqb (next_count n) n (λ e. absurd (omega arith))
 
+not-both : (t : Bool) → t ≡ true → t ≡ false → ⊥
+not-both true e f = cc
+not-both false e f = cc
+
 broken-ended : (T : Type 0) (a b c : Sink) (ended : Bool) (e : Error) (text : Text) → a.has_ended ≡ false → a.failures < 2 ^ 64 - 1 → Prints {T = T} a b (Err e) text
-    → MatchBool (b.failures == a.failures) (EndsQuietly b c) (DropsHeld b c) → ended ≡ true → c.has_ended ≡ true → SendsText {T = T} a c ended (Err e) text
-broken-ended T a b c ended e text unended low (inl h) m z y =
+    → MatchBool (b.failures == a.failures) (EndsQuietly b c) (DropsHeld b c) → ended ≡ true → c.has_ended ≡ true → (text.bytes ≡ [] → b ≡ a) → SendsText {T = T} a c ended (Err e) text
+broken-ended T a b c ended e text unended low (inl h) m z y unused =
     let same : (b.failures == a.failures) ≡ true = eq-eqb b.failures a.failures h.1.failures in
     let P : Bool → Type 0 = λ t. MatchBool t (EndsQuietly b c) (DropsHeld b c) in
     (z, y, inl (h.0, ends (subst P same m)))
@@ -132,10 +134,10 @@ broken-ended T a b c ended e text unended low (inl h) m z y =
     ends : EndsQuietly b c → OutletTook a c text.bytes ⊎ ((kind : ErrorKind) × OutletFailed a c text.bytes kind)
     ends (inl s) = inl (sent-none a b c text.bytes (taken-sent a b text.bytes unended h.1) s)
     ends (inr l) = inr (l.0, sent-lost a b c text.bytes l.0 (taken-sent a b text.bytes unended h.1) l.1)
-broken-ended T a b c ended e text unended low (inr h) m z y =
+broken-ended T a b c ended e text unended low (inr h) m z y unused =
     let rose : (b.failures == a.failures) ≡ false = ap (λ k. k == a.failures) h.failures ∙ count-rose a.failures low in
     let P : Bool → Type 0 = λ t. MatchBool t (EndsQuietly b c) (DropsHeld b c) in
-    (z, y, inr (failed-abandoned a b c text.bytes (error_kind e) h (subst P rose m)))
+    (z, y, inr (λ none. absurd (not-both (b.failures == a.failures) (eq-eqb b.failures a.failures (ap (λ (s : Sink). s.failures) (unused none))) rose), failed-abandoned a b c text.bytes (error_kind e) h (subst P rose m)))
 
 pub printed-ended : (T : Type 0) (o : Option Feed) (a b c : Sink) (n : ℕ) (ended : Bool) (e : Error) (ans : Answer) (p : Printing) → (content : Feed) → o ≡ Some content → length content.bytes < 2 ^ 63
     → IfSome o (λ feed. length feed.bytes < 2 ^ 63 → PrintsAnswer {T = T} a b (Err e) ans feed p) → n ≡ a.failures → MatchBool (b.failures == n) (EndsQuietly b c) (DropsHeld b c)
@@ -147,8 +149,8 @@ printed-ended T o a b c n ended e ans p content stated few h same m unended low 
     by-cases (subst P stated h few) m2
   where
     by-cases : PrintsAnswer {T = T} a b (Err e) ans content p → MatchBool (b.failures == a.failures) (EndsQuietly b c) (DropsHeld b c) → Sends {T = T} a c ended (Err e) ans content p
-    by-cases (inl k) m2 = inl (broken-ended T a b c ended e (text_of ans content p) unended low k m2 z y)
-    by-cases (inr k) m2 = inr ((k.0, k.1, k.2), broken-ended T a b c ended e (nothing_sent OutOfMemory) unended low k.3 m2 z y)
+    by-cases (inl k) m2 = inl (broken-ended T a b c ended e (text_of ans content p) unended low k.0 m2 z y k.1)
+    by-cases (inr k) m2 = inr ((k.0, k.1, k.2), broken-ended T a b c ended e (nothing_sent OutOfMemory) unended low (inl (ap Broken (sym k.3.0), subst (λ x. Took a x []) (sym k.3.1) (Took-nil a))) m2 z y (λ none. k.3.1))
 
 -- the writer's count, whatever reader and writer state
 pub flushed-once : {T U : Type 0} (a b c : Sink) (x : U) (r : Result T Error) (ended : Bool) → CountsFaults a b (Ok x) → Puts b c r [] → OnErr r (ended ≡ true) → FailsOnce a c ended
@@ -201,16 +203,12 @@ text-breaks : (a : Answer) (f : Feed) (asked : Option Coding) (v : HTTPVersion) 
 unfolding text_of
 text-breaks a f asked v no_body date kind e = coded-breaks (answer_coding a (printing_to asked v no_body date)) a.length _ (is_withheld no_body a.status) f kind e
 
-nothing-breaks : (kind sort : ErrorKind) → (nothing_sent sort).ending ≡ Broken kind → kind ≡ sort
-nothing-breaks kind sort e = cc
-
 data-breaks : (T : Type 0) (a b : Sink) (e : Error) (ans : Answer) (f : Feed) (asked : Option Coding) (v : HTTPVersion) (no_body : Bool) (date : HttpDate) → (b.failures ≡ next_count a.failures → ⊥) → PrintsAnswer {T = T} a b (Err e) ans f (printing_to asked v no_body date)
     → DataBreakOff (answer_coding ans (printing_to asked v no_body date)) ans.length f (error_kind e)
-data-breaks T a b e ans f asked v no_body date same (inl (inl h)) = text-breaks ans f asked v no_body date (error_kind e) h.0
-data-breaks T a b e ans f asked v no_body date same (inl (inr h)) = absurd (same h.failures)
+data-breaks T a b e ans f asked v no_body date same (inl k) = ⊎_elim (λ h. text-breaks ans f asked v no_body date (error_kind e) h.0) (λ h. absurd (same h.failures)) k.0
 data-breaks T a b e ans f asked v no_body date same (inr k) =
     let P : Coding → Option ℕ → Type 0 = λ coding known. DataBreakOff coding known f (error_kind e) in
-    subst (λ c. P c ans.length) (sym k.1) (subst (P Identity) (sym k.2) (⊎_elim (λ h. inr (nothing-breaks (error_kind e) OutOfMemory h.0)) (λ h. absurd (same h.failures)) k.3))
+    subst (λ c. P c ans.length) (sym k.1) (subst (P Identity) (sym k.2) (inr k.3.0))
 
 -- the count after the outlet's end, where printing raised it, or where it stands at its greatest
 rose : (a b c : Sink) (n : ℕ) (t : Bool) → (b.failures == n) ≡ t → n ≡ a.failures → b.failures ≡ next_count a.failures → MatchBool t (EndsQuietly b c) (DropsHeld b c) → c.failures ≡ next_count a.failures

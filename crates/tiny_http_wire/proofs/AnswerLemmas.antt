@@ -1,6 +1,7 @@
 -- From the parts of an answer to its text.
 use Rattle.std.proofs.Common.{◌≡◌, ℕ, ◌<◌, ◌^◌, Bool, List, [], ◌++◌, length, Option, Some, None, Result, Err, IfSome, refl, sym, ap, ◌∙◌, subst, inl, inr, ◌⊎◌, ⊎_elim, append-nil, Ok, if◌then◌else◌}
 use Rattle.tiny_http_coding.specs.Coding.{chosen_coding}
+use Rattle.tiny_http_head.specs.declared.common.Header.{Header}
 use Rattle.tiny_http_coding.specs.declared.coding.Coding.{Coding}
 use Rattle.tiny_http_coding.specs.declared.coding.Coding.TheVariants.{Identity, Chunked}
 use Rattle.tiny_http_coding.specs.declared.coding.FramingHeader.{FramingHeader}
@@ -8,18 +9,27 @@ use Rattle.std.specs.declared.io.Error.{Error}
 use Rattle.std.specs.declared.io.ErrorKind.TheVariants.{InvalidInput, OutOfMemory}
 use Rattle.httpdate.specs.declared.date.HttpDate.{HttpDate}
 use Rattle.tiny_http_head.specs.declared.common.HTTPVersion.{HTTPVersion}
-use Rattle.tiny_http_coding.specs.declared.coding.FramingHeader.TheVariants.{Neither, TransferEncoding}
+use Rattle.tiny_http_coding.specs.declared.coding.FramingHeader.TheVariants.{Neither, TransferEncoding, ContentLength}
 use Rattle.std.specs.IoError.{error_kind}
 use Rattle.tiny_http_device.specs.Device.{Feed, Sink, Puts, Took, Failed}
 use Rattle.tiny_http_device.specs.declared.device.Stop.{Stop}
 use Rattle.tiny_http_device.specs.declared.device.Stop.TheVariants.{End, Fault}
 use Rattle.tiny_http_device.proofs.DeviceLemmas.{Took-nil}
 use Rattle.tiny_http_encoding.proofs.DeviceCopies.{Prints-from_puts, Prints-head_failed, Prints-behind}
-use Rattle.tiny_http_wire.specs.Answer.{Answer, PrintsUncoded, PrintsAnswer, PrintsGathered, gathered_body, answer_head_text, is_ascii_text, is_withheld, as_it_is, with_coding, body_unless_withheld, text_of, answer_coding}
-use Rattle.tiny_http_encoding.specs.Text.{Text, Broken, Prints, whole, nothing_sent, prepend_text, chunked_body}
+use Rattle.tiny_http_wire.specs.Answer.{Answer, PrintsText, LacksMemory, PrintsUncoded, PrintsAnswer, PrintsGathered, Printing, with_upgrade, head_text_of, status_line, gathered_body, answer_head_text, is_ascii_text, is_withheld, as_it_is, with_coding, body_unless_withheld, text_of, answer_coding}
+use Rattle.tiny_http_encoding.specs.Text.{Text, Whole, Broken, Prints, whole, nothing_sent, prepend_text, identity_body, chunked_body}
+
+-- a head has bytes
+pub head-some : (version : HTTPVersion) (status : ℕ) (upgrade : Option (List ℕ)) (headers : List Header) (date : HttpDate) (framing : FramingHeader) (rest : List ℕ) → answer_head_text version status upgrade headers date framing ++ rest ≡ [] → ⊥
+unfolding answer_head_text status_line
+head-some version status upgrade headers date framing rest e = cc
+
+pub head-alone : (version : HTTPVersion) (status : ℕ) (upgrade : Option (List ℕ)) (headers : List Header) (date : HttpDate) (framing : FramingHeader) → answer_head_text version status upgrade headers date framing ≡ [] → ⊥
+unfolding answer_head_text status_line
+head-alone version status upgrade headers date framing e = cc
 
 -- an upgrade
-pub Answered-upgrade : {T : Type 0} (o : Option Feed) (a b : Sink) (r : Result T Error) (ans : Answer) (version : HTTPVersion) (asked : Option Coding) (no_body : Bool) (protocol : List ℕ) (date : HttpDate) → Prints a b r (if is_ascii_text protocol then whole (answer_head_text version ans.status (Some protocol) ans.headers date Neither) else nothing_sent InvalidInput) → IfSome o (λ f. length f.bytes < 2 ^ 63 → PrintsAnswer a b r ans f (record { version = version; asked_coding = asked; no_body = no_body; upgrade = Some protocol; date = date }))
+pub Answered-upgrade : {T : Type 0} (o : Option Feed) (a b : Sink) (r : Result T Error) (ans : Answer) (version : HTTPVersion) (asked : Option Coding) (no_body : Bool) (protocol : List ℕ) (date : HttpDate) → PrintsText a b r (if is_ascii_text protocol then whole (answer_head_text version ans.status (Some protocol) ans.headers date Neither) else nothing_sent InvalidInput) → IfSome o (λ f. length f.bytes < 2 ^ 63 → PrintsAnswer a b r ans f (record { version = version; asked_coding = asked; no_body = no_body; upgrade = Some protocol; date = date }))
 unfolding text_of answer_coding
 Answered-upgrade None a b r ans version asked no_body protocol date h = tt
 Answered-upgrade (Some f) a b r ans version asked no_body protocol date h = λ few. inl h
@@ -30,9 +40,9 @@ PrintsIn o a b r Identity known top withheld = IfSome o (λ f. length f.bytes < 
 PrintsIn o a b r Chunked known top withheld = IfSome o (λ f. length f.bytes < 2 ^ 63 → Prints a b r (prepend_text (top TransferEncoding) (body_unless_withheld withheld (chunked_body f))))
 
 coded : {T : Type 0} (f : Feed) (a b : Sink) (r : Result T Error) (coding : Coding) (known : Option ℕ) (top : FramingHeader → List ℕ) (withheld : Bool) → length f.bytes < 2 ^ 63 → PrintsIn (Some f) a b r coding known top withheld
-    → Prints a b r (with_coding coding known top withheld f) ⊎ ((coding ≡ Identity) × (known ≡ None) × Prints a b r (nothing_sent OutOfMemory))
-coded f a b r Identity known top withheld few h = ⊎_elim (λ x. inl x) (λ x. inr (refl, x.0, x.1)) (h few)
-coded f a b r Chunked known top withheld few h = inl (h few)
+    → ((framing : FramingHeader) (rest : List ℕ) → top framing ++ rest ≡ [] → ⊥) → PrintsText a b r (with_coding coding known top withheld f) ⊎ ((coding ≡ Identity) × (known ≡ None) × LacksMemory a b r)
+coded f a b r Identity known top withheld few h some = ⊎_elim (λ x. inl x) (λ x. inr (refl, x.0, x.1)) (h few)
+coded f a b r Chunked known top withheld few h some = inl (h few, λ e. absurd (some TransferEncoding (body_unless_withheld withheld (chunked_body f)).bytes e))
 
 pub Answered-coded : {T : Type 0} (o : Option Feed) (a b : Sink) (r : Result T Error) (ans : Answer) (version : HTTPVersion) (asked : Option Coding) (no_body : Bool) (date : HttpDate) (coding : Coding) (withheld : Bool) → coding ≡ chosen_coding version asked ans.status ans.threshold ans.length → withheld ≡ is_withheld no_body ans.status
     → PrintsIn o a b r coding ans.length (λ framing. answer_head_text version ans.status None ans.headers date framing) withheld
@@ -42,8 +52,8 @@ Answered-coded None a b r ans version asked no_body date coding withheld e w h =
 Answered-coded {T = T} (Some f) a b r ans version asked no_body date coding withheld e w h = λ few.
     let top : FramingHeader → List ℕ = λ framing. answer_head_text version ans.status None ans.headers date framing in
     let W : Bool → Type 0 = λ x. PrintsIn (Some f) a b r coding ans.length top x in
-    let P : Coding → Type 0 = λ x. Prints a b r (with_coding x ans.length top (is_withheld no_body ans.status) f) ⊎ ((x ≡ Identity) × (ans.length ≡ None) × Prints a b r (nothing_sent OutOfMemory)) in
-    ⊎_elim (λ x. inl x) (λ x. inr (refl, x.0, x.1, x.2)) (subst P e (coded f a b r coding ans.length top (is_withheld no_body ans.status) few (subst W w h)))
+    let P : Coding → Type 0 = λ x. PrintsText a b r (with_coding x ans.length top (is_withheld no_body ans.status) f) ⊎ ((x ≡ Identity) × (ans.length ≡ None) × LacksMemory a b r) in
+    ⊎_elim (λ x. inl x) (λ x. inr (refl, x.0, x.1, x.2)) (subst P e (coded f a b r coding ans.length top (is_withheld no_body ans.status) few (subst W w h) (λ framing. head-some version ans.status None ans.headers date framing)))
 
 pub few-failed : (o : Option Feed) (a b : Sink) (front : List ℕ) (e : Error) (body : Feed → Text) → Failed a b front (error_kind e) → IfSome o (λ f. length f.bytes < 2 ^ 63 → Prints {T = Unit {0}} a b (Err e) (prepend_text front (body f)))
 few-failed None a b front e body h = tt
@@ -61,17 +71,45 @@ few-behind (Some f) a b c r front h k = λ few. Prints-behind a b c r front (chu
 fault-cases : (f : Feed) (a : Sink) (e : Error) (front : List ℕ) (withheld : Bool) → (f.stop ≡ Fault (error_kind e)) ⊎ (error_kind e ≡ OutOfMemory) → PrintsGathered {T = Unit {0}} a a (Err e) front withheld f
 fault-cases f a e front withheld (inl h) =
     let P : Stop → Type 0 = λ s. Prints {T = Unit {0}} a a (Err e) (gathered_body s front withheld f.bytes) in
-    inl (subst P (sym h) (inl (refl, Took-nil a)))
-fault-cases f a e front withheld (inr h) = inr (inl (ap Broken (sym h), Took-nil a))
+    inl (subst P (sym h) (inl (refl, Took-nil a)), λ none. refl)
+fault-cases f a e front withheld (inr h) = inr (h, refl)
 
 pub Gathered-fault : (o : Option Feed) (a : Sink) (e : Error) (front : Feed → List ℕ) (withheld : Bool) → IfSome o (λ f. length f.bytes < 2 ^ 63 → (f.stop ≡ Fault (error_kind e)) ⊎ (error_kind e ≡ OutOfMemory)) → IfSome o (λ f. length f.bytes < 2 ^ 63 → PrintsGathered {T = Unit {0}} a a (Err e) (front f) withheld f)
 Gathered-fault None a e front withheld h = tt
 Gathered-fault (Some f) a e front withheld h = λ few. fault-cases f a e (front f) withheld (h few)
 
-pub Gathered-printed : {T : Type 0} (o : Option Feed) (a b : Sink) (r : Result T Error) (now bytes : List ℕ) (front : ℕ → List ℕ) (withheld : Bool) → now ≡ bytes → IfSome o (λ f. length f.bytes < 2 ^ 63 → (bytes ≡ f.bytes) × (f.stop ≡ End)) → Puts a b r (front (length now) ++ (if withheld then [] else now)) → IfSome o (λ f. length f.bytes < 2 ^ 63 → PrintsGathered a b r (front (length f.bytes)) withheld f)
-Gathered-printed None a b r now bytes front withheld e h k = tt
-Gathered-printed (Some f) a b r now bytes front withheld e h k = λ few.
+pub Gathered-printed : {T : Type 0} (o : Option Feed) (a b : Sink) (r : Result T Error) (now bytes : List ℕ) (front : ℕ → List ℕ) (withheld : Bool) → ((k : ℕ) (rest : List ℕ) → front k ++ rest ≡ [] → ⊥) → now ≡ bytes → IfSome o (λ f. length f.bytes < 2 ^ 63 → (bytes ≡ f.bytes) × (f.stop ≡ End)) → Puts a b r (front (length now) ++ (if withheld then [] else now)) → IfSome o (λ f. length f.bytes < 2 ^ 63 → PrintsGathered a b r (front (length f.bytes)) withheld f)
+Gathered-printed None a b r now bytes front withheld some e h k = tt
+Gathered-printed (Some f) a b r now bytes front withheld some e h k = λ few.
     let all = h few in
-    let P : Stop → Type 0 = λ s. Prints a b r (gathered_body s (front (length f.bytes)) withheld f.bytes) in
+    let P : Stop → Type 0 = λ s. PrintsText a b r (gathered_body s (front (length f.bytes)) withheld f.bytes) in
     let Q : List ℕ → Type 0 = λ y. Puts a b r (front (length y) ++ (if withheld then [] else y)) in
-    inl (subst P (sym all.1) (Prints-from_puts a b r _ (subst Q (e ∙ all.0) k)))
+    inl (subst P (sym all.1) (Prints-from_puts a b r _ (subst Q (e ∙ all.0) k), λ none. absurd (some (length f.bytes) (if withheld then [] else f.bytes) none)))
+
+-- an answer as it is, whose head has bytes
+pub Uncoded-printed : {T : Type 0} (o : Option Feed) (a b : Sink) (r : Result T Error) (front : List ℕ) (body : Feed → Text) (n : ℕ) → ((rest : List ℕ) → front ++ rest ≡ [] → ⊥) → IfSome o (λ f. Prints a b r (prepend_text front (body f)))
+    → IfSome o (λ f. length f.bytes < 2 ^ 63 → PrintsText a b r (prepend_text front (body f)) ⊎ ((Some n ≡ None) × LacksMemory a b r))
+Uncoded-printed None a b r front body n some h = tt
+Uncoded-printed (Some f) a b r front body n some h = λ few. inl (h, λ none. absurd (some (body f).bytes none))
+
+pub Uncoded-gathered : {T : Type 0} (o : Option Feed) (a b : Sink) (r : Result T Error) (front : Feed → List ℕ) (withheld : Bool) → IfSome o (λ f. length f.bytes < 2 ^ 63 → PrintsGathered a b r (front f) withheld f)
+    → IfSome o (λ f. length f.bytes < 2 ^ 63 → PrintsText a b r (gathered_body f.stop (front f) withheld f.bytes) ⊎ ((◌≡◌ {A = Option ℕ} None None) × LacksMemory a b r))
+Uncoded-gathered None a b r front withheld h = tt
+Uncoded-gathered (Some f) a b r front withheld h = λ few. ⊎_elim (λ x. inl x) (λ x. inr (refl, x)) (h few)
+
+-- an answer whose text was sent has bytes
+coded-some : (coding : Coding) (known : Option ℕ) (top : FramingHeader → List ℕ) (withheld : Bool) (f : Feed) → ((framing : FramingHeader) (rest : List ℕ) → top framing ++ rest ≡ [] → ⊥) → (with_coding coding known top withheld f).ending ≡ Whole → (with_coding coding known top withheld f).bytes ≡ [] → ⊥
+coded-some Chunked known top withheld f some e none = some TransferEncoding (body_unless_withheld withheld (chunked_body f)).bytes none
+coded-some Identity (Some n) top withheld f some e none = some (ContentLength n) (body_unless_withheld withheld (identity_body n f)).bytes none
+coded-some Identity None top withheld f some e none = by f.stop e none
+  where
+    by : (s : Stop) → (gathered_body s (top (ContentLength (length f.bytes))) withheld f.bytes).ending ≡ Whole → (gathered_body s (top (ContentLength (length f.bytes))) withheld f.bytes).bytes ≡ [] → ⊥
+    by End e none = some (ContentLength (length f.bytes)) (if withheld then [] else f.bytes) none
+    by (Fault kind) e none = let no : Broken kind ≡ Whole = e in cc
+
+pub text-some : (a : Answer) (f : Feed) (p : Printing) → p.upgrade ≡ None → (text_of a f p).ending ≡ Whole → (text_of a f p).bytes ≡ [] → ⊥
+unfolding text_of
+text-some a f p e whole none =
+    let W : Option (List ℕ) → Type 0 = λ u. (with_upgrade u a f p).ending ≡ Whole in
+    let N : Option (List ℕ) → Type 0 = λ u. (with_upgrade u a f p).bytes ≡ [] in
+    coded-some (answer_coding a p) a.length (head_text_of a p) (is_withheld p.no_body a.status) f (λ framing. head-some p.version a.status p.upgrade a.headers p.date framing) (subst W e whole) (subst N e none)

@@ -1,6 +1,7 @@
 -- Answers, and the text that is sent for one (RFC 9112, sections 4, 5 and 6).
-use Rattle.std.specs.Prelude.{◌≡◌, ℕ, Bool, ◌||◌, ◌&&◌, List, [], ◌++◌, length, Option, Some, None, Result, codes, decimal, nat_lt, nat_le, ◌==◌, if◌then◌else◌, ◌⊎◌}
+use Rattle.std.specs.Prelude.{◌≡◌, ℕ, Bool, ◌||◌, ◌&&◌, List, [], ◌++◌, length, Option, Some, None, Result, Ok, Err, codes, decimal, nat_lt, nat_le, ◌==◌, if◌then◌else◌, ◌⊎◌}
 use Rattle.std.specs.List.{flat_map, list_any, list_all}
+use Rattle.std.specs.IoError.{error_kind}
 use Rattle.std.specs.declared.io.Error.{Error}
 use Rattle.std.specs.declared.io.ErrorKind.TheVariants.{InvalidInput, OutOfMemory}
 use Rattle.httpdate.specs.Date.{date_text}
@@ -129,18 +130,26 @@ with_upgrade None a feed p = with_coding (answer_coding a p) a.length (head_text
 unfoldable pub text_of : Answer → Feed → Printing → Text
 text_of a feed p = with_upgrade p.upgrade a feed p
 
--- A call that prints an answer without a coding prints its text; or finds no memory to gather data of unknown length:
--- then nothing is sent.
+-- a call that prints this text; where it has no byte, the writer isn't used
+abbrev pub PrintsText : {T : Type 0} → Sink → Sink → Result T Error → Text → Type 0
+PrintsText old new r text = Prints old new r text × (text.bytes ≡ [] → new ≡ old)
+
+-- a call that finds no memory to gather data: the writer isn't used
+abbrev pub LacksMemory : {T : Type 0} → Sink → Sink → Result T Error → Type 0
+LacksMemory old new (Ok x) = ⊥
+LacksMemory old new (Err e) = (error_kind e ≡ OutOfMemory) × (new ≡ old)
+
+-- a call that prints an answer without a coding prints its text; or finds no memory to gather data of unknown length
 abbrev pub PrintsUncoded : {T : Type 0} → Sink → Sink → Result T Error → Option ℕ → Text → Type 0
-PrintsUncoded old new r length text = Prints old new r text ⊎ ((length ≡ None) × Prints old new r (nothing_sent OutOfMemory))
+PrintsUncoded old new r length text = PrintsText old new r text ⊎ ((length ≡ None) × LacksMemory old new r)
 
 -- a call that prints an answer
 abbrev pub PrintsAnswer : {T : Type 0} → Sink → Sink → Result T Error → Answer → Feed → Printing → Type 0
-PrintsAnswer old new r a feed p = Prints old new r (text_of a feed p) ⊎ ((p.upgrade ≡ None) × (answer_coding a p ≡ Identity) × (a.length ≡ None) × Prints old new r (nothing_sent OutOfMemory))
+PrintsAnswer old new r a feed p = PrintsText old new r (text_of a feed p) ⊎ ((p.upgrade ≡ None) × (answer_coding a p ≡ Identity) × (a.length ≡ None) × LacksMemory old new r)
 
 -- an answer whose data was gathered
 abbrev pub PrintsGathered : {T : Type 0} → Sink → Sink → Result T Error → List ℕ → Bool → Feed → Type 0
-PrintsGathered old new r front withheld feed = Prints old new r (gathered_body feed.stop front withheld feed.bytes) ⊎ Prints old new r (nothing_sent OutOfMemory)
+PrintsGathered old new r front withheld feed = PrintsText old new r (gathered_body feed.stop front withheld feed.bytes) ⊎ LacksMemory old new r
 
 -- what a contract sees of a response: the answer, and its data
 pub record ResponseState (R : Type 0) : Type 0 where

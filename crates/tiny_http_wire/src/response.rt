@@ -3,7 +3,7 @@ ghost use Rattle.std.specs.Prelude.{◌≡◌, Option, Some, None, IfSome, if◌
 ghost use Rattle.std.specs.Option.{option_copied};
 ghost use Rattle.tiny_http_wire.specs.AddHeader.{add_header, is_put_last, is_some_put_last, with_headers, first_answer};
 ghost use Rattle.tiny_http_wire.specs.ResponseHeaders.{IsResponseHeaders};
-ghost use Rattle.tiny_http_wire.specs.Answer.{Answer, ResponseState, is_withheld, is_ascii_text, PrintsGathered, PrintsUncoded, PrintsAnswer, as_it_is, body_unless_withheld, text_plain, answer_with};
+ghost use Rattle.tiny_http_wire.specs.Answer.{Answer, ResponseState, is_withheld, is_ascii_text, PrintsText, PrintsGathered, PrintsUncoded, PrintsAnswer, as_it_is, body_unless_withheld, text_plain, answer_with};
 ghost use Rattle.tiny_http_encoding.specs.Text.{Prints, prepend_text, whole, identity_body, chunked_body, nothing_sent};
 ghost use Rattle.tiny_http_device.specs.Cursor.{cursor_bytes};
 ghost use Rattle.tiny_http_device.specs.Metered.{metered_inner};
@@ -515,7 +515,7 @@ fn print_upgrade<W: WriteDevice>(
     top: &Top<'_>,
     protocol: &str,
 ) -> Result<(), io::Error>
-    ensures { Prints (W.sink writer.old) (W.sink writer.new) result
+    ensures { PrintsText (W.sink writer.old) (W.sink writer.new) result
         (if is_ascii_text protocol.now
         then whole (top_text top.now (Some protocol.now) FramingHeader.Neither)
         else nothing_sent ErrorKind.InvalidInput) }

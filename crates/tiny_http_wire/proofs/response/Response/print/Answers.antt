@@ -23,4 +23,4 @@ returns-clause-text g c =
     (Answered-coded {T = Unit {0}} _ _ _ _ answer c.args.form.version c.args.form.asked_coding c.args.form.no_body c.args.now Identity c.is_withheld-withheld.result (sym c.in-None-Identity.is-1 ∙ c.choose-coding.ensures) c.is_withheld-withheld.ensures c.print_uncoded.ensures.text)
 
 pub returns-in-Some-default-clause-uses : goal.returns-in-Some-default-clause-uses
-returns-in-Some-default-clause-uses g c = Prints-uses _ _ _ _ c.print_upgrade.ensures
+returns-in-Some-default-clause-uses g c = Prints-uses _ _ _ _ c.print_upgrade.ensures.0
