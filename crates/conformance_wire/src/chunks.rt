@@ -10,10 +10,10 @@ use tiny_http_wire::device::{Budget, Canned};
 const ROOM: usize = 100_000;
 
 /// A chunk: its size as it is written, and how many bytes it has.
-pub(crate) type Sized = (&'static str, usize);
+pub(crate) type SizedChunk = (&'static str, usize);
 
 /// How many bytes are given, and the chunks that they make.
-pub(crate) const BODIES: &[(usize, &[Sized])] = &[
+pub(crate) const BODIES: &[(usize, &[SizedChunk])] = &[
     (0, &[]),
     (1, &[("1", 1)]),
     (10, &[("a", 10)]),
@@ -34,7 +34,7 @@ pub(crate) fn data(alloc: Global, count: usize) -> Result<Vec<u8>, Fail> {
 }
 
 /// The text of these chunks of the data, one after another.
-pub(crate) fn chunks(alloc: Global, data: &[u8], sizes: &[Sized]) -> Result<Vec<u8>, Fail> {
+pub(crate) fn chunks(alloc: Global, data: &[u8], sizes: &[SizedChunk]) -> Result<Vec<u8>, Fail> {
     let mut text = Vec::new(alloc);
     let mut rest = data;
     for (size, count) in sizes {
@@ -51,7 +51,7 @@ pub(crate) fn chunks(alloc: Global, data: &[u8], sizes: &[Sized]) -> Result<Vec<
 }
 
 /// The same, and the end of the body.
-pub(crate) fn body(alloc: Global, data: &[u8], sizes: &[Sized]) -> Result<Vec<u8>, Fail> {
+pub(crate) fn body(alloc: Global, data: &[u8], sizes: &[SizedChunk]) -> Result<Vec<u8>, Fail> {
     let mut text = chunks(alloc, data, sizes)?;
     text.extend_from_slice(b"0\r\n\r\n")?;
     Ok(text)
@@ -83,7 +83,7 @@ fn bodies(rt: HostRuntime) -> Result<(), Fail> {
 }
 
 // How many bytes the data have before their fault, and the chunks that are written.
-const FAULTS: &[(usize, &[Sized])] = &[
+const FAULTS: &[(usize, &[SizedChunk])] = &[
     (0, &[]),
     (8191, &[]),
     (8192, &[("2000", 8192)]),

@@ -1,5 +1,5 @@
 //! A writer of chunks (RFC 9112, section 7.1).
-use crate::chunks::{BODIES, Sized, body, chunks, data};
+use crate::chunks::{BODIES, SizedChunk, body, chunks, data};
 use crate::same::assert_same;
 use std::alloc::Global;
 use std::io;
@@ -38,7 +38,7 @@ fn give<W: Write>(
 fn assert_encoded(
     rt: &impl Abort,
     alloc: Global,
-    (count, sizes): (usize, &[Sized]),
+    (count, sizes): (usize, &[SizedChunk]),
     cut: usize,
     with_flushes: bool,
 ) -> Result<(), Fail> {
