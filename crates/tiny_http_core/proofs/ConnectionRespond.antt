@@ -168,10 +168,6 @@ own-said before sink mid ended bs s1 text (Err e) reply h fin over own broken lo
           writes = inr (inr (error_kind e, b, reported-broken text (error_kind e) reply b t, (f, refl, z.begins, z.front)));
         }
 
-    lost : (text.bytes ≡ [] → text.ending ≡ Broken (error_kind e)) → OutletFailed sink mid text.bytes (error_kind e) → (own : List ℕ) → text.bytes ≡ own → OwnSaid before mid false ended bs s1 text None reply
-    lost u l [] z = broken-lost (u z) (error_kind e) l
-    lost u l (b ∷ more) z = within l (let C : List ℕ → Type 0 = λ x. CanMeet x (fault_in text.ending) in subst C (sym z) tt)
-
     within : OutletFailed sink mid text.bytes (error_kind e) → CanMeet text.bytes (fault_in text.ending) → OwnSaid before mid false ended bs s1 text None reply
     within l can =
         let z = lost-output before sink mid (joined bs) text.bytes (error_kind e) h.0 h.1 (h.4 refl) low l in
@@ -181,6 +177,10 @@ own-said before sink mid ended bs s1 text (Err e) reply h fin over own broken lo
           output = (z.taken, z.failures, z.stated, d.0);
           writes = inr (inl (can, (f, refl, t, z.begins, z.front)));
         }
+
+    lost : (text.bytes ≡ [] → text.ending ≡ Broken (error_kind e)) → OutletFailed sink mid text.bytes (error_kind e) → (own : List ℕ) → text.bytes ≡ own → OwnSaid before mid false ended bs s1 text None reply
+    lost u l [] z = broken-lost (u z) (error_kind e) l
+    lost u l (b ∷ more) z = within l (let C : List ℕ → Type 0 = λ x. CanMeet x (fault_in text.ending) in subst C (sym z) tt)
 
 pub own-sent : {T : Type 0} (before sink mid : Sink) (was ended : Bool) (bs : List Slot) (s1 : Slot) (text : Text) (failed : Option Failure) (r : Result T Error) (reply : ReplyValue) → OutputAt before sink was bs failed → list_all is_finished bs ≡ true → is_finished s1 ≡ true
     → segment s1 ≡ text.bytes → is_slot_broken s1 ≡ is_broken text.ending → before.failures < 2 ^ 64 - 1 → was ≡ false → SendsText sink mid ended r text → IsFlushed mid → reply ≡ reply_to r → OwnSaid before mid was ended bs s1 text failed reply
