@@ -2,3 +2,4 @@ pub mod ReplyHex
 mod ScriptLineLemmas
 pub mod ReplyLemmas
 pub mod ScriptLemmas
+pub mod XsLemmas

@@ -1,6 +1,6 @@
 -- Lines read one after another.
 use Rattle.std.proofs.Common.{◌≡◌, refl, sym, ap, subst, ◌∙◌, rules, arith, ℕ, suc, ◌+◌, ◌<◌, ◌^◌, List, [], ◌∷◌, ◌++◌, length, take, drop, drop-cons, get_or, map, Bor, Some, Vec}
-use Rattle.std.proofs.lemmas.List.{take-append-drop, take_more, map_more, map-append, length-map, length-take-le, length-drop}
+use Rattle.std.proofs.lemmas.List.{take-append-drop, take_more, map_more, map-append, length-map, length-take-le, length-drop, length-replicate}
 use Rattle.std.specs.List.{AllZip, AllByRecursion}
 use Rattle.httpdate.specs.declared.date.HttpDate.{HttpDate}
 use Rattle.tiny_http_core.specs.Conversation.{TimedValue}
@@ -8,10 +8,10 @@ use Rattle.tiny_http_core.specs.Seen.{IsTimedStep, IsStep}
 use Rattle.tiny_http_core.specs.declared.driver.Step.{Step}
 use Rattle.tiny_http_core.specs.declared.driver.Step.TheVariants.{Ask as AskStep, Read as ReadStep, Respond as RespondStep, Drop as DropStep}
 use Rattle.tiny_http_core.specs.declared.driver.Timed.{Timed}
-use Rattle.tiny_http_wire.specs.Device.{ending}
-use Rattle.tiny_http_wire.specs.Cursor.{cursor_bytes}
-use Rattle.std.specs.declared.io.Cursor.{Cursor}
 use Rattle.std.specs.Io.Cursor.{cursor_position, cursor_inner}
+use Rattle.replay.specs.ReplayData.{data_feed}
+use Rattle.replay.specs.declared.replay_data.ReplayData.{ReplayData}
+use Rattle.replay.specs.declared.replay_data.ReplayData.TheVariants.{Bytes, Xs}
 use Rattle.replay.specs.ScriptLine.{IsLine, IsGood}
 use Rattle.replay.specs.Script.{IsFirstBadLine, IsScript, script_lines, said_step, date_behind, on_date, steps_from, timed_value, step_value}
 use Rattle.replay.specs.declared.line.ScriptLine.{ScriptLine}
@@ -83,17 +83,22 @@ no_bad script steps n s b =
     let good : AllByRecursion IsGood (b.0 ++ b.1 ∷ b.2) = subst (AllByRecursion IsGood) b.3 (all_good (script_lines script) s.0 s.2) in
     b.6 (good_at b.0 b.1 b.2 good)
 
--- data in memory are few enough to be stated
+-- bytes in memory are fewer than 2^63
 few : {A : Type 0} (v : Vec ℕ A) (n : ℕ) → length (drop n v.items) < 2 ^ 63
 few v n = let dropped = length-drop n v.items in omega (arith, v.ok.0, v.ok.1, v.small, dropped)
 
--- a step over data in memory states its data
-step_stated : {A : Type 0} (step : Step (Cursor (Vec ℕ A))) → IsStep (λ c. Some (ending (cursor_bytes c))) step (step_value step)
+-- data are few enough to be stated
+data_few : (content : ReplayData) → length (data_feed content).bytes < 2 ^ 63
+data_few (Bytes cursor) = few (cursor_inner cursor) (cursor_position cursor)
+data_few (Xs given) = let all = length-replicate {A = ℕ} given.left 120 in omega (arith, all, given.few)
+
+-- a step states its data
+step_stated : (step : Step ReplayData) → IsStep (λ content. Some (data_feed content)) step (step_value step)
 step_stated AskStep = tt
 step_stated (ReadStep number count) = (refl, refl)
-step_stated (RespondStep number response) = (refl, (refl, refl, few (cursor_inner response.data_reader) (cursor_position response.data_reader)))
+step_stated (RespondStep number response) = (refl, (refl, refl, data_few response.data_reader))
 step_stated (DropStep number) = refl
 
-pub steps_stated : {A : Type 0} (steps : List (Timed (Cursor (Vec ℕ A)))) → AllZip (IsTimedStep (λ c. Some (ending (cursor_bytes c)))) steps (map timed_value steps)
+pub steps_stated : (steps : List (Timed ReplayData)) → AllZip (IsTimedStep (λ content. Some (data_feed content))) steps (map timed_value steps)
 steps_stated [] = tt
 steps_stated (t ∷ steps) = ((refl, step_stated t.step), steps_stated steps)

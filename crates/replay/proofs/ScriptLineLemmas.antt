@@ -1,5 +1,5 @@
 -- What the grammar of a line says of its parts.
-use Rattle.std.proofs.Common.{◌≡◌, ◌≢◌, refl, sym, ap, ◌∙◌, arith, lit<, ℕ, ◌<◌, ◌≤◌, ◌^◌, List, ◌++◌, length, get_or, codes, drop, Bool, true, false, Option, Result, Ok, Err, inl, inr, ◌⊎◌, Bor}
+use Rattle.std.proofs.Common.{◌≡◌, ◌≢◌, refl, sym, ap, ◌∙◌, arith, lit<, ℕ, ◌<◌, ◌≤◌, ◌^◌, List, ◌++◌, length, get_or, codes, drop, Bool, true, false, Option, Result, Ok, Err, inl, inr, Bor}
 use Rattle.std.specs.Option.{MatchOption}
 use Rattle.std.specs.Result.{OkIff, MatchResult, is_ok}
 use Rattle.std.specs.Str.Parse.{IsNumeral, AllDigits, digits_value}
@@ -7,8 +7,9 @@ use Rattle.std.proofs.lemmas.Str.Parse.{IsNumeralModel, numerals_by_value, tells
 use Rattle.std.proofs.lemmas.Str.Pattern.{IsSplitOnceResult, split_after}
 use Rattle.std.specs.Str.{bytes_eq}
 use Rattle.std.specs.Str.Pattern.{LacksTextAt}
-use Rattle.replay.specs.ScriptLine.{WritesNumber, BeginsByNumber, BeginsByNumbers, IsAnswer, SaysSome, IsDate, WritesRead}
-use Rattle.replay.specs.declared.line.ScriptLine.TheVariants.{Blank, Now, Ask, Read, Text, Empty, Drop}
+use Rattle.replay.specs.ScriptLine.{WritesNumber, BeginsByNumber, WritesCount, IsContent, IsAnswer, SaysSome, IsDate, WritesRead}
+use Rattle.replay.specs.declared.line.ScriptLine.TheVariants.{Blank, Now, Ask, Read, Respond, Drop}
+use Rattle.replay.specs.declared.line.Content.TheVariants.{Text, Empty, Stream, Broken}
 
 script_line-own : IsNumeralModel (AllDigits 10) (digits_value 10)
 script_line-own = numerals_by_value (AllDigits 10) tells_digits
@@ -24,15 +25,9 @@ number_cut text rest n r h b = split_after 32 text b.0 rest r h (lit< tt) b.1 (n
 pub number_read : (ds es : List ℕ) (n : ℕ) → es ≡ ds → WritesNumber ds n → n < 2 ^ 64 → IsNumeral 10 es × (digits_value 10 es < 2 ^ 64) × (digits_value 10 es ≡ n)
 number_read ds es n e w l = rw e (w.0, rw w.1 l, w.1)
 
--- what an answer consists of
-pub answer_parts : (words : List ℕ) → IsAnswer words → (number : ℕ) × (status : ℕ) × (content : List ℕ) × BeginsByNumbers words number status content × (((text : List ℕ) × (content ≡ codes "text " ++ text)) ⊎ (content ≡ codes "empty"))
-answer_parts words (Text number status text, w) = (number, status, codes "text " ++ text.now, w, inl (text.now, refl))
-answer_parts words (Empty number status, w) = (number, status, codes "empty", w, inr refl)
-answer_parts words (Blank, w) = absurd w
-answer_parts words (Now date, w) = absurd w
-answer_parts words (Ask, w) = absurd w
-answer_parts words (Read number count, w) = absurd w
-answer_parts words (Drop number, w) = absurd w
+-- the digits of a count are read
+pub count_read : (ds es : List ℕ) (n : ℕ) → es ≡ ds → WritesCount ds n → IsNumeral 10 es × (digits_value 10 es < 2 ^ 16)
+count_read ds es n e w = rw e (w.0.0, rw w.0.1 w.1)
 
 -- a text that begins by `now` doesn't begin by `respond`
 no_respond : (text rest words : List ℕ) → text ≡ codes "now " ++ rest → text ≡ codes "respond " ++ words → ⊥
@@ -45,8 +40,7 @@ only_now text rest e (Blank, inr h) = absurd (let first : ◌≡◌ {A = ℕ} 11
 only_now text rest e (Now date, d) = let same : rest ≡ d.0 = ap (drop 4) (sym e ∙ d.1) in (date, rw same d.2)
 only_now text rest e (Ask, h) = absurd (let first : ◌≡◌ {A = ℕ} 110 97 = ap (λ bs. get_or bs 0 0) (sym e ∙ h) in omega arith)
 only_now text rest e (Read number count, h) = absurd (let first : ◌≡◌ {A = ℕ} 110 114 = ap (λ bs. get_or bs 0 0) (sym e ∙ h.1) in omega arith)
-only_now text rest e (Text number status words, h) = absurd (no_respond text rest h.0 e h.1)
-only_now text rest e (Empty number status, h) = absurd (no_respond text rest h.0 e h.1)
+only_now text rest e (Respond number status content, h) = absurd (no_respond text rest h.0 e h.1)
 only_now text rest e (Drop number, h) = absurd (let first : ◌≡◌ {A = ℕ} 110 100 = ap (λ bs. get_or bs 0 0) (sym e ∙ h.1) in omega arith)
 
 -- the digits write some number of 64 bits
@@ -63,8 +57,7 @@ only_drop text rest e (Blank, inr h) = absurd (let first : ◌≡◌ {A = ℕ} 1
 only_drop text rest e (Now date, h) = absurd (let first : ◌≡◌ {A = ℕ} 100 110 = ap (λ bs. get_or bs 0 0) (sym e ∙ h.1) in omega arith)
 only_drop text rest e (Ask, h) = absurd (let first : ◌≡◌ {A = ℕ} 100 97 = ap (λ bs. get_or bs 0 0) (sym e ∙ h) in omega arith)
 only_drop text rest e (Read number count, h) = absurd (let first : ◌≡◌ {A = ℕ} 100 114 = ap (λ bs. get_or bs 0 0) (sym e ∙ h.1) in omega arith)
-only_drop text rest e (Text number status words, h) = absurd (no_respond_drop text rest h.0 e h.1)
-only_drop text rest e (Empty number status, h) = absurd (no_respond_drop text rest h.0 e h.1)
+only_drop text rest e (Respond number status content, h) = absurd (no_respond_drop text rest h.0 e h.1)
 only_drop text rest e (Drop number, h) = let same : rest ≡ h.0 = ap (drop 5) (sym e ∙ h.1) in (number, rw same h.2, h.3)
 
 -- the words are some read
@@ -81,9 +74,36 @@ only_read text rest e (Blank, inr h) = absurd (let first : ◌≡◌ {A = ℕ} 1
 only_read text rest e (Now date, h) = absurd (let first : ◌≡◌ {A = ℕ} 114 110 = ap (λ bs. get_or bs 0 0) (sym e ∙ h.1) in omega arith)
 only_read text rest e (Ask, h) = absurd (let first : ◌≡◌ {A = ℕ} 114 97 = ap (λ bs. get_or bs 0 0) (sym e ∙ h) in omega arith)
 only_read text rest e (Read number count, h) = let same : rest ≡ h.0 = ap (drop 5) (sym e ∙ h.1) in (number, count, rw same h.2)
-only_read text rest e (Text number status words, h) = absurd (no_respond_read text rest h.0 e h.1)
-only_read text rest e (Empty number status, h) = absurd (no_respond_read text rest h.0 e h.1)
+only_read text rest e (Respond number status content, h) = absurd (no_respond_read text rest h.0 e h.1)
 only_read text rest e (Drop number, h) = absurd (let first : ◌≡◌ {A = ℕ} 114 100 = ap (λ bs. get_or bs 0 0) (sym e ∙ h.1) in omega arith)
+
+-- a line that begins by `respond` says an answer, if it says anything
+pub only_respond : (text rest : List ℕ) → text ≡ codes "respond " ++ rest → SaysSome text → IsAnswer rest
+only_respond text rest e (Blank, inl h) = absurd (let first : ◌≡◌ {A = ℕ} 114 0 = ap (λ bs. get_or bs 0 0) (sym e ∙ h) in omega arith)
+only_respond text rest e (Blank, inr h) = absurd (let first : ◌≡◌ {A = ℕ} 114 35 = ap (λ bs. get_or bs 0 0) (sym e ∙ h.1) in omega arith)
+only_respond text rest e (Now date, h) = absurd (let first : ◌≡◌ {A = ℕ} 114 110 = ap (λ bs. get_or bs 0 0) (sym e ∙ h.1) in omega arith)
+only_respond text rest e (Ask, h) = absurd (let first : ◌≡◌ {A = ℕ} 114 97 = ap (λ bs. get_or bs 0 0) (sym e ∙ h) in omega arith)
+only_respond text rest e (Read number count, h) = absurd (no_respond_read text h.0 rest h.1 e)
+only_respond text rest e (Respond number status content, h) = let same : rest ≡ h.0 = ap (drop 8) (sym e ∙ h.1) in (number, status, content, rw same h.2)
+only_respond text rest e (Drop number, h) = absurd (let first : ◌≡◌ {A = ℕ} 114 100 = ap (λ bs. get_or bs 0 0) (sym e ∙ h.1) in omega arith)
+
+-- the digits write some number of 16 bits
+abbrev pub IsCount : List ℕ → Type 0
+IsCount digits = (count : ℕ) × WritesCount digits count
+
+-- content that begins by `stream` says a number, if it is any
+pub only_stream : (text rest : List ℕ) → text ≡ codes "stream " ++ rest → IsContent text → IsCount rest
+only_stream text rest e (Text words, h) = absurd (let first : ◌≡◌ {A = ℕ} 115 116 = ap (λ bs. get_or bs 0 0) (sym e ∙ h) in omega arith)
+only_stream text rest e (Empty, h) = absurd (let first : ◌≡◌ {A = ℕ} 115 101 = ap (λ bs. get_or bs 0 0) (sym e ∙ h) in omega arith)
+only_stream text rest e (Stream count, h) = let same : rest ≡ h.0 = ap (drop 7) (sym e ∙ h.1) in (count, rw same h.2)
+only_stream text rest e (Broken count, h) = absurd (let first : ◌≡◌ {A = ℕ} 115 98 = ap (λ bs. get_or bs 0 0) (sym e ∙ h.1) in omega arith)
+
+-- content that begins by `broken` says a number, if it is any
+pub only_broken : (text rest : List ℕ) → text ≡ codes "broken " ++ rest → IsContent text → IsCount rest
+only_broken text rest e (Text words, h) = absurd (let first : ◌≡◌ {A = ℕ} 98 116 = ap (λ bs. get_or bs 0 0) (sym e ∙ h) in omega arith)
+only_broken text rest e (Empty, h) = absurd (let first : ◌≡◌ {A = ℕ} 98 101 = ap (λ bs. get_or bs 0 0) (sym e ∙ h) in omega arith)
+only_broken text rest e (Stream count, h) = absurd (let first : ◌≡◌ {A = ℕ} 98 115 = ap (λ bs. get_or bs 0 0) (sym e ∙ h.1) in omega arith)
+only_broken text rest e (Broken count, h) = let same : rest ≡ h.0 = ap (drop 7) (sym e ∙ h.1) in (count, rw same h.2)
 
 -- what is refused doesn't hold
 pub none_fits : {T E : Type 0} (r : Result T E) (P : Type 0) (v : T) → OkIff r P v → false ≡ is_ok r → P → ⊥
@@ -94,7 +114,10 @@ pub error_stated : {T E : Type 0} (r : Result T E) (P : T → Type 0) (Q : E →
 error_stated (Ok x) P Q h was = absurd (cc was)
 error_stated (Err e) P Q h was = (e, h)
 
--- no third form of an answer
-pub no_answer : (content other : List ℕ) (b : Bool) → LacksTextAt (codes "text ") content 0 → b ≡ bytes_eq content (codes "empty") → b ≡ false → ((text : List ℕ) × (other ≡ codes "text " ++ text)) ⊎ (other ≡ codes "empty") → content ≡ other → ⊥
-no_answer content other b lacks is differs (inl t) e = lacks t.0 (e ∙ t.1)
-no_answer content other b lacks is differs (inr h) e = let yes : bytes_eq content (codes "empty") ≡ true = rw (e, h) refl in absurd (cc (sym differs ∙ is ∙ yes))
+-- no fifth form of content
+pub no_content : (text : List ℕ) (is_empty : Bool) → is_empty ≡ bytes_eq text (codes "empty") → is_empty ≡ false
+    → LacksTextAt (codes "text ") text 0 → LacksTextAt (codes "stream ") text 0 → LacksTextAt (codes "broken ") text 0 → IsContent text → ⊥
+no_content text is_empty is differs no_text no_stream no_broken (Text words, h) = no_text words.now h
+no_content text is_empty is differs no_text no_stream no_broken (Empty, h) = let yes : bytes_eq text (codes "empty") ≡ true = rw h refl in absurd (cc (sym differs ∙ is ∙ yes))
+no_content text is_empty is differs no_text no_stream no_broken (Stream count, h) = no_stream h.0 h.1
+no_content text is_empty is differs no_text no_stream no_broken (Broken count, h) = no_broken h.0 h.1

@@ -1,4 +1,5 @@
 pub mod ReplayFault
 pub mod ScriptLine
 pub mod Reply
+pub mod ReplayData
 pub mod Script

@@ -1,23 +1,28 @@
 -- The steps that a script names, and its first bad line.
-use Rattle.std.specs.Prelude.{◌≡◌, ◌==◌, ◌+◌, ℕ, Bool, Option, Some, None, List, [], ◌∷◌, ◌++◌, length, Vec}
+use Rattle.std.specs.Prelude.{◌≡◌, ◌==◌, ◌+◌, ℕ, Bool, Option, Some, None, List, [], ◌∷◌, ◌++◌, length}
 use Rattle.std.specs.List.{AllZip, AllByRecursion, slice_split, flat_map}
 use Rattle.std.specs.Io.KnownBytes.{Appends}
-use Rattle.std.specs.declared.io.Cursor.{Cursor}
+use Rattle.std.specs.declared.io.ErrorKind.TheVariants.{Other}
 use Rattle.httpdate.specs.declared.date.HttpDate.{HttpDate}
 use Rattle.httpdate.specs.Date.{unix_secs}
-use Rattle.tiny_http_wire.specs.Answer.{text_plain}
-use Rattle.tiny_http_wire.specs.Cursor.{cursor_bytes}
+use Rattle.tiny_http_wire.specs.Answer.{ResponseState, text_plain}
 use Rattle.tiny_http_wire.specs.Device.{Feed, Sink, ending}
-use Rattle.tiny_http_core.specs.ResponseValue.{response_of}
+use Rattle.tiny_http_wire.specs.declared.device.Stop.{Stop}
+use Rattle.tiny_http_wire.specs.declared.device.Stop.TheVariants.{End, Fault}
+use Rattle.tiny_http_core.specs.ResponseValue.{ResponseValue, response_of}
 use Rattle.tiny_http_core.specs.Steps.{StepValue, Ask, Read, Respond, Drop, ReplyValue}
 use Rattle.tiny_http_core.specs.Conversation.{TimedValue, IsFresh, IsConversation}
 use Rattle.tiny_http_core.specs.declared.driver.Step.{Step}
 use Rattle.tiny_http_core.specs.declared.driver.Step.TheVariants.{Ask as AskStep, Read as ReadStep, Respond as RespondStep, Drop as DropStep}
 use Rattle.tiny_http_core.specs.declared.driver.Timed.{Timed}
+use Rattle.replay.specs.ReplayData.{data_feed, xs}
 use Rattle.replay.specs.Reply.{reply_line}
 use Rattle.replay.specs.ScriptLine.{IsLine, IsGood}
 use Rattle.replay.specs.declared.line.ScriptLine.{ScriptLine}
-use Rattle.replay.specs.declared.line.ScriptLine.TheVariants.{Blank, Now, Ask as AskLine, Read as ReadLine, Text, Empty, Drop as DropLine}
+use Rattle.replay.specs.declared.line.ScriptLine.TheVariants.{Blank, Now, Ask as AskLine, Read as ReadLine, Respond as RespondLine, Drop as DropLine}
+use Rattle.replay.specs.declared.line.Content.{Content}
+use Rattle.replay.specs.declared.line.Content.TheVariants.{Text, Empty, Stream, Broken}
+use Rattle.replay.specs.declared.replay_data.ReplayData.{ReplayData}
 
 -- a LF ends a line, and so does the end
 abbrev pub script_lines : List ℕ → List (List ℕ)
@@ -29,14 +34,24 @@ IsFirstBadLine lines n =
     (front : List (List ℕ)) × (bad : List ℕ) × (rest : List (List ℕ))
     × (lines ≡ front ++ bad ∷ rest) × (length front + 1 ≡ n) × AllByRecursion IsGood front × ¬ (IsGood bad)
 
+-- an answer without headers, whose data are so many bytes `x` and this stop, of this length, if it is known
+abbrev pub xs_response : ℕ → ℕ → Stop → Option ℕ → ResponseValue
+xs_response status count stop length = record { answer = record { status = status; headers = []; length = length; threshold = 32768 }; content = xs count stop }
+
+-- the answer by a code with this content
+abbrev pub response_with : ℕ → Content → ResponseValue
+response_with status (Text text) = response_of status (text_plain ∷ []) text.now
+response_with status Empty = response_of status [] []
+response_with status (Stream count) = xs_response status count End None
+response_with status (Broken count) = xs_response status count (Fault Other) None
+
 -- the step that a line names, if it names one
 abbrev pub said_step : ScriptLine → Option StepValue
 said_step Blank = None
 said_step (Now date) = None
 said_step AskLine = Some Ask
 said_step (ReadLine number count) = Some (Read number count)
-said_step (Text number status text) = Some (Respond number (response_of status (text_plain ∷ []) text.now))
-said_step (Empty number status) = Some (Respond number (response_of status [] []))
+said_step (RespondLine number status content) = Some (Respond number (response_with status content))
 said_step (DropLine number) = Some (Drop number)
 
 -- the date of the steps from a line on
@@ -45,8 +60,7 @@ date_behind now Blank = now
 date_behind now (Now date) = date
 date_behind now AskLine = now
 date_behind now (ReadLine number count) = now
-date_behind now (Text number status text) = now
-date_behind now (Empty number status) = now
+date_behind now (RespondLine number status content) = now
 date_behind now (DropLine number) = now
 
 -- at most one step, on its date
@@ -65,15 +79,19 @@ IsScript script steps =
     (lines : List ScriptLine) × (first : HttpDate)
     × AllZip IsLine (script_lines script) lines × (unix_secs first ≡ 420_895_020) × (steps ≡ steps_from first lines)
 
--- a step over data in memory, as a value
-abbrev pub step_value : {A : Type 0} → Step (Cursor (Vec ℕ A)) → StepValue
+-- a response as a value
+abbrev pub response_value : ResponseState ReplayData → ResponseValue
+response_value response = record { answer = response.answer; content = data_feed response.data_reader }
+
+-- a step as a value
+abbrev pub step_value : Step ReplayData → StepValue
 step_value AskStep = Ask
 step_value (ReadStep number count) = Read number count
-step_value (RespondStep number response) = Respond number (record { answer = response.answer; content = ending (cursor_bytes response.data_reader) })
+step_value (RespondStep number response) = Respond number (response_value response)
 step_value (DropStep number) = Drop number
 
 -- the same on its date
-abbrev pub timed_value : {A : Type 0} → Timed (Cursor (Vec ℕ A)) → TimedValue
+abbrev pub timed_value : Timed ReplayData → TimedValue
 timed_value timed = (timed.now, step_value timed.step)
 
 -- The client sends these bytes and ends: the steps have these replies, and this is the output, all of it taken or held.

@@ -4,7 +4,9 @@ use Rattle.std.specs.Str.Parse.{IsNumeral, digits_value}
 use Rattle.httpdate.specs.Date.{unix_secs}
 use Rattle.httpdate.specs.declared.date.HttpDate.{HttpDate}
 use Rattle.replay.specs.declared.line.ScriptLine.{ScriptLine}
-use Rattle.replay.specs.declared.line.ScriptLine.TheVariants.{Blank, Now, Ask, Read, Text, Empty, Drop}
+use Rattle.replay.specs.declared.line.ScriptLine.TheVariants.{Blank, Now, Ask, Read, Respond, Drop}
+use Rattle.replay.specs.declared.line.Content.{Content}
+use Rattle.replay.specs.declared.line.Content.TheVariants.{Text, Empty, Stream, Broken}
 
 -- the text is one decimal digit or more, and they write this number
 abbrev pub WritesNumber : List ℕ → ℕ → Type 0
@@ -27,28 +29,33 @@ WritesDate text date = WritesNumber text (unix_secs date) × (unix_secs date < 2
 abbrev pub IsDate : List ℕ → Type 0
 IsDate text = (date : HttpDate) × WritesDate text date
 
--- the grammar of what stands after `respond`
-abbrev pub WritesAnswer : List ℕ → ScriptLine → Type 0
-WritesAnswer words (Text number status text) = BeginsByNumbers words number status (codes "text " ++ text.now)
-WritesAnswer words (Empty number status) = BeginsByNumbers words number status (codes "empty")
-WritesAnswer words Blank = ⊥
-WritesAnswer words (Now date) = ⊥
-WritesAnswer words Ask = ⊥
-WritesAnswer words (Read number count) = ⊥
-WritesAnswer words (Drop number) = ⊥
+-- the text is a number of 16 bits
+abbrev pub WritesCount : List ℕ → ℕ → Type 0
+WritesCount digits count = WritesNumber digits count × (count < 2 ^ 16)
+
+-- the grammar of what stands after the code of an answer
+abbrev pub WritesContent : List ℕ → Content → Type 0
+WritesContent text (Text rest) = text ≡ codes "text " ++ rest.now
+WritesContent text Empty = text ≡ codes "empty"
+WritesContent text (Stream count) = (digits : List ℕ) × (text ≡ codes "stream " ++ digits) × WritesCount digits count
+WritesContent text (Broken count) = (digits : List ℕ) × (text ≡ codes "broken " ++ digits) × WritesCount digits count
+
+-- the text is some content
+abbrev pub IsContent : List ℕ → Type 0
+IsContent text = (content : Content) × WritesContent text content
+
+-- the grammar of what stands after `respond`: a number, a code, and the content
+abbrev pub WritesAnswer : List ℕ → ℕ → ℕ → Content → Type 0
+WritesAnswer words number status content = (text : List ℕ) × BeginsByNumbers words number status text × WritesContent text content
 
 -- the words are some answer
 abbrev pub IsAnswer : List ℕ → Type 0
-IsAnswer words = (line : ScriptLine) × WritesAnswer words line
-
--- the line is an answer, after its first word
-abbrev pub WritesRespond : List ℕ → ScriptLine → Type 0
-WritesRespond text line = (words : List ℕ) × (text ≡ codes "respond " ++ words) × WritesAnswer words line
+IsAnswer words = (number : ℕ) × (status : ℕ) × (content : Content) × WritesAnswer words number status content
 
 -- the grammar of what stands after `read`: a number of 64 bits, a space, and one of 16 bits
 abbrev pub WritesRead : List ℕ → ℕ → ℕ → Type 0
 WritesRead words number count =
-    (digits : List ℕ) × BeginsByNumber words number digits × WritesNumber digits count × (number < 2 ^ 64) × (count < 2 ^ 16)
+    (digits : List ℕ) × BeginsByNumber words number digits × (number < 2 ^ 64) × WritesCount digits count
 
 -- the grammar of a line: which text says what
 abbrev pub SaysLine : List ℕ → ScriptLine → Type 0
@@ -56,8 +63,7 @@ SaysLine text Blank = (text ≡ []) ⊎ ((comment : List ℕ) × (text ≡ codes
 SaysLine text (Now date) = (digits : List ℕ) × (text ≡ codes "now " ++ digits) × WritesDate digits date
 SaysLine text Ask = text ≡ codes "ask"
 SaysLine text (Read number count) = (words : List ℕ) × (text ≡ codes "read " ++ words) × WritesRead words number count
-SaysLine text (Text number status words) = WritesRespond text (Text number status words)
-SaysLine text (Empty number status) = WritesRespond text (Empty number status)
+SaysLine text (Respond number status content) = (words : List ℕ) × (text ≡ codes "respond " ++ words) × WritesAnswer words number status content
 SaysLine text (Drop number) = (digits : List ℕ) × (text ≡ codes "drop " ++ digits) × WritesNumber digits number × (number < 2 ^ 64)
 
 -- the text says something

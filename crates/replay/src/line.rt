@@ -2,7 +2,7 @@
 ghost use Rattle.std.specs.Prelude.{◌≡◌, ◌<◌, ◌^◌, ℕ, List, ◌↔◌, IfSome, IsSomeAnd, IsSome};
 ghost use Rattle.std.specs.Option.{SomeIff};
 ghost use Rattle.std.specs.Str.Parse.{IsNumeral, digits_value};
-ghost use Rattle.replay.specs.ScriptLine.{BeginsByNumber, WritesDate, IsDate, WritesAnswer, IsAnswer, WritesRead, SaysLine, SaysSome, IsLine, IsGood};
+ghost use Rattle.replay.specs.ScriptLine.{BeginsByNumber, WritesDate, IsDate, WritesContent, IsContent, WritesAnswer, IsAnswer, WritesRead, SaysLine, SaysSome, IsLine, IsGood};
 
 use httpdate::HttpDate;
 
@@ -17,12 +17,23 @@ pub(crate) enum ScriptLine<'a> {
     Ask,
     /// Reads the body of the request of this number, up to so many bytes.
     Read(u64, u16),
-    /// Answers the request of this number by this code and text.
-    Text(u64, u16, &'a str),
-    /// Answers the request of this number by this code, without data.
-    Empty(u64, u16),
+    /// Answers the request of this number by this code and content.
+    Respond(u64, u16, Content<'a>),
     /// Drops the request of this number.
     Drop(u64),
+}
+
+/// What an answer consists of, after its code.
+#[derive(Clone, Copy, Debug)]
+pub(crate) enum Content<'a> {
+    /// This text.
+    Text(&'a str),
+    /// No data.
+    Empty,
+    /// So many bytes `x`, whose number isn't said.
+    Stream(u16),
+    /// The same, and a fault in place of the end.
+    Broken(u16),
 }
 
 // The number that decimal digits write, if it is below 2^64. `parse` takes a plus before them; a script doesn't.
@@ -54,29 +65,50 @@ fn date_in(seconds: &str) -> Option<HttpDate>
     HttpDate::from_unix_secs(number_in(seconds)?).ok()
 }
 
-// What stands after `respond`: a number, a code, and `empty`, or `text` and the text.
-fn answer_in(words: &str) -> Option<ScriptLine<'_>>
-    ensures some { IfSome result (λ line. WritesAnswer words.now line) }
+// The number that decimal digits write, if it is below 2^16.
+fn count_in(digits: &str) -> Option<u16>
+    ensures { SomeIff result (IsNumeral 10 digits.now × (digits_value 10 digits.now < 2 ^ 16))
+        (digits_value 10 digits.now) }
+{
+    u16::try_from(number_in(digits)?).ok()
+}
+
+// What stands after the code of an answer: `empty`, or `text` and the text, or `stream` or `broken` and a number.
+fn content_in(text: &str) -> Option<Content<'_>>
+    ensures some { IfSome result (λ content. WritesContent text.now content) }
+    ensures found { IsContent text.now → IsSome result }
+{
+    if text == "empty" {
+        return Some(Content::Empty);
+    }
+    if let Some(text) = text.strip_prefix("text ") {
+        return Some(Content::Text(text));
+    }
+    if let Some(digits) = text.strip_prefix("stream ") {
+        return Some(Content::Stream(count_in(digits)?));
+    }
+    let digits = text.strip_prefix("broken ")?;
+    Some(Content::Broken(count_in(digits)?))
+}
+
+// What stands after `respond`: a number, a code, and the content.
+fn answer_in(words: &str) -> Option<(u64, u16, Content<'_>)>
+    ensures some { IfSome result (λ r. WritesAnswer words.now r.0 r.1 r.2) }
     ensures found { IsAnswer words.now → IsSome result }
 {
     let (number, behind) = number_before(words)?;
-    let (status, content) = number_before(behind)?;
+    let (status, text) = number_before(behind)?;
     let status = u16::try_from(status).ok()?;
-    match content.strip_prefix("text ") {
-        Some(text) => Some(ScriptLine::Text(number, status, text)),
-        None if content == "empty" => Some(ScriptLine::Empty(number, status)),
-        None => None,
-    }
+    Some((number, status, content_in(text)?))
 }
 
 // What stands after `read`: a number, and how many bytes are read.
-fn count_in(words: &str) -> Option<(u64, u16)>
+fn read_in(words: &str) -> Option<(u64, u16)>
     ensures some { IfSome result (λ r. WritesRead words.now r.0 r.1) }
     ensures found { (n : ℕ) → (count : ℕ) → WritesRead words.now n count → IsSome result }
 {
     let (number, digits) = number_before(words)?;
-    let count = u16::try_from(number_in(digits)?).ok()?;
-    Some((number, count))
+    Some((number, count_in(digits)?))
 }
 
 // What a text says; None where it says nothing known.
@@ -97,10 +129,12 @@ fn text_in(text: &str) -> Option<ScriptLine<'_>>
         return Some(ScriptLine::Drop(number_in(number)?));
     }
     if let Some(words) = text.strip_prefix("read ") {
-        let (number, count) = count_in(words)?;
+        let (number, count) = read_in(words)?;
         return Some(ScriptLine::Read(number, count));
     }
-    answer_in(text.strip_prefix("respond ")?)
+    let words = text.strip_prefix("respond ")?;
+    let (number, status, content) = answer_in(words)?;
+    Some(ScriptLine::Respond(number, status, content))
 }
 
 /// What a line says; None for a line that says nothing known, or that has a byte from 128 on.

@@ -14,14 +14,16 @@ ghost use Rattle.tiny_http_core.specs.Seen.{seen};
 
 mod fault;
 mod line;
+mod replay_data;
 mod reply;
 mod script;
 #[cfg(test)]
 mod tests;
 
 use crate::fault::ReplayFault;
+use crate::replay_data::ReplayData;
 use crate::reply::ReplyLine;
-use crate::script::{Data, ScriptFault, read_script};
+use crate::script::{ScriptFault, read_script};
 use std::alloc::Global;
 use std::io::{ErrorKind, Write};
 use std::process::ExitCode;
@@ -42,7 +44,7 @@ struct Replayed {
 fn run_steps(
     alloc: Global,
     bytes: Vec<u8>,
-    steps: Vec<Timed<Data>>,
+    steps: Vec<Timed<ReplayData>>,
 ) -> Result<Replayed, ReplayFault<'static>>
     ensures runs { IfOk result (λ o. HasRun bytes.items (map timed_value steps.items) (map seen o.replies.items)
         (budget_bytes o.writer ++ o.held.items)) }
@@ -152,7 +154,10 @@ pub fn replay_on<O: Write, E: Write>(
 }
 
 // All bytes of a file.
-fn read_file<'a, R: Files + AllocGlobal>(rt: &R, name: &'a str) -> Result<Vec<u8>, ReplayFault<'a>> {
+fn read_file<'a, R: Files + AllocGlobal>(
+    rt: &R,
+    name: &'a str,
+) -> Result<Vec<u8>, ReplayFault<'a>> {
     match fs::read(rt, name) {
         Ok(bytes) => Ok(bytes),
         Err(fault) if fault.kind() == ErrorKind::OutOfMemory => Err(ReplayFault::OutOfMemory),

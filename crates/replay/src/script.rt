@@ -1,21 +1,22 @@
 //! The steps that a script names, line by line.
-ghost use Rattle.std.specs.Prelude.{◌≡◌, ℕ, ◌++◌, map, Err, IfOk};
+ghost use Rattle.std.specs.Prelude.{◌≡◌, ℕ, ◌++◌, ◌∷◌, [], map, Err, IfOk};
 ghost use Rattle.std.specs.Option.{option_map};
 ghost use Rattle.std.specs.List.{AllZip};
 ghost use Rattle.httpdate.specs.Date.{unix_secs};
+ghost use Rattle.tiny_http_wire.specs.Answer.{text_plain};
+ghost use Rattle.tiny_http_core.specs.ResponseValue.{response_of};
 ghost use Rattle.replay.specs.ScriptLine.{IsLine};
-ghost use Rattle.replay.specs.Script.{script_lines, IsFirstBadLine, said_step, date_behind, on_date, steps_from, IsScript, step_value, timed_value};
+ghost use Rattle.replay.specs.Script.{script_lines, IsFirstBadLine, xs_response, response_with, said_step, date_behind, on_date, steps_from, IsScript, response_value, step_value, timed_value};
 
-use crate::line::{ScriptLine, line_in};
+use crate::line::{Content, ScriptLine, line_in};
+use crate::replay_data::ReplayData;
 use httpdate::HttpDate;
 use std::alloc::{AllocError, Global};
-use std::io::Cursor;
+use std::io::ErrorKind;
 use tiny_http_core::driver::{Step, Timed};
 use tiny_http_wire::common::StatusCode;
+use tiny_http_wire::device::Stop;
 use tiny_http_wire::response::Response;
-
-/// The data of a script's answers: bytes in memory.
-pub(crate) type Data = Cursor<Vec<u8>>;
 
 /// Why a script names no steps.
 #[derive(Clone, Copy, Debug, PartialEq, Eq)]
@@ -60,23 +61,62 @@ fn read_lines<'a>(alloc: Global, lines: &[&'a [u8]]) -> Result<Vec<ScriptLine<'a
     Ok(said)
 }
 
+// An answer by this code with a text.
+fn text_response(
+    alloc: Global,
+    status: StatusCode,
+    text: &str,
+) -> Result<Response<ReplayData>, AllocError>
+    ensures { IfOk result (λ response. response_value response ≡ response_of status.0 (text_plain ∷ []) text.now) }
+{
+    let data = ReplayData::from_text(String::from_str(alloc, text)?);
+    // The header is that of every text, and an empty one takes no memory.
+    let response = Response::from_string(alloc, String::new(alloc))?.with_status_code(status);
+    Ok(response.with_data(data, Some(text.len())))
+}
+
+// An answer by this code with so many bytes `x` and this stop, of this length, if it is known.
+fn xs_response(
+    alloc: Global,
+    status: StatusCode,
+    count: u16,
+    stop: Stop,
+    length: Option<usize>,
+) -> Response<ReplayData>
+    ensures { response_value result ≡ xs_response status.0 count stop length }
+{
+    Response::empty(alloc, status).with_data(ReplayData::xs(count, stop), length)
+}
+
+// The answer by this code with this content.
+fn response_with(
+    alloc: Global,
+    status: StatusCode,
+    content: &Content<'_>,
+) -> Result<Response<ReplayData>, AllocError>
+    ensures { IfOk result (λ response. response_value response ≡ response_with status.0 content.now) }
+{
+    match content {
+        Content::Text(text) => text_response(alloc, status, text),
+        Content::Empty => Ok(xs_response(alloc, status, 0, Stop::End, Some(0))),
+        Content::Stream(count) => Ok(xs_response(alloc, status, *count, Stop::End, None)),
+        Content::Broken(count) => {
+            let fault = Stop::Fault(ErrorKind::Other);
+            Ok(xs_response(alloc, status, *count, fault, None))
+        }
+    }
+}
+
 // The step that a line names, if it names one.
-fn step_in(alloc: Global, line: &ScriptLine<'_>) -> Result<Option<Step<Data>>, AllocError>
+fn step_in(alloc: Global, line: &ScriptLine<'_>) -> Result<Option<Step<ReplayData>>, AllocError>
     ensures { IfOk result (λ step. option_map step_value step ≡ said_step line.now) }
 {
     match line {
         ScriptLine::Blank | ScriptLine::Now(_) => Ok(None),
         ScriptLine::Ask => Ok(Some(Step::Ask)),
         ScriptLine::Read(number, count) => Ok(Some(Step::Read(*number, *count))),
-        ScriptLine::Text(number, status, text) => {
-            let text = String::from_str(alloc, text)?;
-            let response = Response::from_string(alloc, text)?;
-            let response = response.with_status_code(StatusCode(*status));
-            Ok(Some(Step::Respond(*number, response)))
-        }
-        ScriptLine::Empty(number, status) => {
-            let response = Response::from_data(alloc, Vec::new(alloc));
-            let response = response.with_status_code(StatusCode(*status));
+        ScriptLine::Respond(number, status, content) => {
+            let response = response_with(alloc, StatusCode(*status), content)?;
             Ok(Some(Step::Respond(*number, response)))
         }
         ScriptLine::Drop(number) => Ok(Some(Step::Drop(*number))),
@@ -96,7 +136,7 @@ fn date_from(now: HttpDate, line: &ScriptLine<'_>) -> HttpDate
 // Adds the step that a line names, if it names one, on this date.
 fn add_step(
     alloc: Global,
-    steps: &mut Vec<Timed<Data>>,
+    steps: &mut Vec<Timed<ReplayData>>,
     now: HttpDate,
     line: &ScriptLine<'_>,
 ) -> Result<(), AllocError>
@@ -114,7 +154,7 @@ fn read_steps(
     alloc: Global,
     first: HttpDate,
     lines: &[ScriptLine<'_>],
-) -> Result<Vec<Timed<Data>>, AllocError>
+) -> Result<Vec<Timed<ReplayData>>, AllocError>
     ensures { IfOk result (λ steps. map timed_value steps.items ≡ steps_from first lines.now) }
 {
     let mut steps = Vec::new(alloc);
@@ -127,7 +167,10 @@ fn read_steps(
 }
 
 /// The steps that a script names, each with its date; or its first bad line.
-pub(crate) fn read_script(alloc: Global, script: &[u8]) -> Result<Vec<Timed<Data>>, ScriptFault>
+pub(crate) fn read_script(
+    alloc: Global,
+    script: &[u8],
+) -> Result<Vec<Timed<ReplayData>>, ScriptFault>
     ensures steps { IfOk result (λ steps. IsScript script.now (map timed_value steps.items)) }
     ensures bad { (n : ℕ) → result ≡ Err (ScriptFault.BadLine n) → IsFirstBadLine (script_lines script.now) n }
 {

@@ -148,6 +148,119 @@ fn bodies_are_read(rt: HostRuntime) -> Result<(), Fail> {
     Ok(())
 }
 
+// An answer 200 of this version, with one header line beyond those of the server.
+fn answer(alloc: Global, version: &str, header: &str, body: &str) -> Result<String, AllocError> {
+    format!(in alloc;
+        "HTTP/{version} 200 OK\r\nServer: tiny-http (Rust)\r\nDate: Wed, 04 May 1983 11:17:00 GMT\r\n\
+        {header}\r\n\r\n{body}"
+    )
+}
+
+#[test]
+fn data_of_unknown_length(rt: HostRuntime) -> Result<(), Fail> {
+    let alloc = rt.alloc();
+    let chunked = "Transfer-Encoding: chunked";
+    for (method, version, content, header, body) in [
+        ("GET", "1.1", "stream 0", chunked, "0\r\n\r\n"),
+        ("GET", "1.1", "stream 5", chunked, "5\r\nxxxxx\r\n0\r\n\r\n"),
+        (
+            "GET",
+            "1.1",
+            "stream 00017",
+            chunked,
+            "11\r\nxxxxxxxxxxxxxxxxx\r\n0\r\n\r\n",
+        ),
+        ("HEAD", "1.1", "stream 5", chunked, ""),
+        ("GET", "1.0", "stream 0", "Content-Length: 0", ""),
+        ("GET", "1.0", "stream 5", "Content-Length: 5", "xxxxx"),
+        ("HEAD", "1.0", "stream 5", "Content-Length: 5", ""),
+    ] {
+        let request = format!(in alloc; "{method} / HTTP/{version}\r\n\r\n")?;
+        let script = format!(in alloc; "ask\nrespond 0 200 {content}\n")?;
+        let out = answer(alloc, version, header, body)?;
+        let replies = format!(in alloc; "handed 0 {method} / {version} 0 -\ndone\n")?;
+        let run = (request.as_str(), script.as_str());
+        assert_good(&rt, alloc, run, out.as_str(), replies.as_str())?;
+    }
+    Ok(())
+}
+
+// So many bytes `x`.
+fn xs(alloc: Global, count: usize) -> Result<String, AllocError> {
+    let mut text = String::new(alloc);
+    for _ in 0..count {
+        text.push('x')?;
+    }
+    Ok(text)
+}
+
+#[test]
+fn data_of_more_than_a_chunk(rt: HostRuntime) -> Result<(), Fail> {
+    let alloc = rt.alloc();
+    let chunk = xs(alloc, 8192)?;
+    let replies = "handed 0 GET / 1.1 0 -\ndone\n";
+    for (script, behind) in [
+        ("ask\nrespond 0 200 stream 8192\n", ""),
+        ("ask\nrespond 0 200 stream 8193\n", "1\r\nx\r\n"),
+    ] {
+        let body = format!(in alloc; "2000\r\n{chunk}\r\n{behind}0\r\n\r\n")?;
+        let out = answer(alloc, "1.1", "Transfer-Encoding: chunked", body.as_str())?;
+        let run = ("GET / HTTP/1.1\r\n\r\n", script);
+        assert_good(&rt, alloc, run, out.as_str(), replies)?;
+    }
+    Ok(())
+}
+
+#[test]
+fn the_most_data_of_unknown_length(rt: HostRuntime) -> Result<(), Fail> {
+    let alloc = rt.alloc();
+    let body = xs(alloc, 65535)?;
+    let out = answer(alloc, "1.0", "Content-Length: 65535", body.as_str())?;
+    let run = (
+        "GET / HTTP/1.0\r\n\r\n",
+        "ask\nrespond 0 200 stream 65535\n",
+    );
+    assert_good(
+        &rt,
+        alloc,
+        run,
+        out.as_str(),
+        "handed 0 GET / 1.0 0 -\ndone\n",
+    )?;
+    Ok(())
+}
+
+#[test]
+fn broken_data_end_the_output(rt: HostRuntime) -> Result<(), Fail> {
+    let alloc = rt.alloc();
+    let chunk = xs(alloc, 8192)?;
+    let body = format!(in alloc; "2000\r\n{chunk}\r\n")?;
+    let chunked = "Transfer-Encoding: chunked";
+    let cut = answer(alloc, "1.1", chunked, body.as_str())?;
+    let head = answer(alloc, "1.1", chunked, "")?;
+    for (version, content, out) in [
+        ("1.1", "broken 8197", cut.as_str()),
+        ("1.1", "broken 8192", cut.as_str()),
+        ("1.1", "broken 3", head.as_str()),
+        ("1.1", "broken 0", head.as_str()),
+        // It is read whole before its head.
+        ("1.0", "broken 3", ""),
+        ("1.0", "broken 0", ""),
+    ] {
+        let request = format!(in alloc; "GET / HTTP/{version}\r\nConnection: keep-alive\r\n\r\n")?;
+        let both = format!(in alloc; "{request}{request}")?;
+        let script = format!(in alloc;
+            "ask\nask\nrespond 0 200 {content}\nrespond 1 200 text next\n"
+        )?;
+        let replies = format!(in alloc;
+            "handed 0 GET / {version} 1 -\nhanded 1 GET / {version} 1 -\nfault Other\ndone\n"
+        )?;
+        let run = (both.as_str(), script.as_str());
+        assert_good(&rt, alloc, run, out, replies.as_str())?;
+    }
+    Ok(())
+}
+
 #[test]
 fn bytes_are_printed_in_hexadecimal(rt: HostRuntime) -> Result<(), Fail> {
     for (bytes, want) in [
@@ -268,6 +381,23 @@ fn no_answer_but_the_grammars(rt: HostRuntime) -> Result<(), Fail> {
         "respond 0 65536 empty",
         "respond 18446744073709551616 200 empty",
         "respond 0 18446744073709551616 empty",
+        "respond 0 200 stream",
+        "respond 0 200 stream ",
+        "respond 0 200 stream x",
+        "respond 0 200 stream +5",
+        "respond 0 200 stream 65536",
+        "respond 0 200 stream 18446744073709551621",
+        "respond 0 200 stream  5",
+        "respond 0 200 stream 5 ",
+        "respond 0 200 stream 5\r",
+        "respond 0 200  stream 5",
+        "respond 0 200 Stream 5",
+        "respond 0 200 streams 5",
+        "respond 0 200 broken",
+        "respond 0 200 broken x",
+        "respond 0 200 broken -1",
+        "respond 0 200 broken 65536",
+        "respond 0 200 broken 5 ",
     ] {
         assert_bad(&rt, rt.alloc(), line.as_bytes(), 1)?;
     }
@@ -283,8 +413,6 @@ fn no_step_of_a_later_stage(rt: HostRuntime) -> Result<(), Fail> {
         "flush 0",
         "upgrade 0 101 websocket",
         "finish 0",
-        "respond 0 200 stream 5",
-        "respond 0 200 broken 5",
     ] {
         assert_bad(&rt, rt.alloc(), line.as_bytes(), 1)?;
     }
@@ -308,7 +436,7 @@ fn the_first_bad_line_is_reported(rt: HostRuntime) -> Result<(), Fail> {
 }
 
 #[test]
-fn a_writer_that_refuses(rt: HostRuntime) -> Result<(), Fail> {
+fn an_output_that_refuses(rt: HostRuntime) -> Result<(), Fail> {
     let alloc = rt.alloc();
     let (bytes, script) = HELLO;
     let mut room = [0u8; 5];
@@ -324,7 +452,7 @@ fn a_writer_that_refuses(rt: HostRuntime) -> Result<(), Fail> {
 }
 
 #[test]
-fn a_writer_that_refuses(rt: HostRuntime) -> Result<(), Fail> {
+fn an_error_stream_that_refuses(rt: HostRuntime) -> Result<(), Fail> {
     let alloc = rt.alloc();
     let (bytes, script) = HELLO;
     for script in [script, "bad"] {
@@ -344,8 +472,16 @@ fn a_writer_that_refuses(rt: HostRuntime) -> Result<(), Fail> {
 fn faults_are_reported(rt: HostRuntime) -> Result<(), Fail> {
     let alloc = rt.alloc();
     for (fault, line, status) in [
-        (ReplayFault::Usage, "replay: usage: replay BYTES SCRIPT\n", 2),
-        (ReplayFault::CannotRead("a b"), "replay: cannot read a b\n", 2),
+        (
+            ReplayFault::Usage,
+            "replay: usage: replay BYTES SCRIPT\n",
+            2,
+        ),
+        (
+            ReplayFault::CannotRead("a b"),
+            "replay: cannot read a b\n",
+            2,
+        ),
         (ReplayFault::BadLine(12), "replay: bad line 12\n", 2),
         (ReplayFault::OutOfMemory, "replay: out of memory\n", 1),
         (ReplayFault::CannotWrite, "replay: cannot write\n", 1),
@@ -362,7 +498,10 @@ fn the_bytes_are_read_first(rt: HostRuntime) -> Result<(), Fail> {
     let alloc = rt.alloc();
     let mut words = Vec::new(alloc);
     for word in ["replay", "missing.request", "missing.script"] {
-        assert_eq!(rt; read_files(&rt, words.as_slice()).err(), Some(ReplayFault::Usage));
+        assert_eq!(rt;
+            read_files(&rt, words.as_slice()).err(),
+            Some(ReplayFault::Usage)
+        );
         words.push(String::from_str(alloc, word)?)?;
     }
     let fault = read_files(&rt, words.as_slice()).err();

@@ -1,5 +1,5 @@
 use Rattle.std.proofs.Common.{◌≡◌, ◌++◌, codes}
-use Rattle.replay.proofs.ScriptLineLemmas.{only_now, only_read}
+use Rattle.replay.proofs.ScriptLineLemmas.{only_now, only_read, only_respond}
 use Rattle.replay.proofs.line.text_in.Goals as goal
 
 pub returns-in_err-date_in-clause-found : goal.returns-in_err-date_in-clause-found
@@ -15,3 +15,18 @@ returns-in_err-number-clause-found c = λ s.
     let e : c.args.text.now ≡ codes "read " ++ words = rw strips.2 strips.1.1 in
     let read = only_read c.args.text.now words e s in
     rw c.from_residual-in_err-number.ensures (c.in_err-number.ensures.found read.0 read.1 read.2)
+
+pub returns-in_err-number-2-clause-found : goal.returns-in_err-number-2-clause-found
+returns-in_err-number-2-clause-found c = λ s.
+    let strips = c.in_ok-words.ensures.cases in
+    let words = c.in_ok-words.words.now in
+    let e : c.args.text.now ≡ codes "respond " ++ words = rw strips.2 strips.1.1 in
+    let wrong = c.in_err-number-2.ensures.found (only_respond c.args.text.now words e s) in
+    absurd (cc wrong)
+
+pub returns-clause-some : goal.returns-clause-some
+returns-clause-some c =
+    let strips = c.in_ok-words.ensures.cases in
+    let words = c.in_ok-words.words.now in
+    let e : c.args.text.now ≡ codes "respond " ++ words = rw strips.2 strips.1.1 in
+    (words, e, c.in_ok-number-2.ensures.some)
