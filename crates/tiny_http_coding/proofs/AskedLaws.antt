@@ -94,9 +94,9 @@ found-step : (e : TeElement) (es : List TeElement) (q : ℕ) (w : Weighed) (o : 
 found-step e es q w None h rec f = found-later e es q w.0 (λ s. absurd (s h)) (rec f)
 found-step e es q w (Some c) h rec f = found-at e es q w c (e.1 == q) h refl rec f
 
-found : (es : List TeElement) (q : ℕ) (w : Weighed) → find (λ x. x.1 == q) (supported_codings es) ≡ Some w → Found es q w.0
-found [] q w f = cc
-found (e ∷ es) q w f = found-step e es q w (coding_named e.0) refl (found es q w) f
+asked-found : (es : List TeElement) (q : ℕ) (w : Weighed) → find (λ x. x.1 == q) (supported_codings es) ≡ Some w → Found es q w.0
+asked-found [] q w f = cc
+asked-found (e ∷ es) q w f = found-step e es q w (coding_named e.0) refl (asked-found es q w) f
 
 -- some coding has the greatest quality, where that is above 0
 attained-at : (w : Weighed) (ws : List Weighed) (q : ℕ) (t : Bool) → (w.1 == q) ≡ t → q ≡ max w.1 (greatest_quality ws)
@@ -131,7 +131,7 @@ choose-at es true e =
     let q = greatest_quality (supported_codings es) in
     let some : 0 < q = grind (arith, nat_tests) in
     let a = attained (supported_codings es) q some refl in
-    carried es (find (λ w. w.1 == q) (supported_codings es)) a.0 a.1 (chosen-from es q a.0.0 some (at-most es) (found es q a.0 a.1))
+    carried es (find (λ w. w.1 == q) (supported_codings es)) a.0 a.1 (chosen-from es q a.0.0 some (at-most es) (asked-found es q a.0 a.1))
 choose-at es false e =
     let q = greatest_quality (supported_codings es) in
     let none : q ≡ 0 = grind (arith, nat_tests) in
@@ -150,21 +150,21 @@ above : (before : List TeElement) (chosen : TeElement) (after : List TeElement) 
 above [] chosen after c h = rw h (omega arith)
 above (e ∷ es) chosen after c h = above-step chosen.1 e (supported_codings (es ++ chosen ∷ after)) (coding_named e.0) (above es chosen after c h)
 
-first-step : (q : ℕ) (e : TeElement) (ws : List Weighed) (o : Option Coding) (w : Weighed) → coding_named e.0 ≡ o → (IsSupported e → e.1 ≢ q)
+asked-first_step : (q : ℕ) (e : TeElement) (ws : List Weighed) (o : Option Coding) (w : Weighed) → coding_named e.0 ≡ o → (IsSupported e → e.1 ≢ q)
     → find (λ x. x.1 == q) ws ≡ Some w → find (λ x. x.1 == q) (weigh o e.1 ws) ≡ Some w
-first-step q e ws None w h other f = f
-first-step q e ws (Some c) w h other f =
+asked-first_step q e ws None w h other f = f
+asked-first_step q e ws (Some c) w h other f =
     let no : e.1 ≢ q = other (λ none. let no : Some c ≡ None = sym h ∙ none in cc) in
     let t : (e.1 == q) ≡ false = grind (arith, nat_tests) in
     rw t f
 
-first-is : (before : List TeElement) (chosen : TeElement) (after : List TeElement) (c : Coding) → coding_named chosen.0 ≡ Some c → HaveNot chosen.1 before
+asked-first_is : (before : List TeElement) (chosen : TeElement) (after : List TeElement) (c : Coding) → coding_named chosen.0 ≡ Some c → HaveNot chosen.1 before
     → find (λ x. x.1 == chosen.1) (supported_codings (before ++ chosen ∷ after)) ≡ Some (c, chosen.1)
-first-is [] chosen after c h none = let t : (chosen.1 == chosen.1) ≡ true = grind (arith, nat_tests) in rw (h, t) refl
-first-is (e ∷ es) chosen after c h none =
+asked-first_is [] chosen after c h none = let t : (chosen.1 == chosen.1) ≡ true = grind (arith, nat_tests) in rw (h, t) refl
+asked-first_is (e ∷ es) chosen after c h none =
     let P : TeElement → Type 0 = λ x. IsSupported x → x.1 ≢ chosen.1 in
-    first-step chosen.1 e (supported_codings (es ++ chosen ∷ after)) (coding_named e.0) (c, chosen.1) refl (All-head P e es none)
-    (first-is es chosen after c h (All-tail P e es none))
+    asked-first_step chosen.1 e (supported_codings (es ++ chosen ∷ after)) (coding_named e.0) (c, chosen.1) refl (All-head P e es none)
+    (asked-first_is es chosen after c h (All-tail P e es none))
 
 chosen-is : (es : List TeElement) (c : Coding) → IsChosen es c → Some c ≡ most_wanted (supported_codings es)
 chosen-is es c h =
@@ -172,7 +172,7 @@ chosen-is es c h =
     let low = least q es h.none_greater in
     let high = subst (λ xs. q ≤ greatest_quality (supported_codings xs)) (sym h.joins) (above h.before h.chosen h.after c h.names) in
     let is : greatest_quality (supported_codings es) ≡ q = omega arith in
-    let f = subst (λ xs. find (λ x. x.1 == q) (supported_codings xs) ≡ Some (c, q)) (sym h.joins) (first-is h.before h.chosen h.after c h.names h.none_equal_before) in
+    let f = subst (λ xs. find (λ x. x.1 == q) (supported_codings xs) ≡ Some (c, q)) (sym h.joins) (asked-first_is h.before h.chosen h.after c h.names h.none_equal_before) in
     let t : nat_lt 0 q ≡ true = let l = h.above_0 in grind (arith, nat_tests) in
     sym (ap (λ n. wanted_at n None 0 (supported_codings es)) is ∙ rw (t, f) refl)
 

@@ -16,16 +16,16 @@ wanted_at quality wanted greatest ws = if nat_lt greatest quality then option_ma
 abbrev pub wanted_after : Option Coding → ℕ → List Weighed → Option Coding
 wanted_after wanted greatest ws = wanted_at (greatest_quality ws) wanted greatest ws
 
-take-at : (wanted : Option Coding) (g : ℕ) (w : Weighed) (ws : List Weighed) (t : Bool) → nat_lt w.1 (greatest_quality ws) ≡ t → g < w.1
+asked-take_at : (wanted : Option Coding) (g : ℕ) (w : Weighed) (ws : List Weighed) (t : Bool) → nat_lt w.1 (greatest_quality ws) ≡ t → g < w.1
     → wanted_after wanted g (w ∷ ws) ≡ wanted_after (Some w.0) w.1 ws
-take-at wanted g w ws true e l =
+asked-take_at wanted g w ws true e l =
     let m = greatest_quality ws in
     let more : w.1 < m = grind (arith, nat_tests) in
     let is : max w.1 m ≡ m = omega arith in
     let above : nat_lt g m ≡ true = grind (arith, nat_tests) in
     let other : (w.1 == m) ≡ false = grind (arith, nat_tests) in
     ap (λ n. wanted_at n wanted g (w ∷ ws)) is ∙ rw (above, other, e) refl
-take-at wanted g w ws false e l =
+asked-take_at wanted g w ws false e l =
     let m = greatest_quality ws in
     let less : m ≤ w.1 = grind (arith, nat_tests) in
     let is : max w.1 m ≡ w.1 = omega arith in
@@ -35,7 +35,7 @@ take-at wanted g w ws false e l =
 
 -- one that is wanted more takes the place
 take-one : (wanted : Option Coding) (g : ℕ) (w : Weighed) (ws : List Weighed) → g < w.1 → wanted_after wanted g (w ∷ ws) ≡ wanted_after (Some w.0) w.1 ws
-take-one wanted g w ws l = take-at wanted g w ws (nat_lt w.1 (greatest_quality ws)) refl l
+take-one wanted g w ws l = asked-take_at wanted g w ws (nat_lt w.1 (greatest_quality ws)) refl l
 
 pass-at : (wanted : Option Coding) (g : ℕ) (w : Weighed) (ws : List Weighed) (t : Bool) → nat_lt g (greatest_quality ws) ≡ t → w.1 ≤ g
     → wanted_after wanted g (w ∷ ws) ≡ wanted_after wanted g ws

@@ -58,27 +58,27 @@ pub left_over-one : (xs : List ℕ) → length xs ≡ 8192 → left_over xs ≡ 
 left_over-one xs h = left_over-is 1 xs (omega arith) (omega arith) ∙ drop-past 8192 xs (omega arith)
 
 -- the front and the rest of two lists
-drop-front : (n : ℕ) (xs ys : List ℕ) → n ≤ length xs → drop n (xs ++ ys) ≡ drop n xs ++ ys
-drop-front zero xs ys h = refl
-drop-front (suc n) [] ys h = absurd (omega arith)
-drop-front (suc n) (x ∷ xs) ys h = drop-front n xs ys (omega arith)
+chunks-drop_front : (n : ℕ) (xs ys : List ℕ) → n ≤ length xs → drop n (xs ++ ys) ≡ drop n xs ++ ys
+chunks-drop_front zero xs ys h = refl
+chunks-drop_front (suc n) [] ys h = absurd (omega arith)
+chunks-drop_front (suc n) (x ∷ xs) ys h = chunks-drop_front n xs ys (omega arith)
 
-take-front : (n : ℕ) (xs ys : List ℕ) → n ≤ length xs → take n (xs ++ ys) ≡ take n xs
-take-front zero xs ys h = refl
-take-front (suc n) [] ys h = absurd (omega arith)
-take-front (suc n) (x ∷ xs) ys h = ap (λ (t : List ℕ). x ∷ t) (take-front n xs ys (omega arith))
+chunks-take_front : (n : ℕ) (xs ys : List ℕ) → n ≤ length xs → take n (xs ++ ys) ≡ take n xs
+chunks-take_front zero xs ys h = refl
+chunks-take_front (suc n) [] ys h = absurd (omega arith)
+chunks-take_front (suc n) (x ∷ xs) ys h = ap (λ (t : List ℕ). x ∷ t) (chunks-take_front n xs ys (omega arith))
 
 first_chunks-before : (k : ℕ) (xs ys : List ℕ) → k * 8192 ≤ length xs → first_chunks k (xs ++ ys) ≡ first_chunks k xs
 first_chunks-before zero xs ys h = refl
 first_chunks-before (suc k) xs ys h =
     let one : 8192 ≤ length xs = omega arith in
-    ap (λ (y : List ℕ). printed_chunk y ++ first_chunks k (drop 8192 (xs ++ ys))) (take-front 8192 xs ys one)
-    ∙ ap (λ (y : List ℕ). printed_chunk (take 8192 xs) ++ first_chunks k y) (drop-front 8192 xs ys one)
+    ap (λ (y : List ℕ). printed_chunk y ++ first_chunks k (drop 8192 (xs ++ ys))) (chunks-take_front 8192 xs ys one)
+    ∙ ap (λ (y : List ℕ). printed_chunk (take 8192 xs) ++ first_chunks k y) (chunks-drop_front 8192 xs ys one)
     ∙ ap (λ (y : List ℕ). printed_chunk (take 8192 xs) ++ y) (first_chunks-before k (drop 8192 xs) ys (omega (arith, length-drop 8192 xs)))
 
 -- how many chunks some bytes make, and how many those that are left over make with more after them
-counts : (xs ys : List ℕ) → length (xs ++ ys) / 8192 ≡ length xs / 8192 + length (drop (length xs / 8192 * 8192) xs ++ ys) / 8192
-counts xs ys =
+chunk_counts : (xs ys : List ℕ) → length (xs ++ ys) / 8192 ≡ length xs / 8192 + length (drop (length xs / 8192 * 8192) xs ++ ys) / 8192
+chunk_counts xs ys =
     let all : length (xs ++ ys) ≡ length xs + length ys = length-append xs ys in
     let rest : length (drop (length xs / 8192 * 8192) xs ++ ys) ≡ (length xs - length xs / 8192 * 8192) + length ys = length-append (drop (length xs / 8192 * 8192) xs) ys ∙ ap (λ (n : ℕ). n + length ys) (length-drop (length xs / 8192 * 8192) xs) in
     omega arith
@@ -90,9 +90,9 @@ full_chunks-append xs ys =
     let k : ℕ = length xs / 8192 in
     let within : k * 8192 ≤ length xs = omega arith in
     let m : ℕ = length (drop (k * 8192) xs ++ ys) / 8192 in
-    ap (λ (n : ℕ). first_chunks n (xs ++ ys)) (counts xs ys) ∙ first_chunks-add k m (xs ++ ys)
+    ap (λ (n : ℕ). first_chunks n (xs ++ ys)) (chunk_counts xs ys) ∙ first_chunks-add k m (xs ++ ys)
     ∙ ap (λ (y : List ℕ). y ++ first_chunks m (drop (k * 8192) (xs ++ ys))) (first_chunks-before k xs ys within)
-    ∙ ap (λ (y : List ℕ). first_chunks k xs ++ first_chunks m y) (drop-front (k * 8192) xs ys within)
+    ∙ ap (λ (y : List ℕ). first_chunks k xs ++ first_chunks m y) (chunks-drop_front (k * 8192) xs ys within)
 
 pub left_over-append : (xs ys : List ℕ) → left_over (xs ++ ys) ≡ left_over (left_over xs ++ ys)
 unfolding left_over
@@ -101,5 +101,5 @@ left_over-append xs ys =
     let within : k * 8192 ≤ length xs = omega arith in
     let m : ℕ = length (drop (k * 8192) xs ++ ys) / 8192 in
     let place : (k + m) * 8192 ≡ k * 8192 + m * 8192 = omega arith in
-    ap (λ (n : ℕ). drop (n * 8192) (xs ++ ys)) (counts xs ys) ∙ ap (λ (n : ℕ). drop n (xs ++ ys)) place
-    ∙ sym (drop-drop (m * 8192) (k * 8192) (xs ++ ys)) ∙ ap (λ (y : List ℕ). drop (m * 8192) y) (drop-front (k * 8192) xs ys within)
+    ap (λ (n : ℕ). drop (n * 8192) (xs ++ ys)) (chunk_counts xs ys) ∙ ap (λ (n : ℕ). drop n (xs ++ ys)) place
+    ∙ sym (drop-drop (m * 8192) (k * 8192) (xs ++ ys)) ∙ ap (λ (y : List ℕ). drop (m * 8192) y) (chunks-drop_front (k * 8192) xs ys within)

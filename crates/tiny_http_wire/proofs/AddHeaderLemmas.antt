@@ -75,8 +75,8 @@ or-right true b e = refl
 or-right false b e = e
 
 -- one of the rest is put last, or the first is
-pub some-more : (status threshold : ℕ) (P : Type 0) (hs rest : List Header) (h : Header) (headers more : List Header) (length known : Option ℕ) → hs ≡ h ∷ rest → Adds h headers length more known → (is_some_put_last hs (answer_of status threshold headers length) ≡ true → P) → is_some_put_last rest (answer_of status threshold more known) ≡ true → P
-some-more status threshold P hs rest h headers more length known cut adds inv some =
+pub added-some_more : (status threshold : ℕ) (P : Type 0) (hs rest : List Header) (h : Header) (headers more : List Header) (length known : Option ℕ) → hs ≡ h ∷ rest → Adds h headers length more known → (is_some_put_last hs (answer_of status threshold headers length) ≡ true → P) → is_some_put_last rest (answer_of status threshold more known) ≡ true → P
+added-some_more status threshold P hs rest h headers more length known cut adds inv some =
     let start : Answer = answer_of status threshold headers length in
     inv (ap (λ (xs : List Header). is_some_put_last xs start) cut ∙ or-right (is_put_last h headers) (is_some_put_last rest (add_header h start)) (ap (is_some_put_last rest) (sym (adds status threshold)) ∙ some))
 

@@ -40,9 +40,9 @@ HasNone-push n hs h none other = list_any-append (λ (x : Header). same_name x.f
 count_named-push : (n : List ℕ) (hs : List Header) (h : Header) → count_named (hs ++ h ∷ []) n ≡ count_named hs n + cond (same_name h.field n) 1 0
 count_named-push n hs h = sum_by_push (one_named n) hs h
 
-none-left : (a b : Bool) → (a || b) ≡ false → a ≡ false
-none-left true b e = e
-none-left false b e = refl
+headers-none_left : (a b : Bool) → (a || b) ≡ false → a ≡ false
+headers-none_left true b e = e
+headers-none_left false b e = refl
 
 none-right : (a b : Bool) → (a || b) ≡ false → b ≡ false
 none-right true true e = e
@@ -57,7 +57,7 @@ none-both false false t e = refl
 count_named-none : (n : List ℕ) (hs : List Header) → HasNone hs n → count_named hs n ≡ 0
 count_named-none n [] none = refl
 count_named-none n (h ∷ hs) none =
-    let other : same_name h.field n ≡ false = none-left (same_name h.field n) (has_header hs n) none in
+    let other : same_name h.field n ≡ false = headers-none_left (same_name h.field n) (has_header hs n) none in
     sum_by-cons (one_named n) h hs ∙ rw (other, count_named-none n hs (none-right (same_name h.field n) (has_header hs n) none)) refl
 
 once-at : (p t : Bool) (k : ℕ) → p ≡ t → (t ≡ true → k ≡ 0) → k ≤ 1 → k + cond p 1 0 ≤ 1
@@ -88,9 +88,9 @@ IsResponseHeaders-push hs h reserved length second law =
     let past_connection = none-right (same_name h.field (codes "Connection")) _ reserved in
     let past_trailer = none-right (same_name h.field (codes "Trailer")) _ past_connection in
     record {
-      connection = HasNone-push (codes "Connection") hs h law.connection (none-left _ _ reserved);
-      trailer = HasNone-push (codes "Trailer") hs h law.trailer (none-left _ _ past_connection);
-      transfer_encoding = HasNone-push (codes "Transfer-Encoding") hs h law.transfer_encoding (none-left _ _ past_trailer);
+      connection = HasNone-push (codes "Connection") hs h law.connection (headers-none_left _ _ reserved);
+      trailer = HasNone-push (codes "Trailer") hs h law.trailer (headers-none_left _ _ past_connection);
+      transfer_encoding = HasNone-push (codes "Transfer-Encoding") hs h law.transfer_encoding (headers-none_left _ _ past_trailer);
       upgrade = HasNone-push (codes "Upgrade") hs h law.upgrade (none-right (same_name h.field (codes "Transfer-Encoding")) _ past_trailer);
       content_length = HasNone-push (codes "Content-Length") hs h law.content_length length;
       content_type = once-push (codes "Content-Type") hs h law.content_type second;

@@ -4,7 +4,7 @@ use Rattle.tiny_http_wire.specs.Answer.{Answer}
 use Rattle.tiny_http_wire.specs.AddHeader.{with_headers, is_some_put_last}
 use Rattle.tiny_http_wire.specs.HeaderPlace.{answer_of}
 use Rattle.std.specs.Vec.Iter.{into_iter_items}
-use Rattle.tiny_http_wire.proofs.AddHeaderLemmas.{added-more, added-end, some-more, some-first, at_err}
+use Rattle.tiny_http_wire.proofs.AddHeaderLemmas.{added-more, added-end, added-some_more, some-first, at_err}
 use Rattle.tiny_http_wire.proofs.ResponseHeadersLemmas.{IsResponseHeaders-AddsAll}
 use Rattle.tiny_http_wire.proofs.add_header.add_all.Goals as goal
 
@@ -19,7 +19,7 @@ loop-header-preserved c =
     let whole : ℕ → ℕ → Answer = λ status threshold. with_headers c.args.more.items (answer_of status threshold c.args.headers.now.items c.args.length.now) in
     record {
       added = added-more whole (into_iter_items loop.header-iterator) (into_iter_items c.next.new.self) c.in-Some.header loop.headers.items c.add.new.headers.items loop.length c.add.new.length c.in-Some.ensures.steps.0 c.in_ok-add.ensures.added loop.invariant.added;
-      memory = λ status threshold. some-more status threshold _ (into_iter_items loop.header-iterator) (into_iter_items c.next.new.self) c.in-Some.header loop.headers.items c.add.new.headers.items loop.length c.add.new.length c.in-Some.ensures.steps.0 c.in_ok-add.ensures.added (loop.invariant.memory status threshold);
+      memory = λ status threshold. added-some_more status threshold _ (into_iter_items loop.header-iterator) (into_iter_items c.next.new.self) c.in-Some.header loop.headers.items c.add.new.headers.items loop.length c.add.new.length c.in-Some.ensures.steps.0 c.in_ok-add.ensures.added (loop.invariant.memory status threshold);
     }
 
 pub returns-in_err-add-clause-memory : goal.returns-in_err-add-clause-memory
