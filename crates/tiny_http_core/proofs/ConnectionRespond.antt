@@ -178,8 +178,8 @@ own-said before sink mid ended bs s1 text (Err e) reply h fin over own broken lo
           writes = inr (inl (can, (f, refl, t, z.begins, z.front)));
         }
 
-    lost : (text.bytes ≡ [] → text.ending ≡ Broken (error_kind e)) → OutletFailed sink mid text.bytes (error_kind e) → (own : List ℕ) → text.bytes ≡ own → OwnSaid before mid false ended bs s1 text None reply
-    lost u l [] z = broken-lost (u z) (error_kind e) l
+    lost : (text.bytes ≡ [] → ⊥) → OutletFailed sink mid text.bytes (error_kind e) → (own : List ℕ) → text.bytes ≡ own → OwnSaid before mid false ended bs s1 text None reply
+    lost u l [] z = absurd (u z)
     lost u l (b ∷ more) z = within l (let C : List ℕ → Type 0 = λ x. CanMeet x (fault_in text.ending) in subst C (sym z) tt)
 
 pub own-sent : {T : Type 0} (before sink mid : Sink) (was ended : Bool) (bs : List Slot) (s1 : Slot) (text : Text) (failed : Option Failure) (r : Result T Error) (reply : ReplyValue) → OutputAt before sink was bs failed → list_all is_finished bs ≡ true → is_finished s1 ≡ true

@@ -45,7 +45,7 @@ pub data Fares : Type 0 where
 abbrev pub FallsBetween : List ℕ → List ℕ → Failure → Type 0
 FallsBetween from to f = IsFront from f.output × IsFront f.output to
 
--- a step can meet the writer's fault in a text of its own, unless its data broke off before a byte of that
+-- the writer's fault can be reported, unless the step's data broke off before the first byte of its text
 abbrev pub CanMeet : List ℕ → Option ErrorKind → Type 0
 CanMeet [] (Some kind) = ⊥
 CanMeet own broken = Unit {0}

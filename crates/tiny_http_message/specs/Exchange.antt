@@ -4,6 +4,7 @@ use Rattle.httpdate.specs.declared.date.HttpDate.{HttpDate}
 use Rattle.tiny_http_wire.specs.declared.device.Stop.{Stop}
 use Rattle.tiny_http_wire.specs.Device.{Feed}
 use Rattle.tiny_http_message.specs.declared.exchange.Head.{Head}
+use Rattle.tiny_http_message.specs.declared.body.Body.{Body}
 use Rattle.tiny_http_message.specs.declared.waiting.Waiting.{Waiting}
 use Rattle.tiny_http_message.specs.declared.exchange.Exchange.{Exchange}
 use Rattle.tiny_http_stream.specs.Source.{SourceState}
@@ -46,6 +47,10 @@ exchange_standing x standing = body_standing x.waiting.body standing
 -- so many bytes of its body were read, and the end or the fault was reported or not
 abbrev pub ExchangeReadsOn : Exchange → ℕ → Bool → Exchange → Type 0
 ExchangeReadsOn x n end_reported new = ReadsOn x.waiting.body n end_reported new.waiting.body
+
+-- nothing but how far its body was read has changed
+abbrev pub KeepsButBody : Exchange → Exchange → Type 0
+KeepsButBody old new = (body : Body) × (new ≡ record old { waiting = record old.waiting { body = body } })
 
 -- its body is given up
 abbrev pub GivesUpBody : {R : Type 0} → Exchange → SourceState R → SourceState R → Type 0

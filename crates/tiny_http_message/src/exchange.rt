@@ -109,7 +109,7 @@ pub enum HeadRead {
 }
 
 impl Exchange {
-    ghost use Rattle.tiny_http_message.specs.Exchange.{exchange_printing, exchange_of, exchange_head, exchange_left, exchange_stop, exchange_streams, exchange_standing, ExchangeReadsOn, GivesUpBody};
+    ghost use Rattle.tiny_http_message.specs.Exchange.{exchange_printing, exchange_of, exchange_head, exchange_left, exchange_stop, exchange_streams, exchange_standing, ExchangeReadsOn, GivesUpBody, KeepsButBody};
 
     /// What the request's head says.
     pub fn head(&self) -> &Head
@@ -143,6 +143,7 @@ impl Exchange {
         ensures at_end { OnErr result (exchange_stop self.old ≡ None → IsAtEnd source.new) }
         ensures broken { IfErr result (λ e. exchange_stop self.new ≡ Some (Stop.Fault (error_kind e))) }
         ensures reports_stop { IfSome (exchange_stop self.old) (λ stop. 0 < length buf.new → AnswersStop stop result × (exchange_stop self.new ≡ Some stop) × (source.new ≡ source.old)) }
+        ensures kept { KeepsButBody self.old self.new }
         ensures head { exchange_head self.new ≡ exchange_head self.old }
         ensures goes_on { GoesOn source.old.feed source.new.feed }
         // The source stands at the next head once the body is over.
@@ -151,8 +152,8 @@ impl Exchange {
         self.waiting.body.read(source, buf)
     }
 
-    /// Sends the answer to this request, printed for it and dated `now`, and flushes it. Whoever calls it keeps the order of
-    /// the answers, and gives the body up. On an outlet that has ended nothing is sent, the data aren't read, and the result
+    /// Sends the answer to this request, printed for it and dated `now`, and flushes it. The caller answers each request once,
+    /// in the order of the requests, and gives the body up. On an outlet that has ended nothing is sent, the data aren't read, and the result
     /// is `Ok`. The first fault is the error: the data's, or the writer's; then the outlet has ended, and what was held
     /// before a fault of the data is sent.
     pub fn respond_on<W: WriteDevice, D: ReadDevice + Drop>(
@@ -170,10 +171,11 @@ impl Exchange {
         ensures honest { IfErr result (λ e.
             IsHonest (output_of outlet.old) (output_of outlet.new) (answer_coding response.answer (exchange_printing self.now now)) response.answer.length (D.feed response.data_reader) (error_kind e)) }
         ensures ended { OnErr result (outlet_ended outlet.new ≡ true) }
-        ensures flushed { outlet_held outlet.old ≡ [] → outlet_held outlet.new ≡ [] }
-        ensures sent_on { SentOn outlet.old → SentOn outlet.new }
+        ensures flushed { outlet_held outlet.new ≡ [] }
+        ensures sent_on { SentOn outlet.new }
     {
         if outlet.is_ended() {
+            outlet.facts();
             return Ok(());
         }
         send(alloc, outlet, response, self.waiting.answer_form, now)
@@ -184,6 +186,7 @@ impl Exchange {
     pub fn give_up<R: ReadDevice>(&mut self, source: &mut Source<R>)
         ensures gives_up { GivesUpBody self.old source.old source.new }
         ensures stop { exchange_stop self.new ≡ Some Stop.End }
+        ensures kept { KeepsButBody self.old self.new }
         ensures head { exchange_head self.new ≡ exchange_head self.old }
         ensures goes_on { GoesOn source.old.feed source.new.feed }
     {

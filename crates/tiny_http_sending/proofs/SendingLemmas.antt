@@ -103,7 +103,7 @@ whole-flushed a b c was ended x (Ok y) text unended h p w z err ok some =
     let still : b.has_ended ≡ false = h.1.stays ∙ unended in
     (h.0, sent-none a b c text.bytes (taken-sent a b text.bytes unended h.1) (taken-sent b c [] still p), ok ∙ w still, p.stays ∙ still)
 whole-flushed a b c was ended x (Err e) text unended h p w z err ok some =
-    (err, z err, inr (λ none. absurd (some none), sent-lost a b c text.bytes (error_kind e) (taken-sent a b text.bytes unended h.1) (failed-lost b c [] (error_kind e) p)))
+    (err, z err, inr (some, sent-lost a b c text.bytes (error_kind e) (taken-sent a b text.bytes unended h.1) (failed-lost b c [] (error_kind e) p)))
 
 pub printed-flushed : {T U : Type 0} (o : Option Feed) (a b c : Sink) (was ended : Bool) (x : U) (r : Result T Error) (ans : Answer) (p : Printing) → p.upgrade ≡ None → (content : Feed) → o ≡ Some content → length content.bytes < 2 ^ 63
     → IfSome o (λ feed. length feed.bytes < 2 ^ 63 → PrintsAnswer a b (Ok x) ans feed p) → Puts b c r [] → a.has_ended ≡ false
@@ -137,7 +137,7 @@ broken-ended T a b c ended e text unended low (inl h) m z y unused =
 broken-ended T a b c ended e text unended low (inr h) m z y unused =
     let rose : (b.failures == a.failures) ≡ false = ap (λ k. k == a.failures) h.failures ∙ count-rose a.failures low in
     let P : Bool → Type 0 = λ t. MatchBool t (EndsQuietly b c) (DropsHeld b c) in
-    (z, y, inr (λ none. absurd (not-both (b.failures == a.failures) (eq-eqb b.failures a.failures (ap (λ (s : Sink). s.failures) (unused none))) rose), failed-abandoned a b c text.bytes (error_kind e) h (subst P rose m)))
+    (z, y, inr (λ none. not-both (b.failures == a.failures) (eq-eqb b.failures a.failures (ap (λ (s : Sink). s.failures) (unused none))) rose, failed-abandoned a b c text.bytes (error_kind e) h (subst P rose m)))
 
 pub printed-ended : (T : Type 0) (o : Option Feed) (a b c : Sink) (n : ℕ) (ended : Bool) (e : Error) (ans : Answer) (p : Printing) → (content : Feed) → o ≡ Some content → length content.bytes < 2 ^ 63
     → IfSome o (λ feed. length feed.bytes < 2 ^ 63 → PrintsAnswer {T = T} a b (Err e) ans feed p) → n ≡ a.failures → MatchBool (b.failures == n) (EndsQuietly b c) (DropsHeld b c)

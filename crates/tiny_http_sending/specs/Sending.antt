@@ -46,15 +46,15 @@ pub record DropsHeld (old new : Sink) : Type 0 where
   pub failures : new.failures ≡ old.failures
   pub last_kind : new.last_kind ≡ old.last_kind
 
--- A call that sends a text and flushes it: all was sent; or the text broke off, with its fault as the answer, and what there
--- is was sent, or lost; or the writer failed, which in a text without a byte is reported by the text's own fault. After a
--- fault the outlet has ended.
+-- A call that sends a text and flushes it. All was sent. Or the text broke off, and its fault is reported; what there is was
+-- sent, or the writer failed in it. Or the writer failed in a text that has a byte, and its fault is reported. After a fault
+-- the outlet has ended.
 abbrev pub SendsText : {T : Type 0} → Sink → Sink → Bool → Result T Error → Text → Type 0
 SendsText old new ended (Ok x) text = (text.ending ≡ Whole) × OutletTook old new text.bytes × (ended ≡ false) × (new.has_ended ≡ false)
 SendsText old new ended (Err e) text =
     (ended ≡ true) × (new.has_ended ≡ true)
     × (((text.ending ≡ Broken (error_kind e)) × (OutletTook old new text.bytes ⊎ ((kind : ErrorKind) × OutletFailed old new text.bytes kind)))
-    ⊎ ((text.bytes ≡ [] → text.ending ≡ Broken (error_kind e)) × OutletFailed old new text.bytes (error_kind e)))
+    ⊎ ((text.bytes ≡ [] → ⊥) × OutletFailed old new text.bytes (error_kind e)))
 
 -- a call that sends an answer with this data
 abbrev pub Sends : {T : Type 0} → Sink → Sink → Bool → Result T Error → Answer → Feed → Printing → Type 0

@@ -1,5 +1,5 @@
 //! Answers to requests, and how they are printed.
-ghost use Rattle.std.specs.Prelude.{◌≡◌, Option, Some, None, IfSome, if◌then◌else◌, ◌∷◌, IfOk, IfErr, OnOk, OnErr, IsTrue, vec_len, string_len, string_bytes, [], ◌<◌, ◌^◌, ◌++◌, length};
+ghost use Rattle.std.specs.Prelude.{◌≡◌, true, Option, Some, None, IfSome, if◌then◌else◌, ◌∷◌, IfOk, IfErr, OnOk, OnErr, IsTrue, vec_len, string_len, string_bytes, [], ◌<◌, ◌^◌, ◌++◌, length};
 ghost use Rattle.std.specs.Option.{option_copied};
 ghost use Rattle.tiny_http_wire.specs.AddHeader.{add_header, is_put_last, is_some_put_last, with_headers, first_answer};
 ghost use Rattle.tiny_http_wire.specs.ResponseHeaders.{IsResponseHeaders};
@@ -424,6 +424,7 @@ fn print_as_it_is<D: ReadDevice, W: WriteDevice>(
         Prints (W.sink writer.old) (W.sink writer.new) result
         (prepend_text (top_text top.now None (FramingHeader.ContentLength n))
         (if withheld then whole [] else identity_body n feed))) }
+    ensures unread { withheld ≡ true → source.new ≡ source.old }
     ensures uses { CountsFaults (W.sink writer.old) (W.sink writer.new) result }
 {
     put_head(writer, top, None, FramingHeader::ContentLength(n))?;
@@ -500,6 +501,7 @@ fn print_in_chunks<D: ReadDevice, W: WriteDevice>(
         Prints (W.sink writer.old) (W.sink writer.new) result
         (prepend_text (top_text top.now None FramingHeader.TransferEncoding)
         (body_unless_withheld withheld (chunked_body feed)))) }
+    ensures unread { withheld ≡ true → source.new ≡ source.old }
     ensures uses { CountsFaults (W.sink writer.old) (W.sink writer.new) result }
 {
     put_head(writer, top, None, FramingHeader::TransferEncoding)?;
