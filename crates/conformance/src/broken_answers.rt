@@ -1,6 +1,7 @@
 //! Answers whose data fail: the output ends with what was sent of them.
+use crate::exchanges::date;
 use crate::runs::Deed::{Ask, Data, Drop, Text};
-use crate::runs::{AMPLE, Case, DATED, Deed, SECONDS, assert_case, describe, output_of};
+use crate::runs::{AMPLE, Case, DATED, Deed, assert_case, describe, output_of};
 use crate::same::assert_same;
 use httpdate::HttpDate;
 use std::alloc::Global;
@@ -107,44 +108,42 @@ fn asked(alloc: Global, now: HttpDate) -> Result<Connection<Canned, Budget>, Fai
     Ok(connection)
 }
 
-// The replies to three answers, by these data in turn.
-fn answered(
+// The reply to an answer by these data.
+fn reply_to(
     alloc: Global,
     now: HttpDate,
     connection: &mut Connection<Canned, Budget>,
-    data: [&mut Watched; 3],
-) -> Result<String, Fail> {
-    let [first, second, third] = data;
-    let replies = [
-        connection.respond(alloc, now, 0, lent(alloc, first)),
-        connection.respond(alloc, now, 1, lent(alloc, second)),
-        connection.respond(alloc, now, 2, lent(alloc, third)),
-    ];
-    Ok(describe(alloc, &replies)?)
+    number: u64,
+    data: &mut Watched,
+) -> Reply {
+    connection.respond(alloc, now, number, lent(alloc, data))
 }
 
-const WHOLE: &str =
-    "HTTP/1.1 200 OK\r\nServer: tiny-http (Rust)\r\nDate: Wed, 04 May 1983 11:17:00 GMT\r\nTransfer-Encoding: chunked\r\n\r\n5\r\nhello\r\n0\r\n\r\n";
-
-const BROKEN: &str =
-    "HTTP/1.1 200 OK\r\nServer: tiny-http (Rust)\r\nDate: Wed, 04 May 1983 11:17:00 GMT\r\nTransfer-Encoding: chunked\r\n\r\n";
-
-// A whole answer, one whose data fail before a full chunk, and one that isn't sent.
-#[test]
-fn data_are_not_read_after_a_broken_answer(rt: HostRuntime) -> Result<(), Fail> {
-    let alloc = rt.alloc();
-    let now = HttpDate::from_unix_secs(SECONDS)?;
-    let mut connection = asked(alloc, now)?;
+// The replies and the output of a whole answer, one whose data fail before a full chunk, and one by these data.
+fn talk(alloc: Global, unread: &mut Watched) -> Result<(String, Vec<u8>), Fail> {
+    let now = date()?;
     let mut whole = Watched::new(alloc, b"hello", None)?;
     let mut broken = Watched::new(alloc, b"hello", Some(ErrorKind::Other))?;
-    let mut unread = Watched::new(alloc, b"hello", None)?;
-    let data = [&mut whole, &mut broken, &mut unread];
-    let replies = answered(alloc, now, &mut connection, data)?;
-    assert_same(&rt, replies.as_str(), "done; fault Other; done");
-    assert_same(&rt, unread.reads, 0);
+    let mut connection = asked(alloc, now)?;
+    let replies = [
+        reply_to(alloc, now, &mut connection, 0, &mut whole),
+        reply_to(alloc, now, &mut connection, 1, &mut broken),
+        reply_to(alloc, now, &mut connection, 2, unread),
+    ];
     let (_source, outlet) = connection.into_parts();
-    let wanted = format!(in alloc; "{WHOLE}{BROKEN}")?;
-    let output = output_of(alloc, outlet)?;
-    assert_same(&rt, str::from_utf8(&output)?, wanted.as_str());
+    Ok((describe(alloc, &replies)?, output_of(alloc, outlet)?))
+}
+
+// A whole answer, and the head of one that broke before its first chunk.
+const WHOLE_AND_BROKEN: &str =
+    "HTTP/1.1 200 OK\r\nServer: tiny-http (Rust)\r\nDate: Wed, 04 May 1983 11:17:00 GMT\r\nTransfer-Encoding: chunked\r\n\r\n5\r\nhello\r\n0\r\n\r\nHTTP/1.1 200 OK\r\nServer: tiny-http (Rust)\r\nDate: Wed, 04 May 1983 11:17:00 GMT\r\nTransfer-Encoding: chunked\r\n\r\n";
+
+#[test]
+fn data_are_not_read_after_a_broken_answer(rt: HostRuntime) -> Result<(), Fail> {
+    let mut unread = Watched::new(rt.alloc(), b"hello", None)?;
+    let (replies, output) = talk(rt.alloc(), &mut unread)?;
+    assert_same(&rt, replies.as_str(), "done; fault Other; done");
+    assert_same(&rt, str::from_utf8(&output)?, WHOLE_AND_BROKEN);
+    assert_same(&rt, unread.reads, 0);
     Ok(())
 }

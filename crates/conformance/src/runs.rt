@@ -26,8 +26,7 @@ pub(crate) const DATED: &str =
 pub(crate) const TEXT: &str =
     "Server: tiny-http (Rust)\r\nDate: Wed, 04 May 1983 11:17:00 GMT\r\nContent-Type: text/plain; charset=UTF-8\r\n";
 
-/// The date of each run, in seconds since 1970.
-pub(crate) const SECONDS: u64 = 420_895_020;
+const SECONDS: u64 = 420_895_020;
 
 /// More bytes than any run writes.
 pub(crate) const AMPLE: usize = 1_000_000;
