@@ -176,3 +176,22 @@ fn a_writer_that_fails_ends_the_outlet(rt: HostRuntime) -> Result<(), Fail> {
     assert_same(&rt, output_of(alloc, outlet)?.as_slice(), b"HTTP/1.1 2");
     Ok(())
 }
+
+// What the data have before they fail, and the fault that is reported where the writer fails after ten bytes: the one that is
+// met first. Five bytes and the head are still held as the data fail.
+const TWO_FAULTS: &[(usize, ErrorKind)] = &[(5, ErrorKind::Other), (20_000, ErrorKind::TimedOut)];
+
+#[test]
+fn the_first_of_two_faults_is_reported(rt: HostRuntime) -> Result<(), Fail> {
+    let alloc = rt.alloc();
+    let exchange = exchange_of(&rt, alloc, ASKS_FOR_CHUNKS)?;
+    for (length, kind) in TWO_FAULTS {
+        let mut bytes = Vec::new(alloc);
+        bytes.resize(*length, b'x')?;
+        let mut outlet = outlet_of(alloc, 10);
+        let mut data = Watched::new(alloc, &bytes, Some(ErrorKind::Other))?;
+        let fault = fault_of(alloc, &exchange, &mut outlet, lent(alloc, &mut data))?;
+        assert_same(&rt, fault, Some(*kind));
+    }
+    Ok(())
+}
