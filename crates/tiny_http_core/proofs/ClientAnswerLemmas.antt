@@ -243,7 +243,6 @@ client-body-one (OfLength n) bytes body rest h =
     let front : take n bytes ≡ body = rw (h.0, sym h.1) (take-append_seam body rest) in
     let behind : drop n bytes ≡ rest = rw (h.0, sym h.1) (drop-append_seam body rest) in
     rw (le-ltb (length bytes) n enough, front, behind) refl
-
 client-body-one OfUnknownLength bytes body rest h = elim h [ ]
 
 pub body-fault : (e : Extent) (bytes : List ℕ) (t : Lack) → LacksBody e bytes t → answer_body_read e bytes ≡ Err t

@@ -15,7 +15,7 @@ use std::fmt;
 use std::marker::Model;
 use thiserror::Error;
 use tiny_http_text::ascii::{AsciiStr, AsciiString, FromAsciiError};
-use tiny_http_text::bytes::{cut, has_no_blank, is, are_ascii, trim};
+use tiny_http_text::bytes::{are_ascii, cut, has_no_blank, is, trim};
 use tiny_http_text::copies::owned;
 use tiny_http_text::number::Numeral;
 

@@ -4,10 +4,10 @@
 #![tactic(auto)]
 
 mod add_header;
+pub mod answer_form;
 mod answer_head;
 pub mod chunked;
 pub mod laws;
-pub mod answer_form;
 pub mod response;
 
 pub use tiny_http_coding::coding;
