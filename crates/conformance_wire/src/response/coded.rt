@@ -1,7 +1,7 @@
 //! The coding of an answer by the request's `TE`, by length and threshold (RFC 9112, sections 6.1 and 7.1), as it is printed.
 use super::data::{Data, canned};
 use super::{PLAIN, Setting, V1_0, V1_1, assert_printed, print, print_into, text};
-use crate::chunks::{Sized, body, chunks, data};
+use crate::chunks::{SizedChunk, body, chunks, data};
 use crate::encoder::FailsOnce;
 use crate::same::assert_same;
 use std::alloc::Global;
@@ -77,7 +77,7 @@ fn framed(
     alloc: Global,
     front: &str,
     bytes: &[u8],
-    sizes: Option<&[Sized]>,
+    sizes: Option<&[SizedChunk]>,
 ) -> Result<Vec<u8>, Fail> {
     let Some(sizes) = sizes else {
         let count = bytes.len();
@@ -95,7 +95,7 @@ fn joined(alloc: Global, head: &str, rest: &[u8]) -> Result<Vec<u8>, Fail> {
 }
 
 // The length of a text, the threshold, and the chunks that are sent if any are.
-const LONG_TEXTS: &[(usize, usize, Option<&[Sized]>)] = &[
+const LONG_TEXTS: &[(usize, usize, Option<&[SizedChunk]>)] = &[
     (32767, 32768, None),
     (32768, 32768, Some(&[("2000", 8192); 4])),
     (32768, 32769, None),
@@ -218,7 +218,7 @@ const OLDER_DATA: &str =
     "HTTP/1.0 200 OK\r\nServer: tiny-http (Rust)\r\nDate: Wed, 04 May 1983 11:17:00 GMT\r\n";
 
 // The version of a request, a head's front, and the chunks that data of unknown length are sent in if any are.
-const LONG_DATA: &[(HTTPVersion, &str, Option<&[Sized]>)] = &[
+const LONG_DATA: &[(HTTPVersion, &str, Option<&[SizedChunk]>)] = &[
     (V1_1, DATA, Some(&[("2000", 8192), ("1", 1)])),
     (V1_0, OLDER_DATA, None),
 ];
