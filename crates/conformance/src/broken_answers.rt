@@ -141,6 +141,28 @@ fn talk(alloc: Global, unread: &mut Watched) -> Result<(String, Vec<u8>), Fail> 
 const WHOLE_AND_BROKEN: &str =
     "HTTP/1.1 200 OK\r\nServer: tiny-http (Rust)\r\nDate: Wed, 04 May 1983 11:17:00 GMT\r\nTransfer-Encoding: chunked\r\n\r\n5\r\nhello\r\n0\r\n\r\nHTTP/1.1 200 OK\r\nServer: tiny-http (Rust)\r\nDate: Wed, 04 May 1983 11:17:00 GMT\r\nTransfer-Encoding: chunked\r\n\r\n";
 
+// Answers to numbers whose turn has not come, and to numbers that no request has.
+#[test]
+fn data_of_an_answer_that_is_not_sent_are_not_read(rt: HostRuntime) -> Result<(), Fail> {
+    let (alloc, now) = (rt.alloc(), date()?);
+    let mut connection = asked(alloc, now)?;
+    let mut unread = Watched::new(alloc, b"hello", None)?;
+    let replies = [
+        reply_to(alloc, now, &mut connection, 1, &mut unread),
+        reply_to(alloc, now, &mut connection, 2, &mut unread),
+        reply_to(alloc, now, &mut connection, 3, &mut unread),
+        reply_to(alloc, now, &mut connection, u64::MAX, &mut unread),
+    ];
+    let described = describe(alloc, &replies)?;
+    assert_same(
+        &rt,
+        described.as_str(),
+        "not yet; not yet; no such; no such",
+    );
+    assert_same(&rt, unread.reads, 0);
+    Ok(())
+}
+
 #[test]
 fn data_are_not_read_after_a_broken_answer(rt: HostRuntime) -> Result<(), Fail> {
     let mut unread = Watched::new(rt.alloc(), b"hello", None)?;

@@ -1,7 +1,7 @@
 -- Greetings: each request that is handed out is answered at once, by its path.
 use Rattle.std.specs.Prelude.{◌≡◌, ℕ, List, [], ◌∷◌, ◌++◌, map, length, ◌-◌, ◌^◌, Option, Some, None, Bool, true, false}
 use Rattle.httpdate.specs.declared.date.HttpDate.{HttpDate}
-use Rattle.tiny_http_wire.specs.Device.{Feed, Sink, ending}
+use Rattle.tiny_http_wire.specs.Device.{Feed, Sink, whole_feed}
 use Rattle.tiny_http_wire.specs.declared.device.Budget.{Budget}
 use Rattle.tiny_http_wire.specs.Budget.{budget_sink}
 use Rattle.tiny_http_core.specs.declared.exchange.Head.{Head}
@@ -68,4 +68,4 @@ nothing_taken = record { taken = Some []; sent = []; failures = 0; last_kind = N
 -- The same with a client that sends these bytes and ends, over a writer in memory that took nothing before.
 pub record GreetsClient (client : List ℕ) (now : HttpDate) (writer : Budget) (held : List ℕ) (ended : Bool) (last : Option Reply) : Type 0 where
   pub unread : Option Feed
-  pub greets : Greets (ending client) nothing_taken now (budget_sink writer) held ended unread last
+  pub greets : Greets (whole_feed client) nothing_taken now (budget_sink writer) held ended unread last

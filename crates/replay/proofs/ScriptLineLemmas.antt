@@ -43,23 +43,6 @@ only_now text rest e (Read number count, h) = absurd (let first : ◌≡◌ {A =
 only_now text rest e (Respond number status content, h) = absurd (no_respond text rest h.0 e h.1)
 only_now text rest e (Drop number, h) = absurd (let first : ◌≡◌ {A = ℕ} 110 100 = ap (λ bs. get_or bs 0 0) (sym e ∙ h.1) in omega arith)
 
--- the digits write some number of 64 bits
-abbrev pub IsNumber : List ℕ → Type 0
-IsNumber digits = (number : ℕ) × WritesNumber digits number × (number < 2 ^ 64)
-
-no_respond_drop : (text rest words : List ℕ) → text ≡ codes "drop " ++ rest → text ≡ codes "respond " ++ words → ⊥
-no_respond_drop text rest words e h = let first : ◌≡◌ {A = ℕ} 100 114 = ap (λ bs. get_or bs 0 0) (sym e ∙ h) in omega arith
-
--- a line that begins by `drop` says a number, if it says anything
-pub only_drop : (text rest : List ℕ) → text ≡ codes "drop " ++ rest → SaysSome text → IsNumber rest
-only_drop text rest e (Blank, inl h) = absurd (let first : ◌≡◌ {A = ℕ} 100 0 = ap (λ bs. get_or bs 0 0) (sym e ∙ h) in omega arith)
-only_drop text rest e (Blank, inr h) = absurd (let first : ◌≡◌ {A = ℕ} 100 35 = ap (λ bs. get_or bs 0 0) (sym e ∙ h.1) in omega arith)
-only_drop text rest e (Now date, h) = absurd (let first : ◌≡◌ {A = ℕ} 100 110 = ap (λ bs. get_or bs 0 0) (sym e ∙ h.1) in omega arith)
-only_drop text rest e (Ask, h) = absurd (let first : ◌≡◌ {A = ℕ} 100 97 = ap (λ bs. get_or bs 0 0) (sym e ∙ h) in omega arith)
-only_drop text rest e (Read number count, h) = absurd (let first : ◌≡◌ {A = ℕ} 100 114 = ap (λ bs. get_or bs 0 0) (sym e ∙ h.1) in omega arith)
-only_drop text rest e (Respond number status content, h) = absurd (no_respond_drop text rest h.0 e h.1)
-only_drop text rest e (Drop number, h) = let same : rest ≡ h.0 = ap (drop 5) (sym e ∙ h.1) in (number, rw same h.2, h.3)
-
 -- the words are some read
 abbrev pub IsReadWords : List ℕ → Type 0
 IsReadWords words = (number : ℕ) × (count : ℕ) × WritesRead words number count

@@ -6,7 +6,7 @@ use Rattle.std.specs.declared.io.ErrorKind.TheVariants.{Other}
 use Rattle.httpdate.specs.declared.date.HttpDate.{HttpDate}
 use Rattle.httpdate.specs.Date.{unix_secs}
 use Rattle.tiny_http_wire.specs.Answer.{ResponseState, text_plain}
-use Rattle.tiny_http_wire.specs.Device.{Feed, Sink, ending}
+use Rattle.tiny_http_wire.specs.Device.{Feed, Sink, whole_feed}
 use Rattle.tiny_http_wire.specs.declared.device.Stop.{Stop}
 use Rattle.tiny_http_wire.specs.declared.device.Stop.TheVariants.{End, Fault}
 use Rattle.tiny_http_core.specs.ResponseValue.{ResponseValue, response_of}
@@ -36,7 +36,7 @@ IsFirstBadLine lines n =
 
 -- an answer without headers, whose data are so many bytes `x` and this stop, of this length, if it is known
 abbrev pub xs_response : ℕ → ℕ → Stop → Option ℕ → ResponseValue
-xs_response status count stop length = record { answer = record { status = status; headers = []; length = length; threshold = 32768 }; content = xs count stop }
+xs_response status count stop length = record { answer = record { status = status; headers = []; data_length = length; threshold = 32768 }; content = xs count stop }
 
 -- the answer by a code with this content
 abbrev pub response_with : ℕ → Content → ResponseValue
@@ -103,7 +103,7 @@ pub record HasRun (client : List ℕ) (steps : List TimedValue) (replies : List 
   pub fresh : IsFresh before
   pub ended : Bool
   pub unread : Option Feed
-  pub conversation : IsConversation (ending client) before steps replies after held ended unread
+  pub conversation : IsConversation (whole_feed client) before steps replies after held ended unread
   pub no_fault : after.failures ≡ before.failures
   pub took : after.taken ≡ Some taken
   pub output_is : output ≡ taken ++ held

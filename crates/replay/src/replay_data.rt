@@ -1,6 +1,6 @@
 //! The data of a script's answers.
 ghost use Rattle.std.specs.Prelude.{◌≡◌, ◌<◌, ◌^◌, min, length, take, replicate, string_bytes};
-ghost use Rattle.tiny_http_wire.specs.Device.{ending};
+ghost use Rattle.tiny_http_wire.specs.Device.{whole_feed};
 
 use std::io;
 use std::io::Cursor;
@@ -41,7 +41,7 @@ impl ReplayData {
 
     /// The bytes of a text.
     pub(crate) fn from_text(text: String) -> ReplayData
-        ensures { data_feed result ≡ ending (string_bytes text) }
+        ensures { data_feed result ≡ whole_feed (string_bytes text) }
     {
         ReplayData::Bytes(Cursor::new(text.into_bytes()))
     }

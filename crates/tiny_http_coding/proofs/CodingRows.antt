@@ -6,7 +6,12 @@ use Rattle.tiny_http_head.specs.Heads.{version}
 use Rattle.tiny_http_text.specs.QualityReading.{short_number, thousandths, quality, parameter_quality, first_quality, element, qualities}
 use Rattle.tiny_http_coding.specs.declared.coding.Coding.{Coding}
 use Rattle.tiny_http_coding.specs.declared.coding.Coding.TheVariants.{Identity, Chunked}
-use Rattle.tiny_http_coding.specs.Coding.{coding_of, coding_asked}
+use Rattle.tiny_http_head.specs.declared.common.HTTPVersion.{HTTPVersion}
+use Rattle.tiny_http_coding.specs.Coding.{coding_asked, chosen_coding}
+
+-- the coding of an answer, by the version and the headers of the request
+abbrev coding_of : HTTPVersion → List Header → ℕ → ℕ → Option ℕ → Coding
+coding_of version request_headers status threshold length = chosen_coding version (coding_asked request_headers) status threshold length
 
 abbrev te : List ℕ → Header
 te value = record { field = codes "TE"; value = value }

@@ -53,7 +53,3 @@ takes_identity_alone version status = is_up_to_1_0 version || (nat_lt status 200
 abbrev pub chosen_coding : HTTPVersion → Option Coding → ℕ → ℕ → Option ℕ → Coding
 chosen_coding version asked status threshold length =
     if takes_identity_alone version status then Identity else coding_by asked threshold length
-
--- the same, by the version and the headers of the request
-abbrev pub coding_of : HTTPVersion → List Header → ℕ → ℕ → Option ℕ → Coding
-coding_of version request_headers status threshold length = chosen_coding version (coding_asked request_headers) status threshold length

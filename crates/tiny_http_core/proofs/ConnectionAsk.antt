@@ -9,14 +9,14 @@ use Rattle.std.specs.Option.{option_map}
 use Rattle.httpdate.specs.declared.date.HttpDate.{HttpDate}
 use Rattle.tiny_http_wire.specs.declared.common.HTTPVersion.{HTTPVersion}
 use Rattle.tiny_http_wire.specs.declared.device.Stop.{Stop}
-use Rattle.tiny_http_wire.specs.Device.{Feed, Sink, ending}
+use Rattle.tiny_http_wire.specs.Device.{Feed, Sink, whole_feed}
 use Rattle.tiny_http_wire.specs.declared.device.Stop.TheVariants.{End}
 use Rattle.tiny_http_wire.specs.Answer.{text_of}
 use Rattle.tiny_http_message.specs.declared.exchange.Exchange.{Exchange}
 use Rattle.tiny_http_message.specs.declared.body.Body.{Body}
 use Rattle.tiny_http_message.specs.declared.body.Body.TheVariants as body
 use Rattle.tiny_http_message.specs.declared.exchange.HeadRead.TheVariants as read
-use Rattle.tiny_http_wire.specs.declared.answer_form.AnswerForm.{AnswerForm}
+use Rattle.tiny_http_wire.specs.declared.answer_context.AnswerContext.{AnswerContext}
 use Rattle.tiny_http_wire.specs.declared.coding.Coding.{Coding}
 use Rattle.tiny_http_wire.specs.Coding.{coding_asked}
 use Rattle.tiny_http_message.specs.declared.waiting.Waiting.{Waiting}
@@ -178,9 +178,9 @@ kept-handed date x p content behind k left unowed = record {
   end_reported = false;
   is = refl;
   unowed = unowed;
-  answer_form =
-      let F : HTTPVersion → Option Coding → Bool → AnswerForm = λ v a b. record { version = v; asked_coding = a; no_body = b } in
-      ap (λ v. F v x.waiting.answer_form.asked_coding x.waiting.answer_form.no_body) k.answer.version ∙ ap (λ a. F x.head.version a x.waiting.answer_form.no_body) k.answer.asked_coding ∙ ap (F x.head.version (coding_asked x.head.headers.items)) k.answer.no_body;
+  answer_context =
+      let F : HTTPVersion → Option Coding → Bool → AnswerContext = λ v a b. record { version = v; asked_coding = a; no_body = b } in
+      ap (λ v. F v x.waiting.answer_context.asked_coding x.waiting.answer_context.no_body) k.answer.version ∙ ap (λ a. F x.head.version a x.waiting.answer_context.no_body) k.answer.asked_coding ∙ ap (F x.head.version (coding_asked x.head.headers.items)) k.answer.no_body;
   text = k.answer.text ∙ dropped-text date (request_of x.head content) 0 false;
   fits = k.body;
   settled = settled-any x.waiting.body p content behind left;
@@ -192,7 +192,7 @@ no-items stop (x ∷ xs) h = elim h [ ]
 
 -- no head stands in front of no byte
 pub pipeline-empty : Pipeline (Some []) End []
-pipeline-empty = feed-pipeline (ending [])
+pipeline-empty = feed-pipeline (whole_feed [])
 
 handed-place : (last : Bool) (stop : Stop) (next : Place) (more : List Item) → Pipeline (place_after last next) stop more → PlaceAt last (Some (place_feed stop next)) more
 handed-place true stop next more items = no-items stop more items

@@ -6,7 +6,7 @@ use Rattle.std.proofs.lemmas.Option.{slice_get-get_or}
 use Rattle.tiny_http_message.specs.declared.waiting.Waiting.{Waiting}
 use Rattle.tiny_http_core.specs.Slots.{Slot, is_finished}
 use Rattle.tiny_http_turns.specs.Turns.{Mark, Open, Held, Left, Finished, AreInShape, AreOpenOrLeft, first_unfinished}
-use Rattle.tiny_http_core.specs.Pending.{with_left_finished, waiting_answer_form}
+use Rattle.tiny_http_core.specs.Pending.{with_left_finished, waiting_answer_context}
 use Rattle.tiny_http_core.specs.Connection.{IsWaiting, IsKept, AreKept}
 
 -- a place of a list
@@ -150,7 +150,7 @@ kept-finished s Held h = absurd h
 kept-finished s (Left text) h = h.done.finished
 kept-finished s Finished h = h.finished
 
-pub none-waits : (slots : List Slot) (marks : List Mark) (requests : List (Option Waiting)) (n : ℕ) → AreKept slots marks requests → waiting_answer_form (slice_get requests n) ≡ None → (x : Slot) → slice_get slots n ≡ Some x → is_finished x ≡ true
+pub none-waits : (slots : List Slot) (marks : List Mark) (requests : List (Option Waiting)) (n : ℕ) → AreKept slots marks requests → waiting_answer_context (slice_get requests n) ≡ None → (x : Slot) → slice_get slots n ≡ Some x → is_finished x ≡ true
 none-waits [] ms us n h none x e = cc
 none-waits (s ∷ ss) [] us n h none x e = absurd h
 none-waits (s ∷ ss) (m ∷ ms) [] n h none x e = absurd h

@@ -251,7 +251,7 @@ still-waiting s w h c old new n reply k = record {
   end_reported = end_now_reported h.request h.given h.end_reported n;
   is = refl;
   unowed = h.unowed;
-  answer_form = h.answer_form;
+  answer_context = h.answer_context;
   text = h.text;
   fits = k.fits;
   settled = settled-any c new (rest_of h.request (now_given h.request h.given n)) k.x.behind (k.is ∙ (let R : Feed → Option Remaining = λ f. Some (record { body = f; behind = k.x.behind }) in ap R k.rest));

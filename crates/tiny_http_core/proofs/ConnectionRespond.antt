@@ -9,21 +9,21 @@ use Rattle.std.specs.declared.io.ErrorKind.{ErrorKind}
 use Rattle.httpdate.specs.declared.date.HttpDate.{HttpDate}
 use Rattle.tiny_http_wire.specs.Device.{Feed, Sink}
 use Rattle.tiny_http_encoding.specs.Text.{Text, Ending, Whole, Broken}
-use Rattle.tiny_http_wire.specs.declared.answer_form.AnswerForm.{AnswerForm}
+use Rattle.tiny_http_wire.specs.declared.answer_context.AnswerContext.{AnswerContext}
 use Rattle.tiny_http_message.specs.declared.waiting.Waiting.{Waiting}
 use Rattle.tiny_http_message.specs.Pipeline.{Item, Asks, Refuses, Request}
 use Rattle.tiny_http_sending.specs.ResponseValue.{ResponseValue}
-use Rattle.tiny_http_sending.specs.Sending.{IsGathered}
+use Rattle.tiny_http_wire.specs.Answer.{IsGathered}
 use Rattle.tiny_http_core.specs.Slots.{Slot, Stage, Unanswered, Answered as AnsweredBy, ByServer, Raw, Upgraded, is_stage_finished, is_finished, is_broken, is_slot_broken, segment, joined, is_output_broken, last_slot, turn_has_come, to_request, text_if}
-use Rattle.tiny_http_core.specs.Steps.{StepValue, outcome, Respond, ReplyValue, Done, NoSuch, NotYet, WriterUse, Reported, Outcome, Reached, unchanged, changes, finished_as, accepts_step, fault_in, fault_of_answer, at_item, at_slot, at_number}
+use Rattle.tiny_http_core.specs.Steps.{StepValue, outcome, Respond, ReplyValue, Done, NoSuch, NotYet, WriterUse, Reported, Outcome, Reached, unchanged, changes, finished_as, accepts_step, fault_in, fault_reply, at_item, at_slot, at_number}
 use Rattle.tiny_http_core.specs.Conversation.{Failure, State, has_output_ended, finished_front, flushed_after, CanMeet, WriterPart, HasOutcome, GathersAt, MayLack}
 use Rattle.tiny_http_core.proofs.ConversationWriting.{FailsBetween, FailsReported, FailsBehind, broken_reply, used, WritesIf, IsAllFlushed, reported, still-flushed}
 use Rattle.tiny_http_sending.specs.ResponseValue.{printing_in}
 use Rattle.tiny_http_core.specs.Seen.{Answers, reply_to}
 use Rattle.tiny_http_sending.specs.Sending.{CanSend, OutletTook, OutletFailed, IsFlushed, SendsText, Sends, SendsUnlessEnded}
 use Rattle.tiny_http_turns.specs.Turns.{Mark, Open, Held, Finished, AreInShape, first_unfinished}
-use Rattle.tiny_http_core.specs.Pending.{left_text, with_left_finished, begins_left, SendsLeft, FinishesFront, waiting_answer_form}
-use Rattle.tiny_http_core.specs.Connection.{Kept, answer_form_of, open_slot, IsWaiting, AreKept, OutputAt, InputStands, Stands}
+use Rattle.tiny_http_core.specs.Pending.{left_text, with_left_finished, begins_left, SendsLeft, FinishesFront, waiting_answer_context}
+use Rattle.tiny_http_core.specs.Connection.{Kept, answer_context_of, open_slot, IsWaiting, AreKept, OutputAt, InputStands, Stands}
 use Rattle.tiny_http_stream.specs.Source.{SourceState}
 use Rattle.tiny_http_message.specs.Body.{GivesUp}
 use Rattle.tiny_http_core.proofs.ConnectionBody.{IsInput, with_reader, next-same, reader-given_up}
@@ -57,16 +57,16 @@ respond-nothing-at date old n step free h = at (slice_get old.slots n) refl
     at (Some x) e = of x x.item (h x e)
 
 -- no request of this number takes the step
-pub no-such : (client : Feed) (before : Sink) (k : Kept) (s : State) (date : HttpDate) (n : ℕ) (step : StepValue) → outcome true date s.reached step ≡ at_number true date s.reached n step → TakesNone step → Stands client before k s → waiting_answer_form (slice_get k.requests n) ≡ None
+pub no-such : (client : Feed) (before : Sink) (k : Kept) (s : State) (date : HttpDate) (n : ℕ) (step : StepValue) → outcome true date s.reached step ≡ at_number true date s.reached n step → TakesNone step → Stands client before k s → waiting_answer_context (slice_get k.requests n) ≡ None
     → StepIsAnswered client before k s date step NoSuch
 no-such client before k s date n step at free st none =
     step-unchanged client before k s date step NoSuch st (at ∙ respond-nothing-at date s.reached n step free (none-waits s.reached.slots k.marks k.requests n st.numbers none))
 
 -- a number that waits is kept
-pub answer-form-some : (o : Option (Option Waiting)) (answer_form : AnswerForm) → waiting_answer_form o ≡ Some answer_form → (w : Waiting) × (o ≡ Some (Some w)) × (w.answer_form ≡ answer_form)
-answer-form-some None answer_form e = cc
-answer-form-some (Some None) answer_form e = cc
-answer-form-some (Some (Some w)) answer_form e = (w, refl, (let same : w.answer_form ≡ answer_form = cc in same))
+pub answer-form-some : (o : Option (Option Waiting)) (answer_context : AnswerContext) → waiting_answer_context o ≡ Some answer_context → (w : Waiting) × (o ≡ Some (Some w)) × (w.answer_context ≡ answer_context)
+answer-form-some None answer_context e = cc
+answer-form-some (Some None) answer_context e = cc
+answer-form-some (Some (Some w)) answer_context e = (w, refl, (let same : w.answer_context ≡ answer_context = cc in same))
 
 -- the place of such a number, in the slots
 pub record SlotAt (slots bs cs : List Slot) (s0 : Slot) (n : ℕ) : Type 0 where
@@ -109,24 +109,24 @@ at-turn : (date asked : HttpDate) (old : Reached) (n : ℕ) (v : ResponseValue) 
 at-turn date asked old n v r given end_reported found e t = ap (at_slot found date old n (Respond n v)) e ∙ rw t refl
 
 -- how the response is printed
-printed-for : (r : Request) (answer_form : AnswerForm) (date : HttpDate) → answer_form ≡ answer_form_of r → printing_in answer_form date ≡ to_request r date
-printed-for r answer_form date e = ap (λ x. printing_in x date) e
+printed-for : (r : Request) (answer_context : AnswerContext) (date : HttpDate) → answer_context ≡ answer_context_of r → printing_in answer_context date ≡ to_request r date
+printed-for r answer_context date e = ap (λ x. printing_in x date) e
 
 -- what becomes of the response's own text, with the step's reply: it was sent, or broke off, or the writer failed in it
 abbrev pub OwnWrites : Bool → Option Failure → List ℕ → Text → ReplyValue → Option Failure → Type 0
 OwnWrites was failed known text reply failure =
     MatchBool was ((reply ≡ Done) × (failure ≡ failed))
-    (((reply ≡ broken_reply fault_of_answer Done (fault_in text.ending)) × (failure ≡ None))
-    ⊎ ((CanMeet text.bytes (fault_in text.ending) × FailsReported fault_of_answer reply known (known ++ text.bytes) failure)
-    ⊎ ((kind : ErrorKind) × (text.ending ≡ Broken kind) × (reply ≡ broken_reply fault_of_answer Done (fault_in text.ending)) × FailsBetween known (known ++ text.bytes) failure)))
+    (((reply ≡ broken_reply fault_reply Done (fault_in text.ending)) × (failure ≡ None))
+    ⊎ ((CanMeet text.bytes (fault_in text.ending) × FailsReported fault_reply reply known (known ++ text.bytes) failure)
+    ⊎ ((kind : ErrorKind) × (text.ending ≡ Broken kind) × (reply ≡ broken_reply fault_reply Done (fault_in text.ending)) × FailsBetween known (known ++ text.bytes) failure)))
 
 pub record OwnSaid (before mid : Sink) (was ended : Bool) (bs : List Slot) (s1 : Slot) (text : Text) (failed : Option Failure) (reply : ReplyValue) : Type 0 where
   pub failure : Option Failure
   pub output : OutputAt before mid ended (bs ++ (s1 ∷ [])) failure
   pub writes : OwnWrites was failed (joined bs) text reply failure
 
-reported-broken : (text : Text) (kind : ErrorKind) (reply : ReplyValue) → text.ending ≡ Broken kind → reply ≡ fault_of_answer kind → reply ≡ broken_reply fault_of_answer Done (fault_in text.ending)
-reported-broken text kind reply e t = t ∙ ap (λ x. broken_reply fault_of_answer Done (fault_in x)) (sym e)
+reported-broken : (text : Text) (kind : ErrorKind) (reply : ReplyValue) → text.ending ≡ Broken kind → reply ≡ fault_reply kind → reply ≡ broken_reply fault_reply Done (fault_in text.ending)
+reported-broken text kind reply e t = t ∙ ap (λ x. broken_reply fault_reply Done (fault_in x)) (sym e)
 
 own-said : {T : Type 0} (before sink mid : Sink) (ended : Bool) (bs : List Slot) (s1 : Slot) (text : Text) (r : Result T Error) (reply : ReplyValue) → OutputAt before sink false bs None → list_all is_finished bs ≡ true → is_finished s1 ≡ true
     → segment s1 ≡ text.bytes → is_slot_broken s1 ≡ is_broken text.ending → before.failures < 2 ^ 64 - 1 → SendsText sink mid ended r text → IsFlushed mid → reply ≡ reply_to r → OwnSaid before mid false ended bs s1 text None reply
@@ -139,7 +139,7 @@ own-said before sink mid ended bs s1 text (Ok x) reply h fin over own broken low
     record {
       failure = None;
       output = (taken, d.1.failures ∙ h.1, d.3 ∙ sym d.2, d.2 ∙ sym breaks, λ z. all-firm mid (joined (bs ++ (s1 ∷ []))) taken (flushed d.3));
-      writes = inl (t ∙ ap (λ y. broken_reply fault_of_answer Done (fault_in y)) (sym d.0), refl);
+      writes = inl (t ∙ ap (λ y. broken_reply fault_reply Done (fault_in y)) (sym d.0), refl);
     }
 own-said before sink mid ended bs s1 text (Err e) reply h fin over own broken low d flushed t =
     ⊎_elim (λ k. ⊎_elim (λ x. broken-sent k.0 x) (λ x. broken-lost k.0 x.0 x.1) k.1) (λ l. lost l.0 l.1 text.bytes refl) d.2
@@ -341,7 +341,7 @@ respond-left before mid new was mid_ended ended bs s0 s1 cs fs rs vs old text re
     by-left false e h = nothing-left e h.0 h.1
 
 -- a number that waits, in its turn
-pub record Answerable (k : Kept) (s : State) (n : ℕ) (answer_form : AnswerForm) : Type 0 where
+pub record Answerable (k : Kept) (s : State) (n : ℕ) (answer_context : AnswerContext) : Type 0 where
   pub bs : List Slot
   pub cs : List Slot
   pub fs : List Mark
@@ -357,7 +357,7 @@ pub record Answerable (k : Kept) (s : State) (n : ℕ) (answer_form : AnswerForm
   pub requests_are : k.requests ≡ us ++ (Some waiting ∷ vs)
   pub at : SlotAt s.reached.slots bs cs (open_slot waits.date waits.request waits.given waits.end_reported) n
   pub place : length fs ≡ n
-  pub answer_form_is : answer_form ≡ answer_form_of waits.request
+  pub answer_context_is : answer_context ≡ answer_context_of waits.request
   pub kept : slice_get k.requests n ≡ Some (Some waiting)
   pub as_many : length cs ≡ length vs
   pub requests_set : slice_set k.requests n None ≡ us ++ (None ∷ vs)
@@ -369,9 +369,9 @@ pub record Answerable (k : Kept) (s : State) (n : ℕ) (answer_form : AnswerForm
 pub set-place : {X : Type 0} (xs us vs : List X) (n : ℕ) (x y : X) → xs ≡ us ++ (x ∷ vs) → length us ≡ n → slice_set xs n y ≡ us ++ (y ∷ vs)
 set-place xs us vs n x y e place = ap (λ l. slice_set l n y) e ∙ ap (λ m. slice_set (us ++ (x ∷ vs)) m y) (sym place) ∙ set-at us x y vs
 
-pub answerable : (client : Feed) (before : Sink) (k : Kept) (s : State) (n : ℕ) (answer_form : AnswerForm) → Stands client before k s → waiting_answer_form (slice_get k.requests n) ≡ Some answer_form → n ≡ first_unfinished k.marks → Answerable k s n answer_form
-answerable client before k s n answer_form st e first =
-    let w = answer-form-some (slice_get k.requests n) answer_form e in
+pub answerable : (client : Feed) (before : Sink) (k : Kept) (s : State) (n : ℕ) (answer_context : AnswerContext) → Stands client before k s → waiting_answer_context (slice_get k.requests n) ≡ Some answer_context → n ≡ first_unfinished k.marks → Answerable k s n answer_context
+answerable client before k s n answer_context st e first =
+    let w = answer-form-some (slice_get k.requests n) answer_context e in
     let p = place-of s.reached.slots k.marks k.requests n w.0 st.numbers w.1 in
     let slots_are = p.slots_are ∙ ap (λ x. p.bs ++ (x ∷ p.cs)) p.waiting.is in
     let S : List Mark → Type 0 = λ m. AreInShape m in
@@ -391,7 +391,7 @@ answerable client before k s n answer_form st e first =
       requests_are = p.requests_are;
       at = slot-at s.reached.slots p.bs p.cs (open_slot p.waiting.date p.waiting.request p.waiting.given p.waiting.end_reported) n slots_are p.slots_before;
       place = p.marks_before;
-      answer_form_is = sym w.2 ∙ p.waiting.answer_form;
+      answer_context_is = sym w.2 ∙ p.waiting.answer_context;
       kept = w.1;
       as_many = kept-many p.cs p.rs p.vs p.behind;
       requests_set = set-place k.requests p.us p.vs n (Some w.0) None p.requests_are p.requests_before;
@@ -418,11 +418,11 @@ pub reader-after : {R : Type 0} (client : Feed) (k : Kept) (marks : List Mark) (
 reader-after client k marks requests source sink ended slots rest r =
     record { settled = r.settled; gives = r.gives; next = λ e. next-same (with_reader k requests source) (after_number k marks requests source sink ended) (last_slot slots) (last_slot slots) rest refl refl refl refl refl refl (r.next e); source = r.source }
 
-respond-stands : {R : Type 0} (client : Feed) (before : Sink) (k : Kept) (s : State) (date : HttpDate) (n : ℕ) (v : ResponseValue) (answer_form : AnswerForm) (found : Bool) (mid new : Sink) (mid_ended ended : Bool) (final : List Mark) (requests : List (Option Waiting)) (source : SourceState R) (reply : ReplyValue)
-    → Stands client before k s → before.failures < 2 ^ 64 - 1 → (a : Answerable k s n answer_form) → (found ≡ true) ⊎ IsGathered v.answer (to_request a.waits.request date) → requests ≡ slice_set k.requests n None → InputStands client (with_reader k (a.us ++ (None ∷ a.vs)) source) (a.bs ++ (answered_slot a.waits.date a.waits.request a.waits.given a.waits.end_reported v date found ∷ a.cs)) s.reached.rest → FinishesFront a.fs a.rs final
+respond-stands : {R : Type 0} (client : Feed) (before : Sink) (k : Kept) (s : State) (date : HttpDate) (n : ℕ) (v : ResponseValue) (answer_context : AnswerContext) (found : Bool) (mid new : Sink) (mid_ended ended : Bool) (final : List Mark) (requests : List (Option Waiting)) (source : SourceState R) (reply : ReplyValue)
+    → Stands client before k s → before.failures < 2 ^ 64 - 1 → (a : Answerable k s n answer_context) → (found ≡ true) ⊎ IsGathered v.answer (to_request a.waits.request date) → requests ≡ slice_set k.requests n None → InputStands client (with_reader k (a.us ++ (None ∷ a.vs)) source) (a.bs ++ (answered_slot a.waits.date a.waits.request a.waits.given a.waits.end_reported v date found ∷ a.cs)) s.reached.rest → FinishesFront a.fs a.rs final
     → OwnSaid before mid k.output_ended mid_ended a.bs (answered_slot a.waits.date a.waits.request a.waits.given a.waits.end_reported v date found) (response_sent found v a.waits.request date) s.failure reply → SendsLeft a.rs mid_ended mid new ended
     → StepIsAnswered client before (after_number k final requests source new ended) s date (Respond n v) reply
-respond-stands client before k s date n v answer_form found mid new mid_ended ended final requests source reply st low a lack requests_are reader passes own sends =
+respond-stands client before k s date n v answer_context found mid new mid_ended ended final requests source reply st low a lack requests_are reader passes own sends =
     let s0 = open_slot a.waits.date a.waits.request a.waits.given a.waits.end_reported in
     let s1 = answered_slot a.waits.date a.waits.request a.waits.given a.waits.end_reported v date found in
     let text = response_sent found v a.waits.request date in
@@ -456,22 +456,22 @@ respond-stands client before k s date n v answer_form found mid new mid_ended en
     lacks false (inr x) g = let P : Option Slot → Type 0 = λ o. GathersAt date v o in subst P (sym g) x
 
 -- what the call that answers did
-pub RespondsBy : Kept → Sink → Bool → ReplyValue → ResponseValue → AnswerForm → HttpDate → Type 0
-RespondsBy k mid mid_ended reply v answer_form date =
+pub RespondsBy : Kept → Sink → Bool → ReplyValue → ResponseValue → AnswerContext → HttpDate → Type 0
+RespondsBy k mid mid_ended reply v answer_context date =
     ((k.output_ended ≡ true) × (mid ≡ k.sink) × (mid_ended ≡ k.output_ended) × (reply ≡ Done))
-    ⊎ ((k.output_ended ≡ false) × Answers k.sink mid mid_ended reply v.answer v.content (printing_in answer_form date))
+    ⊎ ((k.output_ended ≡ false) × Answers k.sink mid mid_ended reply v.answer v.content (printing_in answer_context date))
 
-pub respond-done : {R : Type 0} (client : Feed) (before : Sink) (k : Kept) (s : State) (date : HttpDate) (n : ℕ) (v : ResponseValue) (answer_form : AnswerForm) (mid new : Sink) (mid_ended ended : Bool) (marks final : List Mark) (requests : List (Option Waiting)) (old source : SourceState R) (reply : ReplyValue)
-    → Stands client before k s → IsInput k old → ((w : Waiting) → slice_get k.requests n ≡ Some (Some w) → GivesUp w.body old source) → before.failures < 2 ^ 64 - 1 → waiting_answer_form (slice_get k.requests n) ≡ Some answer_form → n ≡ first_unfinished k.marks → marks ≡ slice_set k.marks n Held → requests ≡ slice_set k.requests n None
-    → RespondsBy k mid mid_ended reply v answer_form date
+pub respond-done : {R : Type 0} (client : Feed) (before : Sink) (k : Kept) (s : State) (date : HttpDate) (n : ℕ) (v : ResponseValue) (answer_context : AnswerContext) (mid new : Sink) (mid_ended ended : Bool) (marks final : List Mark) (requests : List (Option Waiting)) (old source : SourceState R) (reply : ReplyValue)
+    → Stands client before k s → IsInput k old → ((w : Waiting) → slice_get k.requests n ≡ Some (Some w) → GivesUp w.body old source) → before.failures < 2 ^ 64 - 1 → waiting_answer_context (slice_get k.requests n) ≡ Some answer_context → n ≡ first_unfinished k.marks → marks ≡ slice_set k.marks n Held → requests ≡ slice_set k.requests n None
+    → RespondsBy k mid mid_ended reply v answer_context date
     → ((front rest : List Mark) → marks ≡ front ++ (Held ∷ rest) → length front ≡ n → FinishesFront front rest final)
     → ((front rest : List Mark) → marks ≡ front ++ (Held ∷ rest) → length front ≡ n → (mid_ended ≡ false → CanSend mid) → SendsLeft rest mid_ended mid new ended)
     → StepIsAnswered client before (after_number k final requests source new ended) s date (Respond n v) reply
 unfolding RespondsBy
-respond-done {R = R} client before k s date n v answer_form mid new mid_ended ended marks final requests old source reply st from gives low e first marks_are requests_are own passes sends = by-own own
+respond-done {R = R} client before k s date n v answer_context mid new mid_ended ended marks final requests old source reply st from gives low e first marks_are requests_are own passes sends = by-own own
   where
-    a : Answerable k s n answer_form
-    a = answerable client before k s n answer_form st e first
+    a : Answerable k s n answer_context
+    a = answerable client before k s n answer_context st e first
 
     held : marks ≡ a.fs ++ (Held ∷ a.rs)
     held = marks_are ∙ a.marks_set
@@ -487,17 +487,17 @@ respond-done {R = R} client before k s date n v answer_form mid new mid_ended en
     answered : (found : Bool) → (found ≡ true) ⊎ IsGathered v.answer (to_request a.waits.request date) → OwnSaid before mid k.output_ended mid_ended a.bs (answered_slot a.waits.date a.waits.request a.waits.given a.waits.end_reported v date found) (response_sent found v a.waits.request date) s.failure reply
         → StepIsAnswered client before (after_number k final requests source new ended) s date (Respond n v) reply
     answered found lack o =
-        respond-stands client before k s date n v answer_form found mid new mid_ended ended final requests source reply st low a lack requests_are (reader found) (passes a.fs a.rs held a.place) o
+        respond-stands client before k s date n v answer_context found mid new mid_ended ended final requests source reply st low a lack requests_are (reader found) (passes a.fs a.rs held a.place) o
         (sends a.fs a.rs held a.place (can-send before mid mid_ended (a.bs ++ (answered_slot a.waits.date a.waits.request a.waits.given a.waits.end_reported v date found ∷ [])) o.failure o.output low))
 
-    by-own : RespondsBy k mid mid_ended reply v answer_form date → StepIsAnswered client before (after_number k final requests source new ended) s date (Respond n v) reply
+    by-own : RespondsBy k mid mid_ended reply v answer_context date → StepIsAnswered client before (after_number k final requests source new ended) s date (Respond n v) reply
     by-own (inl h) =
         let s1 = answered_slot a.waits.date a.waits.request a.waits.given a.waits.end_reported v date true in
         let o = own-past before k.sink k.output_ended a.bs s1 (response_sent true v a.waits.request date) s.failure out a.turn.finished h.0 in
         let P : Sink → Bool → ReplyValue → Type 0 = λ x y z. OwnSaid before x k.output_ended y a.bs s1 (response_sent true v a.waits.request date) s.failure z in
         answered true (inl refl) (subst (λ x. P x mid_ended reply) (sym h.1) (subst (λ y. P k.sink y reply) (sym h.2) (subst (λ z. P k.sink k.output_ended z) (sym h.3) o)))
     by-own (inr h) =
-        let own = subst (λ p. Answers k.sink mid mid_ended reply v.answer v.content p) (printed-for a.waits.request answer_form date a.answer_form_is) h.1 in
+        let own = subst (λ p. Answers k.sink mid mid_ended reply v.answer v.content p) (printed-for a.waits.request answer_context date a.answer_context_is) h.1 in
         let r = own.0 in
         ⊎_elim
         (λ x. answered true (inl refl)
@@ -507,11 +507,11 @@ respond-done {R = R} client before k s date n v answer_form mid new mid_ended en
         (own-sent {T = Unit {0}} before k.sink mid k.output_ended mid_ended a.bs (answered_slot a.waits.date a.waits.request a.waits.given a.waits.end_reported v date false) (response_sent false v a.waits.request date) s.failure r reply out a.turn.finished refl refl refl low h.0 x.1 own.3 own.1))
         own.2
 
-pub responds-by : (k : Kept) (mid : Sink) (mid_ended : Bool) (reply : ReplyValue) (v : ResponseValue) (answer_form : AnswerForm) (date : HttpDate) → (k.output_ended ≡ true → (mid ≡ k.sink) × (mid_ended ≡ k.output_ended) × (reply ≡ Done))
-    → (k.output_ended ≡ false → Answers k.sink mid mid_ended reply v.answer v.content (printing_in answer_form date)) → RespondsBy k mid mid_ended reply v answer_form date
+pub responds-by : (k : Kept) (mid : Sink) (mid_ended : Bool) (reply : ReplyValue) (v : ResponseValue) (answer_context : AnswerContext) (date : HttpDate) → (k.output_ended ≡ true → (mid ≡ k.sink) × (mid_ended ≡ k.output_ended) × (reply ≡ Done))
+    → (k.output_ended ≡ false → Answers k.sink mid mid_ended reply v.answer v.content (printing_in answer_context date)) → RespondsBy k mid mid_ended reply v answer_context date
 unfolding RespondsBy
-responds-by k mid mid_ended reply v answer_form date past open_is = by k.output_ended refl
+responds-by k mid mid_ended reply v answer_context date past open_is = by k.output_ended refl
   where
-    by : (t : Bool) → k.output_ended ≡ t → RespondsBy k mid mid_ended reply v answer_form date
+    by : (t : Bool) → k.output_ended ≡ t → RespondsBy k mid mid_ended reply v answer_context date
     by true e = let h = past e in inl (e, h.0, h.1, h.2)
     by false e = inr (e, open_is e)

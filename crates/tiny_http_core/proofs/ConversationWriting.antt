@@ -5,7 +5,7 @@ use Rattle.std.specs.declared.io.ErrorKind.{ErrorKind}
 use Rattle.tiny_http_wire.specs.Device.{IsFront}
 use Rattle.tiny_http_encoding.specs.Text.{Text}
 use Rattle.tiny_http_core.specs.Slots.{Slot, joined}
-use Rattle.tiny_http_core.specs.Steps.{ReplyValue, Done, WriterUse, Unreported, Reported, fault_in, fault_of_answer}
+use Rattle.tiny_http_core.specs.Steps.{ReplyValue, Done, WriterUse, Unreported, Reported, fault_in, fault_reply}
 use Rattle.tiny_http_core.specs.Conversation.{Failure, State, has_output_ended, finished_front, Fares, Well, FailsWithin, FailsAfter, CanMeet, MayFare, reply_in, failure_in, WriterPart}
 
 -- the writer failed while the output grew from one text to another
@@ -28,14 +28,14 @@ broken_reply report planned broken = unwrap_or (option_map report broken) planne
 
 -- how an answer uses the writer
 abbrev pub used : Text → WriterUse
-used text = Reported text.bytes (fault_in text.ending) true fault_of_answer
+used text = Reported text.bytes (fault_in text.ending) true fault_reply
 
 -- what the writer did in an answer, by whether the output had ended
 abbrev pub Alternatives : List Slot → Text → List Slot → ReplyValue → Option Failure → Type 0
 Alternatives old text slots reply failure =
-    ((reply ≡ broken_reply fault_of_answer Done (fault_in text.ending)) × (failure ≡ None))
-    ⊎ ((CanMeet text.bytes (fault_in text.ending) × FailsReported fault_of_answer reply (joined old) (joined old ++ text.bytes) failure)
-    ⊎ ((reply ≡ broken_reply fault_of_answer Done (fault_in text.ending)) × FailsBehind old text.bytes (fault_in text.ending) slots failure))
+    ((reply ≡ broken_reply fault_reply Done (fault_in text.ending)) × (failure ≡ None))
+    ⊎ ((CanMeet text.bytes (fault_in text.ending) × FailsReported fault_reply reply (joined old) (joined old ++ text.bytes) failure)
+    ⊎ ((reply ≡ broken_reply fault_reply Done (fault_in text.ending)) × FailsBehind old text.bytes (fault_in text.ending) slots failure))
 
 abbrev pub WritesIf : Bool → Option Failure → List Slot → Text → List Slot → ReplyValue → Option Failure → Type 0
 WritesIf t failed old text slots reply failure = MatchBool t ((reply ≡ Done) × (failure ≡ failed)) (Alternatives old text slots reply failure)
@@ -75,7 +75,7 @@ reported s was text slots reply failure over firm h = subst W (sym over) (by was
     W b = MatchBool b ((reply ≡ Done) × (failure ≡ s.failure)) ((fares : Fares) × MayFare (used text) s slots fares × (reply ≡ reply_in (used text) Done fares) × (failure ≡ failure_in fares))
 
     after : (broken : Option ErrorKind) → s.flushed ≡ joined s.reached.slots → FailsBehind s.reached.slots text.bytes broken slots failure
-        → (f : Failure) × (failure ≡ Some f) × MayFare (Reported text.bytes broken true fault_of_answer) s slots (FailsAfter f)
+        → (f : Failure) × (failure ≡ Some f) × MayFare (Reported text.bytes broken true fault_reply) s slots (FailsAfter f)
     after None firm h = (h.1.0, h.1.1, (h.0, (h.1.2, h.1.3)))
     after (Some kind) firm h =
         let F : List ℕ → Type 0 = λ y. IsFront y h.0.output in

@@ -3,7 +3,7 @@ use Rattle.std.proofs.Common.{◌≡◌, refl, sym, ap, ◌∙◌, subst, ℕ, �
 use Rattle.std.specs.declared.io.ErrorKind.{ErrorKind}
 use Rattle.httpdate.specs.declared.date.HttpDate.{HttpDate}
 use Rattle.tiny_http_wire.specs.Device.{Feed, Sink}
-use Rattle.tiny_http_wire.specs.Answer.{ResponseState}
+use Rattle.tiny_http_wire.specs.Answer.{Answer, Printing, ResponseState}
 use Rattle.tiny_http_wire.specs.declared.device.Stop.{Stop}
 use Rattle.tiny_http_message.specs.declared.waiting.Waiting.{Waiting}
 use Rattle.std.specs.List.{AllZip}
@@ -14,17 +14,16 @@ use Rattle.tiny_http_core.specs.declared.driver.Step.TheVariants as step
 use Rattle.tiny_http_core.specs.declared.pending.Pending.{Pending}
 use Rattle.tiny_http_stream.specs.Source.{SourceState, GoesOn}
 use Rattle.tiny_http_stream.specs.Outlet.{OutletState, output_of, SentOn}
-use Rattle.tiny_http_sending.specs.ResponseValue.{ResponseValue}
+use Rattle.tiny_http_sending.specs.ResponseValue.{ResponseValue, printing_in}
 use Rattle.tiny_http_core.specs.Steps.{StepValue, Ask, Read, Respond, Drop, ReplyValue, Fault}
 use Rattle.tiny_http_core.specs.Conversation.{State, TimedValue, IsFresh, start_state}
-use Rattle.tiny_http_wire.specs.declared.coding.Coding.{Coding}
 use Rattle.tiny_http_sending.specs.Sending.{FailsOnceUnlessEnded, IsHonest}
 use Rattle.tiny_http_core.specs.Seen.{seen, IsResponse, IsStep, IsTimedStep, MayFail, ReportsHonestly, IsAnswered}
 use Rattle.tiny_http_message.specs.declared.body.Body.{Body}
 use Rattle.tiny_http_message.specs.Body.{GivesUp, is_streaming, body_standing}
 use Rattle.std.specs.Prelude.{MatchBool}
 use Rattle.tiny_http_core.specs.Connection.{Kept, ConnectionState, kept, Stands}
-use Rattle.tiny_http_core.specs.Driving.{HasDone, TakesStep, AskEnds, StepEnds, IsDeclined, stated_response, stated_step, StepLeaves, AskLeaves, LetsGo, StandsAfter}
+use Rattle.tiny_http_core.specs.Driving.{HasDone, TakesStep, AskEnds, StepEnds, IsDeclined, stated_response, stated_step, StepLeaves, AskLeaves, LetsGo, StandsAfter, ReportsFault}
 use Rattle.tiny_http_core.proofs.ConnectionAsk.{StepIsAnswered}
 use Rattle.tiny_http_stream.proofs.SourceGoesOn.{goes-on_same}
 use Rattle.tiny_http_core.proofs.SeenLemmas.{is-ask, is-read, is-respond, is-drop, step-ask, step-read, step-respond, step-drop}
@@ -107,7 +106,7 @@ moves-none c = driving-reads-on c c refl (goes-on_same c.source.feed)
 
 pub takes : {R W : Type 0} (old new : ConnectionState R W) (now : HttpDate) (x : Step (Option Feed)) (reply : ReplyValue)
     → ((client : Feed) (before : Sink) (s : State) (asked : StepValue) → before.failures < 2 ^ 64 - 1 → IsStep (λ f. f) x asked → Stands client before (kept old) s → StepIsAnswered client before (kept new) s now asked reply)
-    → (IsDeclined x reply → new ≡ old) → StepEnds x old new reply → StepLeaves x old new reply → Moves old new → ((kind : ErrorKind) → reply ≡ Fault kind → MayFail (λ f. f) (output_of old.outlet) (output_of new.outlet) x kind) → TakesStep old new now x reply
+    → (IsDeclined x reply → new ≡ old) → StepEnds x old new reply → StepLeaves x old new reply → Moves old new → ((kind : ErrorKind) → reply ≡ Fault kind → ReportsFault old new now x kind) → TakesStep old new now x reply
 takes old new now x reply answers declined ends leaves moves honest =
     record {
       does = λ client before steps replies asked is done.
@@ -169,7 +168,7 @@ takes-read old new now n m reply answers declined ends leaves moves =
 
 pub takes-respond : {R W D : Type 0} (feed : D → Option Feed) (old new : ConnectionState R W) (now : HttpDate) (n : ℕ) (r : ResponseState D) (reply : ReplyValue)
     → ((client : Feed) (before : Sink) (s : State) (value : ResponseValue) → before.failures < 2 ^ 64 - 1 → IsResponse feed r value → Stands client before (kept old) s → StepIsAnswered client before (kept new) s now (Respond n value) reply)
-    → (IsDeclined (step.Respond n (stated_response feed r)) reply → new ≡ old) → new.end ≡ old.end → (IsAnswered reply → LetsGo n old new) → Moves old new → ((kind : ErrorKind) → reply ≡ Fault kind → MayFail (λ f. f) (output_of old.outlet) (output_of new.outlet) (step.Respond n (stated_response feed r)) kind)
+    → (IsDeclined (step.Respond n (stated_response feed r)) reply → new ≡ old) → new.end ≡ old.end → (IsAnswered reply → LetsGo n old new) → Moves old new → ((kind : ErrorKind) → reply ≡ Fault kind → ReportsFault old new now (step.Respond n (stated_response feed r)) kind)
     → TakesStep old new now (step.Respond n (stated_response feed r)) reply
 takes-respond feed old new now n r reply answers declined ends leaves moves honest =
     takes old new now (step.Respond n (stated_response feed r)) reply
@@ -193,10 +192,10 @@ begins {W = W} client before writer c m r o e feed stop outlet fresh =
     let st6 = subst (λ x. S (K x c.requests c.source.standing c.end c.source.stop c.outlet)) (sym m) st5 in
     record { fresh = fresh; items = items_of client; pipeline = feed-pipeline client; at = start_state (items_of client); run = refl; stands = st6 }
 
-pub honest-more : (mid ended : Bool) (a b c : Sink) (coding : Coding) (known : Option ℕ) (feed : Option Feed) (kind : ErrorKind) → mid ≡ true → FailsOnceUnlessEnded mid b c ended → IsHonest a b coding known feed kind → IsHonest a c coding known feed kind
-honest-more true ended a b c coding known feed kind e k (inl h) = inl (k.0 ∙ h)
-honest-more true ended a b c coding known feed kind e k (inr h) = inr h
-honest-more false ended a b c coding known feed kind e k h = let no : false ≡ true = e in cc
+pub honest-more : (mid ended : Bool) (a b c : Sink) (x : Answer) (feed : Option Feed) (p : Printing) (kind : ErrorKind) → mid ≡ true → FailsOnceUnlessEnded mid b c ended → IsHonest a b x feed p kind → IsHonest a c x feed p kind
+honest-more true ended a b c x feed p kind e k (inl h) = inl (k.0 ∙ h)
+honest-more true ended a b c x feed p kind e k (inr h) = inr h
+honest-more false ended a b c x feed p kind e k h = let no : false ≡ true = e in cc
 
 -- a step, and what it is in place of its data
 is-stated : {D : Type 0} (feed : D → Option Feed) (x : Step D) (asked : StepValue) → IsStep feed x asked → IsStep (λ f. f) (stated_step feed x) asked
@@ -207,14 +206,14 @@ is-stated feed (step.Respond k r) asked h =
     subst (λ y. IsStep (λ f. f) (step.Respond k (stated_response feed r)) y) (sym s.is) (refl, s.response)
 is-stated feed (step.Drop k) asked h = subst (λ y. (let a : Step (Option Feed) = step.Drop k in IsStep (λ f. f) a y)) (sym (is-drop feed k asked h)) refl
 
-may-fail : {D : Type 0} (feed : D → Option Feed) (a b : Sink) (x : Step D) (kind : ErrorKind) → MayFail (λ f. f) a b (stated_step feed x) kind → MayFail feed a b x kind
-may-fail feed a b step.Ask kind h = h
-may-fail feed a b (step.Read k n) kind h = h
-may-fail feed a b (step.Respond k r) kind h = h
-may-fail feed a b (step.Drop k) kind h = h
+may-fail : {R W D : Type 0} (feed : D → Option Feed) (old new : ConnectionState R W) (now : HttpDate) (x : Step D) (kind : ErrorKind) → ReportsFault old new now (stated_step feed x) kind → MayFail feed (output_of old.outlet) (output_of new.outlet) x kind
+may-fail feed old new now step.Ask kind h = h
+may-fail feed old new now (step.Read k n) kind h = h
+may-fail feed old new now (step.Respond k r) kind h = (printing_in h.0 now, h.2)
+may-fail feed old new now (step.Drop k) kind h = h
 
-pub reports-step : {D : Type 0} (feed : D → Option Feed) (a b : Sink) (t : Timed D) (reply : Reply) → ((kind : ErrorKind) → seen reply ≡ Fault kind → MayFail (λ f. f) a b (stated_step feed t.step) kind) → ReportsHonestly feed a b t reply
-reports-step feed a b t reply h kind e = may-fail feed a b t.step kind (h kind e)
+pub reports-step : {R W D : Type 0} (feed : D → Option Feed) (old new : ConnectionState R W) (t : Timed D) (reply : Reply) → ((kind : ErrorKind) → seen reply ≡ Fault kind → ReportsFault old new t.now (stated_step feed t.step) kind) → ReportsHonestly feed (output_of old.outlet) (output_of new.outlet) t reply
+reports-step feed old new t reply h kind e = may-fail feed old new t.now t.step kind (h kind e)
 
 pub done-none : {R W X : Type 0} (stated : X → TimedValue → Type 0) (client : Feed) (before : Sink) (c : ConnectionState R W) (dated : List TimedValue) → HasDone client before c [] [] → AllZip stated [] dated → HasDone client before c dated []
 done-none stated client before c [] h t = h

@@ -5,9 +5,9 @@ use Rattle.httpdate.specs.declared.date.HttpDate.{HttpDate}
 use Rattle.tiny_http_wire.specs.declared.device.Stop.{Stop}
 use Rattle.tiny_http_wire.specs.declared.device.Stop.TheVariants.{End}
 use Rattle.tiny_http_wire.specs.Coding.{coding_asked}
-use Rattle.tiny_http_wire.specs.Device.{Feed, Sink, IsFront, StatesKind, ending}
+use Rattle.tiny_http_wire.specs.Device.{Feed, Sink, IsFront, StatesKind, whole_feed}
 use Rattle.tiny_http_message.specs.declared.body.Body.{Body}
-use Rattle.tiny_http_wire.specs.declared.answer_form.AnswerForm.{AnswerForm}
+use Rattle.tiny_http_wire.specs.declared.answer_context.AnswerContext.{AnswerContext}
 use Rattle.tiny_http_message.specs.declared.waiting.Waiting.{Waiting}
 use Rattle.tiny_http_stream.specs.Source.{SourceState, GoesOn}
 use Rattle.tiny_http_stream.specs.ToCome.{stopped}
@@ -51,8 +51,8 @@ kept c =
     record { marks = c.marks; requests = c.requests; standing = c.source.standing; asking_ended = is_some c.end; feed = c.source.feed; stop = c.source.stop; is_over = c.source.is_over; sink = output_of c.outlet; output_ended = c.outlet.ended }
 
 -- how a request is answered
-abbrev pub answer_form_of : Request → AnswerForm
-answer_form_of r = record { version = r.message.version; asked_coding = coding_asked r.message.headers; no_body = is_head_method r.message.method }
+abbrev pub answer_context_of : Request → AnswerContext
+answer_context_of r = record { version = r.message.version; asked_coding = coding_asked r.message.headers; no_body = is_head_method r.message.method }
 
 -- a request that was handed out on this date and waits, while so many bytes of its body were given, and its end reported or not
 abbrev pub open_slot : HttpDate → Request → ℕ → Bool → Slot
@@ -70,7 +70,7 @@ pub record IsWaiting (s : Slot) (w : Waiting) : Type 0 where
   pub end_reported : Bool
   pub is : s ≡ open_slot date request given end_reported
   pub unowed : request.framing.owes_continue ≡ false
-  pub answer_form : w.answer_form ≡ answer_form_of request
+  pub answer_context : w.answer_context ≡ answer_context_of request
   pub text : w.dropped.items ≡ segment (dropped date request given end_reported)
   pub fits : Fits w.body request.framing.form (body_length_or_0 request.framing) given end_reported
   -- where the body isn't read from the input, this is left of it
@@ -117,7 +117,7 @@ behind_body (Some b) feed = option_map (λ (r : Remaining). r.behind) (remaining
 -- what is left of a number's body
 abbrev pub rest_in : ℕ → Item → Feed
 rest_in given (Asks r) = rest_of r given
-rest_in given (Refuses refusal version withheld last) = ending []
+rest_in given (Refuses refusal version no_body last) = whole_feed []
 
 abbrev pub slot_rest : Slot → Feed
 slot_rest s = rest_in s.given s.item

@@ -9,7 +9,7 @@ use Rattle.tiny_http_message.specs.BodyRemains.{RemainsAt}
 use Rattle.tiny_http_wire.specs.declared.device.Stop.TheVariants.{End}
 use Rattle.tiny_http_stream.specs.ToCome.{stopped}
 use Rattle.tiny_http_sending.specs.ResponseValue.{ResponseValue}
-use Rattle.tiny_http_sending.specs.Sending.{IsGathered}
+use Rattle.tiny_http_wire.specs.Answer.{IsGathered}
 use Rattle.tiny_http_core.specs.Slots.{Slot, is_finished, joined, is_output_broken, new_slot, rest_of, last_slot, last_is_open, is_last_slot, last_holds_reader, last_was_abandoned, turn_has_come, to_request}
 use Rattle.tiny_http_core.specs.Steps.{StepValue, Ask, Read, Respond, ReplyValue, NoSuch, Memory, WriterUse, Unused, Unreported, Reported, use_in_turn, Outcome, Reached, outcome}
 
@@ -104,7 +104,7 @@ HasOutcome o old reply new = (new.reached ≡ reached_by o) × (new.flushed ≡ 
 -- the response's data are read whole before its head
 abbrev pub GathersFor : HttpDate → ResponseValue → Item → Type 0
 GathersFor date response (Asks r) = IsGathered response.answer (to_request r date)
-GathersFor date response (Refuses refusal version withheld last) = ⊥
+GathersFor date response (Refuses refusal version no_body last) = ⊥
 
 abbrev pub GathersAt : HttpDate → ResponseValue → Option Slot → Type 0
 GathersAt date response None = ⊥
@@ -119,7 +119,7 @@ MayLack false date old _ = ⊥
 -- the item is a head that is refused, and after which the asking goes on
 abbrev pub IsPassedOver : Item → Type 0
 IsPassedOver (Asks r) = ⊥
-IsPassedOver (Refuses refusal version withheld last) = last ≡ false
+IsPassedOver (Refuses refusal version no_body last) = last ≡ false
 
 -- the heads that were refused on the way are answered, if the turn of the first has come
 abbrev pub answers_to : List Slot → List Item → WriterUse
@@ -178,7 +178,7 @@ abbrev pub WithinBody : Slot → Item → Feed → List Item → Type 0
 WithinBody s (Asks r) feed rest =
     (next : Place) × RemainsAt r.framing.form (body_length_or_0 r.framing - s.given) feed.bytes feed.stop (rest_of r s.given) next
     × Pipeline (place_after r.framing.is_last next) feed.stop rest
-WithinBody s (Refuses refusal version withheld last) feed rest = ⊥
+WithinBody s (Refuses refusal version no_body last) feed rest = ⊥
 
 abbrev pub WithinLast : Option Slot → Option Feed → List Item → Type 0
 WithinLast (Some s) (Some feed) rest = WithinBody s s.item feed rest

@@ -20,11 +20,14 @@ use Rattle.tiny_http_stream.specs.Outlet.{output_of, SentOn}
 use Rattle.tiny_http_message.specs.Pipeline.{Item, Refuses, Refusal, refusal_status, OneHead, Pipeline}
 use Rattle.tiny_http_core.specs.Steps.{StepValue, ReplyValue, Handed, Ended, NotYet, NoSuch, Memory, Fault}
 use Rattle.tiny_http_core.specs.Conversation.{State, TimedValue, Run, start_state, IsFresh}
-use Rattle.tiny_http_sending.specs.Sending.{FailsOnceUnlessEnded}
+use Rattle.tiny_http_wire.specs.declared.answer_context.AnswerContext.{AnswerContext}
+use Rattle.tiny_http_sending.specs.ResponseValue.{printing_in}
+use Rattle.tiny_http_sending.specs.Sending.{FailsOnceUnlessEnded, IsHonest}
+use Rattle.tiny_http_core.specs.Pending.{waiting_answer_context}
 use Rattle.tiny_http_message.specs.declared.body.Body.{Body}
 use Rattle.tiny_http_message.specs.declared.waiting.Waiting.{Waiting}
 use Rattle.tiny_http_message.specs.Body.{GivesUp, is_streaming, body_standing}
-use Rattle.tiny_http_core.specs.Seen.{IsStep, MayFail, IsAnswered}
+use Rattle.tiny_http_core.specs.Seen.{IsStep, IsAnswered}
 use Rattle.tiny_http_core.specs.Connection.{ConnectionState, kept, Stands}
 
 -- Over this client's feed and a fresh writer, these steps were done, with these replies: they are a run over the pipeline
@@ -50,7 +53,7 @@ stated_step feed (step.Drop k) = step.Drop k
 -- the head that stands there is refused, with this status
 abbrev pub IsRefusal : Feed → EndOfRequests → Type 0
 IsRefusal f why =
-    (status : StatusCode) × (refusal : Refusal) × (version : HTTPVersion) × (withheld : Bool) × OneHead f.bytes f.stop (Some (Refuses refusal version withheld true)) None
+    (status : StatusCode) × (refusal : Refusal) × (version : HTTPVersion) × (no_body : Bool) × OneHead f.bytes f.stop (Some (Refuses refusal version no_body true)) None
     × (status.0 ≡ refusal_status refusal) × (why ≡ because.Refused status)
 
 -- WHY THE REQUESTS END where the source stands: the last one was read; or no request stands in the bytes that come.
@@ -120,6 +123,16 @@ IsDeclined _ NoSuch = Unit {0}
 IsDeclined (step.Read k n) Memory = Unit {0}
 IsDeclined _ _ = ⊥
 
+-- A fault that a step reports, whatever reader, writer and data state: that of an answer is the writer's, whose count rose, or
+-- that of its own data, printed for its request; of a body's nothing is said here; an Ask and a Drop report none.
+abbrev pub ReportsFault : {R W : Type 0} → ConnectionState R W → ConnectionState R W → HttpDate → Step (Option Feed) → ErrorKind → Type 0
+ReportsFault old new now step.Ask kind = ⊥
+ReportsFault old new now (step.Read k n) kind = Unit {0}
+ReportsFault old new now (step.Drop k) kind = ⊥
+ReportsFault old new now (step.Respond k r) kind =
+    (context : AnswerContext) × (waiting_answer_context (slice_get old.requests k) ≡ Some context)
+    × IsHonest (output_of old.outlet) (output_of new.outlet) r.answer r.data_reader (printing_in context now) kind
+
 -- One step on a date: what was done is done with this step and its reply after it. And whatever reader, writer and data
 -- state: a step that was not done changes nothing, why the requests end is kept, the other requests are left alone, the source
 -- goes on, the writer fails once at most, what is written is flushed, and a fault that is reported is one.
@@ -133,4 +146,4 @@ pub record TakesStep {R W : Type 0} (old new : ConnectionState R W) (now : HttpD
   pub fails_once : FailsOnceUnlessEnded old.outlet.ended (output_of old.outlet) (output_of new.outlet) new.outlet.ended
   pub flushed : old.outlet.held ≡ [] → new.outlet.held ≡ []
   pub sent_on : SentOn old.outlet → SentOn new.outlet
-  pub honest : (kind : ErrorKind) → reply ≡ Fault kind → MayFail (λ f. f) (output_of old.outlet) (output_of new.outlet) step kind
+  pub honest : (kind : ErrorKind) → reply ≡ Fault kind → ReportsFault old new now step kind

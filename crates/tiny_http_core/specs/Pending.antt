@@ -1,7 +1,7 @@
 -- Numbers whose turn comes, and what is sent as it does.
 use Rattle.std.specs.Prelude.{◌≡◌, ℕ, Bool, true, false, List, [], ◌∷◌, ◌++◌, Option, Some, None, MatchBool}
 use Rattle.tiny_http_wire.specs.Device.{Sink}
-use Rattle.tiny_http_wire.specs.declared.answer_form.AnswerForm.{AnswerForm}
+use Rattle.tiny_http_wire.specs.declared.answer_context.AnswerContext.{AnswerContext}
 use Rattle.tiny_http_message.specs.declared.waiting.Waiting.{Waiting}
 use Rattle.tiny_http_message.specs.declared.body.Body.{Body}
 use Rattle.tiny_http_message.specs.Body.{is_streaming}
@@ -48,10 +48,10 @@ LeavesText in_turn front rest marks text was old new ended =
     ((marks ≡ front ++ (Left text ∷ rest)) × AreInShape marks × (new ≡ old) × (ended ≡ was))
 
 -- what is kept of the request of a number that waits for its answer
-abbrev pub waiting_answer_form : Option (Option Waiting) → Option AnswerForm
-waiting_answer_form None = None
-waiting_answer_form (Some None) = None
-waiting_answer_form (Some (Some w)) = Some w.answer_form
+abbrev pub waiting_answer_context : Option (Option Waiting) → Option AnswerContext
+waiting_answer_context None = None
+waiting_answer_context (Some None) = None
+waiting_answer_context (Some (Some w)) = Some w.answer_context
 
 -- the body of the last of these, if that waits
 abbrev pub last_body : List (Option Waiting) → Option Body

@@ -1,20 +1,18 @@
 -- The program's steps and replies as the definitions see them.
-use Rattle.std.specs.Prelude.{◌≡◌, ◌<◌, ◌^◌, List, [], ◌∷◌, length, Option, Some, None, Bool, Result, Ok, Err}
+use Rattle.std.specs.Prelude.{◌≡◌, ◌<◌, ◌^◌, List, [], ◌∷◌, length, Option, Some, Bool, Result, Ok, Err}
 use Rattle.std.specs.IoError.{error_kind}
 use Rattle.std.specs.declared.io.Error.{Error}
 use Rattle.std.specs.declared.io.ErrorKind.{ErrorKind}
-use Rattle.httpdate.specs.declared.date.HttpDate.{HttpDate}
 use Rattle.tiny_http_wire.specs.Device.{Feed, Sink}
-use Rattle.tiny_http_wire.specs.Answer.{Answer, Printing, answer_coding, ResponseState}
+use Rattle.tiny_http_wire.specs.Answer.{Answer, Printing, ResponseState}
 use Rattle.tiny_http_core.specs.declared.driver.Step.{Step}
 use Rattle.tiny_http_core.specs.declared.driver.Step.TheVariants as step
 use Rattle.tiny_http_core.specs.declared.driver.Timed.{Timed}
-use Rattle.tiny_http_wire.specs.declared.answer_form.AnswerForm.{AnswerForm}
 use Rattle.tiny_http_core.specs.declared.driver.Reply.{Reply}
 use Rattle.tiny_http_core.specs.declared.driver.Reply.TheVariants as reply
 use Rattle.tiny_http_message.specs.HeadReads.{head_message, head_framing}
 use Rattle.tiny_http_sending.specs.ResponseValue.{ResponseValue}
-use Rattle.tiny_http_core.specs.Steps.{StepValue, Ask, Read, Respond, Drop, ReplyValue, Handed, Ended, Given, Fault, NotYet, Done, Refused, NoSuch, Memory, fault_of_answer}
+use Rattle.tiny_http_core.specs.Steps.{StepValue, Ask, Read, Respond, Drop, ReplyValue, Handed, Ended, Given, Fault, NotYet, Done, Refused, NoSuch, Memory, fault_reply}
 use Rattle.tiny_http_core.specs.Conversation.{TimedValue}
 use Rattle.tiny_http_sending.specs.Sending.{Sends, IsFlushed, IsHonest, FailsAtMostOnce}
 
@@ -46,13 +44,13 @@ seen reply.Refused = Refused
 seen reply.NoSuch = NoSuch
 seen reply.Memory = Memory
 
--- the step may fail by this kind, by the writer or by its own data, in the coding of some request, or by that of the body that
+-- the step may fail by this kind, by the writer or by its own data, printed for some request, or by that of the body that
 -- it reads; an Ask and a Drop report no fault
 abbrev pub MayFail : {D : Type 0} → (D → Option Feed) → Sink → Sink → Step D → ErrorKind → Type 0
 MayFail feed old new step.Ask kind = ⊥
 MayFail feed old new (step.Read k n) kind = Unit {0}
 MayFail feed old new (step.Drop k) kind = ⊥
-MayFail feed old new (step.Respond k r) kind = (p : Printing) × IsHonest old new (answer_coding r.answer p) r.answer.length (feed r.data_reader) kind
+MayFail feed old new (step.Respond k r) kind = (p : Printing) × IsHonest old new r.answer (feed r.data_reader) p kind
 
 -- a fault that an answer reports is the writer's, whose count rose, or that of the step's own data; of a body's nothing is said
 abbrev pub ReportsHonestly : {D : Type 0} → (D → Option Feed) → Sink → Sink → Timed D → Reply → Type 0
@@ -69,7 +67,7 @@ ReportHonestly feed old (t ∷ steps) [] new = ⊥
 -- what a call that sends an answer is reported as
 abbrev pub reply_to : {T : Type 0} → Result T Error → ReplyValue
 reply_to (Ok x) = Done
-reply_to (Err e) = fault_of_answer (error_kind e)
+reply_to (Err e) = fault_reply (error_kind e)
 
 -- what an answer that was made is replied
 abbrev pub IsAnswered : ReplyValue → Type 0

@@ -63,11 +63,11 @@ to_request r date = printing_to (coding_asked r.message.headers) r.message.versi
 -- how an answer under an item is printed
 abbrev pub printing_for : Item → HttpDate → Printing
 printing_for (Asks r) date = to_request r date
-printing_for (Refuses refusal version withheld last) date = own_printing version withheld date
+printing_for (Refuses refusal version no_body last) date = own_printing version no_body date
 
 abbrev pub server_response : Item → ResponseValue
 server_response (Asks r) = drop_response
-server_response (Refuses refusal version withheld last) = refusal_response refusal
+server_response (Refuses refusal version no_body last) = refusal_response refusal
 
 -- the text of a response; no byte where its data had to be read whole first and no memory was found
 abbrev pub text_if : Bool → ResponseValue → Printing → Text
@@ -131,8 +131,8 @@ is_output_broken (s ∷ slots) = is_slot_broken s || (is_finished s && is_output
 abbrev pub new_slot : HttpDate → Item → Slot
 new_slot date (Asks r) =
     record { item = Asks r; date = date; continued = None; owed = r.framing.owes_continue; given = 0; end_reported = false; given_up = false; stage = Unanswered }
-new_slot date (Refuses refusal version withheld last) =
-    record { item = Refuses refusal version withheld last; date = date; continued = None; owed = false; given = 0; end_reported = false; given_up = true; stage = ByServer }
+new_slot date (Refuses refusal version no_body last) =
+    record { item = Refuses refusal version no_body last; date = date; continued = None; owed = false; given = 0; end_reported = false; given_up = true; stage = ByServer }
 
 -- what is left of a request's body
 abbrev pub rest_of : Request → ℕ → Feed
@@ -152,12 +152,12 @@ is_form_streamed WithHead = false
 -- the number has the last head
 abbrev pub is_last_item : Item → Bool
 is_last_item (Asks r) = r.framing.is_last
-is_last_item (Refuses refusal version withheld last) = last
+is_last_item (Refuses refusal version no_body last) = last
 
 -- the body is read from the stream, isn't finished and wasn't given up
 abbrev pub body_is_open : Slot → Item → Bool
 body_is_open s (Asks r) = is_form_streamed r.framing.form && not (is_body_finished r s || s.given_up)
-body_is_open s (Refuses refusal version withheld last) = false
+body_is_open s (Refuses refusal version no_body last) = false
 
 abbrev pub is_chunked : Form → Bool
 is_chunked Chunked = true
@@ -166,7 +166,7 @@ is_chunked _ = false
 -- a chunked body was given up before its end was reported: where the next head begins isn't known
 abbrev pub body_was_abandoned : Slot → Item → Bool
 body_was_abandoned s (Asks r) = is_chunked r.framing.form && (s.given_up && not s.end_reported)
-body_was_abandoned s (Refuses refusal version withheld last) = false
+body_was_abandoned s (Refuses refusal version no_body last) = false
 
 abbrev pub last_slot : List Slot → Option Slot
 last_slot slots = last_or None slots

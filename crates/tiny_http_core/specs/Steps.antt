@@ -47,8 +47,8 @@ is_closed_client ConnectionRefused = true
 is_closed_client ConnectionReset = true
 is_closed_client _ = false
 
-abbrev pub fault_of_answer : ErrorKind → ReplyValue
-fault_of_answer kind = if is_closed_client kind then Done else Fault kind
+abbrev pub fault_reply : ErrorKind → ReplyValue
+fault_reply kind = if is_closed_client kind then Done else Fault kind
 
 -- How a step uses the writer: not at all; or its texts are written and flushed, and no reply reports a fault; or its own text
 -- is written, and flushed or not, and a fault of the writer in it is reported, or else that of its response's data, if any.
@@ -84,8 +84,8 @@ abbrev pub asks_from : HttpDate → WriterUse → List Slot → List Item → Ou
 asks_from date writer slots [] = record { reply = Ended; slots = slots; rest = []; asking_ended = true; writer = writer }
 asks_from date writer slots (Asks r ∷ items) =
     record { reply = Handed (length slots) r.message r.framing; slots = slots ++ new_slot date (Asks r) ∷ []; rest = items; asking_ended = false; writer = writer }
-asks_from date writer slots (Refuses refusal version withheld last ∷ items) =
-    asks_from date (if turn_has_come (length slots) slots then Unreported else writer) (slots ++ new_slot date (Refuses refusal version withheld last) ∷ []) items
+asks_from date writer slots (Refuses refusal version no_body last ∷ items) =
+    asks_from date (if turn_has_come (length slots) slots then Unreported else writer) (slots ++ new_slot date (Refuses refusal version no_body last) ∷ []) items
 
 -- The answer to an Ask: Ended once it was; NotYet while the last body handed out holds the reader; Ended after a chunked
 -- body that was given up before its end; else the next request of the pipeline, or its end.
@@ -169,7 +169,7 @@ effect found date old r s turn (Read k n) =
     (read_reply n (rest_of r s.given).bytes r.body.stop) Unused
 effect found date old r s turn (Respond k response) =
     let text = text_if found response (to_request r date) in
-    changes old k (finished_as s (Answered response date found)) Done (Reported text.bytes (fault_in text.ending) true fault_of_answer)
+    changes old k (finished_as s (Answered response date found)) Done (Reported text.bytes (fault_in text.ending) true fault_reply)
 effect found date old r s turn (IntoWriter k) = changes old k (record s { stage = Raw [] false; given_up = true; owed = false }) Done Unused
 effect found date old r s turn (Write k bytes) = changes old k (record s { stage = written_to bytes s.stage }) Done (Reported bytes None false Fault)
 effect found date old r s turn (Flush k) = changes old k s Done (Reported [] None true Fault)
@@ -182,7 +182,7 @@ effect found date old r s turn (Drop k) = changes old k (finished_as s ByServer)
 effect found date old r s turn Ask = unchanged old NoSuch
 
 abbrev pub at_item : Bool → HttpDate → Reached → ℕ → StepValue → Slot → Item → Outcome
-at_item found date old k step s (Refuses refusal version withheld last) = unchanged old NoSuch
+at_item found date old k step s (Refuses refusal version no_body last) = unchanged old NoSuch
 at_item found date old k step s (Asks r) =
     if not (accepts_step s.stage s.owed step) then unchanged old NoSuch else
     if (needs_turn s.owed step && not (turn_has_come k old.slots)) then unchanged old NotYet else

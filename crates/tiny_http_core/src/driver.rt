@@ -2,15 +2,14 @@
 ghost use Rattle.std.specs.Prelude.{◌≡◌, ◌-◌, ◌<◌, ◌^◌, true, false, List, [], length, Some, None, map, Ok, IfOk, IfErr, vec_len, is_some, slice_get};
 ghost use Rattle.std.specs.List.{AllZip};
 ghost use Rattle.tiny_http_wire.specs.Device.{Feed, Sink, HoldsNothing};
-ghost use Rattle.tiny_http_wire.specs.Answer.{answer_coding};
 ghost use Rattle.tiny_http_sending.specs.ResponseValue.{ResponseValue};
 ghost use Rattle.tiny_http_message.specs.Pipeline.{Item, Pipeline};
 ghost use Rattle.tiny_http_core.specs.Conversation.{IsConversation, IsFresh, TimedValue};
 ghost use Rattle.httpdate.specs.declared.date.HttpDate.{HttpDate as Date};
-ghost use Rattle.tiny_http_core.specs.Steps.{ReplyValue, Done, Fault, is_closed_client, fault_of_answer};
+ghost use Rattle.tiny_http_core.specs.Steps.{ReplyValue, Done, Fault, is_closed_client, fault_reply};
 ghost use Rattle.std.specs.declared.io.ErrorKind.{ErrorKind};
 ghost use Rattle.tiny_http_stream.specs.Source.{GoesOn};
-ghost use Rattle.tiny_http_core.specs.Pending.{waiting_answer_form};
+ghost use Rattle.tiny_http_core.specs.Pending.{waiting_answer_context};
 ghost use Rattle.tiny_http_core.specs.Driving.{HasDone, TakesStep, stated_response, stated_step};
 ghost use Rattle.tiny_http_sending.specs.ResponseValue.{printing_in};
 ghost use Rattle.tiny_http_core.specs.Seen.{seen, Answers, IsAnswered, IsResponse, IsTimedStep, ReportsHonestly, ReportHonestly};
@@ -27,7 +26,7 @@ use tiny_http_message::waiting::Waiting;
 use tiny_http_sending::sending::send;
 use tiny_http_stream::outlet::Outlet;
 use tiny_http_stream::source::{Source, Standing};
-use tiny_http_wire::answer_form::AnswerForm;
+use tiny_http_wire::answer_context::AnswerContext;
 use tiny_http_wire::device::{ReadDevice, WriteDevice};
 use tiny_http_wire::response::Response;
 
@@ -137,8 +136,8 @@ fn is_closed_client(kind: ErrorKind) -> bool
 
 impl Reply {
     // How a fault of an answer is reported.
-    fn fault_of_answer(kind: ErrorKind) -> Reply
-        ensures { seen result ≡ fault_of_answer kind }
+    fn fault_reply(kind: ErrorKind) -> Reply
+        ensures { seen result ≡ fault_reply kind }
     {
         if is_closed_client(kind) {
             return Reply::Done;
@@ -153,26 +152,26 @@ fn answer<W: WriteDevice, D: ReadDevice + Drop>(
     alloc: Global,
     outlet: &mut Outlet<W>,
     response: Response<D>,
-    answer_form: AnswerForm,
+    answer_context: AnswerContext,
     now: HttpDate,
 ) -> Reply
     ensures past { outlet_ended outlet.old ≡ true → (outlet.new ≡ outlet.old) × (seen result ≡ Done) }
     ensures sends { (content : Feed) → D.feed response.data_reader ≡ Some content → length content.bytes < 2 ^ 63
         → outlet_ended outlet.old ≡ false → CanSend (output_of outlet.old)
-        → Answers (output_of outlet.old) (output_of outlet.new) (outlet_ended outlet.new) (seen result) response.answer content (printing_in answer_form now) }
+        → Answers (output_of outlet.old) (output_of outlet.new) (outlet_ended outlet.new) (seen result) response.answer content (printing_in answer_context now) }
     ensures fails_once { FailsOnceUnlessEnded (outlet_ended outlet.old) (output_of outlet.old) (output_of outlet.new) (outlet_ended outlet.new) }
     ensures flushed { outlet_held outlet.old ≡ [] → outlet_held outlet.new ≡ [] }
     ensures sent_on { SentOn outlet.old → SentOn outlet.new }
     ensures done { IsAnswered (seen result) }
     ensures honest { (kind : ErrorKind) → seen result ≡ Fault kind → (outlet_ended outlet.new ≡ true)
-        × IsHonest (output_of outlet.old) (output_of outlet.new) (answer_coding response.answer (printing_in answer_form now)) response.answer.length (D.feed response.data_reader) kind }
+        × IsHonest (output_of outlet.old) (output_of outlet.new) response.answer (D.feed response.data_reader) (printing_in answer_context now) kind }
 {
     if outlet.is_ended() {
         return Reply::Done;
     }
-    match send(alloc, outlet, response, answer_form, now) {
+    match send(alloc, outlet, response, answer_context, now) {
         Ok(()) => Reply::Done,
-        Err(fault) => Reply::fault_of_answer(fault.kind()),
+        Err(fault) => Reply::fault_reply(fault.kind()),
     }
 }
 
@@ -217,9 +216,9 @@ impl<R: ReadDevice, W: WriteDevice> Connection<R, W> {
 
     /// Whether the request of this number waits for its answer.
     pub fn is_open(&self, number: u64) -> bool
-        ensures { result ≡ is_some (waiting_answer_form (slice_get self.now.requests number)) }
+        ensures { result ≡ is_some (waiting_answer_context (slice_get self.now.requests number)) }
     {
-        self.pending.answer_form_at(number).is_some()
+        self.pending.answer_context_at(number).is_some()
     }
 
     /// Goes to the next request, and hands it out with its number: `Handed`. It is `NotYet` while the body of the last request
@@ -279,7 +278,7 @@ impl<R: ReadDevice, W: WriteDevice> Connection<R, W> {
     pub fn read(&mut self, alloc: Global, number: u64, count: u16) -> Reply
         ensures step { (date : Date) → TakesStep self.old self.new date (Step.Read number count) (seen result) }
     {
-        let Some(_) = self.pending.answer_form_at(number) else {
+        let Some(_) = self.pending.answer_context_at(number) else {
             return Reply::NoSuch;
         };
         if count == 0 {
@@ -335,13 +334,13 @@ impl<R: ReadDevice, W: WriteDevice> Connection<R, W> {
     ) -> Reply
         ensures step { TakesStep self.old self.new now (Step.Respond number (stated_response D.feed response)) (seen result) }
     {
-        let Some(answer_form) = self.pending.answer_form_at(number) else {
+        let Some(answer_context) = self.pending.answer_context_at(number) else {
             return Reply::NoSuch;
         };
         if !self.pending.hold(number) {
             return Reply::NotYet;
         }
-        let reply = answer(alloc, &mut self.outlet, response, answer_form, now);
+        let reply = answer(alloc, &mut self.outlet, response, answer_context, now);
         self.pending.pass(&mut self.outlet, number);
         if let Some(Waiting { mut body, .. }) = self.pending.take(number) {
             body.give_up(&mut self.source);

@@ -6,7 +6,7 @@ ghost use Rattle.tiny_http_sending.specs.Sending.{CanSend, IsFlushed, SendsUnles
 ghost use Rattle.tiny_http_message.specs.declared.body.Body.{Body};
 ghost use Rattle.tiny_http_stream.specs.Source.{GoesOn};
 ghost use Rattle.tiny_http_message.specs.Body.{is_streaming, body_standing, FillsFromBody};
-ghost use Rattle.tiny_http_core.specs.Pending.{left_text, SendsLeft, FinishesFront, LeavesText, waiting_answer_form};
+ghost use Rattle.tiny_http_core.specs.Pending.{left_text, SendsLeft, FinishesFront, LeavesText, waiting_answer_context};
 
 use std::alloc::Global;
 use std::io::ErrorKind;
@@ -15,7 +15,7 @@ use tiny_http_sending::sending::{flush_quietly, write_quietly};
 use tiny_http_stream::outlet::Outlet;
 use tiny_http_stream::source::Source;
 use tiny_http_turns::turns::{Finishing, Leaving, Turns, TurnsError};
-use tiny_http_wire::answer_form::AnswerForm;
+use tiny_http_wire::answer_context::AnswerContext;
 use tiny_http_wire::device::{ReadDevice, WriteDevice};
 
 /// The numbers of a connection: their turns, and what is kept of each that waits for its answer.
@@ -74,11 +74,11 @@ impl Pending {
     }
 
     /// How the answer of this number is printed, if it waits for it.
-    pub fn answer_form_at(&self, number: u64) -> Option<AnswerForm>
-        ensures { result ≡ waiting_answer_form (slice_get self.now.requests.items number) }
+    pub fn answer_context_at(&self, number: u64) -> Option<AnswerContext>
+        ensures { result ≡ waiting_answer_context (slice_get self.now.requests.items number) }
     {
         match self.requests.get(number as usize) {
-            Some(Some(waiting)) => Some(waiting.answer_form),
+            Some(Some(waiting)) => Some(waiting.answer_context),
             _ => None,
         }
     }
@@ -111,7 +111,7 @@ impl Pending {
     pub fn take(&mut self, number: u64) -> Option<Waiting>
         ensures some { IfSome result (λ w. (slice_get self.old.requests.items number ≡ Some (Some w))
             × (self.new.requests.items ≡ slice_set self.old.requests.items number None)) }
-        ensures none { IfNone result ((waiting_answer_form (slice_get self.old.requests.items number) ≡ None) × (self.new.requests.items ≡ self.old.requests.items)) }
+        ensures none { IfNone result ((waiting_answer_context (slice_get self.old.requests.items number) ≡ None) × (self.new.requests.items ≡ self.old.requests.items)) }
         ensures turns { self.new.turns ≡ self.old.turns }
     {
         let entry = self.requests.get_mut(number as usize)?;

@@ -20,8 +20,8 @@ bytes_of None = None
 bytes_of (Some f) = Some f.bytes
 
 -- a feed that ends after these bytes
-abbrev pub ending : List ℕ → Feed
-ending bs = record { bytes = bs; stop = End }
+abbrev pub whole_feed : List ℕ → Feed
+whole_feed bs = record { bytes = bs; stop = End }
 
 -- these bytes, and then the feed
 abbrev pub prepend : List ℕ → Feed → Feed

@@ -2,7 +2,7 @@
 ghost use Rattle.std.specs.Prelude.{◌≡◌, ◌<◌, ◌≤◌, min, false, [], length, take, drop, Option, None, Some, Ok, IfOk, IfErr, OnOk, OnErr, vec_len, flat_map};
 ghost use Rattle.std.specs.IoError.{error_kind};
 ghost use Rattle.tiny_http_device.specs.Cursor.{cursor_bytes};
-ghost use Rattle.tiny_http_device.specs.Device.{Feed, ending, prepended, StopsBy, stop_of, next_count, Sink, BeginsKnown, HoldsNothing, Reads, ReadsFrom, Puts, PutsFront};
+ghost use Rattle.tiny_http_device.specs.Device.{Feed, whole_feed, prepended, StopsBy, stop_of, next_count, Sink, BeginsKnown, HoldsNothing, Reads, ReadsFrom, Puts, PutsFront};
 
 use std::alloc::Global;
 use std::io;
@@ -113,7 +113,7 @@ impl ReadDevice for Canned {
 }
 
 impl ReadDevice for Cursor<Vec<u8>> {
-    ghost feed = { λ c. Some (ending (cursor_bytes c)) };
+    ghost feed = { λ c. Some (whole_feed (cursor_bytes c)) };
 
     /// Copies the next bytes. It never fails.
     fn read_in(&mut self, buf: &mut [u8]) -> Result<usize, io::Error> {
@@ -122,7 +122,7 @@ impl ReadDevice for Cursor<Vec<u8>> {
 }
 
 impl ReadDevice for io::Empty {
-    ghost feed = { λ _. Some (ending []) };
+    ghost feed = { λ _. Some (whole_feed []) };
 
     /// Answers the end.
     fn read_in(&mut self, _buf: &mut [u8]) -> Result<usize, io::Error> {

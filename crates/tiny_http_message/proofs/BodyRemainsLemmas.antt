@@ -9,7 +9,7 @@ use Rattle.tiny_http_wire.specs.declared.device.Stop.{Stop}
 use Rattle.tiny_http_wire.specs.declared.chunked.Decoding.{Decoding}
 use Rattle.tiny_http_wire.specs.declared.chunked.Next.{Next}
 use Rattle.tiny_http_wire.specs.declared.chunked.Next.TheVariants.{Line, Data, Over, Broken}
-use Rattle.tiny_http_wire.specs.Device.{Feed, ending, prepend, fault_of}
+use Rattle.tiny_http_wire.specs.Device.{Feed, whole_feed, prepend, fault_of}
 use Rattle.tiny_http_wire.specs.Bytes.{crlf}
 use Rattle.tiny_http_wire.specs.Chunks.{WholeChunks, CutChunks, CloseFault}
 use Rattle.tiny_http_wire.specs.ChunkReading.{Decoded, after_data, decoded, prepend_decoded, chunk_closed, data_at, broken}
@@ -36,7 +36,7 @@ chunked-from : (n : ℕ) (x : Feed) → ChunkedFrom n x (coming_remaining (comin
 chunked-from n x = by (body_at x.stop x.bytes).body (body_at x.stop x.bytes).ends (decoded-is (length x.bytes + 1) x.bytes x.stop (omega arith))
   where
     by : (content : List ℕ) (r : Result (List ℕ) ErrorKind) → MatchResult r (λ rest. WholeChunks x.bytes content rest) (λ kind. CutChunks x.bytes x.stop content kind) → ChunkedFrom n x (chunks_remaining content (rest_at x.stop r))
-    by content (Ok rest) h = record { content = ending content; next = Some rest; stands = inl (rest, h, refl, refl); is = refl }
+    by content (Ok rest) h = record { content = whole_feed content; next = Some rest; stands = inl (rest, h, refl, refl); is = refl }
     by content (Err kind) h = record { content = breaking content kind; next = None; stands = inr (kind, h, refl, refl); is = refl }
 
 -- the same after some data
@@ -90,7 +90,7 @@ remains-next : (n : ℕ) (next : Next) (x : Feed) → RemainsFrom Chunked n x (c
 unfolding decoded_from
 remains-next n Line x = let k = chunked-from n x in record { content = k.content; next = k.next; stands = inl k.stands; is = k.is }
 remains-next n (Data size) x = remains-data n size x
-remains-next n Over x = record { content = ending []; next = Some x.bytes; stands = inr (inr (inl (refl, refl))); is = refl }
+remains-next n Over x = record { content = whole_feed []; next = Some x.bytes; stands = inr (inr (inl (refl, refl))); is = refl }
 remains-next n (Broken kind) x = record { content = breaking [] kind; next = None; stands = inr (inr (inr (kind, refl, refl))); is = refl }
 
 -- what is left of a body that is read from the input

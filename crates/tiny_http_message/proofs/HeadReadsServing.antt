@@ -14,7 +14,7 @@ use Rattle.tiny_http_wire.specs.declared.device.Stop.{Stop}
 use Rattle.tiny_http_wire.specs.declared.device.Stop.TheVariants.{End, Fault as Faults}
 use Rattle.tiny_http_wire.specs.declared.chunked.Decoding.{Decoding}
 use Rattle.tiny_http_wire.specs.declared.common.HTTPVersion.{HTTPVersion}
-use Rattle.tiny_http_wire.specs.Device.{Feed, ending}
+use Rattle.tiny_http_wire.specs.Device.{Feed, whole_feed}
 use Rattle.tiny_http_wire.specs.Chunks.{WholeChunks, CutChunks}
 use Rattle.tiny_http_wire.specs.ChunkReading.{decoded}
 use Rattle.tiny_http_wire.specs.Decoding.{Coming, decoding_coming}
@@ -138,7 +138,7 @@ begins-rest f None new b e = tt
 begins-rest f (Some x) new b e = λ z. (let no : true ≡ false = sym (ap is_rest e) ∙ z in cc)
 
 nothing-at : (n : ℕ) (x : Feed) → BeginsAt Nothing n x (Some x) (body.Over End)
-nothing-at n x = (λ k. k, ending [], Some x.bytes, (refl, refl), refl, refl)
+nothing-at n x = (λ k. k, whole_feed [], Some x.bytes, (refl, refl), refl, refl)
 
 pub begins-nothing : (f : Framing) (o : Option Feed) → f.form ≡ Nothing → Begins f o o (Some (body.Over End))
 begins-nothing f o e = begins-with f Nothing o o (body.Over End) e (λ x end_reported. (let P : Option Feed → Type 0 = λ y. BeginsAt Nothing (body_length_or_0 f) x y (body.Over End) in subst P (sym end_reported) (nothing-at (body_length_or_0 f) x)))
@@ -162,22 +162,22 @@ counted-fits b n h = by (0 == n) refl h
 abbrev pair : Feed → Feed → Remaining
 pair content behind = record { body = content; behind = behind }
 
-all-of : (n : ℕ) (x : Feed) → length x.bytes < n → counted_remaining n x ≡ pair x (ending [])
+all-of : (n : ℕ) (x : Feed) → length x.bytes < n → counted_remaining n x ≡ pair x (whole_feed [])
 unfolding feed_front
 all-of n x lt =
     let P : List ℕ → Feed = λ bs. record { bytes = bs; stop = x.stop } in
     ap (λ y. pair y (skipped n x)) (rw (lt-ltb (length x.bytes) n lt) (ap P (take_all n x.bytes (omega (arith, lt))))) ∙ ap (pair x) (skipped-beyond n x lt)
 
-front-of : (n : ℕ) (x : Feed) → n ≤ length x.bytes → counted_remaining n x ≡ pair (ending (take n x.bytes)) (record { bytes = drop n x.bytes; stop = x.stop })
+front-of : (n : ℕ) (x : Feed) → n ≤ length x.bytes → counted_remaining n x ≡ pair (whole_feed (take n x.bytes)) (record { bytes = drop n x.bytes; stop = x.stop })
 unfolding feed_front
-front-of n x le = rw (le-ltb (length x.bytes) n le) (ap (pair (ending (take n x.bytes))) (skipped-within n x le))
+front-of n x le = rw (le-ltb (length x.bytes) n le) (ap (pair (whole_feed (take n x.bytes))) (skipped-within n x le))
 
 serving-counted-at : (n : ℕ) (x : Feed) (b : Body) → remaining b (Some x) ≡ Some (counted_remaining n x) → Fits b Counted n 0 false → BeginsAt Counted n x (Some x) b
 serving-counted-at n x b left fits = by (nat_lt (length x.bytes) n) refl
   where
     by : (t : Bool) → nat_lt (length x.bytes) n ≡ t → BeginsAt Counted n x (Some x) b
     by true e = (λ k. k, x, None, pipeline-sized-is n x.bytes x.stop true e, left ∙ ap Some (all-of n x (ltb-true (length x.bytes) n e)), fits)
-    by false e = (λ k. k, ending (take n x.bytes), Some (drop n x.bytes), pipeline-sized-is n x.bytes x.stop false e, left ∙ ap Some (front-of n x (ltb-false (length x.bytes) n e)), fits)
+    by false e = (λ k. k, whole_feed (take n x.bytes), Some (drop n x.bytes), pipeline-sized-is n x.bytes x.stop false e, left ∙ ap Some (front-of n x (ltb-false (length x.bytes) n e)), fits)
 
 -- what is left of a counted body
 pub remains-counted : (n : ℕ) (x : Feed) → (content : Feed) × (next : Place) × BodyAt Counted n x.bytes x.stop content next × (counted_remaining n x ≡ pair content (place_feed x.stop next))
@@ -185,7 +185,7 @@ remains-counted n x = by (nat_lt (length x.bytes) n) refl
   where
     by : (t : Bool) → nat_lt (length x.bytes) n ≡ t → (content : Feed) × (next : Place) × BodyAt Counted n x.bytes x.stop content next × (counted_remaining n x ≡ pair content (place_feed x.stop next))
     by true e = (x, None, pipeline-sized-is n x.bytes x.stop true e, all-of n x (ltb-true (length x.bytes) n e))
-    by false e = (ending (take n x.bytes), Some (drop n x.bytes), pipeline-sized-is n x.bytes x.stop false e, front-of n x (ltb-false (length x.bytes) n e))
+    by false e = (whole_feed (take n x.bytes), Some (drop n x.bytes), pipeline-sized-is n x.bytes x.stop false e, front-of n x (ltb-false (length x.bytes) n e))
 
 pub begins-counted : (f : Framing) (o : Option Feed) (b : Body) (n : ℕ) → f.form ≡ Counted → n ≡ body_length_or_0 f → ((feed : Option Feed) → remaining b feed ≡ option_map (counted_remaining n) feed) → ReadsOn (body.Counted n) 0 false b → Begins f o o (Some b)
 begins-counted f o b n e is left moves =
@@ -206,7 +206,7 @@ begins-chunked f o d e whole front =
   where
     at : (x : Feed) (content : List ℕ) (r : Result (List ℕ) ErrorKind) → MatchResult r (λ rest. WholeChunks x.bytes content rest) (λ kind. CutChunks x.bytes x.stop content kind) → BeginsAt Chunked (body_length_or_0 f) x (Some x) (body.Chunked d)
     at x content (Ok rest) h =
-        (λ k. k, ending content, Some rest, inl (rest, h, refl, refl), ap (λ (c : Option Coming). option_map coming_remaining c) (whole x.bytes content rest x.stop h), (refl, refl))
+        (λ k. k, whole_feed content, Some rest, inl (rest, h, refl, refl), ap (λ (c : Option Coming). option_map coming_remaining c) (whole x.bytes content rest x.stop h), (refl, refl))
     at x content (Err kind) h =
         (λ k. k, record { bytes = content; stop = Faults kind }, None, inr (kind, h, refl, refl), ap (λ (c : Option Coming). option_map coming_remaining c) (front x.bytes content x.stop kind h), (refl, refl))
 
@@ -217,12 +217,12 @@ begins-held f o new c v n e is bytes h = begins-with f WithHead o new (body.With
     at : (x : Feed) → TakesExactly (λ (w : Vec ℕ). w.items) n (Some x) new (Some v) → BeginsAt WithHead (body_length_or_0 f) x new (body.WithHead c)
     at x k =
         let long : length x.bytes ≡ length v.items + length k.0 = ap length k.1 ∙ length-append v.items k.0 in
-        let R : Option Feed → Type 0 = λ y. remaining (body.WithHead c) y ≡ Some (pair (ending v.items) (record { bytes = k.0; stop = x.stop })) in (
+        let R : Option Feed → Type 0 = λ y. remaining (body.WithHead c) y ≡ Some (pair (whole_feed v.items) (record { bytes = k.0; stop = x.stop })) in (
           λ lt. absurd (omega (arith, lt, is, long, k.2)),
-          ending v.items,
+          whole_feed v.items,
           Some k.0,
           (k.0, k.1, k.2 ∙ is, refl, refl),
-          subst R (sym k.3) (ap (λ bs. Some (pair (ending bs) (record { bytes = k.0; stop = x.stop }))) bytes),
+          subst R (sym k.3) (ap (λ bs. Some (pair (whole_feed bs) (record { bytes = k.0; stop = x.stop }))) bytes),
           refl,
         )
 

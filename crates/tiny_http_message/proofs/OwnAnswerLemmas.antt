@@ -14,23 +14,23 @@ use Rattle.tiny_http_wire.specs.declared.coding.FramingHeader.{FramingHeader}
 use Rattle.tiny_http_wire.specs.declared.coding.FramingHeader.TheVariants.{ContentLength, TransferEncoding}
 use Rattle.tiny_http_encoding.specs.ChunkedPrinting.{full_chunks, left_over}
 use Rattle.tiny_http_wire.specs.Common.{reason_phrase}
-use Rattle.tiny_http_wire.specs.Device.{Sink, Took, Failed, ending}
+use Rattle.tiny_http_wire.specs.Device.{Sink, Took, Failed, whole_feed}
 use Rattle.tiny_http_encoding.specs.Text.{Ending, Whole, Broken, identity_body, chunked_body}
-use Rattle.tiny_http_wire.specs.Answer.{Answer, Printing, answer_with, answer_coding, with_coding, PrintsAnswer, text_of, body_unless_withheld, is_withheld, answer_head_text, status_line, field_line, upgrade_lines, server_line, date_line, framing_line}
+use Rattle.tiny_http_wire.specs.Answer.{Answer, Printing, answer_with, answer_coding, coded_text, PrintsAnswer, text_of, body_unless_withheld, is_withheld, answer_head_text, status_line, field_line, upgrade_lines, server_line, date_line, framing_line}
 use Rattle.tiny_http_sending.specs.ResponseValue.{printing_to}
 use Rattle.tiny_http_message.specs.OwnAnswer.{own_text_by}
 
 -- an answer of the server's own is whole, however it is coded
-coded-whole : (coding : Coding) (top : FramingHeader → List ℕ) (withheld : Bool) → (with_coding coding (Some 0) top withheld (ending [])).ending ≡ Whole
+coded-whole : (coding : Coding) (top : FramingHeader → List ℕ) (withheld : Bool) → (coded_text coding (Some 0) top withheld (whole_feed [])).ending ≡ Whole
 coded-whole Identity top true = refl
 coded-whole Identity top false = refl
 coded-whole Chunked top true = refl
 coded-whole Chunked top false = refl
 
-pub own-whole : (status : ℕ) (asked : Option Coding) (v : HTTPVersion) (withheld : Bool) (date : HttpDate) → (text_of (answer_with status [] 0) (ending []) (printing_to asked v withheld date)).ending ≡ Whole
+pub own-whole : (status : ℕ) (asked : Option Coding) (v : HTTPVersion) (no_body : Bool) (date : HttpDate) → (text_of (answer_with status [] 0) (whole_feed []) (printing_to asked v no_body date)).ending ≡ Whole
 unfolding text_of
-own-whole status asked v withheld date =
-    coded-whole (answer_coding (answer_with status [] 0) (printing_to asked v withheld date)) (λ framing. answer_head_text v status None [] date framing) (is_withheld withheld status)
+own-whole status asked v no_body date =
+    coded-whole (answer_coding (answer_with status [] 0) (printing_to asked v no_body date)) (λ framing. answer_head_text v status None [] date framing) (is_withheld no_body status)
 
 pieces : (x y t f : List ℕ) → length x ≤ 3 → length y ≤ 3 → length t ≡ 29 → length f ≤ 28
     → length ((codes "HTTP/" ++ (x ++ codes "." ++ y) ++ codes " " ++ codes "500" ++ codes " " ++ codes "Internal Server Error" ++ codes "\r\n") ++ [] ++ codes "Server: tiny-http (Rust)\r\n" ++ (codes "Date" ++ codes ": " ++ t ++ codes "\r\n") ++ [] ++ f ++ codes "\r\n") ≤ 133
@@ -52,22 +52,22 @@ unfolding framing_line field_line
 chunked-line = omega arith
 
 -- no body, and a last chunk alone
-no-chunk : length (chunked_body (ending [])).bytes ≤ 5
+no-chunk : length (chunked_body (whole_feed [])).bytes ≤ 5
 unfolding full_chunks left_over
 no-chunk = omega arith
 
-coded-length : (coding : Coding) (v : HTTPVersion) (withheld : Bool) (d : HttpDate) → v.0 < 256 → v.1 < 256 → length (date_text d) ≡ 29 → length (with_coding coding (Some 0) (λ framing. answer_head_text v 500 None [] d framing) withheld (ending [])).bytes < 144
+coded-length : (coding : Coding) (v : HTTPVersion) (withheld : Bool) (d : HttpDate) → v.0 < 256 → v.1 < 256 → length (date_text d) ≡ 29 → length (coded_text coding (Some 0) (λ framing. answer_head_text v 500 None [] d framing) withheld (whole_feed [])).bytes < 144
 coded-length Identity v true d a b e = let h = head-length v d (ContentLength 0) a b e no-length in simp length-append (omega (arith, h))
 coded-length Identity v false d a b e = let h = head-length v d (ContentLength 0) a b e no-length in simp length-append (omega (arith, h))
 coded-length Chunked v true d a b e = let h = head-length v d TransferEncoding a b e chunked-line in simp length-append (omega (arith, h))
 coded-length Chunked v false d a b e =
     let h = head-length v d TransferEncoding a b e chunked-line in
-    let l = length-append (answer_head_text v 500 None [] d TransferEncoding) (chunked_body (ending [])).bytes in
+    let l = length-append (answer_head_text v 500 None [] d TransferEncoding) (chunked_body (whole_feed [])).bytes in
     omega (arith, h, l, no-chunk)
 
-pub own-length : (asked : Option Coding) (v : HTTPVersion) (withheld : Bool) (d : HttpDate) → v.0 < 256 → v.1 < 256 → length (date_text d) ≡ 29 → length (own_text_by 500 (printing_to asked v withheld d)) < 144
+pub own-length : (asked : Option Coding) (v : HTTPVersion) (no_body : Bool) (d : HttpDate) → v.0 < 256 → v.1 < 256 → length (date_text d) ≡ 29 → length (own_text_by 500 (printing_to asked v no_body d)) < 144
 unfolding text_of
-own-length asked v withheld d a b e = coded-length (answer_coding (answer_with 500 [] 0) (printing_to asked v withheld d)) v (is_withheld withheld 500) d a b e
+own-length asked v no_body d a b e = coded-length (answer_coding (answer_with 500 [] 0) (printing_to asked v no_body d)) v (is_withheld no_body 500) d a b e
 
 whole-broken : (t : Ending) (kind : ErrorKind) → t ≡ Whole → t ≡ Broken kind → ⊥
 whole-broken Whole kind h k = cc
@@ -81,19 +81,19 @@ full-front old new bytes text kind o n f =
 
 -- a writer into room for such a text doesn't fail
 pub no-fault : (old new : Sink) (e : Error) (a : Answer) (p : Printing) (bytes : List ℕ) → a ≡ answer_with 500 [] 0 → old.taken ≡ Some [] → new.taken ≡ Some bytes → old.failures ≡ 0 → (0 < new.failures → 144 ≤ length bytes)
-    → (text_of (answer_with 500 [] 0) (ending []) p).ending ≡ Whole → length (own_text_by 500 p) < 144 → PrintsAnswer {T = Unit {0}} old new (Err e) a (ending []) p → ⊥
+    → (text_of (answer_with 500 [] 0) (whole_feed []) p).ending ≡ Whole → length (own_text_by 500 p) < 144 → PrintsAnswer {T = Unit {0}} old new (Err e) a (whole_feed []) p → ⊥
 no-fault old new e a p bytes same o n z full all fits (inl k) = ⊎_elim whole failed k.0
   where
-    whole : ((text_of a (ending []) p).ending ≡ Broken (error_kind e)) × Took old new (text_of a (ending []) p).bytes → ⊥
-    whole h = whole-broken _ (error_kind e) (ap (λ x. (text_of x (ending []) p).ending) same ∙ all) h.0
+    whole : ((text_of a (whole_feed []) p).ending ≡ Broken (error_kind e)) × Took old new (text_of a (whole_feed []) p).bytes → ⊥
+    whole h = whole-broken _ (error_kind e) (ap (λ x. (text_of x (whole_feed []) p).ending) same ∙ all) h.0
 
-    failed : Failed old new (text_of a (ending []) p).bytes (error_kind e) → ⊥
+    failed : Failed old new (text_of a (whole_feed []) p).bytes (error_kind e) → ⊥
     failed f =
-        let P : Answer → Type 0 = λ x. Failed old new (text_of x (ending []) p).bytes (error_kind e) in
+        let P : Answer → Type 0 = λ x. Failed old new (text_of x (whole_feed []) p).bytes (error_kind e) in
         let front = full-front old new bytes _ (error_kind e) o n (subst P same f) in
         let rose : new.failures ≡ 1 = f.failures ∙ rw z refl in
         let long = full (rw rose (omega arith)) in
         omega (arith, front, long, fits)
 no-fault old new e a p bytes same o n z full all fits (inr k) =
-    let none : Some 0 ≡ None = sym (ap (λ (x : Answer). x.length) same) ∙ k.2 in
+    let none : Some 0 ≡ None = sym (ap (λ (x : Answer). x.data_length) same) ∙ k.0.2 in
     cc

@@ -6,7 +6,7 @@ use Rattle.std.proofs.lemmas.Bool.{ltb-true, ltb-false, lt-ltb, le-ltb}
 use Rattle.std.specs.declared.io.ErrorKind.{ErrorKind}
 use Rattle.tiny_http_wire.specs.declared.device.Stop.{Stop}
 use Rattle.tiny_http_wire.specs.declared.device.Stop.TheVariants.{End, Fault as Faults}
-use Rattle.tiny_http_wire.specs.Device.{Feed, ending}
+use Rattle.tiny_http_wire.specs.Device.{Feed, whole_feed}
 use Rattle.tiny_http_wire.specs.Heads.{Message, BeginsWithRequestHead, is_too_new}
 use Rattle.tiny_http_wire.specs.Chunks.{WholeChunks, CutChunks}
 use Rattle.tiny_http_wire.specs.HeadReading.{request_head_read, RequestHeadRead, Whole, Faulty}
@@ -75,13 +75,13 @@ chunked-is n after stop body (Ok rest) h = inl (rest, h, refl, refl)
 chunked-is n after stop body (Err kind) h = inr (kind, h, refl, refl)
 
 pub pipeline-sized-is : (n : ℕ) (after : List ℕ) (stop : Stop) (t : Bool) → nat_lt (length after) n ≡ t
-    → (let r : BodyRead = (if t then record { body = record { bytes = after; stop = stop }; next = None } else record { body = ending (take n after); next = Some (drop n after) }) in
+    → (let r : BodyRead = (if t then record { body = record { bytes = after; stop = stop }; next = None } else record { body = whole_feed (take n after); next = Some (drop n after) }) in
     BodyAt Counted n after stop r.body r.next)
 pipeline-sized-is n after stop true e = inr (ltb-true (length after) n e, refl, refl)
 pipeline-sized-is n after stop false e = let k = ltb-false (length after) n e in inl (drop n after, grind (arith, common_steps), grind (arith, common_steps), refl, refl)
 
 held-is : (n : ℕ) (after : List ℕ) (stop : Stop) (t : Bool) → nat_lt (length after) n ≡ t → (length after < n → ⊥)
-    → (let r : BodyRead = (if t then record { body = record { bytes = after; stop = stop }; next = None } else record { body = ending (take n after); next = Some (drop n after) }) in
+    → (let r : BodyRead = (if t then record { body = record { bytes = after; stop = stop }; next = None } else record { body = whole_feed (take n after); next = Some (drop n after) }) in
     BodyAt WithHead n after stop r.body r.next)
 held-is n after stop true e h = absurd (h (ltb-true (length after) n e))
 held-is n after stop false e h = let k = ltb-false (length after) n e in (drop n after, grind (arith, common_steps), grind (arith, common_steps), refl, refl)

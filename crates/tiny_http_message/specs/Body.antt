@@ -5,7 +5,7 @@ use Rattle.std.specs.declared.io.ErrorKind.{ErrorKind}
 use Rattle.tiny_http_wire.specs.declared.device.Stop.{Stop}
 use Rattle.tiny_http_wire.specs.declared.device.Stop.TheVariants.{End, Fault}
 use Rattle.tiny_http_wire.specs.Cursor.{cursor_bytes}
-use Rattle.tiny_http_wire.specs.Device.{Feed, ending, prepend}
+use Rattle.tiny_http_wire.specs.Device.{Feed, whole_feed, prepend}
 use Rattle.tiny_http_wire.specs.Decoding.{Coming, decoding_coming}
 use Rattle.tiny_http_message.specs.declared.body.Body.{Body}
 use Rattle.tiny_http_message.specs.declared.body.Body.TheVariants.{Over, WithHead, Counted, Chunked}
@@ -25,7 +25,7 @@ pub record Remaining : Type 0 where
 -- a chunked body that is whole ends, and the input goes on after it; one that is cut or broken stops by its fault, and
 -- no head follows
 abbrev pub chunks_remaining : List ℕ → Result Feed ErrorKind → Remaining
-chunks_remaining bytes (Ok feed) = record { body = ending bytes; behind = feed }
+chunks_remaining bytes (Ok feed) = record { body = whole_feed bytes; behind = feed }
 chunks_remaining bytes (Err kind) = record { body = record { bytes = bytes; stop = Fault kind }; behind = stopped End }
 
 abbrev pub coming_remaining : Coming → Remaining
@@ -42,7 +42,7 @@ taken_remaining body feed = record { body = body; behind = feed }
 -- what is still to come of the body, where the input still gives this
 abbrev pub remaining : Body → Option Feed → Option Remaining
 remaining (Over stop) feed = option_map (taken_remaining (stopped stop)) feed
-remaining (WithHead bytes) feed = option_map (taken_remaining (ending (cursor_bytes bytes))) feed
+remaining (WithHead bytes) feed = option_map (taken_remaining (whole_feed (cursor_bytes bytes))) feed
 remaining (Counted n) feed = option_map (counted_remaining n) feed
 remaining (Chunked decoding) feed = option_map coming_remaining (decoding_coming decoding feed)
 

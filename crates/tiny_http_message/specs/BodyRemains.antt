@@ -3,7 +3,7 @@ use Rattle.std.specs.Prelude.{◌≡◌, ℕ, ◌<◌, ◌⊎◌, List, [], ◌+
 use Rattle.std.specs.declared.io.ErrorKind.{ErrorKind}
 use Rattle.tiny_http_wire.specs.declared.device.Stop.{Stop}
 use Rattle.tiny_http_wire.specs.declared.device.Stop.TheVariants.{Fault as Faults}
-use Rattle.tiny_http_wire.specs.Device.{Feed, ending, prepend, fault_of}
+use Rattle.tiny_http_wire.specs.Device.{Feed, whole_feed, prepend, fault_of}
 use Rattle.tiny_http_wire.specs.Bytes.{crlf}
 use Rattle.tiny_http_wire.specs.Chunks.{CloseFault}
 use Rattle.tiny_http_message.specs.declared.framing.Form.{Form}
@@ -23,7 +23,7 @@ WithinChunk left bytes stop body next =
 
 -- the body's end, or its fault, was met and not reported yet
 abbrev pub IsMet : List ℕ → Feed → Place → Type 0
-IsMet bytes body next = ((body ≡ ending []) × (next ≡ Some bytes)) ⊎ ((kind : ErrorKind) × (body ≡ breaking [] kind) × (next ≡ None))
+IsMet bytes body next = ((body ≡ whole_feed []) × (next ≡ Some bytes)) ⊎ ((kind : ErrorKind) × (body ≡ breaking [] kind) × (next ≡ None))
 
 -- WHAT IS LEFT OF A BODY, of which so many bytes are left where it is counted. Of a chunked one: what is left of a chunk, and
 -- a chunked body; or a chunked body; or nothing. Of another: a body of its form.

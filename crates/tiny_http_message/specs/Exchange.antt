@@ -34,7 +34,7 @@ exchange_stop x = body_stop x.waiting.body
 
 -- how its answer of this date is printed
 abbrev pub exchange_printing : Exchange → HttpDate → Printing
-exchange_printing x date = printing_in x.waiting.answer_form date
+exchange_printing x date = printing_in x.waiting.answer_context date
 
 -- its body is read from the input, which has to stand after it before the next head is read
 abbrev pub exchange_streams : Exchange → Bool
@@ -58,9 +58,9 @@ GivesUpBody x old new = GivesUp x.waiting.body old new
 
 -- this is kept of a request with this head that was handed out on this date
 pub record KeepsHead (w : Waiting) (h : Head) (date : HttpDate) : Type 0 where
-  pub version : w.answer_form.version ≡ h.version
-  pub asked_coding : w.answer_form.asked_coding ≡ coding_asked h.headers.items
-  pub no_body : w.answer_form.no_body ≡ is_head_method h.method
+  pub version : w.answer_context.version ≡ h.version
+  pub asked_coding : w.answer_context.asked_coding ≡ coding_asked h.headers.items
+  pub no_body : w.answer_context.no_body ≡ is_head_method h.method
   pub text : w.dropped.items ≡ own_text_by 500 (printing_to (coding_asked h.headers.items) h.version (is_head_method h.method) date)
 
 -- what is kept of a request that was read on this date, of whose body nothing was read yet

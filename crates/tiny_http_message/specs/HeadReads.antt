@@ -8,7 +8,7 @@ use Rattle.tiny_http_wire.specs.declared.common.HTTPVersion.{HTTPVersion}
 use Rattle.tiny_http_wire.specs.declared.common.Header.{Header}
 use Rattle.tiny_http_wire.specs.declared.device.Stop.{Stop}
 use Rattle.tiny_http_wire.specs.declared.device.Stop.TheVariants.{End, Fault}
-use Rattle.tiny_http_wire.specs.Device.{Feed, ending}
+use Rattle.tiny_http_wire.specs.Device.{Feed, whole_feed}
 use Rattle.tiny_http_wire.specs.Bytes.{AreAscii}
 use Rattle.tiny_http_wire.specs.Lines.{Line, IsUnfinished}
 use Rattle.tiny_http_wire.specs.Heads.{Message as Texted, BeginsWithRequestLine, BeginsWithHeaderLines, HeaderLine, FaultyLine, FaultyHead, BeginsWithRequestHead, IsRequestLine, IsFieldOrEnd, Cut, NotAscii, Malformed, version}
@@ -177,7 +177,7 @@ RefusesBy v _ cut date _ = ⊥
 
 -- the feed at a place; nothing where no head follows
 abbrev pub place_feed : Stop → Place → Feed
-place_feed stop None = ending []
+place_feed stop None = whole_feed []
 place_feed stop (Some bytes) = record { bytes = bytes; stop = stop }
 
 -- the body that stands here, and the place after it, are to come

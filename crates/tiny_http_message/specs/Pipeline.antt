@@ -43,7 +43,7 @@ refusal_status VersionNotSupported = 505
 -- head follows
 pub data Item : Type 0 where
   Asks : (request : Request) → Item
-  Refuses : (refusal : Refusal) (version : HTTPVersion) (withheld last : Bool) → Item
+  Refuses : (refusal : Refusal) (version : HTTPVersion) (no_body last : Bool) → Item
 
 -- where the next head begins; or None: the connection has ended
 abbrev pub Place : Type 0
@@ -93,10 +93,10 @@ HeadAt bytes stop (Heads m f after) =
 abbrev pub served_answer : Option Item → Option Item
 served_answer None = None
 served_answer (Some (Asks r)) = None
-served_answer (Some (Refuses BadRequest v withheld last)) = Some (Refuses BadRequest v withheld last)
-served_answer (Some (Refuses RequestTimeout v withheld last)) = None
-served_answer (Some (Refuses ExpectationFailed v withheld last)) = None
-served_answer (Some (Refuses VersionNotSupported v withheld last)) = None
+served_answer (Some (Refuses BadRequest v no_body last)) = Some (Refuses BadRequest v no_body last)
+served_answer (Some (Refuses RequestTimeout v no_body last)) = None
+served_answer (Some (Refuses ExpectationFailed v no_body last)) = None
+served_answer (Some (Refuses VersionNotSupported v no_body last)) = None
 
 abbrev pub served : Heading → Heading
 served (Ends answer) = Ends (served_answer answer)

@@ -9,7 +9,6 @@ ghost use Rattle.tiny_http_message.specs.Body.{prepended_body, BodyStops};
 ghost use Rattle.tiny_http_message.specs.HeadReads.{ReadsHead, EndsUnlessHanded, RefusesBy, Begins, IsCutOff, IsRequest, IsRefusedHead, IsOkEnd, IsBeforeHead, cut_end, end_at, standing_of, standing_read, message_of, head_message, head_framing};
 ghost use Rattle.tiny_http_message.specs.Exchange.{KeepsHead};
 ghost use Rattle.tiny_http_wire.specs.Device.{Feed};
-ghost use Rattle.tiny_http_wire.specs.Answer.{answer_coding};
 ghost use Rattle.tiny_http_stream.specs.Outlet.{output_of, outlet_ended, outlet_held, SentOn};
 ghost use Rattle.tiny_http_sending.specs.Sending.{CanSend, Sends, FailsOnceUnlessEnded, IsHonest};
 
@@ -26,7 +25,7 @@ use std::io::{Cursor, ErrorKind};
 use tiny_http_sending::sending::send;
 use tiny_http_stream::outlet::Outlet;
 use tiny_http_stream::source::{Source, Standing};
-use tiny_http_wire::answer_form::AnswerForm;
+use tiny_http_wire::answer_context::AnswerContext;
 use tiny_http_wire::ascii::AsciiString;
 use tiny_http_wire::chunked::Decoding;
 use tiny_http_wire::coding::asked_coding;
@@ -169,7 +168,7 @@ impl Exchange {
             → Sends (output_of outlet.old) (output_of outlet.new) (outlet_ended outlet.new) result response.answer content (exchange_printing self.now now) }
         ensures fails_once { FailsOnceUnlessEnded (outlet_ended outlet.old) (output_of outlet.old) (output_of outlet.new) (outlet_ended outlet.new) }
         ensures honest { IfErr result (λ e.
-            IsHonest (output_of outlet.old) (output_of outlet.new) (answer_coding response.answer (exchange_printing self.now now)) response.answer.length (D.feed response.data_reader) (error_kind e)) }
+            IsHonest (output_of outlet.old) (output_of outlet.new) response.answer (D.feed response.data_reader) (exchange_printing self.now now) (error_kind e)) }
         ensures ended { OnErr result (outlet_ended outlet.new ≡ true) }
         ensures flushed { outlet_held outlet.new ≡ [] }
         ensures sent_on { SentOn outlet.new }
@@ -178,7 +177,7 @@ impl Exchange {
             outlet.facts();
             return Ok(());
         }
-        send(alloc, outlet, response, self.waiting.answer_form, now)
+        send(alloc, outlet, response, self.waiting.answer_context, now)
     }
 
     /// Gives the body up: each later read answers 0. The rest of a body of a known length is skipped before the next head;
@@ -267,14 +266,14 @@ fn head_of(message: Message, framing: Framing) -> Head
 fn hand_out(alloc: Global, head: Head, body: Body, now: HttpDate) -> Result<Exchange, AllocError>
     ensures { IfOk result (λ x. (x.head ≡ head) × (x.waiting.body ≡ body) × KeepsHead x.waiting head now) }
 {
-    let answer_form = AnswerForm {
+    let answer_context = AnswerContext {
         version: head.version,
         asked_coding: asked_coding(head.headers.as_slice()),
         no_body: is_head(&head.method),
     };
-    let dropped = DropText::new(alloc, answer_form, now)?;
+    let dropped = DropText::new(alloc, answer_context, now)?;
     let waiting = Waiting {
-        answer_form,
+        answer_context,
         dropped,
         body,
     };

@@ -9,7 +9,7 @@ use std::alloc::{AllocError, Global};
 use std::io;
 use std::io::ErrorKind;
 use std::marker::Model;
-use tiny_http_wire::answer_form::AnswerForm;
+use tiny_http_wire::answer_context::AnswerContext;
 use tiny_http_wire::common::{HTTPVersion, StatusCode};
 use tiny_http_wire::device::{Budget, WriteDevice};
 use tiny_http_wire::response::Response;
@@ -31,12 +31,12 @@ pub fn own_answer(
     let bytes = Vec::with_capacity(alloc, OWN_ANSWER)?;
     let mut writer = Budget::from_vec(bytes, usize::MAX, ErrorKind::OutOfMemory);
     let answer = Response::empty(alloc, status);
-    let form = AnswerForm {
+    let context = AnswerContext {
         version,
         asked_coding: None,
         no_body,
     };
-    match answer.print(alloc, &mut writer, form, None, now) {
+    match answer.print(alloc, &mut writer, context, None, now) {
         Ok(()) => Ok(writer.into_bytes()),
         Err(_) => Err(AllocError),
     }
@@ -95,7 +95,7 @@ fn date_length(now: HttpDate) -> usize
 #[derive(Drop)]
 pub struct DropText {
     room: Vec<u8>,
-    form: AnswerForm,
+    context: AnswerContext,
     now: HttpDate,
 }
 
@@ -107,25 +107,25 @@ impl Model for DropText {
 
     ghost Value = { TextState };
 
-    ghost view = { λ t. record { items = own_text_by 500 (printing_to t.form.asked_coding t.form.version t.form.no_body t.now) } };
+    ghost view = { λ t. record { items = own_text_by 500 (printing_to t.context.asked_coding t.context.version t.context.no_body t.now) } };
 
-    ghost invariant = { λ t. (t.room.items ≡ []) × (vec_len t.room ≡ 0) × (144 ≤ vec_capacity t.room) × (t.form.version.0 < 256) × (t.form.version.1 < 256) };
+    ghost invariant = { λ t. (t.room.items ≡ []) × (vec_len t.room ≡ 0) × (144 ≤ vec_capacity t.room) × (t.context.version.0 < 256) × (t.context.version.1 < 256) };
 }
 
 impl DropText {
     /// An error where there is no memory for it.
-    pub fn new(alloc: Global, form: AnswerForm, now: HttpDate) -> Result<DropText, AllocError>
-        ensures { IfOk result (λ text. text.items ≡ own_text_by 500 (printing_to form.asked_coding form.version form.no_body now)) }
+    pub fn new(alloc: Global, context: AnswerContext, now: HttpDate) -> Result<DropText, AllocError>
+        ensures { IfOk result (λ text. text.items ≡ own_text_by 500 (printing_to context.asked_coding context.version context.no_body now)) }
     {
         let room = Vec::with_capacity(alloc, OWN_ANSWER)?;
-        Ok(DropText { room, form, now })
+        Ok(DropText { room, context, now })
     }
 
     /// The text itself. It takes no memory.
     pub fn into_text(self) -> Vec<u8>
         ensures { result.items ≡ self.items }
     {
-        let DropText { room, form, now } = self;
+        let DropText { room, context, now } = self;
         let alloc = *room.allocator();
         let _length = date_length(now);
         let mut page = Page {
@@ -133,7 +133,7 @@ impl DropText {
             failures: 0,
         };
         let answer = Response::empty(alloc, StatusCode(500));
-        match answer.print(alloc, &mut page, form, None, now) {
+        match answer.print(alloc, &mut page, context, None, now) {
             Ok(()) => page.bytes,
             Err(_) => unreachable!(),
         }

@@ -1,13 +1,13 @@
 //! What is kept of a request until it is answered.
 use crate::body::Body;
 use crate::own_answer::DropText;
-use tiny_http_wire::answer_form::AnswerForm;
+use tiny_http_wire::answer_context::AnswerContext;
 
 /// What is kept of a request until it is answered.
 #[derive(Drop)]
 pub struct Waiting {
     /// How its answer is printed.
-    pub answer_form: AnswerForm,
+    pub answer_context: AnswerContext,
     /// What is sent if the request is dropped.
     pub dropped: DropText,
     /// How far its body was read.

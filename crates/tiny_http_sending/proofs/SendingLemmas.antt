@@ -1,28 +1,19 @@
 -- From an answer that is printed to one that is sent.
 use Rattle.std.proofs.Common.{◌≡◌, refl, sym, ap, ◌∙◌, subst, ℕ, ◌-◌, ◌<◌, ◌^◌, ◌⊎◌, inl, inr, Bool, true, false, ◌||◌, List, [], ◌++◌, length, Option, Some, None, Result, Ok, Err, append_assoc, append-nil, arith, eq-eqb, eqb-true, ⊎_elim}
-use Rattle.std.specs.Prelude.{◌==◌, nat_le, if◌then◌else◌, MatchBool, OnOk, OnErr, IfSome}
+use Rattle.std.specs.Prelude.{◌==◌, if◌then◌else◌, MatchBool, OnOk, OnErr, IfSome}
 use Rattle.std.specs.IoError.{error_kind}
 use Rattle.std.specs.declared.io.Error.{Error}
 use Rattle.std.specs.declared.io.ErrorKind.{ErrorKind}
 use Rattle.std.specs.declared.io.ErrorKind.TheVariants.{OutOfMemory}
 use Rattle.std.specs.Io.KnownBytes.{append_known}
-use Rattle.std.proofs.lemmas.Bool.{ne_eqb, leb-false}
-use Rattle.tiny_http_wire.specs.Device.{Feed, Sink, IsFront, BeginsKnown, IsKnownFront, IsAllKnown, HoldsNothing, grown, StatesKind, Took, Failed, Puts, next_count, fault_of, CountsFaults}
-use Rattle.tiny_http_wire.specs.Answer.{Answer, Printing, PrintsAnswer, text_of, answer_coding, with_coding, gathered_body, body_unless_withheld, as_it_is, is_withheld}
-use Rattle.tiny_http_encoding.specs.Text.{Text, Whole, Broken, Prints, nothing_sent, identity_body, chunked_body, chunked_until}
+use Rattle.std.proofs.lemmas.Bool.{ne_eqb}
+use Rattle.tiny_http_wire.specs.Device.{Feed, Sink, IsFront, BeginsKnown, IsKnownFront, IsAllKnown, HoldsNothing, grown, StatesKind, Took, Failed, Puts, next_count, CountsFaults}
+use Rattle.tiny_http_wire.specs.Answer.{Answer, Printing, PrintsAnswer, text_of}
+use Rattle.tiny_http_encoding.specs.Text.{Text, Broken, Prints, nothing_sent}
 use Rattle.tiny_http_device.proofs.DeviceLemmas.{IsFront-same, IsFront-append, Took-nil}
 use Rattle.tiny_http_wire.proofs.AnswerLemmas.{text-some}
 use Rattle.tiny_http_stream.specs.Outlet.{holding, EndsOutlet}
-use Rattle.httpdate.specs.declared.date.HttpDate.{HttpDate}
-use Rattle.tiny_http_wire.specs.declared.common.HTTPVersion.{HTTPVersion}
-use Rattle.tiny_http_wire.specs.declared.coding.FramingHeader.{FramingHeader}
-use Rattle.tiny_http_wire.specs.declared.coding.FramingHeader.TheVariants.{ContentLength}
-use Rattle.tiny_http_wire.specs.declared.coding.Coding.{Coding}
-use Rattle.tiny_http_wire.specs.declared.coding.Coding.TheVariants.{Identity, Chunked}
-use Rattle.tiny_http_wire.specs.declared.device.Stop.{Stop}
-use Rattle.tiny_http_sending.specs.ResponseValue.{printing_to}
-use Rattle.tiny_http_wire.specs.declared.device.Stop.TheVariants.{End, Fault}
-use Rattle.tiny_http_sending.specs.Sending.{CanSend, OutletTook, OutletFailed, Idles, EndsQuietly, DropsHeld, SendsText, Sends, SendsQuietly, IsFlushed, SendsUnlessEnded, FailsOnce, FailsOnceUnlessEnded, DataBreakOff, IsHonest}
+use Rattle.tiny_http_sending.specs.Sending.{CanSend, OutletTook, OutletFailed, Idles, EndsQuietly, DropsHeld, SendsText, Sends, SendsQuietly, IsFlushed, SendsUnlessEnded, FailsOnce, FailsOnceUnlessEnded, BreaksOff, IsHonest}
 use Rattle.tiny_http_device.proofs.DeviceFeeds.{append_known-append}
 use Rattle.tiny_http_device.proofs.DeviceLemmas.{grown-nil}
 
@@ -114,7 +105,7 @@ printed-flushed o a b c was ended x r ans p up content stated few h f unended w 
   where
     by-cases : PrintsAnswer a b (Ok x) ans content p → Sends a c ended r ans content p
     by-cases (inl k) = inl (whole-flushed a b c was ended x r (text_of ans content p) unended k.0 f w z err ok (text-some ans content p up k.0.0))
-    by-cases (inr k) = absurd k.3
+    by-cases (inr k) = absurd k.1
 
 -- the text broke off, or the writer failed; then the outlet was ended
 count-rose : (n : ℕ) → n < 2 ^ 64 - 1 → (next_count n == n) ≡ false
@@ -150,7 +141,7 @@ printed-ended T o a b c n ended e ans p content stated few h same m unended low 
   where
     by-cases : PrintsAnswer {T = T} a b (Err e) ans content p → MatchBool (b.failures == a.failures) (EndsQuietly b c) (DropsHeld b c) → Sends {T = T} a c ended (Err e) ans content p
     by-cases (inl k) m2 = inl (broken-ended T a b c ended e (text_of ans content p) unended low k.0 m2 z y k.1)
-    by-cases (inr k) m2 = inr ((k.0, k.1, k.2), broken-ended T a b c ended e (nothing_sent OutOfMemory) unended low (inl (ap Broken (sym k.3.0), subst (λ x. Took a x []) (sym k.3.1) (Took-nil a))) m2 z y (λ none. k.3.1))
+    by-cases (inr k) m2 = inr (k.0, broken-ended T a b c ended e (nothing_sent OutOfMemory) unended low (inl (ap Broken (sym k.1.0), subst (λ x. Took a x []) (sym k.1.1) (Took-nil a))) m2 z y (λ none. k.1.1))
 
 -- the writer's count, whatever reader and writer state
 pub flushed-once : {T U : Type 0} (a b c : Sink) (x : U) (r : Result T Error) (ended : Bool) → CountsFaults a b (Ok x) → Puts b c r [] → OnErr r (ended ≡ true) → FailsOnce a c ended
@@ -171,44 +162,9 @@ ended-once T a b c n e ended (inl u) same m z = ended-by a b c n ended (b.failur
 ended-once T a b c n e ended (inr u) same m z = ended-by a b c n ended (b.failures == n) refl same (inr u.failures) m z
 
 -- whose a fault is
-gathered-breaks : (stop : Stop) (front : List ℕ) (withheld : Bool) (bytes : List ℕ) (kind : ErrorKind) → (gathered_body stop front withheld bytes).ending ≡ Broken kind → stop ≡ Fault kind
-gathered-breaks End front withheld bytes kind e = cc
-gathered-breaks (Fault k) front withheld bytes kind e = cc
-
-identity-breaks : (n m : ℕ) (t : Bool) (k kind : ErrorKind) → nat_le n m ≡ t → (if t then Whole else Broken k) ≡ Broken kind → (m < n) × (kind ≡ k)
-identity-breaks n m true k kind le e = cc
-identity-breaks n m false k kind le e = (leb-false n m le, cc)
-
-sized-breaks : (withheld : Bool) (n : ℕ) (f : Feed) (kind : ErrorKind) → (body_unless_withheld withheld (identity_body n f)).ending ≡ Broken kind → DataBreakOff Identity (Some n) f kind
-sized-breaks true n f kind e = cc
-sized-breaks false n f kind e = identity-breaks n (length f.bytes) (nat_le n (length f.bytes)) (fault_of f.stop) kind refl e
-
-uncoded-breaks : (len : Option ℕ) (top : FramingHeader → List ℕ) (withheld : Bool) (f : Feed) (kind : ErrorKind) → (as_it_is len top withheld f).ending ≡ Broken kind → DataBreakOff Identity len f kind
-uncoded-breaks (Some n) top withheld f kind e = sized-breaks withheld n f kind e
-uncoded-breaks None top withheld f kind e = inl (gathered-breaks f.stop (top (ContentLength (length f.bytes))) withheld f.bytes kind e)
-
-chunks-break : (stop : Stop) (bytes : List ℕ) (kind : ErrorKind) → (chunked_until stop bytes).ending ≡ Broken kind → stop ≡ Fault kind
-chunks-break End bytes kind e = cc
-chunks-break (Fault k) bytes kind e = cc
-
-chunked-breaks : (withheld : Bool) (f : Feed) (kind : ErrorKind) → (body_unless_withheld withheld (chunked_body f)).ending ≡ Broken kind → f.stop ≡ Fault kind
-chunked-breaks true f kind e = cc
-chunked-breaks false f kind e = chunks-break f.stop f.bytes kind e
-
-coded-breaks : (coding : Coding) (len : Option ℕ) (top : FramingHeader → List ℕ) (withheld : Bool) (f : Feed) (kind : ErrorKind) → (with_coding coding len top withheld f).ending ≡ Broken kind → DataBreakOff coding len f kind
-coded-breaks Identity len top withheld f kind e = uncoded-breaks len top withheld f kind e
-coded-breaks Chunked len top withheld f kind e = chunked-breaks withheld f kind e
-
-text-breaks : (a : Answer) (f : Feed) (asked : Option Coding) (v : HTTPVersion) (no_body : Bool) (date : HttpDate) (kind : ErrorKind) → (text_of a f (printing_to asked v no_body date)).ending ≡ Broken kind → DataBreakOff (answer_coding a (printing_to asked v no_body date)) a.length f kind
-unfolding text_of
-text-breaks a f asked v no_body date kind e = coded-breaks (answer_coding a (printing_to asked v no_body date)) a.length _ (is_withheld no_body a.status) f kind e
-
-data-breaks : (T : Type 0) (a b : Sink) (e : Error) (ans : Answer) (f : Feed) (asked : Option Coding) (v : HTTPVersion) (no_body : Bool) (date : HttpDate) → (b.failures ≡ next_count a.failures → ⊥) → PrintsAnswer {T = T} a b (Err e) ans f (printing_to asked v no_body date)
-    → DataBreakOff (answer_coding ans (printing_to asked v no_body date)) ans.length f (error_kind e)
-data-breaks T a b e ans f asked v no_body date same (inl k) = ⊎_elim (λ h. text-breaks ans f asked v no_body date (error_kind e) h.0) (λ h. absurd (same h.failures)) k.0
-data-breaks T a b e ans f asked v no_body date same (inr k) =
-    let P : Coding → Option ℕ → Type 0 = λ coding known. DataBreakOff coding known f (error_kind e) in
-    subst (λ c. P c ans.length) (sym k.1) (subst (P Identity) (sym k.2) (inr k.3.0))
+data-breaks : (T : Type 0) (a b : Sink) (e : Error) (ans : Answer) (f : Feed) (p : Printing) → (b.failures ≡ next_count a.failures → ⊥) → PrintsAnswer {T = T} a b (Err e) ans f p → BreaksOff ans f p (error_kind e)
+data-breaks T a b e ans f p same (inl k) = ⊎_elim (λ h. inl h.0) (λ h. absurd (same h.failures)) k.0
+data-breaks T a b e ans f p same (inr k) = inr (k.0, k.1.0)
 
 -- the count after the outlet's end, where printing raised it, or where it stands at its greatest
 rose : (a b c : Sink) (n : ℕ) (t : Bool) → (b.failures == n) ≡ t → n ≡ a.failures → b.failures ≡ next_count a.failures → MatchBool t (EndsQuietly b c) (DropsHeld b c) → c.failures ≡ next_count a.failures
@@ -216,18 +172,18 @@ rose a b c n true e same u (inl s) = s.failures ∙ u
 rose a b c n true e same u (inr l) = l.1.failures ∙ ap next_count (eqb-true b.failures n e ∙ same)
 rose a b c n false e same u m = m.failures ∙ u
 
-honest-by : (T : Type 0) (o : Option Feed) (a b c : Sink) (n : ℕ) (e : Error) (ans : Answer) (asked : Option Coding) (v : HTTPVersion) (no_body : Bool) (date : HttpDate) (t : Bool) → (next_count a.failures == a.failures) ≡ t → b.failures ≡ a.failures
-    → IfSome o (λ feed. length feed.bytes < 2 ^ 63 → PrintsAnswer {T = T} a b (Err e) ans feed (printing_to asked v no_body date)) → n ≡ a.failures → MatchBool (b.failures == n) (EndsQuietly b c) (DropsHeld b c) → IsHonest a c (answer_coding ans (printing_to asked v no_body date)) ans.length o (error_kind e)
-honest-by T o a b c n e ans asked v no_body date true top u h same m = inl (rose a b c n (b.failures == n) refl same (u ∙ sym (eqb-true (next_count a.failures) a.failures top)) m)
-honest-by T None a b c n e ans asked v no_body date false top u h same m = inr tt
-honest-by T (Some f) a b c n e ans asked v no_body date false top u h same m =
+honest-by : (T : Type 0) (o : Option Feed) (a b c : Sink) (n : ℕ) (e : Error) (ans : Answer) (p : Printing) (t : Bool) → (next_count a.failures == a.failures) ≡ t → b.failures ≡ a.failures
+    → IfSome o (λ feed. length feed.bytes < 2 ^ 63 → PrintsAnswer {T = T} a b (Err e) ans feed p) → n ≡ a.failures → MatchBool (b.failures == n) (EndsQuietly b c) (DropsHeld b c) → IsHonest a c ans o p (error_kind e)
+honest-by T o a b c n e ans p true top u h same m = inl (rose a b c n (b.failures == n) refl same (u ∙ sym (eqb-true (next_count a.failures) a.failures top)) m)
+honest-by T None a b c n e ans p false top u h same m = inr tt
+honest-by T (Some f) a b c n e ans p false top u h same m =
     let low : b.failures ≡ next_count a.failures → ⊥ = λ q. (let z : true ≡ false = sym (eq-eqb (next_count a.failures) a.failures (sym q ∙ u)) ∙ top in cc) in
-    inr (λ few. data-breaks T a b e ans f asked v no_body date low (h few))
+    inr (λ few. data-breaks T a b e ans f p low (h few))
 
-pub printed-honest : (T : Type 0) (o : Option Feed) (a b c : Sink) (n : ℕ) (e : Error) (ans : Answer) (asked : Option Coding) (v : HTTPVersion) (no_body : Bool) (date : HttpDate) → IfSome o (λ feed. length feed.bytes < 2 ^ 63 → PrintsAnswer {T = T} a b (Err e) ans feed (printing_to asked v no_body date))
-    → CountsFaults {T = T} a b (Err e) → n ≡ a.failures → MatchBool (b.failures == n) (EndsQuietly b c) (DropsHeld b c) → IsHonest a c (answer_coding ans (printing_to asked v no_body date)) ans.length o (error_kind e)
-printed-honest T o a b c n e ans asked v no_body date h (inl u) same m = honest-by T o a b c n e ans asked v no_body date (next_count a.failures == a.failures) refl u.failures h same m
-printed-honest T o a b c n e ans asked v no_body date h (inr u) same m = inl (rose a b c n (b.failures == n) refl same u.failures m)
+pub printed-honest : (T : Type 0) (o : Option Feed) (a b c : Sink) (n : ℕ) (e : Error) (ans : Answer) (p : Printing) → IfSome o (λ feed. length feed.bytes < 2 ^ 63 → PrintsAnswer {T = T} a b (Err e) ans feed p)
+    → CountsFaults {T = T} a b (Err e) → n ≡ a.failures → MatchBool (b.failures == n) (EndsQuietly b c) (DropsHeld b c) → IsHonest a c ans o p (error_kind e)
+printed-honest T o a b c n e ans p h (inl u) same m = honest-by T o a b c n e ans p (next_count a.failures == a.failures) refl u.failures h same m
+printed-honest T o a b c n e ans p h (inr u) same m = inl (rose a b c n (b.failures == n) refl same u.failures m)
 
 sent-append : (a b c : Sink) (s t : List ℕ) → OutletTook a b s → OutletTook b c t → OutletTook a c (s ++ t)
 sent-append a b c s t h k = record {

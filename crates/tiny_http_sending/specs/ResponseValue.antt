@@ -3,9 +3,9 @@ use Rattle.std.specs.Prelude.{ℕ, Bool, List, length, Option, None}
 use Rattle.httpdate.specs.declared.date.HttpDate.{HttpDate}
 use Rattle.tiny_http_wire.specs.declared.common.HTTPVersion.{HTTPVersion}
 use Rattle.tiny_http_wire.specs.declared.common.Header.{Header}
-use Rattle.tiny_http_wire.specs.declared.answer_form.AnswerForm.{AnswerForm}
+use Rattle.tiny_http_wire.specs.declared.answer_context.AnswerContext.{AnswerContext}
 use Rattle.tiny_http_wire.specs.declared.coding.Coding.{Coding}
-use Rattle.tiny_http_wire.specs.Device.{Feed, ending}
+use Rattle.tiny_http_wire.specs.Device.{Feed, whole_feed}
 use Rattle.tiny_http_encoding.specs.Text.{Text}
 use Rattle.tiny_http_wire.specs.Answer.{Answer, Printing, answer_with, text_of}
 
@@ -16,15 +16,15 @@ pub record ResponseValue : Type 0 where
 
 -- a response with these headers, whose data are a text
 abbrev pub response_of : ℕ → List Header → List ℕ → ResponseValue
-response_of status headers text = record { answer = answer_with status headers (length text); content = ending text }
+response_of status headers text = record { answer = answer_with status headers (length text); content = whole_feed text }
 
 abbrev pub response_text : ResponseValue → Printing → Text
 response_text r p = text_of r.answer r.content p
 
 -- how an answer to a request is printed that asks for this coding
 abbrev pub printing_to : Option Coding → HTTPVersion → Bool → HttpDate → Printing
-printing_to asked version withheld date = record { version = version; asked_coding = asked; no_body = withheld; upgrade = None; date = date }
+printing_to asked version no_body date = record { version = version; asked_coding = asked; no_body = no_body; upgrade = None; date = date }
 
--- how an answer to a request of this form is printed
-abbrev pub printing_in : AnswerForm → HttpDate → Printing
-printing_in form date = printing_to form.asked_coding form.version form.no_body date
+-- how the answer to a request is printed, by what is kept of it
+abbrev pub printing_in : AnswerContext → HttpDate → Printing
+printing_in context date = printing_to context.asked_coding context.version context.no_body date

@@ -5,16 +5,9 @@ use Rattle.std.specs.declared.io.Error.{Error}
 use Rattle.std.specs.declared.io.ErrorKind.{ErrorKind}
 use Rattle.std.specs.declared.io.ErrorKind.TheVariants.{OutOfMemory}
 use Rattle.std.specs.Io.KnownBytes.{append_known}
-use Rattle.tiny_http_wire.specs.declared.device.Stop.TheVariants.{Fault}
-use Rattle.tiny_http_wire.specs.Device.{Feed, Sink, IsFront, BeginsKnown, HoldsNothing, IsKnownFront, StatesKind, next_count, fault_of}
-use Rattle.tiny_http_wire.specs.declared.coding.Coding.{Coding}
-use Rattle.tiny_http_wire.specs.declared.coding.Coding.TheVariants.{Identity, Chunked}
-use Rattle.tiny_http_wire.specs.Answer.{Answer, Printing, answer_coding, text_of}
+use Rattle.tiny_http_wire.specs.Device.{Feed, Sink, IsFront, BeginsKnown, HoldsNothing, IsKnownFront, StatesKind, next_count}
+use Rattle.tiny_http_wire.specs.Answer.{Answer, Printing, text_of, IsGathered}
 use Rattle.tiny_http_encoding.specs.Text.{Text, Whole, Broken, nothing_sent}
-
--- the data of this answer are read whole before its head
-abbrev pub IsGathered : Answer → Printing → Type 0
-IsGathered a p = (p.upgrade ≡ None) × (answer_coding a p ≡ Identity) × (a.length ≡ None)
 
 -- the writer takes bytes, and its count can rise
 pub record CanSend (sink : Sink) : Type 0 where
@@ -92,18 +85,16 @@ FailsOnceUnlessEnded was old new ended = MatchBool was ((new.failures ≡ old.fa
 abbrev pub FailsAtMostOnce : Sink → Sink → Type 0
 FailsAtMostOnce old new = (new.failures ≡ old.failures) ⊎ (new.failures ≡ next_count old.failures)
 
--- Data that are sent in this coding break off by this kind. As they are: they close short of their length; or, where it isn't
--- known, by a fault, or no memory to gather them was found. In chunks: by a fault, whatever their length.
-abbrev pub DataBreakOff : Coding → Option ℕ → Feed → ErrorKind → Type 0
-DataBreakOff Identity (Some n) f kind = (length f.bytes < n) × (kind ≡ fault_of f.stop)
-DataBreakOff Identity None f kind = (f.stop ≡ Fault kind) ⊎ (kind ≡ OutOfMemory)
-DataBreakOff Chunked known f kind = f.stop ≡ Fault kind
+-- The text of the answer breaks off by this kind, which is that of its data; or no memory is found to read them whole before
+-- its head.
+abbrev pub BreaksOff : Answer → Feed → Printing → ErrorKind → Type 0
+BreaksOff a f p kind = ((text_of a f p).ending ≡ Broken kind) ⊎ (IsGathered a p × (kind ≡ OutOfMemory))
 
 -- the same; nothing is said of data that state nothing
-abbrev pub MayBreakOff : Coding → Option ℕ → Option Feed → ErrorKind → Type 0
-MayBreakOff coding known None kind = Unit {0}
-MayBreakOff coding known (Some f) kind = length f.bytes < 2 ^ 63 → DataBreakOff coding known f kind
+abbrev pub MayBreakOff : Answer → Option Feed → Printing → ErrorKind → Type 0
+MayBreakOff a None p kind = Unit {0}
+MayBreakOff a (Some f) p kind = length f.bytes < 2 ^ 63 → BreaksOff a f p kind
 
--- a fault is the writer's, whose count rose, or the data's, of which so many are to be sent in this coding
-abbrev pub IsHonest : Sink → Sink → Coding → Option ℕ → Option Feed → ErrorKind → Type 0
-IsHonest old new coding known feed kind = (new.failures ≡ next_count old.failures) ⊎ MayBreakOff coding known feed kind
+-- a fault that an answer reports is the writer's, whose count rose, or its data's
+abbrev pub IsHonest : Sink → Sink → Answer → Option Feed → Printing → ErrorKind → Type 0
+IsHonest old new a feed p kind = (new.failures ≡ next_count old.failures) ⊎ MayBreakOff a feed p kind

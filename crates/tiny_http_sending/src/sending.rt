@@ -2,7 +2,6 @@
 ghost use Rattle.std.specs.Prelude.{◌≡◌, ◌<◌, ◌^◌, ◌==◌, true, false, [], length, Some, None, IfErr, OnErr, MatchBool};
 ghost use Rattle.std.specs.IoError.{error_kind};
 ghost use Rattle.tiny_http_wire.specs.Device.{Feed};
-ghost use Rattle.tiny_http_wire.specs.Answer.{answer_coding};
 ghost use Rattle.tiny_http_sending.specs.ResponseValue.{printing_in};
 ghost use Rattle.tiny_http_stream.specs.Outlet.{output_of, outlet_ended, outlet_held, SentOn};
 ghost use Rattle.tiny_http_sending.specs.Sending.{Sends, SendsUnlessEnded, EndsQuietly, DropsHeld, CanSend, FailsOnce, FailsOnceUnlessEnded, IsHonest};
@@ -11,7 +10,7 @@ use httpdate::HttpDate;
 use std::alloc::Global;
 use std::io;
 use tiny_http_stream::outlet::Outlet;
-use tiny_http_wire::answer_form::AnswerForm;
+use tiny_http_wire::answer_context::AnswerContext;
 use tiny_http_wire::device::{ReadDevice, WriteDevice};
 use tiny_http_wire::response::Response;
 
@@ -38,21 +37,21 @@ pub fn send<W: WriteDevice, D: ReadDevice + Drop>(
     alloc: Global,
     outlet: &mut Outlet<W>,
     response: Response<D>,
-    answer_form: AnswerForm,
+    answer_context: AnswerContext,
     now: HttpDate,
 ) -> Result<(), io::Error>
     ensures sends { (content : Feed) → D.feed response.data_reader ≡ Some content → length content.bytes < 2 ^ 63
         → CanSend (output_of outlet.old)
-        → Sends (output_of outlet.old) (output_of outlet.new) (outlet_ended outlet.new) result response.answer content (printing_in answer_form now) }
+        → Sends (output_of outlet.old) (output_of outlet.new) (outlet_ended outlet.new) result response.answer content (printing_in answer_context now) }
     ensures fails_once { FailsOnce (output_of outlet.old) (output_of outlet.new) (outlet_ended outlet.new) }
     ensures honest { IfErr result (λ e.
-        IsHonest (output_of outlet.old) (output_of outlet.new) (answer_coding response.answer (printing_in answer_form now)) response.answer.length (D.feed response.data_reader) (error_kind e)) }
+        IsHonest (output_of outlet.old) (output_of outlet.new) response.answer (D.feed response.data_reader) (printing_in answer_context now) (error_kind e)) }
     ensures ended { OnErr result (outlet_ended outlet.new ≡ true) }
     ensures flushed { outlet_held outlet.new ≡ [] }
     ensures sent_on { SentOn outlet.new }
 {
     let failures = outlet.failures();
-    let printed = response.print(alloc, outlet, answer_form, None, now);
+    let printed = response.print(alloc, outlet, answer_context, None, now);
     if let Err(fault) = printed {
         end_behind_fault(outlet, failures);
         return Err(fault);

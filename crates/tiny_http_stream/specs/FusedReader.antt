@@ -2,7 +2,7 @@
 use Rattle.std.specs.Prelude.{◌≡◌, ℕ, ◌<◌, List, length, Bool, true, false, [], Option, Some, None, Result, Ok, IfOk, OnErr, IsSome}
 use Rattle.std.specs.declared.io.Error.{Error}
 use Rattle.std.specs.Option.{option_map}
-use Rattle.tiny_http_device.specs.Device.{Feed, ending, Reads}
+use Rattle.tiny_http_device.specs.Device.{Feed, whole_feed, Reads}
 use Rattle.tiny_http_stream.specs.declared.fused_reader.FusedReader.{FusedReader}
 
 abbrev pub inner_unless_over : {R : Type 0} → Bool → R → Option R
@@ -14,7 +14,7 @@ abbrev pub fused_inner : {R : Type 0} → FusedReader R → Option R
 fused_inner r = inner_unless_over r.over r.inner
 
 abbrev pub feed_unless : Bool → Option Feed → Option Feed
-feed_unless true feed = option_map (λ f. ending []) feed
+feed_unless true feed = option_map (λ f. whole_feed []) feed
 feed_unless false feed = feed
 
 -- after the end nothing comes

@@ -27,15 +27,15 @@ transfer_encoding value a = refl
 upgrade : (value : List ℕ) (a : Answer) → add_header (header (codes "UPGRADE") value) a ≡ a
 upgrade value a = refl
 
-readable_length : (a : Answer) → add_header (header (codes "content-length") (codes "7")) a ≡ record a { length = Some 7 }
+readable_length : (a : Answer) → add_header (header (codes "content-length") (codes "7")) a ≡ record a { data_length = Some 7 }
 unfolding length_in
 readable_length a = refl
 
-plus_and_zeros : (a : Answer) → add_header (header (codes "Content-Length") (codes "+007")) a ≡ record a { length = Some 7 }
+plus_and_zeros : (a : Answer) → add_header (header (codes "Content-Length") (codes "+007")) a ≡ record a { data_length = Some 7 }
 unfolding length_in
 plus_and_zeros a = refl
 
-greatest_length : (a : Answer) → add_header (header (codes "Content-Length") (codes "18446744073709551615")) a ≡ record a { length = Some 18446744073709551615 }
+greatest_length : (a : Answer) → add_header (header (codes "Content-Length") (codes "18446744073709551615")) a ≡ record a { data_length = Some 18446744073709551615 }
 unfolding length_in
 greatest_length a = refl
 

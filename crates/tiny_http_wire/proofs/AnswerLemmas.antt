@@ -1,5 +1,7 @@
 -- From the parts of an answer to its text.
 use Rattle.std.proofs.Common.{◌≡◌, ℕ, ◌<◌, ◌^◌, Bool, List, [], ◌++◌, length, Option, Some, None, Result, Err, IfSome, refl, sym, ap, ◌∙◌, subst, inl, inr, ◌⊎◌, ⊎_elim, append-nil, Ok, if◌then◌else◌}
+use Rattle.std.specs.List.{list_all}
+use Rattle.tiny_http_text.specs.Bytes.{is_ascii}
 use Rattle.tiny_http_coding.specs.Coding.{chosen_coding}
 use Rattle.tiny_http_head.specs.declared.common.Header.{Header}
 use Rattle.tiny_http_coding.specs.declared.coding.Coding.{Coding}
@@ -16,7 +18,7 @@ use Rattle.tiny_http_device.specs.declared.device.Stop.{Stop}
 use Rattle.tiny_http_device.specs.declared.device.Stop.TheVariants.{End, Fault}
 use Rattle.tiny_http_device.proofs.DeviceLemmas.{Took-nil}
 use Rattle.tiny_http_encoding.proofs.DeviceCopies.{Prints-from_puts, Prints-head_failed, Prints-behind}
-use Rattle.tiny_http_wire.specs.Answer.{Answer, PrintsText, LacksMemory, PrintsUncoded, PrintsAnswer, PrintsGathered, Printing, with_upgrade, head_text_of, status_line, gathered_body, answer_head_text, is_ascii_text, is_withheld, as_it_is, with_coding, body_unless_withheld, text_of, answer_coding}
+use Rattle.tiny_http_wire.specs.Answer.{Answer, PrintsText, LacksMemory, PrintsUncoded, PrintsAnswer, PrintsGathered, Printing, with_upgrade, head_text_of, status_line, gathered_body, answer_head_text, is_withheld, uncoded_text, coded_text, body_unless_withheld, text_of, answer_coding}
 use Rattle.tiny_http_encoding.specs.Text.{Text, Whole, Broken, Prints, whole, nothing_sent, prepend_text, identity_body, chunked_body}
 
 -- a head has bytes
@@ -29,31 +31,31 @@ unfolding answer_head_text status_line
 head-alone version status upgrade headers date framing e = cc
 
 -- an upgrade
-pub Answered-upgrade : {T : Type 0} (o : Option Feed) (a b : Sink) (r : Result T Error) (ans : Answer) (version : HTTPVersion) (asked : Option Coding) (no_body : Bool) (protocol : List ℕ) (date : HttpDate) → PrintsText a b r (if is_ascii_text protocol then whole (answer_head_text version ans.status (Some protocol) ans.headers date Neither) else nothing_sent InvalidInput) → IfSome o (λ f. length f.bytes < 2 ^ 63 → PrintsAnswer a b r ans f (record { version = version; asked_coding = asked; no_body = no_body; upgrade = Some protocol; date = date }))
+pub Answered-upgrade : {T : Type 0} (o : Option Feed) (a b : Sink) (r : Result T Error) (ans : Answer) (version : HTTPVersion) (asked : Option Coding) (no_body : Bool) (protocol : List ℕ) (date : HttpDate) → PrintsText a b r (if list_all is_ascii protocol then whole (answer_head_text version ans.status (Some protocol) ans.headers date Neither) else nothing_sent InvalidInput) → IfSome o (λ f. length f.bytes < 2 ^ 63 → PrintsAnswer a b r ans f (record { version = version; asked_coding = asked; no_body = no_body; upgrade = Some protocol; date = date }))
 unfolding text_of answer_coding
 Answered-upgrade None a b r ans version asked no_body protocol date h = tt
 Answered-upgrade (Some f) a b r ans version asked no_body protocol date h = λ few. inl h
 
 -- any other answer: in chunks, or not coded
 abbrev pub PrintsIn : {T : Type 0} → Option Feed → Sink → Sink → Result T Error → Coding → Option ℕ → (FramingHeader → List ℕ) → Bool → Type 0
-PrintsIn o a b r Identity known top withheld = IfSome o (λ f. length f.bytes < 2 ^ 63 → PrintsUncoded a b r known (as_it_is known top withheld f))
+PrintsIn o a b r Identity known top withheld = IfSome o (λ f. length f.bytes < 2 ^ 63 → PrintsUncoded a b r known (uncoded_text known top withheld f))
 PrintsIn o a b r Chunked known top withheld = IfSome o (λ f. length f.bytes < 2 ^ 63 → Prints a b r (prepend_text (top TransferEncoding) (body_unless_withheld withheld (chunked_body f))))
 
 coded : {T : Type 0} (f : Feed) (a b : Sink) (r : Result T Error) (coding : Coding) (known : Option ℕ) (top : FramingHeader → List ℕ) (withheld : Bool) → length f.bytes < 2 ^ 63 → PrintsIn (Some f) a b r coding known top withheld
-    → ((framing : FramingHeader) (rest : List ℕ) → top framing ++ rest ≡ [] → ⊥) → PrintsText a b r (with_coding coding known top withheld f) ⊎ ((coding ≡ Identity) × (known ≡ None) × LacksMemory a b r)
+    → ((framing : FramingHeader) (rest : List ℕ) → top framing ++ rest ≡ [] → ⊥) → PrintsText a b r (coded_text coding known top withheld f) ⊎ ((coding ≡ Identity) × (known ≡ None) × LacksMemory a b r)
 coded f a b r Identity known top withheld few h some = ⊎_elim (λ x. inl x) (λ x. inr (refl, x.0, x.1)) (h few)
 coded f a b r Chunked known top withheld few h some = inl (h few, λ e. absurd (some TransferEncoding (body_unless_withheld withheld (chunked_body f)).bytes e))
 
-pub Answered-coded : {T : Type 0} (o : Option Feed) (a b : Sink) (r : Result T Error) (ans : Answer) (version : HTTPVersion) (asked : Option Coding) (no_body : Bool) (date : HttpDate) (coding : Coding) (withheld : Bool) → coding ≡ chosen_coding version asked ans.status ans.threshold ans.length → withheld ≡ is_withheld no_body ans.status
-    → PrintsIn o a b r coding ans.length (λ framing. answer_head_text version ans.status None ans.headers date framing) withheld
+pub Answered-coded : {T : Type 0} (o : Option Feed) (a b : Sink) (r : Result T Error) (ans : Answer) (version : HTTPVersion) (asked : Option Coding) (no_body : Bool) (date : HttpDate) (coding : Coding) (withheld : Bool) → coding ≡ chosen_coding version asked ans.status ans.threshold ans.data_length → withheld ≡ is_withheld no_body ans.status
+    → PrintsIn o a b r coding ans.data_length (λ framing. answer_head_text version ans.status None ans.headers date framing) withheld
     → IfSome o (λ f. length f.bytes < 2 ^ 63 → PrintsAnswer a b r ans f (record { version = version; asked_coding = asked; no_body = no_body; upgrade = None; date = date }))
 unfolding text_of answer_coding
 Answered-coded None a b r ans version asked no_body date coding withheld e w h = tt
 Answered-coded {T = T} (Some f) a b r ans version asked no_body date coding withheld e w h = λ few.
     let top : FramingHeader → List ℕ = λ framing. answer_head_text version ans.status None ans.headers date framing in
-    let W : Bool → Type 0 = λ x. PrintsIn (Some f) a b r coding ans.length top x in
-    let P : Coding → Type 0 = λ x. PrintsText a b r (with_coding x ans.length top (is_withheld no_body ans.status) f) ⊎ ((x ≡ Identity) × (ans.length ≡ None) × LacksMemory a b r) in
-    ⊎_elim (λ x. inl x) (λ x. inr (refl, x.0, x.1, x.2)) (subst P e (coded f a b r coding ans.length top (is_withheld no_body ans.status) few (subst W w h) (λ framing. head-some version ans.status None ans.headers date framing)))
+    let W : Bool → Type 0 = λ x. PrintsIn (Some f) a b r coding ans.data_length top x in
+    let P : Coding → Type 0 = λ x. PrintsText a b r (coded_text x ans.data_length top (is_withheld no_body ans.status) f) ⊎ ((x ≡ Identity) × (ans.data_length ≡ None) × LacksMemory a b r) in
+    ⊎_elim (λ x. inl x) (λ x. inr ((refl, x.0, x.1), x.2)) (subst P e (coded f a b r coding ans.data_length top (is_withheld no_body ans.status) few (subst W w h) (λ framing. head-some version ans.status None ans.headers date framing)))
 
 pub few-failed : (o : Option Feed) (a b : Sink) (front : List ℕ) (e : Error) (body : Feed → Text) → Failed a b front (error_kind e) → IfSome o (λ f. length f.bytes < 2 ^ 63 → Prints {T = Unit {0}} a b (Err e) (prepend_text front (body f)))
 few-failed None a b front e body h = tt
@@ -98,7 +100,7 @@ Uncoded-gathered None a b r front withheld h = tt
 Uncoded-gathered (Some f) a b r front withheld h = λ few. ⊎_elim (λ x. inl x) (λ x. inr (refl, x)) (h few)
 
 -- an answer whose text was sent has bytes
-coded-some : (coding : Coding) (known : Option ℕ) (top : FramingHeader → List ℕ) (withheld : Bool) (f : Feed) → ((framing : FramingHeader) (rest : List ℕ) → top framing ++ rest ≡ [] → ⊥) → (with_coding coding known top withheld f).ending ≡ Whole → (with_coding coding known top withheld f).bytes ≡ [] → ⊥
+coded-some : (coding : Coding) (known : Option ℕ) (top : FramingHeader → List ℕ) (withheld : Bool) (f : Feed) → ((framing : FramingHeader) (rest : List ℕ) → top framing ++ rest ≡ [] → ⊥) → (coded_text coding known top withheld f).ending ≡ Whole → (coded_text coding known top withheld f).bytes ≡ [] → ⊥
 coded-some Chunked known top withheld f some e none = some TransferEncoding (body_unless_withheld withheld (chunked_body f)).bytes none
 coded-some Identity (Some n) top withheld f some e none = some (ContentLength n) (body_unless_withheld withheld (identity_body n f)).bytes none
 coded-some Identity None top withheld f some e none = by f.stop e none
@@ -112,4 +114,4 @@ unfolding text_of
 text-some a f p e whole none =
     let W : Option (List ℕ) → Type 0 = λ u. (with_upgrade u a f p).ending ≡ Whole in
     let N : Option (List ℕ) → Type 0 = λ u. (with_upgrade u a f p).bytes ≡ [] in
-    coded-some (answer_coding a p) a.length (head_text_of a p) (is_withheld p.no_body a.status) f (λ framing. head-some p.version a.status p.upgrade a.headers p.date framing) (subst W e whole) (subst N e none)
+    coded-some (answer_coding a p) a.data_length (head_text_of a p) (is_withheld p.no_body a.status) f (λ framing. head-some p.version a.status p.upgrade a.headers p.date framing) (subst W e whole) (subst N e none)

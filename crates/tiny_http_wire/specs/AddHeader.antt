@@ -29,7 +29,7 @@ headers_with h headers =
 -- a length that was read becomes the answer's
 abbrev pub with_length : Option ℕ → Answer → Answer
 with_length None a = a
-with_length (Some n) a = record a { length = Some n }
+with_length (Some n) a = record a { data_length = Some n }
 
 -- THE ANSWER WITH A HEADER ADDED: a reserved one is left out, a Content-Length is kept as the length alone
 abbrev pub add_header : Header → Answer → Answer
@@ -52,7 +52,7 @@ with_headers (h ∷ hs) a = with_headers hs (add_header h a)
 
 -- an answer as it is made: these headers are added to none, and the threshold is the first
 abbrev pub first_answer : ℕ → List Header → Option ℕ → Answer
-first_answer status headers length = with_headers headers (record { status = status; headers = []; length = length; threshold = 32768 })
+first_answer status headers length = with_headers headers (record { status = status; headers = []; data_length = length; threshold = 32768 })
 
 -- whether one of these headers is put last when they are added one after another
 abbrev pub is_some_put_last : List Header → Answer → Bool

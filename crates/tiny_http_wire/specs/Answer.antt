@@ -6,6 +6,7 @@ use Rattle.std.specs.declared.io.Error.{Error}
 use Rattle.std.specs.declared.io.ErrorKind.TheVariants.{InvalidInput, OutOfMemory}
 use Rattle.httpdate.specs.Date.{date_text}
 use Rattle.httpdate.specs.declared.date.HttpDate.{HttpDate}
+use Rattle.tiny_http_text.specs.Bytes.{is_ascii}
 use Rattle.tiny_http_head.specs.declared.common.HTTPVersion.{HTTPVersion}
 use Rattle.tiny_http_head.specs.declared.common.Header.{Header}
 use Rattle.tiny_http_coding.specs.Coding.{chosen_coding}
@@ -23,12 +24,12 @@ use Rattle.tiny_http_encoding.specs.Text.{Text, prepend_text, whole, nothing_sen
 pub record Answer : Type 0 where
   pub status : ℕ
   pub headers : List Header
-  pub length : Option ℕ
+  pub data_length : Option ℕ
   pub threshold : ℕ
 
 -- an answer whose data has so many bytes, with the threshold that holds until another is set
 abbrev pub answer_with : ℕ → List Header → ℕ → Answer
-answer_with status headers length = record { status = status; headers = headers; length = Some length; threshold = 32768 }
+answer_with status headers length = record { status = status; headers = headers; data_length = Some length; threshold = 32768 }
 
 -- the header of a plain text
 unfoldable pub text_plain : Header
@@ -102,16 +103,13 @@ gathered_body (Fault kind) front withheld bytes = nothing_sent kind
 
 -- Head and body by the coding and the known length, where `top` is the head with what it says of the
 -- body's length.
-abbrev pub as_it_is : Option ℕ → (FramingHeader → List ℕ) → Bool → Feed → Text
-as_it_is (Some n) top withheld feed = prepend_text (top (ContentLength n)) (body_unless_withheld withheld (identity_body n feed))
-as_it_is None top withheld feed = gathered_body feed.stop (top (ContentLength (length feed.bytes))) withheld feed.bytes
+abbrev pub uncoded_text : Option ℕ → (FramingHeader → List ℕ) → Bool → Feed → Text
+uncoded_text (Some n) top withheld feed = prepend_text (top (ContentLength n)) (body_unless_withheld withheld (identity_body n feed))
+uncoded_text None top withheld feed = gathered_body feed.stop (top (ContentLength (length feed.bytes))) withheld feed.bytes
 
-abbrev pub with_coding : Coding → Option ℕ → (FramingHeader → List ℕ) → Bool → Feed → Text
-with_coding Identity length top withheld feed = as_it_is length top withheld feed
-with_coding Chunked length top withheld feed = prepend_text (top TransferEncoding) (body_unless_withheld withheld (chunked_body feed))
-
-abbrev pub is_ascii_text : List ℕ → Bool
-is_ascii_text text = list_all (λ b. nat_lt b 128) text
+abbrev pub coded_text : Coding → Option ℕ → (FramingHeader → List ℕ) → Bool → Feed → Text
+coded_text Identity length top withheld feed = uncoded_text length top withheld feed
+coded_text Chunked length top withheld feed = prepend_text (top TransferEncoding) (body_unless_withheld withheld (chunked_body feed))
 
 -- the head of an answer
 abbrev pub head_text_of : Answer → Printing → FramingHeader → List ℕ
@@ -119,12 +117,12 @@ head_text_of a p framing = answer_head_text p.version a.status p.upgrade a.heade
 
 -- THE CODING of an answer's body (RFC 9112, sections 6.1 and 7.4)
 unfoldable pub answer_coding : Answer → Printing → Coding
-answer_coding a p = chosen_coding p.version p.asked_coding a.status a.threshold a.length
+answer_coding a p = chosen_coding p.version p.asked_coding a.status a.threshold a.data_length
 
 -- an upgrade is a head alone, and its protocol is ASCII
 abbrev pub with_upgrade : Option (List ℕ) → Answer → Feed → Printing → Text
-with_upgrade (Some protocol) a feed p = if is_ascii_text protocol then whole (head_text_of a p Neither) else nothing_sent InvalidInput
-with_upgrade None a feed p = with_coding (answer_coding a p) a.length (head_text_of a p) (is_withheld p.no_body a.status) feed
+with_upgrade (Some protocol) a feed p = if list_all is_ascii protocol then whole (head_text_of a p Neither) else nothing_sent InvalidInput
+with_upgrade None a feed p = coded_text (answer_coding a p) a.data_length (head_text_of a p) (is_withheld p.no_body a.status) feed
 
 -- the text of an answer with this data
 unfoldable pub text_of : Answer → Feed → Printing → Text
@@ -143,9 +141,13 @@ LacksMemory old new (Err e) = (error_kind e ≡ OutOfMemory) × (new ≡ old)
 abbrev pub PrintsUncoded : {T : Type 0} → Sink → Sink → Result T Error → Option ℕ → Text → Type 0
 PrintsUncoded old new r length text = PrintsText old new r text ⊎ ((length ≡ None) × LacksMemory old new r)
 
--- a call that prints an answer
+-- the data of an answer is read whole before its head: it isn't coded, and its length isn't known
+abbrev pub IsGathered : Answer → Printing → Type 0
+IsGathered a p = (p.upgrade ≡ None) × (answer_coding a p ≡ Identity) × (a.data_length ≡ None)
+
+-- a call that prints an answer: its text, or it finds no memory to gather the data
 abbrev pub PrintsAnswer : {T : Type 0} → Sink → Sink → Result T Error → Answer → Feed → Printing → Type 0
-PrintsAnswer old new r a feed p = PrintsText old new r (text_of a feed p) ⊎ ((p.upgrade ≡ None) × (answer_coding a p ≡ Identity) × (a.length ≡ None) × LacksMemory old new r)
+PrintsAnswer old new r a feed p = PrintsText old new r (text_of a feed p) ⊎ (IsGathered a p × LacksMemory old new r)
 
 -- an answer whose data was gathered
 abbrev pub PrintsGathered : {T : Type 0} → Sink → Sink → Result T Error → List ℕ → Bool → Feed → Type 0

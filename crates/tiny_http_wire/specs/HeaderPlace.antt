@@ -22,13 +22,13 @@ place_of h headers =
 -- the answer with the header at this place
 abbrev pub placed : Place → Header → Answer → Answer
 placed Nowhere h a = a
-placed (Length n) h a = record a { length = Some n }
+placed (Length n) h a = record a { data_length = Some n }
 placed ContentType h a = record a { headers = with_value (codes "Content-Type") h.value a.headers }
 placed Last h a = record a { headers = a.headers ++ h ∷ [] }
 
 -- an answer of these parts
 abbrev pub answer_of : ℕ → ℕ → List Header → Option ℕ → Answer
-answer_of status threshold headers length = record { status = status; headers = headers; length = length; threshold = threshold }
+answer_of status threshold headers length = record { status = status; headers = headers; data_length = length; threshold = threshold }
 
 -- a list and a length after a header was added to an answer that had these, whatever else it has
 abbrev pub Adds : Header → List Header → Option ℕ → List Header → Option ℕ → Type 0

@@ -69,17 +69,17 @@ fn replace_value(headers: &mut [Header], name: &str, value: &mut AsciiString)
 /// header comes back, and nothing is changed.
 pub(crate) fn add(
     headers: &mut Vec<Header>,
-    length: &mut Option<usize>,
+    data_length: &mut Option<usize>,
     mut header: Header,
 ) -> Result<(), Header>
-    ensures added { OnOk result (Adds header headers.old.items length.old headers.new.items length.new) }
-    ensures refused { IfErr result (λ h. (h ≡ header) × (headers.new.items ≡ headers.old.items) × (length.new ≡ length.old)) }
+    ensures added { OnOk result (Adds header headers.old.items data_length.old headers.new.items data_length.new) }
+    ensures refused { IfErr result (λ h. (h ≡ header) × (headers.new.items ≡ headers.old.items) × (data_length.new ≡ data_length.old)) }
     ensures memory { OnErr result (IsTrue (is_put_last header headers.old.items)) }
 {
     match place_of(&header, headers) {
         Place::Nowhere => Ok(()),
-        Place::Length(known) => {
-            *length = Some(known);
+        Place::Length(length) => {
+            *data_length = Some(length);
             Ok(())
         }
         Place::ContentType => {
@@ -93,15 +93,15 @@ pub(crate) fn add(
 /// Adds these headers one after another. The first for which there is no memory comes back.
 pub(crate) fn add_all(
     headers: &mut Vec<Header>,
-    length: &mut Option<usize>,
+    data_length: &mut Option<usize>,
     more: Vec<Header>,
 ) -> Result<(), Header>
-    ensures added { OnOk result (AddsAll more.items headers.old.items length.old headers.new.items length.new) }
+    ensures added { OnOk result (AddsAll more.items headers.old.items data_length.old headers.new.items data_length.new) }
     ensures law { OnOk result (IsResponseHeaders headers.old.items → IsResponseHeaders headers.new.items) }
-    ensures memory { OnErr result ((status threshold : ℕ) → IsTrue (is_some_put_last more.items (answer_of status threshold headers.old.items length.old))) }
+    ensures memory { OnErr result ((status threshold : ℕ) → IsTrue (is_some_put_last more.items (answer_of status threshold headers.old.items data_length.old))) }
 {
     for header in more {
-        add(headers, length, header)?;
+        add(headers, data_length, header)?;
     }
     Ok(())
 }
@@ -128,17 +128,17 @@ fn replace_type(headers: &mut [Header], kept: usize, at: usize)
 
 // Adds the header at `at` to the first `kept`, and says how many these are then. The headers behind
 // it stay.
-fn add_at(headers: &mut [Header], known: &mut Option<usize>, kept: usize, at: usize) -> usize
+fn add_at(headers: &mut [Header], data_length: &mut Option<usize>, kept: usize, at: usize) -> usize
     requires order { kept ≤ at }
     requires within { at < length headers.old }
     ensures bound { result ≤ at + 1 }
     ensures behind { drop (at + 1) headers.new ≡ drop (at + 1) headers.old }
-    ensures added { (d : Header) → Adds (slice_index_or headers.old at d) (take kept headers.old) known.old (take result headers.new) known.new }
+    ensures added { (d : Header) → Adds (slice_index_or headers.old at d) (take kept headers.old) data_length.old (take result headers.new) data_length.new }
 {
     match place_at(headers, kept, at) {
         Place::Nowhere => kept,
-        Place::Length(length) => {
-            *known = Some(length);
+        Place::Length(n) => {
+            *data_length = Some(n);
             kept
         }
         Place::ContentType => {
@@ -153,26 +153,28 @@ fn add_at(headers: &mut [Header], known: &mut Option<usize>, kept: usize, at: us
 }
 
 // Adds all the headers to an empty list that lies in front of them, and says how many it has.
-fn add_each(headers: &mut [Header], known: &mut Option<usize>) -> usize
+fn add_each(headers: &mut [Header], data_length: &mut Option<usize>) -> usize
     ensures bound { result ≤ length headers.new }
-    ensures added { AddsAll headers.old [] known.old (take result headers.new) known.new }
+    ensures added { AddsAll headers.old [] data_length.old (take result headers.new) data_length.new }
     ensures law { IsResponseHeaders (take result headers.new) }
 {
     let mut kept = 0;
     for at in 0..headers.len() {
-        kept = add_at(headers, known, kept, at);
+        kept = add_at(headers, data_length, kept, at);
     }
     kept
 }
 
 /// Makes of these headers what adding them one after another to an empty list comes to, in their
 /// room, and gives the length of the data then.
-pub(crate) fn add_in_place(headers: &mut Vec<Header>, data_length: Option<usize>) -> Option<usize>
+pub(crate) fn add_in_place(
+    headers: &mut Vec<Header>,
+    mut data_length: Option<usize>,
+) -> Option<usize>
     ensures added { AddsAll headers.old.items [] data_length headers.new.items result }
     ensures law { IsResponseHeaders headers.new.items }
 {
-    let mut known = data_length;
-    let kept = add_each(headers, &mut known);
+    let kept = add_each(headers, &mut data_length);
     headers.truncate(kept);
-    known
+    data_length
 }

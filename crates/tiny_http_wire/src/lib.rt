@@ -4,7 +4,7 @@
 #![tactic(auto)]
 
 mod add_header;
-pub mod answer_form;
+pub mod answer_context;
 mod answer_head;
 pub mod chunked;
 pub mod laws;

@@ -1,9 +1,11 @@
 //! Answers to requests, and how they are printed.
 ghost use Rattle.std.specs.Prelude.{◌≡◌, true, Option, Some, None, IfSome, if◌then◌else◌, ◌∷◌, IfOk, IfErr, OnOk, OnErr, IsTrue, vec_len, string_len, string_bytes, [], ◌<◌, ◌^◌, ◌++◌, length};
 ghost use Rattle.std.specs.Option.{option_copied};
+ghost use Rattle.std.specs.List.{list_all};
+ghost use Rattle.tiny_http_text.specs.Bytes.{is_ascii};
 ghost use Rattle.tiny_http_wire.specs.AddHeader.{add_header, is_put_last, is_some_put_last, with_headers, first_answer};
 ghost use Rattle.tiny_http_wire.specs.ResponseHeaders.{IsResponseHeaders};
-ghost use Rattle.tiny_http_wire.specs.Answer.{Answer, ResponseState, is_withheld, is_ascii_text, PrintsText, PrintsGathered, PrintsUncoded, PrintsAnswer, as_it_is, body_unless_withheld, text_plain, answer_with};
+ghost use Rattle.tiny_http_wire.specs.Answer.{Answer, ResponseState, is_withheld, PrintsText, PrintsGathered, PrintsUncoded, PrintsAnswer, uncoded_text, body_unless_withheld, text_plain, answer_with};
 ghost use Rattle.tiny_http_encoding.specs.Text.{Prints, prepend_text, whole, identity_body, chunked_body, nothing_sent};
 ghost use Rattle.tiny_http_device.specs.Cursor.{cursor_bytes};
 ghost use Rattle.tiny_http_device.specs.Metered.{metered_inner};
@@ -12,7 +14,7 @@ ghost use Rattle.tiny_http_coding.specs.Coding.{coding_asked};
 ghost use Rattle.tiny_http_device.specs.Device.{Puts, CountsFaults};
 
 use crate::add_header::{add, add_all, add_in_place};
-use crate::answer_form::AnswerForm;
+use crate::answer_context::AnswerContext;
 use crate::answer_head::{Top, put_head};
 use httpdate::HttpDate;
 use std::alloc::{AllocError, Global};
@@ -26,6 +28,7 @@ use tiny_http_encoding::chunks::put_chunked;
 use tiny_http_encoding::gather::gather;
 use tiny_http_encoding::identity::put_exactly;
 use tiny_http_head::common::{HTTPVersion, Header, HeaderField, StatusCode};
+use tiny_http_text::bytes::are_ascii;
 use tiny_http_text::copies::owned;
 
 /// An answer to a request: a status code, headers, and a reader of the data with its length, where
@@ -48,7 +51,7 @@ impl<R> Model for Response<R> {
 
     ghost Value = { ResponseState R };
 
-    ghost view = { λ r. record { answer = record { status = r.status.0; headers = r.headers.items; length = r.data_length; threshold = r.threshold }; data_reader = r.reader } };
+    ghost view = { λ r. record { answer = record { status = r.status.0; headers = r.headers.items; data_length = r.data_length; threshold = r.threshold }; data_reader = r.reader } };
 
     ghost invariant = { λ r. IsResponseHeaders r.headers.items };
 }
@@ -221,7 +224,7 @@ impl<R> Response<R> {
     pub fn with_data<S>(self, reader: S, data_length: Option<usize>) -> Response<S>
     where
         R: Drop,
-        ensures { result ≡ record { answer = record self.answer { length = data_length }; data_reader = reader } }
+        ensures { result ≡ record { answer = record self.answer { data_length = data_length }; data_reader = reader } }
     {
         Response {
             reader,
@@ -281,7 +284,7 @@ impl<R> Response<R> {
 
     /// The length of the data in bytes, if it is known.
     pub fn data_length(&self) -> Option<usize>
-        ensures { result ≡ self.now.answer.length }
+        ensures { result ≡ self.now.answer.data_length }
     {
         self.data_length
     }
@@ -334,20 +337,20 @@ impl<R> Response<R> {
         // Whatever the data and the writer state: a fault of the writer's is one that its count has.
         ensures uses { CountsFaults (W.sink writer.old) (W.sink writer.new) result }
     {
-        let form = AnswerForm {
+        let context = AnswerContext {
             version,
             asked_coding: asked_coding(request_headers),
             no_body,
         };
-        self.print(alloc, writer, form, upgrade, now)
+        self.print(alloc, writer, context, upgrade, now)
     }
 
-    /// The same for a request whose headers aren't there any more: `form` has what the answer needs of it.
+    /// The same for a request whose headers aren't there any more: `context` has what the answer needs of it.
     pub fn print<W: WriteDevice>(
         self,
         alloc: Global,
         writer: &mut W,
-        form: AnswerForm,
+        context: AnswerContext,
         upgrade: Option<&str>,
         now: HttpDate,
     ) -> Result<(), io::Error>
@@ -356,9 +359,9 @@ impl<R> Response<R> {
         ensures text { IfSome (R.feed self.data_reader) (λ feed. length feed.bytes < 2 ^ 63 →
             PrintsAnswer (W.sink writer.old) (W.sink writer.new) result self.answer feed
             (record {
-              version = form.version;
-              asked_coding = form.asked_coding;
-              no_body = form.no_body;
+              version = context.version;
+              asked_coding = context.asked_coding;
+              no_body = context.no_body;
               upgrade = option_copied upgrade.entry;
               date = now;
             })) }
@@ -367,25 +370,25 @@ impl<R> Response<R> {
         let mut data = self.reader;
         let headers = self.headers;
         let top = Top {
-            version: form.version,
+            version: context.version,
             status: self.status,
             headers: &headers,
             date: now,
         };
-        let (known, threshold) = (self.data_length, self.threshold);
+        let (data_length, threshold) = (self.data_length, self.threshold);
         let coding = choose(
-            form.version,
-            form.asked_coding,
+            context.version,
+            context.asked_coding,
             self.status,
-            known,
+            data_length,
             threshold,
         );
-        let withheld = is_withheld(form.no_body, self.status.0);
+        let withheld = is_withheld(context.no_body, self.status.0);
         match (upgrade, coding) {
             (Some(protocol), _) => print_upgrade(writer, &top, protocol),
             (None, Coding::Chunked) => print_in_chunks(&mut data, writer, &top, withheld),
             (None, Coding::Identity) => {
-                print_uncoded(alloc, &mut data, writer, &top, known, withheld)
+                print_uncoded(alloc, &mut data, writer, &top, data_length, withheld)
             }
         }
     }
@@ -403,13 +406,6 @@ fn is_withheld(no_body: bool, status: u16) -> bool
     ensures { result ≡ is_withheld no_body status }
 {
     no_body || (status >= 100 && status < 200) || status == 204 || status == 304
-}
-
-// Whether all bytes are below 128.
-fn is_ascii(text: &[u8]) -> bool
-    ensures { result ≡ is_ascii_text text.now }
-{
-    text.iter().all(|b| *b < 128)
 }
 
 // Prints an answer of known length whose body is sent as it is.
@@ -476,15 +472,15 @@ fn print_uncoded<D: ReadDevice, W: WriteDevice>(
     source: &mut D,
     writer: &mut W,
     top: &Top<'_>,
-    known: Option<usize>,
+    data_length: Option<usize>,
     withheld: bool,
 ) -> Result<(), io::Error>
     ensures text { IfSome (D.feed source.old) (λ feed. length feed.bytes < 2 ^ 63 →
-        PrintsUncoded (W.sink writer.old) (W.sink writer.new) result known
-        (as_it_is known (λ framing. top_text top.now None framing) withheld feed)) }
+        PrintsUncoded (W.sink writer.old) (W.sink writer.new) result data_length
+        (uncoded_text data_length (λ framing. top_text top.now None framing) withheld feed)) }
     ensures uses { CountsFaults (W.sink writer.old) (W.sink writer.new) result }
 {
-    match known {
+    match data_length {
         Some(n) => print_as_it_is(source, writer, top, withheld, n),
         None => print_gathered(alloc, source, writer, top, withheld),
     }
@@ -518,11 +514,11 @@ fn print_upgrade<W: WriteDevice>(
     protocol: &str,
 ) -> Result<(), io::Error>
     ensures { PrintsText (W.sink writer.old) (W.sink writer.new) result
-        (if is_ascii_text protocol.now
+        (if list_all is_ascii protocol.now
         then whole (top_text top.now (Some protocol.now) FramingHeader.Neither)
         else nothing_sent ErrorKind.InvalidInput) }
 {
-    if !is_ascii(protocol.as_bytes()) {
+    if !are_ascii(protocol.as_bytes()) {
         return Err(ErrorKind::InvalidInput.into());
     }
     put_head(writer, top, Some(protocol), FramingHeader::Neither)

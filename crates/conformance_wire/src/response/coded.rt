@@ -217,17 +217,19 @@ const DATA: &str =
 const OLDER_DATA: &str =
     "HTTP/1.0 200 OK\r\nServer: tiny-http (Rust)\r\nDate: Wed, 04 May 1983 11:17:00 GMT\r\n";
 
-// The version of a request, a head's front, and the chunks that data of unknown length are sent in if any are.
-const LONG_DATA: &[(HTTPVersion, &str, Option<&[SizedChunk]>)] = &[
-    (V1_1, DATA, Some(&[("2000", 8192), ("1", 1)])),
-    (V1_0, OLDER_DATA, None),
+// The version of a request, the number of bytes, a head's front, and the chunks that data of unknown length are sent in if any
+// are.
+const LONG_DATA: &[(HTTPVersion, usize, &str, Option<&[SizedChunk]>)] = &[
+    (V1_1, 8193, DATA, Some(&[("2000", 8192), ("1", 1)])),
+    (V1_0, 8193, OLDER_DATA, None),
+    (V1_0, 90_000, OLDER_DATA, None),
 ];
 
 #[test]
-fn data_of_8193_bytes_and_unknown_length(rt: HostRuntime) -> Result<(), Fail> {
+fn long_data_of_unknown_length(rt: HostRuntime) -> Result<(), Fail> {
     let alloc = rt.alloc();
-    let bytes = data(alloc, 8193)?;
-    for (version, front, sizes) in LONG_DATA {
+    for (version, count, front, sizes) in LONG_DATA {
+        let bytes = data(alloc, *count)?;
         let wanted = framed(alloc, front, bytes.as_slice(), *sizes)?;
         let setting = Setting {
             version: *version,

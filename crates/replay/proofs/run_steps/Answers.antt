@@ -1,5 +1,5 @@
 use Rattle.std.proofs.Common.{rules, arith, lit<, ◌≡◌, refl, sym, ap, ◌∙◌, ◌++◌, Some, map}
-use Rattle.tiny_http_wire.specs.Device.{Sink, ending}
+use Rattle.tiny_http_wire.specs.Device.{Sink, whole_feed}
 use Rattle.tiny_http_wire.specs.Budget.{budget_sink, budget_bytes}
 use Rattle.tiny_http_core.specs.Conversation.{IsFresh}
 use Rattle.tiny_http_core.specs.Outlet.{outlet_held, outlet_ended}
@@ -25,7 +25,7 @@ returns-clause-runs c =
       fresh = fresh;
       ended = outlet_ended c.in-Ok.record.outlet;
       unread = c.in-Ok.record.source.feed;
-      conversation = c.in-Ok.ensures.conversation (ending c.args.bytes.items) (map timed_value c.args.steps.items) (ap Some c.new-reader.ensures) fresh (steps_stated c.args.steps.items);
+      conversation = c.in-Ok.ensures.conversation (whole_feed c.args.bytes.items) (map timed_value c.args.steps.items) (ap Some c.new-reader.ensures) fresh (steps_stated c.args.steps.items);
       no_fault = zero ∙ sym none;
       took = refl;
       output_is = ap (λ b. budget_bytes b ++ c.in-Ok-to_vec.held.items) inner ∙ ap (λ bs. budget_bytes writer ++ bs) held;

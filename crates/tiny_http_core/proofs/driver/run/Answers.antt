@@ -49,7 +49,7 @@ loop-timed-preserved g c =
       sent_on = λ none. step.sent_on (inv.sent_on none);
       honest = rw c.push_reserved.ensures.items
           (honest-step g.D.ReadDevice.feed writer (output_of old.outlet) (output_of new.outlet) old.outlet.ended new.outlet.ended c.loop-timed.yielded c.loop-timed.replies.items c.in-Some.timed c.step-reply.result step.fails_once inv.honest
-          (reports-step g.D.ReadDevice.feed (output_of old.outlet) (output_of new.outlet) c.in-Some.timed c.step-reply.result step.honest));
+          (reports-step g.D.ReadDevice.feed old new c.in-Some.timed c.step-reply.result step.honest));
     }
 
 pub returns-clause-conversation : goal.returns-clause-conversation

@@ -26,4 +26,4 @@ returns-clause-fails_once g c = flushed-once _ _ _ c.in_default.field-0 c.flush.
 
 pub returns-in-Err-clause-honest : goal.returns-in-Err-clause-honest
 returns-in-Err-clause-honest g c =
-    printed-honest (Unit {0}) _ _ _ _ c.failures-failures.result c.in-Err.fault _ c.args.answer_form.asked_coding c.args.answer_form.version c.args.answer_form.no_body c.args.now c.in-Err.ensures.text c.in-Err.ensures.uses c.failures-failures.ensures.count c.end_behind_fault.ensures.ends
+    printed-honest (Unit {0}) _ _ _ _ c.failures-failures.result c.in-Err.fault _ _ c.in-Err.ensures.text c.in-Err.ensures.uses c.failures-failures.ensures.count c.end_behind_fault.ensures.ends

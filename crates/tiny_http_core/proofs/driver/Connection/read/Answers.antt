@@ -28,7 +28,7 @@ returns-in_default g c =
     let old = viewed q.source q.outlet q.pending q.end in
     record {
       step = λ date. rw (← c.self.view_is) (takes-read old old date n c.args.count NoSuch
-          (λ client before s st. no-such client before (kept old) s date n (Read n c.args.count) refl (read-not_taken n c.args.count) st (sym c.answer_form_at.ensures ∙ c.in_default.is)) (λ no. refl) refl (refl, refl, inl (refl, refl)) (moves-none old));
+          (λ client before s st. no-such client before (kept old) s date n (Read n c.args.count) refl (read-not_taken n c.args.count) st (sym c.answer_context_at.ensures ∙ c.in_default.is)) (λ no. refl) refl (refl, refl, inl (refl, refl)) (moves-none old));
     }
 
 pub returns-then-count-eq0 : goal.returns-then-count-eq0
@@ -40,7 +40,7 @@ returns-then-count-eq0 g c =
     record {
       step = λ date. rw (← c.self.view_is) (takes-read old old date n c.args.count (Given c.new.result.items)
           (λ client before s st.
-          let w = answer-form-some (slice_get k.requests n) c.in-Some.field-0 (sym c.answer_form_at.ensures ∙ c.in-Some.is) in
+          let w = answer-form-some (slice_get k.requests n) c.in-Some.field-0 (sym c.answer_context_at.ensures ∙ c.in-Some.is) in
           let P : List ℕ → Type 0 = λ l. StepIsAnswered client before k s date (Read n c.args.count) (Given l) in
           subst P (none _ (search rules)) (read-none client before k s date n c.args.count w.0 st w.1 c.if-count-eq0.true)) (λ no. refl) refl (refl, refl, inl (refl, refl)) (moves-none old));
     }
@@ -54,7 +54,7 @@ returns-in_default-zeros g c =
     record {
       step = λ date. rw (← c.self.view_is) (takes-read old old date n c.args.count Memory
           (λ client before s st.
-          let w = answer-form-some (slice_get k.requests n) c.in-Some.field-0 (sym c.answer_form_at.ensures ∙ c.in-Some.is) in
+          let w = answer-form-some (slice_get k.requests n) c.in-Some.field-0 (sym c.answer_context_at.ensures ∙ c.in-Some.is) in
           read-memory client before k s date n c.args.count w.0 st w.1 (omega (arith, c.if-count-eq0.false))) (λ no. refl) refl (refl, refl, inl (refl, refl)) (moves-none old));
     }
 
@@ -65,7 +65,7 @@ returns g c =
     let old = viewed q.source q.outlet q.pending q.end in
     let new = viewed c.fill.new.source q.outlet c.fill.new.self q.end in
     let k : Kept = kept old in
-    let w = answer-form-some (slice_get k.requests n) c.in-Some.field-0 (sym c.answer_form_at.ensures ∙ c.in-Some.is) in
+    let w = answer-form-some (slice_get k.requests n) c.in-Some.field-0 (sym c.answer_context_at.ensures ∙ c.in-Some.is) in
     let size : length c.fill.new.buf ≡ c.args.count = search (rules, c.in-Ok.ensures) in
     record {
       step = λ date. rw (← c.self.view_is) (takes-read old new date n c.args.count (seen c.match-fill.result)

@@ -1,6 +1,6 @@
-use Rattle.std.proofs.Common.{rules, ℕ, ◌≡◌, refl, sym, ap, ◌∙◌, subst, true, false, List, [], Option, Some, None}
+use Rattle.std.proofs.Common.{rules, ℕ, ◌≡◌, refl, sym, ap, ◌∙◌, subst, true, false, List, Option, Some, None}
 use Rattle.std.specs.Prelude.{slice_get, slice_set, IsTrue}
-use Rattle.tiny_http_wire.specs.Answer.{Answer, answer_coding}
+use Rattle.tiny_http_wire.specs.Answer.{Answer}
 use Rattle.tiny_http_message.specs.declared.waiting.Waiting.{Waiting}
 use Rattle.tiny_http_core.specs.Steps.{ReplyValue, Handed, Ended, Given, Fault, Done, Refused, Memory, Respond, NotYet, NoSuch}
 use Rattle.tiny_http_core.specs.Driving.{IsDeclined, stated_response}
@@ -9,7 +9,7 @@ use Rattle.tiny_http_core.specs.declared.driver.Step.TheVariants as step
 use Rattle.tiny_http_wire.specs.Answer.{ResponseState}
 use Rattle.tiny_http_wire.specs.Device.{Feed}
 use Rattle.tiny_http_turns.specs.Turns.{Mark}
-use Rattle.tiny_http_core.specs.Pending.{waiting_answer_form}
+use Rattle.tiny_http_core.specs.Pending.{waiting_answer_context}
 use Rattle.tiny_http_stream.specs.Outlet.{output_of, outlet_ended}
 use Rattle.tiny_http_core.specs.Connection.{Kept, kept}
 use Rattle.tiny_http_sending.specs.ResponseValue.{printing_in}
@@ -30,7 +30,7 @@ returns-in_default g c =
     let old = viewed q.source q.outlet q.pending q.end in
     record {
       step = rw (← c.self.view_is) (takes-respond g.D.ReadDevice.feed old old c.args.now n c.args.response NoSuch
-          (λ client before s value low is st. no-such client before (kept old) s c.args.now n (Respond n value) refl (respond-not_taken n value) st (sym c.answer_form_at.ensures ∙ c.in_default.is))
+          (λ client before s value low is st. no-such client before (kept old) s c.args.now n (Respond n value) refl (respond-not_taken n value) st (sym c.answer_context_at.ensures ∙ c.in_default.is))
           (λ no. refl) refl (λ no. elim no [ ]) (moves-none old) (λ kind e. cc));
     }
 
@@ -44,8 +44,8 @@ returns-then-not-hold g c =
     record {
       step = rw (← c.self.view_is) (takes-respond g.D.ReadDevice.feed old new c.args.now n c.args.response NotYet
           (λ client before s value low is st.
-          let kept_answer_form : waiting_answer_form (slice_get k.requests n) ≡ Some c.in-Some.answer_form = sym c.answer_form_at.ensures ∙ c.in-Some.is in
-          let w = answer-form-some (slice_get k.requests n) c.in-Some.answer_form kept_answer_form in
+          let kept_answer_context : waiting_answer_context (slice_get k.requests n) ≡ Some c.in-Some.answer_context = sym c.answer_context_at.ensures ∙ c.in-Some.is in
+          let w = answer-form-some (slice_get k.requests n) c.in-Some.answer_context kept_answer_context in
           let late : c.hold.result ≡ false = search rules in
           let same = c.hold.ensures.not_yet late in
           let P : List Mark → List (Option Waiting) → Type 0 = λ m r. StepIsAnswered client before (record k { marks = m; requests = r }) s c.args.now (Respond n value) NotYet in
@@ -83,16 +83,16 @@ returns-in-Some-take g c =
     record {
       step = rw (← c.self.view_is) (takes-respond g.D.ReadDevice.feed old new c.args.now n c.args.response reply
           (λ client before s value low is st.
-          let kept_answer_form : waiting_answer_form (slice_get k.requests n) ≡ Some c.in-Some.answer_form = sym c.answer_form_at.ensures ∙ c.in-Some.is in
+          let kept_answer_context : waiting_answer_context (slice_get k.requests n) ≡ Some c.in-Some.answer_context = sym c.answer_context_at.ensures ∙ c.in-Some.is in
           let held : IsTrue c.hold.result = search rules in
-          let A : Answer → Type 0 = λ a. Answers k.sink (output_of mid) (outlet_ended mid) reply a value.content (printing_in c.in-Some.answer_form c.args.now) in
+          let A : Answer → Type 0 = λ a. Answers k.sink (output_of mid) (outlet_ended mid) reply a value.content (printing_in c.in-Some.answer_context c.args.now) in
           let same : last.self.requests.items ≡ k.requests = ap (λ v. v.items) (c.pass.ensures.requests ∙ c.hold.ensures.requests) in
           let some = c.in-Some-take.ensures.some in
           let got : slice_get k.requests n ≡ Some (Some w0) = ap (λ l. slice_get l n) (sym same) ∙ some.0 in
           let requests : taken.requests.items ≡ slice_set k.requests n None = some.1 ∙ ap (λ l. slice_set l n None) same in
-          let done = respond-done client before k s c.args.now n value c.in-Some.answer_form (output_of mid) (output_of last.outlet) (outlet_ended mid) (outlet_ended last.outlet) c.hold.new.self.turns.marks last.self.turns.marks taken.requests.items q.source source reply
-          st (record { feed = refl; stop = refl; ends = refl; standing = refl }) (gives-up-kept q.source source (slice_get k.requests n) w0 got c.give_up.ensures.gives_up) low kept_answer_form (c.hold.ensures.held.0 held).1 (c.hold.ensures.marks held) requests
-          (responds-by k (output_of mid) (outlet_ended mid) reply value c.in-Some.answer_form c.args.now
+          let done = respond-done client before k s c.args.now n value c.in-Some.answer_context (output_of mid) (output_of last.outlet) (outlet_ended mid) (outlet_ended last.outlet) c.hold.new.self.turns.marks last.self.turns.marks taken.requests.items q.source source reply
+          st (record { feed = refl; stop = refl; ends = refl; standing = refl }) (gives-up-kept q.source source (slice_get k.requests n) w0 got c.give_up.ensures.gives_up) low kept_answer_context (c.hold.ensures.held.0 held).1 (c.hold.ensures.marks held) requests
+          (responds-by k (output_of mid) (outlet_ended mid) reply value c.in-Some.answer_context c.args.now
           (λ e. let h = c.answer-reply.ensures.past e in (ap (λ o. output_of o) h.0, ap (λ o. outlet_ended o) h.0, h.1))
           (λ e. subst A (sym is.0) (c.answer-reply.ensures.sends value.content is.1 is.2 e (can-send before k.sink k.output_ended s.reached.slots s.failure st.output low e))))
           c.pass.ensures.passes c.pass.ensures.sends in
@@ -109,5 +109,5 @@ returns-in-Some-take g c =
             flushed = λ h. c.pass.ensures.flushed (c.answer-reply.ensures.flushed h);
             sent_on = λ h. c.pass.ensures.sent_on (c.answer-reply.ensures.sent_on h);
           })
-          (λ kind e. let h = c.answer-reply.ensures.honest kind e in let p = printing_in c.in-Some.answer_form c.args.now in (p, honest-more (outlet_ended mid) (outlet_ended last.outlet) k.sink (output_of mid) (output_of last.outlet) (answer_coding c.args.response.answer p) c.args.response.answer.length (g.D.ReadDevice.feed c.args.response.data_reader) kind h.0 c.pass.ensures.fails_once h.1)));
+          (λ kind e. let h = c.answer-reply.ensures.honest kind e in let p = printing_in c.in-Some.answer_context c.args.now in (c.in-Some.answer_context, sym c.answer_context_at.ensures ∙ c.in-Some.is, honest-more (outlet_ended mid) (outlet_ended last.outlet) k.sink (output_of mid) (output_of last.outlet) c.args.response.answer (g.D.ReadDevice.feed c.args.response.data_reader) p kind h.0 c.pass.ensures.fails_once h.1)));
     }

@@ -4,7 +4,7 @@ use tiny_http_head::common::HTTPVersion;
 
 /// How the answer to a request is printed.
 #[derive(Clone, Copy, Debug, PartialEq, Eq)]
-pub struct AnswerForm {
+pub struct AnswerContext {
     /// The version of the request, in which it is answered.
     pub version: HTTPVersion,
     /// The transfer coding that the request asks for by its `TE` header, if it asks for one.
