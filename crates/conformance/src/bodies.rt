@@ -312,7 +312,6 @@ fn what_is_not_served_yet_ends_the_connection(rt: HostRuntime) -> Result<(), Fai
         b"GET / HTTP/1.1\r\nConnection: upgrade\r\n\r\n".as_slice(),
         b"GET / HTTP/1.1\r\nConnection: keep-alive, Upgrade\r\n\r\n".as_slice(),
         b"POST / HTTP/1.1\r\nExpect: 100-continue\r\nContent-Length: 5\r\n\r\nhello".as_slice(),
-        b"POST / HTTP/1.1\r\nexpect: 189-dummy\r\n\r\n".as_slice(),
         b"GET / HTTP/2.0\r\n\r\nGET /b HTTP/1.1\r\n\r\n".as_slice(),
         b"GET / HTTP/3.0\r\n\r\n".as_slice(),
     ] {

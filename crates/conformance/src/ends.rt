@@ -59,7 +59,7 @@ const ROWS: &[Row] = &[
         b"",
         Some(ErrorKind::TimedOut),
         &[Ask],
-        Some(EndOfRequests::TimedOut),
+        Some(EndOfRequests::Refused(StatusCode(408))),
     ),
     (
         b"",
@@ -78,7 +78,7 @@ const ROWS: &[Row] = &[
         b"GET / HTTP/1.1\r\nHost: a",
         Some(ErrorKind::TimedOut),
         &[Ask],
-        Some(EndOfRequests::TimedOut),
+        Some(EndOfRequests::Refused(StatusCode(408))),
     ),
     (
         b"POST / HTTP/1.1\r\nContent-Length: 3\r\n\r\nab",
@@ -91,6 +91,18 @@ const ROWS: &[Row] = &[
         Some(ErrorKind::Other),
         &[Ask],
         Some(EndOfRequests::Fault(ErrorKind::Other)),
+    ),
+    (
+        b"POST / HTTP/1.1\r\nContent-Length: 3\r\n\r\nab",
+        Some(ErrorKind::TimedOut),
+        &[Ask],
+        Some(EndOfRequests::Refused(StatusCode(408))),
+    ),
+    (
+        b"POST / HTTP/1.1\r\nExpect: 189-dummy\r\n\r\n",
+        None,
+        &[Ask, Ask],
+        Some(EndOfRequests::Refused(StatusCode(417))),
     ),
     (
         b"GET /\xff HTTP/1.1\r\n\r\n",

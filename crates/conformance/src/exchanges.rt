@@ -385,13 +385,22 @@ fn assert_refused(rt: &impl Abort, alloc: Global, most: usize) -> Result<(), Fai
     assert_ended(rt, alloc, &mut source)
 }
 
+// A head that the reader's time-out cuts, and nothing after it.
+fn assert_timed_out(rt: &impl Abort, alloc: Global, cut: &[u8], most: usize) -> Result<(), Fail> {
+    let mut source = source_of(alloc, cut, Some(ErrorKind::TimedOut), most)?;
+    let wanted = format!(in alloc; "HTTP/1.1 408 Request Timeout\r\n{EMPTY}")?;
+    assert_refusal(rt, alloc, &mut source, wanted.as_str())?;
+    assert_ended(rt, alloc, &mut source)
+}
+
 #[test]
 fn heads_that_are_no_requests(rt: HostRuntime) -> Result<(), Fail> {
     let cut = b"GET / HTTP/1.1\r\nHost: a";
     for most in SIZES {
         assert_refused(&rt, rt.alloc(), most)?;
-        let mut source = source_of(rt.alloc(), cut, Some(ErrorKind::TimedOut), most)?;
+        let mut source = source_of(rt.alloc(), cut, None, most)?;
         assert_ended(&rt, rt.alloc(), &mut source)?;
+        assert_timed_out(&rt, rt.alloc(), cut, most)?;
     }
     Ok(())
 }

@@ -135,17 +135,67 @@ fn a_head_cut_by_a_fault_is_not_answered(rt: HostRuntime) -> Result<(), Fail> {
         replies: "ended; ended",
         output: &[],
     };
-    for kind in [
-        ErrorKind::TimedOut,
-        ErrorKind::ConnectionReset,
-        ErrorKind::Other,
-    ] {
+    for kind in [ErrorKind::ConnectionReset, ErrorKind::Other] {
         let trouble = Trouble {
             reader: Some(kind),
-            room: AMPLE,
-            writer: ErrorKind::Other,
+            ..TIMED_OUT
         };
         assert_troubled(&rt, rt.alloc(), &case, trouble)?;
+    }
+    Ok(())
+}
+
+const TIMED_OUT: Trouble = Trouble {
+    reader: Some(ErrorKind::TimedOut),
+    room: AMPLE,
+    writer: ErrorKind::Other,
+};
+
+// In front of a head, within one, and within a body that is read with its head.
+#[test]
+fn a_time_out_is_answered_by_408(rt: HostRuntime) -> Result<(), Fail> {
+    for client in [
+        b"".as_slice(),
+        b"G".as_slice(),
+        CUT,
+        b"POST / HTTP/1.1\r\nContent-Length: 5\r\n\r\nhe".as_slice(),
+        b"POST / HTTP/1.0\r\nContent-Length: 5\r\n\r\n".as_slice(),
+    ] {
+        let case = Case {
+            client,
+            deeds: &[Ask, Ask],
+            replies: "ended; ended",
+            output: &["HTTP/1.1 408 Request Timeout\r\n", EMPTY],
+        };
+        assert_troubled(&rt, rt.alloc(), &case, TIMED_OUT)?;
+    }
+    Ok(())
+}
+
+// Whatever its version, and before its body has come.
+#[test]
+fn an_expectation_that_cannot_be_met_is_answered_by_417(rt: HostRuntime) -> Result<(), Fail> {
+    for (client, start) in [
+        (
+            b"POST / HTTP/1.1\r\nExpect: 189-dummy\r\nContent-Length: 5\r\n\r\nhello".as_slice(),
+            "HTTP/1.1 417 Expectation Failed\r\n",
+        ),
+        (
+            b"POST / HTTP/1.0\r\nExpect: x\r\nContent-Length: 5\r\n\r\n".as_slice(),
+            "HTTP/1.0 417 Expectation Failed\r\n",
+        ),
+        (
+            b"PUT / HTTP/2.0\r\nExpect: x\r\n\r\n".as_slice(),
+            "HTTP/2.0 417 Expectation Failed\r\n",
+        ),
+    ] {
+        let case = Case {
+            client,
+            deeds: &[Ask, Ask],
+            replies: "ended; ended",
+            output: &[start, EMPTY],
+        };
+        assert_troubled(&rt, rt.alloc(), &case, TIMED_OUT)?;
     }
     Ok(())
 }

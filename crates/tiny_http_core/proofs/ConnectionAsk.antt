@@ -12,6 +12,7 @@ use Rattle.tiny_http_wire.specs.declared.device.Stop.{Stop}
 use Rattle.tiny_http_wire.specs.Device.{Feed, Sink, whole_feed}
 use Rattle.tiny_http_wire.specs.declared.device.Stop.TheVariants.{End}
 use Rattle.tiny_http_wire.specs.Answer.{text_of}
+use Rattle.tiny_http_wire.specs.Heads.{GrammarFault, Cut, NotAscii, Malformed, version}
 use Rattle.tiny_http_message.specs.declared.exchange.Exchange.{Exchange}
 use Rattle.tiny_http_message.specs.declared.body.Body.{Body}
 use Rattle.tiny_http_message.specs.declared.body.Body.TheVariants as body
@@ -22,8 +23,8 @@ use Rattle.tiny_http_wire.specs.Coding.{coding_asked}
 use Rattle.tiny_http_message.specs.declared.waiting.Waiting.{Waiting}
 use Rattle.tiny_http_message.specs.Framing.{is_built}
 use Rattle.tiny_http_stream.specs.Source.{GoesOn}
-use Rattle.tiny_http_message.specs.Pipeline.{Item, Asks, Refuses, BadRequest, RequestTimeout, ExpectationFailed, VersionNotSupported, Request, Place, Heading, Ends, Heads, OneHead, FoundAt, served, served_answer, is_head_method, Pipeline, place_after}
-use Rattle.tiny_http_message.specs.HeadReads.{ReadsHead, IsBeforeHead, standing_of, place_feed, request_of, bad_request_item, head_message, head_framing}
+use Rattle.tiny_http_message.specs.Pipeline.{Item, Asks, Refuses, BadRequest, RequestTimeout, ExpectationFailed, VersionNotSupported, Refusal, refusal_status, fault_answer, is_timed_out, Request, Place, Heading, HeadAt, Ends, Heads, OneHead, FoundAt, served, is_head_method, Pipeline, place_after}
+use Rattle.tiny_http_message.specs.HeadReads.{ReadsHead, IsBeforeHead, standing_of, place_feed, request_of, IsServedRefusal, head_message, head_framing}
 use Rattle.tiny_http_message.specs.declared.exchange.EndOfRequests.{EndOfRequests}
 use Rattle.tiny_http_stream.specs.declared.source.Standing.{Standing}
 use Rattle.tiny_http_stream.specs.declared.source.Standing.TheVariants as in_place
@@ -77,18 +78,25 @@ ask-goes : (date : HttpDate) (old : Reached) → old.asking_ended ≡ false → 
     → ask date old ≡ asks_from date Unused old.slots old.rest
 ask-goes date old e h l = rw (e, h, l) refl
 
--- what stands at a place owes no 100
-served-unowed : (o : Option Item) (r : Request) → Some (Asks r) ≡ served_answer o → r.framing.owes_continue ≡ false
-served-unowed None r e = cc
-served-unowed (Some (Asks q)) r e = cc
-served-unowed (Some (Refuses BadRequest v w l)) r e = cc
-served-unowed (Some (Refuses RequestTimeout v w l)) r e = cc
-served-unowed (Some (Refuses ExpectationFailed v w l)) r e = cc
-served-unowed (Some (Refuses VersionNotSupported v w l)) r e = cc
+-- a head that isn't handed out is no request
+answered-by : (t : Bool) (r : Request) → Some (Asks r) ≡ (if t then Some (Refuses RequestTimeout (version 1 1) false true) else None) → ⊥
+answered-by true r e = cc
+answered-by false r e = cc
 
-found-unowed : (stop : Stop) (heading : Heading) (r : Request) (next : Place) → FoundAt stop (served heading) (Some (Asks r)) next → r.framing.owes_continue ≡ false
-found-unowed stop (Ends answer) r next h = served-unowed answer r h.0
-found-unowed stop (Heads m f after) r next h = by-built (is_built m.version f) refl h
+fault-asks : (v : Option HTTPVersion) (fault : GrammarFault) (stop : Stop) (r : Request) → Some (Asks r) ≡ fault_answer v fault stop → ⊥
+fault-asks v Cut stop r e = answered-by (is_timed_out stop) r e
+fault-asks v NotAscii stop r e = cc
+fault-asks v Malformed stop r e = cc
+
+ends-ask : (bytes : List ℕ) (stop : Stop) (answer : Option Item) (r : Request) → HeadAt bytes stop (Ends answer) → Some (Asks r) ≡ answer → ⊥
+ends-ask bytes stop answer r (inl k) e = fault-asks k.0 k.1 stop r (e ∙ k.3)
+ends-ask bytes stop answer r (inr (inl k)) e = let no : Some (Asks r) ≡ Some (Refuses ExpectationFailed k.0.version false true) = e ∙ k.4 in cc
+ends-ask bytes stop answer r (inr (inr k)) e = answered-by (is_timed_out stop) r (e ∙ k.6)
+
+-- what stands at a place owes no 100
+found-unowed : (bytes : List ℕ) (stop : Stop) (heading : Heading) (r : Request) (next : Place) → HeadAt bytes stop heading → FoundAt stop (served heading) (Some (Asks r)) next → r.framing.owes_continue ≡ false
+found-unowed bytes stop (Ends answer) r next at h = absurd (ends-ask bytes stop answer r at h.0)
+found-unowed bytes stop (Heads m f after) r next at h = by-built (is_built m.version f) refl h
   where
     by-built : (t : Bool) → is_built m.version f ≡ t → FoundAt stop (if t then Heads m f after else Ends None) (Some (Asks r)) next → r.framing.owes_continue ≡ false
     by-built true b k =
@@ -99,7 +107,7 @@ found-unowed stop (Heads m f after) r next h = by-built (is_built m.version f) r
     by-built false b k = let none : Some (Asks r) ≡ None = k.0 in cc
 
 one-head-unowed : (bytes : List ℕ) (stop : Stop) (r : Request) (next : Place) → OneHead bytes stop (Some (Asks r)) next → r.framing.owes_continue ≡ false
-one-head-unowed bytes stop r next h = found-unowed stop h.0 r next h.2
+one-head-unowed bytes stop r next h = found-unowed bytes stop h.0 r next h.1 h.2
 
 -- where the asking goes on the rest of the pipeline stands where the input does
 pub record Going (k : Kept) (s : State) : Type 0 where
@@ -142,13 +150,23 @@ pub dropped-whole : (asked : HttpDate) (r : Request) (given : ℕ) (end_reported
 unfolding text_of
 dropped-whole asked r given end_reported = ap is_broken (own-whole 500 (coding_asked r.message.headers) r.message.version (is_head_method r.message.method) asked)
 
-refused-whole : (date : HttpDate) (v : HTTPVersion) → is_slot_broken (new_slot date (bad_request_item v)) ≡ false
-unfolding text_of
-refused-whole date v = ap is_broken (own-whole 400 None v false date)
+-- the item of a head that is refused with an empty answer
+abbrev refused_item : Refusal → HTTPVersion → Item
+refused_item refusal v = Refuses refusal v false true
 
-refused-text : (date : HttpDate) (v : HTTPVersion) → segment (new_slot date (bad_request_item v)) ≡ own_text 400 v false date
+refused-whole : (refusal : Refusal) (date : HttpDate) (v : HTTPVersion) → IsServedRefusal refusal → is_slot_broken (new_slot date (refused_item refusal v)) ≡ false
 unfolding text_of
-refused-text date v = refl
+refused-whole BadRequest date v h = ap is_broken (own-whole 400 None v false date)
+refused-whole RequestTimeout date v h = ap is_broken (own-whole 408 None v false date)
+refused-whole ExpectationFailed date v h = ap is_broken (own-whole 417 None v false date)
+refused-whole VersionNotSupported date v h = absurd h
+
+refused-text : (refusal : Refusal) (date : HttpDate) (v : HTTPVersion) → IsServedRefusal refusal → segment (new_slot date (refused_item refusal v)) ≡ own_text (refusal_status refusal) v false date
+unfolding text_of
+refused-text BadRequest date v h = refl
+refused-text RequestTimeout date v h = refl
+refused-text ExpectationFailed date v h = refl
+refused-text VersionNotSupported date v h = absurd h
 
 -- a request that is handed out has sent nothing
 abbrev pub handed_slot : HttpDate → Request → Slot
@@ -499,14 +517,15 @@ ask-refused client before k s date from_here status text is_last p stop over at 
     let g = going client before k s st e o quiet open_input in
     let P : Option Feed → Type 0 = λ y. ReadsHead from_here date y p (Ok (read.Refused status text is_last)) in
     let found = subst P g.stated reads in
-    let v = found.0 in
-    let first = pipeline-first g.feed.bytes g.feed.stop (bad_request_item v) None s.reached.rest found.1 g.pipeline in
+    let refusal = found.0 in
+    let v = found.1 in
+    let first = pipeline-first g.feed.bytes g.feed.stop (refused_item refusal v) None s.reached.rest found.3 g.pipeline in
     let none = no-items g.feed.stop first.0 first.2 in
-    let n = new_slot date (bad_request_item v) in
+    let n = new_slot date (refused_item refusal v) in
     let slots = s.reached.slots ++ (n ∷ []) in
     let F : List Item → Outcome = λ y. asks_from date Unused s.reached.slots y in
-    let is : ask date s.reached ≡ asks_from date Unused s.reached.slots (bad_request_item v ∷ []) = ask-goes date s.reached (st.asking_ended ∙ e) g.unheld g.kept ∙ ap F (first.1 ∙ ap (λ y. bad_request_item v ∷ y) none) in
-    let out = refuses before k.sink sink k.output_ended ended s k.marks marks k.requests n text.items st.output st.flushed st.numbers st.shape refl refl (refused-whole date v) (refused-text date v ∙ sym found.2) low leaves in
+    let is : ask date s.reached ≡ asks_from date Unused s.reached.slots (refused_item refusal v ∷ []) = ask-goes date s.reached (st.asking_ended ∙ e) g.unheld g.kept ∙ ap F (first.1 ∙ ap (λ y. refused_item refusal v ∷ y) none) in
+    let out = refuses before k.sink sink k.output_ended ended s k.marks marks k.requests n text.items st.output st.flushed st.numbers st.shape refl refl (refused-whole refusal date v found.2) (refused-text refusal date v found.2 ∙ sym found.4) low leaves in
     let new : State = record { reached = record { slots = slots; rest = []; asking_ended = true }; flushed = flushed_after (if turn_has_come (length s.reached.slots) s.reached.slots then Unreported else Unused) s slots; failure = out.failure } in
     let G : Outcome → Type 0 = λ y. HasOutcome y s Ended new in
     let B : Option Body → Type 0 = λ b. GivesRest b (last_slot slots) p in (

@@ -37,7 +37,7 @@ use Rattle.tiny_http_wire.specs.declared.common.StatusCode.{StatusCode}
 use Rattle.tiny_http_message.specs.declared.exchange.HeadRead.TheVariants as read
 use Rattle.tiny_http_message.specs.declared.exchange.EndOfRequests.TheVariants as because
 use Rattle.tiny_http_message.specs.HeadReads.{ReadsHead, EndsAt, IsBeforeHead}
-use Rattle.tiny_http_message.specs.Pipeline.{BadRequest, OneHead}
+use Rattle.tiny_http_message.specs.Pipeline.{OneHead}
 use Rattle.tiny_http_core.specs.Driving.{IsRefusal, EndsRequestsAt}
 use Rattle.tiny_http_message.specs.PipelineReading.{items_of}
 use Rattle.tiny_http_message.proofs.PipelineLemmas.{feed-pipeline}
@@ -64,7 +64,7 @@ refusal-at : (at : Standing) (date : HttpDate) (o p : Option Feed) (status : Sta
 refusal-at at date o p status text last h f e =
     let P : Option Feed → Type 0 = λ y. ReadsHead at date y p (Ok (read.Refused status text last)) in
     let r = subst P e h in
-    (status, BadRequest, r.0, false, r.1, r.4, refl)
+    (status, r.0, r.1, false, r.3, r.6, refl)
 
 end-at : (at : Standing) (date : HttpDate) (o p : Option Feed) (why : EndOfRequests) → ReadsHead at date o p (Ok (read.Ended why)) → (f : Feed) → o ≡ Some f → OneHead f.bytes f.stop None None × EndsAt at f.bytes f.stop why
 end-at at date o p why h f e = let P : Option Feed → Type 0 = λ y. ReadsHead at date y p (Ok (read.Ended why)) in subst P e h

@@ -1,19 +1,16 @@
 -- What is left of a body, by how far it was read.
-use Rattle.std.proofs.Common.{◌≡◌, refl, sym, ap, ◌∙◌, subst, ℕ, ◌+◌, ◌-◌, ◌<◌, ◌≤◌, inl, inr, Bool, true, false, List, [], ◌++◌, length, take, drop, Option, Some, None, Result, Ok, Err, arith}
+use Rattle.std.proofs.Common.{◌≡◌, refl, sym, ap, ◌∙◌, subst, ℕ, ◌+◌, ◌-◌, ◌≤◌, inl, inr, Bool, true, false, List, [], ◌++◌, length, take, drop, Some, None, Result, Ok, Err, arith}
 use Rattle.std.specs.Prelude.{nat_lt, MatchResult}
-use Rattle.std.specs.Option.{option_map}
 use Rattle.std.specs.declared.io.ErrorKind.{ErrorKind}
 use Rattle.std.proofs.lemmas.Bool.{ltb-true, ltb-false}
 use Rattle.std.proofs.lemmas.List.{take-append-drop, length-take-le}
-use Rattle.tiny_http_wire.specs.declared.device.Stop.{Stop}
-use Rattle.tiny_http_wire.specs.declared.chunked.Decoding.{Decoding}
 use Rattle.tiny_http_wire.specs.declared.chunked.Next.{Next}
 use Rattle.tiny_http_wire.specs.declared.chunked.Next.TheVariants.{Line, Data, Over, Broken}
 use Rattle.tiny_http_wire.specs.Device.{Feed, whole_feed, prepend, fault_of}
 use Rattle.tiny_http_wire.specs.Bytes.{crlf}
 use Rattle.tiny_http_wire.specs.Chunks.{WholeChunks, CutChunks, CloseFault}
-use Rattle.tiny_http_wire.specs.ChunkReading.{Decoded, after_data, decoded, prepend_decoded, chunk_closed, data_at, broken}
-use Rattle.tiny_http_wire.specs.Decoding.{Coming, body_at, decoded_from, rest_at, coming_of, decoding_coming}
+use Rattle.tiny_http_wire.specs.ChunkReading.{Decoded, after_data, chunk_closed, data_at}
+use Rattle.tiny_http_wire.specs.Decoding.{body_at, decoded_from, rest_at, coming_of}
 use Rattle.tiny_http_wire.proofs.ChunksLemmas.{decoded-is, close-is}
 use Rattle.tiny_http_message.specs.declared.body.Body.{Body}
 use Rattle.tiny_http_message.specs.declared.body.Body.TheVariants as body
@@ -22,7 +19,7 @@ use Rattle.tiny_http_message.specs.declared.framing.Form.TheVariants.{Counted, C
 use Rattle.tiny_http_message.specs.Pipeline.{Place, BodyAt}
 use Rattle.tiny_http_message.specs.HeadReads.{place_feed}
 use Rattle.tiny_http_message.specs.Body.{Remaining, remaining, counted_remaining, chunks_remaining, coming_remaining, is_streaming, Fits}
-use Rattle.tiny_http_message.specs.BodyRemains.{breaking, WithinChunk, RemainsAt}
+use Rattle.tiny_http_message.specs.BodyRemains.{breaking, RemainsAt}
 use Rattle.tiny_http_message.proofs.HeadReadsServing.{remains-counted}
 
 -- a chunked body from here on

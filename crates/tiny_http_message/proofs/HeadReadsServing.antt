@@ -38,8 +38,8 @@ use Rattle.tiny_http_stream.specs.ToCome.{skipped}
 use Rattle.tiny_http_message.specs.Body.{Remaining, remaining, counted_remaining, coming_remaining, Fits, IsBodyOver, ReadsOn}
 use Rattle.tiny_http_message.specs.Exchange.{KeepsHead}
 use Rattle.tiny_http_stream.specs.Source.{TakesExactly, feed_from}
-use Rattle.tiny_http_message.specs.Pipeline.{Item, Asks, Refuses, BadRequest, RequestTimeout, ExpectationFailed, Place, Heading, Ends, Heads, IsCutWithHead, cut_answer, is_timed_out, body_length_or_0, served, served_answer, BodyAt, FoundAt, OneHead, item_of, next_place, place_after}
-use Rattle.tiny_http_message.specs.HeadReads.{ReadsMessage, ReadsHead, RefusesBy, Begins, ComesWith, IsCutOff, IsUnserved, IsBeforeHead, cut_end, end_at, place_feed, message_of, head_message, head_framing}
+use Rattle.tiny_http_message.specs.Pipeline.{Asks, Refuses, Refusal, BadRequest, RequestTimeout, ExpectationFailed, refusal_status, Place, Heading, Ends, Heads, HeadAt, IsCutWithHead, cut_answer, is_timed_out, body_length_or_0, served, BodyAt, FoundAt, OneHead, item_of, next_place, place_after}
+use Rattle.tiny_http_message.specs.HeadReads.{ReadsMessage, ReadsHead, RefusesWith, AnswersCut, AnswersFault, IsServedRefusal, IsCutHead, IsBadLine, IsRefusedHead, IsOkEnd, HasCome, Begins, ComesWith, IsCutOff, IsBeforeHead, cut_end, end_at, place_feed, message_of, head_message, head_framing}
 use Rattle.tiny_http_message.specs.declared.exchange.EndOfRequests.{EndOfRequests}
 use Rattle.tiny_http_message.specs.declared.exchange.EndOfRequests.TheVariants as because
 use Rattle.tiny_http_stream.specs.declared.source.Standing.{Standing}
@@ -48,52 +48,53 @@ use Rattle.tiny_http_stream.specs.Source.{SourceState}
 use Rattle.tiny_http_stream.specs.ToCome.{HasByte, HasNoByte}
 use Rattle.tiny_http_wire.specs.Device.{StopsBy}
 use Rattle.tiny_http_wire.specs.Bytes.{crlf}
-use Rattle.std.specs.Prelude.{IfSome, IsSome}
+use Rattle.std.specs.Prelude.{IfSome, IfOk, IsSome, IsErr, ◌≢◌}
 use Rattle.tiny_http_stream.proofs.ToComeLemmas.{skipped-within, skipped-beyond}
-use Rattle.tiny_http_message.specs.PipelineReading.{is_cut_with_head}
-use Rattle.tiny_http_message.proofs.PipelineLemmas.{pipeline-sized-is, cut-with_head, with_head-cut}
+use Rattle.tiny_http_message.proofs.PipelineLemmas.{pipeline-sized-is}
 
-not_served : (t : Bool) → ◌≡◌ {A = Option Item} None (served_answer (if t then Some (Refuses RequestTimeout (version 1 1) false true) else None))
-not_served true = refl
-not_served false = refl
+-- a head that is refused with an empty answer
+refused-at : (date : HttpDate) (f : Feed) (p : Option Feed) (refusal : Refusal) (v : HTTPVersion) (r : Result HeadRead AllocError) → IsServedRefusal refusal → HeadAt f.bytes f.stop (Ends (Some (Refuses refusal v false true)))
+    → RefusesWith (refusal_status refusal) v date r → ReadsHead at.Head date (Some f) p r
+refused-at date f p refusal v (Err x) s h k = tt
+refused-at date f p refusal v (Ok (read.Refused status text last)) s h k = (refusal, v, s, (Ends (Some (Refuses refusal v false true)), h, (refl, refl)), k.1, k.2, k.0)
+refused-at date f p refusal v (Ok (read.Ended why)) s h k = absurd k
+refused-at date f p refusal v (Ok (read.Request x)) s h k = absurd k
 
--- a cut head is answered so far by nothing
-cut-unanswered : (stop : Stop) → ◌≡◌ {A = Option Item} None (served_answer (cut_answer stop))
-cut-unanswered stop = not_served (is_timed_out stop)
+-- a head that is cut: a 408 where the reader timed out
+cut-at : (date : HttpDate) (f : Feed) (p : Option Feed) (begun : Bool) (r : Result HeadRead AllocError) → IsCutHead f.bytes → HeadAt f.bytes f.stop (Ends (cut_answer f.stop)) → begun ≡ nat_lt 0 (length f.bytes)
+    → AnswersCut f.stop begun date r → ReadsHead at.Head date (Some f) p r
+cut-at date f p begun r c h b k = by (is_timed_out f.stop) refl h k
+  where
+    by : (t : Bool) → is_timed_out f.stop ≡ t → HeadAt f.bytes f.stop (Ends (if t then Some (Refuses RequestTimeout (version 1 1) false true) else None))
+        → MatchBool t (RefusesWith 408 (version 1 1) date r) (r ≡ Ok (read.Ended (cut_end f.stop begun))) → ReadsHead at.Head date (Some f) p r
+    by true e h k = refused-at date f p RequestTimeout (version 1 1) r tt h k
+    by false e h k =
+        let P : Result HeadRead AllocError → Type 0 = λ x. ReadsHead at.Head date (Some f) p x in
+        subst P (sym k) ((Ends None, h, (refl, refl)), inl (c, e, ap (cut_end f.stop) b))
 
--- a faulty head: where it is cut, it ends the requests for this reason
-pub head-refused : (date : HttpDate) (o p : Option Feed) (v : Option HTTPVersion) (e : HeadFault) (cut : EndOfRequests) (r : Result HeadRead AllocError) → ReadsMessage o p (Err (v, e)) → RefusesBy v e cut date r
-    → ((f : Feed) → o ≡ Some f → e ≡ fault.Cut → cut ≡ cut_end f.stop (nat_lt 0 (length f.bytes))) → ReadsHead at.Head date o p r
-head-refused date None p v e cut r h k why = tt
-head-refused date (Some f) p v e cut (Err x) h k why = tt
-head-refused date (Some f) p v fault.Cut cut (Ok (read.Ended x)) h k why = ((Ends (cut_answer f.stop), inl (v, Cut, h, refl), (cut-unanswered f.stop, refl)), inl (inl (v, h), k ∙ why f refl refl))
-head-refused date (Some f) p v fault.Cut cut (Ok (read.Request x)) h k why = absurd k
-head-refused date (Some f) p v fault.Cut cut (Ok (read.Refused status text last)) h k why = absurd k
-head-refused date (Some f) p v fault.NotAscii cut (Ok (read.Ended x)) h k why = ((Ends None, inl (v, NotAscii, h, refl), (refl, refl)), inr (inl (v, h, k)))
-head-refused date (Some f) p v fault.NotAscii cut (Ok (read.Request x)) h k why = absurd k
-head-refused date (Some f) p v fault.NotAscii cut (Ok (read.Refused status text last)) h k why = absurd k
-head-refused date (Some f) p v fault.Malformed cut (Ok (read.Ended x)) h k why = absurd k
-head-refused date (Some f) p v fault.Malformed cut (Ok (read.Request x)) h k why = absurd k
-head-refused date (Some f) p v fault.Malformed cut (Ok (read.Refused status text last)) h k why =
-    (unwrap_or v (version 1 1), (Ends (Some (Refuses BadRequest (unwrap_or v (version 1 1)) false true)), inl (v, Malformed, h, refl), (refl, refl)), k.1, k.2, k.0)
-head-refused date (Some f) p v fault.Memory cut (Ok x) h k why = absurd k
+-- memory for a line was refused
+without-memory : (date : HttpDate) (f : Feed) (p : Option Feed) (r : Result HeadRead AllocError) → IsErr r → ReadsHead at.Head date (Some f) p r
+without-memory date f p (Ok x) k = let no : false ≡ true = k in cc
+without-memory date f p (Err x) k = tt
+
+-- a faulty head; where it is cut, the input stopped so
+pub head-refused : (date : HttpDate) (o p : Option Feed) (v : Option HTTPVersion) (e : HeadFault) (stop : Option Stop) (r : Result HeadRead AllocError) → ReadsMessage o p (Err (v, e)) → AnswersFault v e stop date r
+    → ((f : Feed) → o ≡ Some f → e ≡ fault.Cut → (stop ≡ Some f.stop) × (true ≡ nat_lt 0 (length f.bytes))) → ReadsHead at.Head date o p r
+head-refused date None p v e stop r h k why = tt
+head-refused date (Some f) p v fault.Cut stop r h k why =
+    let w = why f refl refl in
+    let P : Option Stop → Type 0 = λ o. IfSome o (λ s. AnswersCut s true date r) in
+    cut-at date f p true r (inl (v, h)) (inl (v, Cut, h, refl)) w.1 (subst P w.0 k)
+head-refused date (Some f) p v fault.NotAscii stop r h k why =
+    let P : Result HeadRead AllocError → Type 0 = λ x. ReadsHead at.Head date (Some f) p x in
+    subst P (sym k) ((Ends None, inl (v, NotAscii, h, refl), (refl, refl)), inr (inl (v, h, refl)))
+head-refused date (Some f) p v fault.Malformed stop r h k why = refused-at date f p BadRequest (unwrap_or v (version 1 1)) r tt (inl (v, Malformed, h, refl)) k
+head-refused date (Some f) p v fault.Memory stop r h k why = without-memory date f p r k
 
 -- an expectation that can't be met
-pub head-unframed : (date : HttpDate) (o p : Option Feed) (m : Message) → ReadsMessage o p (Ok m) → framing m.version m.headers.items ≡ None → ReadsHead at.Head date o p (Ok (read.Ended because.NotServed))
-head-unframed date None p m h e = tt
-head-unframed date (Some f) p m h e =
-    let P : Option Framing → Type 0 = λ x. IsUnserved x m.version h.0 in
-    ((Ends (Some (Refuses ExpectationFailed m.version false true)), inr (inl (message_of m, h.0, h.1, e, refl)), (refl, refl)), inr (inr (message_of m, h.0, h.1, subst P (sym e) tt, refl)))
-
--- a head that isn't built
-unbuilt : (bytes : List ℕ) (stop : Stop) (m : Texted) (f : Framing) (after : List ℕ) → BeginsWithRequestHead bytes m after → framing m.version m.headers ≡ Some f → is_built m.version f ≡ false
-    → (t : Bool) → is_cut_with_head f.form (body_length_or_0 f) after ≡ t → OneHead bytes stop None None
-unbuilt bytes stop m f after h e b true c = (Ends (cut_answer stop), inr (inr (m, after, f, h, e, cut-with_head f.form (body_length_or_0 f) after c, refl)), (cut-unanswered stop, refl))
-unbuilt bytes stop m f after h e b false c =
-    let not_cut : IsCutWithHead f.form (body_length_or_0 f) after → ⊥ = λ k. (let x : true ≡ false = sym (with_head-cut f.form (body_length_or_0 f) after k) ∙ c in cc) in
-    let P : Heading → Type 0 = λ x. FoundAt stop x None None in
-    let same : Ends None ≡ served (Heads m f after) = rw b refl in
-    (Heads m f after, (h, e, not_cut), subst P same (refl, refl))
+pub head-unframed : (date : HttpDate) (o p : Option Feed) (m : Message) (r : Result HeadRead AllocError) → ReadsMessage o p (Ok m) → framing m.version m.headers.items ≡ None → RefusesWith 417 m.version date r → ReadsHead at.Head date o p r
+head-unframed date None p m r h e k = tt
+head-unframed date (Some f) p m r h e k = refused-at date f p ExpectationFailed m.version r tt (inr (inl (message_of m, h.0, h.1, e, refl))) k
 
 -- a body that begins isn't cut
 uncut : (form : Form) (n : ℕ) (after : List ℕ) → (is_rest form ≡ false → IsCutWithHead form n after → ⊥) → IsCutWithHead form n after → ⊥
@@ -106,11 +107,12 @@ uncut Chunked n after h k = elim k [ ]
 pub head-unbuilt : (date : HttpDate) (o p q : Option Feed) (m : Message) (f : Framing) (b : Body) → ReadsMessage o p (Ok m) → framing m.version m.headers.items ≡ Some f → Begins f p q (Some b) → is_built m.version f ≡ false → ReadsHead at.Head date o q (Ok (read.Ended because.NotServed))
 head-unbuilt date None p q m f y h e begins b = tt
 head-unbuilt date (Some x) p q m f y h e begins b =
-    let P : Option Framing → Type 0 = λ z. IsUnserved z m.version h.0 in
     let B : Option Feed → Type 0 = λ z. Begins f z q (Some y) in
     let started = subst B h.2 begins in
     let whole : IsCutWithHead f.form (body_length_or_0 f) h.0 → ⊥ = uncut f.form (body_length_or_0 f) h.0 (λ r. (started r).0) in
-    (unbuilt x.bytes x.stop (message_of m) f h.0 h.1 e b (is_cut_with_head f.form (body_length_or_0 f) h.0) refl, inr (inr (message_of m, h.0, h.1, subst P (sym e) (b, whole), refl)))
+    let P : Heading → Type 0 = λ z. FoundAt x.stop z None None in
+    let same : Ends None ≡ served (Heads (message_of m) f h.0) = rw b refl in
+    ((Heads (message_of m) f h.0, (h.1, e, whole), subst P same (refl, refl)), inr (inr (message_of m, h.0, f, h.1, e, b, whole, refl)))
 
 -- what is built is no version above 1.1, owes no 100, and names no upgrade
 pub record Built (v : HTTPVersion) (f : Framing) : Type 0 where
@@ -270,40 +272,95 @@ line-some : (text rest : List ℕ) → 0 < length (text ++ crlf ++ rest)
 line-some [] rest = omega arith
 line-some (b ∷ bs) rest = omega arith
 
--- a body that is read with its head, and cut: it ends the requests by the input's stop
-pub head-cut : (date : HttpDate) (o p q : Option Feed) (m : Message) (f : Framing) (why : EndOfRequests) → ReadsMessage o p (Ok m) → framing m.version m.headers.items ≡ Some f → Begins f p q None
-    → ((x : Feed) → p ≡ Some x → why ≡ cut_end x.stop true) → ReadsHead at.Head date o q (Ok (read.Ended why))
-head-cut date None p q m f why h e t ends = tt
-head-cut date (Some x) p q m f why h e t ends =
+-- a body that is read with its head, and cut, where the input stopped so
+pub head-cut : (date : HttpDate) (o p q : Option Feed) (m : Message) (f : Framing) (stop : Option Stop) (r : Result HeadRead AllocError) → ReadsMessage o p (Ok m) → framing m.version m.headers.items ≡ Some f → Begins f p q None
+    → ((x : Feed) → p ≡ Some x → stop ≡ Some x.stop) → IfSome stop (λ s. AnswersCut s true date r) → ReadsHead at.Head date o q r
+head-cut date None p q m f stop r h e t ends k = tt
+head-cut date (Some x) p q m f stop r h e t ends k =
     let P : Option Feed → Type 0 = λ y. Begins f y q None in
+    let S : Option Stop → Type 0 = λ y. IfSome y (λ s. AnswersCut s true date r) in
     let cut = subst P h.2 t in
     let begun : true ≡ nat_lt 0 (length x.bytes) = sym (lt-ltb 0 (length x.bytes) (head-some x.bytes (message_of m) h.0 h.1)) in
-    ((Ends (cut_answer x.stop), inr (inr (message_of m, h.0, f, h.1, e, cut, refl)), (cut-unanswered x.stop, refl)), inl (inr (message_of m, h.0, f, h.1, e, cut), ends (record { bytes = h.0; stop = x.stop }) h.2 ∙ ap (cut_end x.stop) begun))
+    cut-at date x q true r (inr (message_of m, h.0, f, h.1, e, cut)) (inr (inr (message_of m, h.0, f, h.1, e, cut, refl))) begun (subst S (ends (record { bytes = h.0; stop = x.stop }) h.2) k)
   where
     head-some : (bytes : List ℕ) (m : Texted) (after : List ℕ) → BeginsWithRequestHead bytes m after → 0 < length bytes
     head-some bytes m after t = let P : List ℕ → Type 0 = λ x. 0 < length x in let line = t.2.1 in subst P (sym line.joins) (line-some t.2.0 t.0)
 
--- the reason at the place where a source that was cut stood
-pub cut-reason : {R : Type 0} (old new : SourceState R) (stop : Option Stop) (begun : Bool) (why : EndOfRequests) (f : Feed) → old.feed ≡ Some f → IsCutOff old new → (new.is_over ≡ true → IsSome stop × IfSome stop (λ s. StopsBy s new.feed))
-    → IfSome stop (λ s. why ≡ cut_end s begun) → why ≡ cut_end f.stop begun
-cut-reason old new None begun why f e cut over h = let no : false ≡ true = (over cut.over).0 in cc
-cut-reason old new (Some stop) begun why f e cut over h =
+-- a source that was cut stopped as its feed does
+pub cut-stop : {R : Type 0} (old new : SourceState R) (stop : Option Stop) (f : Feed) → old.feed ≡ Some f → IsCutOff old new → (new.is_over ≡ true → IsSome stop × IfSome stop (λ s. StopsBy s new.feed)) → stop ≡ Some f.stop
+cut-stop old new None f e cut over = let no : false ≡ true = (over cut.over).0 in cc
+cut-stop old new (Some stop) f e cut over =
     let P : Option Feed → Type 0 = λ x. StopsBy stop x in
     let stops = subst P (cut.remains f e) (over cut.over).1 in
-    h ∙ ap (λ s. cut_end s begun) (sym stops.1)
+    ap Some (sym stops.1)
 
 -- no byte of a head has come
-pub head-closed : {R : Type 0} (date : HttpDate) (o : Option Feed) (new : SourceState R) (stop : Option Stop) (why : EndOfRequests) → HasNoByte o → new.feed ≡ o → new.is_over ≡ true → (new.is_over ≡ true → IsSome stop × IfSome stop (λ s. StopsBy s new.feed))
-    → IfSome stop (λ s. why ≡ cut_end s false) → ReadsHead at.Head date o new.feed (Ok (read.Ended why))
-head-closed date None new stop why none same is over h = tt
-head-closed date (Some f) new None why none same is over h = let no : false ≡ true = (over is).0 in cc
-head-closed date (Some f) new (Some stop) why none same is over h =
+pub head-closed : {R : Type 0} (date : HttpDate) (o : Option Feed) (new : SourceState R) (stop : Option Stop) (r : Result HeadRead AllocError) → HasNoByte o → new.feed ≡ o → new.is_over ≡ true → (new.is_over ≡ true → IsSome stop × IfSome stop (λ s. StopsBy s new.feed))
+    → IfSome stop (λ s. AnswersCut s false date r) → ReadsHead at.Head date o new.feed r
+head-closed date None new stop r none same is over h = tt
+head-closed date (Some f) new None r none same is over h = let no : false ≡ true = (over is).0 in cc
+head-closed date (Some f) new (Some stop) r none same is over h =
     let P : Option Feed → Type 0 = λ x. StopsBy stop x in
     let stops = subst P same (over is).1 in
     let Q : List ℕ → Type 0 = λ x. FaultyHead x None Cut in
+    let S : Stop → Type 0 = λ s. AnswersCut s false date r in
     let cut : FaultyHead f.bytes None Cut = subst Q (sym none) refl in
     let begun : false ≡ nat_lt 0 (length f.bytes) = sym (ap (λ (x : List ℕ). nat_lt 0 (length x)) none) in
-    ((Ends (cut_answer f.stop), inl (None, Cut, cut, refl), (cut-unanswered f.stop, refl)), inl (inl (None, cut), h ∙ ap (λ s. cut_end s false) (sym stops.1) ∙ ap (cut_end f.stop) begun))
+    cut-at date f new.feed false r (inl (None, cut)) (inl (None, Cut, cut, refl)) begun (subst S (sym stops.1) h)
+
+-- after the end of a source nothing is answered
+pub end-unanswered : (date : HttpDate) (stop : Option Stop) (begun : Bool) (r : Result HeadRead AllocError) → stop ≡ Some End → IfSome stop (λ s. AnswersCut s begun date r) → IsOkEnd r
+end-unanswered date stop begun r e k =
+    let S : Option Stop → Type 0 = λ y. IfSome y (λ s. AnswersCut s begun date r) in
+    let P : Result HeadRead AllocError → Type 0 = λ x. IsOkEnd x in
+    subst P (sym (subst S e k)) tt
+
+-- where a head that didn't begin is answered, the reader timed out
+pub timed-out : {R : Type 0} (date : HttpDate) (o : Option Feed) (new : SourceState R) (stop : Option Stop) (r : Result HeadRead AllocError) → new.feed ≡ o → new.is_over ≡ true → (new.is_over ≡ true → IsSome stop × IfSome stop (λ s. StopsBy s new.feed))
+    → IfSome stop (λ s. AnswersCut s false date r) → (IsOkEnd r → ⊥) → HasCome o
+timed-out date None new stop r same is over h some = tt
+timed-out date (Some f) new None r same is over h some = let no : false ≡ true = (over is).0 in cc
+timed-out date (Some f) new (Some stop) r same is over h some =
+    let P : Option Feed → Type 0 = λ x. StopsBy stop x in
+    let stops = subst P same (over is).1 in
+    let S : Stop → Type 0 = λ s. AnswersCut s false date r in
+    inr (by (is_timed_out f.stop) refl (subst S (sym stops.1) h))
+  where
+    by : (t : Bool) → is_timed_out f.stop ≡ t → MatchBool t (RefusesWith 408 (version 1 1) date r) (r ≡ Ok (read.Ended (cut_end f.stop false))) → is_timed_out f.stop ≡ true
+    by true e k = e
+    by false e k = absurd (some (let E : Result HeadRead AllocError → Type 0 = λ x. IsOkEnd x in subst E (sym k) tt))
+
+pub has-come : (o : Option Feed) → HasByte o → HasCome o
+has-come None h = tt
+has-come (Some f) h = inl h
+
+-- a head that is refused by another status than 408 was faulty in a line that was read
+refused-by : (status : ℕ) (v : HTTPVersion) (date : HttpDate) (x : HeadRead) → RefusesWith status v date (Ok x) → IsRefusedHead x → status ≢ 408
+refused-by status v date (read.Refused code text last) k h e = h (k.0 ∙ e)
+refused-by status v date (read.Ended why) k h e = absurd k
+refused-by status v date (read.Request x) k h e = absurd k
+
+cut-unrefused : (stop : Option Stop) (begun : Bool) (date : HttpDate) (x : HeadRead) → IsSome stop → IfSome stop (λ s. AnswersCut s begun date (Ok x)) → IsRefusedHead x → ⊥
+cut-unrefused None begun date x some k h = let no : false ≡ true = some in cc
+cut-unrefused (Some s) begun date x some k h = by (is_timed_out s) k
+  where
+    by : (t : Bool) → MatchBool t (RefusesWith 408 (version 1 1) date (Ok x)) (◌≡◌ {A = Result HeadRead AllocError} (Ok x) (Ok (read.Ended (cut_end s begun)))) → ⊥
+    by true k = refused-by 408 (version 1 1) date x k h refl
+    by false k =
+        let P : HeadRead → Type 0 = λ y. IsRefusedHead y in
+        let e : x ≡ read.Ended (cut_end s begun) = cc in
+        elim (subst P e h) [ ]
+
+pub cut-passed : (T : Type 0) (stop : Option Stop) (begun : Bool) (date : HttpDate) (r : Result HeadRead AllocError) → IsSome stop → IfSome stop (λ s. AnswersCut s begun date r) → IfOk r (λ x. IsRefusedHead x → T)
+cut-passed T stop begun date (Ok x) some k = λ h. absurd (cut-unrefused stop begun date x some k h)
+cut-passed T stop begun date (Err e) some k = tt
+
+pub fault-passed : (T : Type 0) (v : Option HTTPVersion) (e : HeadFault) (stop : Option Stop) (date : HttpDate) (r : Result HeadRead AllocError) → AnswersFault v e stop date r → (e ≡ fault.Cut → IsSome stop) → (IsBadLine e → T) → IfOk r (λ x. IsRefusedHead x → T)
+fault-passed T v e stop date (Err x) k cut bad = tt
+fault-passed T v fault.Cut stop date (Ok x) k cut bad = λ h. absurd (cut-unrefused stop true date x (cut refl) k h)
+fault-passed T v fault.NotAscii stop date (Ok x) k cut bad = λ h. bad tt
+fault-passed T v fault.Malformed stop date (Ok x) k cut bad = λ h. bad tt
+fault-passed T v fault.Memory stop date (Ok x) k cut bad = let no : false ≡ true = k in cc
 
 -- a byte of a head has come
 pub begun-is : (o : Option Feed) (f : Feed) → o ≡ Some f → HasByte o → true ≡ nat_lt 0 (length f.bytes)

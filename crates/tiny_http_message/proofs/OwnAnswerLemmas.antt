@@ -15,8 +15,8 @@ use Rattle.tiny_http_wire.specs.declared.coding.FramingHeader.TheVariants.{Conte
 use Rattle.tiny_http_encoding.specs.ChunkedPrinting.{full_chunks, left_over}
 use Rattle.tiny_http_wire.specs.Common.{reason_phrase}
 use Rattle.tiny_http_wire.specs.Device.{Sink, Took, Failed, whole_feed}
-use Rattle.tiny_http_encoding.specs.Text.{Ending, Whole, Broken, identity_body, chunked_body}
-use Rattle.tiny_http_wire.specs.Answer.{Answer, Printing, answer_with, answer_coding, coded_text, PrintsAnswer, text_of, body_unless_withheld, is_withheld, answer_head_text, status_line, field_line, upgrade_lines, server_line, date_line, framing_line}
+use Rattle.tiny_http_encoding.specs.Text.{Ending, Whole, Broken, chunked_body}
+use Rattle.tiny_http_wire.specs.Answer.{Answer, Printing, answer_with, answer_coding, coded_text, PrintsAnswer, text_of, is_withheld, answer_head_text, status_line, field_line, upgrade_lines, server_line, date_line, framing_line}
 use Rattle.tiny_http_sending.specs.ResponseValue.{printing_to}
 use Rattle.tiny_http_message.specs.OwnAnswer.{own_text_by}
 

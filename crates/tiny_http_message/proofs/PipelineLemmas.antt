@@ -17,7 +17,7 @@ use Rattle.tiny_http_message.specs.declared.framing.Form.{Form}
 use Rattle.tiny_http_message.specs.declared.framing.Form.TheVariants.{Rest, Nothing, WithHead, Counted, Chunked}
 use Rattle.tiny_http_message.specs.declared.framing.Framing.{Framing}
 use Rattle.tiny_http_message.specs.Framing.{framing, is_built}
-use Rattle.tiny_http_message.specs.Pipeline.{Item, Place, Heading, Ends, Heads, HeadAt, IsCutWithHead, cut_answer, body_length_or_0, served, served_answer, BodyAt, SizedBody, FoundAt, OneHead, item_of, next_place, ends_too_new, Pipeline, place_after}
+use Rattle.tiny_http_message.specs.Pipeline.{Item, Place, Heading, Ends, Heads, HeadAt, IsCutWithHead, cut_answer, body_length_or_0, served, BodyAt, SizedBody, FoundAt, OneHead, item_of, next_place, ends_too_new, Pipeline, place_after}
 use Rattle.tiny_http_message.specs.PipelineReading.{BodyRead, chunked_read, sized_read, body_read, is_cut_with_head, framed, heading, heading_of, items_at, items_from, items_of}
 
 pub cut-with_head : (form : Form) (n : ℕ) (after : List ℕ) → is_cut_with_head form n after ≡ true → IsCutWithHead form n after
@@ -225,9 +225,9 @@ head-shorter bytes m after h =
     let l = line-shorter h.1 [] after h.4 in omega arith
 
 -- the pipeline that is read is the pipeline
-ends-is : (bytes : List ℕ) (stop : Stop) (go : Place → List Item) (answer : Option Item) → HeadAt bytes stop (Ends answer) → (o : Option Item) → served_answer answer ≡ o → Pipeline (Some bytes) stop (items_at go stop (Ends o))
-ends-is bytes stop go answer h None e = (Ends answer, h, (sym e, refl))
-ends-is bytes stop go answer h (Some item) e = (None, (Ends answer, h, (sym e, refl)), tt)
+ends-is : (bytes : List ℕ) (stop : Stop) (go : Place → List Item) (answer : Option Item) → HeadAt bytes stop (Ends answer) → Pipeline (Some bytes) stop (items_at go stop (Ends answer))
+ends-is bytes stop go None h = (Ends None, h, (refl, refl))
+ends-is bytes stop go (Some item) h = (None, (Ends (Some item), h, (refl, refl)), tt)
 
 heads-is : (fuel : ℕ) (stop : Stop) (bytes : List ℕ) → ((p : Place) → place_len p < length bytes → Pipeline p stop (items_from fuel stop p))
     → (m : Message) (f : Framing) (after : List ℕ) → HeadAt bytes stop (Heads m f after) → (t : Bool) → is_built m.version f ≡ t
@@ -248,7 +248,7 @@ heads-is fuel stop bytes go m f after h true b =
 
 one-is : (fuel : ℕ) (stop : Stop) (bytes : List ℕ) → ((p : Place) → place_len p < length bytes → Pipeline p stop (items_from fuel stop p))
     → (h : Heading) → HeadAt bytes stop h → Pipeline (Some bytes) stop (items_at (items_from fuel stop) stop (served h))
-one-is fuel stop bytes go (Ends answer) h = ends-is bytes stop (items_from fuel stop) answer h (served_answer answer) refl
+one-is fuel stop bytes go (Ends answer) h = ends-is bytes stop (items_from fuel stop) answer h
 one-is fuel stop bytes go (Heads m f after) h = heads-is fuel stop bytes go m f after h (is_built m.version f) refl
 
 items-are : (fuel : ℕ) (place : Place) (stop : Stop) → place_len place < fuel → Pipeline place stop (items_from fuel stop place)

@@ -1,6 +1,5 @@
 -- What the calls that read a head make of the input.
-use Rattle.std.specs.Prelude.{◌≡◌, ℕ, ⊤, ◌⊎◌, List, [], length, nat_lt, Option, Some, None, Result, Ok, Err, unwrap_or, Bool, true, false, if◌then◌else◌}
-use Rattle.std.specs.declared.io.ErrorKind.TheVariants.{TimedOut}
+use Rattle.std.specs.Prelude.{◌≡◌, ◌≢◌, ℕ, ⊤, ◌⊎◌, List, [], length, nat_lt, Option, Some, None, Result, Ok, Err, unwrap_or, Bool, true, false, MatchBool, IfSome, IsErr, if◌then◌else◌}
 use Rattle.std.specs.declared.alloc.AllocError.{AllocError}
 use Rattle.httpdate.specs.declared.date.HttpDate.{HttpDate}
 use Rattle.tiny_http_wire.specs.declared.common.Method.{Method}
@@ -30,7 +29,7 @@ use Rattle.tiny_http_message.specs.declared.heads.HeadFault.TheVariants as fault
 use Rattle.tiny_http_message.specs.declared.body.Body.{Body}
 use Rattle.tiny_http_message.specs.Framing.{framing, is_built, is_rest}
 use Rattle.tiny_http_stream.specs.Source.{SourceState, feed_from, IsAtEnd}
-use Rattle.tiny_http_message.specs.Pipeline.{Request, Item, Asks, Refuses, BadRequest, Place, IsCutWithHead, BodyAt, OneHead, body_length_or_0, place_after}
+use Rattle.tiny_http_message.specs.Pipeline.{Request, Asks, Refuses, Refusal, BadRequest, RequestTimeout, ExpectationFailed, VersionNotSupported, refusal_status, is_timed_out, Place, IsCutWithHead, BodyAt, OneHead, body_length_or_0, place_after}
 use Rattle.tiny_http_message.specs.OwnAnswer.{own_text}
 use Rattle.tiny_http_message.specs.Body.{Remaining, remaining, Fits}
 use Rattle.tiny_http_message.specs.Exchange.{exchange_head, exchange_left, exchange_streams, KeepsRequest}
@@ -115,10 +114,6 @@ ReadsMessage None new r = ⊤
 ReadsMessage (Some f) new (Ok m) = (rest : List ℕ) × BeginsWithRequestHead f.bytes (message_of m) rest × (new ≡ feed_from f rest)
 ReadsMessage (Some f) new (Err e) = IsFaultyHead f.bytes e.0 e.1
 
--- the item of a head that is refused by a 400 in this version
-abbrev pub bad_request_item : HTTPVersion → Item
-bad_request_item v = Refuses BadRequest v false true
-
 -- nothing is left of the input, and it stopped as its feed does
 pub record IsCutOff {R : Type 0} (old new : SourceState R) : Type 0 where
   pub over : new.is_over ≡ true
@@ -126,7 +121,6 @@ pub record IsCutOff {R : Type 0} (old new : SourceState R) : Type 0 where
 
 -- why no request comes where the input stopped so, in front of a head or after bytes of one
 abbrev pub cut_end : Stop → Bool → EndOfRequests
-cut_end (Fault TimedOut) has_begun = because.TimedOut
 cut_end (Fault kind) has_begun = because.Fault kind
 cut_end End true = because.Cut
 cut_end End false = because.Closed
@@ -137,18 +131,14 @@ IsCutHead bytes =
     ((v : Option HTTPVersion) × FaultyHead bytes v Cut)
     ⊎ ((m : Texted) × (after : List ℕ) × (f : Framing) × BeginsWithRequestHead bytes m after × (framing m.version m.headers ≡ Some f) × IsCutWithHead f.form (body_length_or_0 f) after)
 
--- a head that isn't served yet, and a body that is read with it isn't cut
-abbrev pub IsUnserved : Option Framing → HTTPVersion → List ℕ → Type 0
-IsUnserved None v after = Unit {0}
-IsUnserved (Some f) v after = (is_built v f ≡ false) × (IsCutWithHead f.form (body_length_or_0 f) after → ⊥)
-
--- WHY NO REQUEST comes from these bytes, which are answered by nothing: the head is cut; or a line of it isn't ASCII; or it
--- asks for what isn't served yet.
+-- WHY NO REQUEST comes from these bytes, which are answered by nothing: the head is cut, and not by a time-out; or a line of
+-- it isn't ASCII; or it asks for what isn't served yet.
 abbrev pub EndsBy : List ℕ → Stop → EndOfRequests → Type 0
 EndsBy bytes stop why =
-    (IsCutHead bytes × (why ≡ cut_end stop (nat_lt 0 (length bytes))))
+    (IsCutHead bytes × (is_timed_out stop ≡ false) × (why ≡ cut_end stop (nat_lt 0 (length bytes))))
     ⊎ (((v : Option HTTPVersion) × FaultyHead bytes v NotAscii × (why ≡ because.NotAscii))
-    ⊎ ((m : Texted) × (after : List ℕ) × BeginsWithRequestHead bytes m after × IsUnserved (framing m.version m.headers) m.version after × (why ≡ because.NotServed)))
+    ⊎ ((m : Texted) × (after : List ℕ) × (f : Framing) × BeginsWithRequestHead bytes m after × (framing m.version m.headers ≡ Some f) × (is_built m.version f ≡ false)
+    × (IsCutWithHead f.form (body_length_or_0 f) after → ⊥) × (why ≡ because.NotServed)))
 
 -- the same at a place: after a body that was given up, or broke off, that is the reason
 abbrev pub EndsAt : Standing → List ℕ → Stop → EndOfRequests → Type 0
@@ -162,18 +152,24 @@ end_at at.Abandoned why = because.AbandonedBody
 end_at (at.Broken kind) why = because.BrokenBody kind
 end_at _ why = why
 
--- What a faulty head is answered so far, under the version if that was read, or why it ends the requests; memory for its
--- line or its answer was refused.
-abbrev pub RefusesBy : Option HTTPVersion → HeadFault → EndOfRequests → HttpDate → Result HeadRead AllocError → Type 0
-RefusesBy v fault.Malformed cut date (Ok (read.Refused status text last)) =
-    (status.0 ≡ 400) × (text.items ≡ own_text 400 (unwrap_or v (version 1 1)) false date) × (last ≡ true)
-RefusesBy v fault.Malformed cut date (Ok _) = ⊥
-RefusesBy v fault.Malformed cut date (Err e) = ⊤
-RefusesBy v fault.Memory cut date (Ok x) = ⊥
-RefusesBy v fault.Memory cut date (Err e) = ⊤
-RefusesBy v fault.Cut cut date (Ok (read.Ended why)) = why ≡ cut
-RefusesBy v fault.NotAscii cut date (Ok (read.Ended why)) = why ≡ because.NotAscii
-RefusesBy v _ cut date _ = ⊥
+-- A head is refused by this status in this version: the text of its answer, after which no head follows. Or memory for that
+-- was refused.
+abbrev pub RefusesWith : ℕ → HTTPVersion → HttpDate → Result HeadRead AllocError → Type 0
+RefusesWith status v date (Ok (read.Refused code text last)) = (code.0 ≡ status) × (text.items ≡ own_text status v false date) × (last ≡ true)
+RefusesWith status v date (Ok _) = ⊥
+RefusesWith status v date (Err e) = ⊤
+
+-- What a head is answered that is cut by this stop: 408 at a time-out, else nothing, for this reason.
+abbrev pub AnswersCut : Stop → Bool → HttpDate → Result HeadRead AllocError → Type 0
+AnswersCut stop has_begun date r = MatchBool (is_timed_out stop) (RefusesWith 408 (version 1 1) date r) (r ≡ Ok (read.Ended (cut_end stop has_begun)))
+
+-- What a faulty head is answered, under the version if that was read, where the input stopped so if it is cut; or why it ends
+-- the requests; or memory for its line was refused.
+abbrev pub AnswersFault : Option HTTPVersion → HeadFault → Option Stop → HttpDate → Result HeadRead AllocError → Type 0
+AnswersFault v fault.Malformed stop date r = RefusesWith 400 (unwrap_or v (version 1 1)) date r
+AnswersFault v fault.Cut stop date r = IfSome stop (λ s. AnswersCut s true date r)
+AnswersFault v fault.NotAscii stop date r = r ≡ Ok (read.Ended because.NotAscii)
+AnswersFault v fault.Memory stop date r = IsErr r
 
 -- the feed at a place; nothing where no head follows
 abbrev pub place_feed : Stop → Place → Feed
@@ -192,6 +188,18 @@ Begins f (Some x) new (Some b) =
     is_rest f.form ≡ false → (IsCutWithHead f.form (body_length_or_0 f) x.bytes → ⊥) × (body : Feed) × (next : Place) × BodyAt f.form (body_length_or_0 f) x.bytes x.stop body next
     × ComesWith (remaining b new) x.stop body next × Fits b f.form (body_length_or_0 f) 0 false
 
+-- AN INTERIM GUARD: no head is refused so far because its version is too new
+abbrev pub IsServedRefusal : Refusal → Type 0
+IsServedRefusal BadRequest = ⊤
+IsServedRefusal RequestTimeout = ⊤
+IsServedRefusal ExpectationFailed = ⊤
+IsServedRefusal VersionNotSupported = ⊥
+
+-- something of a head has come: a byte, or the reader's time-out
+abbrev pub HasCome : Option Feed → Type 0
+HasCome None = ⊤
+HasCome (Some f) = (f.bytes ≡ [] → ⊥) ⊎ (is_timed_out f.stop ≡ true)
+
 -- ONE HEAD, read at a place: the item that stands there, what is still to come of its body, and where the next head begins
 -- after that, unless the request is the last; or why no request comes.
 abbrev pub ReadsHead : Standing → HttpDate → Option Feed → Option Feed → Result HeadRead AllocError → Type 0
@@ -200,7 +208,8 @@ ReadsHead from_here date (Some f) new (Ok (read.Request x)) =
     (body : Feed) × (next : Place) × OneHead f.bytes f.stop (Some (Asks (request_of (exchange_head x) body))) (place_after (exchange_head x).is_last next)
     × ComesWith (exchange_left x new) f.stop body next × KeepsRequest x date
 ReadsHead from_here date (Some f) new (Ok (read.Refused status text last)) =
-    (v : HTTPVersion) × OneHead f.bytes f.stop (Some (bad_request_item v)) None × (text.items ≡ own_text 400 v false date) × (last ≡ true) × (status.0 ≡ 400)
+    (refusal : Refusal) × (v : HTTPVersion) × IsServedRefusal refusal × OneHead f.bytes f.stop (Some (Refuses refusal v false true)) None
+    × (text.items ≡ own_text (refusal_status refusal) v false date) × (last ≡ true) × (status.0 ≡ refusal_status refusal)
 ReadsHead from_here date (Some f) new (Ok (read.Ended why)) = OneHead f.bytes f.stop None None × EndsAt from_here f.bytes f.stop why
 ReadsHead from_here date (Some f) new (Err e) = ⊤
 
@@ -228,9 +237,9 @@ abbrev pub IsRequest : HeadRead → Type 0
 IsRequest (read.Request x) = ⊤
 IsRequest _ = ⊥
 
--- a head was refused
+-- a head was refused, and not by a 408
 abbrev pub IsRefusedHead : HeadRead → Type 0
-IsRefusedHead (read.Refused status text last) = ⊤
+IsRefusedHead (read.Refused status text last) = status.0 ≢ 408
 IsRefusedHead _ = ⊥
 
 -- where a source stands after the head of this request

@@ -89,17 +89,9 @@ HeadAt bytes stop (Ends answer) =
 HeadAt bytes stop (Heads m f after) =
     BeginsWithRequestHead bytes m after × (framing m.version m.headers ≡ Some f) × (IsCutWithHead f.form (body_length_or_0 f) after → ⊥)
 
--- THE INTERIM GUARD on heads, applied: only a 400 is answered, and only what is built is handed out.
-abbrev pub served_answer : Option Item → Option Item
-served_answer None = None
-served_answer (Some (Asks r)) = None
-served_answer (Some (Refuses BadRequest v no_body last)) = Some (Refuses BadRequest v no_body last)
-served_answer (Some (Refuses RequestTimeout v no_body last)) = None
-served_answer (Some (Refuses ExpectationFailed v no_body last)) = None
-served_answer (Some (Refuses VersionNotSupported v no_body last)) = None
-
+-- THE INTERIM GUARD on heads, applied: only what is built is handed out.
 abbrev pub served : Heading → Heading
-served (Ends answer) = Ends (served_answer answer)
+served (Ends answer) = Ends answer
 served (Heads m f after) = if is_built m.version f then Heads m f after else Ends None
 
 -- the bytes begin with a body of n bytes

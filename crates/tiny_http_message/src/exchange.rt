@@ -3,10 +3,9 @@ ghost use Rattle.std.specs.Prelude.{◌≡◌, ◌<◌, ◌≤◌, ◌==◌, ◌
 ghost use Rattle.std.specs.IoError.{error_kind};
 ghost use Rattle.tiny_http_wire.specs.Device.{AnswersStop};
 ghost use Rattle.tiny_http_stream.specs.Source.{GoesOn, IsAtEnd};
-ghost use Rattle.tiny_http_stream.specs.ToCome.{HasByte};
-ghost use Rattle.tiny_http_message.specs.Pipeline.{is_head_method};
+ghost use Rattle.tiny_http_message.specs.Pipeline.{is_head_method, is_timed_out};
 ghost use Rattle.tiny_http_message.specs.Body.{prepended_body, BodyStops};
-ghost use Rattle.tiny_http_message.specs.HeadReads.{ReadsHead, EndsUnlessHanded, RefusesBy, Begins, IsCutOff, IsRequest, IsRefusedHead, IsOkEnd, IsBeforeHead, cut_end, end_at, standing_of, standing_read, message_of, head_message, head_framing};
+ghost use Rattle.tiny_http_message.specs.HeadReads.{ReadsHead, EndsUnlessHanded, RefusesWith, AnswersCut, AnswersFault, HasCome, Begins, IsCutOff, IsRequest, IsRefusedHead, IsOkEnd, IsBeforeHead, cut_end, end_at, standing_of, standing_read, message_of, head_message, head_framing};
 ghost use Rattle.tiny_http_message.specs.Exchange.{KeepsHead};
 ghost use Rattle.tiny_http_wire.specs.Device.{Feed};
 ghost use Rattle.tiny_http_stream.specs.Outlet.{output_of, outlet_ended, outlet_held, SentOn};
@@ -75,9 +74,7 @@ pub enum EndOfRequests {
     NotAscii,
     /// The head was refused with this status.
     Refused(StatusCode),
-    /// The reader timed out before the head, and a body that is read with it, had come.
-    TimedOut,
-    /// The reader failed so before that.
+    /// The reader failed so before the head, and a body that is read with it, had come. A time-out there is answered 408.
     Fault(ErrorKind),
     /// The body before was read to this fault, the reader's or the body's own.
     BrokenBody(ErrorKind),
@@ -85,7 +82,7 @@ pub enum EndOfRequests {
     AbandonedBody,
     /// The body before was neither read to its end nor given up.
     UnreadBody,
-    /// The head asks for what isn't served yet: a version above 1.1, an expectation, or an upgrade.
+    /// The head asks for what isn't served yet: a version above 1.1, a 100 that is owed, or an upgrade.
     NotServed,
     /// Memory for the head or its answer was refused.
     Memory,
@@ -205,36 +202,68 @@ fn cut_end(stop: Option<Stop>, has_begun: bool) -> EndOfRequests
     ensures { IfSome stop (λ stop. result ≡ cut_end stop has_begun) }
 {
     match stop {
-        Some(Stop::Fault(ErrorKind::TimedOut)) => EndOfRequests::TimedOut,
         Some(Stop::Fault(kind)) => EndOfRequests::Fault(kind),
         _ if has_begun => EndOfRequests::Cut,
         _ => EndOfRequests::Closed,
     }
 }
 
-// What a faulty head is answered, or why it ends the requests: one that is cut for this reason.
+// Whether the input stopped by a time-out.
+fn is_timed_out(stop: Option<Stop>) -> bool
+    ensures { IfSome stop (λ stop. result ≡ is_timed_out stop) }
+{
+    matches!(stop, Some(Stop::Fault(ErrorKind::TimedOut)))
+}
+
+// Refuses a head by this status, in this version: the answer is empty, and no head follows.
 fn refuse(
+    alloc: Global,
+    status: StatusCode,
+    version: HTTPVersion,
+    now: HttpDate,
+) -> Result<HeadRead, AllocError>
+    ensures { RefusesWith status.0 version now result }
+{
+    let text = own_answer(alloc, status, version, false, now)?;
+    Ok(HeadRead::Refused {
+        status,
+        text,
+        last: true,
+    })
+}
+
+// What a head is answered from a source that stopped so before it, or a body that is read with it, had come.
+fn answer_cut(
+    alloc: Global,
+    stop: Option<Stop>,
+    has_begun: bool,
+    now: HttpDate,
+) -> Result<HeadRead, AllocError>
+    ensures { IfSome stop (λ stop. AnswersCut stop has_begun now result) }
+{
+    if is_timed_out(stop) {
+        return refuse(alloc, StatusCode(408), HTTPVersion(1, 1), now);
+    }
+    Ok(HeadRead::Ended(cut_end(stop, has_begun)))
+}
+
+// What a faulty head is answered, or why it ends the requests, where the source stopped so if the head is cut.
+fn answer_fault(
     alloc: Global,
     version: Option<HTTPVersion>,
     fault: HeadFault,
-    cut: EndOfRequests,
+    stop: Option<Stop>,
     now: HttpDate,
 ) -> Result<HeadRead, AllocError>
-    ensures { RefusesBy version fault cut now result }
+    ensures { AnswersFault version fault stop now result }
 {
     match fault {
         HeadFault::Malformed => {
-            let status = StatusCode(400);
             let version = version.unwrap_or(HTTPVersion(1, 1));
-            let text = own_answer(alloc, status, version, false, now)?;
-            Ok(HeadRead::Refused {
-                status,
-                text,
-                last: true,
-            })
+            refuse(alloc, StatusCode(400), version, now)
         }
         HeadFault::Memory => Err(AllocError),
-        HeadFault::Cut => Ok(HeadRead::Ended(cut)),
+        HeadFault::Cut => answer_cut(alloc, stop, true, now),
         HeadFault::NotAscii => Ok(HeadRead::Ended(EndOfRequests::NotAscii)),
     }
 }
@@ -316,23 +345,22 @@ fn read_item<R: ReadDevice>(
     ensures reads { ReadsHead Standing.Head now source.old.feed source.new.feed result }
     ensures goes_on { GoesOn source.old.feed source.new.feed }
     ensures at_end { IsAtEnd source.old → IsOkEnd result × (source.new ≡ source.old) }
-    ensures begun { (IsOkEnd result → ⊥) → HasByte source.old.feed }
+    ensures begun { (IsOkEnd result → ⊥) → HasCome source.old.feed }
     ensures lazy { IfOk result (λ read. IsRequest read → source.new.stop ≡ source.old.stop) }
     ensures passed { IfOk result (λ read. IsRefusedHead read → source.new.stop ≡ source.old.stop) }
     ensures standing { source.new.standing ≡ source.old.standing }
 {
     if !source.has_byte() {
-        return Ok(HeadRead::Ended(cut_end(source.stop(), false)));
+        return answer_cut(alloc, source.stop(), false, now);
     }
     let message = match read_message(alloc, source) {
         Ok(message) => message,
         Err((version, fault)) => {
-            let cut = cut_end(source.stop(), true);
-            return refuse(alloc, version, fault, cut, now);
+            return answer_fault(alloc, version, fault, source.stop(), now);
         }
     };
     let Some(framing) = framing_of(message.version, message.headers.as_slice()) else {
-        return Ok(HeadRead::Ended(EndOfRequests::NotServed));
+        return refuse(alloc, StatusCode(417), message.version, now);
     };
     match begin_body(alloc, source, framing) {
         Ok(Some(body)) => {
@@ -344,7 +372,7 @@ fn read_item<R: ReadDevice>(
                 Err(e) => Err(e),
             }
         }
-        Ok(None) => Ok(HeadRead::Ended(cut_end(source.stop(), true))),
+        Ok(None) => answer_cut(alloc, source.stop(), true, now),
         Err(e) => Err(e),
     }
 }
@@ -392,8 +420,8 @@ pub fn read_head<R: ReadDevice>(
     ensures goes_on { GoesOn source.old.feed source.new.feed }
     // Whatever the reader states: after the end no head follows, and the reader isn't called.
     ensures at_end { IsAtEnd source.old → IsOkEnd result × (source.new.reader ≡ source.old.reader) }
-    // Unless it is the end, a byte of a head has come: memory isn't refused in place of the end.
-    ensures begun { (IsOkEnd result → ⊥) → HasByte source.old.feed }
+    // Unless it is the end, a byte of a head has come, or the reader timed out: memory isn't refused in place of the end.
+    ensures begun { (IsOkEnd result → ⊥) → HasCome source.old.feed }
     // Nothing is read ahead: where a request was read no end or fault of the reader was met.
     ensures lazy { IfOk result (λ read. IsRequest read → source.new.stop ≡ source.old.stop) }
     ensures standing { source.new.standing ≡ standing_read result source.old.standing }

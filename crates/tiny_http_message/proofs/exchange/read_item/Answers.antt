@@ -1,34 +1,52 @@
-use Rattle.std.proofs.Common.{rules, refl, sym, ap, ◌∙◌, subst, true, Option, Ok}
+use Rattle.std.proofs.Common.{rules, refl, sym, ap, ◌∙◌, subst, true, false, Option, Ok}
 use Rattle.tiny_http_wire.specs.Device.{Feed}
 use Rattle.tiny_http_stream.specs.Source.{GoesOn}
 use Rattle.tiny_http_stream.specs.declared.source.Standing.TheVariants as at
 use Rattle.tiny_http_message.specs.declared.exchange.HeadRead.TheVariants as read
 use Rattle.tiny_http_message.specs.declared.exchange.EndOfRequests.TheVariants as because
-use Rattle.tiny_http_message.specs.HeadReads.{ReadsHead, cut_end}
-use Rattle.tiny_http_message.proofs.HeadReadsServing.{head-closed, head-refused, head-unframed, head-unbuilt, head-cut, head-handed, cut-reason, begun-is}
+use Rattle.tiny_http_message.specs.HeadReads.{ReadsHead}
+use Rattle.tiny_http_message.proofs.HeadReadsServing.{head-closed, head-refused, head-unframed, head-unbuilt, head-cut, head-handed, cut-stop, begun-is, end-unanswered, timed-out, cut-passed, fault-passed}
 use Rattle.tiny_http_stream.proofs.SourceGoesOn.{goes-on_more}
 use Rattle.tiny_http_message.proofs.exchange.read_item.Goals as goal
 
 pub returns-then-not-has_byte-clause-reads : goal.returns-then-not-has_byte-clause-reads
 returns-then-not-has_byte-clause-reads g c =
     let first = c.if-not-has_byte.ensures in
-    head-closed c.args.now c.args.source.now.feed c.has_byte.new.self c.stop.result c.cut_end.result (first.none refl).0 first.feed (first.none refl).1 c.stop.ensures.over c.cut_end.ensures
+    head-closed c.args.now c.args.source.now.feed c.has_byte.new.self c.stop.result c.answer_cut.result (first.none refl).0 first.feed (first.none refl).1 c.stop.ensures.over c.answer_cut.ensures
+
+pub returns-then-not-has_byte-clause-at_end : goal.returns-then-not-has_byte-clause-at_end
+returns-then-not-has_byte-clause-at_end g c end =
+    let same = (c.has_byte.ensures.stays end.0).1 in
+    (end-unanswered c.args.now c.stop.result false c.answer_cut.result (c.stop.ensures.stop ∙ ap (λ s. s.stop) same ∙ end.1) c.answer_cut.ensures, same)
+
+pub returns-then-not-has_byte-clause-begun : goal.returns-then-not-has_byte-clause-begun
+returns-then-not-has_byte-clause-begun g c =
+    let first = c.if-not-has_byte.ensures in
+    timed-out c.args.now c.args.source.now.feed c.has_byte.new.self c.stop.result c.answer_cut.result first.feed (first.none refl).1 c.stop.ensures.over c.answer_cut.ensures
+
+pub returns-then-not-has_byte-clause-passed : goal.returns-then-not-has_byte-clause-passed
+returns-then-not-has_byte-clause-passed g c =
+    cut-passed _ c.stop.result false c.args.now c.answer_cut.result (c.stop.ensures.over (c.if-not-has_byte.ensures.none refl).1).0 c.answer_cut.ensures
 
 pub returns-in-Err-clause-reads : goal.returns-in-Err-clause-reads
 returns-in-Err-clause-reads g c =
     let first = c.has_byte in
     let mid = first.new.self in
     let new = c.read_message.new.source in
-    let P : Option Feed → Type 0 = λ o. ReadsHead at.Head c.args.now o new.feed c.refuse.result in
+    let P : Option Feed → Type 0 = λ o. ReadsHead at.Head c.args.now o new.feed c.answer_fault.result in
     subst P first.ensures.feed
-    (head-refused c.args.now mid.feed new.feed c.in-Err.version c.in-Err.fault c.cut_end-cut.result c.refuse.result c.in-Err.ensures.reads c.refuse.ensures
-    (λ f e cut. cut-reason mid new c.stop-in-Err.result true c.cut_end-cut.result f e (c.in-Err.ensures.cut cut) c.stop-in-Err.ensures.over c.cut_end-cut.ensures
-    ∙ ap (cut_end f.stop) (begun-is c.args.source.now.feed f (sym first.ensures.feed ∙ e) (c.if-not-has_byte.ensures.some refl).0)))
+    (head-refused c.args.now mid.feed new.feed c.in-Err.version c.in-Err.fault c.stop-in-Err.result c.answer_fault.result c.in-Err.ensures.reads c.answer_fault.ensures
+    (λ f e cut. (cut-stop mid new c.stop-in-Err.result f e (c.in-Err.ensures.cut cut) c.stop-in-Err.ensures.over, begun-is c.args.source.now.feed f (sym first.ensures.feed ∙ e) (c.if-not-has_byte.ensures.some refl).0)))
+
+pub returns-in-Err-clause-passed : goal.returns-in-Err-clause-passed
+returns-in-Err-clause-passed g c =
+    fault-passed _ c.in-Err.version c.in-Err.fault c.stop-in-Err.result c.args.now c.answer_fault.result c.answer_fault.ensures
+    (λ cut. (c.stop-in-Err.ensures.over (c.in-Err.ensures.cut cut).over).0) (λ bad. c.in-Err.ensures.passed bad ∙ (c.if-not-has_byte.ensures.some refl).1)
 
 pub returns-in_default-clause-reads : goal.returns-in_default-clause-reads
 returns-in_default-clause-reads g c =
-    let P : Option Feed → Type 0 = λ o. ReadsHead at.Head c.args.now o c.read_message.new.source.feed (Ok (read.Ended because.NotServed)) in
-    subst P c.has_byte.ensures.feed (head-unframed _ _ _ c.in-Ok.message c.in-Ok.ensures.reads (search (rules, c.as_slice.ensures.value, c.framing_of.ensures)))
+    let P : Option Feed → Type 0 = λ o. ReadsHead at.Head c.args.now o c.read_message.new.source.feed c.refuse.result in
+    subst P c.has_byte.ensures.feed (head-unframed _ _ _ c.in-Ok.message c.refuse.result c.in-Ok.ensures.reads (search (rules, c.as_slice.ensures.value, c.framing_of.ensures)) c.refuse.ensures)
 
 pub returns-then-not-is_built-clause-reads : goal.returns-then-not-is_built-clause-reads
 returns-then-not-is_built-clause-reads g c =
@@ -54,10 +72,15 @@ returns-in-Ok-hand_out-clause-reads g c =
 pub returns-in-Ok-None-clause-reads : goal.returns-in-Ok-None-clause-reads
 returns-in-Ok-None-clause-reads g c =
     let taken = rw c.in-Ok-None.field-0-is at c.in-Ok-None.ensures in
-    let P : Option Feed → Type 0 = λ o. ReadsHead at.Head c.args.now o c.begin_body.new.source.feed (Ok (read.Ended c.cut_end-in-Ok-None.result)) in
+    let P : Option Feed → Type 0 = λ o. ReadsHead at.Head c.args.now o c.begin_body.new.source.feed c.answer_cut-in-Ok-None.result in
     subst P c.has_byte.ensures.feed
-    (head-cut _ _ _ _ c.in-Ok.message c.in-Some.framing c.cut_end-in-Ok-None.result c.in-Ok.ensures.reads (search (rules, c.as_slice.ensures.value, c.in-Some.ensures)) taken.begins
-    (λ x e. cut-reason c.read_message.new.source c.begin_body.new.source c.stop-in-Ok-None.result true c.cut_end-in-Ok-None.result x e (taken.cut refl) c.stop-in-Ok-None.ensures.over c.cut_end-in-Ok-None.ensures))
+    (head-cut _ _ _ _ c.in-Ok.message c.in-Some.framing c.stop-in-Ok-None.result c.answer_cut-in-Ok-None.result c.in-Ok.ensures.reads (search (rules, c.as_slice.ensures.value, c.in-Some.ensures)) taken.begins
+    (λ x e. cut-stop c.read_message.new.source c.begin_body.new.source c.stop-in-Ok-None.result x e (taken.cut refl) c.stop-in-Ok-None.ensures.over) c.answer_cut-in-Ok-None.ensures)
+
+pub returns-in-Ok-None-clause-passed : goal.returns-in-Ok-None-clause-passed
+returns-in-Ok-None-clause-passed g c =
+    let taken = rw c.in-Ok-None.field-0-is at c.in-Ok-None.ensures in
+    cut-passed _ c.stop-in-Ok-None.result true c.args.now c.answer_cut-in-Ok-None.result (c.stop-in-Ok-None.ensures.over (taken.cut refl).over).0 c.answer_cut-in-Ok-None.ensures
 
 pub returns-in-Ok-hand_out-clause-goes_on : goal.returns-in-Ok-hand_out-clause-goes_on
 returns-in-Ok-hand_out-clause-goes_on g c =
