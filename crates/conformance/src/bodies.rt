@@ -1,7 +1,8 @@
 //! Bodies: those that are read with their heads, and those that are read from the stream.
 use crate::runs::Deed::{Ask, Drop, Read, Text};
-use crate::runs::{Case, EMPTY, TEXT, assert_case};
+use crate::runs::{AMPLE, Case, EMPTY, TEXT, Trouble, assert_case, assert_troubled};
 use std::alloc::{AllocError, Global};
+use std::io::ErrorKind;
 use std::test::Fail;
 
 /// The output where a request is answered by `x`.
@@ -309,8 +310,6 @@ fn the_last_body_is_read_behind_the_end(rt: HostRuntime) -> Result<(), Fail> {
 #[test]
 fn what_is_not_served_yet_ends_the_connection(rt: HostRuntime) -> Result<(), Fail> {
     for client in [
-        b"GET / HTTP/1.1\r\nConnection: upgrade\r\n\r\n".as_slice(),
-        b"GET / HTTP/1.1\r\nConnection: keep-alive, Upgrade\r\n\r\n".as_slice(),
         b"POST / HTTP/1.1\r\nExpect: 100-continue\r\nContent-Length: 5\r\n\r\nhello".as_slice(),
         b"GET / HTTP/2.0\r\n\r\nGET /b HTTP/1.1\r\n\r\n".as_slice(),
         b"GET / HTTP/3.0\r\n\r\n".as_slice(),
@@ -324,4 +323,52 @@ fn what_is_not_served_yet_ends_the_connection(rt: HostRuntime) -> Result<(), Fai
         assert_case(&rt, rt.alloc(), &case)?;
     }
     Ok(())
+}
+
+// A head that names an upgrade: the whole rest of the stream is its body, and no head follows.
+#[test]
+fn an_upgrade_names_the_rest_of_the_stream(rt: HostRuntime) -> Result<(), Fail> {
+    for (client, replies) in [
+        (
+            b"GET /c HTTP/1.1\r\nConnection: Upgrade\r\n\r\nxyz".as_slice(),
+            "0: GET /c 1.1 [Connection: Upgrade]; given xy; given z; given; ended; done; ended",
+        ),
+        (
+            b"POST / HTTP/1.1\r\nConnection: keep-alive, upgrade\r\nContent-Length: 1\r\n\r\nxyz".as_slice(),
+            "0: POST / 1.1 [Connection: keep-alive, upgrade] [Content-Length: 1] length 1; given xy; given z; given; ended; done; ended",
+        ),
+    ] {
+        let case = Case {
+            client,
+            deeds: &[
+                Ask,
+                Read(0, 2),
+                Read(0, 8),
+                Read(0, 8),
+                Ask,
+                Text(0, "a"),
+                Ask,
+            ],
+            replies,
+            output: &["HTTP/1.1 200 OK\r\n", TEXT, "Content-Length: 1\r\n\r\na"],
+        };
+        assert_case(&rt, rt.alloc(), &case)?;
+    }
+    Ok(())
+}
+
+#[test]
+fn a_fault_in_the_rest_of_the_stream(rt: HostRuntime) -> Result<(), Fail> {
+    let case = Case {
+        client: b"GET /c HTTP/1.1\r\nConnection: Upgrade\r\n\r\nxyz",
+        deeds: &[Ask, Read(0, 8), Read(0, 8), Read(0, 8)],
+        replies: "0: GET /c 1.1 [Connection: Upgrade]; given xyz; fault TimedOut; fault TimedOut",
+        output: &[],
+    };
+    let trouble = Trouble {
+        reader: Some(ErrorKind::TimedOut),
+        room: AMPLE,
+        writer: ErrorKind::Other,
+    };
+    assert_troubled(&rt, rt.alloc(), &case, trouble)
 }

@@ -11,7 +11,7 @@ use tiny_http_core::driver::Connection;
 use tiny_http_core::exchange::{EndOfRequests, Exchange, HeadRead, read_head};
 use tiny_http_core::source::Source;
 use tiny_http_wire::common::StatusCode;
-use tiny_http_wire::device::{Canned, Metered};
+use tiny_http_wire::device::{Canned, Metered, ReadDevice};
 
 type Row = (
     &'static [u8],
@@ -265,5 +265,22 @@ fn the_last_body_is_read_on(rt: HostRuntime) -> Result<(), Fail> {
     let read = exchange.read_body(&mut source, &mut buf)?;
     assert_same(&rt, &buf[..read], b"abc".as_slice());
     assert_same(&rt, reason(alloc, &mut source)?, last);
+    Ok(())
+}
+
+// What follows a head that names an upgrade is left to the source, but for what was read of it.
+#[test]
+fn the_rest_of_the_stream_is_left(rt: HostRuntime) -> Result<(), Fail> {
+    let alloc = rt.alloc();
+    let client = b"GET /c HTTP/1.1\r\nConnection: Upgrade\r\n\r\nxyz";
+    let reader = Canned::new(client.to_vec(alloc)?, None);
+    let mut connection = Connection::new(alloc, reader, Metered::new(Vec::new(alloc)));
+    for timed in steps_of(alloc, &[Ask, Read(0, 1), Text(0, "a"), Ask])? {
+        drop(connection.step(alloc, timed));
+    }
+    let (mut source, _outlet) = connection.into_parts();
+    let mut buf = [0; 8];
+    let n = source.read_in(&mut buf)?;
+    assert_same(&rt, buf.get(..n), Some(b"yz".as_slice()));
     Ok(())
 }

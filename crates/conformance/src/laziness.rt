@@ -120,6 +120,8 @@ const NO_REQUESTS: &[&[&[u8]]] = &[
     &[b"GET / HTTP/1.1\r\nbad\r\n"],
     &[b"GET /\xff HTTP/1.1\r\n"],
     &[b"GET / HTTP/2.0\r\n\r\n"],
+    &[b"POST / HTTP/1.1\r\nExpect: x\r\n\r\n"],
+    &[b"POST / HTTP/1.1\r\nExpect: x\r\nContent-Length: 5\r\n\r\n"],
 ];
 
 #[test]

@@ -1,15 +1,11 @@
 //! What an outlet holds and sends.
-use crate::exchanges::date;
 use crate::same::{assert_holds, assert_same};
 use std::alloc::Global;
-use std::io::{ErrorKind, Write};
+use std::io::ErrorKind;
 use std::process::Abort;
 use std::test::Fail;
 use tiny_http_core::outlet::Outlet;
-use tiny_http_wire::common::{HTTPVersion, StatusCode};
 use tiny_http_wire::device::{Budget, WriteDevice};
-use tiny_http_wire::encoder::Encoder;
-use tiny_http_wire::response::Response;
 
 fn outlet_of(alloc: Global, room: usize) -> Outlet<Budget> {
     Outlet::new(Budget::new(alloc, room, ErrorKind::Other))
@@ -35,37 +31,6 @@ fn writes_are_held_until_the_flush(rt: HostRuntime) -> Result<(), Fail> {
     outlet.flush()?;
     assert_state(&rt, &outlet, b"", false);
     assert_sent(&rt, outlet, b"hello world");
-    Ok(())
-}
-
-const NO_CONTENT: &[u8] =
-    b"HTTP/1.1 204 No Content\r\nServer: tiny-http (Rust)\r\nDate: Wed, 04 May 1983 11:17:00 GMT\r\nContent-Length: 0\r\n\r\n";
-
-#[test]
-fn an_answer_is_printed_without_a_flush(rt: HostRuntime) -> Result<(), Fail> {
-    let alloc = rt.alloc();
-    let mut outlet = outlet_of(alloc, 1000);
-    let answer = Response::empty(alloc, StatusCode(204));
-    answer.raw_print(
-        alloc,
-        &mut outlet,
-        HTTPVersion(1, 1),
-        &[],
-        false,
-        None,
-        date()?,
-    )?;
-    assert_state(&rt, &outlet, NO_CONTENT, false);
-    Ok(())
-}
-
-#[test]
-fn a_body_is_encoded_without_a_flush(rt: HostRuntime) -> Result<(), Fail> {
-    let mut outlet = outlet_of(rt.alloc(), 1000);
-    let mut encoder = Encoder::new(&mut outlet);
-    encoder.write_all(b"hello")?;
-    encoder.finish()?;
-    assert_state(&rt, &outlet, b"5\r\nhello\r\n0\r\n\r\n", false);
     Ok(())
 }
 

@@ -138,6 +138,34 @@ impl Write for FailsOnce {
     }
 }
 
+/// A stream that takes all bytes, and counts its flushes.
+#[derive(Drop)]
+pub(crate) struct Flushes {
+    pub count: u64,
+}
+
+impl Write for Flushes {
+    fn write(&mut self, buf: &[u8]) -> io::Result<usize> {
+        Ok(buf.len())
+    }
+
+    fn flush(&mut self) -> io::Result<()> {
+        self.count = self.count.saturating_add(1);
+        Ok(())
+    }
+}
+
+// Neither a full chunk is flushed nor the end of the body.
+#[test]
+fn a_body_is_encoded_without_a_flush(rt: HostRuntime) -> Result<(), Fail> {
+    let bytes = data(rt.alloc(), 20_000)?;
+    let mut encoder = Encoder::new(Metered::new(Flushes { count: 0 }));
+    encoder.write_all(bytes.as_slice())?;
+    let writer = encoder.finish()?;
+    assert_same(&rt, writer.into_inner().count, 0);
+    Ok(())
+}
+
 // The kind of a fault, if there was one.
 fn fault<T: Drop>(outcome: Result<T, io::Error>) -> Option<ErrorKind> {
     outcome.err().map(|e| e.kind())

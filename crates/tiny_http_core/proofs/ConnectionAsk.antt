@@ -1,8 +1,8 @@
 -- An Ask: from where the connection stands to where it stands after it.
-use Rattle.std.proofs.Common.{◌≡◌, refl, sym, ap, ◌∙◌, subst, ℕ, ◌-◌, ◌<◌, ◌^◌, ◌⊎◌, inl, inr, Bool, true, false, not, ◌&&◌, List, [], ◌∷◌, ◌++◌, length, Option, Some, None, Ok, append-nil, arith, eq-eqb, ⊎_elim}
+use Rattle.std.proofs.Common.{◌≡◌, refl, sym, ap, ◌∙◌, subst, ℕ, ◌-◌, ◌<◌, ◌^◌, inl, inr, Bool, true, false, not, ◌&&◌, List, [], ◌∷◌, ◌++◌, length, Option, Some, None, Ok, append-nil, arith, eq-eqb, ⊎_elim}
 use Rattle.std.proofs.lemmas.Bool.{ne_eqb}
 use Rattle.std.proofs.lemmas.List.{take_all}
-use Rattle.std.specs.Prelude.{MatchBool, ◌==◌, if◌then◌else◌}
+use Rattle.std.specs.Prelude.{◌==◌, if◌then◌else◌}
 use Rattle.std.specs.Global.{Vec}
 use Rattle.std.specs.List.{list_all}
 use Rattle.std.specs.Option.{option_map}
@@ -21,9 +21,10 @@ use Rattle.tiny_http_wire.specs.declared.answer_context.AnswerContext.{AnswerCon
 use Rattle.tiny_http_wire.specs.declared.coding.Coding.{Coding}
 use Rattle.tiny_http_wire.specs.Coding.{coding_asked}
 use Rattle.tiny_http_message.specs.declared.waiting.Waiting.{Waiting}
-use Rattle.tiny_http_message.specs.Framing.{is_built}
+use Rattle.tiny_http_message.specs.Framing.{framing, is_built}
+use Rattle.tiny_http_message.proofs.FramingLemmas.{rest-last}
 use Rattle.tiny_http_stream.specs.Source.{GoesOn}
-use Rattle.tiny_http_message.specs.Pipeline.{Item, Asks, Refuses, BadRequest, RequestTimeout, ExpectationFailed, VersionNotSupported, Refusal, refusal_status, fault_answer, is_timed_out, Request, Place, Heading, HeadAt, Ends, Heads, OneHead, FoundAt, served, is_head_method, Pipeline, place_after}
+use Rattle.tiny_http_message.specs.Pipeline.{Item, Asks, Refuses, BadRequest, RequestTimeout, ExpectationFailed, VersionNotSupported, Refusal, refusal_status, fault_item, is_timed_out, Request, Place, Heading, HeadAt, Ends, Heads, OneHead, FoundAt, served, is_head_method, Pipeline, place_after}
 use Rattle.tiny_http_message.specs.HeadReads.{ReadsHead, IsBeforeHead, standing_of, place_feed, request_of, IsServedRefusal, head_message, head_framing}
 use Rattle.tiny_http_message.specs.declared.exchange.EndOfRequests.{EndOfRequests}
 use Rattle.tiny_http_stream.specs.declared.source.Standing.{Standing}
@@ -50,7 +51,6 @@ use Rattle.tiny_http_core.proofs.SlotsLemmas.{joined-waits, joined-hidden, break
 use Rattle.tiny_http_core.proofs.ConnectionKept.{kept-append, kept-length, shape-issued, InTurn, OutOfTurn, turn-at}
 use Rattle.tiny_http_core.proofs.ConnectionOutput.{ended-is, output-same, Goes, output-more}
 use Rattle.tiny_http_core.proofs.PendingLemmas.{first-issued}
-use Rattle.tiny_http_stream.proofs.SourceGoesOn.{goes-on_same}
 
 -- the step was answered so
 abbrev pub StepIsAnswered : Feed → Sink → Kept → State → HttpDate → StepValue → ReplyValue → Type 0
@@ -83,7 +83,7 @@ answered-by : (t : Bool) (r : Request) → Some (Asks r) ≡ (if t then Some (Re
 answered-by true r e = cc
 answered-by false r e = cc
 
-fault-asks : (v : Option HTTPVersion) (fault : GrammarFault) (stop : Stop) (r : Request) → Some (Asks r) ≡ fault_answer v fault stop → ⊥
+fault-asks : (v : Option HTTPVersion) (fault : GrammarFault) (stop : Stop) (r : Request) → Some (Asks r) ≡ fault_item v fault stop → ⊥
 fault-asks v Cut stop r e = answered-by (is_timed_out stop) r e
 fault-asks v NotAscii stop r e = cc
 fault-asks v Malformed stop r e = cc
@@ -93,21 +93,25 @@ ends-ask bytes stop answer r (inl k) e = fault-asks k.0 k.1 stop r (e ∙ k.3)
 ends-ask bytes stop answer r (inr (inl k)) e = let no : Some (Asks r) ≡ Some (Refuses ExpectationFailed k.0.version false true) = e ∙ k.4 in cc
 ends-ask bytes stop answer r (inr (inr k)) e = answered-by (is_timed_out stop) r (e ∙ k.6)
 
--- what stands at a place owes no 100
-found-unowed : (bytes : List ℕ) (stop : Stop) (heading : Heading) (r : Request) (next : Place) → HeadAt bytes stop heading → FoundAt stop (served heading) (Some (Asks r)) next → r.framing.owes_continue ≡ false
-found-unowed bytes stop (Ends answer) r next at h = absurd (ends-ask bytes stop answer r at h.0)
-found-unowed bytes stop (Heads m f after) r next at h = by-built (is_built m.version f) refl h
+-- the request is framed by its head, and owes no 100
+record IsFramed (r : Request) : Type 0 where
+  pub framed : framing r.message.version r.message.headers ≡ Some r.framing
+  pub unowed : r.framing.owes_continue ≡ false
+
+found-framed : (bytes : List ℕ) (stop : Stop) (heading : Heading) (r : Request) (next : Place) → HeadAt bytes stop heading → FoundAt stop (served heading) (Some (Asks r)) next → IsFramed r
+found-framed bytes stop (Ends answer) r next at h = absurd (ends-ask bytes stop answer r at h.0)
+found-framed bytes stop (Heads m f after) r next at h = by-built (is_built m.version f) refl h
   where
-    by-built : (t : Bool) → is_built m.version f ≡ t → FoundAt stop (if t then Heads m f after else Ends None) (Some (Asks r)) next → r.framing.owes_continue ≡ false
+    by-built : (t : Bool) → is_built m.version f ≡ t → FoundAt stop (if t then Heads m f after else Ends None) (Some (Asks r)) next → IsFramed r
     by-built true b k =
         let parts = built-parts m.version f b in
         let item : Some (Asks r) ≡ Some (Asks (record { message = m; framing = f; body = k.0 })) = k.3 ∙ rw parts.version_is refl in
         let same : r ≡ record { message = m; framing = f; body = k.0 } = cc in
-        ap (λ (x : Request). x.framing.owes_continue) same ∙ parts.unowed
+        subst IsFramed (sym same) (record { framed = at.1; unowed = parts.unowed })
     by-built false b k = let none : Some (Asks r) ≡ None = k.0 in cc
 
-one-head-unowed : (bytes : List ℕ) (stop : Stop) (r : Request) (next : Place) → OneHead bytes stop (Some (Asks r)) next → r.framing.owes_continue ≡ false
-one-head-unowed bytes stop r next h = found-unowed bytes stop h.0 r next h.1 h.2
+one-head-framed : (bytes : List ℕ) (stop : Stop) (r : Request) (next : Place) → OneHead bytes stop (Some (Asks r)) next → IsFramed r
+one-head-framed bytes stop r next h = found-framed bytes stop h.0 r next h.1 h.2
 
 -- where the asking goes on the rest of the pipeline stands where the input does
 pub record Going (k : Kept) (s : State) : Type 0 where
@@ -185,17 +189,19 @@ settled-any (body.WithHead bytes) None content behind h e f = cc
 settled-any (body.WithHead bytes) (Some g) content behind h e f = ap (λ (x : Option Remaining). option_map (λ (r : Remaining). taken_remaining r.body f) x) h
 settled-any (body.Counted left) p content behind h e f = cc
 settled-any (body.Chunked d) p content behind h e f = cc
+settled-any body.Rest p content behind h e f = cc
 
 -- what is kept of it
-kept-handed : (date : HttpDate) (x : Exchange) (p : Option Feed) (content behind : Feed) → KeepsRequest x date → remaining x.waiting.body p ≡ Some (record { body = content; behind = behind }) → (request_of x.head content).framing.owes_continue ≡ false
+kept-handed : (date : HttpDate) (x : Exchange) (p : Option Feed) (content behind : Feed) → KeepsRequest x date → remaining x.waiting.body p ≡ Some (record { body = content; behind = behind }) → IsFramed (request_of x.head content)
     → IsWaiting (handed_slot date (request_of x.head content)) x.waiting
-kept-handed date x p content behind k left unowed = record {
+kept-handed date x p content behind k left framed = record {
   request = request_of x.head content;
   date = date;
   given = 0;
   end_reported = false;
   is = refl;
-  unowed = unowed;
+  unowed = framed.unowed;
+  rest_is_last = λ rest. rest-last x.head.version x.head.headers.items (head_framing x.head) framed.framed rest;
   answer_context =
       let F : HTTPVersion → Option Coding → Bool → AnswerContext = λ v a b. record { version = v; asked_coding = a; no_body = b } in
       ap (λ v. F v x.waiting.answer_context.asked_coding x.waiting.answer_context.no_body) k.answer.version ∙ ap (λ a. F x.head.version a x.waiting.answer_context.no_body) k.answer.asked_coding ∙ ap (F x.head.version (coding_asked x.head.headers.items)) k.answer.no_body;
@@ -284,7 +290,7 @@ ask-handed client before k s date x from_here p stop over at n st e o quiet open
     let new : State = record { reached = record { slots = slots; rest = first.0; asking_ended = false }; flushed = s.flushed; failure = s.failure } in
     let G : Outcome → Type 0 = λ z. HasOutcome z s (Handed n (head_message h) (head_framing h)) new in
     let end_reported : n ≡ length s.reached.slots = number ∙ sym (kept-length s.reached.slots k.marks k.requests st.numbers) in
-    let waits = kept-handed date x p found.0 (place_feed g.feed.stop found.1) found.4 found.3 (one-head-unowed g.feed.bytes g.feed.stop r (place_after h.is_last found.1) found.2) in (
+    let waits = kept-handed date x p found.0 (place_feed g.feed.stop found.1) found.4 found.3 (one-head-framed g.feed.bytes g.feed.stop r (place_after h.is_last found.1) found.2) in (
       new,
       record {
         numbers = kept-append s.reached.slots k.marks k.requests (y ∷ []) (Open ∷ []) (Some x.waiting ∷ []) st.numbers (waits, tt);

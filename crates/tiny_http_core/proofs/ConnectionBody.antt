@@ -44,24 +44,26 @@ lost-chunked : {R : Type 0} (b : Body) (old new : SourceState R) (f : Feed) (r :
 lost-chunked {R = R} (body.Chunked d) old new f r given end_reported fits h e lost = (h.1, h.0 ∙ ap (λ (o : Option Feed). option_map (λ _. stopped End) o) e)
 lost-chunked {R = R} (body.Counted left) old new f r given end_reported fits h e lost = let no : true ≡ false = sym lost ∙ rw fits.0 refl in cc
 lost-chunked {R = R} (body.WithHead bytes) old new f r given end_reported fits h e lost = let no : true ≡ false = sym lost ∙ rw fits refl in cc
+lost-chunked {R = R} body.Rest old new f r given end_reported fits h e lost = let no : true ≡ false = sym lost ∙ rw fits.0 refl in cc
 lost-chunked {R = R} (body.Over stop) old new f r given end_reported fits h e lost = absurd (over-kept r.framing.form (body_length_or_0 r.framing) given end_reported fits lost)
 
 -- where the next head is read after a body that was given up
 given-place : {R : Type 0} (b : Body) (old new : SourceState R) (f : Feed) (r : Request) (given : ℕ) (end_reported over : Bool) (rest : List Item) → Fits b r.framing.form (body_length_or_0 r.framing) given end_reported → GivesUp b old new → old.feed ≡ Some f
-    → (is_streaming b ≡ false → (g : Feed) → behind_body (Some b) (Some g) ≡ Some g) → (is_chunked r.framing.form && not end_reported) ≡ false → PlaceAt over (behind_body (Some b) old.feed) rest → PlaceAt over new.feed rest
-given-place b old new f r given end_reported true rest fits h e quiet kept place = place
-given-place {R = R} (body.Over stop) old new f r given end_reported false rest fits h e quiet kept place =
+    → (is_streaming b ≡ false → (g : Feed) → behind_body (Some b) (Some g) ≡ Some g) → (is_chunked r.framing.form && not end_reported) ≡ false → (r.framing.form ≡ Rest → over ≡ true) → PlaceAt over (behind_body (Some b) old.feed) rest → PlaceAt over new.feed rest
+given-place b old new f r given end_reported true rest fits h e quiet kept ends place = place
+given-place {R = R} (body.Over stop) old new f r given end_reported false rest fits h e quiet kept ends place =
     let P : Option Feed → Type 0 = λ o. PlaceAt false o rest in
     subst P (ap (behind_body (Some (body.Over stop))) e ∙ quiet refl f ∙ sym e ∙ ap (λ (x : SourceState R). x.feed) (sym h)) place
-given-place {R = R} (body.WithHead bytes) old new f r given end_reported false rest fits h e quiet kept place =
+given-place {R = R} (body.WithHead bytes) old new f r given end_reported false rest fits h e quiet kept ends place =
     let P : Option Feed → Type 0 = λ o. PlaceAt false o rest in
     subst P (ap (behind_body (Some (body.WithHead bytes))) e ∙ quiet refl f ∙ sym e ∙ ap (λ (x : SourceState R). x.feed) (sym h)) place
-given-place {R = R} (body.Counted left) old new f r given end_reported false rest fits h e quiet kept place =
+given-place {R = R} (body.Counted left) old new f r given end_reported false rest fits h e quiet kept ends place =
     let P : Option Feed → Type 0 = λ o. PlaceAt false o rest in
     let skips : behind_body (Some (body.Counted left)) old.feed ≡ option_map (skipped left) old.feed = rw e refl in
     subst P (skips ∙ sym h.0) place
-given-place {R = R} (body.Chunked d) old new f r given end_reported false rest fits h e quiet kept place =
+given-place {R = R} (body.Chunked d) old new f r given end_reported false rest fits h e quiet kept ends place =
     let no : true ≡ false = rw (fits.0, fits.1) refl ∙ kept in cc
+given-place {R = R} body.Rest old new f r given end_reported false rest fits h e quiet kept ends place = let no : false ≡ true = ends fits.0 in cc
 
 -- where the input stands after a body, whether the last head was read is the same, and it isn't within a body
 past-body : (p : Standing) → is_past_last (after_body p) ≡ is_past_last p
@@ -109,14 +111,22 @@ out-fault kind (at.Broken k) = refl
 given-past : {R : Type 0} (b : Body) (old new : SourceState R) → GivesUp b old new → is_past_last new.standing ≡ is_past_last old.standing
 given-past {R = R} (body.Over stop) old new h = ap (λ (x : SourceState R). is_past_last x.standing) h
 given-past {R = R} (body.WithHead bytes) old new h = ap (λ (x : SourceState R). is_past_last x.standing) h
+given-past {R = R} body.Rest old new h = ap (λ (x : SourceState R). is_past_last x.standing) h
 given-past (body.Counted left) old new h = ap is_past_last h.1 ∙ past-body old.standing
 given-past (body.Chunked d) old new h = ap is_past_last h.2 ∙ past-loss old.standing
 
-given-within : {R : Type 0} (b : Body) (old new : SourceState R) (last : Bool) → GivesUp b old new → is_in_body old.standing ≡ (not last && is_streaming b) → is_in_body new.standing ≡ false
-given-within {R = R} (body.Over stop) old new last h e = ap (λ (x : SourceState R). is_in_body x.standing) h ∙ e ∙ and-false (not last)
-given-within {R = R} (body.WithHead bytes) old new last h e = ap (λ (x : SourceState R). is_in_body x.standing) h ∙ e ∙ and-false (not last)
-given-within (body.Counted left) old new last h e = ap is_in_body h.1 ∙ out-body old.standing
-given-within (body.Chunked d) old new last h e = ap is_in_body h.2 ∙ out-loss old.standing
+given-within : {R : Type 0} (b : Body) (old new : SourceState R) (last : Bool) → GivesUp b old new → (b ≡ body.Rest → last ≡ true) → is_in_body old.standing ≡ (not last && is_streaming b) → is_in_body new.standing ≡ false
+given-within {R = R} (body.Over stop) old new last h ends e = ap (λ (x : SourceState R). is_in_body x.standing) h ∙ e ∙ and-false (not last)
+given-within {R = R} (body.WithHead bytes) old new last h ends e = ap (λ (x : SourceState R). is_in_body x.standing) h ∙ e ∙ and-false (not last)
+given-within (body.Counted left) old new last h ends e = ap is_in_body h.1 ∙ out-body old.standing
+given-within (body.Chunked d) old new last h ends e = ap is_in_body h.2 ∙ out-loss old.standing
+given-within {R = R} body.Rest old new last h ends e = ap (λ (x : SourceState R). is_in_body x.standing) h ∙ e ∙ ap (λ x. not x && true) (ends refl)
+
+-- a body that is all the rest of the input is that of a request of that form
+rest-form : (b : Body) (r : Request) (given : ℕ) (end_reported : Bool) → Fits b r.framing.form (body_length_or_0 r.framing) given end_reported → b ≡ body.Rest → r.framing.form ≡ Rest
+rest-form b r given end_reported fits e =
+    let F : Body → Type 0 = λ x. Fits x r.framing.form (body_length_or_0 r.framing) given end_reported in
+    (subst F e fits).0
 
 -- the same after a read
 pub record StandsOn (c : Body) (p q : Standing) (last : Bool) : Type 0 where
@@ -129,6 +139,7 @@ stands-by (body.Over (Faults kind)) p last e = record { past = past-fault kind p
 stands-by (body.WithHead bytes) p last e = record { past = past-body p; within = out-body p ∙ sym (and-false (not last)) }
 stands-by (body.Counted left) p last e = record { past = refl; within = e }
 stands-by (body.Chunked d) p last e = record { past = refl; within = e }
+stands-by body.Rest p last e = record { past = refl; within = e }
 
 pub stands-on : (b c : Body) (p q : Standing) (last : Bool) → (is_streaming b ≡ true → q ≡ body_standing c p) → (is_streaming b ≡ false → q ≡ p) → (is_streaming b ≡ false → is_streaming c ≡ false) → is_in_body p ≡ (not last && is_streaming b) → StandsOn c p q last
 stands-on b c p q last goes settled stays e = by (is_streaming b) refl
@@ -146,6 +157,7 @@ given-same (body.Over stop) old new h e = h
 given-same (body.WithHead bytes) old new h e = h
 given-same (body.Counted left) old new h e = cc
 given-same (body.Chunked d) old new h e = cc
+given-same body.Rest old new h e = cc
 
 -- where the last number and its body are the same, the next head is read at the same place
 pub next-same : (k q : Kept) (o u : Option Slot) (rest : List Item) → q.standing ≡ k.standing → u ≡ o → last_body q.requests ≡ last_body k.requests → q.feed ≡ k.feed → q.stop ≡ k.stop → q.is_over ≡ k.is_over → NextHead k o rest → NextHead q u rest
@@ -230,15 +242,16 @@ reader-last client k old new bs us rest s w stage h from reader is gives =
     let past : is_past_last new.standing ≡ is_past_last old.standing = given-past w.body old new gives in
     let S : Option Feed → Type 0 = λ f. GoesOn f new.feed in
     let B : Option Remaining → Option Feed = λ o. option_map (λ (x : Remaining). x.behind) o in
+    let item_last : is_last_item s.item ≡ r.framing.is_last = ap (λ (x : Slot). is_last_item x.item) h.is in
     record {
       settled = settled-set us (Some w) None [] (subst A is reader.settled) (inl tt);
       gives = subst G (sym content) tt;
       next = λ e. record {
         is_last = past ∙ l.is_last e ∙ ap (λ (x : Slot). is_last_item x.item) h.is ∙ ap is_last_slot (sym last);
-        within = given-within w.body old new (is_last_item s.item) gives (l.within e) ∙ sym (ap W content ∙ and-false (not (is_last_slot (last_slot (bs ++ (t ∷ []))))));
+        within = given-within w.body old new (is_last_item s.item) gives (λ rest_is. item_last ∙ h.rest_is_last (rest-form w.body r h.given h.end_reported h.fits rest_is)) (l.within e) ∙ sym (ap W content ∙ and-false (not (is_last_slot (last_slot (bs ++ (t ∷ []))))));
         lost = λ lost. lost-chunked w.body old new l.feed r h.given h.end_reported h.fits gives l.stated (sym (ap last_was_abandoned last) ∙ lost);
         place = λ kept. subst (λ x. P x (last_body (us ++ (None ∷ [])))) (sym past) (subst (λ y. P (is_past_last old.standing) y) (sym content)
-            (given-place w.body old new l.feed r h.given h.end_reported (is_past_last old.standing) rest h.fits gives l.stated (λ quiet f. ap B (h.settled quiet f)) (sym (ap last_was_abandoned last) ∙ kept) (l.place e)));
+            (given-place w.body old new l.feed r h.given h.end_reported (is_past_last old.standing) rest h.fits gives l.stated (λ quiet f. ap B (h.settled quiet f)) (sym (ap last_was_abandoned last) ∙ kept) (λ form. l.is_last e ∙ item_last ∙ h.rest_is_last form) (l.place e)));
       };
       source = goes-on_more (Some client) k.feed new.feed reader.source (subst S (sym from.feed) (gives-up w.body old new gives));
     }

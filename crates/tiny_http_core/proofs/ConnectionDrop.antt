@@ -1,13 +1,13 @@
 -- A Drop: from where the connection stands to where it stands after it.
-use Rattle.std.proofs.Common.{◌≡◌, refl, sym, ap, ◌∙◌, subst, ℕ, ◌-◌, ◌<◌, ◌^◌, ◌⊎◌, inl, ⊎_elim, Bool, true, false, ◌||◌, List, ◌∷◌, ◌++◌, length, Option, Some, None, eq-eqb}
+use Rattle.std.proofs.Common.{◌≡◌, refl, sym, ap, ◌∙◌, subst, ℕ, ◌-◌, ◌<◌, ◌^◌, ◌⊎◌, inl, ⊎_elim, Bool, true, false, List, ◌∷◌, ◌++◌, length, Option, Some, None, eq-eqb}
 use Rattle.std.proofs.lemmas.Bool.{ne_eqb}
-use Rattle.std.specs.Prelude.{MatchBool, ◌==◌, is_some, slice_get, slice_set}
+use Rattle.std.specs.Prelude.{MatchBool, ◌==◌, slice_get, slice_set}
 use Rattle.std.specs.List.{list_all}
 use Rattle.httpdate.specs.declared.date.HttpDate.{HttpDate}
 use Rattle.tiny_http_wire.specs.Device.{Feed, Sink}
 use Rattle.tiny_http_message.specs.declared.waiting.Waiting.{Waiting}
 use Rattle.tiny_http_message.specs.Pipeline.{Request}
-use Rattle.tiny_http_core.specs.Slots.{Slot, Unanswered, Answered as AnsweredBy, ByServer, Raw, Upgraded, is_finished, joined, is_output_broken, turn_has_come}
+use Rattle.tiny_http_core.specs.Slots.{Slot, Unanswered, Answered as AnsweredBy, ByServer, Raw, Upgraded, is_finished, joined, turn_has_come}
 use Rattle.tiny_http_core.specs.Steps.{Drop, Done, Outcome, Reached, changes, use_in_turn, at_slot, at_number}
 use Rattle.tiny_http_core.specs.Conversation.{Failure, State, flushed_after, WriterPart, HasOutcome}
 use Rattle.tiny_http_core.proofs.ConversationWriting.{FailsBetween, unreported, still-flushed}

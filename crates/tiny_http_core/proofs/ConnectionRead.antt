@@ -96,6 +96,7 @@ fits-on (body.WithHead bytes) (body.WithHead left) form n given m end_reported m
 fits-on (body.WithHead bytes) (body.Over stop) form n given m end_reported more fits h = absurd h
 fits-on (body.WithHead bytes) (body.Counted left) form n given m end_reported more fits h = absurd h
 fits-on (body.WithHead bytes) (body.Chunked d) form n given m end_reported more fits h = absurd h
+fits-on (body.WithHead bytes) body.Rest form n given m end_reported more fits h = absurd h
 fits-on (body.Counted left) c form n given m end_reported more fits h = by (more || (m == left)) refl h
   where
     over : (c : Body) → IsBodyOver c → (more || (m == left)) ≡ true → Fits c form n (given + m) (end_reported || more)
@@ -107,6 +108,7 @@ fits-on (body.Counted left) c form n given m end_reported more fits h = by (more
     over (body.WithHead bytes) i e = absurd i
     over (body.Counted l) i e = absurd i
     over (body.Chunked d) i e = absurd i
+    over body.Rest i e = absurd i
 
     neither : (a b : Bool) → (a || b) ≡ false → a ≡ false
     neither true b e = cc
@@ -125,10 +127,21 @@ fits-on (body.Chunked d) c form n given m end_reported true fits h = over c h
     over (body.WithHead bytes) i = absurd i
     over (body.Counted l) i = absurd i
     over (body.Chunked d) i = absurd i
+    over body.Rest i = absurd i
 fits-on (body.Chunked d) (body.Chunked e) form n given m end_reported false fits h = (fits.0, or-false end_reported ∙ fits.1)
 fits-on (body.Chunked d) (body.Over stop) form n given m end_reported false fits h = absurd h
 fits-on (body.Chunked d) (body.WithHead bytes) form n given m end_reported false fits h = absurd h
 fits-on (body.Chunked d) (body.Counted l) form n given m end_reported false fits h = absurd h
+fits-on (body.Chunked d) body.Rest form n given m end_reported false fits h = absurd h
+fits-on body.Rest c form n given m end_reported true fits h = over c h
+  where
+    over : (c : Body) → IsBodyOver c → Fits c form n (given + m) (end_reported || true)
+    over (body.Over stop) i = rw (fits.0, or-true end_reported) refl
+    over (body.WithHead bytes) i = absurd i
+    over (body.Counted l) i = absurd i
+    over (body.Chunked d) i = absurd i
+    over body.Rest i = absurd i
+fits-on body.Rest c form n given m end_reported false fits h = let P : Body → Type 0 = λ x. Fits x form n (given + m) (end_reported || false) in subst P (sym h) (fits.0, or-false end_reported ∙ fits.1)
 
 -- how many bytes are given then, and whether the end is reported
 abbrev now_given : Request → ℕ → ℕ → ℕ
@@ -251,6 +264,7 @@ still-waiting s w h c old new n reply k = record {
   end_reported = end_now_reported h.request h.given h.end_reported n;
   is = refl;
   unowed = h.unowed;
+  rest_is_last = h.rest_is_last;
   answer_context = h.answer_context;
   text = h.text;
   fits = k.fits;

@@ -117,6 +117,7 @@ fits-streams (body.Over stop) form n given end_reported h = rw h (and-false (is_
 fits-streams (body.WithHead bytes) form n given end_reported h = rw h refl
 fits-streams (body.Counted left) form n given end_reported h = rw (h.0, h.3, ne_eqb given n (λ e. absurd (omega (arith, e, h.1, h.2)))) refl
 fits-streams (body.Chunked d) form n given end_reported h = rw (h.0, h.1) refl
+fits-streams body.Rest form n given end_reported h = rw (h.0, h.1) refl
 
 pub waiting-kept : (s : Slot) (w : Waiting) (h : IsWaiting s w) → last_was_abandoned (Some s) ≡ false
 waiting-kept s w h = let P : Slot → Type 0 = λ x. last_was_abandoned (Some x) ≡ false in subst P (sym h.is) (and-false (is_chunked h.request.framing.form))

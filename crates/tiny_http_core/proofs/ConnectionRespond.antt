@@ -15,12 +15,12 @@ use Rattle.tiny_http_message.specs.Pipeline.{Item, Asks, Refuses, Request}
 use Rattle.tiny_http_sending.specs.ResponseValue.{ResponseValue}
 use Rattle.tiny_http_wire.specs.Answer.{IsGathered}
 use Rattle.tiny_http_core.specs.Slots.{Slot, Stage, Unanswered, Answered as AnsweredBy, ByServer, Raw, Upgraded, is_stage_finished, is_finished, is_broken, is_slot_broken, segment, joined, is_output_broken, last_slot, turn_has_come, to_request, text_if}
-use Rattle.tiny_http_core.specs.Steps.{StepValue, outcome, Respond, ReplyValue, Done, NoSuch, NotYet, WriterUse, Reported, Outcome, Reached, unchanged, changes, finished_as, accepts_step, fault_in, fault_reply, at_item, at_slot, at_number}
+use Rattle.tiny_http_core.specs.Steps.{StepValue, outcome, Respond, ReplyValue, Done, NoSuch, NotYet, Outcome, Reached, unchanged, changes, finished_as, accepts_step, fault_in, fault_reply, at_item, at_slot, at_number}
 use Rattle.tiny_http_core.specs.Conversation.{Failure, State, has_output_ended, finished_front, flushed_after, CanMeet, WriterPart, HasOutcome, GathersAt, MayLack}
 use Rattle.tiny_http_core.proofs.ConversationWriting.{FailsBetween, FailsReported, FailsBehind, broken_reply, used, WritesIf, IsAllFlushed, reported, still-flushed}
 use Rattle.tiny_http_sending.specs.ResponseValue.{printing_in}
 use Rattle.tiny_http_core.specs.Seen.{Answers, reply_to}
-use Rattle.tiny_http_sending.specs.Sending.{CanSend, OutletTook, OutletFailed, IsFlushed, SendsText, Sends, SendsUnlessEnded}
+use Rattle.tiny_http_sending.specs.Sending.{CanSend, OutletTook, OutletFailed, IsFlushed, SendsText, SendsUnlessEnded}
 use Rattle.tiny_http_turns.specs.Turns.{Mark, Open, Held, Finished, AreInShape, first_unfinished}
 use Rattle.tiny_http_core.specs.Pending.{left_text, with_left_finished, begins_left, SendsLeft, FinishesFront, waiting_answer_context}
 use Rattle.tiny_http_core.specs.Connection.{Kept, answer_context_of, open_slot, IsWaiting, AreKept, OutputAt, InputStands, Stands}

@@ -33,6 +33,7 @@ use Rattle.tiny_http_core.specs.declared.driver.Reply.{Reply}
 use Rattle.std.specs.declared.io.ErrorKind.{ErrorKind}
 use Rattle.tiny_http_core.specs.declared.driver.Step.{Step}
 use Rattle.tiny_http_core.specs.declared.driver.Step.TheVariants as step
+use Rattle.httpdate.specs.declared.date.HttpDate.{HttpDate}
 use Rattle.tiny_http_core.specs.Seen.{ReportsHonestly, ReportHonestly, MayFail}
 use Rattle.tiny_http_sending.specs.Sending.{FailsOnce, FailsOnceUnlessEnded, FailsAtMostOnce}
 use Rattle.tiny_http_device.proofs.DeviceLemmas.{grown-nil}
@@ -215,17 +216,17 @@ rise-along : (a b c : Sink) → b.failures ≡ a.failures → FailsAtMostOnce b 
 rise-along a b c e (inl h) = inl (h ∙ e)
 rise-along a b c e (inr h) = inr (h ∙ ap next_count e)
 
-fail-along : {D : Type 0} (feed : D → Option Feed) (a b c : Sink) (s : Step D) (kind : ErrorKind) → b.failures ≡ a.failures → MayFail feed b c s kind → MayFail feed a c s kind
-fail-along feed a b c step.Ask kind e h = h
-fail-along feed a b c (step.Read n m) kind e h = h
-fail-along {D = D} feed a b c (step.Drop n) kind e h = elim h [ ]
-fail-along feed a b c (step.Respond n r) kind e (p, inl h) = (p, inl (h ∙ ap next_count e))
-fail-along feed a b c (step.Respond n r) kind e (p, inr h) = (p, inr h)
+fail-along : {D : Type 0} (feed : D → Option Feed) (a b c : Sink) (date : HttpDate) (s : Step D) (kind : ErrorKind) → b.failures ≡ a.failures → MayFail feed b c date s kind → MayFail feed a c date s kind
+fail-along feed a b c date step.Ask kind e h = h
+fail-along feed a b c date (step.Read n m) kind e h = h
+fail-along {D = D} feed a b c date (step.Drop n) kind e h = elim h [ ]
+fail-along feed a b c date (step.Respond n r) kind e (p, inl h) = (p, inl (h ∙ ap next_count e))
+fail-along feed a b c date (step.Respond n r) kind e (p, inr h) = (p, inr h)
 
 -- one step more
 pub honest-snoc : {D : Type 0} (feed : D → Option Feed) (a b c : Sink) (steps : List (Timed D)) (replies : List Reply) (t : Timed D) (r : Reply) → ReportHonestly feed a steps replies b → FailsAtMostOnce b c → ReportsHonestly feed b c t r
     → ReportHonestly feed a (steps ++ t ∷ []) (replies ++ r ∷ []) c
-honest-snoc feed a b c [] [] t r h once k = (c, rise-along a b c h once, (λ kind stated. fail-along feed a b c t.step kind h (k kind stated)), refl)
+honest-snoc feed a b c [] [] t r h once k = (c, rise-along a b c h once, (λ kind stated. fail-along feed a b c t.now t.step kind h (k kind stated)), refl)
 honest-snoc feed a b c [] (x ∷ replies) t r h once k = absurd h
 honest-snoc feed a b c (x ∷ steps) [] t r h once k = absurd h
 honest-snoc feed a b c (x ∷ steps) (y ∷ replies) t r h once k = (h.0, h.1, h.2, honest-snoc feed h.0 b c steps replies t r h.3 once k)

@@ -14,7 +14,7 @@ use Rattle.tiny_http_core.specs.declared.driver.Step.TheVariants as step
 use Rattle.tiny_http_core.specs.declared.pending.Pending.{Pending}
 use Rattle.tiny_http_stream.specs.Source.{SourceState, GoesOn}
 use Rattle.tiny_http_stream.specs.Outlet.{OutletState, output_of, SentOn}
-use Rattle.tiny_http_sending.specs.ResponseValue.{ResponseValue, printing_in}
+use Rattle.tiny_http_sending.specs.ResponseValue.{ResponseValue}
 use Rattle.tiny_http_core.specs.Steps.{StepValue, Ask, Read, Respond, Drop, ReplyValue, Fault}
 use Rattle.tiny_http_core.specs.Conversation.{State, TimedValue, IsFresh, start_state}
 use Rattle.tiny_http_sending.specs.Sending.{FailsOnceUnlessEnded, IsHonest}
@@ -41,8 +41,8 @@ use Rattle.tiny_http_message.specs.Pipeline.{OneHead}
 use Rattle.tiny_http_core.specs.Driving.{IsRefusal, EndsRequestsAt}
 use Rattle.tiny_http_message.specs.PipelineReading.{items_of}
 use Rattle.tiny_http_message.proofs.PipelineLemmas.{feed-pipeline}
-use Rattle.tiny_http_core.proofs.ConversationRuns.{run-more, stands-begun, fails-step, split}
-use Rattle.tiny_http_sending.proofs.SendingLemmas.{once-none, once-append}
+use Rattle.tiny_http_core.proofs.ConversationRuns.{run-more, stands-begun, split}
+use Rattle.tiny_http_sending.proofs.SendingLemmas.{once-none}
 
 -- the fields as they are seen
 abbrev pub viewed : {R W : Type 0} → SourceState R → OutletState W → Pending → Option EndOfRequests → ConnectionState R W
@@ -206,10 +206,10 @@ is-stated feed (step.Respond k r) asked h =
     subst (λ y. IsStep (λ f. f) (step.Respond k (stated_response feed r)) y) (sym s.is) (refl, s.response)
 is-stated feed (step.Drop k) asked h = subst (λ y. (let a : Step (Option Feed) = step.Drop k in IsStep (λ f. f) a y)) (sym (is-drop feed k asked h)) refl
 
-may-fail : {R W D : Type 0} (feed : D → Option Feed) (old new : ConnectionState R W) (now : HttpDate) (x : Step D) (kind : ErrorKind) → ReportsFault old new now (stated_step feed x) kind → MayFail feed (output_of old.outlet) (output_of new.outlet) x kind
+may-fail : {R W D : Type 0} (feed : D → Option Feed) (old new : ConnectionState R W) (now : HttpDate) (x : Step D) (kind : ErrorKind) → ReportsFault old new now (stated_step feed x) kind → MayFail feed (output_of old.outlet) (output_of new.outlet) now x kind
 may-fail feed old new now step.Ask kind h = h
 may-fail feed old new now (step.Read k n) kind h = h
-may-fail feed old new now (step.Respond k r) kind h = (printing_in h.0 now, h.2)
+may-fail feed old new now (step.Respond k r) kind h = (h.0, h.2)
 may-fail feed old new now (step.Drop k) kind h = h
 
 pub reports-step : {R W D : Type 0} (feed : D → Option Feed) (old new : ConnectionState R W) (t : Timed D) (reply : Reply) → ((kind : ErrorKind) → seen reply ≡ Fault kind → ReportsFault old new t.now (stated_step feed t.step) kind) → ReportsHonestly feed (output_of old.outlet) (output_of new.outlet) t reply

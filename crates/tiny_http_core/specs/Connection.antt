@@ -9,6 +9,7 @@ use Rattle.tiny_http_wire.specs.Device.{Feed, Sink, IsFront, StatesKind, whole_f
 use Rattle.tiny_http_message.specs.declared.body.Body.{Body}
 use Rattle.tiny_http_wire.specs.declared.answer_context.AnswerContext.{AnswerContext}
 use Rattle.tiny_http_message.specs.declared.waiting.Waiting.{Waiting}
+use Rattle.tiny_http_message.specs.declared.framing.Form.TheVariants.{Rest}
 use Rattle.tiny_http_stream.specs.Source.{SourceState, GoesOn}
 use Rattle.tiny_http_stream.specs.ToCome.{stopped}
 use Rattle.tiny_http_message.specs.Body.{Remaining, remaining, taken_remaining, is_streaming, Fits}
@@ -70,6 +71,7 @@ pub record IsWaiting (s : Slot) (w : Waiting) : Type 0 where
   pub end_reported : Bool
   pub is : s ≡ open_slot date request given end_reported
   pub unowed : request.framing.owes_continue ≡ false
+  pub rest_is_last : request.framing.form ≡ Rest → request.framing.is_last ≡ true
   pub answer_context : w.answer_context ≡ answer_context_of request
   pub text : w.dropped.items ≡ segment (dropped date request given end_reported)
   pub fits : Fits w.body request.framing.form (body_length_or_0 request.framing) given end_reported

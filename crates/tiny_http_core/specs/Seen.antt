@@ -3,15 +3,17 @@ use Rattle.std.specs.Prelude.{◌≡◌, ◌<◌, ◌^◌, List, [], ◌∷◌, 
 use Rattle.std.specs.IoError.{error_kind}
 use Rattle.std.specs.declared.io.Error.{Error}
 use Rattle.std.specs.declared.io.ErrorKind.{ErrorKind}
+use Rattle.httpdate.specs.declared.date.HttpDate.{HttpDate}
 use Rattle.tiny_http_wire.specs.Device.{Feed, Sink}
 use Rattle.tiny_http_wire.specs.Answer.{Answer, Printing, ResponseState}
 use Rattle.tiny_http_core.specs.declared.driver.Step.{Step}
 use Rattle.tiny_http_core.specs.declared.driver.Step.TheVariants as step
 use Rattle.tiny_http_core.specs.declared.driver.Timed.{Timed}
+use Rattle.tiny_http_wire.specs.declared.answer_context.AnswerContext.{AnswerContext}
 use Rattle.tiny_http_core.specs.declared.driver.Reply.{Reply}
 use Rattle.tiny_http_core.specs.declared.driver.Reply.TheVariants as reply
 use Rattle.tiny_http_message.specs.HeadReads.{head_message, head_framing}
-use Rattle.tiny_http_sending.specs.ResponseValue.{ResponseValue}
+use Rattle.tiny_http_sending.specs.ResponseValue.{ResponseValue, printing_in}
 use Rattle.tiny_http_core.specs.Steps.{StepValue, Ask, Read, Respond, Drop, ReplyValue, Handed, Ended, Given, Fault, NotYet, Done, Refused, NoSuch, Memory, fault_reply}
 use Rattle.tiny_http_core.specs.Conversation.{TimedValue}
 use Rattle.tiny_http_sending.specs.Sending.{Sends, IsFlushed, IsHonest, FailsAtMostOnce}
@@ -46,15 +48,15 @@ seen reply.Memory = Memory
 
 -- the step may fail by this kind, by the writer or by its own data, printed for some request, or by that of the body that
 -- it reads; an Ask and a Drop report no fault
-abbrev pub MayFail : {D : Type 0} → (D → Option Feed) → Sink → Sink → Step D → ErrorKind → Type 0
-MayFail feed old new step.Ask kind = ⊥
-MayFail feed old new (step.Read k n) kind = Unit {0}
-MayFail feed old new (step.Drop k) kind = ⊥
-MayFail feed old new (step.Respond k r) kind = (p : Printing) × IsHonest old new r.answer (feed r.data_reader) p kind
+abbrev pub MayFail : {D : Type 0} → (D → Option Feed) → Sink → Sink → HttpDate → Step D → ErrorKind → Type 0
+MayFail feed old new date step.Ask kind = ⊥
+MayFail feed old new date (step.Read k n) kind = Unit {0}
+MayFail feed old new date (step.Drop k) kind = ⊥
+MayFail feed old new date (step.Respond k r) kind = (context : AnswerContext) × IsHonest old new r.answer (feed r.data_reader) (printing_in context date) kind
 
 -- a fault that an answer reports is the writer's, whose count rose, or that of the step's own data; of a body's nothing is said
 abbrev pub ReportsHonestly : {D : Type 0} → (D → Option Feed) → Sink → Sink → Timed D → Reply → Type 0
-ReportsHonestly feed old new t reply = (kind : ErrorKind) → seen reply ≡ Fault kind → MayFail feed old new t.step kind
+ReportsHonestly feed old new t reply = (kind : ErrorKind) → seen reply ≡ Fault kind → MayFail feed old new t.now t.step kind
 
 -- Steps that report their faults so, while the writer's count goes from one number to another: a step raises it at most once.
 abbrev pub ReportHonestly : {D : Type 0} → (D → Option Feed) → Sink → List (Timed D) → List Reply → Sink → Type 0

@@ -1,11 +1,11 @@
 -- The numbers of a connection: what stands under each, and what each sends.
-use Rattle.std.specs.Prelude.{◌≡◌, ℕ, Bool, true, false, not, ◌&&◌, ◌||◌, List, [], ◌∷◌, ◌++◌, length, take, drop, Option, Some, None, codes, if◌then◌else◌}
+use Rattle.std.specs.Prelude.{ℕ, Bool, true, false, not, ◌&&◌, ◌||◌, List, [], ◌∷◌, ◌++◌, take, drop, Option, Some, None, codes, if◌then◌else◌}
 use Rattle.std.specs.List.{list_all, last_or}
 use Rattle.std.specs.declared.io.ErrorKind.TheVariants.{OutOfMemory}
 use Rattle.httpdate.specs.declared.date.HttpDate.{HttpDate}
 use Rattle.tiny_http_wire.specs.Coding.{coding_asked}
 use Rattle.tiny_http_wire.specs.Device.{Feed}
-use Rattle.tiny_http_wire.specs.Answer.{Answer, Printing, text_plain}
+use Rattle.tiny_http_wire.specs.Answer.{Printing, text_plain}
 use Rattle.tiny_http_encoding.specs.Text.{Text, Ending, Whole, Broken, prepend_text, whole, nothing_sent}
 use Rattle.tiny_http_message.specs.declared.framing.Form.{Form}
 use Rattle.tiny_http_message.specs.declared.framing.Form.TheVariants.{Rest, Nothing, WithHead, Counted, Chunked}

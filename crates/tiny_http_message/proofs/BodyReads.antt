@@ -9,7 +9,7 @@ use Rattle.tiny_http_wire.specs.declared.device.Stop.{Stop}
 use Rattle.tiny_http_wire.specs.declared.device.Stop.TheVariants.{End}
 use Rattle.tiny_http_wire.specs.Device.{Feed, prepended, prepend, StopsBy}
 use Rattle.tiny_http_message.specs.declared.body.Body.{Body}
-use Rattle.tiny_http_message.specs.declared.body.Body.TheVariants.{Over, WithHead, Counted, Chunked}
+use Rattle.tiny_http_message.specs.declared.body.Body.TheVariants.{Over, WithHead, Counted, Chunked, Rest}
 use Rattle.tiny_http_stream.specs.ToCome.{skipped, stopped}
 use Rattle.tiny_http_stream.specs.FeedParts.{feed_front}
 use Rattle.tiny_http_message.specs.Body.{Remaining, remaining, counted_remaining, taken_remaining, prepend_body, prepended_body, BodyStops, NoneRemains, is_streaming, body_standing, IsBodyOver, ReadsOn, GivesUp}
@@ -105,10 +105,13 @@ reads-on (WithHead bytes) (WithHead more) c m n end_reported h k = k
 reads-on (WithHead bytes) (Over stop) c m n end_reported h k = absurd h
 reads-on (WithHead bytes) (Counted left) c m n end_reported h k = absurd h
 reads-on (WithHead bytes) (Chunked d) c m n end_reported h k = absurd h
+reads-on (WithHead bytes) Rest c m n end_reported h k = absurd h
+reads-on Rest b c m n end_reported h k = let P : Body → Type 0 = λ x. ReadsOn x n end_reported c in subst P h k
 reads-on (Chunked d) (Chunked more) c m n end_reported h k = k
 reads-on (Chunked d) (Over stop) c m n end_reported h k = absurd h
 reads-on (Chunked d) (Counted left) c m n end_reported h k = absurd h
 reads-on (Chunked d) (WithHead bytes) c m n end_reported h k = absurd h
+reads-on (Chunked d) Rest c m n end_reported h k = absurd h
 reads-on (Counted left) b c m n end_reported h k = by (m == left) refl h
   where
     by : (t : Bool) → (m == left) ≡ t → MatchBool t (IsBodyOver b) ((b ≡ Counted (left - m)) × (m < left)) → ReadsOn (Counted left) (m + n) end_reported c
@@ -123,6 +126,7 @@ reads-on (Counted left) b c m n end_reported h k = by (m == left) refl h
         over (WithHead bytes) e h k = absurd h
         over (Counted l) e h k = absurd h
         over (Chunked d) e h k = absurd h
+        over Rest e h k = absurd h
     by false e h =
         let P : Body → Type 0 = λ x. ReadsOn x n end_reported c in
         let l = subst P h.0 k in
@@ -151,8 +155,10 @@ stays-settled (WithHead bytes) (WithHead more) n end_reported h e = refl
 stays-settled (WithHead bytes) (Over stop) n end_reported h e = refl
 stays-settled (WithHead bytes) (Counted left) n end_reported h e = absurd h
 stays-settled (WithHead bytes) (Chunked d) n end_reported h e = absurd h
+stays-settled (WithHead bytes) Rest n end_reported h e = absurd h
 stays-settled (Counted left) b n end_reported h e = cc
 stays-settled (Chunked d) b n end_reported h e = cc
+stays-settled Rest b n end_reported h e = cc
 
 with-with : (r : Option Remaining) (a b : List ℕ) → prepended_body a (prepended_body b r) ≡ prepended_body (a ++ b) r
 with-with None a b = refl
@@ -195,6 +201,7 @@ goes-on_stopped (Some f) = record { gone = f.bytes; joins = sym (append-nil f.by
 pub gives-up : {R : Type 0} (b : Body) (old new : SourceState R) → GivesUp b old new → GoesOn old.feed new.feed
 gives-up (Over stop) old new h = goes-on_equal old new h
 gives-up (WithHead bytes) old new h = goes-on_equal old new h
+gives-up Rest old new h = goes-on_equal old new h
 gives-up (Counted left) old new h = let P : Option Feed → Type 0 = λ x. GoesOn old.feed x in subst P (sym h.0) (skips old.feed)
   where
     skips : (o : Option Feed) → GoesOn o (option_map (skipped left) o)
@@ -228,5 +235,7 @@ standing-more {R = R} (WithHead bytes) (WithHead more) n end_reported first mid 
 standing-more (WithHead bytes) (Over stop) n end_reported first mid new on settled goes was = absurd on
 standing-more (WithHead bytes) (Counted left) n end_reported first mid new on settled goes was = absurd on
 standing-more (WithHead bytes) (Chunked d) n end_reported first mid new on settled goes was = absurd on
+standing-more (WithHead bytes) Rest n end_reported first mid new on settled goes was = absurd on
 standing-more (Counted left) c n end_reported first mid new on settled goes was = goes refl ∙ ap (body_standing c) was
 standing-more (Chunked d) c n end_reported first mid new on settled goes was = goes refl ∙ ap (body_standing c) was
+standing-more Rest c n end_reported first mid new on settled goes was = goes refl ∙ ap (body_standing c) was

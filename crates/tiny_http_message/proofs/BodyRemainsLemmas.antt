@@ -16,6 +16,8 @@ use Rattle.tiny_http_message.specs.declared.body.Body.{Body}
 use Rattle.tiny_http_message.specs.declared.body.Body.TheVariants as body
 use Rattle.tiny_http_message.specs.declared.framing.Form.{Form}
 use Rattle.tiny_http_message.specs.declared.framing.Form.TheVariants.{Counted, Chunked}
+use Rattle.tiny_http_wire.specs.declared.device.Stop.TheVariants.{End}
+use Rattle.tiny_http_stream.specs.ToCome.{stopped}
 use Rattle.tiny_http_message.specs.Pipeline.{Place, BodyAt}
 use Rattle.tiny_http_message.specs.HeadReads.{place_feed}
 use Rattle.tiny_http_message.specs.Body.{Remaining, remaining, counted_remaining, chunks_remaining, coming_remaining, is_streaming, Fits}
@@ -101,6 +103,10 @@ remains-of (body.Counted count) form n given end_reported x left fits streams e 
     let same : counted_remaining count x ≡ left = cc in
     let some : count ≡ n - given = omega (arith, fits.1) in
     subst F (sym fits.0) (subst N some (record { content = k.0; next = k.1; stands = k.2; is = sym same ∙ k.3 }))
+remains-of body.Rest form n given end_reported x left fits streams e =
+    let F : Form → Type 0 = λ f. RemainsFrom f (n - given) x left in
+    let same : record { body = x; behind = stopped End } ≡ left = cc in
+    subst F (sym fits.0) (record { content = x; next = None; stands = (refl, refl); is = sym same })
 remains-of (body.Chunked d) form n given end_reported x left fits streams e =
     let k = remains-next (n - given) d.next x in
     let F : Form → Type 0 = λ f. RemainsFrom f (n - given) x left in

@@ -1,5 +1,5 @@
 -- From a head read to the item that stands there.
-use Rattle.std.proofs.Common.{◌≡◌, refl, sym, ap, ◌∙◌, subst, ℕ, ◌-◌, ◌<◌, ◌≤◌, Bool, true, false, not, ◌&&◌, List, [], ◌∷◌, ◌++◌, ◌+◌, length, take, drop, length-append, Option, Some, None, Result, Ok, Err, inl, inr, arith}
+use Rattle.std.proofs.Common.{◌≡◌, refl, sym, ap, ◌∙◌, subst, ℕ, ◌-◌, ◌<◌, ◌≤◌, Bool, true, false, not, List, [], ◌∷◌, ◌++◌, ◌+◌, length, take, drop, length-append, Option, Some, None, Result, Ok, Err, inl, inr, arith}
 use Rattle.std.specs.Prelude.{nat_lt, unwrap_or, MatchResult, MatchBool, ◌==◌, if◌then◌else◌}
 use Rattle.std.specs.Option.{option_map}
 use Rattle.std.specs.Global.{Vec}
@@ -32,14 +32,14 @@ use Rattle.tiny_http_message.specs.declared.heads.HeadFault.{HeadFault}
 use Rattle.tiny_http_message.specs.declared.heads.HeadFault.TheVariants as fault
 use Rattle.tiny_http_message.specs.declared.body.Body.{Body}
 use Rattle.tiny_http_message.specs.declared.body.Body.TheVariants as body
-use Rattle.tiny_http_message.specs.Framing.{framing, is_built, is_rest}
+use Rattle.tiny_http_message.specs.Framing.{framing, is_built}
 use Rattle.tiny_http_stream.specs.FeedParts.{feed_front}
 use Rattle.tiny_http_stream.specs.ToCome.{skipped}
 use Rattle.tiny_http_message.specs.Body.{Remaining, remaining, counted_remaining, coming_remaining, Fits, IsBodyOver, ReadsOn}
 use Rattle.tiny_http_message.specs.Exchange.{KeepsHead}
 use Rattle.tiny_http_stream.specs.Source.{TakesExactly, feed_from}
-use Rattle.tiny_http_message.specs.Pipeline.{Asks, Refuses, Refusal, BadRequest, RequestTimeout, ExpectationFailed, refusal_status, Place, Heading, Ends, Heads, HeadAt, IsCutWithHead, cut_answer, is_timed_out, body_length_or_0, served, BodyAt, FoundAt, OneHead, item_of, next_place, place_after}
-use Rattle.tiny_http_message.specs.HeadReads.{ReadsMessage, ReadsHead, RefusesWith, AnswersCut, AnswersFault, IsServedRefusal, IsCutHead, IsBadLine, IsRefusedHead, IsOkEnd, HasCome, Begins, ComesWith, IsCutOff, IsBeforeHead, cut_end, end_at, place_feed, message_of, head_message, head_framing}
+use Rattle.tiny_http_message.specs.Pipeline.{Asks, Refuses, Refusal, BadRequest, RequestTimeout, ExpectationFailed, refusal_status, Place, Heading, Ends, Heads, HeadAt, IsCutWithHead, cut_item, is_timed_out, body_length_or_0, served, BodyAt, FoundAt, OneHead, item_of, next_place, place_after}
+use Rattle.tiny_http_message.specs.HeadReads.{ReadsMessage, ReadsHead, RefusesWith, AnswersCut, AnswersFault, IsServedRefusal, IsCutHead, IsBadLine, IsRefusedUncut, IsOkEnd, HasByteOrTimedOut, Begins, ComesWith, IsCutOff, IsBeforeHead, cut_end, end_at, place_feed, message_of, head_message, head_framing}
 use Rattle.tiny_http_message.specs.declared.exchange.EndOfRequests.{EndOfRequests}
 use Rattle.tiny_http_message.specs.declared.exchange.EndOfRequests.TheVariants as because
 use Rattle.tiny_http_stream.specs.declared.source.Standing.{Standing}
@@ -61,7 +61,7 @@ refused-at date f p refusal v (Ok (read.Ended why)) s h k = absurd k
 refused-at date f p refusal v (Ok (read.Request x)) s h k = absurd k
 
 -- a head that is cut: a 408 where the reader timed out
-cut-at : (date : HttpDate) (f : Feed) (p : Option Feed) (begun : Bool) (r : Result HeadRead AllocError) → IsCutHead f.bytes → HeadAt f.bytes f.stop (Ends (cut_answer f.stop)) → begun ≡ nat_lt 0 (length f.bytes)
+cut-at : (date : HttpDate) (f : Feed) (p : Option Feed) (begun : Bool) (r : Result HeadRead AllocError) → IsCutHead f.bytes → HeadAt f.bytes f.stop (Ends (cut_item f.stop)) → begun ≡ nat_lt 0 (length f.bytes)
     → AnswersCut f.stop begun date r → ReadsHead at.Head date (Some f) p r
 cut-at date f p begun r c h b k = by (is_timed_out f.stop) refl h k
   where
@@ -96,35 +96,25 @@ pub head-unframed : (date : HttpDate) (o p : Option Feed) (m : Message) (r : Res
 head-unframed date None p m r h e k = tt
 head-unframed date (Some f) p m r h e k = refused-at date f p ExpectationFailed m.version r tt (inr (inl (message_of m, h.0, h.1, e, refl))) k
 
--- a body that begins isn't cut
-uncut : (form : Form) (n : ℕ) (after : List ℕ) → (is_rest form ≡ false → IsCutWithHead form n after → ⊥) → IsCutWithHead form n after → ⊥
-uncut WithHead n after h k = h refl k
-uncut Rest n after h k = elim k [ ]
-uncut Nothing n after h k = elim k [ ]
-uncut Counted n after h k = elim k [ ]
-uncut Chunked n after h k = elim k [ ]
-
 pub head-unbuilt : (date : HttpDate) (o p q : Option Feed) (m : Message) (f : Framing) (b : Body) → ReadsMessage o p (Ok m) → framing m.version m.headers.items ≡ Some f → Begins f p q (Some b) → is_built m.version f ≡ false → ReadsHead at.Head date o q (Ok (read.Ended because.NotServed))
 head-unbuilt date None p q m f y h e begins b = tt
 head-unbuilt date (Some x) p q m f y h e begins b =
     let B : Option Feed → Type 0 = λ z. Begins f z q (Some y) in
     let started = subst B h.2 begins in
-    let whole : IsCutWithHead f.form (body_length_or_0 f) h.0 → ⊥ = uncut f.form (body_length_or_0 f) h.0 (λ r. (started r).0) in
+    let whole : IsCutWithHead f.form (body_length_or_0 f) h.0 → ⊥ = started.0 in
     let P : Heading → Type 0 = λ z. FoundAt x.stop z None None in
     let same : Ends None ≡ served (Heads (message_of m) f h.0) = rw b refl in
     ((Heads (message_of m) f h.0, (h.1, e, whole), subst P same (refl, refl)), inr (inr (message_of m, h.0, f, h.1, e, b, whole, refl)))
 
--- what is built is no version above 1.1, owes no 100, and names no upgrade
+-- what is built is no version above 1.1, and owes no 100
 pub record Built (v : HTTPVersion) (f : Framing) : Type 0 where
   pub version_is : is_too_new v ≡ false
   pub unowed : f.owes_continue ≡ false
-  pub no_upgrade : is_rest f.form ≡ false
 
 pub built-parts : (v : HTTPVersion) (f : Framing) → is_built v f ≡ true → Built v f
 built-parts v f b =
-    let first = and_parts (not (is_too_new v)) (not f.owes_continue && not (is_rest f.form)) b in
-    let second = and_parts (not f.owes_continue) (not (is_rest f.form)) first.1 in
-    record { version_is = not-true (is_too_new v) first.0; unowed = not-true f.owes_continue second.0; no_upgrade = not-true (is_rest f.form) second.1 }
+    let parts = and_parts (not (is_too_new v)) (not f.owes_continue) b in
+    record { version_is = not-true (is_too_new v) parts.0; unowed = not-true f.owes_continue parts.1 }
 
 -- the body that begins in front of some bytes
 abbrev pub BeginsAt : Form → ℕ → Feed → Option Feed → Body → Type 0
@@ -133,11 +123,11 @@ BeginsAt form n x new b =
 
 pub begins-with : (f : Framing) (form : Form) (o new : Option Feed) (b : Body) → f.form ≡ form → ((x : Feed) → o ≡ Some x → BeginsAt form (body_length_or_0 f) x new b) → Begins f o new (Some b)
 begins-with f form None new b e h = tt
-begins-with f form (Some x) new b e h = λ z. (let P : Form → Type 0 = λ y. BeginsAt y (body_length_or_0 f) x new b in subst P (sym e) (h x refl))
+begins-with f form (Some x) new b e h = let P : Form → Type 0 = λ y. BeginsAt y (body_length_or_0 f) x new b in subst P (sym e) (h x refl)
 
-pub begins-rest : (f : Framing) (o new : Option Feed) (b : Body) → f.form ≡ Rest → Begins f o new (Some b)
-begins-rest f None new b e = tt
-begins-rest f (Some x) new b e = λ z. (let no : true ≡ false = sym (ap is_rest e) ∙ z in cc)
+-- all that comes
+pub begins-rest : (f : Framing) (o : Option Feed) → f.form ≡ Rest → Begins f o o (Some body.Rest)
+begins-rest f o e = begins-with f Rest o o body.Rest e (λ x stated. (let P : Option Feed → Type 0 = λ y. BeginsAt Rest (body_length_or_0 f) x y body.Rest in subst P (sym stated) (λ k. k, x, None, (refl, refl), refl, (refl, refl))))
 
 nothing-at : (n : ℕ) (x : Feed) → BeginsAt Nothing n x (Some x) (body.Over End)
 nothing-at n x = (λ k. k, whole_feed [], Some x.bytes, (refl, refl), refl, refl)
@@ -154,6 +144,7 @@ counted-fits b n h = by (0 == n) refl h
     over (body.WithHead bytes) k e = absurd k
     over (body.Counted left) k e = absurd k
     over (body.Chunked d) k e = absurd k
+    over body.Rest k e = absurd k
 
     by : (t : Bool) → (0 == n) ≡ t → MatchBool t (IsBodyOver b) ((b ≡ body.Counted (n - 0)) × (0 < n)) → Fits b Counted n 0 false
     by true e k = over b k e
@@ -239,7 +230,7 @@ head-whole : (x : Feed) (q : Option Feed) (m : Texted) (f : Framing) (after : Li
     → (content : Feed) × (next : Place) × OneHead x.bytes x.stop (Some (Asks (record { message = m; framing = f; body = content }))) (place_after f.is_last next) × ComesWith (remaining b q) x.stop content next × Fits b f.form (body_length_or_0 f) 0 false
 head-whole x q m f after b h e built begins =
     let parts = built-parts m.version f built in
-    let k = begins parts.no_upgrade in
+    let k = begins in
     let content = k.1 in
     let next = k.2 in
     let item : Some (Asks (record { message = m; framing = f; body = content })) ≡ Some (item_of m f content) = rw parts.version_is refl in
@@ -317,8 +308,8 @@ end-unanswered date stop begun r e k =
 
 -- where a head that didn't begin is answered, the reader timed out
 pub timed-out : {R : Type 0} (date : HttpDate) (o : Option Feed) (new : SourceState R) (stop : Option Stop) (r : Result HeadRead AllocError) → new.feed ≡ o → new.is_over ≡ true → (new.is_over ≡ true → IsSome stop × IfSome stop (λ s. StopsBy s new.feed))
-    → IfSome stop (λ s. AnswersCut s false date r) → (IsOkEnd r → ⊥) → HasCome o
-timed-out date None new stop r same is over h some = tt
+    → IfSome stop (λ s. AnswersCut s false date r) → (IsOkEnd r → ⊥) → HasByteOrTimedOut o
+timed-out date None new stop r same is over h some = inl tt
 timed-out date (Some f) new None r same is over h some = let no : false ≡ true = (over is).0 in cc
 timed-out date (Some f) new (Some stop) r same is over h some =
     let P : Option Feed → Type 0 = λ x. StopsBy stop x in
@@ -330,32 +321,31 @@ timed-out date (Some f) new (Some stop) r same is over h some =
     by true e k = e
     by false e k = absurd (some (let E : Result HeadRead AllocError → Type 0 = λ x. IsOkEnd x in subst E (sym k) tt))
 
-pub has-come : (o : Option Feed) → HasByte o → HasCome o
-has-come None h = tt
-has-come (Some f) h = inl h
+pub has-begun : (o : Option Feed) → HasByte o → HasByteOrTimedOut o
+has-begun o h = inl h
 
 -- a head that is refused by another status than 408 was faulty in a line that was read
-refused-by : (status : ℕ) (v : HTTPVersion) (date : HttpDate) (x : HeadRead) → RefusesWith status v date (Ok x) → IsRefusedHead x → status ≢ 408
+refused-by : (status : ℕ) (v : HTTPVersion) (date : HttpDate) (x : HeadRead) → RefusesWith status v date (Ok x) → IsRefusedUncut x → status ≢ 408
 refused-by status v date (read.Refused code text last) k h e = h (k.0 ∙ e)
 refused-by status v date (read.Ended why) k h e = absurd k
 refused-by status v date (read.Request x) k h e = absurd k
 
-cut-unrefused : (stop : Option Stop) (begun : Bool) (date : HttpDate) (x : HeadRead) → IsSome stop → IfSome stop (λ s. AnswersCut s begun date (Ok x)) → IsRefusedHead x → ⊥
+cut-unrefused : (stop : Option Stop) (begun : Bool) (date : HttpDate) (x : HeadRead) → IsSome stop → IfSome stop (λ s. AnswersCut s begun date (Ok x)) → IsRefusedUncut x → ⊥
 cut-unrefused None begun date x some k h = let no : false ≡ true = some in cc
 cut-unrefused (Some s) begun date x some k h = by (is_timed_out s) k
   where
     by : (t : Bool) → MatchBool t (RefusesWith 408 (version 1 1) date (Ok x)) (◌≡◌ {A = Result HeadRead AllocError} (Ok x) (Ok (read.Ended (cut_end s begun)))) → ⊥
     by true k = refused-by 408 (version 1 1) date x k h refl
     by false k =
-        let P : HeadRead → Type 0 = λ y. IsRefusedHead y in
+        let P : HeadRead → Type 0 = λ y. IsRefusedUncut y in
         let e : x ≡ read.Ended (cut_end s begun) = cc in
         elim (subst P e h) [ ]
 
-pub cut-passed : (T : Type 0) (stop : Option Stop) (begun : Bool) (date : HttpDate) (r : Result HeadRead AllocError) → IsSome stop → IfSome stop (λ s. AnswersCut s begun date r) → IfOk r (λ x. IsRefusedHead x → T)
+pub cut-passed : (T : Type 0) (stop : Option Stop) (begun : Bool) (date : HttpDate) (r : Result HeadRead AllocError) → IsSome stop → IfSome stop (λ s. AnswersCut s begun date r) → IfOk r (λ x. IsRefusedUncut x → T)
 cut-passed T stop begun date (Ok x) some k = λ h. absurd (cut-unrefused stop begun date x some k h)
 cut-passed T stop begun date (Err e) some k = tt
 
-pub fault-passed : (T : Type 0) (v : Option HTTPVersion) (e : HeadFault) (stop : Option Stop) (date : HttpDate) (r : Result HeadRead AllocError) → AnswersFault v e stop date r → (e ≡ fault.Cut → IsSome stop) → (IsBadLine e → T) → IfOk r (λ x. IsRefusedHead x → T)
+pub fault-passed : (T : Type 0) (v : Option HTTPVersion) (e : HeadFault) (stop : Option Stop) (date : HttpDate) (r : Result HeadRead AllocError) → AnswersFault v e stop date r → (e ≡ fault.Cut → IsSome stop) → (IsBadLine e → T) → IfOk r (λ x. IsRefusedUncut x → T)
 fault-passed T v e stop date (Err x) k cut bad = tt
 fault-passed T v fault.Cut stop date (Ok x) k cut bad = λ h. absurd (cut-unrefused stop true date x (cut refl) k h)
 fault-passed T v fault.NotAscii stop date (Ok x) k cut bad = λ h. bad tt

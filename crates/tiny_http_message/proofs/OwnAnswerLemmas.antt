@@ -95,5 +95,5 @@ no-fault old new e a p bytes same o n z full all fits (inl k) = ⊎_elim whole f
         let long = full (rw rose (omega arith)) in
         omega (arith, front, long, fits)
 no-fault old new e a p bytes same o n z full all fits (inr k) =
-    let none : Some 0 ≡ None = sym (ap (λ (x : Answer). x.data_length) same) ∙ k.0.2 in
+    let none : ◌≡◌ {A = Option ℕ} (Some 0) None = sym (ap (λ (x : Answer). x.data_length) same) ∙ k.0.2 in
     cc

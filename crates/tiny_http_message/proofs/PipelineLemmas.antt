@@ -17,7 +17,7 @@ use Rattle.tiny_http_message.specs.declared.framing.Form.{Form}
 use Rattle.tiny_http_message.specs.declared.framing.Form.TheVariants.{Rest, Nothing, WithHead, Counted, Chunked}
 use Rattle.tiny_http_message.specs.declared.framing.Framing.{Framing}
 use Rattle.tiny_http_message.specs.Framing.{framing, is_built}
-use Rattle.tiny_http_message.specs.Pipeline.{Item, Place, Heading, Ends, Heads, HeadAt, IsCutWithHead, cut_answer, body_length_or_0, served, BodyAt, SizedBody, FoundAt, OneHead, item_of, next_place, ends_too_new, Pipeline, place_after}
+use Rattle.tiny_http_message.specs.Pipeline.{Item, Place, Heading, Ends, Heads, HeadAt, IsCutWithHead, cut_item, body_length_or_0, served, BodyAt, SizedBody, FoundAt, OneHead, item_of, next_place, ends_too_new, Pipeline, place_after}
 use Rattle.tiny_http_message.specs.PipelineReading.{BodyRead, chunked_read, sized_read, body_read, is_cut_with_head, framed, heading, heading_of, items_at, items_from, items_of}
 
 pub cut-with_head : (form : Form) (n : ℕ) (after : List ℕ) → is_cut_with_head form n after ≡ true → IsCutWithHead form n after
@@ -42,7 +42,7 @@ cut-not form n after true e h = absurd (h (cut-with_head form n after e))
 cut-not form n after false e h = refl
 
 pipeline-cut-step : (m : Message) (after : List ℕ) (stop : Stop) (bytes : List ℕ) (f : Framing) → BeginsWithRequestHead bytes m after → framing m.version m.headers ≡ Some f → (t : Bool) → is_cut_with_head f.form (body_length_or_0 f) after ≡ t
-    → HeadAt bytes stop (if t then Ends (cut_answer stop) else Heads m f after)
+    → HeadAt bytes stop (if t then Ends (cut_item stop) else Heads m f after)
 pipeline-cut-step m after stop bytes f h e true c = inr (inr (m, after, f, h, e, cut-with_head f.form (body_length_or_0 f) after c, refl))
 pipeline-cut-step m after stop bytes f h e false c = (h, e, not-cut f.form (body_length_or_0 f) after c)
 

@@ -8,7 +8,7 @@ use Rattle.tiny_http_wire.specs.Cursor.{cursor_bytes}
 use Rattle.tiny_http_wire.specs.Device.{Feed, whole_feed, prepend}
 use Rattle.tiny_http_wire.specs.Decoding.{Coming, decoding_coming}
 use Rattle.tiny_http_message.specs.declared.body.Body.{Body}
-use Rattle.tiny_http_message.specs.declared.body.Body.TheVariants.{Over, WithHead, Counted, Chunked}
+use Rattle.tiny_http_message.specs.declared.body.Body.TheVariants.{Over, WithHead, Counted, Chunked, Rest}
 use Rattle.tiny_http_message.specs.declared.framing.Form.{Form}
 use Rattle.tiny_http_message.specs.declared.framing.Form.TheVariants as form
 use Rattle.tiny_http_stream.specs.ToCome.{skipped, stopped}
@@ -39,12 +39,17 @@ counted_remaining n feed = record { body = feed_front n feed; behind = skipped n
 abbrev pub taken_remaining : Feed → Feed → Remaining
 taken_remaining body feed = record { body = body; behind = feed }
 
+-- all that comes of the input; no head follows
+abbrev pub rest_remaining : Feed → Remaining
+rest_remaining feed = record { body = feed; behind = stopped End }
+
 -- what is still to come of the body, where the input still gives this
 abbrev pub remaining : Body → Option Feed → Option Remaining
 remaining (Over stop) feed = option_map (taken_remaining (stopped stop)) feed
 remaining (WithHead bytes) feed = option_map (taken_remaining (whole_feed (cursor_bytes bytes))) feed
 remaining (Counted n) feed = option_map (counted_remaining n) feed
 remaining (Chunked decoding) feed = option_map coming_remaining (decoding_coming decoding feed)
+remaining Rest feed = option_map rest_remaining feed
 
 -- these bytes of the body, and then what remains
 abbrev pub prepend_body : List ℕ → Remaining → Remaining
@@ -69,6 +74,7 @@ is_streaming (Over stop) = false
 is_streaming (WithHead bytes) = false
 is_streaming (Counted n) = true
 is_streaming (Chunked decoding) = true
+is_streaming Rest = true
 
 -- what is reported from now on, where that is kept
 abbrev pub body_stop : Body → Option Stop
@@ -76,6 +82,7 @@ body_stop (Over stop) = Some stop
 body_stop (WithHead bytes) = None
 body_stop (Counted n) = None
 body_stop (Chunked decoding) = None
+body_stop Rest = None
 
 abbrev pub IsBodyOver : Body → Type 0
 IsBodyOver (Over stop) = ⊤
@@ -89,13 +96,14 @@ abbrev pub IsChunked : Body → Type 0
 IsChunked (Chunked decoding) = ⊤
 IsChunked _ = ⊥
 
--- So many bytes were read, and the end or the fault was reported or not. A counted body is over with its last byte, a chunked
--- one once its end or fault was reported.
+-- So many bytes were read, and the end or the fault was reported or not. A counted body is over with its last byte, another
+-- one that is read from the input once its end or fault was reported.
 abbrev pub ReadsOn : Body → ℕ → Bool → Body → Type 0
 ReadsOn (Over stop) n end_reported new = (new ≡ Over stop) × (n ≡ 0)
 ReadsOn (WithHead bytes) n end_reported new = IsWithHead new
 ReadsOn (Counted left) n end_reported new = MatchBool (end_reported || n == left) (IsBodyOver new) ((new ≡ Counted (left - n)) × (n < left))
 ReadsOn (Chunked decoding) n end_reported new = MatchBool end_reported (IsBodyOver new) (IsChunked new)
+ReadsOn Rest n end_reported new = MatchBool end_reported (IsBodyOver new) (new ≡ Rest)
 
 -- the body is finished: it is nothing or held, or all its bytes were given out, or its end or fault was reported
 abbrev pub body_finished : Form → ℕ → ℕ → Bool → Bool
@@ -111,6 +119,7 @@ Fits (Over stop) shape n given end_reported = body_finished shape n given end_re
 Fits (WithHead bytes) shape n given end_reported = shape ≡ form.WithHead
 Fits (Counted left) shape n given end_reported = (shape ≡ form.Counted) × (given + left ≡ n) × (0 < left) × (end_reported ≡ false)
 Fits (Chunked decoding) shape n given end_reported = (shape ≡ form.Chunked) × (end_reported ≡ false)
+Fits Rest shape n given end_reported = (shape ≡ form.Rest) × (end_reported ≡ false)
 
 -- A buffer was filled from the body: with all its bytes; or with fewer, and none is left; or a fault came before any byte.
 abbrev pub FillsFromBody : Body → Option Feed → Body → Option Feed → Result ℕ ErrorKind → List ℕ → Type 0
@@ -127,12 +136,14 @@ body_standing (Over (Fault kind)) standing = after_fault kind standing
 body_standing (WithHead bytes) standing = after_body standing
 body_standing (Counted n) standing = standing
 body_standing (Chunked decoding) standing = standing
+body_standing Rest standing = standing
 
 -- A body is given up: the rest of a counted one is skipped, and the reader isn't called for it; after a chunked one no head
--- follows; else nothing changes.
+-- follows; else nothing changes, and the rest of the input is left to the source.
 abbrev pub GivesUp : {R : Type 0} → Body → SourceState R → SourceState R → Type 0
 GivesUp (Over stop) old new = new ≡ old
 GivesUp (WithHead bytes) old new = new ≡ old
+GivesUp Rest old new = new ≡ old
 GivesUp (Counted left) old new =
     (new.feed ≡ option_map (skipped left) old.feed) × (new.standing ≡ after_body old.standing)
     × (old.skip + left < 2 ^ 64 → (new.reader ≡ old.reader) × (new.stop ≡ old.stop))

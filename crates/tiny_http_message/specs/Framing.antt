@@ -61,12 +61,7 @@ framed_by v headers (Some owed) =
 unfoldable pub framing : HTTPVersion → List Header → Option Framing
 framing v headers = framed_by v headers (expectation (value_of (codes "Expect") headers))
 
--- the body is the whole rest of the stream
-abbrev pub is_rest : Form → Bool
-is_rest Rest = true
-is_rest _ = false
-
--- THE INTERIM GUARD on heads: what is served so far is a request of a version up to 1.1, without an expectation or an
--- upgrade. Any other head ends the connection without an answer.
+-- THE INTERIM GUARD on heads: what is served so far is a request of a version up to 1.1 to which no 100 is owed. Any other
+-- head whose framing is known, and whose body isn't cut, ends the connection without an answer.
 abbrev pub is_built : HTTPVersion → Framing → Bool
-is_built v f = not (is_too_new v) && (not f.owes_continue && not (is_rest f.form))
+is_built v f = not (is_too_new v) && not f.owes_continue

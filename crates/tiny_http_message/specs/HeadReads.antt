@@ -19,7 +19,7 @@ use Rattle.tiny_http_message.specs.declared.exchange.EndOfRequests.{EndOfRequest
 use Rattle.tiny_http_message.specs.declared.exchange.EndOfRequests.TheVariants as because
 use Rattle.tiny_http_stream.specs.declared.source.Standing.{Standing}
 use Rattle.tiny_http_stream.specs.declared.source.Standing.TheVariants as at
-use Rattle.tiny_http_stream.specs.ToCome.{stopped}
+use Rattle.tiny_http_stream.specs.ToCome.{stopped, HasByte}
 use Rattle.tiny_http_message.specs.declared.exchange.HeadRead.{HeadRead}
 use Rattle.tiny_http_message.specs.declared.exchange.HeadRead.TheVariants as read
 use Rattle.tiny_http_stream.specs.declared.source.LineFault.{LineFault}
@@ -27,7 +27,7 @@ use Rattle.tiny_http_stream.specs.declared.source.LineFault.TheVariants as linef
 use Rattle.tiny_http_message.specs.declared.heads.HeadFault.{HeadFault}
 use Rattle.tiny_http_message.specs.declared.heads.HeadFault.TheVariants as fault
 use Rattle.tiny_http_message.specs.declared.body.Body.{Body}
-use Rattle.tiny_http_message.specs.Framing.{framing, is_built, is_rest}
+use Rattle.tiny_http_message.specs.Framing.{framing, is_built}
 use Rattle.tiny_http_stream.specs.Source.{SourceState, feed_from, IsAtEnd}
 use Rattle.tiny_http_message.specs.Pipeline.{Request, Asks, Refuses, Refusal, BadRequest, RequestTimeout, ExpectationFailed, VersionNotSupported, refusal_status, is_timed_out, Place, IsCutWithHead, BodyAt, OneHead, body_length_or_0, place_after}
 use Rattle.tiny_http_message.specs.OwnAnswer.{own_text}
@@ -185,7 +185,7 @@ abbrev pub Begins : Framing → Option Feed → Option Feed → Option Body → 
 Begins f None new b = ⊤
 Begins f (Some x) new None = IsCutWithHead f.form (body_length_or_0 f) x.bytes
 Begins f (Some x) new (Some b) =
-    is_rest f.form ≡ false → (IsCutWithHead f.form (body_length_or_0 f) x.bytes → ⊥) × (body : Feed) × (next : Place) × BodyAt f.form (body_length_or_0 f) x.bytes x.stop body next
+    (IsCutWithHead f.form (body_length_or_0 f) x.bytes → ⊥) × (body : Feed) × (next : Place) × BodyAt f.form (body_length_or_0 f) x.bytes x.stop body next
     × ComesWith (remaining b new) x.stop body next × Fits b f.form (body_length_or_0 f) 0 false
 
 -- AN INTERIM GUARD: no head is refused so far because its version is too new
@@ -195,10 +195,14 @@ IsServedRefusal RequestTimeout = ⊤
 IsServedRefusal ExpectationFailed = ⊤
 IsServedRefusal VersionNotSupported = ⊥
 
--- something of a head has come: a byte, or the reader's time-out
-abbrev pub HasCome : Option Feed → Type 0
-HasCome None = ⊤
-HasCome (Some f) = (f.bytes ≡ [] → ⊥) ⊎ (is_timed_out f.stop ≡ true)
+-- the reader times out
+abbrev pub TimesOut : Option Feed → Type 0
+TimesOut None = ⊥
+TimesOut (Some f) = is_timed_out f.stop ≡ true
+
+-- a byte of a head comes, or the reader times out
+abbrev pub HasByteOrTimedOut : Option Feed → Type 0
+HasByteOrTimedOut o = HasByte o ⊎ TimesOut o
 
 -- ONE HEAD, read at a place: the item that stands there, what is still to come of its body, and where the next head begins
 -- after that, unless the request is the last; or why no request comes.
@@ -237,10 +241,10 @@ abbrev pub IsRequest : HeadRead → Type 0
 IsRequest (read.Request x) = ⊤
 IsRequest _ = ⊥
 
--- a head was refused, and not by a 408
-abbrev pub IsRefusedHead : HeadRead → Type 0
-IsRefusedHead (read.Refused status text last) = status.0 ≢ 408
-IsRefusedHead _ = ⊥
+-- a head was refused, and isn't cut: not by a 408
+abbrev pub IsRefusedUncut : HeadRead → Type 0
+IsRefusedUncut (read.Refused status text last) = status.0 ≢ 408
+IsRefusedUncut _ = ⊥
 
 -- where a source stands after the head of this request
 abbrev pub standing_of : Exchange → Standing

@@ -39,7 +39,7 @@ refusal_status RequestTimeout = 408
 refusal_status ExpectationFailed = 417
 refusal_status VersionNotSupported = 505
 
--- a head of the connection: handed out, or refused, in this version, with its body withheld or not; if it is the last no
+-- a head of the connection: handed out, or refused, in this version, to a HEAD or not; if it is the last no
 -- head follows
 pub data Item : Type 0 where
   Asks : (request : Request) → Item
@@ -58,14 +58,14 @@ is_head_method Head = true
 is_head_method _ = false
 
 -- an unfinished head is answered only where the reader timed out
-abbrev pub cut_answer : Stop → Option Item
-cut_answer stop = if is_timed_out stop then Some (Refuses RequestTimeout (version 1 1) false true) else None
+abbrev pub cut_item : Stop → Option Item
+cut_item stop = if is_timed_out stop then Some (Refuses RequestTimeout (version 1 1) false true) else None
 
 -- the answer to the first faulty line
-abbrev pub fault_answer : Option HTTPVersion → GrammarFault → Stop → Option Item
-fault_answer v Cut stop = cut_answer stop
-fault_answer v NotAscii stop = None
-fault_answer v Malformed stop = Some (Refuses BadRequest (unwrap_or v (version 1 1)) false true)
+abbrev pub fault_item : Option HTTPVersion → GrammarFault → Stop → Option Item
+fault_item v Cut stop = cut_item stop
+fault_item v NotAscii stop = None
+fault_item v Malformed stop = Some (Refuses BadRequest (unwrap_or v (version 1 1)) false true)
 
 abbrev pub body_length_or_0 : Framing → ℕ
 body_length_or_0 f = unwrap_or f.body_length 0
@@ -83,9 +83,9 @@ pub data Heading : Type 0 where
 -- The first faulty line of the head decides; then the expectation; then a body that is read with its head that is cut. Else the head stands.
 abbrev pub HeadAt : List ℕ → Stop → Heading → Type 0
 HeadAt bytes stop (Ends answer) =
-    ((v : Option HTTPVersion) × (fault : GrammarFault) × FaultyHead bytes v fault × (answer ≡ fault_answer v fault stop))
+    ((v : Option HTTPVersion) × (fault : GrammarFault) × FaultyHead bytes v fault × (answer ≡ fault_item v fault stop))
     ⊎ (((m : Message) × (after : List ℕ) × BeginsWithRequestHead bytes m after × (framing m.version m.headers ≡ None) × (answer ≡ Some (Refuses ExpectationFailed m.version false true)))
-    ⊎ ((m : Message) × (after : List ℕ) × (f : Framing) × BeginsWithRequestHead bytes m after × (framing m.version m.headers ≡ Some f) × IsCutWithHead f.form (body_length_or_0 f) after × (answer ≡ cut_answer stop)))
+    ⊎ ((m : Message) × (after : List ℕ) × (f : Framing) × BeginsWithRequestHead bytes m after × (framing m.version m.headers ≡ Some f) × IsCutWithHead f.form (body_length_or_0 f) after × (answer ≡ cut_item stop)))
 HeadAt bytes stop (Heads m f after) =
     BeginsWithRequestHead bytes m after × (framing m.version m.headers ≡ Some f) × (IsCutWithHead f.form (body_length_or_0 f) after → ⊥)
 

@@ -10,7 +10,7 @@ use Rattle.tiny_http_message.specs.declared.framing.Form.{Form}
 use Rattle.tiny_http_message.specs.declared.framing.Form.TheVariants.{Rest, Nothing, WithHead, Counted, Chunked}
 use Rattle.tiny_http_message.specs.declared.framing.Framing.{Framing}
 use Rattle.tiny_http_message.specs.Framing.{framing}
-use Rattle.tiny_http_message.specs.Pipeline.{Item, Refuses, ExpectationFailed, Place, Heading, Ends, Heads, fault_answer, cut_answer, body_length_or_0, served, item_of, next_place}
+use Rattle.tiny_http_message.specs.Pipeline.{Item, Refuses, ExpectationFailed, Place, Heading, Ends, Heads, fault_item, cut_item, body_length_or_0, served, item_of, next_place}
 
 -- a body and where the next head begins
 pub record BodyRead : Type 0 where
@@ -42,10 +42,10 @@ is_cut_with_head Chunked n after = false
 
 abbrev pub framed : Message → List ℕ → Stop → Option Framing → Heading
 framed m after stop None = Ends (Some (Refuses ExpectationFailed m.version false true))
-framed m after stop (Some f) = if is_cut_with_head f.form (body_length_or_0 f) after then Ends (cut_answer stop) else Heads m f after
+framed m after stop (Some f) = if is_cut_with_head f.form (body_length_or_0 f) after then Ends (cut_item stop) else Heads m f after
 
 abbrev pub heading : Stop → RequestHeadRead → Heading
-heading stop (Faulty v fault) = Ends (fault_answer v fault stop)
+heading stop (Faulty v fault) = Ends (fault_item v fault stop)
 heading stop (Whole m after) = framed m after stop (framing m.version m.headers)
 
 -- the heading at a place

@@ -24,6 +24,8 @@ pub enum Body {
     Counted(usize),
     /// Chunks of the input.
     Chunked(Decoding),
+    /// All that comes of the input.
+    Rest,
 }
 
 // What is reported after the last byte of a body.
@@ -127,6 +129,39 @@ impl Body {
         }
     }
 
+    // Reads some of the bytes that come.
+    fn read_rest<R: ReadDevice>(
+        &mut self,
+        source: &mut Source<R>,
+        buf: &mut [u8],
+    ) -> Result<usize, io::Error>
+        requires rest { self.old ≡ Body.Rest }
+        requires room { 0 < length buf.old }
+        ensures bound { IfOk result (λ n. n ≤ length buf.new) }
+        ensures bytes { IfOk result (λ n. remaining self.old source.old.feed ≡ prepended_body (take n buf.new) (remaining self.new source.new.feed)) }
+        ensures end { IfOk result (λ n. n ≡ 0 → BodyStops Stop.End (remaining self.old source.old.feed)) }
+        ensures fault { IfErr result (λ e. BodyStops (Stop.Fault (error_kind e)) (remaining self.old source.old.feed)) }
+        ensures again { OnErr result (remaining self.new source.new.feed ≡ remaining self.old source.old.feed) }
+        ensures over { IfErr result (λ e. self.new ≡ Body.Over (Stop.Fault (error_kind e))) }
+        ensures at_end { OnErr result (IsAtEnd source.new) }
+        ensures moves { IfOk result (λ n. ReadsOn self.old n (n == 0) self.new) }
+        ensures goes_on { GoesOn source.old.feed source.new.feed }
+    {
+        match source.read_in(buf) {
+            Ok(0) => {
+                source.end();
+                *self = Body::Over(Stop::End);
+                Ok(0)
+            }
+            Ok(n) => Ok(n),
+            Err(e) => {
+                source.end();
+                *self = Body::Over(Stop::Fault(e.kind()));
+                Err(e)
+            }
+        }
+    }
+
     /// Reads some bytes of the body into the front of `buf`, and says how many. After the last byte each call answers the
     /// end, or the fault by which the body is cut or broken; after a fault no head follows on the source.
     pub fn read<R: ReadDevice>(
@@ -163,6 +198,7 @@ impl Body {
                 let decoding = *decoding;
                 self.read_chunked(source, decoding, buf)
             }
+            Body::Rest => self.read_rest(source, buf),
         };
         source.stand_at(self.standing_after(standing));
         read
@@ -175,7 +211,7 @@ impl Body {
         match self {
             Body::Over(Stop::End) | Body::WithHead(_) => standing.after_body(),
             Body::Over(Stop::Fault(kind)) => standing.after_fault(*kind),
-            Body::Counted(_) | Body::Chunked(_) => standing,
+            Body::Counted(_) | Body::Chunked(_) | Body::Rest => standing,
         }
     }
 
@@ -236,11 +272,11 @@ impl Body {
     pub fn holds_reader(&self) -> bool
         ensures { result ≡ is_streaming self.now }
     {
-        matches!(self, Body::Counted(_) | Body::Chunked(_))
+        matches!(self, Body::Counted(_) | Body::Chunked(_) | Body::Rest)
     }
 
     /// Gives the body up: what is left of a counted one is skipped by the next head; after a chunked one of which the end
-    /// wasn't reported no head follows.
+    /// wasn't reported no head follows; one that is all the rest of the input is left to the source.
     pub fn give_up<R: ReadDevice>(&mut self, source: &mut Source<R>)
         ensures over { self.new ≡ Body.Over Stop.End }
         ensures gives_up { GivesUp self.old source.old source.new }
@@ -257,6 +293,7 @@ impl Body {
             }
             Body::Over(_) => {}
             Body::WithHead(_) => {}
+            Body::Rest => {}
         }
         *self = Body::Over(Stop::End);
     }

@@ -5,7 +5,7 @@ ghost use Rattle.tiny_http_wire.specs.Device.{AnswersStop};
 ghost use Rattle.tiny_http_stream.specs.Source.{GoesOn, IsAtEnd};
 ghost use Rattle.tiny_http_message.specs.Pipeline.{is_head_method, is_timed_out};
 ghost use Rattle.tiny_http_message.specs.Body.{prepended_body, BodyStops};
-ghost use Rattle.tiny_http_message.specs.HeadReads.{ReadsHead, EndsUnlessHanded, RefusesWith, AnswersCut, AnswersFault, HasCome, Begins, IsCutOff, IsRequest, IsRefusedHead, IsOkEnd, IsBeforeHead, cut_end, end_at, standing_of, standing_read, message_of, head_message, head_framing};
+ghost use Rattle.tiny_http_message.specs.HeadReads.{ReadsHead, EndsUnlessHanded, RefusesWith, AnswersCut, AnswersFault, HasByteOrTimedOut, Begins, IsCutOff, IsRequest, IsRefusedUncut, IsOkEnd, IsBeforeHead, cut_end, end_at, standing_of, standing_read, message_of, head_message, head_framing};
 ghost use Rattle.tiny_http_message.specs.Exchange.{KeepsHead};
 ghost use Rattle.tiny_http_wire.specs.Device.{Feed};
 ghost use Rattle.tiny_http_stream.specs.Outlet.{output_of, outlet_ended, outlet_held, SentOn};
@@ -74,7 +74,8 @@ pub enum EndOfRequests {
     NotAscii,
     /// The head was refused with this status.
     Refused(StatusCode),
-    /// The reader failed so before the head, and a body that is read with it, had come. A time-out there is answered 408.
+    /// The reader failed so before the head, and a body that is read with it, had come: by another fault than a time-out, which
+    /// is `Refused` with 408.
     Fault(ErrorKind),
     /// The body before was read to this fault, the reader's or the body's own.
     BrokenBody(ErrorKind),
@@ -82,7 +83,7 @@ pub enum EndOfRequests {
     AbandonedBody,
     /// The body before was neither read to its end nor given up.
     UnreadBody,
-    /// The head asks for what isn't served yet: a version above 1.1, a 100 that is owed, or an upgrade.
+    /// The head asks for what isn't served yet: a version above 1.1, or a 100 that is owed.
     NotServed,
     /// Memory for the head or its answer was refused.
     Memory,
@@ -216,7 +217,7 @@ fn is_timed_out(stop: Option<Stop>) -> bool
 }
 
 // Refuses a head by this status, in this version: the answer is empty, and no head follows.
-fn refuse(
+fn refused_with(
     alloc: Global,
     status: StatusCode,
     version: HTTPVersion,
@@ -242,7 +243,7 @@ fn answer_cut(
     ensures { IfSome stop (λ stop. AnswersCut stop has_begun now result) }
 {
     if is_timed_out(stop) {
-        return refuse(alloc, StatusCode(408), HTTPVersion(1, 1), now);
+        return refused_with(alloc, StatusCode(408), HTTPVersion(1, 1), now);
     }
     Ok(HeadRead::Ended(cut_end(stop, has_begun)))
 }
@@ -260,7 +261,7 @@ fn answer_fault(
     match fault {
         HeadFault::Malformed => {
             let version = version.unwrap_or(HTTPVersion(1, 1));
-            refuse(alloc, StatusCode(400), version, now)
+            refused_with(alloc, StatusCode(400), version, now)
         }
         HeadFault::Memory => Err(AllocError),
         HeadFault::Cut => answer_cut(alloc, stop, true, now),
@@ -323,8 +324,7 @@ fn begin_body<R: ReadDevice>(
 {
     let length = framing.body_length.unwrap_or(0);
     match framing.form {
-        // So far no head that names an upgrade is handed out.
-        Form::Rest => Ok(Some(Body::Over(Stop::End))),
+        Form::Rest => Ok(Some(Body::Rest)),
         Form::Nothing => Ok(Some(Body::Over(Stop::End))),
         Form::Counted => Ok(Some(counted(length))),
         Form::Chunked => Ok(Some(Body::Chunked(Decoding::new()))),
@@ -345,9 +345,9 @@ fn read_item<R: ReadDevice>(
     ensures reads { ReadsHead Standing.Head now source.old.feed source.new.feed result }
     ensures goes_on { GoesOn source.old.feed source.new.feed }
     ensures at_end { IsAtEnd source.old → IsOkEnd result × (source.new ≡ source.old) }
-    ensures begun { (IsOkEnd result → ⊥) → HasCome source.old.feed }
+    ensures begun { (IsOkEnd result → ⊥) → HasByteOrTimedOut source.old.feed }
     ensures lazy { IfOk result (λ read. IsRequest read → source.new.stop ≡ source.old.stop) }
-    ensures passed { IfOk result (λ read. IsRefusedHead read → source.new.stop ≡ source.old.stop) }
+    ensures passed { IfOk result (λ read. IsRefusedUncut read → source.new.stop ≡ source.old.stop) }
     ensures standing { source.new.standing ≡ source.old.standing }
 {
     if !source.has_byte() {
@@ -360,7 +360,7 @@ fn read_item<R: ReadDevice>(
         }
     };
     let Some(framing) = framing_of(message.version, message.headers.as_slice()) else {
-        return refuse(alloc, StatusCode(417), message.version, now);
+        return refused_with(alloc, StatusCode(417), message.version, now);
     };
     match begin_body(alloc, source, framing) {
         Ok(Some(body)) => {
@@ -402,7 +402,8 @@ fn end_at(standing: Standing, why: EndOfRequests) -> EndOfRequests
 }
 
 /// Reads one head, and with it a body of up to 1024 bytes (RFC 9112, sections 2 to 6): a request, whose body is then read
-/// from the source; or a head that is refused; or the end, with its reason. `now` dates the answer to a refused head, and
+/// from the source; or a head that is refused, by 400 for a bad line, by 408 where the reader timed out, also before its first byte, or by 417 for
+/// an expectation that can't be met; or the end, with its reason. `now` dates the answer to a refused head, and
 /// the 500 of a request that is dropped. An error where memory was refused. After anything but a request the source has
 /// ended, but after the last request: then nothing is read, and its body can be read on.
 ///
@@ -421,7 +422,7 @@ pub fn read_head<R: ReadDevice>(
     // Whatever the reader states: after the end no head follows, and the reader isn't called.
     ensures at_end { IsAtEnd source.old → IsOkEnd result × (source.new.reader ≡ source.old.reader) }
     // Unless it is the end, a byte of a head has come, or the reader timed out: memory isn't refused in place of the end.
-    ensures begun { (IsOkEnd result → ⊥) → HasCome source.old.feed }
+    ensures begun { (IsOkEnd result → ⊥) → HasByteOrTimedOut source.old.feed }
     // Nothing is read ahead: where a request was read no end or fault of the reader was met.
     ensures lazy { IfOk result (λ read. IsRequest read → source.new.stop ≡ source.old.stop) }
     ensures standing { source.new.standing ≡ standing_read result source.old.standing }

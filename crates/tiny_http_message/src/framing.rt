@@ -167,5 +167,5 @@ fn is_too_new(version: HTTPVersion) -> bool
 pub fn is_built(version: HTTPVersion, framing: Framing) -> bool
     ensures { result ≡ is_built version framing }
 {
-    !is_too_new(version) && !framing.owes_continue && framing.form != Form::Rest
+    !is_too_new(version) && !framing.owes_continue
 }

@@ -2,7 +2,7 @@
 use super::data::{Data, canned};
 use super::{PLAIN, Setting, V1_0, V1_1, assert_printed, print, print_into, text};
 use crate::chunks::{SizedChunk, body, chunks, data};
-use crate::encoder::FailsOnce;
+use crate::encoder::{FailsOnce, Flushes};
 use crate::same::assert_same;
 use std::alloc::Global;
 use std::io::{Cursor, ErrorKind};
@@ -304,6 +304,39 @@ fn a_writer_that_fails_once_within_a_body(rt: HostRuntime) -> Result<(), Fail> {
         let room = FRAMED_IN_CHUNKS.len() + *place;
         assert_cut_once(&rt, alloc, answer, whole.as_slice(), room)?;
     }
+    Ok(())
+}
+
+// How often printing this answer flushes.
+fn flushes<R: ReadDevice + Drop>(
+    alloc: Global,
+    answer: Response<R>,
+    setting: Setting<'_>,
+) -> Result<u64, Fail> {
+    let mut writer = Metered::new(Flushes { count: 0 });
+    let _fault = print_into(alloc, answer, &mut writer, setting)?;
+    Ok(writer.into_inner().count)
+}
+
+// However its body is sent.
+#[test]
+fn an_answer_is_printed_without_a_flush(rt: HostRuntime) -> Result<(), Fail> {
+    let alloc = rt.alloc();
+    let older = Setting {
+        version: V1_0,
+        ..PLAIN
+    };
+    let upgrade = Setting {
+        upgrade: Some("websocket"),
+        ..PLAIN
+    };
+    let counts = [
+        flushes(alloc, text(alloc, "a")?, PLAIN)?,
+        flushes(alloc, text(alloc, "a")?, ASKS_FOR_CHUNKS)?,
+        flushes(alloc, canned(alloc, (b"abc", None, None))?, older)?,
+        flushes(alloc, text(alloc, "a")?, upgrade)?,
+    ];
+    assert_same(&rt, counts, [0; 4]);
     Ok(())
 }
 

@@ -7,7 +7,7 @@ use Rattle.tiny_http_message.proofs.HeadReadsServing.{begins-rest, begins-nothin
 use Rattle.tiny_http_message.proofs.exchange.begin_body.Goals as goal
 
 pub returns-in-Rest-clause-begins : goal.returns-in-Rest-clause-begins
-returns-in-Rest-clause-begins g c = begins-rest c.args.framing c.args.source.now.feed c.args.source.now.feed _ (search rules)
+returns-in-Rest-clause-begins g c = begins-rest c.args.framing c.args.source.now.feed (search rules)
 
 pub returns-in-Nothing-clause-begins : goal.returns-in-Nothing-clause-begins
 returns-in-Nothing-clause-begins g c = begins-nothing c.args.framing c.args.source.now.feed (search rules)

@@ -45,8 +45,8 @@ returns-in-Err-clause-passed g c =
 
 pub returns-in_default-clause-reads : goal.returns-in_default-clause-reads
 returns-in_default-clause-reads g c =
-    let P : Option Feed → Type 0 = λ o. ReadsHead at.Head c.args.now o c.read_message.new.source.feed c.refuse.result in
-    subst P c.has_byte.ensures.feed (head-unframed _ _ _ c.in-Ok.message c.refuse.result c.in-Ok.ensures.reads (search (rules, c.as_slice.ensures.value, c.framing_of.ensures)) c.refuse.ensures)
+    let P : Option Feed → Type 0 = λ o. ReadsHead at.Head c.args.now o c.read_message.new.source.feed c.refused_with.result in
+    subst P c.has_byte.ensures.feed (head-unframed _ _ _ c.in-Ok.message c.refused_with.result c.in-Ok.ensures.reads (search (rules, c.as_slice.ensures.value, c.framing_of.ensures)) c.refused_with.ensures)
 
 pub returns-then-not-is_built-clause-reads : goal.returns-then-not-is_built-clause-reads
 returns-then-not-is_built-clause-reads g c =

@@ -4,7 +4,7 @@ use Rattle.tiny_http_message.specs.declared.body.Body.{Body}
 use Rattle.tiny_http_message.specs.declared.body.Body.TheVariants.{Counted, Chunked}
 use Rattle.tiny_http_stream.specs.Standing.{after_body, after_abandoned}
 use Rattle.tiny_http_message.specs.Body.{GivesUp}
-use Rattle.tiny_http_message.proofs.body.Body.give_up.Goals.{in-Counted, in-Chunked, in-Over, in-WithHead}
+use Rattle.tiny_http_message.proofs.body.Body.give_up.Goals.{in-Counted, in-Chunked, in-Over, in-WithHead, in-Rest}
 use Rattle.tiny_http_message.proofs.body.Body.give_up.Goals as goal
 
 pub returns-clause-gives_up : goal.returns-clause-gives_up
@@ -21,4 +21,5 @@ returns-clause-gives_up g c =
           subst P (sym w.in-Chunked.is) (subst Q (sym (w.source-is ∙ w.stand_at-in-Chunked.ensures)) (w.end.ensures.feed, w.end.ensures.at_end, w.after_abandoned.ensures ∙ ap after_abandoned c.standing-standing.ensures, w.end.ensures.reader))
       | in-Over w ↦ search rules
       | in-WithHead w ↦ search rules
+      | in-Rest w ↦ search rules
     ]
