@@ -141,7 +141,7 @@ LacksMemory old new (Err e) = (error_kind e ≡ OutOfMemory) × (new ≡ old)
 abbrev pub PrintsUncoded : {T : Type 0} → Sink → Sink → Result T Error → Option ℕ → Text → Type 0
 PrintsUncoded old new r length text = PrintsText old new r text ⊎ ((length ≡ None) × LacksMemory old new r)
 
--- the data of an answer is read whole before its head: it isn't coded, and its length isn't known
+-- the data of an answer is read whole before its head: it is no upgrade and isn't coded, and its length isn't known
 abbrev pub IsGathered : Answer → Printing → Type 0
 IsGathered a p = (p.upgrade ≡ None) × (answer_coding a p ≡ Identity) × (a.data_length ≡ None)
 

@@ -1,14 +1,14 @@
-//! What a server keeps of a request until it prints the answer.
+//! What printing an answer needs of its request.
 use tiny_http_coding::coding::Coding;
 use tiny_http_head::common::HTTPVersion;
 
-/// How the answer to a request is printed.
+/// What printing an answer needs of its request, so that the request's headers needn't be kept.
 #[derive(Clone, Copy, Debug, PartialEq, Eq)]
 pub struct AnswerContext {
     /// The version of the request, in which it is answered.
     pub version: HTTPVersion,
     /// The transfer coding that the request asks for by its `TE` header, if it asks for one.
     pub asked_coding: Option<Coding>,
-    /// The body is withheld: the request is a `HEAD`.
+    /// The request is a `HEAD`, whose answer has no body.
     pub no_body: bool,
 }
