@@ -34,8 +34,8 @@ line_more old mid new replies i reply l item p q =
     rw (more, lines_of-push (take i replies) reply) (appends_twice old mid new _ _ p q)
 
 -- twelve pieces, joined from the front or from behind
-joined : (a b c d e f g h i j k l : List ℕ) → a ++ b ++ c ++ d ++ e ++ f ++ g ++ h ++ i ++ j ++ k ++ l ≡ a ++ (b ++ (c ++ (d ++ (e ++ (f ++ (g ++ (h ++ (i ++ (j ++ (k ++ l))))))))))
-joined a b c d e f g h i j k l = simp append_assoc
+pieces_joined : (a b c d e f g h i j k l : List ℕ) → a ++ b ++ c ++ d ++ e ++ f ++ g ++ h ++ i ++ j ++ k ++ l ≡ a ++ (b ++ (c ++ (d ++ (e ++ (f ++ (g ++ (h ++ (i ++ (j ++ (k ++ l))))))))))
+pieces_joined a b c d e f g h i j k l = simp append_assoc
 
 -- a request's line, joined from behind
 abbrev pub joined_handed : ℕ → Message → Option ℕ → List ℕ → ℕ → List ℕ
@@ -45,4 +45,4 @@ joined_handed k m said path count =
 pub handed_joined : (k : ℕ) (m : Message) (said : Option ℕ) (path : List ℕ) (count : ℕ) → path ≡ m.path → count ≡ length m.headers → joined_handed k m said path count ≡ handed_text k m said
 handed_joined k m said path count p n =
     ap (λ t. joined_handed k m said t count) p ∙ ap (λ t. joined_handed k m said m.path t) n
-    ∙ sym (joined (codes "handed ") (decimal k) (codes " ") (method_text m.method) (codes " ") m.path (codes " ") (version_text m.version) (codes " ") (decimal (length m.headers)) (codes " ") (length_text said))
+    ∙ sym (pieces_joined (codes "handed ") (decimal k) (codes " ") (method_text m.method) (codes " ") m.path (codes " ") (version_text m.version) (codes " ") (decimal (length m.headers)) (codes " ") (length_text said))

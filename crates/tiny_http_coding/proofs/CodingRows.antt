@@ -17,25 +17,25 @@ abbrev te : List ℕ → Header
 te value = record { field = codes "TE"; value = value }
 
 -- 11 bytes under 200 for a request of 1.1
-abbrev with_headers : List Header → Coding
-with_headers request_headers = coding_of (version 1 1) request_headers 200 32768 (Some 11)
+abbrev for_headers : List Header → Coding
+for_headers request_headers = coding_of (version 1 1) request_headers 200 32768 (Some 11)
 
 abbrev with_te : List ℕ → Coding
-with_te value = with_headers (te value ∷ [])
+with_te value = for_headers (te value ∷ [])
 
 -- data of this length under 200, for a request without TE
 abbrev of_length : Option ℕ → Coding
 of_length length = coding_of (version 1 1) [] 200 32768 length
 
-no_te : with_headers [] ≡ Identity
+no_te : for_headers [] ≡ Identity
 unfolding coding_asked
 no_te = refl
 
-chunked : with_te (codes "chunked") ≡ Chunked
+asks_chunked : with_te (codes "chunked") ≡ Chunked
 unfolding coding_asked qualities element first_quality parameter_quality quality short_number thousandths
-chunked = refl
+asks_chunked = refl
 
-any_case : with_headers (record { field = codes "te"; value = codes " CHUNKED " } ∷ []) ≡ Chunked
+any_case : for_headers (record { field = codes "te"; value = codes " CHUNKED " } ∷ []) ≡ Chunked
 unfolding coding_asked qualities element first_quality parameter_quality quality short_number thousandths
 any_case = refl
 
@@ -78,7 +78,7 @@ unfolding coding_asked qualities element first_quality parameter_quality quality
 identity_and_length_unknown = refl
 
 -- the first TE header alone counts
-first_te : with_headers (te (codes "gzip") ∷ te (codes "chunked") ∷ []) ≡ Identity
+first_te : for_headers (te (codes "gzip") ∷ te (codes "chunked") ∷ []) ≡ Identity
 unfolding coding_asked qualities element first_quality parameter_quality quality short_number thousandths
 first_te = refl
 
@@ -108,10 +108,10 @@ version_0_9 request_headers status threshold length = refl
 continue : (request_headers : List Header) (threshold : ℕ) (length : Option ℕ) → coding_of (version 1 1) request_headers 100 threshold length ≡ Identity
 continue request_headers threshold length = refl
 
-no_content : (request_headers : List Header) (threshold : ℕ) (length : Option ℕ) → coding_of (version 1 1) request_headers 204 threshold length ≡ Identity
-no_content request_headers threshold length = refl
+of_204 : (request_headers : List Header) (threshold : ℕ) (length : Option ℕ) → coding_of (version 1 1) request_headers 204 threshold length ≡ Identity
+of_204 request_headers threshold length = refl
 
 -- a 304 has a coding, though no body
-not_modified : coding_of (version 1 1) (te (codes "chunked") ∷ []) 304 32768 (Some 0) ≡ Chunked
+of_304 : coding_of (version 1 1) (te (codes "chunked") ∷ []) 304 32768 (Some 0) ≡ Chunked
 unfolding coding_asked qualities element first_quality parameter_quality quality short_number thousandths
-not_modified = refl
+of_304 = refl

@@ -98,10 +98,10 @@ client-head-one bytes h after a =
     let few = fewer_than (length h.headers) (length a.empty) (length a.fields) (client-fields-fewer a.fields a.empty h.headers a.names) in
     rw (line-one bytes s.0 a.fields s.1, s.2, status-line-one s.0 h.version h.status s.3, client-fields-front (length a.fields + 1) a.fields a.empty after h.headers a.names a.ends few) refl
 
-abbrev IsStatus : List ℕ → HTTPVersion × ℕ → Type 0
-IsStatus text r = StatusLine text r.0 r.1
+abbrev IsStatusOf : List ℕ → HTTPVersion × ℕ → Type 0
+IsStatusOf text r = StatusLine text r.0 r.1
 
-bad-start : (text rest : List ℕ) (a : Bool) → list_all is_ascii text ≡ a → (o : Option (HTTPVersion × ℕ)) → MatchOption o (Unit {0}) (IsStatus text) → (AreAscii text → IsStatusLine text → ⊥) → status_line_checked rest a o ≡ Err Invalid
+bad-start : (text rest : List ℕ) (a : Bool) → list_all is_ascii text ≡ a → (o : Option (HTTPVersion × ℕ)) → MatchOption o (Unit {0}) (IsStatusOf text) → (AreAscii text → IsStatusLine text → ⊥) → status_line_checked rest a o ≡ Err Invalid
 bad-start text rest false e o l h = refl
 bad-start text rest true e None l h = refl
 bad-start text rest true e (Some x) l h = absurd (h e (x.0, x.1, l))
@@ -174,7 +174,7 @@ client-with-fields-are : (bytes text rest : List ℕ) (s : HTTPVersion × ℕ) (
 client-with-fields-are bytes text rest s (Ok f) l a k g = record { fields = rest; empty = g.0; starts = (text, l, a, k); names = g.1; ends = g.2 }
 client-with-fields-are bytes text rest s (Err e) l a k g = inr (s.0, s.1, rest, g.0, g.1, (text, l, a, k), g.2, g.3)
 
-client-start-are : (bytes text rest : List ℕ) → Line bytes text rest → (a : Bool) → list_all is_ascii text ≡ a → (o : Option (HTTPVersion × ℕ)) → status_line_read text ≡ o → MatchOption o (Unit {0}) (IsStatus text) → ClientHeadIs bytes (status_line_checked rest a o)
+client-start-are : (bytes text rest : List ℕ) → Line bytes text rest → (a : Bool) → list_all is_ascii text ≡ a → (o : Option (HTTPVersion × ℕ)) → status_line_read text ≡ o → MatchOption o (Unit {0}) (IsStatusOf text) → ClientHeadIs bytes (status_line_checked rest a o)
 client-start-are bytes text rest l false ea o eo ho = inl (text, rest, l, (λ x y. true-false (list_all is_ascii text) x ea))
 client-start-are bytes text rest l true ea None eo ho = inl (text, rest, l, (λ x h. client-none-some (h.0, h.1) (status_line_read text) (status-line-one text h.0 h.1 h.2) eo))
 client-start-are bytes text rest l true ea (Some r) eo ho = client-with-fields-are bytes text rest r (field_lines_read (length rest + 1) rest) l ea ho (client-fields-are (length rest + 1) rest (omega arith))

@@ -57,9 +57,9 @@ counted-none (Some f) =
     ap Some (rw (le-ltb (length f.bytes) 0 (omega arith)) (ap (R (stopped End)) (skipped-within 0 f (omega arith))))
 
 -- the input ended before the body did
-cut : (f : Feed) (left : ℕ) (stop : Stop) → 0 < left → f.bytes ≡ [] → f.stop ≡ stop → counted_remaining left f ≡ taken_remaining (stopped stop) (stopped End)
+counted-short : (f : Feed) (left : ℕ) (stop : Stop) → 0 < left → f.bytes ≡ [] → f.stop ≡ stop → counted_remaining left f ≡ taken_remaining (stopped stop) (stopped End)
 unfolding feed_front
-cut f left stop some none e =
+counted-short f left stop some none e =
     let z : length f.bytes ≡ 0 = ap length none in
     let R : Feed → Feed → Remaining = λ body behind. record { body = body; behind = behind } in
     ap (R (feed_front left f)) (skipped-beyond left f (omega arith)) ∙ ap (λ b. R b (stopped End)) body
@@ -71,7 +71,7 @@ cut f left stop some none e =
 
 pub counted-cut : (o : Option Feed) (left : ℕ) (stop : Stop) → 0 < left → StopsBy stop o → option_map (counted_remaining left) o ≡ option_map (taken_remaining (stopped stop)) (option_map (λ _. stopped End) o)
 counted-cut None left stop some h = refl
-counted-cut (Some f) left stop some h = ap Some (cut f left stop some h.0 h.1)
+counted-cut (Some f) left stop some h = ap Some (counted-short f left stop some h.0 h.1)
 
 pub taken-stops : (stop : Stop) (o : Option Feed) (r : Option Remaining) → r ≡ option_map (taken_remaining (stopped stop)) o → BodyStops stop r
 taken-stops stop None r e = rw e tt

@@ -24,14 +24,14 @@ last-named true named old e = refl
 last-named false true old e = refl
 last-named false false old e = cc
 
-some-same : (x y : Framing) → Some x ≡ Some y → x ≡ y
-some-same x y e = cc
+framing-same : (x y : Framing) → Some x ≡ Some y → x ≡ y
+framing-same x y e = cc
 
 framed-last : (v : HTTPVersion) (headers : List Header) (o : Option Bool) (f : Framing) → framed_by v headers o ≡ Some f → f.form ≡ Rest → f.is_last ≡ true
 framed-last v headers None f e rest = let no : ◌≡◌ {A = Option Framing} None (Some f) = e in cc
 framed-last v headers (Some owed) f e rest =
     let made : Framing = record { form = form_of owed headers; owes_continue = owed; body_length = body_length headers; is_last = is_last v (value_of (codes "Connection") headers) } in
-    let same : made ≡ f = some-same made f e in
+    let same : made ≡ f = framing-same made f e in
     let named = form-named (mentions (codes "upgrade") (value_of (codes "Connection") headers)) (is_some (value_of (codes "Transfer-Encoding") headers)) owed (body_length headers) (ap (λ (x : Framing). x.form) same ∙ rest) in
     sym (ap (λ (x : Framing). x.is_last) same) ∙ last-named (mentions (codes "close") (value_of (codes "Connection") headers)) (mentions (codes "upgrade") (value_of (codes "Connection") headers)) _ named
 

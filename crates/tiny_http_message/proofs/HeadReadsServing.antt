@@ -61,9 +61,9 @@ refused-at date f p refusal v (Ok (read.Ended why)) s h k = absurd k
 refused-at date f p refusal v (Ok (read.Request x)) s h k = absurd k
 
 -- a head that is cut: a 408 where the reader timed out
-cut-at : (date : HttpDate) (f : Feed) (p : Option Feed) (begun : Bool) (r : Result HeadRead AllocError) → IsCutHead f.bytes → HeadAt f.bytes f.stop (Ends (cut_item f.stop)) → begun ≡ nat_lt 0 (length f.bytes)
+cut-head : (date : HttpDate) (f : Feed) (p : Option Feed) (begun : Bool) (r : Result HeadRead AllocError) → IsCutHead f.bytes → HeadAt f.bytes f.stop (Ends (cut_item f.stop)) → begun ≡ nat_lt 0 (length f.bytes)
     → AnswersCut f.stop begun date r → ReadsHead at.Head date (Some f) p r
-cut-at date f p begun r c h b k = by (is_timed_out f.stop) refl h k
+cut-head date f p begun r c h b k = by (is_timed_out f.stop) refl h k
   where
     by : (t : Bool) → is_timed_out f.stop ≡ t → HeadAt f.bytes f.stop (Ends (if t then Some (Refuses RequestTimeout (version 1 1) false true) else None))
         → MatchBool t (RefusesWith 408 (version 1 1) date r) (r ≡ Ok (read.Ended (cut_end f.stop begun))) → ReadsHead at.Head date (Some f) p r
@@ -84,7 +84,7 @@ head-refused date None p v e stop r h k why = tt
 head-refused date (Some f) p v fault.Cut stop r h k why =
     let w = why f refl refl in
     let P : Option Stop → Type 0 = λ o. IfSome o (λ s. AnswersCut s true date r) in
-    cut-at date f p true r (inl (v, h)) (inl (v, Cut, h, refl)) w.1 (subst P w.0 k)
+    cut-head date f p true r (inl (v, h)) (inl (v, Cut, h, refl)) w.1 (subst P w.0 k)
 head-refused date (Some f) p v fault.NotAscii stop r h k why =
     let P : Result HeadRead AllocError → Type 0 = λ x. ReadsHead at.Head date (Some f) p x in
     subst P (sym k) ((Ends None, inl (v, NotAscii, h, refl), (refl, refl)), inr (inl (v, h, refl)))
@@ -272,7 +272,7 @@ head-cut date (Some x) p q m f stop r h e t ends k =
     let S : Option Stop → Type 0 = λ y. IfSome y (λ s. AnswersCut s true date r) in
     let cut = subst P h.2 t in
     let begun : true ≡ nat_lt 0 (length x.bytes) = sym (lt-ltb 0 (length x.bytes) (head-some x.bytes (message_of m) h.0 h.1)) in
-    cut-at date x q true r (inr (message_of m, h.0, f, h.1, e, cut)) (inr (inr (message_of m, h.0, f, h.1, e, cut, refl))) begun (subst S (ends (record { bytes = h.0; stop = x.stop }) h.2) k)
+    cut-head date x q true r (inr (message_of m, h.0, f, h.1, e, cut)) (inr (inr (message_of m, h.0, f, h.1, e, cut, refl))) begun (subst S (ends (record { bytes = h.0; stop = x.stop }) h.2) k)
   where
     head-some : (bytes : List ℕ) (m : Texted) (after : List ℕ) → BeginsWithRequestHead bytes m after → 0 < length bytes
     head-some bytes m after t = let P : List ℕ → Type 0 = λ x. 0 < length x in let line = t.2.1 in subst P (sym line.joins) (line-some t.2.0 t.0)
@@ -297,7 +297,7 @@ head-closed date (Some f) new (Some stop) r none same is over h =
     let S : Stop → Type 0 = λ s. AnswersCut s false date r in
     let cut : FaultyHead f.bytes None Cut = subst Q (sym none) refl in
     let begun : false ≡ nat_lt 0 (length f.bytes) = sym (ap (λ (x : List ℕ). nat_lt 0 (length x)) none) in
-    cut-at date f new.feed false r (inl (None, cut)) (inl (None, Cut, cut, refl)) begun (subst S (sym stops.1) h)
+    cut-head date f new.feed false r (inl (None, cut)) (inl (None, Cut, cut, refl)) begun (subst S (sym stops.1) h)
 
 -- after the end of a source nothing is answered
 pub end-unanswered : (date : HttpDate) (stop : Option Stop) (begun : Bool) (r : Result HeadRead AllocError) → stop ≡ Some End → IfSome stop (λ s. AnswersCut s begun date r) → IsOkEnd r

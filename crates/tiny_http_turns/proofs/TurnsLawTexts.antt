@@ -27,8 +27,8 @@ quiet marks k n was mark e w m =
     (λ ne. ap text_waiting (get-set_other marks k n mark ne))
 
 -- a text that waited comes out
-comes : (marks : List Mark) (k n : ℕ) (text : List ℕ) → slice_get marks k ≡ Some (Left text) → (if eqb k n then text ∷ [] else []) ++ text_waiting (slice_get (slice_set marks k Held) n) ≡ text_waiting (slice_get marks n)
-comes marks k n text e =
+text-comes : (marks : List Mark) (k n : ℕ) (text : List ℕ) → slice_get marks k ≡ Some (Left text) → (if eqb k n then text ∷ [] else []) ++ text_waiting (slice_get (slice_set marks k Held) n) ≡ text_waiting (slice_get marks n)
+text-comes marks k n text e =
     by_eq k n (λ b. (if b then text ∷ [] else []) ++ text_waiting (slice_get (slice_set marks k Held) n) ≡ text_waiting (slice_get marks n))
     (λ q. subst (λ (j : ℕ). (text ∷ []) ++ text_waiting (slice_get (slice_set marks k Held) j) ≡ text_waiting (slice_get marks j)) q (ap (λ (o : Option Mark). (text ∷ []) ++ text_waiting o) (get-set_same marks k (Left text) Held e) ∙ ap text_waiting (sym e)))
     (λ ne. ap text_waiting (get-set_other marks k n Held ne))
@@ -82,7 +82,7 @@ pass_balances None n marks k e f = quiet marks k n Held Finished e refl refl ∙
 pass_balances (Some Open) n marks k e f = quiet marks k n Held Finished e refl refl ∙ same marks n
 pass_balances (Some Held) n marks k e f = quiet marks k n Held Finished e refl refl ∙ same marks n
 pass_balances (Some (Left text)) n marks k e f =
-    comes (slice_set marks k Finished) (suc k) n text (slice_get-set_next marks k Finished ∙ f) ∙ (quiet marks k n Held Finished e refl refl ∙ same marks n)
+    text-comes (slice_set marks k Finished) (suc k) n text (slice_get-set_next marks k Finished ∙ f) ∙ (quiet marks k n Held Finished e refl refl ∙ same marks n)
 pass_balances (Some Finished) n marks k e f = quiet marks k n Held Finished e refl refl ∙ same marks n
 
 finish_balances : (o : Option Mark) (n : ℕ) (marks : List Mark) (k : ℕ) → slice_get marks k ≡ o → Balances n (Finish k) marks (finish_at o k marks)
