@@ -6,7 +6,7 @@ use Rattle.httpdate.specs.declared.date.HttpDate.{HttpDate}
 use Rattle.tiny_http_core.specs.Conversation.{TimedValue}
 use Rattle.tiny_http_core.specs.Seen.{IsTimedStep, IsStep}
 use Rattle.tiny_http_core.specs.declared.driver.Step.{Step}
-use Rattle.tiny_http_core.specs.declared.driver.Step.TheVariants.{Ask as AskStep, Read as ReadStep, Respond as RespondStep, Drop as DropStep}
+use Rattle.tiny_http_core.specs.declared.driver.Step.TheVariants.{Ask as AskStep, AsReader as AsReaderStep, Read as ReadStep, Respond as RespondStep, Drop as DropStep}
 use Rattle.tiny_http_core.specs.declared.driver.Timed.{Timed}
 use Rattle.std.specs.Io.Cursor.{cursor_position, cursor_inner}
 use Rattle.replay.specs.ReplayData.{data_feed}
@@ -95,6 +95,7 @@ data_few (Xs given) = let all = length-replicate {A = ℕ} given.left 120 in ome
 -- a step states its data
 step_stated : (step : Step ReplayData) → IsStep (λ content. Some (data_feed content)) step (step_value step)
 step_stated AskStep = tt
+step_stated (AsReaderStep number) = refl
 step_stated (ReadStep number count) = (refl, refl)
 step_stated (RespondStep number response) = (refl, (refl, refl, data_few response.data_reader))
 step_stated (DropStep number) = refl

@@ -8,7 +8,7 @@ use Rattle.std.proofs.lemmas.Str.Pattern.{IsSplitOnceResult, split_after}
 use Rattle.std.specs.Str.{bytes_eq}
 use Rattle.std.specs.Str.Pattern.{LacksTextAt}
 use Rattle.replay.specs.ScriptLine.{WritesNumber, BeginsByNumber, WritesCount, IsContent, IsAnswer, SaysSome, IsDate, WritesRead}
-use Rattle.replay.specs.declared.line.ScriptLine.TheVariants.{Blank, Now, Ask, Read, Respond, Drop}
+use Rattle.replay.specs.declared.line.ScriptLine.TheVariants.{Blank, Now, Ask, AsReader, Read, Respond, Drop}
 use Rattle.replay.specs.declared.line.Content.TheVariants.{Text, Empty, Stream, Broken}
 
 script_line-own : IsNumeralModel (AllDigits 10) (digits_value 10)
@@ -39,6 +39,7 @@ only_now text rest e (Blank, inl h) = absurd (let first : ◌≡◌ {A = ℕ} 11
 only_now text rest e (Blank, inr h) = absurd (let first : ◌≡◌ {A = ℕ} 110 35 = ap (λ bs. get_or bs 0 0) (sym e ∙ h.1) in omega arith)
 only_now text rest e (Now date, d) = let same : rest ≡ d.0 = ap (drop 4) (sym e ∙ d.1) in (date, rw same d.2)
 only_now text rest e (Ask, h) = absurd (let first : ◌≡◌ {A = ℕ} 110 97 = ap (λ bs. get_or bs 0 0) (sym e ∙ h) in omega arith)
+only_now text rest e (AsReader number, h) = absurd (let first : ◌≡◌ {A = ℕ} 110 97 = ap (λ bs. get_or bs 0 0) (sym e ∙ h.1) in omega arith)
 only_now text rest e (Read number count, h) = absurd (let first : ◌≡◌ {A = ℕ} 110 114 = ap (λ bs. get_or bs 0 0) (sym e ∙ h.1) in omega arith)
 only_now text rest e (Respond number status content, h) = absurd (no_respond text rest h.0 e h.1)
 only_now text rest e (Drop number, h) = absurd (let first : ◌≡◌ {A = ℕ} 110 100 = ap (λ bs. get_or bs 0 0) (sym e ∙ h.1) in omega arith)
@@ -56,6 +57,7 @@ only_read text rest e (Blank, inl h) = absurd (let first : ◌≡◌ {A = ℕ} 1
 only_read text rest e (Blank, inr h) = absurd (let first : ◌≡◌ {A = ℕ} 114 35 = ap (λ bs. get_or bs 0 0) (sym e ∙ h.1) in omega arith)
 only_read text rest e (Now date, h) = absurd (let first : ◌≡◌ {A = ℕ} 114 110 = ap (λ bs. get_or bs 0 0) (sym e ∙ h.1) in omega arith)
 only_read text rest e (Ask, h) = absurd (let first : ◌≡◌ {A = ℕ} 114 97 = ap (λ bs. get_or bs 0 0) (sym e ∙ h) in omega arith)
+only_read text rest e (AsReader number, h) = absurd (let first : ◌≡◌ {A = ℕ} 114 97 = ap (λ bs. get_or bs 0 0) (sym e ∙ h.1) in omega arith)
 only_read text rest e (Read number count, h) = let same : rest ≡ h.0 = ap (drop 5) (sym e ∙ h.1) in (number, count, rw same h.2)
 only_read text rest e (Respond number status content, h) = absurd (no_respond_read text rest h.0 e h.1)
 only_read text rest e (Drop number, h) = absurd (let first : ◌≡◌ {A = ℕ} 114 100 = ap (λ bs. get_or bs 0 0) (sym e ∙ h.1) in omega arith)
@@ -66,6 +68,7 @@ only_respond text rest e (Blank, inl h) = absurd (let first : ◌≡◌ {A = ℕ
 only_respond text rest e (Blank, inr h) = absurd (let first : ◌≡◌ {A = ℕ} 114 35 = ap (λ bs. get_or bs 0 0) (sym e ∙ h.1) in omega arith)
 only_respond text rest e (Now date, h) = absurd (let first : ◌≡◌ {A = ℕ} 114 110 = ap (λ bs. get_or bs 0 0) (sym e ∙ h.1) in omega arith)
 only_respond text rest e (Ask, h) = absurd (let first : ◌≡◌ {A = ℕ} 114 97 = ap (λ bs. get_or bs 0 0) (sym e ∙ h) in omega arith)
+only_respond text rest e (AsReader number, h) = absurd (let first : ◌≡◌ {A = ℕ} 114 97 = ap (λ bs. get_or bs 0 0) (sym e ∙ h.1) in omega arith)
 only_respond text rest e (Read number count, h) = absurd (no_respond_read text h.0 rest h.1 e)
 only_respond text rest e (Respond number status content, h) = let same : rest ≡ h.0 = ap (drop 8) (sym e ∙ h.1) in (number, status, content, rw same h.2)
 only_respond text rest e (Drop number, h) = absurd (let first : ◌≡◌ {A = ℕ} 114 100 = ap (λ bs. get_or bs 0 0) (sym e ∙ h.1) in omega arith)

@@ -10,16 +10,16 @@ use Rattle.tiny_http_wire.specs.Device.{Feed, Sink, whole_feed}
 use Rattle.tiny_http_wire.specs.declared.device.Stop.{Stop}
 use Rattle.tiny_http_wire.specs.declared.device.Stop.TheVariants.{End, Fault}
 use Rattle.tiny_http_core.specs.ResponseValue.{ResponseValue, response_of}
-use Rattle.tiny_http_core.specs.Steps.{StepValue, Ask, Read, Respond, Drop, ReplyValue}
+use Rattle.tiny_http_core.specs.Steps.{StepValue, Ask, AsReader, Read, Respond, Drop, ReplyValue}
 use Rattle.tiny_http_core.specs.Conversation.{TimedValue, IsFresh, IsConversation}
 use Rattle.tiny_http_core.specs.declared.driver.Step.{Step}
-use Rattle.tiny_http_core.specs.declared.driver.Step.TheVariants.{Ask as AskStep, Read as ReadStep, Respond as RespondStep, Drop as DropStep}
+use Rattle.tiny_http_core.specs.declared.driver.Step.TheVariants.{Ask as AskStep, AsReader as AsReaderStep, Read as ReadStep, Respond as RespondStep, Drop as DropStep}
 use Rattle.tiny_http_core.specs.declared.driver.Timed.{Timed}
 use Rattle.replay.specs.ReplayData.{data_feed, xs}
 use Rattle.replay.specs.Reply.{reply_line}
 use Rattle.replay.specs.ScriptLine.{IsLine, IsGood}
 use Rattle.replay.specs.declared.line.ScriptLine.{ScriptLine}
-use Rattle.replay.specs.declared.line.ScriptLine.TheVariants.{Blank, Now, Ask as AskLine, Read as ReadLine, Respond as RespondLine, Drop as DropLine}
+use Rattle.replay.specs.declared.line.ScriptLine.TheVariants.{Blank, Now, Ask as AskLine, AsReader as AsReaderLine, Read as ReadLine, Respond as RespondLine, Drop as DropLine}
 use Rattle.replay.specs.declared.line.Content.{Content}
 use Rattle.replay.specs.declared.line.Content.TheVariants.{Text, Empty, Stream, Broken}
 use Rattle.replay.specs.declared.replay_data.ReplayData.{ReplayData}
@@ -50,6 +50,7 @@ abbrev pub said_step : ScriptLine → Option StepValue
 said_step Blank = None
 said_step (Now date) = None
 said_step AskLine = Some Ask
+said_step (AsReaderLine number) = Some (AsReader number)
 said_step (ReadLine number count) = Some (Read number count)
 said_step (RespondLine number status content) = Some (Respond number (response_with status content))
 said_step (DropLine number) = Some (Drop number)
@@ -59,6 +60,7 @@ abbrev pub date_behind : HttpDate → ScriptLine → HttpDate
 date_behind now Blank = now
 date_behind now (Now date) = date
 date_behind now AskLine = now
+date_behind now (AsReaderLine number) = now
 date_behind now (ReadLine number count) = now
 date_behind now (RespondLine number status content) = now
 date_behind now (DropLine number) = now
@@ -86,6 +88,7 @@ response_value response = record { answer = response.answer; content = data_feed
 -- a step as a value
 abbrev pub step_value : Step ReplayData → StepValue
 step_value AskStep = Ask
+step_value (AsReaderStep number) = AsReader number
 step_value (ReadStep number count) = Read number count
 step_value (RespondStep number response) = Respond number (response_value response)
 step_value (DropStep number) = Drop number

@@ -4,7 +4,7 @@ use Rattle.std.specs.Str.Parse.{IsNumeral, digits_value}
 use Rattle.httpdate.specs.Date.{unix_secs}
 use Rattle.httpdate.specs.declared.date.HttpDate.{HttpDate}
 use Rattle.replay.specs.declared.line.ScriptLine.{ScriptLine}
-use Rattle.replay.specs.declared.line.ScriptLine.TheVariants.{Blank, Now, Ask, Read, Respond, Drop}
+use Rattle.replay.specs.declared.line.ScriptLine.TheVariants.{Blank, Now, Ask, AsReader, Read, Respond, Drop}
 use Rattle.replay.specs.declared.line.Content.{Content}
 use Rattle.replay.specs.declared.line.Content.TheVariants.{Text, Empty, Stream, Broken}
 
@@ -62,6 +62,7 @@ abbrev pub SaysLine : List ℕ → ScriptLine → Type 0
 SaysLine text Blank = (text ≡ []) ⊎ ((comment : List ℕ) × (text ≡ codes "#" ++ comment))
 SaysLine text (Now date) = (digits : List ℕ) × (text ≡ codes "now " ++ digits) × WritesDate digits date
 SaysLine text Ask = text ≡ codes "ask"
+SaysLine text (AsReader number) = (digits : List ℕ) × (text ≡ codes "asreader " ++ digits) × WritesNumber digits number × (number < 2 ^ 64)
 SaysLine text (Read number count) = (words : List ℕ) × (text ≡ codes "read " ++ words) × WritesRead words number count
 SaysLine text (Respond number status content) = (words : List ℕ) × (text ≡ codes "respond " ++ words) × WritesAnswer words number status content
 SaysLine text (Drop number) = (digits : List ℕ) × (text ≡ codes "drop " ++ digits) × WritesNumber digits number × (number < 2 ^ 64)

@@ -15,6 +15,8 @@ pub(crate) enum ScriptLine<'a> {
     Now(HttpDate),
     /// Asks for the next request.
     Ask,
+    /// Sends the 100 that the request of this number expects.
+    AsReader(u64),
     /// Reads the body of the request of this number, up to so many bytes.
     Read(u64, u16),
     /// Answers the request of this number by this code and content.
@@ -124,6 +126,9 @@ fn text_in(text: &str) -> Option<ScriptLine<'_>>
     }
     if let Some(seconds) = text.strip_prefix("now ") {
         return Some(ScriptLine::Now(date_in(seconds)?));
+    }
+    if let Some(number) = text.strip_prefix("asreader ") {
+        return Some(ScriptLine::AsReader(number_in(number)?));
     }
     if let Some(number) = text.strip_prefix("drop ") {
         return Some(ScriptLine::Drop(number_in(number)?));

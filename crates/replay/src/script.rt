@@ -114,6 +114,7 @@ fn step_in(alloc: Global, line: &ScriptLine<'_>) -> Result<Option<Step<ReplayDat
     match line {
         ScriptLine::Blank | ScriptLine::Now(_) => Ok(None),
         ScriptLine::Ask => Ok(Some(Step::Ask)),
+        ScriptLine::AsReader(number) => Ok(Some(Step::AsReader(*number))),
         ScriptLine::Read(number, count) => Ok(Some(Step::Read(*number, *count))),
         ScriptLine::Respond(number, status, content) => {
             let response = response_with(alloc, StatusCode(*status), content)?;

@@ -32,7 +32,7 @@ use Rattle.tiny_http_stream.specs.declared.source.Standing.TheVariants as in_pla
 use Rattle.tiny_http_wire.specs.declared.common.StatusCode.{StatusCode}
 use Rattle.tiny_http_message.specs.Exchange.{KeepsRequest}
 use Rattle.tiny_http_message.specs.Body.{Remaining, remaining, taken_remaining, is_streaming}
-use Rattle.tiny_http_core.specs.Slots.{Slot, is_finished, is_broken, is_slot_broken, segment, joined, new_slot, turn_has_come, is_chunked, last_slot, last_holds_reader, last_was_abandoned, is_last_slot}
+use Rattle.tiny_http_core.specs.Slots.{Slot, is_finished, is_broken, is_slot_broken, segment, joined, new_slot, turn_has_come, is_chunked, last_slot, last_holds_reader, last_was_abandoned, is_last_slot, stage_text, ByServer}
 use Rattle.tiny_http_sending.specs.ResponseValue.{printing_to}
 use Rattle.tiny_http_message.specs.OwnAnswer.{own_text, own_text_by}
 use Rattle.tiny_http_core.specs.Steps.{StepValue, Ask, ReplyValue, Handed, Ended, NotYet, Memory, Unused, Unreported, Outcome, Reached, unchanged, ask, asks_from, outcome}
@@ -41,15 +41,16 @@ use Rattle.tiny_http_core.proofs.ConversationWriting.{IsAllFlushed, unreported, 
 use Rattle.tiny_http_sending.specs.Sending.{IsFlushed, SendsUnlessEnded}
 use Rattle.tiny_http_turns.specs.Turns.{Mark, Open, Left, Finished, AreInShape, first_unfinished}
 use Rattle.tiny_http_core.specs.Pending.{LeavesText, last_body, is_streaming_body}
-use Rattle.tiny_http_core.specs.Connection.{Kept, dropped, IsWaiting, AreKept, OutputAt, behind_body, GivesRest, InputEnded, is_past_last, is_in_body, NextHead, InputStands, Stands}
-use Rattle.tiny_http_message.proofs.HeadReadsServing.{built-parts}
+use Rattle.tiny_http_core.specs.Connection.{Kept, dropped, IsWaiting, AreKept, OutputAt, behind_body, GivesRest, InputEnded, is_past_last, is_in_body, NextHead, InputStands, Stands, HandedOut}
+use Rattle.tiny_http_message.proofs.HeadReadsServing.{built-version}
 use Rattle.tiny_http_stream.proofs.SourceGoesOn.{goes-on_more}
 use Rattle.tiny_http_message.proofs.PipelineLemmas.{pipeline-first, pipeline-none, feed-pipeline}
 use Rattle.tiny_http_core.proofs.ConnectionReader.{LastKept, last-kept, last-snoc, body-snoc, settled-snoc, and-false, held-by, behind-settled, gives-settled}
 use Rattle.tiny_http_message.proofs.OwnAnswerLemmas.{own-whole}
 use Rattle.tiny_http_core.proofs.SlotsLemmas.{joined-waits, joined-hidden, breaks-waits, breaks-hidden}
 use Rattle.tiny_http_core.proofs.ConnectionKept.{kept-append, kept-length, shape-issued, InTurn, OutOfTurn, turn-at}
-use Rattle.tiny_http_core.proofs.ConnectionOutput.{ended-is, output-same, Goes, output-more}
+use Rattle.tiny_http_core.proofs.ConnectionOutput.{ended-is, output-same, Goes, more-behind, output-more}
+use Rattle.tiny_http_core.proofs.ConnectionTurns.{turn-more}
 use Rattle.tiny_http_core.proofs.PendingLemmas.{first-issued}
 
 -- the step was answered so
@@ -93,21 +94,20 @@ ends-ask bytes stop answer r (inl k) e = fault-asks k.0 k.1 stop r (e ∙ k.3)
 ends-ask bytes stop answer r (inr (inl k)) e = let no : Some (Asks r) ≡ Some (Refuses ExpectationFailed k.0.version false true) = e ∙ k.4 in cc
 ends-ask bytes stop answer r (inr (inr k)) e = answered-by (is_timed_out stop) r (e ∙ k.6)
 
--- the request is framed by its head, and owes no 100
+-- the request is framed by its head
 record IsFramed (r : Request) : Type 0 where
   pub framed : framing r.message.version r.message.headers ≡ Some r.framing
-  pub unowed : r.framing.owes_continue ≡ false
 
 found-framed : (bytes : List ℕ) (stop : Stop) (heading : Heading) (r : Request) (next : Place) → HeadAt bytes stop heading → FoundAt stop (served heading) (Some (Asks r)) next → IsFramed r
 found-framed bytes stop (Ends answer) r next at h = absurd (ends-ask bytes stop answer r at h.0)
-found-framed bytes stop (Heads m f after) r next at h = by-built (is_built m.version f) refl h
+found-framed bytes stop (Heads m f after) r next at h = by-built (is_built m.version) refl h
   where
-    by-built : (t : Bool) → is_built m.version f ≡ t → FoundAt stop (if t then Heads m f after else Ends None) (Some (Asks r)) next → IsFramed r
+    by-built : (t : Bool) → is_built m.version ≡ t → FoundAt stop (if t then Heads m f after else Ends None) (Some (Asks r)) next → IsFramed r
     by-built true b k =
-        let parts = built-parts m.version f b in
-        let item : Some (Asks r) ≡ Some (Asks (record { message = m; framing = f; body = k.0 })) = k.3 ∙ rw parts.version_is refl in
+        let version_is = built-version m.version b in
+        let item : Some (Asks r) ≡ Some (Asks (record { message = m; framing = f; body = k.0 })) = k.3 ∙ rw version_is refl in
         let same : r ≡ record { message = m; framing = f; body = k.0 } = cc in
-        subst IsFramed (sym same) (record { framed = at.1; unowed = parts.unowed })
+        subst IsFramed (sym same) (record { framed = at.1 })
     by-built false b k = let none : Some (Asks r) ≡ None = k.0 in cc
 
 one-head-framed : (bytes : List ℕ) (stop : Stop) (r : Request) (next : Place) → OneHead bytes stop (Some (Asks r)) next → IsFramed r
@@ -146,13 +146,13 @@ going client before k s h e o quiet open_input =
     by next false z = refl
 
 -- the texts of the server's own
-pub dropped-text : (asked : HttpDate) (r : Request) (given : ℕ) (end_reported : Bool) → own_text_by 500 (printing_to (coding_asked r.message.headers) r.message.version (is_head_method r.message.method) asked) ≡ segment (dropped asked r given end_reported)
+pub dropped-text : (date : HttpDate) (r : Request) → own_text_by 500 (printing_to (coding_asked r.message.headers) r.message.version (is_head_method r.message.method) date) ≡ (stage_text (Asks r) date ByServer).bytes
 unfolding text_of
-dropped-text asked r given end_reported = refl
+dropped-text date r = refl
 
-pub dropped-whole : (asked : HttpDate) (r : Request) (given : ℕ) (end_reported : Bool) → is_slot_broken (dropped asked r given end_reported) ≡ false
+pub dropped-whole : (asked : HandedOut) (r : Request) (given : ℕ) (end_reported : Bool) → is_slot_broken (dropped asked r given end_reported) ≡ false
 unfolding text_of
-dropped-whole asked r given end_reported = ap is_broken (own-whole 500 (coding_asked r.message.headers) r.message.version (is_head_method r.message.method) asked)
+dropped-whole asked r given end_reported = ap is_broken (own-whole 500 (coding_asked r.message.headers) r.message.version (is_head_method r.message.method) asked.date)
 
 -- the item of a head that is refused with an empty answer
 abbrev refused_item : Refusal → HTTPVersion → Item
@@ -196,16 +196,17 @@ kept-handed : (date : HttpDate) (x : Exchange) (p : Option Feed) (content behind
     → IsWaiting (handed_slot date (request_of x.head content)) x.waiting
 kept-handed date x p content behind k left framed = record {
   request = request_of x.head content;
-  date = date;
+  handed = record { date = date; continued = None; owed = x.head.owes_continue };
   given = 0;
   end_reported = false;
   is = refl;
-  unowed = framed.unowed;
+  owed = k.answer.owes_continue;
+  unsent = λ owed. refl;
   rest_is_last = λ rest. rest-last x.head.version x.head.headers.items (head_framing x.head) framed.framed rest;
   answer_context =
       let F : HTTPVersion → Option Coding → Bool → AnswerContext = λ v a b. record { version = v; asked_coding = a; no_body = b } in
       ap (λ v. F v x.waiting.answer_context.asked_coding x.waiting.answer_context.no_body) k.answer.version ∙ ap (λ a. F x.head.version a x.waiting.answer_context.no_body) k.answer.asked_coding ∙ ap (F x.head.version (coding_asked x.head.headers.items)) k.answer.no_body;
-  text = k.answer.text ∙ dropped-text date (request_of x.head content) 0 false;
+  text = k.answer.text ∙ dropped-text date (request_of x.head content);
   fits = k.body;
   settled = settled-any x.waiting.body p content behind left;
 }
@@ -295,6 +296,7 @@ ask-handed client before k s date x from_here p stop over at n st e o quiet open
       record {
         numbers = kept-append s.reached.slots k.marks k.requests (y ∷ []) (Open ∷ []) (Some x.waiting ∷ []) st.numbers (waits, tt);
         shape = shape;
+        in_turn = turn-more s.reached.slots y st.in_turn refl;
         asking_ended = sym e;
         flushed = λ none. st.flushed none ∙ sym (joined-waits s.reached.slots y [] refl refl);
         reader = handed-reader client k s.reached.slots s.reached.rest first.0 date r x.waiting p stop over at g.feed.stop found.1 st.reader quiet found.3 first.2 (goes-on_more (Some client) k.feed p st.reader.source goes) (stands-for x found.0 at stands);
@@ -378,7 +380,7 @@ ask-over client before k s date st e o = by (last_was_abandoned (last_slot s.rea
         let new : State = record { reached = record { slots = slots; rest = s.reached.rest; asking_ended = true }; flushed = s.flushed; failure = s.failure } in
         let G : Outcome → Type 0 = λ x. HasOutcome x s Ended new in (
           new,
-          record { numbers = st.numbers; shape = st.shape; asking_ended = refl; flushed = st.flushed; reader = ended_reader s.reached.rest; output = st.output },
+          record { numbers = st.numbers; shape = st.shape; in_turn = st.in_turn; asking_ended = refl; flushed = st.flushed; reader = ended_reader s.reached.rest; output = st.output },
           inl (true, tt, subst G (sym (ask-lost date s.reached (st.asking_ended ∙ e) unheld_now l)) (refl, refl, (refl, refl))),
         )
     by false l =
@@ -389,7 +391,7 @@ ask-over client before k s date st e o = by (last_was_abandoned (last_slot s.rea
         let new : State = record { reached = record { slots = slots; rest = []; asking_ended = true }; flushed = s.flushed; failure = s.failure } in
         let G : Outcome → Type 0 = λ x. HasOutcome x s Ended new in (
           new,
-          record { numbers = st.numbers; shape = st.shape; asking_ended = refl; flushed = st.flushed; reader = ended_reader []; output = st.output },
+          record { numbers = st.numbers; shape = st.shape; in_turn = st.in_turn; asking_ended = refl; flushed = st.flushed; reader = ended_reader []; output = st.output },
           inl (true, tt, subst G (sym is) (refl, refl, (refl, refl))),
         )
 
@@ -410,7 +412,7 @@ ask-none client before k s date from_here why p stop over at st e o quiet reads 
         let new : State = record { reached = record { slots = slots; rest = s.reached.rest; asking_ended = true }; flushed = s.flushed; failure = s.failure } in
         let G : Outcome → Type 0 = λ x. HasOutcome x s Ended new in (
           new,
-          record { numbers = st.numbers; shape = st.shape; asking_ended = refl; flushed = st.flushed; reader = end-reader client before k s p stop over at s.reached.rest st quiet goes; output = st.output },
+          record { numbers = st.numbers; shape = st.shape; in_turn = st.in_turn; asking_ended = refl; flushed = st.flushed; reader = end-reader client before k s p stop over at s.reached.rest st quiet goes; output = st.output },
           inl (true, tt, subst G (sym (ask-lost date s.reached (st.asking_ended ∙ e) quiet_now l)) (refl, refl, (refl, refl))),
         )
     by false l =
@@ -425,7 +427,7 @@ ask-none client before k s date from_here why p stop over at st e o quiet reads 
         let new : State = record { reached = record { slots = slots; rest = []; asking_ended = true }; flushed = s.flushed; failure = s.failure } in
         let G : Outcome → Type 0 = λ x. HasOutcome x s Ended new in (
           new,
-          record { numbers = st.numbers; shape = st.shape; asking_ended = refl; flushed = st.flushed; reader = end-reader client before k s p stop over at [] st quiet goes; output = st.output },
+          record { numbers = st.numbers; shape = st.shape; in_turn = st.in_turn; asking_ended = refl; flushed = st.flushed; reader = end-reader client before k s p stop over at [] st quiet goes; output = st.output },
           inl (true, tt, subst G (sym is) (refl, refl, (refl, refl))),
         )
 
@@ -437,7 +439,7 @@ ask-memory client before k s date p stop over at st e o quiet more open_input go
     let new : State = record { reached = record { slots = s.reached.slots; rest = s.reached.rest; asking_ended = true }; flushed = s.flushed; failure = s.failure } in
     let R : List Slot → Reached = λ x. record { slots = x; rest = s.reached.rest; asking_ended = true } in (
       new,
-      record { numbers = st.numbers; shape = st.shape; asking_ended = refl; flushed = st.flushed; reader = end-reader client before k s p stop over at s.reached.rest st quiet goes; output = st.output },
+      record { numbers = st.numbers; shape = st.shape; in_turn = st.in_turn; asking_ended = refl; flushed = st.flushed; reader = end-reader client before k s p stop over at s.reached.rest st quiet goes; output = st.output },
       inr (
         st.asking_ended ∙ e,
         more,
@@ -458,7 +460,7 @@ after_refused k marks p stop over at sink ended = record k { marks = marks; requ
 refused-output : (before sink new : Sink) (e ended : Bool) (slots : List Slot) (n : Slot) (s : State) → OutputAt before sink e slots s.failure → s.reached.slots ≡ slots → list_all is_finished slots ≡ true → is_finished n ≡ true → is_slot_broken n ≡ false
     → before.failures < 2 ^ 64 - 1 → SendsUnlessEnded e sink new ended (segment n ++ []) → IsFlushed new → Goes before new e ended slots (slots ++ (n ∷ [])) s.failure
 refused-output before sink new e ended slots n s h same fin over whole low sends firm =
-    output-more before sink new e ended slots (n ∷ []) (segment n ++ []) s.failure h fin (rw (over, whole) refl) (rw (over, whole) refl) low sends firm
+    output-more before sink new e ended slots (slots ++ (n ∷ [])) (segment n ++ []) s.failure h (more-behind slots (n ∷ []) (segment n ++ []) fin (rw (over, whole) refl) (rw (over, whole) refl)) low sends firm
 
 refused-waits : (before sink : Sink) (e : Bool) (slots : List Slot) (n : Slot) (failure : Option Failure) → OutputAt before sink e slots failure → list_all is_finished slots ≡ false → OutputAt before sink e (slots ++ (n ∷ [])) failure
 refused-waits before sink e slots n failure h hidden = output-same before sink e slots (slots ++ (n ∷ [])) failure (sym (joined-hidden slots (n ∷ []) hidden)) (sym (breaks-hidden slots (n ∷ []) hidden)) h
@@ -539,6 +541,7 @@ ask-refused client before k s date from_here status text is_last p stop over at 
       record {
         numbers = out.numbers;
         shape = out.shape;
+        in_turn = turn-more s.reached.slots n st.in_turn refl;
         asking_ended = refl;
         flushed = out.flushed;
         reader = record {

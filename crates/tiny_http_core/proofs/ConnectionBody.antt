@@ -228,9 +228,9 @@ last-waits client k source bs us rest s w h from reader is =
 -- the last number's body is given up
 reader-last : {R : Type 0} (client : Feed) (k : Kept) (old new : SourceState R) (bs : List Slot) (us : List (Option Waiting)) (rest : List Item) (s : Slot) (w : Waiting) (stage : Stage) → (h : IsWaiting s w) → IsInput k old → InputStands client k (bs ++ (s ∷ [])) rest
     → k.requests ≡ us ++ (Some w ∷ []) → GivesUp w.body old new
-    → InputStands client (with_reader k (us ++ (None ∷ [])) new) (bs ++ (finished_as (open_slot h.date h.request h.given h.end_reported) stage ∷ [])) rest
+    → InputStands client (with_reader k (us ++ (None ∷ [])) new) (bs ++ (finished_as (open_slot h.handed h.request h.given h.end_reported) stage ∷ [])) rest
 reader-last client k old new bs us rest s w stage h from reader is gives =
-    let t = finished_as (open_slot h.date h.request h.given h.end_reported) stage in
+    let t = finished_as (open_slot h.handed h.request h.given h.end_reported) stage in
     let r = h.request in
     let last : last_slot (bs ++ (t ∷ [])) ≡ Some t = last-snoc None bs t in
     let content : last_body (us ++ (None ∷ [])) ≡ None = body-snoc us None in
@@ -259,13 +259,13 @@ reader-last client k old new bs us rest s w stage h from reader is gives =
 -- A number's body is given up. `bs`, `cs`: the numbers before and behind; `us`, `vs`: what is kept of them.
 pub reader-given_up : {R : Type 0} (client : Feed) (k : Kept) (old new : SourceState R) (bs cs : List Slot) (us vs : List (Option Waiting)) (rest : List Item) (s : Slot) (w : Waiting) (stage : Stage) → (h : IsWaiting s w) → IsInput k old → InputStands client k (bs ++ (s ∷ cs)) rest
     → k.requests ≡ us ++ (Some w ∷ vs) → length cs ≡ length vs → GivesUp w.body old new
-    → InputStands client (with_reader k (us ++ (None ∷ vs)) new) (bs ++ (finished_as (open_slot h.date h.request h.given h.end_reported) stage ∷ cs)) rest
+    → InputStands client (with_reader k (us ++ (None ∷ vs)) new) (bs ++ (finished_as (open_slot h.handed h.request h.given h.end_reported) stage ∷ cs)) rest
 reader-given_up client k old new bs [] us [] rest s w stage h from reader is same gives = reader-last client k old new bs us rest s w stage h from reader is gives
 reader-given_up client k old new bs [] us (v ∷ vs) rest s w stage h from reader is same gives = absurd (omega (arith, same))
 reader-given_up client k old new bs (c ∷ cs) us [] rest s w stage h from reader is same gives = absurd (omega (arith, same))
 reader-given_up {R = R} client k old new bs (c ∷ cs) us (v ∷ vs) rest s w stage h from reader is same gives =
     let A : List (Option Waiting) → Type 0 = λ x. AreSettled x in
     let quiet = settled-place us (Some w) v vs (subst A is reader.settled) in
-    let t = finished_as (open_slot h.date h.request h.given h.end_reported) stage in
+    let t = finished_as (open_slot h.handed h.request h.given h.end_reported) stage in
     let P : SourceState R → Type 0 = λ x. InputStands client (with_reader k (us ++ (None ∷ (v ∷ vs))) x) (bs ++ (t ∷ (c ∷ cs))) rest in
     subst P (sym (given-same w.body old new gives quiet)) (reader-within client k old bs cs us vs rest s t c v None (Some w) from reader is tt)

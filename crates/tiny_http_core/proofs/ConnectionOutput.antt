@@ -1,39 +1,43 @@
 -- The output, as texts are sent one after another.
-use Rattle.std.proofs.Common.{◌≡◌, refl, sym, ap, ◌∙◌, subst, ℕ, ◌+◌, ◌-◌, ◌<◌, ◌^◌, ◌⊎◌, inl, inr, ⊎_elim, Bool, true, false, ◌||◌, List, [], ◌∷◌, ◌++◌, length, Option, Some, None, arith, append-nil}
-use Rattle.std.specs.Prelude.{MatchBool, is_some}
-use Rattle.std.specs.List.{list_all}
+use Rattle.std.proofs.Common.{◌≡◌, refl, sym, ap, ◌∙◌, subst, ℕ, ◌+◌, ◌-◌, ◌<◌, ◌^◌, ◌⊎◌, inl, inr, ⊎_elim, Bool, true, false, not, ◌&&◌, ◌||◌, List, [], ◌∷◌, ◌++◌, length, Option, Some, None, arith, append_assoc, append-nil}
+use Rattle.std.specs.Prelude.{MatchBool, is_some, if◌then◌else◌}
+use Rattle.std.specs.List.{list_all, AllByRecursion}
 use Rattle.std.specs.Io.KnownBytes.{append_known}
 use Rattle.std.specs.declared.io.ErrorKind.{ErrorKind}
 use Rattle.std.proofs.lemmas.Bool.{and_parts}
 use Rattle.tiny_http_wire.specs.Device.{Sink, IsFront, IsKnownFront, BeginsKnown, IsAllKnown, HoldsNothing, StatesKind, next_count}
 use Rattle.tiny_http_device.proofs.DeviceLemmas.{IsFront-append}
 use Rattle.tiny_http_message.specs.declared.waiting.Waiting.{Waiting}
-use Rattle.tiny_http_core.specs.Slots.{Slot, is_finished, joined, is_output_broken}
+use Rattle.tiny_http_core.specs.Slots.{Slot, is_finished, is_slot_broken, segment, joined, is_output_broken}
 use Rattle.tiny_http_core.specs.Conversation.{Failure, finished_front}
 use Rattle.tiny_http_core.proofs.ConversationWriting.{FailsBetween}
 use Rattle.tiny_http_sending.specs.Sending.{CanSend, IsFlushed, OutletFailed, Idles, SendsUnlessEnded}
 use Rattle.tiny_http_turns.specs.Turns.{Mark, Open, Held, Left, Finished, AreOpenOrLeft}
 use Rattle.tiny_http_core.specs.Pending.{left_text, begins_left}
-use Rattle.tiny_http_core.specs.Connection.{AreKept, OutputAt}
-use Rattle.tiny_http_core.proofs.SlotsLemmas.{joined-front, joined-broken, breaks-front}
+use Rattle.tiny_http_core.specs.Connection.{AreKept, IsUncontinued, OutputAt}
+use Rattle.tiny_http_core.proofs.SlotsLemmas.{joined-front, joined-broken, breaks-front, breaks-waits}
 use Rattle.std.proofs.Math.Bool.{or-false}
 
 -- what stands after a number whose turn has come: the texts that were left, up to one that waits
-pub joined_behind : (cs : List Slot) (rs : List Mark) (vs : List (Option Waiting)) → AreOpenOrLeft rs → AreKept cs rs vs → (joined cs ≡ left_text rs) × (is_output_broken cs ≡ false)
-joined_behind [] [] vs w h = (refl, refl)
-joined_behind [] (r ∷ rs) vs w h = absurd h
-joined_behind (c ∷ cs) [] vs w h = absurd h
-joined_behind (c ∷ cs) (r ∷ rs) [] w h = absurd h
-joined_behind (c ∷ cs) (Open ∷ rs) (None ∷ vs) w h = absurd h.0
-joined_behind (c ∷ cs) (Open ∷ rs) (Some q ∷ vs) w h =
-    let P : Slot → Type 0 = λ x. (joined (x ∷ cs) ≡ []) × (is_output_broken (x ∷ cs) ≡ false) in
-    subst P (sym h.0.is) (refl, refl)
-joined_behind (c ∷ cs) (Held ∷ rs) (v ∷ vs) w h = absurd w
-joined_behind (c ∷ cs) (Left text ∷ rs) (None ∷ vs) w h =
-    let k = joined_behind cs rs vs w h.1 in
+pub joined_behind : (cs : List Slot) (rs : List Mark) (vs : List (Option Waiting)) → AreOpenOrLeft rs → AllByRecursion IsUncontinued cs → AreKept cs rs vs → (joined cs ≡ left_text rs) × (is_output_broken cs ≡ false)
+joined_behind [] [] vs w u h = (refl, refl)
+joined_behind [] (r ∷ rs) vs w u h = absurd h
+joined_behind (c ∷ cs) [] vs w u h = absurd h
+joined_behind (c ∷ cs) (r ∷ rs) [] w u h = absurd h
+joined_behind (c ∷ cs) (Open ∷ rs) (None ∷ vs) w u h = absurd h.0
+joined_behind (c ∷ cs) (Open ∷ rs) (Some q ∷ vs) w u h =
+    let P : Slot → Type 0 = λ x. x.continued ≡ None → (joined (x ∷ cs) ≡ []) × (is_output_broken (x ∷ cs) ≡ false) in
+    subst P (sym h.0.is) (λ none. (rw none refl, refl)) u.0
+joined_behind (c ∷ cs) (Held ∷ rs) (v ∷ vs) w u h = absurd w
+joined_behind (c ∷ cs) (Left text ∷ rs) (None ∷ vs) w u h =
+    let k = joined_behind cs rs vs w u.1 h.1 in
     (rw (h.0.done.finished, h.0.whole) (ap (λ y. y ++ joined cs) h.0.same ∙ ap (λ y. text ++ y) k.0), rw (h.0.done.finished, h.0.whole) k.1)
-joined_behind (c ∷ cs) (Left text ∷ rs) (Some q ∷ vs) w h = absurd h.0
-joined_behind (c ∷ cs) (Finished ∷ rs) (v ∷ vs) w h = absurd w
+joined_behind (c ∷ cs) (Left text ∷ rs) (Some q ∷ vs) w u h = absurd h.0
+joined_behind (c ∷ cs) (Finished ∷ rs) (v ∷ vs) w u h = absurd w
+
+-- these segments, if they follow
+abbrev pub joined_if : Bool → List Slot → List ℕ
+joined_if t slots = if t then joined slots else []
 
 -- how many numbers are finished in front
 pub front-all : (bs xs : List Slot) → list_all is_finished bs ≡ true → finished_front (bs ++ xs) ≡ length bs + finished_front xs
@@ -121,35 +125,48 @@ pub record Goes (before new : Sink) (was ended : Bool) (old slots : List Slot) (
   pub writes : MatchBool was (failure ≡ failed) ((failure ≡ None) ⊎ FailsBetween (joined old) (joined slots) failure)
   pub same : failure ≡ None → was ≡ true → (failed ≡ None) × (joined old ≡ joined slots)
 
-goes-idle : (before sink new : Sink) (ended : Bool) (bs xs : List Slot) (failure : Option Failure) → OutputAt before sink true bs failure → list_all is_finished bs ≡ true → Idles sink new → ended ≡ true → Goes before new true ended bs (bs ++ xs) failure
-goes-idle before sink new ended bs xs None h fin i z =
-    let breaks : is_output_broken bs ≡ true = sym h.3 in
-    let all : is_output_broken (bs ++ xs) ≡ is_output_broken bs = breaks-front bs xs fin ∙ rw breaks refl in
-    let P : Bool → Type 0 = λ x. OutputAt before new x (bs ++ xs) None in
-    record { failure = None; output = subst P (sym z) (output-same before new true bs (bs ++ xs) None (sym (joined-broken bs xs breaks)) (sym all) (output-idle before sink new bs None h i)); writes = refl; same = λ n z. (refl, sym (joined-broken bs xs breaks)) }
-goes-idle before sink new ended bs xs (Some f) h fin i z =
-    let P : Bool → Type 0 = λ x. OutputAt before new x (bs ++ xs) (Some f) in
-    record { failure = Some f; output = subst P (sym z) (output-idle before sink new bs (Some f) h i); writes = refl; same = λ n z. (let no : Some f ≡ None = n in cc) }
+-- the same numbers, after which a whole text more is sent
+pub record More (old slots : List Slot) (text : List ℕ) : Type 0 where
+  pub breaks : is_output_broken slots ≡ is_output_broken old
+  pub longer : is_output_broken old ≡ false → joined old ++ text ≡ joined slots
+  pub broken : is_output_broken old ≡ true → joined old ≡ joined slots
 
-pub output-more : (before sink new : Sink) (e ended : Bool) (bs xs : List Slot) (text : List ℕ) (failure : Option Failure) → OutputAt before sink e bs failure → list_all is_finished bs ≡ true → joined xs ≡ text → is_output_broken xs ≡ false
-    → before.failures < 2 ^ 64 - 1 → SendsUnlessEnded e sink new ended text → IsFlushed new → Goes before new e ended bs (bs ++ xs) failure
-output-more before sink new true ended bs xs text failure h fin is whole low sends firm = goes-idle before sink new ended bs xs failure h fin sends.0 sends.1
-output-more before sink new false ended bs xs text (Some f) h fin is whole low sends firm = let none : false ≡ true = h.3 in cc
-output-more before sink new false ended bs xs text None h fin is whole low sends firm =
-    let none : is_output_broken bs ≡ false = sym h.3 in
-    let longer : joined bs ++ text ≡ joined (bs ++ xs) = ap (λ y. joined bs ++ y) (sym is) ∙ sym (joined-front bs xs fin none) in
-    let breaks : is_output_broken (bs ++ xs) ≡ false = breaks-front bs xs fin ∙ rw (none, whole) refl in
+-- numbers behind those that are finished
+pub more-behind : (bs xs : List Slot) (text : List ℕ) → list_all is_finished bs ≡ true → joined xs ≡ text → is_output_broken xs ≡ false → More bs (bs ++ xs) text
+more-behind bs xs text fin is whole = record {
+  breaks = breaks-front bs xs fin ∙ ap (λ x. is_output_broken bs || x) whole ∙ or-false (is_output_broken bs);
+  longer = λ none. ap (λ y. joined bs ++ y) (sym is) ∙ sym (joined-front bs xs fin none);
+  broken = λ b. sym (joined-broken bs xs b);
+}
+
+goes-idle : (before sink new : Sink) (ended : Bool) (old slots : List Slot) (text : List ℕ) (failure : Option Failure) → OutputAt before sink true old failure → More old slots text → Idles sink new → ended ≡ true → Goes before new true ended old slots failure
+goes-idle before sink new ended old slots text None h m i z =
+    let breaks : is_output_broken old ≡ true = sym h.3 in
+    let P : Bool → Type 0 = λ x. OutputAt before new x slots None in
+    record { failure = None; output = subst P (sym z) (output-same before new true old slots None (m.broken breaks) (sym m.breaks) (output-idle before sink new old None h i)); writes = refl; same = λ n z. (refl, m.broken breaks) }
+goes-idle before sink new ended old slots text (Some f) h m i z =
+    let P : Bool → Type 0 = λ x. OutputAt before new x slots (Some f) in
+    record { failure = Some f; output = subst P (sym z) (output-idle before sink new old (Some f) h i); writes = refl; same = λ n z. (let no : Some f ≡ None = n in cc) }
+
+pub output-more : (before sink new : Sink) (e ended : Bool) (old slots : List Slot) (text : List ℕ) (failure : Option Failure) → OutputAt before sink e old failure → More old slots text → before.failures < 2 ^ 64 - 1 → SendsUnlessEnded e sink new ended text → IsFlushed new
+    → Goes before new e ended old slots failure
+output-more before sink new true ended old slots text failure h m low sends firm = goes-idle before sink new ended old slots text failure h m sends.0 sends.1
+output-more before sink new false ended old slots text (Some f) h m low sends firm = let none : false ≡ true = h.3 in cc
+output-more before sink new false ended old slots text None h m low sends firm =
+    let none : is_output_broken old ≡ false = sym h.3 in
+    let longer : joined old ++ text ≡ joined slots = m.longer none in
+    let breaks : is_output_broken slots ≡ false = m.breaks ∙ none in
     ⊎_elim
     (λ k.
-    let taken : new.taken ≡ Some (joined (bs ++ xs)) = k.2.bytes ∙ ap (λ x. append_known x text) h.0 ∙ ap Some longer in
+    let taken : new.taken ≡ Some (joined slots) = k.2.bytes ∙ ap (λ x. append_known x text) h.0 ∙ ap Some longer in
     record {
       failure = None;
-      output = (taken, k.2.failures ∙ h.1, k.1 ∙ sym k.0, k.0 ∙ sym breaks, λ z. all-firm new (joined (bs ++ xs)) taken (firm k.1));
+      output = (taken, k.2.failures ∙ h.1, k.1 ∙ sym k.0, k.0 ∙ sym breaks, λ z. all-firm new (joined slots) taken (firm k.1));
       writes = inl refl;
       same = λ n z. (let no : false ≡ true = z in cc);
     })
     (λ k.
-    let z = lost-output before sink new (joined bs) text k.2 h.0 h.1 (h.4 refl) low k.3 in
+    let z = lost-output before sink new (joined old) text k.2 h.0 h.1 (h.4 refl) low k.3 in
     let f : Failure = record { kind = k.2; output = z.output } in
     let S : List ℕ → Type 0 = λ x. IsFront z.output x in
     record {
@@ -159,6 +176,34 @@ output-more before sink new false ended bs xs text None h fin is whole low sends
       same = λ n z. (let no : false ≡ true = z in cc);
     })
     sends
+
+-- A number whose turn has come, and of which so much was sent, has sent this text more, whole or not.
+pub record Longer (old bs : List Slot) (s : Slot) (text : List ℕ) : Type 0 where
+  pub breaks : is_output_broken old ≡ is_output_broken bs
+  pub longer : is_output_broken bs ≡ false → (xs : List Slot) → joined (bs ++ (s ∷ xs)) ≡ (joined old ++ text) ++ joined_if (is_finished s && not (is_slot_broken s)) xs
+  pub broken : is_output_broken bs ≡ true → (xs : List Slot) → joined (bs ++ (s ∷ xs)) ≡ joined old
+
+pub longer-at : (old bs cs : List Slot) (s t : Slot) (text : List ℕ) → old ≡ bs ++ (s ∷ cs) → list_all is_finished bs ≡ true → is_finished s ≡ false → is_slot_broken s ≡ false → segment t ≡ segment s ++ text → Longer old bs t text
+longer-at old bs cs s t text e fin open_is whole own = record {
+  breaks = ap is_output_broken e ∙ breaks-waits bs s cs whole open_is;
+  longer = λ none xs. joined-front bs (t ∷ xs) fin none ∙ ap (λ y. joined bs ++ (y ++ rest xs)) own ∙ seam (joined bs) (segment s) text (rest xs)
+      ∙ ap (λ y. (y ++ text) ++ rest xs) (sym (ap joined e ∙ joined-front bs (s ∷ cs) fin none ∙ rw open_is (ap (λ y. joined bs ++ y) (append-nil (segment s)))));
+  broken = λ b xs. joined-broken bs (t ∷ xs) b ∙ sym (ap joined e ∙ joined-broken bs (s ∷ cs) b);
+}
+  where
+    rest : List Slot → List ℕ
+    rest xs = joined_if (is_finished t && not (is_slot_broken t)) xs
+
+    seam : (a o u x : List ℕ) → a ++ ((o ++ u) ++ x) ≡ ((a ++ o) ++ u) ++ x
+    seam a o u x = sym (append_assoc a (o ++ u) x) ∙ ap (λ y. y ++ x) (sym (append_assoc a o u))
+
+-- with nothing behind it
+pub longer-alone : (old bs : List Slot) (s : Slot) (text : List ℕ) → Longer old bs s text → is_output_broken bs ≡ false → joined old ++ text ≡ joined (bs ++ (s ∷ []))
+longer-alone old bs s text l none = sym (l.longer none [] ∙ none-behind (is_finished s && not (is_slot_broken s)) (joined old ++ text))
+  where
+    none-behind : (t : Bool) (x : List ℕ) → x ++ joined_if t [] ≡ x
+    none-behind true x = append-nil x
+    none-behind false x = append-nil x
 
 -- an output that has not ended can send
 pub can-send : (before sink : Sink) (e : Bool) (slots : List Slot) (failure : Option Failure) → OutputAt before sink e slots failure → before.failures < 2 ^ 64 - 1 → e ≡ false → CanSend sink

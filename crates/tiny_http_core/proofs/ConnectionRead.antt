@@ -25,7 +25,7 @@ use Rattle.tiny_http_core.specs.Conversation.{State, PlaceAt, HasOutcome}
 use Rattle.tiny_http_message.specs.Body.{Remaining, remaining, taken_remaining, prepend_body, prepended_body, BodyStops, NoneRemains, is_streaming, body_standing, IsBodyOver, ReadsOn, Fits, FillsFromBody}
 use Rattle.tiny_http_turns.specs.Turns.{Mark, Open}
 use Rattle.tiny_http_core.specs.Pending.{last_body, is_streaming_body}
-use Rattle.tiny_http_core.specs.Connection.{Kept, open_slot, IsWaiting, AreKept, AreSettled, behind_body, slot_rest, GivesRest, is_past_last, InputStands, Stands}
+use Rattle.tiny_http_core.specs.Connection.{Kept, open_slot, IsWaiting, AreContinuedInTurn, AreKept, AreSettled, behind_body, slot_rest, GivesRest, is_past_last, InputStands, Stands}
 use Rattle.tiny_http_stream.proofs.SourceGoesOn.{goes-on_more}
 use Rattle.tiny_http_core.proofs.ConnectionAsk.{StepIsAnswered, step-unchanged, settled-any, stated-feed}
 use Rattle.tiny_http_message.proofs.BodyReads.{stays-settled}
@@ -34,7 +34,8 @@ use Rattle.tiny_http_core.proofs.ConnectionKept.{KeptAt, place-of, kept-append, 
 use Rattle.tiny_http_core.proofs.ConnectionOutput.{output-same}
 use Rattle.tiny_http_core.proofs.ConnectionReader.{last-snoc, body-snoc, settled-place, settled-set, and-false}
 use Rattle.tiny_http_core.proofs.ConnectionRespond.{TakesNone, SlotAt, slot-at, set-place}
-use Rattle.tiny_http_core.proofs.SlotsLemmas.{joined-waits, breaks-waits}
+use Rattle.tiny_http_core.proofs.SlotsLemmas.{joined-alike, breaks-waits}
+use Rattle.tiny_http_core.proofs.ConnectionTurns.{turn-set}
 use Rattle.std.proofs.Math.Bool.{or-true, or-false}
 use Rattle.std.proofs.Math.Seq.{take-append_seam}
 use Rattle.std.proofs.Math.Seq.{drop-append_seam}
@@ -251,7 +252,7 @@ read-on b c old new r given end_reported n (Err kind) buf y here rest fits le si
 
 -- the slot of a request, of which so much was read
 abbrev read_slot : (s : Slot) (w : Waiting) → IsWaiting s w → ℕ → Slot
-read_slot s w h n = open_slot h.date h.request (now_given h.request h.given n) (end_now_reported h.request h.given h.end_reported n)
+read_slot s w h n = open_slot h.handed h.request (now_given h.request h.given n) (end_now_reported h.request h.given h.end_reported n)
 
 abbrev with_body : Waiting → Body → Waiting
 with_body w b = record w { body = b }
@@ -259,11 +260,12 @@ with_body w b = record w { body = b }
 still-waiting : (s : Slot) (w : Waiting) (h : IsWaiting s w) (c : Body) (old new : Option Feed) (n : ℕ) (reply : ReplyValue) → ReadOn w.body c old new h.request h.given h.end_reported n reply → IsWaiting (read_slot s w h n) (with_body w c)
 still-waiting s w h c old new n reply k = record {
   request = h.request;
-  date = h.date;
+  handed = h.handed;
   given = now_given h.request h.given n;
   end_reported = end_now_reported h.request h.given h.end_reported n;
   is = refl;
-  unowed = h.unowed;
+  owed = h.owed;
+  unsent = h.unsent;
   rest_is_last = h.rest_is_last;
   answer_context = h.answer_context;
   text = h.text;
@@ -344,25 +346,25 @@ read-not_taken k n (Upgraded p r d w true) owed e = refl
 read-not_taken k n (Upgraded p r d w false) owed e = cc
 
 -- the step at a request that waits
-at-read : (date : HttpDate) (old : Reached) (k n : ℕ) (s : Slot) (w : Waiting) (h : IsWaiting s w) → slice_get old.slots k ≡ Some s
-    → at_number true date old k (Read k n) ≡ effect true date old h.request (open_slot h.date h.request h.given h.end_reported) (turn_has_come k old.slots) (Read k n)
-at-read date old k n s w h e =
+at-read : (date : HttpDate) (old : Reached) (k n : ℕ) (s : Slot) (w : Waiting) (h : IsWaiting s w) → w.owes_continue ≡ false → slice_get old.slots k ≡ Some s
+    → at_number true date old k (Read k n) ≡ effect true date old h.request (open_slot h.handed h.request h.given h.end_reported) (turn_has_come k old.slots) (Read k n)
+at-read date old k n s w h free e =
     let T : Slot → Outcome = λ x. at_slot true date old k (Read k n) (Some x) in
-    ap (at_slot true date old k (Read k n)) e ∙ ap T h.is ∙ rw h.unowed refl
+    ap (at_slot true date old k (Read k n)) e ∙ ap T h.is ∙ rw (sym h.owed ∙ free) refl
 
 -- no bytes are asked for
-pub read-none : (client : Feed) (before : Sink) (k : Kept) (s : State) (date : HttpDate) (j n : ℕ) (w : Waiting) → Stands client before k s → slice_get k.requests j ≡ Some (Some w) → n ≡ 0 → StepIsAnswered client before k s date (Read j n) (Given [])
-read-none client before k s date j n w st e zero =
+pub read-none : (client : Feed) (before : Sink) (k : Kept) (s : State) (date : HttpDate) (j n : ℕ) (w : Waiting) → Stands client before k s → slice_get k.requests j ≡ Some (Some w) → w.owes_continue ≡ false → n ≡ 0 → StepIsAnswered client before k s date (Read j n) (Given [])
+read-none client before k s date j n w st e free zero =
     let p = place-of s.reached.slots k.marks k.requests j w st.numbers e in
     let at = slot-at s.reached.slots p.bs p.cs p.s j p.slots_are p.slots_before in
-    step-unchanged client before k s date (Read j n) (Given []) st (at-read date s.reached j n p.s w p.waiting at.get ∙ rw zero refl)
+    step-unchanged client before k s date (Read j n) (Given []) st (at-read date s.reached j n p.s w p.waiting free at.get ∙ rw zero refl)
 
 -- no memory was found
-pub read-memory : (client : Feed) (before : Sink) (k : Kept) (s : State) (date : HttpDate) (j n : ℕ) (w : Waiting) → Stands client before k s → slice_get k.requests j ≡ Some (Some w) → 0 < n → StepIsAnswered client before k s date (Read j n) Memory
-read-memory client before k s date j n w st e some =
+pub read-memory : (client : Feed) (before : Sink) (k : Kept) (s : State) (date : HttpDate) (j n : ℕ) (w : Waiting) → Stands client before k s → slice_get k.requests j ≡ Some (Some w) → w.owes_continue ≡ false → 0 < n → StepIsAnswered client before k s date (Read j n) Memory
+read-memory client before k s date j n w st e free some =
     let p = place-of s.reached.slots k.marks k.requests j w st.numbers e in
     let at = slot-at s.reached.slots p.bs p.cs p.s j p.slots_are p.slots_before in
-    let is = at-read date s.reached j n p.s w p.waiting at.get in
+    let is = at-read date s.reached j n p.s w p.waiting free at.get in
     let left = drop p.waiting.given p.waiting.request.body.bytes in
     (s, st, inr (some, (λ none. such n left p.waiting.request.body.stop (n == 0) _ _ refl refl (ap (λ (o : Outcome). o.reply) (sym is) ∙ none)), refl, refl))
   where
@@ -373,16 +375,17 @@ read-memory client before k s date j n w st e some =
     such n (z ∷ left) stop false a b x y e = let no : Given (take n (z ∷ left)) ≡ NoSuch = sym y ∙ e in cc
 
 -- the body was read
-pub read-done : {R : Type 0} (client : Feed) (before : Sink) (k : Kept) (s : State) (date : HttpDate) (j n : ℕ) (w : Waiting) (c : Body) (old new : SourceState R) (requests : List (Option Waiting)) (result : Result ℕ ErrorKind) (buf : List ℕ) → Stands client before k s → slice_get k.requests j ≡ Some (Some w)
+pub read-done : {R : Type 0} (client : Feed) (before : Sink) (k : Kept) (s : State) (date : HttpDate) (j n : ℕ) (w : Waiting) (c : Body) (old new : SourceState R) (requests : List (Option Waiting)) (result : Result ℕ ErrorKind) (buf : List ℕ) → Stands client before k s → slice_get k.requests j ≡ Some (Some w) → w.owes_continue ≡ false
     → requests ≡ slice_set k.requests j (Some (with_body w c)) → IsInput k old → IfBound result buf → length buf ≡ n → 0 < n → FillsFromBody w.body old.feed c new.feed result buf → (is_streaming w.body ≡ false → new ≡ old) → (is_streaming w.body ≡ true → new.standing ≡ body_standing c old.standing) → GoesOn old.feed new.feed
     → StepIsAnswered client before (with_reader k requests new) s date (Read j n) (reply_for result buf)
-read-done {R = R} client before k s date j n w c old new requests result buf st e requests_are from bound size some fills leaves stands goes =
+read-done {R = R} client before k s date j n w c old new requests result buf st e free requests_are from bound size some fills leaves stands goes =
     let R : List (Option Waiting) → Type 0 = λ l. StepIsAnswered client before (with_reader k l new) s date (Read j n) (reply_for result buf) in
     subst R (sym set) (
       state,
       record {
         numbers = subst M (sym p.marks_are) (kept-append p.bs p.fs p.us (s1 ∷ p.cs) (Open ∷ p.rs) (Some (with_body w c) ∷ p.vs) p.before (still-waiting p.s w h c old.feed new.feed n (reply_for result buf) on, p.behind));
         shape = st.shape;
+        in_turn = turn-set p.bs p.cs s0 s1 refl (λ none. none) (subst T open_is st.in_turn);
         asking_ended = st.asking_ended;
         flushed = λ none. st.flushed none ∙ joined_same;
         reader = reader-read client k old new p.bs p.cs p.us p.vs s.reached.rest p.s w c n (reply_for result buf) h from (subst P p.slots_are st.reader) p.requests_are many on leaves stands goes;
@@ -423,14 +426,20 @@ read-done {R = R} client before k s date j n w c old new requests result buf st 
     at : SlotAt s.reached.slots p.bs p.cs p.s j
     at = slot-at s.reached.slots p.bs p.cs p.s j p.slots_are p.slots_before
 
-    open_is : s.reached.slots ≡ p.bs ++ (open_slot h.date h.request h.given h.end_reported ∷ p.cs)
+    s0 : Slot
+    s0 = open_slot h.handed h.request h.given h.end_reported
+
+    T : List Slot → Type 0
+    T x = AreContinuedInTurn x
+
+    open_is : s.reached.slots ≡ p.bs ++ (s0 ∷ p.cs)
     open_is = p.slots_are ∙ ap (λ x. p.bs ++ (x ∷ p.cs)) h.is
 
     joined_same : joined s.reached.slots ≡ joined slots
-    joined_same = ap joined open_is ∙ joined-waits p.bs (open_slot h.date h.request h.given h.end_reported) p.cs refl refl ∙ sym (joined-waits p.bs s1 p.cs refl refl)
+    joined_same = ap joined open_is ∙ joined-alike p.bs s0 s1 p.cs refl refl refl
 
     breaks_same : is_output_broken s.reached.slots ≡ is_output_broken slots
-    breaks_same = ap is_output_broken open_is ∙ breaks-waits p.bs (open_slot h.date h.request h.given h.end_reported) p.cs refl refl ∙ sym (breaks-waits p.bs s1 p.cs refl refl)
+    breaks_same = ap is_output_broken open_is ∙ breaks-waits p.bs s0 p.cs refl refl ∙ sym (breaks-waits p.bs s1 p.cs refl refl)
 
     state : State
     state = record { reached = record { slots = slots; rest = s.reached.rest; asking_ended = s.reached.asking_ended }; flushed = s.flushed; failure = s.failure }
@@ -442,4 +451,4 @@ read-done {R = R} client before k s date j n w c old new requests result buf st 
     G o = HasOutcome o s (reply_for result buf) state
 
     is : at_number true date s.reached j (Read j n) ≡ changes s.reached j s1 (read_reply n (drop h.given h.request.body.bytes) h.request.body.stop) Unused
-    is = at-read date s.reached j n p.s w h at.get ∙ rw (ne_eqb n 0 (λ z. absurd (omega (arith, z, some)))) refl
+    is = at-read date s.reached j n p.s w h free at.get ∙ rw (ne_eqb n 0 (λ z. absurd (omega (arith, z, some)))) refl

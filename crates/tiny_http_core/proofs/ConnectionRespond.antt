@@ -1,7 +1,7 @@
 -- A Respond: from where the connection stands to where it stands after it.
 use Rattle.std.proofs.Common.{◌≡◌, refl, sym, ap, ◌∙◌, subst, ℕ, ◌+◌, ◌-◌, ◌<◌, ◌^◌, ◌⊎◌, inl, inr, ⊎_elim, Bool, true, false, ◌&&◌, ◌||◌, List, [], ◌∷◌, ◌++◌, length, Option, Some, None, Result, Ok, Err, arith, append_assoc, append-nil}
 use Rattle.std.specs.Prelude.{MatchBool, is_some, slice_get, slice_set}
-use Rattle.std.specs.List.{list_all}
+use Rattle.std.specs.List.{list_all, AllByRecursion}
 use Rattle.std.specs.Io.KnownBytes.{append_known}
 use Rattle.std.specs.IoError.{error_kind}
 use Rattle.std.specs.declared.io.Error.{Error}
@@ -14,7 +14,7 @@ use Rattle.tiny_http_message.specs.declared.waiting.Waiting.{Waiting}
 use Rattle.tiny_http_message.specs.Pipeline.{Item, Asks, Refuses, Request}
 use Rattle.tiny_http_sending.specs.ResponseValue.{ResponseValue}
 use Rattle.tiny_http_wire.specs.Answer.{IsGathered}
-use Rattle.tiny_http_core.specs.Slots.{Slot, Stage, Unanswered, Answered as AnsweredBy, ByServer, Raw, Upgraded, is_stage_finished, is_finished, is_broken, is_slot_broken, segment, joined, is_output_broken, last_slot, turn_has_come, to_request, text_if}
+use Rattle.tiny_http_core.specs.Slots.{Slot, Stage, Unanswered, Answered as AnsweredBy, ByServer, Raw, Upgraded, is_stage_finished, is_finished, is_broken, is_slot_broken, segment, stage_text, opening, joined, is_output_broken, last_slot, turn_has_come, to_request, text_if}
 use Rattle.tiny_http_core.specs.Steps.{StepValue, outcome, Respond, ReplyValue, Done, NoSuch, NotYet, Outcome, Reached, unchanged, changes, finished_as, accepts_step, fault_in, fault_reply, at_item, at_slot, at_number}
 use Rattle.tiny_http_core.specs.Conversation.{Failure, State, has_output_ended, finished_front, flushed_after, CanMeet, WriterPart, HasOutcome, GathersAt, MayLack}
 use Rattle.tiny_http_core.proofs.ConversationWriting.{FailsBetween, FailsReported, FailsBehind, broken_reply, used, WritesIf, IsAllFlushed, reported, still-flushed}
@@ -23,14 +23,15 @@ use Rattle.tiny_http_core.specs.Seen.{Answers, reply_to}
 use Rattle.tiny_http_sending.specs.Sending.{CanSend, OutletTook, OutletFailed, IsFlushed, SendsText, SendsUnlessEnded}
 use Rattle.tiny_http_turns.specs.Turns.{Mark, Open, Held, Finished, AreInShape, first_unfinished}
 use Rattle.tiny_http_core.specs.Pending.{left_text, with_left_finished, begins_left, SendsLeft, FinishesFront, waiting_answer_context}
-use Rattle.tiny_http_core.specs.Connection.{Kept, answer_context_of, open_slot, IsWaiting, AreKept, OutputAt, InputStands, Stands}
+use Rattle.tiny_http_core.specs.Connection.{Kept, answer_context_of, HandedOut, open_slot, IsWaiting, IsUncontinued, AreContinuedInTurn, AreKept, OutputAt, InputStands, Stands}
 use Rattle.tiny_http_stream.specs.Source.{SourceState}
 use Rattle.tiny_http_message.specs.Body.{GivesUp}
 use Rattle.tiny_http_core.proofs.ConnectionBody.{IsInput, with_reader, next-same, reader-given_up}
 use Rattle.tiny_http_core.proofs.ConnectionAsk.{StepIsAnswered, step-unchanged}
-use Rattle.tiny_http_core.proofs.SlotsLemmas.{all-snoc, joined-front, joined-broken, joined-waits, breaks-front, breaks-waits}
+use Rattle.tiny_http_core.proofs.SlotsLemmas.{all-snoc, joined-front, joined-broken, breaks-front, breaks-waits}
 use Rattle.tiny_http_core.proofs.ConnectionKept.{get-at, set-at, take-at, kept-append, kept-many, kept-passed, none-waits, place-of, InTurn, OutOfTurn, turn-at}
-use Rattle.tiny_http_core.proofs.ConnectionOutput.{joined_behind, front-all, left-finished, lost-output, all-firm, ended-is, output-same, plain-more, can-send, output-more}
+use Rattle.tiny_http_core.proofs.ConnectionOutput.{joined_behind, front-all, left-finished, lost-output, all-firm, ended-is, output-same, plain-more, can-send, more-behind, output-more, Longer, longer-at, longer-alone}
+use Rattle.tiny_http_core.proofs.ConnectionTurns.{turn-set, behind-turn}
 use Rattle.tiny_http_core.proofs.PendingLemmas.{none-left}
 use Rattle.tiny_http_sending.proofs.SendingLemmas.{or-parts}
 
@@ -98,13 +99,13 @@ respond-not_yet client before k s date n v w st e never =
     step-unchanged client before k s date (Respond n v) NotYet st (ap (at_slot true date s.reached n (Respond n v)) at.get ∙ is)
 
 -- the slot after the response
-abbrev pub answered_slot : HttpDate → Request → ℕ → Bool → ResponseValue → HttpDate → Bool → Slot
+abbrev pub answered_slot : HandedOut → Request → ℕ → Bool → ResponseValue → HttpDate → Bool → Slot
 answered_slot asked r given end_reported v date found = finished_as (open_slot asked r given end_reported) (AnsweredBy v date found)
 
 abbrev pub response_sent : Bool → ResponseValue → Request → HttpDate → Text
 response_sent found v r date = text_if found v (to_request r date)
 
-at-turn : (date asked : HttpDate) (old : Reached) (n : ℕ) (v : ResponseValue) (r : Request) (given : ℕ) (end_reported found : Bool) → slice_get old.slots n ≡ Some (open_slot asked r given end_reported) → turn_has_come n old.slots ≡ true
+at-turn : (date : HttpDate) (asked : HandedOut) (old : Reached) (n : ℕ) (v : ResponseValue) (r : Request) (given : ℕ) (end_reported found : Bool) → slice_get old.slots n ≡ Some (open_slot asked r given end_reported) → turn_has_come n old.slots ≡ true
     → at_number found date old n (Respond n v) ≡ changes old n (answered_slot asked r given end_reported v date found) Done (used (response_sent found v r date))
 at-turn date asked old n v r given end_reported found e t = ap (at_slot found date old n (Respond n v)) e ∙ rw t refl
 
@@ -120,20 +121,20 @@ OwnWrites was failed known text reply failure =
     ⊎ ((CanMeet text.bytes (fault_in text.ending) × FailsReported fault_reply reply known (known ++ text.bytes) failure)
     ⊎ ((kind : ErrorKind) × (text.ending ≡ Broken kind) × (reply ≡ broken_reply fault_reply Done (fault_in text.ending)) × FailsBetween known (known ++ text.bytes) failure)))
 
-pub record OwnSaid (before mid : Sink) (was ended : Bool) (bs : List Slot) (s1 : Slot) (text : Text) (failed : Option Failure) (reply : ReplyValue) : Type 0 where
+pub record OwnSaid (before mid : Sink) (was ended : Bool) (old bs : List Slot) (s1 : Slot) (text : Text) (failed : Option Failure) (reply : ReplyValue) : Type 0 where
   pub failure : Option Failure
   pub output : OutputAt before mid ended (bs ++ (s1 ∷ [])) failure
-  pub writes : OwnWrites was failed (joined bs) text reply failure
+  pub writes : OwnWrites was failed (joined old) text reply failure
 
 reported-broken : (text : Text) (kind : ErrorKind) (reply : ReplyValue) → text.ending ≡ Broken kind → reply ≡ fault_reply kind → reply ≡ broken_reply fault_reply Done (fault_in text.ending)
 reported-broken text kind reply e t = t ∙ ap (λ x. broken_reply fault_reply Done (fault_in x)) (sym e)
 
-own-said : {T : Type 0} (before sink mid : Sink) (ended : Bool) (bs : List Slot) (s1 : Slot) (text : Text) (r : Result T Error) (reply : ReplyValue) → OutputAt before sink false bs None → list_all is_finished bs ≡ true → is_finished s1 ≡ true
-    → segment s1 ≡ text.bytes → is_slot_broken s1 ≡ is_broken text.ending → before.failures < 2 ^ 64 - 1 → SendsText sink mid ended r text → IsFlushed mid → reply ≡ reply_to r → OwnSaid before mid false ended bs s1 text None reply
-own-said before sink mid ended bs s1 text (Ok x) reply h fin over own broken low d flushed t =
-    let none : is_output_broken bs ≡ false = sym h.3 in
+own-said : {T : Type 0} (before sink mid : Sink) (ended : Bool) (old bs : List Slot) (s1 : Slot) (text : Text) (r : Result T Error) (reply : ReplyValue) → OutputAt before sink false old None → Longer old bs s1 text.bytes → list_all is_finished bs ≡ true → is_finished s1 ≡ true
+    → is_slot_broken s1 ≡ is_broken text.ending → before.failures < 2 ^ 64 - 1 → SendsText sink mid ended r text → IsFlushed mid → reply ≡ reply_to r → OwnSaid before mid false ended old bs s1 text None reply
+own-said before sink mid ended old bs s1 text (Ok x) reply h l fin over broken low d flushed t =
+    let none : is_output_broken bs ≡ false = sym l.breaks ∙ sym h.3 in
     let whole : is_slot_broken s1 ≡ false = broken ∙ ap is_broken d.0 in
-    let longer : joined bs ++ text.bytes ≡ joined (bs ++ (s1 ∷ [])) = ap (λ y. joined bs ++ y) (sym own ∙ sym (rw (over, whole) (append-nil (segment s1)))) ∙ sym (joined-front bs (s1 ∷ []) fin none) in
+    let longer : joined old ++ text.bytes ≡ joined (bs ++ (s1 ∷ [])) = longer-alone old bs s1 text.bytes l none in
     let breaks : is_output_broken (bs ++ (s1 ∷ [])) ≡ false = breaks-front bs (s1 ∷ []) fin ∙ rw (none, over, whole) refl in
     let taken : mid.taken ≡ Some (joined (bs ++ (s1 ∷ []))) = d.1.bytes ∙ ap (λ y. append_known y text.bytes) h.0 ∙ ap Some longer in
     record {
@@ -141,16 +142,16 @@ own-said before sink mid ended bs s1 text (Ok x) reply h fin over own broken low
       output = (taken, d.1.failures ∙ h.1, d.3 ∙ sym d.2, d.2 ∙ sym breaks, λ z. all-firm mid (joined (bs ++ (s1 ∷ []))) taken (flushed d.3));
       writes = inl (t ∙ ap (λ y. broken_reply fault_reply Done (fault_in y)) (sym d.0), refl);
     }
-own-said before sink mid ended bs s1 text (Err e) reply h fin over own broken low d flushed t =
-    ⊎_elim (λ k. ⊎_elim (λ x. broken-sent k.0 x) (λ x. broken-lost k.0 x.0 x.1) k.1) (λ l. lost l.0 l.1 text.bytes refl) d.2
+own-said before sink mid ended old bs s1 text (Err e) reply h l fin over broken low d flushed t =
+    ⊎_elim (λ k. ⊎_elim (λ x. broken-sent k.0 x) (λ x. broken-lost k.0 x.0 x.1) k.1) (λ k. lost k.0 k.1 text.bytes refl) d.2
   where
     none : is_output_broken bs ≡ false
-    none = sym h.3
+    none = sym l.breaks ∙ sym h.3
 
-    broken-sent : text.ending ≡ Broken (error_kind e) → OutletTook sink mid text.bytes → OwnSaid before mid false ended bs s1 text None reply
+    broken-sent : text.ending ≡ Broken (error_kind e) → OutletTook sink mid text.bytes → OwnSaid before mid false ended old bs s1 text None reply
     broken-sent b x =
         let breaks_is : is_slot_broken s1 ≡ true = broken ∙ ap is_broken b in
-        let longer : joined bs ++ text.bytes ≡ joined (bs ++ (s1 ∷ [])) = ap (λ y. joined bs ++ y) (sym own ∙ sym (rw (over, breaks_is) (append-nil (segment s1)))) ∙ sym (joined-front bs (s1 ∷ []) fin none) in
+        let longer : joined old ++ text.bytes ≡ joined (bs ++ (s1 ∷ [])) = longer-alone old bs s1 text.bytes l none in
         let breaks : is_output_broken (bs ++ (s1 ∷ [])) ≡ true = breaks-front bs (s1 ∷ []) fin ∙ rw (none, breaks_is) refl in
         record {
           failure = None;
@@ -158,9 +159,9 @@ own-said before sink mid ended bs s1 text (Err e) reply h fin over own broken lo
           writes = inl (reported-broken text (error_kind e) reply b t, refl);
         }
 
-    broken-lost : text.ending ≡ Broken (error_kind e) → (kind : ErrorKind) → OutletFailed sink mid text.bytes kind → OwnSaid before mid false ended bs s1 text None reply
-    broken-lost b kind l =
-        let z = lost-output before sink mid (joined bs) text.bytes kind h.0 h.1 (h.4 refl) low l in
+    broken-lost : text.ending ≡ Broken (error_kind e) → (kind : ErrorKind) → OutletFailed sink mid text.bytes kind → OwnSaid before mid false ended old bs s1 text None reply
+    broken-lost b kind k =
+        let z = lost-output before sink mid (joined old) text.bytes kind h.0 h.1 (h.4 refl) low k in
         let f : Failure = record { kind = kind; output = z.output } in
         record {
           failure = Some f;
@@ -168,9 +169,9 @@ own-said before sink mid ended bs s1 text (Err e) reply h fin over own broken lo
           writes = inr (inr (error_kind e, b, reported-broken text (error_kind e) reply b t, (f, refl, z.begins, z.front)));
         }
 
-    within : OutletFailed sink mid text.bytes (error_kind e) → CanMeet text.bytes (fault_in text.ending) → OwnSaid before mid false ended bs s1 text None reply
-    within l can =
-        let z = lost-output before sink mid (joined bs) text.bytes (error_kind e) h.0 h.1 (h.4 refl) low l in
+    within : OutletFailed sink mid text.bytes (error_kind e) → CanMeet text.bytes (fault_in text.ending) → OwnSaid before mid false ended old bs s1 text None reply
+    within k can =
+        let z = lost-output before sink mid (joined old) text.bytes (error_kind e) h.0 h.1 (h.4 refl) low k in
         let f : Failure = record { kind = error_kind e; output = z.output } in
         record {
           failure = Some f;
@@ -178,27 +179,27 @@ own-said before sink mid ended bs s1 text (Err e) reply h fin over own broken lo
           writes = inr (inl (can, (f, refl, t, z.begins, z.front)));
         }
 
-    lost : (text.bytes ≡ [] → ⊥) → OutletFailed sink mid text.bytes (error_kind e) → (own : List ℕ) → text.bytes ≡ own → OwnSaid before mid false ended bs s1 text None reply
-    lost u l [] z = absurd (u z)
-    lost u l (b ∷ more) z = within l (let C : List ℕ → Type 0 = λ x. CanMeet x (fault_in text.ending) in subst C (sym z) tt)
+    lost : (text.bytes ≡ [] → ⊥) → OutletFailed sink mid text.bytes (error_kind e) → (own : List ℕ) → text.bytes ≡ own → OwnSaid before mid false ended old bs s1 text None reply
+    lost u k [] z = absurd (u z)
+    lost u k (b ∷ more) z = within k (let C : List ℕ → Type 0 = λ x. CanMeet x (fault_in text.ending) in subst C (sym z) tt)
 
-pub own-sent : {T : Type 0} (before sink mid : Sink) (was ended : Bool) (bs : List Slot) (s1 : Slot) (text : Text) (failed : Option Failure) (r : Result T Error) (reply : ReplyValue) → OutputAt before sink was bs failed → list_all is_finished bs ≡ true → is_finished s1 ≡ true
-    → segment s1 ≡ text.bytes → is_slot_broken s1 ≡ is_broken text.ending → before.failures < 2 ^ 64 - 1 → was ≡ false → SendsText sink mid ended r text → IsFlushed mid → reply ≡ reply_to r → OwnSaid before mid was ended bs s1 text failed reply
-own-sent before sink mid was ended bs s1 text (Some f) r reply h fin over own broken low z d flushed t = let absent : false ≡ true = sym z ∙ h.3 in cc
-own-sent {T = T} before sink mid was ended bs s1 text None r reply h fin over own broken low z d flushed t =
-    let P : Bool → Type 0 = λ b. OutputAt before sink b bs None in
-    let Q : Bool → Type 0 = λ b. OwnSaid before mid b ended bs s1 text None reply in
-    subst Q (sym z) (own-said {T = T} before sink mid ended bs s1 text r reply (subst P z h) fin over own broken low d flushed t)
+pub own-sent : {T : Type 0} (before sink mid : Sink) (was ended : Bool) (old bs : List Slot) (s1 : Slot) (text : Text) (failed : Option Failure) (r : Result T Error) (reply : ReplyValue) → OutputAt before sink was old failed → Longer old bs s1 text.bytes → list_all is_finished bs ≡ true → is_finished s1 ≡ true
+    → is_slot_broken s1 ≡ is_broken text.ending → before.failures < 2 ^ 64 - 1 → was ≡ false → SendsText sink mid ended r text → IsFlushed mid → reply ≡ reply_to r → OwnSaid before mid was ended old bs s1 text failed reply
+own-sent before sink mid was ended old bs s1 text (Some f) r reply h l fin over broken low z d flushed t = let absent : false ≡ true = sym z ∙ h.3 in cc
+own-sent {T = T} before sink mid was ended old bs s1 text None r reply h l fin over broken low z d flushed t =
+    let P : Bool → Type 0 = λ b. OutputAt before sink b old None in
+    let Q : Bool → Type 0 = λ b. OwnSaid before mid b ended old bs s1 text None reply in
+    subst Q (sym z) (own-said {T = T} before sink mid ended old bs s1 text r reply (subst P z h) l fin over broken low d flushed t)
 
 -- an output that has ended sends nothing
-pub own-past : (before sink : Sink) (was : Bool) (bs : List Slot) (s1 : Slot) (text : Text) (failed : Option Failure) → OutputAt before sink was bs failed → list_all is_finished bs ≡ true → was ≡ true → OwnSaid before sink was was bs s1 text failed Done
-own-past before sink was bs s1 text None h fin z =
-    let breaks : is_output_broken bs ≡ true = sym h.3 ∙ z in
-    let all : is_output_broken (bs ++ (s1 ∷ [])) ≡ is_output_broken bs = breaks-front bs (s1 ∷ []) fin ∙ rw breaks refl in
-    let M : Bool → Type 0 = λ b. OwnWrites b None (joined bs) text Done None in
-    record { failure = None; output = output-same before sink was bs (bs ++ (s1 ∷ [])) None (sym (joined-broken bs (s1 ∷ []) breaks)) (sym all) h; writes = subst M (sym z) (refl, refl) }
-own-past before sink was bs s1 text (Some f) h fin z =
-    let M : Bool → Type 0 = λ b. OwnWrites b (Some f) (joined bs) text Done (Some f) in
+pub own-past : (before sink : Sink) (was : Bool) (old bs : List Slot) (s1 : Slot) (text : Text) (failed : Option Failure) → OutputAt before sink was old failed → Longer old bs s1 text.bytes → list_all is_finished bs ≡ true → was ≡ true → OwnSaid before sink was was old bs s1 text failed Done
+own-past before sink was old bs s1 text None h l fin z =
+    let breaks : is_output_broken bs ≡ true = sym l.breaks ∙ sym h.3 ∙ z in
+    let all : is_output_broken (bs ++ (s1 ∷ [])) ≡ is_output_broken old = breaks-front bs (s1 ∷ []) fin ∙ rw (l.breaks, breaks) refl in
+    let M : Bool → Type 0 = λ b. OwnWrites b None (joined old) text Done None in
+    record { failure = None; output = output-same before sink was old (bs ++ (s1 ∷ [])) None (sym (l.broken breaks [])) (sym all) h; writes = subst M (sym z) (refl, refl) }
+own-past before sink was old bs s1 text (Some f) h l fin z =
+    let M : Bool → Type 0 = λ b. OwnWrites b (Some f) (joined old) text Done (Some f) in
     record { failure = Some f; output = h; writes = subst M (sym z) (refl, refl) }
 
 -- The response and the texts after it, as the step's part of the output.
@@ -228,9 +229,9 @@ behind-alternatives false failed old text slots reply own failure (inr (inl h)) 
 behind-alternatives false failed old text slots reply own failure (inr (inr h)) none whole more left z = let absent : true ≡ false = ap is_some (sym h.3.1) ∙ none in cc
 
 -- the output is open after the response only where the response is whole, and was open before it
-open-whole : (before mid : Sink) (was : Bool) (bs : List Slot) (s1 : Slot) (text : Text) (failed : Option Failure) (reply : ReplyValue) → list_all is_finished bs ≡ true → is_slot_broken s1 ≡ is_broken text.ending → (is_some failed || is_output_broken bs) ≡ was
-    → (o : OwnSaid before mid was false bs s1 text failed reply) → (is_some o.failure ≡ false) × (text.ending ≡ Whole) × (was ≡ false)
-open-whole before mid was bs s1 text failed reply fin broken over o =
+open-whole : (before mid : Sink) (was : Bool) (old bs : List Slot) (s1 : Slot) (text : Text) (failed : Option Failure) (reply : ReplyValue) → list_all is_finished bs ≡ true → is_slot_broken s1 ≡ is_broken text.ending → (is_some failed || is_output_broken bs) ≡ was
+    → (o : OwnSaid before mid was false old bs s1 text failed reply) → (is_some o.failure ≡ false) × (text.ending ≡ Whole) × (was ≡ false)
+open-whole before mid was old bs s1 text failed reply fin broken over o =
     let open_is : (is_some o.failure || is_output_broken (bs ++ (s1 ∷ []))) ≡ false = ended-is before mid false (bs ++ (s1 ∷ [])) o.failure o.output in
     let parts = or-parts (is_some o.failure) (is_output_broken (bs ++ (s1 ∷ []))) open_is in
     let breaks : (is_output_broken bs || is_output_broken (s1 ∷ [])) ≡ false = sym (breaks-front bs (s1 ∷ []) fin) ∙ parts.1 in
@@ -245,7 +246,7 @@ open-whole before mid was bs s1 text failed reply fin broken over o =
     by-was : (t : Bool) → was ≡ t → was ≡ false
     by-was false e = e
     by-was true e =
-        let M : Bool → Type 0 = λ b. OwnWrites b failed (joined bs) text reply o.failure in
+        let M : Bool → Type 0 = λ b. OwnWrites b failed (joined old) text reply o.failure in
         let kept = subst M e o.writes in
         let open_is = ended-is before mid false (bs ++ (s1 ∷ [])) o.failure o.output in
         let parts = or-parts (is_some o.failure) (is_output_broken (bs ++ (s1 ∷ []))) open_is in
@@ -253,10 +254,10 @@ open-whole before mid was bs s1 text failed reply fin broken over o =
         sym over ∙ ap (λ f. is_some f || is_output_broken bs) (sym kept.1) ∙ ap (λ b. b || is_output_broken bs) parts.0 ∙ two.0
 
 pub respond-left : (before mid new : Sink) (was mid_ended ended : Bool) (bs : List Slot) (s0 s1 : Slot) (cs : List Slot) (fs rs : List Mark) (vs : List (Option Waiting)) (old : State) (text : Text) (reply : ReplyValue)
-    → old.reached.slots ≡ bs ++ (s0 ∷ cs) → has_output_ended old ≡ was → IsAllFlushed old → list_all is_finished bs ≡ true → is_finished s0 ≡ false → segment s0 ≡ [] → is_finished s1 ≡ true → is_slot_broken s1 ≡ is_broken text.ending → segment s1 ≡ text.bytes
-    → (is_some old.failure || is_output_broken bs) ≡ was → OwnSaid before mid was mid_ended bs s1 text old.failure reply → InTurn bs fs rs → AreKept cs rs vs → before.failures < 2 ^ 64 - 1 → SendsLeft rs mid_ended mid new ended
+    → old.reached.slots ≡ bs ++ (s0 ∷ cs) → has_output_ended old ≡ was → IsAllFlushed old → list_all is_finished bs ≡ true → is_finished s0 ≡ false → is_finished s1 ≡ true → is_slot_broken s1 ≡ is_broken text.ending → Longer old.reached.slots bs s1 text.bytes
+    → OwnSaid before mid was mid_ended old.reached.slots bs s1 text old.failure reply → InTurn bs fs rs → AllByRecursion IsUncontinued cs → AreKept cs rs vs → before.failures < 2 ^ 64 - 1 → SendsLeft rs mid_ended mid new ended
     → Said before new ended (bs ++ (s1 ∷ cs)) old text reply
-respond-left before mid new was mid_ended ended bs s0 s1 cs fs rs vs old text reply slots_are over firm fin open_is none_sent done broken own over2 o t kept low sends = by-left (begins_left rs) refl sends
+respond-left before mid new was mid_ended ended bs s0 s1 cs fs rs vs old text reply slots_are over firm fin open_is done broken l o t uncontinued kept low sends = by-left (begins_left rs) refl sends
   where
     all : List Slot
     all = bs ++ (s1 ∷ cs)
@@ -264,8 +265,8 @@ respond-left before mid new was mid_ended ended bs s0 s1 cs fs rs vs old text re
     same : (bs ++ (s1 ∷ [])) ++ cs ≡ bs ++ (s1 ∷ cs)
     same = append_assoc bs (s1 ∷ []) cs
 
-    known : joined old.reached.slots ≡ joined bs
-    known = ap joined slots_are ∙ joined-waits bs s0 cs none_sent open_is
+    over2 : (is_some old.failure || is_output_broken bs) ≡ was
+    over2 = ap (λ b. is_some old.failure || b) (sym l.breaks) ∙ over
 
     all-finished : list_all is_finished (bs ++ (s1 ∷ [])) ≡ true
     all-finished = all-snoc is_finished bs s1 fin done
@@ -278,14 +279,11 @@ respond-left before mid new was mid_ended ended bs s0 s1 cs fs rs vs old text re
         let M : Bool → Type 0 = λ b. WritesIf b old.failure old.reached.slots text all reply failure in
         let kept : old.failure ≡ None = sym (subst M (sym over ∙ z) h).1 ∙ none in
         let breaks : is_output_broken bs ≡ true = ap (λ f. is_some f || is_output_broken bs) (sym kept) ∙ over2 ∙ sym over ∙ z in
-        (kept, known ∙ sym (joined-broken bs (s1 ∷ cs) breaks))
-
-    writes-known : (failure : Option Failure) → OwnWrites was old.failure (joined bs) text reply failure → OwnWrites was old.failure (joined old.reached.slots) text reply failure
-    writes-known failure h = let P : List ℕ → Type 0 = λ j. OwnWrites was old.failure j text reply failure in subst P (sym known) h
+        (kept, sym (l.broken breaks cs))
 
     nothing-left : begins_left rs ≡ false → new ≡ mid → ended ≡ mid_ended → Said before new ended all old text reply
     nothing-left e n z =
-        let b = joined_behind cs rs vs t.waiting kept in
+        let b = joined_behind cs rs vs t.waiting uncontinued kept in
         let no_text : joined cs ≡ [] = b.0 ∙ (none-left rs e).0 in
         let out = plain-more before mid mid_ended (bs ++ (s1 ∷ [])) cs o.failure o.output all-finished no_text b.1 in
         let P : List Slot → Type 0 = λ l. OutputAt before mid mid_ended l o.failure in
@@ -293,14 +291,14 @@ respond-left before mid new was mid_ended ended bs s0 s1 cs fs rs vs old text re
         record {
           failure = o.failure;
           output = subst (λ y. S new y) (sym z) (subst (λ x. S x mid_ended) (sym n) (subst P same out));
-          writes = by-has_ended reply o.failure (own-alternatives was old.failure old.reached.slots text all reply o.failure (writes-known o.failure o.writes));
-          same = same_output reply o.failure (own-alternatives was old.failure old.reached.slots text all reply o.failure (writes-known o.failure o.writes));
+          writes = by-has_ended reply o.failure (own-alternatives was old.failure old.reached.slots text all reply o.failure o.writes);
+          same = same_output reply o.failure (own-alternatives was old.failure old.reached.slots text all reply o.failure o.writes);
         }
 
     left-behind : begins_left rs ≡ true → SendsUnlessEnded mid_ended mid new ended (left_text rs) → IsFlushed new → Said before new ended all old text reply
     left-behind e sent flushed =
-        let b = joined_behind cs rs vs t.waiting kept in
-        let go = output-more before mid new mid_ended ended (bs ++ (s1 ∷ [])) cs (left_text rs) o.failure o.output all-finished b.0 b.1 low sent flushed in
+        let b = joined_behind cs rs vs t.waiting uncontinued kept in
+        let go = output-more before mid new mid_ended ended (bs ++ (s1 ∷ [])) ((bs ++ (s1 ∷ [])) ++ cs) (left_text rs) o.failure o.output (more-behind (bs ++ (s1 ∷ [])) cs (left_text rs) all-finished b.0 b.1) low sent flushed in
         let P : List Slot → Type 0 = λ l. OutputAt before new ended l go.failure in
         record {
           failure = go.failure;
@@ -322,19 +320,18 @@ respond-left before mid new was mid_ended ended bs s0 s1 cs fs rs vs old text re
             let M : Bool → Type 0 = λ m. MatchBool m (failure ≡ o.failure) ((failure ≡ None) ⊎ FailsBetween (joined (bs ++ (s1 ∷ []))) (joined ((bs ++ (s1 ∷ [])) ++ cs)) failure) in
             let k = subst M z h in
             let W : Option Failure → Type 0 = λ f. WritesIf was old.failure old.reached.slots text all reply f in
-            subst W (sym k) (own-alternatives was old.failure old.reached.slots text all reply o.failure (writes-known o.failure o.writes))
+            subst W (sym k) (own-alternatives was old.failure old.reached.slots text all reply o.failure o.writes)
         by-mid false z failure h =
             let M : Bool → Type 0 = λ m. MatchBool m (failure ≡ o.failure) ((failure ≡ None) ⊎ FailsBetween (joined (bs ++ (s1 ∷ []))) (joined ((bs ++ (s1 ∷ [])) ++ cs)) failure) in
             let k = subst M z h in
-            let O : Bool → Type 0 = λ m. OwnSaid before mid was m bs s1 text old.failure reply in
+            let O : Bool → Type 0 = λ m. OwnSaid before mid was m old.reached.slots bs s1 text old.failure reply in
             let said = subst O z o in
-            let w = open-whole before mid was bs s1 text old.failure reply fin broken over2 said in
+            let w = open-whole before mid was old.reached.slots bs s1 text old.failure reply fin broken over2 said in
             let none_broken : is_output_broken bs ≡ false = (or-parts (is_some old.failure) (is_output_broken bs) (over2 ∙ w.2)).1 in
-            let from : joined (bs ++ (s1 ∷ [])) ≡ joined old.reached.slots ++ text.bytes =
-            joined-front bs (s1 ∷ []) fin none_broken ∙ ap (λ y. joined bs ++ y) (rw (done, broken ∙ ap is_broken w.1) (append-nil (segment s1)) ∙ own) ∙ ap (λ y. y ++ text.bytes) (sym known) in
+            let from : joined (bs ++ (s1 ∷ [])) ≡ joined old.reached.slots ++ text.bytes = sym (longer-alone old.reached.slots bs s1 text.bytes l none_broken) in
             let F : List ℕ → Type 0 = λ y. (failure ≡ None) ⊎ FailsBetween y (joined ((bs ++ (s1 ∷ [])) ++ cs)) failure in
             let G : List Slot → Type 0 = λ l. (failure ≡ None) ⊎ FailsBetween (joined old.reached.slots ++ text.bytes) (joined l) failure in
-            behind-alternatives was old.failure old.reached.slots text all reply said.failure failure (writes-known said.failure said.writes) w.0 w.1 more (subst G same (subst F from k)) w.2
+            behind-alternatives was old.failure old.reached.slots text all reply said.failure failure said.writes w.0 w.1 more (subst G same (subst F from k)) w.2
 
     by-left : (l : Bool) → begins_left rs ≡ l → MatchBool l (SendsUnlessEnded mid_ended mid new ended (left_text rs) × IsFlushed new) ((new ≡ mid) × (ended ≡ mid_ended)) → Said before new ended all old text reply
     by-left true e h = left-behind e h.0 h.1
@@ -352,10 +349,10 @@ pub record Answerable (k : Kept) (s : State) (n : ℕ) (answer_context : AnswerC
   pub slot : Slot
   pub waits : IsWaiting slot waiting
   pub slots_were : s.reached.slots ≡ bs ++ (slot ∷ cs)
-  pub slots_are : s.reached.slots ≡ bs ++ (open_slot waits.date waits.request waits.given waits.end_reported ∷ cs)
+  pub slots_are : s.reached.slots ≡ bs ++ (open_slot waits.handed waits.request waits.given waits.end_reported ∷ cs)
   pub marks_are : k.marks ≡ fs ++ (Open ∷ rs)
   pub requests_are : k.requests ≡ us ++ (Some waiting ∷ vs)
-  pub at : SlotAt s.reached.slots bs cs (open_slot waits.date waits.request waits.given waits.end_reported) n
+  pub at : SlotAt s.reached.slots bs cs (open_slot waits.handed waits.request waits.given waits.end_reported) n
   pub place : length fs ≡ n
   pub answer_context_is : answer_context ≡ answer_context_of waits.request
   pub kept : slice_get k.requests n ≡ Some (Some waiting)
@@ -389,7 +386,7 @@ answerable client before k s n answer_context st e first =
       slots_are = slots_are;
       marks_are = p.marks_are;
       requests_are = p.requests_are;
-      at = slot-at s.reached.slots p.bs p.cs (open_slot p.waiting.date p.waiting.request p.waiting.given p.waiting.end_reported) n slots_are p.slots_before;
+      at = slot-at s.reached.slots p.bs p.cs (open_slot p.waiting.handed p.waiting.request p.waiting.given p.waiting.end_reported) n slots_are p.slots_before;
       place = p.marks_before;
       answer_context_is = sym w.2 ∙ p.waiting.answer_context;
       kept = w.1;
@@ -401,11 +398,12 @@ answerable client before k s n answer_context st e first =
       turn = ⊎_elim (λ (t : InTurn p.bs p.fs p.rs). t) (λ (t : OutOfTurn p.bs p.fs p.rs). absurd (t.turn (p.marks_before ∙ first ∙ ap first_unfinished p.marks_are))) (turn-at p.bs p.fs p.us p.rs p.before (subst S p.marks_are st.shape));
     }
 
--- the output up to such a number
-pub output-before : (client : Feed) (before : Sink) (k : Kept) (s : State) (bs cs : List Slot) (asked : HttpDate) (r : Request) (given : ℕ) (end_reported : Bool) → Stands client before k s → s.reached.slots ≡ bs ++ (open_slot asked r given end_reported ∷ cs) → OutputAt before k.sink k.output_ended bs s.failure
-output-before client before k s bs cs asked r given end_reported st e =
-    let s0 = open_slot asked r given end_reported in
-    output-same before k.sink k.output_ended s.reached.slots bs s.failure (ap joined e ∙ joined-waits bs s0 cs refl refl) (ap is_output_broken e ∙ breaks-waits bs s0 cs refl refl) st.output
+-- what a number that waits sends as it ends, behind the 100 that was sent
+pub longer-open : (old bs cs : List Slot) (asked : HandedOut) (r : Request) (given : ℕ) (end_reported : Bool) (stage : Stage) → old ≡ bs ++ (open_slot asked r given end_reported ∷ cs) → list_all is_finished bs ≡ true
+    → Longer old bs (finished_as (open_slot asked r given end_reported) stage) (stage_text (Asks r) asked.date stage).bytes
+longer-open old bs cs asked r given end_reported stage e fin =
+    longer-at old bs cs (open_slot asked r given end_reported) (finished_as (open_slot asked r given end_reported) stage) (stage_text (Asks r) asked.date stage).bytes e fin refl refl
+    (ap (λ y. y ++ (stage_text (Asks r) asked.date stage).bytes) (sym (append-nil (opening (Asks r) asked.continued))))
 
 -- what the connection keeps after a step of a number
 abbrev pub after_number : Kept → List Mark → List (Option Waiting) → {R : Type 0} → SourceState R → Sink → Bool → Kept
@@ -419,16 +417,18 @@ reader-after client k marks requests source sink ended slots rest r =
     record { settled = r.settled; gives = r.gives; next = λ e. next-same (with_reader k requests source) (after_number k marks requests source sink ended) (last_slot slots) (last_slot slots) rest refl refl refl refl refl refl (r.next e); source = r.source }
 
 respond-stands : {R : Type 0} (client : Feed) (before : Sink) (k : Kept) (s : State) (date : HttpDate) (n : ℕ) (v : ResponseValue) (answer_context : AnswerContext) (found : Bool) (mid new : Sink) (mid_ended ended : Bool) (final : List Mark) (requests : List (Option Waiting)) (source : SourceState R) (reply : ReplyValue)
-    → Stands client before k s → before.failures < 2 ^ 64 - 1 → (a : Answerable k s n answer_context) → (found ≡ true) ⊎ IsGathered v.answer (to_request a.waits.request date) → requests ≡ slice_set k.requests n None → InputStands client (with_reader k (a.us ++ (None ∷ a.vs)) source) (a.bs ++ (answered_slot a.waits.date a.waits.request a.waits.given a.waits.end_reported v date found ∷ a.cs)) s.reached.rest → FinishesFront a.fs a.rs final
-    → OwnSaid before mid k.output_ended mid_ended a.bs (answered_slot a.waits.date a.waits.request a.waits.given a.waits.end_reported v date found) (response_sent found v a.waits.request date) s.failure reply → SendsLeft a.rs mid_ended mid new ended
+    → Stands client before k s → before.failures < 2 ^ 64 - 1 → (a : Answerable k s n answer_context) → (found ≡ true) ⊎ IsGathered v.answer (to_request a.waits.request date) → requests ≡ slice_set k.requests n None → InputStands client (with_reader k (a.us ++ (None ∷ a.vs)) source) (a.bs ++ (answered_slot a.waits.handed a.waits.request a.waits.given a.waits.end_reported v date found ∷ a.cs)) s.reached.rest → FinishesFront a.fs a.rs final
+    → OwnSaid before mid k.output_ended mid_ended s.reached.slots a.bs (answered_slot a.waits.handed a.waits.request a.waits.given a.waits.end_reported v date found) (response_sent found v a.waits.request date) s.failure reply → SendsLeft a.rs mid_ended mid new ended
     → StepIsAnswered client before (after_number k final requests source new ended) s date (Respond n v) reply
 respond-stands client before k s date n v answer_context found mid new mid_ended ended final requests source reply st low a lack requests_are reader passes own sends =
-    let s0 = open_slot a.waits.date a.waits.request a.waits.given a.waits.end_reported in
-    let s1 = answered_slot a.waits.date a.waits.request a.waits.given a.waits.end_reported v date found in
+    let s0 = open_slot a.waits.handed a.waits.request a.waits.given a.waits.end_reported in
+    let s1 = answered_slot a.waits.handed a.waits.request a.waits.given a.waits.end_reported v date found in
     let text = response_sent found v a.waits.request date in
-    let over = ended-is before k.sink k.output_ended a.bs s.failure (output-before client before k s a.bs a.cs a.waits.date a.waits.request a.waits.given a.waits.end_reported st a.slots_are) in
-    let said = respond-left before mid new k.output_ended mid_ended ended a.bs s0 s1 a.cs a.fs a.rs a.vs s text reply a.slots_are (ended-is before k.sink k.output_ended s.reached.slots s.failure st.output) st.flushed a.turn.finished refl refl refl refl refl over own a.turn a.behind low sends in
-    let is = at-turn date a.waits.date s.reached n v a.waits.request a.waits.given a.waits.end_reported found a.at.get (a.at.turn ∙ a.turn.finished) in
+    let l = longer-open s.reached.slots a.bs a.cs a.waits.handed a.waits.request a.waits.given a.waits.end_reported (AnsweredBy v date found) a.slots_are a.turn.finished in
+    let T : List Slot → Type 0 = λ x. AreContinuedInTurn x in
+    let turns = subst T a.slots_are st.in_turn in
+    let said = respond-left before mid new k.output_ended mid_ended ended a.bs s0 s1 a.cs a.fs a.rs a.vs s text reply a.slots_are (ended-is before k.sink k.output_ended s.reached.slots s.failure st.output) st.flushed a.turn.finished refl refl refl l own a.turn (behind-turn a.bs a.cs s0 a.turn.finished refl turns) a.behind low sends in
+    let is = at-turn date a.waits.handed s.reached n v a.waits.request a.waits.given a.waits.end_reported found a.at.get (a.at.turn ∙ a.turn.finished) in
     let slots = a.bs ++ (s1 ∷ a.cs) in
     let new_state : State = record { reached = record { slots = slots; rest = s.reached.rest; asking_ended = s.reached.asking_ended }; flushed = flushed_after (used text) s slots; failure = said.failure } in
     let R : List Slot → Reached = λ l. record { slots = l; rest = s.reached.rest; asking_ended = s.reached.asking_ended } in
@@ -442,6 +442,7 @@ respond-stands client before k s date n v answer_context found mid new mid_ended
       record {
         numbers = subst M (sym passes) (subst Q (sym (requests_are ∙ a.requests_set)) (kept-append a.bs a.fs a.us (s1 ∷ a.cs) (Finished ∷ with_left_finished a.rs) (None ∷ a.vs) a.before (record { finished = refl; given_up = refl }, kept-passed a.cs a.rs a.vs a.behind)));
         shape = subst K (sym passes) a.turn.shape;
+        in_turn = turn-set a.bs a.cs s0 s1 refl (λ none. refl) turns;
         asking_ended = st.asking_ended;
         flushed = still-flushed s k.output_ended slots said.failure (ended-is before k.sink k.output_ended s.reached.slots s.failure st.output) st.flushed (λ none z. said.same none (ended-is before k.sink k.output_ended s.reached.slots s.failure st.output ∙ z));
         reader = reader-after client k final requests source new ended slots s.reached.rest (subst (λ q. InputStands client (with_reader k q source) slots s.reached.rest) (sym (requests_are ∙ a.requests_set)) reader);
@@ -450,7 +451,7 @@ respond-stands client before k s date n v answer_context found mid new mid_ended
       inl (found, lacks found lack a.at.get, has),
     )
   where
-    lacks : (t : Bool) → (t ≡ true) ⊎ IsGathered v.answer (to_request a.waits.request date) → slice_get s.reached.slots n ≡ Some (open_slot a.waits.date a.waits.request a.waits.given a.waits.end_reported) → MayLack t date s.reached (Respond n v)
+    lacks : (t : Bool) → (t ≡ true) ⊎ IsGathered v.answer (to_request a.waits.request date) → slice_get s.reached.slots n ≡ Some (open_slot a.waits.handed a.waits.request a.waits.given a.waits.end_reported) → MayLack t date s.reached (Respond n v)
     lacks true l g = tt
     lacks false (inl e) g = cc
     lacks false (inr x) g = let P : Option Slot → Type 0 = λ o. GathersAt date v o in subst P (sym g) x
@@ -476,35 +477,35 @@ respond-done {R = R} client before k s date n v answer_context mid new mid_ended
     held : marks ≡ a.fs ++ (Held ∷ a.rs)
     held = marks_are ∙ a.marks_set
 
-    out : OutputAt before k.sink k.output_ended a.bs s.failure
-    out = output-before client before k s a.bs a.cs a.waits.date a.waits.request a.waits.given a.waits.end_reported st a.slots_are
+    longer_by : (found : Bool) → Longer s.reached.slots a.bs (answered_slot a.waits.handed a.waits.request a.waits.given a.waits.end_reported v date found) (response_sent found v a.waits.request date).bytes
+    longer_by found = longer-open s.reached.slots a.bs a.cs a.waits.handed a.waits.request a.waits.given a.waits.end_reported (AnsweredBy v date found) a.slots_are a.turn.finished
 
-    reader : (found : Bool) → InputStands client (with_reader k (a.us ++ (None ∷ a.vs)) source) (a.bs ++ (answered_slot a.waits.date a.waits.request a.waits.given a.waits.end_reported v date found ∷ a.cs)) s.reached.rest
+    reader : (found : Bool) → InputStands client (with_reader k (a.us ++ (None ∷ a.vs)) source) (a.bs ++ (answered_slot a.waits.handed a.waits.request a.waits.given a.waits.end_reported v date found ∷ a.cs)) s.reached.rest
     reader found =
         let P : List Slot → Type 0 = λ l. InputStands client k l s.reached.rest in
         reader-given_up client k old source a.bs a.cs a.us a.vs s.reached.rest a.slot a.waiting (AnsweredBy v date found) a.waits from (subst P a.slots_were st.reader) a.requests_are a.as_many (gives a.waiting a.kept)
 
-    answered : (found : Bool) → (found ≡ true) ⊎ IsGathered v.answer (to_request a.waits.request date) → OwnSaid before mid k.output_ended mid_ended a.bs (answered_slot a.waits.date a.waits.request a.waits.given a.waits.end_reported v date found) (response_sent found v a.waits.request date) s.failure reply
+    answered : (found : Bool) → (found ≡ true) ⊎ IsGathered v.answer (to_request a.waits.request date) → OwnSaid before mid k.output_ended mid_ended s.reached.slots a.bs (answered_slot a.waits.handed a.waits.request a.waits.given a.waits.end_reported v date found) (response_sent found v a.waits.request date) s.failure reply
         → StepIsAnswered client before (after_number k final requests source new ended) s date (Respond n v) reply
     answered found lack o =
         respond-stands client before k s date n v answer_context found mid new mid_ended ended final requests source reply st low a lack requests_are (reader found) (passes a.fs a.rs held a.place) o
-        (sends a.fs a.rs held a.place (can-send before mid mid_ended (a.bs ++ (answered_slot a.waits.date a.waits.request a.waits.given a.waits.end_reported v date found ∷ [])) o.failure o.output low))
+        (sends a.fs a.rs held a.place (can-send before mid mid_ended (a.bs ++ (answered_slot a.waits.handed a.waits.request a.waits.given a.waits.end_reported v date found ∷ [])) o.failure o.output low))
 
     by-own : RespondsBy k mid mid_ended reply v answer_context date → StepIsAnswered client before (after_number k final requests source new ended) s date (Respond n v) reply
     by-own (inl h) =
-        let s1 = answered_slot a.waits.date a.waits.request a.waits.given a.waits.end_reported v date true in
-        let o = own-past before k.sink k.output_ended a.bs s1 (response_sent true v a.waits.request date) s.failure out a.turn.finished h.0 in
-        let P : Sink → Bool → ReplyValue → Type 0 = λ x y z. OwnSaid before x k.output_ended y a.bs s1 (response_sent true v a.waits.request date) s.failure z in
+        let s1 = answered_slot a.waits.handed a.waits.request a.waits.given a.waits.end_reported v date true in
+        let o = own-past before k.sink k.output_ended s.reached.slots a.bs s1 (response_sent true v a.waits.request date) s.failure st.output (longer_by true) a.turn.finished h.0 in
+        let P : Sink → Bool → ReplyValue → Type 0 = λ x y z. OwnSaid before x k.output_ended y s.reached.slots a.bs s1 (response_sent true v a.waits.request date) s.failure z in
         answered true (inl refl) (subst (λ x. P x mid_ended reply) (sym h.1) (subst (λ y. P k.sink y reply) (sym h.2) (subst (λ z. P k.sink k.output_ended z) (sym h.3) o)))
     by-own (inr h) =
         let own = subst (λ p. Answers k.sink mid mid_ended reply v.answer v.content p) (printed-for a.waits.request answer_context date a.answer_context_is) h.1 in
         let r = own.0 in
         ⊎_elim
         (λ x. answered true (inl refl)
-        (own-sent {T = Unit {0}} before k.sink mid k.output_ended mid_ended a.bs (answered_slot a.waits.date a.waits.request a.waits.given a.waits.end_reported v date true) (response_sent true v a.waits.request date) s.failure r reply out a.turn.finished refl refl refl low h.0
+        (own-sent {T = Unit {0}} before k.sink mid k.output_ended mid_ended s.reached.slots a.bs (answered_slot a.waits.handed a.waits.request a.waits.given a.waits.end_reported v date true) (response_sent true v a.waits.request date) s.failure r reply st.output (longer_by true) a.turn.finished refl refl low h.0
         x own.3 own.1))
         (λ x. answered false (inr x.0)
-        (own-sent {T = Unit {0}} before k.sink mid k.output_ended mid_ended a.bs (answered_slot a.waits.date a.waits.request a.waits.given a.waits.end_reported v date false) (response_sent false v a.waits.request date) s.failure r reply out a.turn.finished refl refl refl low h.0 x.1 own.3 own.1))
+        (own-sent {T = Unit {0}} before k.sink mid k.output_ended mid_ended s.reached.slots a.bs (answered_slot a.waits.handed a.waits.request a.waits.given a.waits.end_reported v date false) (response_sent false v a.waits.request date) s.failure r reply st.output (longer_by false) a.turn.finished refl refl low h.0 x.1 own.3 own.1))
         own.2
 
 pub responds-by : (k : Kept) (mid : Sink) (mid_ended : Bool) (reply : ReplyValue) (v : ResponseValue) (answer_context : AnswerContext) (date : HttpDate) → (k.output_ended ≡ true → (mid ≡ k.sink) × (mid_ended ≡ k.output_ended) × (reply ≡ Done))

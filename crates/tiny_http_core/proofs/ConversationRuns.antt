@@ -84,6 +84,7 @@ stands-begun client feed is_over sink items e fresh h =
     record {
       numbers = tt;
       shape = tt;
+      in_turn = tt;
       asking_ended = refl;
       flushed = λ none. refl;
       reader = record {
@@ -218,6 +219,7 @@ rise-along a b c e (inr h) = inr (h ∙ ap next_count e)
 
 fail-along : {D : Type 0} (feed : D → Option Feed) (a b c : Sink) (date : HttpDate) (s : Step D) (kind : ErrorKind) → b.failures ≡ a.failures → MayFail feed b c date s kind → MayFail feed a c date s kind
 fail-along feed a b c date step.Ask kind e h = h
+fail-along {D = D} feed a b c date (step.AsReader n) kind e h = elim h [ ]
 fail-along feed a b c date (step.Read n m) kind e h = h
 fail-along {D = D} feed a b c date (step.Drop n) kind e h = elim h [ ]
 fail-along feed a b c date (step.Respond n r) kind e (p, inl h) = (p, inl (h ∙ ap next_count e))

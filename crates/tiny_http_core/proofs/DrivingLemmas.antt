@@ -15,7 +15,7 @@ use Rattle.tiny_http_core.specs.declared.pending.Pending.{Pending}
 use Rattle.tiny_http_stream.specs.Source.{SourceState, GoesOn}
 use Rattle.tiny_http_stream.specs.Outlet.{OutletState, output_of, SentOn}
 use Rattle.tiny_http_sending.specs.ResponseValue.{ResponseValue}
-use Rattle.tiny_http_core.specs.Steps.{StepValue, Ask, Read, Respond, Drop, ReplyValue, Fault}
+use Rattle.tiny_http_core.specs.Steps.{StepValue, Ask, AsReader, Read, Respond, Drop, ReplyValue, Fault}
 use Rattle.tiny_http_core.specs.Conversation.{State, TimedValue, IsFresh, start_state}
 use Rattle.tiny_http_sending.specs.Sending.{FailsOnceUnlessEnded, IsHonest}
 use Rattle.tiny_http_core.specs.Seen.{seen, IsResponse, IsStep, IsTimedStep, MayFail, ReportsHonestly, IsAnswered}
@@ -26,7 +26,7 @@ use Rattle.tiny_http_core.specs.Connection.{Kept, ConnectionState, kept, Stands}
 use Rattle.tiny_http_core.specs.Driving.{HasDone, TakesStep, AskEnds, StepEnds, IsDeclined, stated_response, stated_step, StepLeaves, AskLeaves, LetsGo, StandsAfter, ReportsFault}
 use Rattle.tiny_http_core.proofs.ConnectionAsk.{StepIsAnswered}
 use Rattle.tiny_http_stream.proofs.SourceGoesOn.{goes-on_same}
-use Rattle.tiny_http_core.proofs.SeenLemmas.{is-ask, is-read, is-respond, is-drop, step-ask, step-read, step-respond, step-drop}
+use Rattle.tiny_http_core.proofs.SeenLemmas.{is-ask, is-as_reader, is-read, is-respond, is-drop, step-ask, step-as_reader, step-read, step-respond, step-drop}
 use Rattle.tiny_http_turns.specs.Turns.{Mark}
 use Rattle.std.specs.Prelude.{is_some}
 use Rattle.tiny_http_message.specs.declared.exchange.EndOfRequests.{EndOfRequests}
@@ -150,6 +150,14 @@ takes-ask old new now reply answers declined ends leaves moves none =
     (λ client before s asked low is st. step-ask {D = Option Feed} (λ f. f) client before (kept new) s now (now, asked) step.Ask reply refl refl is (answers client before s low st))
     declined ends leaves moves (λ kind e. absurd (none kind e))
 
+pub takes-as_reader : {R W : Type 0} (old new : ConnectionState R W) (now : HttpDate) (n : ℕ) (reply : ReplyValue)
+    → ((client : Feed) (before : Sink) (s : State) → before.failures < 2 ^ 64 - 1 → Stands client before (kept old) s → StepIsAnswered client before (kept new) s now (AsReader n) reply)
+    → (IsDeclined (step.AsReader n) reply → new ≡ old) → new.end ≡ old.end → StepLeaves (step.AsReader n) old new reply → Moves old new → ReportsNoFault reply → TakesStep old new now (step.AsReader n) reply
+takes-as_reader old new now n reply answers declined ends leaves moves none =
+    takes old new now (step.AsReader n) reply
+    (λ client before s asked low is st. step-as_reader {D = Option Feed} (λ f. f) client before (kept new) s now (now, asked) (step.AsReader n) n reply refl refl is (answers client before s low st))
+    declined ends leaves moves (λ kind e. absurd (none kind e))
+
 pub takes-drop : {R W : Type 0} (old new : ConnectionState R W) (now : HttpDate) (n : ℕ) (reply : ReplyValue)
     → ((client : Feed) (before : Sink) (s : State) → before.failures < 2 ^ 64 - 1 → Stands client before (kept old) s → StepIsAnswered client before (kept new) s now (Drop n) reply)
     → (IsDeclined (step.Drop n) reply → new ≡ old) → new.end ≡ old.end → (IsAnswered reply → LetsGo n old new) → Moves old new → ReportsNoFault reply → TakesStep old new now (step.Drop n) reply
@@ -200,6 +208,7 @@ honest-more false ended a b c x feed p kind e k h = let no : false ≡ true = e 
 -- a step, and what it is in place of its data
 is-stated : {D : Type 0} (feed : D → Option Feed) (x : Step D) (asked : StepValue) → IsStep feed x asked → IsStep (λ f. f) (stated_step feed x) asked
 is-stated feed step.Ask asked h = subst (λ y. (let a : Step (Option Feed) = step.Ask in IsStep (λ f. f) a y)) (sym (is-ask feed asked h)) tt
+is-stated feed (step.AsReader k) asked h = subst (λ y. (let a : Step (Option Feed) = step.AsReader k in IsStep (λ f. f) a y)) (sym (is-as_reader feed k asked h)) refl
 is-stated feed (step.Read k n) asked h = subst (λ y. (let a : Step (Option Feed) = step.Read k n in IsStep (λ f. f) a y)) (sym (is-read feed k n asked h)) (refl, refl)
 is-stated feed (step.Respond k r) asked h =
     let s = is-respond feed k r asked h in
@@ -208,6 +217,7 @@ is-stated feed (step.Drop k) asked h = subst (λ y. (let a : Step (Option Feed) 
 
 may-fail : {R W D : Type 0} (feed : D → Option Feed) (old new : ConnectionState R W) (now : HttpDate) (x : Step D) (kind : ErrorKind) → ReportsFault old new now (stated_step feed x) kind → MayFail feed (output_of old.outlet) (output_of new.outlet) now x kind
 may-fail feed old new now step.Ask kind h = h
+may-fail feed old new now (step.AsReader k) kind h = h
 may-fail feed old new now (step.Read k n) kind h = h
 may-fail feed old new now (step.Respond k r) kind h = (h.0, h.2)
 may-fail feed old new now (step.Drop k) kind h = h

@@ -3,11 +3,13 @@ pub mod ConnectionReader
 pub mod ConnectionKept
 pub mod ConversationWriting
 pub mod ConnectionOutput
+pub mod ConnectionTurns
 pub mod ConnectionBody
 pub mod ConnectionAsk
 pub mod ConnectionRespond
 pub mod ConnectionDrop
 pub mod ConnectionRead
+pub mod ConnectionContinue
 pub mod PendingLemmas
 pub mod SeenLemmas
 pub mod ConversationRuns

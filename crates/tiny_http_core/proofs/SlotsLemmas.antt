@@ -40,6 +40,11 @@ pub joined-waits : (xs : List Slot) (s : Slot) (ys : List Slot) → segment s �
 joined-waits [] s ys e f = rw (e, f) refl
 joined-waits (x ∷ xs) s ys e f = joined-cons x (xs ++ (s ∷ ys)) xs (λ g nb. joined-waits xs s ys e f)
 
+-- two that wait and have sent the same
+pub joined-alike : (xs : List Slot) (s t : Slot) (ys : List Slot) → segment s ≡ segment t → is_finished s ≡ false → is_finished t ≡ false → joined (xs ++ (s ∷ ys)) ≡ joined (xs ++ (t ∷ ys))
+joined-alike [] s t ys e f g = rw (e, f, g) refl
+joined-alike (x ∷ xs) s t ys e f g = joined-cons x (xs ++ (s ∷ ys)) (xs ++ (t ∷ ys)) (λ h nb. joined-alike xs s t ys e f g)
+
 pub joined-hidden : (xs ys : List Slot) → list_all is_finished xs ≡ false → joined (xs ++ ys) ≡ joined xs
 joined-hidden [] ys h = cc
 joined-hidden (x ∷ xs) ys h = joined-cons x (xs ++ ys) xs (λ g nb. let more : list_all is_finished xs ≡ false = rw g at h in joined-hidden xs ys more)

@@ -1,6 +1,7 @@
 -- How the driver's connection stands to a state of the definitions.
-use Rattle.std.specs.Prelude.{◌≡◌, ℕ, ◌+◌, Bool, true, false, not, ◌&&◌, List, [], ◌∷◌, Option, Some, None, is_some, ⊤}
+use Rattle.std.specs.Prelude.{◌≡◌, ℕ, ◌+◌, Bool, true, false, not, ◌&&◌, List, [], ◌∷◌, Option, Some, None, is_some, MatchBool, ⊤}
 use Rattle.std.specs.Option.{option_map}
+use Rattle.std.specs.List.{AllByRecursion}
 use Rattle.httpdate.specs.declared.date.HttpDate.{HttpDate}
 use Rattle.tiny_http_wire.specs.declared.device.Stop.{Stop}
 use Rattle.tiny_http_wire.specs.declared.device.Stop.TheVariants.{End}
@@ -19,7 +20,7 @@ use Rattle.tiny_http_stream.specs.declared.source.Standing.{Standing}
 use Rattle.tiny_http_stream.specs.declared.source.Standing.TheVariants as at
 use Rattle.tiny_http_stream.specs.Outlet.{OutletState, output_of}
 use Rattle.tiny_http_message.specs.Pipeline.{Item, Asks, Refuses, Request, is_head_method, body_length_or_0}
-use Rattle.tiny_http_core.specs.Slots.{Slot, ByServer, is_finished, is_slot_broken, segment, joined, is_output_broken, new_slot, last_slot, is_last_slot, last_was_abandoned, rest_of}
+use Rattle.tiny_http_core.specs.Slots.{Slot, ByServer, is_finished, is_slot_broken, segment, stage_text, joined, is_output_broken, new_slot, last_slot, is_last_slot, last_was_abandoned, rest_of}
 use Rattle.tiny_http_core.specs.Steps.{finished_as}
 use Rattle.tiny_http_turns.specs.Turns.{Mark, Open, Left, Finished, AreInShape}
 use Rattle.tiny_http_core.specs.Conversation.{State, Failure, PlaceAt}
@@ -55,25 +56,32 @@ kept c =
 abbrev pub answer_context_of : Request → AnswerContext
 answer_context_of r = record { version = r.message.version; asked_coding = coding_asked r.message.headers; no_body = is_head_method r.message.method }
 
--- a request that was handed out on this date and waits, while so many bytes of its body were given, and its end reported or not
-abbrev pub open_slot : HttpDate → Request → ℕ → Bool → Slot
-open_slot date r given end_reported = record (new_slot date (Asks r)) { given = given; end_reported = end_reported }
+-- when a request was handed out, when its 100 was sent, if it was, and whether a 100 is still owed
+pub record HandedOut : Type 0 where
+  pub date : HttpDate
+  pub continued : Option HttpDate
+  pub owed : Bool
+
+-- a request that was handed out so and waits, while so many bytes of its body were given, and its end reported or not
+abbrev pub open_slot : HandedOut → Request → ℕ → Bool → Slot
+open_slot h r given end_reported = record (new_slot h.date (Asks r)) { continued = h.continued; owed = h.owed; given = given; end_reported = end_reported }
 
 -- what becomes of it if it is dropped
-abbrev pub dropped : HttpDate → Request → ℕ → Bool → Slot
-dropped date r given end_reported = finished_as (open_slot date r given end_reported) ByServer
+abbrev pub dropped : HandedOut → Request → ℕ → Bool → Slot
+dropped h r given end_reported = finished_as (open_slot h r given end_reported) ByServer
 
--- a request that was handed out on some date and waits
+-- a request that was handed out and waits
 pub record IsWaiting (s : Slot) (w : Waiting) : Type 0 where
   pub request : Request
-  pub date : HttpDate
+  pub handed : HandedOut
   pub given : ℕ
   pub end_reported : Bool
-  pub is : s ≡ open_slot date request given end_reported
-  pub unowed : request.framing.owes_continue ≡ false
+  pub is : s ≡ open_slot handed request given end_reported
+  pub owed : w.owes_continue ≡ handed.owed
+  pub unsent : handed.owed ≡ true → handed.continued ≡ None
   pub rest_is_last : request.framing.form ≡ Rest → request.framing.is_last ≡ true
   pub answer_context : w.answer_context ≡ answer_context_of request
-  pub text : w.dropped.items ≡ segment (dropped date request given end_reported)
+  pub text : w.dropped.items ≡ (stage_text (Asks request) handed.date ByServer).bytes
   pub fits : Fits w.body request.framing.form (body_length_or_0 request.framing) given end_reported
   -- where the body isn't read from the input, this is left of it
   pub settled : is_streaming w.body ≡ false → (f : Feed) → remaining w.body (Some f) ≡ Some (taken_remaining (rest_of request given) f)
@@ -100,6 +108,14 @@ abbrev pub AreKept : List Slot → List Mark → List (Option Waiting) → Type 
 AreKept [] [] [] = Unit {0}
 AreKept (s ∷ slots) (m ∷ marks) (w ∷ requests) = IsKept s m w × AreKept slots marks requests
 AreKept _ _ _ = ⊥
+
+-- a 100 is sent in its turn: none was sent behind the first number that isn't finished
+abbrev pub IsUncontinued : Slot → Type 0
+IsUncontinued s = s.continued ≡ None
+
+abbrev pub AreContinuedInTurn : List Slot → Type 0
+AreContinuedInTurn [] = Unit {0}
+AreContinuedInTurn (s ∷ slots) = MatchBool (is_finished s) (AreContinuedInTurn slots) (AllByRecursion IsUncontinued slots)
 
 -- only the last body is read from the input
 abbrev pub IsSettled : Option Waiting → Type 0
@@ -177,6 +193,7 @@ OutputAt before sink ended slots (Some f) =
 pub record Stands (client : Feed) (before : Sink) (k : Kept) (s : State) : Type 0 where
   pub numbers : AreKept s.reached.slots k.marks k.requests
   pub shape : AreInShape k.marks
+  pub in_turn : AreContinuedInTurn s.reached.slots
   pub asking_ended : s.reached.asking_ended ≡ k.asking_ended
   pub flushed : s.failure ≡ None → s.flushed ≡ joined s.reached.slots
   pub reader : InputStands client k s.reached.slots s.reached.rest

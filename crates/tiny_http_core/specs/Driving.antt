@@ -1,5 +1,5 @@
 -- What the calls of a `Connection` come to.
-use Rattle.std.specs.Prelude.{◌≡◌, ◌⊎◌, ℕ, Bool, true, List, [], ◌∷◌, ◌++◌, length, Option, Some, None, IsSome, MatchBool, slice_get, slice_set, if◌then◌else◌}
+use Rattle.std.specs.Prelude.{◌≡◌, ◌⊎◌, ℕ, Bool, true, false, List, [], ◌∷◌, ◌++◌, length, Option, Some, None, IsSome, MatchBool, slice_get, slice_set, if◌then◌else◌}
 use Rattle.std.specs.declared.io.ErrorKind.{ErrorKind}
 use Rattle.httpdate.specs.declared.date.HttpDate.{HttpDate}
 use Rattle.tiny_http_wire.specs.Device.{Feed, Sink}
@@ -45,6 +45,7 @@ stated_response feed r = record { answer = r.answer; data_reader = feed r.data_r
 
 abbrev pub stated_step : {D : Type 0} → (D → Option Feed) → Step D → Step (Option Feed)
 stated_step feed step.Ask = step.Ask
+stated_step feed (step.AsReader k) = step.AsReader k
 stated_step feed (step.Read k n) = step.Read k n
 stated_step feed (step.Respond k r) = step.Respond k (stated_response feed r)
 stated_step feed (step.Drop k) = step.Drop k
@@ -74,6 +75,7 @@ AskEnds old new _ = ⊥
 -- what a step says of the end of the requests
 abbrev pub StepEnds : {R W : Type 0} → Step (Option Feed) → ConnectionState R W → ConnectionState R W → ReplyValue → Type 0
 StepEnds step.Ask old new reply = AskEnds old new reply
+StepEnds (step.AsReader k) old new reply = new.end ≡ old.end
 StepEnds (step.Read k n) old new reply = new.end ≡ old.end
 StepEnds (step.Respond k r) old new reply = new.end ≡ old.end
 StepEnds (step.Drop k) old new reply = new.end ≡ old.end
@@ -104,10 +106,16 @@ AskLeaves old new _ = ⊥
 abbrev pub StandsAfter : {R : Type 0} → Body → Body → SourceState R → SourceState R → Type 0
 StandsAfter was body old new = MatchBool (is_streaming was) (new.standing ≡ body_standing body old.standing) (new ≡ old)
 
--- What a step leaves of requests, source and output: a read changes no more than the body of its request, and the source if
+-- no 100 is owed to the request of this number any more; where none was owed nothing has changed
+abbrev pub SendsContinue : {R W : Type 0} → ℕ → ConnectionState R W → ConnectionState R W → Type 0
+SendsContinue k old new =
+    (new ≡ old) ⊎ ((w : Waiting) × (slice_get old.requests k ≡ Some (Some w)) × (w.owes_continue ≡ true) × (new.requests ≡ slice_set old.requests k (Some (record w { owes_continue = false }))))
+
+-- What a step leaves of requests, source and output: a 100 changes no more than that it is owed; a read changes no more than the body of its request, and the source if
 -- it is read from that; an answer, and a drop, let their request go.
 abbrev pub StepLeaves : {R W : Type 0} → Step (Option Feed) → ConnectionState R W → ConnectionState R W → ReplyValue → Type 0
 StepLeaves step.Ask old new reply = AskLeaves old new reply
+StepLeaves (step.AsReader k) old new reply = (new.source ≡ old.source) × (new.marks ≡ old.marks) × SendsContinue k old new
 StepLeaves (step.Read k n) old new reply =
     (new.outlet ≡ old.outlet) × (new.marks ≡ old.marks)
     × (((new.requests ≡ old.requests) × (new.source ≡ old.source))
@@ -123,9 +131,10 @@ IsDeclined (step.Read k n) Memory = Unit {0}
 IsDeclined _ _ = ⊥
 
 -- A fault that a step reports, whatever reader, writer and data state: that of an answer is the writer's, whose count rose, or
--- that of its own data, printed for its request; of a body's nothing is said here; an Ask and a Drop report none.
+-- that of its own data, printed for its request; of a body's nothing is said here; an Ask, an AsReader and a Drop report none.
 abbrev pub ReportsFault : {R W : Type 0} → ConnectionState R W → ConnectionState R W → HttpDate → Step (Option Feed) → ErrorKind → Type 0
 ReportsFault old new now step.Ask kind = ⊥
+ReportsFault old new now (step.AsReader k) kind = ⊥
 ReportsFault old new now (step.Read k n) kind = Unit {0}
 ReportsFault old new now (step.Drop k) kind = ⊥
 ReportsFault old new now (step.Respond k r) kind =

@@ -1,5 +1,5 @@
 -- Numbers whose turn comes, and what is sent as it does.
-use Rattle.std.specs.Prelude.{◌≡◌, ℕ, Bool, true, false, List, [], ◌∷◌, ◌++◌, Option, Some, None, MatchBool}
+use Rattle.std.specs.Prelude.{◌≡◌, ℕ, Bool, true, false, not, List, [], ◌∷◌, ◌++◌, Option, Some, None, MatchBool}
 use Rattle.tiny_http_wire.specs.Device.{Sink}
 use Rattle.tiny_http_wire.specs.declared.answer_context.AnswerContext.{AnswerContext}
 use Rattle.tiny_http_message.specs.declared.waiting.Waiting.{Waiting}
@@ -52,6 +52,18 @@ abbrev pub waiting_answer_context : Option (Option Waiting) → Option AnswerCon
 waiting_answer_context None = None
 waiting_answer_context (Some None) = None
 waiting_answer_context (Some (Some w)) = Some w.answer_context
+
+-- it waits for its answer, and no 100 is owed: its body can be read
+abbrev pub is_readable : Option (Option Waiting) → Bool
+is_readable None = false
+is_readable (Some None) = false
+is_readable (Some (Some w)) = not w.owes_continue
+
+-- it waits for its answer, and a 100 is owed
+abbrev pub owes_continue : Option (Option Waiting) → Bool
+owes_continue None = false
+owes_continue (Some None) = false
+owes_continue (Some (Some w)) = w.owes_continue
 
 -- the body of the last of these, if that waits
 abbrev pub last_body : List (Option Waiting) → Option Body

@@ -14,7 +14,7 @@ use Rattle.tiny_http_core.specs.declared.driver.Reply.{Reply}
 use Rattle.tiny_http_core.specs.declared.driver.Reply.TheVariants as reply
 use Rattle.tiny_http_message.specs.HeadReads.{head_message, head_framing}
 use Rattle.tiny_http_sending.specs.ResponseValue.{ResponseValue, printing_in}
-use Rattle.tiny_http_core.specs.Steps.{StepValue, Ask, Read, Respond, Drop, ReplyValue, Handed, Ended, Given, Fault, NotYet, Done, Refused, NoSuch, Memory, fault_reply}
+use Rattle.tiny_http_core.specs.Steps.{StepValue, Ask, AsReader, Read, Respond, Drop, ReplyValue, Handed, Ended, Given, Fault, NotYet, Done, Refused, NoSuch, Memory, fault_reply}
 use Rattle.tiny_http_core.specs.Conversation.{TimedValue}
 use Rattle.tiny_http_sending.specs.Sending.{Sends, IsFlushed, IsHonest, FailsAtMostOnce}
 
@@ -25,6 +25,7 @@ IsResponse feed r value = (value.answer ≡ r.answer) × (feed r.data_reader ≡
 -- the step is this one
 abbrev pub IsStep : {D : Type 0} → (D → Option Feed) → Step D → StepValue → Type 0
 IsStep feed step.Ask Ask = Unit {0}
+IsStep feed (step.AsReader k) (AsReader n) = n ≡ k
 IsStep feed (step.Read k n) (Read j m) = (j ≡ k) × (m ≡ n)
 IsStep feed (step.Respond k r) (Respond n value) = (n ≡ k) × IsResponse feed r value
 IsStep feed (step.Drop k) (Drop n) = n ≡ k
@@ -47,9 +48,10 @@ seen reply.NoSuch = NoSuch
 seen reply.Memory = Memory
 
 -- the step may fail by this kind, by the writer or by its own data, printed for some request, or by that of the body that
--- it reads; an Ask and a Drop report no fault
+-- it reads; an Ask, an AsReader and a Drop report no fault
 abbrev pub MayFail : {D : Type 0} → (D → Option Feed) → Sink → Sink → HttpDate → Step D → ErrorKind → Type 0
 MayFail feed old new date step.Ask kind = ⊥
+MayFail feed old new date (step.AsReader k) kind = ⊥
 MayFail feed old new date (step.Read k n) kind = Unit {0}
 MayFail feed old new date (step.Drop k) kind = ⊥
 MayFail feed old new date (step.Respond k r) kind = (context : AnswerContext) × IsHonest old new r.answer (feed r.data_reader) (printing_in context date) kind

@@ -22,11 +22,13 @@ use std::alloc::{AllocError, Global};
 use std::io::ErrorKind;
 use std::marker::Model;
 use tiny_http_message::exchange::{EndOfRequests, Head, HeadRead, read_head};
+use tiny_http_message::own_answer::send_own_quietly;
 use tiny_http_message::waiting::Waiting;
 use tiny_http_sending::sending::send;
 use tiny_http_stream::outlet::Outlet;
 use tiny_http_stream::source::{Source, Standing};
 use tiny_http_wire::answer_context::AnswerContext;
+use tiny_http_wire::common::StatusCode;
 use tiny_http_wire::device::{ReadDevice, WriteDevice};
 use tiny_http_wire::response::Response;
 
@@ -37,6 +39,8 @@ pub enum Step<D> {
     /// reader: one that is counted or chunked, neither read to its end nor given up, of a request that isn't the
     /// connection's last. After a chunked body that was given up before its end was reported no head follows.
     Ask,
+    /// Sends the 100 that the request of this number expects, if it is owed and wasn't sent yet. It waits for its turn then.
+    AsReader(u64),
     /// Reads the body of the request of this number, until there are so many bytes, 0 to 65535, or no more follow.
     Read(u64, u16),
     /// Answers the request of this number in its turn, and gives its body up.
@@ -271,16 +275,43 @@ impl<R: ReadDevice, W: WriteDevice> Connection<R, W> {
         }
     }
 
+    /// Sends the 100 that the request of this number expects (RFC 9110, section 10.1.1), if it is owed and wasn't sent yet, and
+    /// flushes it: `Done`. Its body can be read then. It is `NotYet` where a 100 is owed and a request before it waits for its
+    /// answer, and `NoSuch` for a number that doesn't wait for one; then nothing has changed. A fault of the writer is reported
+    /// by no reply, and it takes no memory. `now` is the `Date` of the 100.
+    pub fn as_reader(&mut self, alloc: Global, now: HttpDate, number: u64) -> Reply
+        ensures step { TakesStep self.old self.new now (Step.AsReader number) (seen result) }
+    {
+        let Some(answer_context) = self.pending.answer_context_at(number) else {
+            return Reply::NoSuch;
+        };
+        if !self.pending.owes_continue(number) {
+            return Reply::Done;
+        }
+        if !self.pending.is_in_turn(number) {
+            return Reply::NotYet;
+        }
+        send_own_quietly(
+            alloc,
+            &mut self.outlet,
+            StatusCode(100),
+            answer_context,
+            now,
+        );
+        self.pending.set_continued(number);
+        Reply::Done
+    }
+
     /// Reads the body of the request of this number, until there are `count` bytes or no more follow: `Given`, without a byte
     /// once the body has ended. It is `Fault` where the body is cut or broken, at each later read too; `NoSuch` for a number
-    /// that doesn't wait for an answer; and `Memory` where there is none for so many bytes, which changes nothing. It takes no
+    /// that doesn't wait for an answer, and while a 100 is owed to its request; and `Memory` where there is none for so many bytes, which changes nothing. It takes no
     /// date, as it sends nothing.
     pub fn read(&mut self, alloc: Global, number: u64, count: u16) -> Reply
         ensures step { (date : Date) → TakesStep self.old self.new date (Step.Read number count) (seen result) }
     {
-        let Some(_) = self.pending.answer_context_at(number) else {
+        if !self.pending.is_readable(number) {
             return Reply::NoSuch;
-        };
+        }
         if count == 0 {
             return Reply::Given(Vec::new(alloc));
         }
@@ -355,6 +386,7 @@ impl<R: ReadDevice, W: WriteDevice> Connection<R, W> {
         let Timed { now, step } = timed;
         match step {
             Step::Ask => self.ask(alloc, now),
+            Step::AsReader(number) => self.as_reader(alloc, now, number),
             Step::Read(number, count) => self.read(alloc, number, count),
             Step::Respond(number, response) => self.respond(alloc, now, number, response),
             Step::Drop(number) => self.drop_request(number),

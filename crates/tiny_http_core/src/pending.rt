@@ -6,7 +6,7 @@ ghost use Rattle.tiny_http_sending.specs.Sending.{CanSend, IsFlushed, SendsUnles
 ghost use Rattle.tiny_http_message.specs.declared.body.Body.{Body};
 ghost use Rattle.tiny_http_stream.specs.Source.{GoesOn};
 ghost use Rattle.tiny_http_message.specs.Body.{is_streaming, body_standing, FillsFromBody};
-ghost use Rattle.tiny_http_core.specs.Pending.{left_text, SendsLeft, FinishesFront, LeavesText, waiting_answer_context};
+ghost use Rattle.tiny_http_core.specs.Pending.{left_text, SendsLeft, FinishesFront, LeavesText, waiting_answer_context, is_readable, owes_continue};
 
 use std::alloc::Global;
 use std::io::ErrorKind;
@@ -80,6 +80,48 @@ impl Pending {
         match self.requests.get(number as usize) {
             Some(Some(waiting)) => Some(waiting.answer_context),
             _ => None,
+        }
+    }
+
+    /// Whether the body of this number can be read: it waits for its answer, and no 100 is owed.
+    pub fn is_readable(&self, number: u64) -> bool
+        ensures { result ≡ is_readable (slice_get self.now.requests.items number) }
+    {
+        match self.requests.get(number as usize) {
+            Some(Some(waiting)) => !waiting.owes_continue,
+            _ => false,
+        }
+    }
+
+    /// Whether this number waits for its answer and a 100 is owed.
+    pub fn owes_continue(&self, number: u64) -> bool
+        ensures { result ≡ owes_continue (slice_get self.now.requests.items number) }
+    {
+        match self.requests.get(number as usize) {
+            Some(Some(waiting)) => waiting.owes_continue,
+            _ => false,
+        }
+    }
+
+    /// Whether the turn of this number has come, and it isn't finished.
+    pub fn is_in_turn(&self, number: u64) -> bool
+        ensures { result ≡ (number == first_unfinished self.now.turns.marks) }
+    {
+        number == self.turns.first_unfinished()
+    }
+
+    /// No 100 is owed to this number any more, if it waits for its answer.
+    pub fn set_continued(&mut self, number: u64)
+        ensures requests { (w : Waiting) → slice_get self.old.requests.items number ≡ Some (Some w)
+            → self.new.requests.items ≡ slice_set self.old.requests.items number (Some (record w { owes_continue = false })) }
+        ensures turns { self.new.turns ≡ self.old.turns }
+    {
+        let Some(entry) = self.requests.get_mut(number as usize) else {
+            return;
+        };
+        match entry {
+            Some(waiting) => waiting.owes_continue = false,
+            None => {}
         }
     }
 

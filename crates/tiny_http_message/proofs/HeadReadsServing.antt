@@ -96,7 +96,7 @@ pub head-unframed : (date : HttpDate) (o p : Option Feed) (m : Message) (r : Res
 head-unframed date None p m r h e k = tt
 head-unframed date (Some f) p m r h e k = refused-at date f p ExpectationFailed m.version r tt (inr (inl (message_of m, h.0, h.1, e, refl))) k
 
-pub head-unbuilt : (date : HttpDate) (o p q : Option Feed) (m : Message) (f : Framing) (b : Body) → ReadsMessage o p (Ok m) → framing m.version m.headers.items ≡ Some f → Begins f p q (Some b) → is_built m.version f ≡ false → ReadsHead at.Head date o q (Ok (read.Ended because.NotServed))
+pub head-unbuilt : (date : HttpDate) (o p q : Option Feed) (m : Message) (f : Framing) (b : Body) → ReadsMessage o p (Ok m) → framing m.version m.headers.items ≡ Some f → Begins f p q (Some b) → is_built m.version ≡ false → ReadsHead at.Head date o q (Ok (read.Ended because.NotServed))
 head-unbuilt date None p q m f y h e begins b = tt
 head-unbuilt date (Some x) p q m f y h e begins b =
     let B : Option Feed → Type 0 = λ z. Begins f z q (Some y) in
@@ -106,15 +106,9 @@ head-unbuilt date (Some x) p q m f y h e begins b =
     let same : Ends None ≡ served (Heads (message_of m) f h.0) = rw b refl in
     ((Heads (message_of m) f h.0, (h.1, e, whole), subst P same (refl, refl)), inr (inr (message_of m, h.0, f, h.1, e, b, whole, refl)))
 
--- what is built is no version above 1.1, and owes no 100
-pub record Built (v : HTTPVersion) (f : Framing) : Type 0 where
-  pub version_is : is_too_new v ≡ false
-  pub unowed : f.owes_continue ≡ false
-
-pub built-parts : (v : HTTPVersion) (f : Framing) → is_built v f ≡ true → Built v f
-built-parts v f b =
-    let parts = and_parts (not (is_too_new v)) (not f.owes_continue) b in
-    record { version_is = not-true (is_too_new v) parts.0; unowed = not-true f.owes_continue parts.1 }
+-- what is built is no version above 1.1
+pub built-version : (v : HTTPVersion) → is_built v ≡ true → is_too_new v ≡ false
+built-version v b = not-true (is_too_new v) b
 
 -- the body that begins in front of some bytes
 abbrev pub BeginsAt : Form → ℕ → Feed → Option Feed → Body → Type 0
@@ -226,15 +220,15 @@ begins-cut f (Some x) new n e is h =
     subst P (sym e) (omega (arith, h.0, is))
 
 -- a head with its body
-head-whole : (x : Feed) (q : Option Feed) (m : Texted) (f : Framing) (after : List ℕ) (b : Body) → BeginsWithRequestHead x.bytes m after → framing m.version m.headers ≡ Some f → is_built m.version f ≡ true → Begins f (feed_from x after) q (Some b)
+head-whole : (x : Feed) (q : Option Feed) (m : Texted) (f : Framing) (after : List ℕ) (b : Body) → BeginsWithRequestHead x.bytes m after → framing m.version m.headers ≡ Some f → is_built m.version ≡ true → Begins f (feed_from x after) q (Some b)
     → (content : Feed) × (next : Place) × OneHead x.bytes x.stop (Some (Asks (record { message = m; framing = f; body = content }))) (place_after f.is_last next) × ComesWith (remaining b q) x.stop content next × Fits b f.form (body_length_or_0 f) 0 false
 head-whole x q m f after b h e built begins =
-    let parts = built-parts m.version f built in
+    let version_is = built-version m.version built in
     let k = begins in
     let content = k.1 in
     let next = k.2 in
-    let item : Some (Asks (record { message = m; framing = f; body = content })) ≡ Some (item_of m f content) = rw parts.version_is refl in
-    let place : place_after f.is_last next ≡ next_place m f next = rw parts.version_is refl in
+    let item : Some (Asks (record { message = m; framing = f; body = content })) ≡ Some (item_of m f content) = rw version_is refl in
+    let place : place_after f.is_last next ≡ next_place m f next = rw version_is refl in
     let found : FoundAt x.stop (Heads m f after) (Some (Asks (record { message = m; framing = f; body = content }))) (place_after f.is_last next) = (content, next, k.3, item, place) in
     let Q : Heading → Type 0 = λ y. FoundAt x.stop y (Some (Asks (record { message = m; framing = f; body = content }))) (place_after f.is_last next) in
     let same : Heads m f after ≡ served (Heads m f after) = rw built refl in
@@ -245,7 +239,7 @@ abbrev IsHanded : Feed → Option Feed → Body → Texted → Framing → Type 
 IsHanded x q b m f =
     (content : Feed) × (next : Place) × OneHead x.bytes x.stop (Some (Asks (record { message = m; framing = f; body = content }))) (place_after f.is_last next) × ComesWith (remaining b q) x.stop content next × Fits b f.form (body_length_or_0 f) 0 false
 
-pub head-handed : (date : HttpDate) (o p q : Option Feed) (m : Message) (f : Framing) (h : Head) (b : Body) (y : Exchange) → head_message h ≡ message_of m → head_framing h ≡ f → ReadsMessage o p (Ok m) → framing m.version m.headers.items ≡ Some f → is_built m.version f ≡ true
+pub head-handed : (date : HttpDate) (o p q : Option Feed) (m : Message) (f : Framing) (h : Head) (b : Body) (y : Exchange) → head_message h ≡ message_of m → head_framing h ≡ f → ReadsMessage o p (Ok m) → framing m.version m.headers.items ≡ Some f → is_built m.version ≡ true
     → Begins f p q (Some b) → y.head ≡ h → y.waiting.body ≡ b → KeepsHead y.waiting h date → ReadsHead at.Head date o q (Ok (read.Request y))
 head-handed date None p q m f h b y u v r e t begins heads bodies keeps = tt
 head-handed date (Some x) p q m f h b y u v r e t begins heads bodies keeps =

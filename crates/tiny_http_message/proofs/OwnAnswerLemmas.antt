@@ -1,6 +1,6 @@
--- The text of a dropped request's 500 fits into its room.
+-- Answers of the server's own are whole, and the text of a dropped request's 500 fits into its room.
 use Rattle.std.specs.Fmt.{digits}
-use Rattle.std.proofs.Common.{◌≡◌, refl, sym, ap, ◌∙◌, subst, ℕ, ◌<◌, ◌≤◌, inl, inr, ⊎_elim, Bool, true, false, List, [], ◌++◌, length, Option, Some, None, Err, decimal, codes, length-append, arith}
+use Rattle.std.proofs.Common.{◌≡◌, refl, sym, ap, ◌∙◌, subst, ℕ, ◌<◌, ◌≤◌, inl, inr, ⊎_elim, Bool, true, false, List, [], ◌++◌, length, Option, Some, None, Result, Ok, Err, decimal, codes, length-append, arith}
 use Rattle.std.specs.IoError.{error_kind}
 use Rattle.std.specs.declared.io.Error.{Error}
 use Rattle.std.specs.declared.io.ErrorKind.{ErrorKind}
@@ -15,9 +15,10 @@ use Rattle.tiny_http_wire.specs.declared.coding.FramingHeader.TheVariants.{Conte
 use Rattle.tiny_http_encoding.specs.ChunkedPrinting.{full_chunks, left_over}
 use Rattle.tiny_http_wire.specs.Common.{reason_phrase}
 use Rattle.tiny_http_wire.specs.Device.{Sink, Took, Failed, whole_feed}
-use Rattle.tiny_http_encoding.specs.Text.{Ending, Whole, Broken, chunked_body}
+use Rattle.tiny_http_encoding.specs.Text.{Text, Ending, Whole, Broken, chunked_body}
 use Rattle.tiny_http_wire.specs.Answer.{Answer, Printing, answer_with, answer_coding, coded_text, PrintsAnswer, text_of, is_withheld, answer_head_text, status_line, field_line, upgrade_lines, server_line, date_line, framing_line}
 use Rattle.tiny_http_sending.specs.ResponseValue.{printing_to}
+use Rattle.tiny_http_sending.specs.Sending.{Sends, SendsText, SendsQuietly}
 use Rattle.tiny_http_message.specs.OwnAnswer.{own_text_by}
 
 -- an answer of the server's own is whole, however it is coded
@@ -97,3 +98,23 @@ no-fault old new e a p bytes same o n z full all fits (inl k) = ⊎_elim whole f
 no-fault old new e a p bytes same o n z full all fits (inr k) =
     let none : ◌≡◌ {A = Option ℕ} (Some 0) None = sym (ap (λ (x : Answer). x.data_length) same) ∙ k.0.2 in
     cc
+
+-- such an answer that was sent: its text was sent, or the writer failed in it
+own-sent : {T : Type 0} (old new : Sink) (ended : Bool) (r : Result T Error) (text : Text) → text.ending ≡ Whole → SendsText old new ended r text → SendsQuietly old new ended text.bytes
+own-sent old new ended (Ok x) text whole s = inl (s.2, s.3, s.1)
+own-sent old new ended (Err e) text whole s =
+    ⊎_elim (λ k. absurd (whole-broken text.ending (error_kind e) whole k.0)) (λ k. inr (s.0, s.1, error_kind e, k.1)) s.2
+
+pub own-quietly : {T : Type 0} (old new : Sink) (ended : Bool) (r : Result T Error) (a : Answer) (status : ℕ) (asked : Option Coding) (v : HTTPVersion) (no_body : Bool) (date : HttpDate) → a ≡ answer_with status [] 0
+    → Sends {T = T} old new ended r a (whole_feed []) (printing_to asked v no_body date) → SendsQuietly old new ended (own_text_by status (printing_to asked v no_body date))
+own-quietly {T = T} old new ended r a status asked v no_body date same s = by (subst S same s)
+  where
+    p : Printing
+    p = printing_to asked v no_body date
+
+    S : Answer → Type 0
+    S x = Sends {T = T} old new ended r x (whole_feed []) p
+
+    by : S (answer_with status [] 0) → SendsQuietly old new ended (own_text_by status p)
+    by (inl k) = own-sent {T = T} old new ended r (text_of (answer_with status [] 0) (whole_feed []) p) (own-whole status asked v no_body date) k
+    by (inr k) = let none : ◌≡◌ {A = Option ℕ} (Some 0) None = k.0.2 in cc

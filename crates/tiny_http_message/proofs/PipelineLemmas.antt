@@ -230,7 +230,7 @@ ends-is bytes stop go None h = (Ends None, h, (refl, refl))
 ends-is bytes stop go (Some item) h = (None, (Ends (Some item), h, (refl, refl)), tt)
 
 heads-is : (fuel : ℕ) (stop : Stop) (bytes : List ℕ) → ((p : Place) → place_len p < length bytes → Pipeline p stop (items_from fuel stop p))
-    → (m : Message) (f : Framing) (after : List ℕ) → HeadAt bytes stop (Heads m f after) → (t : Bool) → is_built m.version f ≡ t
+    → (m : Message) (f : Framing) (after : List ℕ) → HeadAt bytes stop (Heads m f after) → (t : Bool) → is_built m.version ≡ t
     → Pipeline (Some bytes) stop (items_at (items_from fuel stop) stop (if t then Heads m f after else Ends None))
 heads-is fuel stop bytes go m f after h false b =
     let P : Heading → Type 0 = λ x. FoundAt stop x None None in
@@ -249,7 +249,7 @@ heads-is fuel stop bytes go m f after h true b =
 one-is : (fuel : ℕ) (stop : Stop) (bytes : List ℕ) → ((p : Place) → place_len p < length bytes → Pipeline p stop (items_from fuel stop p))
     → (h : Heading) → HeadAt bytes stop h → Pipeline (Some bytes) stop (items_at (items_from fuel stop) stop (served h))
 one-is fuel stop bytes go (Ends answer) h = ends-is bytes stop (items_from fuel stop) answer h
-one-is fuel stop bytes go (Heads m f after) h = heads-is fuel stop bytes go m f after h (is_built m.version f) refl
+one-is fuel stop bytes go (Heads m f after) h = heads-is fuel stop bytes go m f after h (is_built m.version) refl
 
 items-are : (fuel : ℕ) (place : Place) (stop : Stop) → place_len place < fuel → Pipeline place stop (items_from fuel stop place)
 items-are zero place stop lt = absurd (omega arith)

@@ -48,6 +48,14 @@ exchange_standing x standing = body_standing x.waiting.body standing
 abbrev pub ExchangeReadsOn : Exchange → ℕ → Bool → Exchange → Type 0
 ExchangeReadsOn x n end_reported new = ReadsOn x.waiting.body n end_reported new.waiting.body
 
+-- a 100 is owed that wasn't sent yet
+abbrev pub exchange_owes_continue : Exchange → Bool
+exchange_owes_continue x = x.waiting.owes_continue
+
+-- nothing has changed but that no 100 is owed any more
+abbrev pub OwesNoContinue : Exchange → Exchange → Type 0
+OwesNoContinue old new = new ≡ record old { waiting = record old.waiting { owes_continue = false } }
+
 -- nothing but how far its body was read has changed
 abbrev pub KeepsButBody : Exchange → Exchange → Type 0
 KeepsButBody old new = (body : Body) × (new ≡ record old { waiting = record old.waiting { body = body } })
@@ -61,6 +69,7 @@ pub record KeepsHead (w : Waiting) (h : Head) (date : HttpDate) : Type 0 where
   pub version : w.answer_context.version ≡ h.version
   pub asked_coding : w.answer_context.asked_coding ≡ coding_asked h.headers.items
   pub no_body : w.answer_context.no_body ≡ is_head_method h.method
+  pub owes_continue : w.owes_continue ≡ h.owes_continue
   pub text : w.dropped.items ≡ own_text_by 500 (printing_to (coding_asked h.headers.items) h.version (is_head_method h.method) date)
 
 -- what is kept of a request that was read on this date, of whose body nothing was read yet

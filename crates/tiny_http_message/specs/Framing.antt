@@ -61,7 +61,7 @@ framed_by v headers (Some owed) =
 unfoldable pub framing : HTTPVersion → List Header → Option Framing
 framing v headers = framed_by v headers (expectation (value_of (codes "Expect") headers))
 
--- THE INTERIM GUARD on heads: what is served so far is a request of a version up to 1.1 to which no 100 is owed. Any other
--- head whose framing is known, and whose body isn't cut, ends the connection without an answer.
-abbrev pub is_built : HTTPVersion → Framing → Bool
-is_built v f = not (is_too_new v) && not f.owes_continue
+-- THE INTERIM GUARD on heads: what is served so far is a request of a version up to 1.1. Any other head whose framing is
+-- known, and whose body isn't cut, ends the connection without an answer.
+abbrev pub is_built : HTTPVersion → Bool
+is_built v = not (is_too_new v)

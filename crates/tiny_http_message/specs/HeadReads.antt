@@ -137,7 +137,7 @@ abbrev pub EndsBy : List ℕ → Stop → EndOfRequests → Type 0
 EndsBy bytes stop why =
     (IsCutHead bytes × (is_timed_out stop ≡ false) × (why ≡ cut_end stop (nat_lt 0 (length bytes))))
     ⊎ (((v : Option HTTPVersion) × FaultyHead bytes v NotAscii × (why ≡ because.NotAscii))
-    ⊎ ((m : Texted) × (after : List ℕ) × (f : Framing) × BeginsWithRequestHead bytes m after × (framing m.version m.headers ≡ Some f) × (is_built m.version f ≡ false)
+    ⊎ ((m : Texted) × (after : List ℕ) × (f : Framing) × BeginsWithRequestHead bytes m after × (framing m.version m.headers ≡ Some f) × (is_built m.version ≡ false)
     × (IsCutWithHead f.form (body_length_or_0 f) after → ⊥) × (why ≡ because.NotServed)))
 
 -- the same at a place: after a body that was given up, or broke off, that is the reason

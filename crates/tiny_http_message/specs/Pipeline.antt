@@ -92,7 +92,7 @@ HeadAt bytes stop (Heads m f after) =
 -- THE INTERIM GUARD on heads, applied: only what is built is handed out.
 abbrev pub served : Heading → Heading
 served (Ends answer) = Ends answer
-served (Heads m f after) = if is_built m.version f then Heads m f after else Ends None
+served (Heads m f after) = if is_built m.version then Heads m f after else Ends None
 
 -- the bytes begin with a body of n bytes
 abbrev pub SizedBody : ℕ → List ℕ → Feed → Place → Type 0

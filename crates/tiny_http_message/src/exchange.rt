@@ -9,13 +9,14 @@ ghost use Rattle.tiny_http_message.specs.HeadReads.{ReadsHead, EndsUnlessHanded,
 ghost use Rattle.tiny_http_message.specs.Exchange.{KeepsHead};
 ghost use Rattle.tiny_http_wire.specs.Device.{Feed};
 ghost use Rattle.tiny_http_stream.specs.Outlet.{output_of, outlet_ended, outlet_held, SentOn};
-ghost use Rattle.tiny_http_sending.specs.Sending.{CanSend, Sends, FailsOnceUnlessEnded, IsHonest};
+ghost use Rattle.tiny_http_sending.specs.Sending.{CanSend, Sends, SendsUnlessEnded, FailsOnceUnlessEnded, IsHonest};
+ghost use Rattle.tiny_http_message.specs.OwnAnswer.{own_text_by};
 
 use crate::body::{Body, counted};
 pub use crate::framing::Form;
 use crate::framing::{Framing, framing_of, is_built};
 use crate::heads::{HeadFault, Message, read_message};
-use crate::own_answer::{DropText, own_answer};
+use crate::own_answer::{DropText, own_answer, send_own_quietly};
 use crate::waiting::Waiting;
 use httpdate::HttpDate;
 use std::alloc::{AllocError, Global};
@@ -106,7 +107,7 @@ pub enum HeadRead {
 }
 
 impl Exchange {
-    ghost use Rattle.tiny_http_message.specs.Exchange.{exchange_printing, exchange_of, exchange_head, exchange_left, exchange_stop, exchange_streams, exchange_standing, ExchangeReadsOn, GivesUpBody, KeepsButBody};
+    ghost use Rattle.tiny_http_message.specs.Exchange.{exchange_printing, exchange_of, exchange_head, exchange_owes_continue, OwesNoContinue, exchange_left, exchange_stop, exchange_streams, exchange_standing, ExchangeReadsOn, GivesUpBody, KeepsButBody};
 
     /// What the request's head says.
     pub fn head(&self) -> &Head
@@ -176,6 +177,29 @@ impl Exchange {
             return Ok(());
         }
         send(alloc, outlet, response, self.waiting.answer_context, now)
+    }
+
+    /// Sends the 100 that this request expects, if it is owed and wasn't sent yet, and flushes it (RFC 9110, section 10.1.1).
+    /// It takes no memory. The caller does so in the turn of the request, before its answer. A fault of the writer ends the
+    /// outlet, and isn't reported; on an outlet that has ended nothing is sent.
+    pub fn send_continue<W: WriteDevice>(
+        &mut self,
+        alloc: Global,
+        outlet: &mut Outlet<W>,
+        now: HttpDate,
+    )
+        ensures unowed { exchange_owes_continue self.old ≡ false → (self.new ≡ self.old) × (outlet.new ≡ outlet.old) }
+        ensures sends { exchange_owes_continue self.old ≡ true → (outlet_ended outlet.old ≡ false → CanSend (output_of outlet.old))
+            → SendsUnlessEnded (outlet_ended outlet.old) (output_of outlet.old) (output_of outlet.new) (outlet_ended outlet.new) (own_text_by 100 (exchange_printing self.old now)) }
+        ensures once { OwesNoContinue self.old self.new }
+        ensures fails_once { FailsOnceUnlessEnded (outlet_ended outlet.old) (output_of outlet.old) (output_of outlet.new) (outlet_ended outlet.new) }
+        ensures flushed { outlet_held outlet.old ≡ [] → outlet_held outlet.new ≡ [] }
+        ensures sent_on { SentOn outlet.old → SentOn outlet.new }
+    {
+        if self.waiting.owes_continue {
+            send_own_quietly(alloc, outlet, StatusCode(100), self.waiting.answer_context, now);
+            self.waiting.owes_continue = false;
+        }
     }
 
     /// Gives the body up: each later read answers 0. The rest of a body of a known length is skipped before the next head;
@@ -304,6 +328,7 @@ fn hand_out(alloc: Global, head: Head, body: Body, now: HttpDate) -> Result<Exch
     let dropped = DropText::new(alloc, answer_context, now)?;
     let waiting = Waiting {
         answer_context,
+        owes_continue: head.owes_continue,
         dropped,
         body,
     };
@@ -364,7 +389,7 @@ fn read_item<R: ReadDevice>(
     };
     match begin_body(alloc, source, framing) {
         Ok(Some(body)) => {
-            if !is_built(message.version, framing) {
+            if !is_built(message.version) {
                 return Ok(HeadRead::Ended(EndOfRequests::NotServed));
             }
             match hand_out(alloc, head_of(message, framing), body, now) {

@@ -163,9 +163,9 @@ fn is_too_new(version: HTTPVersion) -> bool
     version.0 > 1 || (version.0 == 1 && version.1 > 1)
 }
 
-/// Whether a request so framed is served.
-pub fn is_built(version: HTTPVersion, framing: Framing) -> bool
-    ensures { result ≡ is_built version framing }
+/// Whether a request of this version is served.
+pub fn is_built(version: HTTPVersion) -> bool
+    ensures { result ≡ is_built version }
 {
-    !is_too_new(version) && !framing.owes_continue
+    !is_too_new(version)
 }

@@ -1,7 +1,9 @@
 //! Answers of the server's own: the text of a refused head, and the text of a dropped request, which is printed as it is dropped.
-ghost use Rattle.std.specs.Prelude.{◌≡◌, ◌<◌, ◌≤◌, IfOk, length, vec_len, vec_capacity};
+ghost use Rattle.std.specs.Prelude.{◌≡◌, ◌<◌, ◌≤◌, false, [], IfOk, length, vec_len, vec_capacity};
 ghost use Rattle.httpdate.specs.Date.{date_text};
-ghost use Rattle.tiny_http_sending.specs.ResponseValue.{printing_to};
+ghost use Rattle.tiny_http_sending.specs.ResponseValue.{printing_to, printing_in};
+ghost use Rattle.tiny_http_sending.specs.Sending.{CanSend, IsFlushed, SendsUnlessEnded, FailsOnceUnlessEnded};
+ghost use Rattle.tiny_http_stream.specs.Outlet.{output_of, outlet_ended, outlet_held, SentOn};
 ghost use Rattle.tiny_http_message.specs.OwnAnswer.{own_text, own_text_by};
 
 use httpdate::HttpDate;
@@ -9,6 +11,8 @@ use std::alloc::{AllocError, Global};
 use std::io;
 use std::io::ErrorKind;
 use std::marker::Model;
+use tiny_http_sending::sending::send;
+use tiny_http_stream::outlet::Outlet;
 use tiny_http_wire::answer_context::AnswerContext;
 use tiny_http_wire::common::{HTTPVersion, StatusCode};
 use tiny_http_wire::device::{Budget, WriteDevice};
@@ -40,6 +44,30 @@ pub fn own_answer(
         Ok(()) => Ok(writer.into_bytes()),
         Err(_) => Err(AllocError),
     }
+}
+
+/// Sends an answer of the server's own to a request, and flushes it: this code, no headers of its own and no data. It takes no
+/// memory. No reply reports a fault that is met there; an outlet that has ended sends nothing.
+pub fn send_own_quietly<W: WriteDevice>(
+    alloc: Global,
+    outlet: &mut Outlet<W>,
+    status: StatusCode,
+    context: AnswerContext,
+    now: HttpDate,
+)
+    ensures sends { (outlet_ended outlet.old ≡ false → CanSend (output_of outlet.old))
+        → SendsUnlessEnded (outlet_ended outlet.old) (output_of outlet.old) (output_of outlet.new) (outlet_ended outlet.new) (own_text_by status.0 (printing_in context now)) }
+    ensures fails_once { FailsOnceUnlessEnded (outlet_ended outlet.old) (output_of outlet.old) (output_of outlet.new) (outlet_ended outlet.new) }
+    ensures flushed { outlet_held outlet.new ≡ [] }
+    ensures sent_on { SentOn outlet.new }
+    ensures is_flushed { IsFlushed (output_of outlet.new) }
+{
+    if outlet.is_ended() {
+        outlet.facts();
+        return;
+    }
+    let answer = Response::empty(alloc, status);
+    let _ = send(alloc, outlet, answer, context, now);
 }
 
 // A writer into room that was taken before: it takes 144 bytes, and then each write of a byte fails.

@@ -8,6 +8,8 @@ use tiny_http_wire::answer_context::AnswerContext;
 pub struct Waiting {
     /// How its answer is printed.
     pub answer_context: AnswerContext,
+    /// Whether a 100 is owed that wasn't sent yet.
+    pub owes_continue: bool,
     /// What is sent if the request is dropped.
     pub dropped: DropText,
     /// How far its body was read.

@@ -144,6 +144,13 @@ impl<T: Drop> Turns<T> {
         Ok(())
     }
 
+    /// The first number that isn't finished: its turn has come.
+    pub fn first_unfinished(&self) -> u64
+        ensures { result ≡ first_unfinished self.now.marks }
+    {
+        self.turn as u64
+    }
+
     /// Finishes a held number. If the next one was left, that one is held, and its text comes out.
     pub fn finish(&mut self, number: u64, item: T) -> Finishing<T>
         ensures in_order { IsInOrder self.new }

@@ -7,8 +7,8 @@ use Rattle.tiny_http_core.specs.Connection.{Kept, kept}
 use Rattle.tiny_http_core.specs.Seen.{seen}
 use Rattle.tiny_http_core.proofs.ConnectionAsk.{StepIsAnswered}
 use Rattle.tiny_http_core.proofs.ConnectionBody.{with_reader}
-use Rattle.tiny_http_core.proofs.ConnectionRespond.{no-such, answer-form-some}
-use Rattle.tiny_http_core.proofs.ConnectionRead.{read-not_taken, read-none, read-memory, read-done}
+use Rattle.tiny_http_core.proofs.ConnectionRead.{read-none, read-memory, read-done}
+use Rattle.tiny_http_core.proofs.ConnectionContinue.{read-nothing, readable-some}
 use Rattle.tiny_http_core.proofs.DrivingLemmas.{viewed, takes-read, driving-reads-on, moves-none, stands-after}
 use Rattle.tiny_http_core.proofs.driver.Connection.read.Goals.{in-Ok-fill, in-Err}
 use Rattle.tiny_http_core.proofs.driver.Connection.read.Goals as goal
@@ -21,14 +21,14 @@ none : (l : List ℕ) → length l ≡ 0 → [] ≡ l
 none [] e = refl
 none (x ∷ xs) e = absurd (omega (arith, e))
 
-pub returns-in_default : goal.returns-in_default
-returns-in_default g c =
+pub returns-then-not-is_readable : goal.returns-then-not-is_readable
+returns-then-not-is_readable g c =
     let n = c.args.number in
     let q = c.self.inside in
     let old = viewed q.source q.outlet q.pending q.end in
     record {
       step = λ date. rw (← c.self.view_is) (takes-read old old date n c.args.count NoSuch
-          (λ client before s st. no-such client before (kept old) s date n (Read n c.args.count) refl (read-not_taken n c.args.count) st (sym c.answer_context_at.ensures ∙ c.in_default.is)) (λ no. refl) refl (refl, refl, inl (refl, refl)) (moves-none old));
+          (λ client before s st. read-nothing client before (kept old) s date n c.args.count st (sym c.is_readable.ensures ∙ c.if-not-is_readable.true)) (λ no. refl) refl (refl, refl, inl (refl, refl)) (moves-none old));
     }
 
 pub returns-then-count-eq0 : goal.returns-then-count-eq0
@@ -40,13 +40,13 @@ returns-then-count-eq0 g c =
     record {
       step = λ date. rw (← c.self.view_is) (takes-read old old date n c.args.count (Given c.new.result.items)
           (λ client before s st.
-          let w = answer-form-some (slice_get k.requests n) c.in-Some.field-0 (sym c.answer_context_at.ensures ∙ c.in-Some.is) in
+          let w = readable-some (slice_get k.requests n) (sym c.is_readable.ensures ∙ c.if-not-is_readable.false) in
           let P : List ℕ → Type 0 = λ l. StepIsAnswered client before k s date (Read n c.args.count) (Given l) in
-          subst P (none _ (search rules)) (read-none client before k s date n c.args.count w.0 st w.1 c.if-count-eq0.true)) (λ no. refl) refl (refl, refl, inl (refl, refl)) (moves-none old));
+          subst P (none _ (search rules)) (read-none client before k s date n c.args.count w.0 st w.1 w.2 c.if-count-eq0.true)) (λ no. refl) refl (refl, refl, inl (refl, refl)) (moves-none old));
     }
 
-pub returns-in_default-zeros : goal.returns-in_default-zeros
-returns-in_default-zeros g c =
+pub returns-in_default : goal.returns-in_default
+returns-in_default g c =
     let n = c.args.number in
     let q = c.self.inside in
     let old = viewed q.source q.outlet q.pending q.end in
@@ -54,8 +54,8 @@ returns-in_default-zeros g c =
     record {
       step = λ date. rw (← c.self.view_is) (takes-read old old date n c.args.count Memory
           (λ client before s st.
-          let w = answer-form-some (slice_get k.requests n) c.in-Some.field-0 (sym c.answer_context_at.ensures ∙ c.in-Some.is) in
-          read-memory client before k s date n c.args.count w.0 st w.1 (omega (arith, c.if-count-eq0.false))) (λ no. refl) refl (refl, refl, inl (refl, refl)) (moves-none old));
+          let w = readable-some (slice_get k.requests n) (sym c.is_readable.ensures ∙ c.if-not-is_readable.false) in
+          read-memory client before k s date n c.args.count w.0 st w.1 w.2 (omega (arith, c.if-count-eq0.false))) (λ no. refl) refl (refl, refl, inl (refl, refl)) (moves-none old));
     }
 
 pub returns : goal.returns
@@ -65,19 +65,19 @@ returns g c =
     let old = viewed q.source q.outlet q.pending q.end in
     let new = viewed c.fill.new.source q.outlet c.fill.new.self q.end in
     let k : Kept = kept old in
-    let w = answer-form-some (slice_get k.requests n) c.in-Some.field-0 (sym c.answer_context_at.ensures ∙ c.in-Some.is) in
+    let w = readable-some (slice_get k.requests n) (sym c.is_readable.ensures ∙ c.if-not-is_readable.false) in
     let size : length c.fill.new.buf ≡ c.args.count = search (rules, c.in-Ok.ensures) in
     record {
       step = λ date. rw (← c.self.view_is) (takes-read old new date n c.args.count (seen c.match-fill.result)
           (λ client before s st. elim c.match-fill.branch [
             | in-Ok-fill b ↦
                 let fills = b.in-Ok-fill.ensures.fills w.0 w.1 in
-                let done = read-done client before k s date n c.args.count w.0 fills.0 q.source c.fill.new.source c.fill.new.self.requests.items (Ok b.in-Ok-fill.n) c.fill.new.buf st w.1 fills.1 (record { feed = refl; stop = refl; ends = refl; standing = refl }) b.in-Ok-fill.ensures.bound size (omega (arith, c.if-count-eq0.false)) fills.2 fills.3 fills.4 c.fill.ensures.goes_on in
+                let done = read-done client before k s date n c.args.count w.0 fills.0 q.source c.fill.new.source c.fill.new.self.requests.items (Ok b.in-Ok-fill.n) c.fill.new.buf st w.1 w.2 fills.1 (record { feed = refl; stop = refl; ends = refl; standing = refl }) b.in-Ok-fill.ensures.bound size (omega (arith, c.if-count-eq0.false)) fills.2 fills.3 fills.4 c.fill.ensures.goes_on in
                 let P : List Mark → List ℕ → Type 0 = λ m l. StepIsAnswered client before (record (with_reader k c.fill.new.self.requests.items c.fill.new.source) { marks = m }) s date (Read n c.args.count) (Given l) in
                 rw b.result-is (subst (λ l. P c.fill.new.self.turns.marks l) (ap (take b.in-Ok-fill.n) (sym (whole c.fill.new.buf c.in-Ok.bytes.items c.in-Ok.bytes.len (search (rules, c.in-Ok.ensures)) size c.in-Ok.ensures)) ∙ sym b.truncate.ensures.items) (subst (λ m. P m (take b.in-Ok-fill.n c.fill.new.buf)) (ap (λ t. t.marks) (sym c.fill.ensures.turns)) done))
             | in-Err b ↦
                 let fills = b.in-Err.ensures.fills w.0 w.1 in
-                let done = read-done client before k s date n c.args.count w.0 fills.0 q.source c.fill.new.source c.fill.new.self.requests.items (Err b.in-Err.kind) c.fill.new.buf st w.1 fills.1 (record { feed = refl; stop = refl; ends = refl; standing = refl }) tt size (omega (arith, c.if-count-eq0.false)) fills.2 fills.3 fills.4 c.fill.ensures.goes_on in
+                let done = read-done client before k s date n c.args.count w.0 fills.0 q.source c.fill.new.source c.fill.new.self.requests.items (Err b.in-Err.kind) c.fill.new.buf st w.1 w.2 fills.1 (record { feed = refl; stop = refl; ends = refl; standing = refl }) tt size (omega (arith, c.if-count-eq0.false)) fills.2 fills.3 fills.4 c.fill.ensures.goes_on in
                 let P : List Mark → Type 0 = λ m. StepIsAnswered client before (record (with_reader k c.fill.new.self.requests.items c.fill.new.source) { marks = m }) s date (Read n c.args.count) (Fault b.in-Err.kind) in
                 rw b.result-is (subst P (ap (λ t. t.marks) (sym c.fill.ensures.turns)) done)
           ])
