@@ -310,7 +310,6 @@ fn the_last_body_is_read_behind_the_end(rt: HostRuntime) -> Result<(), Fail> {
 #[test]
 fn what_is_not_served_yet_ends_the_connection(rt: HostRuntime) -> Result<(), Fail> {
     for client in [
-        b"POST / HTTP/1.1\r\nExpect: 100-continue\r\nContent-Length: 5\r\n\r\nhello".as_slice(),
         b"GET / HTTP/2.0\r\n\r\nGET /b HTTP/1.1\r\n\r\n".as_slice(),
         b"GET / HTTP/3.0\r\n\r\n".as_slice(),
     ] {

@@ -18,6 +18,8 @@ mod ends;
 #[cfg(test)]
 mod exchanges;
 #[cfg(test)]
+mod expectations;
+#[cfg(test)]
 mod greetings;
 #[cfg(test)]
 mod heads;

@@ -35,6 +35,8 @@ pub(crate) const AMPLE: usize = 1_000_000;
 #[derive(Clone, Copy, Debug)]
 pub(crate) enum Deed<'a> {
     Ask,
+    /// Sends the 100 that the request of this number expects.
+    AsReader(u64),
     /// Reads the body of the request of this number, up to so many bytes.
     Read(u64, u16),
     /// Answers the request of this number by 200 and a text.
@@ -138,6 +140,7 @@ fn data(
 fn step_of(alloc: Global, deed: Deed<'_>) -> Result<Step<Canned>, AllocError> {
     Ok(match deed {
         Deed::Ask => Step::Ask,
+        Deed::AsReader(number) => Step::AsReader(number),
         Deed::Read(number, count) => Step::Read(number, count),
         Deed::Text(number, words) => Step::Respond(number, text(alloc, words)?),
         Deed::Coded(number, code, words) => {

@@ -157,6 +157,17 @@ fn answer(alloc: Global, version: &str, header: &str, body: &str) -> Result<Stri
 }
 
 #[test]
+fn a_100_is_sent_before_the_body_is_read(rt: HostRuntime) -> Result<(), Fail> {
+    let bytes = "POST / HTTP/1.1\r\nExpect: 100-continue\r\nContent-Length: 5\r\n\r\nhello";
+    let script =
+        "ask\nread 0 5\nnow 784111777\nasreader 0\nasreader 00\nread 0 5\nask\nasreader 1\n";
+    let output =
+        "HTTP/1.1 100 Continue\r\nServer: tiny-http (Rust)\r\nDate: Sun, 06 Nov 1994 08:49:37 GMT\r\nContent-Length: 0\r\n\r\n";
+    let replies = "handed 0 POST / 1.1 2 5\nnosuch\ndone\ndone\ngiven 68656c6c6f\nended\nnosuch\n";
+    assert_good(&rt, rt.alloc(), (bytes, script), output, replies)
+}
+
+#[test]
 fn data_of_unknown_length(rt: HostRuntime) -> Result<(), Fail> {
     let alloc = rt.alloc();
     let chunked = "Transfer-Encoding: chunked";
@@ -334,6 +345,13 @@ fn no_line_but_the_grammars(rt: HostRuntime) -> Result<(), Fail> {
         "drop 0\r",
         "drop 18446744073709551616",
         "Drop 0",
+        "asreader",
+        "asreader ",
+        "asreader x",
+        "asreader  0",
+        "asreader 0 ",
+        "asreader 18446744073709551616",
+        "Asreader 0",
         "read",
         "read ",
         "read 0",
@@ -407,7 +425,6 @@ fn no_answer_but_the_grammars(rt: HostRuntime) -> Result<(), Fail> {
 #[test]
 fn no_step_of_a_later_stage(rt: HostRuntime) -> Result<(), Fail> {
     for line in [
-        "asreader 0",
         "writer 0",
         "write 0 x",
         "flush 0",

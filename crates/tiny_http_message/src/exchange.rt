@@ -197,7 +197,13 @@ impl Exchange {
         ensures sent_on { SentOn outlet.old → SentOn outlet.new }
     {
         if self.waiting.owes_continue {
-            send_own_quietly(alloc, outlet, StatusCode(100), self.waiting.answer_context, now);
+            send_own_quietly(
+                alloc,
+                outlet,
+                StatusCode(100),
+                self.waiting.answer_context,
+                now,
+            );
             self.waiting.owes_continue = false;
         }
     }

@@ -10,8 +10,8 @@ returns-in_err-date_in-clause-found c = λ s.
 
 pub returns-in_err-number-clause-found : goal.returns-in_err-number-clause-found
 returns-in_err-number-clause-found c = λ s.
-    let strips = c.in-Some-strip_prefix-2.ensures.cases in
-    let words = c.in-Some-strip_prefix-2.words.now in
+    let strips = c.in-Some-strip_prefix-3.ensures.cases in
+    let words = c.in-Some-strip_prefix-3.words.now in
     let e : c.args.text.now ≡ codes "read " ++ words = rw strips.2 strips.1.1 in
     let read = only_read c.args.text.now words e s in
     rw c.from_residual-in_err-number.ensures (c.in_err-number.ensures.found read.0 read.1 read.2)
