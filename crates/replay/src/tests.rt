@@ -164,7 +164,8 @@ fn a_100_is_sent_before_the_body_is_read(rt: HostRuntime) -> Result<(), Fail> {
     let output =
         "HTTP/1.1 100 Continue\r\nServer: tiny-http (Rust)\r\nDate: Sun, 06 Nov 1994 08:49:37 GMT\r\nContent-Length: 0\r\n\r\n";
     let replies = "handed 0 POST / 1.1 2 5\nnosuch\ndone\ndone\ngiven 68656c6c6f\nended\nnosuch\n";
-    assert_good(&rt, rt.alloc(), (bytes, script), output, replies)
+    assert_good(&rt, rt.alloc(), (bytes, script), output, replies)?;
+    Ok(())
 }
 
 #[test]
