@@ -39,13 +39,14 @@ fn read_body<R: ReadDevice + Drop, W: WriteDevice + Drop>(
     Ok(None)
 }
 
-// Answers a request by its body, or by 413 where that is too long.
+// Answers a request by its body, or by 413 where that is too long. A client that waits for a 100 is sent one first.
 fn echo<R: ReadDevice + Drop, W: WriteDevice + Drop>(
     alloc: Global,
     connection: &mut Connection<R, W>,
     number: u64,
     now: HttpDate,
 ) -> io::Result<()> {
+    connection.as_reader(alloc, now, number);
     let reply = match read_body(alloc, connection, number)? {
         Some(body) => connection.respond(alloc, now, number, Response::from_data(alloc, body)),
         None => connection.respond(alloc, now, number, Response::empty(alloc, StatusCode(413))),
