@@ -7,3 +7,4 @@ pub mod Outlet
 pub mod FeedParts
 pub mod EqualReader
 pub mod FusedReader
+pub mod CustomStream

@@ -3,6 +3,7 @@
 #![tactic(auto)]
 
 mod buffer;
+pub mod custom_stream;
 pub mod equal_reader;
 pub mod fused_reader;
 pub mod outlet;

@@ -1,9 +1,10 @@
 //! The output of a connection, through a buffer.
-ghost use Rattle.std.specs.Prelude.{◌≡◌, ◌≤◌, true, false, [], length, OnOk, OnErr};
+ghost use Rattle.std.specs.Prelude.{◌≡◌, ◌≤◌, true, false, [], length, Ok, OnOk, OnErr};
 ghost use Rattle.tiny_http_device.specs.Device.{BeginsKnown, HoldsNothing, Puts, PutsFront};
 
 use crate::buffer::Buffer;
 use std::io;
+use std::io::Write;
 use std::marker::Model;
 use tiny_http_device::device::{WriteDevice, put};
 
@@ -76,6 +77,7 @@ impl<W: WriteDevice> Outlet<W> {
         ensures puts { PutsFront (output_of self.old) (output_of self.new) result buf.now }
         ensures ended { OnErr result (self.new.ended ≡ true) }
         ensures stays { OnOk result (self.new.ended ≡ self.old.ended) }
+        ensures past { self.old.ended ≡ true → (result ≡ Ok (length buf.now)) × (self.new ≡ self.old) }
     {
         if self.ended {
             return Ok(buf.len());
@@ -202,5 +204,46 @@ impl<W: WriteDevice> WriteDevice for Outlet<W> {
 
     fn flush_out(&mut self) -> Result<(), io::Error> {
         self.flush()
+    }
+}
+
+// The inherent methods `write` and `flush` are found before these. `contents` is left unstated, as an outlet takes bytes and
+// drops them after its end, and a fault may lose what was held: each clause says what the outlet itself states.
+impl<W: WriteDevice> Write for Outlet<W> {
+    ghost use Rattle.std.specs.Io.{WritesAtMost};
+    ghost use Rattle.tiny_http_stream.specs.Outlet.{output_of, outlet_held, outlet_ended, SentOn};
+
+    /// Takes some of the bytes, at least one if there is one, and says how many. After the outlet has ended it drops them all
+    /// and answers so.
+    fn write(&mut self, buf: &[u8]) -> io::Result<usize>
+        ensures bound { WritesAtMost result buf.now }
+        ensures puts { PutsFront (output_of self.old) (output_of self.new) result buf.now }
+        // A fault ends the outlet; nothing else does.
+        ensures ended { OnErr result (outlet_ended self.new ≡ true) }
+        ensures stays { OnOk result (outlet_ended self.new ≡ outlet_ended self.old) }
+        ensures past { outlet_ended self.old ≡ true → (result ≡ Ok (length buf.now)) × (self.new ≡ self.old) }
+    {
+        self.take_some(buf)
+    }
+
+    /// Sends what is held, and has the writer send it on.
+    fn flush(&mut self) -> io::Result<()>
+        ensures puts { Puts (output_of self.old) (output_of self.new) result [] }
+        ensures held { outlet_held self.new ≡ [] }
+        ensures sent { SentOn self.new }
+        ensures ended { OnErr result (outlet_ended self.new ≡ true) }
+        ensures stays { OnOk result (outlet_ended self.new ≡ outlet_ended self.old) }
+    {
+        Outlet::flush(self)
+    }
+
+    /// Takes all the bytes, as the inherent `write`. It stops at the first fault and reports it, also one of kind `Interrupted`:
+    /// the outlet has ended by that, and a second try would answer `Ok`.
+    fn write_all(&mut self, buf: &[u8]) -> io::Result<()>
+        ensures puts { Puts (output_of self.old) (output_of self.new) result buf.now }
+        ensures ended { OnErr result (outlet_ended self.new ≡ true) }
+        ensures stays { OnOk result (outlet_ended self.new ≡ outlet_ended self.old) }
+    {
+        Outlet::write(self, buf)
     }
 }
