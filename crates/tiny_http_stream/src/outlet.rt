@@ -223,7 +223,7 @@ impl<W: WriteDevice> Write for Outlet<W> {
         ensures stays { OnOk result (outlet_ended self.new ≡ outlet_ended self.old) }
         ensures past { outlet_ended self.old ≡ true → (result ≡ Ok (length buf.now)) × (self.new ≡ self.old) }
     {
-        self.take_some(buf)
+        Outlet::take_some(self, buf)
     }
 
     /// Sends what is held, and has the writer send it on.
