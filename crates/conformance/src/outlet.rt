@@ -1,7 +1,7 @@
 //! What an outlet holds and sends.
 use crate::same::{assert_holds, assert_same};
 use std::alloc::Global;
-use std::io::ErrorKind;
+use std::io::{ErrorKind, Write};
 use std::process::Abort;
 use std::test::Fail;
 use tiny_http_core::outlet::Outlet;
@@ -108,5 +108,52 @@ fn what_is_held_is_dropped_at_the_abandoning(rt: HostRuntime) -> Result<(), Fail
     outlet.abandon();
     assert_holds(&rt, "the outlet is ended", outlet.is_ended());
     assert_sent(&rt, outlet, b"");
+    Ok(())
+}
+
+// Writes these bytes by the trait of std, in two parts, and flushes.
+fn write_by_std<W: Write>(
+    rt: &impl Abort,
+    writer: &mut W,
+    first: &[u8],
+    rest: &[u8],
+) -> Result<(), Fail> {
+    assert_same(rt, writer.write(first)?, first.len());
+    writer.write_all(rest)?;
+    writer.flush()?;
+    Ok(())
+}
+
+#[test]
+fn std_writes_to_it(rt: HostRuntime) -> Result<(), Fail> {
+    let bytes = bytes_of(rt.alloc(), 3000)?;
+    let mut outlet = outlet_of(rt.alloc(), 10_000);
+    write_by_std(&rt, &mut outlet, b"front", bytes.as_slice())?;
+    assert_state(&rt, &outlet, b"", false);
+    let writer = outlet.into_inner();
+    assert_same(&rt, writer.bytes().get(..5), Some(b"front"));
+    assert_same(&rt, writer.bytes().get(5..), Some(bytes.as_slice()));
+    Ok(())
+}
+
+#[test]
+fn std_writes_to_it_after_its_end(rt: HostRuntime) -> Result<(), Fail> {
+    let mut outlet = broken(&rt, rt.alloc())?;
+    write_by_std(&rt, &mut outlet, b"more", b"and more")?;
+    assert_state(&rt, &outlet, b"", true);
+    assert_sent(&rt, outlet, b"hel");
+    Ok(())
+}
+
+// A fault that std's own `write_all` would try again behind is reported.
+#[test]
+fn an_interruption_is_reported(rt: HostRuntime) -> Result<(), Fail> {
+    let bytes = bytes_of(rt.alloc(), 3000)?;
+    let mut outlet = Outlet::new(Budget::new(rt.alloc(), 3, ErrorKind::Interrupted));
+    let fault = Write::write_all(&mut outlet, bytes.as_slice())
+        .err()
+        .map(|e| e.kind());
+    assert_same(&rt, fault, Some(ErrorKind::Interrupted));
+    assert_state(&rt, &outlet, b"", true);
     Ok(())
 }
