@@ -14,6 +14,8 @@ mod broken_answers;
 #[cfg(test)]
 mod codings;
 #[cfg(test)]
+mod custom_stream;
+#[cfg(test)]
 mod ends;
 #[cfg(test)]
 mod exchanges;

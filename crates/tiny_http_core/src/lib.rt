@@ -8,5 +8,5 @@ pub mod laws;
 mod pending;
 
 pub use tiny_http_message::exchange;
-pub use tiny_http_stream::{equal_reader, fused_reader, outlet, source};
+pub use tiny_http_stream::{custom_stream, equal_reader, fused_reader, outlet, source};
 pub use tiny_http_turns::turns;
