@@ -14,12 +14,12 @@ use Rattle.tiny_http_core.proofs.ConversationWriting.{FailsBetween}
 use Rattle.tiny_http_sending.specs.Sending.{CanSend, IsFlushed, OutletFailed, Idles, SendsUnlessEnded}
 use Rattle.tiny_http_turns.specs.Turns.{Mark, Open, Held, Left, Finished, AreOpenOrLeft}
 use Rattle.tiny_http_core.specs.Pending.{left_text, begins_left}
-use Rattle.tiny_http_core.specs.Connection.{AreKept, IsUncontinued, OutputAt}
+use Rattle.tiny_http_core.specs.Connection.{AreKept, HasNoContinue, OutputAt}
 use Rattle.tiny_http_core.proofs.SlotsLemmas.{joined-front, joined-broken, breaks-front, breaks-waits}
 use Rattle.std.proofs.Math.Bool.{or-false}
 
 -- what stands after a number whose turn has come: the texts that were left, up to one that waits
-pub joined_behind : (cs : List Slot) (rs : List Mark) (vs : List (Option Waiting)) → AreOpenOrLeft rs → AllByRecursion IsUncontinued cs → AreKept cs rs vs → (joined cs ≡ left_text rs) × (is_output_broken cs ≡ false)
+pub joined_behind : (cs : List Slot) (rs : List Mark) (vs : List (Option Waiting)) → AreOpenOrLeft rs → AllByRecursion HasNoContinue cs → AreKept cs rs vs → (joined cs ≡ left_text rs) × (is_output_broken cs ≡ false)
 joined_behind [] [] vs w u h = (refl, refl)
 joined_behind [] (r ∷ rs) vs w u h = absurd h
 joined_behind (c ∷ cs) [] vs w u h = absurd h

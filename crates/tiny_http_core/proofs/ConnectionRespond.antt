@@ -23,7 +23,7 @@ use Rattle.tiny_http_core.specs.Seen.{Answers, reply_to}
 use Rattle.tiny_http_sending.specs.Sending.{CanSend, OutletTook, OutletFailed, IsFlushed, SendsText, SendsUnlessEnded}
 use Rattle.tiny_http_turns.specs.Turns.{Mark, Open, Held, Finished, AreInShape, first_unfinished}
 use Rattle.tiny_http_core.specs.Pending.{left_text, with_left_finished, begins_left, SendsLeft, FinishesFront, waiting_answer_context}
-use Rattle.tiny_http_core.specs.Connection.{Kept, answer_context_of, HandedOut, open_slot, IsWaiting, IsUncontinued, AreContinuedInTurn, AreKept, OutputAt, InputStands, Stands}
+use Rattle.tiny_http_core.specs.Connection.{Kept, answer_context_of, HandedOut, open_slot, IsWaiting, HasNoContinue, AreContinuedInTurn, AreKept, OutputAt, InputStands, Stands}
 use Rattle.tiny_http_stream.specs.Source.{SourceState}
 use Rattle.tiny_http_message.specs.Body.{GivesUp}
 use Rattle.tiny_http_core.proofs.ConnectionBody.{IsInput, with_reader, next-same, reader-given_up}
@@ -255,7 +255,7 @@ open-whole before mid was old bs s1 text failed reply fin broken over o =
 
 pub respond-left : (before mid new : Sink) (was mid_ended ended : Bool) (bs : List Slot) (s0 s1 : Slot) (cs : List Slot) (fs rs : List Mark) (vs : List (Option Waiting)) (old : State) (text : Text) (reply : ReplyValue)
     → old.reached.slots ≡ bs ++ (s0 ∷ cs) → has_output_ended old ≡ was → IsAllFlushed old → list_all is_finished bs ≡ true → is_finished s0 ≡ false → is_finished s1 ≡ true → is_slot_broken s1 ≡ is_broken text.ending → Longer old.reached.slots bs s1 text.bytes
-    → OwnSaid before mid was mid_ended old.reached.slots bs s1 text old.failure reply → InTurn bs fs rs → AllByRecursion IsUncontinued cs → AreKept cs rs vs → before.failures < 2 ^ 64 - 1 → SendsLeft rs mid_ended mid new ended
+    → OwnSaid before mid was mid_ended old.reached.slots bs s1 text old.failure reply → InTurn bs fs rs → AllByRecursion HasNoContinue cs → AreKept cs rs vs → before.failures < 2 ^ 64 - 1 → SendsLeft rs mid_ended mid new ended
     → Said before new ended (bs ++ (s1 ∷ cs)) old text reply
 respond-left before mid new was mid_ended ended bs s0 s1 cs fs rs vs old text reply slots_are over firm fin open_is done broken l o t uncontinued kept low sends = by-left (begins_left rs) refl sends
   where

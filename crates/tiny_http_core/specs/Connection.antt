@@ -110,12 +110,12 @@ AreKept (s ∷ slots) (m ∷ marks) (w ∷ requests) = IsKept s m w × AreKept s
 AreKept _ _ _ = ⊥
 
 -- a 100 is sent in its turn: none was sent behind the first number that isn't finished
-abbrev pub IsUncontinued : Slot → Type 0
-IsUncontinued s = s.continued ≡ None
+abbrev pub HasNoContinue : Slot → Type 0
+HasNoContinue s = s.continued ≡ None
 
 abbrev pub AreContinuedInTurn : List Slot → Type 0
 AreContinuedInTurn [] = Unit {0}
-AreContinuedInTurn (s ∷ slots) = MatchBool (is_finished s) (AreContinuedInTurn slots) (AllByRecursion IsUncontinued slots)
+AreContinuedInTurn (s ∷ slots) = MatchBool (is_finished s) (AreContinuedInTurn slots) (AllByRecursion HasNoContinue slots)
 
 -- only the last body is read from the input
 abbrev pub IsSettled : Option Waiting → Type 0

@@ -17,12 +17,12 @@ use Rattle.tiny_http_message.specs.HeadReads.{EndsAt, IsBeforeHead, HasByteOrTim
 use Rattle.tiny_http_message.specs.declared.framing.Framing.{Framing}
 use Rattle.tiny_http_stream.specs.Outlet.{output_of, SentOn}
 use Rattle.tiny_http_message.specs.Pipeline.{Item, Refuses, Refusal, refusal_status, OneHead, Pipeline}
-use Rattle.tiny_http_core.specs.Steps.{StepValue, ReplyValue, Handed, Ended, NotYet, NoSuch, Memory, Fault}
+use Rattle.tiny_http_core.specs.Steps.{StepValue, ReplyValue, Handed, Ended, NotYet, Done, NoSuch, Memory, Fault}
 use Rattle.tiny_http_core.specs.Conversation.{State, TimedValue, Run, start_state, IsFresh}
 use Rattle.tiny_http_wire.specs.declared.answer_context.AnswerContext.{AnswerContext}
 use Rattle.tiny_http_sending.specs.ResponseValue.{printing_in}
 use Rattle.tiny_http_sending.specs.Sending.{FailsOnceUnlessEnded, IsHonest}
-use Rattle.tiny_http_core.specs.Pending.{waiting_answer_context}
+use Rattle.tiny_http_core.specs.Pending.{waiting_answer_context, owes_continue}
 use Rattle.tiny_http_message.specs.declared.body.Body.{Body}
 use Rattle.tiny_http_message.specs.declared.waiting.Waiting.{Waiting}
 use Rattle.tiny_http_message.specs.Body.{GivesUp, is_streaming, body_standing}
@@ -106,16 +106,20 @@ AskLeaves old new _ = ⊥
 abbrev pub StandsAfter : {R : Type 0} → Body → Body → SourceState R → SourceState R → Type 0
 StandsAfter was body old new = MatchBool (is_streaming was) (new.standing ≡ body_standing body old.standing) (new ≡ old)
 
--- no 100 is owed to the request of this number any more; where none was owed nothing has changed
-abbrev pub SendsContinue : {R W : Type 0} → ℕ → ConnectionState R W → ConnectionState R W → Type 0
-SendsContinue k old new =
-    (new ≡ old) ⊎ ((w : Waiting) × (slice_get old.requests k ≡ Some (Some w)) × (w.owes_continue ≡ true) × (new.requests ≡ slice_set old.requests k (Some (record w { owes_continue = false }))))
+-- What becomes of the 100 of a number, by the reply: none is owed any more, and if none was nothing has changed; or one is
+-- owed, and waits for its turn; or no such request waits for an answer.
+abbrev pub SendsContinue : {R W : Type 0} → ℕ → ConnectionState R W → ConnectionState R W → ReplyValue → Type 0
+SendsContinue k old new Done =
+    (w : Waiting) × (slice_get old.requests k ≡ Some (Some w)) × MatchBool w.owes_continue (new.requests ≡ slice_set old.requests k (Some (record w { owes_continue = false }))) (new ≡ old)
+SendsContinue k old new NotYet = owes_continue (slice_get old.requests k) ≡ true
+SendsContinue k old new NoSuch = waiting_answer_context (slice_get old.requests k) ≡ None
+SendsContinue k old new _ = ⊥
 
--- What a step leaves of requests, source and output: a 100 changes no more than that it is owed; a read changes no more than the body of its request, and the source if
+-- What a step leaves of requests, source and output: an AsReader only clears what its request owes; a read changes no more than the body of its request, and the source if
 -- it is read from that; an answer, and a drop, let their request go.
 abbrev pub StepLeaves : {R W : Type 0} → Step (Option Feed) → ConnectionState R W → ConnectionState R W → ReplyValue → Type 0
 StepLeaves step.Ask old new reply = AskLeaves old new reply
-StepLeaves (step.AsReader k) old new reply = (new.source ≡ old.source) × (new.marks ≡ old.marks) × SendsContinue k old new
+StepLeaves (step.AsReader k) old new reply = (new.source ≡ old.source) × (new.marks ≡ old.marks) × SendsContinue k old new reply
 StepLeaves (step.Read k n) old new reply =
     (new.outlet ≡ old.outlet) × (new.marks ≡ old.marks)
     × (((new.requests ≡ old.requests) × (new.source ≡ old.source))

@@ -39,7 +39,7 @@ pub enum Step<D> {
     /// reader: one that is counted or chunked, neither read to its end nor given up, of a request that isn't the
     /// connection's last. After a chunked body that was given up before its end was reported no head follows.
     Ask,
-    /// Sends the 100 that the request of this number expects, if it is owed and wasn't sent yet. It waits for its turn then.
+    /// Sends the 100 that is owed to the request of this number. Before its turn it is `NotYet`.
     AsReader(u64),
     /// Reads the body of the request of this number, until there are so many bytes, 0 to 65535, or no more follow.
     Read(u64, u16),
@@ -71,8 +71,8 @@ pub enum Reply {
     Given(Vec<u8>),
     /// The body ends by this fault; or the writer or the response's data failed so.
     Fault(ErrorKind),
-    /// The step has to wait, an `Ask` for the last body to be read or given up, a `Respond` for its turn; nothing has
-    /// changed.
+    /// The step has to wait, an `Ask` for the last body to be read or given up, a `Respond`, or an `AsReader` that has a 100 to
+    /// send, for its turn; nothing has changed.
     NotYet,
     /// The step was done, and met no fault that is reported.
     Done,
@@ -229,7 +229,7 @@ impl<R: ReadDevice, W: WriteDevice> Connection<R, W> {
     /// holds the reader: until that was read to its end, or the request was answered or dropped. It is `Ended` once the
     /// connection has no further request, from then on, and `end_of_requests` says why. A refused head is answered under a
     /// number of its own, in its turn, and ends the asking; so does `Memory`, and a chunked body that was given up before its
-    /// end. It waits for the client only until the head and a body of up to 1024 bytes have come, and before them the rest of a
+    /// end. It waits for the client only until the head and a body of up to 1024 bytes have come, or the head alone where it expects a 100, and before them the rest of a
     /// counted body that was given up. After the last request the reader isn't called. `now` dates the answer to a refused
     /// head, and the 500 of this request if it is dropped.
     pub fn ask(&mut self, alloc: Global, now: HttpDate) -> Reply
@@ -275,10 +275,11 @@ impl<R: ReadDevice, W: WriteDevice> Connection<R, W> {
         }
     }
 
-    /// Sends the 100 that the request of this number expects (RFC 9110, section 10.1.1), if it is owed and wasn't sent yet, and
-    /// flushes it: `Done`. Its body can be read then. It is `NotYet` where a 100 is owed and a request before it waits for its
-    /// answer, and `NoSuch` for a number that doesn't wait for one; then nothing has changed. A fault of the writer is reported
-    /// by no reply, and it takes no memory. `now` is the `Date` of the 100.
+    /// Sends the 100 that is owed to the request of this number, and flushes (RFC 9110, section 10.1.1): `Done`. Its body can be
+    /// read then. It is `Done` too where no 100 is owed, and changes nothing. After the output has ended nothing is sent, and
+    /// none is owed any more. It is `NotYet` where a 100 is owed and a request before it waits for its answer, and `NoSuch` for
+    /// a number that doesn't wait for an answer; then nothing has changed. No reply reports a fault of the writer. The call
+    /// takes no memory. `now` is the `Date` of the 100.
     pub fn as_reader(&mut self, alloc: Global, now: HttpDate, number: u64) -> Reply
         ensures step { TakesStep self.old self.new now (Step.AsReader number) (seen result) }
     {

@@ -103,7 +103,7 @@ impl Pending {
         }
     }
 
-    /// Whether the turn of this number has come, and it isn't finished.
+    /// Whether this is the first number that isn't finished, or, where all are, the next to be issued.
     pub fn is_in_turn(&self, number: u64) -> bool
         ensures { result ≡ (number == first_unfinished self.now.turns.marks) }
     {

@@ -48,7 +48,7 @@ pub struct Head {
     pub body_length: Option<usize>,
     /// How the body is read.
     pub form: Form,
-    /// Whether the client waits for a 100 before it sends the body (RFC 9110, section 10.1.1).
+    /// Whether the head expects a 100 before the body (RFC 9110, section 10.1.1), in any version and with or without a body.
     pub owes_continue: bool,
     /// Whether the connection ends after this request (RFC 9112, section 9.3).
     pub is_last: bool,
@@ -84,7 +84,7 @@ pub enum EndOfRequests {
     AbandonedBody,
     /// The body before was neither read to its end nor given up.
     UnreadBody,
-    /// The head asks for what isn't served yet: a version above 1.1, or a 100 that is owed.
+    /// The head asks for what isn't served yet: a version above 1.1.
     NotServed,
     /// Memory for the head or its answer was refused.
     Memory,
@@ -179,9 +179,9 @@ impl Exchange {
         send(alloc, outlet, response, self.waiting.answer_context, now)
     }
 
-    /// Sends the 100 that this request expects, if it is owed and wasn't sent yet, and flushes it (RFC 9110, section 10.1.1).
-    /// It takes no memory. The caller does so in the turn of the request, before its answer. A fault of the writer ends the
-    /// outlet, and isn't reported; on an outlet that has ended nothing is sent.
+    /// Sends the 100 that is owed to this request, and flushes (RFC 9110, section 10.1.1). Where none is owed it changes nothing.
+    /// The caller sends it in the turn of the request, before the body is read and before the answer. The call takes no memory.
+    /// A fault of the writer ends the outlet, and isn't reported; on an outlet that has ended nothing is sent.
     pub fn send_continue<W: WriteDevice>(
         &mut self,
         alloc: Global,
@@ -193,8 +193,7 @@ impl Exchange {
             → SendsUnlessEnded (outlet_ended outlet.old) (output_of outlet.old) (output_of outlet.new) (outlet_ended outlet.new) (own_text_by 100 (exchange_printing self.old now)) }
         ensures once { OwesNoContinue self.old self.new }
         ensures fails_once { FailsOnceUnlessEnded (outlet_ended outlet.old) (output_of outlet.old) (output_of outlet.new) (outlet_ended outlet.new) }
-        ensures flushed { outlet_held outlet.old ≡ [] → outlet_held outlet.new ≡ [] }
-        ensures sent_on { SentOn outlet.old → SentOn outlet.new }
+        ensures sent { exchange_owes_continue self.old ≡ true → (outlet_held outlet.new ≡ []) × SentOn outlet.new }
     {
         if self.waiting.owes_continue {
             send_own_quietly(

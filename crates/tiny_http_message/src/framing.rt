@@ -32,7 +32,7 @@ pub enum Form {
 pub struct Framing {
     /// How the body is read.
     pub form: Form,
-    /// Whether the client waits for a 100 before it sends the body.
+    /// Whether the head expects a 100 before the body.
     pub owes_continue: bool,
     /// The length that `Content-Length` says, where it can be read and no `Transfer-Encoding` hides it.
     pub body_length: Option<usize>,

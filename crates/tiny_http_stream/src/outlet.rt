@@ -213,8 +213,8 @@ impl<W: WriteDevice> Write for Outlet<W> {
     ghost use Rattle.std.specs.Io.{WritesAtMost};
     ghost use Rattle.tiny_http_stream.specs.Outlet.{output_of, outlet_held, outlet_ended, SentOn};
 
-    /// Takes some of the bytes, at least one if there is one, and says how many. After the outlet has ended it drops them all
-    /// and answers so.
+    /// Takes some of the bytes, at least one if there is one, and says how many. After the outlet has ended it takes none
+    /// and reports their whole count.
     fn write(&mut self, buf: &[u8]) -> io::Result<usize>
         ensures bound { WritesAtMost result buf.now }
         ensures puts { PutsFront (output_of self.old) (output_of self.new) result buf.now }

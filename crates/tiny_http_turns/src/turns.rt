@@ -144,7 +144,7 @@ impl<T: Drop> Turns<T> {
         Ok(())
     }
 
-    /// The first number that isn't finished: its turn has come.
+    /// The first number that isn't finished, whose turn has come; where all are finished, the next to be issued.
     pub fn first_unfinished(&self) -> u64
         ensures { result ≡ first_unfinished self.now.marks }
     {

@@ -1,4 +1,4 @@
-use Rattle.std.proofs.Common.{ℕ, ◌≡◌, refl, sym, ap, ◌∙◌, subst, true, false, List, Option, Some, inl, inr}
+use Rattle.std.proofs.Common.{ℕ, ◌≡◌, refl, sym, ap, ◌∙◌, subst, true, false, List, Option, Some}
 use Rattle.std.specs.Prelude.{slice_get}
 use Rattle.tiny_http_message.specs.declared.waiting.Waiting.{Waiting}
 use Rattle.tiny_http_core.specs.Steps.{AsReader, NoSuch, NotYet, Done}
@@ -19,7 +19,7 @@ returns-in_default g c =
     record {
       step = rw (← c.self.view_is) (takes-as_reader old old c.args.now n NoSuch
           (λ client before s low st. no-such client before (kept old) s c.args.now n (AsReader n) refl (continue-not_taken n) st (sym c.answer_context_at.ensures ∙ c.in_default.is))
-          (λ no. refl) refl (refl, refl, inl refl) (moves-none old) (λ kind e. cc));
+          (λ no. refl) refl (refl, refl, sym c.answer_context_at.ensures ∙ c.in_default.is) (moves-none old) (λ kind e. cc));
     }
 
 pub returns-then-not-owes_continue : goal.returns-then-not-owes_continue
@@ -28,10 +28,11 @@ returns-then-not-owes_continue g c =
     let q = c.self.inside in
     let old = viewed q.source q.outlet q.pending q.end in
     let w = answer-form-some (slice_get q.pending.requests.items n) c.in-Some.answer_context (sym c.answer_context_at.ensures ∙ c.in-Some.is) in
+    let free : w.0.owes_continue ≡ false = ap owes_continue (sym w.1) ∙ sym c.owes_continue.ensures ∙ c.if-not-owes_continue.true in
     record {
       step = rw (← c.self.view_is) (takes-as_reader old old c.args.now n Done
-          (λ client before s low st. continue-unowed client before (kept old) s c.args.now n w.0 st w.1 (ap owes_continue (sym w.1) ∙ sym c.owes_continue.ensures ∙ c.if-not-owes_continue.true))
-          (λ no. elim no [ ]) refl (refl, refl, inl refl) (moves-none old) (λ kind e. cc));
+          (λ client before s low st. continue-unowed client before (kept old) s c.args.now n w.0 st w.1 free)
+          (λ no. elim no [ ]) refl (refl, refl, (w.0, w.1, rw free refl)) (moves-none old) (λ kind e. cc));
     }
 
 pub returns-then-not-is_in_turn : goal.returns-then-not-is_in_turn
@@ -44,7 +45,7 @@ returns-then-not-is_in_turn g c =
       step = rw (← c.self.view_is) (takes-as_reader old old c.args.now n NotYet
           (λ client before s low st.
           continue-not_yet client before (kept old) s c.args.now n w.0 st w.1 (ap owes_continue (sym w.1) ∙ sym c.owes_continue.ensures ∙ c.if-not-owes_continue.false) (sym c.is_in_turn.ensures ∙ c.if-not-is_in_turn.true))
-          (λ no. refl) refl (refl, refl, inl refl) (moves-none old) (λ kind e. cc));
+          (λ no. refl) refl (refl, refl, sym c.owes_continue.ensures ∙ c.if-not-owes_continue.false) (moves-none old) (λ kind e. cc));
     }
 
 pub returns : goal.returns
@@ -57,14 +58,14 @@ returns g c =
     let new = viewed q.source sent.new.outlet left.new.self q.end in
     let k : Kept = kept old in
     let w = answer-form-some (slice_get k.requests n) c.in-Some.answer_context (sym c.answer_context_at.ensures ∙ c.in-Some.is) in
-    let owed = ap owes_continue (sym w.1) ∙ sym c.owes_continue.ensures ∙ c.if-not-owes_continue.false in
+    let owed : w.0.owes_continue ≡ true = ap owes_continue (sym w.1) ∙ sym c.owes_continue.ensures ∙ c.if-not-owes_continue.false in
     let marks = ap (λ t. t.marks) left.ensures.turns in
     record {
       step = rw (← c.self.view_is) (takes-as_reader old new c.args.now n Done
           (λ client before s low st.
           continue-done client before k s c.args.now n w.0 c.in-Some.answer_context (output_of sent.new.outlet) (outlet_ended sent.new.outlet) left.new.self.turns.marks left.new.self.requests.items q.source st
           (record { feed = refl; stop = refl; ends = refl; standing = refl }) low w.1 w.2 owed (sym c.is_in_turn.ensures ∙ c.if-not-is_in_turn.false) marks (left.ensures.requests w.0 w.1) sent.ensures.sends sent.ensures.is_flushed)
-          (λ no. elim no [ ]) refl (refl, marks, inr (w.0, w.1, owed, left.ensures.requests w.0 w.1))
+          (λ no. elim no [ ]) refl (refl, marks, (w.0, w.1, rw owed (left.ensures.requests w.0 w.1)))
           (record { goes_on = goes-on_same q.source.feed; fails_once = sent.ensures.fails_once; flushed = λ none. sent.ensures.flushed; sent_on = λ was. sent.ensures.sent_on })
           (λ kind e. cc));
     }
