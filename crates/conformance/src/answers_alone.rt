@@ -87,7 +87,7 @@ fn printed(alloc: Global, exchange: &Exchange) -> Result<Vec<u8>, Fail> {
 }
 
 // What is sent of an answer to this request, and nothing of it is held back.
-fn sent(rt: &impl Abort, alloc: Global, exchange: &Exchange) -> Result<Vec<u8>, Fail> {
+fn sent(rt: &impl Abort, alloc: Global, exchange: &mut Exchange) -> Result<Vec<u8>, Fail> {
     let mut outlet = outlet_of(alloc, AMPLE);
     exchange.respond_on(alloc, &mut outlet, hello(alloc)?, date()?)?;
     assert_same(rt, (outlet.is_ended(), outlet.held().len()), (false, 0));
@@ -95,9 +95,9 @@ fn sent(rt: &impl Abort, alloc: Global, exchange: &Exchange) -> Result<Vec<u8>, 
 }
 
 fn assert_row(rt: &impl Abort, alloc: Global, client: &[u8], pieces: &[&str]) -> Result<(), Fail> {
-    let exchange = exchange_of(rt, alloc, client)?;
+    let mut exchange = exchange_of(rt, alloc, client)?;
     let wanted = joined(alloc, pieces)?;
-    let bytes = sent(rt, alloc, &exchange)?;
+    let bytes = sent(rt, alloc, &mut exchange)?;
     assert_same(rt, str::from_utf8(&bytes)?, wanted.as_str());
     let bytes = printed(alloc, &exchange)?;
     assert_same(rt, str::from_utf8(&bytes)?, wanted.as_str());
@@ -117,7 +117,7 @@ const ASKS_FOR_CHUNKS: &[u8] = b"GET / HTTP/1.1\r\nTE: chunked\r\n\r\n";
 // The fault of an answer, if there was one.
 fn fault_of<D: ReadDevice + Drop>(
     alloc: Global,
-    exchange: &Exchange,
+    exchange: &mut Exchange,
     outlet: &mut Outlet<Budget>,
     answer: Response<D>,
 ) -> Result<Option<ErrorKind>, Fail> {
@@ -129,7 +129,7 @@ fn fault_of<D: ReadDevice + Drop>(
 fn assert_passed_over(
     rt: &impl Abort,
     alloc: Global,
-    exchange: &Exchange,
+    exchange: &mut Exchange,
     outlet: &mut Outlet<Budget>,
 ) -> Result<(), Fail> {
     assert_holds(rt, "the outlet has ended", outlet.is_ended());
@@ -142,11 +142,11 @@ fn assert_passed_over(
 #[test]
 fn on_an_outlet_that_has_ended_nothing_is_sent(rt: HostRuntime) -> Result<(), Fail> {
     let alloc = rt.alloc();
-    let exchange = exchange_of(&rt, alloc, ASKS_FOR_CHUNKS)?;
+    let mut exchange = exchange_of(&rt, alloc, ASKS_FOR_CHUNKS)?;
     let mut outlet = outlet_of(alloc, AMPLE);
     outlet.write(b"before")?;
     outlet.end()?;
-    assert_passed_over(&rt, alloc, &exchange, &mut outlet)?;
+    assert_passed_over(&rt, alloc, &mut exchange, &mut outlet)?;
     assert_same(&rt, output_of(alloc, outlet)?.as_slice(), b"before");
     Ok(())
 }
@@ -154,12 +154,12 @@ fn on_an_outlet_that_has_ended_nothing_is_sent(rt: HostRuntime) -> Result<(), Fa
 #[test]
 fn data_that_fail_end_the_outlet(rt: HostRuntime) -> Result<(), Fail> {
     let alloc = rt.alloc();
-    let exchange = exchange_of(&rt, alloc, ASKS_FOR_CHUNKS)?;
+    let mut exchange = exchange_of(&rt, alloc, ASKS_FOR_CHUNKS)?;
     let mut outlet = outlet_of(alloc, AMPLE);
     let mut data = Watched::new(alloc, b"hello", Some(ErrorKind::Other))?;
-    let fault = fault_of(alloc, &exchange, &mut outlet, lent(alloc, &mut data))?;
+    let fault = fault_of(alloc, &mut exchange, &mut outlet, lent(alloc, &mut data))?;
     assert_same(&rt, fault, Some(ErrorKind::Other));
-    assert_passed_over(&rt, alloc, &exchange, &mut outlet)?;
+    assert_passed_over(&rt, alloc, &mut exchange, &mut outlet)?;
     let wanted = format!(in alloc; "HTTP/1.1 200 OK\r\n{DATED}Transfer-Encoding: chunked\r\n\r\n")?;
     assert_same(&rt, output_of(alloc, outlet)?.as_slice(), wanted.as_bytes());
     Ok(())
@@ -168,11 +168,11 @@ fn data_that_fail_end_the_outlet(rt: HostRuntime) -> Result<(), Fail> {
 #[test]
 fn a_writer_that_fails_ends_the_outlet(rt: HostRuntime) -> Result<(), Fail> {
     let alloc = rt.alloc();
-    let exchange = exchange_of(&rt, alloc, ASKS_FOR_CHUNKS)?;
+    let mut exchange = exchange_of(&rt, alloc, ASKS_FOR_CHUNKS)?;
     let mut outlet = outlet_of(alloc, 10);
-    let fault = fault_of(alloc, &exchange, &mut outlet, hello(alloc)?)?;
+    let fault = fault_of(alloc, &mut exchange, &mut outlet, hello(alloc)?)?;
     assert_same(&rt, fault, Some(ErrorKind::TimedOut));
-    assert_passed_over(&rt, alloc, &exchange, &mut outlet)?;
+    assert_passed_over(&rt, alloc, &mut exchange, &mut outlet)?;
     assert_same(&rt, output_of(alloc, outlet)?.as_slice(), b"HTTP/1.1 2");
     Ok(())
 }
@@ -184,14 +184,111 @@ const TWO_FAULTS: &[(usize, ErrorKind)] = &[(5, ErrorKind::Other), (20_000, Erro
 #[test]
 fn the_first_of_two_faults_is_reported(rt: HostRuntime) -> Result<(), Fail> {
     let alloc = rt.alloc();
-    let exchange = exchange_of(&rt, alloc, ASKS_FOR_CHUNKS)?;
+    let mut exchange = exchange_of(&rt, alloc, ASKS_FOR_CHUNKS)?;
     for (length, kind) in TWO_FAULTS {
         let mut bytes = Vec::new(alloc);
         bytes.resize(*length, b'x')?;
         let mut outlet = outlet_of(alloc, 10);
         let mut data = Watched::new(alloc, &bytes, Some(ErrorKind::Other))?;
-        let fault = fault_of(alloc, &exchange, &mut outlet, lent(alloc, &mut data))?;
+        let fault = fault_of(alloc, &mut exchange, &mut outlet, lent(alloc, &mut data))?;
         assert_same(&rt, fault, Some(*kind));
     }
+    Ok(())
+}
+
+// A request, and what is sent if it is dropped.
+const DROPPED: &[(&[u8], &[&str])] = &[
+    (
+        b"GET / HTTP/1.1\r\n\r\n",
+        &[
+            "HTTP/1.1 500 Internal Server Error\r\n",
+            DATED,
+            "Content-Length: 0\r\n\r\n",
+        ],
+    ),
+    (
+        b"GET / HTTP/1.1\r\nTE: chunked\r\n\r\n",
+        &[
+            "HTTP/1.1 500 Internal Server Error\r\n",
+            DATED,
+            "Transfer-Encoding: chunked\r\n\r\n0\r\n\r\n",
+        ],
+    ),
+    (
+        b"HEAD / HTTP/1.1\r\nTE: chunked\r\n\r\n",
+        &[
+            "HTTP/1.1 500 Internal Server Error\r\n",
+            DATED,
+            "Transfer-Encoding: chunked\r\n\r\n",
+        ],
+    ),
+    (
+        b"POST / HTTP/1.0\r\nTE: chunked\r\nContent-Length: 2\r\n\r\nok",
+        &[
+            "HTTP/1.0 500 Internal Server Error\r\n",
+            DATED,
+            "Content-Length: 0\r\n\r\n",
+        ],
+    ),
+];
+
+// What is sent if this request is dropped. It is taken once, and then no 100 is owed.
+fn assert_dropped(
+    rt: &impl Abort,
+    alloc: Global,
+    client: &[u8],
+    pieces: &[&str],
+) -> Result<(), Fail> {
+    let mut exchange = exchange_of(rt, alloc, client)?;
+    let wanted = joined(alloc, pieces)?;
+    let text = exchange.text_of_drop();
+    assert_same(rt, str::from_utf8(&text)?, wanted.as_str());
+    assert_same(rt, exchange.text_of_drop().len(), 0);
+    Ok(())
+}
+
+#[test]
+fn a_drop_is_answered_by_an_empty_500(rt: HostRuntime) -> Result<(), Fail> {
+    for (client, pieces) in DROPPED {
+        assert_dropped(&rt, rt.alloc(), client, pieces)?;
+    }
+    Ok(())
+}
+
+const EXPECTING: &[u8] =
+    b"POST / HTTP/1.1\r\nExpect: 100-continue\r\nContent-Length: 5\r\n\r\nhello";
+
+// What an owed 100 sends now.
+fn continued(alloc: Global, exchange: &mut Exchange) -> Result<Vec<u8>, Fail> {
+    let mut outlet = outlet_of(alloc, AMPLE);
+    exchange.send_continue(alloc, &mut outlet, date()?);
+    output_of(alloc, outlet)
+}
+
+#[test]
+fn no_100_is_sent_behind_the_text_of_a_drop(rt: HostRuntime) -> Result<(), Fail> {
+    let alloc = rt.alloc();
+    let mut exchange = exchange_of(&rt, alloc, EXPECTING)?;
+    let _text = exchange.text_of_drop();
+    assert_same(&rt, continued(alloc, &mut exchange)?.len(), 0);
+    Ok(())
+}
+
+#[test]
+fn no_100_is_sent_behind_an_answer(rt: HostRuntime) -> Result<(), Fail> {
+    let alloc = rt.alloc();
+    let mut exchange = exchange_of(&rt, alloc, EXPECTING)?;
+    let _answer = sent(&rt, alloc, &mut exchange)?;
+    assert_same(&rt, continued(alloc, &mut exchange)?.len(), 0);
+    Ok(())
+}
+
+#[test]
+fn no_100_is_sent_for_a_body_that_was_given_up(rt: HostRuntime) -> Result<(), Fail> {
+    let alloc = rt.alloc();
+    let mut source = source_of(alloc, EXPECTING, None, 1024)?;
+    let mut exchange = request(&rt, alloc, &mut source, "/")?;
+    exchange.give_up(&mut source);
+    assert_same(&rt, continued(alloc, &mut exchange)?.len(), 0);
     Ok(())
 }

@@ -92,8 +92,8 @@ fn announced(alloc: Global, said: usize, sent: usize) -> Result<Vec<u8>, AllocEr
     Ok(client)
 }
 
-// The same, and a request after them.
-fn followed(alloc: Global, said: usize, sent: usize) -> Result<Vec<u8>, AllocError> {
+/// A head that announces a body of so many bytes, some of them, and a request after them.
+pub(crate) fn followed(alloc: Global, said: usize, sent: usize) -> Result<Vec<u8>, AllocError> {
     let mut client = announced(alloc, said, sent)?;
     client.extend_from_slice(b"GET /b HTTP/1.1\r\n\r\n")?;
     Ok(client)
@@ -305,23 +305,6 @@ fn the_last_body_is_read_behind_the_end(rt: HostRuntime) -> Result<(), Fail> {
         output: &[],
     };
     assert_case(&rt, alloc, &case)
-}
-
-#[test]
-fn what_is_not_served_yet_ends_the_connection(rt: HostRuntime) -> Result<(), Fail> {
-    for client in [
-        b"GET / HTTP/2.0\r\n\r\nGET /b HTTP/1.1\r\n\r\n".as_slice(),
-        b"GET / HTTP/3.0\r\n\r\n".as_slice(),
-    ] {
-        let case = Case {
-            client,
-            deeds: &[Ask, Text(0, "x"), Ask],
-            replies: "ended; no such; ended",
-            output: &[],
-        };
-        assert_case(&rt, rt.alloc(), &case)?;
-    }
-    Ok(())
 }
 
 // A head that names an upgrade: the whole rest of the stream is its body, and no head follows.

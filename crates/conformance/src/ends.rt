@@ -1,5 +1,5 @@
 //! Why no further request comes.
-use crate::runs::Deed::{Ask, Drop, Read, Text};
+use crate::runs::Deed::{Ask, Drop, IntoWriter, Read, Text};
 use crate::runs::{Deed, steps_of};
 use crate::same::assert_same;
 use httpdate::HttpDate;
@@ -143,6 +143,12 @@ const ROWS: &[Row] = &[
     (
         b"POST / HTTP/1.1\r\nTransfer-Encoding: chunked\r\n\r\n3\r\nabc\r\n0\r\n\r\n",
         None,
+        &[Ask, Read(0, 3), IntoWriter(0), Ask],
+        Some(EndOfRequests::AbandonedBody),
+    ),
+    (
+        b"POST / HTTP/1.1\r\nTransfer-Encoding: chunked\r\n\r\n3\r\nabc\r\n0\r\n\r\n",
+        None,
         &[Ask, Read(0, 4), Drop(0), Ask],
         Some(EndOfRequests::Closed),
     ),
@@ -156,7 +162,7 @@ const ROWS: &[Row] = &[
         b"GET / HTTP/2.0\r\n\r\n",
         None,
         &[Ask],
-        Some(EndOfRequests::NotServed),
+        Some(EndOfRequests::Refused(StatusCode(505))),
     ),
     (
         b"POST / HTTP/2.0\r\nContent-Length: 3\r\n\r\nab",

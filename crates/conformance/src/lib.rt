@@ -46,4 +46,12 @@ mod source;
 #[cfg(test)]
 mod turns;
 #[cfg(test)]
+mod upgraded;
+mod upgrades;
+#[cfg(test)]
+mod versions;
+#[cfg(test)]
 mod withheld;
+#[cfg(test)]
+mod writer_faults;
+mod writers;

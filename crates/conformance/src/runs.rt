@@ -45,6 +45,16 @@ pub(crate) enum Deed<'a> {
     Coded(u64, u16, &'a str),
     /// Answers the request of this number by 200 and data of unknown length, which end, or fail by this kind.
     Data(u64, &'a [u8], Option<ErrorKind>),
+    /// Takes the raw writer of the request of this number.
+    IntoWriter(u64),
+    /// Writes this text by the raw writer of this number.
+    Write(u64, &'a str),
+    /// Sends what was written under this number.
+    Flush(u64),
+    /// Upgrades the request of this number by an empty answer of this code to this protocol.
+    Upgrade(u64, u16, &'a str),
+    /// Ends the raw writer of this number, or the stream of an upgrade.
+    Finish(u64),
     /// Drops the request of this number.
     Drop(u64),
 }
@@ -148,6 +158,15 @@ fn step_of(alloc: Global, deed: Deed<'_>) -> Result<Step<Canned>, AllocError> {
             Step::Respond(number, answer.with_status_code(StatusCode(code)))
         }
         Deed::Data(number, bytes, fault) => Step::Respond(number, data(alloc, bytes, fault)?),
+        Deed::IntoWriter(number) => Step::IntoWriter(number),
+        Deed::Write(number, words) => Step::Write(number, words.as_bytes().to_vec(alloc)?),
+        Deed::Flush(number) => Step::Flush(number),
+        Deed::Upgrade(number, code, protocol) => {
+            let data = Canned::new(Vec::new(alloc), None);
+            let answer = Response::empty(alloc, StatusCode(code)).with_data(data, Some(0));
+            Step::Upgrade(number, String::from_str(alloc, protocol)?, answer)
+        }
+        Deed::Finish(number) => Step::Finish(number),
         Deed::Drop(number) => Step::Drop(number),
     })
 }

@@ -6,7 +6,7 @@ use Rattle.httpdate.specs.declared.date.HttpDate.{HttpDate}
 use Rattle.tiny_http_core.specs.Conversation.{TimedValue}
 use Rattle.tiny_http_core.specs.Seen.{IsTimedStep, IsStep}
 use Rattle.tiny_http_core.specs.declared.driver.Step.{Step}
-use Rattle.tiny_http_core.specs.declared.driver.Step.TheVariants.{Ask as AskStep, AsReader as AsReaderStep, Read as ReadStep, Respond as RespondStep, Drop as DropStep}
+use Rattle.tiny_http_core.specs.declared.driver.Step.TheVariants.{Ask as AskStep, AsReader as AsReaderStep, Read as ReadStep, Respond as RespondStep, IntoWriter as IntoWriterStep, Write as WriteStep, Flush as FlushStep, Upgrade as UpgradeStep, Finish as FinishStep, Drop as DropStep}
 use Rattle.tiny_http_core.specs.declared.driver.Timed.{Timed}
 use Rattle.std.specs.Io.Cursor.{cursor_position, cursor_inner}
 use Rattle.replay.specs.ReplayData.{data_feed}
@@ -98,6 +98,11 @@ step_stated AskStep = tt
 step_stated (AsReaderStep number) = refl
 step_stated (ReadStep number count) = (refl, refl)
 step_stated (RespondStep number response) = (refl, (refl, refl, data_few response.data_reader))
+step_stated (IntoWriterStep number) = refl
+step_stated (WriteStep number bytes) = (refl, refl)
+step_stated (FlushStep number) = refl
+step_stated (UpgradeStep number protocol response) = (refl, refl, refl)
+step_stated (FinishStep number) = refl
 step_stated (DropStep number) = refl
 
 pub steps_stated : (steps : List (Timed ReplayData)) → AllZip (IsTimedStep (λ content. Some (data_feed content))) steps (map timed_value steps)

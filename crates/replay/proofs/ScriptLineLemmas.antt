@@ -1,14 +1,14 @@
 -- What the grammar of a line says of its parts.
-use Rattle.std.proofs.Common.{◌≡◌, ◌≢◌, refl, sym, ap, ◌∙◌, arith, lit<, ℕ, ◌<◌, ◌≤◌, ◌^◌, List, ◌++◌, length, get_or, codes, drop, Bool, true, false, Option, Result, Ok, Err, inl, inr, Bor}
+use Rattle.std.proofs.Common.{◌≡◌, ◌≢◌, refl, sym, ap, ◌∙◌, arith, lit<, ℕ, ◌<◌, ◌≤◌, ◌^◌, List, ◌++◌, length, get_or, codes, drop, Bool, true, false, Option, Some, Result, Ok, Err, inl, inr, Bor}
 use Rattle.std.specs.Option.{MatchOption}
-use Rattle.std.specs.Result.{OkIff, MatchResult, is_ok}
+use Rattle.std.specs.Result.{OkIff, MatchResult, is_ok, result_ok}
 use Rattle.std.specs.Str.Parse.{IsNumeral, AllDigits, digits_value}
 use Rattle.std.proofs.lemmas.Str.Parse.{IsNumeralModel, numerals_by_value, tells_digits, not_in_digits}
 use Rattle.std.proofs.lemmas.Str.Pattern.{IsSplitOnceResult, split_after}
 use Rattle.std.specs.Str.{bytes_eq}
 use Rattle.std.specs.Str.Pattern.{LacksTextAt}
-use Rattle.replay.specs.ScriptLine.{WritesNumber, BeginsByNumber, WritesCount, IsContent, IsAnswer, SaysSome, IsDate, WritesRead}
-use Rattle.replay.specs.declared.line.ScriptLine.TheVariants.{Blank, Now, Ask, AsReader, Read, Respond, Drop}
+use Rattle.replay.specs.ScriptLine.{WritesNumber, BeginsByNumber, BeginsByNumbers, WritesCount, IsContent, IsAnswer, SaysSome, IsDate, WritesRead}
+use Rattle.replay.specs.declared.line.ScriptLine.TheVariants.{Blank, Now, Ask, AsReader, Read, Respond, Writer, Write, Flush, Upgrade, Finish, Drop}
 use Rattle.replay.specs.declared.line.Content.TheVariants.{Text, Empty, Stream, Broken}
 
 script_line-own : IsNumeralModel (AllDigits 10) (digits_value 10)
@@ -42,6 +42,11 @@ only_now text rest e (Ask, h) = absurd (let first : ◌≡◌ {A = ℕ} 110 97 =
 only_now text rest e (AsReader number, h) = absurd (let first : ◌≡◌ {A = ℕ} 110 97 = ap (λ bs. get_or bs 0 0) (sym e ∙ h.1) in omega arith)
 only_now text rest e (Read number count, h) = absurd (let first : ◌≡◌ {A = ℕ} 110 114 = ap (λ bs. get_or bs 0 0) (sym e ∙ h.1) in omega arith)
 only_now text rest e (Respond number status content, h) = absurd (no_respond text rest h.0 e h.1)
+only_now text rest e (Writer number, h) = absurd (let first : ◌≡◌ {A = ℕ} 110 119 = ap (λ bs. get_or bs 0 0) (sym e ∙ h.1) in omega arith)
+only_now text rest e (Write number written, h) = absurd (let first : ◌≡◌ {A = ℕ} 110 119 = ap (λ bs. get_or bs 0 0) (sym e ∙ h.1) in omega arith)
+only_now text rest e (Flush number, h) = absurd (let first : ◌≡◌ {A = ℕ} 110 102 = ap (λ bs. get_or bs 0 0) (sym e ∙ h.1) in omega arith)
+only_now text rest e (Upgrade number status protocol, h) = absurd (let first : ◌≡◌ {A = ℕ} 110 117 = ap (λ bs. get_or bs 0 0) (sym e ∙ h.1) in omega arith)
+only_now text rest e (Finish number, h) = absurd (let first : ◌≡◌ {A = ℕ} 110 102 = ap (λ bs. get_or bs 0 0) (sym e ∙ h.1) in omega arith)
 only_now text rest e (Drop number, h) = absurd (let first : ◌≡◌ {A = ℕ} 110 100 = ap (λ bs. get_or bs 0 0) (sym e ∙ h.1) in omega arith)
 
 -- the words are some read
@@ -60,6 +65,11 @@ only_read text rest e (Ask, h) = absurd (let first : ◌≡◌ {A = ℕ} 114 97 
 only_read text rest e (AsReader number, h) = absurd (let first : ◌≡◌ {A = ℕ} 114 97 = ap (λ bs. get_or bs 0 0) (sym e ∙ h.1) in omega arith)
 only_read text rest e (Read number count, h) = let same : rest ≡ h.0 = ap (drop 5) (sym e ∙ h.1) in (number, count, rw same h.2)
 only_read text rest e (Respond number status content, h) = absurd (no_respond_read text rest h.0 e h.1)
+only_read text rest e (Writer number, h) = absurd (let first : ◌≡◌ {A = ℕ} 114 119 = ap (λ bs. get_or bs 0 0) (sym e ∙ h.1) in omega arith)
+only_read text rest e (Write number written, h) = absurd (let first : ◌≡◌ {A = ℕ} 114 119 = ap (λ bs. get_or bs 0 0) (sym e ∙ h.1) in omega arith)
+only_read text rest e (Flush number, h) = absurd (let first : ◌≡◌ {A = ℕ} 114 102 = ap (λ bs. get_or bs 0 0) (sym e ∙ h.1) in omega arith)
+only_read text rest e (Upgrade number status protocol, h) = absurd (let first : ◌≡◌ {A = ℕ} 114 117 = ap (λ bs. get_or bs 0 0) (sym e ∙ h.1) in omega arith)
+only_read text rest e (Finish number, h) = absurd (let first : ◌≡◌ {A = ℕ} 114 102 = ap (λ bs. get_or bs 0 0) (sym e ∙ h.1) in omega arith)
 only_read text rest e (Drop number, h) = absurd (let first : ◌≡◌ {A = ℕ} 114 100 = ap (λ bs. get_or bs 0 0) (sym e ∙ h.1) in omega arith)
 
 -- a line that begins by `respond` says an answer, if it says anything
@@ -71,7 +81,55 @@ only_respond text rest e (Ask, h) = absurd (let first : ◌≡◌ {A = ℕ} 114 
 only_respond text rest e (AsReader number, h) = absurd (let first : ◌≡◌ {A = ℕ} 114 97 = ap (λ bs. get_or bs 0 0) (sym e ∙ h.1) in omega arith)
 only_respond text rest e (Read number count, h) = absurd (no_respond_read text h.0 rest h.1 e)
 only_respond text rest e (Respond number status content, h) = let same : rest ≡ h.0 = ap (drop 8) (sym e ∙ h.1) in (number, status, content, rw same h.2)
+only_respond text rest e (Writer number, h) = absurd (let first : ◌≡◌ {A = ℕ} 114 119 = ap (λ bs. get_or bs 0 0) (sym e ∙ h.1) in omega arith)
+only_respond text rest e (Write number written, h) = absurd (let first : ◌≡◌ {A = ℕ} 114 119 = ap (λ bs. get_or bs 0 0) (sym e ∙ h.1) in omega arith)
+only_respond text rest e (Flush number, h) = absurd (let first : ◌≡◌ {A = ℕ} 114 102 = ap (λ bs. get_or bs 0 0) (sym e ∙ h.1) in omega arith)
+only_respond text rest e (Upgrade number status protocol, h) = absurd (let first : ◌≡◌ {A = ℕ} 114 117 = ap (λ bs. get_or bs 0 0) (sym e ∙ h.1) in omega arith)
+only_respond text rest e (Finish number, h) = absurd (let first : ◌≡◌ {A = ℕ} 114 102 = ap (λ bs. get_or bs 0 0) (sym e ∙ h.1) in omega arith)
 only_respond text rest e (Drop number, h) = absurd (let first : ◌≡◌ {A = ℕ} 114 100 = ap (λ bs. get_or bs 0 0) (sym e ∙ h.1) in omega arith)
+
+-- the words are some number, a space, and the rest
+abbrev pub IsWriteWords : List ℕ → Type 0
+IsWriteWords words = (number : ℕ) × (rest : List ℕ) × BeginsByNumber words number rest × (number < 2 ^ 64)
+
+no_writer_write : (text rest words : List ℕ) → text ≡ codes "write " ++ rest → text ≡ codes "writer " ++ words → ⊥
+no_writer_write text rest words e h = let sixth : ◌≡◌ {A = ℕ} 32 114 = ap (λ bs. get_or bs 5 0) (sym e ∙ h) in omega arith
+
+-- a line that begins by `write` says what is written, if it says anything
+pub only_write : (text rest : List ℕ) → text ≡ codes "write " ++ rest → SaysSome text → IsWriteWords rest
+only_write text rest e (Blank, inl h) = absurd (let first : ◌≡◌ {A = ℕ} 119 0 = ap (λ bs. get_or bs 0 0) (sym e ∙ h) in omega arith)
+only_write text rest e (Blank, inr h) = absurd (let first : ◌≡◌ {A = ℕ} 119 35 = ap (λ bs. get_or bs 0 0) (sym e ∙ h.1) in omega arith)
+only_write text rest e (Now date, h) = absurd (let first : ◌≡◌ {A = ℕ} 119 110 = ap (λ bs. get_or bs 0 0) (sym e ∙ h.1) in omega arith)
+only_write text rest e (Ask, h) = absurd (let first : ◌≡◌ {A = ℕ} 119 97 = ap (λ bs. get_or bs 0 0) (sym e ∙ h) in omega arith)
+only_write text rest e (AsReader number, h) = absurd (let first : ◌≡◌ {A = ℕ} 119 97 = ap (λ bs. get_or bs 0 0) (sym e ∙ h.1) in omega arith)
+only_write text rest e (Read number count, h) = absurd (let first : ◌≡◌ {A = ℕ} 119 114 = ap (λ bs. get_or bs 0 0) (sym e ∙ h.1) in omega arith)
+only_write text rest e (Respond number status content, h) = absurd (let first : ◌≡◌ {A = ℕ} 119 114 = ap (λ bs. get_or bs 0 0) (sym e ∙ h.1) in omega arith)
+only_write text rest e (Writer number, h) = absurd (no_writer_write text rest h.0 e h.1)
+only_write text rest e (Write number written, h) = let same : rest ≡ h.0 = ap (drop 6) (sym e ∙ h.1) in (number, written.now, rw same h.2, h.3)
+only_write text rest e (Flush number, h) = absurd (let first : ◌≡◌ {A = ℕ} 119 102 = ap (λ bs. get_or bs 0 0) (sym e ∙ h.1) in omega arith)
+only_write text rest e (Upgrade number status protocol, h) = absurd (let first : ◌≡◌ {A = ℕ} 119 117 = ap (λ bs. get_or bs 0 0) (sym e ∙ h.1) in omega arith)
+only_write text rest e (Finish number, h) = absurd (let first : ◌≡◌ {A = ℕ} 119 102 = ap (λ bs. get_or bs 0 0) (sym e ∙ h.1) in omega arith)
+only_write text rest e (Drop number, h) = absurd (let first : ◌≡◌ {A = ℕ} 119 100 = ap (λ bs. get_or bs 0 0) (sym e ∙ h.1) in omega arith)
+
+-- the words are some number, a code, and the rest
+abbrev pub IsUpgradeWords : List ℕ → Type 0
+IsUpgradeWords words = (number : ℕ) × (status : ℕ) × (rest : List ℕ) × BeginsByNumbers words number status rest
+
+-- a line that begins by `upgrade` says an upgrade, if it says anything
+pub only_upgrade : (text rest : List ℕ) → text ≡ codes "upgrade " ++ rest → SaysSome text → IsUpgradeWords rest
+only_upgrade text rest e (Blank, inl h) = absurd (let first : ◌≡◌ {A = ℕ} 117 0 = ap (λ bs. get_or bs 0 0) (sym e ∙ h) in omega arith)
+only_upgrade text rest e (Blank, inr h) = absurd (let first : ◌≡◌ {A = ℕ} 117 35 = ap (λ bs. get_or bs 0 0) (sym e ∙ h.1) in omega arith)
+only_upgrade text rest e (Now date, h) = absurd (let first : ◌≡◌ {A = ℕ} 117 110 = ap (λ bs. get_or bs 0 0) (sym e ∙ h.1) in omega arith)
+only_upgrade text rest e (Ask, h) = absurd (let first : ◌≡◌ {A = ℕ} 117 97 = ap (λ bs. get_or bs 0 0) (sym e ∙ h) in omega arith)
+only_upgrade text rest e (AsReader number, h) = absurd (let first : ◌≡◌ {A = ℕ} 117 97 = ap (λ bs. get_or bs 0 0) (sym e ∙ h.1) in omega arith)
+only_upgrade text rest e (Read number count, h) = absurd (let first : ◌≡◌ {A = ℕ} 117 114 = ap (λ bs. get_or bs 0 0) (sym e ∙ h.1) in omega arith)
+only_upgrade text rest e (Respond number status content, h) = absurd (let first : ◌≡◌ {A = ℕ} 117 114 = ap (λ bs. get_or bs 0 0) (sym e ∙ h.1) in omega arith)
+only_upgrade text rest e (Writer number, h) = absurd (let first : ◌≡◌ {A = ℕ} 117 119 = ap (λ bs. get_or bs 0 0) (sym e ∙ h.1) in omega arith)
+only_upgrade text rest e (Write number written, h) = absurd (let first : ◌≡◌ {A = ℕ} 117 119 = ap (λ bs. get_or bs 0 0) (sym e ∙ h.1) in omega arith)
+only_upgrade text rest e (Flush number, h) = absurd (let first : ◌≡◌ {A = ℕ} 117 102 = ap (λ bs. get_or bs 0 0) (sym e ∙ h.1) in omega arith)
+only_upgrade text rest e (Upgrade number status protocol, h) = let same : rest ≡ h.0 = ap (drop 8) (sym e ∙ h.1) in (number, status, protocol.now, rw same h.2)
+only_upgrade text rest e (Finish number, h) = absurd (let first : ◌≡◌ {A = ℕ} 117 102 = ap (λ bs. get_or bs 0 0) (sym e ∙ h.1) in omega arith)
+only_upgrade text rest e (Drop number, h) = absurd (let first : ◌≡◌ {A = ℕ} 117 100 = ap (λ bs. get_or bs 0 0) (sym e ∙ h.1) in omega arith)
 
 -- the digits write some number of 16 bits
 abbrev pub IsCount : List ℕ → Type 0
@@ -95,6 +153,11 @@ only_broken text rest e (Broken count, h) = let same : rest ≡ h.0 = ap (drop 7
 pub none_fits : {T E : Type 0} (r : Result T E) (P : Type 0) (v : T) → OkIff r P v → false ≡ is_ok r → P → ⊥
 none_fits (Ok x) P v h was p = absurd (cc was)
 none_fits (Err e) P v h was p = h p
+
+-- what is taken is the value
+pub fits_same : {T E : Type 0} (r : Result T E) (P : Type 0) (v x : T) → OkIff r P v → result_ok r ≡ Some x → x ≡ v
+fits_same (Ok y) P v x h e = let same : y ≡ x = cc in sym same ∙ h.1
+fits_same (Err y) P v x h e = cc
 
 pub error_stated : {T E : Type 0} (r : Result T E) (P : T → Type 0) (Q : E → Type 0) → MatchResult r P Q → false ≡ is_ok r → (e : E) × Q e
 error_stated (Ok x) P Q h was = absurd (cc was)

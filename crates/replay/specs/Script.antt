@@ -1,5 +1,5 @@
 -- The steps that a script names, and its first bad line.
-use Rattle.std.specs.Prelude.{◌≡◌, ◌==◌, ◌+◌, ℕ, Bool, Option, Some, None, List, [], ◌∷◌, ◌++◌, length}
+use Rattle.std.specs.Prelude.{◌≡◌, ◌==◌, ◌+◌, ℕ, Bool, Option, Some, None, List, [], ◌∷◌, ◌++◌, length, string_bytes}
 use Rattle.std.specs.List.{AllZip, AllByRecursion, slice_split, flat_map}
 use Rattle.std.specs.Io.KnownBytes.{Appends}
 use Rattle.std.specs.declared.io.ErrorKind.TheVariants.{Other}
@@ -10,16 +10,16 @@ use Rattle.tiny_http_wire.specs.Device.{Feed, Sink, whole_feed}
 use Rattle.tiny_http_wire.specs.declared.device.Stop.{Stop}
 use Rattle.tiny_http_wire.specs.declared.device.Stop.TheVariants.{End, Fault}
 use Rattle.tiny_http_core.specs.ResponseValue.{ResponseValue, response_of}
-use Rattle.tiny_http_core.specs.Steps.{StepValue, Ask, AsReader, Read, Respond, Drop, ReplyValue}
+use Rattle.tiny_http_core.specs.Steps.{StepValue, Ask, AsReader, Read, Respond, IntoWriter, Write, Flush, Upgrade, Finish, Drop, ReplyValue}
 use Rattle.tiny_http_core.specs.Conversation.{TimedValue, IsFresh, IsConversation}
 use Rattle.tiny_http_core.specs.declared.driver.Step.{Step}
-use Rattle.tiny_http_core.specs.declared.driver.Step.TheVariants.{Ask as AskStep, AsReader as AsReaderStep, Read as ReadStep, Respond as RespondStep, Drop as DropStep}
+use Rattle.tiny_http_core.specs.declared.driver.Step.TheVariants.{Ask as AskStep, AsReader as AsReaderStep, Read as ReadStep, Respond as RespondStep, IntoWriter as IntoWriterStep, Write as WriteStep, Flush as FlushStep, Upgrade as UpgradeStep, Finish as FinishStep, Drop as DropStep}
 use Rattle.tiny_http_core.specs.declared.driver.Timed.{Timed}
 use Rattle.replay.specs.ReplayData.{data_feed, xs}
 use Rattle.replay.specs.Reply.{reply_line}
 use Rattle.replay.specs.ScriptLine.{IsLine, IsGood}
 use Rattle.replay.specs.declared.line.ScriptLine.{ScriptLine}
-use Rattle.replay.specs.declared.line.ScriptLine.TheVariants.{Blank, Now, Ask as AskLine, AsReader as AsReaderLine, Read as ReadLine, Respond as RespondLine, Drop as DropLine}
+use Rattle.replay.specs.declared.line.ScriptLine.TheVariants.{Blank, Now, Ask as AskLine, AsReader as AsReaderLine, Read as ReadLine, Respond as RespondLine, Writer as WriterLine, Write as WriteLine, Flush as FlushLine, Upgrade as UpgradeLine, Finish as FinishLine, Drop as DropLine}
 use Rattle.replay.specs.declared.line.Content.{Content}
 use Rattle.replay.specs.declared.line.Content.TheVariants.{Text, Empty, Stream, Broken}
 use Rattle.replay.specs.declared.replay_data.ReplayData.{ReplayData}
@@ -53,6 +53,11 @@ said_step AskLine = Some Ask
 said_step (AsReaderLine number) = Some (AsReader number)
 said_step (ReadLine number count) = Some (Read number count)
 said_step (RespondLine number status content) = Some (Respond number (response_with status content))
+said_step (WriterLine number) = Some (IntoWriter number)
+said_step (WriteLine number written) = Some (Write number written.now)
+said_step (FlushLine number) = Some (Flush number)
+said_step (UpgradeLine number status protocol) = Some (Upgrade number protocol.now (response_of status [] []))
+said_step (FinishLine number) = Some (Finish number)
 said_step (DropLine number) = Some (Drop number)
 
 -- the date of the steps from a line on
@@ -63,6 +68,11 @@ date_behind now AskLine = now
 date_behind now (AsReaderLine number) = now
 date_behind now (ReadLine number count) = now
 date_behind now (RespondLine number status content) = now
+date_behind now (WriterLine number) = now
+date_behind now (WriteLine number written) = now
+date_behind now (FlushLine number) = now
+date_behind now (UpgradeLine number status protocol) = now
+date_behind now (FinishLine number) = now
 date_behind now (DropLine number) = now
 
 -- at most one step, on its date
@@ -91,6 +101,11 @@ step_value AskStep = Ask
 step_value (AsReaderStep number) = AsReader number
 step_value (ReadStep number count) = Read number count
 step_value (RespondStep number response) = Respond number (response_value response)
+step_value (IntoWriterStep number) = IntoWriter number
+step_value (WriteStep number bytes) = Write number bytes.items
+step_value (FlushStep number) = Flush number
+step_value (UpgradeStep number protocol response) = Upgrade number (string_bytes protocol) (response_value response)
+step_value (FinishStep number) = Finish number
 step_value (DropStep number) = Drop number
 
 -- the same on its date

@@ -4,7 +4,7 @@ use Rattle.std.specs.Str.Parse.{IsNumeral, digits_value}
 use Rattle.httpdate.specs.Date.{unix_secs}
 use Rattle.httpdate.specs.declared.date.HttpDate.{HttpDate}
 use Rattle.replay.specs.declared.line.ScriptLine.{ScriptLine}
-use Rattle.replay.specs.declared.line.ScriptLine.TheVariants.{Blank, Now, Ask, AsReader, Read, Respond, Drop}
+use Rattle.replay.specs.declared.line.ScriptLine.TheVariants.{Blank, Now, Ask, AsReader, Read, Respond, Writer, Write, Flush, Upgrade, Finish, Drop}
 use Rattle.replay.specs.declared.line.Content.{Content}
 use Rattle.replay.specs.declared.line.Content.TheVariants.{Text, Empty, Stream, Broken}
 
@@ -65,6 +65,11 @@ SaysLine text Ask = text ≡ codes "ask"
 SaysLine text (AsReader number) = (digits : List ℕ) × (text ≡ codes "asreader " ++ digits) × WritesNumber digits number × (number < 2 ^ 64)
 SaysLine text (Read number count) = (words : List ℕ) × (text ≡ codes "read " ++ words) × WritesRead words number count
 SaysLine text (Respond number status content) = (words : List ℕ) × (text ≡ codes "respond " ++ words) × WritesAnswer words number status content
+SaysLine text (Writer number) = (digits : List ℕ) × (text ≡ codes "writer " ++ digits) × WritesNumber digits number × (number < 2 ^ 64)
+SaysLine text (Write number written) = (words : List ℕ) × (text ≡ codes "write " ++ words) × BeginsByNumber words number written.now × (number < 2 ^ 64)
+SaysLine text (Flush number) = (digits : List ℕ) × (text ≡ codes "flush " ++ digits) × WritesNumber digits number × (number < 2 ^ 64)
+SaysLine text (Upgrade number status protocol) = (words : List ℕ) × (text ≡ codes "upgrade " ++ words) × BeginsByNumbers words number status protocol.now
+SaysLine text (Finish number) = (digits : List ℕ) × (text ≡ codes "finish " ++ digits) × WritesNumber digits number × (number < 2 ^ 64)
 SaysLine text (Drop number) = (digits : List ℕ) × (text ≡ codes "drop " ++ digits) × WritesNumber digits number × (number < 2 ^ 64)
 
 -- the text says something

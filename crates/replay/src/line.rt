@@ -2,7 +2,7 @@
 ghost use Rattle.std.specs.Prelude.{◌≡◌, ◌<◌, ◌^◌, ℕ, List, ◌↔◌, IfSome, IsSomeAnd, IsSome};
 ghost use Rattle.std.specs.Option.{SomeIff};
 ghost use Rattle.std.specs.Str.Parse.{IsNumeral, digits_value};
-ghost use Rattle.replay.specs.ScriptLine.{BeginsByNumber, WritesDate, IsDate, WritesContent, IsContent, WritesAnswer, IsAnswer, WritesRead, SaysLine, SaysSome, IsLine, IsGood};
+ghost use Rattle.replay.specs.ScriptLine.{BeginsByNumber, BeginsByNumbers, WritesDate, IsDate, WritesContent, IsContent, WritesAnswer, IsAnswer, WritesRead, SaysLine, SaysSome, IsLine, IsGood};
 
 use httpdate::HttpDate;
 
@@ -21,6 +21,16 @@ pub(crate) enum ScriptLine<'a> {
     Read(u64, u16),
     /// Answers the request of this number by this code and content.
     Respond(u64, u16, Content<'a>),
+    /// Takes the raw writer of the request of this number.
+    Writer(u64),
+    /// Writes this text by the raw writer of this number, or to the stream of its upgrade.
+    Write(u64, &'a str),
+    /// Sends what was written under this number.
+    Flush(u64),
+    /// Upgrades the request of this number by this code to this protocol.
+    Upgrade(u64, u16, &'a str),
+    /// Ends the raw writer of this number, or the stream of its upgrade.
+    Finish(u64),
     /// Drops the request of this number.
     Drop(u64),
 }
@@ -93,14 +103,24 @@ fn content_in(text: &str) -> Option<Content<'_>>
     Some(Content::Broken(count_in(digits)?))
 }
 
+// The number and the code that stand before the first two spaces, and what stands after them.
+fn numbers_before(text: &str) -> Option<(u64, u16, &str)>
+    ensures some { IfSome result (λ r. BeginsByNumbers text.now r.0 r.1 r.2.now) }
+    ensures found { (n : ℕ) → (status : ℕ) → (rest : List ℕ) → BeginsByNumbers text.now n status rest
+        → IsSomeAnd result (λ r. (r.0 ≡ n) × (r.1 ≡ status) × (r.2.now ≡ rest)) }
+{
+    let (number, behind) = number_before(text)?;
+    let (status, rest) = number_before(behind)?;
+    let status = u16::try_from(status).ok()?;
+    Some((number, status, rest))
+}
+
 // What stands after `respond`: a number, a code, and the content.
 fn answer_in(words: &str) -> Option<(u64, u16, Content<'_>)>
     ensures some { IfSome result (λ r. WritesAnswer words.now r.0 r.1 r.2) }
     ensures found { IsAnswer words.now → IsSome result }
 {
-    let (number, behind) = number_before(words)?;
-    let (status, text) = number_before(behind)?;
-    let status = u16::try_from(status).ok()?;
+    let (number, status, text) = numbers_before(words)?;
     Some((number, status, content_in(text)?))
 }
 
@@ -130,8 +150,25 @@ fn text_in(text: &str) -> Option<ScriptLine<'_>>
     if let Some(number) = text.strip_prefix("asreader ") {
         return Some(ScriptLine::AsReader(number_in(number)?));
     }
+    if let Some(number) = text.strip_prefix("writer ") {
+        return Some(ScriptLine::Writer(number_in(number)?));
+    }
+    if let Some(number) = text.strip_prefix("flush ") {
+        return Some(ScriptLine::Flush(number_in(number)?));
+    }
+    if let Some(number) = text.strip_prefix("finish ") {
+        return Some(ScriptLine::Finish(number_in(number)?));
+    }
     if let Some(number) = text.strip_prefix("drop ") {
         return Some(ScriptLine::Drop(number_in(number)?));
+    }
+    if let Some(words) = text.strip_prefix("write ") {
+        let (number, written) = number_before(words)?;
+        return Some(ScriptLine::Write(number, written));
+    }
+    if let Some(words) = text.strip_prefix("upgrade ") {
+        let (number, status, protocol) = numbers_before(words)?;
+        return Some(ScriptLine::Upgrade(number, status, protocol));
     }
     if let Some(words) = text.strip_prefix("read ") {
         let (number, count) = read_in(words)?;

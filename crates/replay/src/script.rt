@@ -120,6 +120,18 @@ fn step_in(alloc: Global, line: &ScriptLine<'_>) -> Result<Option<Step<ReplayDat
             let response = response_with(alloc, StatusCode(*status), content)?;
             Ok(Some(Step::Respond(*number, response)))
         }
+        ScriptLine::Writer(number) => Ok(Some(Step::IntoWriter(*number))),
+        ScriptLine::Write(number, written) => {
+            let written = String::from_str(alloc, written)?;
+            Ok(Some(Step::Write(*number, written.into_bytes())))
+        }
+        ScriptLine::Flush(number) => Ok(Some(Step::Flush(*number))),
+        ScriptLine::Upgrade(number, status, protocol) => {
+            let protocol = String::from_str(alloc, protocol)?;
+            let response = response_with(alloc, StatusCode(*status), &Content::Empty)?;
+            Ok(Some(Step::Upgrade(*number, protocol, response)))
+        }
+        ScriptLine::Finish(number) => Ok(Some(Step::Finish(*number))),
         ScriptLine::Drop(number) => Ok(Some(Step::Drop(*number))),
     }
 }

@@ -169,6 +169,31 @@ fn a_100_is_sent_before_the_body_is_read(rt: HostRuntime) -> Result<(), Fail> {
 }
 
 #[test]
+fn a_raw_writer_takes_the_place_of_the_answer(rt: HostRuntime) -> Result<(), Fail> {
+    let bytes = "GET /a HTTP/1.1\r\n\r\nGET /b HTTP/1.1\r\n\r\n";
+    let script =
+        "ask\nask\nwriter 1\nwrite 1 early\nwriter 0\nwrite 0 a b\nwrite 0 \nflush 0\nfinish 0\nwrite 1 c\nfinish 1\nfinish 1\n";
+    let replies =
+        "handed 0 GET /a 1.1 0 -\nhanded 1 GET /b 1.1 0 -\ndone\nnotyet\ndone\ndone\ndone\ndone\ndone\ndone\ndone\nnosuch\n";
+    assert_good(&rt, rt.alloc(), (bytes, script), "a bc", replies)?;
+    Ok(())
+}
+
+#[test]
+fn an_upgrade_takes_the_rest_of_the_stream(rt: HostRuntime) -> Result<(), Fail> {
+    let bytes = "GET / HTTP/1.1\r\nConnection: upgrade\r\n\r\nhello";
+    let script =
+        "ask\nupgrade 0 101 foo bar\nread 0 3\nwrite 0 hi\nread 0 9\nread 0 9\nfinish 0\nask\n";
+    let output =
+        "HTTP/1.1 101 Switching Protocols\r\nConnection: upgrade\r\nUpgrade: foo bar\r\nServer: tiny-http (Rust)\r\nDate: Thu, 01 Jan 1970 00:00:01 GMT\r\n\r\nhi";
+    let replies =
+        "handed 0 GET / 1.1 1 -\ndone\ngiven 68656c\ndone\ngiven 6c6f\ngiven\ndone\nended\n";
+    let script = format!(in rt.alloc(); "now 1\n{script}")?;
+    assert_good(&rt, rt.alloc(), (bytes, script.as_str()), output, replies)?;
+    Ok(())
+}
+
+#[test]
 fn data_of_unknown_length(rt: HostRuntime) -> Result<(), Fail> {
     let alloc = rt.alloc();
     let chunked = "Transfer-Encoding: chunked";
@@ -353,6 +378,29 @@ fn no_line_but_the_grammars(rt: HostRuntime) -> Result<(), Fail> {
         "asreader 0 ",
         "asreader 18446744073709551616",
         "Asreader 0",
+        "writer",
+        "writer ",
+        "writer x",
+        "writer 0 ",
+        "writer 18446744073709551616",
+        "write",
+        "write ",
+        "write 0",
+        "write x y",
+        "write 18446744073709551616 y",
+        "flush",
+        "flush 0 ",
+        "flush 18446744073709551616",
+        "finish",
+        "finish 0 ",
+        "finish 18446744073709551616",
+        "upgrade",
+        "upgrade 0",
+        "upgrade 0 101",
+        "upgrade 0 65536 foo",
+        "upgrade x 101 foo",
+        "upgrade 0 x foo",
+        "upgrade 18446744073709551616 101 foo",
         "read",
         "read ",
         "read 0",
@@ -417,20 +465,6 @@ fn no_answer_but_the_grammars(rt: HostRuntime) -> Result<(), Fail> {
         "respond 0 200 broken -1",
         "respond 0 200 broken 65536",
         "respond 0 200 broken 5 ",
-    ] {
-        assert_bad(&rt, rt.alloc(), line.as_bytes(), 1)?;
-    }
-    Ok(())
-}
-
-#[test]
-fn no_step_of_a_later_stage(rt: HostRuntime) -> Result<(), Fail> {
-    for line in [
-        "writer 0",
-        "write 0 x",
-        "flush 0",
-        "upgrade 0 101 websocket",
-        "finish 0",
     ] {
         assert_bad(&rt, rt.alloc(), line.as_bytes(), 1)?;
     }

@@ -21,32 +21,34 @@ use Rattle.tiny_http_wire.specs.declared.answer_context.AnswerContext.{AnswerCon
 use Rattle.tiny_http_wire.specs.declared.coding.Coding.{Coding}
 use Rattle.tiny_http_wire.specs.Coding.{coding_asked}
 use Rattle.tiny_http_message.specs.declared.waiting.Waiting.{Waiting}
-use Rattle.tiny_http_message.specs.Framing.{framing, is_built}
+use Rattle.tiny_http_core.specs.declared.pending.Unfinished.{Unfinished}
+use Rattle.tiny_http_core.specs.declared.pending.Unfinished.TheVariants as still
+use Rattle.tiny_http_message.specs.Framing.{framing}
+use Rattle.tiny_http_wire.specs.Heads.{version, is_too_new}
 use Rattle.tiny_http_message.proofs.FramingLemmas.{rest-last}
 use Rattle.tiny_http_stream.specs.Source.{GoesOn}
-use Rattle.tiny_http_message.specs.Pipeline.{Item, Asks, Refuses, BadRequest, RequestTimeout, ExpectationFailed, VersionNotSupported, Refusal, refusal_status, fault_item, is_timed_out, Request, Place, Heading, HeadAt, Ends, Heads, OneHead, FoundAt, served, is_head_method, Pipeline, place_after}
-use Rattle.tiny_http_message.specs.HeadReads.{ReadsHead, IsBeforeHead, standing_of, place_feed, request_of, IsServedRefusal, head_message, head_framing}
+use Rattle.tiny_http_message.specs.Pipeline.{Item, Asks, Refuses, RequestTimeout, ExpectationFailed, VersionNotSupported, Refusal, fault_item, is_timed_out, Request, Place, Heading, HeadAt, Ends, Heads, OneHead, FoundAt, ends_too_new, is_head_method, Pipeline, place_after}
+use Rattle.tiny_http_message.specs.HeadReads.{ReadsHead, IsBeforeHead, standing_of, place_feed, request_of, head_message, head_framing}
 use Rattle.tiny_http_message.specs.declared.exchange.EndOfRequests.{EndOfRequests}
 use Rattle.tiny_http_stream.specs.declared.source.Standing.{Standing}
 use Rattle.tiny_http_stream.specs.declared.source.Standing.TheVariants as in_place
 use Rattle.tiny_http_wire.specs.declared.common.StatusCode.{StatusCode}
 use Rattle.tiny_http_message.specs.Exchange.{KeepsRequest}
 use Rattle.tiny_http_message.specs.Body.{Remaining, remaining, taken_remaining, is_streaming}
-use Rattle.tiny_http_core.specs.Slots.{Slot, is_finished, is_broken, is_slot_broken, segment, joined, new_slot, turn_has_come, is_chunked, last_slot, last_holds_reader, last_was_abandoned, is_last_slot, stage_text, ByServer}
+use Rattle.tiny_http_core.specs.Slots.{Slot, is_finished, is_broken, is_slot_broken, segment, new_slot, turn_has_come, is_chunked, last_slot, last_holds_reader, last_was_abandoned, is_last_slot, stage_text, ByServer}
 use Rattle.tiny_http_sending.specs.ResponseValue.{printing_to}
-use Rattle.tiny_http_message.specs.OwnAnswer.{own_text, own_text_by}
+use Rattle.tiny_http_message.specs.OwnAnswer.{own_text_by, refusal_response, refused_text}
 use Rattle.tiny_http_core.specs.Steps.{StepValue, Ask, ReplyValue, Handed, Ended, NotYet, Memory, Unused, Unreported, Outcome, Reached, unchanged, ask, asks_from, outcome}
 use Rattle.tiny_http_core.specs.Conversation.{Failure, State, PlaceAt, WriterPart, flushed_after, HasOutcome, StepsTo}
-use Rattle.tiny_http_core.proofs.ConversationWriting.{IsAllFlushed, unreported, still-flushed}
+use Rattle.tiny_http_core.proofs.ConversationWriting.{unreported, flushed-is}
 use Rattle.tiny_http_sending.specs.Sending.{IsFlushed, SendsUnlessEnded}
 use Rattle.tiny_http_turns.specs.Turns.{Mark, Open, Left, Finished, AreInShape, first_unfinished}
 use Rattle.tiny_http_core.specs.Pending.{LeavesText, last_body, is_streaming_body}
 use Rattle.tiny_http_core.specs.Connection.{Kept, dropped, IsWaiting, AreKept, OutputAt, behind_body, GivesRest, InputEnded, is_past_last, is_in_body, NextHead, InputStands, Stands, HandedOut}
-use Rattle.tiny_http_message.proofs.HeadReadsServing.{built-version}
 use Rattle.tiny_http_stream.proofs.SourceGoesOn.{goes-on_more}
 use Rattle.tiny_http_message.proofs.PipelineLemmas.{pipeline-first, pipeline-none, feed-pipeline}
 use Rattle.tiny_http_core.proofs.ConnectionReader.{LastKept, last-kept, last-snoc, body-snoc, settled-snoc, and-false, held-by, behind-settled, gives-settled}
-use Rattle.tiny_http_message.proofs.OwnAnswerLemmas.{own-whole}
+use Rattle.tiny_http_message.proofs.OwnAnswerLemmas.{own-whole, refusal-whole}
 use Rattle.tiny_http_core.proofs.SlotsLemmas.{joined-waits, joined-hidden, breaks-waits, breaks-hidden}
 use Rattle.tiny_http_core.proofs.ConnectionKept.{kept-append, kept-length, shape-issued, InTurn, OutOfTurn, turn-at}
 use Rattle.tiny_http_core.proofs.ConnectionOutput.{ended-is, output-same, Goes, more-behind, output-more}
@@ -98,17 +100,16 @@ ends-ask bytes stop answer r (inr (inr k)) e = answered-by (is_timed_out stop) r
 record IsFramed (r : Request) : Type 0 where
   pub framed : framing r.message.version r.message.headers ≡ Some r.framing
 
-found-framed : (bytes : List ℕ) (stop : Stop) (heading : Heading) (r : Request) (next : Place) → HeadAt bytes stop heading → FoundAt stop (served heading) (Some (Asks r)) next → IsFramed r
+found-framed : (bytes : List ℕ) (stop : Stop) (heading : Heading) (r : Request) (next : Place) → HeadAt bytes stop heading → FoundAt stop heading (Some (Asks r)) next → IsFramed r
 found-framed bytes stop (Ends answer) r next at h = absurd (ends-ask bytes stop answer r at h.0)
-found-framed bytes stop (Heads m f after) r next at h = by-built (is_built m.version) refl h
+found-framed bytes stop (Heads m f after) r next at h = by-version (is_too_new m.version) refl
   where
-    by-built : (t : Bool) → is_built m.version ≡ t → FoundAt stop (if t then Heads m f after else Ends None) (Some (Asks r)) next → IsFramed r
-    by-built true b k =
-        let version_is = built-version m.version b in
-        let item : Some (Asks r) ≡ Some (Asks (record { message = m; framing = f; body = k.0 })) = k.3 ∙ rw version_is refl in
-        let same : r ≡ record { message = m; framing = f; body = k.0 } = cc in
+    by-version : (t : Bool) → is_too_new m.version ≡ t → IsFramed r
+    by-version true b = let no : Some (Asks r) ≡ Some (Refuses VersionNotSupported (version 1 1) (is_head_method m.method) (ends_too_new f.form)) = h.3 ∙ rw b refl in cc
+    by-version false b =
+        let item : Some (Asks r) ≡ Some (Asks (record { message = m; framing = f; body = h.0 })) = h.3 ∙ rw b refl in
+        let same : r ≡ record { message = m; framing = f; body = h.0 } = cc in
         subst IsFramed (sym same) (record { framed = at.1 })
-    by-built false b k = let none : Some (Asks r) ≡ None = k.0 in cc
 
 one-head-framed : (bytes : List ℕ) (stop : Stop) (r : Request) (next : Place) → OneHead bytes stop (Some (Asks r)) next → IsFramed r
 one-head-framed bytes stop r next h = found-framed bytes stop h.0 r next h.1 h.2
@@ -155,31 +156,23 @@ unfolding text_of
 dropped-whole asked r given end_reported = ap is_broken (own-whole 500 (coding_asked r.message.headers) r.message.version (is_head_method r.message.method) asked.date)
 
 -- the item of a head that is refused with an empty answer
-abbrev refused_item : Refusal → HTTPVersion → Item
-refused_item refusal v = Refuses refusal v false true
+abbrev refused_item : Refusal → HTTPVersion → Bool → Item
+refused_item refusal v no_body = Refuses refusal v no_body true
 
-refused-whole : (refusal : Refusal) (date : HttpDate) (v : HTTPVersion) → IsServedRefusal refusal → is_slot_broken (new_slot date (refused_item refusal v)) ≡ false
-unfolding text_of
-refused-whole BadRequest date v h = ap is_broken (own-whole 400 None v false date)
-refused-whole RequestTimeout date v h = ap is_broken (own-whole 408 None v false date)
-refused-whole ExpectationFailed date v h = ap is_broken (own-whole 417 None v false date)
-refused-whole VersionNotSupported date v h = absurd h
+refused-whole : (refusal : Refusal) (date : HttpDate) (v : HTTPVersion) (no_body : Bool) → is_slot_broken (new_slot date (refused_item refusal v no_body)) ≡ false
+refused-whole refusal date v no_body = ap is_broken (refusal-whole refusal v no_body date)
 
-refused-text : (refusal : Refusal) (date : HttpDate) (v : HTTPVersion) → IsServedRefusal refusal → segment (new_slot date (refused_item refusal v)) ≡ own_text (refusal_status refusal) v false date
-unfolding text_of
-refused-text BadRequest date v h = refl
-refused-text RequestTimeout date v h = refl
-refused-text ExpectationFailed date v h = refl
-refused-text VersionNotSupported date v h = absurd h
+refused-text : (refusal : Refusal) (date : HttpDate) (v : HTTPVersion) (no_body : Bool) → segment (new_slot date (refused_item refusal v no_body)) ≡ refused_text (refusal_response refusal) v no_body date
+refused-text refusal date v no_body = refl
 
 -- a request that is handed out has sent nothing
 abbrev pub handed_slot : HttpDate → Request → Slot
 handed_slot date r = new_slot date (Asks r)
 
-output-waiting : (before sink : Sink) (e : Bool) (slots : List Slot) (date : HttpDate) (r : Request) (failure : Option Failure) → OutputAt before sink e slots failure → OutputAt before sink e (slots ++ (handed_slot date r ∷ [])) failure
-output-waiting before sink e slots date r failure h =
+output-waiting : (before sink : Sink) (e : Bool) (slots : List Slot) (date : HttpDate) (r : Request) (flushed : List ℕ) (failure : Option Failure) → OutputAt before sink e slots flushed failure → OutputAt before sink e (slots ++ (handed_slot date r ∷ [])) flushed failure
+output-waiting before sink e slots date r flushed failure h =
     let n = handed_slot date r in
-    output-same before sink e slots (slots ++ (n ∷ [])) failure (sym (joined-waits slots n [] refl refl)) (sym (breaks-waits slots n [] refl refl)) h
+    output-same before sink e slots (slots ++ (n ∷ [])) flushed failure (sym (joined-waits slots n [] refl refl)) (sym (breaks-waits slots n [] refl refl)) h
 
 -- a body that isn't read from the input gives the same wherever that stands
 pub settled-any : (b : Body) (p : Option Feed) (content behind : Feed) → remaining b p ≡ Some (record { body = content; behind = behind }) → is_streaming b ≡ false → (f : Feed) → remaining b (Some f) ≡ Some (taken_remaining content f)
@@ -229,7 +222,7 @@ abbrev pub with_input : Kept → Option Feed → Option Stop → Bool → Standi
 with_input k p stop over at = record k { feed = p; stop = stop; is_over = over; standing = at }
 
 abbrev pub after_handed : Kept → Waiting → Option Feed → Option Stop → Bool → Standing → Kept
-after_handed k w p stop over at = record k { marks = k.marks ++ (Open ∷ []); requests = k.requests ++ (Some w ∷ []); feed = p; stop = stop; is_over = over; standing = at }
+after_handed k w p stop over at = record k { marks = k.marks ++ (Open ∷ []); requests = k.requests ++ (Some (still.Waiting w) ∷ []); feed = p; stop = stop; is_over = over; standing = at }
 
 -- where the input stands after the head of a request
 pub record StandsFor (r : Request) (w : Waiting) (at : Standing) : Type 0 where
@@ -252,7 +245,7 @@ handed-reader : (client : Feed) (k : Kept) (slots : List Slot) (rest more : List
 handed-reader client k slots rest more date r w p stop over at close next old quiet left items source stands =
     let x = handed_slot date r in
     let last : last_slot (slots ++ (x ∷ [])) ≡ Some x = last-snoc None slots x in
-    let content : last_body (k.requests ++ (Some w ∷ [])) ≡ Some w.body = body-snoc k.requests (Some w) in
+    let content : last_body (k.requests ++ (Some (still.Waiting w) ∷ [])) ≡ Some w.body = body-snoc k.requests (Some (still.Waiting w)) in
     let B : Option Remaining → Option Feed = λ o. option_map (λ (y : Remaining). y.body) o in
     let P : Option Slot → Option Body → Type 0 = λ o b. GivesRest b o p in
     let here : P (Some x) (Some w.body) = ap B left in
@@ -262,13 +255,13 @@ handed-reader client k slots rest more date r w p stop over at close next old qu
     let behind : behind_body (Some w.body) p ≡ Some (place_feed close next) = ap (λ (o : Option Remaining). option_map (λ (y : Remaining). y.behind) o) left in
     let k2 : Kept = after_handed k w p stop over at in
     record {
-      settled = settled-snoc k.requests (Some w) old.settled quiet;
-      gives = subst (λ o. P o (last_body (k.requests ++ (Some w ∷ [])))) (sym last) (subst (λ b. P (Some x) b) (sym content) here);
+      settled = settled-snoc k.requests (Some (still.Waiting w)) old.settled quiet;
+      gives = subst (λ o. P o (last_body (k.requests ++ (Some (still.Waiting w) ∷ [])))) (sym last) (subst (λ b. P (Some x) b) (sym content) here);
       next = λ e. record {
         is_last = stands.past ∙ ap is_last_slot (sym last);
-        within = stands.within ∙ ap (λ b. W (Some x) b) (sym content) ∙ ap (λ o. W o (last_body (k.requests ++ (Some w ∷ [])))) (sym last);
+        within = stands.within ∙ ap (λ b. W (Some x) b) (sym content) ∙ ap (λ o. W o (last_body (k.requests ++ (Some (still.Waiting w) ∷ [])))) (sym last);
         lost = λ lost. (let no : true ≡ false = sym lost ∙ (ap last_was_abandoned last ∙ and-false (is_chunked r.framing.form)) in cc);
-        place = λ e. subst (λ y. Q y (last_body (k.requests ++ (Some w ∷ [])))) (sym stands.past) (subst (λ y. Q r.framing.is_last y) (sym content) (subst F (sym behind) (handed-place r.framing.is_last close next more items)));
+        place = λ e. subst (λ y. Q y (last_body (k.requests ++ (Some (still.Waiting w) ∷ [])))) (sym stands.past) (subst (λ y. Q r.framing.is_last y) (sym content) (subst F (sym behind) (handed-place r.framing.is_last close next more items)));
       };
       source = source;
     }
@@ -294,13 +287,12 @@ ask-handed client before k s date x from_here p stop over at n st e o quiet open
     let waits = kept-handed date x p found.0 (place_feed g.feed.stop found.1) found.4 found.3 (one-head-framed g.feed.bytes g.feed.stop r (place_after h.is_last found.1) found.2) in (
       new,
       record {
-        numbers = kept-append s.reached.slots k.marks k.requests (y ∷ []) (Open ∷ []) (Some x.waiting ∷ []) st.numbers (waits, tt);
+        numbers = kept-append s.reached.slots k.marks k.requests (y ∷ []) (Open ∷ []) (Some (still.Waiting x.waiting) ∷ []) st.numbers (waits, tt);
         shape = shape;
-        in_turn = turn-more s.reached.slots y st.in_turn refl;
+        in_turn = turn-more s.reached.slots y st.in_turn (refl, λ z. refl);
         asking_ended = sym e;
-        flushed = λ none. st.flushed none ∙ sym (joined-waits s.reached.slots y [] refl refl);
         reader = handed-reader client k s.reached.slots s.reached.rest first.0 date r x.waiting p stop over at g.feed.stop found.1 st.reader quiet found.3 first.2 (goes-on_more (Some client) k.feed p st.reader.source goes) (stands-for x found.0 at stands);
-        output = output-waiting before k.sink k.output_ended s.reached.slots date r s.failure st.output;
+        output = output-waiting before k.sink k.output_ended s.reached.slots date r s.flushed s.failure st.output;
       },
       inl (true, tt, subst G (sym is) (refl, refl, (ap (λ z. Handed z (head_message h) (head_framing h)) end_reported, refl))),
     )
@@ -380,7 +372,7 @@ ask-over client before k s date st e o = by (last_was_abandoned (last_slot s.rea
         let new : State = record { reached = record { slots = slots; rest = s.reached.rest; asking_ended = true }; flushed = s.flushed; failure = s.failure } in
         let G : Outcome → Type 0 = λ x. HasOutcome x s Ended new in (
           new,
-          record { numbers = st.numbers; shape = st.shape; in_turn = st.in_turn; asking_ended = refl; flushed = st.flushed; reader = ended_reader s.reached.rest; output = st.output },
+          record { numbers = st.numbers; shape = st.shape; in_turn = st.in_turn; asking_ended = refl; reader = ended_reader s.reached.rest; output = st.output },
           inl (true, tt, subst G (sym (ask-lost date s.reached (st.asking_ended ∙ e) unheld_now l)) (refl, refl, (refl, refl))),
         )
     by false l =
@@ -391,7 +383,7 @@ ask-over client before k s date st e o = by (last_was_abandoned (last_slot s.rea
         let new : State = record { reached = record { slots = slots; rest = []; asking_ended = true }; flushed = s.flushed; failure = s.failure } in
         let G : Outcome → Type 0 = λ x. HasOutcome x s Ended new in (
           new,
-          record { numbers = st.numbers; shape = st.shape; in_turn = st.in_turn; asking_ended = refl; flushed = st.flushed; reader = ended_reader []; output = st.output },
+          record { numbers = st.numbers; shape = st.shape; in_turn = st.in_turn; asking_ended = refl; reader = ended_reader []; output = st.output },
           inl (true, tt, subst G (sym is) (refl, refl, (refl, refl))),
         )
 
@@ -412,7 +404,7 @@ ask-none client before k s date from_here why p stop over at st e o quiet reads 
         let new : State = record { reached = record { slots = slots; rest = s.reached.rest; asking_ended = true }; flushed = s.flushed; failure = s.failure } in
         let G : Outcome → Type 0 = λ x. HasOutcome x s Ended new in (
           new,
-          record { numbers = st.numbers; shape = st.shape; in_turn = st.in_turn; asking_ended = refl; flushed = st.flushed; reader = end-reader client before k s p stop over at s.reached.rest st quiet goes; output = st.output },
+          record { numbers = st.numbers; shape = st.shape; in_turn = st.in_turn; asking_ended = refl; reader = end-reader client before k s p stop over at s.reached.rest st quiet goes; output = st.output },
           inl (true, tt, subst G (sym (ask-lost date s.reached (st.asking_ended ∙ e) quiet_now l)) (refl, refl, (refl, refl))),
         )
     by false l =
@@ -427,7 +419,7 @@ ask-none client before k s date from_here why p stop over at st e o quiet reads 
         let new : State = record { reached = record { slots = slots; rest = []; asking_ended = true }; flushed = s.flushed; failure = s.failure } in
         let G : Outcome → Type 0 = λ x. HasOutcome x s Ended new in (
           new,
-          record { numbers = st.numbers; shape = st.shape; in_turn = st.in_turn; asking_ended = refl; flushed = st.flushed; reader = end-reader client before k s p stop over at [] st quiet goes; output = st.output },
+          record { numbers = st.numbers; shape = st.shape; in_turn = st.in_turn; asking_ended = refl; reader = end-reader client before k s p stop over at [] st quiet goes; output = st.output },
           inl (true, tt, subst G (sym is) (refl, refl, (refl, refl))),
         )
 
@@ -439,7 +431,7 @@ ask-memory client before k s date p stop over at st e o quiet more open_input go
     let new : State = record { reached = record { slots = s.reached.slots; rest = s.reached.rest; asking_ended = true }; flushed = s.flushed; failure = s.failure } in
     let R : List Slot → Reached = λ x. record { slots = x; rest = s.reached.rest; asking_ended = true } in (
       new,
-      record { numbers = st.numbers; shape = st.shape; in_turn = st.in_turn; asking_ended = refl; flushed = st.flushed; reader = end-reader client before k s p stop over at s.reached.rest st quiet goes; output = st.output },
+      record { numbers = st.numbers; shape = st.shape; in_turn = st.in_turn; asking_ended = refl; reader = end-reader client before k s p stop over at s.reached.rest st quiet goes; output = st.output },
       inr (
         st.asking_ended ∙ e,
         more,
@@ -457,20 +449,19 @@ ask-memory client before k s date p stop over at st e o quiet more open_input go
 abbrev pub after_refused : Kept → List Mark → Option Feed → Option Stop → Bool → Standing → Sink → Bool → Kept
 after_refused k marks p stop over at sink ended = record k { marks = marks; requests = k.requests ++ (None ∷ []); asking_ended = true; feed = p; stop = stop; is_over = over; standing = at; sink = sink; output_ended = ended }
 
-refused-output : (before sink new : Sink) (e ended : Bool) (slots : List Slot) (n : Slot) (s : State) → OutputAt before sink e slots s.failure → s.reached.slots ≡ slots → list_all is_finished slots ≡ true → is_finished n ≡ true → is_slot_broken n ≡ false
-    → before.failures < 2 ^ 64 - 1 → SendsUnlessEnded e sink new ended (segment n ++ []) → IsFlushed new → Goes before new e ended slots (slots ++ (n ∷ [])) s.failure
+refused-output : (before sink new : Sink) (e ended : Bool) (slots : List Slot) (n : Slot) (s : State) → OutputAt before sink e slots s.flushed s.failure → s.reached.slots ≡ slots → list_all is_finished slots ≡ true → is_finished n ≡ true → is_slot_broken n ≡ false
+    → before.failures < 2 ^ 64 - 1 → SendsUnlessEnded e sink new ended (segment n ++ []) → IsFlushed new → Goes before new e ended (slots ++ (n ∷ [])) s.flushed s.failure
 refused-output before sink new e ended slots n s h same fin over whole low sends firm =
-    output-more before sink new e ended slots (slots ++ (n ∷ [])) (segment n ++ []) s.failure h (more-behind slots (n ∷ []) (segment n ++ []) fin (rw (over, whole) refl) (rw (over, whole) refl)) low sends firm
+    output-more before sink new e ended slots (slots ++ (n ∷ [])) (segment n ++ []) s.flushed s.failure h (more-behind slots (n ∷ []) (segment n ++ []) fin (rw (over, whole) refl) (rw (over, whole) refl)) low sends firm
 
-refused-waits : (before sink : Sink) (e : Bool) (slots : List Slot) (n : Slot) (failure : Option Failure) → OutputAt before sink e slots failure → list_all is_finished slots ≡ false → OutputAt before sink e (slots ++ (n ∷ [])) failure
-refused-waits before sink e slots n failure h hidden = output-same before sink e slots (slots ++ (n ∷ [])) failure (sym (joined-hidden slots (n ∷ []) hidden)) (sym (breaks-hidden slots (n ∷ []) hidden)) h
+refused-waits : (before sink : Sink) (e : Bool) (slots : List Slot) (n : Slot) (flushed : List ℕ) (failure : Option Failure) → OutputAt before sink e slots flushed failure → list_all is_finished slots ≡ false → OutputAt before sink e (slots ++ (n ∷ [])) flushed failure
+refused-waits before sink e slots n flushed failure h hidden = output-same before sink e slots (slots ++ (n ∷ [])) flushed failure (sym (joined-hidden slots (n ∷ []) hidden)) (sym (breaks-hidden slots (n ∷ []) hidden)) h
 
 -- what is said of it, whether its turn has come or not
-record RefusedOutput (before new : Sink) (ended : Bool) (slots : List Slot) (n : Slot) (s : State) (marks : List Mark) (requests : List (Option Waiting)) : Type 0 where
+record RefusedOutput (before new : Sink) (ended : Bool) (slots : List Slot) (n : Slot) (s : State) (marks : List Mark) (requests : List (Option Unfinished)) : Type 0 where
   pub failure : Option Failure
-  pub output : OutputAt before new ended (slots ++ (n ∷ [])) failure
+  pub output : OutputAt before new ended (slots ++ (n ∷ [])) (flushed_after (if turn_has_come (length s.reached.slots) s.reached.slots then Unreported else Unused) s (slots ++ (n ∷ []))) failure
   pub writes : WriterPart (if turn_has_come (length s.reached.slots) s.reached.slots then Unreported else Unused) s Ended (slots ++ (n ∷ [])) Ended failure
-  pub flushed : failure ≡ None → flushed_after (if turn_has_come (length s.reached.slots) s.reached.slots then Unreported else Unused) s (slots ++ (n ∷ [])) ≡ joined (slots ++ (n ∷ []))
   pub numbers : AreKept (slots ++ (n ∷ [])) marks requests
   pub shape : AreInShape marks
 
@@ -478,14 +469,14 @@ record RefusedOutput (before new : Sink) (ended : Bool) (slots : List Slot) (n :
 turn-next : (slots : List Slot) → turn_has_come (length slots) slots ≡ list_all is_finished slots
 turn-next slots = ap (list_all is_finished) (take_all (length slots) slots (omega arith))
 
-refuses : (before sink new : Sink) (e ended : Bool) (s : State) (marks final : List Mark) (requests : List (Option Waiting)) (n : Slot) (text : List ℕ) → OutputAt before sink e s.reached.slots s.failure → IsAllFlushed s → AreKept s.reached.slots marks requests → AreInShape marks
+refuses : (before sink new : Sink) (e ended : Bool) (s : State) (marks final : List Mark) (requests : List (Option Unfinished)) (n : Slot) (text : List ℕ) → OutputAt before sink e s.reached.slots s.flushed s.failure → AreKept s.reached.slots marks requests → AreInShape marks
     → is_finished n ≡ true → n.given_up ≡ true → is_slot_broken n ≡ false → segment n ≡ text → before.failures < 2 ^ 64 - 1 → LeavesText (length marks == first_unfinished marks) marks [] final text e sink new ended
     → RefusedOutput before new ended s.reached.slots n s final (requests ++ (None ∷ []))
-refuses before sink new e ended s marks final requests n text h firm kept shape over given_up whole same low leaves =
+refuses before sink new e ended s marks final requests n text h kept shape over given_up whole same low leaves =
     let slots = s.reached.slots in
-    let over_is = ended-is before sink e slots s.failure h in
+    let over_is = ended-is before sink e slots s.flushed s.failure h in
     let U : Bool → Option Failure → Type 0 = λ t f. WriterPart (if t then Unreported else Unused) s Ended (slots ++ (n ∷ [])) Ended f in
-    let L : Bool → Type 0 = λ t. flushed_after (if t then Unreported else Unused) s (slots ++ (n ∷ [])) ≡ joined (slots ++ (n ∷ [])) in
+    let L : Bool → Option Failure → Type 0 = λ t f. OutputAt before new ended (slots ++ (n ∷ [])) (flushed_after (if t then Unreported else Unused) s (slots ++ (n ∷ []))) f in
     ⊎_elim
     (λ (t : InTurn slots marks []).
     let come : (length marks == first_unfinished marks) ≡ true = eq-eqb (length marks) (first_unfinished marks) (t.turn ∙ first-issued marks) in
@@ -496,9 +487,8 @@ refuses before sink new e ended s marks final requests n text h firm kept shape 
     let A : List Mark → Type 0 = λ y. AreInShape y in
     record {
       failure = go.failure;
-      output = go.output;
-      writes = subst (λ (b : Bool). U b go.failure) (sym (turn-next slots ∙ t.finished)) (unreported s e Ended (slots ++ (n ∷ [])) go.failure over_is firm go.writes);
-      flushed = λ none. subst L (sym (turn-next slots ∙ t.finished)) (still-flushed s e (slots ++ (n ∷ [])) go.failure over_is firm go.same none);
+      output = subst (λ (b : Bool). L b go.failure) (sym (turn-next slots ∙ t.finished)) (subst (λ (f : List ℕ). OutputAt before new ended (slots ++ (n ∷ [])) f go.failure) (sym (flushed-is s e (slots ++ (n ∷ [])) over_is)) go.output);
+      writes = subst (λ (b : Bool). U b go.failure) (sym (turn-next slots ∙ t.finished)) (unreported s e Ended (slots ++ (n ∷ [])) go.failure over_is go.writes);
       numbers = subst M (sym l.0) (kept-append slots marks requests (n ∷ []) (Finished ∷ []) (None ∷ []) kept (record { finished = over; given_up = given_up }, tt));
       shape = subst A (sym l.0) t.shape;
     })
@@ -506,12 +496,11 @@ refuses before sink new e ended s marks final requests n text h firm kept shape 
     let come : (length marks == first_unfinished marks) ≡ false = ne_eqb (length marks) (first_unfinished marks) (λ x. t.turn (x ∙ sym (first-issued marks))) in
     let l = subst (λ (b : Bool). LeavesText b marks [] final text e sink new ended) come leaves in
     let M : List Mark → Type 0 = λ y. AreKept (slots ++ (n ∷ [])) y (requests ++ (None ∷ [])) in
-    let O : Sink → Bool → Type 0 = λ x b. OutputAt before x b (slots ++ (n ∷ [])) s.failure in
+    let O : Sink → Bool → Type 0 = λ x b. OutputAt before x b (slots ++ (n ∷ [])) s.flushed s.failure in
     record {
       failure = s.failure;
-      output = subst (λ (b : Bool). O new b) (sym l.3) (subst (λ (x : Sink). O x e) (sym l.2) (refused-waits before sink e slots n s.failure h t.unfinished));
+      output = subst (λ (b : Bool). L b s.failure) (sym (turn-next slots ∙ t.unfinished)) (subst (λ (b : Bool). O new b) (sym l.3) (subst (λ (x : Sink). O x e) (sym l.2) (refused-waits before sink e slots n s.flushed s.failure h t.unfinished)));
       writes = subst (λ (b : Bool). U b s.failure) (sym (turn-next slots ∙ t.unfinished)) (refl, refl);
-      flushed = λ none. subst L (sym (turn-next slots ∙ t.unfinished)) (firm none ∙ sym (joined-hidden slots (n ∷ []) t.unfinished));
       numbers = subst M (sym l.0) (kept-append slots marks requests (n ∷ []) (Left text ∷ []) (None ∷ []) kept (record { done = record { finished = over; given_up = given_up }; whole = whole; same = same }, tt));
       shape = l.1;
     })
@@ -527,13 +516,14 @@ ask-refused client before k s date from_here status text is_last p stop over at 
     let found = subst P g.stated reads in
     let refusal = found.0 in
     let v = found.1 in
-    let first = pipeline-first g.feed.bytes g.feed.stop (refused_item refusal v) None s.reached.rest found.3 g.pipeline in
+    let no_body = found.2 in
+    let first = pipeline-first g.feed.bytes g.feed.stop (refused_item refusal v no_body) None s.reached.rest found.3 g.pipeline in
     let none = no-items g.feed.stop first.0 first.2 in
-    let n = new_slot date (refused_item refusal v) in
+    let n = new_slot date (refused_item refusal v no_body) in
     let slots = s.reached.slots ++ (n ∷ []) in
     let F : List Item → Outcome = λ y. asks_from date Unused s.reached.slots y in
-    let is : ask date s.reached ≡ asks_from date Unused s.reached.slots (refused_item refusal v ∷ []) = ask-goes date s.reached (st.asking_ended ∙ e) g.unheld g.kept ∙ ap F (first.1 ∙ ap (λ y. refused_item refusal v ∷ y) none) in
-    let out = refuses before k.sink sink k.output_ended ended s k.marks marks k.requests n text.items st.output st.flushed st.numbers st.shape refl refl (refused-whole refusal date v found.2) (refused-text refusal date v found.2 ∙ sym found.4) low leaves in
+    let is : ask date s.reached ≡ asks_from date Unused s.reached.slots (refused_item refusal v no_body ∷ []) = ask-goes date s.reached (st.asking_ended ∙ e) g.unheld g.kept ∙ ap F (first.1 ∙ ap (λ y. refused_item refusal v no_body ∷ y) none) in
+    let out = refuses before k.sink sink k.output_ended ended s k.marks marks k.requests n text.items st.output st.numbers st.shape refl refl (refused-whole refusal date v no_body) (refused-text refusal date v no_body ∙ sym found.4) low leaves in
     let new : State = record { reached = record { slots = slots; rest = []; asking_ended = true }; flushed = flushed_after (if turn_has_come (length s.reached.slots) s.reached.slots then Unreported else Unused) s slots; failure = out.failure } in
     let G : Outcome → Type 0 = λ y. HasOutcome y s Ended new in
     let B : Option Body → Type 0 = λ b. GivesRest b (last_slot slots) p in (
@@ -541,9 +531,8 @@ ask-refused client before k s date from_here status text is_last p stop over at 
       record {
         numbers = out.numbers;
         shape = out.shape;
-        in_turn = turn-more s.reached.slots n st.in_turn refl;
+        in_turn = turn-more s.reached.slots n st.in_turn (refl, λ z. (let no : true ≡ false = z in cc));
         asking_ended = refl;
-        flushed = out.flushed;
         reader = record {
           settled = settled-snoc k.requests None st.reader.settled quiet;
           gives = subst B (sym (body-snoc k.requests None)) tt;

@@ -1,5 +1,5 @@
 -- A step on a request's body: from where the reader stands to where it stands after it.
-use Rattle.std.proofs.Common.{◌≡◌, refl, sym, ap, ◌∙◌, subst, ℕ, inl, Bool, true, false, not, ◌&&◌, List, [], ◌∷◌, ◌++◌, length, Option, Some, None, arith}
+use Rattle.std.proofs.Common.{◌≡◌, refl, sym, ap, ◌∙◌, subst, ℕ, inl, inr, Bool, true, false, not, ◌&&◌, List, [], ◌∷◌, ◌++◌, length, Option, Some, None, arith}
 use Rattle.std.specs.Option.{option_map}
 use Rattle.std.specs.declared.io.ErrorKind.{ErrorKind}
 use Rattle.tiny_http_wire.specs.declared.device.Stop.TheVariants.{End, Fault as Faults}
@@ -7,7 +7,7 @@ use Rattle.tiny_http_stream.specs.declared.source.Standing.{Standing}
 use Rattle.tiny_http_stream.specs.declared.source.Standing.TheVariants as at
 use Rattle.tiny_http_stream.specs.Standing.{after_body, after_fault, after_abandoned}
 use Rattle.tiny_http_wire.specs.Device.{Feed}
-use Rattle.tiny_http_message.specs.declared.waiting.Waiting.{Waiting}
+use Rattle.tiny_http_core.specs.declared.pending.Unfinished.{Unfinished}
 use Rattle.tiny_http_message.specs.declared.framing.Form.{Form}
 use Rattle.tiny_http_message.specs.declared.framing.Form.TheVariants.{Rest, Nothing, WithHead, Counted, Chunked}
 use Rattle.tiny_http_message.specs.declared.body.Body.{Body}
@@ -20,15 +20,15 @@ use Rattle.tiny_http_message.specs.Body.{body_finished}
 use Rattle.tiny_http_core.specs.Steps.{finished_as}
 use Rattle.tiny_http_core.specs.Conversation.{PlaceAt}
 use Rattle.tiny_http_message.specs.Body.{Remaining, remaining, is_streaming, body_standing, Fits, GivesUp}
-use Rattle.tiny_http_core.specs.Pending.{last_body, is_streaming_body}
-use Rattle.tiny_http_core.specs.Connection.{Kept, open_slot, IsWaiting, IsSettled, AreSettled, behind_body, slot_rest, GivesRest, is_past_last, is_in_body, NextHead, InputStands}
+use Rattle.tiny_http_core.specs.Pending.{kept_body, last_body, is_streaming_body}
+use Rattle.tiny_http_core.specs.Connection.{Kept, open_slot, IsOpen, IsSettled, AreSettled, behind_body, slot_rest, GivesRest, is_past_last, is_in_body, NextHead, InputStands}
 use Rattle.tiny_http_stream.proofs.SourceGoesOn.{goes-on_more}
 use Rattle.tiny_http_core.proofs.ConnectionAsk.{stated-feed}
 use Rattle.tiny_http_message.proofs.BodyReads.{gives-up}
 use Rattle.tiny_http_core.proofs.ConnectionReader.{last-snoc, body-snoc, last-within, body-within, settled-place, settled-set, waiting-kept, and-false}
 
 -- the input and the bodies, after a step of a number
-abbrev pub with_reader : Kept → List (Option Waiting) → {R : Type 0} → SourceState R → Kept
+abbrev pub with_reader : Kept → List (Option Unfinished) → {R : Type 0} → SourceState R → Kept
 with_reader k requests source = record k { requests = requests; standing = source.standing; feed = source.feed; stop = source.stop; is_over = source.is_over }
 
 over-kept : (form : Form) (n given : ℕ) (end_reported : Bool) → body_finished form n given end_reported ≡ true → (is_chunked form && not end_reported) ≡ true → ⊥
@@ -160,16 +160,16 @@ given-same (body.Chunked d) old new h e = cc
 given-same body.Rest old new h e = cc
 
 -- where the last number and its body are the same, the next head is read at the same place
-pub next-same : (k q : Kept) (o u : Option Slot) (rest : List Item) → q.standing ≡ k.standing → u ≡ o → last_body q.requests ≡ last_body k.requests → q.feed ≡ k.feed → q.stop ≡ k.stop → q.is_over ≡ k.is_over → NextHead k o rest → NextHead q u rest
-next-same k q o u rest standing last content feed stop ends n =
+pub next-same : (k q : Kept) (o u : Option Slot) (rest : List Item) → q.standing ≡ k.standing → is_last_slot u ≡ is_last_slot o → last_was_abandoned u ≡ last_was_abandoned o → last_body q.requests ≡ last_body k.requests → q.feed ≡ k.feed → q.stop ≡ k.stop → q.is_over ≡ k.is_over → NextHead k o rest → NextHead q u rest
+next-same k q o u rest standing last abandoned content feed stop ends n =
     let P : Bool → Option Body → Option Feed → Type 0 = λ x y z. PlaceAt x (behind_body y z) rest in
     let over : is_past_last q.standing ≡ is_past_last k.standing = ap is_past_last standing in
-    let W : Option Slot → Option Body → Bool = λ x y. not (is_last_slot x) && is_streaming_body y in
+    let W : Bool → Option Body → Bool = λ x y. not x && is_streaming_body y in
     record {
-      is_last = over ∙ n.is_last ∙ ap is_last_slot (sym last);
-      within = ap is_in_body standing ∙ n.within ∙ ap (λ y. W o y) (sym content) ∙ ap (λ x. W x (last_body q.requests)) (sym last);
-      lost = λ l. (let m = n.lost (ap last_was_abandoned (sym last) ∙ l) in ((ends ∙ m.0.0, stop ∙ m.0.1), feed ∙ m.1));
-      place = λ l. subst (λ x. P x (last_body q.requests) q.feed) (sym over) (subst (λ y. P (is_past_last k.standing) y q.feed) (sym content) (subst (λ z. P (is_past_last k.standing) (last_body k.requests) z) (sym feed) (n.place (ap last_was_abandoned (sym last) ∙ l))));
+      is_last = over ∙ n.is_last ∙ sym last;
+      within = ap is_in_body standing ∙ n.within ∙ ap (λ y. W (is_last_slot o) y) (sym content) ∙ ap (λ x. W x (last_body q.requests)) (sym last);
+      lost = λ l. (let m = n.lost (sym abandoned ∙ l) in ((ends ∙ m.0.0, stop ∙ m.0.1), feed ∙ m.1));
+      place = λ l. subst (λ x. P x (last_body q.requests) q.feed) (sym over) (subst (λ y. P (is_past_last k.standing) y q.feed) (sym content) (subst (λ z. P (is_past_last k.standing) (last_body k.requests) z) (sym feed) (n.place (sym abandoned ∙ l))));
     }
 
 -- the connection's input is this source
@@ -180,37 +180,37 @@ pub record IsInput {R : Type 0} (k : Kept) (source : SourceState R) : Type 0 whe
   pub standing : k.standing ≡ source.standing
 
 -- a step of a number that isn't the last, which leaves the input
-pub reader-within : {R : Type 0} (client : Feed) (k : Kept) (source : SourceState R) (bs cs : List Slot) (us vs : List (Option Waiting)) (rest : List Item) (s t c : Slot) (v x u : Option Waiting) → IsInput k source → InputStands client k (bs ++ (s ∷ (c ∷ cs))) rest
+pub reader-within : {R : Type 0} (client : Feed) (k : Kept) (source : SourceState R) (bs cs : List Slot) (us vs : List (Option Unfinished)) (rest : List Item) (s t c : Slot) (v x u : Option Unfinished) → IsInput k source → InputStands client k (bs ++ (s ∷ (c ∷ cs))) rest
     → k.requests ≡ us ++ (u ∷ (v ∷ vs)) → IsSettled x → InputStands client (with_reader k (us ++ (x ∷ (v ∷ vs))) source) (bs ++ (t ∷ (c ∷ cs))) rest
 reader-within client k source bs cs us vs rest s t c v x u from reader is quiet =
     let last : last_slot (bs ++ (t ∷ (c ∷ cs))) ≡ last_slot (bs ++ (s ∷ (c ∷ cs))) = last-within None bs t s c cs in
     let content : last_body (us ++ (x ∷ (v ∷ vs))) ≡ last_body k.requests = body-within us x u v vs ∙ ap last_body (sym is) in
-    let A : List (Option Waiting) → Type 0 = λ l. AreSettled l in
+    let A : List (Option Unfinished) → Type 0 = λ l. AreSettled l in
     let G : Option Body → Option Slot → Option Feed → Type 0 = λ b o f. GivesRest b o f in
     let S : Option Feed → Type 0 = λ f. GoesOn (Some client) f in
     record {
       settled = settled-set us u x (v ∷ vs) (subst A is reader.settled) (inl quiet);
       gives = subst (λ b. G b (last_slot (bs ++ (t ∷ (c ∷ cs)))) source.feed) (sym content) (subst (λ o. G (last_body k.requests) o source.feed) (sym last) (subst (λ f. G (last_body k.requests) (last_slot (bs ++ (s ∷ (c ∷ cs)))) f) from.feed reader.gives));
-      next = λ e. next-same k (with_reader k (us ++ (x ∷ (v ∷ vs))) source) (last_slot (bs ++ (s ∷ (c ∷ cs)))) (last_slot (bs ++ (t ∷ (c ∷ cs)))) rest (sym from.standing) last content (sym from.feed) (sym from.stop) (sym from.ends) (reader.next e);
+      next = λ e. next-same k (with_reader k (us ++ (x ∷ (v ∷ vs))) source) (last_slot (bs ++ (s ∷ (c ∷ cs)))) (last_slot (bs ++ (t ∷ (c ∷ cs)))) rest (sym from.standing) (ap is_last_slot last) (ap last_was_abandoned last) content (sym from.feed) (sym from.stop) (sym from.ends) (reader.next e);
       source = subst S from.feed reader.source;
     }
 
--- what is known of the last number, while it waits
-pub record LastWaits {R : Type 0} (k : Kept) (source : SourceState R) (bs : List Slot) (s : Slot) (w : Waiting) (rest : List Item) : Type 0 where
+-- what is known of the last number, while its body can be read
+pub record LastWaits {R : Type 0} (k : Kept) (source : SourceState R) (bs : List Slot) (s : Slot) (b : Body) (rest : List Item) : Type 0 where
   pub feed : Feed
   pub stated : source.feed ≡ Some feed
-  pub content : last_body k.requests ≡ Some w.body
-  pub gives : option_map (λ (x : Remaining). x.body) (remaining w.body source.feed) ≡ Some (slot_rest s)
+  pub content : last_body k.requests ≡ Some b
+  pub gives : option_map (λ (x : Remaining). x.body) (remaining b source.feed) ≡ Some (slot_rest s)
   pub is_last : k.asking_ended ≡ false → is_past_last source.standing ≡ is_last_item s.item
-  pub within : k.asking_ended ≡ false → is_in_body source.standing ≡ (not (is_last_item s.item) && is_streaming w.body)
-  pub place : k.asking_ended ≡ false → PlaceAt (is_past_last source.standing) (behind_body (Some w.body) source.feed) rest
+  pub within : k.asking_ended ≡ false → is_in_body source.standing ≡ (not (is_last_item s.item) && is_streaming b)
+  pub place : k.asking_ended ≡ false → PlaceAt (is_past_last source.standing) (behind_body (Some b) source.feed) rest
 
-pub last-waits : {R : Type 0} (client : Feed) (k : Kept) (source : SourceState R) (bs : List Slot) (us : List (Option Waiting)) (rest : List Item) (s : Slot) (w : Waiting) → IsWaiting s w → IsInput k source → InputStands client k (bs ++ (s ∷ [])) rest → k.requests ≡ us ++ (Some w ∷ [])
-    → LastWaits k source bs s w rest
-last-waits client k source bs us rest s w h from reader is =
+pub last-waits : {R : Type 0} (client : Feed) (k : Kept) (source : SourceState R) (bs : List Slot) (us : List (Option Unfinished)) (rest : List Item) (s : Slot) (u : Option Unfinished) (b : Body) → IsOpen s b → kept_body u ≡ Some b → IsInput k source → InputStands client k (bs ++ (s ∷ [])) rest → k.requests ≡ us ++ (u ∷ [])
+    → LastWaits k source bs s b rest
+last-waits client k source bs us rest s u b h has from reader is =
     let f = stated-feed client k.feed reader.source in
     let last : last_slot (bs ++ (s ∷ [])) ≡ Some s = last-snoc None bs s in
-    let content : last_body k.requests ≡ Some w.body = ap last_body is ∙ body-snoc us (Some w) in
+    let content : last_body k.requests ≡ Some b = ap last_body is ∙ body-snoc us u ∙ has in
     let G : Option Body → Option Slot → Option Feed → Type 0 = λ b o z. GivesRest b o z in
     let P : Bool → Option Body → Option Feed → Type 0 = λ x y z. PlaceAt x (behind_body y z) rest in
     let over : is_past_last k.standing ≡ is_past_last source.standing = ap is_past_last from.standing in
@@ -222,50 +222,85 @@ last-waits client k source bs us rest s w h from reader is =
       gives = subst (λ b. G b (Some s) source.feed) content (subst (λ o. G (last_body k.requests) o source.feed) last (subst (λ z. G (last_body k.requests) (last_slot (bs ++ (s ∷ []))) z) from.feed reader.gives));
       is_last = λ e. sym over ∙ (reader.next e).is_last ∙ ap is_last_slot last;
       within = λ e. ap is_in_body (sym from.standing) ∙ (reader.next e).within ∙ ap (λ x. W x (last_body k.requests)) last ∙ ap (λ y. W (Some s) y) content;
-      place = λ e. subst (λ x. P x (Some w.body) source.feed) over (subst (λ z. P (is_past_last k.standing) (Some w.body) z) from.feed (subst (λ y. P (is_past_last k.standing) y k.feed) content ((reader.next e).place (ap last_was_abandoned last ∙ waiting-kept s w h))));
+      place = λ e. subst (λ x. P x (Some b) source.feed) over (subst (λ z. P (is_past_last k.standing) (Some b) z) from.feed (subst (λ y. P (is_past_last k.standing) y k.feed) content ((reader.next e).place (ap last_was_abandoned last ∙ waiting-kept s b h))));
     }
 
 -- the last number's body is given up
-reader-last : {R : Type 0} (client : Feed) (k : Kept) (old new : SourceState R) (bs : List Slot) (us : List (Option Waiting)) (rest : List Item) (s : Slot) (w : Waiting) (stage : Stage) → (h : IsWaiting s w) → IsInput k old → InputStands client k (bs ++ (s ∷ [])) rest
-    → k.requests ≡ us ++ (Some w ∷ []) → GivesUp w.body old new
-    → InputStands client (with_reader k (us ++ (None ∷ [])) new) (bs ++ (finished_as (open_slot h.handed h.request h.given h.end_reported) stage ∷ [])) rest
-reader-last client k old new bs us rest s w stage h from reader is gives =
+reader-last : {R : Type 0} (client : Feed) (k : Kept) (old new : SourceState R) (bs : List Slot) (us : List (Option Unfinished)) (rest : List Item) (s : Slot) (u x : Option Unfinished) (b : Body) (stage : Stage) → (h : IsOpen s b) → kept_body u ≡ Some b → kept_body x ≡ None → IsInput k old → InputStands client k (bs ++ (s ∷ [])) rest
+    → k.requests ≡ us ++ (u ∷ []) → GivesUp b old new
+    → InputStands client (with_reader k (us ++ (x ∷ [])) new) (bs ++ (finished_as (open_slot h.handed h.request h.given h.end_reported) stage ∷ [])) rest
+reader-last client k old new bs us rest s u x b stage h has none from reader is gives =
     let t = finished_as (open_slot h.handed h.request h.given h.end_reported) stage in
     let r = h.request in
     let last : last_slot (bs ++ (t ∷ [])) ≡ Some t = last-snoc None bs t in
-    let content : last_body (us ++ (None ∷ [])) ≡ None = body-snoc us None in
-    let l = last-waits client k old bs us rest s w h from reader is in
-    let A : List (Option Waiting) → Type 0 = λ x. AreSettled x in
+    let content : last_body (us ++ (x ∷ [])) ≡ None = body-snoc us x ∙ none in
+    let l = last-waits client k old bs us rest s u b h has from reader is in
+    let A : List (Option Unfinished) → Type 0 = λ x. AreSettled x in
     let G : Option Body → Type 0 = λ b. GivesRest b (last_slot (bs ++ (t ∷ []))) new.feed in
     let P : Bool → Option Body → Type 0 = λ x b. PlaceAt x (behind_body b new.feed) rest in
     let W : Option Body → Bool = λ y. not (is_last_slot (last_slot (bs ++ (t ∷ [])))) && is_streaming_body y in
-    let past : is_past_last new.standing ≡ is_past_last old.standing = given-past w.body old new gives in
+    let past : is_past_last new.standing ≡ is_past_last old.standing = given-past b old new gives in
     let S : Option Feed → Type 0 = λ f. GoesOn f new.feed in
     let B : Option Remaining → Option Feed = λ o. option_map (λ (x : Remaining). x.behind) o in
     let item_last : is_last_item s.item ≡ r.framing.is_last = ap (λ (x : Slot). is_last_item x.item) h.is in
     record {
-      settled = settled-set us (Some w) None [] (subst A is reader.settled) (inl tt);
+      settled = settled-set us u x [] (subst A is reader.settled) (inr refl);
       gives = subst G (sym content) tt;
       next = λ e. record {
         is_last = past ∙ l.is_last e ∙ ap (λ (x : Slot). is_last_item x.item) h.is ∙ ap is_last_slot (sym last);
-        within = given-within w.body old new (is_last_item s.item) gives (λ rest_is. item_last ∙ h.rest_is_last (rest-form w.body r h.given h.end_reported h.fits rest_is)) (l.within e) ∙ sym (ap W content ∙ and-false (not (is_last_slot (last_slot (bs ++ (t ∷ []))))));
-        lost = λ lost. lost-chunked w.body old new l.feed r h.given h.end_reported h.fits gives l.stated (sym (ap last_was_abandoned last) ∙ lost);
-        place = λ kept. subst (λ x. P x (last_body (us ++ (None ∷ [])))) (sym past) (subst (λ y. P (is_past_last old.standing) y) (sym content)
-            (given-place w.body old new l.feed r h.given h.end_reported (is_past_last old.standing) rest h.fits gives l.stated (λ quiet f. ap B (h.settled quiet f)) (sym (ap last_was_abandoned last) ∙ kept) (λ form. l.is_last e ∙ item_last ∙ h.rest_is_last form) (l.place e)));
+        within = given-within b old new (is_last_item s.item) gives (λ rest_is. item_last ∙ h.rest_is_last (rest-form b r h.given h.end_reported h.fits rest_is)) (l.within e) ∙ sym (ap W content ∙ and-false (not (is_last_slot (last_slot (bs ++ (t ∷ []))))));
+        lost = λ lost. lost-chunked b old new l.feed r h.given h.end_reported h.fits gives l.stated (sym (ap last_was_abandoned last) ∙ lost);
+        place = λ kept. subst (λ y. P y (last_body (us ++ (x ∷ [])))) (sym past) (subst (λ y. P (is_past_last old.standing) y) (sym content)
+            (given-place b old new l.feed r h.given h.end_reported (is_past_last old.standing) rest h.fits gives l.stated (λ quiet f. ap B (h.settled quiet f)) (sym (ap last_was_abandoned last) ∙ kept) (λ form. l.is_last e ∙ item_last ∙ h.rest_is_last form) (l.place e)));
       };
-      source = goes-on_more (Some client) k.feed new.feed reader.source (subst S (sym from.feed) (gives-up w.body old new gives));
+      source = goes-on_more (Some client) k.feed new.feed reader.source (subst S (sym from.feed) (gives-up b old new gives));
     }
 
--- A number's body is given up. `bs`, `cs`: the numbers before and behind; `us`, `vs`: what is kept of them.
-pub reader-given_up : {R : Type 0} (client : Feed) (k : Kept) (old new : SourceState R) (bs cs : List Slot) (us vs : List (Option Waiting)) (rest : List Item) (s : Slot) (w : Waiting) (stage : Stage) → (h : IsWaiting s w) → IsInput k old → InputStands client k (bs ++ (s ∷ cs)) rest
-    → k.requests ≡ us ++ (Some w ∷ vs) → length cs ≡ length vs → GivesUp w.body old new
-    → InputStands client (with_reader k (us ++ (None ∷ vs)) new) (bs ++ (finished_as (open_slot h.handed h.request h.given h.end_reported) stage ∷ cs)) rest
-reader-given_up client k old new bs [] us [] rest s w stage h from reader is same gives = reader-last client k old new bs us rest s w stage h from reader is gives
-reader-given_up client k old new bs [] us (v ∷ vs) rest s w stage h from reader is same gives = absurd (omega (arith, same))
-reader-given_up client k old new bs (c ∷ cs) us [] rest s w stage h from reader is same gives = absurd (omega (arith, same))
-reader-given_up {R = R} client k old new bs (c ∷ cs) us (v ∷ vs) rest s w stage h from reader is same gives =
-    let A : List (Option Waiting) → Type 0 = λ x. AreSettled x in
-    let quiet = settled-place us (Some w) v vs (subst A is reader.settled) in
+-- A number's body is given up. `bs`, `cs`: the numbers before and behind; `us`, `vs`: what is kept of them; `u`, `x`: what is
+-- kept of the number before and after the step.
+pub reader-given_up : {R : Type 0} (client : Feed) (k : Kept) (old new : SourceState R) (bs cs : List Slot) (us vs : List (Option Unfinished)) (rest : List Item) (s : Slot) (u x : Option Unfinished) (b : Body) (stage : Stage) → (h : IsOpen s b) → kept_body u ≡ Some b → kept_body x ≡ None → IsInput k old
+    → InputStands client k (bs ++ (s ∷ cs)) rest → k.requests ≡ us ++ (u ∷ vs) → length cs ≡ length vs → GivesUp b old new
+    → InputStands client (with_reader k (us ++ (x ∷ vs)) new) (bs ++ (finished_as (open_slot h.handed h.request h.given h.end_reported) stage ∷ cs)) rest
+reader-given_up client k old new bs [] us [] rest s u x b stage h has none from reader is same gives = reader-last client k old new bs us rest s u x b stage h has none from reader is gives
+reader-given_up client k old new bs [] us (v ∷ vs) rest s u x b stage h has none from reader is same gives = absurd (omega (arith, same))
+reader-given_up client k old new bs (c ∷ cs) us [] rest s u x b stage h has none from reader is same gives = absurd (omega (arith, same))
+reader-given_up {R = R} client k old new bs (c ∷ cs) us (v ∷ vs) rest s u x b stage h has none from reader is same gives =
+    let A : List (Option Unfinished) → Type 0 = λ y. AreSettled y in
+    let quiet : is_streaming b ≡ false = ap is_streaming_body (sym has) ∙ settled-place us u v vs (subst A is reader.settled) in
     let t = finished_as (open_slot h.handed h.request h.given h.end_reported) stage in
-    let P : SourceState R → Type 0 = λ x. InputStands client (with_reader k (us ++ (None ∷ (v ∷ vs))) x) (bs ++ (t ∷ (c ∷ cs))) rest in
-    subst P (sym (given-same w.body old new gives quiet)) (reader-within client k old bs cs us vs rest s t c v None (Some w) from reader is tt)
+    let P : SourceState R → Type 0 = λ y. InputStands client (with_reader k (us ++ (x ∷ (v ∷ vs))) y) (bs ++ (t ∷ (c ∷ cs))) rest in
+    subst P (sym (given-same b old new gives quiet)) (reader-within client k old bs cs us vs rest s t c v x u from reader is (ap is_streaming_body none))
+
+-- two slots which the input doesn't tell apart
+pub record Alike (s t : Slot) : Type 0 where
+  pub last : is_last_slot (Some t) ≡ is_last_slot (Some s)
+  pub abandoned : last_was_abandoned (Some t) ≡ last_was_abandoned (Some s)
+  pub left : slot_rest t ≡ slot_rest s
+
+gives-alike : (b : Option Body) (s t : Slot) (f : Option Feed) → slot_rest t ≡ slot_rest s → GivesRest b (Some s) f → GivesRest b (Some t) f
+gives-alike None s t f e h = tt
+gives-alike (Some b) s t f e h = h ∙ ap Some (sym e)
+
+-- a step of a number that leaves its body and the input
+pub reader-alike : {R : Type 0} (client : Feed) (k : Kept) (source : SourceState R) (bs cs : List Slot) (us vs : List (Option Unfinished)) (rest : List Item) (s t : Slot) (u x : Option Unfinished) → IsInput k source → InputStands client k (bs ++ (s ∷ cs)) rest → k.requests ≡ us ++ (u ∷ vs) → length cs ≡ length vs
+    → kept_body x ≡ kept_body u → Alike s t → InputStands client (with_reader k (us ++ (x ∷ vs)) source) (bs ++ (t ∷ cs)) rest
+reader-alike client k source bs [] us (v ∷ vs) rest s t u x from reader is same body alike = absurd (omega (arith, same))
+reader-alike client k source bs (c ∷ cs) us [] rest s t u x from reader is same body alike = absurd (omega (arith, same))
+reader-alike client k source bs (c ∷ cs) us (v ∷ vs) rest s t u x from reader is same body alike =
+    let A : List (Option Unfinished) → Type 0 = λ y. AreSettled y in
+    reader-within client k source bs cs us vs rest s t c v x u from reader is (ap is_streaming_body body ∙ settled-place us u v vs (subst A is reader.settled))
+reader-alike client k source bs [] us [] rest s t u x from reader is same body alike =
+    let was : last_slot (bs ++ (s ∷ [])) ≡ Some s = last-snoc None bs s in
+    let last : last_slot (bs ++ (t ∷ [])) ≡ Some t = last-snoc None bs t in
+    let content : last_body (us ++ (x ∷ [])) ≡ last_body k.requests = body-snoc us x ∙ body ∙ sym (body-snoc us u) ∙ ap last_body (sym is) in
+    let A : List (Option Unfinished) → Type 0 = λ y. AreSettled y in
+    let G : Option Body → Option Slot → Option Feed → Type 0 = λ b o f. GivesRest b o f in
+    let S : Option Feed → Type 0 = λ f. GoesOn (Some client) f in
+    let gives = subst (λ o. G (last_body k.requests) o k.feed) was reader.gives in
+    record {
+      settled = settled-set us u x [] (subst A is reader.settled) (inr refl);
+      gives = subst (λ b. G b (last_slot (bs ++ (t ∷ []))) source.feed) (sym content) (subst (λ o. G (last_body k.requests) o source.feed) (sym last) (subst (λ f. G (last_body k.requests) (Some t) f) from.feed (gives-alike (last_body k.requests) s t k.feed alike.left gives)));
+      next = λ e. next-same k (with_reader k (us ++ (x ∷ [])) source) (last_slot (bs ++ (s ∷ []))) (last_slot (bs ++ (t ∷ []))) rest (sym from.standing) (ap is_last_slot last ∙ alike.last ∙ ap is_last_slot (sym was)) (ap last_was_abandoned last ∙ alike.abandoned ∙ ap last_was_abandoned (sym was)) content (sym from.feed) (sym from.stop)
+          (sym from.ends) (reader.next e);
+      source = subst S from.feed reader.source;
+    }

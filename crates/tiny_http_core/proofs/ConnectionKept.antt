@@ -3,11 +3,14 @@ use Rattle.std.proofs.Common.{◌≡◌, refl, sym, ap, ◌∙◌, subst, ℕ, z
 use Rattle.std.specs.Prelude.{slice_get, slice_set}
 use Rattle.std.specs.List.{list_all}
 use Rattle.std.proofs.lemmas.Option.{slice_get-get_or}
-use Rattle.tiny_http_message.specs.declared.waiting.Waiting.{Waiting}
-use Rattle.tiny_http_core.specs.Slots.{Slot, is_finished}
+use Rattle.tiny_http_core.specs.declared.pending.Unfinished.{Unfinished}
+use Rattle.tiny_http_core.specs.declared.pending.Unfinished.TheVariants as still
+use Rattle.tiny_http_encoding.specs.Text.{Whole}
+use Rattle.tiny_http_message.specs.Pipeline.{Item, Asks, Request}
+use Rattle.tiny_http_core.specs.Slots.{Slot, Stage, Unanswered, Raw, Upgraded, stage_text, is_broken, is_stage_finished, is_slot_broken, is_finished}
 use Rattle.tiny_http_turns.specs.Turns.{Mark, Open, Held, Left, Finished, AreInShape, AreOpenOrLeft, first_unfinished}
-use Rattle.tiny_http_core.specs.Pending.{with_left_finished, waiting_answer_context}
-use Rattle.tiny_http_core.specs.Connection.{IsWaiting, IsKept, AreKept}
+use Rattle.tiny_http_core.specs.Pending.{with_left_finished}
+use Rattle.tiny_http_core.specs.Connection.{IsUnfinished, IsKept, AreKept}
 
 -- a place of a list
 pub get-at : {X : Type 0} (xs : List X) (x : X) (ys : List X) → slice_get (xs ++ (x ∷ ys)) (length xs) ≡ Some x
@@ -29,7 +32,7 @@ set-same (z ∷ zs) zero x e = let same : z ≡ x = cc in ap (λ y. y ∷ zs) (s
 set-same (z ∷ zs) (suc k) x e = ap (λ r. z ∷ r) (set-same zs k x e)
 
 -- one after another
-pub kept-append : (bs : List Slot) (fs : List Mark) (us : List (Option Waiting)) (cs : List Slot) (rs : List Mark) (vs : List (Option Waiting)) → AreKept bs fs us → AreKept cs rs vs → AreKept (bs ++ cs) (fs ++ rs) (us ++ vs)
+pub kept-append : (bs : List Slot) (fs : List Mark) (us : List (Option Unfinished)) (cs : List Slot) (rs : List Mark) (vs : List (Option Unfinished)) → AreKept bs fs us → AreKept cs rs vs → AreKept (bs ++ cs) (fs ++ rs) (us ++ vs)
 kept-append [] [] [] cs rs vs h k = k
 kept-append [] [] (u ∷ us) cs rs vs h k = absurd h
 kept-append [] (f ∷ fs) us cs rs vs h k = absurd h
@@ -38,7 +41,7 @@ kept-append (b ∷ bs) (f ∷ fs) [] cs rs vs h k = absurd h
 kept-append (b ∷ bs) (f ∷ fs) (u ∷ us) cs rs vs h k = (h.0, kept-append bs fs us cs rs vs h.1 k)
 
 -- as many marks as numbers
-pub kept-length : (bs : List Slot) (fs : List Mark) (us : List (Option Waiting)) → AreKept bs fs us → length bs ≡ length fs
+pub kept-length : (bs : List Slot) (fs : List Mark) (us : List (Option Unfinished)) → AreKept bs fs us → length bs ≡ length fs
 kept-length [] [] us h = refl
 kept-length [] (f ∷ fs) us h = absurd h
 kept-length (b ∷ bs) [] us h = absurd h
@@ -46,7 +49,7 @@ kept-length (b ∷ bs) (f ∷ fs) [] h = absurd h
 kept-length (b ∷ bs) (f ∷ fs) (u ∷ us) h = ap suc (kept-length bs fs us h.1)
 
 -- as many as are kept
-pub kept-many : (bs : List Slot) (fs : List Mark) (us : List (Option Waiting)) → AreKept bs fs us → length bs ≡ length us
+pub kept-many : (bs : List Slot) (fs : List Mark) (us : List (Option Unfinished)) → AreKept bs fs us → length bs ≡ length us
 kept-many [] [] [] h = refl
 kept-many [] [] (u ∷ us) h = absurd h
 kept-many [] (f ∷ fs) us h = absurd h
@@ -54,15 +57,15 @@ kept-many (b ∷ bs) [] us h = absurd h
 kept-many (b ∷ bs) (f ∷ fs) [] h = absurd h
 kept-many (b ∷ bs) (f ∷ fs) (u ∷ us) h = ap suc (kept-many bs fs us h.1)
 
--- the place of a number that waits
-pub record KeptAt (slots : List Slot) (marks : List Mark) (requests : List (Option Waiting)) (n : ℕ) (w : Waiting) : Type 0 where
+-- the place of a number that isn't finished
+pub record KeptAt (slots : List Slot) (marks : List Mark) (requests : List (Option Unfinished)) (n : ℕ) (w : Unfinished) : Type 0 where
   pub bs : List Slot
   pub s : Slot
   pub cs : List Slot
   pub fs : List Mark
   pub rs : List Mark
-  pub us : List (Option Waiting)
-  pub vs : List (Option Waiting)
+  pub us : List (Option Unfinished)
+  pub vs : List (Option Unfinished)
   pub slots_are : slots ≡ bs ++ (s ∷ cs)
   pub marks_are : marks ≡ fs ++ (Open ∷ rs)
   pub requests_are : requests ≡ us ++ (Some w ∷ vs)
@@ -70,15 +73,15 @@ pub record KeptAt (slots : List Slot) (marks : List Mark) (requests : List (Opti
   pub marks_before : length fs ≡ n
   pub requests_before : length us ≡ n
   pub before : AreKept bs fs us
-  pub waiting : IsWaiting s w
+  pub waiting : IsUnfinished s w
   pub behind : AreKept cs rs vs
 
-place-first : (s : Slot) (m : Mark) (x w : Waiting) (ss : List Slot) (ms : List Mark) (us : List (Option Waiting)) → IsKept s m (Some x) → AreKept ss ms us → x ≡ w → KeptAt (s ∷ ss) (m ∷ ms) (Some x ∷ us) zero w
+place-first : (s : Slot) (m : Mark) (x w : Unfinished) (ss : List Slot) (ms : List Mark) (us : List (Option Unfinished)) → IsKept s m (Some x) → AreKept ss ms us → x ≡ w → KeptAt (s ∷ ss) (m ∷ ms) (Some x ∷ us) zero w
 place-first s Held x w ss ms us h k same = absurd h
 place-first s (Left text) x w ss ms us h k same = absurd h
 place-first s Finished x w ss ms us h k same = absurd h
 place-first s Open x w ss ms us h k same =
-    let P : Waiting → Type 0 = λ y. IsWaiting s y in
+    let P : Unfinished → Type 0 = λ y. IsUnfinished s y in
     record {
       bs = [];
       s = s;
@@ -98,7 +101,7 @@ place-first s Open x w ss ms us h k same =
       behind = k;
     }
 
-place-next : (s : Slot) (m : Mark) (u : Option Waiting) (ss : List Slot) (ms : List Mark) (us : List (Option Waiting)) (n : ℕ) (w : Waiting) → IsKept s m u → KeptAt ss ms us n w → KeptAt (s ∷ ss) (m ∷ ms) (u ∷ us) (suc n) w
+place-next : (s : Slot) (m : Mark) (u : Option Unfinished) (ss : List Slot) (ms : List Mark) (us : List (Option Unfinished)) (n : ℕ) (w : Unfinished) → IsKept s m u → KeptAt ss ms us n w → KeptAt (s ∷ ss) (m ∷ ms) (u ∷ us) (suc n) w
 place-next s m u ss ms us n w h p = record {
   bs = s ∷ p.bs;
   s = p.s;
@@ -124,19 +127,19 @@ some-some x y e = cc
 some-none : {X Y : Type 0} (y : X) → ◌≡◌ {A = Option (Option X)} (Some None) (Some (Some y)) → Y
 some-none y e = cc
 
-place-zero : (s : Slot) (m : Mark) (u : Option Waiting) (w : Waiting) (ss : List Slot) (ms : List Mark) (us : List (Option Waiting)) → IsKept s m u → AreKept ss ms us → Some u ≡ Some (Some w) → KeptAt (s ∷ ss) (m ∷ ms) (u ∷ us) zero w
+place-zero : (s : Slot) (m : Mark) (u : Option Unfinished) (w : Unfinished) (ss : List Slot) (ms : List Mark) (us : List (Option Unfinished)) → IsKept s m u → AreKept ss ms us → Some u ≡ Some (Some w) → KeptAt (s ∷ ss) (m ∷ ms) (u ∷ us) zero w
 place-zero s m None w ss ms us h k e = some-none w e
 place-zero s m (Some x) w ss ms us h k e = place-first s m x w ss ms us h k (some-some x w e)
 
-place-at : (s : Slot) (m : Mark) (u : Option Waiting) (ss : List Slot) (ms : List Mark) (us : List (Option Waiting)) (n : ℕ) (w : Waiting) → IsKept s m u → AreKept ss ms us
+place-at : (s : Slot) (m : Mark) (u : Option Unfinished) (ss : List Slot) (ms : List Mark) (us : List (Option Unfinished)) (n : ℕ) (w : Unfinished) → IsKept s m u → AreKept ss ms us
     → ((k : ℕ) → slice_get us k ≡ Some (Some w) → KeptAt ss ms us k w) → slice_get (u ∷ us) n ≡ Some (Some w) → KeptAt (s ∷ ss) (m ∷ ms) (u ∷ us) n w
 place-at s m u ss ms us zero w h k more e = place-zero s m u w ss ms us h k e
 place-at s m u ss ms us (suc n) w h k more e = place-next s m u ss ms us n w h (more n e)
 
-place-none : {Y : Type 0} (n : ℕ) (w : Waiting) → ◌≡◌ {A = Option (Option Waiting)} (slice_get [] n) (Some (Some w)) → Y
+place-none : {Y : Type 0} (n : ℕ) (w : Unfinished) → ◌≡◌ {A = Option (Option Unfinished)} (slice_get [] n) (Some (Some w)) → Y
 place-none n w e = cc
 
-pub place-of : (slots : List Slot) (marks : List Mark) (requests : List (Option Waiting)) (n : ℕ) (w : Waiting) → AreKept slots marks requests → slice_get requests n ≡ Some (Some w) → KeptAt slots marks requests n w
+pub place-of : (slots : List Slot) (marks : List Mark) (requests : List (Option Unfinished)) (n : ℕ) (w : Unfinished) → AreKept slots marks requests → slice_get requests n ≡ Some (Some w) → KeptAt slots marks requests n w
 place-of slots marks [] n w h e = place-none n w e
 place-of [] [] (u ∷ us) n w h e = absurd h
 place-of [] (m ∷ ms) (u ∷ us) n w h e = absurd h
@@ -150,16 +153,51 @@ kept-finished s Held h = absurd h
 kept-finished s (Left text) h = h.done.finished
 kept-finished s Finished h = h.finished
 
-pub none-waits : (slots : List Slot) (marks : List Mark) (requests : List (Option Waiting)) (n : ℕ) → AreKept slots marks requests → waiting_answer_context (slice_get requests n) ≡ None → (x : Slot) → slice_get slots n ≡ Some x → is_finished x ≡ true
-none-waits [] ms us n h none x e = cc
-none-waits (s ∷ ss) [] us n h none x e = absurd h
-none-waits (s ∷ ss) (m ∷ ms) [] n h none x e = absurd h
-none-waits (s ∷ ss) (m ∷ ms) (None ∷ us) zero h none x e = let same : s ≡ x = cc in ap is_finished (sym same) ∙ kept-finished s m h.0
-none-waits (s ∷ ss) (m ∷ ms) (Some w ∷ us) zero h none x e = cc
-none-waits (s ∷ ss) (m ∷ ms) (u ∷ us) (suc n) h none x e = none-waits ss ms us n h.1 none x e
+-- a number of which something is kept
+kept-unfinished : (s : Slot) (m : Mark) (u : Unfinished) → IsKept s m (Some u) → IsUnfinished s u
+kept-unfinished s Open u h = h
+kept-unfinished s Held u h = absurd h
+kept-unfinished s (Left text) u h = absurd h
+kept-unfinished s Finished u h = absurd h
+
+-- what is kept of a number that was given out
+abbrev pub KeptOf : Slot → Option (Option Unfinished) → Type 0
+KeptOf x o = ((o ≡ Some None) × (is_finished x ≡ true)) ⊎ ((u : Unfinished) × (o ≡ Some (Some u)) × IsUnfinished x u)
+
+kept-of : (s : Slot) (m : Mark) (u : Option Unfinished) → IsKept s m u → KeptOf s (Some u)
+kept-of s m None h = inl (refl, kept-finished s m h)
+kept-of s m (Some u) h = inr (u, refl, kept-unfinished s m u h)
+
+pub kept-slot : (slots : List Slot) (marks : List Mark) (requests : List (Option Unfinished)) (n : ℕ) → AreKept slots marks requests → (x : Slot) → slice_get slots n ≡ Some x → KeptOf x (slice_get requests n)
+kept-slot [] ms us n h x e = cc
+kept-slot (s ∷ ss) [] us n h x e = absurd h
+kept-slot (s ∷ ss) (m ∷ ms) [] n h x e = absurd h
+kept-slot (s ∷ ss) (m ∷ ms) (u ∷ us) zero h x e = let same : s ≡ x = cc in let P : Slot → Type 0 = λ y. KeptOf y (Some u) in subst P same (kept-of s m u h.0)
+kept-slot (s ∷ ss) (m ∷ ms) (u ∷ us) (suc n) h x e = kept-slot ss ms us n h.1 x e
+
+-- a number that isn't finished, of which what was sent is whole
+pub unfinished-is : (s : Slot) (u : Unfinished) → IsUnfinished s u → is_finished s ≡ false
+unfinished-is s (still.Waiting w) h = ap is_finished h.is
+unfinished-is s still.Raw h = ap is_stage_finished h.stage
+unfinished-is s (still.Upgraded b) h = ap is_finished h.opened.is ∙ ap is_stage_finished h.stage
+
+whole-stage : (s : Slot) (stage : Stage) → s.stage ≡ stage → ((item : Item) → (stage_text item s.date stage).ending ≡ Whole) → is_slot_broken s ≡ false
+whole-stage s stage e whole = ap (λ x. is_broken (stage_text s.item s.date x).ending) e ∙ ap is_broken (whole s.item)
+
+pub unfinished-whole : (s : Slot) (u : Unfinished) → IsUnfinished s u → is_slot_broken s ≡ false
+unfinished-whole s (still.Waiting w) h = whole-stage s Unanswered (ap (λ (x : Slot). x.stage) h.is) (λ item. refl)
+unfinished-whole s still.Raw h = whole-stage s (Raw h.written false) h.stage (λ item. refl)
+unfinished-whole s (still.Upgraded b) h =
+    whole-stage s (Upgraded h.protocol h.response h.date h.written false) (ap (λ (x : Slot). x.stage) h.opened.is ∙ h.stage) (λ item. refl)
+
+-- a number that isn't finished has the item of a request
+pub unfinished-asks : (s : Slot) (u : Unfinished) → IsUnfinished s u → (r : Request) × (s.item ≡ Asks r)
+unfinished-asks s (still.Waiting w) h = (h.request, ap (λ (x : Slot). x.item) h.is)
+unfinished-asks s still.Raw h = (h.request, h.item)
+unfinished-asks s (still.Upgraded b) h = (h.opened.request, ap (λ (x : Slot). x.item) h.opened.is)
 
 -- numbers that are passed are finished
-pub kept-passed : (cs : List Slot) (rs : List Mark) (vs : List (Option Waiting)) → AreKept cs rs vs → AreKept cs (with_left_finished rs) vs
+pub kept-passed : (cs : List Slot) (rs : List Mark) (vs : List (Option Unfinished)) → AreKept cs rs vs → AreKept cs (with_left_finished rs) vs
 kept-passed [] [] [] h = h
 kept-passed [] [] (v ∷ vs) h = absurd h
 kept-passed [] (r ∷ rs) vs h = absurd h
@@ -193,14 +231,14 @@ kept-later : (s : Slot) (bs : List Slot) (fs rs : List Mark) → is_finished s �
 kept-later s bs fs rs f (inl t) = inl (record { finished = rw (f, t.finished) refl; turn = ap suc t.turn; waiting = t.waiting; shape = t.shape })
 kept-later s bs fs rs f (inr t) = inr (record { unfinished = rw (f, t.unfinished) refl; turn = λ e. t.turn (let same : suc (length fs) ≡ suc (first_unfinished (fs ++ (Open ∷ rs))) = e in cc) })
 
-pub turn-at : (bs : List Slot) (fs : List Mark) (us : List (Option Waiting)) (rs : List Mark) → AreKept bs fs us → AreInShape (fs ++ (Open ∷ rs)) → InTurn bs fs rs ⊎ OutOfTurn bs fs rs
+pub turn-at : (bs : List Slot) (fs : List Mark) (us : List (Option Unfinished)) (rs : List Mark) → AreKept bs fs us → AreInShape (fs ++ (Open ∷ rs)) → InTurn bs fs rs ⊎ OutOfTurn bs fs rs
 turn-at [] [] us rs h shape = inl (record { finished = refl; turn = refl; waiting = shape; shape = passed-shape rs shape })
 turn-at [] (f ∷ fs) us rs h shape = absurd h
 turn-at (b ∷ bs) [] us rs h shape = absurd h
 turn-at (b ∷ bs) (f ∷ fs) [] rs h shape = absurd h
 turn-at (b ∷ bs) (Open ∷ fs) (None ∷ us) rs h shape = absurd h.0
 turn-at (b ∷ bs) (Open ∷ fs) (Some w ∷ us) rs h shape =
-    let open_is : is_finished b ≡ false = ap is_finished h.0.is in
+    let open_is : is_finished b ≡ false = unfinished-is b w h.0 in
     inr (record { unfinished = rw open_is refl; turn = λ e. (let no : suc (length fs) ≡ 0 = e in cc) })
 turn-at (b ∷ bs) (Held ∷ fs) (u ∷ us) rs h shape = absurd h.0
 turn-at (b ∷ bs) (Left text ∷ fs) (u ∷ us) rs h shape = absurd shape

@@ -18,22 +18,24 @@ use Rattle.tiny_http_message.specs.declared.body.Body.TheVariants as body
 use Rattle.tiny_http_stream.specs.ToCome.{stopped}
 use Rattle.tiny_http_stream.specs.Source.{SourceState, GoesOn}
 use Rattle.tiny_http_message.specs.Pipeline.{Item, Request, body_length_or_0}
-use Rattle.tiny_http_core.specs.Slots.{Slot, Unanswered, Answered as AnsweredBy, ByServer, Raw, Upgraded, is_chunked, joined, is_output_broken, last_slot, last_was_abandoned, turn_has_come, is_last_item, is_last_slot, rest_of}
+use Rattle.tiny_http_core.specs.Slots.{Slot, Unanswered, Answered as AnsweredBy, ByServer, Raw, Upgraded, is_chunked, is_finished, is_slot_broken, joined, is_output_broken, last_slot, last_was_abandoned, turn_has_come, is_last_item, is_last_slot, rest_of}
 use Rattle.tiny_http_message.specs.Body.{body_finished}
-use Rattle.tiny_http_core.specs.Steps.{Read, ReplyValue, Given, Fault, Memory, NoSuch, Unused, Outcome, Reached, changes, read_reply, effect, at_slot, at_number}
+use Rattle.tiny_http_core.specs.Steps.{Read, accepts_step, ReplyValue, Given, Fault, Memory, NoSuch, Unused, Outcome, Reached, changes, read_reply, effect, at_slot, at_number}
 use Rattle.tiny_http_core.specs.Conversation.{State, PlaceAt, HasOutcome}
 use Rattle.tiny_http_message.specs.Body.{Remaining, remaining, taken_remaining, prepend_body, prepended_body, BodyStops, NoneRemains, is_streaming, body_standing, IsBodyOver, ReadsOn, Fits, FillsFromBody}
 use Rattle.tiny_http_turns.specs.Turns.{Mark, Open}
-use Rattle.tiny_http_core.specs.Pending.{last_body, is_streaming_body}
-use Rattle.tiny_http_core.specs.Connection.{Kept, open_slot, IsWaiting, AreContinuedInTurn, AreKept, AreSettled, behind_body, slot_rest, GivesRest, is_past_last, InputStands, Stands}
+use Rattle.tiny_http_core.specs.declared.pending.Unfinished.{Unfinished}
+use Rattle.tiny_http_core.specs.declared.pending.Unfinished.TheVariants as still
+use Rattle.tiny_http_core.specs.Pending.{kept_body, with_body, is_readable, last_body, is_streaming_body}
+use Rattle.tiny_http_core.specs.Connection.{Kept, open_slot, IsWaiting, IsOpen, IsUpgraded, IsUnfinished, AreSentInTurn, AreKept, AreSettled, behind_body, slot_rest, GivesRest, is_past_last, InputStands, Stands}
 use Rattle.tiny_http_stream.proofs.SourceGoesOn.{goes-on_more}
 use Rattle.tiny_http_core.proofs.ConnectionAsk.{StepIsAnswered, step-unchanged, settled-any, stated-feed}
 use Rattle.tiny_http_message.proofs.BodyReads.{stays-settled}
 use Rattle.tiny_http_core.proofs.ConnectionBody.{IsInput, StandsOn, stands-on, last-waits, with_reader, reader-within}
-use Rattle.tiny_http_core.proofs.ConnectionKept.{KeptAt, place-of, kept-append, kept-many}
+use Rattle.tiny_http_core.proofs.ConnectionKept.{KeptAt, place-of, kept-append, kept-many, unfinished-is, unfinished-whole}
 use Rattle.tiny_http_core.proofs.ConnectionOutput.{output-same}
-use Rattle.tiny_http_core.proofs.ConnectionReader.{last-snoc, body-snoc, settled-place, settled-set, and-false}
-use Rattle.tiny_http_core.proofs.ConnectionRespond.{TakesNone, SlotAt, slot-at, set-place}
+use Rattle.tiny_http_core.proofs.ConnectionReader.{open-waiting, last-snoc, body-snoc, settled-place, settled-set, and-false}
+use Rattle.tiny_http_core.proofs.ConnectionRespond.{TakesNone, not-taken, SlotAt, slot-at, set-place}
 use Rattle.tiny_http_core.proofs.SlotsLemmas.{joined-alike, breaks-waits}
 use Rattle.tiny_http_core.proofs.ConnectionTurns.{turn-set}
 use Rattle.std.proofs.Math.Bool.{or-true, or-false}
@@ -251,90 +253,149 @@ read-on b c old new r given end_reported n (Ok m) buf y here rest fits le size s
 read-on b c old new r given end_reported n (Err kind) buf y here rest fits le size some fills = read-fault b c old new r given end_reported n kind buf y here rest fits some fills
 
 -- the slot of a request, of which so much was read
-abbrev read_slot : (s : Slot) (w : Waiting) → IsWaiting s w → ℕ → Slot
-read_slot s w h n = open_slot h.handed h.request (now_given h.request h.given n) (end_now_reported h.request h.given h.end_reported n)
+abbrev read_slot : (s : Slot) (b : Body) → IsOpen s b → ℕ → Slot
+read_slot s b h n = record (open_slot h.handed h.request (now_given h.request h.given n) (end_now_reported h.request h.given h.end_reported n)) { stage = h.stage }
 
-abbrev with_body : Waiting → Body → Waiting
-with_body w b = record w { body = b }
-
-still-waiting : (s : Slot) (w : Waiting) (h : IsWaiting s w) (c : Body) (old new : Option Feed) (n : ℕ) (reply : ReplyValue) → ReadOn w.body c old new h.request h.given h.end_reported n reply → IsWaiting (read_slot s w h n) (with_body w c)
-still-waiting s w h c old new n reply k = record {
+still-open : (s : Slot) (b : Body) (h : IsOpen s b) (c : Body) (old new : Option Feed) (n : ℕ) (reply : ReplyValue) → ReadOn b c old new h.request h.given h.end_reported n reply → IsOpen (read_slot s b h n) c
+still-open s b h c old new n reply k = record {
   request = h.request;
   handed = h.handed;
+  stage = h.stage;
   given = now_given h.request h.given n;
   end_reported = end_now_reported h.request h.given h.end_reported n;
   is = refl;
-  owed = h.owed;
-  unsent = h.unsent;
   rest_is_last = h.rest_is_last;
-  answer_context = h.answer_context;
-  text = h.text;
   fits = k.fits;
   settled = settled-any c new (rest_of h.request (now_given h.request h.given n)) k.x.behind (k.is ∙ (let R : Feed → Option Remaining = λ f. Some (record { body = f; behind = k.x.behind }) in ap R k.rest));
 }
 
+-- a number whose body can be read now, and what goes on being kept of it as its body does
+pub record IsReadable (s : Slot) (u : Unfinished) (b : Body) : Type 0 where
+  opened : IsOpen s b
+  accepts : (k n : ℕ) → accepts_step opened.stage opened.handed.owed (Read k n) ≡ true
+  has : kept_body (Some u) ≡ Some b
+  goes_on : (c : Body) (old new : Option Feed) (n : ℕ) (reply : ReplyValue) → ReadOn b c old new opened.request opened.given opened.end_reported n reply → IsUnfinished (read_slot s b opened n) (with_body c u)
+  has_then : (c : Body) → kept_body (Some (with_body c u)) ≡ Some c
+
+still-waiting : (s : Slot) (w : Waiting) (h : IsWaiting s w) (c : Body) (old new : Option Feed) (n : ℕ) (reply : ReplyValue) → ReadOn w.body c old new h.request h.given h.end_reported n reply → IsWaiting (read_slot s w.body (open-waiting s w h) n) (record w { body = c })
+unfolding still-open
+still-waiting s w h c old new n reply k =
+    let o = still-open s w.body (open-waiting s w h) c old new n reply k in
+    record {
+      request = h.request;
+      handed = h.handed;
+      given = now_given h.request h.given n;
+      end_reported = end_now_reported h.request h.given h.end_reported n;
+      is = refl;
+      owed = h.owed;
+      unsent = h.unsent;
+      rest_is_last = h.rest_is_last;
+      answer_context = h.answer_context;
+      text = h.text;
+      fits = o.fits;
+      settled = o.settled;
+    }
+
+not-false : (b : Bool) → not b ≡ true → b ≡ false
+not-false true e = cc
+not-false false e = refl
+
+readable-waiting : (s : Slot) (w : Waiting) → IsWaiting s w → w.owes_continue ≡ false → IsReadable s (still.Waiting w) w.body
+readable-waiting s w h free = record {
+  opened = open-waiting s w h;
+  accepts = λ k n. ap not (sym h.owed ∙ free);
+  has = refl;
+  goes_on = λ c old new n reply on. still-waiting s w h c old new n reply on;
+  has_then = λ c. refl;
+}
+
+readable-upgraded : (s : Slot) (b : Body) → IsUpgraded s b → IsReadable s (still.Upgraded b) b
+unfolding still-open
+readable-upgraded s b h = record {
+  opened = h.opened;
+  accepts = λ k n. ap (λ x. accepts_step x h.opened.handed.owed (Read k n)) h.stage;
+  has = refl;
+  goes_on = λ c old new n reply on. record { opened = still-open s b h.opened c old new n reply on; protocol = h.protocol; response = h.response; date = h.date; written = h.written; stage = h.stage };
+  has_then = λ c. refl;
+}
+
+one-body : (x y : Body) → Some x ≡ Some y → x ≡ y
+one-body x y e = cc
+
+no-raw : {X : Type 0} → is_readable (Some (Some still.Raw)) ≡ true → X
+no-raw e = cc
+
+readable-of : (s : Slot) (u : Unfinished) → IsUnfinished s u → is_readable (Some (Some u)) ≡ true → (b : Body) × (kept_body (Some u) ≡ Some b) × IsReadable s u b
+readable-of s (still.Waiting w) h e = (w.body, refl, readable-waiting s w h (not-false w.owes_continue e))
+readable-of s still.Raw h e = no-raw e
+readable-of s (still.Upgraded c) h e = (c, refl, readable-upgraded s c h)
+
+pub readable : (s : Slot) (u : Unfinished) (b : Body) → IsUnfinished s u → is_readable (Some (Some u)) ≡ true → kept_body (Some u) ≡ Some b → IsReadable s u b
+readable s u b h e has = let q = readable-of s u h e in subst (λ y. IsReadable s u y) (one-body q.0 b (sym q.1 ∙ has)) q.2
+
 -- the last number's body is read
-read-last : {R : Type 0} (client : Feed) (k : Kept) (old new : SourceState R) (bs : List Slot) (us : List (Option Waiting)) (rest : List Item) (s : Slot) (w : Waiting) (c : Body) (n : ℕ) (reply : ReplyValue) → (h : IsWaiting s w) → IsInput k old → InputStands client k (bs ++ (s ∷ [])) rest
-    → k.requests ≡ us ++ (Some w ∷ []) → ReadOn w.body c old.feed new.feed h.request h.given h.end_reported n reply → (is_streaming w.body ≡ false → new ≡ old) → (is_streaming w.body ≡ true → new.standing ≡ body_standing c old.standing) → GoesOn old.feed new.feed
-    → InputStands client (with_reader k (us ++ (Some (with_body w c) ∷ [])) new) (bs ++ (read_slot s w h n ∷ [])) rest
-read-last {R = R} client k old new bs us rest s w c n reply h from reader is on leaves stands goes =
-    let t = read_slot s w h n in
+read-last : {R : Type 0} (client : Feed) (k : Kept) (old new : SourceState R) (bs : List Slot) (us : List (Option Unfinished)) (rest : List Item) (s : Slot) (u : Unfinished) (b c : Body) (n : ℕ) (reply : ReplyValue) → (q : IsReadable s u b) → IsInput k old → InputStands client k (bs ++ (s ∷ [])) rest
+    → k.requests ≡ us ++ (Some u ∷ []) → ReadOn b c old.feed new.feed q.opened.request q.opened.given q.opened.end_reported n reply → (is_streaming b ≡ false → new ≡ old) → (is_streaming b ≡ true → new.standing ≡ body_standing c old.standing) → GoesOn old.feed new.feed
+    → InputStands client (with_reader k (us ++ (Some (with_body c u) ∷ [])) new) (bs ++ (read_slot s b q.opened n ∷ [])) rest
+read-last {R = R} client k old new bs us rest s u b c n reply q from reader is on leaves stands goes =
+    let h = q.opened in
+    let t = read_slot s b h n in
     let last : last_slot (bs ++ (t ∷ [])) ≡ Some t = last-snoc None bs t in
-    let content : last_body (us ++ (Some (with_body w c) ∷ [])) ≡ Some c = body-snoc us (Some (with_body w c)) in
-    let l = last-waits client k old bs us rest s w h from reader is in
-    let A : List (Option Waiting) → Type 0 = λ x. AreSettled x in
+    let content : last_body (us ++ (Some (with_body c u) ∷ [])) ≡ Some c = body-snoc us (Some (with_body c u)) ∙ q.has_then c in
+    let l = last-waits client k old bs us rest s (Some u) b h q.has from reader is in
+    let A : List (Option Unfinished) → Type 0 = λ x. AreSettled x in
     let G : Option Body → Option Slot → Type 0 = λ b o. GivesRest b o new.feed in
     let P : Bool → Option Body → Type 0 = λ x b. PlaceAt x (behind_body b new.feed) rest in
     let Q : Option Feed → Type 0 = λ f. PlaceAt (is_past_last old.standing) f rest in
     let W : Option Slot → Option Body → Bool = λ x y. not (is_last_slot x) && is_streaming_body y in
     let same : (e : k.asking_ended ≡ false) → StandsOn c old.standing new.standing (is_last_item s.item) =
-    λ e. stands-on w.body c old.standing new.standing (is_last_item s.item) stands (λ quiet. ap (λ (x : SourceState R). x.standing) (leaves quiet)) on.stays (l.within e) in
+    λ e. stands-on b c old.standing new.standing (is_last_item s.item) stands (λ quiet. ap (λ (x : SourceState R). x.standing) (leaves quiet)) on.stays (l.within e) in
     let item : is_last_item s.item ≡ is_last_item t.item = ap (λ (x : Slot). is_last_item x.item) h.is in
     let S : Option Feed → Type 0 = λ f. GoesOn f new.feed in
     let C : Option Remaining → Option Feed = λ o. option_map (λ (x : Remaining). x.body) o in
     record {
-      settled = settled-set us (Some w) (Some (with_body w c)) [] (subst A is reader.settled) (inr refl);
-      gives = subst (λ o. G (last_body (us ++ (Some (with_body w c) ∷ []))) o) (sym last) (subst (λ b. G b (Some t)) (sym content) (ap C on.is ∙ ap Some on.rest));
+      settled = settled-set us (Some u) (Some (with_body c u)) [] (subst A is reader.settled) (inr refl);
+      gives = subst (λ o. G (last_body (us ++ (Some (with_body c u) ∷ []))) o) (sym last) (subst (λ b. G b (Some t)) (sym content) (ap C on.is ∙ ap Some on.rest));
       next = λ e. record {
         is_last = (same e).past ∙ l.is_last e ∙ item ∙ ap is_last_slot (sym last);
-        within = (same e).within ∙ ap (λ x. not x && is_streaming c) item ∙ ap (λ y. W (Some t) y) (sym content) ∙ ap (λ x. W x (last_body (us ++ (Some (with_body w c) ∷ [])))) (sym last);
+        within = (same e).within ∙ ap (λ x. not x && is_streaming c) item ∙ ap (λ y. W (Some t) y) (sym content) ∙ ap (λ x. W x (last_body (us ++ (Some (with_body c u) ∷ [])))) (sym last);
         lost = λ lost. (let no : true ≡ false = sym lost ∙ (ap last_was_abandoned last ∙ and-false (is_chunked h.request.framing.form)) in cc);
-        place = λ kept. subst (λ x. P x (last_body (us ++ (Some (with_body w c) ∷ [])))) (sym (same e).past) (subst (λ y. P (is_past_last old.standing) y) (sym content) (subst Q (sym on.behind) (l.place e)));
+        place = λ kept. subst (λ x. P x (last_body (us ++ (Some (with_body c u) ∷ [])))) (sym (same e).past) (subst (λ y. P (is_past_last old.standing) y) (sym content) (subst Q (sym on.behind) (l.place e)));
       };
       source = goes-on_more (Some client) k.feed new.feed reader.source (subst S (sym from.feed) goes);
     }
 
-reader-read : {R : Type 0} (client : Feed) (k : Kept) (old new : SourceState R) (bs cs : List Slot) (us vs : List (Option Waiting)) (rest : List Item) (s : Slot) (w : Waiting) (c : Body) (n : ℕ) (reply : ReplyValue) → (h : IsWaiting s w) → IsInput k old → InputStands client k (bs ++ (s ∷ cs)) rest
-    → k.requests ≡ us ++ (Some w ∷ vs) → length cs ≡ length vs → ReadOn w.body c old.feed new.feed h.request h.given h.end_reported n reply → (is_streaming w.body ≡ false → new ≡ old) → (is_streaming w.body ≡ true → new.standing ≡ body_standing c old.standing) → GoesOn old.feed new.feed
-    → InputStands client (with_reader k (us ++ (Some (with_body w c) ∷ vs)) new) (bs ++ (read_slot s w h n ∷ cs)) rest
-reader-read client k old new bs [] us [] rest s w c n reply h from reader is same on leaves stands goes = read-last client k old new bs us rest s w c n reply h from reader is on leaves stands goes
-reader-read client k old new bs [] us (v ∷ vs) rest s w c n reply h from reader is same on leaves stands goes = absurd (omega (arith, same))
-reader-read client k old new bs (d ∷ cs) us [] rest s w c n reply h from reader is same on leaves stands goes = absurd (omega (arith, same))
-reader-read {R = R} client k old new bs (d ∷ cs) us (v ∷ vs) rest s w c n reply h from reader is same on leaves stands goes =
-    let A : List (Option Waiting) → Type 0 = λ x. AreSettled x in
-    let quiet = settled-place us (Some w) v vs (subst A is reader.settled) in
-    let t = read_slot s w h n in
-    let P : SourceState R → Type 0 = λ x. InputStands client (with_reader k (us ++ (Some (with_body w c) ∷ (v ∷ vs))) x) (bs ++ (t ∷ (d ∷ cs))) rest in
-    subst P (sym (leaves quiet)) (reader-within client k old bs cs us vs rest s t d v (Some (with_body w c)) (Some w) from reader is (on.stays quiet))
+reader-read : {R : Type 0} (client : Feed) (k : Kept) (old new : SourceState R) (bs cs : List Slot) (us vs : List (Option Unfinished)) (rest : List Item) (s : Slot) (u : Unfinished) (b c : Body) (n : ℕ) (reply : ReplyValue) → (q : IsReadable s u b) → IsInput k old → InputStands client k (bs ++ (s ∷ cs)) rest
+    → k.requests ≡ us ++ (Some u ∷ vs) → length cs ≡ length vs → ReadOn b c old.feed new.feed q.opened.request q.opened.given q.opened.end_reported n reply → (is_streaming b ≡ false → new ≡ old) → (is_streaming b ≡ true → new.standing ≡ body_standing c old.standing) → GoesOn old.feed new.feed
+    → InputStands client (with_reader k (us ++ (Some (with_body c u) ∷ vs)) new) (bs ++ (read_slot s b q.opened n ∷ cs)) rest
+reader-read client k old new bs [] us [] rest s u b c n reply q from reader is same on leaves stands goes = read-last client k old new bs us rest s u b c n reply q from reader is on leaves stands goes
+reader-read client k old new bs [] us (v ∷ vs) rest s u b c n reply q from reader is same on leaves stands goes = absurd (omega (arith, same))
+reader-read client k old new bs (d ∷ cs) us [] rest s u b c n reply q from reader is same on leaves stands goes = absurd (omega (arith, same))
+reader-read {R = R} client k old new bs (d ∷ cs) us (v ∷ vs) rest s u b c n reply q from reader is same on leaves stands goes =
+    let A : List (Option Unfinished) → Type 0 = λ x. AreSettled x in
+    let quiet : is_streaming b ≡ false = ap is_streaming_body (sym q.has) ∙ settled-place us (Some u) v vs (subst A is reader.settled) in
+    let t = read_slot s b q.opened n in
+    let P : SourceState R → Type 0 = λ x. InputStands client (with_reader k (us ++ (Some (with_body c u) ∷ (v ∷ vs))) x) (bs ++ (t ∷ (d ∷ cs))) rest in
+    subst P (sym (leaves quiet)) (reader-within client k old bs cs us vs rest s t d v (Some (with_body c u)) (Some u) from reader is (ap is_streaming_body (q.has_then c) ∙ on.stays quiet))
 
 -- what is left of a number's body, as its reader sees it
-read-remains-of : {R : Type 0} (client : Feed) (k : Kept) (old : SourceState R) (bs cs : List Slot) (us vs : List (Option Waiting)) (rest : List Item) (s : Slot) (w : Waiting) → (h : IsWaiting s w) → IsInput k old → InputStands client k (bs ++ (s ∷ cs)) rest
-    → k.requests ≡ us ++ (Some w ∷ vs) → length cs ≡ length vs → (y : Remaining) × (remaining w.body old.feed ≡ Some y) × (y.body ≡ rest_of h.request h.given)
-read-remains-of client k old bs [] us [] rest s w h from reader is same =
-    let l = last-waits client k old bs us rest s w h from reader is in
-    end_reported (remaining w.body old.feed) refl (l.gives ∙ ap (λ (x : Slot). Some (slot_rest x)) h.is)
+read-remains-of : {R : Type 0} (client : Feed) (k : Kept) (old : SourceState R) (bs cs : List Slot) (us vs : List (Option Unfinished)) (rest : List Item) (s : Slot) (u : Unfinished) (b : Body) → (h : IsOpen s b) → kept_body (Some u) ≡ Some b → IsInput k old → InputStands client k (bs ++ (s ∷ cs)) rest
+    → k.requests ≡ us ++ (Some u ∷ vs) → length cs ≡ length vs → (y : Remaining) × (remaining b old.feed ≡ Some y) × (y.body ≡ rest_of h.request h.given)
+read-remains-of client k old bs [] us [] rest s u b h has from reader is same =
+    let l = last-waits client k old bs us rest s (Some u) b h has from reader is in
+    end_reported (remaining b old.feed) refl (l.gives ∙ ap (λ (x : Slot). Some (slot_rest x)) h.is)
   where
-    end_reported : (o : Option Remaining) → remaining w.body old.feed ≡ o → option_map (λ (x : Remaining). x.body) o ≡ Some (rest_of h.request h.given) → (y : Remaining) × (remaining w.body old.feed ≡ Some y) × (y.body ≡ rest_of h.request h.given)
+    end_reported : (o : Option Remaining) → remaining b old.feed ≡ o → option_map (λ (x : Remaining). x.body) o ≡ Some (rest_of h.request h.given) → (y : Remaining) × (remaining b old.feed ≡ Some y) × (y.body ≡ rest_of h.request h.given)
     end_reported None e g = let no : None ≡ Some (rest_of h.request h.given) = g in cc
     end_reported (Some y) e g = (y, e, (let same : Some y.body ≡ Some (rest_of h.request h.given) = g in cc))
-read-remains-of client k old bs [] us (v ∷ vs) rest s w h from reader is same = absurd (omega (arith, same))
-read-remains-of client k old bs (d ∷ cs) us [] rest s w h from reader is same = absurd (omega (arith, same))
-read-remains-of client k old bs (d ∷ cs) us (v ∷ vs) rest s w h from reader is same =
-    let A : List (Option Waiting) → Type 0 = λ x. AreSettled x in
-    let quiet = settled-place us (Some w) v vs (subst A is reader.settled) in
+read-remains-of client k old bs [] us (v ∷ vs) rest s u b h has from reader is same = absurd (omega (arith, same))
+read-remains-of client k old bs (d ∷ cs) us [] rest s u b h has from reader is same = absurd (omega (arith, same))
+read-remains-of client k old bs (d ∷ cs) us (v ∷ vs) rest s u b h has from reader is same =
+    let A : List (Option Unfinished) → Type 0 = λ x. AreSettled x in
+    let quiet : is_streaming b ≡ false = ap is_streaming_body (sym has) ∙ settled-place us (Some u) v vs (subst A is reader.settled) in
     let f = stated-feed client k.feed reader.source in
     let e : old.feed ≡ Some f.0 = sym from.feed ∙ f.1 in
-    (taken_remaining (rest_of h.request h.given) f.0, ap (remaining w.body) e ∙ h.settled quiet f.0, refl)
+    (taken_remaining (rest_of h.request h.given) f.0, ap (remaining b) e ∙ h.settled quiet f.0, refl)
 
 pub read-not_taken : (k n : ℕ) → TakesNone (Read k n)
 read-not_taken k n Unanswered owed e = cc
@@ -345,28 +406,54 @@ read-not_taken k n (Raw w false) owed e = refl
 read-not_taken k n (Upgraded p r d w true) owed e = refl
 read-not_taken k n (Upgraded p r d w false) owed e = cc
 
--- the step at a request that waits
-at-read : (date : HttpDate) (old : Reached) (k n : ℕ) (s : Slot) (w : Waiting) (h : IsWaiting s w) → w.owes_continue ≡ false → slice_get old.slots k ≡ Some s
-    → at_number true date old k (Read k n) ≡ effect true date old h.request (open_slot h.handed h.request h.given h.end_reported) (turn_has_come k old.slots) (Read k n)
-at-read date old k n s w h free e =
+-- no number of which this is kept takes a read
+read-unfit : (k n : ℕ) (x : Slot) (u : Unfinished) → IsUnfinished x u → is_readable (Some (Some u)) ≡ false → accepts_step x.stage x.owed (Read k n) ≡ false
+read-unfit k n x (still.Waiting w) h e = ap (λ (y : Slot). accepts_step y.stage y.owed (Read k n)) h.is ∙ ap not (sym h.owed) ∙ e
+read-unfit k n x still.Raw h e = ap (λ y. accepts_step y x.owed (Read k n)) h.stage
+read-unfit k n x (still.Upgraded b) h e = let no : true ≡ false = e in cc
+
+-- no body is read while a 100 is owed, or where none is kept
+pub read-nothing : (client : Feed) (before : Sink) (k : Kept) (s : State) (date : HttpDate) (n m : ℕ) → Stands client before k s → is_readable (slice_get k.requests n) ≡ false → StepIsAnswered client before k s date (Read n m) NoSuch
+read-nothing client before k s date n m st free =
+    not-taken client before k s date n (Read n m) refl (read-not_taken n m) st (λ x u e h. read-unfit n m x u h (ap is_readable (sym e) ∙ free))
+
+-- a body that can be read
+pub readable-some : (o : Option (Option Unfinished)) → is_readable o ≡ true → (u : Unfinished) × (b : Body) × (o ≡ Some (Some u)) × (is_readable (Some (Some u)) ≡ true) × (kept_body (Some u) ≡ Some b)
+readable-some None e = cc
+readable-some (Some None) e = cc
+readable-some (Some (Some (still.Waiting w))) e = (still.Waiting w, w.body, refl, e, refl)
+readable-some (Some (Some still.Raw)) e = cc
+readable-some (Some (Some (still.Upgraded b))) e = (still.Upgraded b, b, refl, refl, refl)
+
+-- the slot of such a number
+abbrev open_as : (s : Slot) (b : Body) → IsOpen s b → Slot
+open_as s b h = record (open_slot h.handed h.request h.given h.end_reported) { stage = h.stage }
+
+-- the step at such a number
+at-read : (date : HttpDate) (old : Reached) (k n : ℕ) (s : Slot) (u : Unfinished) (b : Body) (q : IsReadable s u b) → slice_get old.slots k ≡ Some s
+    → at_number true date old k (Read k n) ≡ effect true date old q.opened.request (open_as s b q.opened) (turn_has_come k old.slots) (Read k n)
+at-read date old k n s u b q e =
     let T : Slot → Outcome = λ x. at_slot true date old k (Read k n) (Some x) in
-    ap (at_slot true date old k (Read k n)) e ∙ ap T h.is ∙ rw (sym h.owed ∙ free) refl
+    ap (at_slot true date old k (Read k n)) e ∙ ap T q.opened.is ∙ rw (q.accepts k n) refl
 
 -- no bytes are asked for
-pub read-none : (client : Feed) (before : Sink) (k : Kept) (s : State) (date : HttpDate) (j n : ℕ) (w : Waiting) → Stands client before k s → slice_get k.requests j ≡ Some (Some w) → w.owes_continue ≡ false → n ≡ 0 → StepIsAnswered client before k s date (Read j n) (Given [])
-read-none client before k s date j n w st e free zero =
-    let p = place-of s.reached.slots k.marks k.requests j w st.numbers e in
+pub read-none : (client : Feed) (before : Sink) (k : Kept) (s : State) (date : HttpDate) (j n : ℕ) (u : Unfinished) (b : Body) → Stands client before k s → slice_get k.requests j ≡ Some (Some u) → is_readable (Some (Some u)) ≡ true → kept_body (Some u) ≡ Some b → n ≡ 0
+    → StepIsAnswered client before k s date (Read j n) (Given [])
+read-none client before k s date j n u b st e free has zero =
+    let p = place-of s.reached.slots k.marks k.requests j u st.numbers e in
     let at = slot-at s.reached.slots p.bs p.cs p.s j p.slots_are p.slots_before in
-    step-unchanged client before k s date (Read j n) (Given []) st (at-read date s.reached j n p.s w p.waiting free at.get ∙ rw zero refl)
+    step-unchanged client before k s date (Read j n) (Given []) st (at-read date s.reached j n p.s u b (readable p.s u b p.waiting free has) at.get ∙ rw zero refl)
 
 -- no memory was found
-pub read-memory : (client : Feed) (before : Sink) (k : Kept) (s : State) (date : HttpDate) (j n : ℕ) (w : Waiting) → Stands client before k s → slice_get k.requests j ≡ Some (Some w) → w.owes_continue ≡ false → 0 < n → StepIsAnswered client before k s date (Read j n) Memory
-read-memory client before k s date j n w st e free some =
-    let p = place-of s.reached.slots k.marks k.requests j w st.numbers e in
+pub read-memory : (client : Feed) (before : Sink) (k : Kept) (s : State) (date : HttpDate) (j n : ℕ) (u : Unfinished) (b : Body) → Stands client before k s → slice_get k.requests j ≡ Some (Some u) → is_readable (Some (Some u)) ≡ true → kept_body (Some u) ≡ Some b → 0 < n
+    → StepIsAnswered client before k s date (Read j n) Memory
+read-memory client before k s date j n u b st e free has some =
+    let p = place-of s.reached.slots k.marks k.requests j u st.numbers e in
     let at = slot-at s.reached.slots p.bs p.cs p.s j p.slots_are p.slots_before in
-    let is = at-read date s.reached j n p.s w p.waiting free at.get in
-    let left = drop p.waiting.given p.waiting.request.body.bytes in
-    (s, st, inr (some, (λ none. such n left p.waiting.request.body.stop (n == 0) _ _ refl refl (ap (λ (o : Outcome). o.reply) (sym is) ∙ none)), refl, refl))
+    let q = readable p.s u b p.waiting free has in
+    let is = at-read date s.reached j n p.s u b q at.get in
+    let left = drop q.opened.given q.opened.request.body.bytes in
+    (s, st, inr (some, (λ none. such n left q.opened.request.body.stop (n == 0) _ _ refl refl (ap (λ (o : Outcome). o.reply) (sym is) ∙ none)), refl, refl))
   where
     such : (n : ℕ) (left : List ℕ) (stop : Stop) (t : Bool) (a b : Outcome) → a.reply ≡ Given [] → b.reply ≡ read_reply n left stop → (if t then a else b).reply ≡ NoSuch → ⊥
     such n left stop true a b x y e = let no : Given [] ≡ NoSuch = sym x ∙ e in cc
@@ -375,30 +462,33 @@ read-memory client before k s date j n w st e free some =
     such n (z ∷ left) stop false a b x y e = let no : Given (take n (z ∷ left)) ≡ NoSuch = sym y ∙ e in cc
 
 -- the body was read
-pub read-done : {R : Type 0} (client : Feed) (before : Sink) (k : Kept) (s : State) (date : HttpDate) (j n : ℕ) (w : Waiting) (c : Body) (old new : SourceState R) (requests : List (Option Waiting)) (result : Result ℕ ErrorKind) (buf : List ℕ) → Stands client before k s → slice_get k.requests j ≡ Some (Some w) → w.owes_continue ≡ false
-    → requests ≡ slice_set k.requests j (Some (with_body w c)) → IsInput k old → IfBound result buf → length buf ≡ n → 0 < n → FillsFromBody w.body old.feed c new.feed result buf → (is_streaming w.body ≡ false → new ≡ old) → (is_streaming w.body ≡ true → new.standing ≡ body_standing c old.standing) → GoesOn old.feed new.feed
+pub read-done : {R : Type 0} (client : Feed) (before : Sink) (k : Kept) (s : State) (date : HttpDate) (j n : ℕ) (u : Unfinished) (b c : Body) (old new : SourceState R) (requests : List (Option Unfinished)) (result : Result ℕ ErrorKind) (buf : List ℕ) → Stands client before k s → slice_get k.requests j ≡ Some (Some u)
+    → is_readable (Some (Some u)) ≡ true → kept_body (Some u) ≡ Some b
+    → requests ≡ slice_set k.requests j (Some (with_body c u)) → IsInput k old → IfBound result buf → length buf ≡ n → 0 < n → FillsFromBody b old.feed c new.feed result buf → (is_streaming b ≡ false → new ≡ old) → (is_streaming b ≡ true → new.standing ≡ body_standing c old.standing) → GoesOn old.feed new.feed
     → StepIsAnswered client before (with_reader k requests new) s date (Read j n) (reply_for result buf)
-read-done {R = R} client before k s date j n w c old new requests result buf st e free requests_are from bound size some fills leaves stands goes =
-    let R : List (Option Waiting) → Type 0 = λ l. StepIsAnswered client before (with_reader k l new) s date (Read j n) (reply_for result buf) in
+read-done {R = R} client before k s date j n u b c old new requests result buf st e free has requests_are from bound size some fills leaves stands goes =
+    let R : List (Option Unfinished) → Type 0 = λ l. StepIsAnswered client before (with_reader k l new) s date (Read j n) (reply_for result buf) in
     subst R (sym set) (
       state,
       record {
-        numbers = subst M (sym p.marks_are) (kept-append p.bs p.fs p.us (s1 ∷ p.cs) (Open ∷ p.rs) (Some (with_body w c) ∷ p.vs) p.before (still-waiting p.s w h c old.feed new.feed n (reply_for result buf) on, p.behind));
+        numbers = subst M (sym p.marks_are) (kept-append p.bs p.fs p.us (s1 ∷ p.cs) (Open ∷ p.rs) (Some (with_body c u) ∷ p.vs) p.before (q.goes_on c old.feed new.feed n (reply_for result buf) on, p.behind));
         shape = st.shape;
-        in_turn = turn-set p.bs p.cs s0 s1 refl (λ none. none) (subst T open_is st.in_turn);
+        in_turn = turn-set p.bs p.cs s0 s1 (λ sent. sent) (λ done. done) (subst T open_is st.in_turn);
         asking_ended = st.asking_ended;
-        flushed = λ none. st.flushed none ∙ joined_same;
-        reader = reader-read client k old new p.bs p.cs p.us p.vs s.reached.rest p.s w c n (reply_for result buf) h from (subst P p.slots_are st.reader) p.requests_are many on leaves stands goes;
-        output = output-same before k.sink k.output_ended s.reached.slots slots s.failure joined_same breaks_same st.output;
+        reader = reader-read client k old new p.bs p.cs p.us p.vs s.reached.rest p.s u b c n (reply_for result buf) q from (subst P p.slots_are st.reader) p.requests_are many on leaves stands goes;
+        output = output-same before k.sink k.output_ended s.reached.slots slots s.flushed s.failure joined_same breaks_same st.output;
       },
       inl (true, tt, subst G (sym is) (ap L (sym (at.set s1)), refl, (on.reply_is, refl))),
     )
   where
-    p : KeptAt s.reached.slots k.marks k.requests j w
-    p = place-of s.reached.slots k.marks k.requests j w st.numbers e
+    p : KeptAt s.reached.slots k.marks k.requests j u
+    p = place-of s.reached.slots k.marks k.requests j u st.numbers e
 
-    h : IsWaiting p.s w
-    h = p.waiting
+    q : IsReadable p.s u b
+    q = readable p.s u b p.waiting free has
+
+    h : IsOpen p.s b
+    h = q.opened
 
     many : length p.cs ≡ length p.vs
     many = kept-many p.cs p.rs p.vs p.behind
@@ -406,40 +496,46 @@ read-done {R = R} client before k s date j n w c old new requests result buf st 
     P : List Slot → Type 0
     P l = InputStands client k l s.reached.rest
 
-    M : List Mark → Type 0
-    M m = AreKept (p.bs ++ (read_slot p.s w h n ∷ p.cs)) m (p.us ++ (Some (with_body w c) ∷ p.vs))
-
     s1 : Slot
-    s1 = read_slot p.s w h n
+    s1 = read_slot p.s b h n
+
+    M : List Mark → Type 0
+    M m = AreKept (p.bs ++ (s1 ∷ p.cs)) m (p.us ++ (Some (with_body c u) ∷ p.vs))
 
     slots : List Slot
     slots = p.bs ++ (s1 ∷ p.cs)
 
-    set : requests ≡ p.us ++ (Some (with_body w c) ∷ p.vs)
-    set = requests_are ∙ set-place k.requests p.us p.vs j (Some w) (Some (with_body w c)) p.requests_are p.requests_before
+    set : requests ≡ p.us ++ (Some (with_body c u) ∷ p.vs)
+    set = requests_are ∙ set-place k.requests p.us p.vs j (Some u) (Some (with_body c u)) p.requests_are p.requests_before
 
-    on : ReadOn w.body c old.feed new.feed h.request h.given h.end_reported n (reply_for result buf)
+    on : ReadOn b c old.feed new.feed h.request h.given h.end_reported n (reply_for result buf)
     on =
-        let y = read-remains-of client k old p.bs p.cs p.us p.vs s.reached.rest p.s w h from (subst P p.slots_are st.reader) p.requests_are many in
-        read-on w.body c old.feed new.feed h.request h.given h.end_reported n result buf y.0 y.1 y.2 h.fits bound size some fills
+        let y = read-remains-of client k old p.bs p.cs p.us p.vs s.reached.rest p.s u b h has from (subst P p.slots_are st.reader) p.requests_are many in
+        read-on b c old.feed new.feed h.request h.given h.end_reported n result buf y.0 y.1 y.2 h.fits bound size some fills
 
     at : SlotAt s.reached.slots p.bs p.cs p.s j
     at = slot-at s.reached.slots p.bs p.cs p.s j p.slots_are p.slots_before
 
     s0 : Slot
-    s0 = open_slot h.handed h.request h.given h.end_reported
+    s0 = open_as p.s b h
 
     T : List Slot → Type 0
-    T x = AreContinuedInTurn x
+    T x = AreSentInTurn x
 
     open_is : s.reached.slots ≡ p.bs ++ (s0 ∷ p.cs)
     open_is = p.slots_are ∙ ap (λ x. p.bs ++ (x ∷ p.cs)) h.is
 
+    unfinished : is_finished s0 ≡ false
+    unfinished = ap is_finished (sym h.is) ∙ unfinished-is p.s u p.waiting
+
+    whole : is_slot_broken s0 ≡ false
+    whole = ap is_slot_broken (sym h.is) ∙ unfinished-whole p.s u p.waiting
+
     joined_same : joined s.reached.slots ≡ joined slots
-    joined_same = ap joined open_is ∙ joined-alike p.bs s0 s1 p.cs refl refl refl
+    joined_same = ap joined open_is ∙ joined-alike p.bs s0 s1 p.cs refl unfinished unfinished
 
     breaks_same : is_output_broken s.reached.slots ≡ is_output_broken slots
-    breaks_same = ap is_output_broken open_is ∙ breaks-waits p.bs s0 p.cs refl refl ∙ sym (breaks-waits p.bs s1 p.cs refl refl)
+    breaks_same = ap is_output_broken open_is ∙ breaks-waits p.bs s0 p.cs whole unfinished ∙ sym (breaks-waits p.bs s1 p.cs whole unfinished)
 
     state : State
     state = record { reached = record { slots = slots; rest = s.reached.rest; asking_ended = s.reached.asking_ended }; flushed = s.flushed; failure = s.failure }
@@ -451,4 +547,4 @@ read-done {R = R} client before k s date j n w c old new requests result buf st 
     G o = HasOutcome o s (reply_for result buf) state
 
     is : at_number true date s.reached j (Read j n) ≡ changes s.reached j s1 (read_reply n (drop h.given h.request.body.bytes) h.request.body.stop) Unused
-    is = at-read date s.reached j n p.s w h free at.get ∙ rw (ne_eqb n 0 (λ z. absurd (omega (arith, z, some)))) refl
+    is = at-read date s.reached j n p.s u b q at.get ∙ rw (ne_eqb n 0 (λ z. absurd (omega (arith, z, some)))) refl

@@ -6,53 +6,62 @@ use Rattle.std.specs.Option.{option_map}
 use Rattle.std.proofs.lemmas.Bool.{ne_eqb}
 use Rattle.tiny_http_wire.specs.Device.{Feed}
 use Rattle.tiny_http_message.specs.declared.waiting.Waiting.{Waiting}
+use Rattle.tiny_http_core.specs.declared.pending.Unfinished.{Unfinished}
+use Rattle.tiny_http_core.specs.declared.pending.Unfinished.TheVariants as still
 use Rattle.tiny_http_message.specs.declared.framing.Form.{Form}
 use Rattle.tiny_http_message.specs.declared.body.Body.{Body}
 use Rattle.tiny_http_message.specs.declared.body.Body.TheVariants as body
 use Rattle.tiny_http_message.specs.Pipeline.{Item, Asks, Refuses, body_length_or_0}
-use Rattle.tiny_http_core.specs.Slots.{Slot, is_form_streamed, is_chunked, is_body_finished, body_is_open, last_slot, last_is_open, last_holds_reader, last_was_abandoned, is_last_slot}
+use Rattle.tiny_http_core.specs.Slots.{Slot, Unanswered, is_form_streamed, is_chunked, is_body_finished, body_is_open, last_slot, last_is_open, last_holds_reader, last_was_abandoned, is_last_slot}
 use Rattle.tiny_http_message.specs.Body.{body_finished}
 use Rattle.tiny_http_turns.specs.Turns.{Mark, Open, Held, Left, Finished}
 use Rattle.tiny_http_message.specs.Body.{Remaining, remaining, is_streaming, Fits}
-use Rattle.tiny_http_core.specs.Pending.{last_body, is_streaming_body}
-use Rattle.tiny_http_core.specs.Connection.{IsWaiting, IsDone, IsKept, AreKept, IsSettled, AreSettled, behind_body, slot_rest, GivesRest}
+use Rattle.tiny_http_core.specs.Pending.{kept_body, last_body, is_streaming_body}
+use Rattle.tiny_http_core.specs.Connection.{IsWaiting, IsOpen, IsUnfinished, IsKept, AreKept, IsSettled, AreSettled, behind_body, slot_rest, GivesRest}
 use Rattle.std.proofs.Math.Bool.{or-true}
 
 -- the body at a place is read from the input
-abbrev pub held_at : Option (Option Waiting) → Bool
+abbrev pub held_at : Option (Option Unfinished) → Bool
 held_at None = false
-held_at (Some None) = false
-held_at (Some (Some w)) = is_streaming w.body
+held_at (Some u) = is_streaming_body (kept_body u)
 
-pub held-last : (ws : List (Option Waiting)) → held_at (slice_get ws (length ws - 1)) ≡ is_streaming_body (last_body ws)
+pub held-last : (ws : List (Option Unfinished)) → held_at (slice_get ws (length ws - 1)) ≡ is_streaming_body (last_body ws)
 held-last [] = refl
-held-last (None ∷ []) = refl
-held-last (Some w ∷ []) = refl
+held-last (w ∷ []) = refl
 held-last (w ∷ v ∷ ws) =
     let less : length (w ∷ v ∷ ws) - 1 ≡ suc (length (v ∷ ws) - 1) = omega arith in
     ap (λ n. held_at (slice_get (w ∷ v ∷ ws) n)) less ∙ held-last (v ∷ ws)
 
-pub reader-held-is : (ws l : List (Option Waiting)) (o : Option (Option Waiting)) → l ≡ ws → o ≡ slice_get l (length l - 1) → held_at o ≡ is_streaming_body (last_body ws)
+pub reader-held-is : (ws l : List (Option Unfinished)) (o : Option (Option Unfinished)) → l ≡ ws → o ≡ slice_get l (length l - 1) → held_at o ≡ is_streaming_body (last_body ws)
 reader-held-is ws l o e at = ap held_at at ∙ held-last l ∙ ap (λ x. is_streaming_body (last_body x)) e
 
 -- the last of some, and what is kept of it
 abbrev pub LastKept : Option Slot → Option Body → Type 0
 LastKept o b =
     ((o ≡ None) × (b ≡ None))
-    ⊎ (((s : Slot) × (o ≡ Some s) × (b ≡ None) × IsDone s)
-    ⊎ ((s : Slot) × (w : Waiting) × (o ≡ Some s) × (b ≡ Some w.body) × IsWaiting s w))
+    ⊎ (((s : Slot) × (o ≡ Some s) × (b ≡ None) × (s.given_up ≡ true))
+    ⊎ ((s : Slot) × (body : Body) × (o ≡ Some s) × (b ≡ Some body) × IsOpen s body))
 
-last-one : (s : Slot) (m : Mark) (u : Option Waiting) → IsKept s m u → LastKept (Some s) (last_body (u ∷ []))
+-- a number that waits has its body
+abbrev pub open-waiting : (s : Slot) (w : Waiting) → IsWaiting s w → IsOpen s w.body
+open-waiting s w h = record { request = h.request; handed = h.handed; stage = Unanswered; given = h.given; end_reported = h.end_reported; is = h.is; rest_is_last = h.rest_is_last; fits = h.fits; settled = h.settled }
+
+last-unfinished : (s : Slot) (u : Unfinished) → IsUnfinished s u → LastKept (Some s) (kept_body (Some u))
+last-unfinished s (still.Waiting w) h = inr (inr (s, w.body, refl, refl, open-waiting s w h))
+last-unfinished s still.Raw h = inr (inl (s, refl, refl, h.given_up))
+last-unfinished s (still.Upgraded b) h = inr (inr (s, b, refl, refl, h.opened))
+
+last-one : (s : Slot) (m : Mark) (u : Option Unfinished) → IsKept s m u → LastKept (Some s) (last_body (u ∷ []))
 last-one s Open None h = absurd h
-last-one s Open (Some w) h = inr (inr (s, w, refl, refl, h))
+last-one s Open (Some w) h = last-unfinished s w h
 last-one s Held None h = absurd h
 last-one s Held (Some w) h = absurd h
-last-one s (Left text) None h = inr (inl (s, refl, refl, h.done))
+last-one s (Left text) None h = inr (inl (s, refl, refl, h.done.given_up))
 last-one s (Left text) (Some w) h = absurd h
-last-one s Finished None h = inr (inl (s, refl, refl, h))
+last-one s Finished None h = inr (inl (s, refl, refl, h.given_up))
 last-one s Finished (Some w) h = absurd h
 
-last-from : (s : Slot) (m : Mark) (u : Option Waiting) (ss : List Slot) (ms : List Mark) (us : List (Option Waiting)) → IsKept s m u → AreKept ss ms us → LastKept (last_or (Some s) ss) (last_body (u ∷ us))
+last-from : (s : Slot) (m : Mark) (u : Option Unfinished) (ss : List Slot) (ms : List Mark) (us : List (Option Unfinished)) → IsKept s m u → AreKept ss ms us → LastKept (last_or (Some s) ss) (last_body (u ∷ us))
 last-from s m u [] [] [] h k = last-one s m u h
 last-from s m u [] [] (v ∷ us) h k = absurd k
 last-from s m u [] (n ∷ ms) us h k = absurd k
@@ -60,7 +69,7 @@ last-from s m u (t ∷ ss) [] us h k = absurd k
 last-from s m u (t ∷ ss) (n ∷ ms) [] h k = absurd k
 last-from s m u (t ∷ ss) (n ∷ ms) (v ∷ us) h k = last-from t n v ss ms us k.0 k.1
 
-pub last-kept : (slots : List Slot) (marks : List Mark) (requests : List (Option Waiting)) → AreKept slots marks requests → LastKept (last_slot slots) (last_body requests)
+pub last-kept : (slots : List Slot) (marks : List Mark) (requests : List (Option Unfinished)) → AreKept slots marks requests → LastKept (last_slot slots) (last_body requests)
 last-kept [] [] [] k = inl (refl, refl)
 last-kept [] [] (v ∷ us) k = absurd k
 last-kept [] (n ∷ ms) us k = absurd k
@@ -73,7 +82,7 @@ pub last-snoc : {X : Type 0} (o : Option X) (xs : List X) (x : X) → last_or o 
 last-snoc o [] x = refl
 last-snoc o (y ∷ ys) x = last-snoc (Some y) ys x
 
-pub body-snoc : (us : List (Option Waiting)) (u : Option Waiting) → last_body (us ++ (u ∷ [])) ≡ last_body (u ∷ [])
+pub body-snoc : (us : List (Option Unfinished)) (u : Option Unfinished) → last_body (us ++ (u ∷ [])) ≡ last_body (u ∷ [])
 body-snoc [] u = refl
 body-snoc (v ∷ []) u = refl
 body-snoc (v ∷ (w ∷ us)) u = body-snoc (w ∷ us) u
@@ -83,24 +92,23 @@ pub last-within : {X : Type 0} (o : Option X) (xs : List X) (x y z : X) (ys : Li
 last-within o [] x y z ys = refl
 last-within o (w ∷ ws) x y z ys = last-within (Some w) ws x y z ys
 
-pub body-within : (us : List (Option Waiting)) (u v w : Option Waiting) (vs : List (Option Waiting)) → last_body (us ++ (u ∷ (w ∷ vs))) ≡ last_body (us ++ (v ∷ (w ∷ vs)))
+pub body-within : (us : List (Option Unfinished)) (u v w : Option Unfinished) (vs : List (Option Unfinished)) → last_body (us ++ (u ∷ (w ∷ vs))) ≡ last_body (us ++ (v ∷ (w ∷ vs)))
 body-within [] u v w vs = refl
 body-within (x ∷ []) u v w vs = refl
 body-within (x ∷ (y ∷ us)) u v w vs = body-within (y ∷ us) u v w vs
 
 -- only the last body is read from the input
-pub settled-snoc : (us : List (Option Waiting)) (u : Option Waiting) → AreSettled us → is_streaming_body (last_body us) ≡ false → AreSettled (us ++ (u ∷ []))
+pub settled-snoc : (us : List (Option Unfinished)) (u : Option Unfinished) → AreSettled us → is_streaming_body (last_body us) ≡ false → AreSettled (us ++ (u ∷ []))
 settled-snoc [] u h e = tt
-settled-snoc (None ∷ []) u h e = (tt, tt)
-settled-snoc (Some w ∷ []) u h e = (e, tt)
+settled-snoc (v ∷ []) u h e = (e, tt)
 settled-snoc (v ∷ (w ∷ us)) u h e = (h.0, settled-snoc (w ∷ us) u h.1 e)
 
-pub settled-place : (us : List (Option Waiting)) (u v : Option Waiting) (vs : List (Option Waiting)) → AreSettled (us ++ (u ∷ (v ∷ vs))) → IsSettled u
+pub settled-place : (us : List (Option Unfinished)) (u v : Option Unfinished) (vs : List (Option Unfinished)) → AreSettled (us ++ (u ∷ (v ∷ vs))) → IsSettled u
 settled-place [] u v vs h = h.0
 settled-place (x ∷ []) u v vs h = h.1.0
 settled-place (x ∷ (y ∷ us)) u v vs h = settled-place (y ∷ us) u v vs h.1
 
-pub settled-set : (us : List (Option Waiting)) (u x : Option Waiting) (vs : List (Option Waiting)) → AreSettled (us ++ (u ∷ vs)) → (IsSettled x ⊎ (vs ≡ [])) → AreSettled (us ++ (x ∷ vs))
+pub settled-set : (us : List (Option Unfinished)) (u x : Option Unfinished) (vs : List (Option Unfinished)) → AreSettled (us ++ (u ∷ vs)) → (IsSettled x ⊎ (vs ≡ [])) → AreSettled (us ++ (x ∷ vs))
 settled-set [] u x [] h k = tt
 settled-set [] u x (v ∷ vs) h (inl e) = (e, h.1)
 settled-set [] u x (v ∷ vs) h (inr e) = cc
@@ -119,20 +127,20 @@ fits-streams (body.Counted left) form n given end_reported h = rw (h.0, h.3, ne_
 fits-streams (body.Chunked d) form n given end_reported h = rw (h.0, h.1) refl
 fits-streams body.Rest form n given end_reported h = rw (h.0, h.1) refl
 
-pub waiting-kept : (s : Slot) (w : Waiting) (h : IsWaiting s w) → last_was_abandoned (Some s) ≡ false
-waiting-kept s w h = let P : Slot → Type 0 = λ x. last_was_abandoned (Some x) ≡ false in subst P (sym h.is) (and-false (is_chunked h.request.framing.form))
+pub waiting-kept : (s : Slot) (b : Body) (h : IsOpen s b) → last_was_abandoned (Some s) ≡ false
+waiting-kept s b h = let P : Slot → Type 0 = λ x. last_was_abandoned (Some x) ≡ false in subst P (sym h.is) (and-false (is_chunked h.request.framing.form))
 
 -- whether the last body is open, and the program's sight of it
-pub waiting-open : (s : Slot) (w : Waiting) (h : IsWaiting s w) → last_is_open (Some s) ≡ is_streaming w.body
-waiting-open s w h =
-    let P : Slot → Type 0 = λ x. last_is_open (Some x) ≡ is_streaming w.body in
-    subst P (sym h.is) (fits-streams w.body h.request.framing.form (body_length_or_0 h.request.framing) h.given h.end_reported h.fits)
+pub waiting-open : (s : Slot) (b : Body) (h : IsOpen s b) → last_is_open (Some s) ≡ is_streaming b
+waiting-open s b h =
+    let P : Slot → Type 0 = λ x. last_is_open (Some x) ≡ is_streaming b in
+    subst P (sym h.is) (fits-streams b h.request.framing.form (body_length_or_0 h.request.framing) h.given h.end_reported h.fits)
 
-pub done-open : (s : Slot) → IsDone s → last_is_open (Some s) ≡ false
+pub done-open : (s : Slot) → s.given_up ≡ true → last_is_open (Some s) ≡ false
 done-open s d = at s.item
   where
     at : (item : Item) → body_is_open s item ≡ false
-    at (Asks r) = rw (d.given_up, or-true (is_body_finished r s)) (and-false (is_form_streamed r.framing.form))
+    at (Asks r) = rw (d, or-true (is_body_finished r s)) (and-false (is_form_streamed r.framing.form))
     at (Refuses a b c d) = refl
 
 pub open-by : (o : Option Slot) (b : Option Body) → LastKept o b → last_is_open o ≡ is_streaming_body b
@@ -150,7 +158,7 @@ behind-settled o b f (inl h) e = rw h.1 refl
 behind-settled o b f (inr (inl h)) e = rw h.2 refl
 behind-settled o b f (inr (inr h)) e =
     let P : Option Body → Type 0 = λ x. is_streaming_body x ≡ false in
-    let quiet : is_streaming h.1.body ≡ false = subst P h.3 e in
+    let quiet : is_streaming h.1 ≡ false = subst P h.3 e in
     rw h.3 (ap (λ (x : Option Remaining). option_map (λ (r : Remaining). r.behind) x) (h.4.settled quiet f))
 
 pub gives-settled : (o : Option Slot) (b : Option Body) (f : Feed) → LastKept o b → is_streaming_body b ≡ false → GivesRest b o (Some f)
@@ -158,6 +166,6 @@ gives-settled o b f (inl h) e = rw (h.0, h.1) tt
 gives-settled o b f (inr (inl h)) e = rw h.2 tt
 gives-settled o b f (inr (inr h)) e =
     let P : Option Body → Type 0 = λ x. is_streaming_body x ≡ false in
-    let quiet : is_streaming h.1.body ≡ false = subst P h.3 e in
-    let Q : Slot → Type 0 = λ x. option_map (λ (r : Remaining). r.body) (remaining h.1.body (Some f)) ≡ Some (slot_rest x) in
+    let quiet : is_streaming h.1 ≡ false = subst P h.3 e in
+    let Q : Slot → Type 0 = λ x. option_map (λ (r : Remaining). r.body) (remaining h.1 (Some f)) ≡ Some (slot_rest x) in
     rw (h.2, h.3) (subst Q (sym h.4.is) (ap (λ (x : Option Remaining). option_map (λ (r : Remaining). r.body) x) (h.4.settled quiet f)))

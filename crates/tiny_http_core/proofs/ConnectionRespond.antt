@@ -11,25 +11,28 @@ use Rattle.tiny_http_wire.specs.Device.{Feed, Sink}
 use Rattle.tiny_http_encoding.specs.Text.{Text, Ending, Whole, Broken}
 use Rattle.tiny_http_wire.specs.declared.answer_context.AnswerContext.{AnswerContext}
 use Rattle.tiny_http_message.specs.declared.waiting.Waiting.{Waiting}
+use Rattle.tiny_http_core.specs.declared.pending.Unfinished.{Unfinished}
+use Rattle.tiny_http_core.specs.declared.pending.Unfinished.TheVariants as still
+use Rattle.tiny_http_core.proofs.ConnectionReader.{open-waiting}
 use Rattle.tiny_http_message.specs.Pipeline.{Item, Asks, Refuses, Request}
 use Rattle.tiny_http_sending.specs.ResponseValue.{ResponseValue}
 use Rattle.tiny_http_wire.specs.Answer.{IsGathered}
 use Rattle.tiny_http_core.specs.Slots.{Slot, Stage, Unanswered, Answered as AnsweredBy, ByServer, Raw, Upgraded, is_stage_finished, is_finished, is_broken, is_slot_broken, segment, stage_text, opening, joined, is_output_broken, last_slot, turn_has_come, to_request, text_if}
 use Rattle.tiny_http_core.specs.Steps.{StepValue, outcome, Respond, ReplyValue, Done, NoSuch, NotYet, Outcome, Reached, unchanged, changes, finished_as, accepts_step, fault_in, fault_reply, at_item, at_slot, at_number}
 use Rattle.tiny_http_core.specs.Conversation.{Failure, State, has_output_ended, finished_front, flushed_after, CanMeet, WriterPart, HasOutcome, GathersAt, MayLack}
-use Rattle.tiny_http_core.proofs.ConversationWriting.{FailsBetween, FailsReported, FailsBehind, broken_reply, used, WritesIf, IsAllFlushed, reported, still-flushed}
+use Rattle.tiny_http_core.proofs.ConversationWriting.{FailsBetween, FailsReported, FailsBehind, broken_reply, used, WritesIf, flushed_if, reported, flushed-is}
 use Rattle.tiny_http_sending.specs.ResponseValue.{printing_in}
 use Rattle.tiny_http_core.specs.Seen.{Answers, reply_to}
 use Rattle.tiny_http_sending.specs.Sending.{CanSend, OutletTook, OutletFailed, IsFlushed, SendsText, SendsUnlessEnded}
 use Rattle.tiny_http_turns.specs.Turns.{Mark, Open, Held, Finished, AreInShape, first_unfinished}
 use Rattle.tiny_http_core.specs.Pending.{left_text, with_left_finished, begins_left, SendsLeft, FinishesFront, waiting_answer_context}
-use Rattle.tiny_http_core.specs.Connection.{Kept, answer_context_of, HandedOut, open_slot, IsWaiting, HasNoContinue, AreContinuedInTurn, AreKept, OutputAt, InputStands, Stands}
+use Rattle.tiny_http_core.specs.Connection.{Kept, answer_context_of, HandedOut, open_slot, IsWaiting, IsUnfinished, HasSentNothing, AreSentInTurn, AreKept, OutputAt, InputStands, Stands}
 use Rattle.tiny_http_stream.specs.Source.{SourceState}
 use Rattle.tiny_http_message.specs.Body.{GivesUp}
 use Rattle.tiny_http_core.proofs.ConnectionBody.{IsInput, with_reader, next-same, reader-given_up}
 use Rattle.tiny_http_core.proofs.ConnectionAsk.{StepIsAnswered, step-unchanged}
-use Rattle.tiny_http_core.proofs.SlotsLemmas.{all-snoc, joined-front, joined-broken, breaks-front, breaks-waits}
-use Rattle.tiny_http_core.proofs.ConnectionKept.{get-at, set-at, take-at, kept-append, kept-many, kept-passed, none-waits, place-of, InTurn, OutOfTurn, turn-at}
+use Rattle.tiny_http_core.proofs.SlotsLemmas.{all-snoc, joined-front, joined-broken, breaks-front}
+use Rattle.tiny_http_core.proofs.ConnectionKept.{get-at, set-at, take-at, kept-append, kept-many, kept-passed, kept-slot, place-of, InTurn, OutOfTurn, turn-at}
 use Rattle.tiny_http_core.proofs.ConnectionOutput.{joined_behind, front-all, left-finished, lost-output, all-firm, ended-is, output-same, plain-more, can-send, more-behind, output-more, Longer, longer-at, longer-alone}
 use Rattle.tiny_http_core.proofs.ConnectionTurns.{turn-set, behind-turn}
 use Rattle.tiny_http_core.proofs.PendingLemmas.{none-left}
@@ -39,35 +42,67 @@ use Rattle.tiny_http_sending.proofs.SendingLemmas.{or-parts}
 abbrev pub TakesNone : StepValue → Type 0
 TakesNone step = (stage : Stage) (owed : Bool) → is_stage_finished stage ≡ true → accepts_step stage owed step ≡ false
 
-pub respond-not_taken : (n : ℕ) (v : ResponseValue) → TakesNone (Respond n v)
+abbrev pub is_unanswered : Stage → Bool
+is_unanswered Unanswered = true
+is_unanswered (AnsweredBy response date found) = false
+is_unanswered ByServer = false
+is_unanswered (Raw written closed) = false
+is_unanswered (Upgraded protocol response date written closed) = false
+
+-- only a number that waits for its answer takes such a step
+abbrev pub NeedsWaiting : StepValue → Type 0
+NeedsWaiting step = (stage : Stage) (owed : Bool) → is_unanswered stage ≡ false → accepts_step stage owed step ≡ false
+
+pub respond-not_taken : (n : ℕ) (v : ResponseValue) → NeedsWaiting (Respond n v)
 respond-not_taken n v Unanswered owed e = cc
 respond-not_taken n v (AnsweredBy r d f) owed e = refl
 respond-not_taken n v ByServer owed e = refl
 respond-not_taken n v (Raw w c) owed e = refl
 respond-not_taken n v (Upgraded p r d w c) owed e = refl
 
-respond-nothing-at : (date : HttpDate) (old : Reached) (n : ℕ) (step : StepValue) → TakesNone step → ((x : Slot) → slice_get old.slots n ≡ Some x → is_finished x ≡ true) → at_number true date old n step ≡ unchanged old NoSuch
-respond-nothing-at date old n step free h = at (slice_get old.slots n) refl
+-- no number at this place takes the step
+respond-nothing-at : (date : HttpDate) (old : Reached) (n : ℕ) (step : StepValue) → ((x : Slot) → slice_get old.slots n ≡ Some x → accepts_step x.stage x.owed step ≡ false) → at_number true date old n step ≡ unchanged old NoSuch
+respond-nothing-at date old n step free = at (slice_get old.slots n) refl
   where
-    of : (x : Slot) (item : Item) → is_finished x ≡ true → at_item true date old n step x item ≡ unchanged old NoSuch
+    of : (x : Slot) (item : Item) → accepts_step x.stage x.owed step ≡ false → at_item true date old n step x item ≡ unchanged old NoSuch
     of x (Refuses a b c d) f = refl
-    of x (Asks r) f = rw (free x.stage x.owed f) refl
+    of x (Asks r) f = rw f refl
 
     at : (o : Option Slot) → slice_get old.slots n ≡ o → at_slot true date old n step o ≡ unchanged old NoSuch
     at None e = refl
-    at (Some x) e = of x x.item (h x e)
+    at (Some x) e = of x x.item (free x e)
 
--- no request of this number takes the step
-pub no-such : (client : Feed) (before : Sink) (k : Kept) (s : State) (date : HttpDate) (n : ℕ) (step : StepValue) → outcome true date s.reached step ≡ at_number true date s.reached n step → TakesNone step → Stands client before k s → waiting_answer_context (slice_get k.requests n) ≡ None
+-- no request of this number takes the step: it is finished, or what is kept of it doesn't take it
+pub not-taken : (client : Feed) (before : Sink) (k : Kept) (s : State) (date : HttpDate) (n : ℕ) (step : StepValue) → outcome true date s.reached step ≡ at_number true date s.reached n step → TakesNone step → Stands client before k s
+    → ((x : Slot) (u : Unfinished) → slice_get k.requests n ≡ Some (Some u) → IsUnfinished x u → accepts_step x.stage x.owed step ≡ false) → StepIsAnswered client before k s date step NoSuch
+not-taken client before k s date n step at free st unfit =
+    step-unchanged client before k s date step NoSuch st
+    (at ∙ respond-nothing-at date s.reached n step (λ x e. ⊎_elim (λ h. free x.stage x.owed h.1) (λ h. unfit x h.0 h.1 h.2) (kept-slot s.reached.slots k.marks k.requests n st.numbers x e)))
+
+finished-none : (step : StepValue) → NeedsWaiting step → TakesNone step
+finished-none step needs Unanswered owed e = cc
+finished-none step needs (AnsweredBy r d f) owed e = needs (AnsweredBy r d f) owed refl
+finished-none step needs ByServer owed e = needs ByServer owed refl
+finished-none step needs (Raw w c) owed e = needs (Raw w c) owed refl
+finished-none step needs (Upgraded p r d w c) owed e = needs (Upgraded p r d w c) owed refl
+
+-- no number that waits for its answer takes the step
+pub no-such : (client : Feed) (before : Sink) (k : Kept) (s : State) (date : HttpDate) (n : ℕ) (step : StepValue) → outcome true date s.reached step ≡ at_number true date s.reached n step → NeedsWaiting step → Stands client before k s → waiting_answer_context (slice_get k.requests n) ≡ None
     → StepIsAnswered client before k s date step NoSuch
-no-such client before k s date n step at free st none =
-    step-unchanged client before k s date step NoSuch st (at ∙ respond-nothing-at date s.reached n step free (none-waits s.reached.slots k.marks k.requests n st.numbers none))
+no-such client before k s date n step at needs st none = not-taken client before k s date n step at (finished-none step needs) st by
+  where
+    by : (x : Slot) (u : Unfinished) → slice_get k.requests n ≡ Some (Some u) → IsUnfinished x u → accepts_step x.stage x.owed step ≡ false
+    by x (still.Waiting w) e h = let no : Some w.answer_context ≡ None = ap waiting_answer_context (sym e) ∙ none in cc
+    by x still.Raw e h = needs x.stage x.owed (ap is_unanswered h.stage)
+    by x (still.Upgraded b) e h = needs x.stage x.owed (ap (λ (y : Slot). is_unanswered y.stage) h.opened.is ∙ ap is_unanswered h.stage)
 
 -- a number that waits is kept
-pub answer-form-some : (o : Option (Option Waiting)) (answer_context : AnswerContext) → waiting_answer_context o ≡ Some answer_context → (w : Waiting) × (o ≡ Some (Some w)) × (w.answer_context ≡ answer_context)
+pub answer-form-some : (o : Option (Option Unfinished)) (answer_context : AnswerContext) → waiting_answer_context o ≡ Some answer_context → (w : Waiting) × (o ≡ Some (Some (still.Waiting w))) × (w.answer_context ≡ answer_context)
 answer-form-some None answer_context e = cc
 answer-form-some (Some None) answer_context e = cc
-answer-form-some (Some (Some w)) answer_context e = (w, refl, (let same : w.answer_context ≡ answer_context = cc in same))
+answer-form-some (Some (Some (still.Waiting w))) answer_context e = (w, refl, (let same : w.answer_context ≡ answer_context = cc in same))
+answer-form-some (Some (Some still.Raw)) answer_context e = cc
+answer-form-some (Some (Some (still.Upgraded b))) answer_context e = cc
 
 -- the place of such a number, in the slots
 pub record SlotAt (slots bs cs : List Slot) (s0 : Slot) (n : ℕ) : Type 0 where
@@ -86,10 +121,10 @@ slot-at slots bs cs s0 n e place =
     }))
 
 -- its turn hasn't come
-pub respond-not_yet : (client : Feed) (before : Sink) (k : Kept) (s : State) (date : HttpDate) (n : ℕ) (v : ResponseValue) (w : Waiting) → Stands client before k s → slice_get k.requests n ≡ Some (Some w)
+pub respond-not_yet : (client : Feed) (before : Sink) (k : Kept) (s : State) (date : HttpDate) (n : ℕ) (v : ResponseValue) (w : Waiting) → Stands client before k s → slice_get k.requests n ≡ Some (Some (still.Waiting w))
     → ((slice_get k.marks n ≡ Some Open) × (n ≡ first_unfinished k.marks) → ⊥) → StepIsAnswered client before k s date (Respond n v) NotYet
 respond-not_yet client before k s date n v w st e never =
-    let p = place-of s.reached.slots k.marks k.requests n w st.numbers e in
+    let p = place-of s.reached.slots k.marks k.requests n (still.Waiting w) st.numbers e in
     let at = slot-at s.reached.slots p.bs p.cs p.s n p.slots_are p.slots_before in
     let S : List Mark → Type 0 = λ m. AreInShape m in
     let early : (t : InTurn p.bs p.fs p.rs) → ⊥ = λ t. never (ap (λ m. slice_get m n) p.marks_are ∙ ap (λ x. slice_get (p.fs ++ (Open ∷ p.rs)) x) (sym p.marks_before) ∙ get-at p.fs Open p.rs, sym p.marks_before ∙ t.turn ∙ ap first_unfinished (sym p.marks_are)) in
@@ -114,24 +149,24 @@ printed-for : (r : Request) (answer_context : AnswerContext) (date : HttpDate) �
 printed-for r answer_context date e = ap (λ x. printing_in x date) e
 
 -- what becomes of the response's own text, with the step's reply: it was sent, or broke off, or the writer failed in it
-abbrev pub OwnWrites : Bool → Option Failure → List ℕ → Text → ReplyValue → Option Failure → Type 0
-OwnWrites was failed known text reply failure =
+abbrev pub OwnWrites : Bool → Option Failure → List ℕ → List ℕ → Text → ReplyValue → Option Failure → Type 0
+OwnWrites was failed flushed known text reply failure =
     MatchBool was ((reply ≡ Done) × (failure ≡ failed))
     (((reply ≡ broken_reply fault_reply Done (fault_in text.ending)) × (failure ≡ None))
-    ⊎ ((CanMeet text.bytes (fault_in text.ending) × FailsReported fault_reply reply known (known ++ text.bytes) failure)
-    ⊎ ((kind : ErrorKind) × (text.ending ≡ Broken kind) × (reply ≡ broken_reply fault_reply Done (fault_in text.ending)) × FailsBetween known (known ++ text.bytes) failure)))
+    ⊎ ((CanMeet text.bytes (fault_in text.ending) × FailsReported fault_reply reply flushed (known ++ text.bytes) failure)
+    ⊎ ((kind : ErrorKind) × (text.ending ≡ Broken kind) × (reply ≡ broken_reply fault_reply Done (fault_in text.ending)) × FailsBetween flushed (known ++ text.bytes) failure)))
 
-pub record OwnSaid (before mid : Sink) (was ended : Bool) (old bs : List Slot) (s1 : Slot) (text : Text) (failed : Option Failure) (reply : ReplyValue) : Type 0 where
+pub record OwnSaid (before mid : Sink) (was ended : Bool) (old bs : List Slot) (s1 : Slot) (text : Text) (flushed : List ℕ) (failed : Option Failure) (reply : ReplyValue) : Type 0 where
   pub failure : Option Failure
-  pub output : OutputAt before mid ended (bs ++ (s1 ∷ [])) failure
-  pub writes : OwnWrites was failed (joined old) text reply failure
+  pub output : OutputAt before mid ended (bs ++ (s1 ∷ [])) (flushed_if was flushed (bs ++ (s1 ∷ []))) failure
+  pub writes : OwnWrites was failed flushed (joined old) text reply failure
 
 reported-broken : (text : Text) (kind : ErrorKind) (reply : ReplyValue) → text.ending ≡ Broken kind → reply ≡ fault_reply kind → reply ≡ broken_reply fault_reply Done (fault_in text.ending)
 reported-broken text kind reply e t = t ∙ ap (λ x. broken_reply fault_reply Done (fault_in x)) (sym e)
 
-own-said : {T : Type 0} (before sink mid : Sink) (ended : Bool) (old bs : List Slot) (s1 : Slot) (text : Text) (r : Result T Error) (reply : ReplyValue) → OutputAt before sink false old None → Longer old bs s1 text.bytes → list_all is_finished bs ≡ true → is_finished s1 ≡ true
-    → is_slot_broken s1 ≡ is_broken text.ending → before.failures < 2 ^ 64 - 1 → SendsText sink mid ended r text → IsFlushed mid → reply ≡ reply_to r → OwnSaid before mid false ended old bs s1 text None reply
-own-said before sink mid ended old bs s1 text (Ok x) reply h l fin over broken low d flushed t =
+own-said : {T : Type 0} (before sink mid : Sink) (ended : Bool) (old bs : List Slot) (s1 : Slot) (text : Text) (known : List ℕ) (r : Result T Error) (reply : ReplyValue) → OutputAt before sink false old known None → Longer old bs s1 text.bytes → list_all is_finished bs ≡ true → is_finished s1 ≡ true
+    → is_slot_broken s1 ≡ is_broken text.ending → before.failures < 2 ^ 64 - 1 → SendsText sink mid ended r text → IsFlushed mid → reply ≡ reply_to r → OwnSaid before mid false ended old bs s1 text known None reply
+own-said before sink mid ended old bs s1 text known (Ok x) reply h l fin over broken low d flushed t =
     let none : is_output_broken bs ≡ false = sym l.breaks ∙ sym h.3 in
     let whole : is_slot_broken s1 ≡ false = broken ∙ ap is_broken d.0 in
     let longer : joined old ++ text.bytes ≡ joined (bs ++ (s1 ∷ [])) = longer-alone old bs s1 text.bytes l none in
@@ -139,29 +174,29 @@ own-said before sink mid ended old bs s1 text (Ok x) reply h l fin over broken l
     let taken : mid.taken ≡ Some (joined (bs ++ (s1 ∷ []))) = d.1.bytes ∙ ap (λ y. append_known y text.bytes) h.0 ∙ ap Some longer in
     record {
       failure = None;
-      output = (taken, d.1.failures ∙ h.1, d.3 ∙ sym d.2, d.2 ∙ sym breaks, λ z. all-firm mid (joined (bs ++ (s1 ∷ []))) taken (flushed d.3));
+      output = (taken, d.1.failures ∙ h.1, d.3 ∙ sym d.2, d.2 ∙ sym breaks, ([], sym (append-nil (joined (bs ++ (s1 ∷ []))))), λ z. all-firm mid (joined (bs ++ (s1 ∷ []))) taken (flushed d.3));
       writes = inl (t ∙ ap (λ y. broken_reply fault_reply Done (fault_in y)) (sym d.0), refl);
     }
-own-said before sink mid ended old bs s1 text (Err e) reply h l fin over broken low d flushed t =
+own-said before sink mid ended old bs s1 text known (Err e) reply h l fin over broken low d flushed t =
     ⊎_elim (λ k. ⊎_elim (λ x. broken-sent k.0 x) (λ x. broken-lost k.0 x.0 x.1) k.1) (λ k. lost k.0 k.1 text.bytes refl) d.2
   where
     none : is_output_broken bs ≡ false
     none = sym l.breaks ∙ sym h.3
 
-    broken-sent : text.ending ≡ Broken (error_kind e) → OutletTook sink mid text.bytes → OwnSaid before mid false ended old bs s1 text None reply
+    broken-sent : text.ending ≡ Broken (error_kind e) → OutletTook sink mid text.bytes → OwnSaid before mid false ended old bs s1 text known None reply
     broken-sent b x =
         let breaks_is : is_slot_broken s1 ≡ true = broken ∙ ap is_broken b in
         let longer : joined old ++ text.bytes ≡ joined (bs ++ (s1 ∷ [])) = longer-alone old bs s1 text.bytes l none in
         let breaks : is_output_broken (bs ++ (s1 ∷ [])) ≡ true = breaks-front bs (s1 ∷ []) fin ∙ rw (none, breaks_is) refl in
         record {
           failure = None;
-          output = (x.bytes ∙ ap (λ y. append_known y text.bytes) h.0 ∙ ap Some longer, x.failures ∙ h.1, d.1 ∙ sym d.0, d.0 ∙ sym breaks, λ z. (let absent : true ≡ false = sym d.0 ∙ z in cc));
+          output = (x.bytes ∙ ap (λ y. append_known y text.bytes) h.0 ∙ ap Some longer, x.failures ∙ h.1, d.1 ∙ sym d.0, d.0 ∙ sym breaks, ([], sym (append-nil (joined (bs ++ (s1 ∷ []))))), λ z. (let absent : true ≡ false = sym d.0 ∙ z in cc));
           writes = inl (reported-broken text (error_kind e) reply b t, refl);
         }
 
-    broken-lost : text.ending ≡ Broken (error_kind e) → (kind : ErrorKind) → OutletFailed sink mid text.bytes kind → OwnSaid before mid false ended old bs s1 text None reply
+    broken-lost : text.ending ≡ Broken (error_kind e) → (kind : ErrorKind) → OutletFailed sink mid text.bytes kind → OwnSaid before mid false ended old bs s1 text known None reply
     broken-lost b kind k =
-        let z = lost-output before sink mid (joined old) text.bytes kind h.0 h.1 (h.4 refl) low k in
+        let z = lost-output before sink mid (joined old) text.bytes known kind h.0 h.1 (h.5 refl) low k in
         let f : Failure = record { kind = kind; output = z.output } in
         record {
           failure = Some f;
@@ -169,9 +204,9 @@ own-said before sink mid ended old bs s1 text (Err e) reply h l fin over broken 
           writes = inr (inr (error_kind e, b, reported-broken text (error_kind e) reply b t, (f, refl, z.begins, z.front)));
         }
 
-    within : OutletFailed sink mid text.bytes (error_kind e) → CanMeet text.bytes (fault_in text.ending) → OwnSaid before mid false ended old bs s1 text None reply
+    within : OutletFailed sink mid text.bytes (error_kind e) → CanMeet text.bytes (fault_in text.ending) → OwnSaid before mid false ended old bs s1 text known None reply
     within k can =
-        let z = lost-output before sink mid (joined old) text.bytes (error_kind e) h.0 h.1 (h.4 refl) low k in
+        let z = lost-output before sink mid (joined old) text.bytes known (error_kind e) h.0 h.1 (h.5 refl) low k in
         let f : Failure = record { kind = error_kind e; output = z.output } in
         record {
           failure = Some f;
@@ -179,60 +214,60 @@ own-said before sink mid ended old bs s1 text (Err e) reply h l fin over broken 
           writes = inr (inl (can, (f, refl, t, z.begins, z.front)));
         }
 
-    lost : (text.bytes ≡ [] → ⊥) → OutletFailed sink mid text.bytes (error_kind e) → (own : List ℕ) → text.bytes ≡ own → OwnSaid before mid false ended old bs s1 text None reply
+    lost : (text.bytes ≡ [] → ⊥) → OutletFailed sink mid text.bytes (error_kind e) → (own : List ℕ) → text.bytes ≡ own → OwnSaid before mid false ended old bs s1 text known None reply
     lost u k [] z = absurd (u z)
     lost u k (b ∷ more) z = within k (let C : List ℕ → Type 0 = λ x. CanMeet x (fault_in text.ending) in subst C (sym z) tt)
 
-pub own-sent : {T : Type 0} (before sink mid : Sink) (was ended : Bool) (old bs : List Slot) (s1 : Slot) (text : Text) (failed : Option Failure) (r : Result T Error) (reply : ReplyValue) → OutputAt before sink was old failed → Longer old bs s1 text.bytes → list_all is_finished bs ≡ true → is_finished s1 ≡ true
-    → is_slot_broken s1 ≡ is_broken text.ending → before.failures < 2 ^ 64 - 1 → was ≡ false → SendsText sink mid ended r text → IsFlushed mid → reply ≡ reply_to r → OwnSaid before mid was ended old bs s1 text failed reply
-own-sent before sink mid was ended old bs s1 text (Some f) r reply h l fin over broken low z d flushed t = let absent : false ≡ true = sym z ∙ h.3 in cc
-own-sent {T = T} before sink mid was ended old bs s1 text None r reply h l fin over broken low z d flushed t =
-    let P : Bool → Type 0 = λ b. OutputAt before sink b old None in
-    let Q : Bool → Type 0 = λ b. OwnSaid before mid b ended old bs s1 text None reply in
-    subst Q (sym z) (own-said {T = T} before sink mid ended old bs s1 text r reply (subst P z h) l fin over broken low d flushed t)
+pub own-sent : {T : Type 0} (before sink mid : Sink) (was ended : Bool) (old bs : List Slot) (s1 : Slot) (text : Text) (known : List ℕ) (failed : Option Failure) (r : Result T Error) (reply : ReplyValue) → OutputAt before sink was old known failed → Longer old bs s1 text.bytes → list_all is_finished bs ≡ true → is_finished s1 ≡ true
+    → is_slot_broken s1 ≡ is_broken text.ending → before.failures < 2 ^ 64 - 1 → was ≡ false → SendsText sink mid ended r text → IsFlushed mid → reply ≡ reply_to r → OwnSaid before mid was ended old bs s1 text known failed reply
+own-sent before sink mid was ended old bs s1 text known (Some f) r reply h l fin over broken low z d flushed t = let absent : false ≡ true = sym z ∙ h.3 in cc
+own-sent {T = T} before sink mid was ended old bs s1 text known None r reply h l fin over broken low z d flushed t =
+    let P : Bool → Type 0 = λ b. OutputAt before sink b old known None in
+    let Q : Bool → Type 0 = λ b. OwnSaid before mid b ended old bs s1 text known None reply in
+    subst Q (sym z) (own-said {T = T} before sink mid ended old bs s1 text known r reply (subst P z h) l fin over broken low d flushed t)
 
 -- an output that has ended sends nothing
-pub own-past : (before sink : Sink) (was : Bool) (old bs : List Slot) (s1 : Slot) (text : Text) (failed : Option Failure) → OutputAt before sink was old failed → Longer old bs s1 text.bytes → list_all is_finished bs ≡ true → was ≡ true → OwnSaid before sink was was old bs s1 text failed Done
-own-past before sink was old bs s1 text None h l fin z =
+pub own-past : (before sink : Sink) (was : Bool) (old bs : List Slot) (s1 : Slot) (text : Text) (known : List ℕ) (failed : Option Failure) → OutputAt before sink was old known failed → Longer old bs s1 text.bytes → list_all is_finished bs ≡ true → was ≡ true → OwnSaid before sink was was old bs s1 text known failed Done
+own-past before sink was old bs s1 text known None h l fin z =
     let breaks : is_output_broken bs ≡ true = sym l.breaks ∙ sym h.3 ∙ z in
     let all : is_output_broken (bs ++ (s1 ∷ [])) ≡ is_output_broken old = breaks-front bs (s1 ∷ []) fin ∙ rw (l.breaks, breaks) refl in
-    let M : Bool → Type 0 = λ b. OwnWrites b None (joined old) text Done None in
-    record { failure = None; output = output-same before sink was old (bs ++ (s1 ∷ [])) None (sym (l.broken breaks [])) (sym all) h; writes = subst M (sym z) (refl, refl) }
-own-past before sink was old bs s1 text (Some f) h l fin z =
-    let M : Bool → Type 0 = λ b. OwnWrites b (Some f) (joined old) text Done (Some f) in
+    let M : Bool → Type 0 = λ b. OwnWrites b None known (joined old) text Done None in
+    let F : Bool → Type 0 = λ b. OutputAt before sink was (bs ++ (s1 ∷ [])) (flushed_if b known (bs ++ (s1 ∷ []))) None in
+    record { failure = None; output = subst F (sym z) (output-same before sink was old (bs ++ (s1 ∷ [])) known None (sym (l.broken breaks [])) (sym all) h); writes = subst M (sym z) (refl, refl) }
+own-past before sink was old bs s1 text known (Some f) h l fin z =
+    let M : Bool → Type 0 = λ b. OwnWrites b (Some f) known (joined old) text Done (Some f) in
     record { failure = Some f; output = h; writes = subst M (sym z) (refl, refl) }
 
 -- The response and the texts after it, as the step's part of the output.
 pub record Said (before new : Sink) (ended : Bool) (slots : List Slot) (was : State) (text : Text) (reply : ReplyValue) : Type 0 where
   pub failure : Option Failure
-  pub output : OutputAt before new ended slots failure
+  pub output : OutputAt before new ended slots (flushed_after (used text) was slots) failure
   pub writes : WriterPart (used text) was Done slots reply failure
-  pub same : failure ≡ None → has_output_ended was ≡ true → (was.failure ≡ None) × (joined was.reached.slots ≡ joined slots)
 
 -- where nothing is written after the response, it is as it was
-own-alternatives : (was : Bool) (failed : Option Failure) (old : List Slot) (text : Text) (slots : List Slot) (reply : ReplyValue) (failure : Option Failure) → OwnWrites was failed (joined old) text reply failure → WritesIf was failed old text slots reply failure
-own-alternatives true failed old text slots reply failure h = h
-own-alternatives false failed old text slots reply failure (inl h) = inl h
-own-alternatives false failed old text slots reply failure (inr (inl h)) = inr (inl h)
-own-alternatives false failed old text slots reply failure (inr (inr h)) =
-    let P : Ending → Type 0 = λ x. FailsBehind old text.bytes (fault_in x) slots failure in
+own-alternatives : (was : Bool) (failed : Option Failure) (known : List ℕ) (old : List Slot) (text : Text) (slots : List Slot) (reply : ReplyValue) (failure : Option Failure) → OwnWrites was failed known (joined old) text reply failure → WritesIf was failed known old text slots reply failure
+own-alternatives true failed known old text slots reply failure h = h
+own-alternatives false failed known old text slots reply failure (inl h) = inl h
+own-alternatives false failed known old text slots reply failure (inr (inl h)) = inr (inl h)
+own-alternatives false failed known old text slots reply failure (inr (inr h)) =
+    let P : Ending → Type 0 = λ x. FailsBehind known old text.bytes (fault_in x) slots failure in
     inr (inr (h.2, subst P (sym h.1) h.3))
 
 -- a fault after the response, in the texts that were left
-behind-alternatives : (was : Bool) (failed : Option Failure) (old : List Slot) (text : Text) (slots : List Slot) (reply : ReplyValue) (own failure : Option Failure) → OwnWrites was failed (joined old) text reply own → is_some own ≡ false → text.ending ≡ Whole
-    → finished_front old + 1 < finished_front slots → (failure ≡ None) ⊎ FailsBetween (joined old ++ text.bytes) (joined slots) failure → was ≡ false → WritesIf was failed old text slots reply failure
-behind-alternatives true failed old text slots reply own failure h none whole more left z = cc
-behind-alternatives false failed old text slots reply own failure (inl h) none whole more left z =
-    let P : Ending → Type 0 = λ x. FailsBehind old text.bytes (fault_in x) slots failure in
+behind-alternatives : (was : Bool) (failed : Option Failure) (known : List ℕ) (old : List Slot) (text : Text) (slots : List Slot) (reply : ReplyValue) (own failure : Option Failure) → OwnWrites was failed known (joined old) text reply own → is_some own ≡ false → text.ending ≡ Whole
+    → finished_front old + 1 < finished_front slots → (failure ≡ None) ⊎ FailsBetween (joined old ++ text.bytes) (joined slots) failure → was ≡ false → WritesIf was failed known old text slots reply failure
+behind-alternatives true failed known old text slots reply own failure h none whole more left z = cc
+behind-alternatives false failed known old text slots reply own failure (inl h) none whole more left z =
+    let P : Ending → Type 0 = λ x. FailsBehind known old text.bytes (fault_in x) slots failure in
     ⊎_elim (λ k. inl (h.0, k)) (λ k. inr (inr (h.0, subst P (sym whole) (more, k)))) left
-behind-alternatives false failed old text slots reply own failure (inr (inl h)) none whole more left z = let absent : true ≡ false = ap is_some (sym h.1.1) ∙ none in cc
-behind-alternatives false failed old text slots reply own failure (inr (inr h)) none whole more left z = let absent : true ≡ false = ap is_some (sym h.3.1) ∙ none in cc
+behind-alternatives false failed known old text slots reply own failure (inr (inl h)) none whole more left z = let absent : true ≡ false = ap is_some (sym h.1.1) ∙ none in cc
+behind-alternatives false failed known old text slots reply own failure (inr (inr h)) none whole more left z = let absent : true ≡ false = ap is_some (sym h.3.1) ∙ none in cc
 
 -- the output is open after the response only where the response is whole, and was open before it
-open-whole : (before mid : Sink) (was : Bool) (old bs : List Slot) (s1 : Slot) (text : Text) (failed : Option Failure) (reply : ReplyValue) → list_all is_finished bs ≡ true → is_slot_broken s1 ≡ is_broken text.ending → (is_some failed || is_output_broken bs) ≡ was
-    → (o : OwnSaid before mid was false old bs s1 text failed reply) → (is_some o.failure ≡ false) × (text.ending ≡ Whole) × (was ≡ false)
-open-whole before mid was old bs s1 text failed reply fin broken over o =
-    let open_is : (is_some o.failure || is_output_broken (bs ++ (s1 ∷ []))) ≡ false = ended-is before mid false (bs ++ (s1 ∷ [])) o.failure o.output in
+open-whole : (before mid : Sink) (was : Bool) (old bs : List Slot) (s1 : Slot) (text : Text) (known : List ℕ) (failed : Option Failure) (reply : ReplyValue) → list_all is_finished bs ≡ true → is_slot_broken s1 ≡ is_broken text.ending → (is_some failed || is_output_broken bs) ≡ was
+    → (o : OwnSaid before mid was false old bs s1 text known failed reply) → (is_some o.failure ≡ false) × (text.ending ≡ Whole) × (was ≡ false)
+open-whole before mid was old bs s1 text known failed reply fin broken over o =
+    let open_is : (is_some o.failure || is_output_broken (bs ++ (s1 ∷ []))) ≡ false = ended-is before mid false (bs ++ (s1 ∷ [])) (flushed_if was known (bs ++ (s1 ∷ []))) o.failure o.output in
     let parts = or-parts (is_some o.failure) (is_output_broken (bs ++ (s1 ∷ []))) open_is in
     let breaks : (is_output_broken bs || is_output_broken (s1 ∷ [])) ≡ false = sym (breaks-front bs (s1 ∷ []) fin) ∙ parts.1 in
     let two = or-parts (is_output_broken bs) (is_output_broken (s1 ∷ [])) breaks in
@@ -246,18 +281,18 @@ open-whole before mid was old bs s1 text failed reply fin broken over o =
     by-was : (t : Bool) → was ≡ t → was ≡ false
     by-was false e = e
     by-was true e =
-        let M : Bool → Type 0 = λ b. OwnWrites b failed (joined old) text reply o.failure in
+        let M : Bool → Type 0 = λ b. OwnWrites b failed known (joined old) text reply o.failure in
         let kept = subst M e o.writes in
-        let open_is = ended-is before mid false (bs ++ (s1 ∷ [])) o.failure o.output in
+        let open_is = ended-is before mid false (bs ++ (s1 ∷ [])) (flushed_if was known (bs ++ (s1 ∷ []))) o.failure o.output in
         let parts = or-parts (is_some o.failure) (is_output_broken (bs ++ (s1 ∷ []))) open_is in
         let two = or-parts (is_output_broken bs) (is_output_broken (s1 ∷ [])) (sym (breaks-front bs (s1 ∷ []) fin) ∙ parts.1) in
         sym over ∙ ap (λ f. is_some f || is_output_broken bs) (sym kept.1) ∙ ap (λ b. b || is_output_broken bs) parts.0 ∙ two.0
 
-pub respond-left : (before mid new : Sink) (was mid_ended ended : Bool) (bs : List Slot) (s0 s1 : Slot) (cs : List Slot) (fs rs : List Mark) (vs : List (Option Waiting)) (old : State) (text : Text) (reply : ReplyValue)
-    → old.reached.slots ≡ bs ++ (s0 ∷ cs) → has_output_ended old ≡ was → IsAllFlushed old → list_all is_finished bs ≡ true → is_finished s0 ≡ false → is_finished s1 ≡ true → is_slot_broken s1 ≡ is_broken text.ending → Longer old.reached.slots bs s1 text.bytes
-    → OwnSaid before mid was mid_ended old.reached.slots bs s1 text old.failure reply → InTurn bs fs rs → AllByRecursion HasNoContinue cs → AreKept cs rs vs → before.failures < 2 ^ 64 - 1 → SendsLeft rs mid_ended mid new ended
+pub respond-left : (before mid new : Sink) (was mid_ended ended : Bool) (bs : List Slot) (s0 s1 : Slot) (cs : List Slot) (fs rs : List Mark) (vs : List (Option Unfinished)) (old : State) (text : Text) (reply : ReplyValue)
+    → old.reached.slots ≡ bs ++ (s0 ∷ cs) → has_output_ended old ≡ was → list_all is_finished bs ≡ true → is_finished s0 ≡ false → is_finished s1 ≡ true → is_slot_broken s1 ≡ is_broken text.ending → Longer old.reached.slots bs s1 text.bytes
+    → OwnSaid before mid was mid_ended old.reached.slots bs s1 text old.flushed old.failure reply → InTurn bs fs rs → AllByRecursion HasSentNothing cs → AreKept cs rs vs → before.failures < 2 ^ 64 - 1 → SendsLeft rs mid_ended mid new ended
     → Said before new ended (bs ++ (s1 ∷ cs)) old text reply
-respond-left before mid new was mid_ended ended bs s0 s1 cs fs rs vs old text reply slots_are over firm fin open_is done broken l o t uncontinued kept low sends = by-left (begins_left rs) refl sends
+respond-left before mid new was mid_ended ended bs s0 s1 cs fs rs vs old text reply slots_are over fin open_is done broken l o t uncontinued kept low sends = by-left (begins_left rs) refl sends
   where
     all : List Slot
     all = bs ++ (s1 ∷ cs)
@@ -271,40 +306,63 @@ respond-left before mid new was mid_ended ended bs s0 s1 cs fs rs vs old text re
     all-finished : list_all is_finished (bs ++ (s1 ∷ [])) ≡ true
     all-finished = all-snoc is_finished bs s1 fin done
 
-    by-has_ended : (reply : ReplyValue) (failure : Option Failure) → WritesIf was old.failure old.reached.slots text all reply failure → WriterPart (used text) old Done all reply failure
-    by-has_ended reply failure h = reported old was text all reply failure over firm h
+    by-has_ended : (reply : ReplyValue) (failure : Option Failure) → WritesIf was old.failure old.flushed old.reached.slots text all reply failure → WriterPart (used text) old Done all reply failure
+    by-has_ended reply failure h = reported old was text all reply failure over h
 
-    same_output : (reply : ReplyValue) (failure : Option Failure) → WritesIf was old.failure old.reached.slots text all reply failure → failure ≡ None → has_output_ended old ≡ true → (old.failure ≡ None) × (joined old.reached.slots ≡ joined all)
-    same_output reply failure h none z =
-        let M : Bool → Type 0 = λ b. WritesIf b old.failure old.reached.slots text all reply failure in
-        let kept : old.failure ≡ None = sym (subst M (sym over ∙ z) h).1 ∙ none in
-        let breaks : is_output_broken bs ≡ true = ap (λ f. is_some f || is_output_broken bs) (sym kept) ∙ over2 ∙ sym over ∙ z in
-        (kept, sym (l.broken breaks cs))
+    -- what is flushed after the step
+    flushed_all : flushed_if was old.flushed all ≡ flushed_after (used text) old all
+    flushed_all = sym (flushed-is old was all over)
+
+    mid_slots : List Slot
+    mid_slots = bs ++ (s1 ∷ [])
+
+    mid_flushed : List ℕ
+    mid_flushed = flushed_if was old.flushed mid_slots
+
+    whole_writes : (failure : Option Failure) → OwnWrites was old.failure old.flushed (joined old.reached.slots) text reply failure → WritesIf was old.failure old.flushed old.reached.slots text all reply failure
+    whole_writes failure h = own-alternatives was old.failure old.flushed old.reached.slots text all reply failure h
+
+    -- nothing more is sent: what was flushed is all
+    joined_alone : joined cs ≡ [] → is_output_broken bs ≡ false → joined mid_slots ≡ joined all
+    joined_alone none open_bs = by (is_slot_broken s1) refl
+      where
+        by : (b : Bool) → is_slot_broken s1 ≡ b → joined mid_slots ≡ joined all
+        by b e = joined-front bs (s1 ∷ []) fin open_bs ∙ ap (λ y. joined bs ++ y) (nothing-behind b e) ∙ sym (joined-front bs (s1 ∷ cs) fin open_bs)
+          where
+            nothing-behind : (b : Bool) → is_slot_broken s1 ≡ b → joined (s1 ∷ []) ≡ joined (s1 ∷ cs)
+            nothing-behind true e = rw (done, e) refl
+            nothing-behind false e = rw (done, e) (ap (λ y. segment s1 ++ y) (sym none))
 
     nothing-left : begins_left rs ≡ false → new ≡ mid → ended ≡ mid_ended → Said before new ended all old text reply
     nothing-left e n z =
         let b = joined_behind cs rs vs t.waiting uncontinued kept in
         let no_text : joined cs ≡ [] = b.0 ∙ (none-left rs e).0 in
-        let out = plain-more before mid mid_ended (bs ++ (s1 ∷ [])) cs o.failure o.output all-finished no_text b.1 in
-        let P : List Slot → Type 0 = λ l. OutputAt before mid mid_ended l o.failure in
-        let S : Sink → Bool → Type 0 = λ x y. OutputAt before x y all o.failure in
+        let out = plain-more before mid mid_ended mid_slots cs mid_flushed o.failure o.output all-finished no_text b.1 in
+        let P : List Slot → Type 0 = λ l. OutputAt before mid mid_ended l mid_flushed o.failure in
+        let S : Sink → Bool → Type 0 = λ x y. OutputAt before x y all mid_flushed o.failure in
+        let F : List ℕ → Type 0 = λ f. OutputAt before new ended all f o.failure in
         record {
           failure = o.failure;
-          output = subst (λ y. S new y) (sym z) (subst (λ x. S x mid_ended) (sym n) (subst P same out));
-          writes = by-has_ended reply o.failure (own-alternatives was old.failure old.reached.slots text all reply o.failure o.writes);
-          same = same_output reply o.failure (own-alternatives was old.failure old.reached.slots text all reply o.failure o.writes);
+          output = subst F (same_flushed no_text b.1 ∙ flushed_all) (subst (λ y. S new y) (sym z) (subst (λ x. S x mid_ended) (sym n) (subst P same out)));
+          writes = by-has_ended reply o.failure (whole_writes o.failure o.writes);
         }
+      where
+        same_flushed : joined cs ≡ [] → is_output_broken cs ≡ false → mid_flushed ≡ flushed_if was old.flushed all
+        same_flushed none whole = by was refl
+          where
+            by : (w : Bool) → was ≡ w → flushed_if w old.flushed mid_slots ≡ flushed_if w old.flushed all
+            by true e = refl
+            by false e = joined_alone none (or-parts (is_some old.failure) (is_output_broken bs) (over2 ∙ e)).1
 
     left-behind : begins_left rs ≡ true → SendsUnlessEnded mid_ended mid new ended (left_text rs) → IsFlushed new → Said before new ended all old text reply
     left-behind e sent flushed =
         let b = joined_behind cs rs vs t.waiting uncontinued kept in
-        let go = output-more before mid new mid_ended ended (bs ++ (s1 ∷ [])) ((bs ++ (s1 ∷ [])) ++ cs) (left_text rs) o.failure o.output (more-behind (bs ++ (s1 ∷ [])) cs (left_text rs) all-finished b.0 b.1) low sent flushed in
-        let P : List Slot → Type 0 = λ l. OutputAt before new ended l go.failure in
+        let go = output-more before mid new mid_ended ended mid_slots (mid_slots ++ cs) (left_text rs) mid_flushed o.failure o.output (more-behind mid_slots cs (left_text rs) all-finished b.0 b.1) low sent flushed in
+        let P : List Slot → Type 0 = λ l. OutputAt before new ended l (flushed_if mid_ended mid_flushed l) go.failure in
         record {
           failure = go.failure;
-          output = subst P same go.output;
+          output = by-flushed mid_ended refl go.failure go.writes (subst P same go.output);
           writes = by-has_ended reply go.failure (by-mid mid_ended refl go.failure go.writes);
-          same = same_output reply go.failure (by-mid mid_ended refl go.failure go.writes);
         }
       where
         more : finished_front old.reached.slots + 1 < finished_front all
@@ -314,24 +372,50 @@ respond-left before mid new was mid_ended ended bs s0 s1 cs fs rs vs old text re
             let z = left-finished cs rs vs kept e in
             omega (arith, x, y, z)
 
-        by-mid : (m : Bool) → mid_ended ≡ m → (failure : Option Failure) → MatchBool mid_ended (failure ≡ o.failure) ((failure ≡ None) ⊎ FailsBetween (joined (bs ++ (s1 ∷ []))) (joined ((bs ++ (s1 ∷ [])) ++ cs)) failure)
-            → WritesIf was old.failure old.reached.slots text all reply failure
+        open-mid : (o2 : OwnSaid before mid was false old.reached.slots bs s1 text old.flushed old.failure reply) → (is_some o2.failure ≡ false) × (text.ending ≡ Whole) × (was ≡ false)
+        open-mid o2 = open-whole before mid was old.reached.slots bs s1 text old.flushed old.failure reply fin broken over2 o2
+
+        -- what is flushed where the output goes on behind the answer, and where it has ended by then
+        by-flushed : (m : Bool) → mid_ended ≡ m → (failure : Option Failure) → MatchBool mid_ended (failure ≡ o.failure) ((failure ≡ None) ⊎ FailsBetween mid_flushed (joined (mid_slots ++ cs)) failure)
+            → OutputAt before new ended all (flushed_if mid_ended mid_flushed all) failure → OutputAt before new ended all (flushed_after (used text) old all) failure
+        by-flushed false z failure k h =
+            let O : Bool → Type 0 = λ m. OwnSaid before mid was m old.reached.slots bs s1 text old.flushed old.failure reply in
+            let w = open-mid (subst O z o) in
+            let F : List ℕ → Type 0 = λ f. OutputAt before new ended all f failure in
+            let is : flushed_if mid_ended mid_flushed all ≡ flushed_if was old.flushed all = ap (λ m. flushed_if m mid_flushed all) z ∙ sym (ap (λ x. flushed_if x old.flushed all) w.2) in
+            subst F (is ∙ flushed_all) h
+        by-flushed true z (Some f) k h = h
+        by-flushed true z None k h =
+            let N : Option Failure = None in
+            let M : Bool → Type 0 = λ m. MatchBool m (N ≡ o.failure) ((N ≡ None) ⊎ FailsBetween mid_flushed (joined (mid_slots ++ cs)) N) in
+            let none : N ≡ o.failure = subst M z k in
+            let gone : (is_some o.failure || is_output_broken mid_slots) ≡ mid_ended = ended-is before mid mid_ended mid_slots mid_flushed o.failure o.output in
+            let broken_mid : is_output_broken mid_slots ≡ true = ap (λ x. is_some x || is_output_broken mid_slots) none ∙ gone ∙ z in
+            let F : List ℕ → Type 0 = λ f. OutputAt before new ended all f None in
+            subst F (ap (λ m. flushed_if m mid_flushed all) z ∙ alike was broken_mid ∙ flushed_all) h
+          where
+            alike : (w : Bool) → is_output_broken mid_slots ≡ true → flushed_if w old.flushed mid_slots ≡ flushed_if w old.flushed all
+            alike true e = refl
+            alike false e = sym (joined-broken mid_slots cs e) ∙ ap joined same
+
+        by-mid : (m : Bool) → mid_ended ≡ m → (failure : Option Failure) → MatchBool mid_ended (failure ≡ o.failure) ((failure ≡ None) ⊎ FailsBetween mid_flushed (joined (mid_slots ++ cs)) failure)
+            → WritesIf was old.failure old.flushed old.reached.slots text all reply failure
         by-mid true z failure h =
-            let M : Bool → Type 0 = λ m. MatchBool m (failure ≡ o.failure) ((failure ≡ None) ⊎ FailsBetween (joined (bs ++ (s1 ∷ []))) (joined ((bs ++ (s1 ∷ [])) ++ cs)) failure) in
+            let M : Bool → Type 0 = λ m. MatchBool m (failure ≡ o.failure) ((failure ≡ None) ⊎ FailsBetween mid_flushed (joined (mid_slots ++ cs)) failure) in
             let k = subst M z h in
-            let W : Option Failure → Type 0 = λ f. WritesIf was old.failure old.reached.slots text all reply f in
-            subst W (sym k) (own-alternatives was old.failure old.reached.slots text all reply o.failure o.writes)
+            let W : Option Failure → Type 0 = λ f. WritesIf was old.failure old.flushed old.reached.slots text all reply f in
+            subst W (sym k) (whole_writes o.failure o.writes)
         by-mid false z failure h =
-            let M : Bool → Type 0 = λ m. MatchBool m (failure ≡ o.failure) ((failure ≡ None) ⊎ FailsBetween (joined (bs ++ (s1 ∷ []))) (joined ((bs ++ (s1 ∷ [])) ++ cs)) failure) in
+            let M : Bool → Type 0 = λ m. MatchBool m (failure ≡ o.failure) ((failure ≡ None) ⊎ FailsBetween mid_flushed (joined (mid_slots ++ cs)) failure) in
             let k = subst M z h in
-            let O : Bool → Type 0 = λ m. OwnSaid before mid was m old.reached.slots bs s1 text old.failure reply in
+            let O : Bool → Type 0 = λ m. OwnSaid before mid was m old.reached.slots bs s1 text old.flushed old.failure reply in
             let said = subst O z o in
-            let w = open-whole before mid was old.reached.slots bs s1 text old.failure reply fin broken over2 said in
+            let w = open-mid said in
             let none_broken : is_output_broken bs ≡ false = (or-parts (is_some old.failure) (is_output_broken bs) (over2 ∙ w.2)).1 in
-            let from : joined (bs ++ (s1 ∷ [])) ≡ joined old.reached.slots ++ text.bytes = sym (longer-alone old.reached.slots bs s1 text.bytes l none_broken) in
-            let F : List ℕ → Type 0 = λ y. (failure ≡ None) ⊎ FailsBetween y (joined ((bs ++ (s1 ∷ [])) ++ cs)) failure in
+            let from : mid_flushed ≡ joined old.reached.slots ++ text.bytes = ap (λ x. flushed_if x old.flushed mid_slots) w.2 ∙ sym (longer-alone old.reached.slots bs s1 text.bytes l none_broken) in
+            let F : List ℕ → Type 0 = λ y. (failure ≡ None) ⊎ FailsBetween y (joined (mid_slots ++ cs)) failure in
             let G : List Slot → Type 0 = λ l. (failure ≡ None) ⊎ FailsBetween (joined old.reached.slots ++ text.bytes) (joined l) failure in
-            behind-alternatives was old.failure old.reached.slots text all reply said.failure failure said.writes w.0 w.1 more (subst G same (subst F from k)) w.2
+            behind-alternatives was old.failure old.flushed old.reached.slots text all reply said.failure failure said.writes w.0 w.1 more (subst G same (subst F from k)) w.2
 
     by-left : (l : Bool) → begins_left rs ≡ l → MatchBool l (SendsUnlessEnded mid_ended mid new ended (left_text rs) × IsFlushed new) ((new ≡ mid) × (ended ≡ mid_ended)) → Said before new ended all old text reply
     by-left true e h = left-behind e h.0 h.1
@@ -343,19 +427,19 @@ pub record Answerable (k : Kept) (s : State) (n : ℕ) (answer_context : AnswerC
   pub cs : List Slot
   pub fs : List Mark
   pub rs : List Mark
-  pub us : List (Option Waiting)
-  pub vs : List (Option Waiting)
+  pub us : List (Option Unfinished)
+  pub vs : List (Option Unfinished)
   pub waiting : Waiting
   pub slot : Slot
   pub waits : IsWaiting slot waiting
   pub slots_were : s.reached.slots ≡ bs ++ (slot ∷ cs)
   pub slots_are : s.reached.slots ≡ bs ++ (open_slot waits.handed waits.request waits.given waits.end_reported ∷ cs)
   pub marks_are : k.marks ≡ fs ++ (Open ∷ rs)
-  pub requests_are : k.requests ≡ us ++ (Some waiting ∷ vs)
+  pub requests_are : k.requests ≡ us ++ (Some (still.Waiting waiting) ∷ vs)
   pub at : SlotAt s.reached.slots bs cs (open_slot waits.handed waits.request waits.given waits.end_reported) n
   pub place : length fs ≡ n
   pub answer_context_is : answer_context ≡ answer_context_of waits.request
-  pub kept : slice_get k.requests n ≡ Some (Some waiting)
+  pub kept : slice_get k.requests n ≡ Some (Some (still.Waiting waiting))
   pub as_many : length cs ≡ length vs
   pub requests_set : slice_set k.requests n None ≡ us ++ (None ∷ vs)
   pub marks_set : slice_set k.marks n Held ≡ fs ++ (Held ∷ rs)
@@ -369,7 +453,7 @@ set-place xs us vs n x y e place = ap (λ l. slice_set l n y) e ∙ ap (λ m. sl
 pub answerable : (client : Feed) (before : Sink) (k : Kept) (s : State) (n : ℕ) (answer_context : AnswerContext) → Stands client before k s → waiting_answer_context (slice_get k.requests n) ≡ Some answer_context → n ≡ first_unfinished k.marks → Answerable k s n answer_context
 answerable client before k s n answer_context st e first =
     let w = answer-form-some (slice_get k.requests n) answer_context e in
-    let p = place-of s.reached.slots k.marks k.requests n w.0 st.numbers w.1 in
+    let p = place-of s.reached.slots k.marks k.requests n (still.Waiting w.0) st.numbers w.1 in
     let slots_are = p.slots_are ∙ ap (λ x. p.bs ++ (x ∷ p.cs)) p.waiting.is in
     let S : List Mark → Type 0 = λ m. AreInShape m in
     record {
@@ -391,7 +475,7 @@ answerable client before k s n answer_context st e first =
       answer_context_is = sym w.2 ∙ p.waiting.answer_context;
       kept = w.1;
       as_many = kept-many p.cs p.rs p.vs p.behind;
-      requests_set = set-place k.requests p.us p.vs n (Some w.0) None p.requests_are p.requests_before;
+      requests_set = set-place k.requests p.us p.vs n (Some (still.Waiting w.0)) None p.requests_are p.requests_before;
       marks_set = set-place k.marks p.fs p.rs n Open Held p.marks_are p.marks_before;
       before = p.before;
       behind = p.behind;
@@ -406,28 +490,28 @@ longer-open old bs cs asked r given end_reported stage e fin =
     (ap (λ y. y ++ (stage_text (Asks r) asked.date stage).bytes) (sym (append-nil (opening (Asks r) asked.continued))))
 
 -- what the connection keeps after a step of a number
-abbrev pub after_number : Kept → List Mark → List (Option Waiting) → {R : Type 0} → SourceState R → Sink → Bool → Kept
+abbrev pub after_number : Kept → List Mark → List (Option Unfinished) → {R : Type 0} → SourceState R → Sink → Bool → Kept
 after_number k marks requests source sink ended =
     record k { marks = marks; requests = requests; standing = source.standing; feed = source.feed; stop = source.stop; is_over = source.is_over; sink = sink; output_ended = ended }
 
 -- the reader doesn't see the turns and the output
-pub reader-after : {R : Type 0} (client : Feed) (k : Kept) (marks : List Mark) (requests : List (Option Waiting)) (source : SourceState R) (sink : Sink) (ended : Bool) (slots : List Slot) (rest : List Item) → InputStands client (with_reader k requests source) slots rest
+pub reader-after : {R : Type 0} (client : Feed) (k : Kept) (marks : List Mark) (requests : List (Option Unfinished)) (source : SourceState R) (sink : Sink) (ended : Bool) (slots : List Slot) (rest : List Item) → InputStands client (with_reader k requests source) slots rest
     → InputStands client (after_number k marks requests source sink ended) slots rest
 reader-after client k marks requests source sink ended slots rest r =
-    record { settled = r.settled; gives = r.gives; next = λ e. next-same (with_reader k requests source) (after_number k marks requests source sink ended) (last_slot slots) (last_slot slots) rest refl refl refl refl refl refl (r.next e); source = r.source }
+    record { settled = r.settled; gives = r.gives; next = λ e. next-same (with_reader k requests source) (after_number k marks requests source sink ended) (last_slot slots) (last_slot slots) rest refl refl refl refl refl refl refl (r.next e); source = r.source }
 
-respond-stands : {R : Type 0} (client : Feed) (before : Sink) (k : Kept) (s : State) (date : HttpDate) (n : ℕ) (v : ResponseValue) (answer_context : AnswerContext) (found : Bool) (mid new : Sink) (mid_ended ended : Bool) (final : List Mark) (requests : List (Option Waiting)) (source : SourceState R) (reply : ReplyValue)
+respond-stands : {R : Type 0} (client : Feed) (before : Sink) (k : Kept) (s : State) (date : HttpDate) (n : ℕ) (v : ResponseValue) (answer_context : AnswerContext) (found : Bool) (mid new : Sink) (mid_ended ended : Bool) (final : List Mark) (requests : List (Option Unfinished)) (source : SourceState R) (reply : ReplyValue)
     → Stands client before k s → before.failures < 2 ^ 64 - 1 → (a : Answerable k s n answer_context) → (found ≡ true) ⊎ IsGathered v.answer (to_request a.waits.request date) → requests ≡ slice_set k.requests n None → InputStands client (with_reader k (a.us ++ (None ∷ a.vs)) source) (a.bs ++ (answered_slot a.waits.handed a.waits.request a.waits.given a.waits.end_reported v date found ∷ a.cs)) s.reached.rest → FinishesFront a.fs a.rs final
-    → OwnSaid before mid k.output_ended mid_ended s.reached.slots a.bs (answered_slot a.waits.handed a.waits.request a.waits.given a.waits.end_reported v date found) (response_sent found v a.waits.request date) s.failure reply → SendsLeft a.rs mid_ended mid new ended
+    → OwnSaid before mid k.output_ended mid_ended s.reached.slots a.bs (answered_slot a.waits.handed a.waits.request a.waits.given a.waits.end_reported v date found) (response_sent found v a.waits.request date) s.flushed s.failure reply → SendsLeft a.rs mid_ended mid new ended
     → StepIsAnswered client before (after_number k final requests source new ended) s date (Respond n v) reply
 respond-stands client before k s date n v answer_context found mid new mid_ended ended final requests source reply st low a lack requests_are reader passes own sends =
     let s0 = open_slot a.waits.handed a.waits.request a.waits.given a.waits.end_reported in
     let s1 = answered_slot a.waits.handed a.waits.request a.waits.given a.waits.end_reported v date found in
     let text = response_sent found v a.waits.request date in
     let l = longer-open s.reached.slots a.bs a.cs a.waits.handed a.waits.request a.waits.given a.waits.end_reported (AnsweredBy v date found) a.slots_are a.turn.finished in
-    let T : List Slot → Type 0 = λ x. AreContinuedInTurn x in
+    let T : List Slot → Type 0 = λ x. AreSentInTurn x in
     let turns = subst T a.slots_are st.in_turn in
-    let said = respond-left before mid new k.output_ended mid_ended ended a.bs s0 s1 a.cs a.fs a.rs a.vs s text reply a.slots_are (ended-is before k.sink k.output_ended s.reached.slots s.failure st.output) st.flushed a.turn.finished refl refl refl l own a.turn (behind-turn a.bs a.cs s0 a.turn.finished refl turns) a.behind low sends in
+    let said = respond-left before mid new k.output_ended mid_ended ended a.bs s0 s1 a.cs a.fs a.rs a.vs s text reply a.slots_are (ended-is before k.sink k.output_ended s.reached.slots s.flushed s.failure st.output) a.turn.finished refl refl refl l own a.turn (behind-turn a.bs a.cs s0 a.turn.finished refl turns) a.behind low sends in
     let is = at-turn date a.waits.handed s.reached n v a.waits.request a.waits.given a.waits.end_reported found a.at.get (a.at.turn ∙ a.turn.finished) in
     let slots = a.bs ++ (s1 ∷ a.cs) in
     let new_state : State = record { reached = record { slots = slots; rest = s.reached.rest; asking_ended = s.reached.asking_ended }; flushed = flushed_after (used text) s slots; failure = said.failure } in
@@ -436,15 +520,14 @@ respond-stands client before k s date n v answer_context found mid new mid_ended
     let G : Outcome → Type 0 = λ x. HasOutcome x s reply new_state in
     let has = subst G (sym is) (ap R (sym (a.at.set s1)), ap (flushed_after (used text) s) (sym (a.at.set s1)), subst W (sym (a.at.set s1)) said.writes) in
     let M : List Mark → Type 0 = λ y. AreKept slots y requests in
-    let Q : List (Option Waiting) → Type 0 = λ y. AreKept slots (a.fs ++ (Finished ∷ with_left_finished a.rs)) y in
+    let Q : List (Option Unfinished) → Type 0 = λ y. AreKept slots (a.fs ++ (Finished ∷ with_left_finished a.rs)) y in
     let K : List Mark → Type 0 = λ y. AreInShape y in (
       new_state,
       record {
         numbers = subst M (sym passes) (subst Q (sym (requests_are ∙ a.requests_set)) (kept-append a.bs a.fs a.us (s1 ∷ a.cs) (Finished ∷ with_left_finished a.rs) (None ∷ a.vs) a.before (record { finished = refl; given_up = refl }, kept-passed a.cs a.rs a.vs a.behind)));
         shape = subst K (sym passes) a.turn.shape;
-        in_turn = turn-set a.bs a.cs s0 s1 refl (λ none. refl) turns;
+        in_turn = turn-set a.bs a.cs s0 s1 (λ q. (q.0, λ z. (let no : true ≡ false = z in cc))) (λ none. refl) turns;
         asking_ended = st.asking_ended;
-        flushed = still-flushed s k.output_ended slots said.failure (ended-is before k.sink k.output_ended s.reached.slots s.failure st.output) st.flushed (λ none z. said.same none (ended-is before k.sink k.output_ended s.reached.slots s.failure st.output ∙ z));
         reader = reader-after client k final requests source new ended slots s.reached.rest (subst (λ q. InputStands client (with_reader k q source) slots s.reached.rest) (sym (requests_are ∙ a.requests_set)) reader);
         output = said.output;
       },
@@ -462,8 +545,8 @@ RespondsBy k mid mid_ended reply v answer_context date =
     ((k.output_ended ≡ true) × (mid ≡ k.sink) × (mid_ended ≡ k.output_ended) × (reply ≡ Done))
     ⊎ ((k.output_ended ≡ false) × Answers k.sink mid mid_ended reply v.answer v.content (printing_in answer_context date))
 
-pub respond-done : {R : Type 0} (client : Feed) (before : Sink) (k : Kept) (s : State) (date : HttpDate) (n : ℕ) (v : ResponseValue) (answer_context : AnswerContext) (mid new : Sink) (mid_ended ended : Bool) (marks final : List Mark) (requests : List (Option Waiting)) (old source : SourceState R) (reply : ReplyValue)
-    → Stands client before k s → IsInput k old → ((w : Waiting) → slice_get k.requests n ≡ Some (Some w) → GivesUp w.body old source) → before.failures < 2 ^ 64 - 1 → waiting_answer_context (slice_get k.requests n) ≡ Some answer_context → n ≡ first_unfinished k.marks → marks ≡ slice_set k.marks n Held → requests ≡ slice_set k.requests n None
+pub respond-done : {R : Type 0} (client : Feed) (before : Sink) (k : Kept) (s : State) (date : HttpDate) (n : ℕ) (v : ResponseValue) (answer_context : AnswerContext) (mid new : Sink) (mid_ended ended : Bool) (marks final : List Mark) (requests : List (Option Unfinished)) (old source : SourceState R) (reply : ReplyValue)
+    → Stands client before k s → IsInput k old → ((w : Waiting) → slice_get k.requests n ≡ Some (Some (still.Waiting w)) → GivesUp w.body old source) → before.failures < 2 ^ 64 - 1 → waiting_answer_context (slice_get k.requests n) ≡ Some answer_context → n ≡ first_unfinished k.marks → marks ≡ slice_set k.marks n Held → requests ≡ slice_set k.requests n None
     → RespondsBy k mid mid_ended reply v answer_context date
     → ((front rest : List Mark) → marks ≡ front ++ (Held ∷ rest) → length front ≡ n → FinishesFront front rest final)
     → ((front rest : List Mark) → marks ≡ front ++ (Held ∷ rest) → length front ≡ n → (mid_ended ≡ false → CanSend mid) → SendsLeft rest mid_ended mid new ended)
@@ -483,29 +566,29 @@ respond-done {R = R} client before k s date n v answer_context mid new mid_ended
     reader : (found : Bool) → InputStands client (with_reader k (a.us ++ (None ∷ a.vs)) source) (a.bs ++ (answered_slot a.waits.handed a.waits.request a.waits.given a.waits.end_reported v date found ∷ a.cs)) s.reached.rest
     reader found =
         let P : List Slot → Type 0 = λ l. InputStands client k l s.reached.rest in
-        reader-given_up client k old source a.bs a.cs a.us a.vs s.reached.rest a.slot a.waiting (AnsweredBy v date found) a.waits from (subst P a.slots_were st.reader) a.requests_are a.as_many (gives a.waiting a.kept)
+        reader-given_up client k old source a.bs a.cs a.us a.vs s.reached.rest a.slot (Some (still.Waiting a.waiting)) None a.waiting.body (AnsweredBy v date found) (open-waiting a.slot a.waiting a.waits) refl refl from (subst P a.slots_were st.reader) a.requests_are a.as_many (gives a.waiting a.kept)
 
-    answered : (found : Bool) → (found ≡ true) ⊎ IsGathered v.answer (to_request a.waits.request date) → OwnSaid before mid k.output_ended mid_ended s.reached.slots a.bs (answered_slot a.waits.handed a.waits.request a.waits.given a.waits.end_reported v date found) (response_sent found v a.waits.request date) s.failure reply
+    answered : (found : Bool) → (found ≡ true) ⊎ IsGathered v.answer (to_request a.waits.request date) → OwnSaid before mid k.output_ended mid_ended s.reached.slots a.bs (answered_slot a.waits.handed a.waits.request a.waits.given a.waits.end_reported v date found) (response_sent found v a.waits.request date) s.flushed s.failure reply
         → StepIsAnswered client before (after_number k final requests source new ended) s date (Respond n v) reply
     answered found lack o =
         respond-stands client before k s date n v answer_context found mid new mid_ended ended final requests source reply st low a lack requests_are (reader found) (passes a.fs a.rs held a.place) o
-        (sends a.fs a.rs held a.place (can-send before mid mid_ended (a.bs ++ (answered_slot a.waits.handed a.waits.request a.waits.given a.waits.end_reported v date found ∷ [])) o.failure o.output low))
+        (sends a.fs a.rs held a.place (can-send before mid mid_ended (a.bs ++ (answered_slot a.waits.handed a.waits.request a.waits.given a.waits.end_reported v date found ∷ [])) (flushed_if k.output_ended s.flushed (a.bs ++ (answered_slot a.waits.handed a.waits.request a.waits.given a.waits.end_reported v date found ∷ []))) o.failure o.output low))
 
     by-own : RespondsBy k mid mid_ended reply v answer_context date → StepIsAnswered client before (after_number k final requests source new ended) s date (Respond n v) reply
     by-own (inl h) =
         let s1 = answered_slot a.waits.handed a.waits.request a.waits.given a.waits.end_reported v date true in
-        let o = own-past before k.sink k.output_ended s.reached.slots a.bs s1 (response_sent true v a.waits.request date) s.failure st.output (longer_by true) a.turn.finished h.0 in
-        let P : Sink → Bool → ReplyValue → Type 0 = λ x y z. OwnSaid before x k.output_ended y s.reached.slots a.bs s1 (response_sent true v a.waits.request date) s.failure z in
+        let o = own-past before k.sink k.output_ended s.reached.slots a.bs s1 (response_sent true v a.waits.request date) s.flushed s.failure st.output (longer_by true) a.turn.finished h.0 in
+        let P : Sink → Bool → ReplyValue → Type 0 = λ x y z. OwnSaid before x k.output_ended y s.reached.slots a.bs s1 (response_sent true v a.waits.request date) s.flushed s.failure z in
         answered true (inl refl) (subst (λ x. P x mid_ended reply) (sym h.1) (subst (λ y. P k.sink y reply) (sym h.2) (subst (λ z. P k.sink k.output_ended z) (sym h.3) o)))
     by-own (inr h) =
         let own = subst (λ p. Answers k.sink mid mid_ended reply v.answer v.content p) (printed-for a.waits.request answer_context date a.answer_context_is) h.1 in
         let r = own.0 in
         ⊎_elim
         (λ x. answered true (inl refl)
-        (own-sent {T = Unit {0}} before k.sink mid k.output_ended mid_ended s.reached.slots a.bs (answered_slot a.waits.handed a.waits.request a.waits.given a.waits.end_reported v date true) (response_sent true v a.waits.request date) s.failure r reply st.output (longer_by true) a.turn.finished refl refl low h.0
+        (own-sent {T = Unit {0}} before k.sink mid k.output_ended mid_ended s.reached.slots a.bs (answered_slot a.waits.handed a.waits.request a.waits.given a.waits.end_reported v date true) (response_sent true v a.waits.request date) s.flushed s.failure r reply st.output (longer_by true) a.turn.finished refl refl low h.0
         x own.3 own.1))
         (λ x. answered false (inr x.0)
-        (own-sent {T = Unit {0}} before k.sink mid k.output_ended mid_ended s.reached.slots a.bs (answered_slot a.waits.handed a.waits.request a.waits.given a.waits.end_reported v date false) (response_sent false v a.waits.request date) s.failure r reply st.output (longer_by false) a.turn.finished refl refl low h.0 x.1 own.3 own.1))
+        (own-sent {T = Unit {0}} before k.sink mid k.output_ended mid_ended s.reached.slots a.bs (answered_slot a.waits.handed a.waits.request a.waits.given a.waits.end_reported v date false) (response_sent false v a.waits.request date) s.flushed s.failure r reply st.output (longer_by false) a.turn.finished refl refl low h.0 x.1 own.3 own.1))
         own.2
 
 pub responds-by : (k : Kept) (mid : Sink) (mid_ended : Bool) (reply : ReplyValue) (v : ResponseValue) (answer_context : AnswerContext) (date : HttpDate) → (k.output_ended ≡ true → (mid ≡ k.sink) × (mid_ended ≡ k.output_ended) × (reply ≡ Done))

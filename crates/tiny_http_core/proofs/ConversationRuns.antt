@@ -6,9 +6,8 @@ use Rattle.std.specs.Option.{option_map}
 use Rattle.std.specs.List.{AllZip}
 use Rattle.std.specs.Io.KnownBytes.{append_known}
 use Rattle.std.proofs.lemmas.Grind.{common_steps}
-use Rattle.tiny_http_wire.specs.Device.{Feed, Sink, IsFront, BeginsKnown, grown, next_count}
+use Rattle.tiny_http_wire.specs.Device.{Feed, Sink, BeginsKnown, grown, next_count}
 use Rattle.tiny_http_device.proofs.DeviceLemmas.{IsFront-append}
-use Rattle.tiny_http_core.proofs.ConversationWriting.{IsAllFlushed}
 use Rattle.tiny_http_stream.specs.Outlet.{holding}
 use Rattle.tiny_http_stream.specs.Source.{GoesOn}
 use Rattle.tiny_http_message.specs.Pipeline.{Item, Place, Pipeline, body_length_or_0, place_after}
@@ -20,11 +19,10 @@ use Rattle.tiny_http_wire.specs.declared.device.Stop.{Stop}
 use Rattle.tiny_http_core.specs.Slots.{Slot, joined, last_slot, last_is_open, last_was_abandoned, is_last_item, is_last_slot}
 use Rattle.tiny_http_core.specs.Steps.{ReplyValue}
 use Rattle.tiny_http_core.specs.Conversation.{State, Failure, StepsTo, Run, TimedValue, start_state, IsFresh, PlaceAt, WithinBody, WithinLast, InputAt, IsOutput, IsConversation}
-use Rattle.tiny_http_core.specs.Connection.{Kept, OutputAt, IsWaiting, behind_body, slot_rest, GivesRest, Stands}
+use Rattle.tiny_http_core.specs.Connection.{Kept, OutputAt, IsOpen, behind_body, slot_rest, GivesRest, Stands}
 use Rattle.tiny_http_stream.specs.ToCome.{stopped}
 use Rattle.tiny_http_message.specs.Body.{Remaining, remaining, is_streaming}
 use Rattle.tiny_http_core.specs.Pending.{last_body, is_streaming_body}
-use Rattle.tiny_http_message.specs.declared.waiting.Waiting.{Waiting}
 use Rattle.tiny_http_message.specs.declared.body.Body.{Body}
 use Rattle.tiny_http_wire.specs.declared.device.Stop.TheVariants.{End}
 use Rattle.tiny_http_core.proofs.ConnectionReader.{LastKept, done-open, waiting-open, open-by, behind-settled}
@@ -34,7 +32,8 @@ use Rattle.std.specs.declared.io.ErrorKind.{ErrorKind}
 use Rattle.tiny_http_core.specs.declared.driver.Step.{Step}
 use Rattle.tiny_http_core.specs.declared.driver.Step.TheVariants as step
 use Rattle.httpdate.specs.declared.date.HttpDate.{HttpDate}
-use Rattle.tiny_http_core.specs.Seen.{ReportsHonestly, ReportHonestly, MayFail}
+use Rattle.tiny_http_core.specs.Seen.{seen, ReportsHonestly, ReportHonestly, MayFail, all_sent_after, all_sent}
+use Rattle.tiny_http_core.specs.Driving.{stated_step}
 use Rattle.tiny_http_sending.specs.Sending.{FailsOnce, FailsOnceUnlessEnded, FailsAtMostOnce}
 use Rattle.tiny_http_device.proofs.DeviceLemmas.{grown-nil}
 use Rattle.tiny_http_stream.proofs.SourceGoesOn.{goes-on_same}
@@ -86,14 +85,13 @@ stands-begun client feed is_over sink items e fresh h =
       shape = tt;
       in_turn = tt;
       asking_ended = refl;
-      flushed = λ none. refl;
       reader = record {
         settled = tt;
         gives = tt;
         next = λ z. record { is_last = refl; within = refl; lost = λ l. cc; place = λ l. subst P (sym e) h };
         source = subst G (sym e) (goes-on_same (Some client));
       };
-      output = (grown-nil sink.has_ended sink.taken ∙ fresh.no_bytes, refl, fresh.unended, refl, λ z. (sink.sent, refl));
+      output = (grown-nil sink.has_ended sink.taken ∙ fresh.no_bytes, refl, fresh.unended, refl, ([], refl), λ z. (sink.sent, refl));
     }
 
 -- what the bytes still ask from a place on
@@ -103,12 +101,12 @@ place-pipeline false stop None rest h = let P : List Item → Type 0 = λ x. Pip
 place-pipeline false stop (Some bytes) rest h = h
 
 -- the input within the last body
-within : (s : Slot) (w : Waiting) (f : Feed) (rest : List Item) (o : Option Remaining) → IsWaiting s w → is_streaming w.body ≡ true → remaining w.body (Some f) ≡ o → option_map (λ (r : Remaining). r.body) o ≡ Some (slot_rest s)
+within : (s : Slot) (b : Body) (f : Feed) (rest : List Item) (o : Option Remaining) → IsOpen s b → is_streaming b ≡ true → remaining b (Some f) ≡ o → option_map (λ (r : Remaining). r.body) o ≡ Some (slot_rest s)
     → PlaceAt (is_last_item s.item) (option_map (λ (r : Remaining). r.behind) o) rest → WithinBody s s.item f rest
-within s w f rest None h is_streaming_body e g p = let no : None ≡ Some (slot_rest s) = g in cc
-within s w f rest (Some x) h is_streaming_body e g p =
+within s b f rest None h is_streaming_body e g p = let no : None ≡ Some (slot_rest s) = g in cc
+within s b f rest (Some x) h is_streaming_body e g p =
     let same : x.body ≡ slot_rest s = cc in
-    let k = remains-of w.body h.request.framing.form (body_length_or_0 h.request.framing) h.given h.end_reported f x h.fits is_streaming_body e in
+    let k = remains-of b h.request.framing.form (body_length_or_0 h.request.framing) h.given h.end_reported f x h.fits is_streaming_body e in
     let content : x.body ≡ k.content = ap (λ (r : Remaining). r.body) k.is in
     let behind : x.behind ≡ place_feed f.stop k.next = ap (λ (r : Remaining). r.behind) k.is in
     let P : Slot → Type 0 = λ y. x.body ≡ slot_rest y → PlaceAt (is_last_item y.item) (Some x.behind) rest → WithinBody y y.item f rest in
@@ -123,9 +121,9 @@ within-last last b feed f rest stated (inr (inr w)) h g p =
     let G : Option Slot → Option Body → Option Feed → Type 0 = λ x y z. GivesRest y x z in
     let P : Option Slot → Option Body → Option Feed → Type 0 = λ x y z. PlaceAt (is_last_slot x) (behind_body y z) rest in
     let Q : Option Slot → Option Feed → Type 0 = λ x z. WithinLast x z rest in
-    let gives = subst (λ z. G (Some w.0) (Some w.1.body) z) stated (subst (λ y. G (Some w.0) y feed) w.3 (subst (λ x. G x b feed) w.2 g)) in
-    let place = subst (λ z. P (Some w.0) (Some w.1.body) z) stated (subst (λ y. P (Some w.0) y feed) w.3 (subst (λ x. P x b feed) w.2 p)) in
-    let inside = within w.0 w.1 f rest (remaining w.1.body (Some f)) w.4 (sym (waiting-open w.0 w.1 w.4) ∙ ap last_is_open (sym w.2) ∙ h) refl gives place in
+    let gives = subst (λ z. G (Some w.0) (Some w.1) z) stated (subst (λ y. G (Some w.0) y feed) w.3 (subst (λ x. G x b feed) w.2 g)) in
+    let place = subst (λ z. P (Some w.0) (Some w.1) z) stated (subst (λ y. P (Some w.0) y feed) w.3 (subst (λ x. P x b feed) w.2 p)) in
+    let inside = within w.0 w.1 f rest (remaining w.1 (Some f)) w.4 (sym (waiting-open w.0 w.1 w.4) ∙ ap last_is_open (sym w.2) ∙ h) refl gives place in
     subst (λ z. Q last z) (sym stated) (subst (λ x. Q x (Some f)) (sym w.2) inside)
 
 -- how the input stands at the end
@@ -171,38 +169,27 @@ sent-held held None whole e = let no : None ≡ Some whole = e in cc
 sent-held held (Some xs) whole e = (xs, refl, (let same : Some (xs ++ held) ≡ Some whole = e in cc))
 
 -- the output at the end: an outlet that has ended holds nothing
-pub output-end : (before sink : Sink) (held : List ℕ) (ended : Bool) (s : State) → (ended ≡ true → held ≡ []) → BeginsKnown sink.sent sink.taken → IsAllFlushed s → OutputAt before (holding sink held ended) ended s.reached.slots s.failure
-    → IsOutput s.reached.slots s.flushed s.failure before sink held ended
-output-end before sink held ended s empty begins firm h = by-failure s.failure firm h
-  where
-    begun-by : (slots : List Slot) (taken : List ℕ) → sink.taken ≡ Some taken → IsFront (joined slots) sink.sent → IsFront (joined slots) taken
-    begun-by slots taken is front =
-        let P : Option (List ℕ) → Type 0 = λ x. BeginsKnown sink.sent x in
-        IsFront-append (joined slots) sink.sent taken front (subst P is begins)
-
-    whole : (e : Bool) (slots : List Slot) → s.flushed ≡ joined slots → (e ≡ true → held ≡ []) → OutputAt before (holding sink held e) e slots None → IsOutput slots s.flushed None before sink held e
-    whole true slots all empty h =
-        let none = empty refl in
-        let bare : sink.taken ≡ Some (joined slots) = sym (grown-nil sink.has_ended sink.taken) ∙ ap (grown sink.has_ended sink.taken) (sym none) ∙ h.0 in
-        (h.1, joined slots, bare, ap (λ x. joined slots ++ x) none ∙ append-nil (joined slots), ([], sym all ∙ sym (append-nil s.flushed)), h.3)
-    whole false slots all empty h =
-        let z = sent-held held sink.taken (joined slots) (ap (λ x. grown x sink.taken held) (sym h.2) ∙ h.0) in
-        let F : List ℕ → Type 0 = λ x. IsFront x z.0 in
-        (h.1, z.0, z.1, z.2, subst F (sym all) (begun-by slots z.0 z.1 (h.4 refl)), h.3)
-
-    by-failure : (failure : Option Failure) → (failure ≡ None → s.flushed ≡ joined s.reached.slots) → OutputAt before (holding sink held ended) ended s.reached.slots failure → IsOutput s.reached.slots s.flushed failure before sink held ended
-    by-failure None firm h = whole ended s.reached.slots (firm refl) empty h
-    by-failure (Some f) firm h =
-        let none = empty h.3 in
-        (h.1, h.2, sym (grown-nil sink.has_ended sink.taken) ∙ ap (grown sink.has_ended sink.taken) (sym none) ∙ h.0, none, h.3)
+pub output-end : (before sink : Sink) (held : List ℕ) (ended : Bool) (slots : List Slot) (flushed : List ℕ) (failure : Option Failure) → (ended ≡ true → held ≡ []) → BeginsKnown sink.sent sink.taken → OutputAt before (holding sink held ended) ended slots flushed failure
+    → IsOutput slots flushed failure before sink held ended
+output-end before sink held true slots flushed None empty begins h =
+    let none = empty refl in
+    let bare : sink.taken ≡ Some (joined slots) = sym (grown-nil sink.has_ended sink.taken) ∙ ap (grown sink.has_ended sink.taken) (sym none) ∙ h.0 in
+    (h.1, joined slots, bare, ap (λ x. joined slots ++ x) none ∙ append-nil (joined slots), h.4, h.3)
+output-end before sink held false slots flushed None empty begins h =
+    let z = sent-held held sink.taken (joined slots) (ap (λ x. grown x sink.taken held) (sym h.2) ∙ h.0) in
+    let P : Option (List ℕ) → Type 0 = λ x. BeginsKnown sink.sent x in
+    (h.1, z.0, z.1, z.2, IsFront-append flushed sink.sent z.0 (h.5 refl) (subst P z.1 begins), h.3)
+output-end before sink held ended slots flushed (Some f) empty begins h =
+    let none = empty h.3 in
+    (h.1, h.2, sym (grown-nil sink.has_ended sink.taken) ∙ ap (grown sink.has_ended sink.taken) (sym none) ∙ h.0, none, h.3)
 
 -- a run to where the connection stands is a conversation, with what is then held and left
 pub conversation : (client : Feed) (before sink : Sink) (held : List ℕ) (k : Kept) (ended : Bool) (items : List Item) (end : State) (replies : List ReplyValue) (dated : List TimedValue) → k.sink ≡ holding sink held ended → k.output_ended ≡ ended → (ended ≡ true → held ≡ []) → BeginsKnown sink.sent sink.taken
     → Pipeline (Some client.bytes) client.stop items → Run (start_state items) dated replies end → Stands client before k end → IsConversation client before dated replies sink held ended k.feed
 conversation client before sink held k ended items end replies dated same same_end empty begins pipeline run st =
-    let P : Sink → Bool → Type 0 = λ x y. OutputAt before x y end.reached.slots end.failure in
+    let P : Sink → Bool → Type 0 = λ x y. OutputAt before x y end.reached.slots end.flushed end.failure in
     let out : P (holding sink held ended) ended = subst (λ y. P (holding sink held ended) y) same_end (subst (λ x. P x k.output_ended) same st.output) in
-    record { items = items; end = end; pipeline = pipeline; run = run; output = output-end before sink held ended end empty begins st.flushed out; input = input-end client before k end st }
+    record { items = items; end = end; pipeline = pipeline; run = run; output = output-end before sink held ended end.reached.slots end.flushed end.failure empty begins out; input = input-end client before k end st }
 
 -- the writer's count over the steps
 pub fails-step : (writer old new : Sink) (was ended : Bool) → FailsOnce writer old was → FailsOnceUnlessEnded was old new ended → FailsOnce writer new ended
@@ -222,6 +209,11 @@ fail-along feed a b c date step.Ask kind e h = h
 fail-along {D = D} feed a b c date (step.AsReader n) kind e h = elim h [ ]
 fail-along feed a b c date (step.Read n m) kind e h = h
 fail-along {D = D} feed a b c date (step.Drop n) kind e h = elim h [ ]
+fail-along {D = D} feed a b c date (step.IntoWriter n) kind e h = elim h [ ]
+fail-along feed a b c date (step.Write n v) kind e h = (h.0 ∙ ap next_count e, h.1)
+fail-along feed a b c date (step.Flush n) kind e h = (h.0 ∙ ap next_count e, h.1)
+fail-along {D = D} feed a b c date (step.Upgrade n p r) kind e h = elim h [ ]
+fail-along {D = D} feed a b c date (step.Finish n) kind e h = elim h [ ]
 fail-along feed a b c date (step.Respond n r) kind e (p, inl h) = (p, inl (h ∙ ap next_count e))
 fail-along feed a b c date (step.Respond n r) kind e (p, inr h) = (p, inr h)
 
@@ -249,3 +241,23 @@ honest-end feed a b c [] [] e h = e ∙ h
 honest-end feed a b c [] (x ∷ replies) e h = absurd h
 honest-end feed a b c (x ∷ steps) [] e h = absurd h
 honest-end feed a b c (x ∷ steps) (y ∷ replies) e h = (h.0, h.1, h.2, honest-end feed h.0 b c steps replies e h.3)
+
+-- whether all was sent on after one step more
+pub all-sent-snoc : {D : Type 0} (steps : List (Timed D)) (replies : List Reply) (t : Timed D) (r : Reply) (sent : Bool) → length steps ≡ length replies → all_sent (steps ++ t ∷ []) (replies ++ r ∷ []) sent ≡ all_sent_after t.step (seen r) (all_sent steps replies sent)
+all-sent-snoc [] [] t r sent e = refl
+all-sent-snoc [] (x ∷ replies) t r sent e = absurd (omega (arith, e))
+all-sent-snoc (x ∷ steps) [] t r sent e = absurd (omega (arith, e))
+all-sent-snoc (x ∷ steps) (y ∷ replies) t r sent e = all-sent-snoc steps replies t r (all_sent_after x.step (seen y) sent) (omega (arith, e))
+
+-- the same of a step as it is stated
+pub sent-stated : {D : Type 0} (feed : D → Option Feed) (x : Step D) (reply : ReplyValue) (sent : Bool) → all_sent_after (stated_step feed x) reply sent ≡ all_sent_after x reply sent
+sent-stated feed step.Ask reply sent = refl
+sent-stated feed (step.AsReader n) reply sent = refl
+sent-stated feed (step.Read n m) reply sent = refl
+sent-stated feed (step.Respond n v) reply sent = refl
+sent-stated feed (step.IntoWriter n) reply sent = refl
+sent-stated feed (step.Write n v) reply sent = refl
+sent-stated feed (step.Flush n) reply sent = refl
+sent-stated feed (step.Upgrade n p r) reply sent = refl
+sent-stated feed (step.Finish n) reply sent = refl
+sent-stated feed (step.Drop n) reply sent = refl

@@ -1,11 +1,13 @@
 -- The calls of a `Connection`, as steps.
-use Rattle.std.proofs.Common.{◌≡◌, refl, sym, ap, ◌∙◌, subst, ℕ, ◌-◌, ◌<◌, ◌^◌, inl, inr, Bool, true, false, List, [], ◌∷◌, ◌++◌, Option, Some, None, Ok}
+use Rattle.std.proofs.Common.{◌≡◌, refl, sym, ap, ◌∙◌, subst, ℕ, ◌-◌, ◌<◌, ◌^◌, inl, inr, Bool, true, false, not, ◌&&◌, ◌||◌, List, [], ◌∷◌, ◌++◌, Option, Some, None, Ok}
+use Rattle.std.proofs.Math.Bool.{or-false}
 use Rattle.std.specs.declared.io.ErrorKind.{ErrorKind}
 use Rattle.httpdate.specs.declared.date.HttpDate.{HttpDate}
 use Rattle.tiny_http_wire.specs.Device.{Feed, Sink}
 use Rattle.tiny_http_wire.specs.Answer.{Answer, Printing, ResponseState}
 use Rattle.tiny_http_wire.specs.declared.device.Stop.{Stop}
-use Rattle.tiny_http_message.specs.declared.waiting.Waiting.{Waiting}
+use Rattle.tiny_http_core.specs.declared.pending.Unfinished.{Unfinished}
+use Rattle.tiny_http_core.specs.Pending.{kept_body, GivesUpBody}
 use Rattle.std.specs.List.{AllZip}
 use Rattle.tiny_http_core.specs.declared.driver.Timed.{Timed}
 use Rattle.tiny_http_core.specs.declared.driver.Reply.{Reply}
@@ -15,33 +17,37 @@ use Rattle.tiny_http_core.specs.declared.pending.Pending.{Pending}
 use Rattle.tiny_http_stream.specs.Source.{SourceState, GoesOn}
 use Rattle.tiny_http_stream.specs.Outlet.{OutletState, output_of, SentOn}
 use Rattle.tiny_http_sending.specs.ResponseValue.{ResponseValue}
-use Rattle.tiny_http_core.specs.Steps.{StepValue, Ask, AsReader, Read, Respond, Drop, ReplyValue, Fault}
+use Rattle.tiny_http_core.specs.Steps.{StepValue, Ask, AsReader, Read, Respond, IntoWriter, Write, Flush, Upgrade, Finish, Drop, ReplyValue, Handed, Ended, Given, NotYet, Done, Refused, NoSuch, Memory, Fault, Reached, changes, use_in_turn, outcome}
 use Rattle.tiny_http_core.specs.Conversation.{State, TimedValue, IsFresh, start_state}
 use Rattle.tiny_http_sending.specs.Sending.{FailsOnceUnlessEnded, IsHonest}
-use Rattle.tiny_http_core.specs.Seen.{seen, IsResponse, IsStep, IsTimedStep, MayFail, ReportsHonestly, IsAnswered}
+use Rattle.tiny_http_core.specs.Seen.{seen, IsResponse, IsStep, IsTimedStep, MayFail, ReportsHonestly, IsAnswered, IsOfWriter, is_done, all_sent_after}
 use Rattle.tiny_http_message.specs.declared.body.Body.{Body}
-use Rattle.tiny_http_message.specs.Body.{GivesUp, is_streaming, body_standing}
+use Rattle.tiny_http_message.specs.Body.{is_streaming, body_standing}
 use Rattle.std.specs.Prelude.{MatchBool}
-use Rattle.tiny_http_core.specs.Connection.{Kept, ConnectionState, kept, Stands}
-use Rattle.tiny_http_core.specs.Driving.{HasDone, TakesStep, AskEnds, StepEnds, IsDeclined, stated_response, stated_step, StepLeaves, AskLeaves, LetsGo, StandsAfter, ReportsFault}
+use Rattle.tiny_http_core.specs.Connection.{Kept, ConnectionState, kept, Stands, HandedOut, open_slot, dropped}
+use Rattle.tiny_http_core.specs.Slots.{turn_has_come}
+use Rattle.tiny_http_core.proofs.ConnectionDrop.{at-drop, at-refused}
+use Rattle.std.specs.Prelude.{String, string_bytes, slice_get}
+use Rattle.tiny_http_core.specs.Driving.{HasDone, TakesStep, AskEnds, StepEnds, IsDeclined, stated_response, stated_step, StepLeaves, AskLeaves, LetsGo, StandsAfter, ReportsFault, UpgradeLeaves, IsDropping}
 use Rattle.tiny_http_core.proofs.ConnectionAsk.{StepIsAnswered}
 use Rattle.tiny_http_stream.proofs.SourceGoesOn.{goes-on_same}
-use Rattle.tiny_http_core.proofs.SeenLemmas.{is-ask, is-as_reader, is-read, is-respond, is-drop, step-ask, step-as_reader, step-read, step-respond, step-drop}
+use Rattle.tiny_http_core.proofs.SeenLemmas.{is-ask, is-as_reader, is-read, is-respond, is-into_writer, is-write, is-flush, is-upgrade, is-finish, is-drop, step-ask, step-as_reader, step-read, step-respond, step-into_writer, step-write, step-flush, step-upgrade, step-finish, step-drop}
 use Rattle.tiny_http_turns.specs.Turns.{Mark}
 use Rattle.std.specs.Prelude.{is_some}
 use Rattle.tiny_http_message.specs.declared.exchange.EndOfRequests.{EndOfRequests}
 use Rattle.tiny_http_stream.specs.declared.source.Standing.{Standing}
 use Rattle.tiny_http_stream.specs.declared.source.Standing.TheVariants as place
-use Rattle.std.specs.Global.{Vec}
+use Rattle.std.specs.Global.{Global, Vec}
 use Rattle.tiny_http_wire.specs.declared.common.StatusCode.{StatusCode}
 use Rattle.tiny_http_message.specs.declared.exchange.HeadRead.TheVariants as read
 use Rattle.tiny_http_message.specs.declared.exchange.EndOfRequests.TheVariants as because
 use Rattle.tiny_http_message.specs.HeadReads.{ReadsHead, EndsAt, IsBeforeHead}
-use Rattle.tiny_http_message.specs.Pipeline.{OneHead}
+use Rattle.tiny_http_message.specs.Pipeline.{OneHead, Request}
 use Rattle.tiny_http_core.specs.Driving.{IsRefusal, EndsRequestsAt}
 use Rattle.tiny_http_message.specs.PipelineReading.{items_of}
 use Rattle.tiny_http_message.proofs.PipelineLemmas.{feed-pipeline}
 use Rattle.tiny_http_core.proofs.ConversationRuns.{run-more, stands-begun, split}
+use Rattle.tiny_http_message.proofs.BodyReads.{gives-up}
 use Rattle.tiny_http_sending.proofs.SendingLemmas.{once-none}
 
 -- the fields as they are seen
@@ -52,7 +58,7 @@ viewed source outlet pending end =
 -- the same numbers, and the same kept of them
 pub same-view : {R W : Type 0} (source : SourceState R) (outlet : OutletState W) (p q : Pending) (end : Option EndOfRequests) → p.turns.marks ≡ q.turns.marks → p.requests.items ≡ q.requests.items → viewed source outlet p end ≡ viewed source outlet q end
 same-view {R = R} {W = W} source outlet p q end marks requests =
-    let V : List Mark → List (Option Waiting) → ConnectionState R W = λ m r. record { marks = m; requests = r; end = end; source = source; outlet = outlet } in
+    let V : List Mark → List (Option Unfinished) → ConnectionState R W = λ m r. record { marks = m; requests = r; end = end; source = source; outlet = outlet } in
     ap (λ m. V m p.requests.items) marks ∙ ap (λ r. V q.turns.marks r) requests
 
 pub none-of : {X : Type 0} (o : Option X) → is_some o ≡ false → o ≡ None
@@ -64,7 +70,7 @@ refusal-at : (at : Standing) (date : HttpDate) (o p : Option Feed) (status : Sta
 refusal-at at date o p status text last h f e =
     let P : Option Feed → Type 0 = λ y. ReadsHead at date y p (Ok (read.Refused status text last)) in
     let r = subst P e h in
-    (status, r.0, r.1, false, r.3, r.6, refl)
+    (status, r.0, r.1, r.2, r.3, r.6, refl)
 
 end-at : (at : Standing) (date : HttpDate) (o p : Option Feed) (why : EndOfRequests) → ReadsHead at date o p (Ok (read.Ended why)) → (f : Feed) → o ≡ Some f → OneHead f.bytes f.stop None None × EndsAt at f.bytes f.stop why
 end-at at date o p why h f e = let P : Option Feed → Type 0 = λ y. ReadsHead at date y p (Ok (read.Ended why)) in subst P e h
@@ -83,30 +89,58 @@ end-final (place.Broken kind) date o p why outside last h = λ f e. inr (end-at 
 end-final place.Body date o p why outside last h = absurd (outside refl)
 end-final place.Last date o p why outside last h = last refl
 
--- what a step does to input and output, whatever they state
-pub record Moves {R W : Type 0} (old new : ConnectionState R W) : Type 0 where
+-- what a step does to input and output, whatever they state; it holds back nothing if `all`, else if nothing was held before
+pub record Moves {R W : Type 0} (all : Bool) (old new : ConnectionState R W) : Type 0 where
   pub goes_on : GoesOn old.source.feed new.source.feed
   pub fails_once : FailsOnceUnlessEnded old.outlet.ended (output_of old.outlet) (output_of new.outlet) new.outlet.ended
-  pub flushed : old.outlet.held ≡ [] → new.outlet.held ≡ []
-  pub sent_on : SentOn old.outlet → SentOn new.outlet
+  pub flushed : (all ≡ false → old.outlet.held ≡ []) → new.outlet.held ≡ []
+  pub sent_on : (all ≡ false → SentOn old.outlet) → SentOn new.outlet
 
 -- nothing is written
-pub driving-reads-on : {R W : Type 0} (old new : ConnectionState R W) → old.outlet ≡ new.outlet → GoesOn old.source.feed new.source.feed → Moves old new
+pub driving-reads-on : {R W : Type 0} (old new : ConnectionState R W) → old.outlet ≡ new.outlet → GoesOn old.source.feed new.source.feed → Moves false old new
 driving-reads-on {W = W} old new e h =
     let P : OutletState W → Type 0 = λ o. FailsOnceUnlessEnded old.outlet.ended (output_of old.outlet) (output_of o) o.ended in
     record {
       goes_on = h;
       fails_once = subst P e (once-none old.outlet.ended (output_of old.outlet));
-      flushed = λ none. ap (λ o. o.held) (sym e) ∙ none;
-      sent_on = λ s. subst (λ o. SentOn o) e s;
+      flushed = λ none. ap (λ o. o.held) (sym e) ∙ none refl;
+      sent_on = λ s. subst (λ o. SentOn o) e (s refl);
     }
 
-pub moves-none : {R W : Type 0} (c : ConnectionState R W) → Moves c c
+pub moves-none : {R W : Type 0} (c : ConnectionState R W) → Moves false c c
 moves-none c = driving-reads-on c c refl (goes-on_same c.source.feed)
+
+-- the same, by the step and its reply
+pub record MovesBy {R W : Type 0} (x : Step (Option Feed)) (reply : ReplyValue) (old new : ConnectionState R W) : Type 0 where
+  pub goes_on : GoesOn old.source.feed new.source.feed
+  pub fails_once : FailsOnceUnlessEnded old.outlet.ended (output_of old.outlet) (output_of new.outlet) new.outlet.ended
+  pub flushed : (sent : Bool) → (sent ≡ true → old.outlet.held ≡ []) → all_sent_after x reply sent ≡ true → new.outlet.held ≡ []
+  pub sent_on : (sent : Bool) → (sent ≡ true → SentOn old.outlet) → all_sent_after x reply sent ≡ true → SentOn new.outlet
+
+-- a step after which as much is sent on as before
+moves-kept : {R W : Type 0} (x : Step (Option Feed)) (reply : ReplyValue) (old new : ConnectionState R W) → ((sent : Bool) → all_sent_after x reply sent ≡ sent) → Moves false old new → MovesBy x reply old new
+moves-kept x reply old new same m = record {
+  goes_on = m.goes_on;
+  fails_once = m.fails_once;
+  flushed = λ sent was e. m.flushed (λ z. was (sym (same sent) ∙ e));
+  sent_on = λ sent was e. m.sent_on (λ z. was (sym (same sent) ∙ e));
+}
+
+-- an answer or a Flush, after which all is sent on if it is done
+moves-sent : {R W : Type 0} (x : Step (Option Feed)) (reply : ReplyValue) (all : Bool) (old new : ConnectionState R W) → ((sent : Bool) → all_sent_after x reply sent ≡ (sent || is_done reply)) → is_done reply ≡ all → Moves all old new → MovesBy x reply old new
+moves-sent x reply all old new same done m = record {
+  goes_on = m.goes_on;
+  fails_once = m.fails_once;
+  flushed = λ sent was e. m.flushed (λ z. was (before sent e z));
+  sent_on = λ sent was e. m.sent_on (λ z. was (before sent e z));
+}
+  where
+    before : (sent : Bool) → all_sent_after x reply sent ≡ true → all ≡ false → sent ≡ true
+    before sent e z = sym (or-false sent) ∙ ap (λ b. sent || b) (sym (done ∙ z)) ∙ sym (same sent) ∙ e
 
 pub takes : {R W : Type 0} (old new : ConnectionState R W) (now : HttpDate) (x : Step (Option Feed)) (reply : ReplyValue)
     → ((client : Feed) (before : Sink) (s : State) (asked : StepValue) → before.failures < 2 ^ 64 - 1 → IsStep (λ f. f) x asked → Stands client before (kept old) s → StepIsAnswered client before (kept new) s now asked reply)
-    → (IsDeclined x reply → new ≡ old) → StepEnds x old new reply → StepLeaves x old new reply → Moves old new → ((kind : ErrorKind) → reply ≡ Fault kind → ReportsFault old new now x kind) → TakesStep old new now x reply
+    → (IsDeclined x reply → new ≡ old) → StepEnds x old new reply → StepLeaves x old new reply → MovesBy x reply old new → ((kind : ErrorKind) → reply ≡ Fault kind → ReportsFault old new now x kind) → TakesStep old new now x reply
 takes old new now x reply answers declined ends leaves moves honest =
     record {
       does = λ client before steps replies asked is done.
@@ -122,13 +156,17 @@ takes old new now x reply answers declined ends leaves moves honest =
       honest = honest;
     }
 
--- the body of the one request that is kept under a number was given up
-pub gives-up-kept : {R : Type 0} (old new : SourceState R) (o : Option (Option Waiting)) (w : Waiting) → o ≡ Some (Some w) → GivesUp w.body old new → (x : Waiting) → o ≡ Some (Some x) → GivesUp x.body old new
-gives-up-kept old new o w e h x f =
-    let U : Waiting → Type 0 = λ y. GivesUp y.body old new in
-    let same : ◌≡◌ {A = Option (Option Waiting)} (Some (Some w)) (Some (Some x)) = sym e ∙ f in
-    let is : w ≡ x = cc in
-    subst U is h
+-- the body of what is kept under one number was given up
+pub gives-up-of : {R : Type 0} (old new : SourceState R) (o : Option (Option Unfinished)) (u : Unfinished) → o ≡ Some (Some u) → GivesUpBody (kept_body (Some u)) old new → (v : Unfinished) → o ≡ Some (Some v) → GivesUpBody (kept_body (Some v)) old new
+gives-up-of old new o u e gives v f = subst (λ x. GivesUpBody (kept_body (Some x)) old new) (one u v (sym e ∙ f)) gives
+  where
+    one : (x y : Unfinished) → ◌≡◌ {A = Option (Option Unfinished)} (Some (Some x)) (Some (Some y)) → x ≡ y
+    one x y h = cc
+
+-- the source goes on where a body is given up
+pub gives-up-body : {R : Type 0} (b : Option Body) (old new : SourceState R) → GivesUpBody b old new → GoesOn old.feed new.feed
+gives-up-body {R = R} None old new h = let P : SourceState R → Type 0 = λ x. GoesOn old.feed x.feed in subst P (sym h) (goes-on_same old.feed)
+gives-up-body (Some b) old new h = gives-up b old new h
 
 -- where the source stands after a read
 pub stands-after : {R : Type 0} (was body : Body) (old new : SourceState R) → (is_streaming was ≡ false → new ≡ old) → (is_streaming was ≡ true → new.standing ≡ body_standing body old.standing) → StandsAfter was body old new
@@ -144,50 +182,147 @@ ReportsNoFault reply = (kind : ErrorKind) → reply ≡ Fault kind → ⊥
 
 pub takes-ask : {R W : Type 0} (old new : ConnectionState R W) (now : HttpDate) (reply : ReplyValue)
     → ((client : Feed) (before : Sink) (s : State) → before.failures < 2 ^ 64 - 1 → Stands client before (kept old) s → StepIsAnswered client before (kept new) s now Ask reply)
-    → (IsDeclined step.Ask reply → new ≡ old) → AskEnds old new reply → AskLeaves old new reply → Moves old new → ReportsNoFault reply → TakesStep old new now step.Ask reply
+    → (IsDeclined step.Ask reply → new ≡ old) → AskEnds old new reply → AskLeaves old new reply → Moves false old new → ReportsNoFault reply → TakesStep old new now step.Ask reply
 takes-ask old new now reply answers declined ends leaves moves none =
     takes old new now step.Ask reply
     (λ client before s asked low is st. step-ask {D = Option Feed} (λ f. f) client before (kept new) s now (now, asked) step.Ask reply refl refl is (answers client before s low st))
-    declined ends leaves moves (λ kind e. absurd (none kind e))
+    declined ends leaves (moves-kept step.Ask reply old new (λ sent. refl) moves) (λ kind e. absurd (none kind e))
 
 pub takes-as_reader : {R W : Type 0} (old new : ConnectionState R W) (now : HttpDate) (n : ℕ) (reply : ReplyValue)
     → ((client : Feed) (before : Sink) (s : State) → before.failures < 2 ^ 64 - 1 → Stands client before (kept old) s → StepIsAnswered client before (kept new) s now (AsReader n) reply)
-    → (IsDeclined (step.AsReader n) reply → new ≡ old) → new.end ≡ old.end → StepLeaves (step.AsReader n) old new reply → Moves old new → ReportsNoFault reply → TakesStep old new now (step.AsReader n) reply
+    → (IsDeclined (step.AsReader n) reply → new ≡ old) → new.end ≡ old.end → StepLeaves (step.AsReader n) old new reply → Moves false old new → ReportsNoFault reply → TakesStep old new now (step.AsReader n) reply
 takes-as_reader old new now n reply answers declined ends leaves moves none =
     takes old new now (step.AsReader n) reply
     (λ client before s asked low is st. step-as_reader {D = Option Feed} (λ f. f) client before (kept new) s now (now, asked) (step.AsReader n) n reply refl refl is (answers client before s low st))
-    declined ends leaves moves (λ kind e. absurd (none kind e))
+    declined ends leaves (moves-kept (step.AsReader n) reply old new (λ sent. refl) moves) (λ kind e. absurd (none kind e))
 
 pub takes-drop : {R W : Type 0} (old new : ConnectionState R W) (now : HttpDate) (n : ℕ) (reply : ReplyValue)
     → ((client : Feed) (before : Sink) (s : State) → before.failures < 2 ^ 64 - 1 → Stands client before (kept old) s → StepIsAnswered client before (kept new) s now (Drop n) reply)
-    → (IsDeclined (step.Drop n) reply → new ≡ old) → new.end ≡ old.end → (IsAnswered reply → LetsGo n old new) → Moves old new → ReportsNoFault reply → TakesStep old new now (step.Drop n) reply
+    → (IsDeclined (step.Drop n) reply → new ≡ old) → new.end ≡ old.end → (IsAnswered reply → LetsGo n old new) → Moves false old new → ReportsNoFault reply → TakesStep old new now (step.Drop n) reply
 takes-drop old new now n reply answers declined ends leaves moves none =
     takes old new now (step.Drop n) reply
     (λ client before s asked low is st. step-drop {D = Option Feed} (λ f. f) client before (kept new) s (now, asked) (step.Drop n) n reply refl is (answers client before s low st))
-    declined ends leaves moves (λ kind e. absurd (none kind e))
+    declined ends leaves (moves-kept (step.Drop n) reply old new (λ sent. refl) moves) (λ kind e. absurd (none kind e))
 
 pub takes-read : {R W : Type 0} (old new : ConnectionState R W) (now : HttpDate) (n m : ℕ) (reply : ReplyValue)
     → ((client : Feed) (before : Sink) (s : State) → Stands client before (kept old) s → StepIsAnswered client before (kept new) s now (Read n m) reply)
-    → (IsDeclined (step.Read n m) reply → new ≡ old) → new.end ≡ old.end → StepLeaves (step.Read n m) old new reply → Moves old new → TakesStep old new now (step.Read n m) reply
+    → (IsDeclined (step.Read n m) reply → new ≡ old) → new.end ≡ old.end → StepLeaves (step.Read n m) old new reply → Moves false old new → TakesStep old new now (step.Read n m) reply
 takes-read old new now n m reply answers declined ends leaves moves =
     takes old new now (step.Read n m) reply
     (λ client before s asked low is st. step-read {D = Option Feed} (λ f. f) client before (kept new) s (now, asked) (step.Read n m) n m reply refl is (answers client before s st))
-    declined ends leaves moves (λ kind e. tt)
+    declined ends leaves (moves-kept (step.Read n m) reply old new (λ sent. refl) moves) (λ kind e. tt)
 
-pub takes-respond : {R W D : Type 0} (feed : D → Option Feed) (old new : ConnectionState R W) (now : HttpDate) (n : ℕ) (r : ResponseState D) (reply : ReplyValue)
+pub takes-respond : {R W D : Type 0} (feed : D → Option Feed) (all : Bool) (old new : ConnectionState R W) (now : HttpDate) (n : ℕ) (r : ResponseState D) (reply : ReplyValue)
     → ((client : Feed) (before : Sink) (s : State) (value : ResponseValue) → before.failures < 2 ^ 64 - 1 → IsResponse feed r value → Stands client before (kept old) s → StepIsAnswered client before (kept new) s now (Respond n value) reply)
-    → (IsDeclined (step.Respond n (stated_response feed r)) reply → new ≡ old) → new.end ≡ old.end → (IsAnswered reply → LetsGo n old new) → Moves old new → ((kind : ErrorKind) → reply ≡ Fault kind → ReportsFault old new now (step.Respond n (stated_response feed r)) kind)
+    → (IsDeclined (step.Respond n (stated_response feed r)) reply → new ≡ old) → new.end ≡ old.end → (IsAnswered reply → LetsGo n old new) → is_done reply ≡ all → Moves all old new → ((kind : ErrorKind) → reply ≡ Fault kind → ReportsFault old new now (step.Respond n (stated_response feed r)) kind)
     → TakesStep old new now (step.Respond n (stated_response feed r)) reply
-takes-respond feed old new now n r reply answers declined ends leaves moves honest =
+takes-respond feed all old new now n r reply answers declined ends leaves done moves honest =
     takes old new now (step.Respond n (stated_response feed r)) reply
     (λ client before s asked low is st. step-respond {D = Option Feed} (λ f. f) client before (kept new) s now (now, asked) (step.Respond n (stated_response feed r)) n (stated_response feed r) reply refl refl is (λ v h. answers client before s v low h st))
-    declined ends leaves moves honest
+    declined ends leaves (moves-sent (step.Respond n (stated_response feed r)) reply all old new (λ sent. refl) done moves) honest
+
+pub takes-into_writer : {R W : Type 0} (old new : ConnectionState R W) (now : HttpDate) (n : ℕ) (reply : ReplyValue)
+    → ((client : Feed) (before : Sink) (s : State) → before.failures < 2 ^ 64 - 1 → Stands client before (kept old) s → StepIsAnswered client before (kept new) s now (IntoWriter n) reply)
+    → (IsDeclined (step.IntoWriter n) reply → new ≡ old) → new.end ≡ old.end → StepLeaves (step.IntoWriter n) old new reply → Moves false old new → ReportsNoFault reply → TakesStep old new now (step.IntoWriter n) reply
+takes-into_writer old new now n reply answers declined ends leaves moves none =
+    takes old new now (step.IntoWriter n) reply
+    (λ client before s asked low is st. step-into_writer {D = Option Feed} (λ f. f) client before (kept new) s (now, asked) (step.IntoWriter n) n reply refl is (answers client before s low st))
+    declined ends leaves (moves-kept (step.IntoWriter n) reply old new (λ sent. refl) moves) (λ kind e. absurd (none kind e))
+
+pub takes-finish : {R W : Type 0} (old new : ConnectionState R W) (now : HttpDate) (n : ℕ) (reply : ReplyValue)
+    → ((client : Feed) (before : Sink) (s : State) → before.failures < 2 ^ 64 - 1 → Stands client before (kept old) s → StepIsAnswered client before (kept new) s now (Finish n) reply)
+    → (IsDeclined (step.Finish n) reply → new ≡ old) → new.end ≡ old.end → StepLeaves (step.Finish n) old new reply → Moves false old new → ReportsNoFault reply → TakesStep old new now (step.Finish n) reply
+takes-finish old new now n reply answers declined ends leaves moves none =
+    takes old new now (step.Finish n) reply
+    (λ client before s asked low is st. step-finish {D = Option Feed} (λ f. f) client before (kept new) s (now, asked) (step.Finish n) n reply refl is (answers client before s low st))
+    declined ends leaves (moves-kept (step.Finish n) reply old new (λ sent. refl) moves) (λ kind e. absurd (none kind e))
+
+pub takes-flush : {R W : Type 0} (all : Bool) (old new : ConnectionState R W) (now : HttpDate) (n : ℕ) (reply : ReplyValue)
+    → ((client : Feed) (before : Sink) (s : State) → before.failures < 2 ^ 64 - 1 → Stands client before (kept old) s → StepIsAnswered client before (kept new) s now (Flush n) reply)
+    → (IsDeclined (step.Flush n) reply → new ≡ old) → new.end ≡ old.end → StepLeaves (step.Flush n) old new reply → is_done reply ≡ all → Moves all old new → ((kind : ErrorKind) → reply ≡ Fault kind → IsOfWriter (output_of old.outlet) (output_of new.outlet) kind)
+    → TakesStep old new now (step.Flush n) reply
+takes-flush all old new now n reply answers declined ends leaves done moves honest =
+    takes old new now (step.Flush n) reply
+    (λ client before s asked low is st. step-flush {D = Option Feed} (λ f. f) client before (kept new) s (now, asked) (step.Flush n) n reply refl is (answers client before s low st))
+    declined ends leaves (moves-sent (step.Flush n) reply all old new (λ sent. refl) done moves) honest
+
+-- a Write that wasn't done leaves what is sent on as it was; of one that was nothing is said
+pub takes-write : {R W : Type 0} (old new : ConnectionState R W) (now : HttpDate) (n : ℕ) (v : Vec ℕ) (bytes : List ℕ) (reply : ReplyValue)
+    → v.items ≡ bytes → ((client : Feed) (before : Sink) (s : State) → before.failures < 2 ^ 64 - 1 → Stands client before (kept old) s → StepIsAnswered client before (kept new) s now (Write n bytes) reply)
+    → (IsDeclined (step.Write n v) reply → new ≡ old) → new.end ≡ old.end → StepLeaves (step.Write n v) old new reply → GoesOn old.source.feed new.source.feed
+    → FailsOnceUnlessEnded old.outlet.ended (output_of old.outlet) (output_of new.outlet) new.outlet.ended → (is_done reply ≡ false → new.outlet ≡ old.outlet) → ((kind : ErrorKind) → reply ≡ Fault kind → IsOfWriter (output_of old.outlet) (output_of new.outlet) kind)
+    → TakesStep old new now (step.Write n v) reply
+takes-write {W = W} old new now n v bytes reply same answers declined ends leaves goes once still honest =
+    takes old new now (step.Write n v) reply
+    (λ client before s asked low is st.
+    let P : List ℕ → Type 0 = λ l. StepIsAnswered client before (kept new) s now (Write n l) reply in
+    step-write {D = Option Feed} (λ f. f) client before (kept new) s (now, asked) (step.Write n v) n v reply refl is (subst P (sym same) (answers client before s low st)))
+    declined ends leaves (record {
+      goes_on = goes;
+      fails_once = once;
+      flushed = λ sent was e. let h = apart sent (is_done reply) refl e in ap (λ (o : OutletState W). o.held) (still h.1) ∙ was h.0;
+      sent_on = λ sent was e. let h = apart sent (is_done reply) refl e in subst (λ (o : OutletState W). SentOn o) (sym (still h.1)) (was h.0);
+    }) honest
+  where
+    apart : (sent done : Bool) → is_done reply ≡ done → (sent && not done) ≡ true → (sent ≡ true) × (is_done reply ≡ false)
+    apart true false d e = (refl, d)
+    apart true true d e = cc
+    apart false true d e = cc
+    apart false false d e = cc
+
+pub takes-upgrade : {R W D : Type 0} (feed : D → Option Feed) (all : Bool) (old new : ConnectionState R W) (now : HttpDate) (n : ℕ) (p : String Global) (r : ResponseState D) (reply : ReplyValue)
+    → ((client : Feed) (before : Sink) (s : State) (value : ResponseValue) → before.failures < 2 ^ 64 - 1 → value.answer ≡ r.answer → Stands client before (kept old) s → StepIsAnswered client before (kept new) s now (Upgrade n (string_bytes p) value) reply)
+    → (IsDeclined (step.Upgrade n p (stated_response feed r)) reply → new ≡ old) → new.end ≡ old.end → UpgradeLeaves n old new reply → is_done reply ≡ all → Moves all old new → ReportsNoFault reply → TakesStep old new now (step.Upgrade n p (stated_response feed r)) reply
+takes-upgrade feed all old new now n p r reply answers declined ends leaves done moves none =
+    takes old new now (step.Upgrade n p (stated_response feed r)) reply
+    (λ client before s asked low is st. step-upgrade {D = Option Feed} (λ f. f) client before (kept new) s (now, asked) (step.Upgrade n p (stated_response feed r)) n p (stated_response feed r) reply refl is (λ v same. answers client before s v low same st))
+    declined ends leaves (moves-sent (step.Upgrade n p (stated_response feed r)) reply all old new (λ sent. refl) done moves) (λ kind e. absurd (none kind e))
+
+-- a step that drops a request
+pub drops-by : {R W : Type 0} (n : ℕ) (old new : ConnectionState R W) (now : HttpDate)
+    → ((client : Feed) (before : Sink) (s : State) (asked : StepValue) (reply : ReplyValue)
+    → ((was : Reached) (by : HandedOut) (r : Request) (given : ℕ) (end_reported : Bool) → slice_get was.slots n ≡ Some (open_slot by r given end_reported) → outcome true now was asked ≡ changes was n (dropped by r given end_reported) reply (use_in_turn (turn_has_come n was.slots)))
+    → before.failures < 2 ^ 64 - 1 → Stands client before (kept old) s → StepIsAnswered client before (kept new) s now asked reply)
+    → new.end ≡ old.end → LetsGo n old new → Moves false old new → (x : Step (Option Feed)) (reply : ReplyValue) → IsDropping n x reply → TakesStep old new now x reply
+drops-by n old new now answers ends leaves moves = by
+  where
+    by : (x : Step (Option Feed)) (reply : ReplyValue) → IsDropping n x reply → TakesStep old new now x reply
+    by step.Ask reply is = elim is [ ]
+    by (step.AsReader k) reply is = elim is [ ]
+    by (step.Read k m) reply is = elim is [ ]
+    by (step.Respond k r) reply is = elim is [ ]
+    by (step.IntoWriter k) reply is = elim is [ ]
+    by (step.Write k v) reply is = elim is [ ]
+    by (step.Flush k) reply is = elim is [ ]
+    by (step.Finish k) reply is = elim is [ ]
+    by (step.Drop k) (Handed a b c) is = elim is [ ]
+    by (step.Drop k) Ended is = elim is [ ]
+    by (step.Drop k) (Given b) is = elim is [ ]
+    by (step.Drop k) (Fault kind) is = elim is [ ]
+    by (step.Drop k) NotYet is = elim is [ ]
+    by (step.Drop k) Done is =
+        let T : ℕ → Type 0 = λ m. TakesStep old new now (step.Drop m) Done in
+        subst T (sym is) (takes-drop old new now n Done (λ client before s low st. answers client before s (Drop n) Done (at-drop now n) low st) (λ no. elim no [ ]) ends (λ done. leaves) moves (λ kind e. cc))
+    by (step.Drop k) Refused is = elim is [ ]
+    by (step.Drop k) NoSuch is = elim is [ ]
+    by (step.Drop k) Memory is = elim is [ ]
+    by (step.Upgrade k p r) (Handed a b c) is = elim is [ ]
+    by (step.Upgrade k p r) Ended is = elim is [ ]
+    by (step.Upgrade k p r) (Given b) is = elim is [ ]
+    by (step.Upgrade k p r) (Fault kind) is = elim is [ ]
+    by (step.Upgrade k p r) NotYet is = elim is [ ]
+    by (step.Upgrade k p r) Done is = elim is [ ]
+    by (step.Upgrade k p r) Refused is =
+        let T : ℕ → Type 0 = λ m. TakesStep old new now (step.Upgrade m p r) Refused in
+        subst T (sym is.0) (takes-upgrade {D = Option Feed} (λ f. f) false old new now n p r Refused (λ client before s v low same st. answers client before s (Upgrade n (string_bytes p) v) Refused (at-refused now n (string_bytes p) v is.1) low st) (λ no. elim no [ ]) ends leaves refl moves (λ kind e. cc))
+    by (step.Upgrade k p r) NoSuch is = elim is [ ]
+    by (step.Upgrade k p r) Memory is = elim is [ ]
 
 -- a connection at its begin
 pub begins : {R W : Type 0} (client : Feed) (before : Sink) (writer : W) (c : ConnectionState R W) → c.marks ≡ [] → c.requests ≡ [] → c.source.standing ≡ place.Head → c.end ≡ None → c.source.feed ≡ Some client → c.source.stop ≡ None
     → c.outlet ≡ record { held = []; ended = false; writer = writer; sink = before } → IsFresh before → HasDone client before c [] []
 begins {W = W} client before writer c m r o e feed stop outlet fresh =
-    let K : List Mark → List (Option Waiting) → Standing → Option EndOfRequests → Option Stop → OutletState W → Kept = λ m r o e s w.
+    let K : List Mark → List (Option Unfinished) → Standing → Option EndOfRequests → Option Stop → OutletState W → Kept = λ m r o e s w.
     record { marks = m; requests = r; standing = o; asking_ended = is_some e; feed = c.source.feed; stop = s; is_over = c.source.is_over; sink = output_of w; output_ended = w.ended } in
     let S : Kept → Type 0 = λ k. Stands client before k (start_state (items_of client)) in
     let none : OutletState W = record { held = []; ended = false; writer = writer; sink = before } in
@@ -213,6 +348,13 @@ is-stated feed (step.Read k n) asked h = subst (λ y. (let a : Step (Option Feed
 is-stated feed (step.Respond k r) asked h =
     let s = is-respond feed k r asked h in
     subst (λ y. IsStep (λ f. f) (step.Respond k (stated_response feed r)) y) (sym s.is) (refl, s.response)
+is-stated feed (step.IntoWriter k) asked h = subst (λ y. (let a : Step (Option Feed) = step.IntoWriter k in IsStep (λ f. f) a y)) (sym (is-into_writer feed k asked h)) refl
+is-stated feed (step.Write k v) asked h = subst (λ y. (let a : Step (Option Feed) = step.Write k v in IsStep (λ f. f) a y)) (sym (is-write feed k v asked h)) (refl, refl)
+is-stated feed (step.Flush k) asked h = subst (λ y. (let a : Step (Option Feed) = step.Flush k in IsStep (λ f. f) a y)) (sym (is-flush feed k asked h)) refl
+is-stated feed (step.Upgrade k p r) asked h =
+    let s = is-upgrade feed k p r asked h in
+    subst (λ y. IsStep (λ f. f) (step.Upgrade k p (stated_response feed r)) y) (sym s.is) (refl, refl, s.answer)
+is-stated feed (step.Finish k) asked h = subst (λ y. (let a : Step (Option Feed) = step.Finish k in IsStep (λ f. f) a y)) (sym (is-finish feed k asked h)) refl
 is-stated feed (step.Drop k) asked h = subst (λ y. (let a : Step (Option Feed) = step.Drop k in IsStep (λ f. f) a y)) (sym (is-drop feed k asked h)) refl
 
 may-fail : {R W D : Type 0} (feed : D → Option Feed) (old new : ConnectionState R W) (now : HttpDate) (x : Step D) (kind : ErrorKind) → ReportsFault old new now (stated_step feed x) kind → MayFail feed (output_of old.outlet) (output_of new.outlet) now x kind
@@ -220,6 +362,11 @@ may-fail feed old new now step.Ask kind h = h
 may-fail feed old new now (step.AsReader k) kind h = h
 may-fail feed old new now (step.Read k n) kind h = h
 may-fail feed old new now (step.Respond k r) kind h = (h.0, h.2)
+may-fail feed old new now (step.IntoWriter k) kind h = h
+may-fail feed old new now (step.Write k v) kind h = h
+may-fail feed old new now (step.Flush k) kind h = h
+may-fail feed old new now (step.Upgrade k p r) kind h = h
+may-fail feed old new now (step.Finish k) kind h = h
 may-fail feed old new now (step.Drop k) kind h = h
 
 pub reports-step : {R W D : Type 0} (feed : D → Option Feed) (old new : ConnectionState R W) (t : Timed D) (reply : Reply) → ((kind : ErrorKind) → seen reply ≡ Fault kind → ReportsFault old new t.now (stated_step feed t.step) kind) → ReportsHonestly feed (output_of old.outlet) (output_of new.outlet) t reply

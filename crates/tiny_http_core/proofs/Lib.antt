@@ -7,9 +7,12 @@ pub mod ConnectionTurns
 pub mod ConnectionBody
 pub mod ConnectionAsk
 pub mod ConnectionRespond
+pub mod ConnectionLeaving
 pub mod ConnectionDrop
 pub mod ConnectionRead
 pub mod ConnectionContinue
+pub mod ConnectionWriter
+pub mod ConnectionUpgrade
 pub mod PendingLemmas
 pub mod SeenLemmas
 pub mod ConversationRuns

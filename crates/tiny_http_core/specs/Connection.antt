@@ -10,27 +10,30 @@ use Rattle.tiny_http_wire.specs.Device.{Feed, Sink, IsFront, StatesKind, whole_f
 use Rattle.tiny_http_message.specs.declared.body.Body.{Body}
 use Rattle.tiny_http_wire.specs.declared.answer_context.AnswerContext.{AnswerContext}
 use Rattle.tiny_http_message.specs.declared.waiting.Waiting.{Waiting}
+use Rattle.tiny_http_core.specs.declared.pending.Unfinished.{Unfinished}
+use Rattle.tiny_http_core.specs.declared.pending.Unfinished.TheVariants as still
 use Rattle.tiny_http_message.specs.declared.framing.Form.TheVariants.{Rest}
 use Rattle.tiny_http_stream.specs.Source.{SourceState, GoesOn}
 use Rattle.tiny_http_stream.specs.ToCome.{stopped}
 use Rattle.tiny_http_message.specs.Body.{Remaining, remaining, taken_remaining, is_streaming, Fits}
-use Rattle.tiny_http_core.specs.Pending.{last_body, is_streaming_body}
+use Rattle.tiny_http_core.specs.Pending.{kept_body, last_body, is_streaming_body}
 use Rattle.tiny_http_message.specs.declared.exchange.EndOfRequests.{EndOfRequests}
 use Rattle.tiny_http_stream.specs.declared.source.Standing.{Standing}
 use Rattle.tiny_http_stream.specs.declared.source.Standing.TheVariants as at
 use Rattle.tiny_http_stream.specs.Outlet.{OutletState, output_of}
 use Rattle.tiny_http_message.specs.Pipeline.{Item, Asks, Refuses, Request, is_head_method, body_length_or_0}
-use Rattle.tiny_http_core.specs.Slots.{Slot, ByServer, is_finished, is_slot_broken, segment, stage_text, joined, is_output_broken, new_slot, last_slot, is_last_slot, last_was_abandoned, rest_of}
+use Rattle.tiny_http_core.specs.Slots.{Slot, Stage, ByServer, Raw, Upgraded, is_finished, is_slot_broken, segment, stage_text, joined, is_output_broken, new_slot, last_slot, is_last_slot, last_was_abandoned, rest_of}
 use Rattle.tiny_http_core.specs.Steps.{finished_as}
+use Rattle.tiny_http_sending.specs.ResponseValue.{ResponseValue}
 use Rattle.tiny_http_turns.specs.Turns.{Mark, Open, Left, Finished, AreInShape}
 use Rattle.tiny_http_core.specs.Conversation.{State, Failure, PlaceAt}
 
--- What the program keeps of a connection: the turns of its numbers, the requests that wait for their answers, where the
+-- What the program keeps of a connection: the turns of its numbers, what is kept of those that aren't finished, where the
 -- input stands among heads and bodies, whether the asking has ended, what is still to come of the input, how it stopped and
 -- whether it is over, what the writer states with what is held, and whether the output has ended.
 pub record Kept : Type 0 where
   pub marks : List Mark
-  pub requests : List (Option Waiting)
+  pub requests : List (Option Unfinished)
   pub standing : Standing
   pub asking_ended : Bool
   pub feed : Option Feed
@@ -39,11 +42,11 @@ pub record Kept : Type 0 where
   pub sink : Sink
   pub output_ended : Bool
 
--- What a clause sees of a `Connection`: the turns of its numbers, the requests that wait for their answers, why the asking
+-- What a clause sees of a `Connection`: the turns of its numbers, what is kept of those that aren't finished, why the asking
 -- has ended, if it has, its input and its output.
 pub record ConnectionState (R W : Type 0) : Type 0 where
   pub marks : List Mark
-  pub requests : List (Option Waiting)
+  pub requests : List (Option Unfinished)
   pub end : Option EndOfRequests
   pub source : SourceState R
   pub outlet : OutletState W
@@ -86,6 +89,41 @@ pub record IsWaiting (s : Slot) (w : Waiting) : Type 0 where
   -- where the body isn't read from the input, this is left of it
   pub settled : is_streaming w.body ≡ false → (f : Feed) → remaining w.body (Some f) ≡ Some (taken_remaining (rest_of request given) f)
 
+-- a number whose body can be read so far: it waits for its answer, or it was upgraded
+pub record IsOpen (s : Slot) (body : Body) : Type 0 where
+  pub request : Request
+  pub handed : HandedOut
+  pub stage : Stage
+  pub given : ℕ
+  pub end_reported : Bool
+  pub is : s ≡ record (open_slot handed request given end_reported) { stage = stage }
+  pub rest_is_last : request.framing.form ≡ Rest → request.framing.is_last ≡ true
+  pub fits : Fits body request.framing.form (body_length_or_0 request.framing) given end_reported
+  pub settled : is_streaming body ≡ false → (f : Feed) → remaining body (Some f) ≡ Some (taken_remaining (rest_of request given) f)
+
+-- a number whose raw writer is in use
+pub record IsRaw (s : Slot) : Type 0 where
+  pub request : Request
+  pub item : s.item ≡ Asks request
+  pub written : List ℕ
+  pub stage : s.stage ≡ Raw written false
+  pub given_up : s.given_up ≡ true
+
+-- a number that was upgraded, and whose stream is in use
+pub record IsUpgraded (s : Slot) (body : Body) : Type 0 where
+  pub opened : IsOpen s body
+  pub protocol : List ℕ
+  pub response : ResponseValue
+  pub date : HttpDate
+  pub written : List ℕ
+  pub stage : opened.stage ≡ Upgraded protocol response date written false
+
+-- a number that isn't finished
+abbrev pub IsUnfinished : Slot → Unfinished → Type 0
+IsUnfinished s (still.Waiting w) = IsWaiting s w
+IsUnfinished s still.Raw = IsRaw s
+IsUnfinished s (still.Upgraded body) = IsUpgraded s body
+
 -- a number that is finished
 pub record IsDone (s : Slot) : Type 0 where
   pub finished : is_finished s ≡ true
@@ -98,34 +136,34 @@ pub record IsLeft (s : Slot) (text : List ℕ) : Type 0 where
   pub same : segment s ≡ text
 
 -- what became of a number, by its turn and by what is kept of it
-abbrev pub IsKept : Slot → Mark → Option Waiting → Type 0
-IsKept s Open (Some w) = IsWaiting s w
+abbrev pub IsKept : Slot → Mark → Option Unfinished → Type 0
+IsKept s Open (Some u) = IsUnfinished s u
 IsKept s (Left text) None = IsLeft s text
 IsKept s Finished None = IsDone s
 IsKept s _ _ = ⊥
 
-abbrev pub AreKept : List Slot → List Mark → List (Option Waiting) → Type 0
+abbrev pub AreKept : List Slot → List Mark → List (Option Unfinished) → Type 0
 AreKept [] [] [] = Unit {0}
 AreKept (s ∷ slots) (m ∷ marks) (w ∷ requests) = IsKept s m w × AreKept slots marks requests
 AreKept _ _ _ = ⊥
 
--- a 100 is sent in its turn: none was sent behind the first number that isn't finished
-abbrev pub HasNoContinue : Slot → Type 0
-HasNoContinue s = s.continued ≡ None
+-- nothing was sent under this number, or all that was is left for its turn
+abbrev pub HasSentNothing : Slot → Type 0
+HasSentNothing s = (s.continued ≡ None) × (is_finished s ≡ false → (stage_text s.item s.date s.stage).bytes ≡ [])
 
-abbrev pub AreContinuedInTurn : List Slot → Type 0
-AreContinuedInTurn [] = Unit {0}
-AreContinuedInTurn (s ∷ slots) = MatchBool (is_finished s) (AreContinuedInTurn slots) (AllByRecursion HasNoContinue slots)
+-- what is sent is sent in its turn: nothing was sent behind the first number that isn't finished
+abbrev pub AreSentInTurn : List Slot → Type 0
+AreSentInTurn [] = Unit {0}
+AreSentInTurn (s ∷ slots) = MatchBool (is_finished s) (AreSentInTurn slots) (AllByRecursion HasSentNothing slots)
 
 -- only the last body is read from the input
-abbrev pub IsSettled : Option Waiting → Type 0
-IsSettled None = ⊤
-IsSettled (Some w) = is_streaming w.body ≡ false
+abbrev pub IsSettled : Option Unfinished → Type 0
+IsSettled u = is_streaming_body (kept_body u) ≡ false
 
-abbrev pub AreSettled : List (Option Waiting) → Type 0
+abbrev pub AreSettled : List (Option Unfinished) → Type 0
 AreSettled [] = ⊤
-AreSettled (w ∷ []) = ⊤
-AreSettled (w ∷ v ∷ ws) = IsSettled w × AreSettled (v ∷ ws)
+AreSettled (u ∷ []) = ⊤
+AreSettled (u ∷ v ∷ us) = IsSettled u × AreSettled (v ∷ us)
 
 -- where the input will stand after this body
 abbrev pub behind_body : Option Body → Option Feed → Option Feed
@@ -181,20 +219,19 @@ pub record InputStands (client : Feed) (k : Kept) (slots : List Slot) (rest : Li
   pub next : k.asking_ended ≡ false → NextHead k (last_slot slots) rest
   pub source : GoesOn (Some client) k.feed
 
--- the output so far: the joined segments, which no failure takes back; or what the writer took when it failed
-abbrev pub OutputAt : Sink → Sink → Bool → List Slot → Option Failure → Type 0
-OutputAt before sink ended slots None =
+-- the output so far: the joined segments, of which no failure takes back what was flushed; or what the writer took when it failed
+abbrev pub OutputAt : Sink → Sink → Bool → List Slot → List ℕ → Option Failure → Type 0
+OutputAt before sink ended slots flushed None =
     (sink.taken ≡ Some (joined slots)) × (sink.failures ≡ before.failures) × (sink.has_ended ≡ ended) × (ended ≡ is_output_broken slots)
-    × (ended ≡ false → IsFront (joined slots) sink.sent)
-OutputAt before sink ended slots (Some f) =
+    × IsFront flushed (joined slots) × (ended ≡ false → IsFront flushed sink.sent)
+OutputAt before sink ended slots flushed (Some f) =
     (sink.taken ≡ Some f.output) × (sink.failures ≡ before.failures + 1) × StatesKind sink.last_kind f.kind × (ended ≡ true)
 
 -- the connection stands so, after this much of the client's feed and over a writer that stated this before
 pub record Stands (client : Feed) (before : Sink) (k : Kept) (s : State) : Type 0 where
   pub numbers : AreKept s.reached.slots k.marks k.requests
   pub shape : AreInShape k.marks
-  pub in_turn : AreContinuedInTurn s.reached.slots
+  pub in_turn : AreSentInTurn s.reached.slots
   pub asking_ended : s.reached.asking_ended ≡ k.asking_ended
-  pub flushed : s.failure ≡ None → s.flushed ≡ joined s.reached.slots
   pub reader : InputStands client k s.reached.slots s.reached.rest
-  pub output : OutputAt before k.sink k.output_ended s.reached.slots s.failure
+  pub output : OutputAt before k.sink k.output_ended s.reached.slots s.flushed s.failure

@@ -1,5 +1,7 @@
 -- What the calls of a `Connection` come to.
-use Rattle.std.specs.Prelude.{◌≡◌, ◌⊎◌, ℕ, Bool, true, false, List, [], ◌∷◌, ◌++◌, length, Option, Some, None, IsSome, MatchBool, slice_get, slice_set, if◌then◌else◌}
+use Rattle.std.specs.Prelude.{◌≡◌, ◌⊎◌, ℕ, Bool, true, false, List, [], ◌∷◌, ◌++◌, length, Option, Some, None, IsSome, MatchBool, slice_get, slice_set, if◌then◌else◌, string_bytes}
+use Rattle.std.specs.List.{list_all}
+use Rattle.tiny_http_wire.specs.Bytes.{is_ascii}
 use Rattle.std.specs.declared.io.ErrorKind.{ErrorKind}
 use Rattle.httpdate.specs.declared.date.HttpDate.{HttpDate}
 use Rattle.tiny_http_wire.specs.Device.{Feed, Sink}
@@ -17,16 +19,18 @@ use Rattle.tiny_http_message.specs.HeadReads.{EndsAt, IsBeforeHead, HasByteOrTim
 use Rattle.tiny_http_message.specs.declared.framing.Framing.{Framing}
 use Rattle.tiny_http_stream.specs.Outlet.{output_of, SentOn}
 use Rattle.tiny_http_message.specs.Pipeline.{Item, Refuses, Refusal, refusal_status, OneHead, Pipeline}
-use Rattle.tiny_http_core.specs.Steps.{StepValue, ReplyValue, Handed, Ended, NotYet, Done, NoSuch, Memory, Fault}
+use Rattle.tiny_http_core.specs.Steps.{StepValue, ReplyValue, Handed, Ended, NotYet, Done, Refused, NoSuch, Memory, Fault}
 use Rattle.tiny_http_core.specs.Conversation.{State, TimedValue, Run, start_state, IsFresh}
 use Rattle.tiny_http_wire.specs.declared.answer_context.AnswerContext.{AnswerContext}
 use Rattle.tiny_http_sending.specs.ResponseValue.{printing_in}
 use Rattle.tiny_http_sending.specs.Sending.{FailsOnceUnlessEnded, IsHonest}
-use Rattle.tiny_http_core.specs.Pending.{waiting_answer_context, owes_continue}
+use Rattle.tiny_http_core.specs.Pending.{waiting_answer_context, owes_continue, kept_body, GivesUpBody, with_body}
 use Rattle.tiny_http_message.specs.declared.body.Body.{Body}
 use Rattle.tiny_http_message.specs.declared.waiting.Waiting.{Waiting}
-use Rattle.tiny_http_message.specs.Body.{GivesUp, is_streaming, body_standing}
-use Rattle.tiny_http_core.specs.Seen.{IsStep, IsAnswered}
+use Rattle.tiny_http_core.specs.declared.pending.Unfinished.{Unfinished}
+use Rattle.tiny_http_core.specs.declared.pending.Unfinished.TheVariants as still
+use Rattle.tiny_http_message.specs.Body.{is_streaming, body_standing}
+use Rattle.tiny_http_core.specs.Seen.{IsStep, IsAnswered, IsOfWriter, all_sent_after}
 use Rattle.tiny_http_core.specs.Connection.{ConnectionState, kept, Stands}
 
 -- Over this client's feed and a fresh writer, these steps were done, with these replies: they are a run over the pipeline
@@ -48,6 +52,11 @@ stated_step feed step.Ask = step.Ask
 stated_step feed (step.AsReader k) = step.AsReader k
 stated_step feed (step.Read k n) = step.Read k n
 stated_step feed (step.Respond k r) = step.Respond k (stated_response feed r)
+stated_step feed (step.IntoWriter k) = step.IntoWriter k
+stated_step feed (step.Write k bytes) = step.Write k bytes
+stated_step feed (step.Flush k) = step.Flush k
+stated_step feed (step.Upgrade k p r) = step.Upgrade k p (stated_response feed r)
+stated_step feed (step.Finish k) = step.Finish k
 stated_step feed (step.Drop k) = step.Drop k
 
 -- the head that stands there is refused, with this status
@@ -78,12 +87,21 @@ StepEnds step.Ask old new reply = AskEnds old new reply
 StepEnds (step.AsReader k) old new reply = new.end ≡ old.end
 StepEnds (step.Read k n) old new reply = new.end ≡ old.end
 StepEnds (step.Respond k r) old new reply = new.end ≡ old.end
+StepEnds (step.IntoWriter k) old new reply = new.end ≡ old.end
+StepEnds (step.Write k bytes) old new reply = new.end ≡ old.end
+StepEnds (step.Flush k) old new reply = new.end ≡ old.end
+StepEnds (step.Upgrade k p r) old new reply = new.end ≡ old.end
+StepEnds (step.Finish k) old new reply = new.end ≡ old.end
 StepEnds (step.Drop k) old new reply = new.end ≡ old.end
 
--- the request of this number waits no more, and its body was given up
+-- the body that is kept of this number was given up
+abbrev pub GivesUpKept : {R W : Type 0} → ℕ → ConnectionState R W → ConnectionState R W → Type 0
+GivesUpKept k old new = (u : Unfinished) → slice_get old.requests k ≡ Some (Some u) → GivesUpBody (kept_body (Some u)) old.source new.source
+
+-- nothing is kept of this number any more, and its body was given up
 abbrev pub LetsGo : {R W : Type 0} → ℕ → ConnectionState R W → ConnectionState R W → Type 0
 LetsGo k old new =
-    (new.requests ≡ slice_set old.requests k None) × ((w : Waiting) → slice_get old.requests k ≡ Some (Some w) → GivesUp w.body old.source new.source)
+    (new.requests ≡ slice_set old.requests k None) × GivesUpKept k old new
 
 -- where a source stands after the head of a request that is framed so, and its body read so far
 abbrev pub after_head : Framing → Body → Standing
@@ -93,7 +111,7 @@ after_head f body = if f.is_last then at.Last else if is_streaming body then at.
 -- none was, and nothing is sent where memory was refused; or a refused head has its number.
 abbrev pub AskLeaves : {R W : Type 0} → ConnectionState R W → ConnectionState R W → ReplyValue → Type 0
 AskLeaves old new (Handed k message framing) =
-    (k ≡ length old.marks) × ((w : Waiting) × (new.requests ≡ old.requests ++ Some w ∷ []) × (new.source.standing ≡ after_head framing w.body))
+    (k ≡ length old.marks) × ((w : Waiting) × (new.requests ≡ old.requests ++ Some (still.Waiting w) ∷ []) × (new.source.standing ≡ after_head framing w.body))
     × (new.outlet ≡ old.outlet)
 AskLeaves old new Memory = (new.requests ≡ old.requests) × (new.marks ≡ old.marks) × (new.outlet ≡ old.outlet)
 AskLeaves old new Ended =
@@ -110,21 +128,43 @@ StandsAfter was body old new = MatchBool (is_streaming was) (new.standing ≡ bo
 -- owed, and waits for its turn; or no such request waits for an answer.
 abbrev pub SendsContinue : {R W : Type 0} → ℕ → ConnectionState R W → ConnectionState R W → ReplyValue → Type 0
 SendsContinue k old new Done =
-    (w : Waiting) × (slice_get old.requests k ≡ Some (Some w)) × MatchBool w.owes_continue (new.requests ≡ slice_set old.requests k (Some (record w { owes_continue = false }))) (new ≡ old)
+    (w : Waiting) × (slice_get old.requests k ≡ Some (Some (still.Waiting w)))
+    × MatchBool w.owes_continue (new.requests ≡ slice_set old.requests k (Some (still.Waiting (record w { owes_continue = false })))) (new ≡ old)
 SendsContinue k old new NotYet = owes_continue (slice_get old.requests k) ≡ true
 SendsContinue k old new NoSuch = waiting_answer_context (slice_get old.requests k) ≡ None
 SendsContinue k old new _ = ⊥
 
+-- nothing but the output has changed
+abbrev pub LeavesAllButOutlet : {R W : Type 0} → ConnectionState R W → ConnectionState R W → Type 0
+LeavesAllButOutlet old new = (new.requests ≡ old.requests) × (new.marks ≡ old.marks) × (new.source ≡ old.source)
+
+-- What an Upgrade leaves, by the reply: the request was upgraded, and its body is kept; or the request was dropped.
+abbrev pub UpgradeLeaves : {R W : Type 0} → ℕ → ConnectionState R W → ConnectionState R W → ReplyValue → Type 0
+UpgradeLeaves k old new Done =
+    (w : Waiting) × (slice_get old.requests k ≡ Some (Some (still.Waiting w))) × (new.requests ≡ slice_set old.requests k (Some (still.Upgraded w.body)))
+    × (new.marks ≡ old.marks) × (new.source ≡ old.source)
+UpgradeLeaves k old new Refused = LetsGo k old new
+UpgradeLeaves k old new NotYet = Unit {0}
+UpgradeLeaves k old new NoSuch = Unit {0}
+UpgradeLeaves k old new _ = ⊥
+
 -- What a step leaves of requests, source and output: an AsReader only clears what its request owes; a read changes no more than the body of its request, and the source if
--- it is read from that; an answer, and a drop, let their request go.
+-- it is read from that; an answer, a drop and a Finish let their request go; an IntoWriter gives the body up.
 abbrev pub StepLeaves : {R W : Type 0} → Step (Option Feed) → ConnectionState R W → ConnectionState R W → ReplyValue → Type 0
 StepLeaves step.Ask old new reply = AskLeaves old new reply
 StepLeaves (step.AsReader k) old new reply = (new.source ≡ old.source) × (new.marks ≡ old.marks) × SendsContinue k old new reply
 StepLeaves (step.Read k n) old new reply =
     (new.outlet ≡ old.outlet) × (new.marks ≡ old.marks)
     × (((new.requests ≡ old.requests) × (new.source ≡ old.source))
-    ⊎ ((w : Waiting) × (body : Body) × (slice_get old.requests k ≡ Some (Some w)) × (new.requests ≡ slice_set old.requests k (Some (record w { body = body }))) × StandsAfter w.body body old.source new.source))
+    ⊎ ((u : Unfinished) × (was : Body) × (body : Body) × (slice_get old.requests k ≡ Some (Some u)) × (kept_body (Some u) ≡ Some was)
+    × (new.requests ≡ slice_set old.requests k (Some (with_body body u))) × StandsAfter was body old.source new.source))
 StepLeaves (step.Respond k r) old new reply = IsAnswered reply → LetsGo k old new
+StepLeaves (step.IntoWriter k) old new reply =
+    (new.outlet ≡ old.outlet) × (new.marks ≡ old.marks) × (IsAnswered reply → (new.requests ≡ slice_set old.requests k (Some still.Raw)) × GivesUpKept k old new)
+StepLeaves (step.Write k bytes) old new reply = LeavesAllButOutlet old new
+StepLeaves (step.Flush k) old new reply = LeavesAllButOutlet old new
+StepLeaves (step.Upgrade k p r) old new reply = UpgradeLeaves k old new reply
+StepLeaves (step.Finish k) old new reply = IsAnswered reply → LetsGo k old new
 StepLeaves (step.Drop k) old new reply = IsAnswered reply → LetsGo k old new
 
 -- the step was not done: it came too early, or no request takes it, or memory for a read was refused
@@ -134,20 +174,27 @@ IsDeclined _ NoSuch = Unit {0}
 IsDeclined (step.Read k n) Memory = Unit {0}
 IsDeclined _ _ = ⊥
 
--- A fault that a step reports, whatever reader, writer and data state: that of an answer is the writer's, whose count rose, or
--- that of its own data, printed for its request; of a body's nothing is said here; an Ask, an AsReader and a Drop report none.
+-- A fault that a step reports, whatever reader, writer and data state: that of a Write or a Flush is the writer's, whose count
+-- rose; that of an answer is so too, or that of its own data, printed for its request; of a body's nothing is said here. The
+-- other steps report none.
 abbrev pub ReportsFault : {R W : Type 0} → ConnectionState R W → ConnectionState R W → HttpDate → Step (Option Feed) → ErrorKind → Type 0
 ReportsFault old new now step.Ask kind = ⊥
 ReportsFault old new now (step.AsReader k) kind = ⊥
 ReportsFault old new now (step.Read k n) kind = Unit {0}
 ReportsFault old new now (step.Drop k) kind = ⊥
+ReportsFault old new now (step.IntoWriter k) kind = ⊥
+ReportsFault old new now (step.Write k bytes) kind = IsOfWriter (output_of old.outlet) (output_of new.outlet) kind
+ReportsFault old new now (step.Flush k) kind = IsOfWriter (output_of old.outlet) (output_of new.outlet) kind
+ReportsFault old new now (step.Upgrade k p r) kind = ⊥
+ReportsFault old new now (step.Finish k) kind = ⊥
 ReportsFault old new now (step.Respond k r) kind =
     (context : AnswerContext) × (waiting_answer_context (slice_get old.requests k) ≡ Some context)
     × IsHonest (output_of old.outlet) (output_of new.outlet) r.answer r.data_reader (printing_in context now) kind
 
 -- One step on a date: what was done is done with this step and its reply after it. And whatever reader, writer and data
 -- state: a step that was not done changes nothing, why the requests end is kept, the other requests are left alone, the source
--- goes on, the writer fails once at most, what is written is flushed, and a fault that is reported is one.
+-- goes on, the writer fails once at most, what is held and what was sent on is told by step and reply, and a fault that is
+-- reported is one.
 pub record TakesStep {R W : Type 0} (old new : ConnectionState R W) (now : HttpDate) (step : Step (Option Feed)) (reply : ReplyValue) : Type 0 where
   pub does : (client : Feed) (before : Sink) (steps : List TimedValue) (replies : List ReplyValue) (asked : StepValue) → IsStep (λ f. f) step asked
       → HasDone client before old steps replies → HasDone client before new (steps ++ (now, asked) ∷ []) (replies ++ reply ∷ [])
@@ -156,6 +203,16 @@ pub record TakesStep {R W : Type 0} (old new : ConnectionState R W) (now : HttpD
   pub leaves : StepLeaves step old new reply
   pub goes_on : GoesOn old.source.feed new.source.feed
   pub fails_once : FailsOnceUnlessEnded old.outlet.ended (output_of old.outlet) (output_of new.outlet) new.outlet.ended
-  pub flushed : old.outlet.held ≡ [] → new.outlet.held ≡ []
-  pub sent_on : SentOn old.outlet → SentOn new.outlet
+  pub flushed : (sent : Bool) → (sent ≡ true → old.outlet.held ≡ []) → all_sent_after step reply sent ≡ true → new.outlet.held ≡ []
+  pub sent_on : (sent : Bool) → (sent ≡ true → SentOn old.outlet) → all_sent_after step reply sent ≡ true → SentOn new.outlet
   pub honest : (kind : ErrorKind) → reply ≡ Fault kind → ReportsFault old new now step kind
+
+-- a step that drops the request of this number, and its reply: a Drop, or an Upgrade whose protocol isn't ASCII
+abbrev pub IsDropping : ℕ → Step (Option Feed) → ReplyValue → Type 0
+IsDropping n (step.Drop k) Done = k ≡ n
+IsDropping n (step.Upgrade k p r) Refused = (k ≡ n) × (list_all is_ascii (string_bytes p) ≡ false)
+IsDropping _ _ _ = ⊥
+
+-- the request of this number was dropped
+abbrev pub Drops : {R W : Type 0} → ℕ → ConnectionState R W → ConnectionState R W → Type 0
+Drops n old new = (now : HttpDate) (x : Step (Option Feed)) (reply : ReplyValue) → IsDropping n x reply → TakesStep old new now x reply

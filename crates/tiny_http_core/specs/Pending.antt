@@ -2,9 +2,11 @@
 use Rattle.std.specs.Prelude.{◌≡◌, ℕ, Bool, true, false, not, List, [], ◌∷◌, ◌++◌, Option, Some, None, MatchBool}
 use Rattle.tiny_http_wire.specs.Device.{Sink}
 use Rattle.tiny_http_wire.specs.declared.answer_context.AnswerContext.{AnswerContext}
-use Rattle.tiny_http_message.specs.declared.waiting.Waiting.{Waiting}
+use Rattle.tiny_http_core.specs.declared.pending.Unfinished.{Unfinished}
+use Rattle.tiny_http_core.specs.declared.pending.Unfinished.TheVariants as still
 use Rattle.tiny_http_message.specs.declared.body.Body.{Body}
-use Rattle.tiny_http_message.specs.Body.{is_streaming}
+use Rattle.tiny_http_message.specs.Body.{is_streaming, GivesUp}
+use Rattle.tiny_http_stream.specs.Source.{SourceState}
 use Rattle.tiny_http_sending.specs.Sending.{SendsUnlessEnded, IsFlushed}
 use Rattle.tiny_http_turns.specs.Turns.{Mark, Open, Held, Left, Finished, AreInShape}
 
@@ -47,30 +49,61 @@ LeavesText in_turn front rest marks text was old new ended =
     (FinishesFront front rest marks × SendsUnlessEnded was old new ended (text ++ left_text rest) × IsFlushed new)
     ((marks ≡ front ++ (Left text ∷ rest)) × AreInShape marks × (new ≡ old) × (ended ≡ was))
 
--- what is kept of the request of a number that waits for its answer
-abbrev pub waiting_answer_context : Option (Option Waiting) → Option AnswerContext
-waiting_answer_context None = None
+-- how the request of a number is answered, if it waits for its answer
+abbrev pub waiting_answer_context : Option (Option Unfinished) → Option AnswerContext
+waiting_answer_context (Some (Some (still.Waiting w))) = Some w.answer_context
+waiting_answer_context (Some (Some still.Raw)) = None
+waiting_answer_context (Some (Some (still.Upgraded b))) = None
 waiting_answer_context (Some None) = None
-waiting_answer_context (Some (Some w)) = Some w.answer_context
+waiting_answer_context None = None
 
--- it waits for its answer, and no 100 is owed: its body can be read
-abbrev pub is_readable : Option (Option Waiting) → Bool
-is_readable None = false
+-- its body can be read: it waits for its answer, and no 100 is owed; or it was upgraded
+abbrev pub is_readable : Option (Option Unfinished) → Bool
+is_readable (Some (Some (still.Waiting w))) = not w.owes_continue
+is_readable (Some (Some still.Raw)) = false
+is_readable (Some (Some (still.Upgraded b))) = true
 is_readable (Some None) = false
-is_readable (Some (Some w)) = not w.owes_continue
+is_readable None = false
+
+-- bytes can be written under it: its raw writer is in use, or it was upgraded
+abbrev pub is_writable : Option (Option Unfinished) → Bool
+is_writable (Some (Some (still.Waiting w))) = false
+is_writable (Some (Some still.Raw)) = true
+is_writable (Some (Some (still.Upgraded b))) = true
+is_writable (Some None) = false
+is_writable None = false
 
 -- it waits for its answer, and a 100 is owed
-abbrev pub owes_continue : Option (Option Waiting) → Bool
-owes_continue None = false
+abbrev pub owes_continue : Option (Option Unfinished) → Bool
+owes_continue (Some (Some (still.Waiting w))) = w.owes_continue
+owes_continue (Some (Some still.Raw)) = false
+owes_continue (Some (Some (still.Upgraded b))) = false
 owes_continue (Some None) = false
-owes_continue (Some (Some w)) = w.owes_continue
+owes_continue None = false
 
--- the body of the last of these, if that waits
-abbrev pub last_body : List (Option Waiting) → Option Body
+-- the body that is kept of a number, if any
+abbrev pub kept_body : Option Unfinished → Option Body
+kept_body None = None
+kept_body (Some (still.Waiting w)) = Some w.body
+kept_body (Some still.Raw) = None
+kept_body (Some (still.Upgraded b)) = Some b
+
+-- this body was given up; where none is, the source is left alone
+abbrev pub GivesUpBody : {R : Type 0} → Option Body → SourceState R → SourceState R → Type 0
+GivesUpBody None old new = new ≡ old
+GivesUpBody (Some b) old new = GivesUp b old new
+
+-- the same number, with this in place of its body
+abbrev pub with_body : Body → Unfinished → Unfinished
+with_body b (still.Waiting w) = still.Waiting (record w { body = b })
+with_body b still.Raw = still.Raw
+with_body b (still.Upgraded c) = still.Upgraded b
+
+-- the body of the last of these, if one is kept
+abbrev pub last_body : List (Option Unfinished) → Option Body
 last_body [] = None
-last_body (None ∷ []) = None
-last_body (Some w ∷ []) = Some w.body
-last_body (w ∷ v ∷ ws) = last_body (v ∷ ws)
+last_body (u ∷ []) = kept_body u
+last_body (u ∷ v ∷ us) = last_body (v ∷ us)
 
 -- the body is read from the input
 abbrev pub is_streaming_body : Option Body → Bool

@@ -1,10 +1,10 @@
 -- The program's steps and replies as the definitions see them.
-use Rattle.std.specs.Prelude.{◌≡◌, ◌<◌, ◌^◌, List, [], ◌∷◌, length, Option, Some, Bool, Result, Ok, Err}
+use Rattle.std.specs.Prelude.{◌≡◌, ◌<◌, ◌^◌, List, [], ◌∷◌, length, Option, Some, Bool, true, false, not, ◌&&◌, ◌||◌, Result, Ok, Err, string_bytes}
 use Rattle.std.specs.IoError.{error_kind}
 use Rattle.std.specs.declared.io.Error.{Error}
 use Rattle.std.specs.declared.io.ErrorKind.{ErrorKind}
 use Rattle.httpdate.specs.declared.date.HttpDate.{HttpDate}
-use Rattle.tiny_http_wire.specs.Device.{Feed, Sink}
+use Rattle.tiny_http_wire.specs.Device.{Feed, Sink, StatesKind, next_count}
 use Rattle.tiny_http_wire.specs.Answer.{Answer, Printing, ResponseState}
 use Rattle.tiny_http_core.specs.declared.driver.Step.{Step}
 use Rattle.tiny_http_core.specs.declared.driver.Step.TheVariants as step
@@ -14,7 +14,7 @@ use Rattle.tiny_http_core.specs.declared.driver.Reply.{Reply}
 use Rattle.tiny_http_core.specs.declared.driver.Reply.TheVariants as reply
 use Rattle.tiny_http_message.specs.HeadReads.{head_message, head_framing}
 use Rattle.tiny_http_sending.specs.ResponseValue.{ResponseValue, printing_in}
-use Rattle.tiny_http_core.specs.Steps.{StepValue, Ask, AsReader, Read, Respond, Drop, ReplyValue, Handed, Ended, Given, Fault, NotYet, Done, Refused, NoSuch, Memory, fault_reply}
+use Rattle.tiny_http_core.specs.Steps.{StepValue, Ask, AsReader, Read, Respond, IntoWriter, Write, Flush, Upgrade, Finish, Drop, ReplyValue, Handed, Ended, Given, Fault, NotYet, Done, Refused, NoSuch, Memory, fault_reply}
 use Rattle.tiny_http_core.specs.Conversation.{TimedValue}
 use Rattle.tiny_http_sending.specs.Sending.{Sends, IsFlushed, IsHonest, FailsAtMostOnce}
 
@@ -28,6 +28,11 @@ IsStep feed step.Ask Ask = Unit {0}
 IsStep feed (step.AsReader k) (AsReader n) = n ≡ k
 IsStep feed (step.Read k n) (Read j m) = (j ≡ k) × (m ≡ n)
 IsStep feed (step.Respond k r) (Respond n value) = (n ≡ k) × IsResponse feed r value
+IsStep feed (step.IntoWriter k) (IntoWriter n) = n ≡ k
+IsStep feed (step.Write k v) (Write n bytes) = (n ≡ k) × (bytes ≡ v.items)
+IsStep feed (step.Flush k) (Flush n) = n ≡ k
+IsStep feed (step.Upgrade k p r) (Upgrade n protocol value) = (n ≡ k) × (protocol ≡ string_bytes p) × (value.answer ≡ r.answer)
+IsStep feed (step.Finish k) (Finish n) = n ≡ k
 IsStep feed (step.Drop k) (Drop n) = n ≡ k
 IsStep feed _ _ = ⊥
 
@@ -47,13 +52,22 @@ seen reply.Refused = Refused
 seen reply.NoSuch = NoSuch
 seen reply.Memory = Memory
 
--- the step may fail by this kind, by the writer or by its own data, printed for some request, or by that of the body that
--- it reads; an Ask, an AsReader and a Drop report no fault
+-- the fault is the writer's: its count rose, and it states this kind
+abbrev pub IsOfWriter : Sink → Sink → ErrorKind → Type 0
+IsOfWriter old new kind = (new.failures ≡ next_count old.failures) × StatesKind new.last_kind kind
+
+-- The step may fail by this kind: a Write and a Flush by the writer, a Respond by the writer or by its own data, printed for
+-- some request, and a Read by that of the body that it reads. The others report no fault.
 abbrev pub MayFail : {D : Type 0} → (D → Option Feed) → Sink → Sink → HttpDate → Step D → ErrorKind → Type 0
 MayFail feed old new date step.Ask kind = ⊥
 MayFail feed old new date (step.AsReader k) kind = ⊥
 MayFail feed old new date (step.Read k n) kind = Unit {0}
 MayFail feed old new date (step.Drop k) kind = ⊥
+MayFail feed old new date (step.IntoWriter k) kind = ⊥
+MayFail feed old new date (step.Write k v) kind = IsOfWriter old new kind
+MayFail feed old new date (step.Flush k) kind = IsOfWriter old new kind
+MayFail feed old new date (step.Upgrade k p r) kind = ⊥
+MayFail feed old new date (step.Finish k) kind = ⊥
 MayFail feed old new date (step.Respond k r) kind = (context : AnswerContext) × IsHonest old new r.answer (feed r.data_reader) (printing_in context date) kind
 
 -- a fault that an answer reports is the writer's, whose count rose, or that of the step's own data; of a body's nothing is said
@@ -68,10 +82,41 @@ ReportHonestly feed old (t ∷ steps) (r ∷ replies) new =
 ReportHonestly feed old [] (r ∷ replies) new = ⊥
 ReportHonestly feed old (t ∷ steps) [] new = ⊥
 
+-- the step was done
+abbrev pub is_done : ReplyValue → Bool
+is_done Done = true
+is_done (Fault kind) = true
+is_done _ = false
+
+-- WHETHER ALL WAS SENT ON after a step, by whether all was before it: a Write that is done may hold its bytes back, a Flush, an
+-- answer and an upgrade that are done hold none; the other steps leave it as it is.
+abbrev pub all_sent_after : {D : Type 0} → Step D → ReplyValue → Bool → Bool
+all_sent_after step.Ask reply sent = sent
+all_sent_after (step.AsReader k) reply sent = sent
+all_sent_after (step.Read k n) reply sent = sent
+all_sent_after (step.Respond k r) reply sent = sent || is_done reply
+all_sent_after (step.IntoWriter k) reply sent = sent
+all_sent_after (step.Write k bytes) reply sent = sent && not (is_done reply)
+all_sent_after (step.Flush k) reply sent = sent || is_done reply
+all_sent_after (step.Upgrade k p r) reply sent = sent || is_done reply
+all_sent_after (step.Finish k) reply sent = sent
+all_sent_after (step.Drop k) reply sent = sent
+
+-- the same after all these steps
+abbrev pub all_sent : {D : Type 0} → List (Timed D) → List Reply → Bool → Bool
+all_sent [] [] sent = sent
+all_sent (t ∷ steps) (r ∷ replies) sent = all_sent steps replies (all_sent_after t.step (seen r) sent)
+all_sent _ _ sent = false
+
 -- what a call that sends an answer is reported as
 abbrev pub reply_to : {T : Type 0} → Result T Error → ReplyValue
 reply_to (Ok x) = Done
 reply_to (Err e) = fault_reply (error_kind e)
+
+-- what a call of a raw writer is reported as
+abbrev pub write_reply : {T : Type 0} → Result T Error → ReplyValue
+write_reply (Ok x) = Done
+write_reply (Err e) = Fault (error_kind e)
 
 -- what an answer that was made is replied
 abbrev pub IsAnswered : ReplyValue → Type 0

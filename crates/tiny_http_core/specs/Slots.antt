@@ -1,17 +1,17 @@
 -- The numbers of a connection: what stands under each, and what each sends.
-use Rattle.std.specs.Prelude.{ℕ, Bool, true, false, not, ◌&&◌, ◌||◌, List, [], ◌∷◌, ◌++◌, take, drop, Option, Some, None, codes, if◌then◌else◌}
+use Rattle.std.specs.Prelude.{ℕ, Bool, true, false, not, ◌&&◌, ◌||◌, List, [], ◌∷◌, ◌++◌, take, drop, Option, Some, None, if◌then◌else◌}
 use Rattle.std.specs.List.{list_all, last_or}
 use Rattle.std.specs.declared.io.ErrorKind.TheVariants.{OutOfMemory}
 use Rattle.httpdate.specs.declared.date.HttpDate.{HttpDate}
 use Rattle.tiny_http_wire.specs.Coding.{coding_asked}
 use Rattle.tiny_http_wire.specs.Device.{Feed}
-use Rattle.tiny_http_wire.specs.Answer.{Printing, text_plain}
+use Rattle.tiny_http_wire.specs.Answer.{Printing}
 use Rattle.tiny_http_encoding.specs.Text.{Text, Ending, Whole, Broken, prepend_text, whole, nothing_sent}
 use Rattle.tiny_http_message.specs.declared.framing.Form.{Form}
 use Rattle.tiny_http_message.specs.declared.framing.Form.TheVariants.{Rest, Nothing, WithHead, Counted, Chunked}
-use Rattle.tiny_http_message.specs.Pipeline.{Item, Asks, Refuses, Refusal, VersionNotSupported, refusal_status, Request, is_head_method, body_length_or_0}
+use Rattle.tiny_http_message.specs.Pipeline.{Item, Asks, Refuses, Request, is_head_method, body_length_or_0}
 use Rattle.tiny_http_sending.specs.ResponseValue.{ResponseValue, response_of, response_text, printing_to}
-use Rattle.tiny_http_message.specs.OwnAnswer.{own_printing}
+use Rattle.tiny_http_message.specs.OwnAnswer.{own_printing, refusal_response}
 use Rattle.tiny_http_message.specs.Body.{body_finished}
 
 -- what became of a number
@@ -39,14 +39,6 @@ pub record Slot : Type 0 where
   pub end_reported : Bool
   pub given_up : Bool
   pub stage : Stage
-
-abbrev pub too_new_text : List ℕ
-too_new_text = codes "This server only supports HTTP versions 1.0 and 1.1"
-
--- what a refused head is answered: a text for a version that is too new, else nothing but the status
-abbrev pub refusal_response : Refusal → ResponseValue
-refusal_response VersionNotSupported = response_of (refusal_status VersionNotSupported) (text_plain ∷ []) too_new_text
-refusal_response refusal = response_of (refusal_status refusal) [] []
 
 -- what a dropped request is answered
 abbrev pub drop_response : ResponseValue

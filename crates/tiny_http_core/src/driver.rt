@@ -1,5 +1,6 @@
 //! A connection driven step by step, or by a list of steps, without threads.
-ghost use Rattle.std.specs.Prelude.{◌≡◌, ◌-◌, ◌<◌, ◌^◌, true, false, List, [], length, Some, None, map, Ok, IfOk, IfErr, vec_len, is_some, slice_get};
+ghost use Rattle.std.specs.Global.{Global as Heap, Vec};
+ghost use Rattle.std.specs.Prelude.{◌≡◌, ℕ, ◌-◌, ◌<◌, ◌^◌, true, false, List, [], length, Some, None, map, Ok, IfOk, IfErr, IsTrue, vec_len, is_some, slice_get, String, string_bytes};
 ghost use Rattle.std.specs.List.{AllZip};
 ghost use Rattle.tiny_http_wire.specs.Device.{Feed, Sink, HoldsNothing};
 ghost use Rattle.tiny_http_sending.specs.ResponseValue.{ResponseValue};
@@ -10,23 +11,26 @@ ghost use Rattle.tiny_http_core.specs.Steps.{ReplyValue, Done, Fault, is_closed_
 ghost use Rattle.std.specs.declared.io.ErrorKind.{ErrorKind};
 ghost use Rattle.tiny_http_stream.specs.Source.{GoesOn};
 ghost use Rattle.tiny_http_core.specs.Pending.{waiting_answer_context};
-ghost use Rattle.tiny_http_core.specs.Driving.{HasDone, TakesStep, stated_response, stated_step};
+ghost use Rattle.tiny_http_core.specs.Driving.{HasDone, TakesStep, Drops, stated_response, stated_step};
 ghost use Rattle.tiny_http_sending.specs.ResponseValue.{printing_in};
-ghost use Rattle.tiny_http_core.specs.Seen.{seen, Answers, IsAnswered, IsResponse, IsTimedStep, ReportsHonestly, ReportHonestly};
+ghost use Rattle.tiny_http_core.specs.Seen.{seen, write_reply, Answers, IsAnswered, IsResponse, IsTimedStep, ReportsHonestly, ReportHonestly, all_sent};
 ghost use Rattle.tiny_http_stream.specs.Outlet.{output_of, outlet_ended, outlet_held, outlet_writer, SentOn};
 ghost use Rattle.tiny_http_sending.specs.Sending.{CanSend, FailsOnceUnlessEnded, FailsAtMostOnce, IsHonest};
 
-use crate::pending::Pending;
+use crate::pending::{Pending, Unfinished, close_body};
 use httpdate::HttpDate;
 use std::alloc::{AllocError, Global};
+use std::io;
 use std::io::ErrorKind;
 use std::marker::Model;
 use tiny_http_message::exchange::{EndOfRequests, Head, HeadRead, read_head};
 use tiny_http_message::own_answer::send_own_quietly;
+use tiny_http_message::upgrading::{UpgradeError, send_upgrade_quietly};
 use tiny_http_message::waiting::Waiting;
 use tiny_http_sending::sending::send;
 use tiny_http_stream::outlet::Outlet;
 use tiny_http_stream::source::{Source, Standing};
+use tiny_http_text::bytes::are_ascii;
 use tiny_http_wire::answer_context::AnswerContext;
 use tiny_http_wire::common::StatusCode;
 use tiny_http_wire::device::{ReadDevice, WriteDevice};
@@ -45,6 +49,18 @@ pub enum Step<D> {
     Read(u64, u16),
     /// Answers the request of this number in its turn, and gives its body up.
     Respond(u64, Response<D>),
+    /// Takes the raw writer of the request of this number in place of an answer, and gives its body up.
+    IntoWriter(u64),
+    /// Writes these bytes by the raw writer of this number, or to the stream of its upgrade, in its turn. They may be held
+    /// until its `Flush` or `Finish`.
+    Write(u64, Vec<u8>),
+    /// Sends what was written under this number, in its turn.
+    Flush(u64),
+    /// Answers the request of this number in its turn by a response that upgrades the connection to this protocol. Then its
+    /// stream is read by `Read`, and written by `Write`, until its `Finish`.
+    Upgrade(u64, String, Response<D>),
+    /// Ends the raw writer of this number, or the stream of an upgrade. In its turn what was written is sent.
+    Finish(u64),
     /// Drops the request of this number, and gives its body up: it is answered by an empty 500, on the date on which it was
     /// handed out.
     Drop(u64),
@@ -66,17 +82,17 @@ pub enum Reply {
     Handed(u64, Head),
     /// The connection has no further request.
     Ended,
-    /// These bytes of the body. Where they are fewer than were asked for no byte follows: the next read reports the end by none,
-    /// or the fault.
+    /// These bytes of the body. Where they are fewer than were asked for no byte follows: the next read reports the end by
+    /// none, or the fault.
     Given(Vec<u8>),
     /// The body ends by this fault; or the writer or the response's data failed so.
     Fault(ErrorKind),
-    /// The step has to wait, an `Ask` for the last body to be read or given up, a `Respond`, or an `AsReader` that has a 100 to
-    /// send, for its turn; nothing has changed.
+    /// The step has to wait: an `Ask` for the last body to be read or given up; a `Respond`, a `Write`, a `Flush`, an `Upgrade`
+    /// to a protocol that is ASCII, or an `AsReader` that has a 100 to send, for its turn. Nothing has changed.
     NotYet,
     /// The step was done, and met no fault that is reported.
     Done,
-    /// An upgrade was refused, as its protocol isn't ASCII, and the request was dropped. No step of today is answered so.
+    /// An upgrade was refused, as its protocol isn't ASCII, and the request was dropped.
     Refused,
     /// No request of this number takes the step; nothing has changed.
     NoSuch,
@@ -148,6 +164,16 @@ impl Reply {
         }
         Reply::Fault(kind)
     }
+
+    // How a call of a raw writer is reported: a fault of the writer by its kind.
+    fn write_reply(written: Result<(), io::Error>) -> Reply
+        ensures { seen result ≡ write_reply written }
+    {
+        match written {
+            Ok(()) => Reply::Done,
+            Err(fault) => Reply::Fault(fault.kind()),
+        }
+    }
 }
 
 // Sends the answer to a request whose turn has come, and says how that is replied. An output that has ended sends nothing, and
@@ -164,13 +190,14 @@ fn answer<W: WriteDevice, D: ReadDevice + Drop>(
         → outlet_ended outlet.old ≡ false → CanSend (output_of outlet.old)
         → Answers (output_of outlet.old) (output_of outlet.new) (outlet_ended outlet.new) (seen result) response.answer content (printing_in answer_context now) }
     ensures fails_once { FailsOnceUnlessEnded (outlet_ended outlet.old) (output_of outlet.old) (output_of outlet.new) (outlet_ended outlet.new) }
-    ensures flushed { outlet_held outlet.old ≡ [] → outlet_held outlet.new ≡ [] }
-    ensures sent_on { SentOn outlet.old → SentOn outlet.new }
+    ensures flushed { outlet_held outlet.new ≡ [] }
+    ensures sent_on { SentOn outlet.new }
     ensures done { IsAnswered (seen result) }
     ensures honest { (kind : ErrorKind) → seen result ≡ Fault kind → (outlet_ended outlet.new ≡ true)
         × IsHonest (output_of outlet.old) (output_of outlet.new) response.answer (D.feed response.data_reader) (printing_in answer_context now) kind }
 {
     if outlet.is_ended() {
+        outlet.facts();
         return Reply::Done;
     }
     match send(alloc, outlet, response, answer_context, now) {
@@ -226,12 +253,12 @@ impl<R: ReadDevice, W: WriteDevice> Connection<R, W> {
     }
 
     /// Goes to the next request, and hands it out with its number: `Handed`. It is `NotYet` while the body of the last request
-    /// holds the reader: until that was read to its end, or the request was answered or dropped. It is `Ended` once the
-    /// connection has no further request, from then on, and `end_of_requests` says why. A refused head is answered under a
-    /// number of its own, in its turn, and ends the asking; so does `Memory`, and a chunked body that was given up before its
-    /// end. It waits for the client only until the head and a body of up to 1024 bytes have come, or the head alone where it expects a 100, and before them the rest of a
-    /// counted body that was given up. After the last request the reader isn't called. `now` dates the answer to a refused
-    /// head, and the 500 of this request if it is dropped.
+    /// holds the reader: until that was read to its end or given up. It is `Ended` once the connection has no further request,
+    /// from then on, and `end_of_requests` says why. A refused head is answered under a number of its own, in its turn, and
+    /// ends the asking; so does `Memory`, and a chunked body that was given up before its end. It waits for the client only
+    /// until the head and a body of up to 1024 bytes have come, or the head alone where it expects a 100, and before them the
+    /// rest of a counted body that was given up. After the last request the reader isn't called. `now` dates the answer to a
+    /// refused head, and the 500 of this request if it is dropped.
     pub fn ask(&mut self, alloc: Global, now: HttpDate) -> Reply
         ensures step { TakesStep self.old self.new now Step.Ask (seen result) }
     {
@@ -244,7 +271,7 @@ impl<R: ReadDevice, W: WriteDevice> Connection<R, W> {
         match read_head(alloc, &mut self.source, now) {
             Ok(HeadRead::Request(exchange)) => {
                 let (head, waiting) = exchange.into_parts();
-                match self.pending.issue(Some(waiting)) {
+                match self.pending.issue(Some(Unfinished::Waiting(waiting))) {
                     Ok(number) => Reply::Handed(number, head),
                     Err(_) => {
                         self.end = Some(EndOfRequests::Memory);
@@ -275,11 +302,11 @@ impl<R: ReadDevice, W: WriteDevice> Connection<R, W> {
         }
     }
 
-    /// Sends the 100 that is owed to the request of this number, and flushes (RFC 9110, section 10.1.1): `Done`. Its body can be
-    /// read then. It is `Done` too where no 100 is owed, and changes nothing. After the output has ended nothing is sent, and
-    /// none is owed any more. It is `NotYet` where a 100 is owed and a request before it waits for its answer, and `NoSuch` for
-    /// a number that doesn't wait for an answer; then nothing has changed. No reply reports a fault of the writer. The call
-    /// takes no memory. `now` is the `Date` of the 100.
+    /// Sends the 100 that is owed to the request of this number, and flushes (RFC 9110, section 10.1.1): `Done`. Its body can
+    /// be read then. It is `Done` too where no 100 is owed, and changes nothing. After the output has ended nothing is sent,
+    /// and none is owed any more. It is `NotYet` where a 100 is owed and a number before it isn't finished, and `NoSuch` for a
+    /// number that doesn't wait for an answer; then nothing has changed. No reply reports a fault of the writer. The call takes
+    /// no memory. `now` is the `Date` of the 100.
     pub fn as_reader(&mut self, alloc: Global, now: HttpDate, number: u64) -> Reply
         ensures step { TakesStep self.old self.new now (Step.AsReader number) (seen result) }
     {
@@ -304,9 +331,9 @@ impl<R: ReadDevice, W: WriteDevice> Connection<R, W> {
     }
 
     /// Reads the body of the request of this number, until there are `count` bytes or no more follow: `Given`, without a byte
-    /// once the body has ended. It is `Fault` where the body is cut or broken, at each later read too; `NoSuch` for a number
-    /// that doesn't wait for an answer, and while a 100 is owed to its request; and `Memory` where there is none for so many bytes, which changes nothing. It takes no
-    /// date, as it sends nothing.
+    /// once the body has ended. It is `Fault` where the body is cut or broken, at each later read too. It is `NoSuch` for a
+    /// number that neither waits for an answer nor was upgraded, and while a 100 is owed to its request. It is `Memory` where
+    /// there is none for so many bytes, which changes nothing. It takes no date, as it sends nothing.
     pub fn read(&mut self, alloc: Global, number: u64, count: u16) -> Reply
         ensures step { (date : Date) → TakesStep self.old self.new date (Step.Read number count) (seen result) }
     {
@@ -333,12 +360,23 @@ impl<R: ReadDevice, W: WriteDevice> Connection<R, W> {
 
     /// Drops the request of this number, and gives its body up: an empty 500 is its answer, on the date of its `ask`. It is
     /// sent now, or by the call that finishes the last number before it; it is never `NotYet`. `Done`, or `NoSuch` for a number
-    /// that doesn't wait for an answer. It takes no memory, and a fault of the writer is reported by no reply.
+    /// that doesn't wait for an answer. It takes no memory, and no reply reports a fault of the writer.
     pub fn drop_request(&mut self, number: u64) -> Reply
         ensures step { (date : Date) → TakesStep self.old self.new date (Step.Drop number) (seen result) }
     {
-        let Some(waiting) = self.pending.take(number) else {
+        if !self.let_go(number) {
             return Reply::NoSuch;
+        }
+        Reply::Done
+    }
+
+    // Drops the request of this number, and gives its body up. Whether it waited for its answer.
+    fn let_go(&mut self, number: u64) -> bool
+        ensures drops { IsTrue result → Drops number self.old self.new }
+        ensures none { result ≡ false → (waiting_answer_context (slice_get self.old.requests number) ≡ None) × (self.new ≡ self.old) }
+    {
+        let Some(waiting) = self.pending.take(number, None) else {
+            return false;
         };
         let Waiting {
             dropped,
@@ -348,14 +386,14 @@ impl<R: ReadDevice, W: WriteDevice> Connection<R, W> {
         let text = dropped.into_text();
         self.pending.leave(&mut self.outlet, number, text);
         body.give_up(&mut self.source);
-        Reply::Done
+        true
     }
 
     /// Answers the request of this number, and gives its body up: `Done`, or `Fault` where the writer failed within the answer
     /// or the response's data broke off, after which nothing more is sent on the connection: later answers are `Done` and
     /// unsent. A fault by which the client has gone is `Done` too, and data of unknown length for which there is no memory are
     /// a fault of kind `OutOfMemory`. `now` is the answer's `Date`.
-    /// `NotYet` while a request before it waits for its answer, and `NoSuch` for a number that doesn't wait for one: then the
+    /// `NotYet` while a number before it isn't finished, and `NoSuch` for a number that doesn't wait for an answer: then the
     /// response is let go, and nothing has changed.
     pub fn respond<D: ReadDevice + Drop>(
         &mut self,
@@ -374,10 +412,105 @@ impl<R: ReadDevice, W: WriteDevice> Connection<R, W> {
         }
         let reply = answer(alloc, &mut self.outlet, response, answer_context, now);
         self.pending.pass(&mut self.outlet, number);
-        if let Some(Waiting { mut body, .. }) = self.pending.take(number) {
+        if let Some(Waiting { mut body, .. }) = self.pending.take(number, None) {
             body.give_up(&mut self.source);
         }
         reply
+    }
+
+    /// Takes the raw writer of the request of this number in place of an answer, and gives its body up: `Done`, in its turn or
+    /// before it, or `NoSuch` for a number that doesn't wait for an answer. Nothing is sent: after a 100 that was sent before,
+    /// the bytes that `write` writes are all that the client gets for the request. A 100 that is owed isn't sent any more.
+    pub fn into_writer(&mut self, number: u64) -> Reply
+        ensures step { (date : Date) → TakesStep self.old self.new date (Step.IntoWriter number) (seen result) }
+    {
+        let Some(Waiting { mut body, .. }) = self.pending.take(number, Some(Unfinished::Raw)) else {
+            return Reply::NoSuch;
+        };
+        body.give_up(&mut self.source);
+        Reply::Done
+    }
+
+    /// Writes bytes by the raw writer of this number, or to the stream of its upgrade: `Done`, or `Fault` where the writer
+    /// failed in them or in what was held before them. A fault of any kind is reported. After it nothing more is sent on the
+    /// connection, and later writes are `Done` and unsent. Up to 1024 bytes may be held until `flush` or `finish`. It is
+    /// `NotYet` while a number before it isn't finished, and `NoSuch` for a number without a raw writer or stream; then nothing
+    /// has changed.
+    pub fn write(&mut self, number: u64, bytes: &[u8]) -> Reply
+        ensures step { (date : Date) (written : Vec ℕ) → written.items ≡ bytes.now → TakesStep self.old self.new date (Step.Write number written) (seen result) }
+    {
+        if !self.pending.is_writable(number) {
+            return Reply::NoSuch;
+        }
+        if !self.pending.is_in_turn(number) {
+            return Reply::NotYet;
+        }
+        Reply::write_reply(self.outlet.write(bytes))
+    }
+
+    /// Sends what was written under this number, and has the writer send it on: `Done`, or `Fault` where the writer failed.
+    /// `NotYet` and `NoSuch` are as for `write`.
+    pub fn flush(&mut self, number: u64) -> Reply
+        ensures step { (date : Date) → TakesStep self.old self.new date (Step.Flush number) (seen result) }
+    {
+        if !self.pending.is_writable(number) {
+            return Reply::NoSuch;
+        }
+        if !self.pending.is_in_turn(number) {
+            return Reply::NotYet;
+        }
+        Reply::write_reply(self.outlet.flush())
+    }
+
+    /// Answers the request of this number by a response that upgrades the connection to this protocol (RFC 9110, section
+    /// 7.8): `Done`. The response's head is sent and flushed, with `Connection: upgrade` and `Upgrade: PROTOCOL`, and its data
+    /// are let go unread. From then on `read` gives what is left of the request's body. That is all that follows where its head
+    /// names an upgrade. Bytes are written by `write`, `flush` and `finish`, as by a raw writer. It is `Refused` where the
+    /// protocol isn't ASCII, in its turn or before it: then the request is dropped. `NotYet` and `NoSuch` are as for `respond`.
+    /// It takes no memory, and no reply reports a fault of the writer. `now` is the answer's `Date`.
+    pub fn upgrade<D: ReadDevice + Drop>(
+        &mut self,
+        alloc: Global,
+        now: HttpDate,
+        number: u64,
+        protocol: &str,
+        response: Response<D>,
+    ) -> Reply
+        ensures step { (named : String Heap) → string_bytes named ≡ protocol.now
+            → TakesStep self.old self.new now (Step.Upgrade number named (stated_response D.feed response)) (seen result) }
+    {
+        let Some(answer_context) = self.pending.answer_context_at(number) else {
+            return Reply::NoSuch;
+        };
+        if are_ascii(protocol.as_bytes()) && !self.pending.is_in_turn(number) {
+            return Reply::NotYet;
+        }
+        let outlet = &mut self.outlet;
+        match send_upgrade_quietly(alloc, outlet, response, answer_context, protocol, now) {
+            Ok(()) => {
+                self.pending.set_upgraded(number);
+                Reply::Done
+            }
+            Err(UpgradeError::Protocol) => {
+                self.let_go(number);
+                Reply::Refused
+            }
+        }
+    }
+
+    /// Ends the raw writer of this number, or the stream of its upgrade, and gives the body up: `Done`, in its turn or before
+    /// it, or `NoSuch` for a number without a raw writer or stream. In its turn what was written is sent, and so are the texts
+    /// that wait directly after it. It takes no memory, and no reply reports a fault of the writer.
+    pub fn finish(&mut self, alloc: Global, number: u64) -> Reply
+        ensures step { (date : Date) → TakesStep self.old self.new date (Step.Finish number) (seen result) }
+    {
+        let Some(finished) = self.pending.close(number) else {
+            return Reply::NoSuch;
+        };
+        self.pending
+            .leave(&mut self.outlet, number, Vec::new(alloc));
+        close_body(finished, &mut self.source);
+        Reply::Done
     }
 
     /// Does a step on its date: the call that it names.
@@ -390,6 +523,13 @@ impl<R: ReadDevice, W: WriteDevice> Connection<R, W> {
             Step::AsReader(number) => self.as_reader(alloc, now, number),
             Step::Read(number, count) => self.read(alloc, number, count),
             Step::Respond(number, response) => self.respond(alloc, now, number, response),
+            Step::IntoWriter(number) => self.into_writer(number),
+            Step::Write(number, bytes) => self.write(number, &bytes),
+            Step::Flush(number) => self.flush(number),
+            Step::Upgrade(number, protocol, response) => {
+                self.upgrade(alloc, now, number, &protocol, response)
+            }
+            Step::Finish(number) => self.finish(alloc, number),
             Step::Drop(number) => self.drop_request(number),
         }
     }
@@ -428,9 +568,9 @@ pub fn run<R: ReadDevice + Drop, W: WriteDevice + Drop, D: ReadDevice + Drop>(
     ensures replies { IfOk result (λ done. vec_len done.replies ≡ vec_len steps) }
     ensures fails_once { IfOk result (λ done. FailsAtMostOnce (W.sink writer) (W.sink (outlet_writer done.outlet))) }
     ensures honest { IfOk result (λ done. ReportHonestly D.feed (W.sink writer) steps.items done.replies.items (W.sink (outlet_writer done.outlet))) }
-    // So far each step that writes flushes, and so does the writer.
-    ensures flushed { IfOk result (λ done. outlet_held done.outlet ≡ []) }
-    ensures sent_on { IfOk result (λ done. HoldsNothing (W.sink writer) → SentOn done.outlet) }
+    // Nothing is held, and the writer sent on all that it took, unless a Write stands behind the last Flush and the last answer.
+    ensures flushed { IfOk result (λ done. all_sent steps.items done.replies.items true ≡ true → outlet_held done.outlet ≡ []) }
+    ensures sent_on { IfOk result (λ done. HoldsNothing (W.sink writer) → all_sent steps.items done.replies.items true ≡ true → SentOn done.outlet) }
     ensures err { IfErr result (λ e. (e.reader ≡ reader) × (e.writer ≡ writer)) }
 {
     let Ok(mut replies) = Vec::with_capacity(alloc, steps.len()) else {

@@ -7,6 +7,6 @@ pub mod driver;
 pub mod laws;
 mod pending;
 
-pub use tiny_http_message::exchange;
+pub use tiny_http_message::{exchange, upgrading};
 pub use tiny_http_stream::{custom_stream, equal_reader, fused_reader, outlet, source};
 pub use tiny_http_turns::turns;

@@ -1,4 +1,4 @@
-//! Requests that wait for their answers, and texts that wait for their turn.
+//! Requests that aren't finished, and texts that wait for their turn.
 ghost use Rattle.std.specs.Prelude.{◌≡◌, ◌↔◌, ◌≤◌, ◌++◌, ◌∷◌, true, false, List, [], length, Some, None, IfOk, IfSome, IfNone, OnOk, OnErr, IsTrue, ◌==◌, slice_get, slice_set};
 ghost use Rattle.tiny_http_turns.specs.Turns.{Mark, Open, Held, AreInShape, first_unfinished};
 ghost use Rattle.tiny_http_stream.specs.Outlet.{output_of, outlet_ended, outlet_held, SentOn};
@@ -6,10 +6,12 @@ ghost use Rattle.tiny_http_sending.specs.Sending.{CanSend, IsFlushed, SendsUnles
 ghost use Rattle.tiny_http_message.specs.declared.body.Body.{Body};
 ghost use Rattle.tiny_http_stream.specs.Source.{GoesOn};
 ghost use Rattle.tiny_http_message.specs.Body.{is_streaming, body_standing, FillsFromBody};
-ghost use Rattle.tiny_http_core.specs.Pending.{left_text, SendsLeft, FinishesFront, LeavesText, waiting_answer_context, is_readable, owes_continue};
+ghost use Rattle.tiny_http_core.specs.Pending.{left_text, SendsLeft, FinishesFront, LeavesText, waiting_answer_context, is_readable, is_writable, owes_continue, kept_body, GivesUpBody, with_body};
 
 use std::alloc::Global;
 use std::io::ErrorKind;
+use std::mem;
+use tiny_http_message::body::Body;
 use tiny_http_message::waiting::Waiting;
 use tiny_http_sending::sending::{flush_quietly, write_quietly};
 use tiny_http_stream::outlet::Outlet;
@@ -18,11 +20,22 @@ use tiny_http_turns::turns::{Finishing, Leaving, Turns, TurnsError};
 use tiny_http_wire::answer_context::AnswerContext;
 use tiny_http_wire::device::{ReadDevice, WriteDevice};
 
-/// The numbers of a connection: their turns, and what is kept of each that waits for its answer.
+/// What is kept of a request that isn't finished.
+#[derive(Drop)]
+pub enum Unfinished {
+    /// It waits for its answer.
+    Waiting(Waiting),
+    /// Its raw writer is in use. Its body was given up.
+    Raw,
+    /// It was upgraded. Its stream reads this body.
+    Upgraded(Body),
+}
+
+/// The numbers of a connection: their turns, and what is kept of each that isn't finished.
 #[derive(Drop)]
 pub(crate) struct Pending {
     pub turns: Turns<()>,
-    pub requests: Vec<Option<Waiting>>,
+    pub requests: Vec<Option<Unfinished>>,
 }
 
 impl Pending {
@@ -38,18 +51,18 @@ impl Pending {
     }
 
     /// Gives out the next number, and keeps this under it. An error changes nothing.
-    pub fn issue(&mut self, waiting: Option<Waiting>) -> Result<u64, TurnsError>
+    pub fn issue(&mut self, request: Option<Unfinished>) -> Result<u64, TurnsError>
         ensures number { IfOk result (λ n. n ≡ length self.old.turns.marks) }
         ensures marks { OnOk result (self.new.turns.marks ≡ self.old.turns.marks ++ (Open ∷ [])) }
         ensures shape { OnOk result (AreInShape self.new.turns.marks) }
-        ensures requests { OnOk result (self.new.requests.items ≡ self.old.requests.items ++ (waiting ∷ [])) }
+        ensures requests { OnOk result (self.new.requests.items ≡ self.old.requests.items ++ (request ∷ [])) }
         ensures err { OnErr result ((self.new.turns ≡ self.old.turns) × (self.new.requests.items ≡ self.old.requests.items)) }
     {
         if self.requests.try_reserve(1).is_err() {
             return Err(TurnsError::Memory);
         }
         let number = self.turns.issue()?;
-        self.requests.push_reserved(waiting);
+        self.requests.push_reserved(request);
         Ok(number)
     }
 
@@ -78,19 +91,30 @@ impl Pending {
         ensures { result ≡ waiting_answer_context (slice_get self.now.requests.items number) }
     {
         match self.requests.get(number as usize) {
-            Some(Some(waiting)) => Some(waiting.answer_context),
+            Some(Some(Unfinished::Waiting(waiting))) => Some(waiting.answer_context),
             _ => None,
         }
     }
 
-    /// Whether the body of this number can be read: it waits for its answer, and no 100 is owed.
+    /// Whether the body of this number can be read: it waits for its answer, and no 100 is owed; or it was upgraded.
     pub fn is_readable(&self, number: u64) -> bool
         ensures { result ≡ is_readable (slice_get self.now.requests.items number) }
     {
         match self.requests.get(number as usize) {
-            Some(Some(waiting)) => !waiting.owes_continue,
+            Some(Some(Unfinished::Waiting(waiting))) => !waiting.owes_continue,
+            Some(Some(Unfinished::Upgraded(_))) => true,
             _ => false,
         }
+    }
+
+    /// Whether bytes can be written under this number: its raw writer is in use, or it was upgraded.
+    pub fn is_writable(&self, number: u64) -> bool
+        ensures { result ≡ is_writable (slice_get self.now.requests.items number) }
+    {
+        matches!(
+            self.requests.get(number as usize),
+            Some(Some(Unfinished::Raw | Unfinished::Upgraded(_)))
+        )
     }
 
     /// Whether this number waits for its answer and a 100 is owed.
@@ -98,7 +122,7 @@ impl Pending {
         ensures { result ≡ owes_continue (slice_get self.now.requests.items number) }
     {
         match self.requests.get(number as usize) {
-            Some(Some(waiting)) => waiting.owes_continue,
+            Some(Some(Unfinished::Waiting(waiting))) => waiting.owes_continue,
             _ => false,
         }
     }
@@ -112,20 +136,31 @@ impl Pending {
 
     /// No 100 is owed to this number any more, if it waits for its answer.
     pub fn set_continued(&mut self, number: u64)
-        ensures requests { (w : Waiting) → slice_get self.old.requests.items number ≡ Some (Some w)
-            → self.new.requests.items ≡ slice_set self.old.requests.items number (Some (record w { owes_continue = false })) }
+        ensures requests { (w : Waiting) → slice_get self.old.requests.items number ≡ Some (Some (Unfinished.Waiting w))
+            → self.new.requests.items ≡ slice_set self.old.requests.items number (Some (Unfinished.Waiting (record w { owes_continue = false }))) }
         ensures turns { self.new.turns ≡ self.old.turns }
     {
         let Some(entry) = self.requests.get_mut(number as usize) else {
             return;
         };
         match entry {
-            Some(waiting) => waiting.owes_continue = false,
-            None => {}
+            Some(Unfinished::Waiting(waiting)) => waiting.owes_continue = false,
+            _ => {}
         }
     }
 
-    /// Fills a buffer from the body of this number, if it waits for its answer.
+    /// This number was upgraded, if it waits for its answer. Its body is kept.
+    pub fn set_upgraded(&mut self, number: u64)
+        ensures requests { (w : Waiting) → slice_get self.old.requests.items number ≡ Some (Some (Unfinished.Waiting w))
+            → self.new.requests.items ≡ slice_set self.old.requests.items number (Some (Unfinished.Upgraded w.body)) }
+        ensures turns { self.new.turns ≡ self.old.turns }
+    {
+        if let Some(entry) = self.requests.get_mut(number as usize) {
+            upgrade_waiting(entry);
+        }
+    }
+
+    /// Fills a buffer from the body of this number, if one is kept.
     pub fn fill<R: ReadDevice>(
         &mut self,
         source: &mut Source<R>,
@@ -133,10 +168,10 @@ impl Pending {
         buf: &mut [u8],
     ) -> Result<usize, ErrorKind>
         ensures bound { IfOk result (λ n. n ≤ length buf.new) }
-        ensures fills { (w : Waiting) → slice_get self.old.requests.items number ≡ Some (Some w)
-            → (body : Body) × (self.new.requests.items ≡ slice_set self.old.requests.items number (Some (record w { body = body })))
-            × FillsFromBody w.body source.old.feed body source.new.feed result buf.new × (is_streaming w.body ≡ false → source.new ≡ source.old)
-            × (is_streaming w.body ≡ true → source.new.standing ≡ body_standing body source.old.standing) }
+        ensures fills { (u : Unfinished) (was : Body) → slice_get self.old.requests.items number ≡ Some (Some u) → kept_body (Some u) ≡ Some was
+            → (body : Body) × (self.new.requests.items ≡ slice_set self.old.requests.items number (Some (with_body body u)))
+            × FillsFromBody was source.old.feed body source.new.feed result buf.new × (is_streaming was ≡ false → source.new ≡ source.old)
+            × (is_streaming was ≡ true → source.new.standing ≡ body_standing body source.old.standing) }
         ensures turns { self.new.turns ≡ self.old.turns }
         ensures goes_on { GoesOn source.old.feed source.new.feed }
     {
@@ -144,20 +179,32 @@ impl Pending {
             return Ok(0);
         };
         match entry {
-            Some(waiting) => waiting.body.fill(source, buf),
-            None => Ok(0),
+            Some(Unfinished::Waiting(waiting)) => waiting.body.fill(source, buf),
+            Some(Unfinished::Upgraded(body)) => body.fill(source, buf),
+            _ => Ok(0),
         }
     }
 
-    /// What is kept of this number, if it waits for its answer. It doesn't wait any more.
-    pub fn take(&mut self, number: u64) -> Option<Waiting>
-        ensures some { IfSome result (λ w. (slice_get self.old.requests.items number ≡ Some (Some w))
-            × (self.new.requests.items ≡ slice_set self.old.requests.items number None)) }
+    /// What is kept of this number, if it waits for its answer. Then this is kept in its place.
+    pub fn take(&mut self, number: u64, then: Option<Unfinished>) -> Option<Waiting>
+        ensures some { IfSome result (λ w. (slice_get self.old.requests.items number ≡ Some (Some (Unfinished.Waiting w)))
+            × (self.new.requests.items ≡ slice_set self.old.requests.items number then)) }
         ensures none { IfNone result ((waiting_answer_context (slice_get self.old.requests.items number) ≡ None) × (self.new.requests.items ≡ self.old.requests.items)) }
         ensures turns { self.new.turns ≡ self.old.turns }
     {
         let entry = self.requests.get_mut(number as usize)?;
-        entry.take()
+        take_waiting(entry, then)
+    }
+
+    /// What is kept of this number, if bytes can be written under it. Nothing is kept of it any more.
+    pub fn close(&mut self, number: u64) -> Option<Unfinished>
+        ensures some { IfSome result (λ u. (slice_get self.old.requests.items number ≡ Some (Some u)) × (is_writable (Some (Some u)) ≡ true)
+            × (self.new.requests.items ≡ slice_set self.old.requests.items number None)) }
+        ensures none { IfNone result ((is_writable (slice_get self.old.requests.items number) ≡ false) × (self.new.requests.items ≡ self.old.requests.items)) }
+        ensures turns { self.new.turns ≡ self.old.turns }
+    {
+        let entry = self.requests.get_mut(number as usize)?;
+        take_writer(entry)
     }
 
     /// Holds this number, if its turn has come.
@@ -201,6 +248,57 @@ impl Pending {
         if let Leaving::Go((), text) = self.turns.leave(number, text) {
             write_left(&mut self.turns, outlet, number, text);
         }
+    }
+}
+
+// What is kept of a request that waits for its answer. Then this is kept in its place.
+fn take_waiting(entry: &mut Option<Unfinished>, then: Option<Unfinished>) -> Option<Waiting>
+    ensures some { IfSome result (λ w. (entry.old ≡ Some (Unfinished.Waiting w)) × (entry.new ≡ then)) }
+    ensures none { IfNone result ((waiting_answer_context (Some entry.old) ≡ None) × (entry.new ≡ entry.old)) }
+{
+    match mem::replace(entry, then) {
+        Some(Unfinished::Waiting(waiting)) => Some(waiting),
+        other => {
+            *entry = other;
+            None
+        }
+    }
+}
+
+// A request that waits for its answer was upgraded. Its body is kept.
+fn upgrade_waiting(entry: &mut Option<Unfinished>)
+    ensures { (w : Waiting) → entry.old ≡ Some (Unfinished.Waiting w) → entry.new ≡ Some (Unfinished.Upgraded w.body) }
+{
+    match entry.take() {
+        Some(Unfinished::Waiting(Waiting { body, .. })) => {
+            *entry = Some(Unfinished::Upgraded(body));
+        }
+        other => *entry = other,
+    }
+}
+
+// What is kept of a request under which bytes can be written. Nothing is kept of it any more.
+fn take_writer(entry: &mut Option<Unfinished>) -> Option<Unfinished>
+    ensures some { IfSome result (λ u. (entry.old ≡ Some u) × (is_writable (Some (Some u)) ≡ true) × (entry.new ≡ None)) }
+    ensures none { IfNone result ((is_writable (Some entry.old) ≡ false) × (entry.new ≡ entry.old)) }
+{
+    match entry.take() {
+        Some(Unfinished::Waiting(waiting)) => {
+            *entry = Some(Unfinished::Waiting(waiting));
+            None
+        }
+        finished => finished,
+    }
+}
+
+// Gives up the body of a request that is finished.
+pub(crate) fn close_body<R: ReadDevice>(finished: Unfinished, source: &mut Source<R>)
+    ensures gives_up { GivesUpBody (kept_body (Some finished)) source.old source.new }
+{
+    match finished {
+        Unfinished::Waiting(Waiting { mut body, .. }) => body.give_up(source),
+        Unfinished::Raw => {}
+        Unfinished::Upgraded(mut body) => body.give_up(source),
     }
 }
 

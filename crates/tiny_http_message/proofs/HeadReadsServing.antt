@@ -1,11 +1,11 @@
 -- From a head read to the item that stands there.
-use Rattle.std.proofs.Common.{◌≡◌, refl, sym, ap, ◌∙◌, subst, ℕ, ◌-◌, ◌<◌, ◌≤◌, Bool, true, false, not, List, [], ◌∷◌, ◌++◌, ◌+◌, length, take, drop, length-append, Option, Some, None, Result, Ok, Err, inl, inr, arith}
+use Rattle.std.proofs.Common.{◌≡◌, refl, sym, ap, ◌∙◌, subst, ℕ, ◌-◌, ◌<◌, ◌≤◌, Bool, true, false, List, [], ◌∷◌, ◌++◌, ◌+◌, length, take, drop, length-append, Option, Some, None, Result, Ok, Err, inl, inr, arith}
 use Rattle.std.specs.Prelude.{nat_lt, unwrap_or, MatchResult, MatchBool, ◌==◌, if◌then◌else◌}
 use Rattle.std.specs.Option.{option_map}
 use Rattle.std.specs.Global.{Vec}
 use Rattle.std.specs.declared.alloc.AllocError.{AllocError}
 use Rattle.std.specs.declared.io.ErrorKind.{ErrorKind}
-use Rattle.std.proofs.lemmas.Bool.{and_parts, not-true, ltb-true, ltb-false, lt-ltb, le-ltb}
+use Rattle.std.proofs.lemmas.Bool.{ltb-true, ltb-false, lt-ltb, le-ltb}
 use Rattle.std.proofs.lemmas.List.{take_all}
 use Rattle.std.specs.declared.io.Cursor.{Cursor}
 use Rattle.tiny_http_wire.specs.Cursor.{cursor_bytes}
@@ -32,16 +32,15 @@ use Rattle.tiny_http_message.specs.declared.heads.HeadFault.{HeadFault}
 use Rattle.tiny_http_message.specs.declared.heads.HeadFault.TheVariants as fault
 use Rattle.tiny_http_message.specs.declared.body.Body.{Body}
 use Rattle.tiny_http_message.specs.declared.body.Body.TheVariants as body
-use Rattle.tiny_http_message.specs.Framing.{framing, is_built}
+use Rattle.tiny_http_message.specs.Framing.{framing}
 use Rattle.tiny_http_stream.specs.FeedParts.{feed_front}
 use Rattle.tiny_http_stream.specs.ToCome.{skipped}
 use Rattle.tiny_http_message.specs.Body.{Remaining, remaining, counted_remaining, coming_remaining, Fits, IsBodyOver, ReadsOn}
 use Rattle.tiny_http_message.specs.Exchange.{KeepsHead}
 use Rattle.tiny_http_stream.specs.Source.{TakesExactly, feed_from}
-use Rattle.tiny_http_message.specs.Pipeline.{Asks, Refuses, Refusal, BadRequest, RequestTimeout, ExpectationFailed, refusal_status, Place, Heading, Ends, Heads, HeadAt, IsCutWithHead, cut_item, is_timed_out, body_length_or_0, served, BodyAt, FoundAt, OneHead, item_of, next_place, place_after}
-use Rattle.tiny_http_message.specs.HeadReads.{ReadsMessage, ReadsHead, RefusesWith, AnswersCut, AnswersFault, IsServedRefusal, IsCutHead, IsBadLine, IsRefusedUncut, IsOkEnd, HasByteOrTimedOut, Begins, ComesWith, IsCutOff, IsBeforeHead, cut_end, end_at, place_feed, message_of, head_message, head_framing}
+use Rattle.tiny_http_message.specs.Pipeline.{Asks, Refuses, Refusal, BadRequest, RequestTimeout, ExpectationFailed, VersionNotSupported, refusal_status, is_head_method, Place, Ends, Heads, HeadAt, IsCutWithHead, cut_item, is_timed_out, body_length_or_0, BodyAt, OneHead, item_of, next_place, place_after}
+use Rattle.tiny_http_message.specs.HeadReads.{ReadsMessage, ReadsHead, RefusesWith, AnswersCut, AnswersFault, RefusesTooNew, IsCutHead, IsBadLine, IsRefusedUncut, IsOkEnd, HasByteOrTimedOut, Begins, ComesWith, IsCutOff, IsBeforeHead, cut_end, end_at, place_feed, message_of, head_message, head_framing}
 use Rattle.tiny_http_message.specs.declared.exchange.EndOfRequests.{EndOfRequests}
-use Rattle.tiny_http_message.specs.declared.exchange.EndOfRequests.TheVariants as because
 use Rattle.tiny_http_stream.specs.declared.source.Standing.{Standing}
 use Rattle.tiny_http_stream.specs.declared.source.Standing.TheVariants as at
 use Rattle.tiny_http_stream.specs.Source.{SourceState}
@@ -50,13 +49,16 @@ use Rattle.tiny_http_wire.specs.Device.{StopsBy}
 use Rattle.tiny_http_wire.specs.Bytes.{crlf}
 use Rattle.std.specs.Prelude.{IfSome, IfOk, IsSome, IsErr, ◌≢◌}
 use Rattle.tiny_http_stream.proofs.ToComeLemmas.{skipped-within, skipped-beyond}
+use Rattle.tiny_http_sending.specs.ResponseValue.{response_of}
+use Rattle.tiny_http_message.specs.OwnAnswer.{refusal_response, refused_text}
 use Rattle.tiny_http_message.proofs.PipelineLemmas.{pipeline-sized-is}
 
 -- a head that is refused with an empty answer
-refused-at : (date : HttpDate) (f : Feed) (p : Option Feed) (refusal : Refusal) (v : HTTPVersion) (r : Result HeadRead AllocError) → IsServedRefusal refusal → HeadAt f.bytes f.stop (Ends (Some (Refuses refusal v false true)))
-    → RefusesWith (refusal_status refusal) v date r → ReadsHead at.Head date (Some f) p r
+refused-at : (date : HttpDate) (f : Feed) (p : Option Feed) (refusal : Refusal) (v : HTTPVersion) (r : Result HeadRead AllocError) → refusal_response refusal ≡ response_of (refusal_status refusal) [] []
+    → HeadAt f.bytes f.stop (Ends (Some (Refuses refusal v false true))) → RefusesWith (refusal_status refusal) v date r → ReadsHead at.Head date (Some f) p r
 refused-at date f p refusal v (Err x) s h k = tt
-refused-at date f p refusal v (Ok (read.Refused status text last)) s h k = (refusal, v, s, (Ends (Some (Refuses refusal v false true)), h, (refl, refl)), k.1, k.2, k.0)
+refused-at date f p refusal v (Ok (read.Refused status text last)) s h k =
+    (refusal, v, false, (Ends (Some (Refuses refusal v false true)), h, (refl, refl)), k.1 ∙ sym (ap (λ x. refused_text x v false date) s), k.2, k.0)
 refused-at date f p refusal v (Ok (read.Ended why)) s h k = absurd k
 refused-at date f p refusal v (Ok (read.Request x)) s h k = absurd k
 
@@ -67,7 +69,7 @@ cut-head date f p begun r c h b k = by (is_timed_out f.stop) refl h k
   where
     by : (t : Bool) → is_timed_out f.stop ≡ t → HeadAt f.bytes f.stop (Ends (if t then Some (Refuses RequestTimeout (version 1 1) false true) else None))
         → MatchBool t (RefusesWith 408 (version 1 1) date r) (r ≡ Ok (read.Ended (cut_end f.stop begun))) → ReadsHead at.Head date (Some f) p r
-    by true e h k = refused-at date f p RequestTimeout (version 1 1) r tt h k
+    by true e h k = refused-at date f p RequestTimeout (version 1 1) r refl h k
     by false e h k =
         let P : Result HeadRead AllocError → Type 0 = λ x. ReadsHead at.Head date (Some f) p x in
         subst P (sym k) ((Ends None, h, (refl, refl)), inl (c, e, ap (cut_end f.stop) b))
@@ -87,28 +89,31 @@ head-refused date (Some f) p v fault.Cut stop r h k why =
     cut-head date f p true r (inl (v, h)) (inl (v, Cut, h, refl)) w.1 (subst P w.0 k)
 head-refused date (Some f) p v fault.NotAscii stop r h k why =
     let P : Result HeadRead AllocError → Type 0 = λ x. ReadsHead at.Head date (Some f) p x in
-    subst P (sym k) ((Ends None, inl (v, NotAscii, h, refl), (refl, refl)), inr (inl (v, h, refl)))
-head-refused date (Some f) p v fault.Malformed stop r h k why = refused-at date f p BadRequest (unwrap_or v (version 1 1)) r tt (inl (v, Malformed, h, refl)) k
+    subst P (sym k) ((Ends None, inl (v, NotAscii, h, refl), (refl, refl)), inr (v, h, refl))
+head-refused date (Some f) p v fault.Malformed stop r h k why = refused-at date f p BadRequest (unwrap_or v (version 1 1)) r refl (inl (v, Malformed, h, refl)) k
 head-refused date (Some f) p v fault.Memory stop r h k why = without-memory date f p r k
 
 -- an expectation that can't be met
 pub head-unframed : (date : HttpDate) (o p : Option Feed) (m : Message) (r : Result HeadRead AllocError) → ReadsMessage o p (Ok m) → framing m.version m.headers.items ≡ None → RefusesWith 417 m.version date r → ReadsHead at.Head date o p r
 head-unframed date None p m r h e k = tt
-head-unframed date (Some f) p m r h e k = refused-at date f p ExpectationFailed m.version r tt (inr (inl (message_of m, h.0, h.1, e, refl))) k
+head-unframed date (Some f) p m r h e k = refused-at date f p ExpectationFailed m.version r refl (inr (inl (message_of m, h.0, h.1, e, refl))) k
 
-pub head-unbuilt : (date : HttpDate) (o p q : Option Feed) (m : Message) (f : Framing) (b : Body) → ReadsMessage o p (Ok m) → framing m.version m.headers.items ≡ Some f → Begins f p q (Some b) → is_built m.version ≡ false → ReadsHead at.Head date o q (Ok (read.Ended because.NotServed))
-head-unbuilt date None p q m f y h e begins b = tt
-head-unbuilt date (Some x) p q m f y h e begins b =
+-- a version that is too new
+too-new-at : (date : HttpDate) (x : Feed) (q : Option Feed) (m : Texted) (f : Framing) (after : List ℕ) (content : Feed) (next : Place) (r : Result HeadRead AllocError) → HeadAt x.bytes x.stop (Heads m f after)
+    → BodyAt f.form (body_length_or_0 f) after x.stop content next → is_too_new m.version ≡ true → RefusesTooNew (is_head_method m.method) date r → ReadsHead at.Head date (Some x) q r
+too-new-at date x q m f after content next (Err e) h body new k = tt
+too-new-at date x q m f after content next (Ok (read.Ended why)) h body new k = absurd k
+too-new-at date x q m f after content next (Ok (read.Request y)) h body new k = absurd k
+too-new-at date x q m f after content next (Ok (read.Refused status text last)) h body new k =
+    (VersionNotSupported, version 1 1, is_head_method m.method, (Heads m f after, h, (content, next, body, rw new refl, rw new refl)), k.1, k.2, k.0)
+
+pub head-too_new : (date : HttpDate) (o p q : Option Feed) (m : Message) (f : Framing) (b : Body) (r : Result HeadRead AllocError) → ReadsMessage o p (Ok m) → framing m.version m.headers.items ≡ Some f → Begins f p q (Some b) → is_too_new m.version ≡ true
+    → RefusesTooNew (is_head_method m.method) date r → ReadsHead at.Head date o q r
+head-too_new date None p q m f y r h e begins new k = tt
+head-too_new date (Some x) p q m f y r h e begins new k =
     let B : Option Feed → Type 0 = λ z. Begins f z q (Some y) in
     let started = subst B h.2 begins in
-    let whole : IsCutWithHead f.form (body_length_or_0 f) h.0 → ⊥ = started.0 in
-    let P : Heading → Type 0 = λ z. FoundAt x.stop z None None in
-    let same : Ends None ≡ served (Heads (message_of m) f h.0) = rw b refl in
-    ((Heads (message_of m) f h.0, (h.1, e, whole), subst P same (refl, refl)), inr (inr (message_of m, h.0, f, h.1, e, b, whole, refl)))
-
--- what is built is no version above 1.1
-pub built-version : (v : HTTPVersion) → is_built v ≡ true → is_too_new v ≡ false
-built-version v b = not-true (is_too_new v) b
+    too-new-at date x q (message_of m) f h.0 started.1 started.2 r (h.1, e, started.0) started.3 new k
 
 -- the body that begins in front of some bytes
 abbrev pub BeginsAt : Form → ℕ → Feed → Option Feed → Body → Type 0
@@ -220,26 +225,22 @@ begins-cut f (Some x) new n e is h =
     subst P (sym e) (omega (arith, h.0, is))
 
 -- a head with its body
-head-whole : (x : Feed) (q : Option Feed) (m : Texted) (f : Framing) (after : List ℕ) (b : Body) → BeginsWithRequestHead x.bytes m after → framing m.version m.headers ≡ Some f → is_built m.version ≡ true → Begins f (feed_from x after) q (Some b)
+head-whole : (x : Feed) (q : Option Feed) (m : Texted) (f : Framing) (after : List ℕ) (b : Body) → BeginsWithRequestHead x.bytes m after → framing m.version m.headers ≡ Some f → is_too_new m.version ≡ false → Begins f (feed_from x after) q (Some b)
     → (content : Feed) × (next : Place) × OneHead x.bytes x.stop (Some (Asks (record { message = m; framing = f; body = content }))) (place_after f.is_last next) × ComesWith (remaining b q) x.stop content next × Fits b f.form (body_length_or_0 f) 0 false
-head-whole x q m f after b h e built begins =
-    let version_is = built-version m.version built in
+head-whole x q m f after b h e version_is begins =
     let k = begins in
     let content = k.1 in
     let next = k.2 in
     let item : Some (Asks (record { message = m; framing = f; body = content })) ≡ Some (item_of m f content) = rw version_is refl in
     let place : place_after f.is_last next ≡ next_place m f next = rw version_is refl in
-    let found : FoundAt x.stop (Heads m f after) (Some (Asks (record { message = m; framing = f; body = content }))) (place_after f.is_last next) = (content, next, k.3, item, place) in
-    let Q : Heading → Type 0 = λ y. FoundAt x.stop y (Some (Asks (record { message = m; framing = f; body = content }))) (place_after f.is_last next) in
-    let same : Heads m f after ≡ served (Heads m f after) = rw built refl in
-    (content, next, (Heads m f after, (h, e, k.0), subst Q same found), k.4, k.5)
+    (content, next, (Heads m f after, (h, e, k.0), (content, next, k.3, item, place)), k.4, k.5)
 
 -- the request under a message and a framing that are those of a head
 abbrev IsHanded : Feed → Option Feed → Body → Texted → Framing → Type 0
 IsHanded x q b m f =
     (content : Feed) × (next : Place) × OneHead x.bytes x.stop (Some (Asks (record { message = m; framing = f; body = content }))) (place_after f.is_last next) × ComesWith (remaining b q) x.stop content next × Fits b f.form (body_length_or_0 f) 0 false
 
-pub head-handed : (date : HttpDate) (o p q : Option Feed) (m : Message) (f : Framing) (h : Head) (b : Body) (y : Exchange) → head_message h ≡ message_of m → head_framing h ≡ f → ReadsMessage o p (Ok m) → framing m.version m.headers.items ≡ Some f → is_built m.version ≡ true
+pub head-handed : (date : HttpDate) (o p q : Option Feed) (m : Message) (f : Framing) (h : Head) (b : Body) (y : Exchange) → head_message h ≡ message_of m → head_framing h ≡ f → ReadsMessage o p (Ok m) → framing m.version m.headers.items ≡ Some f → is_too_new m.version ≡ false
     → Begins f p q (Some b) → y.head ≡ h → y.waiting.body ≡ b → KeepsHead y.waiting h date → ReadsHead at.Head date o q (Ok (read.Request y))
 head-handed date None p q m f h b y u v r e t begins heads bodies keeps = tt
 head-handed date (Some x) p q m f h b y u v r e t begins heads bodies keeps =
@@ -334,6 +335,10 @@ cut-unrefused (Some s) begun date x some k h = by (is_timed_out s) k
         let P : HeadRead → Type 0 = λ y. IsRefusedUncut y in
         let e : x ≡ read.Ended (cut_end s begun) = cc in
         elim (subst P e h) [ ]
+
+pub passed-on : (T : Type 0) (r : Result HeadRead AllocError) → T → IfOk r (λ x. IsRefusedUncut x → T)
+passed-on T (Ok x) t = λ h. t
+passed-on T (Err e) t = tt
 
 pub cut-passed : (T : Type 0) (stop : Option Stop) (begun : Bool) (date : HttpDate) (r : Result HeadRead AllocError) → IsSome stop → IfSome stop (λ s. AnswersCut s begun date r) → IfOk r (λ x. IsRefusedUncut x → T)
 cut-passed T stop begun date (Ok x) some k = λ h. absurd (cut-unrefused stop begun date x some k h)

@@ -11,15 +11,28 @@ use Rattle.tiny_http_wire.specs.declared.common.HTTPVersion.{HTTPVersion}
 use Rattle.tiny_http_wire.specs.declared.coding.Coding.{Coding}
 use Rattle.tiny_http_wire.specs.declared.coding.Coding.TheVariants.{Identity, Chunked}
 use Rattle.tiny_http_wire.specs.declared.coding.FramingHeader.{FramingHeader}
-use Rattle.tiny_http_wire.specs.declared.coding.FramingHeader.TheVariants.{ContentLength, TransferEncoding}
+use Rattle.tiny_http_wire.specs.declared.coding.FramingHeader.TheVariants.{Neither, ContentLength, TransferEncoding}
 use Rattle.tiny_http_encoding.specs.ChunkedPrinting.{full_chunks, left_over}
 use Rattle.tiny_http_wire.specs.Common.{reason_phrase}
-use Rattle.tiny_http_wire.specs.Device.{Sink, Took, Failed, whole_feed}
-use Rattle.tiny_http_encoding.specs.Text.{Text, Ending, Whole, Broken, chunked_body}
-use Rattle.tiny_http_wire.specs.Answer.{Answer, Printing, answer_with, answer_coding, coded_text, PrintsAnswer, text_of, is_withheld, answer_head_text, status_line, field_line, upgrade_lines, server_line, date_line, framing_line}
-use Rattle.tiny_http_sending.specs.ResponseValue.{printing_to}
+use Rattle.std.specs.Prelude.{if◌then◌else◌}
+use Rattle.std.specs.List.{list_all}
+use Rattle.std.specs.declared.io.ErrorKind.TheVariants.{InvalidInput}
+use Rattle.tiny_http_wire.specs.Bytes.{is_ascii}
+use Rattle.tiny_http_wire.specs.Device.{Feed, Sink, Took, Failed, whole_feed}
+use Rattle.tiny_http_encoding.specs.Text.{Text, Ending, Whole, Broken, whole, nothing_sent, chunked_body}
+use Rattle.tiny_http_wire.specs.Answer.{Answer, Printing, answer_with, answer_coding, head_text_of, coded_text, PrintsAnswer, text_of, is_withheld, answer_head_text, status_line, field_line, upgrade_lines, server_line, date_line, framing_line}
+use Rattle.tiny_http_sending.specs.ResponseValue.{printing_to, upgrading}
 use Rattle.tiny_http_sending.specs.Sending.{Sends, SendsText, SendsQuietly}
-use Rattle.tiny_http_message.specs.OwnAnswer.{own_text_by}
+use Rattle.tiny_http_wire.specs.declared.common.Header.{Header}
+use Rattle.tiny_http_wire.specs.Answer.{text_plain}
+use Rattle.std.specs.Prelude.{◌∷◌}
+use Rattle.std.proofs.lemmas.Bool.{le-leb}
+use Rattle.tiny_http_sending.specs.ResponseValue.{response_of, response_text}
+use Rattle.tiny_http_message.specs.Pipeline.{Refusal, BadRequest, RequestTimeout, ExpectationFailed, VersionNotSupported}
+use Rattle.std.specs.Prelude.{◌^◌, IfOk}
+use Rattle.std.specs.declared.alloc.AllocError.{AllocError}
+use Rattle.tiny_http_wire.specs.Heads.{version}
+use Rattle.tiny_http_message.specs.OwnAnswer.{own_text_by, own_printing, refusal_response, refused_text, too_new_text}
 
 -- an answer of the server's own is whole, however it is coded
 coded-whole : (coding : Coding) (top : FramingHeader → List ℕ) (withheld : Bool) → (coded_text coding (Some 0) top withheld (whole_feed [])).ending ≡ Whole
@@ -100,7 +113,7 @@ no-fault old new e a p bytes same o n z full all fits (inr k) =
     cc
 
 -- such an answer that was sent: its text was sent, or the writer failed in it
-own-sent : {T : Type 0} (old new : Sink) (ended : Bool) (r : Result T Error) (text : Text) → text.ending ≡ Whole → SendsText old new ended r text → SendsQuietly old new ended text.bytes
+pub own-sent : {T : Type 0} (old new : Sink) (ended : Bool) (r : Result T Error) (text : Text) → text.ending ≡ Whole → SendsText old new ended r text → SendsQuietly old new ended text.bytes
 own-sent old new ended (Ok x) text whole s = inl (s.2, s.3, s.1)
 own-sent old new ended (Err e) text whole s =
     ⊎_elim (λ k. absurd (whole-broken text.ending (error_kind e) whole k.0)) (λ k. inr (s.0, s.1, error_kind e, k.1)) s.2
@@ -118,3 +131,41 @@ own-quietly {T = T} old new ended r a status asked v no_body date same s = by (s
     by : S (answer_with status [] 0) → SendsQuietly old new ended (own_text_by status p)
     by (inl k) = own-sent {T = T} old new ended r (text_of (answer_with status [] 0) (whole_feed []) p) (own-whole status asked v no_body date) k
     by (inr k) = let none : ◌≡◌ {A = Option ℕ} (Some 0) None = k.0.2 in cc
+
+-- an upgrade to a protocol that is ASCII is whole
+upgrade-whole : (t : Bool) (head : List ℕ) → t ≡ true → (if t then whole head else nothing_sent InvalidInput).ending ≡ Whole
+upgrade-whole true head e = refl
+upgrade-whole false head e = cc
+
+pub upgrade-quietly : {T : Type 0} (old new : Sink) (ended : Bool) (r : Result T Error) (a : Answer) (content : Feed) (p : Printing) (protocol : List ℕ) → list_all is_ascii protocol ≡ true
+    → SendsText {T = T} old new ended r (text_of a content (upgrading protocol p)) → SendsQuietly old new ended (text_of a content (upgrading protocol p)).bytes
+unfolding text_of
+upgrade-quietly {T = T} old new ended r a content p protocol ascii s =
+    own-sent {T = T} old new ended r (text_of a content (upgrading protocol p)) (upgrade-whole (list_all is_ascii protocol) (head_text_of a (upgrading protocol p) Neither) ascii) s
+
+-- a response whose data are a text is whole, however it is coded
+text-whole : (coding : Coding) (text : List ℕ) (top : FramingHeader → List ℕ) (withheld : Bool) → (coded_text coding (Some (length text)) top withheld (whole_feed text)).ending ≡ Whole
+text-whole Identity text top true = refl
+text-whole Identity text top false = rw (le-leb (length text) (length text) (omega arith)) refl
+text-whole Chunked text top true = refl
+text-whole Chunked text top false = refl
+
+response-whole : (status : ℕ) (headers : List Header) (text : List ℕ) (v : HTTPVersion) (no_body : Bool) (date : HttpDate) → (response_text (response_of status headers text) (own_printing v no_body date)).ending ≡ Whole
+unfolding text_of
+response-whole status headers text v no_body date =
+    text-whole (answer_coding (answer_with status headers (length text)) (own_printing v no_body date)) text (λ framing. answer_head_text v status None headers date framing) (is_withheld no_body status)
+
+-- the answer to a refused head is whole
+pub refusal-whole : (refusal : Refusal) (v : HTTPVersion) (no_body : Bool) (date : HttpDate) → (response_text (refusal_response refusal) (own_printing v no_body date)).ending ≡ Whole
+refusal-whole BadRequest v no_body date = response-whole 400 [] [] v no_body date
+refusal-whole RequestTimeout v no_body date = response-whole 408 [] [] v no_body date
+refusal-whole ExpectationFailed v no_body date = response-whole 417 [] [] v no_body date
+refusal-whole VersionNotSupported v no_body date = response-whole 505 (text_plain ∷ []) too_new_text v no_body date
+
+-- what is printed to a version that is too new
+pub too-new-printed : {T : Type 0} (r : Result T AllocError) (items : T → List ℕ) (a : Answer) (o : Option Feed) (no_body : Bool) (date : HttpDate) → a ≡ answer_with 505 (text_plain ∷ []) 51 → o ≡ Some (whole_feed too_new_text)
+    → ((content : Feed) → o ≡ Some content → length content.bytes < 2 ^ 63 → IfOk r (λ text. items text ≡ refused_text (record { answer = a; content = content }) (version 1 1) no_body date))
+    → IfOk r (λ text. items text ≡ refused_text (refusal_response VersionNotSupported) (version 1 1) no_body date)
+too-new-printed {T = T} r items a o no_body date same stated h =
+    let P : Answer → Type 0 = λ x. IfOk r (λ (text : T). items text ≡ refused_text (record { answer = x; content = whole_feed too_new_text }) (version 1 1) no_body date) in
+    subst P same (h (whole_feed too_new_text) stated (omega arith))

@@ -16,8 +16,8 @@ use Rattle.tiny_http_wire.proofs.ChunksLemmas.{decoded-is, decoded-one, decoded-
 use Rattle.tiny_http_message.specs.declared.framing.Form.{Form}
 use Rattle.tiny_http_message.specs.declared.framing.Form.TheVariants.{Rest, Nothing, WithHead, Counted, Chunked}
 use Rattle.tiny_http_message.specs.declared.framing.Framing.{Framing}
-use Rattle.tiny_http_message.specs.Framing.{framing, is_built}
-use Rattle.tiny_http_message.specs.Pipeline.{Item, Place, Heading, Ends, Heads, HeadAt, IsCutWithHead, cut_item, body_length_or_0, served, BodyAt, SizedBody, FoundAt, OneHead, item_of, next_place, ends_too_new, Pipeline, place_after}
+use Rattle.tiny_http_message.specs.Framing.{framing}
+use Rattle.tiny_http_message.specs.Pipeline.{Item, Place, Heading, Ends, Heads, HeadAt, IsCutWithHead, cut_item, body_length_or_0, BodyAt, SizedBody, FoundAt, OneHead, item_of, next_place, ends_too_new, Pipeline, place_after}
 use Rattle.tiny_http_message.specs.PipelineReading.{BodyRead, chunked_read, sized_read, body_read, is_cut_with_head, framed, heading, heading_of, items_at, items_from, items_of}
 
 pub cut-with_head : (form : Form) (n : ℕ) (after : List ℕ) → is_cut_with_head form n after ≡ true → IsCutWithHead form n after
@@ -133,7 +133,7 @@ found_in stop (Heads m f after) =
     let b = body_read f.form (body_length_or_0 f) after stop in (Some (item_of m f b.body), next_place m f b.next)
 
 abbrev found : Stop → List ℕ → Found
-found stop bytes = found_in stop (served (heading_of stop bytes))
+found stop bytes = found_in stop (heading_of stop bytes)
 
 pair-eq : (a b : Option Item) (p q : Place) → a ≡ b → p ≡ q → ◌≡◌ {A = Found} (a, p) (b, q)
 pair-eq a b p q e f = let g : Option Item → Place → Found = λ x y. (x, y) in ap (λ x. g x p) e ∙ ap (g b) f
@@ -145,7 +145,7 @@ found-one stop (Heads m f after) item next k =
 
 -- one head has one item and one place after it
 one-head-one : (bytes : List ℕ) (stop : Stop) (item : Option Item) (next : Place) → OneHead bytes stop item next → found stop bytes ≡ (item, next)
-one-head-one bytes stop item next h = ap (λ x. found_in stop (served x)) (heading-one bytes stop h.0 h.1) ∙ found-one stop (served h.0) item next h.2
+one-head-one bytes stop item next h = ap (λ x. found_in stop x) (heading-one bytes stop h.0 h.1) ∙ found-one stop h.0 item next h.2
 
 one-found : (i j : Option Item) (p q : Place) (f : Found) → f ≡ (i, p) → f ≡ (j, q) → (i ≡ j) × (p ≡ q)
 one-found i j p q f e g =
@@ -230,26 +230,19 @@ ends-is bytes stop go None h = (Ends None, h, (refl, refl))
 ends-is bytes stop go (Some item) h = (None, (Ends (Some item), h, (refl, refl)), tt)
 
 heads-is : (fuel : ℕ) (stop : Stop) (bytes : List ℕ) → ((p : Place) → place_len p < length bytes → Pipeline p stop (items_from fuel stop p))
-    → (m : Message) (f : Framing) (after : List ℕ) → HeadAt bytes stop (Heads m f after) → (t : Bool) → is_built m.version ≡ t
-    → Pipeline (Some bytes) stop (items_at (items_from fuel stop) stop (if t then Heads m f after else Ends None))
-heads-is fuel stop bytes go m f after h false b =
-    let P : Heading → Type 0 = λ x. FoundAt stop x None None in
-    let same : Ends None ≡ served (Heads m f after) = rw b refl in
-    (Heads m f after, h, subst P same (refl, refl))
-heads-is fuel stop bytes go m f after h true b =
+    → (m : Message) (f : Framing) (after : List ℕ) → HeadAt bytes stop (Heads m f after) → Pipeline (Some bytes) stop (items_at (items_from fuel stop) stop (Heads m f after))
+heads-is fuel stop bytes go m f after h =
     let r = body_read f.form (body_length_or_0 f) after stop in
     let k = body-is f.form (body_length_or_0 f) after stop h.2 in
     let n = body-shorter f.form (body_length_or_0 f) after stop r.body r.next k in
     let g = goes-shorter m f r.next in
     let s = head-shorter bytes m after h.0 in
-    let same : Heads m f after ≡ served (Heads m f after) = rw b refl in
-    let P : Heading → Type 0 = λ x. FoundAt stop x (Some (item_of m f r.body)) (next_place m f r.next) in
-    (next_place m f r.next, (Heads m f after, h, subst P same (r.body, r.next, k, refl, refl)), go (next_place m f r.next) (omega arith))
+    (next_place m f r.next, (Heads m f after, h, (r.body, r.next, k, refl, refl)), go (next_place m f r.next) (omega arith))
 
 one-is : (fuel : ℕ) (stop : Stop) (bytes : List ℕ) → ((p : Place) → place_len p < length bytes → Pipeline p stop (items_from fuel stop p))
-    → (h : Heading) → HeadAt bytes stop h → Pipeline (Some bytes) stop (items_at (items_from fuel stop) stop (served h))
+    → (h : Heading) → HeadAt bytes stop h → Pipeline (Some bytes) stop (items_at (items_from fuel stop) stop h)
 one-is fuel stop bytes go (Ends answer) h = ends-is bytes stop (items_from fuel stop) answer h
-one-is fuel stop bytes go (Heads m f after) h = heads-is fuel stop bytes go m f after h (is_built m.version) refl
+one-is fuel stop bytes go (Heads m f after) h = heads-is fuel stop bytes go m f after h
 
 items-are : (fuel : ℕ) (place : Place) (stop : Stop) → place_len place < fuel → Pipeline place stop (items_from fuel stop place)
 items-are zero place stop lt = absurd (omega arith)

@@ -1,10 +1,12 @@
 -- What a contract sees of an `Exchange`.
-use Rattle.std.specs.Prelude.{◌≡◌, ℕ, Bool, false, Option, unwrap_or}
+use Rattle.std.specs.Prelude.{◌≡◌, ℕ, Bool, false, List, [], Option, unwrap_or}
 use Rattle.httpdate.specs.declared.date.HttpDate.{HttpDate}
 use Rattle.tiny_http_wire.specs.declared.device.Stop.{Stop}
+use Rattle.tiny_http_wire.specs.declared.device.Stop.TheVariants.{End}
 use Rattle.tiny_http_wire.specs.Device.{Feed}
 use Rattle.tiny_http_message.specs.declared.exchange.Head.{Head}
 use Rattle.tiny_http_message.specs.declared.body.Body.{Body}
+use Rattle.tiny_http_message.specs.declared.body.Body.TheVariants.{Over}
 use Rattle.tiny_http_message.specs.declared.waiting.Waiting.{Waiting}
 use Rattle.tiny_http_message.specs.declared.exchange.Exchange.{Exchange}
 use Rattle.tiny_http_stream.specs.Source.{SourceState}
@@ -56,9 +58,21 @@ exchange_owes_continue x = x.waiting.owes_continue
 abbrev pub OwesNoContinue : Exchange → Exchange → Type 0
 OwesNoContinue old new = new ≡ record old { waiting = record old.waiting { owes_continue = false } }
 
+-- the text that answers it if it is dropped; no byte, once that was taken
+abbrev pub exchange_drop_text : Exchange → List ℕ
+exchange_drop_text x = x.waiting.dropped.items
+
+-- nothing has changed but that this text was taken, and that no 100 is owed any more
+abbrev pub HasNoDropText : Exchange → Exchange → Type 0
+HasNoDropText old new = new ≡ record old { waiting = record old.waiting { owes_continue = false; dropped = record { items = [] } } }
+
 -- nothing but how far its body was read has changed
 abbrev pub KeepsButBody : Exchange → Exchange → Type 0
 KeepsButBody old new = (body : Body) × (new ≡ record old { waiting = record old.waiting { body = body } })
+
+-- nothing has changed but that its body reports its end from now on, and that no 100 is owed any more
+abbrev pub HasNoBodyLeft : Exchange → Exchange → Type 0
+HasNoBodyLeft old new = new ≡ record old { waiting = record old.waiting { body = Over End; owes_continue = false } }
 
 -- its body is given up
 abbrev pub GivesUpBody : {R : Type 0} → Exchange → SourceState R → SourceState R → Type 0

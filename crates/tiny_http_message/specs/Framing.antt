@@ -4,7 +4,7 @@ use Rattle.tiny_http_wire.specs.declared.common.Header.{Header}
 use Rattle.tiny_http_wire.specs.declared.common.HTTPVersion.{HTTPVersion}
 use Rattle.tiny_http_wire.specs.Common.{same_name, lowercase}
 use Rattle.tiny_http_wire.specs.Bytes.{contains_word}
-use Rattle.tiny_http_wire.specs.Heads.{is_too_new, length_in}
+use Rattle.tiny_http_wire.specs.Heads.{length_in}
 use Rattle.tiny_http_message.specs.declared.framing.Form.{Form}
 use Rattle.tiny_http_message.specs.declared.framing.Form.TheVariants.{Rest, Nothing, WithHead, Counted, Chunked}
 use Rattle.tiny_http_message.specs.declared.framing.Framing.{Framing}
@@ -60,8 +60,3 @@ framed_by v headers (Some owed) =
 -- the framing that version and headers give; or None: 417
 unfoldable pub framing : HTTPVersion → List Header → Option Framing
 framing v headers = framed_by v headers (expectation (value_of (codes "Expect") headers))
-
--- THE INTERIM GUARD on heads: what is served so far is a request of a version up to 1.1. Any other head whose framing is
--- known, and whose body isn't cut, ends the connection without an answer.
-abbrev pub is_built : HTTPVersion → Bool
-is_built v = not (is_too_new v)

@@ -27,10 +27,10 @@ use Rattle.tiny_http_stream.specs.declared.source.LineFault.TheVariants as linef
 use Rattle.tiny_http_message.specs.declared.heads.HeadFault.{HeadFault}
 use Rattle.tiny_http_message.specs.declared.heads.HeadFault.TheVariants as fault
 use Rattle.tiny_http_message.specs.declared.body.Body.{Body}
-use Rattle.tiny_http_message.specs.Framing.{framing, is_built}
+use Rattle.tiny_http_message.specs.Framing.{framing}
 use Rattle.tiny_http_stream.specs.Source.{SourceState, feed_from, IsAtEnd}
-use Rattle.tiny_http_message.specs.Pipeline.{Request, Asks, Refuses, Refusal, BadRequest, RequestTimeout, ExpectationFailed, VersionNotSupported, refusal_status, is_timed_out, Place, IsCutWithHead, BodyAt, OneHead, body_length_or_0, place_after}
-use Rattle.tiny_http_message.specs.OwnAnswer.{own_text}
+use Rattle.tiny_http_message.specs.Pipeline.{Request, Asks, Refuses, Refusal, VersionNotSupported, refusal_status, is_timed_out, Place, IsCutWithHead, BodyAt, OneHead, body_length_or_0, place_after}
+use Rattle.tiny_http_message.specs.OwnAnswer.{own_text, refusal_response, refused_text}
 use Rattle.tiny_http_message.specs.Body.{Remaining, remaining, Fits}
 use Rattle.tiny_http_message.specs.Exchange.{exchange_head, exchange_left, exchange_streams, KeepsRequest}
 
@@ -132,13 +132,11 @@ IsCutHead bytes =
     ⊎ ((m : Texted) × (after : List ℕ) × (f : Framing) × BeginsWithRequestHead bytes m after × (framing m.version m.headers ≡ Some f) × IsCutWithHead f.form (body_length_or_0 f) after)
 
 -- WHY NO REQUEST comes from these bytes, which are answered by nothing: the head is cut, and not by a time-out; or a line of
--- it isn't ASCII; or it asks for what isn't served yet.
+-- it isn't ASCII.
 abbrev pub EndsBy : List ℕ → Stop → EndOfRequests → Type 0
 EndsBy bytes stop why =
     (IsCutHead bytes × (is_timed_out stop ≡ false) × (why ≡ cut_end stop (nat_lt 0 (length bytes))))
-    ⊎ (((v : Option HTTPVersion) × FaultyHead bytes v NotAscii × (why ≡ because.NotAscii))
-    ⊎ ((m : Texted) × (after : List ℕ) × (f : Framing) × BeginsWithRequestHead bytes m after × (framing m.version m.headers ≡ Some f) × (is_built m.version ≡ false)
-    × (IsCutWithHead f.form (body_length_or_0 f) after → ⊥) × (why ≡ because.NotServed)))
+    ⊎ ((v : Option HTTPVersion) × FaultyHead bytes v NotAscii × (why ≡ because.NotAscii))
 
 -- the same at a place: after a body that was given up, or broke off, that is the reason
 abbrev pub EndsAt : Standing → List ℕ → Stop → EndOfRequests → Type 0
@@ -158,6 +156,13 @@ abbrev pub RefusesWith : ℕ → HTTPVersion → HttpDate → Result HeadRead Al
 RefusesWith status v date (Ok (read.Refused code text last)) = (code.0 ≡ status) × (text.items ≡ own_text status v false date) × (last ≡ true)
 RefusesWith status v date (Ok _) = ⊥
 RefusesWith status v date (Err e) = ⊤
+
+-- A head is refused for its version, under version 1.1: the text of its answer, after which no head follows. Or memory for
+-- that was refused.
+abbrev pub RefusesTooNew : Bool → HttpDate → Result HeadRead AllocError → Type 0
+RefusesTooNew no_body date (Ok (read.Refused code text last)) = (code.0 ≡ 505) × (text.items ≡ refused_text (refusal_response VersionNotSupported) (version 1 1) no_body date) × (last ≡ true)
+RefusesTooNew no_body date (Ok _) = ⊥
+RefusesTooNew no_body date (Err e) = ⊤
 
 -- What a head is answered that is cut by this stop: 408 at a time-out, else nothing, for this reason.
 abbrev pub AnswersCut : Stop → Bool → HttpDate → Result HeadRead AllocError → Type 0
@@ -188,13 +193,6 @@ Begins f (Some x) new (Some b) =
     (IsCutWithHead f.form (body_length_or_0 f) x.bytes → ⊥) × (body : Feed) × (next : Place) × BodyAt f.form (body_length_or_0 f) x.bytes x.stop body next
     × ComesWith (remaining b new) x.stop body next × Fits b f.form (body_length_or_0 f) 0 false
 
--- AN INTERIM GUARD: no head is refused so far because its version is too new
-abbrev pub IsServedRefusal : Refusal → Type 0
-IsServedRefusal BadRequest = ⊤
-IsServedRefusal RequestTimeout = ⊤
-IsServedRefusal ExpectationFailed = ⊤
-IsServedRefusal VersionNotSupported = ⊥
-
 -- the reader times out
 abbrev pub TimesOut : Option Feed → Type 0
 TimesOut None = ⊥
@@ -212,8 +210,8 @@ ReadsHead from_here date (Some f) new (Ok (read.Request x)) =
     (body : Feed) × (next : Place) × OneHead f.bytes f.stop (Some (Asks (request_of (exchange_head x) body))) (place_after (exchange_head x).is_last next)
     × ComesWith (exchange_left x new) f.stop body next × KeepsRequest x date
 ReadsHead from_here date (Some f) new (Ok (read.Refused status text last)) =
-    (refusal : Refusal) × (v : HTTPVersion) × IsServedRefusal refusal × OneHead f.bytes f.stop (Some (Refuses refusal v false true)) None
-    × (text.items ≡ own_text (refusal_status refusal) v false date) × (last ≡ true) × (status.0 ≡ refusal_status refusal)
+    (refusal : Refusal) × (v : HTTPVersion) × (no_body : Bool) × OneHead f.bytes f.stop (Some (Refuses refusal v no_body true)) None
+    × (text.items ≡ refused_text (refusal_response refusal) v no_body date) × (last ≡ true) × (status.0 ≡ refusal_status refusal)
 ReadsHead from_here date (Some f) new (Ok (read.Ended why)) = OneHead f.bytes f.stop None None × EndsAt from_here f.bytes f.stop why
 ReadsHead from_here date (Some f) new (Err e) = ⊤
 

@@ -13,7 +13,7 @@ use Rattle.tiny_http_wire.specs.Heads.{Message, BeginsWithRequestHead, FaultyHea
 use Rattle.tiny_http_message.specs.declared.framing.Form.{Form}
 use Rattle.tiny_http_message.specs.declared.framing.Form.TheVariants.{Rest, Nothing, WithHead, Counted, Chunked}
 use Rattle.tiny_http_message.specs.declared.framing.Framing.{Framing}
-use Rattle.tiny_http_message.specs.Framing.{framing, is_built}
+use Rattle.tiny_http_message.specs.Framing.{framing}
 
 -- a request that is handed out: its head, its framing, and what its body reader gives and how that closes
 pub record Request : Type 0 where
@@ -89,11 +89,6 @@ HeadAt bytes stop (Ends answer) =
 HeadAt bytes stop (Heads m f after) =
     BeginsWithRequestHead bytes m after × (framing m.version m.headers ≡ Some f) × (IsCutWithHead f.form (body_length_or_0 f) after → ⊥)
 
--- THE INTERIM GUARD on heads, applied: only what is built is handed out.
-abbrev pub served : Heading → Heading
-served (Ends answer) = Ends answer
-served (Heads m f after) = if is_built m.version then Heads m f after else Ends None
-
 -- the bytes begin with a body of n bytes
 abbrev pub SizedBody : ℕ → List ℕ → Feed → Place → Type 0
 SizedBody n after body next = (rest : List ℕ) × (after ≡ body.bytes ++ rest) × (length body.bytes ≡ n) × (body.stop ≡ End) × (next ≡ Some rest)
@@ -114,11 +109,9 @@ abbrev pub place_after : Bool → Place → Place
 place_after true next = None
 place_after false next = next
 
--- a version above 1.1 is refused, and the body is passed over where that can be done
+-- A version above 1.1 is refused. THE INTERIM GUARD: so far the connection ends there, whatever body stands after the head.
 abbrev pub ends_too_new : Form → Bool
-ends_too_new Rest = true
-ends_too_new Chunked = true
-ends_too_new _ = false
+ends_too_new form = true
 
 abbrev pub item_of : Message → Framing → Feed → Item
 item_of m f body =
@@ -136,7 +129,7 @@ FoundAt stop (Heads m f after) item next =
 
 -- One head: the item that it is, if any, and where the next one begins.
 abbrev pub OneHead : List ℕ → Stop → Option Item → Place → Type 0
-OneHead bytes stop item next = (heading : Heading) × HeadAt bytes stop heading × FoundAt stop (served heading) item next
+OneHead bytes stop item next = (heading : Heading) × HeadAt bytes stop heading × FoundAt stop heading item next
 
 -- The pipeline: the items that stand from a place on, one head after another, until the connection has ended (RFC 9112,
 -- section 9.3.2).

@@ -10,7 +10,7 @@ use Rattle.tiny_http_message.specs.declared.framing.Form.{Form}
 use Rattle.tiny_http_message.specs.declared.framing.Form.TheVariants.{Rest, Nothing, WithHead, Counted, Chunked}
 use Rattle.tiny_http_message.specs.declared.framing.Framing.{Framing}
 use Rattle.tiny_http_message.specs.Framing.{framing}
-use Rattle.tiny_http_message.specs.Pipeline.{Item, Refuses, ExpectationFailed, Place, Heading, Ends, Heads, fault_item, cut_item, body_length_or_0, served, item_of, next_place}
+use Rattle.tiny_http_message.specs.Pipeline.{Item, Refuses, ExpectationFailed, Place, Heading, Ends, Heads, fault_item, cut_item, body_length_or_0, item_of, next_place}
 
 -- a body and where the next head begins
 pub record BodyRead : Type 0 where
@@ -61,7 +61,7 @@ items_at go stop (Heads m f after) =
 
 abbrev pub items_from : ℕ → Stop → Place → List Item
 items_from zero stop place = []
-items_from (suc fuel) stop place = elim place [ None ↦ [] | Some bytes ↦ items_at (items_from fuel stop) stop (served (heading_of stop bytes)) ]
+items_from (suc fuel) stop place = elim place [ None ↦ [] | Some bytes ↦ items_at (items_from fuel stop) stop (heading_of stop bytes) ]
 
 -- the pipeline of a feed
 abbrev pub items_of : Feed → List Item

@@ -1,11 +1,14 @@
 //! A request without locks: its head, its body on the connection's input, and what becomes of both.
-ghost use Rattle.std.specs.Prelude.{◌≡◌, ◌<◌, ◌≤◌, ◌==◌, ◌^◌, true, false, [], length, take, Some, None, Ok, IfOk, IfErr, IfSome, IsSome, OnErr};
+ghost use Rattle.std.specs.Prelude.{◌≡◌, ◌<◌, ◌≤◌, ◌==◌, ◌^◌, true, false, [], length, take, Some, None, Ok, IfOk, IfErr, IfSome, IsSome, OnOk, OnErr, is_ok};
 ghost use Rattle.std.specs.IoError.{error_kind};
+ghost use Rattle.std.specs.List.{list_all};
+ghost use Rattle.tiny_http_wire.specs.Bytes.{is_ascii};
+ghost use Rattle.tiny_http_sending.specs.ResponseValue.{upgrade_text};
 ghost use Rattle.tiny_http_wire.specs.Device.{AnswersStop};
 ghost use Rattle.tiny_http_stream.specs.Source.{GoesOn, IsAtEnd};
 ghost use Rattle.tiny_http_message.specs.Pipeline.{is_head_method, is_timed_out};
 ghost use Rattle.tiny_http_message.specs.Body.{prepended_body, BodyStops};
-ghost use Rattle.tiny_http_message.specs.HeadReads.{ReadsHead, EndsUnlessHanded, RefusesWith, AnswersCut, AnswersFault, HasByteOrTimedOut, Begins, IsCutOff, IsRequest, IsRefusedUncut, IsOkEnd, IsBeforeHead, cut_end, end_at, standing_of, standing_read, message_of, head_message, head_framing};
+ghost use Rattle.tiny_http_message.specs.HeadReads.{ReadsHead, EndsUnlessHanded, RefusesWith, RefusesTooNew, AnswersCut, AnswersFault, HasByteOrTimedOut, Begins, IsCutOff, IsRequest, IsRefusedUncut, IsOkEnd, IsBeforeHead, cut_end, end_at, standing_of, standing_read, message_of, head_message, head_framing};
 ghost use Rattle.tiny_http_message.specs.Exchange.{KeepsHead};
 ghost use Rattle.tiny_http_wire.specs.Device.{Feed};
 ghost use Rattle.tiny_http_stream.specs.Outlet.{output_of, outlet_ended, outlet_held, SentOn};
@@ -14,9 +17,10 @@ ghost use Rattle.tiny_http_message.specs.OwnAnswer.{own_text_by};
 
 use crate::body::{Body, counted};
 pub use crate::framing::Form;
-use crate::framing::{Framing, framing_of, is_built};
+use crate::framing::{Framing, framing_of, is_too_new};
 use crate::heads::{HeadFault, Message, read_message};
-use crate::own_answer::{DropText, own_answer, send_own_quietly};
+use crate::own_answer::{DropText, own_answer, send_own_quietly, too_new_answer};
+use crate::upgrading::{UpgradeError, send_upgrade_quietly};
 use crate::waiting::Waiting;
 use httpdate::HttpDate;
 use std::alloc::{AllocError, Global};
@@ -84,8 +88,6 @@ pub enum EndOfRequests {
     AbandonedBody,
     /// The body before was neither read to its end nor given up.
     UnreadBody,
-    /// The head asks for what isn't served yet: a version above 1.1.
-    NotServed,
     /// Memory for the head or its answer was refused.
     Memory,
 }
@@ -107,7 +109,7 @@ pub enum HeadRead {
 }
 
 impl Exchange {
-    ghost use Rattle.tiny_http_message.specs.Exchange.{exchange_printing, exchange_of, exchange_head, exchange_owes_continue, OwesNoContinue, exchange_left, exchange_stop, exchange_streams, exchange_standing, ExchangeReadsOn, GivesUpBody, KeepsButBody};
+    ghost use Rattle.tiny_http_message.specs.Exchange.{exchange_printing, exchange_of, exchange_head, exchange_drop_text, exchange_owes_continue, OwesNoContinue, HasNoDropText, exchange_left, exchange_stop, exchange_streams, exchange_standing, ExchangeReadsOn, GivesUpBody, KeepsButBody, HasNoBodyLeft};
 
     /// What the request's head says.
     pub fn head(&self) -> &Head
@@ -150,12 +152,12 @@ impl Exchange {
         self.waiting.body.read(source, buf)
     }
 
-    /// Sends the answer to this request, printed for it and dated `now`, and flushes it. The caller answers each request once,
-    /// in the order of the requests, and gives the body up. On an outlet that has ended nothing is sent, the data aren't read, and the result
-    /// is `Ok`. The first fault is the error: the data's, or the writer's; then the outlet has ended, and what was held
-    /// before a fault of the data is sent.
+    /// Sends the answer to this request, printed for it and dated `now`, and flushes it. No 100 is owed any more. The caller
+    /// answers each request once, in the order of the requests, and gives the body up. On an outlet that has ended nothing is
+    /// sent, the data aren't read, and the result is `Ok`. The first fault is the error: the data's, or the writer's. Where both
+    /// fail, either may be reported. Then the outlet has ended, and what was held before a fault of the data is sent.
     pub fn respond_on<W: WriteDevice, D: ReadDevice + Drop>(
-        &self,
+        &mut self,
         alloc: Global,
         outlet: &mut Outlet<W>,
         response: Response<D>,
@@ -164,19 +166,55 @@ impl Exchange {
         ensures past { outlet_ended outlet.old ≡ true → (outlet.new ≡ outlet.old) × (result ≡ Ok tt) }
         ensures sends { (content : Feed) → D.feed response.data_reader ≡ Some content → length content.bytes < 2 ^ 63
             → outlet_ended outlet.old ≡ false → CanSend (output_of outlet.old)
-            → Sends (output_of outlet.old) (output_of outlet.new) (outlet_ended outlet.new) result response.answer content (exchange_printing self.now now) }
+            → Sends (output_of outlet.old) (output_of outlet.new) (outlet_ended outlet.new) result response.answer content (exchange_printing self.old now) }
         ensures fails_once { FailsOnceUnlessEnded (outlet_ended outlet.old) (output_of outlet.old) (output_of outlet.new) (outlet_ended outlet.new) }
         ensures honest { IfErr result (λ e.
-            IsHonest (output_of outlet.old) (output_of outlet.new) response.answer (D.feed response.data_reader) (exchange_printing self.now now) (error_kind e)) }
+            IsHonest (output_of outlet.old) (output_of outlet.new) response.answer (D.feed response.data_reader) (exchange_printing self.old now) (error_kind e)) }
         ensures ended { OnErr result (outlet_ended outlet.new ≡ true) }
         ensures flushed { outlet_held outlet.new ≡ [] }
         ensures sent_on { SentOn outlet.new }
+        ensures once { OwesNoContinue self.old self.new }
     {
+        self.owe_no_continue();
         if outlet.is_ended() {
             outlet.facts();
             return Ok(());
         }
         send(alloc, outlet, response, self.waiting.answer_context, now)
+    }
+
+    /// Sends the answer that upgrades the connection to this protocol (RFC 9110, section 7.8), printed for this request and
+    /// dated `now`, and flushes it: its head alone, with `Connection: upgrade` and `Upgrade: PROTOCOL` in front of the other
+    /// headers (as tiny_http). No 100 is owed any more. The caller does so in the turn of the request, in the place of an answer;
+    /// then the output is the protocol's, and what the body gives is its input. After it the caller sends neither an answer nor
+    /// the text of a drop. It is an error where the protocol isn't ASCII: then nothing has changed, and the caller drops the
+    /// request. The data are let go unread. A fault of the writer ends the outlet, and isn't reported. On an outlet that has
+    /// ended nothing is sent. The call takes no memory.
+    pub fn upgrade_on<W: WriteDevice, D: Drop>(
+        &mut self,
+        alloc: Global,
+        outlet: &mut Outlet<W>,
+        protocol: &str,
+        response: Response<D>,
+        now: HttpDate,
+    ) -> Result<(), UpgradeError>
+        ensures ascii { is_ok result ≡ list_all is_ascii protocol.now }
+        ensures refused { OnErr result ((self.new ≡ self.old) × (outlet.new ≡ outlet.old)) }
+        // Whatever the data are.
+        ensures sends { OnOk result ((content : Feed) → (outlet_ended outlet.old ≡ false → CanSend (output_of outlet.old))
+            → SendsUnlessEnded (outlet_ended outlet.old) (output_of outlet.old) (output_of outlet.new) (outlet_ended outlet.new)
+            (upgrade_text (record { answer = response.answer; content = content }) protocol.now (exchange_printing self.old now))) }
+        ensures once { OnOk result (OwesNoContinue self.old self.new) }
+        ensures fails_once { FailsOnceUnlessEnded (outlet_ended outlet.old) (output_of outlet.old) (output_of outlet.new) (outlet_ended outlet.new) }
+        ensures flushed { OnOk result (outlet_held outlet.new ≡ []) }
+        ensures sent_on { OnOk result (SentOn outlet.new) }
+    {
+        let context = self.waiting.answer_context;
+        let sent = send_upgrade_quietly(alloc, outlet, response, context, protocol, now);
+        if sent.is_ok() {
+            self.owe_no_continue();
+        }
+        sent
     }
 
     /// Sends the 100 that is owed to this request, and flushes (RFC 9110, section 10.1.1). Where none is owed it changes nothing.
@@ -203,20 +241,40 @@ impl Exchange {
                 self.waiting.answer_context,
                 now,
             );
-            self.waiting.owes_continue = false;
+            self.owe_no_continue();
         }
     }
 
-    /// Gives the body up: each later read answers 0. The rest of a body of a known length is skipped before the next head;
-    /// after a chunked one whose end or fault wasn't reported the source has ended.
+    // No 100 is owed any more.
+    fn owe_no_continue(&mut self)
+        ensures { OwesNoContinue self.old self.new }
+    {
+        self.waiting.owes_continue = false;
+    }
+
+    /// Gives the body up: each later read answers 0, and no 100 is owed any more. The rest of a body of a known length is
+    /// skipped before the next head; after a chunked one whose end or fault wasn't reported the source has ended.
     pub fn give_up<R: ReadDevice>(&mut self, source: &mut Source<R>)
         ensures gives_up { GivesUpBody self.old source.old source.new }
         ensures stop { exchange_stop self.new ≡ Some Stop.End }
-        ensures kept { KeepsButBody self.old self.new }
+        ensures once { exchange_owes_continue self.new ≡ false }
+        ensures kept { HasNoBodyLeft self.old self.new }
         ensures head { exchange_head self.new ≡ exchange_head self.old }
         ensures goes_on { GoesOn source.old.feed source.new.feed }
     {
-        self.waiting.body.give_up(source)
+        self.waiting.body.give_up(source);
+        self.owe_no_continue();
+    }
+
+    /// Takes the text that answers this request if it is dropped: an empty 500 in its version, printed for its headers and its
+    /// method, on the date on which it was read (as tiny_http). No byte of it is left, and no 100 is owed any more. The caller
+    /// sends it in the turn of the request, in the place of an answer, and gives the body up. The call takes no memory.
+    pub fn text_of_drop(&mut self) -> Vec<u8>
+        ensures text { result.items ≡ exchange_drop_text self.old }
+        ensures once { HasNoDropText self.old self.new }
+    {
+        self.owe_no_continue();
+        self.waiting.dropped.take_text()
     }
 
     /// The head, and what is kept of the request until it is answered, each by itself; for the crates above.
@@ -257,6 +315,18 @@ fn refused_with(
     let text = own_answer(alloc, status, version, false, now)?;
     Ok(HeadRead::Refused {
         status,
+        text,
+        last: true,
+    })
+}
+
+// Refuses a head for its version: no head follows.
+fn refuse_too_new(alloc: Global, no_body: bool, now: HttpDate) -> Result<HeadRead, AllocError>
+    ensures { RefusesTooNew no_body now result }
+{
+    let text = too_new_answer(alloc, no_body, now)?;
+    Ok(HeadRead::Refused {
+        status: StatusCode(505),
         text,
         last: true,
     })
@@ -394,8 +464,8 @@ fn read_item<R: ReadDevice>(
     };
     match begin_body(alloc, source, framing) {
         Ok(Some(body)) => {
-            if !is_built(message.version) {
-                return Ok(HeadRead::Ended(EndOfRequests::NotServed));
+            if is_too_new(message.version) {
+                return refuse_too_new(alloc, is_head(&message.method), now);
             }
             match hand_out(alloc, head_of(message, framing), body, now) {
                 Ok(exchange) => Ok(HeadRead::Request(exchange)),
@@ -431,14 +501,16 @@ fn end_at(standing: Standing, why: EndOfRequests) -> EndOfRequests
     }
 }
 
-/// Reads one head, and with it a body of up to 1024 bytes (RFC 9112, sections 2 to 6): a request, whose body is then read
-/// from the source; or a head that is refused, by 400 for a bad line, by 408 where the reader timed out, also before its first byte, or by 417 for
-/// an expectation that can't be met; or the end, with its reason. `now` dates the answer to a refused head, and
-/// the 500 of a request that is dropped. An error where memory was refused. After anything but a request the source has
-/// ended, but after the last request: then nothing is read, and its body can be read on.
+/// Reads one head, and with it a body of up to 1024 bytes (RFC 9112, sections 2 to 6). It answers a request, whose body is then
+/// read from the source; or a head that is refused; or the end, with its reason. A head is refused by 400 for a bad line, by 408
+/// where the reader timed out, also before its first byte, by 417 for an expectation that can't be met, and by 505 for a version
+/// above 1.1, with a text that says which are served (as tiny_http). The first bad line is judged first, then the expectation,
+/// then a body that is cut, then the version. `now` dates the answer to a refused head, and the 500 of a request that is dropped.
+/// It is an error where memory was refused. After anything but a request the source has ended, but after the last request: then
+/// nothing is read, and its body can be read on.
 ///
-/// By `read_head`, `read_body` and `give_up` on one source bytes of a body are never read as a head. Where the body of the request before was neither read to its end nor given up
-/// the answer is `UnreadBody`, and the source ends there.
+/// By `read_head`, `read_body` and `give_up` on one source bytes of a body are never read as a head. Where the body of the
+/// request before was neither read to its end nor given up the answer is `UnreadBody`, and the source ends there.
 pub fn read_head<R: ReadDevice>(
     alloc: Global,
     source: &mut Source<R>,

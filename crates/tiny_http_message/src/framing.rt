@@ -5,7 +5,7 @@ ghost use Rattle.std.specs.List.{starts_with};
 ghost use Rattle.tiny_http_wire.specs.Bytes.{contains_word};
 ghost use Rattle.tiny_http_wire.specs.Common.{lowercase};
 ghost use Rattle.tiny_http_wire.specs.Heads.{is_too_new};
-ghost use Rattle.tiny_http_message.specs.Framing.{value_of, mentions, body_length, expectation, sized_form, form_of, is_last, framing, is_built};
+ghost use Rattle.tiny_http_message.specs.Framing.{value_of, mentions, body_length, expectation, sized_form, form_of, is_last, framing};
 
 use tiny_http_wire::ascii::AsciiString;
 use tiny_http_wire::common::{HTTPVersion, Header};
@@ -157,15 +157,9 @@ pub fn framing_of(version: HTTPVersion, headers: &[Header]) -> Option<Framing>
     })
 }
 
-fn is_too_new(version: HTTPVersion) -> bool
+/// Whether this version is above 1.1, the highest one that is served.
+pub fn is_too_new(version: HTTPVersion) -> bool
     ensures { result ≡ is_too_new version }
 {
     version.0 > 1 || (version.0 == 1 && version.1 > 1)
-}
-
-/// Whether a request of this version is served.
-pub fn is_built(version: HTTPVersion) -> bool
-    ensures { result ≡ is_built version }
-{
-    !is_too_new(version)
 }

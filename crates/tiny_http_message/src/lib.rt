@@ -8,4 +8,5 @@ pub mod framing;
 mod heads;
 pub mod laws;
 pub mod own_answer;
+pub mod upgrading;
 pub mod waiting;

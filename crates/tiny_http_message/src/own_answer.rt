@@ -1,25 +1,52 @@
 //! Answers of the server's own: the text of a refused head, and the text of a dropped request, which is printed as it is dropped.
-ghost use Rattle.std.specs.Prelude.{◌≡◌, ◌<◌, ◌≤◌, false, [], IfOk, length, vec_len, vec_capacity};
+ghost use Rattle.std.specs.Prelude.{◌≡◌, ◌<◌, ◌≤◌, ◌^◌, false, [], Some, IfOk, length, vec_len, vec_capacity};
 ghost use Rattle.httpdate.specs.Date.{date_text};
 ghost use Rattle.tiny_http_sending.specs.ResponseValue.{printing_to, printing_in};
 ghost use Rattle.tiny_http_sending.specs.Sending.{CanSend, IsFlushed, SendsUnlessEnded, FailsOnceUnlessEnded};
 ghost use Rattle.tiny_http_stream.specs.Outlet.{output_of, outlet_ended, outlet_held, SentOn};
-ghost use Rattle.tiny_http_message.specs.OwnAnswer.{own_text, own_text_by};
+ghost use Rattle.tiny_http_message.specs.OwnAnswer.{own_text, own_text_by, refusal_response, refused_text};
+ghost use Rattle.tiny_http_message.specs.Pipeline.{VersionNotSupported};
+ghost use Rattle.tiny_http_wire.specs.Device.{Feed};
+ghost use Rattle.tiny_http_wire.specs.Heads.{version};
 
 use httpdate::HttpDate;
 use std::alloc::{AllocError, Global};
-use std::io;
 use std::io::ErrorKind;
 use std::marker::Model;
+use std::{io, mem};
 use tiny_http_sending::sending::send;
 use tiny_http_stream::outlet::Outlet;
 use tiny_http_wire::answer_context::AnswerContext;
 use tiny_http_wire::common::{HTTPVersion, StatusCode};
-use tiny_http_wire::device::{Budget, WriteDevice};
+use tiny_http_wire::device::{Budget, ReadDevice, WriteDevice};
 use tiny_http_wire::response::Response;
 
 // How many bytes the text has, at most.
 const OWN_ANSWER: usize = 144;
+
+// The text of an answer to a head that is refused. An error where there is no memory for it.
+fn refused_text<D: ReadDevice + Drop>(
+    alloc: Global,
+    answer: Response<D>,
+    version: HTTPVersion,
+    no_body: bool,
+    now: HttpDate,
+) -> Result<Vec<u8>, AllocError>
+    ensures { (content : Feed) → D.feed answer.data_reader ≡ Some content → length content.bytes < 2 ^ 63
+        → IfOk result (λ text. text.items ≡ refused_text (record { answer = answer.answer; content = content }) version no_body now) }
+{
+    let bytes = Vec::with_capacity(alloc, OWN_ANSWER)?;
+    let mut writer = Budget::from_vec(bytes, usize::MAX, ErrorKind::OutOfMemory);
+    let context = AnswerContext {
+        version,
+        asked_coding: None,
+        no_body,
+    };
+    match answer.print(alloc, &mut writer, context, None, now) {
+        Ok(()) => Ok(writer.into_bytes()),
+        Err(_) => Err(AllocError),
+    }
+}
 
 /// The text of an answer of the server's own: this code, no headers of its own and no data. An error where there is no
 /// memory for it.
@@ -32,18 +59,21 @@ pub fn own_answer(
 ) -> Result<Vec<u8>, AllocError>
     ensures { IfOk result (λ text. text.items ≡ own_text status.0 version no_body now) }
 {
-    let bytes = Vec::with_capacity(alloc, OWN_ANSWER)?;
-    let mut writer = Budget::from_vec(bytes, usize::MAX, ErrorKind::OutOfMemory);
     let answer = Response::empty(alloc, status);
-    let context = AnswerContext {
-        version,
-        asked_coding: None,
-        no_body,
-    };
-    match answer.print(alloc, &mut writer, context, None, now) {
-        Ok(()) => Ok(writer.into_bytes()),
-        Err(_) => Err(AllocError),
-    }
+    refused_text(alloc, answer, version, no_body, now)
+}
+
+// What a version above 1.1 is told.
+const TOO_NEW: &str = "This server only supports HTTP versions 1.0 and 1.1";
+
+/// The text of the answer to a head whose version is above 1.1: 505 in version 1.1, and a text that says which versions are
+/// served, which is withheld for `no_body` (as tiny_http; RFC 9110, section 15.6.6). An error where there is no memory for it.
+pub fn too_new_answer(alloc: Global, no_body: bool, now: HttpDate) -> Result<Vec<u8>, AllocError>
+    ensures { IfOk result (λ text. text.items ≡ refused_text (refusal_response VersionNotSupported) (version 1 1) no_body now) }
+{
+    let text = String::from_str(alloc, TOO_NEW)?;
+    let answer = Response::from_string(alloc, text)?.with_status_code(StatusCode(505));
+    refused_text(alloc, answer, HTTPVersion(1, 1), no_body, now)
 }
 
 /// Sends an answer of the server's own to a request, and flushes it: this code, no headers of its own and no data. It takes no
@@ -118,26 +148,45 @@ fn date_length(now: HttpDate) -> usize
     date.len()
 }
 
-/// The text that is sent if a request is dropped: an empty 500. Its room is taken as it is made, and it is printed as it
-/// is dropped.
+// An empty 500, printed into this room. It takes no memory.
+fn print_drop(room: Vec<u8>, context: AnswerContext, now: HttpDate) -> Vec<u8>
+    requires empty { (room.items ≡ []) × (vec_len room ≡ 0) }
+    requires room { 144 ≤ vec_capacity room }
+    requires version { (context.version.0 < 256) × (context.version.1 < 256) }
+    ensures { result.items ≡ own_text_by 500 (printing_in context now) }
+{
+    let alloc = *room.allocator();
+    let _length = date_length(now);
+    let mut page = Page {
+        bytes: room,
+        failures: 0,
+    };
+    let answer = Response::empty(alloc, StatusCode(500));
+    match answer.print(alloc, &mut page, context, None, now) {
+        Ok(()) => page.bytes,
+        Err(_) => unreachable!(),
+    }
+}
+
+/// The text that is sent if a request is dropped: an empty 500; or, once it was taken, no byte. Its room is taken as it is
+/// made, and it is printed as the request is dropped.
 #[derive(Drop)]
 pub struct DropText {
     room: Vec<u8>,
+    is_taken: bool,
     context: AnswerContext,
     now: HttpDate,
 }
 
 impl Model for DropText {
-    ghost use Rattle.std.specs.Prelude.{◌≡◌, ◌<◌, ◌≤◌, [], vec_len, vec_capacity};
-    ghost use Rattle.tiny_http_sending.specs.ResponseValue.{printing_to};
-    ghost use Rattle.tiny_http_message.specs.OwnAnswer.{own_text_by};
-    ghost use Rattle.tiny_http_message.specs.TextState.{TextState};
+    ghost use Rattle.std.specs.Prelude.{◌≡◌, ◌<◌, ◌≤◌, false, [], vec_len, vec_capacity};
+    ghost use Rattle.tiny_http_message.specs.TextState.{TextState, drop_text};
 
     ghost Value = { TextState };
 
-    ghost view = { λ t. record { items = own_text_by 500 (printing_to t.context.asked_coding t.context.version t.context.no_body t.now) } };
+    ghost view = { λ t. record { items = drop_text t.is_taken t.context t.now } };
 
-    ghost invariant = { λ t. (t.room.items ≡ []) × (vec_len t.room ≡ 0) × (144 ≤ vec_capacity t.room) × (t.context.version.0 < 256) × (t.context.version.1 < 256) };
+    ghost invariant = { λ t. (t.room.items ≡ []) × (vec_len t.room ≡ 0) × (t.is_taken ≡ false → 144 ≤ vec_capacity t.room) × (t.context.version.0 < 256) × (t.context.version.1 < 256) };
 }
 
 impl DropText {
@@ -146,24 +195,33 @@ impl DropText {
         ensures { IfOk result (λ text. text.items ≡ own_text_by 500 (printing_to context.asked_coding context.version context.no_body now)) }
     {
         let room = Vec::with_capacity(alloc, OWN_ANSWER)?;
-        Ok(DropText { room, context, now })
+        Ok(DropText {
+            room,
+            is_taken: false,
+            context,
+            now,
+        })
+    }
+
+    /// Takes the text: no byte is left of it. It takes no memory.
+    pub fn take_text(&mut self) -> Vec<u8>
+        ensures text { result.items ≡ self.old.items }
+        ensures taken { self.new.items ≡ [] }
+    {
+        let none = Vec::new(*self.room.allocator());
+        if self.is_taken {
+            return none;
+        }
+        self.is_taken = true;
+        let room = mem::replace(&mut self.room, none);
+        print_drop(room, self.context, self.now)
     }
 
     /// The text itself. It takes no memory.
     pub fn into_text(self) -> Vec<u8>
         ensures { result.items ≡ self.items }
     {
-        let DropText { room, context, now } = self;
-        let alloc = *room.allocator();
-        let _length = date_length(now);
-        let mut page = Page {
-            bytes: room,
-            failures: 0,
-        };
-        let answer = Response::empty(alloc, StatusCode(500));
-        match answer.print(alloc, &mut page, context, None, now) {
-            Ok(()) => page.bytes,
-            Err(_) => unreachable!(),
-        }
+        let mut text = self;
+        text.take_text()
     }
 }

@@ -4,14 +4,18 @@ use Rattle.std.specs.Prelude.{◌==◌, if◌then◌else◌, MatchBool, OnOk, On
 use Rattle.std.specs.IoError.{error_kind}
 use Rattle.std.specs.declared.io.Error.{Error}
 use Rattle.std.specs.declared.io.ErrorKind.{ErrorKind}
-use Rattle.std.specs.declared.io.ErrorKind.TheVariants.{OutOfMemory}
+use Rattle.std.specs.declared.io.ErrorKind.TheVariants.{OutOfMemory, InvalidInput}
 use Rattle.std.specs.Io.KnownBytes.{append_known}
 use Rattle.std.proofs.lemmas.Bool.{ne_eqb}
-use Rattle.tiny_http_wire.specs.Device.{Feed, Sink, IsFront, BeginsKnown, IsKnownFront, IsAllKnown, HoldsNothing, grown, StatesKind, Took, Failed, Puts, next_count, CountsFaults}
-use Rattle.tiny_http_wire.specs.Answer.{Answer, Printing, PrintsAnswer, text_of}
-use Rattle.tiny_http_encoding.specs.Text.{Text, Broken, Prints, nothing_sent}
+use Rattle.std.specs.List.{list_all}
+use Rattle.tiny_http_wire.specs.Bytes.{is_ascii}
+use Rattle.tiny_http_wire.specs.declared.coding.FramingHeader.TheVariants.{Neither}
+use Rattle.tiny_http_sending.specs.ResponseValue.{upgrading}
+use Rattle.tiny_http_wire.specs.Device.{Feed, whole_feed, Sink, IsFront, BeginsKnown, IsKnownFront, IsAllKnown, HoldsNothing, grown, StatesKind, Took, Failed, Puts, next_count, CountsFaults}
+use Rattle.tiny_http_wire.specs.Answer.{Answer, Printing, PrintsAnswer, text_of, with_upgrade, head_text_of}
+use Rattle.tiny_http_encoding.specs.Text.{Text, Whole, Broken, Prints, whole, nothing_sent}
 use Rattle.tiny_http_device.proofs.DeviceLemmas.{IsFront-same, IsFront-append, Took-nil}
-use Rattle.tiny_http_wire.proofs.AnswerLemmas.{text-some}
+use Rattle.tiny_http_wire.proofs.AnswerLemmas.{text-some, head-some}
 use Rattle.tiny_http_stream.specs.Outlet.{holding, EndsOutlet}
 use Rattle.tiny_http_sending.specs.Sending.{CanSend, OutletTook, OutletFailed, Idles, EndsQuietly, DropsHeld, SendsText, Sends, SendsQuietly, IsFlushed, SendsUnlessEnded, FailsOnce, FailsOnceUnlessEnded, BreaksOff, IsHonest}
 use Rattle.tiny_http_device.proofs.DeviceFeeds.{append_known-append}
@@ -96,15 +100,31 @@ whole-flushed a b c was ended x (Ok y) text unended h p w z err ok some =
 whole-flushed a b c was ended x (Err e) text unended h p w z err ok some =
     (err, z err, inr (some, sent-lost a b c text.bytes (error_kind e) (taken-sent a b text.bytes unended h.1) (failed-lost b c [] (error_kind e) p)))
 
-pub printed-flushed : {T U : Type 0} (o : Option Feed) (a b c : Sink) (was ended : Bool) (x : U) (r : Result T Error) (ans : Answer) (p : Printing) → p.upgrade ≡ None → (content : Feed) → o ≡ Some content → length content.bytes < 2 ^ 63
+-- an answer or an upgrade whose text was sent has bytes
+upgrade-some : (t : Bool) (head : List ℕ) → (head ≡ [] → ⊥) → (if t then whole head else nothing_sent InvalidInput).ending ≡ Whole → (if t then whole head else nothing_sent InvalidInput).bytes ≡ [] → ⊥
+upgrade-some true head some e none = some none
+upgrade-some false head some e none = let no : Broken InvalidInput ≡ Whole = e in cc
+
+answer-some : (a : Answer) (f : Feed) (p : Printing) → (text_of a f p).ending ≡ Whole → (text_of a f p).bytes ≡ [] → ⊥
+unfolding text_of
+answer-some a f p e none = by p.upgrade refl
+  where
+    by : (u : Option (List ℕ)) → p.upgrade ≡ u → ⊥
+    by None up = text-some a f p up e none
+    by (Some protocol) up =
+        let W : Option (List ℕ) → Type 0 = λ u. (with_upgrade u a f p).ending ≡ Whole in
+        let N : Option (List ℕ) → Type 0 = λ u. (with_upgrade u a f p).bytes ≡ [] in
+        upgrade-some (list_all is_ascii protocol) (head_text_of a p Neither) (λ h. head-some p.version a.status p.upgrade a.headers p.date Neither [] (append-nil (head_text_of a p Neither) ∙ h)) (subst W up e) (subst N up none)
+
+pub printed-flushed : {T U : Type 0} (o : Option Feed) (a b c : Sink) (was ended : Bool) (x : U) (r : Result T Error) (ans : Answer) (p : Printing) → (content : Feed) → o ≡ Some content → length content.bytes < 2 ^ 63
     → IfSome o (λ feed. length feed.bytes < 2 ^ 63 → PrintsAnswer a b (Ok x) ans feed p) → Puts b c r [] → a.has_ended ≡ false
     → (b.has_ended ≡ false → was ≡ false) → (ended ≡ true → c.has_ended ≡ true) → OnErr r (ended ≡ true) → OnOk r (ended ≡ was) → Sends a c ended r ans content p
-printed-flushed o a b c was ended x r ans p up content stated few h f unended w z err ok =
+printed-flushed o a b c was ended x r ans p content stated few h f unended w z err ok =
     let P : Option Feed → Type 0 = λ y. IfSome y (λ feed. length feed.bytes < 2 ^ 63 → PrintsAnswer a b (Ok x) ans feed p) in
     by-cases (subst P stated h few)
   where
     by-cases : PrintsAnswer a b (Ok x) ans content p → Sends a c ended r ans content p
-    by-cases (inl k) = inl (whole-flushed a b c was ended x r (text_of ans content p) unended k.0 f w z err ok (text-some ans content p up k.0.0))
+    by-cases (inl k) = inl (whole-flushed a b c was ended x r (text_of ans content p) unended k.0 f w z err ok (answer-some ans content p k.0.0))
     by-cases (inr k) = absurd k.1
 
 -- the text broke off, or the writer failed; then the outlet was ended
@@ -267,3 +287,15 @@ is-flushed s held ended e h z =
     let P : List ℕ → Type 0 = λ x. IsAllKnown s.sent (grown s.has_ended s.taken x) in
     let Q : Option (List ℕ) → Type 0 = λ x. IsAllKnown s.sent x in
     subst P (sym e) (subst Q (sym (grown-nil s.has_ended s.taken)) (h z))
+
+-- an upgrade is sent whatever its data are: its head alone
+pub upgrade-sent : {T : Type 0} (old new : Sink) (ended : Bool) (r : Result T Error) (x a : Answer) (p : Printing) (protocol : List ℕ) (content : Feed) → x ≡ record a { data_length = Some 0 } → Sends {T = T} old new ended r x (whole_feed []) (upgrading protocol p)
+    → SendsText {T = T} old new ended r (text_of a content (upgrading protocol p))
+unfolding text_of
+upgrade-sent {T = T} old new ended r x a p protocol content same s =
+    let S : Answer → Type 0 = λ y. Sends {T = T} old new ended r y (whole_feed []) (upgrading protocol p) in
+    by (subst S same s)
+  where
+    by : Sends {T = T} old new ended r (record a { data_length = Some 0 }) (whole_feed []) (upgrading protocol p) → SendsText {T = T} old new ended r (text_of a content (upgrading protocol p))
+    by (inl h) = h
+    by (inr h) = let no : ◌≡◌ {A = Option (List ℕ)} (Some protocol) None = h.0.0 in cc

@@ -1,5 +1,5 @@
 -- Responses as values, their texts, and how they are printed.
-use Rattle.std.specs.Prelude.{ℕ, Bool, List, length, Option, None}
+use Rattle.std.specs.Prelude.{ℕ, Bool, List, length, Option, Some, None}
 use Rattle.httpdate.specs.declared.date.HttpDate.{HttpDate}
 use Rattle.tiny_http_wire.specs.declared.common.HTTPVersion.{HTTPVersion}
 use Rattle.tiny_http_wire.specs.declared.common.Header.{Header}
@@ -28,3 +28,15 @@ printing_to asked version no_body date = record { version = version; asked_codin
 -- how the answer to a request is printed, by what is kept of it
 abbrev pub printing_in : AnswerContext → HttpDate → Printing
 printing_in context date = printing_to context.asked_coding context.version context.no_body date
+
+-- the same, with an upgrade to this protocol, if there is one
+abbrev pub printing_with : AnswerContext → Option (List ℕ) → HttpDate → Printing
+printing_with context upgrade date = record (printing_in context date) { upgrade = upgrade }
+
+-- the same way of printing, with an upgrade to this protocol
+abbrev pub upgrading : List ℕ → Printing → Printing
+upgrading protocol p = record p { upgrade = Some protocol }
+
+-- the text of a response that upgrades to this protocol: its head alone
+abbrev pub upgrade_text : ResponseValue → List ℕ → Printing → List ℕ
+upgrade_text r protocol p = (response_text r (upgrading protocol p)).bytes

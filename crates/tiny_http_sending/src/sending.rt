@@ -1,10 +1,12 @@
 //! An answer on its way out: printed, flushed, and what follows a fault.
 ghost use Rattle.std.specs.Prelude.{◌≡◌, ◌<◌, ◌^◌, ◌==◌, true, false, [], length, Some, None, IfErr, OnErr, MatchBool};
 ghost use Rattle.std.specs.IoError.{error_kind};
+ghost use Rattle.std.specs.Option.{option_copied};
+ghost use Rattle.tiny_http_wire.specs.Answer.{text_of};
 ghost use Rattle.tiny_http_wire.specs.Device.{Feed};
-ghost use Rattle.tiny_http_sending.specs.ResponseValue.{printing_in};
+ghost use Rattle.tiny_http_sending.specs.ResponseValue.{printing_in, printing_with, upgrading};
 ghost use Rattle.tiny_http_stream.specs.Outlet.{output_of, outlet_ended, outlet_held, SentOn};
-ghost use Rattle.tiny_http_sending.specs.Sending.{Sends, SendsUnlessEnded, EndsQuietly, DropsHeld, CanSend, FailsOnce, FailsOnceUnlessEnded, IsHonest};
+ghost use Rattle.tiny_http_sending.specs.Sending.{Sends, SendsText, SendsUnlessEnded, EndsQuietly, DropsHeld, CanSend, FailsOnce, FailsOnceUnlessEnded, IsHonest};
 
 use httpdate::HttpDate;
 use std::alloc::Global;
@@ -31,6 +33,34 @@ fn end_behind_fault<W: WriteDevice>(outlet: &mut Outlet<W>, failures: u64)
     }
 }
 
+// Prints an answer, or an upgrade to a protocol, and flushes it, as `send` does.
+fn send_printed<W: WriteDevice, D: ReadDevice + Drop>(
+    alloc: Global,
+    outlet: &mut Outlet<W>,
+    response: Response<D>,
+    answer_context: AnswerContext,
+    upgrade: Option<&str>,
+    now: HttpDate,
+) -> Result<(), io::Error>
+    ensures sends { (content : Feed) → D.feed response.data_reader ≡ Some content → length content.bytes < 2 ^ 63
+        → CanSend (output_of outlet.old)
+        → Sends (output_of outlet.old) (output_of outlet.new) (outlet_ended outlet.new) result response.answer content (printing_with answer_context (option_copied upgrade.entry) now) }
+    ensures fails_once { FailsOnce (output_of outlet.old) (output_of outlet.new) (outlet_ended outlet.new) }
+    ensures honest { IfErr result (λ e.
+        IsHonest (output_of outlet.old) (output_of outlet.new) response.answer (D.feed response.data_reader) (printing_with answer_context (option_copied upgrade.entry) now) (error_kind e)) }
+    ensures ended { OnErr result (outlet_ended outlet.new ≡ true) }
+    ensures flushed { outlet_held outlet.new ≡ [] }
+    ensures sent_on { SentOn outlet.new }
+{
+    let failures = outlet.failures();
+    let printed = response.print(alloc, outlet, answer_context, upgrade, now);
+    if let Err(fault) = printed {
+        end_behind_fault(outlet, failures);
+        return Err(fault);
+    }
+    outlet.flush()
+}
+
 /// Prints an answer and flushes it. The first fault is the error: the data's, or the writer's. After it nothing more is sent
 /// on the connection; what was held before a fault of the data is sent.
 pub fn send<W: WriteDevice, D: ReadDevice + Drop>(
@@ -50,13 +80,31 @@ pub fn send<W: WriteDevice, D: ReadDevice + Drop>(
     ensures flushed { outlet_held outlet.new ≡ [] }
     ensures sent_on { SentOn outlet.new }
 {
-    let failures = outlet.failures();
-    let printed = response.print(alloc, outlet, answer_context, None, now);
-    if let Err(fault) = printed {
-        end_behind_fault(outlet, failures);
-        return Err(fault);
-    }
-    outlet.flush()
+    send_printed(alloc, outlet, response, answer_context, None, now)
+}
+
+/// Prints an answer that upgrades the connection to a protocol, and flushes it (RFC 9110, section 7.8): its head alone, with
+/// `Connection: upgrade` and `Upgrade: PROTOCOL` in front of the other headers. The data are let go unread. The writer's first
+/// fault is the error. So is InvalidInput for a protocol that isn't ASCII, of which nothing is sent. After an error nothing more
+/// is sent on the connection. The call takes no memory.
+pub fn send_upgrade<W: WriteDevice, D: Drop>(
+    alloc: Global,
+    outlet: &mut Outlet<W>,
+    response: Response<D>,
+    answer_context: AnswerContext,
+    protocol: &str,
+    now: HttpDate,
+) -> Result<(), io::Error>
+    // Whatever the data are.
+    ensures sends { (content : Feed) → CanSend (output_of outlet.old)
+        → SendsText (output_of outlet.old) (output_of outlet.new) (outlet_ended outlet.new) result (text_of response.answer content (upgrading protocol.now (printing_in answer_context now))) }
+    ensures fails_once { FailsOnce (output_of outlet.old) (output_of outlet.new) (outlet_ended outlet.new) }
+    ensures ended { OnErr result (outlet_ended outlet.new ≡ true) }
+    ensures flushed { outlet_held outlet.new ≡ [] }
+    ensures sent_on { SentOn outlet.new }
+{
+    let answer = response.with_data(io::empty(), Some(0));
+    send_printed(alloc, outlet, answer, answer_context, Some(protocol), now)
 }
 
 /// Writes a text. No reply reports a fault that is met there.

@@ -1,14 +1,15 @@
-use Rattle.std.proofs.Common.{◌≡◌, refl, sym, ◌∙◌, subst, map, arith, inl, inr, ⊎_elim, Option, []}
+use Rattle.std.proofs.Common.{◌≡◌, refl, sym, ap, ◌∙◌, subst, map, arith, inl, inr, ⊎_elim, true, ◌+◌, Option, [], ◌∷◌, ◌++◌, length, length-append}
 use Rattle.std.specs.List.{AllZip}
 use Rattle.std.proofs.lemmas.List.{map-append}
 use Rattle.std.proofs.lemmas.Grind.{common_steps}
 use Rattle.tiny_http_wire.specs.Device.{Feed}
 use Rattle.tiny_http_stream.specs.Source.{GoesOn}
-use Rattle.tiny_http_core.specs.Seen.{IsTimedStep, seen}
+use Rattle.tiny_http_core.specs.Seen.{IsTimedStep, seen, all_sent_after, all_sent}
+use Rattle.tiny_http_core.specs.Driving.{stated_step}
 use Rattle.tiny_http_stream.specs.Outlet.{OutletState, output_of, SentOn, outlet_writer}
 use Rattle.tiny_http_sending.specs.Sending.{FailsOnce}
 use Rattle.tiny_http_stream.proofs.SourceGoesOn.{goes-on_same, goes-on_more}
-use Rattle.tiny_http_core.proofs.ConversationRuns.{joins-more, joins-end, fails-step, honest-step, honest-end}
+use Rattle.tiny_http_core.proofs.ConversationRuns.{all-sent-snoc, sent-stated, joins-more, joins-end, fails-step, honest-step, honest-end}
 use Rattle.tiny_http_core.proofs.DrivingLemmas.{done-none, done-step, reports-step}
 use Rattle.tiny_http_core.proofs.driver.run.Goals as goal
 
@@ -22,11 +23,12 @@ loop-timed-init g c =
       joins = grind (arith, common_steps);
       counted = grind (arith, common_steps);
       fits = grind (arith, common_steps);
+      as_many = rw c.in-Ok.ensures.items refl;
       follows = λ client dated states fresh stated. rw c.in-Ok.ensures.items (done-none (IsTimedStep g.D.ReadDevice.feed) client writer new dated (c.new-connection.ensures.begins client states fresh) stated);
       source = subst P (sym c.new-connection.ensures.source.0) (goes-on_same reader);
       fails_once = rw c.new-connection.ensures.outlet (inl refl);
-      flushed = rw c.new-connection.ensures.outlet refl;
-      sent_on = λ none. rw c.new-connection.ensures.outlet (λ e. none);
+      flushed = λ all. rw c.new-connection.ensures.outlet refl;
+      sent_on = λ none all. rw c.new-connection.ensures.outlet (λ e. none);
       honest = rw (c.in-Ok.ensures.items, c.new-connection.ensures.outlet) refl;
     }
 
@@ -37,16 +39,21 @@ loop-timed-preserved g c =
     let old = c.loop-timed.connection in
     let new = c.step-reply.new.self in
     let step = c.step-reply.ensures.step in
+    let done = c.loop-timed.yielded in
+    let replies = c.loop-timed.replies.items in
+    let before : all_sent (done ++ c.in-Some.timed ∷ []) c.push_reserved.new.self.items true ≡ true → all_sent_after (stated_step g.D.ReadDevice.feed c.in-Some.timed.step) (seen c.step-reply.result) (all_sent done replies true) ≡ true =
+    λ e. sent-stated g.D.ReadDevice.feed c.in-Some.timed.step (seen c.step-reply.result) (all_sent done replies true) ∙ sym (all-sent-snoc done replies c.in-Some.timed c.step-reply.result true inv.as_many) ∙ ap (λ l. all_sent (done ++ c.in-Some.timed ∷ []) l true) (sym c.push_reserved.ensures.items) ∙ e in
     record {
       joins = joins-more _ _ _ _ c.in-Some.timed inv.joins c.in-Some.ensures.steps.0;
       counted = grind (arith, common_steps);
       fits = grind (arith, common_steps);
+      as_many = length-append done (c.in-Some.timed ∷ []) ∙ ap (λ n. n + 1) inv.as_many ∙ sym (length-append replies (c.step-reply.result ∷ [])) ∙ ap length (sym c.push_reserved.ensures.items);
       follows = λ client dated states fresh stated. rw (c.push_reserved.ensures.items, map-append)
           (done-step g.D.ReadDevice.feed client writer old new c.in-Some.timed c.loop-timed.yielded (map seen c.loop-timed.replies.items) (seen c.step-reply.result) dated (λ ds t. inv.follows client ds states fresh t) step stated);
       source = goes-on_more _ _ _ inv.source step.goes_on;
       fails_once = fails-step writer (output_of old.outlet) (output_of new.outlet) old.outlet.ended new.outlet.ended inv.fails_once step.fails_once;
-      flushed = step.flushed inv.flushed;
-      sent_on = λ none. step.sent_on (inv.sent_on none);
+      flushed = λ e. step.flushed (all_sent c.loop-timed.yielded c.loop-timed.replies.items true) inv.flushed (before e);
+      sent_on = λ none e. step.sent_on (all_sent c.loop-timed.yielded c.loop-timed.replies.items true) (inv.sent_on none) (before e);
       honest = rw c.push_reserved.ensures.items
           (honest-step g.D.ReadDevice.feed writer (output_of old.outlet) (output_of new.outlet) old.outlet.ended new.outlet.ended c.loop-timed.yielded c.loop-timed.replies.items c.in-Some.timed c.step-reply.result step.fails_once inv.honest
           (reports-step g.D.ReadDevice.feed old new c.in-Some.timed c.step-reply.result step.honest));
@@ -75,10 +82,14 @@ returns-clause-source g c = rw c.into_parts-source.ensures.source c.loop-timed.i
 
 pub returns-clause-flushed : goal.returns-clause-flushed
 returns-clause-flushed g c =
-    let P : OutletState g.row.W.Denot → Type 0 = λ o. o.held ≡ [] in
-    subst P (sym c.into_parts-source.ensures.outlet) c.loop-timed.invariant.flushed
+    let whole : c.loop-timed.yielded ≡ c.args.steps.items =
+    joins-end _ _ _ c.loop-timed.invariant.joins (sym c.loop-timed.timed-iterator.rest.ok.0 ∙ c.in-None.ensures.steps.0) in
+    let P : OutletState g.row.W.Denot → Type 0 = λ o. all_sent c.args.steps.items c.loop-timed.replies.items true ≡ true → o.held ≡ [] in
+    subst P (sym c.into_parts-source.ensures.outlet) (rw (← whole) c.loop-timed.invariant.flushed)
 
 pub returns-clause-sent_on : goal.returns-clause-sent_on
 returns-clause-sent_on g c none =
-    let P : OutletState g.row.W.Denot → Type 0 = λ o. SentOn o in
-    subst P (sym c.into_parts-source.ensures.outlet) (c.loop-timed.invariant.sent_on none)
+    let whole : c.loop-timed.yielded ≡ c.args.steps.items =
+    joins-end _ _ _ c.loop-timed.invariant.joins (sym c.loop-timed.timed-iterator.rest.ok.0 ∙ c.in-None.ensures.steps.0) in
+    let P : OutletState g.row.W.Denot → Type 0 = λ o. all_sent c.args.steps.items c.loop-timed.replies.items true ≡ true → SentOn o in
+    subst P (sym c.into_parts-source.ensures.outlet) (rw (← whole) (c.loop-timed.invariant.sent_on none))

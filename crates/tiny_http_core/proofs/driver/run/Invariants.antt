@@ -1,10 +1,10 @@
-use Rattle.std.proofs.Common.{[], ◌≡◌, ◌++◌, List, map, vec_len, vec_capacity, ℕ, ◌≤◌, length, Some, Option}
+use Rattle.std.proofs.Common.{[], true, ◌≡◌, ◌++◌, List, map, vec_len, vec_capacity, ℕ, ◌≤◌, length, Some, Option}
 use Rattle.std.specs.List.{AllZip}
 use Rattle.std.specs.Vec.Iter.{into_iter_items}
 use Rattle.tiny_http_wire.specs.Device.{Feed, Sink, HoldsNothing}
 use Rattle.tiny_http_core.specs.Conversation.{IsFresh, TimedValue}
 use Rattle.tiny_http_stream.specs.Source.{GoesOn}
-use Rattle.tiny_http_core.specs.Seen.{IsTimedStep, seen, ReportHonestly}
+use Rattle.tiny_http_core.specs.Seen.{IsTimedStep, seen, ReportHonestly, all_sent}
 use Rattle.tiny_http_sending.specs.Sending.{FailsOnce}
 use Rattle.tiny_http_stream.specs.Outlet.{output_of, SentOn}
 use Rattle.tiny_http_core.specs.declared.driver.Timed.{Timed}
@@ -17,12 +17,13 @@ use Rattle.tiny_http_core.proofs.driver.run.Given as goal
 pub record Goes {R W D : Type 0} (feed : D → Option Feed) (reader : Option Feed) (writer : Sink) (all done rest : List (Timed D)) (replies : List Reply) (c : ConnectionState R W) (count room : ℕ) : Type 0 where
   pub joins : all ≡ done ++ rest
   pub counted : count ≡ length done
+  pub as_many : length done ≡ length replies
   pub fits : length all ≤ room
   pub follows : (client : Feed) (dated : List TimedValue) → reader ≡ Some client → IsFresh writer → AllZip (IsTimedStep feed) done dated → HasDone client writer c dated (map seen replies)
   pub source : GoesOn reader c.source.feed
   pub fails_once : FailsOnce writer (output_of c.outlet) c.outlet.ended
-  pub flushed : c.outlet.held ≡ []
-  pub sent_on : HoldsNothing writer → SentOn c.outlet
+  pub flushed : all_sent done replies true ≡ true → c.outlet.held ≡ []
+  pub sent_on : HoldsNothing writer → all_sent done replies true ≡ true → SentOn c.outlet
   pub honest : ReportHonestly feed writer done replies (output_of c.outlet)
 
 abbrev pub invariant-loop-timed : goal.invariant-loop-timed

@@ -1,11 +1,10 @@
-use Rattle.std.proofs.Common.{rules, refl, sym, ap, ◌∙◌, subst, true, false, Option, Ok}
+use Rattle.std.proofs.Common.{rules, refl, sym, ap, ◌∙◌, subst, Bool, true, false, Option, Ok}
 use Rattle.tiny_http_wire.specs.Device.{Feed}
 use Rattle.tiny_http_stream.specs.Source.{GoesOn}
 use Rattle.tiny_http_stream.specs.declared.source.Standing.TheVariants as at
 use Rattle.tiny_http_message.specs.declared.exchange.HeadRead.TheVariants as read
-use Rattle.tiny_http_message.specs.declared.exchange.EndOfRequests.TheVariants as because
-use Rattle.tiny_http_message.specs.HeadReads.{ReadsHead}
-use Rattle.tiny_http_message.proofs.HeadReadsServing.{head-closed, head-refused, head-unframed, head-unbuilt, head-cut, head-handed, cut-stop, begun-is, end-unanswered, timed-out, cut-passed, fault-passed}
+use Rattle.tiny_http_message.specs.HeadReads.{ReadsHead, RefusesTooNew}
+use Rattle.tiny_http_message.proofs.HeadReadsServing.{head-closed, head-refused, head-unframed, head-too_new, passed-on, head-cut, head-handed, cut-stop, begun-is, end-unanswered, timed-out, cut-passed, fault-passed}
 use Rattle.tiny_http_stream.proofs.SourceGoesOn.{goes-on_more}
 use Rattle.tiny_http_message.proofs.exchange.read_item.Goals as goal
 
@@ -48,15 +47,23 @@ returns-in_default-clause-reads g c =
     let P : Option Feed → Type 0 = λ o. ReadsHead at.Head c.args.now o c.read_message.new.source.feed c.refused_with.result in
     subst P c.has_byte.ensures.feed (head-unframed _ _ _ c.in-Ok.message c.refused_with.result c.in-Ok.ensures.reads (search (rules, c.as_slice.ensures.value, c.framing_of.ensures)) c.refused_with.ensures)
 
-pub returns-then-not-is_built-clause-reads : goal.returns-then-not-is_built-clause-reads
-returns-then-not-is_built-clause-reads g c =
+pub returns-then-is_too_new-clause-reads : goal.returns-then-is_too_new-clause-reads
+returns-then-is_too_new-clause-reads g c =
     let taken = rw c.in-Ok-Some.field-0-is at c.in-Ok-Some.ensures in
-    let P : Option Feed → Type 0 = λ o. ReadsHead at.Head c.args.now o c.begin_body.new.source.feed (Ok (read.Ended because.NotServed)) in
+    let P : Option Feed → Type 0 = λ o. ReadsHead at.Head c.args.now o c.begin_body.new.source.feed c.refuse_too_new.result in
+    let no_body = c.is_head.ensures in
+    let R : Bool → Type 0 = λ y. RefusesTooNew y c.args.now c.refuse_too_new.result in
     subst P c.has_byte.ensures.feed
-    (head-unbuilt _ _ _ _ c.in-Ok.message c.in-Some.framing c.in-Ok-Some.body c.in-Ok.ensures.reads (search (rules, c.as_slice.ensures.value, c.in-Some.ensures)) taken.begins (search (rules, c.if-not-is_built.ensures)))
+    (head-too_new _ _ _ _ c.in-Ok.message c.in-Some.framing c.in-Ok-Some.body c.refuse_too_new.result c.in-Ok.ensures.reads (search (rules, c.as_slice.ensures.value, c.in-Some.ensures)) taken.begins (search (rules, c.if-is_too_new.ensures))
+    (subst R no_body c.refuse_too_new.ensures))
 
-pub returns-then-not-is_built-clause-goes_on : goal.returns-then-not-is_built-clause-goes_on
-returns-then-not-is_built-clause-goes_on g c =
+pub returns-then-is_too_new-clause-passed : goal.returns-then-is_too_new-clause-passed
+returns-then-is_too_new-clause-passed g c =
+    let taken = rw c.in-Ok-Some.field-0-is at c.in-Ok-Some.ensures in
+    passed-on _ c.refuse_too_new.result (taken.lazy refl ∙ c.in-Ok.ensures.lazy ∙ (c.if-not-has_byte.ensures.some refl).1)
+
+pub returns-then-is_too_new-clause-goes_on : goal.returns-then-is_too_new-clause-goes_on
+returns-then-is_too_new-clause-goes_on g c =
     let P : Option Feed → Type 0 = λ o. GoesOn o c.begin_body.new.source.feed in
     subst P c.has_byte.ensures.feed (goes-on_more _ _ _ c.in-Ok.ensures.goes_on c.begin_body.ensures.goes_on)
 
@@ -67,7 +74,7 @@ returns-in-Ok-hand_out-clause-reads g c =
     let P : Option Feed → Type 0 = λ o. ReadsHead at.Head c.args.now o c.begin_body.new.source.feed (Ok (read.Request c.in-Ok-hand_out.exchange)) in
     subst P c.has_byte.ensures.feed
     (head-handed _ _ _ _ c.in-Ok.message c.in-Some.framing c.head_of.result c.in-Ok-Some.body c.in-Ok-hand_out.exchange c.head_of.ensures.message c.head_of.ensures.framing c.in-Ok.ensures.reads
-    (search (rules, c.as_slice.ensures.value, c.in-Some.ensures)) (search (rules, c.if-not-is_built.ensures)) taken.begins y.0 y.1 y.2)
+    (search (rules, c.as_slice.ensures.value, c.in-Some.ensures)) (search (rules, c.if-is_too_new.ensures)) taken.begins y.0 y.1 y.2)
 
 pub returns-in-Ok-None-clause-reads : goal.returns-in-Ok-None-clause-reads
 returns-in-Ok-None-clause-reads g c =

@@ -1,4 +1,4 @@
-use Rattle.std.proofs.Common.{rules, ◌≡◌, refl, sym, ◌∙◌, subst, false, Bool, arith}
+use Rattle.std.proofs.Common.{rules, ◌≡◌, refl, sym, subst, false, Bool, arith}
 use Rattle.tiny_http_stream.specs.Outlet.{output_of, outlet_ended}
 use Rattle.tiny_http_sending.specs.Sending.{SendsUnlessEnded}
 use Rattle.tiny_http_message.specs.OwnAnswer.{own_text_by}

@@ -1,6 +1,5 @@
-use Rattle.std.proofs.Common.{ℕ, ◌≡◌, refl, sym, ap, ◌∙◌, subst, true, false, List, Option, Some}
+use Rattle.std.proofs.Common.{◌≡◌, refl, sym, ap, ◌∙◌, true, false}
 use Rattle.std.specs.Prelude.{slice_get}
-use Rattle.tiny_http_message.specs.declared.waiting.Waiting.{Waiting}
 use Rattle.tiny_http_core.specs.Steps.{AsReader, NoSuch, NotYet, Done}
 use Rattle.tiny_http_stream.specs.Outlet.{output_of, outlet_ended}
 use Rattle.tiny_http_core.specs.Pending.{owes_continue}
@@ -66,6 +65,6 @@ returns g c =
           continue-done client before k s c.args.now n w.0 c.in-Some.answer_context (output_of sent.new.outlet) (outlet_ended sent.new.outlet) left.new.self.turns.marks left.new.self.requests.items q.source st
           (record { feed = refl; stop = refl; ends = refl; standing = refl }) low w.1 w.2 owed (sym c.is_in_turn.ensures ∙ c.if-not-is_in_turn.false) marks (left.ensures.requests w.0 w.1) sent.ensures.sends sent.ensures.is_flushed)
           (λ no. elim no [ ]) refl (refl, marks, (w.0, w.1, rw owed (left.ensures.requests w.0 w.1)))
-          (record { goes_on = goes-on_same q.source.feed; fails_once = sent.ensures.fails_once; flushed = λ none. sent.ensures.flushed; sent_on = λ was. sent.ensures.sent_on })
+          (record { goes_on = goes-on_same q.source.feed; fails_once = sent.ensures.fails_once; flushed = λ was. sent.ensures.flushed; sent_on = λ was. sent.ensures.sent_on })
           (λ kind e. cc));
     }

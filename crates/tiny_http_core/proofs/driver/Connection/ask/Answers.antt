@@ -2,7 +2,7 @@ use Rattle.std.proofs.Common.{◌≡◌, refl, sym, ap, ◌∙◌, subst, true, 
 use Rattle.std.specs.Global.{Vec}
 use Rattle.std.specs.Prelude.{ℕ}
 use Rattle.std.specs.declared.alloc.AllocError.{AllocError}
-use Rattle.tiny_http_message.specs.declared.waiting.Waiting.{Waiting}
+use Rattle.tiny_http_core.specs.declared.pending.Unfinished.{Unfinished}
 use Rattle.tiny_http_message.specs.declared.exchange.Exchange.{Exchange}
 use Rattle.tiny_http_message.specs.declared.exchange.HeadRead.{HeadRead}
 use Rattle.tiny_http_message.specs.declared.exchange.HeadRead.TheVariants as read
@@ -100,7 +100,7 @@ returns-in-Ok g c =
           let shape : AreInShape (k.marks ++ (Open ∷ [])) = subst (λ m. AreInShape m) e.marks e.shape in
           let done = ask-handed client before k s c.args.now x q.source.standing source.feed source.stop source.is_over source.standing c.in-Ok.number st open_is n.unread n.quiet
           (λ i. not-ended c.read_head.result x (h.at_end i).0 is) (subst R is (h.reads here)) h.goes_on e.number shape (subst S is h.standing) in
-          let P : List Mark → List (Option Waiting) → Type 0 = λ m r.
+          let P : List Mark → List (Option Unfinished) → Type 0 = λ m r.
           StepIsAnswered client before (record k { marks = m; requests = r; standing = source.standing; feed = source.feed; stop = source.stop; is_over = source.is_over }) s c.args.now Ask (Handed c.in-Ok.number (head_message x.head) (head_framing x.head)) in
           subst (λ m. P m c.issue.new.self.requests.items) (sym e.marks) (subst (λ r. P (k.marks ++ (Open ∷ [])) r) (sym e.requests) done))
           (λ no. elim no [ ]) (none-of q.end open_is, none-of q.end open_is, lazy-of c.read_head.result x is h.lazy) (e.number, (x.waiting, e.requests, (let S : Result HeadRead AllocError → Type 0 = λ r. source.standing ≡ standing_read r q.source.standing in subst S is h.standing)), refl) (driving-reads-on old new refl h.goes_on) (λ kind e. cc));
@@ -128,7 +128,7 @@ returns-in-Err-issue g c =
       step = rw (← c.self.view_is) (takes-ask old new c.args.now Memory
           (λ client before s low st.
           let n = before-head client before k s st open_is here in
-          let P : List Mark → List (Option Waiting) → Type 0 = λ m r. StepIsAnswered client before (record k { marks = m; requests = r; asking_ended = true; standing = source.standing; feed = source.feed; stop = source.stop; is_over = source.is_over }) s c.args.now Ask Memory in
+          let P : List Mark → List (Option Unfinished) → Type 0 = λ m r. StepIsAnswered client before (record k { marks = m; requests = r; asking_ended = true; standing = source.standing; feed = source.feed; stop = source.stop; is_over = source.is_over }) s c.args.now Ask Memory in
           let done = ask-memory client before k s c.args.now source.feed source.stop source.is_over source.standing st open_is n.unread n.quiet n.more
           (λ i. not-ended c.read_head.result x (h.at_end i).0 is) h.goes_on in
           subst (λ m. P m c.issue.new.self.requests.items) (ap (λ t. t.marks) (sym e.0)) (subst (λ r. P k.marks r) (sym e.1) done))
@@ -214,14 +214,14 @@ returns-in-Ok-refuse g c =
           (λ client before s low st.
           let n = before-head client before k s st open_is here in
           let done = ask-refused client before k s c.args.now q.source.standing status text is_last source.feed source.stop source.is_over source.standing left.self.turns.marks (output_of left.outlet) (outlet_ended left.outlet) st low open_is n.unread n.quiet
-          (λ i. not-refused c.read_head.result status text is_last (h.at_end i).0 is) reads h.goes_on (e.leaves (can-send before k.sink k.output_ended s.reached.slots s.failure st.output low)) in
-          let P : List (Option Waiting) → Type 0 = λ r.
+          (λ i. not-refused c.read_head.result status text is_last (h.at_end i).0 is) reads h.goes_on (e.leaves (can-send before k.sink k.output_ended s.reached.slots s.flushed s.failure st.output low)) in
+          let P : List (Option Unfinished) → Type 0 = λ r.
           StepIsAnswered client before (record k { marks = left.self.turns.marks; requests = r; asking_ended = true; standing = source.standing; feed = source.feed; stop = source.stop; is_over = source.is_over; sink = output_of left.outlet; output_ended = outlet_ended left.outlet }) s c.args.now Ask Ended in
           subst (λ r. P r) (sym e.requests) done)
           (λ no. elim no [ ])
           (λ some. absurd (some-none open_is some), λ i. absurd (last i), λ none. (because.Refused status, refl, end-refused q.source.standing c.args.now q.source.feed source.feed status text is_last here reads))
           (inr e.requests)
-          (record { goes_on = h.goes_on; fails_once = c.refuse.ensures.fails_once; flushed = c.refuse.ensures.flushed; sent_on = c.refuse.ensures.sent_on })
+          (record { goes_on = h.goes_on; fails_once = c.refuse.ensures.fails_once; flushed = λ was. c.refuse.ensures.flushed (was refl); sent_on = λ was. c.refuse.ensures.sent_on (was refl) })
           (λ kind e. cc));
     }
 
@@ -250,13 +250,13 @@ returns-in-Err-refuse g c =
       step = rw (← c.self.view_is) (takes-ask old new c.args.now Memory
           (λ client before s low st.
           let n = before-head client before k s st open_is here in
-          let P : List Mark → List (Option Waiting) → Outlet g.row.W.Denot → Type 0 = λ m r o.
+          let P : List Mark → List (Option Unfinished) → Outlet g.row.W.Denot → Type 0 = λ m r o.
           StepIsAnswered client before (record k { marks = m; requests = r; asking_ended = true; standing = source.standing; feed = source.feed; stop = source.stop; is_over = source.is_over; sink = output_of o; output_ended = outlet_ended o }) s c.args.now Ask Memory in
           let done = ask-memory client before k s c.args.now source.feed source.stop source.is_over source.standing st open_is n.unread n.quiet n.more
           (λ i. not-refused c.read_head.result status text is_last (h.at_end i).0 is) h.goes_on in
           subst (λ m. P m left.self.requests.items left.outlet) (ap (λ t. t.marks) (sym e.0)) (subst (λ r. P k.marks r left.outlet) (sym e.1) (subst (λ o. P k.marks k.requests o) (sym e.2) done)))
           (λ no. elim no [ ]) (none-of q.end open_is, refl, here, h.begun (λ end. not-refused c.read_head.result status text is_last end is))
           (e.1, ap (λ t. t.marks) e.0, e.2)
-          (record { goes_on = h.goes_on; fails_once = c.refuse.ensures.fails_once; flushed = c.refuse.ensures.flushed; sent_on = c.refuse.ensures.sent_on })
+          (record { goes_on = h.goes_on; fails_once = c.refuse.ensures.fails_once; flushed = λ was. c.refuse.ensures.flushed (was refl); sent_on = λ was. c.refuse.ensures.sent_on (was refl) })
           (λ kind e. cc));
     }

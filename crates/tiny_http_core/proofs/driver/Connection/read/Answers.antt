@@ -7,8 +7,7 @@ use Rattle.tiny_http_core.specs.Connection.{Kept, kept}
 use Rattle.tiny_http_core.specs.Seen.{seen}
 use Rattle.tiny_http_core.proofs.ConnectionAsk.{StepIsAnswered}
 use Rattle.tiny_http_core.proofs.ConnectionBody.{with_reader}
-use Rattle.tiny_http_core.proofs.ConnectionRead.{read-none, read-memory, read-done}
-use Rattle.tiny_http_core.proofs.ConnectionContinue.{read-nothing, readable-some}
+use Rattle.tiny_http_core.proofs.ConnectionRead.{read-nothing, readable-some, read-none, read-memory, read-done}
 use Rattle.tiny_http_core.proofs.DrivingLemmas.{viewed, takes-read, driving-reads-on, moves-none, stands-after}
 use Rattle.tiny_http_core.proofs.driver.Connection.read.Goals.{in-Ok-fill, in-Err}
 use Rattle.tiny_http_core.proofs.driver.Connection.read.Goals as goal
@@ -42,7 +41,7 @@ returns-then-count-eq0 g c =
           (λ client before s st.
           let w = readable-some (slice_get k.requests n) (sym c.is_readable.ensures ∙ c.if-not-is_readable.false) in
           let P : List ℕ → Type 0 = λ l. StepIsAnswered client before k s date (Read n c.args.count) (Given l) in
-          subst P (none _ (search rules)) (read-none client before k s date n c.args.count w.0 st w.1 w.2 c.if-count-eq0.true)) (λ no. refl) refl (refl, refl, inl (refl, refl)) (moves-none old));
+          subst P (none _ (search rules)) (read-none client before k s date n c.args.count w.0 w.1 st w.2 w.3 w.4 c.if-count-eq0.true)) (λ no. refl) refl (refl, refl, inl (refl, refl)) (moves-none old));
     }
 
 pub returns-in_default : goal.returns-in_default
@@ -55,7 +54,7 @@ returns-in_default g c =
       step = λ date. rw (← c.self.view_is) (takes-read old old date n c.args.count Memory
           (λ client before s st.
           let w = readable-some (slice_get k.requests n) (sym c.is_readable.ensures ∙ c.if-not-is_readable.false) in
-          read-memory client before k s date n c.args.count w.0 st w.1 w.2 (omega (arith, c.if-count-eq0.false))) (λ no. refl) refl (refl, refl, inl (refl, refl)) (moves-none old));
+          read-memory client before k s date n c.args.count w.0 w.1 st w.2 w.3 w.4 (omega (arith, c.if-count-eq0.false))) (λ no. refl) refl (refl, refl, inl (refl, refl)) (moves-none old));
     }
 
 pub returns : goal.returns
@@ -71,17 +70,17 @@ returns g c =
       step = λ date. rw (← c.self.view_is) (takes-read old new date n c.args.count (seen c.match-fill.result)
           (λ client before s st. elim c.match-fill.branch [
             | in-Ok-fill b ↦
-                let fills = b.in-Ok-fill.ensures.fills w.0 w.1 in
-                let done = read-done client before k s date n c.args.count w.0 fills.0 q.source c.fill.new.source c.fill.new.self.requests.items (Ok b.in-Ok-fill.n) c.fill.new.buf st w.1 w.2 fills.1 (record { feed = refl; stop = refl; ends = refl; standing = refl }) b.in-Ok-fill.ensures.bound size (omega (arith, c.if-count-eq0.false)) fills.2 fills.3 fills.4 c.fill.ensures.goes_on in
+                let fills = b.in-Ok-fill.ensures.fills w.0 w.1 w.2 w.4 in
+                let done = read-done client before k s date n c.args.count w.0 w.1 fills.0 q.source c.fill.new.source c.fill.new.self.requests.items (Ok b.in-Ok-fill.n) c.fill.new.buf st w.2 w.3 w.4 fills.1 (record { feed = refl; stop = refl; ends = refl; standing = refl }) b.in-Ok-fill.ensures.bound size (omega (arith, c.if-count-eq0.false)) fills.2 fills.3 fills.4 c.fill.ensures.goes_on in
                 let P : List Mark → List ℕ → Type 0 = λ m l. StepIsAnswered client before (record (with_reader k c.fill.new.self.requests.items c.fill.new.source) { marks = m }) s date (Read n c.args.count) (Given l) in
                 rw b.result-is (subst (λ l. P c.fill.new.self.turns.marks l) (ap (take b.in-Ok-fill.n) (sym (whole c.fill.new.buf c.in-Ok.bytes.items c.in-Ok.bytes.len (search (rules, c.in-Ok.ensures)) size c.in-Ok.ensures)) ∙ sym b.truncate.ensures.items) (subst (λ m. P m (take b.in-Ok-fill.n c.fill.new.buf)) (ap (λ t. t.marks) (sym c.fill.ensures.turns)) done))
             | in-Err b ↦
-                let fills = b.in-Err.ensures.fills w.0 w.1 in
-                let done = read-done client before k s date n c.args.count w.0 fills.0 q.source c.fill.new.source c.fill.new.self.requests.items (Err b.in-Err.kind) c.fill.new.buf st w.1 w.2 fills.1 (record { feed = refl; stop = refl; ends = refl; standing = refl }) tt size (omega (arith, c.if-count-eq0.false)) fills.2 fills.3 fills.4 c.fill.ensures.goes_on in
+                let fills = b.in-Err.ensures.fills w.0 w.1 w.2 w.4 in
+                let done = read-done client before k s date n c.args.count w.0 w.1 fills.0 q.source c.fill.new.source c.fill.new.self.requests.items (Err b.in-Err.kind) c.fill.new.buf st w.2 w.3 w.4 fills.1 (record { feed = refl; stop = refl; ends = refl; standing = refl }) tt size (omega (arith, c.if-count-eq0.false)) fills.2 fills.3 fills.4 c.fill.ensures.goes_on in
                 let P : List Mark → Type 0 = λ m. StepIsAnswered client before (record (with_reader k c.fill.new.self.requests.items c.fill.new.source) { marks = m }) s date (Read n c.args.count) (Fault b.in-Err.kind) in
                 rw b.result-is (subst P (ap (λ t. t.marks) (sym c.fill.ensures.turns)) done)
           ])
           (elim c.match-fill.branch [ in-Ok-fill b ↦ rw b.result-is (λ no. elim no [ ]) | in-Err b ↦ rw b.result-is (λ no. elim no [ ]) ]) refl
-          (let fills = c.fill.ensures.fills w.0 w.1 in (refl, ap (λ t. t.marks) c.fill.ensures.turns, inr (w.0, fills.0, w.1, fills.1, stands-after w.0.body fills.0 q.source c.fill.new.source fills.3 fills.4)))
+          (let fills = c.fill.ensures.fills w.0 w.1 w.2 w.4 in (refl, ap (λ t. t.marks) c.fill.ensures.turns, inr (w.0, w.1, fills.0, w.2, w.4, fills.1, stands-after w.1 fills.0 q.source c.fill.new.source fills.3 fills.4)))
           (driving-reads-on old new refl c.fill.ensures.goes_on));
     }

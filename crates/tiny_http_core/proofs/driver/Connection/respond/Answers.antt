@@ -1,10 +1,11 @@
 use Rattle.std.proofs.Common.{rules, ℕ, ◌≡◌, refl, sym, ap, ◌∙◌, subst, true, false, List, Option, Some, None}
 use Rattle.std.specs.Prelude.{slice_get, slice_set, IsTrue}
 use Rattle.tiny_http_wire.specs.Answer.{Answer}
-use Rattle.tiny_http_message.specs.declared.waiting.Waiting.{Waiting}
+use Rattle.tiny_http_core.specs.declared.pending.Unfinished.{Unfinished}
+use Rattle.tiny_http_core.specs.declared.pending.Unfinished.TheVariants as still
 use Rattle.tiny_http_core.specs.Steps.{ReplyValue, Handed, Ended, Given, Fault, Done, Refused, Memory, Respond, NotYet, NoSuch}
 use Rattle.tiny_http_core.specs.Driving.{IsDeclined, stated_response}
-use Rattle.tiny_http_core.specs.Seen.{IsAnswered}
+use Rattle.tiny_http_core.specs.Seen.{IsAnswered, is_done}
 use Rattle.tiny_http_core.specs.declared.driver.Step.TheVariants as step
 use Rattle.tiny_http_wire.specs.Answer.{ResponseState}
 use Rattle.tiny_http_wire.specs.Device.{Feed}
@@ -20,7 +21,7 @@ use Rattle.tiny_http_core.proofs.ConnectionOutput.{can-send}
 use Rattle.tiny_http_core.proofs.ConnectionRespond.{no-such, respond-not_taken, answer-form-some, respond-not_yet, respond-done, responds-by, after_number}
 use Rattle.tiny_http_message.proofs.BodyReads.{gives-up}
 use Rattle.tiny_http_sending.proofs.SendingLemmas.{once-append}
-use Rattle.tiny_http_core.proofs.DrivingLemmas.{viewed, same-view, takes-respond, driving-reads-on, moves-none, honest-more, gives-up-kept}
+use Rattle.tiny_http_core.proofs.DrivingLemmas.{viewed, same-view, takes-respond, driving-reads-on, moves-none, honest-more, gives-up-of}
 use Rattle.tiny_http_core.proofs.driver.Connection.respond.Goals as goal
 
 pub returns-in_default : goal.returns-in_default
@@ -29,9 +30,9 @@ returns-in_default g c =
     let q = c.self.inside in
     let old = viewed q.source q.outlet q.pending q.end in
     record {
-      step = rw (← c.self.view_is) (takes-respond g.D.ReadDevice.feed old old c.args.now n c.args.response NoSuch
+      step = rw (← c.self.view_is) (takes-respond g.D.ReadDevice.feed false old old c.args.now n c.args.response NoSuch
           (λ client before s value low is st. no-such client before (kept old) s c.args.now n (Respond n value) refl (respond-not_taken n value) st (sym c.answer_context_at.ensures ∙ c.in_default.is))
-          (λ no. refl) refl (λ no. elim no [ ]) (moves-none old) (λ kind e. cc));
+          (λ no. refl) refl (λ no. elim no [ ]) refl (moves-none old) (λ kind e. cc));
     }
 
 pub returns-then-not-hold : goal.returns-then-not-hold
@@ -42,16 +43,16 @@ returns-then-not-hold g c =
     let new = viewed q.source q.outlet c.hold.new.self q.end in
     let k : Kept = kept old in
     record {
-      step = rw (← c.self.view_is) (takes-respond g.D.ReadDevice.feed old new c.args.now n c.args.response NotYet
+      step = rw (← c.self.view_is) (takes-respond g.D.ReadDevice.feed false old new c.args.now n c.args.response NotYet
           (λ client before s value low is st.
           let kept_answer_context : waiting_answer_context (slice_get k.requests n) ≡ Some c.in-Some.answer_context = sym c.answer_context_at.ensures ∙ c.in-Some.is in
           let w = answer-form-some (slice_get k.requests n) c.in-Some.answer_context kept_answer_context in
           let late : c.hold.result ≡ false = search rules in
           let same = c.hold.ensures.not_yet late in
-          let P : List Mark → List (Option Waiting) → Type 0 = λ m r. StepIsAnswered client before (record k { marks = m; requests = r }) s c.args.now (Respond n value) NotYet in
+          let P : List Mark → List (Option Unfinished) → Type 0 = λ m r. StepIsAnswered client before (record k { marks = m; requests = r }) s c.args.now (Respond n value) NotYet in
           let done = respond-not_yet client before k s c.args.now n value w.0 st w.1 (λ h. let none : true ≡ false = sym (c.hold.ensures.held.1 h) ∙ late in cc) in
           subst (λ m. P m c.hold.new.self.requests.items) (sym same) (subst (λ r. P k.marks r) (ap (λ v. v.items) (sym c.hold.ensures.requests)) done))
-          (λ no. same-view q.source q.outlet c.hold.new.self q.pending q.end (c.hold.ensures.not_yet (search rules)) (ap (λ v. v.items) c.hold.ensures.requests)) refl (λ no. elim no [ ]) (driving-reads-on old new refl (goes-on_same q.source.feed)) (λ kind e. cc));
+          (λ no. same-view q.source q.outlet c.hold.new.self q.pending q.end (c.hold.ensures.not_yet (search rules)) (ap (λ v. v.items) c.hold.ensures.requests)) refl (λ no. elim no [ ]) refl (driving-reads-on old new refl (goes-on_same q.source.feed)) (λ kind e. cc));
     }
 
 -- what an answer is replied is no refusal of the step
@@ -65,6 +66,17 @@ not-declined n r Ended a d = elim a [ ]
 not-declined n r Refused a d = elim a [ ]
 not-declined n r (Given bytes) a d = elim a [ ]
 not-declined n r (Handed k m f) a d = elim a [ ]
+
+answered-done : (reply : ReplyValue) → IsAnswered reply → is_done reply ≡ true
+answered-done Done a = refl
+answered-done (Fault kind) a = refl
+answered-done NotYet a = elim a [ ]
+answered-done NoSuch a = elim a [ ]
+answered-done Memory a = elim a [ ]
+answered-done Ended a = elim a [ ]
+answered-done Refused a = elim a [ ]
+answered-done (Given bytes) a = elim a [ ]
+answered-done (Handed k m f) a = elim a [ ]
 
 pub returns-in-Some-take : goal.returns-in-Some-take
 returns-in-Some-take g c =
@@ -81,20 +93,20 @@ returns-in-Some-take g c =
     let reply = seen c.answer-reply.result in
     let w0 = c.in-Some-take.field-0 in
     record {
-      step = rw (← c.self.view_is) (takes-respond g.D.ReadDevice.feed old new c.args.now n c.args.response reply
+      step = rw (← c.self.view_is) (takes-respond g.D.ReadDevice.feed true old new c.args.now n c.args.response reply
           (λ client before s value low is st.
           let kept_answer_context : waiting_answer_context (slice_get k.requests n) ≡ Some c.in-Some.answer_context = sym c.answer_context_at.ensures ∙ c.in-Some.is in
           let held : IsTrue c.hold.result = search rules in
           let A : Answer → Type 0 = λ a. Answers k.sink (output_of mid) (outlet_ended mid) reply a value.content (printing_in c.in-Some.answer_context c.args.now) in
           let same : last.self.requests.items ≡ k.requests = ap (λ v. v.items) (c.pass.ensures.requests ∙ c.hold.ensures.requests) in
           let some = c.in-Some-take.ensures.some in
-          let got : slice_get k.requests n ≡ Some (Some w0) = ap (λ l. slice_get l n) (sym same) ∙ some.0 in
+          let got : slice_get k.requests n ≡ Some (Some (still.Waiting w0)) = ap (λ l. slice_get l n) (sym same) ∙ some.0 in
           let requests : taken.requests.items ≡ slice_set k.requests n None = some.1 ∙ ap (λ l. slice_set l n None) same in
           let done = respond-done client before k s c.args.now n value c.in-Some.answer_context (output_of mid) (output_of last.outlet) (outlet_ended mid) (outlet_ended last.outlet) c.hold.new.self.turns.marks last.self.turns.marks taken.requests.items q.source source reply
-          st (record { feed = refl; stop = refl; ends = refl; standing = refl }) (gives-up-kept q.source source (slice_get k.requests n) w0 got c.give_up.ensures.gives_up) low kept_answer_context (c.hold.ensures.held.0 held).1 (c.hold.ensures.marks held) requests
+          st (record { feed = refl; stop = refl; ends = refl; standing = refl }) (λ w e. gives-up-of q.source source (slice_get k.requests n) (still.Waiting w0) got c.give_up.ensures.gives_up (still.Waiting w) e) low kept_answer_context (c.hold.ensures.held.0 held).1 (c.hold.ensures.marks held) requests
           (responds-by k (output_of mid) (outlet_ended mid) reply value c.in-Some.answer_context c.args.now
           (λ e. let h = c.answer-reply.ensures.past e in (ap (λ o. output_of o) h.0, ap (λ o. outlet_ended o) h.0, h.1))
-          (λ e. subst A (sym is.0) (c.answer-reply.ensures.sends value.content is.1 is.2 e (can-send before k.sink k.output_ended s.reached.slots s.failure st.output low e))))
+          (λ e. subst A (sym is.0) (c.answer-reply.ensures.sends value.content is.1 is.2 e (can-send before k.sink k.output_ended s.reached.slots s.flushed s.failure st.output low e))))
           c.pass.ensures.passes c.pass.ensures.sends in
           let P : List Mark → Type 0 = λ m. StepIsAnswered client before (after_number k m taken.requests.items source (output_of last.outlet) (outlet_ended last.outlet)) s c.args.now (Respond n value) reply in
           subst P (ap (λ t. t.marks) (sym c.take.ensures.turns)) done)
@@ -102,12 +114,13 @@ returns-in-Some-take g c =
           (λ done.
           let same : last.self.requests.items ≡ k.requests = ap (λ v. v.items) (c.pass.ensures.requests ∙ c.hold.ensures.requests) in
           let some = c.in-Some-take.ensures.some in
-          (some.1 ∙ ap (λ l. slice_set l n None) same, gives-up-kept q.source source (slice_get k.requests n) w0 (ap (λ l. slice_get l n) (sym same) ∙ some.0) c.give_up.ensures.gives_up))
+          (some.1 ∙ ap (λ l. slice_set l n None) same, gives-up-of q.source source (slice_get k.requests n) (still.Waiting w0) (ap (λ l. slice_get l n) (sym same) ∙ some.0) c.give_up.ensures.gives_up))
+          (answered-done reply c.answer-reply.ensures.done)
           (record {
             goes_on = gives-up w0.body q.source source c.give_up.ensures.gives_up;
             fails_once = once-append (outlet_ended q.outlet) (outlet_ended mid) (outlet_ended last.outlet) k.sink (output_of mid) (output_of last.outlet) c.answer-reply.ensures.fails_once c.pass.ensures.fails_once;
-            flushed = λ h. c.pass.ensures.flushed (c.answer-reply.ensures.flushed h);
-            sent_on = λ h. c.pass.ensures.sent_on (c.answer-reply.ensures.sent_on h);
+            flushed = λ was. c.pass.ensures.flushed c.answer-reply.ensures.flushed;
+            sent_on = λ was. c.pass.ensures.sent_on c.answer-reply.ensures.sent_on;
           })
           (λ kind e. let h = c.answer-reply.ensures.honest kind e in let p = printing_in c.in-Some.answer_context c.args.now in (c.in-Some.answer_context, sym c.answer_context_at.ensures ∙ c.in-Some.is, honest-more (outlet_ended mid) (outlet_ended last.outlet) k.sink (output_of mid) (output_of last.outlet) c.args.response.answer (g.D.ReadDevice.feed c.args.response.data_reader) p kind h.0 c.pass.ensures.fails_once h.1)));
     }

@@ -1,8 +1,7 @@
-use Rattle.std.proofs.Common.{◌≡◌, refl, ap, true, Err}
-use Rattle.tiny_http_stream.specs.Outlet.{output_of, outlet_ended}
+use Rattle.std.proofs.Common.{◌≡◌, ap, true}
 use Rattle.std.specs.Prelude.{◌||◌}
 use Rattle.tiny_http_sending.proofs.SendingLemmas.{printed-flushed, printed-ended, ended-once, flushed-once, printed-honest}
-use Rattle.tiny_http_sending.proofs.sending.send.Goals as goal
+use Rattle.tiny_http_sending.proofs.sending.send_printed.Goals as goal
 use Rattle.tiny_http_sending.proofs.SendingLemmas.{or-parts}
 
 pub returns-in-Err-clause-sends : goal.returns-in-Err-clause-sends
@@ -15,7 +14,7 @@ returns-clause-sends g c content stated few can =
     let mid = c.print-printed.new.writer in
     let new = c.flush.new.self in
     let ends : new.ended ≡ true → (new.ended || new.sink.has_ended) ≡ true = λ e. ap (λ x. x || new.sink.has_ended) e in
-    printed-flushed _ _ _ _ mid.ended new.ended c.in_default.field-0 c.flush.result _ _ refl content stated few c.in_default.ensures.text c.flush.ensures.puts can.unended
+    printed-flushed _ _ _ _ mid.ended new.ended c.in_default.field-0 c.flush.result _ _ content stated few c.in_default.ensures.text c.flush.ensures.puts can.unended
     (λ h. (or-parts mid.ended mid.sink.has_ended h).0) ends c.flush.ensures.ended c.flush.ensures.stays
 
 pub returns-in-Err-clause-fails_once : goal.returns-in-Err-clause-fails_once

@@ -1,0 +1,138 @@
+//! Versions above 1.1, which are refused.
+use crate::exchanges::{date, source_of};
+use crate::runs::Deed::{Ask, Drop, IntoWriter, Text};
+use crate::runs::{Case, EMPTY, SIZES, TEXT, assert_case, joined};
+use crate::same::assert_same;
+use std::alloc::Global;
+use std::process::Abort;
+use std::test::Fail;
+use tiny_http_core::exchange::{HeadRead, read_head};
+
+const TOO_NEW: &str = "HTTP/1.1 505 HTTP Version Not Supported\r\n";
+
+const LENGTH: &str = "Content-Length: 51\r\n\r\n";
+
+const SUPPORTED: &str = "This server only supports HTTP versions 1.0 and 1.1";
+
+// The status by which the first head is refused, and the text of its answer.
+fn refusal(alloc: Global, client: &[u8], most: usize) -> Result<(u16, Vec<u8>), Fail> {
+    let mut source = source_of(alloc, client, None, most)?;
+    match read_head(alloc, &mut source, date()?)? {
+        HeadRead::Refused { status, text, .. } => Ok((status.0, text)),
+        _ => Err("not refused".into()),
+    }
+}
+
+// The first head is refused by 505, with these pieces.
+fn assert_too_new(
+    rt: &impl Abort,
+    alloc: Global,
+    client: &[u8],
+    pieces: &[&str],
+) -> Result<(), Fail> {
+    let wanted = joined(alloc, pieces)?;
+    for most in SIZES {
+        let (status, text) = refusal(alloc, client, most)?;
+        assert_same(rt, status, 505);
+        assert_same(rt, str::from_utf8(&text)?, wanted.as_str());
+    }
+    Ok(())
+}
+
+#[test]
+fn a_version_above_1_1_is_told_which_are_served(rt: HostRuntime) -> Result<(), Fail> {
+    for client in [
+        b"GET / HTTP/2.0\r\n\r\nGET /b HTTP/1.1\r\n\r\n".as_slice(),
+        b"GET / HTTP/3.0\r\nTE: chunked\r\nConnection: close\r\n\r\n".as_slice(),
+        b"POST / HTTP/2.0\r\nContent-Length: 5\r\n\r\nhello".as_slice(),
+        b"POST / HTTP/2.0\r\nExpect: 100-continue\r\nContent-Length: 5\r\n\r\n".as_slice(),
+        b"POST / HTTP/2.0\r\nTransfer-Encoding: chunked\r\n\r\n".as_slice(),
+        b"GET / HTTP/2.0\r\nConnection: upgrade\r\n\r\n".as_slice(),
+    ] {
+        assert_too_new(&rt, rt.alloc(), client, &[TOO_NEW, TEXT, LENGTH, SUPPORTED])?;
+    }
+    Ok(())
+}
+
+#[test]
+fn the_text_is_withheld_for_head(rt: HostRuntime) -> Result<(), Fail> {
+    let client = b"HEAD / HTTP/2.0\r\n\r\n".as_slice();
+    assert_too_new(&rt, rt.alloc(), client, &[TOO_NEW, TEXT, LENGTH])
+}
+
+// What is judged before the version: the first bad line, and the expectation.
+#[test]
+fn the_version_is_judged_last(rt: HostRuntime) -> Result<(), Fail> {
+    for (client, code) in [
+        (b"GET / HTTP/2.0\r\nbad\r\n".as_slice(), 400),
+        (b"PUT / HTTP/2.0\r\nExpect: x\r\n\r\n".as_slice(), 417),
+    ] {
+        let (status, _text) = refusal(rt.alloc(), client, 1024)?;
+        assert_same(&rt, status, code);
+    }
+    Ok(())
+}
+
+// It is not handed out, and no head is read behind it.
+#[test]
+fn a_connection_ends_at_a_version_above_1_1(rt: HostRuntime) -> Result<(), Fail> {
+    for (client, supported) in [
+        (
+            b"GET / HTTP/2.0\r\n\r\nGET /b HTTP/1.1\r\n\r\n".as_slice(),
+            SUPPORTED,
+        ),
+        (
+            b"HEAD / HTTP/2.0\r\n\r\nGET /b HTTP/1.1\r\n\r\n".as_slice(),
+            "",
+        ),
+        (
+            b"POST / HTTP/3.0\r\nContent-Length: 5\r\n\r\nhelloGET /b HTTP/1.1\r\n\r\n".as_slice(),
+            SUPPORTED,
+        ),
+        (
+            b"POST / HTTP/2.0\r\nTransfer-Encoding: chunked\r\n\r\n0\r\n\r\nGET /b HTTP/1.1\r\n\r\n".as_slice(),
+            SUPPORTED,
+        ),
+    ] {
+        let case = Case {
+            client,
+            deeds: &[Ask, Ask, Text(0, "x"), IntoWriter(0), Drop(0), Text(1, "x")],
+            replies: "ended; ended; no such; no such; no such; no such",
+            output: &[TOO_NEW, TEXT, LENGTH, supported],
+        };
+        assert_case(&rt, rt.alloc(), &case)?;
+    }
+    Ok(())
+}
+
+#[test]
+fn the_505_waits_for_its_turn(rt: HostRuntime) -> Result<(), Fail> {
+    for (deeds, replies, output) in [
+        (
+            [Ask, Ask, Ask].as_slice(),
+            "0: GET / 1.1; ended; ended",
+            [].as_slice(),
+        ),
+        (
+            &[Ask, Ask, Drop(0)],
+            "0: GET / 1.1; ended; done",
+            &[
+                "HTTP/1.1 500 Internal Server Error\r\n",
+                EMPTY,
+                TOO_NEW,
+                TEXT,
+                LENGTH,
+                SUPPORTED,
+            ],
+        ),
+    ] {
+        let case = Case {
+            client: b"GET / HTTP/1.1\r\n\r\nGET / HTTP/2.0\r\n\r\nGET /b HTTP/1.1\r\n\r\n",
+            deeds,
+            replies,
+            output,
+        };
+        assert_case(&rt, rt.alloc(), &case)?;
+    }
+    Ok(())
+}

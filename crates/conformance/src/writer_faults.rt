@@ -1,0 +1,535 @@
+//! Raw writers: what is held until it is sent on, and how a writer that fails is reported.
+use crate::exchanges::date;
+use crate::runs::Deed::{Ask, Data, Drop, Finish, Flush, IntoWriter, Text, Write};
+use crate::runs::{
+    AMPLE, Case, DATED, Deed, EMPTY, TEXT, assert_case, assert_troubled, describe, joined,
+    output_of, steps_of, takes,
+};
+use crate::same::{assert_holds, assert_same};
+use crate::writers::{A, ERROR, FOUR, OK, ONE, THREE, TWO};
+use std::alloc::Global;
+use std::io;
+use std::io::ErrorKind;
+use std::process::Abort;
+use std::test::Fail;
+use tiny_http_core::driver::{Connection, run};
+use tiny_http_wire::device::{Budget, Canned, Metered, WriteDevice};
+
+// So many letters, those of the alphabet in turn.
+fn letters(alloc: Global, length: usize) -> Result<String, Fail> {
+    let mut text = String::new(alloc);
+    for i in 0..length {
+        text.push((b'a' + (i % 26) as u8) as char)?;
+    }
+    Ok(text)
+}
+
+// After these steps a text between two bytes is the output.
+fn assert_long_by(
+    rt: &impl Abort,
+    alloc: Global,
+    long: &str,
+    deeds: &[Deed<'_>],
+) -> Result<(), Fail> {
+    let case = Case {
+        client: ONE,
+        deeds,
+        replies: "0: GET / 1.1; done; done; done; done; done",
+        output: &["<", long, ">"],
+    };
+    assert_case(rt, alloc, &case)
+}
+
+// A text between two bytes comes out whole, whether the writer is finished, flushed or neither.
+fn assert_long(rt: &impl Abort, alloc: Global, long: &str) -> Result<(), Fail> {
+    let finished = [
+        Ask,
+        IntoWriter(0),
+        Write(0, "<"),
+        Write(0, long),
+        Write(0, ">"),
+        Finish(0),
+    ];
+    assert_long_by(rt, alloc, long, &finished)?;
+    let flushed = [
+        Ask,
+        IntoWriter(0),
+        Write(0, "<"),
+        Write(0, long),
+        Write(0, ">"),
+        Flush(0),
+    ];
+    assert_long_by(rt, alloc, long, &flushed)?;
+    let held = [
+        Ask,
+        IntoWriter(0),
+        Write(0, "<"),
+        Flush(0),
+        Write(0, long),
+        Write(0, ">"),
+    ];
+    assert_long_by(rt, alloc, long, &held)
+}
+
+#[test]
+fn a_long_write_comes_out_whole(rt: HostRuntime) -> Result<(), Fail> {
+    for length in [1022, 1023, 1024, 1025, 2048, 5000] {
+        let long = letters(rt.alloc(), length)?;
+        assert_long(&rt, rt.alloc(), long.as_str())?;
+    }
+    Ok(())
+}
+
+// A writer that takes all bytes, but for one call, which fails. A flush sends on what it took.
+#[derive(Drop)]
+struct Relay {
+    taken: Vec<u8>,
+    // How many of these were sent on.
+    sent: usize,
+    // How many calls are left up to the one that fails, and with it.
+    calls: u64,
+    kind: ErrorKind,
+}
+
+impl Relay {
+    // What was sent on.
+    fn sent_on(&self) -> &[u8] {
+        self.taken.get(..self.sent).unwrap_or_default()
+    }
+
+    // Counts a call, which may be the one that fails.
+    fn call(&mut self) -> io::Result<()> {
+        if self.calls == 0 {
+            return Ok(());
+        }
+        self.calls -= 1;
+        if self.calls == 0 {
+            return Err(self.kind.into());
+        }
+        Ok(())
+    }
+}
+
+impl io::Write for Relay {
+    fn write(&mut self, buf: &[u8]) -> io::Result<usize> {
+        self.call()?;
+        self.taken.extend_from_slice(buf)?;
+        Ok(buf.len())
+    }
+
+    fn flush(&mut self) -> io::Result<()> {
+        self.call()?;
+        self.sent = self.taken.len();
+        Ok(())
+    }
+}
+
+// What came of a run over a relay.
+#[derive(Drop)]
+struct RelayRun {
+    replies: String,
+    failures: u64,
+    relay: Relay,
+}
+
+// Runs these steps where this call of the writer fails by this kind.
+fn run_relayed(
+    alloc: Global,
+    client: &[u8],
+    deeds: &[Deed<'_>],
+    (calls, kind): (u64, ErrorKind),
+) -> Result<RelayRun, Fail> {
+    let reader = Canned::new(client.to_vec(alloc)?, None);
+    let writer = Metered::new(Relay {
+        taken: Vec::new(alloc),
+        sent: 0,
+        calls,
+        kind,
+    });
+    let Ok(record) = run(alloc, reader, writer, steps_of(alloc, deeds)?) else {
+        return Err("no room for the replies".into());
+    };
+    let replies = describe(alloc, record.replies.as_slice())?;
+    let writer = record.outlet.into_inner();
+    let failures = writer.failures();
+    Ok(RelayRun {
+        replies,
+        failures,
+        relay: writer.into_inner(),
+    })
+}
+
+// The call of a writer that never fails.
+const NEVER: (u64, ErrorKind) = (u64::MAX, ErrorKind::Other);
+
+// These pieces were sent on after these steps.
+fn assert_sent_on(
+    rt: &impl Abort,
+    alloc: Global,
+    deeds: &[Deed<'_>],
+    pieces: &[&str],
+) -> Result<(), Fail> {
+    let outcome = run_relayed(alloc, THREE, deeds, NEVER)?;
+    let wanted = joined(alloc, pieces)?;
+    let found = (deeds.len(), outcome.relay.sent_on());
+    assert_same(rt, found, (deeds.len(), wanted.as_str().as_bytes()));
+    Ok(())
+}
+
+// Steps, and how many pieces of what is written were sent on after each.
+const SENDINGS: &[(Deed<'static>, usize)] = &[
+    (Ask, 0),
+    (Ask, 0),
+    (Ask, 0),
+    (IntoWriter(0), 0),
+    (Write(0, "a"), 0),
+    (Flush(0), 1),
+    (Write(0, "b"), 1),
+    (Drop(1), 1),
+    (IntoWriter(2), 1),
+    (Finish(0), 4),
+    (Write(2, "c"), 4),
+    (Finish(2), 5),
+];
+
+const PIECES: [&str; 5] = ["a", "b", ERROR, EMPTY, "c"];
+
+#[test]
+fn a_write_is_held_until_the_flush_or_the_finish(rt: HostRuntime) -> Result<(), Fail> {
+    let mut deeds = Vec::new(rt.alloc());
+    for (deed, count) in SENDINGS {
+        deeds.push(*deed)?;
+        let pieces = &PIECES[..PIECES.len().min(*count)];
+        assert_sent_on(&rt, rt.alloc(), deeds.as_slice(), pieces)?;
+    }
+    Ok(())
+}
+
+const KINDS: [ErrorKind; 6] = [
+    ErrorKind::Other,
+    ErrorKind::Interrupted,
+    ErrorKind::BrokenPipe,
+    ErrorKind::ConnectionAborted,
+    ErrorKind::ConnectionRefused,
+    ErrorKind::ConnectionReset,
+];
+
+// The fifth step reports a fault of this kind, which the writer meets after so many bytes. The later steps are done.
+fn assert_reported(
+    rt: &impl Abort,
+    alloc: Global,
+    (room, kind): (usize, ErrorKind),
+    deeds: &[Deed<'_>],
+    output: &str,
+) -> Result<(), Fail> {
+    let replies = format!(in alloc;
+        "0: GET / 1.1; 1: GET / 1.1; done; done; fault {kind:?}; done; done; done; done"
+    )?;
+    let case = Case {
+        client: TWO,
+        deeds,
+        replies: replies.as_str(),
+        output: &[output],
+    };
+    assert_troubled(rt, alloc, &case, takes(room, kind))
+}
+
+// Also where the client has gone, of which an answer reports nothing.
+#[test]
+fn a_write_reports_the_fault_that_it_meets(rt: HostRuntime) -> Result<(), Fail> {
+    let long = letters(rt.alloc(), 1025)?;
+    let deeds = [
+        Ask,
+        Ask,
+        IntoWriter(0),
+        Write(0, "<"),
+        Write(0, long.as_str()),
+        Write(0, long.as_str()),
+        Flush(0),
+        Finish(0),
+        Text(1, "x"),
+    ];
+    for kind in KINDS {
+        assert_reported(&rt, rt.alloc(), (0, kind), &deeds, "")?;
+        assert_reported(&rt, rt.alloc(), (1, kind), &deeds, "<")?;
+    }
+    Ok(())
+}
+
+#[test]
+fn a_flush_reports_the_fault_that_it_meets(rt: HostRuntime) -> Result<(), Fail> {
+    let deeds = [
+        Ask,
+        Ask,
+        IntoWriter(0),
+        Write(0, "ab"),
+        Flush(0),
+        Flush(0),
+        Write(0, "c"),
+        Finish(0),
+        Text(1, "x"),
+    ];
+    for kind in KINDS {
+        assert_reported(&rt, rt.alloc(), (0, kind), &deeds, "")?;
+        assert_reported(&rt, rt.alloc(), (1, kind), &deeds, "a")?;
+    }
+    Ok(())
+}
+
+// Nor of a fault in a text that waited behind it.
+#[test]
+fn no_reply_reports_a_fault_in_a_finish(rt: HostRuntime) -> Result<(), Fail> {
+    for (room, output) in [(1, "a"), (12, "abHTTP/1.1 5")] {
+        let case = Case {
+            client: THREE,
+            deeds: &[
+                Ask,
+                Ask,
+                Ask,
+                IntoWriter(0),
+                Drop(1),
+                Write(0, "ab"),
+                Finish(0),
+                IntoWriter(2),
+                Write(2, "c"),
+                Flush(2),
+            ],
+            replies: "0: GET / 1.1; 1: GET / 1.1; 2: GET / 1.1; done; done; done; done; done; done; done",
+            output: &[output],
+        };
+        assert_troubled(&rt, rt.alloc(), &case, takes(room, ErrorKind::Other))?;
+    }
+    Ok(())
+}
+
+#[test]
+fn after_a_broken_answer_a_raw_writer_sends_nothing(rt: HostRuntime) -> Result<(), Fail> {
+    let case = Case {
+        client: THREE,
+        deeds: &[
+            Ask,
+            Ask,
+            Ask,
+            IntoWriter(2),
+            Data(0, b"hello", Some(ErrorKind::Other)),
+            IntoWriter(1),
+            Write(1, "b"),
+            Flush(1),
+            Write(2, "c"),
+            Finish(1),
+            Write(2, "c"),
+            Finish(2),
+        ],
+        replies: "0: GET / 1.1; 1: GET / 1.1; 2: GET / 1.1; done; fault Other; done; done; done; not yet; done; done; done",
+        output: &[OK, DATED, "Transfer-Encoding: chunked\r\n\r\n"],
+    };
+    assert_case(&rt, rt.alloc(), &case)
+}
+
+// Steps over four requests, each with its reply where the writer takes all.
+fn row(long: &str) -> [(Deed<'_>, &'static str); 13] {
+    [
+        (Ask, "0: GET / 1.1"),
+        (Ask, "1: GET / 1.1"),
+        (Ask, "2: GET / 1.1"),
+        (Ask, "3: GET / 1.1"),
+        (IntoWriter(1), "done"),
+        (IntoWriter(0), "done"),
+        (Write(0, "a"), "done"),
+        (Flush(0), "done"),
+        (Write(0, long), "done"),
+        (Drop(2), "done"),
+        (Finish(0), "done"),
+        (Finish(1), "done"),
+        (Text(3, "a"), "done"),
+    ]
+}
+
+// The steps of the row that meet the writer, by their places.
+const MEETING: [usize; 5] = [7, 8, 10, 11, 12];
+
+fn deeds_of<'a>(
+    alloc: Global,
+    row: &[(Deed<'a>, &str)],
+    count: usize,
+) -> Result<Vec<Deed<'a>>, Fail> {
+    let mut deeds = Vec::new(alloc);
+    for (deed, _) in row.iter().take(count) {
+        deeds.push(*deed)?;
+    }
+    Ok(deeds)
+}
+
+// Runs the first steps of the row.
+fn run_front(
+    alloc: Global,
+    row: &[(Deed<'_>, &str)],
+    count: usize,
+    fault: (u64, ErrorKind),
+) -> Result<RelayRun, Fail> {
+    let deeds = deeds_of(alloc, row, count)?;
+    run_relayed(alloc, FOUR, deeds.as_slice(), fault)
+}
+
+// How many steps it takes until the writer has failed, if it does.
+fn steps_to_fault(
+    alloc: Global,
+    row: &[(Deed<'_>, &str)],
+    fault: (u64, ErrorKind),
+) -> Result<Option<usize>, Fail> {
+    for count in 0..=row.len() {
+        let front = run_front(alloc, row, count, fault)?;
+        if front.failures > 0 {
+            return Ok(Some(count));
+        }
+    }
+    Ok(None)
+}
+
+// Whether the step reports a fault of this kind.
+fn reports(deed: Deed<'_>, kind: ErrorKind) -> bool {
+    match deed {
+        Write(..) | Flush(_) => true,
+        Text(..) => kind == ErrorKind::Other,
+        _ => false,
+    }
+}
+
+// The replies to the row where the fault is met in the last of so many steps.
+fn replies_to(
+    alloc: Global,
+    row: &[(Deed<'_>, &str)],
+    count: usize,
+    kind: ErrorKind,
+) -> Result<String, Fail> {
+    let mut replies = String::new(alloc);
+    for (at, (deed, reply)) in row.iter().enumerate() {
+        if at > 0 {
+            replies.push_str("; ")?;
+        }
+        if at + 1 == count && reports(*deed, kind) {
+            let fault = format!(in alloc; "fault {kind:?}")?;
+            replies.push_str(fault.as_str())?;
+        } else {
+            replies.push_str(reply)?;
+        }
+    }
+    Ok(replies)
+}
+
+// Where this call of the writer fails, in the last of so many steps, what was taken then is all, and a front of the whole.
+fn assert_fault(
+    rt: &impl Abort,
+    alloc: Global,
+    row: &[(Deed<'_>, &str)],
+    (count, fault): (usize, (u64, ErrorKind)),
+    whole: &[u8],
+) -> Result<(), Fail> {
+    let wanted = replies_to(alloc, row, count, fault.1)?;
+    let front = run_front(alloc, row, count, fault)?;
+    let all = run_front(alloc, row, row.len(), fault)?;
+    assert_same(rt, all.replies.as_str(), wanted.as_str());
+    assert_same(rt, all.failures, 1);
+    let taken = all.relay.taken.as_slice();
+    assert_same(rt, taken, front.relay.taken.as_slice());
+    assert_holds(
+        rt,
+        "a front of the whole is taken",
+        whole.starts_with(taken),
+    );
+    Ok(())
+}
+
+// Lets each call of the writer fail by this kind, and says in which steps of the row.
+fn faults_of(
+    rt: &impl Abort,
+    alloc: Global,
+    row: &[(Deed<'_>, &str)],
+    kind: ErrorKind,
+    whole: &[u8],
+) -> Result<Vec<usize>, Fail> {
+    let mut places = Vec::new(alloc);
+    for call in 1..100 {
+        let fault = (call, kind);
+        let Some(count) = steps_to_fault(alloc, row, fault)? else {
+            break;
+        };
+        assert_fault(rt, alloc, row, (count, fault), whole)?;
+        places.push(count.saturating_sub(1))?;
+    }
+    Ok(places)
+}
+
+#[test]
+fn each_call_of_the_writer_fails(rt: HostRuntime) -> Result<(), Fail> {
+    let alloc = rt.alloc();
+    let long = letters(alloc, 1500)?;
+    let row = row(long.as_str());
+    let whole = joined(alloc, &["a", long.as_str(), ERROR, EMPTY, OK, TEXT, A])?;
+    let whole = whole.as_str().as_bytes();
+    let none = run_front(alloc, &row, row.len(), NEVER)?;
+    assert_same(&rt, none.relay.sent_on(), whole);
+    for kind in [ErrorKind::Other, ErrorKind::BrokenPipe] {
+        let places = faults_of(&rt, alloc, &row, kind, whole)?;
+        for place in MEETING {
+            assert_holds(&rt, "the step meets the fault", places.contains(&place));
+        }
+        assert_holds(
+            &rt,
+            "no other step does",
+            places.iter().all(|place| MEETING.contains(place)),
+        );
+    }
+    Ok(())
+}
+
+// The same steps by the calls that they name.
+#[test]
+fn the_calls_of_a_connection(rt: HostRuntime) -> Result<(), Fail> {
+    let (alloc, now) = (rt.alloc(), date()?);
+    let reader = Canned::new(TWO.to_vec(alloc)?, None);
+    let writer = Budget::new(alloc, AMPLE, ErrorKind::Other);
+    let mut connection = Connection::new(alloc, reader, writer);
+    let replies = [
+        connection.ask(alloc, now),
+        connection.ask(alloc, now),
+        connection.into_writer(1),
+        connection.write(1, b"b"),
+        connection.flush(1),
+        connection.into_writer(0),
+        connection.write(0, b"a"),
+        connection.flush(0),
+        connection.finish(alloc, 0),
+        connection.finish(alloc, 0),
+        connection.write(1, b"b"),
+        connection.finish(alloc, 1),
+    ];
+    let replies = describe(alloc, &replies)?;
+    assert_same(
+        &rt,
+        replies.as_str(),
+        "0: GET / 1.1; 1: GET / 1.1; done; not yet; not yet; done; done; done; done; no such; done; done",
+    );
+    let (_source, outlet) = connection.into_parts();
+    assert_same(&rt, output_of(alloc, outlet)?.as_slice(), b"ab");
+    Ok(())
+}
+
+#[test]
+fn a_request_with_a_raw_writer_waits_for_no_answer(rt: HostRuntime) -> Result<(), Fail> {
+    let (alloc, now) = (rt.alloc(), date()?);
+    let reader = Canned::new(ONE.to_vec(alloc)?, None);
+    let writer = Budget::new(alloc, AMPLE, ErrorKind::Other);
+    let mut connection = Connection::new(alloc, reader, writer);
+    drop(connection.ask(alloc, now));
+    assert_holds(&rt, "it waits for its answer", connection.is_open(0));
+    drop(connection.into_writer(0));
+    assert_holds(&rt, "it waits no more", !connection.is_open(0));
+    drop(connection.finish(alloc, 0));
+    assert_same(
+        &rt,
+        (connection.is_open(0), connection.next_number()),
+        (false, 1),
+    );
+    Ok(())
+}

@@ -1,0 +1,53 @@
+use Rattle.std.proofs.Common.{refl, sym, ap, subst, List, Option}
+use Rattle.std.specs.Prelude.{slice_get}
+use Rattle.tiny_http_turns.specs.Turns.{Mark}
+use Rattle.tiny_http_core.specs.declared.pending.Unfinished.{Unfinished}
+use Rattle.tiny_http_core.specs.declared.pending.Unfinished.TheVariants as still
+use Rattle.tiny_http_core.specs.Steps.{IntoWriter, NoSuch, Done}
+use Rattle.tiny_http_core.specs.Connection.{Kept, kept}
+use Rattle.tiny_http_core.proofs.ConnectionAsk.{StepIsAnswered}
+use Rattle.tiny_http_core.proofs.ConnectionBody.{with_reader}
+use Rattle.tiny_http_stream.proofs.SourceGoesOn.{goes-on_same}
+use Rattle.tiny_http_core.proofs.ConnectionRespond.{no-such}
+use Rattle.tiny_http_core.proofs.ConnectionWriter.{into_writer-not_taken, into_writer-done}
+use Rattle.tiny_http_core.proofs.DrivingLemmas.{viewed, same-view, takes-into_writer, driving-reads-on, gives-up-of}
+use Rattle.tiny_http_message.proofs.BodyReads.{gives-up}
+use Rattle.tiny_http_core.proofs.driver.Connection.into_writer.Goals as goal
+
+pub returns-in_default : goal.returns-in_default
+returns-in_default g c =
+    let n = c.args.number in
+    let q = c.self.inside in
+    let old = viewed q.source q.outlet q.pending q.end in
+    let new = viewed q.source q.outlet c.take.new.self q.end in
+    let k : Kept = kept old in
+    let none = c.in_default.ensures.none in
+    record {
+      step = λ date. rw (← c.self.view_is) (takes-into_writer old new date n NoSuch
+          (λ client before s low st.
+          let P : List Mark → List (Option Unfinished) → Type 0 = λ m r. StepIsAnswered client before (record k { marks = m; requests = r }) s date (IntoWriter n) NoSuch in
+          let done = no-such client before k s date n (IntoWriter n) refl (into_writer-not_taken n) st none.0 in
+          subst (λ m. P m c.take.new.self.requests.items) (ap (λ t. t.marks) (sym c.take.ensures.turns)) (subst (λ r. P k.marks r) (sym none.1) done))
+          (λ no. same-view q.source q.outlet c.take.new.self q.pending q.end (ap (λ t. t.marks) c.take.ensures.turns) none.1) refl (refl, ap (λ t. t.marks) c.take.ensures.turns, λ no. elim no [ ]) (driving-reads-on old new refl (goes-on_same q.source.feed)) (λ kind e. cc));
+    }
+
+pub returns : goal.returns
+returns g c =
+    let n = c.args.number in
+    let q = c.self.inside in
+    let source = c.give_up.new.source in
+    let old = viewed q.source q.outlet q.pending q.end in
+    let new = viewed source q.outlet c.take.new.self q.end in
+    let k : Kept = kept old in
+    let w = c.in-Some.field-0 in
+    let some = c.in-Some.ensures.some in
+    record {
+      step = λ date. rw (← c.self.view_is) (takes-into_writer old new date n Done
+          (λ client before s low st.
+          let P : List Mark → Type 0 = λ m. StepIsAnswered client before (record (with_reader k c.take.new.self.requests.items source) { marks = m }) s date (IntoWriter n) Done in
+          let done = into_writer-done client before k s date n w c.take.new.self.requests.items q.source source st (record { feed = refl; stop = refl; ends = refl; standing = refl }) c.give_up.ensures.gives_up some.0 some.1 in
+          subst P (ap (λ t. t.marks) (sym c.take.ensures.turns)) done)
+          (λ no. elim no [ ]) refl
+          (refl, ap (λ t. t.marks) c.take.ensures.turns, λ done. (some.1, gives-up-of q.source source (slice_get k.requests n) (still.Waiting w) some.0 c.give_up.ensures.gives_up))
+          (driving-reads-on old new refl (gives-up w.body q.source source c.give_up.ensures.gives_up)) (λ kind e. cc));
+    }

@@ -1,0 +1,60 @@
+//! Upgrades of a connection to another protocol (RFC 9110, section 7.8).
+ghost use Rattle.std.specs.Prelude.{◌≡◌, ◌↔◌, true, false, [], OnOk, OnErr, IsTrue, is_ok};
+ghost use Rattle.std.specs.List.{list_all};
+ghost use Rattle.tiny_http_wire.specs.Bytes.{is_ascii};
+ghost use Rattle.tiny_http_wire.specs.Device.{Feed};
+ghost use Rattle.tiny_http_sending.specs.ResponseValue.{printing_in, upgrade_text};
+ghost use Rattle.tiny_http_sending.specs.Sending.{CanSend, IsFlushed, SendsUnlessEnded, FailsOnceUnlessEnded};
+ghost use Rattle.tiny_http_stream.specs.Outlet.{output_of, outlet_ended, outlet_held, SentOn};
+
+use httpdate::HttpDate;
+use std::alloc::Global;
+use thiserror::Error;
+use tiny_http_sending::sending::send_upgrade;
+use tiny_http_stream::outlet::Outlet;
+use tiny_http_text::bytes::are_ascii;
+use tiny_http_wire::answer_context::AnswerContext;
+use tiny_http_wire::device::WriteDevice;
+use tiny_http_wire::response::Response;
+
+/// Why a connection wasn't upgraded.
+#[derive(Clone, Copy, Debug, PartialEq, Eq, Error)]
+pub enum UpgradeError {
+    /// The name of the protocol isn't ASCII.
+    #[error("the protocol's name is not ASCII")]
+    Protocol,
+}
+
+/// Sends the answer that upgrades a connection to this protocol, and flushes it: its head alone, with `Connection: upgrade`
+/// and `Upgrade: PROTOCOL` in front of the other headers (as tiny_http). Its data are let go unread. An error, and nothing is
+/// sent, where the protocol isn't ASCII. No reply reports a fault of the writer; an outlet that has ended sends nothing. The
+/// call takes no memory.
+pub fn send_upgrade_quietly<W: WriteDevice, D: Drop>(
+    alloc: Global,
+    outlet: &mut Outlet<W>,
+    response: Response<D>,
+    context: AnswerContext,
+    protocol: &str,
+    now: HttpDate,
+) -> Result<(), UpgradeError>
+    ensures ascii { is_ok result ≡ list_all is_ascii protocol.now }
+    ensures refused { OnErr result (outlet.new ≡ outlet.old) }
+    // Whatever the data are.
+    ensures sends { OnOk result ((content : Feed) → (outlet_ended outlet.old ≡ false → CanSend (output_of outlet.old))
+        → SendsUnlessEnded (outlet_ended outlet.old) (output_of outlet.old) (output_of outlet.new) (outlet_ended outlet.new)
+        (upgrade_text (record { answer = response.answer; content = content }) protocol.now (printing_in context now))) }
+    ensures fails_once { FailsOnceUnlessEnded (outlet_ended outlet.old) (output_of outlet.old) (output_of outlet.new) (outlet_ended outlet.new) }
+    ensures flushed { OnOk result (outlet_held outlet.new ≡ []) }
+    ensures sent_on { OnOk result (SentOn outlet.new) }
+    ensures is_flushed { OnOk result (IsFlushed (output_of outlet.new)) }
+{
+    if !are_ascii(protocol.as_bytes()) {
+        return Err(UpgradeError::Protocol);
+    }
+    if outlet.is_ended() {
+        outlet.facts();
+        return Ok(());
+    }
+    let _ = send_upgrade(alloc, outlet, response, context, protocol, now);
+    Ok(())
+}
