@@ -47,6 +47,7 @@ mod source;
 mod turns;
 #[cfg(test)]
 mod upgraded;
+#[cfg(test)]
 mod upgrades;
 #[cfg(test)]
 mod versions;
@@ -54,4 +55,5 @@ mod versions;
 mod withheld;
 #[cfg(test)]
 mod writer_faults;
+#[cfg(test)]
 mod writers;
