@@ -1,12 +1,13 @@
 //! Versions above 1.1, which are refused.
-use crate::exchanges::{date, source_of};
+use crate::exchanges::{date, request, source_of};
 use crate::runs::Deed::{Ask, Drop, IntoWriter, Text};
-use crate::runs::{Case, EMPTY, SIZES, TEXT, assert_case, joined};
-use crate::same::assert_same;
+use crate::runs::{Case, EMPTY, Pieces, SIZES, TEXT, assert_case, joined};
+use crate::same::{assert_holds, assert_same};
 use std::alloc::Global;
 use std::process::Abort;
 use std::test::Fail;
 use tiny_http_core::exchange::{HeadRead, read_head};
+use tiny_http_core::source::Source;
 
 const TOO_NEW: &str = "HTTP/1.1 505 HTTP Version Not Supported\r\n";
 
@@ -134,5 +135,93 @@ fn the_505_waits_for_its_turn(rt: HostRuntime) -> Result<(), Fail> {
         };
         assert_case(&rt, rt.alloc(), &case)?;
     }
+    Ok(())
+}
+
+// Refuses the next head, and says whether no head follows.
+fn is_last(alloc: Global, source: &mut Source<Pieces>) -> Result<bool, Fail> {
+    match read_head(alloc, source, date()?)? {
+        HeadRead::Refused { last, .. } => Ok(last),
+        _ => Err("not refused".into()),
+    }
+}
+
+// Whether the requests have ended.
+fn is_ended(alloc: Global, source: &mut Source<Pieces>) -> Result<bool, Fail> {
+    let read = read_head(alloc, source, date()?)?;
+    Ok(matches!(read, HeadRead::Ended(_)))
+}
+
+// So many bytes stand behind this head, and then a request.
+fn client_of(alloc: Global, head: &str, count: usize) -> Result<Vec<u8>, Fail> {
+    let mut client = head.as_bytes().to_vec(alloc)?;
+    for _ in 0..count {
+        client.push(b'x')?;
+    }
+    client.extend_from_slice(b"GET /b HTTP/1.1\r\n\r\n")?;
+    Ok(client)
+}
+
+// The next head stands behind a body of so many bytes.
+fn assert_goes_on(
+    rt: &impl Abort,
+    alloc: Global,
+    head: &str,
+    count: usize,
+    most: usize,
+) -> Result<(), Fail> {
+    let client = client_of(alloc, head, count)?;
+    let mut source = source_of(alloc, client.as_slice(), None, most)?;
+    assert_holds(rt, "a head follows", !is_last(alloc, &mut source)?);
+    let _behind = request(rt, alloc, &mut source, "/b")?;
+    assert_holds(rt, "no head follows", is_ended(alloc, &mut source)?);
+    Ok(())
+}
+
+const GOES_ON: &[(&str, usize)] = &[
+    ("GET / HTTP/2.0\r\n\r\n", 0),
+    ("HEAD / HTTP/3.0\r\nConnection: close\r\n\r\n", 0),
+    ("POST / HTTP/2.0\r\nContent-Length: 1024\r\n\r\n", 1024),
+    (
+        "POST / HTTP/2.0\r\nConnection: close\r\nContent-Length: 2000\r\n\r\n",
+        2000,
+    ),
+    (
+        "POST / HTTP/2.0\r\nExpect: 100-continue\r\nContent-Length: 5\r\n\r\n",
+        5,
+    ),
+];
+
+#[test]
+fn the_next_head_stands_behind_the_body(rt: HostRuntime) -> Result<(), Fail> {
+    for (head, count) in GOES_ON {
+        for most in SIZES {
+            assert_goes_on(&rt, rt.alloc(), head, *count, most)?;
+        }
+    }
+    Ok(())
+}
+
+#[test]
+fn no_head_stands_behind_an_upgrade_or_chunks(rt: HostRuntime) -> Result<(), Fail> {
+    let alloc = rt.alloc();
+    for client in [
+        b"GET / HTTP/2.0\r\nConnection: upgrade\r\n\r\nGET /b HTTP/1.1\r\n\r\n".as_slice(),
+        b"POST / HTTP/2.0\r\nTransfer-Encoding: chunked\r\n\r\n0\r\n\r\nGET /b HTTP/1.1\r\n\r\n".as_slice(),
+    ] {
+        let mut source = source_of(alloc, client, None, 1024)?;
+        assert_holds(&rt, "it is the last", is_last(alloc, &mut source)?);
+        assert_holds(&rt, "no head follows", is_ended(alloc, &mut source)?);
+    }
+    Ok(())
+}
+
+#[test]
+fn the_body_of_a_refused_head_is_cut(rt: HostRuntime) -> Result<(), Fail> {
+    let alloc = rt.alloc();
+    let client = b"POST / HTTP/2.0\r\nContent-Length: 2000\r\n\r\nxy".as_slice();
+    let mut source = source_of(alloc, client, None, 1024)?;
+    assert_holds(&rt, "a head may follow", !is_last(alloc, &mut source)?);
+    assert_holds(&rt, "no head follows", is_ended(alloc, &mut source)?);
     Ok(())
 }

@@ -198,19 +198,22 @@ goes-on_stopped None = tt
 goes-on_stopped (Some f) = record { gone = f.bytes; joins = sym (append-nil f.bytes) }
 
 -- a body that was given up
+goes-on_skipped : (left : ℕ) (o : Option Feed) → GoesOn o (option_map (skipped left) o)
+goes-on_skipped left None = tt
+goes-on_skipped left (Some f) = at (cases_lt (length f.bytes) left)
+  where
+    at : (length f.bytes < left) ⊎ (left ≤ length f.bytes) → IsRestOf f (skipped left f)
+    at (inl past) = let P : Feed → Type 0 = λ x. IsRestOf f x in subst P (sym (skipped-beyond left f past)) (record { gone = f.bytes; joins = sym (append-nil f.bytes) })
+    at (inr within) = let P : Feed → Type 0 = λ x. IsRestOf f x in subst P (sym (skipped-within left f within)) (record { gone = take left f.bytes; joins = sym (take-append-drop left f.bytes) })
+
+pub goes-on_skips : (o n : Option Feed) (left : ℕ) → n ≡ option_map (skipped left) o → GoesOn o n
+goes-on_skips o n left h = let P : Option Feed → Type 0 = λ x. GoesOn o x in subst P (sym h) (goes-on_skipped left o)
+
 pub gives-up : {R : Type 0} (b : Body) (old new : SourceState R) → GivesUp b old new → GoesOn old.feed new.feed
 gives-up (Over stop) old new h = goes-on_equal old new h
 gives-up (WithHead bytes) old new h = goes-on_equal old new h
 gives-up Rest old new h = goes-on_equal old new h
-gives-up (Counted left) old new h = let P : Option Feed → Type 0 = λ x. GoesOn old.feed x in subst P (sym h.0) (skips old.feed)
-  where
-    skips : (o : Option Feed) → GoesOn o (option_map (skipped left) o)
-    skips None = tt
-    skips (Some f) = at (cases_lt (length f.bytes) left)
-      where
-        at : (length f.bytes < left) ⊎ (left ≤ length f.bytes) → IsRestOf f (skipped left f)
-        at (inl past) = let P : Feed → Type 0 = λ x. IsRestOf f x in subst P (sym (skipped-beyond left f past)) (record { gone = f.bytes; joins = sym (append-nil f.bytes) })
-        at (inr within) = let P : Feed → Type 0 = λ x. IsRestOf f x in subst P (sym (skipped-within left f within)) (record { gone = take left f.bytes; joins = sym (take-append-drop left f.bytes) })
+gives-up (Counted left) old new h = goes-on_skips old.feed new.feed left h.0
 gives-up (Chunked d) old new h = let P : Option Feed → Type 0 = λ x. GoesOn old.feed x in subst P (sym h.0) (goes-on_stopped old.feed)
 
 -- reads after each other, the first of which may be none

@@ -34,11 +34,11 @@ use Rattle.tiny_http_message.specs.declared.body.Body.{Body}
 use Rattle.tiny_http_message.specs.declared.body.Body.TheVariants as body
 use Rattle.tiny_http_message.specs.Framing.{framing}
 use Rattle.tiny_http_stream.specs.FeedParts.{feed_front}
-use Rattle.tiny_http_stream.specs.ToCome.{skipped}
-use Rattle.tiny_http_message.specs.Body.{Remaining, remaining, counted_remaining, coming_remaining, Fits, IsBodyOver, ReadsOn}
+use Rattle.tiny_http_stream.specs.ToCome.{skipped, stopped}
+use Rattle.tiny_http_message.specs.Body.{Remaining, remaining, taken_remaining, counted_remaining, coming_remaining, PassesOver, Fits, IsBodyOver, ReadsOn}
 use Rattle.tiny_http_message.specs.Exchange.{KeepsHead}
 use Rattle.tiny_http_stream.specs.Source.{TakesExactly, feed_from}
-use Rattle.tiny_http_message.specs.Pipeline.{Asks, Refuses, Refusal, BadRequest, RequestTimeout, ExpectationFailed, VersionNotSupported, refusal_status, is_head_method, Place, Ends, Heads, HeadAt, IsCutWithHead, cut_item, is_timed_out, body_length_or_0, BodyAt, OneHead, item_of, next_place, place_after}
+use Rattle.tiny_http_message.specs.Pipeline.{Asks, Refuses, Refusal, BadRequest, RequestTimeout, ExpectationFailed, VersionNotSupported, refusal_status, is_head_method, ends_too_new, Place, Ends, Heads, HeadAt, IsCutWithHead, cut_item, is_timed_out, body_length_or_0, BodyAt, OneHead, item_of, next_place, place_after}
 use Rattle.tiny_http_message.specs.HeadReads.{ReadsMessage, ReadsHead, RefusesWith, AnswersCut, AnswersFault, RefusesTooNew, IsCutHead, IsBadLine, IsRefusedUncut, IsOkEnd, HasByteOrTimedOut, Begins, ComesWith, IsCutOff, IsBeforeHead, cut_end, end_at, place_feed, message_of, head_message, head_framing}
 use Rattle.tiny_http_message.specs.declared.exchange.EndOfRequests.{EndOfRequests}
 use Rattle.tiny_http_stream.specs.declared.source.Standing.{Standing}
@@ -47,7 +47,7 @@ use Rattle.tiny_http_stream.specs.Source.{SourceState}
 use Rattle.tiny_http_stream.specs.ToCome.{HasByte, HasNoByte}
 use Rattle.tiny_http_wire.specs.Device.{StopsBy}
 use Rattle.tiny_http_wire.specs.Bytes.{crlf}
-use Rattle.std.specs.Prelude.{IfSome, IfOk, IsSome, IsErr, ◌≢◌}
+use Rattle.std.specs.Prelude.{IfSome, IfOk, OnOk, IsSome, IsErr, ◌≢◌}
 use Rattle.tiny_http_stream.proofs.ToComeLemmas.{skipped-within, skipped-beyond}
 use Rattle.tiny_http_sending.specs.ResponseValue.{response_of}
 use Rattle.tiny_http_message.specs.OwnAnswer.{refusal_response, refused_text}
@@ -57,8 +57,9 @@ use Rattle.tiny_http_message.proofs.PipelineLemmas.{pipeline-sized-is}
 refused-at : (date : HttpDate) (f : Feed) (p : Option Feed) (refusal : Refusal) (v : HTTPVersion) (r : Result HeadRead AllocError) → refusal_response refusal ≡ response_of (refusal_status refusal) [] []
     → HeadAt f.bytes f.stop (Ends (Some (Refuses refusal v false true))) → RefusesWith (refusal_status refusal) v date r → ReadsHead at.Head date (Some f) p r
 refused-at date f p refusal v (Err x) s h k = tt
-refused-at date f p refusal v (Ok (read.Refused status text last)) s h k =
-    (refusal, v, false, (Ends (Some (Refuses refusal v false true)), h, (refl, refl)), k.1 ∙ sym (ap (λ x. refused_text x v false date) s), k.2, k.0)
+refused-at date f p refusal v (Ok (read.Refused status text true)) s h k =
+    (refusal, v, false, None, (Ends (Some (Refuses refusal v false true)), h, (refl, refl)), k.1 ∙ sym (ap (λ x. refused_text x v false date) s), k.0, refl)
+refused-at date f p refusal v (Ok (read.Refused status text false)) s h k = let no : false ≡ true = k.2 in cc
 refused-at date f p refusal v (Ok (read.Ended why)) s h k = absurd k
 refused-at date f p refusal v (Ok (read.Request x)) s h k = absurd k
 
@@ -98,22 +99,53 @@ pub head-unframed : (date : HttpDate) (o p : Option Feed) (m : Message) (r : Res
 head-unframed date None p m r h e k = tt
 head-unframed date (Some f) p m r h e k = refused-at date f p ExpectationFailed m.version r refl (inr (inl (message_of m, h.0, h.1, e, refl))) k
 
--- a version that is too new
-too-new-at : (date : HttpDate) (x : Feed) (q : Option Feed) (m : Texted) (f : Framing) (after : List ℕ) (content : Feed) (next : Place) (r : Result HeadRead AllocError) → HeadAt x.bytes x.stop (Heads m f after)
-    → BodyAt f.form (body_length_or_0 f) after x.stop content next → is_too_new m.version ≡ true → RefusesTooNew (is_head_method m.method) date r → ReadsHead at.Head date (Some x) q r
-too-new-at date x q m f after content next (Err e) h body new k = tt
-too-new-at date x q m f after content next (Ok (read.Ended why)) h body new k = absurd k
-too-new-at date x q m f after content next (Ok (read.Request y)) h body new k = absurd k
-too-new-at date x q m f after content next (Ok (read.Refused status text last)) h body new k =
-    (VersionNotSupported, version 1 1, is_head_method m.method, (Heads m f after, h, (content, next, body, rw new refl, rw new refl)), k.1, k.2, k.0)
+-- a body that is passed over: the next head stands behind it
+same-remaining : (x y : Remaining) → Some x ≡ Some y → x ≡ y
+same-remaining x y e = cc
 
-pub head-too_new : (date : HttpDate) (o p q : Option Feed) (m : Message) (f : Framing) (b : Body) (r : Result HeadRead AllocError) → ReadsMessage o p (Ok m) → framing m.version m.headers.items ≡ Some f → Begins f p q (Some b) → is_too_new m.version ≡ true
-    → RefusesTooNew (is_head_method m.method) date r → ReadsHead at.Head date o q r
-head-too_new date None p q m f y r h e begins new k = tt
-head-too_new date (Some x) p q m f y r h e begins new k =
-    let B : Option Feed → Type 0 = λ z. Begins f z q (Some y) in
+behind-of : (content : Feed) (o n : Option Feed) (r : Remaining) → option_map (taken_remaining content) o ≡ Some r → n ≡ o → n ≡ Some r.behind
+behind-of content None n r left e = let no : ◌≡◌ {A = Option Remaining} None (Some r) = left in cc
+behind-of content (Some f) n r left e = e ∙ ap (λ (x : Remaining). Some x.behind) (same-remaining (taken_remaining content f) r left)
+
+skipped-of : (k : ℕ) (o : Option Feed) (r : Remaining) → option_map (counted_remaining k) o ≡ Some r → option_map (skipped k) o ≡ Some r.behind
+skipped-of k None r left = let no : ◌≡◌ {A = Option Remaining} None (Some r) = left in cc
+skipped-of k (Some f) r left = ap (λ (x : Remaining). Some x.behind) (same-remaining (counted_remaining k f) r left)
+
+passed-over : {R : Type 0} (old new : SourceState R) (b : Body) (form : Form) (n : ℕ) (r : Remaining) → Fits b form n 0 false → ends_too_new form ≡ false → remaining b old.feed ≡ Some r → PassesOver b old new → new.feed ≡ Some r.behind
+passed-over {R = R} old new (body.Over stop) form n r fits goes left h = behind-of (stopped stop) old.feed new.feed r left (ap (λ (s : SourceState R). s.feed) h)
+passed-over {R = R} old new (body.WithHead bytes) form n r fits goes left h = behind-of (whole_feed (cursor_bytes bytes)) old.feed new.feed r left (ap (λ (s : SourceState R). s.feed) h)
+passed-over old new (body.Counted k) form n r fits goes left h = h.0 ∙ skipped-of k old.feed r left
+passed-over old new (body.Chunked d) form n r fits goes left h = let no : true ≡ false = sym (ap ends_too_new fits.0) ∙ goes in cc
+passed-over old new body.Rest form n r fits goes left h = let no : true ≡ false = sym (ap ends_too_new fits.0) ∙ goes in cc
+
+ok-map : {T E : Type 0} (r : Result T E) (P Q : Type 0) → (P → Q) → OnOk r P → OnOk r Q
+ok-map (Ok x) P Q f h = f h
+ok-map (Err e) P Q f h = tt
+
+-- a version that is too new
+abbrev TooNewAt : HttpDate → Feed → Option Feed → Texted → Framing → List ℕ → Feed → Place → Result HeadRead AllocError → Type 0
+TooNewAt date x q m f after content next r =
+    HeadAt x.bytes x.stop (Heads m f after) → BodyAt f.form (body_length_or_0 f) after x.stop content next → is_too_new m.version ≡ true → RefusesTooNew (ends_too_new f.form) (is_head_method m.method) date r
+    → OnOk r (ends_too_new f.form ≡ false → q ≡ Some (place_feed x.stop next)) → ReadsHead at.Head date (Some x) q r
+
+too-new-at : (date : HttpDate) (x : Feed) (q : Option Feed) (m : Texted) (f : Framing) (after : List ℕ) (content : Feed) (next : Place) (r : Result HeadRead AllocError) → TooNewAt date x q m f after content next r
+too-new-at date x q m f after content next (Err e) h body new k goes = tt
+too-new-at date x q m f after content next (Ok (read.Ended why)) h body new k goes = absurd k
+too-new-at date x q m f after content next (Ok (read.Request y)) h body new k goes = absurd k
+too-new-at date x q m f after content next (Ok (read.Refused status text true)) h body new k goes =
+    (VersionNotSupported, version 1 1, is_head_method m.method, None, (Heads m f after, h, (content, next, body, rw (new, ← k.2) refl, rw (new, ← k.2) refl)), k.1, k.0, refl)
+too-new-at date x q m f after content next (Ok (read.Refused status text false)) h body new k goes =
+    (VersionNotSupported, version 1 1, is_head_method m.method, next, (Heads m f after, h, (content, next, body, rw (new, ← k.2) refl, rw (new, ← k.2) refl)), k.1, k.0, goes (sym k.2))
+
+pub head-too_new : {R : Type 0} (date : HttpDate) (o p : Option Feed) (old new : SourceState R) (m : Message) (f : Framing) (b : Body) (r : Result HeadRead AllocError) → ReadsMessage o p (Ok m) → framing m.version m.headers.items ≡ Some f
+    → Begins f p old.feed (Some b) → is_too_new m.version ≡ true → RefusesTooNew (ends_too_new f.form) (is_head_method m.method) date r → OnOk r (ends_too_new f.form ≡ false → PassesOver b old new) → ReadsHead at.Head date o new.feed r
+head-too_new date None p old new m f y r h e begins is k goes = tt
+head-too_new date (Some x) p old new m f y r h e begins is k goes =
+    let B : Option Feed → Type 0 = λ z. Begins f z old.feed (Some y) in
     let started = subst B h.2 begins in
-    too-new-at date x q (message_of m) f h.0 started.1 started.2 r (h.1, e, started.0) started.3 new k
+    let left : Remaining = record { body = started.1; behind = place_feed x.stop started.2 } in
+    too-new-at date x new.feed (message_of m) f h.0 started.1 started.2 r (h.1, e, started.0) started.3 is k
+    (ok-map r (ends_too_new f.form ≡ false → PassesOver y old new) (ends_too_new f.form ≡ false → new.feed ≡ Some (place_feed x.stop started.2)) (λ g ends. passed-over old new y f.form (body_length_or_0 f) left started.5 ends started.4 (g ends)) goes)
 
 -- the body that begins in front of some bytes
 abbrev pub BeginsAt : Form → ℕ → Feed → Option Feed → Body → Type 0
@@ -321,7 +353,7 @@ has-begun o h = inl h
 
 -- a head that is refused by another status than 408 was faulty in a line that was read
 refused-by : (status : ℕ) (v : HTTPVersion) (date : HttpDate) (x : HeadRead) → RefusesWith status v date (Ok x) → IsRefusedUncut x → status ≢ 408
-refused-by status v date (read.Refused code text last) k h e = h (k.0 ∙ e)
+refused-by status v date (read.Refused code text last) k h e = h.0 (k.0 ∙ e)
 refused-by status v date (read.Ended why) k h e = absurd k
 refused-by status v date (read.Request x) k h e = absurd k
 
@@ -336,9 +368,12 @@ cut-unrefused (Some s) begun date x some k h = by (is_timed_out s) k
         let e : x ≡ read.Ended (cut_end s begun) = cc in
         elim (subst P e h) [ ]
 
-pub passed-on : (T : Type 0) (r : Result HeadRead AllocError) → T → IfOk r (λ x. IsRefusedUncut x → T)
-passed-on T (Ok x) t = λ h. t
-passed-on T (Err e) t = tt
+-- a head that is refused for its version, after which none follows: its body isn't passed over
+pub passed-on : (T : Type 0) (ends no_body : Bool) (date : HttpDate) (r : Result HeadRead AllocError) → RefusesTooNew ends no_body date r → (ends ≡ true → T) → IfOk r (λ x. IsRefusedUncut x → T)
+passed-on T ends no_body date (Ok (read.Refused status text last)) k t = λ h. t (sym k.2 ∙ h.1)
+passed-on T ends no_body date (Ok (read.Ended why)) k t = absurd k
+passed-on T ends no_body date (Ok (read.Request x)) k t = absurd k
+passed-on T ends no_body date (Err e) k t = tt
 
 pub cut-passed : (T : Type 0) (stop : Option Stop) (begun : Bool) (date : HttpDate) (r : Result HeadRead AllocError) → IsSome stop → IfSome stop (λ s. AnswersCut s begun date r) → IfOk r (λ x. IsRefusedUncut x → T)
 cut-passed T stop begun date (Ok x) some k = λ h. absurd (cut-unrefused stop begun date x some k h)

@@ -138,6 +138,15 @@ body_standing (Counted n) standing = standing
 body_standing (Chunked decoding) standing = standing
 body_standing Rest standing = standing
 
+-- A body of which nothing was read is passed over: the bytes of a counted one are skipped before the next head. Else nothing
+-- changes: they were read with the head, or there are none.
+abbrev pub PassesOver : {R : Type 0} → Body → SourceState R → SourceState R → Type 0
+PassesOver (Counted left) old new = (new.feed ≡ option_map (skipped left) old.feed) × (new.standing ≡ old.standing) × (old.skip + left < 2 ^ 64 → (new.reader ≡ old.reader) × (new.stop ≡ old.stop))
+PassesOver (Over stop) old new = new ≡ old
+PassesOver (WithHead bytes) old new = new ≡ old
+PassesOver (Chunked decoding) old new = new ≡ old
+PassesOver Rest old new = new ≡ old
+
 -- A body is given up: the rest of a counted one is skipped, and the reader isn't called for it; after a chunked one no head
 -- follows; else nothing changes, and the rest of the input is left to the source.
 abbrev pub GivesUp : {R : Type 0} → Body → SourceState R → SourceState R → Type 0

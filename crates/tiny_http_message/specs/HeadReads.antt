@@ -157,12 +157,12 @@ RefusesWith status v date (Ok (read.Refused code text last)) = (code.0 ≡ statu
 RefusesWith status v date (Ok _) = ⊥
 RefusesWith status v date (Err e) = ⊤
 
--- A head is refused for its version, under version 1.1: the text of its answer, after which no head follows. Or memory for
--- that was refused.
-abbrev pub RefusesTooNew : Bool → HttpDate → Result HeadRead AllocError → Type 0
-RefusesTooNew no_body date (Ok (read.Refused code text last)) = (code.0 ≡ 505) × (text.items ≡ refused_text (refusal_response VersionNotSupported) (version 1 1) no_body date) × (last ≡ true)
-RefusesTooNew no_body date (Ok _) = ⊥
-RefusesTooNew no_body date (Err e) = ⊤
+-- A head is refused for its version, under version 1.1: the text of its answer, after which no head follows, or one does. Or
+-- memory for that was refused.
+abbrev pub RefusesTooNew : Bool → Bool → HttpDate → Result HeadRead AllocError → Type 0
+RefusesTooNew ends no_body date (Ok (read.Refused code text last)) = (code.0 ≡ 505) × (text.items ≡ refused_text (refusal_response VersionNotSupported) (version 1 1) no_body date) × (last ≡ ends)
+RefusesTooNew ends no_body date (Ok _) = ⊥
+RefusesTooNew ends no_body date (Err e) = ⊤
 
 -- What a head is answered that is cut by this stop: 408 at a time-out, else nothing, for this reason.
 abbrev pub AnswersCut : Stop → Bool → HttpDate → Result HeadRead AllocError → Type 0
@@ -202,6 +202,11 @@ TimesOut (Some f) = is_timed_out f.stop ≡ true
 abbrev pub HasByteOrTimedOut : Option Feed → Type 0
 HasByteOrTimedOut o = HasByte o ⊎ TimesOut o
 
+-- After a refused head that is the last no head follows; after another the input stands at the place of the next one.
+abbrev pub GoesOnAt : Bool → Stop → Place → Option Feed → Type 0
+GoesOnAt true stop next new = next ≡ None
+GoesOnAt false stop next new = new ≡ Some (place_feed stop next)
+
 -- ONE HEAD, read at a place: the item that stands there, what is still to come of its body, and where the next head begins
 -- after that, unless the request is the last; or why no request comes.
 abbrev pub ReadsHead : Standing → HttpDate → Option Feed → Option Feed → Result HeadRead AllocError → Type 0
@@ -210,8 +215,8 @@ ReadsHead from_here date (Some f) new (Ok (read.Request x)) =
     (body : Feed) × (next : Place) × OneHead f.bytes f.stop (Some (Asks (request_of (exchange_head x) body))) (place_after (exchange_head x).is_last next)
     × ComesWith (exchange_left x new) f.stop body next × KeepsRequest x date
 ReadsHead from_here date (Some f) new (Ok (read.Refused status text last)) =
-    (refusal : Refusal) × (v : HTTPVersion) × (no_body : Bool) × OneHead f.bytes f.stop (Some (Refuses refusal v no_body true)) None
-    × (text.items ≡ refused_text (refusal_response refusal) v no_body date) × (last ≡ true) × (status.0 ≡ refusal_status refusal)
+    (refusal : Refusal) × (v : HTTPVersion) × (no_body : Bool) × (next : Place) × OneHead f.bytes f.stop (Some (Refuses refusal v no_body last)) next
+    × (text.items ≡ refused_text (refusal_response refusal) v no_body date) × (status.0 ≡ refusal_status refusal) × GoesOnAt last f.stop next new
 ReadsHead from_here date (Some f) new (Ok (read.Ended why)) = OneHead f.bytes f.stop None None × EndsAt from_here f.bytes f.stop why
 ReadsHead from_here date (Some f) new (Err e) = ⊤
 
@@ -239,9 +244,9 @@ abbrev pub IsRequest : HeadRead → Type 0
 IsRequest (read.Request x) = ⊤
 IsRequest _ = ⊥
 
--- a head was refused, and isn't cut: not by a 408
+-- a head was refused, isn't cut (not by a 408), and no head follows
 abbrev pub IsRefusedUncut : HeadRead → Type 0
-IsRefusedUncut (read.Refused status text last) = status.0 ≢ 408
+IsRefusedUncut (read.Refused status text last) = (status.0 ≢ 408) × (last ≡ true)
 IsRefusedUncut _ = ⊥
 
 -- where a source stands after the head of this request
@@ -251,4 +256,5 @@ standing_of x = if (exchange_head x).is_last then at.Last else if exchange_strea
 -- and after a head was read, or none
 abbrev pub standing_read : Result HeadRead AllocError → Standing → Standing
 standing_read (Ok (read.Request x)) old = standing_of x
+standing_read (Ok (read.Refused status text false)) old = at.Head
 standing_read _ old = old

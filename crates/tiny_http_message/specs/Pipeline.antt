@@ -109,9 +109,11 @@ abbrev pub place_after : Bool → Place → Place
 place_after true next = None
 place_after false next = next
 
--- A version above 1.1 is refused. THE INTERIM GUARD: so far the connection ends there, whatever body stands after the head.
+-- a version above 1.1 is refused, and the next head stands behind the body, where that is neither chunked nor all the rest
 abbrev pub ends_too_new : Form → Bool
-ends_too_new form = true
+ends_too_new Rest = true
+ends_too_new Chunked = true
+ends_too_new _ = false
 
 abbrev pub item_of : Message → Framing → Feed → Item
 item_of m f body =

@@ -6,8 +6,8 @@ ghost use Rattle.tiny_http_wire.specs.Bytes.{is_ascii};
 ghost use Rattle.tiny_http_sending.specs.ResponseValue.{upgrade_text};
 ghost use Rattle.tiny_http_wire.specs.Device.{AnswersStop};
 ghost use Rattle.tiny_http_stream.specs.Source.{GoesOn, IsAtEnd};
-ghost use Rattle.tiny_http_message.specs.Pipeline.{is_head_method, is_timed_out};
-ghost use Rattle.tiny_http_message.specs.Body.{prepended_body, BodyStops};
+ghost use Rattle.tiny_http_message.specs.Pipeline.{is_head_method, is_timed_out, ends_too_new};
+ghost use Rattle.tiny_http_message.specs.Body.{prepended_body, BodyStops, PassesOver};
 ghost use Rattle.tiny_http_message.specs.HeadReads.{ReadsHead, EndsUnlessHanded, RefusesWith, RefusesTooNew, AnswersCut, AnswersFault, HasByteOrTimedOut, Begins, IsCutOff, IsRequest, IsRefusedUncut, IsOkEnd, IsBeforeHead, cut_end, end_at, standing_of, standing_read, message_of, head_message, head_framing};
 ghost use Rattle.tiny_http_message.specs.Exchange.{KeepsHead};
 ghost use Rattle.tiny_http_wire.specs.Device.{Feed};
@@ -320,16 +320,51 @@ fn refused_with(
     })
 }
 
-// Refuses a head for its version: no head follows.
-fn refuse_too_new(alloc: Global, no_body: bool, now: HttpDate) -> Result<HeadRead, AllocError>
-    ensures { RefusesTooNew no_body now result }
+// Whether no head follows after a version above 1.1: an upgrade is named, or the body is chunked.
+fn ends_too_new(form: Form) -> bool
+    ensures { result ≡ ends_too_new form }
+{
+    matches!(form, Form::Rest | Form::Chunked)
+}
+
+// Passes over a body of which nothing was read. It doesn't call the reader, unless 2^64 bytes and more are to be skipped.
+fn pass_over<R: ReadDevice>(source: &mut Source<R>, body: &Body)
+    ensures passes { PassesOver body.now source.old source.new }
+    ensures goes_on { GoesOn source.old.feed source.new.feed }
+    ensures standing { source.new.standing ≡ source.old.standing }
+{
+    match body {
+        Body::Counted(left) => source.skip(*left),
+        Body::Over(_) => {}
+        Body::WithHead(_) => {}
+        Body::Chunked(_) => {}
+        Body::Rest => {}
+    }
+}
+
+// Refuses a head for its version. Where a head follows its body is passed over.
+fn refuse_too_new<R: ReadDevice>(
+    alloc: Global,
+    source: &mut Source<R>,
+    form: Form,
+    body: &Body,
+    no_body: bool,
+    now: HttpDate,
+) -> Result<HeadRead, AllocError>
+    ensures refuses { RefusesTooNew (ends_too_new form) no_body now result }
+    ensures passes { OnOk result (ends_too_new form ≡ false → PassesOver body.now source.old source.new) }
+    ensures stays { ends_too_new form ≡ true → source.new ≡ source.old }
+    ensures goes_on { GoesOn source.old.feed source.new.feed }
+    ensures standing { source.new.standing ≡ source.old.standing }
 {
     let text = too_new_answer(alloc, no_body, now)?;
-    Ok(HeadRead::Refused {
-        status: StatusCode(505),
-        text,
-        last: true,
-    })
+    let status = StatusCode(505);
+    let last = ends_too_new(form);
+    if last {
+        return Ok(HeadRead::Refused { status, text, last });
+    }
+    pass_over(source, body);
+    Ok(HeadRead::Refused { status, text, last })
 }
 
 // What a head is answered from a source that stopped so before it, or a body that is read with it, had come.
@@ -465,7 +500,8 @@ fn read_item<R: ReadDevice>(
     match begin_body(alloc, source, framing) {
         Ok(Some(body)) => {
             if is_too_new(message.version) {
-                return refuse_too_new(alloc, is_head(&message.method), now);
+                let no_body = is_head(&message.method);
+                return refuse_too_new(alloc, source, framing.form, &body, no_body, now);
             }
             match hand_out(alloc, head_of(message, framing), body, now) {
                 Ok(exchange) => Ok(HeadRead::Request(exchange)),
@@ -505,9 +541,12 @@ fn end_at(standing: Standing, why: EndOfRequests) -> EndOfRequests
 /// read from the source; or a head that is refused; or the end, with its reason. A head is refused by 400 for a bad line, by 408
 /// where the reader timed out, also before its first byte, by 417 for an expectation that can't be met, and by 505 for a version
 /// above 1.1, with a text that says which are served (as tiny_http). The first bad line is judged first, then the expectation,
-/// then a body that is cut, then the version. `now` dates the answer to a refused head, and the 500 of a request that is dropped.
-/// It is an error where memory was refused. After anything but a request the source has ended, but after the last request: then
-/// nothing is read, and its body can be read on.
+/// then a body that is read with its head and cut, then the version. `now` dates the answer to a refused head, and the 500 of a
+/// request that is dropped. It is an error where memory was refused.
+///
+/// After a 505 the next head stands behind the body, which is passed over, unless the head names an upgrade or the body is
+/// chunked. After anything else but a request the source has ended, but after the last request: then nothing is read, and its
+/// body can be read on.
 ///
 /// By `read_head`, `read_body` and `give_up` on one source bytes of a body are never read as a head. Where the body of the
 /// request before was neither read to its end nor given up the answer is `UnreadBody`, and the source ends there.
@@ -548,7 +587,11 @@ pub fn read_head<R: ReadDevice>(
             Ok(HeadRead::Ended(end_at(standing, why)))
         }
         Ok(HeadRead::Refused { status, text, last }) => {
-            source.end();
+            if last {
+                source.end();
+                return Ok(HeadRead::Refused { status, text, last });
+            }
+            source.stand_at(Standing::Head);
             Ok(HeadRead::Refused { status, text, last })
         }
         Err(e) => {

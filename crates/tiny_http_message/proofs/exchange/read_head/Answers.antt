@@ -26,8 +26,8 @@ returns-in-Ok-Ended-clause-reads g c here =
 pub returns-in-Ok-Ended-clause-goes_on : goal.returns-in-Ok-Ended-clause-goes_on
 returns-in-Ok-Ended-clause-goes_on g c = goes-on_more _ _ _ c.read_item.ensures.goes_on (goes-on_end _ _ c.end-in-Ok-Ended.ensures.feed)
 
-pub returns-in-Ok-Refused-clause-goes_on : goal.returns-in-Ok-Refused-clause-goes_on
-returns-in-Ok-Refused-clause-goes_on g c = goes-on_more _ _ _ c.read_item.ensures.goes_on (goes-on_end _ _ c.end-in-Ok-Refused.ensures.feed)
+pub returns-then-last-clause-goes_on : goal.returns-then-last-clause-goes_on
+returns-then-last-clause-goes_on g c = goes-on_more _ _ _ c.read_item.ensures.goes_on (goes-on_end _ _ c.end-then-last.ensures.feed)
 
 pub returns-in-Err-clause-goes_on : goal.returns-in-Err-clause-goes_on
 returns-in-Err-clause-goes_on g c = goes-on_more _ _ _ c.read_item.ensures.goes_on (goes-on_end _ _ c.end-in-Err.ensures.feed)

@@ -4,6 +4,7 @@ use Rattle.tiny_http_stream.specs.Source.{GoesOn}
 use Rattle.tiny_http_stream.specs.declared.source.Standing.TheVariants as at
 use Rattle.tiny_http_message.specs.declared.exchange.HeadRead.TheVariants as read
 use Rattle.tiny_http_message.specs.HeadReads.{ReadsHead, RefusesTooNew}
+use Rattle.tiny_http_message.specs.Pipeline.{ends_too_new}
 use Rattle.tiny_http_message.proofs.HeadReadsServing.{head-closed, head-refused, head-unframed, head-too_new, passed-on, head-cut, head-handed, cut-stop, begun-is, end-unanswered, timed-out, cut-passed, fault-passed}
 use Rattle.tiny_http_stream.proofs.SourceGoesOn.{goes-on_more}
 use Rattle.tiny_http_message.proofs.exchange.read_item.Goals as goal
@@ -50,22 +51,23 @@ returns-in_default-clause-reads g c =
 pub returns-then-is_too_new-clause-reads : goal.returns-then-is_too_new-clause-reads
 returns-then-is_too_new-clause-reads g c =
     let taken = rw c.in-Ok-Some.field-0-is at c.in-Ok-Some.ensures in
-    let P : Option Feed → Type 0 = λ o. ReadsHead at.Head c.args.now o c.begin_body.new.source.feed c.refuse_too_new.result in
-    let no_body = c.is_head.ensures in
-    let R : Bool → Type 0 = λ y. RefusesTooNew y c.args.now c.refuse_too_new.result in
+    let refused = c.refuse_too_new in
+    let P : Option Feed → Type 0 = λ o. ReadsHead at.Head c.args.now o refused.new.source.feed refused.result in
+    let R : Bool → Type 0 = λ y. RefusesTooNew (ends_too_new c.in-Some.framing.form) y c.args.now refused.result in
     subst P c.has_byte.ensures.feed
-    (head-too_new _ _ _ _ c.in-Ok.message c.in-Some.framing c.in-Ok-Some.body c.refuse_too_new.result c.in-Ok.ensures.reads (search (rules, c.as_slice.ensures.value, c.in-Some.ensures)) taken.begins (search (rules, c.if-is_too_new.ensures))
-    (subst R no_body c.refuse_too_new.ensures))
+    (head-too_new c.args.now _ _ c.begin_body.new.source refused.new.source c.in-Ok.message c.in-Some.framing c.in-Ok-Some.body refused.result c.in-Ok.ensures.reads (search (rules, c.as_slice.ensures.value, c.in-Some.ensures)) taken.begins
+    (search (rules, c.if-is_too_new.ensures)) (subst R c.is_head-no_body.ensures refused.ensures.refuses) refused.ensures.passes)
 
 pub returns-then-is_too_new-clause-passed : goal.returns-then-is_too_new-clause-passed
 returns-then-is_too_new-clause-passed g c =
     let taken = rw c.in-Ok-Some.field-0-is at c.in-Ok-Some.ensures in
-    passed-on _ c.refuse_too_new.result (taken.lazy refl ∙ c.in-Ok.ensures.lazy ∙ (c.if-not-has_byte.ensures.some refl).1)
+    let refused = c.refuse_too_new in
+    passed-on _ _ _ c.args.now refused.result refused.ensures.refuses (λ ends. search (rules, refused.ensures.stays ends, taken.lazy refl, c.in-Ok.ensures.lazy, (c.if-not-has_byte.ensures.some refl).1))
 
 pub returns-then-is_too_new-clause-goes_on : goal.returns-then-is_too_new-clause-goes_on
 returns-then-is_too_new-clause-goes_on g c =
-    let P : Option Feed → Type 0 = λ o. GoesOn o c.begin_body.new.source.feed in
-    subst P c.has_byte.ensures.feed (goes-on_more _ _ _ c.in-Ok.ensures.goes_on c.begin_body.ensures.goes_on)
+    let P : Option Feed → Type 0 = λ o. GoesOn o c.refuse_too_new.new.source.feed in
+    subst P c.has_byte.ensures.feed (goes-on_more _ _ _ c.in-Ok.ensures.goes_on (goes-on_more _ _ _ c.begin_body.ensures.goes_on c.refuse_too_new.ensures.goes_on))
 
 pub returns-in-Ok-hand_out-clause-reads : goal.returns-in-Ok-hand_out-clause-reads
 returns-in-Ok-hand_out-clause-reads g c =
