@@ -77,7 +77,7 @@ ask-lost : (date : HttpDate) (old : Reached) → old.asking_ended ≡ false → 
     → ask date old ≡ record { reply = Ended; slots = old.slots; rest = old.rest; asking_ended = true; writer = Unused }
 ask-lost date old e h l = rw (e, h, l) refl
 
-ask-goes : (date : HttpDate) (old : Reached) → old.asking_ended ≡ false → last_holds_reader (last_slot old.slots) ≡ false → last_was_abandoned (last_slot old.slots) ≡ false
+pub ask-goes : (date : HttpDate) (old : Reached) → old.asking_ended ≡ false → last_holds_reader (last_slot old.slots) ≡ false → last_was_abandoned (last_slot old.slots) ≡ false
     → ask date old ≡ asks_from date Unused old.slots old.rest
 ask-goes date old e h l = rw (e, h, l) refl
 
@@ -132,7 +132,7 @@ last-of client before k s h = last-kept s.reached.slots k.marks k.requests h.num
 unheld : (client : Feed) (before : Sink) (k : Kept) (s : State) → Stands client before k s → is_streaming_body (last_body k.requests) ≡ false → last_holds_reader (last_slot s.reached.slots) ≡ false
 unheld client before k s h quiet = held-by (last_slot s.reached.slots) (last_body k.requests) (last-of client before k s h) ∙ rw quiet (and-false (not (is_last_slot (last_slot s.reached.slots))))
 
-going : (client : Feed) (before : Sink) (k : Kept) (s : State) → Stands client before k s → k.asking_ended ≡ false → is_past_last k.standing ≡ false → is_streaming_body (last_body k.requests) ≡ false → (InputEnded k → ⊥) → Going k s
+pub going : (client : Feed) (before : Sink) (k : Kept) (s : State) → Stands client before k s → k.asking_ended ≡ false → is_past_last k.standing ≡ false → is_streaming_body (last_body k.requests) ≡ false → (InputEnded k → ⊥) → Going k s
 going client before k s h e o quiet open_input =
     let f = stated-feed client k.feed h.reader.source in
     let next = h.reader.next e in
@@ -155,15 +155,12 @@ pub dropped-whole : (asked : HandedOut) (r : Request) (given : ℕ) (end_reporte
 unfolding text_of
 dropped-whole asked r given end_reported = ap is_broken (own-whole 500 (coding_asked r.message.headers) r.message.version (is_head_method r.message.method) asked.date)
 
--- the item of a head that is refused with an empty answer
-abbrev refused_item : Refusal → HTTPVersion → Bool → Item
-refused_item refusal v no_body = Refuses refusal v no_body true
+-- the answer to a head that is refused
+pub refused-whole : (refusal : Refusal) (date : HttpDate) (v : HTTPVersion) (no_body last : Bool) → is_slot_broken (new_slot date (Refuses refusal v no_body last)) ≡ false
+refused-whole refusal date v no_body last = ap is_broken (refusal-whole refusal v no_body date)
 
-refused-whole : (refusal : Refusal) (date : HttpDate) (v : HTTPVersion) (no_body : Bool) → is_slot_broken (new_slot date (refused_item refusal v no_body)) ≡ false
-refused-whole refusal date v no_body = ap is_broken (refusal-whole refusal v no_body date)
-
-refused-text : (refusal : Refusal) (date : HttpDate) (v : HTTPVersion) (no_body : Bool) → segment (new_slot date (refused_item refusal v no_body)) ≡ refused_text (refusal_response refusal) v no_body date
-refused-text refusal date v no_body = refl
+pub refused-text : (refusal : Refusal) (date : HttpDate) (v : HTTPVersion) (no_body last : Bool) → segment (new_slot date (Refuses refusal v no_body last)) ≡ refused_text (refusal_response refusal) v no_body date
+refused-text refusal date v no_body last = refl
 
 -- a request that is handed out has sent nothing
 abbrev pub handed_slot : HttpDate → Request → Slot
@@ -204,7 +201,7 @@ kept-handed date x p content behind k left framed = record {
   settled = settled-any x.waiting.body p content behind left;
 }
 
-no-items : (stop : Stop) (items : List Item) → Pipeline None stop items → items ≡ []
+pub no-items : (stop : Stop) (items : List Item) → Pipeline None stop items → items ≡ []
 no-items stop [] h = refl
 no-items stop (x ∷ xs) h = elim h [ ]
 
@@ -212,7 +209,7 @@ no-items stop (x ∷ xs) h = elim h [ ]
 pub pipeline-empty : Pipeline (Some []) End []
 pipeline-empty = feed-pipeline (whole_feed [])
 
-handed-place : (last : Bool) (stop : Stop) (next : Place) (more : List Item) → Pipeline (place_after last next) stop more → PlaceAt last (Some (place_feed stop next)) more
+pub handed-place : (last : Bool) (stop : Stop) (next : Place) (more : List Item) → Pipeline (place_after last next) stop more → PlaceAt last (Some (place_feed stop next)) more
 handed-place true stop next more items = no-items stop more items
 handed-place false stop None more items = let P : List Item → Type 0 = λ x. Pipeline (Some []) End x in subst P (sym (no-items stop more items)) pipeline-empty
 handed-place false stop (Some bytes) more items = items
@@ -458,7 +455,7 @@ refused-waits : (before sink : Sink) (e : Bool) (slots : List Slot) (n : Slot) (
 refused-waits before sink e slots n flushed failure h hidden = output-same before sink e slots (slots ++ (n ∷ [])) flushed failure (sym (joined-hidden slots (n ∷ []) hidden)) (sym (breaks-hidden slots (n ∷ []) hidden)) h
 
 -- what is said of it, whether its turn has come or not
-record RefusedOutput (before new : Sink) (ended : Bool) (slots : List Slot) (n : Slot) (s : State) (marks : List Mark) (requests : List (Option Unfinished)) : Type 0 where
+pub record RefusedOutput (before new : Sink) (ended : Bool) (slots : List Slot) (n : Slot) (s : State) (marks : List Mark) (requests : List (Option Unfinished)) : Type 0 where
   pub failure : Option Failure
   pub output : OutputAt before new ended (slots ++ (n ∷ [])) (flushed_after (if turn_has_come (length s.reached.slots) s.reached.slots then Unreported else Unused) s (slots ++ (n ∷ []))) failure
   pub writes : WriterPart (if turn_has_come (length s.reached.slots) s.reached.slots then Unreported else Unused) s Ended (slots ++ (n ∷ [])) Ended failure
@@ -466,10 +463,10 @@ record RefusedOutput (before new : Sink) (ended : Bool) (slots : List Slot) (n :
   pub shape : AreInShape marks
 
 -- the turn of the next number has come when all are finished
-turn-next : (slots : List Slot) → turn_has_come (length slots) slots ≡ list_all is_finished slots
+pub turn-next : (slots : List Slot) → turn_has_come (length slots) slots ≡ list_all is_finished slots
 turn-next slots = ap (list_all is_finished) (take_all (length slots) slots (omega arith))
 
-refuses : (before sink new : Sink) (e ended : Bool) (s : State) (marks final : List Mark) (requests : List (Option Unfinished)) (n : Slot) (text : List ℕ) → OutputAt before sink e s.reached.slots s.flushed s.failure → AreKept s.reached.slots marks requests → AreInShape marks
+pub refuses : (before sink new : Sink) (e ended : Bool) (s : State) (marks final : List Mark) (requests : List (Option Unfinished)) (n : Slot) (text : List ℕ) → OutputAt before sink e s.reached.slots s.flushed s.failure → AreKept s.reached.slots marks requests → AreInShape marks
     → is_finished n ≡ true → n.given_up ≡ true → is_slot_broken n ≡ false → segment n ≡ text → before.failures < 2 ^ 64 - 1 → LeavesText (length marks == first_unfinished marks) marks [] final text e sink new ended
     → RefusedOutput before new ended s.reached.slots n s final (requests ++ (None ∷ []))
 refuses before sink new e ended s marks final requests n text h kept shape over given_up whole same low leaves =
@@ -506,24 +503,26 @@ refuses before sink new e ended s marks final requests n text h kept shape over 
     })
     (turn-at slots marks requests [] kept (shape-issued marks shape))
 
-pub ask-refused : (client : Feed) (before : Sink) (k : Kept) (s : State) (date : HttpDate) (from_here : Standing) (status : StatusCode) (text : Vec ℕ) (is_last : Bool) (p : Option Feed) (stop : Option Stop) (over : Bool) (at : Standing) (marks : List Mark) (sink : Sink) (ended : Bool) → Stands client before k s → before.failures < 2 ^ 64 - 1
-    → k.asking_ended ≡ false → is_past_last k.standing ≡ false → is_streaming_body (last_body k.requests) ≡ false → (InputEnded k → ⊥) → ReadsHead from_here date k.feed p (Ok (read.Refused status text is_last)) → GoesOn k.feed p
+pub ask-refused : (client : Feed) (before : Sink) (k : Kept) (s : State) (date : HttpDate) (from_here : Standing) (status : StatusCode) (text : Vec ℕ) (p : Option Feed) (stop : Option Stop) (over : Bool) (at : Standing) (marks : List Mark) (sink : Sink) (ended : Bool) → Stands client before k s → before.failures < 2 ^ 64 - 1
+    → k.asking_ended ≡ false → is_past_last k.standing ≡ false → is_streaming_body (last_body k.requests) ≡ false → (InputEnded k → ⊥) → ReadsHead from_here date k.feed p (Ok (read.Refused status text true)) → GoesOn k.feed p
     → LeavesText (length k.marks == first_unfinished k.marks) k.marks [] marks text.items k.output_ended k.sink sink ended
     → StepIsAnswered client before (after_refused k marks p stop over at sink ended) s date Ask Ended
-ask-refused client before k s date from_here status text is_last p stop over at marks sink ended st low e o quiet open_input reads goes leaves =
+ask-refused client before k s date from_here status text p stop over at marks sink ended st low e o quiet open_input reads goes leaves =
     let g = going client before k s st e o quiet open_input in
-    let P : Option Feed → Type 0 = λ y. ReadsHead from_here date y p (Ok (read.Refused status text is_last)) in
+    let P : Option Feed → Type 0 = λ y. ReadsHead from_here date y p (Ok (read.Refused status text true)) in
     let found = subst P g.stated reads in
     let refusal = found.0 in
     let v = found.1 in
     let no_body = found.2 in
-    let first = pipeline-first g.feed.bytes g.feed.stop (refused_item refusal v no_body) None s.reached.rest found.3 g.pipeline in
-    let none = no-items g.feed.stop first.0 first.2 in
-    let n = new_slot date (refused_item refusal v no_body) in
+    let item : Item = Refuses refusal v no_body true in
+    let first = pipeline-first g.feed.bytes g.feed.stop item found.3 s.reached.rest found.4 g.pipeline in
+    let E : Place → Type 0 = λ y. Pipeline y g.feed.stop first.0 in
+    let none = no-items g.feed.stop first.0 (subst E found.7 first.2) in
+    let n = new_slot date item in
     let slots = s.reached.slots ++ (n ∷ []) in
     let F : List Item → Outcome = λ y. asks_from date Unused s.reached.slots y in
-    let is : ask date s.reached ≡ asks_from date Unused s.reached.slots (refused_item refusal v no_body ∷ []) = ask-goes date s.reached (st.asking_ended ∙ e) g.unheld g.kept ∙ ap F (first.1 ∙ ap (λ y. refused_item refusal v no_body ∷ y) none) in
-    let out = refuses before k.sink sink k.output_ended ended s k.marks marks k.requests n text.items st.output st.numbers st.shape refl refl (refused-whole refusal date v no_body) (refused-text refusal date v no_body ∙ sym found.4) low leaves in
+    let is : ask date s.reached ≡ asks_from date Unused s.reached.slots (item ∷ []) = ask-goes date s.reached (st.asking_ended ∙ e) g.unheld g.kept ∙ ap F (first.1 ∙ ap (λ y. item ∷ y) none) in
+    let out = refuses before k.sink sink k.output_ended ended s k.marks marks k.requests n text.items st.output st.numbers st.shape refl refl (refused-whole refusal date v no_body true) (refused-text refusal date v no_body true ∙ sym found.5) low leaves in
     let new : State = record { reached = record { slots = slots; rest = []; asking_ended = true }; flushed = flushed_after (if turn_has_come (length s.reached.slots) s.reached.slots then Unreported else Unused) s slots; failure = out.failure } in
     let G : Outcome → Type 0 = λ y. HasOutcome y s Ended new in
     let B : Option Body → Type 0 = λ b. GivesRest b (last_slot slots) p in (

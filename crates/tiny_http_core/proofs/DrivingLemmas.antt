@@ -1,5 +1,5 @@
 -- The calls of a `Connection`, as steps.
-use Rattle.std.proofs.Common.{◌≡◌, refl, sym, ap, ◌∙◌, subst, ℕ, ◌-◌, ◌<◌, ◌^◌, inl, inr, Bool, true, false, not, ◌&&◌, ◌||◌, List, [], ◌∷◌, ◌++◌, Option, Some, None, Ok}
+use Rattle.std.proofs.Common.{◌≡◌, refl, sym, ap, ◌∙◌, subst, ℕ, suc, ◌-◌, ◌<◌, ◌^◌, inl, inr, Bool, true, false, not, ◌&&◌, ◌||◌, List, [], ◌∷◌, ◌++◌, Option, Some, None, Ok, append_assoc}
 use Rattle.std.proofs.Math.Bool.{or-false}
 use Rattle.std.specs.declared.io.ErrorKind.{ErrorKind}
 use Rattle.httpdate.specs.declared.date.HttpDate.{HttpDate}
@@ -7,6 +7,7 @@ use Rattle.tiny_http_wire.specs.Device.{Feed, Sink}
 use Rattle.tiny_http_wire.specs.Answer.{Answer, Printing, ResponseState}
 use Rattle.tiny_http_wire.specs.declared.device.Stop.{Stop}
 use Rattle.tiny_http_core.specs.declared.pending.Unfinished.{Unfinished}
+use Rattle.tiny_http_core.specs.declared.pending.Unfinished.TheVariants as still
 use Rattle.tiny_http_core.specs.Pending.{kept_body, GivesUpBody}
 use Rattle.std.specs.List.{AllZip}
 use Rattle.tiny_http_core.specs.declared.driver.Timed.{Timed}
@@ -28,12 +29,12 @@ use Rattle.tiny_http_core.specs.Connection.{Kept, ConnectionState, kept, Stands,
 use Rattle.tiny_http_core.specs.Slots.{turn_has_come}
 use Rattle.tiny_http_core.proofs.ConnectionDrop.{at-drop, at-refused}
 use Rattle.std.specs.Prelude.{String, string_bytes, slice_get}
-use Rattle.tiny_http_core.specs.Driving.{HasDone, TakesStep, AskEnds, StepEnds, IsDeclined, stated_response, stated_step, StepLeaves, AskLeaves, LetsGo, StandsAfter, ReportsFault, UpgradeLeaves, IsDropping}
+use Rattle.tiny_http_core.specs.Driving.{HasDone, TakesStep, AskEnds, StepEnds, IsDeclined, stated_response, stated_step, StepLeaves, AskLeaves, LetsGo, StandsAfter, ReportsFault, UpgradeLeaves, IsDropping, RefusesHeads}
 use Rattle.tiny_http_core.proofs.ConnectionAsk.{StepIsAnswered}
-use Rattle.tiny_http_stream.proofs.SourceGoesOn.{goes-on_same}
+use Rattle.tiny_http_stream.proofs.SourceGoesOn.{goes-on_same, goes-on_more}
 use Rattle.tiny_http_core.proofs.SeenLemmas.{is-ask, is-as_reader, is-read, is-respond, is-into_writer, is-write, is-flush, is-upgrade, is-finish, is-drop, step-ask, step-as_reader, step-read, step-respond, step-into_writer, step-write, step-flush, step-upgrade, step-finish, step-drop}
 use Rattle.tiny_http_turns.specs.Turns.{Mark}
-use Rattle.std.specs.Prelude.{is_some}
+use Rattle.std.specs.Prelude.{is_some, replicate}
 use Rattle.tiny_http_message.specs.declared.exchange.EndOfRequests.{EndOfRequests}
 use Rattle.tiny_http_stream.specs.declared.source.Standing.{Standing}
 use Rattle.tiny_http_stream.specs.declared.source.Standing.TheVariants as place
@@ -41,14 +42,16 @@ use Rattle.std.specs.Global.{Global, Vec}
 use Rattle.tiny_http_wire.specs.declared.common.StatusCode.{StatusCode}
 use Rattle.tiny_http_message.specs.declared.exchange.HeadRead.TheVariants as read
 use Rattle.tiny_http_message.specs.declared.exchange.EndOfRequests.TheVariants as because
-use Rattle.tiny_http_message.specs.HeadReads.{ReadsHead, EndsAt, IsBeforeHead}
-use Rattle.tiny_http_message.specs.Pipeline.{OneHead, Request}
-use Rattle.tiny_http_core.specs.Driving.{IsRefusal, EndsRequestsAt}
+use Rattle.tiny_http_message.specs.HeadReads.{ReadsHead, EndsAt, IsBeforeHead, HasByteOrTimedOut, place_feed}
+use Rattle.tiny_http_message.specs.Pipeline.{OneHead, Request, Item, Refuses, Place}
+use Rattle.tiny_http_core.specs.Driving.{IsRefusal, EndsRequestsAt, EndsThere, ArePassed, standing_behind}
 use Rattle.tiny_http_message.specs.PipelineReading.{items_of}
 use Rattle.tiny_http_message.proofs.PipelineLemmas.{feed-pipeline}
 use Rattle.tiny_http_core.proofs.ConversationRuns.{run-more, stands-begun, split}
 use Rattle.tiny_http_message.proofs.BodyReads.{gives-up}
-use Rattle.tiny_http_sending.proofs.SendingLemmas.{once-none}
+use Rattle.tiny_http_sending.proofs.SendingLemmas.{once-none, once-append}
+use Rattle.tiny_http_core.specs.Asking.{AskStep, IsAskBehind}
+use Rattle.tiny_http_core.proofs.ConnectionAsking.{AskGoesOn}
 
 -- the fields as they are seen
 abbrev pub viewed : {R W : Type 0} → SourceState R → OutletState W → Pending → Option EndOfRequests → ConnectionState R W
@@ -66,28 +69,51 @@ none-of None e = refl
 none-of (Some x) e = cc
 
 -- why the requests end at a head that was refused, or at none
-refusal-at : (at : Standing) (date : HttpDate) (o p : Option Feed) (status : StatusCode) (text : Vec ℕ) (last : Bool) → ReadsHead at date o p (Ok (read.Refused status text last)) → (f : Feed) → o ≡ Some f → IsRefusal f (because.Refused status)
-refusal-at at date o p status text last h f e =
-    let P : Option Feed → Type 0 = λ y. ReadsHead at date y p (Ok (read.Refused status text last)) in
+refusal-at : (at : Standing) (date : HttpDate) (o p : Option Feed) (status : StatusCode) (text : Vec ℕ) → ReadsHead at date o p (Ok (read.Refused status text true)) → (f : Feed) → o ≡ Some f → IsRefusal f (because.Refused status)
+refusal-at at date o p status text h f e =
+    let P : Option Feed → Type 0 = λ y. ReadsHead at date y p (Ok (read.Refused status text true)) in
     let r = subst P e h in
-    (status, r.0, r.1, r.2, r.3, r.6, refl)
+    let H : Place → Type 0 = λ y. OneHead f.bytes f.stop (Some (Refuses r.0 r.1 r.2 true)) y in
+    (status, r.0, r.1, r.2, subst H r.7 r.4, r.6, refl)
 
 end-at : (at : Standing) (date : HttpDate) (o p : Option Feed) (why : EndOfRequests) → ReadsHead at date o p (Ok (read.Ended why)) → (f : Feed) → o ≡ Some f → OneHead f.bytes f.stop None None × EndsAt at f.bytes f.stop why
 end-at at date o p why h f e = let P : Option Feed → Type 0 = λ y. ReadsHead at date y p (Ok (read.Ended why)) in subst P e h
 
-pub end-refused : (at : Standing) (date : HttpDate) (o p : Option Feed) (status : StatusCode) (text : Vec ℕ) (last : Bool) → IsBeforeHead at → ReadsHead at date o p (Ok (read.Refused status text last)) → EndsRequestsAt at o (because.Refused status)
-end-refused place.Head date o p status text last here h = λ f e. inl (refusal-at place.Head date o p status text last h f e)
-end-refused place.Abandoned date o p status text last here h = λ f e. inl (refusal-at place.Abandoned date o p status text last h f e)
-end-refused (place.Broken kind) date o p status text last here h = λ f e. inl (refusal-at (place.Broken kind) date o p status text last h f e)
-end-refused place.Body date o p status text last here h = elim here [ ]
-end-refused place.Last date o p status text last here h = elim here [ ]
+pub end-refused : (at : Standing) (date : HttpDate) (o p : Option Feed) (status : StatusCode) (text : Vec ℕ) → IsBeforeHead at → ReadsHead at date o p (Ok (read.Refused status text true)) → EndsRequestsAt at o (because.Refused status)
+end-refused place.Head date o p status text here h = λ f e. ([], f, refl, inl (refusal-at place.Head date o p status text h f e))
+end-refused place.Abandoned date o p status text here h = λ f e. ([], f, refl, inl (refusal-at place.Abandoned date o p status text h f e))
+end-refused (place.Broken kind) date o p status text here h = λ f e. ([], f, refl, inl (refusal-at (place.Broken kind) date o p status text h f e))
+end-refused place.Body date o p status text here h = elim here [ ]
+end-refused place.Last date o p status text here h = elim here [ ]
 
 pub end-final : (at : Standing) (date : HttpDate) (o p : Option Feed) (why : EndOfRequests) → (at ≡ place.Body → ⊥) → (at ≡ place.Last → why ≡ because.LastRequest) → (IsBeforeHead at → ReadsHead at date o p (Ok (read.Ended why))) → EndsRequestsAt at o why
-end-final place.Head date o p why outside last h = λ f e. inr (end-at place.Head date o p why (h tt) f e)
-end-final place.Abandoned date o p why outside last h = λ f e. inr (end-at place.Abandoned date o p why (h tt) f e)
-end-final (place.Broken kind) date o p why outside last h = λ f e. inr (end-at (place.Broken kind) date o p why (h tt) f e)
+end-final place.Head date o p why outside last h = λ f e. ([], f, refl, inr (end-at place.Head date o p why (h tt) f e))
+end-final place.Abandoned date o p why outside last h = λ f e. ([], f, refl, inr (end-at place.Abandoned date o p why (h tt) f e))
+end-final (place.Broken kind) date o p why outside last h = λ f e. ([], f, refl, inr (end-at (place.Broken kind) date o p why (h tt) f e))
 end-final place.Body date o p why outside last h = absurd (outside refl)
 end-final place.Last date o p why outside last h = last refl
+
+-- a head was passed, and then the requests end
+pub end-behind : (at : Standing) (date : HttpDate) (o p : Option Feed) (status : StatusCode) (text : Vec ℕ) (why : EndOfRequests) → IsBeforeHead at → ReadsHead at date o p (Ok (read.Refused status text false)) → EndsRequestsAt place.Head p why → EndsRequestsAt at o why
+end-behind at date o p status text why here h ends = by at here h
+  where
+    stands : (xs : List Item) (rest : Feed) → EndsThere (standing_behind place.Head xs) rest why → EndsThere place.Head rest why
+    stands [] rest k = k
+    stands (x ∷ xs) rest k = k
+
+    behind : (x : Standing) → ReadsHead x date o p (Ok (read.Refused status text false)) → (f : Feed) → o ≡ Some f → (passed : List Item) × (rest : Feed) × ArePassed f passed rest × EndsThere (standing_behind x passed) rest why
+    behind x h f e =
+        let P : Option Feed → Type 0 = λ y. ReadsHead x date y p (Ok (read.Refused status text false)) in
+        let r = subst P e h in
+        let next = ends (place_feed f.stop r.3) r.7 in
+        (Refuses r.0 r.1 r.2 false ∷ next.0, next.1, (refl, r.3, r.4, next.2), stands next.0 next.1 next.3)
+
+    by : (x : Standing) → IsBeforeHead x → ReadsHead x date o p (Ok (read.Refused status text false)) → EndsRequestsAt x o why
+    by place.Head here h = behind place.Head h
+    by place.Abandoned here h = behind place.Abandoned h
+    by (place.Broken kind) here h = behind (place.Broken kind) h
+    by place.Body here h = elim here [ ]
+    by place.Last here h = elim here [ ]
 
 -- what a step does to input and output, whatever they state; it holds back nothing if `all`, else if nothing was held before
 pub record Moves {R W : Type 0} (all : Bool) (old new : ConnectionState R W) : Type 0 where
@@ -180,13 +206,118 @@ stands-after was body old new same moves = by (is_streaming was) same moves
 abbrev pub ReportsNoFault : ReplyValue → Type 0
 ReportsNoFault reply = (kind : ErrorKind) → reply ≡ Fault kind → ⊥
 
-pub takes-ask : {R W : Type 0} (old new : ConnectionState R W) (now : HttpDate) (reply : ReplyValue)
+-- an Ask reports no fault
+ask-reports-none : {R W : Type 0} (old new : ConnectionState R W) (reply : ReplyValue) → AskEnds old new reply → ReportsNoFault reply
+ask-reports-none old new (Handed k message framing) h kind e = cc
+ask-reports-none old new Ended h kind e = cc
+ask-reports-none old new (Given bytes) h kind e = elim h [ ]
+ask-reports-none old new (Fault x) h kind e = elim h [ ]
+ask-reports-none old new NotYet h kind e = cc
+ask-reports-none old new Done h kind e = cc
+ask-reports-none old new Refused h kind e = cc
+ask-reports-none old new NoSuch h kind e = cc
+ask-reports-none old new Memory h kind e = cc
+
+pub ask-step : {R W : Type 0} (old new : ConnectionState R W) (now : HttpDate) (reply : ReplyValue)
     → ((client : Feed) (before : Sink) (s : State) → before.failures < 2 ^ 64 - 1 → Stands client before (kept old) s → StepIsAnswered client before (kept new) s now Ask reply)
-    → (IsDeclined step.Ask reply → new ≡ old) → AskEnds old new reply → AskLeaves old new reply → Moves false old new → ReportsNoFault reply → TakesStep old new now step.Ask reply
-takes-ask old new now reply answers declined ends leaves moves none =
+    → (IsDeclined step.Ask reply → new ≡ old) → AskEnds old new reply → AskLeaves old new reply → Moves false old new → AskStep old new now reply
+ask-step old new now reply answers declined ends leaves moves = record {
+  does = answers;
+  declined = declined;
+  ends = ends;
+  leaves = leaves;
+  goes_on = moves.goes_on;
+  fails_once = moves.fails_once;
+  flushed = λ was. moves.flushed (λ z. was);
+  sent_on = λ was. moves.sent_on (λ z. was);
+}
+
+pub takes-ask : {R W : Type 0} (old new : ConnectionState R W) (now : HttpDate) (reply : ReplyValue) → AskStep old new now reply → TakesStep old new now step.Ask reply
+takes-ask old new now reply a =
     takes old new now step.Ask reply
-    (λ client before s asked low is st. step-ask {D = Option Feed} (λ f. f) client before (kept new) s now (now, asked) step.Ask reply refl refl is (answers client before s low st))
-    declined ends leaves (moves-kept step.Ask reply old new (λ sent. refl) moves) (λ kind e. absurd (none kind e))
+    (λ client before s asked low is st. step-ask {D = Option Feed} (λ f. f) client before (kept new) s now (now, asked) step.Ask reply refl refl is (a.does client before s low st))
+    a.declined a.ends a.leaves
+    (moves-kept step.Ask reply old new (λ sent. refl) (record { goes_on = a.goes_on; fails_once = a.fails_once; flushed = λ was. a.flushed (was refl); sent_on = λ was. a.sent_on (was refl) }))
+    (λ kind e. absurd (ask-reports-none old new reply a.ends kind e))
+
+-- What a head that is passed leaves: what stood in front of it asks no more than what stands behind it.
+pub record PassesHead {R W : Type 0} (old mid : ConnectionState R W) (now : HttpDate) : Type 0 where
+  pub does : (client : Feed) (before : Sink) (s : State) → before.failures < 2 ^ 64 - 1 → Stands client before (kept old) s → AskGoesOn client before (kept mid) s now
+  pub was_open : old.end ≡ None
+  pub is_open : mid.end ≡ None
+  pub here : IsBeforeHead old.source.standing
+  pub begun : HasByteOrTimedOut old.source.feed
+  pub stands : mid.source.standing ≡ place.Head
+  pub ends : (why : EndOfRequests) → EndsRequestsAt place.Head mid.source.feed why → EndsRequestsAt old.source.standing old.source.feed why
+  pub requests : mid.requests ≡ old.requests ++ (None ∷ [])
+  pub moves : Moves false old mid
+
+-- within a body no head stands
+pub not-body : (x : Standing) → x ≡ place.Head → x ≡ place.Body → ⊥
+not-body x e f = cc
+
+not-last : (x : Standing) → IsBeforeHead x → x ≡ place.Last → ⊥
+not-last x h e = let P : Standing → Type 0 = λ y. IsBeforeHead y in elim (subst P e h) [ ]
+
+-- one refused head more
+one-more : (old mid new end : List (Option Unfinished)) (n : ℕ) → mid ≡ old ++ (None ∷ []) → new ≡ (mid ++ replicate n None) ++ end → new ≡ (old ++ replicate (suc n) None) ++ end
+one-more old mid new end n e h = h ∙ ap (λ x. x ++ end) (ap (λ x. x ++ replicate n None) e ∙ append_assoc old (None ∷ []) (replicate n None))
+
+refuses-more : {R W : Type 0} (old mid new : ConnectionState R W) (n : ℕ) → mid.requests ≡ old.requests ++ (None ∷ []) → RefusesHeads n mid new → RefusesHeads (suc n) old new
+refuses-more old mid new n e h =
+    (h.0 ∙ (ap (λ x. x ++ replicate n None) e ∙ append_assoc old.requests (None ∷ []) (replicate n None)), λ z. (let no : suc n ≡ 0 = z in cc))
+
+leaves-behind : {R W : Type 0} (old mid new : ConnectionState R W) (reply : ReplyValue) → mid.requests ≡ old.requests ++ (None ∷ []) → AskLeaves mid new reply → AskLeaves old new reply
+leaves-behind old mid new (Handed k message framing) e h = (suc h.0, h.1, one-more old.requests mid.requests new.requests (Some (still.Waiting h.1) ∷ []) h.0 e h.2, h.3, λ z. (let no : suc h.0 ≡ 0 = z in cc))
+leaves-behind old mid new Ended e h = (suc h.0, refuses-more old mid new h.0 e h.1)
+leaves-behind old mid new Memory e h = (suc h.0, refuses-more old mid new h.0 e h.1)
+leaves-behind old mid new NotYet e h = tt
+leaves-behind old mid new (Given bytes) e h = elim h [ ]
+leaves-behind old mid new (Fault x) e h = elim h [ ]
+leaves-behind old mid new Done e h = elim h [ ]
+leaves-behind old mid new Refused e h = elim h [ ]
+leaves-behind old mid new NoSuch e h = elim h [ ]
+
+ends-behind : {R W : Type 0} (old mid new : ConnectionState R W) (now : HttpDate) (reply : ReplyValue) → PassesHead old mid now → AskEnds mid new reply → AskEnds old new reply
+ends-behind old mid new now (Handed k message framing) p h = (p.was_open, h.1)
+ends-behind old mid new now Ended p h = (
+  λ some. (let absent : false ≡ true = ap is_some (sym p.was_open) ∙ some in cc),
+  λ last. absurd (not-last old.source.standing p.here last),
+  λ open_is.
+      let x = h.2 p.is_open in
+      let E : Standing → Type 0 = λ y. EndsRequestsAt y mid.source.feed x.0 in
+      (x.0, x.1, p.ends x.0 (subst E p.stands x.2)),
+)
+ends-behind old mid new now Memory p h = (p.was_open, h.1, p.here, p.begun)
+ends-behind old mid new now NotYet p h = absurd (not-body mid.source.standing p.stands h.1)
+ends-behind old mid new now (Given bytes) p h = elim h [ ]
+ends-behind old mid new now (Fault x) p h = elim h [ ]
+ends-behind old mid new now Done p h = elim h [ ]
+ends-behind old mid new now Refused p h = elim h [ ]
+ends-behind old mid new now NoSuch p h = elim h [ ]
+
+never-declined : {R W : Type 0} (mid new : ConnectionState R W) (reply : ReplyValue) → mid.source.standing ≡ place.Head → AskEnds mid new reply → IsDeclined step.Ask reply → ⊥
+never-declined mid new (Handed k message framing) e h was = elim was [ ]
+never-declined mid new Ended e h was = elim was [ ]
+never-declined mid new Memory e h was = elim was [ ]
+never-declined mid new NotYet e h was = not-body mid.source.standing e h.1
+never-declined mid new (Given bytes) e h was = elim h [ ]
+never-declined mid new (Fault x) e h was = elim h [ ]
+never-declined mid new Done e h was = elim h [ ]
+never-declined mid new Refused e h was = elim h [ ]
+never-declined mid new NoSuch e h was = elim h [ ]
+
+pub asks-behind-head : {R W : Type 0} (old mid : ConnectionState R W) (now : HttpDate) → PassesHead old mid now → IsAskBehind old mid now
+asks-behind-head old mid now p = λ new reply a. record {
+  does = λ client before s low st. (let g = p.does client before s low st in g.asks (kept new) reply (a.does client before g.mid low g.stands));
+  declined = λ was. absurd (never-declined mid new reply p.stands a.ends was);
+  ends = ends-behind old mid new now reply p a.ends;
+  leaves = leaves-behind old mid new reply p.requests a.leaves;
+  goes_on = goes-on_more old.source.feed mid.source.feed new.source.feed p.moves.goes_on a.goes_on;
+  fails_once = once-append old.outlet.ended mid.outlet.ended new.outlet.ended (output_of old.outlet) (output_of mid.outlet) (output_of new.outlet) p.moves.fails_once a.fails_once;
+  flushed = λ was. a.flushed (p.moves.flushed (λ z. was));
+  sent_on = λ was. a.sent_on (p.moves.sent_on (λ z. was));
+}
 
 pub takes-as_reader : {R W : Type 0} (old new : ConnectionState R W) (now : HttpDate) (n : ℕ) (reply : ReplyValue)
     → ((client : Feed) (before : Sink) (s : State) → before.failures < 2 ^ 64 - 1 → Stands client before (kept old) s → StepIsAnswered client before (kept new) s now (AsReader n) reply)

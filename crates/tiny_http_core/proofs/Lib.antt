@@ -6,6 +6,7 @@ pub mod ConnectionOutput
 pub mod ConnectionTurns
 pub mod ConnectionBody
 pub mod ConnectionAsk
+pub mod ConnectionAsking
 pub mod ConnectionRespond
 pub mod ConnectionLeaving
 pub mod ConnectionDrop

@@ -1,5 +1,5 @@
 -- What the calls of a `Connection` come to.
-use Rattle.std.specs.Prelude.{◌≡◌, ◌⊎◌, ℕ, Bool, true, false, List, [], ◌∷◌, ◌++◌, length, Option, Some, None, IsSome, MatchBool, slice_get, slice_set, if◌then◌else◌, string_bytes}
+use Rattle.std.specs.Prelude.{◌≡◌, ◌⊎◌, ℕ, Bool, true, false, List, [], ◌∷◌, ◌++◌, length, replicate, Option, Some, None, IsSome, MatchBool, slice_get, slice_set, if◌then◌else◌, string_bytes}
 use Rattle.std.specs.List.{list_all}
 use Rattle.tiny_http_wire.specs.Bytes.{is_ascii}
 use Rattle.std.specs.declared.io.ErrorKind.{ErrorKind}
@@ -15,12 +15,12 @@ use Rattle.tiny_http_wire.specs.declared.common.HTTPVersion.{HTTPVersion}
 use Rattle.tiny_http_wire.specs.declared.common.StatusCode.{StatusCode}
 use Rattle.tiny_http_message.specs.declared.exchange.EndOfRequests.{EndOfRequests}
 use Rattle.tiny_http_message.specs.declared.exchange.EndOfRequests.TheVariants as because
-use Rattle.tiny_http_message.specs.HeadReads.{EndsAt, IsBeforeHead, HasByteOrTimedOut}
+use Rattle.tiny_http_message.specs.HeadReads.{EndsAt, IsBeforeHead, HasByteOrTimedOut, place_feed}
 use Rattle.tiny_http_message.specs.declared.framing.Framing.{Framing}
 use Rattle.tiny_http_stream.specs.Outlet.{output_of, SentOn}
-use Rattle.tiny_http_message.specs.Pipeline.{Item, Refuses, Refusal, refusal_status, OneHead, Pipeline}
+use Rattle.tiny_http_message.specs.Pipeline.{Item, Refuses, Refusal, refusal_status, OneHead, Pipeline, Place}
 use Rattle.tiny_http_core.specs.Steps.{StepValue, ReplyValue, Handed, Ended, NotYet, Done, Refused, NoSuch, Memory, Fault}
-use Rattle.tiny_http_core.specs.Conversation.{State, TimedValue, Run, start_state, IsFresh}
+use Rattle.tiny_http_core.specs.Conversation.{State, TimedValue, Run, start_state, IsFresh, IsPassedOver}
 use Rattle.tiny_http_wire.specs.declared.answer_context.AnswerContext.{AnswerContext}
 use Rattle.tiny_http_sending.specs.ResponseValue.{printing_in}
 use Rattle.tiny_http_sending.specs.Sending.{FailsOnceUnlessEnded, IsHonest}
@@ -65,16 +65,32 @@ IsRefusal f why =
     (status : StatusCode) × (refusal : Refusal) × (version : HTTPVersion) × (no_body : Bool) × OneHead f.bytes f.stop (Some (Refuses refusal version no_body true)) None
     × (status.0 ≡ refusal_status refusal) × (why ≡ because.Refused status)
 
--- WHY THE REQUESTS END where the source stands: the last one was read; or no request stands in the bytes that come.
+-- no request stands in these bytes: a head is refused, and ends the requests; or none stands there, for this reason
+abbrev pub EndsThere : Standing → Feed → EndOfRequests → Type 0
+EndsThere standing f why = IsRefusal f why ⊎ (OneHead f.bytes f.stop None None × EndsAt standing f.bytes f.stop why)
+
+-- These heads are refused one after another, and the asking goes on behind each; then this comes.
+abbrev pub ArePassed : Feed → List Item → Feed → Type 0
+ArePassed f [] behind = behind ≡ f
+ArePassed f (item ∷ items) behind = IsPassedOver item × (next : Place) × OneHead f.bytes f.stop (Some item) next × ArePassed (place_feed f.stop next) items behind
+
+-- where the source stands behind such heads
+abbrev pub standing_behind : Standing → List Item → Standing
+standing_behind standing [] = standing
+standing_behind standing (item ∷ items) = at.Head
+
+-- WHY THE REQUESTS END where the source stands: the last one was read; or no request stands in the bytes that come, behind the
+-- heads that are passed.
 abbrev pub EndsRequestsAt : Standing → Option Feed → EndOfRequests → Type 0
 EndsRequestsAt at.Last feed why = why ≡ because.LastRequest
-EndsRequestsAt standing feed why = (f : Feed) → feed ≡ Some f → IsRefusal f why ⊎ (OneHead f.bytes f.stop None None × EndsAt standing f.bytes f.stop why)
+EndsRequestsAt standing feed why =
+    (f : Feed) → feed ≡ Some f → (passed : List Item) × (behind : Feed) × ArePassed f passed behind × EndsThere (standing_behind standing passed) behind why
 
 -- What an Ask says of the end of the requests, by its reply: it ends them for a reason that stands in the client's bytes, or
 -- where memory for a head was refused; after the end it changes nothing, and after the last request the source is left alone.
 abbrev pub AskEnds : {R W : Type 0} → ConnectionState R W → ConnectionState R W → ReplyValue → Type 0
-AskEnds old new (Handed k message framing) = (old.end ≡ None) × (new.end ≡ None) × (new.source.stop ≡ old.source.stop)
-AskEnds old new NotYet = old.end ≡ None
+AskEnds old new (Handed k message framing) = (old.end ≡ None) × (new.end ≡ None)
+AskEnds old new NotYet = (old.end ≡ None) × (old.source.standing ≡ at.Body)
 AskEnds old new Ended =
     (IsSome old.end → new ≡ old) × (old.source.standing ≡ at.Last → new.source ≡ old.source)
     × (old.end ≡ None → (why : EndOfRequests) × (new.end ≡ Some why) × EndsRequestsAt old.source.standing old.source.feed why)
@@ -107,15 +123,18 @@ LetsGo k old new =
 abbrev pub after_head : Framing → Body → Standing
 after_head f body = if f.is_last then at.Last else if is_streaming body then at.Body else at.Head
 
--- What an Ask leaves of requests, source and output, by its reply: a request was added, and the source stands after its head; or
--- none was, and nothing is sent where memory was refused; or a refused head has its number.
+-- So many heads were refused, and have their numbers. Where none was the output is left alone.
+abbrev pub RefusesHeads : {R W : Type 0} → ℕ → ConnectionState R W → ConnectionState R W → Type 0
+RefusesHeads n old new = (new.requests ≡ old.requests ++ replicate n None) × (n ≡ 0 → (new.marks ≡ old.marks) × (new.outlet ≡ old.outlet))
+
+-- What an Ask leaves of requests, source and output, by its reply: a request was added behind the refused heads, and the source
+-- stands after its head; where none was refused nothing is sent, and no end or fault of the reader was met. Or none was added.
 abbrev pub AskLeaves : {R W : Type 0} → ConnectionState R W → ConnectionState R W → ReplyValue → Type 0
 AskLeaves old new (Handed k message framing) =
-    (k ≡ length old.marks) × ((w : Waiting) × (new.requests ≡ old.requests ++ Some (still.Waiting w) ∷ []) × (new.source.standing ≡ after_head framing w.body))
-    × (new.outlet ≡ old.outlet)
-AskLeaves old new Memory = (new.requests ≡ old.requests) × (new.marks ≡ old.marks) × (new.outlet ≡ old.outlet)
-AskLeaves old new Ended =
-    ((new.requests ≡ old.requests) × (new.marks ≡ old.marks) × (new.outlet ≡ old.outlet)) ⊎ (new.requests ≡ old.requests ++ None ∷ [])
+    (n : ℕ) × (w : Waiting) × (new.requests ≡ old.requests ++ replicate n None ++ Some (still.Waiting w) ∷ []) × (new.source.standing ≡ after_head framing w.body)
+    × (n ≡ 0 → (k ≡ length old.marks) × (new.outlet ≡ old.outlet) × (new.source.stop ≡ old.source.stop))
+AskLeaves old new Memory = (n : ℕ) × RefusesHeads n old new
+AskLeaves old new Ended = (n : ℕ) × RefusesHeads n old new
 AskLeaves old new NotYet = Unit {0}
 AskLeaves old new _ = ⊥
 

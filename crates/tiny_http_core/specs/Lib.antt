@@ -5,6 +5,7 @@ pub mod Seen
 pub mod Pending
 pub mod Connection
 pub mod Driving
+pub mod Asking
 pub mod ConversationReading
 pub mod ClientAnswer
 pub mod ClientReading

@@ -1,6 +1,6 @@
 //! A connection driven step by step, or by a list of steps, without threads.
 ghost use Rattle.std.specs.Global.{Global as Heap, Vec};
-ghost use Rattle.std.specs.Prelude.{◌≡◌, ℕ, ◌-◌, ◌<◌, ◌^◌, true, false, List, [], length, Some, None, map, Ok, IfOk, IfErr, IsTrue, vec_len, is_some, slice_get, String, string_bytes};
+ghost use Rattle.std.specs.Prelude.{◌≡◌, ℕ, ◌+◌, ◌-◌, ◌<◌, ◌^◌, true, false, List, [], length, Some, None, map, Ok, IfOk, IfErr, IfSome, IsTrue, vec_len, is_some, slice_get, String, string_bytes};
 ghost use Rattle.std.specs.List.{AllZip};
 ghost use Rattle.tiny_http_wire.specs.Device.{Feed, Sink, HoldsNothing};
 ghost use Rattle.tiny_http_sending.specs.ResponseValue.{ResponseValue};
@@ -12,6 +12,7 @@ ghost use Rattle.std.specs.declared.io.ErrorKind.{ErrorKind};
 ghost use Rattle.tiny_http_stream.specs.Source.{GoesOn};
 ghost use Rattle.tiny_http_core.specs.Pending.{waiting_answer_context};
 ghost use Rattle.tiny_http_core.specs.Driving.{HasDone, TakesStep, Drops, stated_response, stated_step};
+ghost use Rattle.tiny_http_core.specs.Asking.{CanAsk, AskStep, IsAskBehind};
 ghost use Rattle.tiny_http_sending.specs.ResponseValue.{printing_in};
 ghost use Rattle.tiny_http_core.specs.Seen.{seen, write_reply, Answers, IsAnswered, IsResponse, IsTimedStep, ReportsHonestly, ReportHonestly, all_sent};
 ghost use Rattle.tiny_http_stream.specs.Outlet.{output_of, outlet_ended, outlet_held, outlet_writer, SentOn};
@@ -252,13 +253,53 @@ impl<R: ReadDevice, W: WriteDevice> Connection<R, W> {
         self.pending.answer_context_at(number).is_some()
     }
 
+    // Reads the next head for an `ask`. It answers that, but where the head is refused and the next one stands behind its body.
+    fn ask_head(&mut self, alloc: Global, now: HttpDate) -> Option<Reply>
+        ensures answers { CanAsk self.old → IfSome result (λ reply. AskStep self.old self.new now (seen reply)) }
+        ensures passes { CanAsk self.old → result ≡ None → CanAsk self.new × IsAskBehind self.old self.new now }
+        ensures counts { result ≡ None → (length self.new.requests ≡ length self.old.requests + 1) × (length self.new.requests < 2 ^ 64) }
+    {
+        match read_head(alloc, &mut self.source, now) {
+            Ok(HeadRead::Request(exchange)) => {
+                let (head, waiting) = exchange.into_parts();
+                match self.pending.issue(Some(Unfinished::Waiting(waiting))) {
+                    Ok(number) => Some(Reply::Handed(number, head)),
+                    Err(_) => {
+                        self.end = Some(EndOfRequests::Memory);
+                        Some(Reply::Memory)
+                    }
+                }
+            }
+            Ok(HeadRead::Refused { status, text, last }) => {
+                if self.pending.refuse(&mut self.outlet, text).is_err() {
+                    self.end = Some(EndOfRequests::Memory);
+                    return Some(Reply::Memory);
+                }
+                if !last {
+                    return None;
+                }
+                self.end = Some(EndOfRequests::Refused(status));
+                Some(Reply::Ended)
+            }
+            Ok(HeadRead::Ended(why)) => {
+                self.end = Some(why);
+                Some(Reply::Ended)
+            }
+            Err(_) => {
+                self.end = Some(EndOfRequests::Memory);
+                Some(Reply::Memory)
+            }
+        }
+    }
+
     /// Goes to the next request, and hands it out with its number: `Handed`. It is `NotYet` while the body of the last request
     /// holds the reader: until that was read to its end or given up. It is `Ended` once the connection has no further request,
-    /// from then on, and `end_of_requests` says why. A refused head is answered under a number of its own, in its turn, and
-    /// ends the asking; so does `Memory`, and a chunked body that was given up before its end. It waits for the client only
-    /// until the head and a body of up to 1024 bytes have come, or the head alone where it expects a 100, and before them the
-    /// rest of a counted body that was given up. After the last request the reader isn't called. `now` dates the answer to a
-    /// refused head, and the 500 of this request if it is dropped.
+    /// from then on, and `end_of_requests` says why. A refused head is answered under a number of its own, in its turn. It ends
+    /// the asking, but after a 505 behind which a head follows the same call goes on. `Memory` ends it too, and a chunked body
+    /// that was given up before its end. The call waits for the client only until the head and a body of up to 1024 bytes have
+    /// come, or the head alone where it expects a 100, and before them the rest of a counted body that was given up or passed
+    /// over. After the last request the reader isn't called. `now` dates the answers to refused heads, and the 500 of this
+    /// request if it is dropped.
     pub fn ask(&mut self, alloc: Global, now: HttpDate) -> Reply
         ensures step { TakesStep self.old self.new now Step.Ask (seen result) }
     {
@@ -268,36 +309,9 @@ impl<R: ReadDevice, W: WriteDevice> Connection<R, W> {
         if matches!(self.source.standing(), Standing::Body) {
             return Reply::NotYet;
         }
-        match read_head(alloc, &mut self.source, now) {
-            Ok(HeadRead::Request(exchange)) => {
-                let (head, waiting) = exchange.into_parts();
-                match self.pending.issue(Some(Unfinished::Waiting(waiting))) {
-                    Ok(number) => Reply::Handed(number, head),
-                    Err(_) => {
-                        self.end = Some(EndOfRequests::Memory);
-                        Reply::Memory
-                    }
-                }
-            }
-            Ok(HeadRead::Refused { status, text, .. }) => {
-                match self.pending.refuse(&mut self.outlet, text) {
-                    Ok(()) => {
-                        self.end = Some(EndOfRequests::Refused(status));
-                        Reply::Ended
-                    }
-                    Err(_) => {
-                        self.end = Some(EndOfRequests::Memory);
-                        Reply::Memory
-                    }
-                }
-            }
-            Ok(HeadRead::Ended(why)) => {
-                self.end = Some(why);
-                Reply::Ended
-            }
-            Err(_) => {
-                self.end = Some(EndOfRequests::Memory);
-                Reply::Memory
+        loop {
+            if let Some(reply) = self.ask_head(alloc, now) {
+                return reply;
             }
         }
     }
