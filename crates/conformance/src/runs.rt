@@ -1,4 +1,5 @@
 //! Runs of a connection in memory, and what has to come of them.
+use crate::relay::run_relayed;
 use crate::same::assert_same;
 use httpdate::HttpDate;
 use std::alloc::{AllocError, Global};
@@ -314,7 +315,53 @@ fn assert_apart(
     assert_outcome(rt, alloc, case, &apart)
 }
 
-/// The run comes out so where reader and writer fail so, whether the bytes come together or in pieces.
+// Where this call of the writer fails, a front of the output is sent, and the writer isn't called again. `Interrupted` is the
+// kind by which much code tries again. Where no call fails, the output is whole. Whether one failed.
+fn assert_front(
+    rt: &impl Abort,
+    alloc: Global,
+    case: &Case<'_>,
+    (call, reader): (u64, Option<ErrorKind>),
+    whole: &str,
+) -> Result<bool, Fail> {
+    let reader = Canned::new(case.client.to_vec(alloc)?, reader);
+    let fault = (call, ErrorKind::Interrupted);
+    let mut found = run_relayed(alloc, reader, case.deeds, fault)?;
+    found.relay.taken.extend_from_slice(found.held.as_slice())?;
+    let output = str::from_utf8(found.relay.taken.as_slice())?;
+    if found.failures == 0 {
+        assert_same(rt, (call, output), (call, whole));
+        return Ok(false);
+    }
+    let front = (call, output, whole.starts_with(output));
+    assert_same(rt, front, (call, output, true));
+    assert_same(rt, (call, found.failures), (call, 1));
+    assert_same(rt, (call, found.relay.later), (call, 0));
+    Ok(true)
+}
+
+// More calls of the writer than any row makes.
+const MOST_CALLS: u64 = 1000;
+
+/// Lets each call of the writer fail in turn, after which a front of the output is sent and nothing more. Reports how many
+/// calls the whole run makes.
+pub(crate) fn assert_fronts(
+    rt: &impl Abort,
+    alloc: Global,
+    case: &Case<'_>,
+    reader: Option<ErrorKind>,
+) -> Result<u64, Fail> {
+    let whole = joined(alloc, case.output)?;
+    for call in 1..MOST_CALLS {
+        if !assert_front(rt, alloc, case, (call, reader), whole.as_str())? {
+            return Ok(call.saturating_sub(1));
+        }
+    }
+    Err("the writer is called too often".into())
+}
+
+/// The run comes out so where reader and writer fail so, whether the bytes come together or in pieces. Where the writer takes
+/// all, each of its calls is made to fail too.
 pub(crate) fn assert_troubled(
     rt: &impl Abort,
     alloc: Global,
@@ -326,6 +373,9 @@ pub(crate) fn assert_troubled(
     assert_outcome(rt, alloc, case, &together)?;
     for most in SIZES {
         assert_apart(rt, alloc, case, trouble, most)?;
+    }
+    if trouble.room == AMPLE {
+        assert_fronts(rt, alloc, case, trouble.reader)?;
     }
     Ok(())
 }
