@@ -1,9 +1,7 @@
 //! Requests that are handed out while earlier ones are open: their answers leave in the order of the requests.
 use crate::relay::{NEVER, run_relayed};
 use crate::runs::Deed::{Ask, Drop, Text};
-use crate::runs::{
-    Case, Deed, EMPTY, TEXT, assert_case, assert_fronts, assert_troubled, takes,
-};
+use crate::runs::{Case, Deed, EMPTY, TEXT, assert_case, assert_fronts, assert_troubled, takes};
 use crate::same::{assert_holds, assert_same};
 use std::alloc::Global;
 use std::io::ErrorKind;
