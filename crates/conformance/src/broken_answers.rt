@@ -1,4 +1,4 @@
-//! Answers whose data fail: the output ends with what was sent of them.
+//! Answers of more than one chunk, and answers whose data fail: the output ends with what was sent of them.
 use crate::exchanges::date;
 use crate::runs::Deed::{Ask, Data, Drop, Text};
 use crate::runs::{AMPLE, Case, DATED, Deed, assert_case, describe, output_of};
@@ -52,6 +52,47 @@ fn after_a_broken_answer_nothing_is_sent(rt: HostRuntime) -> Result<(), Fail> {
         ],
     };
     assert_case(&rt, rt.alloc(), &case)
+}
+
+// One byte more than a full chunk.
+const CHUNK_AND_BYTE: &[u8] = &[b'x'; 8193];
+
+#[test]
+fn data_of_more_than_a_chunk_are_sent(rt: HostRuntime) -> Result<(), Fail> {
+    let chunk = str::from_utf8(CHUNK)?;
+    for (client, replies, output) in [
+        (
+            b"GET / HTTP/1.1\r\n\r\n".as_slice(),
+            "0: GET / 1.1; done",
+            [
+                "HTTP/1.1 200 OK\r\n",
+                DATED,
+                "Transfer-Encoding: chunked\r\n\r\n2000\r\n",
+                chunk,
+                "\r\n1\r\nx\r\n0\r\n\r\n",
+            ],
+        ),
+        (
+            b"GET / HTTP/1.0\r\n\r\n",
+            "0: GET / 1.0; done",
+            [
+                "HTTP/1.0 200 OK\r\n",
+                DATED,
+                "Content-Length: 8193\r\n\r\n",
+                chunk,
+                "x",
+            ],
+        ),
+    ] {
+        let case = Case {
+            client,
+            deeds: &[Ask, Data(0, CHUNK_AND_BYTE, None)],
+            replies,
+            output: &output,
+        };
+        assert_case(&rt, rt.alloc(), &case)?;
+    }
+    Ok(())
 }
 
 // Data of unknown length that aren't sent in chunks are read whole before the head.

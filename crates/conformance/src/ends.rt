@@ -1,4 +1,4 @@
-//! Why no further request comes.
+//! Why no further request comes. No reply says that, so these rows have a table of their own, over pieces of all sizes.
 use crate::runs::Deed::{Ask, Drop, IntoWriter, Read, Text};
 use crate::runs::{Deed, Pieces, SIZES, steps_of};
 use crate::same::assert_same;

@@ -263,20 +263,31 @@ fn assert_upgrade(
     Ok(())
 }
 
-// Of a client of version 1.0 data of unknown length are read whole before any other answer.
+// After these upgrades of three requests, the head of one is the output.
+fn assert_upgrades(
+    rt: &impl Abort,
+    alloc: Global,
+    client: &[u8],
+    wanted: &[&str],
+) -> Result<(), Fail> {
+    let mut connection = asked(alloc, date()?, client)?;
+    for (upgrading, reply) in UPGRADES {
+        assert_upgrade(rt, alloc, &mut connection, *upgrading, reply)?;
+    }
+    let (_source, outlet) = connection.into_parts();
+    let output = output_of(alloc, outlet)?;
+    let wanted = joined(alloc, wanted)?;
+    assert_same(rt, str::from_utf8(&output)?, wanted.as_str());
+    Ok(())
+}
+
+// The length of the data isn't known. In any other answer to a client of version 1.0 such data are read before the head.
 #[test]
 fn the_data_of_an_upgrade_are_not_read(rt: HostRuntime) -> Result<(), Fail> {
-    let (alloc, now) = (rt.alloc(), date()?);
+    let lines = " 200 OK\r\nConnection: upgrade\r\nUpgrade: a\r\n";
     for (client, version) in [(THREE, "HTTP/1.1"), (THREE_OLDER, "HTTP/1.0")] {
-        let mut connection = asked(alloc, now, client)?;
-        for (upgrading, wanted) in UPGRADES {
-            assert_upgrade(&rt, alloc, &mut connection, *upgrading, wanted)?;
-        }
-        let (_source, outlet) = connection.into_parts();
-        let output = output_of(alloc, outlet)?;
-        let head = " 200 OK\r\nConnection: upgrade\r\nUpgrade: a\r\n";
-        let wanted = joined(alloc, &[version, head, DATED, "\r\n"])?;
-        assert_same(&rt, str::from_utf8(&output)?, wanted.as_str());
+        let head = [version, lines, DATED, "\r\n"];
+        assert_upgrades(&rt, rt.alloc(), client, &head)?;
     }
     Ok(())
 }
