@@ -1,4 +1,4 @@
-//! Answers whose data fail: the output ends with what was sent of them.
+//! Answers of more than one chunk, and answers whose data fail: the output ends with what was sent of them.
 use crate::exchanges::date;
 use crate::runs::Deed::{Ask, Data, Drop, Text};
 use crate::runs::{AMPLE, Case, DATED, Deed, assert_case, describe, output_of};
@@ -20,9 +20,10 @@ const BYTES: &[u8] = &[b'x'; 8197];
 // The full chunk.
 const CHUNK: &[u8] = &[b'x'; 8192];
 
-const THREE: &[u8] = b"GET /a HTTP/1.1\r\n\r\nGET /b HTTP/1.1\r\n\r\nGET /c HTTP/1.1\r\n\r\n";
+pub(crate) const THREE: &[u8] =
+    b"GET /a HTTP/1.1\r\n\r\nGET /b HTTP/1.1\r\n\r\nGET /c HTTP/1.1\r\n\r\n";
 
-const THREE_OLDER: &[u8] =
+pub(crate) const THREE_OLDER: &[u8] =
     b"GET /a HTTP/1.0\r\nConnection: keep-alive\r\n\r\nGET /b HTTP/1.0\r\nConnection: keep-alive\r\n\r\nGET /c HTTP/1.0\r\nConnection: keep-alive\r\n\r\n";
 
 // An answer that breaks, before it a drop out of turn and after it an answer.
@@ -51,6 +52,47 @@ fn after_a_broken_answer_nothing_is_sent(rt: HostRuntime) -> Result<(), Fail> {
         ],
     };
     assert_case(&rt, rt.alloc(), &case)
+}
+
+// One byte more than a full chunk.
+const CHUNK_AND_BYTE: &[u8] = &[b'x'; 8193];
+
+#[test]
+fn data_of_more_than_a_chunk_are_sent(rt: HostRuntime) -> Result<(), Fail> {
+    let chunk = str::from_utf8(CHUNK)?;
+    for (client, replies, output) in [
+        (
+            b"GET / HTTP/1.1\r\n\r\n".as_slice(),
+            "0: GET / 1.1; done",
+            [
+                "HTTP/1.1 200 OK\r\n",
+                DATED,
+                "Transfer-Encoding: chunked\r\n\r\n2000\r\n",
+                chunk,
+                "\r\n1\r\nx\r\n0\r\n\r\n",
+            ],
+        ),
+        (
+            b"GET / HTTP/1.0\r\n\r\n",
+            "0: GET / 1.0; done",
+            [
+                "HTTP/1.0 200 OK\r\n",
+                DATED,
+                "Content-Length: 8193\r\n\r\n",
+                chunk,
+                "x",
+            ],
+        ),
+    ] {
+        let case = Case {
+            client,
+            deeds: &[Ask, Data(0, CHUNK_AND_BYTE, None)],
+            replies,
+            output: &output,
+        };
+        assert_case(&rt, rt.alloc(), &case)?;
+    }
+    Ok(())
 }
 
 // Data of unknown length that aren't sent in chunks are read whole before the head.
@@ -98,9 +140,13 @@ pub(crate) fn lent(alloc: Global, data: &mut Watched) -> Response<&mut Watched> 
     Response::empty(alloc, StatusCode(200)).with_data(data, None)
 }
 
-// A connection that has handed out three requests.
-fn asked(alloc: Global, now: HttpDate) -> Result<Connection<Canned, Budget>, Fail> {
-    let reader = Canned::new(THREE.to_vec(alloc)?, None);
+/// A connection that has handed out the three requests of this client.
+pub(crate) fn asked(
+    alloc: Global,
+    now: HttpDate,
+    client: &[u8],
+) -> Result<Connection<Canned, Budget>, Fail> {
+    let reader = Canned::new(client.to_vec(alloc)?, None);
     let writer = Budget::new(alloc, AMPLE, ErrorKind::Other);
     let mut connection = Connection::new(alloc, reader, writer);
     for _ in 0..3 {
@@ -111,8 +157,8 @@ fn asked(alloc: Global, now: HttpDate) -> Result<Connection<Canned, Budget>, Fai
     Ok(connection)
 }
 
-// The reply to an answer by these data.
-fn reply_to(
+/// The reply to an answer by these data.
+pub(crate) fn reply_to(
     alloc: Global,
     now: HttpDate,
     connection: &mut Connection<Canned, Budget>,
@@ -127,7 +173,7 @@ fn talk(alloc: Global, unread: &mut Watched) -> Result<(String, Vec<u8>), Fail> 
     let now = date()?;
     let mut whole = Watched::new(alloc, b"hello", None)?;
     let mut broken = Watched::new(alloc, b"hello", Some(ErrorKind::Other))?;
-    let mut connection = asked(alloc, now)?;
+    let mut connection = asked(alloc, now, THREE)?;
     let replies = [
         reply_to(alloc, now, &mut connection, 0, &mut whole),
         reply_to(alloc, now, &mut connection, 1, &mut broken),
@@ -145,7 +191,7 @@ const WHOLE_AND_BROKEN: &str =
 #[test]
 fn data_of_an_answer_that_is_not_sent_are_not_read(rt: HostRuntime) -> Result<(), Fail> {
     let (alloc, now) = (rt.alloc(), date()?);
-    let mut connection = asked(alloc, now)?;
+    let mut connection = asked(alloc, now, THREE)?;
     let mut unread = Watched::new(alloc, b"hello", None)?;
     let replies = [
         reply_to(alloc, now, &mut connection, 1, &mut unread),

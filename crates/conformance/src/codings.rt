@@ -1,5 +1,5 @@
 //! Answers in the coding that each request asks for by its `TE` (RFC 9110, section 10.1.4).
-use crate::runs::Deed::{Ask, Data, Drop, Text};
+use crate::runs::Deed::{Ask, Data, Drop, Measured, Text};
 use crate::runs::{Case, DATED, Deed, EMPTY, TEXT, assert_case};
 use std::alloc::Global;
 use std::process::Abort;
@@ -57,6 +57,36 @@ const ROWS: &[Row] = &[
         Data(0, b"hello", None),
         "0: GET / 1.1 [TE: identity]; done",
         &[OK, DATED, "Content-Length: 5\r\n\r\nhello"],
+    ),
+    // Data that end before their length, and data that go on after it.
+    (
+        b"GET / HTTP/1.1\r\n\r\n",
+        Measured(0, 200, b"abcd", 10),
+        "0: GET / 1.1; fault UnexpectedEof",
+        &[OK, DATED, "Content-Length: 10\r\n\r\nabcd"],
+    ),
+    (
+        b"GET / HTTP/1.1\r\n\r\n",
+        Measured(0, 200, b"hello", 3),
+        "0: GET / 1.1; done",
+        &[OK, DATED, "Content-Length: 3\r\n\r\nhel"],
+    ),
+    // An answer in chunks sends all of its data.
+    (
+        b"GET / HTTP/1.1\r\nTE: chunked\r\n\r\n",
+        Measured(0, 200, b"hello", 3),
+        "0: GET / 1.1 [TE: chunked]; done",
+        &[
+            OK,
+            DATED,
+            "Transfer-Encoding: chunked\r\n\r\n5\r\nhello\r\n0\r\n\r\n",
+        ],
+    ),
+    (
+        b"GET / HTTP/1.1\r\nTE: chunked\r\n\r\n",
+        Measured(0, 204, b"", 0),
+        "0: GET / 1.1 [TE: chunked]; done",
+        &["HTTP/1.1 204 No Content\r\n", EMPTY],
     ),
     // A body that is withheld keeps its framing.
     (

@@ -1,6 +1,7 @@
 //! A stream of a reader and a writer.
 use crate::same::assert_same;
 use std::alloc::Global;
+use std::io;
 use std::io::{ErrorKind, Read, Write};
 use std::process::Abort;
 use std::test::Fail;
@@ -76,5 +77,115 @@ fn a_fault_of_the_writer_is_reported_and_the_reader_stays(rt: HostRuntime) -> Re
     read_all(&rt, &mut stream, b"hello")?;
     let (_, writer) = stream.into_parts();
     assert_same(&rt, writer.bytes(), b"wor");
+    Ok(())
+}
+
+// The kind of the fault, if it is one.
+fn fault_of(outcome: io::Result<usize>) -> Option<ErrorKind> {
+    outcome.err().map(|fault| fault.kind())
+}
+
+// The first read gives these bytes, and the second reports this fault, by the trait of std.
+fn assert_broken_off<S: Read>(
+    rt: &impl Abort,
+    stream: &mut S,
+    wanted: &[u8],
+    kind: ErrorKind,
+) -> Result<(), Fail> {
+    let mut buf = [0u8; 16];
+    let count = stream.read(&mut buf)?;
+    assert_same(rt, buf.get(..count), Some(wanted));
+    assert_same(rt, fault_of(stream.read(&mut buf)), Some(kind));
+    Ok(())
+}
+
+// The same by the device's own calls.
+fn assert_broken_device<S: ReadDevice>(
+    rt: &impl Abort,
+    stream: &mut S,
+    wanted: &[u8],
+    kind: ErrorKind,
+) -> Result<(), Fail> {
+    let mut buf = [0u8; 16];
+    let count = stream.read_in(&mut buf)?;
+    assert_same(rt, buf.get(..count), Some(wanted));
+    assert_same(rt, fault_of(stream.read_in(&mut buf)), Some(kind));
+    Ok(())
+}
+
+// A stream whose reader gives `hello` and then fails by this kind at each call.
+fn broken_off(alloc: Global, kind: ErrorKind) -> Result<CustomStream<Canned, Budget>, Fail> {
+    let reader = Canned::new(b"hello".to_vec(alloc)?, Some(kind));
+    Ok(CustomStream::new(reader, Budget::new(alloc, 100, ErrorKind::Other)))
+}
+
+// What the writer took, and how often it failed.
+fn assert_written(
+    rt: &impl Abort,
+    stream: CustomStream<Canned, Budget>,
+    wanted: &[u8],
+    failures: u64,
+) {
+    let (_, writer) = stream.into_parts();
+    assert_same(rt, (writer.bytes(), writer.failures()), (wanted, failures));
+}
+
+// `Interrupted` is the kind by which much code tries again.
+const KINDS: [ErrorKind; 3] = [
+    ErrorKind::Other,
+    ErrorKind::TimedOut,
+    ErrorKind::Interrupted,
+];
+
+#[test]
+fn a_fault_of_the_reader_is_reported_and_the_writer_stays(rt: HostRuntime) -> Result<(), Fail> {
+    for kind in KINDS {
+        let mut stream = broken_off(rt.alloc(), kind)?;
+        assert_broken_off(&rt, &mut stream, b"hello", kind)?;
+        write_all(&mut stream, b"bye")?;
+        assert_written(&rt, stream, b"bye", 0);
+    }
+    Ok(())
+}
+
+#[test]
+fn a_fault_of_the_reader_is_reported_by_the_device(rt: HostRuntime) -> Result<(), Fail> {
+    for kind in KINDS {
+        let mut stream = broken_off(rt.alloc(), kind)?;
+        assert_broken_device(&rt, &mut stream, b"hello", kind)?;
+        assert_same(&rt, stream.write_out(b"bye")?, 3);
+        assert_written(&rt, stream, b"bye", 0);
+    }
+    Ok(())
+}
+
+// A stream whose writer takes three bytes, and then fails by this kind.
+fn narrow(alloc: Global, kind: ErrorKind) -> Result<CustomStream<Canned, Budget>, Fail> {
+    let reader = Canned::new(b"hello".to_vec(alloc)?, None);
+    Ok(CustomStream::new(reader, Budget::new(alloc, 3, kind)))
+}
+
+// A write takes the bytes that there is room for, and the next one reports the fault.
+#[test]
+fn a_write_reports_what_the_writer_took(rt: HostRuntime) -> Result<(), Fail> {
+    for kind in KINDS {
+        let mut stream = narrow(rt.alloc(), kind)?;
+        assert_same(&rt, stream.write(b"words")?, 3);
+        assert_same(&rt, stream.failures(), 0);
+        assert_same(&rt, fault_of(stream.write(b"ds")), Some(kind));
+        assert_written(&rt, stream, b"wor", 1);
+    }
+    Ok(())
+}
+
+#[test]
+fn a_write_of_the_device_reports_what_the_writer_took(rt: HostRuntime) -> Result<(), Fail> {
+    for kind in KINDS {
+        let mut stream = narrow(rt.alloc(), kind)?;
+        assert_same(&rt, stream.write_out(b"words")?, 3);
+        assert_same(&rt, fault_of(stream.write_out(b"ds")), Some(kind));
+        assert_same(&rt, fault_of(stream.write_out(b"")), None);
+        assert_written(&rt, stream, b"wor", 1);
+    }
     Ok(())
 }

@@ -1,4 +1,4 @@
-//! Nothing is read ahead: how often a step calls the client.
+//! Nothing is read ahead: how often a step calls the client. The client itself says how the bytes come in pieces.
 use crate::runs::Deed::{Ask, Drop, Read, Text};
 use crate::runs::{Deed, steps_of};
 use crate::same::assert_same;

@@ -38,6 +38,8 @@ mod readers;
 #[cfg(test)]
 mod reading;
 #[cfg(test)]
+mod relay;
+#[cfg(test)]
 mod runs;
 #[cfg(test)]
 mod same;

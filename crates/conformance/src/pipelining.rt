@@ -1,14 +1,13 @@
 //! Requests that are handed out while earlier ones are open: their answers leave in the order of the requests.
+use crate::relay::{NEVER, run_relayed};
 use crate::runs::Deed::{Ask, Drop, Text};
-use crate::runs::{Case, Deed, EMPTY, TEXT, assert_case, assert_troubled, steps_of, takes};
+use crate::runs::{Case, Deed, EMPTY, TEXT, assert_case, assert_fronts, assert_troubled, takes};
 use crate::same::{assert_holds, assert_same};
 use std::alloc::Global;
-use std::io;
-use std::io::{ErrorKind, Write};
+use std::io::ErrorKind;
 use std::process::Abort;
 use std::test::Fail;
-use tiny_http_core::driver::run;
-use tiny_http_wire::device::{Canned, Metered, WriteDevice};
+use tiny_http_wire::device::Canned;
 
 const THREE: &[u8] = b"GET / HTTP/1.1\r\n\r\nGET / HTTP/1.1\r\n\r\nGET / HTTP/1.1\r\n\r\n";
 
@@ -141,61 +140,6 @@ fn no_reply_reports_a_fault_in_a_text_that_waited(rt: HostRuntime) -> Result<(),
     assert_troubled(&rt, rt.alloc(), &case, takes(room, ErrorKind::Other))
 }
 
-// Takes all bytes, but for one call, which fails.
-#[derive(Drop)]
-struct Faltering {
-    taken: Vec<u8>,
-    // How many calls are left up to that one, and with it.
-    calls: u64,
-}
-
-impl Faltering {
-    fn falters(&mut self) -> bool {
-        if self.calls == 0 {
-            return false;
-        }
-        self.calls -= 1;
-        self.calls == 0
-    }
-}
-
-impl Write for Faltering {
-    fn write(&mut self, buf: &[u8]) -> io::Result<usize> {
-        if self.falters() {
-            return Err(ErrorKind::Other.into());
-        }
-        self.taken.extend_from_slice(buf)?;
-        Ok(buf.len())
-    }
-
-    fn flush(&mut self) -> io::Result<()> {
-        if self.falters() {
-            return Err(ErrorKind::Other.into());
-        }
-        Ok(())
-    }
-}
-
-// Runs these steps over these bytes, where this call of the writer fails: how often the writer failed, and what is left of it.
-fn run_faltering(
-    alloc: Global,
-    client: &[u8],
-    deeds: &[Deed<'_>],
-    calls: u64,
-) -> Result<(u64, Faltering), Fail> {
-    let reader = Canned::new(client.to_vec(alloc)?, None);
-    let writer = Metered::new(Faltering {
-        taken: Vec::new(alloc),
-        calls,
-    });
-    let Ok(record) = run(alloc, reader, writer, steps_of(alloc, deeds)?) else {
-        return Err("no room for the replies".into());
-    };
-    let writer = record.outlet.into_inner();
-    let failures = writer.failures();
-    Ok((failures, writer.into_inner()))
-}
-
 // Requests of two versions in turn, so that their answers differ.
 const REQUESTS: [&str; 5] = [
     "GET /0 HTTP/1.1\r\n\r\n",
@@ -263,8 +207,9 @@ fn assert_dropped(
     wanted: &[u8],
 ) -> Result<(), Fail> {
     let deeds = deeds_of(alloc, order)?;
-    let (_failures, writer) = run_faltering(alloc, client, deeds.as_slice(), u64::MAX)?;
-    assert_same(rt, (order, writer.taken.as_slice()), (order, wanted));
+    let reader = Canned::new(client.to_vec(alloc)?, None);
+    let outcome = run_relayed(alloc, reader, deeds.as_slice(), NEVER)?;
+    assert_same(rt, (order, outcome.relay.sent_on()), (order, wanted));
     Ok(())
 }
 
@@ -297,34 +242,16 @@ fn drops_in_every_order(rt: HostRuntime) -> Result<(), Fail> {
     Ok(())
 }
 
-// Runs the three requests where this call of the writer fails, and says whether there is such a call.
-fn assert_faltered(rt: &impl Abort, alloc: Global, call: u64, whole: &[u8]) -> Result<bool, Fail> {
-    let (failures, writer) = run_faltering(alloc, THREE, OUT_OF_ORDER, call)?;
-    let taken = writer.taken.as_slice();
-    if writer.calls > 0 {
-        assert_same(rt, (failures, taken), (0, whole));
-        return Ok(false);
-    }
-    assert_same(rt, failures, 1);
-    assert_holds(
-        rt,
-        "a front of the whole is taken",
-        whole.starts_with(taken),
-    );
-    Ok(true)
-}
-
+// Three answers and one text that waited, each written and flushed by at least one call.
 #[test]
 fn each_call_of_the_writer_fails(rt: HostRuntime) -> Result<(), Fail> {
-    let (_failures, whole) = run_faltering(rt.alloc(), THREE, OUT_OF_ORDER, u64::MAX)?;
-    let mut last = 0;
-    for call in 1..100 {
-        if !assert_faltered(&rt, rt.alloc(), call, whole.taken.as_slice())? {
-            break;
-        }
-        last = call;
-    }
-    // Three answers and one text that waited, each written and flushed by at least one call.
-    assert!(rt; last >= 6 && last < 99);
+    let case = Case {
+        client: THREE,
+        deeds: OUT_OF_ORDER,
+        replies: "",
+        output: IN_ORDER,
+    };
+    let calls = assert_fronts(&rt, rt.alloc(), &case, None)?;
+    assert_holds(&rt, "at least six calls fail", calls >= 6);
     Ok(())
 }

@@ -1,4 +1,5 @@
 //! Runs of a connection in memory, and what has to come of them.
+use crate::relay::{RelayRun, run_relayed};
 use crate::same::assert_same;
 use httpdate::HttpDate;
 use std::alloc::{AllocError, Global};
@@ -45,6 +46,8 @@ pub(crate) enum Deed<'a> {
     Coded(u64, u16, &'a str),
     /// Answers the request of this number by 200 and data of unknown length, which end, or fail by this kind.
     Data(u64, &'a [u8], Option<ErrorKind>),
+    /// Answers the request of this number by a code and data that are said to have so many bytes.
+    Measured(u64, u16, &'a [u8], usize),
     /// Takes the raw writer of the request of this number.
     IntoWriter(u64),
     /// Writes this text by the raw writer of this number.
@@ -147,6 +150,17 @@ fn data(
     Ok(Response::empty(alloc, StatusCode(200)).with_data(data, None))
 }
 
+// The answer of this code with these data, which are said to have so many bytes.
+fn measured(
+    alloc: Global,
+    code: u16,
+    bytes: &[u8],
+    length: usize,
+) -> Result<Response<Canned>, AllocError> {
+    let data = Canned::new(bytes.to_vec(alloc)?, None);
+    Ok(Response::empty(alloc, StatusCode(code)).with_data(data, Some(length)))
+}
+
 fn step_of(alloc: Global, deed: Deed<'_>) -> Result<Step<Canned>, AllocError> {
     Ok(match deed {
         Deed::Ask => Step::Ask,
@@ -158,6 +172,9 @@ fn step_of(alloc: Global, deed: Deed<'_>) -> Result<Step<Canned>, AllocError> {
             Step::Respond(number, answer.with_status_code(StatusCode(code)))
         }
         Deed::Data(number, bytes, fault) => Step::Respond(number, data(alloc, bytes, fault)?),
+        Deed::Measured(number, code, bytes, length) => {
+            Step::Respond(number, measured(alloc, code, bytes, length)?)
+        }
         Deed::IntoWriter(number) => Step::IntoWriter(number),
         Deed::Write(number, words) => Step::Write(number, words.as_bytes().to_vec(alloc)?),
         Deed::Flush(number) => Step::Flush(number),
@@ -314,7 +331,65 @@ fn assert_apart(
     assert_outcome(rt, alloc, case, &apart)
 }
 
-/// The run comes out so where reader and writer fail so, whether the bytes come together or in pieces.
+// The run where this call of the writer fails. What is held back counts as taken. `Interrupted` is the kind by which much code
+// tries again.
+fn run_failing(
+    alloc: Global,
+    case: &Case<'_>,
+    (call, reader): (u64, Option<ErrorKind>),
+) -> Result<RelayRun, Fail> {
+    let reader = Canned::new(case.client.to_vec(alloc)?, reader);
+    let fault = (call, ErrorKind::Interrupted);
+    let mut outcome = run_relayed(alloc, reader, case.deeds, fault)?;
+    let taken = &mut outcome.relay.taken;
+    taken.extend_from_slice(outcome.held.as_slice())?;
+    Ok(outcome)
+}
+
+// Where this call of the writer fails, the output is a front of the whole, and the writer isn't called again. Where no call
+// fails, the output is the whole. Reports whether one failed.
+fn assert_front(
+    rt: &impl Abort,
+    alloc: Global,
+    case: &Case<'_>,
+    (call, reader): (u64, Option<ErrorKind>),
+    whole: &str,
+) -> Result<bool, Fail> {
+    let outcome = run_failing(alloc, case, (call, reader))?;
+    let output = str::from_utf8(outcome.relay.taken.as_slice())?;
+    let counts = (call, outcome.failures, outcome.relay.later);
+    if outcome.failures == 0 {
+        assert_same(rt, (call, output), (call, whole));
+        return Ok(false);
+    }
+    let is_front = whole.starts_with(output);
+    assert_same(rt, (whole, output, is_front), (whole, output, true));
+    assert_same(rt, (whole, counts), (whole, (call, 1, 0)));
+    Ok(true)
+}
+
+// More calls of the writer than any row makes.
+const MOST_CALLS: u64 = 1000;
+
+/// Lets each call of the writer fail in turn, after which a front of the output is sent and nothing more. Reports how many
+/// calls the whole run makes.
+pub(crate) fn assert_fronts(
+    rt: &impl Abort,
+    alloc: Global,
+    case: &Case<'_>,
+    reader: Option<ErrorKind>,
+) -> Result<u64, Fail> {
+    let whole = joined(alloc, case.output)?;
+    for call in 1..MOST_CALLS {
+        if !assert_front(rt, alloc, case, (call, reader), whole.as_str())? {
+            return Ok(call.saturating_sub(1));
+        }
+    }
+    Err("the writer is called too often".into())
+}
+
+/// The run comes out so where reader and writer fail so, whether the bytes come together or in pieces. Where the writer takes
+/// all, each of its calls is made to fail too.
 pub(crate) fn assert_troubled(
     rt: &impl Abort,
     alloc: Global,
@@ -326,6 +401,9 @@ pub(crate) fn assert_troubled(
     assert_outcome(rt, alloc, case, &together)?;
     for most in SIZES {
         assert_apart(rt, alloc, case, trouble, most)?;
+    }
+    if trouble.room == AMPLE {
+        assert_fronts(rt, alloc, case, trouble.reader)?;
     }
     Ok(())
 }

@@ -1,19 +1,19 @@
 //! Raw writers: what is held until it is sent on, and how a writer that fails is reported.
 use crate::exchanges::date;
+use crate::relay::{NEVER, RelayRun, run_relayed};
 use crate::runs::Deed::{Ask, Data, Drop, Finish, Flush, IntoWriter, Text, Write};
 use crate::runs::{
     AMPLE, Case, DATED, Deed, EMPTY, TEXT, assert_case, assert_troubled, describe, joined,
-    output_of, steps_of, takes,
+    output_of, takes,
 };
 use crate::same::{assert_holds, assert_same};
 use crate::writers::{A, ERROR, FOUR, OK, ONE, THREE, TWO};
 use std::alloc::Global;
-use std::io;
 use std::io::ErrorKind;
 use std::process::Abort;
 use std::test::Fail;
-use tiny_http_core::driver::{Connection, run};
-use tiny_http_wire::device::{Budget, Canned, Metered, WriteDevice};
+use tiny_http_core::driver::Connection;
+use tiny_http_wire::device::{Budget, Canned};
 
 // So many letters, those of the alphabet in turn.
 fn letters(alloc: Global, length: usize) -> Result<String, Fail> {
@@ -80,88 +80,6 @@ fn a_long_write_comes_out_whole(rt: HostRuntime) -> Result<(), Fail> {
     Ok(())
 }
 
-// A writer that takes all bytes, but for one call, which fails. A flush sends on what it took.
-#[derive(Drop)]
-struct Relay {
-    taken: Vec<u8>,
-    // How many of these were sent on.
-    sent: usize,
-    // How many calls are left up to the one that fails, and with it.
-    calls: u64,
-    kind: ErrorKind,
-}
-
-impl Relay {
-    // What was sent on.
-    fn sent_on(&self) -> &[u8] {
-        self.taken.get(..self.sent).unwrap_or_default()
-    }
-
-    // Counts a call, which may be the one that fails.
-    fn call(&mut self) -> io::Result<()> {
-        if self.calls == 0 {
-            return Ok(());
-        }
-        self.calls -= 1;
-        if self.calls == 0 {
-            return Err(self.kind.into());
-        }
-        Ok(())
-    }
-}
-
-impl io::Write for Relay {
-    fn write(&mut self, buf: &[u8]) -> io::Result<usize> {
-        self.call()?;
-        self.taken.extend_from_slice(buf)?;
-        Ok(buf.len())
-    }
-
-    fn flush(&mut self) -> io::Result<()> {
-        self.call()?;
-        self.sent = self.taken.len();
-        Ok(())
-    }
-}
-
-// What came of a run over a relay.
-#[derive(Drop)]
-struct RelayRun {
-    replies: String,
-    failures: u64,
-    relay: Relay,
-}
-
-// Runs these steps where this call of the writer fails by this kind.
-fn run_relayed(
-    alloc: Global,
-    client: &[u8],
-    deeds: &[Deed<'_>],
-    (calls, kind): (u64, ErrorKind),
-) -> Result<RelayRun, Fail> {
-    let reader = Canned::new(client.to_vec(alloc)?, None);
-    let writer = Metered::new(Relay {
-        taken: Vec::new(alloc),
-        sent: 0,
-        calls,
-        kind,
-    });
-    let Ok(record) = run(alloc, reader, writer, steps_of(alloc, deeds)?) else {
-        return Err("no room for the replies".into());
-    };
-    let replies = describe(alloc, record.replies.as_slice())?;
-    let writer = record.outlet.into_inner();
-    let failures = writer.failures();
-    Ok(RelayRun {
-        replies,
-        failures,
-        relay: writer.into_inner(),
-    })
-}
-
-// The call of a writer that never fails.
-const NEVER: (u64, ErrorKind) = (u64::MAX, ErrorKind::Other);
-
 // These pieces were sent on after these steps.
 fn assert_sent_on(
     rt: &impl Abort,
@@ -169,7 +87,8 @@ fn assert_sent_on(
     deeds: &[Deed<'_>],
     pieces: &[&str],
 ) -> Result<(), Fail> {
-    let outcome = run_relayed(alloc, THREE, deeds, NEVER)?;
+    let reader = Canned::new(THREE.to_vec(alloc)?, None);
+    let outcome = run_relayed(alloc, reader, deeds, NEVER)?;
     let wanted = joined(alloc, pieces)?;
     let found = (deeds.len(), outcome.relay.sent_on());
     assert_same(rt, found, (deeds.len(), wanted.as_str().as_bytes()));
@@ -368,7 +287,8 @@ fn run_front(
     fault: (u64, ErrorKind),
 ) -> Result<RelayRun, Fail> {
     let deeds = deeds_of(alloc, row, count)?;
-    run_relayed(alloc, FOUR, deeds.as_slice(), fault)
+    let reader = Canned::new(FOUR.to_vec(alloc)?, None);
+    run_relayed(alloc, reader, deeds.as_slice(), fault)
 }
 
 // How many steps it takes until the writer has failed, if it does.
