@@ -162,6 +162,24 @@ const ROWS: &[Row] = &[
         b"GET / HTTP/2.0\r\n\r\n",
         None,
         &[Ask],
+        Some(EndOfRequests::Closed),
+    ),
+    (
+        b"GET / HTTP/2.0\r\n\r\nbad\r\n",
+        None,
+        &[Ask],
+        Some(EndOfRequests::Refused(StatusCode(400))),
+    ),
+    (
+        b"GET / HTTP/2.0\r\n\r\nG",
+        Some(ErrorKind::Other),
+        &[Ask],
+        Some(EndOfRequests::Fault(ErrorKind::Other)),
+    ),
+    (
+        b"POST / HTTP/2.0\r\nTransfer-Encoding: chunked\r\n\r\n0\r\n\r\n",
+        None,
+        &[Ask],
         Some(EndOfRequests::Refused(StatusCode(505))),
     ),
     (

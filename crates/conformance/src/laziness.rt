@@ -119,7 +119,7 @@ const NO_REQUESTS: &[&[&[u8]]] = &[
     &[b"bad\r\n"],
     &[b"GET / HTTP/1.1\r\nbad\r\n"],
     &[b"GET /\xff HTTP/1.1\r\n"],
-    &[b"GET / HTTP/2.0\r\n\r\n"],
+    &[b"POST / HTTP/2.0\r\nTransfer-Encoding: chunked\r\n\r\n"],
     &[b"POST / HTTP/1.1\r\nExpect: x\r\n\r\n"],
     &[b"POST / HTTP/1.1\r\nExpect: x\r\nContent-Length: 5\r\n\r\n"],
 ];
@@ -130,6 +130,17 @@ fn a_head_that_is_no_request_waits_for_no_more(rt: HostRuntime) -> Result<(), Fa
         assert_calls(&rt, rt.alloc(), pieces, &[Ask, Ask], &[0, 1, 1])?;
     }
     Ok(())
+}
+
+// Behind a head of version 2.0 the same ask waits for the next one, and for no byte more.
+#[test]
+fn a_version_above_1_1_is_passed_for_one_head(rt: HostRuntime) -> Result<(), Fail> {
+    let pieces: &[&[u8]] = &[
+        b"POST / HTTP/2.0\r\nContent-Length: 3\r\n\r\nabc",
+        b"GET / HTTP/1.1\r\n\r\n",
+        b"G",
+    ];
+    assert_calls(&rt, rt.alloc(), pieces, &[Ask, Drop(1)], &[0, 2, 2])
 }
 
 // A reader that fails once, and then gives a request.

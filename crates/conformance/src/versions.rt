@@ -74,9 +74,13 @@ fn the_version_is_judged_last(rt: HostRuntime) -> Result<(), Fail> {
     Ok(())
 }
 
-// It is not handed out, and no head is read behind it.
+const ANSWERED: &str = "HTTP/1.1 200 OK\r\n";
+
+const X: &str = "Content-Length: 1\r\n\r\nx";
+
+// It is not handed out. The same ask hands out what stands behind its body, under the next number.
 #[test]
-fn a_connection_ends_at_a_version_above_1_1(rt: HostRuntime) -> Result<(), Fail> {
+fn an_ask_goes_on_behind_a_version_above_1_1(rt: HostRuntime) -> Result<(), Fail> {
     for (client, supported) in [
         (
             b"GET / HTTP/2.0\r\n\r\nGET /b HTTP/1.1\r\n\r\n".as_slice(),
@@ -87,23 +91,80 @@ fn a_connection_ends_at_a_version_above_1_1(rt: HostRuntime) -> Result<(), Fail>
             "",
         ),
         (
-            b"POST / HTTP/3.0\r\nContent-Length: 5\r\n\r\nhelloGET /b HTTP/1.1\r\n\r\n".as_slice(),
-            SUPPORTED,
-        ),
-        (
-            b"POST / HTTP/2.0\r\nTransfer-Encoding: chunked\r\n\r\n0\r\n\r\nGET /b HTTP/1.1\r\n\r\n".as_slice(),
+            b"POST / HTTP/3.0\r\nConnection: close\r\nContent-Length: 5\r\n\r\nhelloGET /b HTTP/1.1\r\n\r\n".as_slice(),
             SUPPORTED,
         ),
     ] {
         let case = Case {
             client,
-            deeds: &[Ask, Ask, Text(0, "x"), IntoWriter(0), Drop(0), Text(1, "x")],
-            replies: "ended; ended; no such; no such; no such; no such",
-            output: &[TOO_NEW, TEXT, LENGTH, supported],
+            deeds: &[Ask, Text(0, "x"), IntoWriter(0), Drop(0), Text(1, "x"), Ask],
+            replies: "1: GET /b 1.1; no such; no such; no such; done; ended",
+            output: &[TOO_NEW, TEXT, LENGTH, supported, ANSWERED, TEXT, X],
         };
         assert_case(&rt, rt.alloc(), &case)?;
     }
     Ok(())
+}
+
+// The worked row: 2000 bytes of a body are passed over.
+#[test]
+fn an_ask_goes_on_behind_a_long_body(rt: HostRuntime) -> Result<(), Fail> {
+    let alloc = rt.alloc();
+    let head = "POST / HTTP/2.0\r\nConnection: close\r\nContent-Length: 2000\r\n\r\n";
+    let client = client_of(alloc, head, 2000)?;
+    let case = Case {
+        client: client.as_slice(),
+        deeds: &[Ask, Ask],
+        replies: "1: GET /b 1.1; ended",
+        output: &[TOO_NEW, TEXT, LENGTH, SUPPORTED],
+    };
+    assert_case(&rt, alloc, &case)
+}
+
+#[test]
+fn a_connection_ends_behind_an_upgrade_or_chunks(rt: HostRuntime) -> Result<(), Fail> {
+    for client in [
+        b"POST / HTTP/2.0\r\nConnection: upgrade\r\nContent-Length: 5\r\n\r\nhelloGET /b HTTP/1.1\r\n\r\n".as_slice(),
+        b"POST / HTTP/2.0\r\nTransfer-Encoding: chunked\r\n\r\n0\r\n\r\nGET /b HTTP/1.1\r\n\r\n".as_slice(),
+    ] {
+        let case = Case {
+            client,
+            deeds: &[Ask, Ask, Text(0, "x"), Text(1, "x")],
+            replies: "ended; ended; no such; no such",
+            output: &[TOO_NEW, TEXT, LENGTH, SUPPORTED],
+        };
+        assert_case(&rt, rt.alloc(), &case)?;
+    }
+    Ok(())
+}
+
+// One ask passes as many heads as are refused by 505.
+#[test]
+fn an_ask_passes_several_heads(rt: HostRuntime) -> Result<(), Fail> {
+    let case = Case {
+        client: b"GET / HTTP/2.0\r\n\r\nHEAD / HTTP/3.0\r\n\r\nGET /b HTTP/1.1\r\n\r\nGET / HTTP/2.0\r\n\r\nbad\r\n",
+        deeds: &[Ask, Ask, Text(2, "x"), Ask],
+        replies: "2: GET /b 1.1; ended; done; ended",
+        output: &[
+            TOO_NEW,
+            TEXT,
+            LENGTH,
+            SUPPORTED,
+            TOO_NEW,
+            TEXT,
+            LENGTH,
+            ANSWERED,
+            TEXT,
+            X,
+            TOO_NEW,
+            TEXT,
+            LENGTH,
+            SUPPORTED,
+            "HTTP/1.1 400 Bad Request\r\n",
+            EMPTY,
+        ],
+    };
+    assert_case(&rt, rt.alloc(), &case)
 }
 
 #[test]
@@ -111,12 +172,12 @@ fn the_505_waits_for_its_turn(rt: HostRuntime) -> Result<(), Fail> {
     for (deeds, replies, output) in [
         (
             [Ask, Ask, Ask].as_slice(),
-            "0: GET / 1.1; ended; ended",
+            "0: GET / 1.1; 2: GET /b 1.1; ended",
             [].as_slice(),
         ),
         (
-            &[Ask, Ask, Drop(0)],
-            "0: GET / 1.1; ended; done",
+            &[Ask, Ask, Text(2, "x"), Drop(0), Text(2, "x")],
+            "0: GET / 1.1; 2: GET /b 1.1; not yet; done; done",
             &[
                 "HTTP/1.1 500 Internal Server Error\r\n",
                 EMPTY,
@@ -124,6 +185,9 @@ fn the_505_waits_for_its_turn(rt: HostRuntime) -> Result<(), Fail> {
                 TEXT,
                 LENGTH,
                 SUPPORTED,
+                ANSWERED,
+                TEXT,
+                X,
             ],
         ),
     ] {
