@@ -1,5 +1,5 @@
 -- The calls of a `Connection`, as steps.
-use Rattle.std.proofs.Common.{◌≡◌, refl, sym, ap, ◌∙◌, subst, ℕ, suc, ◌-◌, ◌<◌, ◌^◌, inl, inr, Bool, true, false, not, ◌&&◌, ◌||◌, List, [], ◌∷◌, ◌++◌, Option, Some, None, Ok, append_assoc}
+use Rattle.std.proofs.Common.{◌≡◌, refl, sym, ap, ◌∙◌, subst, arith, length, ℕ, suc, ◌+◌, ◌-◌, ◌<◌, ◌^◌, inl, inr, Bool, true, false, not, ◌&&◌, ◌||◌, List, [], ◌∷◌, ◌++◌, Option, Some, None, Ok, append_assoc}
 use Rattle.std.proofs.Math.Bool.{or-false}
 use Rattle.std.specs.declared.io.ErrorKind.{ErrorKind}
 use Rattle.httpdate.specs.declared.date.HttpDate.{HttpDate}
@@ -250,6 +250,7 @@ pub record PassesHead {R W : Type 0} (old mid : ConnectionState R W) (now : Http
   pub stands : mid.source.standing ≡ place.Head
   pub ends : (why : EndOfRequests) → EndsRequestsAt place.Head mid.source.feed why → EndsRequestsAt old.source.standing old.source.feed why
   pub requests : mid.requests ≡ old.requests ++ (None ∷ [])
+  pub counts : length mid.marks ≡ length old.marks + 1
   pub moves : Moves false old mid
 
 -- within a body no head stands
@@ -267,16 +268,19 @@ refuses-more : {R W : Type 0} (old mid new : ConnectionState R W) (n : ℕ) → 
 refuses-more old mid new n e h =
     (h.0 ∙ (ap (λ x. x ++ replicate n None) e ∙ append_assoc old.requests (None ∷ []) (replicate n None)), λ z. (let no : suc n ≡ 0 = z in cc))
 
-leaves-behind : {R W : Type 0} (old mid new : ConnectionState R W) (reply : ReplyValue) → mid.requests ≡ old.requests ++ (None ∷ []) → AskLeaves mid new reply → AskLeaves old new reply
-leaves-behind old mid new (Handed k message framing) e h = (suc h.0, h.1, one-more old.requests mid.requests new.requests (Some (still.Waiting h.1) ∷ []) h.0 e h.2, h.3, λ z. (let no : suc h.0 ≡ 0 = z in cc))
-leaves-behind old mid new Ended e h = (suc h.0, refuses-more old mid new h.0 e h.1)
-leaves-behind old mid new Memory e h = (suc h.0, refuses-more old mid new h.0 e h.1)
-leaves-behind old mid new NotYet e h = tt
-leaves-behind old mid new (Given bytes) e h = elim h [ ]
-leaves-behind old mid new (Fault x) e h = elim h [ ]
-leaves-behind old mid new Done e h = elim h [ ]
-leaves-behind old mid new Refused e h = elim h [ ]
-leaves-behind old mid new NoSuch e h = elim h [ ]
+one-behind : (a b n : ℕ) → b ≡ a + 1 → b + n ≡ a + suc n
+one-behind a b n e = omega (arith, e)
+
+leaves-behind : {R W : Type 0} (old mid new : ConnectionState R W) (reply : ReplyValue) → mid.requests ≡ old.requests ++ (None ∷ []) → length mid.marks ≡ length old.marks + 1 → AskLeaves mid new reply → AskLeaves old new reply
+leaves-behind old mid new (Handed k message framing) e count h = (suc h.0, h.1, one-more old.requests mid.requests new.requests (Some (still.Waiting h.1) ∷ []) h.0 e h.2, h.3, h.4 ∙ one-behind (length old.marks) (length mid.marks) h.0 count, λ z. (let no : suc h.0 ≡ 0 = z in cc))
+leaves-behind old mid new Ended e count h = (suc h.0, refuses-more old mid new h.0 e h.1)
+leaves-behind old mid new Memory e count h = (suc h.0, refuses-more old mid new h.0 e h.1)
+leaves-behind old mid new NotYet e count h = tt
+leaves-behind old mid new (Given bytes) e count h = elim h [ ]
+leaves-behind old mid new (Fault x) e count h = elim h [ ]
+leaves-behind old mid new Done e count h = elim h [ ]
+leaves-behind old mid new Refused e count h = elim h [ ]
+leaves-behind old mid new NoSuch e count h = elim h [ ]
 
 ends-behind : {R W : Type 0} (old mid new : ConnectionState R W) (now : HttpDate) (reply : ReplyValue) → PassesHead old mid now → AskEnds mid new reply → AskEnds old new reply
 ends-behind old mid new now (Handed k message framing) p h = (p.was_open, h.1)
@@ -312,7 +316,7 @@ asks-behind-head old mid now p = λ new reply a. record {
   does = λ client before s low st. (let g = p.does client before s low st in g.asks (kept new) reply (a.does client before g.mid low g.stands));
   declined = λ was. absurd (never-declined mid new reply p.stands a.ends was);
   ends = ends-behind old mid new now reply p a.ends;
-  leaves = leaves-behind old mid new reply p.requests a.leaves;
+  leaves = leaves-behind old mid new reply p.requests p.counts a.leaves;
   goes_on = goes-on_more old.source.feed mid.source.feed new.source.feed p.moves.goes_on a.goes_on;
   fails_once = once-append old.outlet.ended mid.outlet.ended new.outlet.ended (output_of old.outlet) (output_of mid.outlet) (output_of new.outlet) p.moves.fails_once a.fails_once;
   flushed = λ was. a.flushed (p.moves.flushed (λ z. was));

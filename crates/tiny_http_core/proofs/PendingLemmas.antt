@@ -1,5 +1,6 @@
 -- What the calls on numbers leave, as lists of marks.
-use Rattle.std.proofs.Common.{◌≡◌, refl, sym, ap, ◌∙◌, subst, ℕ, suc, ◌+◌, Bool, true, false, List, [], ◌∷◌, ◌++◌, length, Option, append_assoc, append-nil, length-append}
+use Rattle.std.proofs.Common.{◌≡◌, refl, sym, ap, ◌∙◌, subst, ℕ, suc, ◌+◌, Bool, true, false, List, [], ◌∷◌, ◌++◌, length, Option, Some, None, append_assoc, append-nil, length-append}
+use Rattle.std.proofs.lemmas.List.{length-set}
 use Rattle.std.specs.Global.{Vec}
 use Rattle.std.specs.Prelude.{MatchBool, ◌==◌, if◌then◌else◌, slice_get, slice_set}
 use Rattle.tiny_http_wire.specs.Device.{Sink}
@@ -286,3 +287,38 @@ pub leaves-issued : (marks issued new : List Mark) (number : ℕ) (text : List �
 leaves-issued marks issued new number text was old now ended e place h =
     let T : Bool → Type 0 = λ t. LeavesText t marks [] new text was old now ended in
     subst T (ap (λ n. n == first_unfinished issued) place ∙ ap (λ n. length marks == n) (ap first_unfinished e ∙ first-issued marks)) h
+
+-- a step of a turn leaves as many numbers as there were
+length-passed : (o : Option Mark) (k : ℕ) (marks : List Mark) → length (pass_to o k marks).1 ≡ length marks
+length-passed None k marks = refl
+length-passed (Some Open) k marks = refl
+length-passed (Some Held) k marks = refl
+length-passed (Some (Left text)) k marks = length-set marks k Held
+length-passed (Some Finished) k marks = refl
+
+pub length-finished : (k : ℕ) (marks : List Mark) → length (marks_after_step (Finish k) marks) ≡ length marks
+length-finished k marks = by (slice_get marks k)
+  where
+    by : (o : Option Mark) → length (finish_at o k marks).1 ≡ length marks
+    by None = refl
+    by (Some Open) = refl
+    by (Some Held) = length-passed (slice_get marks (suc k)) (suc k) (slice_set marks k Finished) ∙ length-set marks k Finished
+    by (Some (Left text)) = refl
+    by (Some Finished) = refl
+
+pub length-left : (k : ℕ) (text : List ℕ) (marks : List Mark) → length (marks_after_step (Leave k text) marks) ≡ length marks
+length-left k text marks = by (slice_get marks k)
+  where
+    outcome : Bool → TurnOutcome
+    outcome t = if t then (Goes k text, slice_set marks k Held) else (Waits, slice_set marks k (Left text))
+
+    here : (t : Bool) → length (outcome t).1 ≡ length marks
+    here true = length-set marks k Held
+    here false = length-set marks k (Left text)
+
+    by : (o : Option Mark) → length (leave_at o k text marks).1 ≡ length marks
+    by None = refl
+    by (Some Open) = here (k == first_unfinished marks)
+    by (Some Held) = refl
+    by (Some (Left was)) = refl
+    by (Some Finished) = refl

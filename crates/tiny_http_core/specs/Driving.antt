@@ -1,5 +1,5 @@
 -- What the calls of a `Connection` come to.
-use Rattle.std.specs.Prelude.{◌≡◌, ◌⊎◌, ℕ, Bool, true, false, List, [], ◌∷◌, ◌++◌, length, replicate, Option, Some, None, IsSome, MatchBool, slice_get, slice_set, if◌then◌else◌, string_bytes}
+use Rattle.std.specs.Prelude.{◌≡◌, ◌⊎◌, ℕ, ◌+◌, Bool, true, false, List, [], ◌∷◌, ◌++◌, length, replicate, Option, Some, None, IsSome, MatchBool, slice_get, slice_set, if◌then◌else◌, string_bytes}
 use Rattle.std.specs.List.{list_all}
 use Rattle.tiny_http_wire.specs.Bytes.{is_ascii}
 use Rattle.std.specs.declared.io.ErrorKind.{ErrorKind}
@@ -128,11 +128,12 @@ abbrev pub RefusesHeads : {R W : Type 0} → ℕ → ConnectionState R W → Con
 RefusesHeads n old new = (new.requests ≡ old.requests ++ replicate n None) × (n ≡ 0 → (new.marks ≡ old.marks) × (new.outlet ≡ old.outlet))
 
 -- What an Ask leaves of requests, source and output, by its reply: a request was added behind the refused heads, and the source
--- stands after its head; where none was refused nothing is sent, and no end or fault of the reader was met. Or none was added.
+-- stands after its head, and its number is the next; where none was refused nothing is sent, and no end or fault of the reader
+-- was met. Or none was added.
 abbrev pub AskLeaves : {R W : Type 0} → ConnectionState R W → ConnectionState R W → ReplyValue → Type 0
 AskLeaves old new (Handed k message framing) =
     (n : ℕ) × (w : Waiting) × (new.requests ≡ old.requests ++ replicate n None ++ Some (still.Waiting w) ∷ []) × (new.source.standing ≡ after_head framing w.body)
-    × (n ≡ 0 → (k ≡ length old.marks) × (new.outlet ≡ old.outlet) × (new.source.stop ≡ old.source.stop))
+    × (k ≡ length old.marks + n) × (n ≡ 0 → (new.outlet ≡ old.outlet) × (new.source.stop ≡ old.source.stop))
 AskLeaves old new Memory = (n : ℕ) × RefusesHeads n old new
 AskLeaves old new Ended = (n : ℕ) × RefusesHeads n old new
 AskLeaves old new NotYet = Unit {0}

@@ -1,5 +1,5 @@
 //! Requests that aren't finished, and texts that wait for their turn.
-ghost use Rattle.std.specs.Prelude.{◌≡◌, ◌↔◌, ◌≤◌, ◌++◌, ◌∷◌, true, false, List, [], length, Some, None, IfOk, IfSome, IfNone, OnOk, OnErr, IsTrue, ◌==◌, slice_get, slice_set};
+ghost use Rattle.std.specs.Prelude.{◌≡◌, ◌↔◌, ◌≤◌, ◌+◌, ◌++◌, ◌∷◌, true, false, List, [], length, Some, None, IfOk, IfSome, IfNone, OnOk, OnErr, IsTrue, ◌==◌, slice_get, slice_set};
 ghost use Rattle.tiny_http_turns.specs.Turns.{Mark, Open, Held, AreInShape, first_unfinished};
 ghost use Rattle.tiny_http_stream.specs.Outlet.{output_of, outlet_ended, outlet_held, SentOn};
 ghost use Rattle.tiny_http_sending.specs.Sending.{CanSend, IsFlushed, SendsUnlessEnded, FailsOnceUnlessEnded};
@@ -75,6 +75,7 @@ impl Pending {
         ensures leaves { (outlet_ended outlet.old ≡ false → CanSend (output_of outlet.old))
             → OnOk result (LeavesText (length self.old.turns.marks == first_unfinished self.old.turns.marks) self.old.turns.marks [] self.new.turns.marks text.items
             (outlet_ended outlet.old) (output_of outlet.old) (output_of outlet.new) (outlet_ended outlet.new)) }
+        ensures counts { OnOk result (length self.new.turns.marks ≡ length self.old.turns.marks + 1) }
         ensures requests { OnOk result (self.new.requests.items ≡ self.old.requests.items ++ (None ∷ [])) }
         ensures err { OnErr result ((self.new.turns ≡ self.old.turns) × (self.new.requests.items ≡ self.old.requests.items) × (outlet.new ≡ outlet.old)) }
         ensures fails_once { FailsOnceUnlessEnded (outlet_ended outlet.old) (output_of outlet.old) (output_of outlet.new) (outlet_ended outlet.new) }
@@ -240,6 +241,7 @@ impl Pending {
             → (outlet_ended outlet.old ≡ false → CanSend (output_of outlet.old))
             → LeavesText (number == first_unfinished self.old.turns.marks) front rest self.new.turns.marks text.items
             (outlet_ended outlet.old) (output_of outlet.old) (output_of outlet.new) (outlet_ended outlet.new) }
+        ensures counts { length self.new.turns.marks ≡ length self.old.turns.marks }
         ensures requests { self.new.requests ≡ self.old.requests }
         ensures fails_once { FailsOnceUnlessEnded (outlet_ended outlet.old) (output_of outlet.old) (output_of outlet.new) (outlet_ended outlet.new) }
         ensures flushed { outlet_held outlet.old ≡ [] → outlet_held outlet.new ≡ [] }
@@ -313,6 +315,7 @@ fn write_texts<W: WriteDevice>(
         → FinishesFront front rest turns.new.marks
         × ((outlet_ended outlet.old ≡ false → CanSend (output_of outlet.old))
         → SendsUnlessEnded (outlet_ended outlet.old) (output_of outlet.old) (output_of outlet.new) (outlet_ended outlet.new) (text.items ++ left_text rest)) }
+    ensures counts { length turns.new.marks ≡ length turns.old.marks }
     ensures fails_once { FailsOnceUnlessEnded (outlet_ended outlet.old) (output_of outlet.old) (output_of outlet.new) (outlet_ended outlet.new) }
 {
     write_quietly(outlet, &text);
@@ -334,6 +337,7 @@ fn write_left<W: WriteDevice>(
         → FinishesFront front rest turns.new.marks
         × ((outlet_ended outlet.old ≡ false → CanSend (output_of outlet.old))
         → SendsUnlessEnded (outlet_ended outlet.old) (output_of outlet.old) (output_of outlet.new) (outlet_ended outlet.new) (text.items ++ left_text rest)) }
+    ensures counts { length turns.new.marks ≡ length turns.old.marks }
     ensures fails_once { FailsOnceUnlessEnded (outlet_ended outlet.old) (output_of outlet.old) (output_of outlet.new) (outlet_ended outlet.new) }
     ensures flushed { outlet_held outlet.new ≡ [] }
     ensures sent_on { SentOn outlet.new }

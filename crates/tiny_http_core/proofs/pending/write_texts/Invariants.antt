@@ -9,6 +9,7 @@ abbrev pub invariant-loop-text : goal.invariant-loop-text
 invariant-loop-text g l = record {
   writes : (front rest : List Mark) → l.fn.turns.marks ≡ front ++ (Held ∷ rest) → length front ≡ l.fn.number
       → WritesLeft front rest l.turns.marks l.at l.fn.text.items (outlet_ended l.fn.outlet) (output_of l.fn.outlet) (output_of l.outlet) (outlet_ended l.outlet);
+  counts : length l.turns.marks ≡ length l.fn.turns.marks;
   once : FailsOnceUnlessEnded (outlet_ended l.fn.outlet) (output_of l.fn.outlet) (output_of l.outlet) (outlet_ended l.outlet);
 }
 

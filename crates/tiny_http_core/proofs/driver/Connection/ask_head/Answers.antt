@@ -1,4 +1,4 @@
-use Rattle.std.proofs.Common.{◌≡◌, refl, sym, ap, ◌∙◌, subst, true, false, List, [], ◌∷◌, ◌++◌, Option, Some, Result, Ok, Err, Bool, append-nil}
+use Rattle.std.proofs.Common.{◌≡◌, refl, sym, ap, ◌∙◌, subst, arith, length, ◌+◌, true, false, List, [], ◌∷◌, ◌++◌, Option, Some, Result, Ok, Err, Bool, append-nil}
 use Rattle.std.specs.Global.{Vec}
 use Rattle.std.specs.Prelude.{ℕ}
 use Rattle.std.specs.declared.alloc.AllocError.{AllocError}
@@ -37,6 +37,9 @@ on-err (Err x) e h = h
 
 view-can : {R W : Type 0} (c d : ConnectionState R W) → c ≡ d → CanAsk d → CanAsk c
 view-can {R = R} {W = W} c d e h = let P : ConnectionState R W → Type 0 = λ y. CanAsk y in subst P (sym e) h
+
+plus-none : (n : ℕ) → n ≡ n + 0
+plus-none n = omega arith
 
 -- another answer than the end
 not-ended : (r : Result HeadRead AllocError) (x : Exchange) → IsOkEnd r → r ≡ Ok (read.Request x) → ⊥
@@ -88,7 +91,7 @@ returns-in-Ok-clause-answers g c = λ can.
     let P : List Mark → List (Option Unfinished) → Type 0 = λ m r.
     StepIsAnswered client before (record k { marks = m; requests = r; standing = source.standing; feed = source.feed; stop = source.stop; is_over = source.is_over }) s c.args.now Ask (Handed c.in-Ok.number (head_message x.head) (head_framing x.head)) in
     subst (λ m. P m c.issue.new.self.requests.items) (sym e.marks) (subst (λ r. P (k.marks ++ (Open ∷ [])) r) (sym e.requests) done))
-    (λ no. elim no [ ]) (may.0, may.0) (0, x.waiting, e.requests ∙ ap (λ y. y ++ (Some (still.Waiting x.waiting) ∷ [])) (sym (append-nil q.pending.requests.items)), (let S : Result HeadRead AllocError → Type 0 = λ r. source.standing ≡ standing_read r q.source.standing in subst S is h.standing), λ z. (e.number, refl, lazy-of c.read_head.result x is h.lazy)) (driving-reads-on old new refl h.goes_on))
+    (λ no. elim no [ ]) (may.0, may.0) (0, x.waiting, e.requests ∙ ap (λ y. y ++ (Some (still.Waiting x.waiting) ∷ [])) (sym (append-nil q.pending.requests.items)), (let S : Result HeadRead AllocError → Type 0 = λ r. source.standing ≡ standing_read r q.source.standing in subst S is h.standing), e.number ∙ plus-none (length q.pending.turns.marks), λ z. (refl, lazy-of c.read_head.result x is h.lazy)) (driving-reads-on old new refl h.goes_on))
 
 pub returns-in-Err-issue-clause-answers : goal.returns-in-Err-issue-clause-answers
 returns-in-Err-issue-clause-answers g c = λ can.
@@ -261,6 +264,7 @@ returns-then-not-last-clause-passes g c = λ can none.
       stands = stands;
       ends = λ why ends. end-behind q.source.standing c.args.now q.source.feed source.feed status text why here reads ends;
       requests = requests;
+      counts = on-ok c.refuse.result fine c.refuse.ensures.counts;
       moves = record { goes_on = h.goes_on; fails_once = c.refuse.ensures.fails_once; flushed = λ was. c.refuse.ensures.flushed (was refl); sent_on = λ was. c.refuse.ensures.sent_on (was refl) };
     })) in
     ((may.0, λ e. not-body source.standing stands e), behind)
