@@ -582,7 +582,8 @@ pub fn run<R: ReadDevice + Drop, W: WriteDevice + Drop, D: ReadDevice + Drop>(
     ensures replies { IfOk result (λ done. vec_len done.replies ≡ vec_len steps) }
     ensures fails_once { IfOk result (λ done. FailsAtMostOnce (W.sink writer) (W.sink (outlet_writer done.outlet))) }
     ensures honest { IfOk result (λ done. ReportHonestly D.feed (W.sink writer) steps.items done.replies.items (W.sink (outlet_writer done.outlet))) }
-    // Nothing is held, and the writer sent on all that it took, unless a Write stands behind the last Flush and the last answer.
+    // Nothing is held, and the writer sent on all that it took, unless a Write stands behind the last Flush and the last
+    // answer.
     ensures flushed { IfOk result (λ done. all_sent steps.items done.replies.items true ≡ true → outlet_held done.outlet ≡ []) }
     ensures sent_on { IfOk result (λ done. HoldsNothing (W.sink writer) → all_sent steps.items done.replies.items true ≡ true → SentOn done.outlet) }
     ensures err { IfErr result (λ e. (e.reader ≡ reader) × (e.writer ≡ writer)) }

@@ -71,13 +71,13 @@ pub enum EndOfRequests {
     /// The last request was read: its version or its `Connection` header ends the connection after it.
     LastRequest,
     /// The client's bytes ended, and no byte of a further head had come. So it is too where they ended within a body of a known
-    /// length, or, by an end or a fault, within what was left of one that was given up.
+    /// length, or, by an end or a fault, within what was left of one that was given up or passed over.
     Closed,
     /// They ended within a head, or within a body that is read with its head.
     Cut,
     /// A line of the head has a byte from 128 on.
     NotAscii,
-    /// The head was refused with this status.
+    /// The head was refused with this status, and no head follows it.
     Refused(StatusCode),
     /// The reader failed so before the head, and a body that is read with it, had come: by another fault than a time-out, which
     /// is `Refused` with 408.
@@ -118,11 +118,11 @@ impl Exchange {
         &self.head
     }
 
-    /// Reads some bytes of the body into the front of `buf`, and says how many: fewer than `buf` has room for also where
-    /// more follow, and 0 where `buf` is empty. After the last byte each call answers 0, or the fault by which the body is cut or broken (RFC 9112,
-    /// sections 6.2 and 7.1): the reader's own; or InvalidData or UnexpectedEof of a chunked body. A body of a known length
-    /// that is cut by the end of the input ends there. The source must be the one that the request was read from; after a
-    /// fault the source has ended. A body that was given up answers 0. No memory is taken.
+    /// Reads some bytes of the body into the front of `buf`, and says how many: fewer than `buf` has room for also where more
+    /// follow, and 0 where `buf` is empty. After the last byte each call answers 0, or the fault by which the body is cut or
+    /// broken (RFC 9112, sections 6.2 and 7.1): the reader's own; or InvalidData or UnexpectedEof of a chunked body. A body of
+    /// a known length that is cut by the end of the input ends there. The source must be the one that the request was read
+    /// from; after a fault the source has ended. A body that was given up answers 0. No memory is taken.
     pub fn read_body<R: ReadDevice>(
         &mut self,
         source: &mut Source<R>,
@@ -135,8 +135,8 @@ impl Exchange {
         ensures fault { IfErr result (λ e. BodyStops (Stop.Fault (error_kind e)) (exchange_left self.old source.old.feed)) }
         ensures again { OnErr result (exchange_left self.new source.new.feed ≡ exchange_left self.old source.old.feed) }
         ensures empty { length buf.new ≡ 0 → (result ≡ Ok 0) × (self.new ≡ self.old) × (source.new ≡ source.old) }
-        // Whatever the reader states: a body holds the source no more once its end was reported, a counted one with its last byte.
-        // After its first fault the source has ended. A fault is reported again by each later read.
+        // Whatever the reader states: a body holds the source no more once its end was reported, a counted one with its last
+        // byte. After its first fault the source has ended. A fault is reported again by each later read.
         ensures moves { IfOk result (λ n. 0 < length buf.new → ExchangeReadsOn self.old n (n == 0) self.new) }
         ensures ended { IfOk result (λ n. n ≡ 0 → 0 < length buf.new → exchange_streams self.new ≡ false) }
         ensures settled { exchange_streams self.old ≡ false → (exchange_streams self.new ≡ false) × (source.new ≡ source.old) }
@@ -154,8 +154,8 @@ impl Exchange {
 
     /// Sends the answer to this request, printed for it and dated `now`, and flushes it. No 100 is owed any more. The caller
     /// answers each request once, in the order of the requests, and gives the body up. On an outlet that has ended nothing is
-    /// sent, the data aren't read, and the result is `Ok`. The first fault is the error: the data's, or the writer's. Where both
-    /// fail, either may be reported. Then the outlet has ended, and what was held before a fault of the data is sent.
+    /// sent, the data aren't read, and the result is `Ok`. The first fault is the error: the data's, or the writer's. Where
+    /// both fail, either may be reported. Then the outlet has ended, and what was held before a fault of the data is sent.
     pub fn respond_on<W: WriteDevice, D: ReadDevice + Drop>(
         &mut self,
         alloc: Global,
@@ -185,11 +185,11 @@ impl Exchange {
 
     /// Sends the answer that upgrades the connection to this protocol (RFC 9110, section 7.8), printed for this request and
     /// dated `now`, and flushes it: its head alone, with `Connection: upgrade` and `Upgrade: PROTOCOL` in front of the other
-    /// headers (as tiny_http). No 100 is owed any more. The caller does so in the turn of the request, in the place of an answer;
-    /// then the output is the protocol's, and what the body gives is its input. After it the caller sends neither an answer nor
-    /// the text of a drop. It is an error where the protocol isn't ASCII: then nothing has changed, and the caller drops the
-    /// request. The data are let go unread. A fault of the writer ends the outlet, and isn't reported. On an outlet that has
-    /// ended nothing is sent. The call takes no memory.
+    /// headers (as tiny_http). No 100 is owed any more. The caller does so in the turn of the request, in the place of an
+    /// answer; then the output is the protocol's, and what the body gives is its input. After it the caller sends neither an
+    /// answer nor the text of a drop. It is an error where the protocol isn't ASCII: then nothing has changed, and the caller
+    /// drops the request. The data are let go unread. A fault of the writer ends the outlet, and isn't reported. On an outlet
+    /// that has ended nothing is sent. The call takes no memory.
     pub fn upgrade_on<W: WriteDevice, D: Drop>(
         &mut self,
         alloc: Global,
@@ -217,9 +217,9 @@ impl Exchange {
         sent
     }
 
-    /// Sends the 100 that is owed to this request, and flushes (RFC 9110, section 10.1.1). Where none is owed it changes nothing.
-    /// The caller sends it in the turn of the request, before the body is read and before the answer. The call takes no memory.
-    /// A fault of the writer ends the outlet, and isn't reported; on an outlet that has ended nothing is sent.
+    /// Sends the 100 that is owed to this request, and flushes (RFC 9110, section 10.1.1). Where none is owed it changes
+    /// nothing. The caller sends it in the turn of the request, before the body is read and before the answer. The call takes
+    /// no memory. A fault of the writer ends the outlet, and isn't reported; on an outlet that has ended nothing is sent.
     pub fn send_continue<W: WriteDevice>(
         &mut self,
         alloc: Global,
@@ -538,11 +538,11 @@ fn end_at(standing: Standing, why: EndOfRequests) -> EndOfRequests
 }
 
 /// Reads one head, and with it a body of up to 1024 bytes (RFC 9112, sections 2 to 6). It answers a request, whose body is then
-/// read from the source; or a head that is refused; or the end, with its reason. A head is refused by 400 for a bad line, by 408
-/// where the reader timed out, also before its first byte, by 417 for an expectation that can't be met, and by 505 for a version
-/// above 1.1, with a text that says which are served (as tiny_http). The first bad line is judged first, then the expectation,
-/// then a body that is read with its head and cut, then the version. `now` dates the answer to a refused head, and the 500 of a
-/// request that is dropped. It is an error where memory was refused.
+/// read from the source; or a head that is refused; or the end, with its reason. A head is refused by 400 for a bad line, by
+/// 408 where the reader timed out, also before its first byte, by 417 for an expectation that can't be met, and by 505 for a
+/// version above 1.1, with a text that says which are served (as tiny_http). The first bad line is judged first, then the
+/// expectation, then a body that is read with its head and cut, then the version. `now` dates the answer to a refused head, and
+/// the 500 of a request that is dropped. It is an error where memory was refused.
 ///
 /// After a 505 the next head stands behind the body, which is passed over, unless the head names an upgrade or the body is
 /// chunked. After anything else but a request the source has ended, but after the last request: then nothing is read, and its

@@ -1,4 +1,5 @@
-//! Answers of the server's own: the text of a refused head, and the text of a dropped request, which is printed as it is dropped.
+//! Answers of the server's own: the text of a refused head, and the text of a dropped request, which is printed as it is
+//! dropped.
 ghost use Rattle.std.specs.Prelude.{◌≡◌, ◌<◌, ◌≤◌, ◌^◌, false, [], Some, IfOk, length, vec_len, vec_capacity};
 ghost use Rattle.httpdate.specs.Date.{date_text};
 ghost use Rattle.tiny_http_sending.specs.ResponseValue.{printing_to, printing_in};
