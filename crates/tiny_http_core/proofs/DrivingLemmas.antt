@@ -1,5 +1,5 @@
 -- The calls of a `Connection`, as steps.
-use Rattle.std.proofs.Common.{◌≡◌, refl, sym, ap, ◌∙◌, subst, arith, length, ℕ, suc, ◌+◌, ◌-◌, ◌<◌, ◌^◌, inl, inr, Bool, true, false, not, ◌&&◌, ◌||◌, List, [], ◌∷◌, ◌++◌, Option, Some, None, Ok, append_assoc}
+use Rattle.std.proofs.Common.{◌≡◌, refl, sym, ap, ◌∙◌, subst, arith, length, ℕ, suc, ◌+◌, ◌-◌, ◌<◌, ◌^◌, inl, inr, ⊎_elim, Bool, true, false, not, ◌&&◌, ◌||◌, List, [], ◌∷◌, ◌++◌, Option, Some, None, Ok, append_assoc}
 use Rattle.std.proofs.Math.Bool.{or-false}
 use Rattle.std.specs.declared.io.ErrorKind.{ErrorKind}
 use Rattle.httpdate.specs.declared.date.HttpDate.{HttpDate}
@@ -15,7 +15,7 @@ use Rattle.tiny_http_core.specs.declared.driver.Reply.{Reply}
 use Rattle.tiny_http_core.specs.declared.driver.Step.{Step}
 use Rattle.tiny_http_core.specs.declared.driver.Step.TheVariants as step
 use Rattle.tiny_http_core.specs.declared.pending.Pending.{Pending}
-use Rattle.tiny_http_stream.specs.Source.{SourceState, GoesOn}
+use Rattle.tiny_http_stream.specs.Source.{SourceState, GoesOn, IsAtEnd}
 use Rattle.tiny_http_stream.specs.Outlet.{OutletState, output_of, SentOn}
 use Rattle.tiny_http_sending.specs.ResponseValue.{ResponseValue}
 use Rattle.tiny_http_core.specs.Steps.{StepValue, Ask, AsReader, Read, Respond, IntoWriter, Write, Flush, Upgrade, Finish, Drop, ReplyValue, Handed, Ended, Given, NotYet, Done, Refused, NoSuch, Memory, Fault, Reached, changes, use_in_turn, outcome}
@@ -44,7 +44,7 @@ use Rattle.tiny_http_message.specs.declared.exchange.HeadRead.TheVariants as rea
 use Rattle.tiny_http_message.specs.declared.exchange.EndOfRequests.TheVariants as because
 use Rattle.tiny_http_message.specs.HeadReads.{ReadsHead, EndsAt, IsBeforeHead, HasByteOrTimedOut, place_feed}
 use Rattle.tiny_http_message.specs.Pipeline.{OneHead, Request, Item, Refuses, Place}
-use Rattle.tiny_http_core.specs.Driving.{IsRefusal, EndsRequestsAt, EndsThere, ArePassed, standing_behind}
+use Rattle.tiny_http_core.specs.Driving.{IsRefusal, EndsRequestsAt, EndsThere, ArePassedOver, HasByteBehind, standing_behind}
 use Rattle.tiny_http_message.specs.PipelineReading.{items_of}
 use Rattle.tiny_http_message.proofs.PipelineLemmas.{feed-pipeline}
 use Rattle.tiny_http_core.proofs.ConversationRuns.{run-more, stands-begun, split}
@@ -101,7 +101,7 @@ end-behind at date o p status text why here h ends = by at here h
     stands [] rest k = k
     stands (x ∷ xs) rest k = k
 
-    behind : (x : Standing) → ReadsHead x date o p (Ok (read.Refused status text false)) → (f : Feed) → o ≡ Some f → (passed : List Item) × (rest : Feed) × ArePassed f passed rest × EndsThere (standing_behind x passed) rest why
+    behind : (x : Standing) → ReadsHead x date o p (Ok (read.Refused status text false)) → (f : Feed) → o ≡ Some f → (passed : List Item) × (rest : Feed) × ArePassedOver f passed rest × EndsThere (standing_behind x passed) rest why
     behind x h f e =
         let P : Option Feed → Type 0 = λ y. ReadsHead x date y p (Ok (read.Refused status text false)) in
         let r = subst P e h in
@@ -114,6 +114,19 @@ end-behind at date o p status text why here h ends = by at here h
     by (place.Broken kind) here h = behind (place.Broken kind) h
     by place.Body here h = elim here [ ]
     by place.Last here h = elim here [ ]
+
+-- a byte of a head comes behind a head that is passed
+pub begins-behind : (at : Standing) (date : HttpDate) (o p : Option Feed) (status : StatusCode) (text : Vec ℕ) → ReadsHead at date o p (Ok (read.Refused status text false)) → HasByteBehind p → HasByteBehind o
+begins-behind at date None p status text h begun = tt
+begins-behind at date (Some f) p status text h begun =
+    let H : Option Feed → Type 0 = λ y. HasByteBehind y in
+    let next = subst H h.7 begun in
+    (Refuses h.0 h.1 h.2 false ∷ next.0, next.1, (refl, h.3, h.4, next.2), next.3)
+
+-- a byte of a head comes here
+pub begins-here : (o : Option Feed) → HasByteOrTimedOut o → HasByteBehind o
+begins-here None h = tt
+begins-here (Some f) h = ([], f, refl, h)
 
 -- what a step does to input and output, whatever they state; it holds back nothing if `all`, else if nothing was held before
 pub record Moves {R W : Type 0} (all : Bool) (old new : ConnectionState R W) : Type 0 where
@@ -246,7 +259,8 @@ pub record PassesHead {R W : Type 0} (old mid : ConnectionState R W) (now : Http
   pub was_open : old.end ≡ None
   pub is_open : mid.end ≡ None
   pub here : IsBeforeHead old.source.standing
-  pub begun : HasByteOrTimedOut old.source.feed
+  pub unended : IsAtEnd old.source → ⊥
+  pub begins : HasByteBehind mid.source.feed → HasByteBehind old.source.feed
   pub stands : mid.source.standing ≡ place.Head
   pub ends : (why : EndOfRequests) → EndsRequestsAt place.Head mid.source.feed why → EndsRequestsAt old.source.standing old.source.feed why
   pub requests : mid.requests ≡ old.requests ++ (None ∷ [])
@@ -271,16 +285,16 @@ refuses-more old mid new n e h =
 one-behind : (a b n : ℕ) → b ≡ a + 1 → b + n ≡ a + suc n
 one-behind a b n e = omega (arith, e)
 
-leaves-behind : {R W : Type 0} (old mid new : ConnectionState R W) (reply : ReplyValue) → mid.requests ≡ old.requests ++ (None ∷ []) → length mid.marks ≡ length old.marks + 1 → AskLeaves mid new reply → AskLeaves old new reply
-leaves-behind old mid new (Handed k message framing) e count h = (suc h.0, h.1, one-more old.requests mid.requests new.requests (Some (still.Waiting h.1) ∷ []) h.0 e h.2, h.3, h.4 ∙ one-behind (length old.marks) (length mid.marks) h.0 count, λ z. (let no : suc h.0 ≡ 0 = z in cc))
-leaves-behind old mid new Ended e count h = (suc h.0, refuses-more old mid new h.0 e h.1)
-leaves-behind old mid new Memory e count h = (suc h.0, refuses-more old mid new h.0 e h.1)
-leaves-behind old mid new NotYet e count h = tt
-leaves-behind old mid new (Given bytes) e count h = elim h [ ]
-leaves-behind old mid new (Fault x) e count h = elim h [ ]
-leaves-behind old mid new Done e count h = elim h [ ]
-leaves-behind old mid new Refused e count h = elim h [ ]
-leaves-behind old mid new NoSuch e count h = elim h [ ]
+leaves-behind : {R W : Type 0} (old mid new : ConnectionState R W) (reply : ReplyValue) → mid.requests ≡ old.requests ++ (None ∷ []) → length mid.marks ≡ length old.marks + 1 → IsBeforeHead old.source.standing → (IsAtEnd old.source → ⊥) → AskLeaves mid new reply → AskLeaves old new reply
+leaves-behind old mid new (Handed k message framing) e count here unended h = (suc h.0, h.1, one-more old.requests mid.requests new.requests (Some (still.Waiting h.1) ∷ []) h.0 e h.2, h.3, h.4 ∙ one-behind (length old.marks) (length mid.marks) h.0 count, λ z. (let no : suc h.0 ≡ 0 = z in cc))
+leaves-behind old mid new Ended e count here unended h = (suc h.0, refuses-more old mid new h.0 e h.1, λ z. absurd (⊎_elim (not-last old.source.standing here) unended z))
+leaves-behind old mid new Memory e count here unended h = (suc h.0, refuses-more old mid new h.0 e h.1)
+leaves-behind old mid new NotYet e count here unended h = tt
+leaves-behind old mid new (Given bytes) e count here unended h = elim h [ ]
+leaves-behind old mid new (Fault x) e count here unended h = elim h [ ]
+leaves-behind old mid new Done e count here unended h = elim h [ ]
+leaves-behind old mid new Refused e count here unended h = elim h [ ]
+leaves-behind old mid new NoSuch e count here unended h = elim h [ ]
 
 ends-behind : {R W : Type 0} (old mid new : ConnectionState R W) (now : HttpDate) (reply : ReplyValue) → PassesHead old mid now → AskEnds mid new reply → AskEnds old new reply
 ends-behind old mid new now (Handed k message framing) p h = (p.was_open, h.1)
@@ -292,7 +306,7 @@ ends-behind old mid new now Ended p h = (
       let E : Standing → Type 0 = λ y. EndsRequestsAt y mid.source.feed x.0 in
       (x.0, x.1, p.ends x.0 (subst E p.stands x.2)),
 )
-ends-behind old mid new now Memory p h = (p.was_open, h.1, p.here, p.begun)
+ends-behind old mid new now Memory p h = (p.was_open, h.1, p.here, p.begins h.3)
 ends-behind old mid new now NotYet p h = absurd (not-body mid.source.standing p.stands h.1)
 ends-behind old mid new now (Given bytes) p h = elim h [ ]
 ends-behind old mid new now (Fault x) p h = elim h [ ]
@@ -316,7 +330,7 @@ asks-behind-head old mid now p = λ new reply a. record {
   does = λ client before s low st. (let g = p.does client before s low st in g.asks (kept new) reply (a.does client before g.mid low g.stands));
   declined = λ was. absurd (never-declined mid new reply p.stands a.ends was);
   ends = ends-behind old mid new now reply p a.ends;
-  leaves = leaves-behind old mid new reply p.requests p.counts a.leaves;
+  leaves = leaves-behind old mid new reply p.requests p.counts p.here p.unended a.leaves;
   goes_on = goes-on_more old.source.feed mid.source.feed new.source.feed p.moves.goes_on a.goes_on;
   fails_once = once-append old.outlet.ended mid.outlet.ended new.outlet.ended (output_of old.outlet) (output_of mid.outlet) (output_of new.outlet) p.moves.fails_once a.fails_once;
   flushed = λ was. a.flushed (p.moves.flushed (λ z. was));

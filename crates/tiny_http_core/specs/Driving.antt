@@ -1,5 +1,5 @@
 -- What the calls of a `Connection` come to.
-use Rattle.std.specs.Prelude.{◌≡◌, ◌⊎◌, ℕ, ◌+◌, Bool, true, false, List, [], ◌∷◌, ◌++◌, length, replicate, Option, Some, None, IsSome, MatchBool, slice_get, slice_set, if◌then◌else◌, string_bytes}
+use Rattle.std.specs.Prelude.{◌≡◌, ◌⊎◌, ℕ, ◌+◌, Bool, true, false, List, [], ◌∷◌, ◌++◌, length, replicate, Option, Some, None, IsSome, MatchBool, slice_get, slice_set, if◌then◌else◌, string_bytes, ⊤}
 use Rattle.std.specs.List.{list_all}
 use Rattle.tiny_http_wire.specs.Bytes.{is_ascii}
 use Rattle.std.specs.declared.io.ErrorKind.{ErrorKind}
@@ -8,7 +8,7 @@ use Rattle.tiny_http_wire.specs.Device.{Feed, Sink}
 use Rattle.tiny_http_wire.specs.Answer.{ResponseState}
 use Rattle.tiny_http_core.specs.declared.driver.Step.{Step}
 use Rattle.tiny_http_core.specs.declared.driver.Step.TheVariants as step
-use Rattle.tiny_http_stream.specs.Source.{SourceState, GoesOn}
+use Rattle.tiny_http_stream.specs.Source.{SourceState, GoesOn, IsAtEnd}
 use Rattle.tiny_http_stream.specs.declared.source.Standing.{Standing}
 use Rattle.tiny_http_stream.specs.declared.source.Standing.TheVariants as at
 use Rattle.tiny_http_wire.specs.declared.common.HTTPVersion.{HTTPVersion}
@@ -70,9 +70,14 @@ abbrev pub EndsThere : Standing → Feed → EndOfRequests → Type 0
 EndsThere standing f why = IsRefusal f why ⊎ (OneHead f.bytes f.stop None None × EndsAt standing f.bytes f.stop why)
 
 -- These heads are refused one after another, and the asking goes on behind each; then this comes.
-abbrev pub ArePassed : Feed → List Item → Feed → Type 0
-ArePassed f [] behind = behind ≡ f
-ArePassed f (item ∷ items) behind = IsPassedOver item × (next : Place) × OneHead f.bytes f.stop (Some item) next × ArePassed (place_feed f.stop next) items behind
+abbrev pub ArePassedOver : Feed → List Item → Feed → Type 0
+ArePassedOver f [] behind = behind ≡ f
+ArePassedOver f (item ∷ items) behind = IsPassedOver item × (next : Place) × OneHead f.bytes f.stop (Some item) next × ArePassedOver (place_feed f.stop next) items behind
+
+-- a byte of a further head comes behind such heads, or the reader times out there
+abbrev pub HasByteBehind : Option Feed → Type 0
+HasByteBehind None = ⊤
+HasByteBehind (Some f) = (passed : List Item) × (behind : Feed) × ArePassedOver f passed behind × HasByteOrTimedOut (Some behind)
 
 -- where the source stands behind such heads
 abbrev pub standing_behind : Standing → List Item → Standing
@@ -84,7 +89,7 @@ standing_behind standing (item ∷ items) = at.Head
 abbrev pub EndsRequestsAt : Standing → Option Feed → EndOfRequests → Type 0
 EndsRequestsAt at.Last feed why = why ≡ because.LastRequest
 EndsRequestsAt standing feed why =
-    (f : Feed) → feed ≡ Some f → (passed : List Item) × (behind : Feed) × ArePassed f passed behind × EndsThere (standing_behind standing passed) behind why
+    (f : Feed) → feed ≡ Some f → (passed : List Item) × (behind : Feed) × ArePassedOver f passed behind × EndsThere (standing_behind standing passed) behind why
 
 -- What an Ask says of the end of the requests, by its reply: it ends them for a reason that stands in the client's bytes, or
 -- where memory for a head was refused; after the end it changes nothing, and after the last request the source is left alone.
@@ -94,7 +99,7 @@ AskEnds old new NotYet = (old.end ≡ None) × (old.source.standing ≡ at.Body)
 AskEnds old new Ended =
     (IsSome old.end → new ≡ old) × (old.source.standing ≡ at.Last → new.source ≡ old.source)
     × (old.end ≡ None → (why : EndOfRequests) × (new.end ≡ Some why) × EndsRequestsAt old.source.standing old.source.feed why)
-AskEnds old new Memory = (old.end ≡ None) × (new.end ≡ Some because.Memory) × IsBeforeHead old.source.standing × HasByteOrTimedOut old.source.feed
+AskEnds old new Memory = (old.end ≡ None) × (new.end ≡ Some because.Memory) × IsBeforeHead old.source.standing × HasByteBehind old.source.feed
 AskEnds old new _ = ⊥
 
 -- what a step says of the end of the requests
@@ -128,14 +133,14 @@ abbrev pub RefusesHeads : {R W : Type 0} → ℕ → ConnectionState R W → Con
 RefusesHeads n old new = (new.requests ≡ old.requests ++ replicate n None) × (n ≡ 0 → (new.marks ≡ old.marks) × (new.outlet ≡ old.outlet))
 
 -- What an Ask leaves of requests, source and output, by its reply: a request was added behind the refused heads, and the source
--- stands after its head, and its number is the next; where none was refused nothing is sent, and no end or fault of the reader
--- was met. Or none was added.
+-- stands after its head; where none was refused nothing is sent, and no end or fault of the reader was met. Or none was added.
+-- After the last request, or the end of the source, no head is refused.
 abbrev pub AskLeaves : {R W : Type 0} → ConnectionState R W → ConnectionState R W → ReplyValue → Type 0
 AskLeaves old new (Handed k message framing) =
     (n : ℕ) × (w : Waiting) × (new.requests ≡ old.requests ++ replicate n None ++ Some (still.Waiting w) ∷ []) × (new.source.standing ≡ after_head framing w.body)
     × (k ≡ length old.marks + n) × (n ≡ 0 → (new.outlet ≡ old.outlet) × (new.source.stop ≡ old.source.stop))
 AskLeaves old new Memory = (n : ℕ) × RefusesHeads n old new
-AskLeaves old new Ended = (n : ℕ) × RefusesHeads n old new
+AskLeaves old new Ended = (n : ℕ) × RefusesHeads n old new × (old.source.standing ≡ at.Last ⊎ IsAtEnd old.source → n ≡ 0)
 AskLeaves old new NotYet = Unit {0}
 AskLeaves old new _ = ⊥
 
@@ -168,8 +173,9 @@ UpgradeLeaves k old new NotYet = Unit {0}
 UpgradeLeaves k old new NoSuch = Unit {0}
 UpgradeLeaves k old new _ = ⊥
 
--- What a step leaves of requests, source and output: an AsReader only clears what its request owes; a read changes no more than the body of its request, and the source if
--- it is read from that; an answer, a drop and a Finish let their request go; an IntoWriter gives the body up.
+-- What a step leaves of requests, source and output. An AsReader only clears what its request owes. A read changes no more than
+-- the body of its request, and the source if it is read from that. An answer, a drop and a Finish let their request go. An
+-- IntoWriter gives the body up.
 abbrev pub StepLeaves : {R W : Type 0} → Step (Option Feed) → ConnectionState R W → ConnectionState R W → ReplyValue → Type 0
 StepLeaves step.Ask old new reply = AskLeaves old new reply
 StepLeaves (step.AsReader k) old new reply = (new.source ≡ old.source) × (new.marks ≡ old.marks) × SendsContinue k old new reply

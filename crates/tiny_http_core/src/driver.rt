@@ -258,6 +258,9 @@ impl<R: ReadDevice, W: WriteDevice> Connection<R, W> {
         ensures answers { CanAsk self.old → IfSome result (λ reply. AskStep self.old self.new now (seen reply)) }
         ensures passes { CanAsk self.old → result ≡ None → CanAsk self.new × IsAskBehind self.old self.new now }
         ensures counts { result ≡ None → (length self.new.requests ≡ length self.old.requests + 1) × (length self.new.requests < 2 ^ 64) }
+        // The answer to a head that is passed isn't held back while the next one is waited for.
+        ensures flushed { self.old.outlet.held ≡ [] → self.new.outlet.held ≡ [] }
+        ensures sent_on { SentOn self.old.outlet → SentOn self.new.outlet }
     {
         match read_head(alloc, &mut self.source, now) {
             Ok(HeadRead::Request(exchange)) => {
@@ -294,12 +297,12 @@ impl<R: ReadDevice, W: WriteDevice> Connection<R, W> {
 
     /// Goes to the next request, and hands it out with its number: `Handed`. It is `NotYet` while the body of the last request
     /// holds the reader: until that was read to its end or given up. It is `Ended` once the connection has no further request,
-    /// from then on, and `end_of_requests` says why. A refused head is answered under a number of its own, in its turn. It ends
-    /// the asking, but after a 505 behind which a head follows the same call goes on. `Memory` ends it too, and a chunked body
-    /// that was given up before its end. The call waits for the client only until the head and a body of up to 1024 bytes have
-    /// come, or the head alone where it expects a 100, and before them the rest of a counted body that was given up or passed
-    /// over. After the last request the reader isn't called. `now` dates the answers to refused heads, and the 500 of this
-    /// request if it is dropped.
+    /// from then on, and `end_of_requests` says why. A refused head is answered under a number of its own, in its turn, and
+    /// ends the asking; but a 505 does so only where its head names an upgrade or its body is chunked. After any other 505 the
+    /// same call reads the next head. `Memory` ends the asking too, and so does a chunked body that was given up before its
+    /// end. The call waits for the client only until the head and a body of up to 1024 bytes have come, or the head alone where
+    /// it expects a 100, and before them the rest of a counted body that was given up or passed over. After the last request
+    /// the reader isn't called. `now` dates the answers to refused heads, and the 500 of this request if it is dropped.
     pub fn ask(&mut self, alloc: Global, now: HttpDate) -> Reply
         ensures step { TakesStep self.old self.new now Step.Ask (seen result) }
     {

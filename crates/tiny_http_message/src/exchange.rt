@@ -77,7 +77,7 @@ pub enum EndOfRequests {
     Cut,
     /// A line of the head has a byte from 128 on.
     NotAscii,
-    /// The head was refused with this status, and no head follows it.
+    /// A head was refused with this status, and ended the requests.
     Refused(StatusCode),
     /// The reader failed so before the head, and a body that is read with it, had come: by another fault than a time-out, which
     /// is `Refused` with 408.

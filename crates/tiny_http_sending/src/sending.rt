@@ -85,8 +85,8 @@ pub fn send<W: WriteDevice, D: ReadDevice + Drop>(
 
 /// Prints an answer that upgrades the connection to a protocol, and flushes it (RFC 9110, section 7.8): its head alone, with
 /// `Connection: upgrade` and `Upgrade: PROTOCOL` in front of the other headers. The data are let go unread. The writer's first
-/// fault is the error. So is InvalidInput for a protocol that isn't ASCII, of which nothing is sent. After an error nothing more
-/// is sent on the connection. The call takes no memory.
+/// fault is the error. So is InvalidInput for a protocol that isn't ASCII, of which nothing is sent. After an error nothing
+/// more is sent on the connection. The call takes no memory.
 pub fn send_upgrade<W: WriteDevice, D: Drop>(
     alloc: Global,
     outlet: &mut Outlet<W>,

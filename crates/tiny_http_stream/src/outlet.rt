@@ -237,8 +237,8 @@ impl<W: WriteDevice> Write for Outlet<W> {
         Outlet::flush(self)
     }
 
-    /// Takes all the bytes, as the inherent `write`. It stops at the first fault and reports it, also one of kind `Interrupted`:
-    /// the outlet has ended by that, and a second try would answer `Ok`.
+    /// Takes all the bytes, as the inherent `write`. It stops at the first fault and reports it, also one of kind
+    /// `Interrupted`: the outlet has ended by that, and a second try would answer `Ok`.
     fn write_all(&mut self, buf: &[u8]) -> io::Result<()>
         ensures puts { Puts (output_of self.old) (output_of self.new) result buf.now }
         ensures ended { OnErr result (outlet_ended self.new ≡ true) }

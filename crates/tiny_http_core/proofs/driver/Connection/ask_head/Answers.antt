@@ -1,4 +1,4 @@
-use Rattle.std.proofs.Common.{◌≡◌, refl, sym, ap, ◌∙◌, subst, arith, length, ◌+◌, true, false, List, [], ◌∷◌, ◌++◌, Option, Some, Result, Ok, Err, Bool, append-nil}
+use Rattle.std.proofs.Common.{◌≡◌, refl, sym, ap, ◌∙◌, subst, arith, length, ◌+◌, true, false, List, [], ◌∷◌, ◌++◌, Option, Some, Result, Ok, Err, Bool, ⊎_elim, append-nil}
 use Rattle.std.specs.Global.{Vec}
 use Rattle.std.specs.Prelude.{ℕ}
 use Rattle.std.specs.declared.alloc.AllocError.{AllocError}
@@ -18,7 +18,7 @@ use Rattle.tiny_http_core.specs.Asking.{CanAsk, IsAskBehind}
 use Rattle.tiny_http_core.proofs.ConnectionAsking.{AskGoesOn, ask-passes}
 use Rattle.tiny_http_core.proofs.ConnectionAsk.{StepIsAnswered, ask-final, ask-memory, ask-handed, ask-refused, before-head, stands-before}
 use Rattle.tiny_http_core.proofs.ConnectionOutput.{can-send}
-use Rattle.tiny_http_core.proofs.DrivingLemmas.{viewed, end-refused, end-final, ask-step, asks-behind-head, end-behind, not-body, driving-reads-on}
+use Rattle.tiny_http_core.proofs.DrivingLemmas.{viewed, end-refused, end-final, ask-step, asks-behind-head, end-behind, begins-behind, begins-here, not-body, driving-reads-on}
 use Rattle.tiny_http_wire.specs.declared.common.StatusCode.{StatusCode}
 use Rattle.std.specs.Prelude.{is_some, is_err, IfOk, OnOk, OnErr}
 use Rattle.tiny_http_message.specs.declared.exchange.EndOfRequests.{EndOfRequests}
@@ -116,7 +116,7 @@ returns-in-Err-issue-clause-answers g c = λ can.
     let done = ask-memory client before k s c.args.now source.feed source.stop source.is_over source.standing st open_is n.unread n.quiet n.more
     (λ i. not-ended c.read_head.result x (h.at_end i).0 is) h.goes_on in
     subst (λ m. P m c.issue.new.self.requests.items) (ap (λ t. t.marks) (sym e.0)) (subst (λ r. P k.marks r) (sym e.1) done))
-    (λ no. elim no [ ]) (may.0, refl, here, h.begun (λ end. not-ended c.read_head.result x end is)) (0, (e.1 ∙ sym (append-nil q.pending.requests.items), λ z. (ap (λ t. t.marks) e.0, refl))) (driving-reads-on old new refl h.goes_on))
+    (λ no. elim no [ ]) (may.0, refl, here, begins-here q.source.feed (h.begun (λ end. not-ended c.read_head.result x end is))) (0, (e.1 ∙ sym (append-nil q.pending.requests.items), λ z. (ap (λ t. t.marks) e.0, refl))) (driving-reads-on old new refl h.goes_on))
 
 pub returns-in-Ok-Ended-clause-answers : goal.returns-in-Ok-Ended-clause-answers
 returns-in-Ok-Ended-clause-answers g c = λ can.
@@ -139,7 +139,7 @@ returns-in-Ok-Ended-clause-answers g c = λ can.
     (λ here. subst R is (h.reads here)) h.goes_on)
     (λ no. elim no [ ])
     (λ some. absurd (some-none open_is some), λ i. (h.last i).1, λ none. (why, refl, end-final q.source.standing c.args.now q.source.feed source.feed why outside (λ i. last-reason why (sym is ∙ (h.last i).0)) (λ here. subst R is (h.reads here))))
-    (0, (sym (append-nil q.pending.requests.items), λ z. (refl, refl))) (driving-reads-on old new refl h.goes_on))
+    (0, (sym (append-nil q.pending.requests.items), λ z. (refl, refl)), λ over. refl) (driving-reads-on old new refl h.goes_on))
 
 pub returns-in-Err-clause-answers : goal.returns-in-Err-clause-answers
 returns-in-Err-clause-answers g c = λ can.
@@ -159,7 +159,7 @@ returns-in-Err-clause-answers g c = λ can.
     let n = before-head client before k s st open_is here in
     ask-memory client before k s c.args.now source.feed source.stop source.is_over source.standing st open_is n.unread n.quiet n.more
     (λ i. not-memory c.read_head.result c.in-Err.field-0 (h.at_end i).0 c.in-Err.is) h.goes_on)
-    (λ no. elim no [ ]) (may.0, refl, here, h.begun (λ end. not-memory c.read_head.result c.in-Err.field-0 end c.in-Err.is)) (0, (sym (append-nil q.pending.requests.items), λ z. (refl, refl))) (driving-reads-on old new refl h.goes_on))
+    (λ no. elim no [ ]) (may.0, refl, here, begins-here q.source.feed (h.begun (λ end. not-memory c.read_head.result c.in-Err.field-0 end c.in-Err.is))) (0, (sym (append-nil q.pending.requests.items), λ z. (refl, refl))) (driving-reads-on old new refl h.goes_on))
 
 pub returns-else-not-last-clause-answers : goal.returns-else-not-last-clause-answers
 returns-else-not-last-clause-answers g c = λ can.
@@ -192,7 +192,7 @@ returns-else-not-last-clause-answers g c = λ can.
     subst (λ r. P r) (sym requests) done)
     (λ no. elim no [ ])
     (λ some. absurd (some-none open_is some), λ i. absurd (last i), λ none. (because.Refused status, refl, end-refused q.source.standing c.args.now q.source.feed source.feed status text here reads))
-    (1, (requests, λ z. (let no : 1 ≡ 0 = z in cc)))
+    (1, (requests, λ z. (let no : 1 ≡ 0 = z in cc)), λ over. absurd (⊎_elim last (λ i. not-refused c.read_head.result status text true (h.at_end i).0 is) over))
     (record { goes_on = h.goes_on; fails_once = c.refuse.ensures.fails_once; flushed = λ was. c.refuse.ensures.flushed (was refl); sent_on = λ was. c.refuse.ensures.sent_on (was refl) }))
 
 pub returns-then-is_err-clause-answers : goal.returns-then-is_err-clause-answers
@@ -222,7 +222,7 @@ returns-then-is_err-clause-answers g c = λ can.
     let done = ask-memory client before k s c.args.now source.feed source.stop source.is_over source.standing st open_is n.unread n.quiet n.more
     (λ i. not-refused c.read_head.result status text is_last (h.at_end i).0 is) h.goes_on in
     subst (λ m. P m left.self.requests.items left.outlet) (ap (λ t. t.marks) (sym e.0)) (subst (λ r. P k.marks r left.outlet) (sym e.1) (subst (λ o. P k.marks k.requests o) (sym e.2) done)))
-    (λ no. elim no [ ]) (may.0, refl, here, h.begun (λ end. not-refused c.read_head.result status text is_last end is))
+    (λ no. elim no [ ]) (may.0, refl, here, begins-here q.source.feed (h.begun (λ end. not-refused c.read_head.result status text is_last end is)))
     (0, (e.1 ∙ sym (append-nil q.pending.requests.items), λ z. (ap (λ t. t.marks) e.0, e.2)))
     (record { goes_on = h.goes_on; fails_once = c.refuse.ensures.fails_once; flushed = λ was. c.refuse.ensures.flushed (was refl); sent_on = λ was. c.refuse.ensures.sent_on (was refl) }))
 
@@ -260,7 +260,8 @@ returns-then-not-last-clause-passes g c = λ can none.
       was_open = may.0;
       is_open = may.0;
       here = here;
-      begun = h.begun (λ end. not-refused c.read_head.result status text false end is);
+      unended = λ i. not-refused c.read_head.result status text false (h.at_end i).0 is;
+      begins = λ begun. begins-behind q.source.standing c.args.now q.source.feed source.feed status text reads begun;
       stands = stands;
       ends = λ why ends. end-behind q.source.standing c.args.now q.source.feed source.feed status text why here reads ends;
       requests = requests;
