@@ -183,6 +183,18 @@ const ROWS: &[Row] = &[
         Some(EndOfRequests::Refused(StatusCode(505))),
     ),
     (
+        b"GET / HTTP/2.0\r\n\r\n",
+        Some(ErrorKind::TimedOut),
+        &[Ask],
+        Some(EndOfRequests::Refused(StatusCode(408))),
+    ),
+    (
+        b"POST / HTTP/2.0\r\nContent-Length: 2000\r\n\r\nxy",
+        Some(ErrorKind::TimedOut),
+        &[Ask],
+        Some(EndOfRequests::Closed),
+    ),
+    (
         b"POST / HTTP/2.0\r\nContent-Length: 3\r\n\r\nab",
         None,
         &[Ask],

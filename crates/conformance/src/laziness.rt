@@ -1,4 +1,5 @@
 //! Nothing is read ahead: how often a step calls the client. The client itself says how the bytes come in pieces.
+use crate::exchanges::date;
 use crate::runs::Deed::{Ask, Drop, Read, Text};
 use crate::runs::{Deed, steps_of};
 use crate::same::assert_same;
@@ -8,6 +9,8 @@ use std::io::ErrorKind;
 use std::process::Abort;
 use std::test::Fail;
 use tiny_http_core::driver::run;
+use tiny_http_core::exchange::{HeadRead, read_head};
+use tiny_http_core::source::Source;
 use tiny_http_wire::device::{Metered, ReadDevice};
 
 // A client that sends a piece a call, and then nothing. It counts the calls.
@@ -141,6 +144,29 @@ fn a_version_above_1_1_is_passed_for_one_head(rt: HostRuntime) -> Result<(), Fai
         b"G",
     ];
     assert_calls(&rt, rt.alloc(), pieces, &[Ask, Drop(1)], &[0, 2, 2])
+}
+
+// How often `read_head` calls the client, where that sends this piece alone, and its head is refused and not the last.
+fn calls_of_a_refusal(alloc: Global, pieces: &'static [&'static [u8]]) -> Result<usize, Fail> {
+    let mut source = Source::new(Client { pieces, calls: 0 });
+    match read_head(alloc, &mut source, date()?)? {
+        HeadRead::Refused { last: false, .. } => Ok(source.into_inner().calls),
+        _ => Err("not refused".into()),
+    }
+}
+
+// Heads of version 2.0, each in front of a body that doesn't come.
+const WITHOUT_BODIES: &[&[&[u8]]] = &[
+    &[b"POST / HTTP/2.0\r\nContent-Length: 2000\r\n\r\n"],
+    &[b"POST / HTTP/2.0\r\nExpect: 100-continue\r\nContent-Length: 5\r\n\r\n"],
+];
+
+#[test]
+fn a_505_waits_for_no_byte_of_its_body(rt: HostRuntime) -> Result<(), Fail> {
+    for pieces in WITHOUT_BODIES {
+        assert_same(&rt, calls_of_a_refusal(rt.alloc(), pieces)?, 1);
+    }
+    Ok(())
 }
 
 // A reader that fails once, and then gives a request.

@@ -1,9 +1,12 @@
 //! Versions above 1.1, which are refused.
 use crate::exchanges::{date, request, source_of};
 use crate::runs::Deed::{Ask, Drop, IntoWriter, Text};
-use crate::runs::{Case, EMPTY, Pieces, SIZES, TEXT, assert_case, joined};
+use crate::runs::{
+    AMPLE, Case, EMPTY, Pieces, SIZES, TEXT, Trouble, assert_case, assert_troubled, joined,
+};
 use crate::same::{assert_holds, assert_same};
 use std::alloc::Global;
+use std::io::ErrorKind;
 use std::process::Abort;
 use std::test::Fail;
 use tiny_http_core::exchange::{HeadRead, read_head};
@@ -165,6 +168,43 @@ fn an_ask_passes_several_heads(rt: HostRuntime) -> Result<(), Fail> {
         ],
     };
     assert_case(&rt, rt.alloc(), &case)
+}
+
+// Behind the 505 a time-out in front of a head is answered, and one within the body isn't.
+#[test]
+fn a_time_out_behind_a_505(rt: HostRuntime) -> Result<(), Fail> {
+    for (client, output) in [
+        (
+            b"GET / HTTP/2.0\r\n\r\n".as_slice(),
+            [
+                TOO_NEW,
+                TEXT,
+                LENGTH,
+                SUPPORTED,
+                "HTTP/1.1 408 Request Timeout\r\n",
+                EMPTY,
+            ]
+            .as_slice(),
+        ),
+        (
+            b"POST / HTTP/2.0\r\nContent-Length: 2000\r\n\r\nxy".as_slice(),
+            &[TOO_NEW, TEXT, LENGTH, SUPPORTED],
+        ),
+    ] {
+        let case = Case {
+            client,
+            deeds: &[Ask, Ask],
+            replies: "ended; ended",
+            output,
+        };
+        let trouble = Trouble {
+            reader: Some(ErrorKind::TimedOut),
+            room: AMPLE,
+            writer: ErrorKind::Other,
+        };
+        assert_troubled(&rt, rt.alloc(), &case, trouble)?;
+    }
+    Ok(())
 }
 
 #[test]
