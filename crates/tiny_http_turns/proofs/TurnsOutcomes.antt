@@ -8,7 +8,7 @@ use Rattle.tiny_http_turns.specs.Turns.{Mark, Open, Held, Left, Finished, first_
 if_same : {X : Type 0} (a b : ℕ) (x y : X) → a ≡ b → (if eqb a b then x else y) ≡ x
 if_same a b x y e = rw (eq-eqb a b e) refl
 
-if_other : {X : Type 0} (a b : ℕ) (x y : X) → a ≢ b → (if eqb a b then x else y) ≡ y
+pub if_other : {X : Type 0} (a b : ℕ) (x y : X) → a ≢ b → (if eqb a b then x else y) ≡ y
 if_other a b x y ne = grind (arith, nat_tests)
 
 pub outcome-take : (marks : List Mark) (k : ℕ) → slice_get marks k ≡ Some Open → k ≡ first_unfinished marks → turn_outcome (Take k) marks ≡ (Taken, slice_set marks k Held)

@@ -1,9 +1,9 @@
 -- THE TURN MACHINE: numbers that have one item in turn.
 use Prim.Native.Nat.{suc}
 use Rattle.std.specs.Global.{Vec}
-use Rattle.std.specs.Prelude.{◌≡◌, ℕ, Bool, true, false, not, List, [], ◌∷◌, ◌++◌, length, Option, Some, None, is_some, slice_get, slice_set, ◌==◌, if◌then◌else◌}
+use Rattle.std.specs.Prelude.{◌≡◌, ℕ, Bool, true, false, not, List, [], ◌∷◌, ◌++◌, length, map, replicate, Option, Some, None, is_some, slice_get, slice_set, ◌==◌, if◌then◌else◌}
 use Rattle.tiny_http_turns.specs.declared.turns.Entry.{Entry}
-use Rattle.tiny_http_turns.specs.declared.turns.Entry.TheVariants.{Open as IsOpen, Held as IsHeld, Left as IsLeft, Finished as IsFinished}
+use Rattle.tiny_http_turns.specs.declared.turns.Entry.TheVariants.{Open as IsOpen, Held as IsHeld, Left as IsLeft}
 
 -- what is known of one number
 pub data Mark : Type 0 where
@@ -17,7 +17,10 @@ abbrev pub mark_of : Entry → Mark
 mark_of IsOpen = Open
 mark_of IsHeld = Held
 mark_of (IsLeft text) = Left text.items
-mark_of IsFinished = Finished
+
+-- so many numbers are finished, and this is stored for the others
+abbrev pub marks_of : ℕ → List Entry → List Mark
+marks_of turn entries = replicate turn Finished ++ map mark_of entries
 
 -- the marks of all numbers, and the item where no number holds it
 pub record TurnsState (T : Type 0) : Type 0 where
@@ -154,8 +157,3 @@ turn_answer step marks = (turn_outcome step marks).0
 
 abbrev pub marks_after_step : TurnStep → List Mark → List Mark
 marks_after_step step marks = (turn_outcome step marks).1
-
--- what is kept beside them: the first unfinished number
-pub record HasTurn {T : Type 0} (turn : ℕ) (turns : TurnsState T) : Type 0 where
-  pub in_order : IsInOrder turns
-  pub turn_is : turn ≡ first_unfinished turns.marks

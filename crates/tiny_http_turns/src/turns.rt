@@ -1,8 +1,9 @@
 //! One item, and numbers that have it in turn.
-ghost use Rattle.std.specs.Prelude.{◌≡◌, ◌-◌, ◌^◌, ◌<◌, ◌↔◌, length, map, IfOk, OnOk, OnErr, IsSome, IsTrue, slice_get, Some};
-ghost use Rattle.tiny_http_turns.specs.Turns.{Issue, Take, PutBack, Finish, Leave, Issued, Open, Held, first_unfinished, mark_of, marks_after_step, turn_answer, pass_to, ReportsPass, is_left_mark};
+ghost use Rattle.std.specs.Prelude.{◌≡◌, ◌+◌, ◌-◌, ◌^◌, ◌<◌, ◌↔◌, length, map, IfOk, OnOk, OnErr, IsSome, IsTrue, slice_get, slice_set, Some};
+ghost use Rattle.tiny_http_turns.specs.Turns.{Issue, Take, PutBack, Finish, Leave, Issued, Open, Held, first_unfinished, mark_of, marks_after_step, turn_answer, pass_to, ReportsPass};
 
 use std::alloc::Global;
+use std::collections::VecDeque;
 use std::marker::Model;
 use std::mem;
 use thiserror::Error;
@@ -42,7 +43,7 @@ pub enum Leaving<T> {
     Strange(Vec<u8>),
 }
 
-// What is known of one number.
+// What is known of one number that isn't finished.
 #[derive(Drop)]
 enum Entry {
     // It waits for its turn, or may take the item in it.
@@ -51,28 +52,28 @@ enum Entry {
     Held,
     // It is held in its turn by who finishes the turn before, and this text comes out.
     Left(Vec<u8>),
-    // Its turn is over.
-    Finished,
 }
 
 /// An item, as the output of a connection, that numbers from 0 on have in turn: each once all before it are finished. No
-/// call waits, and but for `issue` none takes memory. A contract sees one mark a number, and the item where it rests.
+/// call waits, and but for `issue` none takes memory. Nothing is kept of a finished number. A contract sees one mark a number,
+/// and the item where it rests.
 #[derive(Drop)]
 pub struct Turns<T> {
-    entries: Vec<Entry>,
-    turn: usize,
+    // The numbers from `turn` on; all before it are finished.
+    entries: VecDeque<Entry>,
+    turn: u64,
     resting: Option<T>,
 }
 
 impl<T> Model for Turns<T> {
-    ghost use Rattle.std.specs.Prelude.{map};
-    ghost use Rattle.tiny_http_turns.specs.Turns.{TurnsState, mark_of, HasTurn};
+    ghost use Rattle.std.specs.Prelude.{◌+◌, ◌<◌, ◌^◌, length};
+    ghost use Rattle.tiny_http_turns.specs.Turns.{TurnsState, marks_of, IsInOrder};
 
     ghost Value = { TurnsState T };
 
-    ghost view = { λ t. record { marks = map mark_of t.entries.items; resting = t.resting } };
+    ghost view = { λ t. record { marks = marks_of t.turn t.entries.items; resting = t.resting } };
 
-    ghost invariant = { λ t. HasTurn t.turn (record { marks = map mark_of t.entries.items; resting = t.resting }) };
+    ghost invariant = { λ t. IsInOrder (record { marks = marks_of t.turn t.entries.items; resting = t.resting }) × (t.turn + length t.entries.items < 2 ^ 64) };
 }
 
 impl<T: Drop> Turns<T> {
@@ -85,7 +86,7 @@ impl<T: Drop> Turns<T> {
         ensures new { result ≡ new_turns item }
     {
         Turns {
-            entries: Vec::new(alloc),
+            entries: VecDeque::new(alloc),
             turn: 0,
             resting: Some(item),
         }
@@ -101,11 +102,11 @@ impl<T: Drop> Turns<T> {
         ensures err { OnErr result (self.new ≡ self.old) }
         ensures exhausted { (result ≡ Err TurnsError.Exhausted) ↔ (length self.old.marks ≡ 2 ^ 64 - 1) }
     {
-        let number = self.entries.len() as u64;
+        let number = self.turn + self.entries.len() as u64;
         if number == u64::MAX {
             return Err(TurnsError::Exhausted);
         }
-        match self.entries.push(Entry::Open) {
+        match self.entries.push_back(Entry::Open) {
             Ok(()) => Ok(number),
             Err(_) => Err(TurnsError::Memory),
         }
@@ -119,9 +120,8 @@ impl<T: Drop> Turns<T> {
         ensures item { TakesTurn (turn_answer (Take number) self.old.marks) self.old.resting result self.new.resting }
         ensures held { IsSome result ↔ ((slice_get self.old.marks number ≡ Some Open) × (number ≡ first_unfinished self.old.marks)) }
     {
-        let at = number as usize;
-        if at == self.turn && is_open(&self.entries, at) {
-            self.entries[at] = Entry::Held;
+        if number == self.turn && is_open(&self.entries, 0) {
+            set_entry(&mut self.entries, 0, Entry::Held);
             self.resting.take()
         } else {
             None
@@ -135,11 +135,10 @@ impl<T: Drop> Turns<T> {
         ensures marks { self.new.marks ≡ marks_after_step (PutBack number) self.old.marks }
         ensures item { PutsBack (turn_answer (PutBack number) self.old.marks) item self.old.resting result self.new.resting }
     {
-        let at = number as usize;
-        if !is_held(&self.entries, at) {
+        if number != self.turn || !is_front_held(&self.entries) {
             return Err(item);
         }
-        self.entries[at] = Entry::Open;
+        set_entry(&mut self.entries, 0, Entry::Open);
         self.resting = Some(item);
         Ok(())
     }
@@ -148,7 +147,7 @@ impl<T: Drop> Turns<T> {
     pub fn first_unfinished(&self) -> u64
         ensures { result ≡ first_unfinished self.now.marks }
     {
-        self.turn as u64
+        self.turn
     }
 
     /// Finishes a held number. If the next one was left, that one is held, and its text comes out.
@@ -159,13 +158,12 @@ impl<T: Drop> Turns<T> {
         // The number after it fits.
         ensures bound { length self.new.marks < 2 ^ 64 }
     {
-        let at = number as usize;
-        if !is_held(&self.entries, at) {
+        if number != self.turn || !is_front_held(&self.entries) {
             return Finishing::Strange(item);
         }
-        self.entries[at] = Entry::Finished;
-        self.turn = at + 1;
-        match hold_left(&mut self.entries, at + 1) {
+        drop(self.entries.pop_front());
+        self.turn = number + 1;
+        match hold_left(&mut self.entries) {
             Some(text) => Finishing::Go(item, text),
             None => {
                 self.resting = Some(item);
@@ -181,17 +179,20 @@ impl<T: Drop> Turns<T> {
         ensures item { LeavesTurn (turn_answer (Leave number text.items) self.old.marks) self.old.resting result self.new.resting }
         ensures back { GivesBack result text }
     {
-        let at = number as usize;
+        if number < self.turn {
+            return Leaving::Strange(text);
+        }
+        let at = (number - self.turn) as usize;
         if !is_open(&self.entries, at) {
             return Leaving::Strange(text);
         }
-        if at != self.turn {
-            self.entries[at] = Entry::Left(text);
+        if at != 0 {
+            set_entry(&mut self.entries, at, Entry::Left(text));
             return Leaving::Left;
         }
         match self.resting.take() {
             Some(item) => {
-                self.entries[at] = Entry::Held;
+                set_entry(&mut self.entries, 0, Entry::Held);
                 Leaving::Go(item, text)
             }
             None => unreachable!(),
@@ -211,37 +212,40 @@ impl<T: Drop> Turns<T> {
     }
 }
 
-// Whether the number is open.
-fn is_open(entries: &[Entry], at: usize) -> bool
-    ensures { IsTrue result ↔ (slice_get (map mark_of entries.now) at ≡ Some Open) }
+// Whether the number that is kept at this place is open.
+fn is_open(entries: &VecDeque<Entry>, at: usize) -> bool
+    ensures { IsTrue result ↔ (slice_get (map mark_of entries.now.items) at ≡ Some Open) }
 {
     matches!(entries.get(at), Some(Entry::Open))
 }
 
-// Whether the number is held.
-fn is_held(entries: &[Entry], at: usize) -> bool
-    ensures { IsTrue result ↔ (slice_get (map mark_of entries.now) at ≡ Some Held) }
+// Whether the first unfinished number is held.
+fn is_front_held(entries: &VecDeque<Entry>) -> bool
+    ensures { IsTrue result ↔ (slice_get (map mark_of entries.now.items) 0 ≡ Some Held) }
 {
-    matches!(entries.get(at), Some(Entry::Held))
+    matches!(entries.front(), Some(Entry::Held))
 }
 
-// Whether the number is left.
-fn is_left(entries: &[Entry], at: usize) -> bool
-    ensures { result ≡ is_left_mark (slice_get (map mark_of entries.now) at) }
+// Keeps this of the number at this place, if there is one.
+fn set_entry(entries: &mut VecDeque<Entry>, at: usize, entry: Entry)
+    ensures { entries.new.items ≡ slice_set entries.old.items at entry }
 {
-    matches!(entries.get(at), Some(Entry::Left(_)))
-}
-
-// Holds a number that was left, and gives its text.
-fn hold_left(entries: &mut Vec<Entry>, at: usize) -> Option<Vec<u8>>
-    ensures marks { let old = map mark_of entries.old.items in map mark_of entries.new.items ≡ (pass_to (slice_get old at) at old).1 }
-    ensures text { let old = map mark_of entries.old.items in ReportsPass (pass_to (slice_get old at) at old).0 at result }
-{
-    if !is_left(entries, at) {
-        return None;
+    if let Some(place) = entries.get_mut(at) {
+        *place = entry;
     }
-    match mem::replace(&mut entries[at], Entry::Held) {
+}
+
+// Holds the first unfinished number, if it was left, and gives its text.
+fn hold_left(entries: &mut VecDeque<Entry>) -> Option<Vec<u8>>
+    ensures marks { let old = map mark_of entries.old.items in map mark_of entries.new.items ≡ (pass_to (slice_get old 0) 0 old).1 }
+    ensures text { let old = map mark_of entries.old.items in ReportsPass (pass_to (slice_get old 0) 0 old).0 0 result }
+{
+    let front = entries.front_mut()?;
+    match mem::replace(front, Entry::Held) {
         Entry::Left(text) => Some(text),
-        _ => None,
+        other => {
+            *front = other;
+            None
+        }
     }
 }
