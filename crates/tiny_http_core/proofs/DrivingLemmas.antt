@@ -56,13 +56,13 @@ use Rattle.tiny_http_core.proofs.ConnectionAsking.{AskGoesOn}
 -- the fields as they are seen
 abbrev pub viewed : {R W : Type 0} → SourceState R → OutletState W → Pending → Option EndOfRequests → ConnectionState R W
 viewed source outlet pending end =
-    record { marks = pending.turns.marks; requests = pending.requests.items; end = end; source = source; outlet = outlet }
+    record { marks = pending.turns.marks; requests = pending.requests; end = end; source = source; outlet = outlet }
 
 -- the same numbers, and the same kept of them
-pub same-view : {R W : Type 0} (source : SourceState R) (outlet : OutletState W) (p q : Pending) (end : Option EndOfRequests) → p.turns.marks ≡ q.turns.marks → p.requests.items ≡ q.requests.items → viewed source outlet p end ≡ viewed source outlet q end
+pub same-view : {R W : Type 0} (source : SourceState R) (outlet : OutletState W) (p q : Pending) (end : Option EndOfRequests) → p.turns.marks ≡ q.turns.marks → p.requests ≡ q.requests → viewed source outlet p end ≡ viewed source outlet q end
 same-view {R = R} {W = W} source outlet p q end marks requests =
     let V : List Mark → List (Option Unfinished) → ConnectionState R W = λ m r. record { marks = m; requests = r; end = end; source = source; outlet = outlet } in
-    ap (λ m. V m p.requests.items) marks ∙ ap (λ r. V q.turns.marks r) requests
+    ap (λ m. V m p.requests) marks ∙ ap (λ r. V q.turns.marks r) requests
 
 pub none-of : {X : Type 0} (o : Option X) → is_some o ≡ false → o ≡ None
 none-of None e = refl

@@ -1,5 +1,7 @@
 -- What the calls on numbers leave, as lists of marks.
-use Rattle.std.proofs.Common.{◌≡◌, refl, sym, ap, ◌∙◌, subst, ℕ, suc, ◌+◌, Bool, true, false, List, [], ◌∷◌, ◌++◌, length, Option, Some, None, append_assoc, append-nil, length-append}
+use Rattle.std.proofs.Common.{◌≡◌, refl, sym, ap, ◌∙◌, subst, ℕ, suc, ◌+◌, Bool, true, false, List, [], ◌∷◌, ◌++◌, length, Option, Some, None, append_assoc, append-nil, length-append, IfSome, IfNone}
+use Prim.Native.Nat.{zero}
+use Rattle.tiny_http_turns.specs.ByNumber.{value_of}
 use Rattle.std.proofs.lemmas.List.{length-set}
 use Rattle.std.specs.Global.{Vec}
 use Rattle.std.specs.Prelude.{MatchBool, ◌==◌, if◌then◌else◌, slice_get, slice_set}
@@ -322,3 +324,22 @@ length-left k text marks = by (slice_get marks k)
     by (Some Held) = refl
     by (Some (Left was)) = refl
     by (Some Finished) = refl
+
+-- what was taken out of its place, and something else put there, gets another value
+set-twice : {X : Type 0} (xs : List X) (n : ℕ) (x y : X) → slice_set (slice_set xs n x) n y ≡ slice_set xs n y
+set-twice [] n x y = refl
+set-twice (z ∷ zs) zero x y = refl
+set-twice (z ∷ zs) (suc n) x y = ap (λ r. z ∷ r) (set-twice zs n x y)
+
+get-set : {X : Type 0} (xs : List X) (n : ℕ) (z x : X) → slice_get xs n ≡ Some z → slice_get (slice_set xs n x) n ≡ Some x
+get-set [] n z x e = cc
+get-set (y ∷ ys) zero z x e = refl
+get-set (y ∷ ys) (suc n) z x e = get-set ys n z x e
+
+pub put-in-place : {U : Type 0} (old mid new : List (Option U)) (n : ℕ) (was x v : U) (r : Option U) → slice_get old n ≡ Some (Some was) → mid ≡ slice_set old n (Some x)
+    → IfSome r (λ w. (slice_get mid n ≡ Some (Some w)) × (new ≡ slice_set mid n (Some v))) → IfNone r ((value_of (slice_get mid n) ≡ None) × (new ≡ mid)) → new ≡ slice_set old n (Some v)
+put-in-place old mid new n was x v (Some w) here is some none = some.1 ∙ (ap (λ l. slice_set l n (Some v)) is ∙ set-twice old n (Some x) (Some v))
+put-in-place old mid new n was x v None here is some none =
+    let got = ap value_of (ap (λ l. slice_get l n) is ∙ get-set old n (Some was) (Some x) here) in
+    let no : Some x ≡ None = sym got ∙ none.0 in
+    cc

@@ -139,7 +139,7 @@ impl<R: ReadDevice, W: WriteDevice> Model for Connection<R, W> {
 
     ghost Value = { ConnectionState R W };
 
-    ghost view = { λ c. record { marks = c.pending.turns.marks; requests = c.pending.requests.items; end = c.end; source = c.source; outlet = c.outlet } };
+    ghost view = { λ c. record { marks = c.pending.turns.marks; requests = c.pending.requests; end = c.end; source = c.source; outlet = c.outlet } };
 }
 
 // The kinds of fault of a client that has closed the connection: an answer to it is no failure.
@@ -243,7 +243,7 @@ impl<R: ReadDevice, W: WriteDevice> Connection<R, W> {
     pub fn next_number(&self) -> u64
         ensures { result ≡ length self.now.requests }
     {
-        self.pending.requests.len() as u64
+        self.pending.requests.len()
     }
 
     /// Whether the request of this number waits for its answer.

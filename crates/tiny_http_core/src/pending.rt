@@ -1,5 +1,5 @@
 //! Requests that aren't finished, and texts that wait for their turn.
-ghost use Rattle.std.specs.Prelude.{◌≡◌, ◌↔◌, ◌≤◌, ◌+◌, ◌++◌, ◌∷◌, true, false, List, [], length, Some, None, IfOk, IfSome, IfNone, OnOk, OnErr, IsTrue, ◌==◌, slice_get, slice_set};
+ghost use Rattle.std.specs.Prelude.{◌≡◌, ◌↔◌, ◌≤◌, ◌<◌, ◌^◌, ◌+◌, ◌++◌, ◌∷◌, true, false, List, [], length, Some, None, IfOk, IfSome, IfNone, OnOk, OnErr, IsTrue, ◌==◌, slice_get, slice_set};
 ghost use Rattle.tiny_http_turns.specs.Turns.{Mark, Open, Held, AreInShape, first_unfinished};
 ghost use Rattle.tiny_http_stream.specs.Outlet.{output_of, outlet_ended, outlet_held, SentOn};
 ghost use Rattle.tiny_http_sending.specs.Sending.{CanSend, IsFlushed, SendsUnlessEnded, FailsOnceUnlessEnded};
@@ -10,12 +10,12 @@ ghost use Rattle.tiny_http_core.specs.Pending.{left_text, SendsLeft, FinishesFro
 
 use std::alloc::Global;
 use std::io::ErrorKind;
-use std::mem;
 use tiny_http_message::body::Body;
 use tiny_http_message::waiting::Waiting;
 use tiny_http_sending::sending::{flush_quietly, write_quietly};
 use tiny_http_stream::outlet::Outlet;
 use tiny_http_stream::source::Source;
+use tiny_http_turns::by_number::ByNumber;
 use tiny_http_turns::turns::{Finishing, Leaving, Turns, TurnsError};
 use tiny_http_wire::answer_context::AnswerContext;
 use tiny_http_wire::device::{ReadDevice, WriteDevice};
@@ -35,18 +35,18 @@ pub enum Unfinished {
 #[derive(Drop)]
 pub(crate) struct Pending {
     pub turns: Turns<()>,
-    pub requests: Vec<Option<Unfinished>>,
+    pub requests: ByNumber<Unfinished>,
 }
 
 impl Pending {
     /// No number was given out.
     pub fn new(alloc: Global) -> Pending
         ensures marks { result.turns.marks ≡ [] }
-        ensures requests { result.requests.items ≡ [] }
+        ensures requests { result.requests ≡ [] }
     {
         Pending {
             turns: Turns::new(alloc, ()),
-            requests: Vec::new(alloc),
+            requests: ByNumber::new(alloc),
         }
     }
 
@@ -55,15 +55,18 @@ impl Pending {
         ensures number { IfOk result (λ n. n ≡ length self.old.turns.marks) }
         ensures marks { OnOk result (self.new.turns.marks ≡ self.old.turns.marks ++ (Open ∷ [])) }
         ensures shape { OnOk result (AreInShape self.new.turns.marks) }
-        ensures requests { OnOk result (self.new.requests.items ≡ self.old.requests.items ++ (request ∷ [])) }
-        ensures err { OnErr result ((self.new.turns ≡ self.old.turns) × (self.new.requests.items ≡ self.old.requests.items)) }
+        ensures requests { OnOk result (self.new.requests ≡ self.old.requests ++ (request ∷ [])) }
+        ensures bound { OnOk result (length self.new.requests < 2 ^ 64) }
+        ensures err { OnErr result ((self.new.turns ≡ self.old.turns) × (self.new.requests ≡ self.old.requests)) }
     {
-        if self.requests.try_reserve(1).is_err() {
-            return Err(TurnsError::Memory);
+        self.requests.push(request)?;
+        match self.turns.issue() {
+            Ok(number) => Ok(number),
+            Err(error) => {
+                drop(self.requests.pop());
+                Err(error)
+            }
         }
-        let number = self.turns.issue()?;
-        self.requests.push_reserved(request);
-        Ok(number)
     }
 
     /// Gives a refused head the next number, and leaves its answer under it. An error changes nothing.
@@ -76,8 +79,9 @@ impl Pending {
             → OnOk result (LeavesText (length self.old.turns.marks == first_unfinished self.old.turns.marks) self.old.turns.marks [] self.new.turns.marks text.items
             (outlet_ended outlet.old) (output_of outlet.old) (output_of outlet.new) (outlet_ended outlet.new)) }
         ensures counts { OnOk result (length self.new.turns.marks ≡ length self.old.turns.marks + 1) }
-        ensures requests { OnOk result (self.new.requests.items ≡ self.old.requests.items ++ (None ∷ [])) }
-        ensures err { OnErr result ((self.new.turns ≡ self.old.turns) × (self.new.requests.items ≡ self.old.requests.items) × (outlet.new ≡ outlet.old)) }
+        ensures requests { OnOk result (self.new.requests ≡ self.old.requests ++ (None ∷ [])) }
+        ensures bound { OnOk result (length self.new.requests < 2 ^ 64) }
+        ensures err { OnErr result ((self.new.turns ≡ self.old.turns) × (self.new.requests ≡ self.old.requests) × (outlet.new ≡ outlet.old)) }
         ensures fails_once { FailsOnceUnlessEnded (outlet_ended outlet.old) (output_of outlet.old) (output_of outlet.new) (outlet_ended outlet.new) }
         ensures flushed { outlet_held outlet.old ≡ [] → outlet_held outlet.new ≡ [] }
         ensures sent_on { SentOn outlet.old → SentOn outlet.new }
@@ -89,41 +93,41 @@ impl Pending {
 
     /// How the answer of this number is printed, if it waits for it.
     pub fn answer_context_at(&self, number: u64) -> Option<AnswerContext>
-        ensures { result ≡ waiting_answer_context (slice_get self.now.requests.items number) }
+        ensures { result ≡ waiting_answer_context (slice_get self.now.requests number) }
     {
-        match self.requests.get(number as usize) {
-            Some(Some(Unfinished::Waiting(waiting))) => Some(waiting.answer_context),
+        match self.requests.get(number) {
+            Some(Unfinished::Waiting(waiting)) => Some(waiting.answer_context),
             _ => None,
         }
     }
 
     /// Whether the body of this number can be read: it waits for its answer, and no 100 is owed; or it was upgraded.
     pub fn is_readable(&self, number: u64) -> bool
-        ensures { result ≡ is_readable (slice_get self.now.requests.items number) }
+        ensures { result ≡ is_readable (slice_get self.now.requests number) }
     {
-        match self.requests.get(number as usize) {
-            Some(Some(Unfinished::Waiting(waiting))) => !waiting.owes_continue,
-            Some(Some(Unfinished::Upgraded(_))) => true,
+        match self.requests.get(number) {
+            Some(Unfinished::Waiting(waiting)) => !waiting.owes_continue,
+            Some(Unfinished::Upgraded(_)) => true,
             _ => false,
         }
     }
 
     /// Whether bytes can be written under this number: its raw writer is in use, or it was upgraded.
     pub fn is_writable(&self, number: u64) -> bool
-        ensures { result ≡ is_writable (slice_get self.now.requests.items number) }
+        ensures { result ≡ is_writable (slice_get self.now.requests number) }
     {
         matches!(
-            self.requests.get(number as usize),
-            Some(Some(Unfinished::Raw | Unfinished::Upgraded(_)))
+            self.requests.get(number),
+            Some(Unfinished::Raw | Unfinished::Upgraded(_))
         )
     }
 
     /// Whether this number waits for its answer and a 100 is owed.
     pub fn owes_continue(&self, number: u64) -> bool
-        ensures { result ≡ owes_continue (slice_get self.now.requests.items number) }
+        ensures { result ≡ owes_continue (slice_get self.now.requests number) }
     {
-        match self.requests.get(number as usize) {
-            Some(Some(Unfinished::Waiting(waiting))) => waiting.owes_continue,
+        match self.requests.get(number) {
+            Some(Unfinished::Waiting(waiting)) => waiting.owes_continue,
             _ => false,
         }
     }
@@ -137,27 +141,25 @@ impl Pending {
 
     /// No 100 is owed to this number any more, if it waits for its answer.
     pub fn set_continued(&mut self, number: u64)
-        ensures requests { (w : Waiting) → slice_get self.old.requests.items number ≡ Some (Some (Unfinished.Waiting w))
-            → self.new.requests.items ≡ slice_set self.old.requests.items number (Some (Unfinished.Waiting (record w { owes_continue = false }))) }
+        ensures requests { (w : Waiting) → slice_get self.old.requests number ≡ Some (Some (Unfinished.Waiting w))
+            → self.new.requests ≡ slice_set self.old.requests number (Some (Unfinished.Waiting (record w { owes_continue = false }))) }
         ensures turns { self.new.turns ≡ self.old.turns }
     {
-        let Some(entry) = self.requests.get_mut(number as usize) else {
-            return;
-        };
-        match entry {
-            Some(Unfinished::Waiting(waiting)) => waiting.owes_continue = false,
-            _ => {}
+        if let Some(mut waiting) = self.take(number, Some(Unfinished::Raw)) {
+            waiting.owes_continue = false;
+            drop(self.requests.replace(number, Some(Unfinished::Waiting(waiting))));
         }
     }
 
     /// This number was upgraded, if it waits for its answer. Its body is kept.
     pub fn set_upgraded(&mut self, number: u64)
-        ensures requests { (w : Waiting) → slice_get self.old.requests.items number ≡ Some (Some (Unfinished.Waiting w))
-            → self.new.requests.items ≡ slice_set self.old.requests.items number (Some (Unfinished.Upgraded w.body)) }
+        ensures requests { (w : Waiting) → slice_get self.old.requests number ≡ Some (Some (Unfinished.Waiting w))
+            → self.new.requests ≡ slice_set self.old.requests number (Some (Unfinished.Upgraded w.body)) }
         ensures turns { self.new.turns ≡ self.old.turns }
     {
-        if let Some(entry) = self.requests.get_mut(number as usize) {
-            upgrade_waiting(entry);
+        if let Some(waiting) = self.take(number, Some(Unfinished::Raw)) {
+            let Waiting { body, .. } = waiting;
+            drop(self.requests.replace(number, Some(Unfinished::Upgraded(body))));
         }
     }
 
@@ -169,43 +171,49 @@ impl Pending {
         buf: &mut [u8],
     ) -> Result<usize, ErrorKind>
         ensures bound { IfOk result (λ n. n ≤ length buf.new) }
-        ensures fills { (u : Unfinished) (was : Body) → slice_get self.old.requests.items number ≡ Some (Some u) → kept_body (Some u) ≡ Some was
-            → (body : Body) × (self.new.requests.items ≡ slice_set self.old.requests.items number (Some (with_body body u)))
+        ensures fills { (u : Unfinished) (was : Body) → slice_get self.old.requests number ≡ Some (Some u) → kept_body (Some u) ≡ Some was
+            → (body : Body) × (self.new.requests ≡ slice_set self.old.requests number (Some (with_body body u)))
             × FillsFromBody was source.old.feed body source.new.feed result buf.new × (is_streaming was ≡ false → source.new ≡ source.old)
             × (is_streaming was ≡ true → source.new.standing ≡ body_standing body source.old.standing) }
         ensures turns { self.new.turns ≡ self.old.turns }
         ensures goes_on { GoesOn source.old.feed source.new.feed }
     {
-        let Some(entry) = self.requests.get_mut(number as usize) else {
+        let Some(mut unfinished) = self.requests.replace(number, Some(Unfinished::Raw)) else {
             return Ok(0);
         };
-        match entry {
-            Some(Unfinished::Waiting(waiting)) => waiting.body.fill(source, buf),
-            Some(Unfinished::Upgraded(body)) => body.fill(source, buf),
-            _ => Ok(0),
-        }
+        let filled = fill_from(&mut unfinished, source, buf);
+        drop(self.requests.replace(number, Some(unfinished)));
+        filled
     }
 
     /// What is kept of this number, if it waits for its answer. Then this is kept in its place.
     pub fn take(&mut self, number: u64, then: Option<Unfinished>) -> Option<Waiting>
-        ensures some { IfSome result (λ w. (slice_get self.old.requests.items number ≡ Some (Some (Unfinished.Waiting w)))
-            × (self.new.requests.items ≡ slice_set self.old.requests.items number then)) }
-        ensures none { IfNone result ((waiting_answer_context (slice_get self.old.requests.items number) ≡ None) × (self.new.requests.items ≡ self.old.requests.items)) }
+        ensures some { IfSome result (λ w. (slice_get self.old.requests number ≡ Some (Some (Unfinished.Waiting w)))
+            × (self.new.requests ≡ slice_set self.old.requests number then)) }
+        ensures none { IfNone result ((waiting_answer_context (slice_get self.old.requests number) ≡ None) × (self.new.requests ≡ self.old.requests)) }
         ensures turns { self.new.turns ≡ self.old.turns }
     {
-        let entry = self.requests.get_mut(number as usize)?;
-        take_waiting(entry, then)
+        if self.answer_context_at(number).is_none() {
+            return None;
+        }
+        match self.requests.replace(number, then) {
+            Some(Unfinished::Waiting(waiting)) => Some(waiting),
+            _ => unreachable!(),
+        }
     }
 
     /// What is kept of this number, if bytes can be written under it. Nothing is kept of it any more.
     pub fn close(&mut self, number: u64) -> Option<Unfinished>
-        ensures some { IfSome result (λ u. (slice_get self.old.requests.items number ≡ Some (Some u)) × (is_writable (Some (Some u)) ≡ true)
-            × (self.new.requests.items ≡ slice_set self.old.requests.items number None)) }
-        ensures none { IfNone result ((is_writable (slice_get self.old.requests.items number) ≡ false) × (self.new.requests.items ≡ self.old.requests.items)) }
+        ensures some { IfSome result (λ u. (slice_get self.old.requests number ≡ Some (Some u)) × (is_writable (Some (Some u)) ≡ true)
+            × (self.new.requests ≡ slice_set self.old.requests number None)) }
+        ensures none { IfNone result ((is_writable (slice_get self.old.requests number) ≡ false) × (self.new.requests ≡ self.old.requests)) }
         ensures turns { self.new.turns ≡ self.old.turns }
     {
-        let entry = self.requests.get_mut(number as usize)?;
-        take_writer(entry)
+        if self.is_writable(number) {
+            self.requests.replace(number, None)
+        } else {
+            None
+        }
     }
 
     /// Holds this number, if its turn has come.
@@ -253,43 +261,23 @@ impl Pending {
     }
 }
 
-// What is kept of a request that waits for its answer. Then this is kept in its place.
-fn take_waiting(entry: &mut Option<Unfinished>, then: Option<Unfinished>) -> Option<Waiting>
-    ensures some { IfSome result (λ w. (entry.old ≡ Some (Unfinished.Waiting w)) × (entry.new ≡ then)) }
-    ensures none { IfNone result ((waiting_answer_context (Some entry.old) ≡ None) × (entry.new ≡ entry.old)) }
+// Fills a buffer from the body of a request, if one is kept.
+fn fill_from<R: ReadDevice>(
+    unfinished: &mut Unfinished,
+    source: &mut Source<R>,
+    buf: &mut [u8],
+) -> Result<usize, ErrorKind>
+    ensures bound { IfOk result (λ n. n ≤ length buf.new) }
+    ensures fills { (was : Body) → kept_body (Some unfinished.old) ≡ Some was
+        → (body : Body) × (unfinished.new ≡ with_body body unfinished.old)
+        × FillsFromBody was source.old.feed body source.new.feed result buf.new × (is_streaming was ≡ false → source.new ≡ source.old)
+        × (is_streaming was ≡ true → source.new.standing ≡ body_standing body source.old.standing) }
+    ensures goes_on { GoesOn source.old.feed source.new.feed }
 {
-    match mem::replace(entry, then) {
-        Some(Unfinished::Waiting(waiting)) => Some(waiting),
-        other => {
-            *entry = other;
-            None
-        }
-    }
-}
-
-// A request that waits for its answer was upgraded. Its body is kept.
-fn upgrade_waiting(entry: &mut Option<Unfinished>)
-    ensures { (w : Waiting) → entry.old ≡ Some (Unfinished.Waiting w) → entry.new ≡ Some (Unfinished.Upgraded w.body) }
-{
-    match entry.take() {
-        Some(Unfinished::Waiting(Waiting { body, .. })) => {
-            *entry = Some(Unfinished::Upgraded(body));
-        }
-        other => *entry = other,
-    }
-}
-
-// What is kept of a request under which bytes can be written. Nothing is kept of it any more.
-fn take_writer(entry: &mut Option<Unfinished>) -> Option<Unfinished>
-    ensures some { IfSome result (λ u. (entry.old ≡ Some u) × (is_writable (Some (Some u)) ≡ true) × (entry.new ≡ None)) }
-    ensures none { IfNone result ((is_writable (Some entry.old) ≡ false) × (entry.new ≡ entry.old)) }
-{
-    match entry.take() {
-        Some(Unfinished::Waiting(waiting)) => {
-            *entry = Some(Unfinished::Waiting(waiting));
-            None
-        }
-        finished => finished,
+    match unfinished {
+        Unfinished::Waiting(waiting) => waiting.body.fill(source, buf),
+        Unfinished::Upgraded(body) => body.fill(source, buf),
+        Unfinished::Raw => Ok(0),
     }
 }
 

@@ -1,3 +1,5 @@
+pub mod FrontLemmas
+pub mod ByNumberLemmas
 pub mod TurnsLemmas
 pub mod TurnsOutcomes
 pub mod TurnsKept

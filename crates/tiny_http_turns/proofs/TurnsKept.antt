@@ -8,40 +8,17 @@ use Rattle.tiny_http_turns.specs.declared.turns.Entry.{Entry}
 use Rattle.tiny_http_turns.specs.declared.turns.Entry.TheVariants.{Open as OpenEntry, Held as HeldEntry, Left as LeftEntry}
 use Rattle.tiny_http_turns.specs.declared.turns.Finishing.TheVariants.{Passed as IsPassed, Go as FinishGo}
 use Rattle.tiny_http_turns.specs.declared.turns.Leaving.TheVariants.{Left as IsLeft, Go as LeaveGo}
-use Rattle.tiny_http_turns.specs.Turns.{Mark, Open, Held, Left, Finished, mark_of, marks_of, TurnsState, IsInOrder, first_unfinished, is_any_held, pass_to, ReportsPass, TurnAnswer, Issued, Taken, Opened, Passed, Waits, Goes, Strange, TurnOutcome, turn_outcome, turn_answer, marks_after_step, take_at, put_back_at, finish_at, leave_at, Take, PutBack, Finish, Leave}
+use Rattle.tiny_http_turns.specs.Turns.{Mark, Open, Held, Left, Finished, mark_of, marks_of, IsInOrder, first_unfinished, is_any_held, pass_to, ReportsPass, TurnAnswer, Issued, Taken, Opened, Passed, Waits, Goes, Strange, TurnOutcome, turn_outcome, turn_answer, marks_after_step, take_at, put_back_at, finish_at, leave_at, Take, PutBack, Finish, Leave}
 use Rattle.tiny_http_turns.specs.TurnsCalls.{TakesTurn, PutsBack, Finishes, LeavesTurn}
+use Rattle.tiny_http_turns.proofs.FrontLemmas.{get-behind, get-before, set-behind, one-behind}
 use Rattle.tiny_http_turns.proofs.TurnsLemmas.{Moved, Passed_on, held-first_unfinished, moved-issue, moved-hold, moved-open, moved-left, moved-finish}
 use Rattle.tiny_http_turns.proofs.TurnsOutcomes.{if_other, outcome-take, outcome-put_back, outcome-finish, outcome-leave_go, outcome-leave_wait}
-
-zero-plus : (n : ℕ) → 0 + n ≡ n
-zero-plus n = omega arith
-
-suc-plus : (n m : ℕ) → suc n + m ≡ suc (n + m)
-suc-plus n m = omega arith
 
 -- the next mark stays where one is set
 pub slice_get-set_next : (marks : List Mark) (k : ℕ) (mark : Mark) → slice_get (slice_set marks k mark) (suc k) ≡ slice_get marks (suc k)
 slice_get-set_next [] k mark = refl
 slice_get-set_next (m ∷ marks) zero mark = refl
 slice_get-set_next (m ∷ marks) (suc k) mark = slice_get-set_next marks k mark
-
--- what is kept behind so many finished numbers
-get-behind : (n : ℕ) (us : List Mark) (at : ℕ) → slice_get (replicate n Finished ++ us) (n + at) ≡ slice_get us at
-get-behind zero us at = ap (slice_get us) (zero-plus at)
-get-behind (suc n) us at = ap (slice_get (replicate (suc n) Finished ++ us)) (suc-plus n at) ∙ get-behind n us at
-
-get-before : (n : ℕ) (us : List Mark) (at : ℕ) → at < n → slice_get (replicate n Finished ++ us) at ≡ Some Finished
-get-before zero us at lt = absurd (omega (arith, lt))
-get-before (suc n) us zero lt = refl
-get-before (suc n) us (suc at) lt = get-before n us at (omega (arith, lt))
-
-set-behind : (n : ℕ) (us : List Mark) (at : ℕ) (m : Mark) → slice_set (replicate n Finished ++ us) (n + at) m ≡ replicate n Finished ++ slice_set us at m
-set-behind zero us at m = ap (λ k. slice_set us k m) (zero-plus at)
-set-behind (suc n) us at m = ap (λ k. slice_set (replicate (suc n) Finished ++ us) k m) (suc-plus n at) ∙ ap (λ (x : List Mark). Finished ∷ x) (set-behind n us at m)
-
-finished-behind : (n : ℕ) (us : List Mark) → replicate n Finished ++ (Finished ∷ us) ≡ replicate (suc n) Finished ++ us
-finished-behind zero us = refl
-finished-behind (suc n) us = ap (λ (x : List Mark). Finished ∷ x) (finished-behind n us)
 
 -- the first unfinished number is the first that is kept
 pub turn-of : (n : ℕ) (items : List Entry) → first_unfinished (marks_of n items) ≡ n
@@ -56,18 +33,18 @@ length-of n items =
     length-append (replicate n Finished) (map mark_of items) ∙ (ap (λ x. x + length (map mark_of items)) (length-replicate n Finished) ∙ ap (λ x. n + x) (length-map items mark_of))
 
 pub get-of : (n : ℕ) (items : List Entry) (at k : ℕ) → k ≡ n + at → slice_get (marks_of n items) k ≡ slice_get (map mark_of items) at
-get-of n items at k e = ap (slice_get (marks_of n items)) e ∙ get-behind n (map mark_of items) at
+get-of n items at k e = ap (slice_get (marks_of n items)) e ∙ get-behind Finished n (map mark_of items) at
 
 pub set-of : (n : ℕ) (items : List Entry) (at k : ℕ) (x : Entry) → k ≡ n + at → marks_of n (slice_set items at x) ≡ slice_set (marks_of n items) k (mark_of x)
 set-of n items at k x e =
-    ap (λ (y : List Mark). replicate n Finished ++ y) (map-set mark_of items at x) ∙ (sym (set-behind n (map mark_of items) at (mark_of x)) ∙ ap (λ y. slice_set (marks_of n items) y (mark_of x)) (sym e))
+    ap (λ (y : List Mark). replicate n Finished ++ y) (map-set mark_of items at x) ∙ (sym (set-behind Finished n (map mark_of items) at (mark_of x)) ∙ ap (λ y. slice_set (marks_of n items) y (mark_of x)) (sym e))
 
 pub push-of : (n : ℕ) (items : List Entry) → marks_of n (items ++ OpenEntry ∷ []) ≡ marks_of n items ++ Open ∷ []
 push-of n items = ap (λ (y : List Mark). replicate n Finished ++ y) (map-append mark_of items (OpenEntry ∷ [])) ∙ sym (append_assoc (replicate n Finished) (map mark_of items) (Open ∷ []))
 
 -- a number before those that are kept is finished
 pub before-of : (n : ℕ) (items : List Entry) (k : ℕ) → k < n → slice_get (marks_of n items) k ≡ Some Finished
-before-of n items k lt = get-before n (map mark_of items) k lt
+before-of n items k lt = get-before Finished n (map mark_of items) k lt
 
 front-held : (items : List Entry) → slice_get (map mark_of items) 0 ≡ Some Held → map mark_of items ≡ Held ∷ map mark_of (drop 1 items)
 front-held [] e = cc
@@ -128,7 +105,7 @@ pass-marks : (n : ℕ) (us : List Mark) (o : Option Mark) → (pass_to o n (repl
 pass-marks n us None = refl
 pass-marks n us (Some Open) = refl
 pass-marks n us (Some Held) = refl
-pass-marks n us (Some (Left text)) = ap (λ k. slice_set (replicate n Finished ++ us) k Held) (plus-0 n) ∙ set-behind n us 0 Held
+pass-marks n us (Some (Left text)) = ap (λ k. slice_set (replicate n Finished ++ us) k Held) (plus-0 n) ∙ set-behind Finished n us 0 Held
   where
     plus-0 : (m : ℕ) → m ≡ m + 0
     plus-0 m = omega arith
@@ -319,9 +296,9 @@ pub finish-front : (n k : ℕ) (items new : List Entry) (r : Option (Vec ℕ)) �
 finish-front n k items new r here held stored reports =
     let us = map mark_of (drop 1 items) in
     let all : marks_of n items ≡ replicate n Finished ++ (Held ∷ us) = ap (λ (x : List Mark). replicate n Finished ++ x) (front-held items held) in
-    let next : slice_get (marks_of n items) (suc n) ≡ slice_get us 0 = ap (λ (x : List Mark). slice_get x (suc n)) all ∙ (ap (slice_get (replicate n Finished ++ (Held ∷ us))) (suc-is n) ∙ get-behind n (Held ∷ us) 1) in
+    let next : slice_get (marks_of n items) (suc n) ≡ slice_get us 0 = ap (λ (x : List Mark). slice_get x (suc n)) all ∙ (ap (slice_get (replicate n Finished ++ (Held ∷ us))) (suc-is n) ∙ get-behind Finished n (Held ∷ us) 1) in
     let set : slice_set (marks_of n items) n Finished ≡ replicate (suc n) Finished ++ us =
-    ap (λ (x : List Mark). slice_set x n Finished) all ∙ (ap (λ j. slice_set (replicate n Finished ++ (Held ∷ us)) j Finished) (place-0 n n refl) ∙ (set-behind n (Held ∷ us) 0 Finished ∙ finished-behind n us)) in
+    ap (λ (x : List Mark). slice_set x n Finished) all ∙ (ap (λ j. slice_set (replicate n Finished ++ (Held ∷ us)) j Finished) (place-0 n n refl) ∙ (set-behind Finished n (Held ∷ us) 0 Finished ∙ one-behind Finished n us)) in
     let P : Option Mark → List Mark → Type 0 = λ o x. marks_of (suc n) new ≡ (pass_to o (suc n) x).1 in
     let Q : Option Mark → List Mark → Type 0 = λ o x. ReportsPass (pass_to o (suc n) x).0 (suc n) r in
     let kept : P (slice_get (marks_of n items) (suc n)) (slice_set (marks_of n items) n Finished) =

@@ -2,5 +2,6 @@
 //! alone; `tiny_http_core` names it again.
 #![tactic(auto)]
 
+pub mod by_number;
 pub mod laws;
 pub mod turns;

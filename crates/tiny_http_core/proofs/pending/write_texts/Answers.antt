@@ -1,4 +1,4 @@
-use Rattle.std.proofs.Common.{◌≡◌, ap, ◌∙◌, subst, List, length, ℕ}
+use Rattle.std.proofs.Common.{ap, ◌∙◌, subst, List, length, ℕ}
 use Rattle.tiny_http_stream.specs.Outlet.{output_of, outlet_ended}
 use Rattle.tiny_http_sending.specs.Sending.{SendsUnlessEnded}
 use Rattle.tiny_http_sending.proofs.SendingLemmas.{once-append}

@@ -26,7 +26,7 @@ returns-then-not-owes_continue g c =
     let n = c.args.number in
     let q = c.self.inside in
     let old = viewed q.source q.outlet q.pending q.end in
-    let w = answer-form-some (slice_get q.pending.requests.items n) c.in-Some.answer_context (sym c.answer_context_at.ensures ∙ c.in-Some.is) in
+    let w = answer-form-some (slice_get q.pending.requests n) c.in-Some.answer_context (sym c.answer_context_at.ensures ∙ c.in-Some.is) in
     let free : w.0.owes_continue ≡ false = ap owes_continue (sym w.1) ∙ sym c.owes_continue.ensures ∙ c.if-not-owes_continue.true in
     record {
       step = rw (← c.self.view_is) (takes-as_reader old old c.args.now n Done
@@ -39,7 +39,7 @@ returns-then-not-is_in_turn g c =
     let n = c.args.number in
     let q = c.self.inside in
     let old = viewed q.source q.outlet q.pending q.end in
-    let w = answer-form-some (slice_get q.pending.requests.items n) c.in-Some.answer_context (sym c.answer_context_at.ensures ∙ c.in-Some.is) in
+    let w = answer-form-some (slice_get q.pending.requests n) c.in-Some.answer_context (sym c.answer_context_at.ensures ∙ c.in-Some.is) in
     record {
       step = rw (← c.self.view_is) (takes-as_reader old old c.args.now n NotYet
           (λ client before s low st.
@@ -62,7 +62,7 @@ returns g c =
     record {
       step = rw (← c.self.view_is) (takes-as_reader old new c.args.now n Done
           (λ client before s low st.
-          continue-done client before k s c.args.now n w.0 c.in-Some.answer_context (output_of sent.new.outlet) (outlet_ended sent.new.outlet) left.new.self.turns.marks left.new.self.requests.items q.source st
+          continue-done client before k s c.args.now n w.0 c.in-Some.answer_context (output_of sent.new.outlet) (outlet_ended sent.new.outlet) left.new.self.turns.marks left.new.self.requests q.source st
           (record { feed = refl; stop = refl; ends = refl; standing = refl }) low w.1 w.2 owed (sym c.is_in_turn.ensures ∙ c.if-not-is_in_turn.false) marks (left.ensures.requests w.0 w.1) sent.ensures.sends sent.ensures.is_flushed)
           (λ no. elim no [ ]) refl (refl, marks, (w.0, w.1, rw owed (left.ensures.requests w.0 w.1)))
           (record { goes_on = goes-on_same q.source.feed; fails_once = sent.ensures.fails_once; flushed = λ was. sent.ensures.flushed; sent_on = λ was. sent.ensures.sent_on })

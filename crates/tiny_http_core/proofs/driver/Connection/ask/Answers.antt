@@ -21,7 +21,7 @@ returns-then-is_some g c =
     record {
       step = rw (← c.self.view_is) (takes-ask old old c.args.now Ended (ask-step old old c.args.now Ended
           (λ client before s low st. ask-ended client before (kept old) s c.args.now st some)
-          (λ no. refl) (λ is. refl, λ is. refl, λ none. (let no : false ≡ true = ap is_some (sym none) ∙ some in cc)) (0, (sym (append-nil q.pending.requests.items), λ none. (refl, refl)), λ over. refl) (moves-none old)));
+          (λ no. refl) (λ is. refl, λ is. refl, λ none. (let no : false ≡ true = ap is_some (sym none) ∙ some in cc)) (0, (sym (append-nil q.pending.requests), λ none. (refl, refl)), λ over. refl) (moves-none old)));
     }
 
 pub returns-then-matches : goal.returns-then-matches

@@ -90,8 +90,8 @@ returns-in-Ok-clause-answers g c = λ can.
     (λ i. not-ended c.read_head.result x (h.at_end i).0 is) (subst R is (h.reads here)) h.goes_on e.number shape (subst S is h.standing) in
     let P : List Mark → List (Option Unfinished) → Type 0 = λ m r.
     StepIsAnswered client before (record k { marks = m; requests = r; standing = source.standing; feed = source.feed; stop = source.stop; is_over = source.is_over }) s c.args.now Ask (Handed c.in-Ok.number (head_message x.head) (head_framing x.head)) in
-    subst (λ m. P m c.issue.new.self.requests.items) (sym e.marks) (subst (λ r. P (k.marks ++ (Open ∷ [])) r) (sym e.requests) done))
-    (λ no. elim no [ ]) (may.0, may.0) (0, x.waiting, e.requests ∙ ap (λ y. y ++ (Some (still.Waiting x.waiting) ∷ [])) (sym (append-nil q.pending.requests.items)), (let S : Result HeadRead AllocError → Type 0 = λ r. source.standing ≡ standing_read r q.source.standing in subst S is h.standing), e.number ∙ plus-none (length q.pending.turns.marks), λ z. (refl, lazy-of c.read_head.result x is h.lazy)) (driving-reads-on old new refl h.goes_on))
+    subst (λ m. P m c.issue.new.self.requests) (sym e.marks) (subst (λ r. P (k.marks ++ (Open ∷ [])) r) (sym e.requests) done))
+    (λ no. elim no [ ]) (may.0, may.0) (0, x.waiting, e.requests ∙ ap (λ y. y ++ (Some (still.Waiting x.waiting) ∷ [])) (sym (append-nil q.pending.requests)), (let S : Result HeadRead AllocError → Type 0 = λ r. source.standing ≡ standing_read r q.source.standing in subst S is h.standing), e.number ∙ plus-none (length q.pending.turns.marks), λ z. (refl, lazy-of c.read_head.result x is h.lazy)) (driving-reads-on old new refl h.goes_on))
 
 pub returns-in-Err-issue-clause-answers : goal.returns-in-Err-issue-clause-answers
 returns-in-Err-issue-clause-answers g c = λ can.
@@ -115,8 +115,8 @@ returns-in-Err-issue-clause-answers g c = λ can.
     let P : List Mark → List (Option Unfinished) → Type 0 = λ m r. StepIsAnswered client before (record k { marks = m; requests = r; asking_ended = true; standing = source.standing; feed = source.feed; stop = source.stop; is_over = source.is_over }) s c.args.now Ask Memory in
     let done = ask-memory client before k s c.args.now source.feed source.stop source.is_over source.standing st open_is n.unread n.quiet n.more
     (λ i. not-ended c.read_head.result x (h.at_end i).0 is) h.goes_on in
-    subst (λ m. P m c.issue.new.self.requests.items) (ap (λ t. t.marks) (sym e.0)) (subst (λ r. P k.marks r) (sym e.1) done))
-    (λ no. elim no [ ]) (may.0, refl, here, begins-here q.source.feed (h.begun (λ end. not-ended c.read_head.result x end is))) (0, (e.1 ∙ sym (append-nil q.pending.requests.items), λ z. (ap (λ t. t.marks) e.0, refl))) (driving-reads-on old new refl h.goes_on))
+    subst (λ m. P m c.issue.new.self.requests) (ap (λ t. t.marks) (sym e.0)) (subst (λ r. P k.marks r) (sym e.1) done))
+    (λ no. elim no [ ]) (may.0, refl, here, begins-here q.source.feed (h.begun (λ end. not-ended c.read_head.result x end is))) (0, (e.1 ∙ sym (append-nil q.pending.requests), λ z. (ap (λ t. t.marks) e.0, refl))) (driving-reads-on old new refl h.goes_on))
 
 pub returns-in-Ok-Ended-clause-answers : goal.returns-in-Ok-Ended-clause-answers
 returns-in-Ok-Ended-clause-answers g c = λ can.
@@ -139,7 +139,7 @@ returns-in-Ok-Ended-clause-answers g c = λ can.
     (λ here. subst R is (h.reads here)) h.goes_on)
     (λ no. elim no [ ])
     (λ some. absurd (some-none open_is some), λ i. (h.last i).1, λ none. (why, refl, end-final q.source.standing c.args.now q.source.feed source.feed why outside (λ i. last-reason why (sym is ∙ (h.last i).0)) (λ here. subst R is (h.reads here))))
-    (0, (sym (append-nil q.pending.requests.items), λ z. (refl, refl)), λ over. refl) (driving-reads-on old new refl h.goes_on))
+    (0, (sym (append-nil q.pending.requests), λ z. (refl, refl)), λ over. refl) (driving-reads-on old new refl h.goes_on))
 
 pub returns-in-Err-clause-answers : goal.returns-in-Err-clause-answers
 returns-in-Err-clause-answers g c = λ can.
@@ -159,7 +159,7 @@ returns-in-Err-clause-answers g c = λ can.
     let n = before-head client before k s st open_is here in
     ask-memory client before k s c.args.now source.feed source.stop source.is_over source.standing st open_is n.unread n.quiet n.more
     (λ i. not-memory c.read_head.result c.in-Err.field-0 (h.at_end i).0 c.in-Err.is) h.goes_on)
-    (λ no. elim no [ ]) (may.0, refl, here, begins-here q.source.feed (h.begun (λ end. not-memory c.read_head.result c.in-Err.field-0 end c.in-Err.is))) (0, (sym (append-nil q.pending.requests.items), λ z. (refl, refl))) (driving-reads-on old new refl h.goes_on))
+    (λ no. elim no [ ]) (may.0, refl, here, begins-here q.source.feed (h.begun (λ end. not-memory c.read_head.result c.in-Err.field-0 end c.in-Err.is))) (0, (sym (append-nil q.pending.requests), λ z. (refl, refl))) (driving-reads-on old new refl h.goes_on))
 
 pub returns-else-not-last-clause-answers : goal.returns-else-not-last-clause-answers
 returns-else-not-last-clause-answers g c = λ can.
@@ -221,9 +221,9 @@ returns-then-is_err-clause-answers g c = λ can.
     StepIsAnswered client before (record k { marks = m; requests = r; asking_ended = true; standing = source.standing; feed = source.feed; stop = source.stop; is_over = source.is_over; sink = output_of o; output_ended = outlet_ended o }) s c.args.now Ask Memory in
     let done = ask-memory client before k s c.args.now source.feed source.stop source.is_over source.standing st open_is n.unread n.quiet n.more
     (λ i. not-refused c.read_head.result status text is_last (h.at_end i).0 is) h.goes_on in
-    subst (λ m. P m left.self.requests.items left.outlet) (ap (λ t. t.marks) (sym e.0)) (subst (λ r. P k.marks r left.outlet) (sym e.1) (subst (λ o. P k.marks k.requests o) (sym e.2) done)))
+    subst (λ m. P m left.self.requests left.outlet) (ap (λ t. t.marks) (sym e.0)) (subst (λ r. P k.marks r left.outlet) (sym e.1) (subst (λ o. P k.marks k.requests o) (sym e.2) done)))
     (λ no. elim no [ ]) (may.0, refl, here, begins-here q.source.feed (h.begun (λ end. not-refused c.read_head.result status text is_last end is)))
-    (0, (e.1 ∙ sym (append-nil q.pending.requests.items), λ z. (ap (λ t. t.marks) e.0, e.2)))
+    (0, (e.1 ∙ sym (append-nil q.pending.requests), λ z. (ap (λ t. t.marks) e.0, e.2)))
     (record { goes_on = h.goes_on; fails_once = c.refuse.ensures.fails_once; flushed = λ was. c.refuse.ensures.flushed (was refl); sent_on = λ was. c.refuse.ensures.sent_on (was refl) }))
 
 pub returns-then-not-last-clause-passes : goal.returns-then-not-last-clause-passes

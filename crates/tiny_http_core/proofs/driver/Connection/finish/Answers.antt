@@ -25,7 +25,7 @@ returns-in_default g c =
           (λ client before s low st.
           let P : List Mark → List (Option Unfinished) → Type 0 = λ m r. StepIsAnswered client before (record k { marks = m; requests = r }) s date (Finish n) NoSuch in
           let done = no-writer client before k s date n (Finish n) refl (a-finish n) st none.0 in
-          subst (λ m. P m c.close.new.self.requests.items) (ap (λ t. t.marks) (sym c.close.ensures.turns)) (subst (λ r. P k.marks r) (sym none.1) done))
+          subst (λ m. P m c.close.new.self.requests) (ap (λ t. t.marks) (sym c.close.ensures.turns)) (subst (λ r. P k.marks r) (sym none.1) done))
           (λ no. same-view q.source q.outlet c.close.new.self q.pending q.end (ap (λ t. t.marks) c.close.ensures.turns) none.1) refl (λ no. elim no [ ]) (driving-reads-on old new refl (goes-on_same q.source.feed)) (λ kind e. cc));
     }
 
@@ -41,11 +41,11 @@ returns g c =
     let u = c.in-Some.finished in
     let some = c.in-Some.ensures.some in
     let turns = c.close.ensures.turns in
-    let requests = ap (λ v. v.items) c.leave.ensures.requests ∙ some.2 in
+    let requests = c.leave.ensures.requests ∙ some.2 in
     record {
       step = λ date. rw (← c.self.view_is) (takes-finish old new date n Done
           (λ client before s low st.
-          finish-done client before k s date n u (output_of left.outlet) (outlet_ended left.outlet) left.self.turns.marks left.self.requests.items q.source source st (record { feed = refl; stop = refl; ends = refl; standing = refl }) c.close_body.ensures.gives_up low some.0 some.1 requests
+          finish-done client before k s date n u (output_of left.outlet) (outlet_ended left.outlet) left.self.turns.marks left.self.requests q.source source st (record { feed = refl; stop = refl; ends = refl; standing = refl }) c.close_body.ensures.gives_up low some.0 some.1 requests
           (λ front rest e place can.
           let T : List Mark → Type 0 = λ m. LeavesText (n == first_unfinished m) front rest left.self.turns.marks [] k.output_ended k.sink (output_of left.outlet) (outlet_ended left.outlet) in
           let L : List ℕ → Type 0 = λ x. LeavesText (n == first_unfinished c.close.new.self.turns.marks) front rest left.self.turns.marks x k.output_ended k.sink (output_of left.outlet) (outlet_ended left.outlet) in

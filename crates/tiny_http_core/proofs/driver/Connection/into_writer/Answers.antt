@@ -27,7 +27,7 @@ returns-in_default g c =
           (λ client before s low st.
           let P : List Mark → List (Option Unfinished) → Type 0 = λ m r. StepIsAnswered client before (record k { marks = m; requests = r }) s date (IntoWriter n) NoSuch in
           let done = no-such client before k s date n (IntoWriter n) refl (into_writer-not_taken n) st none.0 in
-          subst (λ m. P m c.take.new.self.requests.items) (ap (λ t. t.marks) (sym c.take.ensures.turns)) (subst (λ r. P k.marks r) (sym none.1) done))
+          subst (λ m. P m c.take.new.self.requests) (ap (λ t. t.marks) (sym c.take.ensures.turns)) (subst (λ r. P k.marks r) (sym none.1) done))
           (λ no. same-view q.source q.outlet c.take.new.self q.pending q.end (ap (λ t. t.marks) c.take.ensures.turns) none.1) refl (refl, ap (λ t. t.marks) c.take.ensures.turns, λ no. elim no [ ]) (driving-reads-on old new refl (goes-on_same q.source.feed)) (λ kind e. cc));
     }
 
@@ -44,8 +44,8 @@ returns g c =
     record {
       step = λ date. rw (← c.self.view_is) (takes-into_writer old new date n Done
           (λ client before s low st.
-          let P : List Mark → Type 0 = λ m. StepIsAnswered client before (record (with_reader k c.take.new.self.requests.items source) { marks = m }) s date (IntoWriter n) Done in
-          let done = into_writer-done client before k s date n w c.take.new.self.requests.items q.source source st (record { feed = refl; stop = refl; ends = refl; standing = refl }) c.give_up.ensures.gives_up some.0 some.1 in
+          let P : List Mark → Type 0 = λ m. StepIsAnswered client before (record (with_reader k c.take.new.self.requests source) { marks = m }) s date (IntoWriter n) Done in
+          let done = into_writer-done client before k s date n w c.take.new.self.requests q.source source st (record { feed = refl; stop = refl; ends = refl; standing = refl }) c.give_up.ensures.gives_up some.0 some.1 in
           subst P (ap (λ t. t.marks) (sym c.take.ensures.turns)) done)
           (λ no. elim no [ ]) refl
           (refl, ap (λ t. t.marks) c.take.ensures.turns, λ done. (some.1, gives-up-of q.source source (slice_get k.requests n) (still.Waiting w) some.0 c.give_up.ensures.gives_up))

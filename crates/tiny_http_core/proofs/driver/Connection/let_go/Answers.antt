@@ -22,10 +22,10 @@ returns-clause-drops g c = λ yes now.
     let w = c.in-Some.waiting in
     let some = c.in-Some.ensures.some in
     let turns = c.take.ensures.turns in
-    let requests = ap (λ v. v.items) c.leave.ensures.requests ∙ some.1 in
+    let requests = c.leave.ensures.requests ∙ some.1 in
     rw (← c.self.view_is) (drops-by n old new now
     (λ client before s asked reply drops low st.
-    drop-done client before k s now n asked reply w (output_of left.outlet) (outlet_ended left.outlet) left.self.turns.marks left.self.requests.items q.source source drops st (record { feed = refl; stop = refl; ends = refl; standing = refl }) c.give_up.ensures.gives_up low some.0 requests
+    drop-done client before k s now n asked reply w (output_of left.outlet) (outlet_ended left.outlet) left.self.turns.marks left.self.requests q.source source drops st (record { feed = refl; stop = refl; ends = refl; standing = refl }) c.give_up.ensures.gives_up low some.0 requests
     (λ front rest e place can.
     let T : List Mark → Type 0 = λ m. LeavesText (n == first_unfinished m) front rest left.self.turns.marks w.dropped.items k.output_ended k.sink (output_of left.outlet) (outlet_ended left.outlet) in
     let L : List ℕ → Type 0 = λ x. LeavesText (n == first_unfinished c.take.new.self.turns.marks) front rest left.self.turns.marks x k.output_ended k.sink (output_of left.outlet) (outlet_ended left.outlet) in

@@ -71,13 +71,13 @@ returns g c =
           (λ client before s st. elim c.match-fill.branch [
             | in-Ok-fill b ↦
                 let fills = b.in-Ok-fill.ensures.fills w.0 w.1 w.2 w.4 in
-                let done = read-done client before k s date n c.args.count w.0 w.1 fills.0 q.source c.fill.new.source c.fill.new.self.requests.items (Ok b.in-Ok-fill.n) c.fill.new.buf st w.2 w.3 w.4 fills.1 (record { feed = refl; stop = refl; ends = refl; standing = refl }) b.in-Ok-fill.ensures.bound size (omega (arith, c.if-count-eq0.false)) fills.2 fills.3 fills.4 c.fill.ensures.goes_on in
-                let P : List Mark → List ℕ → Type 0 = λ m l. StepIsAnswered client before (record (with_reader k c.fill.new.self.requests.items c.fill.new.source) { marks = m }) s date (Read n c.args.count) (Given l) in
+                let done = read-done client before k s date n c.args.count w.0 w.1 fills.0 q.source c.fill.new.source c.fill.new.self.requests (Ok b.in-Ok-fill.n) c.fill.new.buf st w.2 w.3 w.4 fills.1 (record { feed = refl; stop = refl; ends = refl; standing = refl }) b.in-Ok-fill.ensures.bound size (omega (arith, c.if-count-eq0.false)) fills.2 fills.3 fills.4 c.fill.ensures.goes_on in
+                let P : List Mark → List ℕ → Type 0 = λ m l. StepIsAnswered client before (record (with_reader k c.fill.new.self.requests c.fill.new.source) { marks = m }) s date (Read n c.args.count) (Given l) in
                 rw b.result-is (subst (λ l. P c.fill.new.self.turns.marks l) (ap (take b.in-Ok-fill.n) (sym (whole c.fill.new.buf c.in-Ok.bytes.items c.in-Ok.bytes.len (search (rules, c.in-Ok.ensures)) size c.in-Ok.ensures)) ∙ sym b.truncate.ensures.items) (subst (λ m. P m (take b.in-Ok-fill.n c.fill.new.buf)) (ap (λ t. t.marks) (sym c.fill.ensures.turns)) done))
             | in-Err b ↦
                 let fills = b.in-Err.ensures.fills w.0 w.1 w.2 w.4 in
-                let done = read-done client before k s date n c.args.count w.0 w.1 fills.0 q.source c.fill.new.source c.fill.new.self.requests.items (Err b.in-Err.kind) c.fill.new.buf st w.2 w.3 w.4 fills.1 (record { feed = refl; stop = refl; ends = refl; standing = refl }) tt size (omega (arith, c.if-count-eq0.false)) fills.2 fills.3 fills.4 c.fill.ensures.goes_on in
-                let P : List Mark → Type 0 = λ m. StepIsAnswered client before (record (with_reader k c.fill.new.self.requests.items c.fill.new.source) { marks = m }) s date (Read n c.args.count) (Fault b.in-Err.kind) in
+                let done = read-done client before k s date n c.args.count w.0 w.1 fills.0 q.source c.fill.new.source c.fill.new.self.requests (Err b.in-Err.kind) c.fill.new.buf st w.2 w.3 w.4 fills.1 (record { feed = refl; stop = refl; ends = refl; standing = refl }) tt size (omega (arith, c.if-count-eq0.false)) fills.2 fills.3 fills.4 c.fill.ensures.goes_on in
+                let P : List Mark → Type 0 = λ m. StepIsAnswered client before (record (with_reader k c.fill.new.self.requests c.fill.new.source) { marks = m }) s date (Read n c.args.count) (Fault b.in-Err.kind) in
                 rw b.result-is (subst P (ap (λ t. t.marks) (sym c.fill.ensures.turns)) done)
           ])
           (elim c.match-fill.branch [ in-Ok-fill b ↦ rw b.result-is (λ no. elim no [ ]) | in-Err b ↦ rw b.result-is (λ no. elim no [ ]) ]) refl

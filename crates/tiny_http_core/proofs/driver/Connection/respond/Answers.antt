@@ -51,8 +51,8 @@ returns-then-not-hold g c =
           let same = c.hold.ensures.not_yet late in
           let P : List Mark → List (Option Unfinished) → Type 0 = λ m r. StepIsAnswered client before (record k { marks = m; requests = r }) s c.args.now (Respond n value) NotYet in
           let done = respond-not_yet client before k s c.args.now n value w.0 st w.1 (λ h. let none : true ≡ false = sym (c.hold.ensures.held.1 h) ∙ late in cc) in
-          subst (λ m. P m c.hold.new.self.requests.items) (sym same) (subst (λ r. P k.marks r) (ap (λ v. v.items) (sym c.hold.ensures.requests)) done))
-          (λ no. same-view q.source q.outlet c.hold.new.self q.pending q.end (c.hold.ensures.not_yet (search rules)) (ap (λ v. v.items) c.hold.ensures.requests)) refl (λ no. elim no [ ]) refl (driving-reads-on old new refl (goes-on_same q.source.feed)) (λ kind e. cc));
+          subst (λ m. P m c.hold.new.self.requests) (sym same) (subst (λ r. P k.marks r) (sym c.hold.ensures.requests) done))
+          (λ no. same-view q.source q.outlet c.hold.new.self q.pending q.end (c.hold.ensures.not_yet (search rules)) c.hold.ensures.requests) refl (λ no. elim no [ ]) refl (driving-reads-on old new refl (goes-on_same q.source.feed)) (λ kind e. cc));
     }
 
 -- what an answer is replied is no refusal of the step
@@ -98,21 +98,21 @@ returns-in-Some-take g c =
           let kept_answer_context : waiting_answer_context (slice_get k.requests n) ≡ Some c.in-Some.answer_context = sym c.answer_context_at.ensures ∙ c.in-Some.is in
           let held : IsTrue c.hold.result = search rules in
           let A : Answer → Type 0 = λ a. Answers k.sink (output_of mid) (outlet_ended mid) reply a value.content (printing_in c.in-Some.answer_context c.args.now) in
-          let same : last.self.requests.items ≡ k.requests = ap (λ v. v.items) (c.pass.ensures.requests ∙ c.hold.ensures.requests) in
+          let same : last.self.requests ≡ k.requests = c.pass.ensures.requests ∙ c.hold.ensures.requests in
           let some = c.in-Some-take.ensures.some in
           let got : slice_get k.requests n ≡ Some (Some (still.Waiting w0)) = ap (λ l. slice_get l n) (sym same) ∙ some.0 in
-          let requests : taken.requests.items ≡ slice_set k.requests n None = some.1 ∙ ap (λ l. slice_set l n None) same in
-          let done = respond-done client before k s c.args.now n value c.in-Some.answer_context (output_of mid) (output_of last.outlet) (outlet_ended mid) (outlet_ended last.outlet) c.hold.new.self.turns.marks last.self.turns.marks taken.requests.items q.source source reply
+          let requests : taken.requests ≡ slice_set k.requests n None = some.1 ∙ ap (λ l. slice_set l n None) same in
+          let done = respond-done client before k s c.args.now n value c.in-Some.answer_context (output_of mid) (output_of last.outlet) (outlet_ended mid) (outlet_ended last.outlet) c.hold.new.self.turns.marks last.self.turns.marks taken.requests q.source source reply
           st (record { feed = refl; stop = refl; ends = refl; standing = refl }) (λ w e. gives-up-of q.source source (slice_get k.requests n) (still.Waiting w0) got c.give_up.ensures.gives_up (still.Waiting w) e) low kept_answer_context (c.hold.ensures.held.0 held).1 (c.hold.ensures.marks held) requests
           (responds-by k (output_of mid) (outlet_ended mid) reply value c.in-Some.answer_context c.args.now
           (λ e. let h = c.answer-reply.ensures.past e in (ap (λ o. output_of o) h.0, ap (λ o. outlet_ended o) h.0, h.1))
           (λ e. subst A (sym is.0) (c.answer-reply.ensures.sends value.content is.1 is.2 e (can-send before k.sink k.output_ended s.reached.slots s.flushed s.failure st.output low e))))
           c.pass.ensures.passes c.pass.ensures.sends in
-          let P : List Mark → Type 0 = λ m. StepIsAnswered client before (after_number k m taken.requests.items source (output_of last.outlet) (outlet_ended last.outlet)) s c.args.now (Respond n value) reply in
+          let P : List Mark → Type 0 = λ m. StepIsAnswered client before (after_number k m taken.requests source (output_of last.outlet) (outlet_ended last.outlet)) s c.args.now (Respond n value) reply in
           subst P (ap (λ t. t.marks) (sym c.take.ensures.turns)) done)
           (λ no. absurd (not-declined n (stated_response g.D.ReadDevice.feed c.args.response) reply c.answer-reply.ensures.done no)) refl
           (λ done.
-          let same : last.self.requests.items ≡ k.requests = ap (λ v. v.items) (c.pass.ensures.requests ∙ c.hold.ensures.requests) in
+          let same : last.self.requests ≡ k.requests = c.pass.ensures.requests ∙ c.hold.ensures.requests in
           let some = c.in-Some-take.ensures.some in
           (some.1 ∙ ap (λ l. slice_set l n None) same, gives-up-of q.source source (slice_get k.requests n) (still.Waiting w0) (ap (λ l. slice_get l n) (sym same) ∙ some.0) c.give_up.ensures.gives_up))
           (answered-done reply c.answer-reply.ensures.done)

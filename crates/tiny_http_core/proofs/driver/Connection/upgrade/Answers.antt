@@ -35,7 +35,7 @@ returns-then-not-is_in_turn g c =
     let n = c.args.number in
     let q = c.self.inside in
     let old = viewed q.source q.outlet q.pending q.end in
-    let w = answer-form-some (slice_get q.pending.requests.items n) c.in-Some.answer_context (sym c.answer_context_at.ensures ∙ c.in-Some.is) in
+    let w = answer-form-some (slice_get q.pending.requests n) c.in-Some.answer_context (sym c.answer_context_at.ensures ∙ c.in-Some.is) in
     record {
       step = λ named same.
           let ascii : list_all is_ascii (string_bytes named) ≡ true = ap (list_all is_ascii) (same ∙ sym c.as_bytes.ensures.value) ∙ sym c.are_ascii.ensures ∙ c.if-are_ascii.true in
@@ -68,7 +68,7 @@ returns-in-Ok g c =
           rw (← c.self.view_is) (takes-upgrade g.D.ReadDevice.feed true old new c.args.now n named c.args.response Done
           (λ client before s value low answer st.
           let T : Answer → List ℕ → Type 0 = λ a t. SendsUnlessEnded k.output_ended k.sink (output_of outlet) (outlet_ended outlet) (upgrade_text (record { answer = a; content = value.content }) t (printing_in c.in-Some.answer_context c.args.now)) in
-          upgrade-done client before k s c.args.now n (string_bytes named) value w.0 c.in-Some.answer_context (output_of outlet) (outlet_ended outlet) left.turns.marks left.requests.items q.source st (record { feed = refl; stop = refl; ends = refl; standing = refl }) low w.1 w.2 ascii come marks requests
+          upgrade-done client before k s c.args.now n (string_bytes named) value w.0 c.in-Some.answer_context (output_of outlet) (outlet_ended outlet) left.turns.marks left.requests q.source st (record { feed = refl; stop = refl; ends = refl; standing = refl }) low w.1 w.2 ascii come marks requests
           (λ can. subst (λ t. T value.answer t) (sym same) (subst (λ a. T a c.args.protocol.now) (sym answer) (done.sends value.content can))) done.is_flushed)
           (λ no. elim no [ ]) refl (w.0, w.1, requests, marks, refl) refl
           (record { goes_on = goes-on_same q.source.feed; fails_once = done.fails_once; flushed = λ was. done.flushed; sent_on = λ was. done.sent_on })
@@ -86,7 +86,7 @@ returns-in-Err-Protocol g c =
     let q = c.self.inside in
     let left = c.in-Err-Protocol.ensures in
     let old = viewed q.source q.outlet q.pending q.end in
-    let waits : waiting_answer_context (slice_get q.pending.requests.items n) ≡ Some c.in-Some.answer_context = sym c.answer_context_at.ensures ∙ c.in-Some.is in
+    let waits : waiting_answer_context (slice_get q.pending.requests n) ≡ Some c.in-Some.answer_context = sym c.answer_context_at.ensures ∙ c.in-Some.is in
     let gone : IsTrue c.let_go.result = let-go c.let_go.result (λ no. (let none : Some c.in-Some.answer_context ≡ None = sym waits ∙ (c.let_go.ensures.none no).0 in cc)) in
     record {
       step = λ named same.

@@ -29,7 +29,7 @@ returns-then-not-is_in_turn g c =
     let n = c.args.number in
     let q = c.self.inside in
     let old = viewed q.source q.outlet q.pending q.end in
-    let w = writable-some (slice_get q.pending.requests.items n) (sym c.is_writable.ensures ∙ c.if-not-is_writable.false) in
+    let w = writable-some (slice_get q.pending.requests n) (sym c.is_writable.ensures ∙ c.if-not-is_writable.false) in
     record {
       step = λ date v same. rw (← c.self.view_is) (takes-write old old date n v c.args.bytes.now NotYet same
           (λ client before s low st.
@@ -46,7 +46,7 @@ returns g c =
     let new = viewed q.source new_outlet q.pending q.end in
     let k : Kept = kept old in
     let done = c.write.ensures in
-    let w = writable-some (slice_get q.pending.requests.items n) (sym c.is_writable.ensures ∙ c.if-not-is_writable.false) in
+    let w = writable-some (slice_get q.pending.requests n) (sym c.is_writable.ensures ∙ c.if-not-is_writable.false) in
     record {
       step = λ date v same.
           let T : ReplyValue → Type 0 = λ r. TakesStep old new date (step.Write n v) r in

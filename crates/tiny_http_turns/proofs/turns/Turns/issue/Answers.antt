@@ -1,5 +1,5 @@
 use Rattle.tiny_http_turns.proofs.TurnsKept.{kept-issue, bound-push}
-use Rattle.std.proofs.Common.{sym, ◌∙◌}
+use Rattle.std.proofs.Common.{◌∙◌}
 use Rattle.tiny_http_turns.proofs.turns.Turns.issue.Goals as goal
 use Rattle.tiny_http_turns.proofs.turns.Turns.issue.Goals.{in-Ok, in-Err}
 

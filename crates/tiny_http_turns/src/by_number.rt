@@ -1,0 +1,130 @@
+//! Values under numbers, for those who keep something of each number whose turn hasn't passed.
+ghost use Rattle.std.specs.Prelude.{◌≡◌, ◌+◌, ◌-◌, ◌^◌, ◌<◌, ◌↔◌, ◌++◌, ◌∷◌, [], length, Some, None, Err, OnOk, OnErr, IfSome, IfNone, slice_get, slice_set};
+ghost use Rattle.std.specs.Option.{option_to_list};
+ghost use Rattle.tiny_http_turns.specs.ByNumber.{with_passed, BeginsWithValue, value_of};
+ghost use Rattle.tiny_http_turns.specs.declared.turns.TurnsError.TheVariants.{Exhausted};
+
+use crate::turns::TurnsError;
+use std::alloc::Global;
+use std::collections::VecDeque;
+use std::marker::Model;
+use std::mem;
+
+/// Values under numbers from 0 on; a number may have none. Nothing is kept of the numbers before the first that has a value,
+/// so the memory is that of the numbers from there on. A contract sees an entry for each number.
+#[derive(Drop)]
+pub struct ByNumber<T> {
+    // The numbers from `passed` on. The first of them has a value.
+    kept: VecDeque<Option<T>>,
+    // No number before this one has a value.
+    passed: u64,
+}
+
+impl<T> Model for ByNumber<T> {
+    ghost use Rattle.std.specs.Prelude.{◌+◌, ◌<◌, ◌^◌, length, List, Option};
+    ghost use Rattle.tiny_http_turns.specs.ByNumber.{with_passed, BeginsWithValue};
+
+    ghost Value = { List (Option T) };
+
+    ghost view = { λ n. with_passed n.passed n.kept.items };
+
+    ghost invariant = { λ n. BeginsWithValue n.kept.items × (n.passed + length n.kept.items < 2 ^ 64) };
+}
+
+impl<T: Drop> ByNumber<T> {
+    /// There is no number.
+    pub fn new(alloc: Global) -> ByNumber<T>
+        ensures { result ≡ [] }
+    {
+        ByNumber {
+            kept: VecDeque::new(alloc),
+            passed: 0,
+        }
+    }
+
+    /// How many numbers there are.
+    pub fn len(&self) -> u64
+        ensures { result ≡ length self.now }
+    {
+        self.passed + self.kept.len() as u64
+    }
+
+    /// The value under this number, if there is one.
+    pub fn get(&self, number: u64) -> Option<&T>
+        ensures some { IfSome result (λ value. slice_get self.now number ≡ Some (Some value.now)) }
+        ensures none { IfNone result (value_of (slice_get self.now number) ≡ None) }
+    {
+        let at = number.checked_sub(self.passed)?;
+        match self.kept.get(at as usize) {
+            Some(Some(value)) => Some(value),
+            _ => None,
+        }
+    }
+
+    /// Puts this under the next number. An error changes nothing: `Exhausted` where there are 2^64 - 1 numbers, and only
+    /// there; `Memory` where room for it was refused.
+    pub fn push(&mut self, value: Option<T>) -> Result<(), TurnsError>
+        ensures ok { OnOk result (self.new ≡ self.old ++ (value ∷ [])) }
+        ensures err { OnErr result (self.new ≡ self.old) }
+        // The number after it fits.
+        ensures bound { length self.new < 2 ^ 64 }
+        ensures exhausted { (result ≡ Err Exhausted) ↔ (length self.old ≡ 2 ^ 64 - 1) }
+    {
+        if self.len() == u64::MAX {
+            return Err(TurnsError::Exhausted);
+        }
+        if self.kept.push_back(value).is_err() {
+            return Err(TurnsError::Memory);
+        }
+        pass_empty(&mut self.kept, &mut self.passed);
+        Ok(())
+    }
+
+    /// Takes the last number back, with what is kept under it.
+    pub fn pop(&mut self) -> Option<Option<T>>
+        ensures last { self.old ≡ self.new ++ option_to_list result }
+        ensures none { IfNone result (self.old ≡ []) }
+    {
+        if let Some(last) = self.kept.pop_back() {
+            return Some(last);
+        }
+        self.passed = self.passed.checked_sub(1)?;
+        Some(None)
+    }
+
+    /// Puts this in the place of the value under a number, and gives that value. Where there is none nothing changes.
+    pub fn replace(&mut self, number: u64, value: Option<T>) -> Option<T>
+        ensures some { IfSome result (λ was. (slice_get self.old number ≡ Some (Some was)) × (self.new ≡ slice_set self.old number value)) }
+        ensures none { IfNone result ((value_of (slice_get self.old number) ≡ None) × (self.new ≡ self.old)) }
+    {
+        let at = number.checked_sub(self.passed)?;
+        let was = exchange(&mut self.kept, at as usize, value)?;
+        pass_empty(&mut self.kept, &mut self.passed);
+        Some(was)
+    }
+}
+
+// Puts this in the place of the value that is kept here, and gives that value. Where there is none nothing changes.
+fn exchange<T: Drop>(kept: &mut VecDeque<Option<T>>, at: usize, value: Option<T>) -> Option<T>
+    ensures some { IfSome result (λ was. (slice_get kept.old.items at ≡ Some (Some was)) × (kept.new.items ≡ slice_set kept.old.items at value)) }
+    ensures none { IfNone result ((value_of (slice_get kept.old.items at) ≡ None) × (kept.new.items ≡ kept.old.items)) }
+{
+    let entry = kept.get_mut(at)?;
+    match entry {
+        Some(_) => mem::replace(entry, value),
+        None => None,
+    }
+}
+
+// Passes the numbers at the front that have no value.
+fn pass_empty<T: Drop>(kept: &mut VecDeque<Option<T>>, passed: &mut u64)
+    requires bound { passed.old + length kept.old.items < 2 ^ 64 }
+    ensures same { with_passed passed.new kept.new.items ≡ with_passed passed.old kept.old.items }
+    ensures bound { passed.new + length kept.new.items < 2 ^ 64 }
+    ensures front { BeginsWithValue kept.new.items }
+{
+    while let Some(None) = kept.front() {
+        drop(kept.pop_front());
+        *passed += 1;
+    }
+}
