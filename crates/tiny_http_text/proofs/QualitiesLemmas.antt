@@ -1,11 +1,10 @@
 -- Lists of qualities, computed, are those of the definitions, and there is one of each value.
 use Rattle.std.proofs.Common.{◌≡◌, refl, sym, ap, ◌∙◌, subst, ℕ, ◌+◌, ◌-◌, ◌*◌, ◌^◌, ◌≤◌, Bool, true, false, ◌&&◌, inl, inr, List, [], ◌∷◌, ◌++◌, length, map, Option, Some, None, arith, append_assoc, eqb-true, ltb, lt-ltb, ltb-true, codes}
 use Rattle.std.specs.Prelude.{◌==◌, nat_le, option_map, unwrap_or, if◌then◌else◌}
-use Rattle.std.specs.Str.{all_ascii_digits}
 use Rattle.std.specs.Str.Parse.{AllDigits, digits_value}
 use Rattle.std.proofs.lemmas.Bool.{and_parts}
 use Rattle.std.proofs.lemmas.Bool.Decides.{nat_tests}
-use Rattle.std.proofs.lemmas.Str.Parse.{IsNumeralModel, numerals_by_value, tells_digits, tells_all_ascii_digits, not_in_digits}
+use Rattle.std.proofs.lemmas.Str.Parse.{IsNumeralModel, numerals_by_value, tells_digits, not_in_digits}
 use Rattle.tiny_http_text.specs.Bytes.{is_blank, HasNo, parts, comma, point, semicolon, skip_while, trimmed}
 use Rattle.tiny_http_text.specs.Qualities.{IsQuality, GivesQuality, FirstQuality, Element, Elements, ListsQualities}
 use Rattle.tiny_http_text.specs.QualityReading.{cut, short_number, thousandths, both, quality_cut, quality, behind_q, parameter_quality, first_quality, element_parts, element, qualities}

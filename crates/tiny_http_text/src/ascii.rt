@@ -75,6 +75,9 @@ fn ascii_len(bytes: &[u8]) -> usize
     ensures found { result < length bytes.now → IsFirstNotAscii bytes.now result }
     ensures ascii { length bytes.now ≤ result → IsAscii bytes.now }
 {
+    if bytes.is_ascii() {
+        return bytes.len();
+    }
     for (i, b) in bytes.iter().enumerate() {
         if *b >= 128 {
             return i;
@@ -102,10 +105,16 @@ impl AsciiString {
                 place,
             });
         }
-        match String::from_utf8(bytes) {
-            Ok(text) => Ok(AsciiString { text }),
-            Err(_) => unreachable!(),
-        }
+        Ok(AsciiString::from_checked(bytes))
+    }
+
+    /// The text of bytes that are known to be below 128.
+    pub(crate) fn from_checked(bytes: Vec<u8>) -> AsciiString
+        requires { IsAscii bytes.items }
+        ensures { result ≡ bytes.items }
+    {
+        let text = unsafe { String::from_utf8_unchecked(bytes) };
+        AsciiString { text }
     }
 
     /// The text as a `&str`.

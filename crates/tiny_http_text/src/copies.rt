@@ -11,8 +11,5 @@ pub fn owned(alloc: Global, text: &[u8]) -> Result<AsciiString, AllocError>
     ensures { IfOk result (λ s. s ≡ text.now) }
 {
     let bytes = text.to_vec(alloc)?;
-    match AsciiString::from_ascii(bytes) {
-        Ok(copy) => Ok(copy),
-        Err(_) => unreachable!(),
-    }
+    Ok(AsciiString::from_checked(bytes))
 }

@@ -1,5 +1,5 @@
 -- From the parts of an answer to its text.
-use Rattle.std.proofs.Common.{◌≡◌, ℕ, ◌<◌, ◌^◌, Bool, List, [], ◌++◌, length, Option, Some, None, Result, Err, IfSome, refl, sym, ap, ◌∙◌, subst, inl, inr, ◌⊎◌, ⊎_elim, append-nil, Ok, if◌then◌else◌}
+use Rattle.std.proofs.Common.{◌≡◌, ℕ, ◌<◌, ◌^◌, Bool, List, [], ◌++◌, length, Option, Some, None, Result, Err, IfSome, refl, sym, ◌∙◌, subst, inl, inr, ◌⊎◌, ⊎_elim, append-nil, Ok, if◌then◌else◌}
 use Rattle.std.specs.List.{list_all}
 use Rattle.tiny_http_text.specs.Bytes.{is_ascii}
 use Rattle.tiny_http_coding.specs.Coding.{chosen_coding}

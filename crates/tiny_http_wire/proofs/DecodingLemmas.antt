@@ -4,7 +4,7 @@ use Rattle.std.specs.Prelude.{MatchResult, Result, nat_lt}
 use Rattle.std.specs.Option.{option_map}
 use Rattle.std.proofs.Math.Seq.{take-append-add}
 use Rattle.std.proofs.lemmas.List.{drop-drop}
-use Rattle.std.proofs.lemmas.Bool.{le-ltb, lt-ltb, ltb-true, ltb-false}
+use Rattle.std.proofs.lemmas.Bool.{le-ltb, lt-ltb}
 use Rattle.std.specs.declared.io.ErrorKind.{ErrorKind}
 use Rattle.std.specs.declared.io.ErrorKind.TheVariants.{InvalidData}
 use Rattle.tiny_http_device.specs.declared.device.Stop.{Stop}
@@ -22,7 +22,7 @@ use Rattle.tiny_http_wire.specs.Decoding.{Coming, coming_of, body_at, decoded_fr
 use Rattle.tiny_http_wire.proofs.ChunkSizeLemmas.{size-read}
 use Rattle.tiny_http_wire.proofs.ChunksLemmas.{head_of, next_of}
 use Rattle.tiny_http_device.proofs.DeviceFeeds.{lt-shift, prepended-nothing}
-use Rattle.std.proofs.Math.Seq.{take-append_seam, drop-append_seam}
+use Rattle.std.proofs.Math.Seq.{drop-append_seam}
 
 abbrev feed_at : List ℕ → Stop → Feed
 feed_at bytes stop = record { bytes = bytes; stop = stop }

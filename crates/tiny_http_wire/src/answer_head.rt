@@ -29,9 +29,9 @@ pub(crate) fn has_header(headers: &[Header], name: &str) -> bool
     headers.iter().any(|h| h.field.equiv(name))
 }
 
-// `HTTP/`, version, code and phrase.
+// `HTTP/`, version, code and phrase, piece by piece.
 #[tactic(auto, unfolding(crate::specs::Answer::status_line))]
-fn put_status_line<W: WriteDevice>(
+fn put_other_status_line<W: WriteDevice>(
     writer: &mut W,
     version: HTTPVersion,
     status: StatusCode,
@@ -55,6 +55,20 @@ fn put_status_line<W: WriteDevice>(
             b"\r\n",
         ],
     )
+}
+
+// `HTTP/`, version, code and phrase: the most frequent ones as one piece.
+fn put_status_line<W: WriteDevice>(
+    writer: &mut W,
+    version: HTTPVersion,
+    status: StatusCode,
+) -> Result<(), io::Error>
+    ensures { Puts (W.sink writer.old) (W.sink writer.new) result (status_line version status.0) }
+{
+    if version == HTTPVersion(1, 1) && status == StatusCode(200) {
+        return put(writer, b"HTTP/1.1 200 OK\r\n");
+    }
+    put_other_status_line(writer, version, status)
 }
 
 // One header line.
@@ -129,8 +143,9 @@ fn put_date<W: WriteDevice>(
     if has_header(headers, "Date") {
         return Ok(());
     }
-    let date = now.to_bytes();
-    put_all(writer, &[b"Date: ", &date, b"\r\n"])
+    let mut line = *b"Date: Thu, 01 Jan 1970 00:00:00 GMT\r\n";
+    line[6..35].copy_from_slice(&now.to_bytes());
+    put(writer, &line)
 }
 
 // The number of bytes of the body.
