@@ -1,6 +1,9 @@
 //! Answers: which request they go to, and what a writer's fault leaves of them.
 use crate::runs::Deed::{Ask, Drop, Text};
-use crate::runs::{AMPLE, Case, EMPTY, TEXT, Trouble, assert_case, assert_troubled, takes};
+use crate::runs::{
+    AMPLE, Case, EMPTY, TEXT, Trouble, assert_case, assert_cut_outputs, assert_troubled,
+    assert_troubles, takes,
+};
 use crate::same::assert_same;
 use httpdate::HttpDate;
 use std::alloc::Global;
@@ -151,15 +154,17 @@ fn a_client_that_went_away_is_no_fault(rt: HostRuntime) -> Result<(), Fail> {
         replies: "0: GET / 1.1; done; 1: GET / 1.1; done",
         output: &["HTTP/1.1 2"],
     };
-    for kind in [
-        ErrorKind::BrokenPipe,
-        ErrorKind::ConnectionAborted,
-        ErrorKind::ConnectionRefused,
-        ErrorKind::ConnectionReset,
-    ] {
-        assert_troubled(&rt, rt.alloc(), &case, takes(10, kind))?;
-    }
-    Ok(())
+    assert_troubles(
+        &rt,
+        rt.alloc(),
+        &case,
+        &[
+            takes(10, ErrorKind::BrokenPipe),
+            takes(10, ErrorKind::ConnectionAborted),
+            takes(10, ErrorKind::ConnectionRefused),
+            takes(10, ErrorKind::ConnectionReset),
+        ],
+    )
 }
 
 #[test]
@@ -168,14 +173,9 @@ fn no_reply_reports_a_fault_of_a_refusal(rt: HostRuntime) -> Result<(), Fail> {
         client: b"qsd qsd qsd\r\n",
         deeds: &[Ask, Ask],
         replies: "ended; ended",
-        output: &["HTTP/1.1 4"],
-    };
-    assert_troubled(&rt, rt.alloc(), &case, takes(10, ErrorKind::Other))?;
-    let nothing = Case {
         output: &[],
-        ..case
     };
-    assert_troubled(&rt, rt.alloc(), &nothing, takes(0, ErrorKind::Other))
+    assert_cut_outputs(&rt, rt.alloc(), &case, &[(10, "HTTP/1.1 4"), (0, "")])
 }
 
 #[test]

@@ -1,7 +1,7 @@
 //! Answers to requests that were read without a driver, sent on an outlet.
 use crate::broken_answers::{Watched, lent};
 use crate::exchanges::{date, request, source_of};
-use crate::runs::{AMPLE, DATED, TEXT, joined, output_of};
+use crate::runs::{AMPLE, DATED, TEXT, assert_joined, assert_output, output_of};
 use crate::same::{assert_holds, assert_same};
 use std::alloc::Global;
 use std::io::{Cursor, ErrorKind};
@@ -58,8 +58,8 @@ fn hello(alloc: Global) -> Result<Response<Cursor<Vec<u8>>>, Fail> {
     Ok(Response::from_string(alloc, text)?)
 }
 
-// The request that these bytes are.
-fn exchange_of(rt: &impl Abort, alloc: Global, client: &[u8]) -> Result<Exchange, Fail> {
+/// The request that these bytes are.
+pub(crate) fn exchange_of(rt: &impl Abort, alloc: Global, client: &[u8]) -> Result<Exchange, Fail> {
     let mut source = source_of(alloc, client, None, 1024)?;
     request(rt, alloc, &mut source, "/")
 }
@@ -94,14 +94,30 @@ fn sent(rt: &impl Abort, alloc: Global, exchange: &mut Exchange) -> Result<Vec<u
     output_of(alloc, outlet)
 }
 
+fn assert_sent(
+    rt: &impl Abort,
+    alloc: Global,
+    exchange: &mut Exchange,
+    pieces: &[&str],
+) -> Result<(), Fail> {
+    let bytes = sent(rt, alloc, exchange)?;
+    assert_joined(rt, alloc, &bytes, pieces)
+}
+
+fn assert_printed(
+    rt: &impl Abort,
+    alloc: Global,
+    exchange: &Exchange,
+    pieces: &[&str],
+) -> Result<(), Fail> {
+    let bytes = printed(alloc, exchange)?;
+    assert_joined(rt, alloc, &bytes, pieces)
+}
+
 fn assert_row(rt: &impl Abort, alloc: Global, client: &[u8], pieces: &[&str]) -> Result<(), Fail> {
     let mut exchange = exchange_of(rt, alloc, client)?;
-    let wanted = joined(alloc, pieces)?;
-    let bytes = sent(rt, alloc, &mut exchange)?;
-    assert_same(rt, str::from_utf8(&bytes)?, wanted.as_str());
-    let bytes = printed(alloc, &exchange)?;
-    assert_same(rt, str::from_utf8(&bytes)?, wanted.as_str());
-    Ok(())
+    assert_sent(rt, alloc, &mut exchange, pieces)?;
+    assert_printed(rt, alloc, &exchange, pieces)
 }
 
 #[test]
@@ -139,59 +155,99 @@ fn assert_passed_over(
     Ok(())
 }
 
-#[test]
-fn on_an_outlet_that_has_ended_nothing_is_sent(rt: HostRuntime) -> Result<(), Fail> {
-    let alloc = rt.alloc();
-    let mut exchange = exchange_of(&rt, alloc, ASKS_FOR_CHUNKS)?;
+// An outlet that was ended behind a text.
+fn ended(alloc: Global) -> Result<Outlet<Budget>, Fail> {
     let mut outlet = outlet_of(alloc, AMPLE);
     outlet.write(b"before")?;
     outlet.end()?;
-    assert_passed_over(&rt, alloc, &mut exchange, &mut outlet)?;
-    assert_same(&rt, output_of(alloc, outlet)?.as_slice(), b"before");
+    Ok(outlet)
+}
+
+#[test]
+fn on_an_outlet_that_has_ended_nothing_is_sent(rt: HostRuntime) -> Result<(), Fail> {
+    let mut exchange = exchange_of(&rt, rt.alloc(), ASKS_FOR_CHUNKS)?;
+    let mut outlet = ended(rt.alloc())?;
+    assert_passed_over(&rt, rt.alloc(), &mut exchange, &mut outlet)?;
+    assert_output(&rt, rt.alloc(), outlet, &["before"])
+}
+
+// An answer whose data are these bytes, and then fail, reports this fault.
+fn assert_fault(
+    rt: &impl Abort,
+    alloc: Global,
+    (exchange, outlet): (&mut Exchange, &mut Outlet<Budget>),
+    bytes: &[u8],
+    kind: ErrorKind,
+) -> Result<(), Fail> {
+    let mut data = Watched::new(alloc, bytes, Some(ErrorKind::Other))?;
+    let fault = fault_of(alloc, exchange, outlet, lent(alloc, &mut data))?;
+    assert_same(rt, fault, Some(kind));
     Ok(())
 }
 
 #[test]
 fn data_that_fail_end_the_outlet(rt: HostRuntime) -> Result<(), Fail> {
-    let alloc = rt.alloc();
-    let mut exchange = exchange_of(&rt, alloc, ASKS_FOR_CHUNKS)?;
-    let mut outlet = outlet_of(alloc, AMPLE);
-    let mut data = Watched::new(alloc, b"hello", Some(ErrorKind::Other))?;
-    let fault = fault_of(alloc, &mut exchange, &mut outlet, lent(alloc, &mut data))?;
-    assert_same(&rt, fault, Some(ErrorKind::Other));
-    assert_passed_over(&rt, alloc, &mut exchange, &mut outlet)?;
-    let wanted = format!(in alloc; "HTTP/1.1 200 OK\r\n{DATED}Transfer-Encoding: chunked\r\n\r\n")?;
-    assert_same(&rt, output_of(alloc, outlet)?.as_slice(), wanted.as_bytes());
+    let mut exchange = exchange_of(&rt, rt.alloc(), ASKS_FOR_CHUNKS)?;
+    let mut outlet = outlet_of(rt.alloc(), AMPLE);
+    assert_fault(
+        &rt,
+        rt.alloc(),
+        (&mut exchange, &mut outlet),
+        b"hello",
+        ErrorKind::Other,
+    )?;
+    assert_passed_over(&rt, rt.alloc(), &mut exchange, &mut outlet)?;
+    let wanted = &[
+        "HTTP/1.1 200 OK\r\n",
+        DATED,
+        "Transfer-Encoding: chunked\r\n\r\n",
+    ];
+    assert_output(&rt, rt.alloc(), outlet, wanted)
+}
+
+// An answer reports the fault of the writer.
+fn assert_cut(
+    rt: &impl Abort,
+    alloc: Global,
+    exchange: &mut Exchange,
+    outlet: &mut Outlet<Budget>,
+) -> Result<(), Fail> {
+    let fault = fault_of(alloc, exchange, outlet, hello(alloc)?)?;
+    assert_same(rt, fault, Some(ErrorKind::TimedOut));
     Ok(())
 }
 
 #[test]
 fn a_writer_that_fails_ends_the_outlet(rt: HostRuntime) -> Result<(), Fail> {
-    let alloc = rt.alloc();
-    let mut exchange = exchange_of(&rt, alloc, ASKS_FOR_CHUNKS)?;
-    let mut outlet = outlet_of(alloc, 10);
-    let fault = fault_of(alloc, &mut exchange, &mut outlet, hello(alloc)?)?;
-    assert_same(&rt, fault, Some(ErrorKind::TimedOut));
-    assert_passed_over(&rt, alloc, &mut exchange, &mut outlet)?;
-    assert_same(&rt, output_of(alloc, outlet)?.as_slice(), b"HTTP/1.1 2");
-    Ok(())
+    let mut exchange = exchange_of(&rt, rt.alloc(), ASKS_FOR_CHUNKS)?;
+    let mut outlet = outlet_of(rt.alloc(), 10);
+    assert_cut(&rt, rt.alloc(), &mut exchange, &mut outlet)?;
+    assert_passed_over(&rt, rt.alloc(), &mut exchange, &mut outlet)?;
+    assert_output(&rt, rt.alloc(), outlet, &["HTTP/1.1 2"])
 }
 
 // What the data have before they fail, and the fault that is reported where the writer fails after ten bytes: the one that is
 // met first. Five bytes and the head are still held as the data fail.
 const TWO_FAULTS: &[(usize, ErrorKind)] = &[(5, ErrorKind::Other), (20_000, ErrorKind::TimedOut)];
 
+// Of the writer's fault and the data's, which have so many bytes, this one is reported.
+fn assert_first_fault(
+    rt: &impl Abort,
+    alloc: Global,
+    exchange: &mut Exchange,
+    (length, kind): (usize, ErrorKind),
+) -> Result<(), Fail> {
+    let mut bytes = Vec::new(alloc);
+    bytes.resize(length, b'x')?;
+    let mut outlet = outlet_of(alloc, 10);
+    assert_fault(rt, alloc, (exchange, &mut outlet), &bytes, kind)
+}
+
 #[test]
 fn the_first_of_two_faults_is_reported(rt: HostRuntime) -> Result<(), Fail> {
-    let alloc = rt.alloc();
-    let mut exchange = exchange_of(&rt, alloc, ASKS_FOR_CHUNKS)?;
-    for (length, kind) in TWO_FAULTS {
-        let mut bytes = Vec::new(alloc);
-        bytes.resize(*length, b'x')?;
-        let mut outlet = outlet_of(alloc, 10);
-        let mut data = Watched::new(alloc, &bytes, Some(ErrorKind::Other))?;
-        let fault = fault_of(alloc, &mut exchange, &mut outlet, lent(alloc, &mut data))?;
-        assert_same(&rt, fault, Some(*kind));
+    let mut exchange = exchange_of(&rt, rt.alloc(), ASKS_FOR_CHUNKS)?;
+    for row in TWO_FAULTS {
+        assert_first_fault(&rt, rt.alloc(), &mut exchange, *row)?;
     }
     Ok(())
 }
@@ -240,11 +296,9 @@ fn assert_dropped(
     pieces: &[&str],
 ) -> Result<(), Fail> {
     let mut exchange = exchange_of(rt, alloc, client)?;
-    let wanted = joined(alloc, pieces)?;
     let text = exchange.text_of_drop();
-    assert_same(rt, str::from_utf8(&text)?, wanted.as_str());
     assert_same(rt, exchange.text_of_drop().len(), 0);
-    Ok(())
+    assert_joined(rt, alloc, &text, pieces)
 }
 
 #[test]

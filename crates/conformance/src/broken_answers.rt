@@ -1,7 +1,7 @@
 //! Answers of more than one chunk, and answers whose data fail: the output ends with what was sent of them.
 use crate::exchanges::date;
 use crate::runs::Deed::{Ask, Data, Drop, Text};
-use crate::runs::{AMPLE, Case, DATED, Deed, assert_case, describe, output_of};
+use crate::runs::{AMPLE, Case, DATED, Deed, assert_case, assert_cases, assert_output, describe};
 use crate::same::assert_same;
 use httpdate::HttpDate;
 use std::alloc::Global;
@@ -60,39 +60,33 @@ const CHUNK_AND_BYTE: &[u8] = &[b'x'; 8193];
 #[test]
 fn data_of_more_than_a_chunk_are_sent(rt: HostRuntime) -> Result<(), Fail> {
     let chunk = str::from_utf8(CHUNK)?;
-    for (client, replies, output) in [
-        (
-            b"GET / HTTP/1.1\r\n\r\n".as_slice(),
-            "0: GET / 1.1; done",
-            [
+    let cases: &[Case<'_>] = &[
+        Case {
+            client: b"GET / HTTP/1.1\r\n\r\n",
+            deeds: &[Ask, Data(0, CHUNK_AND_BYTE, None)],
+            replies: "0: GET / 1.1; done",
+            output: &[
                 "HTTP/1.1 200 OK\r\n",
                 DATED,
                 "Transfer-Encoding: chunked\r\n\r\n2000\r\n",
                 chunk,
                 "\r\n1\r\nx\r\n0\r\n\r\n",
             ],
-        ),
-        (
-            b"GET / HTTP/1.0\r\n\r\n",
-            "0: GET / 1.0; done",
-            [
+        },
+        Case {
+            client: b"GET / HTTP/1.0\r\n\r\n",
+            deeds: &[Ask, Data(0, CHUNK_AND_BYTE, None)],
+            replies: "0: GET / 1.0; done",
+            output: &[
                 "HTTP/1.0 200 OK\r\n",
                 DATED,
                 "Content-Length: 8193\r\n\r\n",
                 chunk,
                 "x",
             ],
-        ),
-    ] {
-        let case = Case {
-            client,
-            deeds: &[Ask, Data(0, CHUNK_AND_BYTE, None)],
-            replies,
-            output: &output,
-        };
-        assert_case(&rt, rt.alloc(), &case)?;
-    }
-    Ok(())
+        },
+    ];
+    assert_cases(&rt, rt.alloc(), cases)
 }
 
 // Data of unknown length that aren't sent in chunks are read whole before the head.
@@ -168,53 +162,61 @@ pub(crate) fn reply_to(
     connection.respond(alloc, now, number, lent(alloc, data))
 }
 
-// The replies and the output of a whole answer, one whose data fail before a full chunk, and one by these data.
-fn talk(alloc: Global, unread: &mut Watched) -> Result<(String, Vec<u8>), Fail> {
+// The replies to a whole answer, one whose data fail before a full chunk, and one by these data.
+fn talk(
+    alloc: Global,
+    connection: &mut Connection<Canned, Budget>,
+    unread: &mut Watched,
+) -> Result<String, Fail> {
     let now = date()?;
     let mut whole = Watched::new(alloc, b"hello", None)?;
     let mut broken = Watched::new(alloc, b"hello", Some(ErrorKind::Other))?;
-    let mut connection = asked(alloc, now, THREE)?;
     let replies = [
-        reply_to(alloc, now, &mut connection, 0, &mut whole),
-        reply_to(alloc, now, &mut connection, 1, &mut broken),
-        reply_to(alloc, now, &mut connection, 2, unread),
+        reply_to(alloc, now, connection, 0, &mut whole),
+        reply_to(alloc, now, connection, 1, &mut broken),
+        reply_to(alloc, now, connection, 2, unread),
     ];
-    let (_source, outlet) = connection.into_parts();
-    Ok((describe(alloc, &replies)?, output_of(alloc, outlet)?))
+    Ok(describe(alloc, &replies)?)
 }
 
 // A whole answer, and the head of one that broke before its first chunk.
 const WHOLE_AND_BROKEN: &str =
     "HTTP/1.1 200 OK\r\nServer: tiny-http (Rust)\r\nDate: Wed, 04 May 1983 11:17:00 GMT\r\nTransfer-Encoding: chunked\r\n\r\n5\r\nhello\r\n0\r\n\r\nHTTP/1.1 200 OK\r\nServer: tiny-http (Rust)\r\nDate: Wed, 04 May 1983 11:17:00 GMT\r\nTransfer-Encoding: chunked\r\n\r\n";
 
+// Answers that aren't sent, by data of which nothing is read.
+fn assert_not_read(
+    rt: &impl Abort,
+    alloc: Global,
+    connection: &mut Connection<Canned, Budget>,
+) -> Result<(), Fail> {
+    let now = date()?;
+    let mut unread = Watched::new(alloc, b"hello", None)?;
+    let replies = [
+        reply_to(alloc, now, connection, 1, &mut unread),
+        reply_to(alloc, now, connection, 2, &mut unread),
+        reply_to(alloc, now, connection, 3, &mut unread),
+        reply_to(alloc, now, connection, u64::MAX, &mut unread),
+    ];
+    let described = describe(alloc, &replies)?;
+    let found = (described.as_str(), unread.reads);
+    assert_same(rt, found, ("not yet; not yet; no such; no such", 0));
+    Ok(())
+}
+
 // Answers to numbers whose turn has not come, and to numbers that no request has.
 #[test]
 fn data_of_an_answer_that_is_not_sent_are_not_read(rt: HostRuntime) -> Result<(), Fail> {
-    let (alloc, now) = (rt.alloc(), date()?);
-    let mut connection = asked(alloc, now, THREE)?;
-    let mut unread = Watched::new(alloc, b"hello", None)?;
-    let replies = [
-        reply_to(alloc, now, &mut connection, 1, &mut unread),
-        reply_to(alloc, now, &mut connection, 2, &mut unread),
-        reply_to(alloc, now, &mut connection, 3, &mut unread),
-        reply_to(alloc, now, &mut connection, u64::MAX, &mut unread),
-    ];
-    let described = describe(alloc, &replies)?;
-    assert_same(
-        &rt,
-        described.as_str(),
-        "not yet; not yet; no such; no such",
-    );
-    assert_same(&rt, unread.reads, 0);
-    Ok(())
+    let mut connection = asked(rt.alloc(), date()?, THREE)?;
+    assert_not_read(&rt, rt.alloc(), &mut connection)
 }
 
 #[test]
 fn data_are_not_read_after_a_broken_answer(rt: HostRuntime) -> Result<(), Fail> {
     let mut unread = Watched::new(rt.alloc(), b"hello", None)?;
-    let (replies, output) = talk(rt.alloc(), &mut unread)?;
-    assert_same(&rt, replies.as_str(), "done; fault Other; done");
-    assert_same(&rt, str::from_utf8(&output)?, WHOLE_AND_BROKEN);
-    assert_same(&rt, unread.reads, 0);
-    Ok(())
+    let mut connection = asked(rt.alloc(), date()?, THREE)?;
+    let replies = talk(rt.alloc(), &mut connection, &mut unread)?;
+    let found = (replies.as_str(), unread.reads);
+    assert_same(&rt, found, ("done; fault Other; done", 0));
+    let (_source, outlet) = connection.into_parts();
+    assert_output(&rt, rt.alloc(), outlet, &[WHOLE_AND_BROKEN])
 }

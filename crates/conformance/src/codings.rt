@@ -1,6 +1,6 @@
 //! Answers in the coding that each request asks for by its `TE` (RFC 9110, section 10.1.4).
 use crate::runs::Deed::{Ask, Data, Drop, Measured, Text};
-use crate::runs::{Case, DATED, Deed, EMPTY, TEXT, assert_case};
+use crate::runs::{Case, DATED, Deed, EMPTY, TEXT, assert_case, assert_cases};
 use std::alloc::Global;
 use std::process::Abort;
 use std::test::Fail;
@@ -147,27 +147,21 @@ const SECOND: &[u8] = b"GET /a HTTP/1.1\r\n\r\nGET /b HTTP/1.1\r\nTE: chunked\r\
 // A drop out of turn keeps the coding of its own request.
 #[test]
 fn drops_out_of_turn(rt: HostRuntime) -> Result<(), Fail> {
-    for (client, replies, output) in [
-        (
-            FIRST,
-            "0: GET /a 1.1 [TE: chunked]; 1: GET /b 1.1; done; done",
-            [DROPPED, DATED, NO_CHUNK, DROPPED, EMPTY, ""],
-        ),
-        (
-            SECOND,
-            "0: GET /a 1.1; 1: GET /b 1.1 [TE: chunked]; done; done",
-            [DROPPED, EMPTY, DROPPED, DATED, NO_CHUNK, ""],
-        ),
-    ] {
-        let case = Case {
-            client,
+    let cases: &[Case<'_>] = &[
+        Case {
+            client: FIRST,
             deeds: &[Ask, Ask, Drop(1), Drop(0)],
-            replies,
-            output: &output,
-        };
-        assert_case(&rt, rt.alloc(), &case)?;
-    }
-    Ok(())
+            replies: "0: GET /a 1.1 [TE: chunked]; 1: GET /b 1.1; done; done",
+            output: &[DROPPED, DATED, NO_CHUNK, DROPPED, EMPTY, ""],
+        },
+        Case {
+            client: SECOND,
+            deeds: &[Ask, Ask, Drop(1), Drop(0)],
+            replies: "0: GET /a 1.1; 1: GET /b 1.1 [TE: chunked]; done; done",
+            output: &[DROPPED, EMPTY, DROPPED, DATED, NO_CHUNK, ""],
+        },
+    ];
+    assert_cases(&rt, rt.alloc(), cases)
 }
 
 #[test]

@@ -8,24 +8,33 @@ use std::test::Fail;
 use tiny_http_core::custom_stream::CustomStream;
 use tiny_http_wire::device::{Budget, Canned, ReadDevice, WriteDevice};
 
-// A stream of these bytes, whose writer takes so many.
+// A stream whose reader gives `hello` and then ends or fails so, and whose writer takes so many bytes and then fails so.
 fn stream_of(
     alloc: Global,
-    bytes: &[u8],
-    room: usize,
+    reader: Option<ErrorKind>,
+    (room, writer): (usize, ErrorKind),
 ) -> Result<CustomStream<Canned, Budget>, Fail> {
-    let reader = Canned::new(bytes.to_vec(alloc)?, None);
-    Ok(CustomStream::new(reader, Budget::new(alloc, room, ErrorKind::Other)))
+    let reader = Canned::new(b"hello".to_vec(alloc)?, reader);
+    Ok(CustomStream::new(reader, Budget::new(alloc, room, writer)))
 }
 
-// So many bytes are read into a buffer of 16 by the trait of std.
-fn read_all<S: Read>(rt: &impl Abort, stream: &mut S, wanted: &[u8]) -> Result<(), Fail> {
+// The number of bytes that were moved, if there was no fault.
+fn count_of(outcome: io::Result<usize>) -> Option<usize> {
+    outcome.ok()
+}
+
+// The kind of the fault, if it is one.
+fn fault_of(outcome: io::Result<usize>) -> Option<ErrorKind> {
+    outcome.err().map(|fault| fault.kind())
+}
+
+// `hello` is read into a buffer of 16 by the trait of std, and the end behind it.
+fn read_all<S: Read>(rt: &impl Abort, stream: &mut S) {
     let mut buf = [0u8; 16];
-    assert_same(rt, stream.read(&mut [])?, 0);
-    let count = stream.read(&mut buf)?;
-    assert_same(rt, buf.get(..count), Some(wanted));
-    assert_same(rt, stream.read(&mut buf)?, 0);
-    Ok(())
+    assert_same(rt, count_of(stream.read(&mut [])), Some(0));
+    assert_same(rt, count_of(stream.read(&mut buf)), Some(5));
+    assert_same(rt, buf.get(..5), Some(b"hello"));
+    assert_same(rt, count_of(stream.read(&mut buf)), Some(0));
 }
 
 // All these bytes are written by the trait of std, and flushed.
@@ -37,12 +46,12 @@ fn write_all<S: Write>(stream: &mut S, bytes: &[u8]) -> Result<(), Fail> {
 
 #[test]
 fn a_stream_reads_by_its_reader_and_writes_by_its_writer(rt: HostRuntime) -> Result<(), Fail> {
-    let mut stream = stream_of(rt.alloc(), b"hello", 100)?;
+    let mut stream = stream_of(rt.alloc(), None, (100, ErrorKind::Other))?;
     write_all(&mut stream, b"good ")?;
-    read_all(&rt, &mut stream, b"hello")?;
+    read_all(&rt, &mut stream);
     write_all(&mut stream, b"bye")?;
     let (mut reader, writer) = stream.into_parts();
-    assert_same(&rt, reader.read_in(&mut [0u8; 1])?, 0);
+    assert_same(&rt, count_of(reader.read_in(&mut [0u8; 1])), Some(0));
     assert_same(&rt, writer.bytes(), b"good bye");
     Ok(())
 }
@@ -50,18 +59,18 @@ fn a_stream_reads_by_its_reader_and_writes_by_its_writer(rt: HostRuntime) -> Res
 // The same by the devices' own calls.
 fn exchange<S: ReadDevice + WriteDevice>(rt: &impl Abort, stream: &mut S) -> Result<(), Fail> {
     let mut buf = [0u8; 3];
-    assert_same(rt, stream.read_in(&mut [])?, 0);
-    assert_same(rt, stream.read_in(&mut buf)?, 3);
-    assert_same(rt, stream.write_out(&buf)?, 3);
+    assert_same(rt, count_of(stream.read_in(&mut [])), Some(0));
+    assert_same(rt, count_of(stream.read_in(&mut buf)), Some(3));
+    assert_same(rt, count_of(stream.write_out(&buf)), Some(3));
     stream.flush_out()?;
-    assert_same(rt, stream.read_in(&mut buf)?, 2);
+    assert_same(rt, count_of(stream.read_in(&mut buf)), Some(2));
     assert_same(rt, buf, *b"lol");
     Ok(())
 }
 
 #[test]
 fn a_stream_is_a_device_for_both(rt: HostRuntime) -> Result<(), Fail> {
-    let mut stream = stream_of(rt.alloc(), b"hello", 100)?;
+    let mut stream = stream_of(rt.alloc(), None, (100, ErrorKind::Other))?;
     exchange(&rt, &mut stream)?;
     let (_, writer) = stream.into_parts();
     assert_same(&rt, writer.bytes(), b"hel");
@@ -70,53 +79,40 @@ fn a_stream_is_a_device_for_both(rt: HostRuntime) -> Result<(), Fail> {
 
 #[test]
 fn a_fault_of_the_writer_is_reported_and_the_reader_stays(rt: HostRuntime) -> Result<(), Fail> {
-    let mut stream = stream_of(rt.alloc(), b"hello", 3)?;
+    let mut stream = stream_of(rt.alloc(), None, (3, ErrorKind::Other))?;
     let fault = stream.write_all(b"words").err().map(|e| e.kind());
     assert_same(&rt, fault, Some(ErrorKind::Other));
     assert_same(&rt, stream.failures(), 1);
-    read_all(&rt, &mut stream, b"hello")?;
+    read_all(&rt, &mut stream);
     let (_, writer) = stream.into_parts();
     assert_same(&rt, writer.bytes(), b"wor");
     Ok(())
 }
 
-// The kind of the fault, if it is one.
-fn fault_of(outcome: io::Result<usize>) -> Option<ErrorKind> {
-    outcome.err().map(|fault| fault.kind())
+// The first read gave `hello`, and the second reported this fault.
+fn assert_hello_then(
+    rt: &impl Abort,
+    (first, second): (io::Result<usize>, io::Result<usize>),
+    buf: &[u8],
+    kind: ErrorKind,
+) {
+    assert_same(rt, count_of(first), Some(5));
+    assert_same(rt, buf.get(..5), Some(b"hello"));
+    assert_same(rt, fault_of(second), Some(kind));
 }
 
-// The first read gives these bytes, and the second reports this fault, by the trait of std.
-fn assert_broken_off<S: Read>(
-    rt: &impl Abort,
-    stream: &mut S,
-    wanted: &[u8],
-    kind: ErrorKind,
-) -> Result<(), Fail> {
+// Two reads by the trait of std give `hello` and report this fault.
+fn assert_broken_off<S: Read>(rt: &impl Abort, stream: &mut S, kind: ErrorKind) {
     let mut buf = [0u8; 16];
-    let count = stream.read(&mut buf)?;
-    assert_same(rt, buf.get(..count), Some(wanted));
-    assert_same(rt, fault_of(stream.read(&mut buf)), Some(kind));
-    Ok(())
+    let outcomes = (stream.read(&mut buf), stream.read(&mut [0u8; 16]));
+    assert_hello_then(rt, outcomes, &buf, kind);
 }
 
 // The same by the device's own calls.
-fn assert_broken_device<S: ReadDevice>(
-    rt: &impl Abort,
-    stream: &mut S,
-    wanted: &[u8],
-    kind: ErrorKind,
-) -> Result<(), Fail> {
+fn assert_broken_device<S: ReadDevice>(rt: &impl Abort, stream: &mut S, kind: ErrorKind) {
     let mut buf = [0u8; 16];
-    let count = stream.read_in(&mut buf)?;
-    assert_same(rt, buf.get(..count), Some(wanted));
-    assert_same(rt, fault_of(stream.read_in(&mut buf)), Some(kind));
-    Ok(())
-}
-
-// A stream whose reader gives `hello` and then fails by this kind at each call.
-fn broken_off(alloc: Global, kind: ErrorKind) -> Result<CustomStream<Canned, Budget>, Fail> {
-    let reader = Canned::new(b"hello".to_vec(alloc)?, Some(kind));
-    Ok(CustomStream::new(reader, Budget::new(alloc, 100, ErrorKind::Other)))
+    let outcomes = (stream.read_in(&mut buf), stream.read_in(&mut [0u8; 16]));
+    assert_hello_then(rt, outcomes, &buf, kind);
 }
 
 // What the writer took, and how often it failed.
@@ -140,8 +136,8 @@ const KINDS: [ErrorKind; 3] = [
 #[test]
 fn a_fault_of_the_reader_is_reported_and_the_writer_stays(rt: HostRuntime) -> Result<(), Fail> {
     for kind in KINDS {
-        let mut stream = broken_off(rt.alloc(), kind)?;
-        assert_broken_off(&rt, &mut stream, b"hello", kind)?;
+        let mut stream = stream_of(rt.alloc(), Some(kind), (100, ErrorKind::Other))?;
+        assert_broken_off(&rt, &mut stream, kind);
         write_all(&mut stream, b"bye")?;
         assert_written(&rt, stream, b"bye", 0);
     }
@@ -151,26 +147,20 @@ fn a_fault_of_the_reader_is_reported_and_the_writer_stays(rt: HostRuntime) -> Re
 #[test]
 fn a_fault_of_the_reader_is_reported_by_the_device(rt: HostRuntime) -> Result<(), Fail> {
     for kind in KINDS {
-        let mut stream = broken_off(rt.alloc(), kind)?;
-        assert_broken_device(&rt, &mut stream, b"hello", kind)?;
-        assert_same(&rt, stream.write_out(b"bye")?, 3);
+        let mut stream = stream_of(rt.alloc(), Some(kind), (100, ErrorKind::Other))?;
+        assert_broken_device(&rt, &mut stream, kind);
+        assert_same(&rt, count_of(stream.write_out(b"bye")), Some(3));
         assert_written(&rt, stream, b"bye", 0);
     }
     Ok(())
-}
-
-// A stream whose writer takes three bytes, and then fails by this kind.
-fn narrow(alloc: Global, kind: ErrorKind) -> Result<CustomStream<Canned, Budget>, Fail> {
-    let reader = Canned::new(b"hello".to_vec(alloc)?, None);
-    Ok(CustomStream::new(reader, Budget::new(alloc, 3, kind)))
 }
 
 // A write takes the bytes that there is room for, and the next one reports the fault.
 #[test]
 fn a_write_reports_what_the_writer_took(rt: HostRuntime) -> Result<(), Fail> {
     for kind in KINDS {
-        let mut stream = narrow(rt.alloc(), kind)?;
-        assert_same(&rt, stream.write(b"words")?, 3);
+        let mut stream = stream_of(rt.alloc(), None, (3, kind))?;
+        assert_same(&rt, count_of(stream.write(b"words")), Some(3));
         assert_same(&rt, stream.failures(), 0);
         assert_same(&rt, fault_of(stream.write(b"ds")), Some(kind));
         assert_written(&rt, stream, b"wor", 1);
@@ -181,8 +171,8 @@ fn a_write_reports_what_the_writer_took(rt: HostRuntime) -> Result<(), Fail> {
 #[test]
 fn a_write_of_the_device_reports_what_the_writer_took(rt: HostRuntime) -> Result<(), Fail> {
     for kind in KINDS {
-        let mut stream = narrow(rt.alloc(), kind)?;
-        assert_same(&rt, stream.write_out(b"words")?, 3);
+        let mut stream = stream_of(rt.alloc(), None, (3, kind))?;
+        assert_same(&rt, count_of(stream.write_out(b"words")), Some(3));
         assert_same(&rt, fault_of(stream.write_out(b"ds")), Some(kind));
         assert_same(&rt, fault_of(stream.write_out(b"")), None);
         assert_written(&rt, stream, b"wor", 1);

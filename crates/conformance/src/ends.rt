@@ -1,14 +1,14 @@
 //! Why no further request comes. No reply says that, so these rows have a table of their own, over pieces of all sizes.
+use crate::exchanges::{assert_read, date, request, source_of};
 use crate::runs::Deed::{Ask, Drop, IntoWriter, Read, Text};
 use crate::runs::{Deed, Pieces, SIZES, steps_of};
 use crate::same::assert_same;
-use httpdate::HttpDate;
 use std::alloc::Global;
 use std::io::ErrorKind;
 use std::process::Abort;
 use std::test::Fail;
 use tiny_http_core::driver::Connection;
-use tiny_http_core::exchange::{EndOfRequests, Exchange, HeadRead, read_head};
+use tiny_http_core::exchange::{EndOfRequests, HeadRead, read_head};
 use tiny_http_core::source::Source;
 use tiny_http_wire::common::StatusCode;
 use tiny_http_wire::device::{Canned, Metered, ReadDevice};
@@ -20,18 +20,27 @@ type Row = (
     Option<EndOfRequests>,
 );
 
+// A connection after these steps, over a client of these bytes and this fault, in pieces of at most so many.
+fn stepped(
+    alloc: Global,
+    (client, fault, most): (&[u8], Option<ErrorKind>, usize),
+    deeds: &[Deed<'_>],
+) -> Result<Connection<Pieces, Metered<Vec<u8>>>, Fail> {
+    let reader = Pieces::new(Canned::new(client.to_vec(alloc)?, fault), most);
+    let mut connection = Connection::new(alloc, reader, Metered::new(Vec::new(alloc)));
+    for timed in steps_of(alloc, deeds)? {
+        drop(connection.step(alloc, timed));
+    }
+    Ok(connection)
+}
+
 // Why the requests end after the steps of this row, over a client whose bytes come in pieces of at most so many.
 fn end_of(
     alloc: Global,
     (client, fault, deeds, _): Row,
     most: usize,
 ) -> Result<Option<EndOfRequests>, Fail> {
-    let whole = Canned::new(client.to_vec(alloc)?, fault);
-    let reader = Pieces::new(whole, most);
-    let mut connection = Connection::new(alloc, reader, Metered::new(Vec::new(alloc)));
-    for timed in steps_of(alloc, deeds)? {
-        drop(connection.step(alloc, timed));
-    }
+    let connection = stepped(alloc, (client, fault, most), deeds)?;
     Ok(connection.end_of_requests())
 }
 
@@ -234,13 +243,8 @@ fn reasons(rt: HostRuntime) -> Result<(), Fail> {
 // Numbers, and which of them wait for their answers.
 #[test]
 fn numbers_that_are_open(rt: HostRuntime) -> Result<(), Fail> {
-    let alloc = rt.alloc();
     let client = b"GET / HTTP/1.1\r\n\r\nGET / HTTP/1.1\r\n\r\n";
-    let reader = Canned::new(client.to_vec(alloc)?, None);
-    let mut connection = Connection::new(alloc, reader, Metered::new(Vec::new(alloc)));
-    for timed in steps_of(alloc, &[Ask, Ask, Drop(0)])? {
-        drop(connection.step(alloc, timed));
-    }
+    let connection = stepped(rt.alloc(), (client, None, 1024), &[Ask, Ask, Drop(0)])?;
     assert_same(&rt, connection.next_number(), 2);
     let open = [0, 1, 2].map(|number| connection.is_open(number));
     assert_same(&rt, open, [false, true, false]);
@@ -253,22 +257,23 @@ const BODIES: [&[u8]; 2] = [
     b"POST /a HTTP/1.1\r\nTransfer-Encoding: chunked\r\n\r\nGET /no HTTP/1.1\r\n\r\n",
 ];
 
-fn date() -> Result<HttpDate, Fail> {
-    Ok(HttpDate::from_unix_secs(420_895_020)?)
-}
-
-fn reason(alloc: Global, source: &mut Source<Canned>) -> Result<Option<EndOfRequests>, Fail> {
+fn reason(alloc: Global, source: &mut Source<Pieces>) -> Result<Option<EndOfRequests>, Fail> {
     match read_head(alloc, source, date()?)? {
         HeadRead::Ended(why) => Ok(Some(why)),
         _ => Ok(None),
     }
 }
 
-fn request(alloc: Global, source: &mut Source<Canned>) -> Result<Exchange, Fail> {
-    match read_head(alloc, source, date()?)? {
-        HeadRead::Request(exchange) => Ok(exchange),
-        _ => Err("no request".into()),
-    }
+// No head is read now, for this reason.
+fn assert_reason(
+    rt: &impl Abort,
+    alloc: Global,
+    source: &mut Source<Pieces>,
+    wanted: EndOfRequests,
+) -> Result<(), Fail> {
+    let found = reason(alloc, source)?;
+    assert_same(rt, found, Some(wanted));
+    Ok(())
 }
 
 // No head is read in a body that was not read, nor in one of which some bytes were.
@@ -278,14 +283,11 @@ fn assert_unread(
     client: &[u8],
     buf: &mut [u8],
 ) -> Result<(), Fail> {
-    let mut source = Source::new(Canned::new(client.to_vec(alloc)?, None));
-    let mut exchange = request(alloc, &mut source)?;
+    let mut source = source_of(alloc, client, None, 1024)?;
+    let mut exchange = request(rt, alloc, &mut source, "/a")?;
     exchange.read_body(&mut source, buf)?;
-    let first = reason(alloc, &mut source)?;
-    let second = reason(alloc, &mut source)?;
-    let unread = Some(EndOfRequests::UnreadBody);
-    assert_same(rt, (first, second), (unread, unread));
-    Ok(())
+    assert_reason(rt, alloc, &mut source, EndOfRequests::UnreadBody)?;
+    assert_reason(rt, alloc, &mut source, EndOfRequests::UnreadBody)
 }
 
 #[test]
@@ -299,29 +301,20 @@ fn bytes_of_a_body_are_no_head(rt: HostRuntime) -> Result<(), Fail> {
 // After the last head its body is read on, whatever was asked for between.
 #[test]
 fn the_last_body_is_read_on(rt: HostRuntime) -> Result<(), Fail> {
-    let alloc = rt.alloc();
     let client = b"POST / HTTP/1.0\r\nContent-Length: 2000\r\n\r\nabc";
-    let mut source = Source::new(Canned::new(client.to_vec(alloc)?, None));
-    let mut exchange = request(alloc, &mut source)?;
-    let last = Some(EndOfRequests::LastRequest);
-    assert_same(&rt, reason(alloc, &mut source)?, last);
-    let mut buf = [0u8; 4];
-    let read = exchange.read_body(&mut source, &mut buf)?;
-    assert_same(&rt, &buf[..read], b"abc".as_slice());
-    assert_same(&rt, reason(alloc, &mut source)?, last);
-    Ok(())
+    let mut source = source_of(rt.alloc(), client, None, 1024)?;
+    let mut exchange = request(&rt, rt.alloc(), &mut source, "/")?;
+    assert_reason(&rt, rt.alloc(), &mut source, EndOfRequests::LastRequest)?;
+    assert_read(&rt, &mut exchange, &mut source, b"abc")?;
+    assert_reason(&rt, rt.alloc(), &mut source, EndOfRequests::LastRequest)
 }
 
 // What follows a head that names an upgrade is left to the source, but for what was read of it.
 #[test]
 fn the_rest_of_the_stream_is_left(rt: HostRuntime) -> Result<(), Fail> {
-    let alloc = rt.alloc();
     let client = b"GET /c HTTP/1.1\r\nConnection: Upgrade\r\n\r\nxyz";
-    let reader = Canned::new(client.to_vec(alloc)?, None);
-    let mut connection = Connection::new(alloc, reader, Metered::new(Vec::new(alloc)));
-    for timed in steps_of(alloc, &[Ask, Read(0, 1), Text(0, "a"), Ask])? {
-        drop(connection.step(alloc, timed));
-    }
+    let deeds = &[Ask, Read(0, 1), Text(0, "a"), Ask];
+    let connection = stepped(rt.alloc(), (client, None, 1024), deeds)?;
     let (mut source, _outlet) = connection.into_parts();
     let mut buf = [0; 8];
     let n = source.read_in(&mut buf)?;

@@ -45,7 +45,12 @@ fn is_ended(alloc: Global, source: &mut Source<Pieces>) -> Result<bool, Fail> {
     Ok(matches!(read, HeadRead::Ended(_)))
 }
 
-fn assert_ended(rt: &impl Abort, alloc: Global, source: &mut Source<Pieces>) -> Result<(), Fail> {
+/// No request follows, however often one is asked for.
+pub(crate) fn assert_ended(
+    rt: &impl Abort,
+    alloc: Global,
+    source: &mut Source<Pieces>,
+) -> Result<(), Fail> {
     for _ in 0..2 {
         assert_holds(rt, "no request follows", is_ended(alloc, source)?);
     }
@@ -80,6 +85,19 @@ fn read_some(
     let n = exchange.read_body(source, &mut buf[..room])?;
     bytes.extend_from_slice(&buf[..n])?;
     Ok(n > 0)
+}
+
+/// One read of the body gives these bytes, at most eight.
+pub(crate) fn assert_read(
+    rt: &impl Abort,
+    exchange: &mut Exchange,
+    source: &mut Source<Pieces>,
+    wanted: &[u8],
+) -> Result<(), Fail> {
+    let mut buf = [0u8; 8];
+    let count = exchange.read_body(source, &mut buf)?;
+    assert_same(rt, buf.get(..count), Some(wanted));
+    Ok(())
 }
 
 // These bytes of the body are read.
@@ -197,8 +215,12 @@ fn assert_first_of_two(
     Ok(())
 }
 
-// One request follows, and none after it.
-fn assert_last(rt: &impl Abort, alloc: Global, source: &mut Source<Pieces>) -> Result<(), Fail> {
+/// One request follows, of the target `/b`, and none after it.
+pub(crate) fn assert_last(
+    rt: &impl Abort,
+    alloc: Global,
+    source: &mut Source<Pieces>,
+) -> Result<(), Fail> {
     let _behind = request(rt, alloc, source, "/b")?;
     assert_ended(rt, alloc, source)
 }
@@ -385,6 +407,12 @@ fn assert_refused(rt: &impl Abort, alloc: Global, most: usize) -> Result<(), Fai
     assert_ended(rt, alloc, &mut source)
 }
 
+// A head that the client's end cuts.
+fn assert_cut(rt: &impl Abort, alloc: Global, cut: &[u8], most: usize) -> Result<(), Fail> {
+    let mut source = source_of(alloc, cut, None, most)?;
+    assert_ended(rt, alloc, &mut source)
+}
+
 // A head that the reader's time-out cuts, and nothing after it.
 fn assert_timed_out(rt: &impl Abort, alloc: Global, cut: &[u8], most: usize) -> Result<(), Fail> {
     let mut source = source_of(alloc, cut, Some(ErrorKind::TimedOut), most)?;
@@ -398,8 +426,7 @@ fn heads_that_are_no_requests(rt: HostRuntime) -> Result<(), Fail> {
     let cut = b"GET / HTTP/1.1\r\nHost: a";
     for most in SIZES {
         assert_refused(&rt, rt.alloc(), most)?;
-        let mut source = source_of(rt.alloc(), cut, None, most)?;
-        assert_ended(&rt, rt.alloc(), &mut source)?;
+        assert_cut(&rt, rt.alloc(), cut, most)?;
         assert_timed_out(&rt, rt.alloc(), cut, most)?;
     }
     Ok(())

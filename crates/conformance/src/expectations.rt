@@ -1,14 +1,17 @@
 //! Requests that expect a 100 before their body is sent (RFC 9110, section 10.1.1).
-use crate::exchanges::{date, request, source_of};
+use crate::answers_alone::exchange_of;
+use crate::exchanges::date;
 use crate::runs::Deed::{AsReader, Ask, Data, Drop, IntoWriter, Read, Text, Upgrade, Write};
 use crate::runs::{
-    AMPLE, Case, DATED, Deed, EMPTY, TEXT, assert_case, assert_troubled, output_of, takes,
+    AMPLE, Case, DATED, Deed, EMPTY, Row, TEXT, assert_case, assert_cut_outputs, assert_output,
+    assert_rows,
 };
-use crate::same::{assert_holds, assert_same};
+use crate::same::assert_holds;
 use std::alloc::Global;
 use std::io::ErrorKind;
 use std::process::Abort;
 use std::test::Fail;
+use tiny_http_core::exchange::Exchange;
 use tiny_http_core::outlet::Outlet;
 use tiny_http_wire::device::Budget;
 
@@ -32,48 +35,30 @@ fn the_100_is_sent_once_before_the_body_is_read(rt: HostRuntime) -> Result<(), F
 
 #[test]
 fn the_answer_stands_behind_the_100(rt: HostRuntime) -> Result<(), Fail> {
-    for (deeds, replies, output) in [
+    let rows: &[Row<'_>] = &[
         (
-            [Ask, AsReader(0), Drop(0), Ask].as_slice(),
-            "done; done; ended",
-            [
-                CONTINUE[0],
+            &[Ask, AsReader(0), Drop(0), Ask],
+            "0: POST / 1.1 [Expect: 100-continue] [Content-Length: 5] length 5; done; done; ended",
+            &[
+                "HTTP/1.1 100 Continue\r\n",
                 EMPTY,
                 "HTTP/1.1 500 Internal Server Error\r\n",
                 EMPTY,
-            ]
-            .as_slice(),
+            ],
         ),
         (
             &[Ask, AsReader(0), Read(0, 9), Text(0, "x"), Ask],
-            "done; given hello; done; ended",
-            &[
-                CONTINUE[0],
-                EMPTY,
-                "HTTP/1.1 200 OK\r\n",
-                TEXT,
-                "Content-Length: 1\r\n\r\nx",
-            ],
+            "0: POST / 1.1 [Expect: 100-continue] [Content-Length: 5] length 5; done; given hello; done; ended",
+            &CONTINUED,
         ),
         // The 100 is sent only if the body is asked for.
         (
             &[Ask, Text(0, "x"), AsReader(0), Ask],
-            "done; no such; ended",
-            &["HTTP/1.1 200 OK\r\n", TEXT, "Content-Length: 1\r\n\r\nx"],
+            "0: POST / 1.1 [Expect: 100-continue] [Content-Length: 5] length 5; done; no such; ended",
+            &ANSWER,
         ),
-    ] {
-        let mut all = String::from_str(rt.alloc(), HANDED)?;
-        all.push_str("; ")?;
-        all.push_str(replies)?;
-        let case = Case {
-            client: EXPECTING,
-            deeds,
-            replies: all.as_str(),
-            output,
-        };
-        assert_case(&rt, rt.alloc(), &case)?;
-    }
-    Ok(())
+    ];
+    assert_rows(&rt, rt.alloc(), EXPECTING, rows)
 }
 
 #[test]
@@ -120,22 +105,16 @@ fn an_unread_body_holds_the_reader(rt: HostRuntime) -> Result<(), Fail> {
 const FOLLOWED: &[u8] =
     b"POST / HTTP/1.1\r\nExpect: 100-continue\r\nContent-Length: 5\r\n\r\nhelloGET /b HTTP/1.1\r\n\r\n";
 
-// The replies to these steps, after the first, and the output where the writer fails after so many bytes.
-fn assert_cut(
-    rt: &impl Abort,
-    alloc: Global,
-    deeds: &[Deed<'_>],
-    rest: &str,
-    (room, output): (usize, &str),
-) -> Result<(), Fail> {
+// The replies to these steps, after the first, where the writer fails within the 100 or before it.
+fn assert_cut(rt: &impl Abort, alloc: Global, deeds: &[Deed<'_>], rest: &str) -> Result<(), Fail> {
     let replies = format!(in alloc; "{HANDED}; {rest}")?;
     let case = Case {
         client: FOLLOWED,
         deeds,
         replies: replies.as_str(),
-        output: &[output],
+        output: &[],
     };
-    assert_troubled(rt, alloc, &case, takes(room, ErrorKind::Other))
+    assert_cut_outputs(rt, alloc, &case, &[(10, "HTTP/1.1 1"), (0, "")])
 }
 
 // Steps after a 100 that is cut: what is asked for is done and unsent, and no reply reports the fault.
@@ -182,8 +161,7 @@ const AFTER_THE_CUT: &[(&[Deed<'static>], &str)] = &[
 #[test]
 fn the_writer_fails_within_the_100(rt: HostRuntime) -> Result<(), Fail> {
     for (deeds, rest) in AFTER_THE_CUT {
-        assert_cut(&rt, rt.alloc(), deeds, rest, (10, "HTTP/1.1 1"))?;
-        assert_cut(&rt, rt.alloc(), deeds, rest, (0, ""))?;
+        assert_cut(&rt, rt.alloc(), deeds, rest)?;
     }
     Ok(())
 }
@@ -191,43 +169,46 @@ fn the_writer_fails_within_the_100(rt: HostRuntime) -> Result<(), Fail> {
 const BEHIND: &[u8] =
     b"GET /a HTTP/1.1\r\n\r\nPOST / HTTP/1.1\r\nExpect: 100-continue\r\nContent-Length: 5\r\n\r\nhello";
 
+// The steps of two requests, of which the first is answered so.
+fn behind(answer: Deed<'_>) -> [Deed<'_>; 9] {
+    [
+        Ask,
+        Ask,
+        answer,
+        Read(1, 5),
+        AsReader(1),
+        AsReader(1),
+        Read(1, 5),
+        Drop(1),
+        Ask,
+    ]
+}
+
 // The writer failed in the answer before it, or the data of that answer did. The body can be read once it was asked for.
 #[test]
 fn after_the_end_of_the_output_no_100_is_sent(rt: HostRuntime) -> Result<(), Fail> {
+    let cut = behind(Text(0, "a"));
     let replies =
         "0: GET /a 1.1; 1: POST / 1.1 [Expect: 100-continue] [Content-Length: 5] length 5; fault Other; no such; done; done; given hello; done; ended";
-    for (answer, room, output) in [
-        (Text(0, "a"), 10, ["HTTP/1.1 2"].as_slice()),
-        (Text(0, "a"), 0, &[]),
-        (
-            Data(0, b"a", Some(ErrorKind::Other)),
-            AMPLE,
-            &[
-                "HTTP/1.1 200 OK\r\n",
-                DATED,
-                "Transfer-Encoding: chunked\r\n\r\n",
-            ],
-        ),
-    ] {
-        let case = Case {
-            client: BEHIND,
-            deeds: &[
-                Ask,
-                Ask,
-                answer,
-                Read(1, 5),
-                AsReader(1),
-                AsReader(1),
-                Read(1, 5),
-                Drop(1),
-                Ask,
-            ],
-            replies,
-            output,
-        };
-        assert_troubled(&rt, rt.alloc(), &case, takes(room, ErrorKind::Other))?;
-    }
-    Ok(())
+    let case = Case {
+        client: BEHIND,
+        deeds: &cut,
+        replies,
+        output: &[],
+    };
+    assert_cut_outputs(&rt, rt.alloc(), &case, &[(10, "HTTP/1.1 2"), (0, "")])?;
+    let broken = behind(Data(0, b"a", Some(ErrorKind::Other)));
+    let case = Case {
+        client: BEHIND,
+        deeds: &broken,
+        replies,
+        output: &[
+            "HTTP/1.1 200 OK\r\n",
+            DATED,
+            "Transfer-Encoding: chunked\r\n\r\n",
+        ],
+    };
+    assert_case(&rt, rt.alloc(), &case)
 }
 
 // A 100, and an answer behind it.
@@ -247,9 +228,9 @@ const CHUNKED: &[u8] =
 
 #[test]
 fn a_chunked_body_is_read_behind_the_100(rt: HostRuntime) -> Result<(), Fail> {
-    for (deeds, replies, output) in [
+    let rows: &[Row<'_>] = &[
         (
-            [
+            &[
                 Ask,
                 Read(0, 9),
                 Ask,
@@ -257,10 +238,9 @@ fn a_chunked_body_is_read_behind_the_100(rt: HostRuntime) -> Result<(), Fail> {
                 Read(0, 9),
                 Text(0, "x"),
                 Ask,
-            ]
-            .as_slice(),
+            ],
             "0: POST / 1.1 [Expect: 100-continue] [Transfer-Encoding: chunked]; no such; not yet; done; given hello!; done; 1: GET /b 1.1",
-            CONTINUED.as_slice(),
+            &CONTINUED,
         ),
         // The 100 wasn't asked for, and so the body wasn't read: no head follows.
         (
@@ -268,16 +248,8 @@ fn a_chunked_body_is_read_behind_the_100(rt: HostRuntime) -> Result<(), Fail> {
             "0: POST / 1.1 [Expect: 100-continue] [Transfer-Encoding: chunked]; no such; done; ended",
             &ANSWER,
         ),
-    ] {
-        let case = Case {
-            client: CHUNKED,
-            deeds,
-            replies,
-            output,
-        };
-        assert_case(&rt, rt.alloc(), &case)?;
-    }
-    Ok(())
+    ];
+    assert_rows(&rt, rt.alloc(), CHUNKED, rows)
 }
 
 const CLOSING: &[u8] =
@@ -285,11 +257,11 @@ const CLOSING: &[u8] =
 
 #[test]
 fn the_last_request_expects_a_100(rt: HostRuntime) -> Result<(), Fail> {
-    for (deeds, replies, output) in [
+    let rows: &[Row<'_>] = &[
         (
-            [Ask, AsReader(0), Read(0, 5), Text(0, "x"), Ask].as_slice(),
+            &[Ask, AsReader(0), Read(0, 5), Text(0, "x"), Ask],
             "0: POST / 1.1 [Connection: close] [Expect: 100-continue] [Content-Length: 5] length 5; done; given hello; done; ended",
-            CONTINUED.as_slice(),
+            &CONTINUED,
         ),
         // The body of the last request holds no later head.
         (
@@ -302,30 +274,27 @@ fn the_last_request_expects_a_100(rt: HostRuntime) -> Result<(), Fail> {
             "0: POST / 1.1 [Connection: close] [Expect: 100-continue] [Content-Length: 5] length 5; done; ended",
             &ANSWER,
         ),
-    ] {
-        let case = Case {
-            client: CLOSING,
-            deeds,
-            replies,
-            output,
-        };
-        assert_case(&rt, rt.alloc(), &case)?;
-    }
+    ];
+    assert_rows(&rt, rt.alloc(), CLOSING, rows)
+}
+
+// Sends a 100 that is owed, and holds nothing back.
+fn send_continue(
+    rt: &impl Abort,
+    alloc: Global,
+    exchange: &mut Exchange,
+    outlet: &mut Outlet<Budget>,
+) -> Result<(), Fail> {
+    exchange.send_continue(alloc, outlet, date()?);
+    assert_holds(rt, "it is flushed", outlet.held().is_empty());
     Ok(())
 }
 
 #[test]
 fn an_exchange_sends_its_100_once(rt: HostRuntime) -> Result<(), Fail> {
-    let alloc = rt.alloc();
-    let mut source = source_of(alloc, EXPECTING, None, 1024)?;
-    let mut exchange = request(&rt, alloc, &mut source, "/")?;
-    let mut outlet = Outlet::new(Budget::new(alloc, AMPLE, ErrorKind::Other));
-    exchange.send_continue(alloc, &mut outlet, date()?);
-    assert_holds(&rt, "it is flushed", outlet.held().is_empty());
-    exchange.send_continue(alloc, &mut outlet, date()?);
-    let output = output_of(alloc, outlet)?;
-    let mut wanted = String::from_str(alloc, CONTINUE[0])?;
-    wanted.push_str(EMPTY)?;
-    assert_same(&rt, output.as_slice(), wanted.as_str().as_bytes());
-    Ok(())
+    let mut exchange = exchange_of(&rt, rt.alloc(), EXPECTING)?;
+    let mut outlet = Outlet::new(Budget::new(rt.alloc(), AMPLE, ErrorKind::Other));
+    send_continue(&rt, rt.alloc(), &mut exchange, &mut outlet)?;
+    send_continue(&rt, rt.alloc(), &mut exchange, &mut outlet)?;
+    assert_output(&rt, rt.alloc(), outlet, &CONTINUE)
 }

@@ -1,7 +1,9 @@
 //! Requests that are handed out while earlier ones are open: their answers leave in the order of the requests.
 use crate::relay::{NEVER, run_relayed};
 use crate::runs::Deed::{Ask, Drop, Text};
-use crate::runs::{Case, Deed, EMPTY, TEXT, assert_case, assert_fronts, assert_troubled, takes};
+use crate::runs::{
+    Case, Deed, EMPTY, Row, TEXT, assert_case, assert_fronts, assert_rows, assert_troubled, takes,
+};
 use crate::same::{assert_holds, assert_same};
 use std::alloc::Global;
 use std::io::ErrorKind;
@@ -47,28 +49,27 @@ fn answers_leave_in_order(rt: HostRuntime) -> Result<(), Fail> {
 #[test]
 fn a_refusal_waits_for_its_turn(rt: HostRuntime) -> Result<(), Fail> {
     let client = b"GET / HTTP/1.1\r\n\r\nGET / HTTP/1.1\r\n\r\nbad\r\n";
-    let held_back = Case {
-        client,
-        deeds: &[Ask, Ask, Ask, Drop(1)],
-        replies: "0: GET / 1.1; 1: GET / 1.1; ended; done",
-        output: &[],
-    };
-    assert_case(&rt, rt.alloc(), &held_back)?;
-    let answered = Case {
-        client,
-        deeds: &[Ask, Ask, Ask, Drop(1), Text(0, "a")],
-        replies: "0: GET / 1.1; 1: GET / 1.1; ended; done; done",
-        output: &[
-            "HTTP/1.1 200 OK\r\n",
-            TEXT,
-            "Content-Length: 1\r\n\r\na",
-            "HTTP/1.1 500 Internal Server Error\r\n",
-            EMPTY,
-            "HTTP/1.1 400 Bad Request\r\n",
-            EMPTY,
-        ],
-    };
-    assert_case(&rt, rt.alloc(), &answered)
+    let rows: &[Row<'_>] = &[
+        (
+            &[Ask, Ask, Ask, Drop(1)],
+            "0: GET / 1.1; 1: GET / 1.1; ended; done",
+            &[],
+        ),
+        (
+            &[Ask, Ask, Ask, Drop(1), Text(0, "a")],
+            "0: GET / 1.1; 1: GET / 1.1; ended; done; done",
+            &[
+                "HTTP/1.1 200 OK\r\n",
+                TEXT,
+                "Content-Length: 1\r\n\r\na",
+                "HTTP/1.1 500 Internal Server Error\r\n",
+                EMPTY,
+                "HTTP/1.1 400 Bad Request\r\n",
+                EMPTY,
+            ],
+        ),
+    ];
+    assert_rows(&rt, rt.alloc(), client, rows)
 }
 
 #[test]
@@ -101,26 +102,18 @@ fn a_number_takes_one_answer(rt: HostRuntime) -> Result<(), Fail> {
 
 #[test]
 fn a_fault_is_reported_where_it_is_met(rt: HostRuntime) -> Result<(), Fail> {
-    let client = b"GET / HTTP/1.1\r\n\r\nGET / HTTP/1.1\r\n\r\n";
-    for (kind, replies) in [
-        (
-            ErrorKind::Other,
-            "0: GET / 1.1; 1: GET / 1.1; fault Other; done",
-        ),
-        (
-            ErrorKind::BrokenPipe,
-            "0: GET / 1.1; 1: GET / 1.1; done; done",
-        ),
-    ] {
-        let case = Case {
-            client,
-            deeds: &[Ask, Ask, Text(0, "a"), Text(1, "b")],
-            replies,
-            output: &["HTTP/1.1 2"],
-        };
-        assert_troubled(&rt, rt.alloc(), &case, takes(10, kind))?;
-    }
-    Ok(())
+    let reported = Case {
+        client: b"GET / HTTP/1.1\r\n\r\nGET / HTTP/1.1\r\n\r\n",
+        deeds: &[Ask, Ask, Text(0, "a"), Text(1, "b")],
+        replies: "0: GET / 1.1; 1: GET / 1.1; fault Other; done",
+        output: &["HTTP/1.1 2"],
+    };
+    assert_troubled(&rt, rt.alloc(), &reported, takes(10, ErrorKind::Other))?;
+    let gone = Case {
+        replies: "0: GET / 1.1; 1: GET / 1.1; done; done",
+        ..reported
+    };
+    assert_troubled(&rt, rt.alloc(), &gone, takes(10, ErrorKind::BrokenPipe))
 }
 
 #[test]

@@ -1,9 +1,8 @@
 //! Chunked bodies, bodies that a fault cuts, and a client's bytes cut at every place.
 use crate::bodies::{ANSWER, ERROR};
 use crate::runs::Deed::{Ask, Drop, Read, Text};
-use crate::runs::{AMPLE, Case, Deed, Trouble, assert_case, assert_troubled};
+use crate::runs::{Case, Deed, TIMES_OUT, assert_case, assert_troubled};
 use std::alloc::{AllocError, Global};
-use std::io::ErrorKind;
 use std::process::Abort;
 use std::test::Fail;
 
@@ -71,13 +70,6 @@ fn a_chunked_body_is_read(rt: HostRuntime) -> Result<(), Fail> {
     }
     Ok(())
 }
-
-// The client sends these bytes, and then the reader times out.
-const TIMES_OUT: Trouble = Trouble {
-    reader: Some(ErrorKind::TimedOut),
-    room: AMPLE,
-    writer: ErrorKind::Other,
-};
 
 // The run over this client comes out so where the reader times out; the first reply is the head.
 fn assert_timed_out(rt: &impl Abort, alloc: Global, head: &str, row: Row<'_>) -> Result<(), Fail> {
@@ -171,23 +163,28 @@ fn reads_at(n: usize) -> &'static str {
     }
 }
 
+// Of the three requests so many bytes come.
+fn assert_cut(rt: &impl Abort, alloc: Global, n: usize) -> Result<(), Fail> {
+    let asks = asks_at(n);
+    let reads = reads_at(n);
+    let replies = format!(in alloc; "{asks}; {reads}")?;
+    let Some(client) = THREE.get(..n) else {
+        return Err("too short".into());
+    };
+    let case = Case {
+        client,
+        deeds: &[Ask, Ask, Ask, Read(2, 9), Read(2, 9)],
+        replies: replies.as_str(),
+        output: &[],
+    };
+    assert_case(rt, alloc, &case)
+}
+
 #[test]
 fn three_requests_are_cut_at_every_place(rt: HostRuntime) -> Result<(), Fail> {
     assert_eq!(rt; THREE.len(), 119);
     for n in 0..=119 {
-        let asks = asks_at(n);
-        let reads = reads_at(n);
-        let replies = format!(in rt.alloc(); "{asks}; {reads}")?;
-        let Some(client) = THREE.get(..n) else {
-            return Err("too short".into());
-        };
-        let case = Case {
-            client,
-            deeds: &[Ask, Ask, Ask, Read(2, 9), Read(2, 9)],
-            replies: replies.as_str(),
-            output: &[],
-        };
-        assert_case(&rt, rt.alloc(), &case)?;
+        assert_cut(&rt, rt.alloc(), n)?;
     }
     Ok(())
 }

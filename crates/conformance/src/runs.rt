@@ -74,6 +74,9 @@ pub(crate) struct Case<'a> {
     pub output: &'a [&'a str],
 }
 
+/// A run over a client that a table names once: the steps, what they are answered, and the output in pieces.
+pub(crate) type Row<'a> = (&'a [Deed<'a>], &'a str, &'a [&'a str]);
+
 /// How reader and writer of a run fail.
 #[derive(Clone, Copy, Debug)]
 pub(crate) struct Trouble {
@@ -93,6 +96,13 @@ pub(crate) fn takes(room: usize, writer: ErrorKind) -> Trouble {
         writer,
     }
 }
+
+/// The reader times out after the last byte, and the writer takes all.
+pub(crate) const TIMES_OUT: Trouble = Trouble {
+    reader: Some(ErrorKind::TimedOut),
+    room: AMPLE,
+    writer: ErrorKind::Other,
+};
 
 /// The reader ends, and the writer takes all.
 const NO_TROUBLE: Trouble = Trouble {
@@ -300,6 +310,29 @@ pub(crate) fn joined(alloc: Global, pieces: &[&str]) -> Result<String, Fail> {
     Ok(text)
 }
 
+/// These bytes are the pieces together.
+pub(crate) fn assert_joined(
+    rt: &impl Abort,
+    alloc: Global,
+    bytes: &[u8],
+    pieces: &[&str],
+) -> Result<(), Fail> {
+    let wanted = joined(alloc, pieces)?;
+    assert_same(rt, str::from_utf8(bytes)?, wanted.as_str());
+    Ok(())
+}
+
+/// What the writer took, and what is held back after it, are the pieces together.
+pub(crate) fn assert_output(
+    rt: &impl Abort,
+    alloc: Global,
+    outlet: Outlet<Budget>,
+    pieces: &[&str],
+) -> Result<(), Fail> {
+    let output = output_of(alloc, outlet)?;
+    assert_joined(rt, alloc, &output, pieces)
+}
+
 fn assert_outcome(
     rt: &impl Abort,
     alloc: Global,
@@ -411,4 +444,124 @@ pub(crate) fn assert_troubled(
 /// The run comes out so where the client ends and the writer takes all.
 pub(crate) fn assert_case(rt: &impl Abort, alloc: Global, case: &Case<'_>) -> Result<(), Fail> {
     assert_troubled(rt, alloc, case, NO_TROUBLE)
+}
+
+/// Each of these runs comes out so.
+pub(crate) fn assert_cases(rt: &impl Abort, alloc: Global, cases: &[Case<'_>]) -> Result<(), Fail> {
+    for case in cases {
+        assert_case(rt, alloc, case)?;
+    }
+    Ok(())
+}
+
+// The run of this row over this client, under this trouble.
+fn assert_row(
+    rt: &impl Abort,
+    alloc: Global,
+    client: &[u8],
+    (deeds, replies, output): Row<'_>,
+    trouble: Trouble,
+) -> Result<(), Fail> {
+    let case = Case {
+        client,
+        deeds,
+        replies,
+        output,
+    };
+    assert_troubled(rt, alloc, &case, trouble)
+}
+
+/// Over this client each row comes out so.
+pub(crate) fn assert_rows(
+    rt: &impl Abort,
+    alloc: Global,
+    client: &[u8],
+    rows: &[Row<'_>],
+) -> Result<(), Fail> {
+    for row in rows {
+        assert_row(rt, alloc, client, *row, NO_TROUBLE)?;
+    }
+    Ok(())
+}
+
+/// One row comes out so over each of these clients.
+pub(crate) fn assert_clients(
+    rt: &impl Abort,
+    alloc: Global,
+    clients: &[&[u8]],
+    row: Row<'_>,
+) -> Result<(), Fail> {
+    for client in clients {
+        assert_row(rt, alloc, client, row, NO_TROUBLE)?;
+    }
+    Ok(())
+}
+
+/// The same steps have the same output over each of these clients, and the replies beside it.
+pub(crate) fn assert_replies(
+    rt: &impl Abort,
+    alloc: Global,
+    (deeds, output): (&[Deed<'_>], &[&str]),
+    rows: &[(&[u8], &str)],
+) -> Result<(), Fail> {
+    for (client, replies) in rows {
+        assert_row(rt, alloc, client, (deeds, replies, output), NO_TROUBLE)?;
+    }
+    Ok(())
+}
+
+/// The same steps have the same replies over each of these clients, and the output beside it.
+pub(crate) fn assert_outputs(
+    rt: &impl Abort,
+    alloc: Global,
+    (deeds, replies): (&[Deed<'_>], &str),
+    rows: &[(&[u8], &[&str])],
+) -> Result<(), Fail> {
+    for (client, output) in rows {
+        assert_row(rt, alloc, client, (deeds, replies, output), NO_TROUBLE)?;
+    }
+    Ok(())
+}
+
+/// The same, where the reader times out behind the client's bytes.
+pub(crate) fn assert_late_outputs(
+    rt: &impl Abort,
+    alloc: Global,
+    (deeds, replies): (&[Deed<'_>], &str),
+    rows: &[(&[u8], &[&str])],
+) -> Result<(), Fail> {
+    for (client, output) in rows {
+        assert_row(rt, alloc, client, (deeds, replies, output), TIMES_OUT)?;
+    }
+    Ok(())
+}
+
+/// The run comes out so under each of these troubles.
+pub(crate) fn assert_troubles(
+    rt: &impl Abort,
+    alloc: Global,
+    case: &Case<'_>,
+    troubles: &[Trouble],
+) -> Result<(), Fail> {
+    for trouble in troubles {
+        assert_troubled(rt, alloc, case, *trouble)?;
+    }
+    Ok(())
+}
+
+/// The run has each of these outputs, where the writer takes so many bytes and then fails.
+pub(crate) fn assert_cut_outputs(
+    rt: &impl Abort,
+    alloc: Global,
+    case: &Case<'_>,
+    rows: &[(usize, &str)],
+) -> Result<(), Fail> {
+    for (room, output) in rows {
+        let cut = Case {
+            output: &[*output],
+            ..*case
+        };
+        assert_troubled(rt, alloc, &cut, takes(*room, ErrorKind::Other))?;
+    }
+    Ok(())
 }

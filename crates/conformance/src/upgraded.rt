@@ -5,7 +5,8 @@ use crate::runs::Deed::{
     AsReader, Ask, Drop, Finish, Flush, IntoWriter, Read, Text, Upgrade, Write,
 };
 use crate::runs::{
-    Case, DATED, EMPTY, TEXT, assert_case, assert_troubled, describe, joined, output_of, takes,
+    Case, DATED, EMPTY, Row, TEXT, assert_case, assert_cut_outputs, assert_output, assert_rows,
+    describe,
 };
 use crate::same::assert_same;
 use httpdate::HttpDate;
@@ -44,24 +45,24 @@ fn the_stream_of_an_upgrade_is_read_and_written(rt: HostRuntime) -> Result<(), F
 
 #[test]
 fn a_protocol_of_other_letters_is_refused(rt: HostRuntime) -> Result<(), Fail> {
-    for deeds in [
-        [Ask, Upgrade(0, 101, "w\u{e9}"), Read(0, 8), Ask].as_slice(),
-        &[
-            Ask,
-            Upgrade(0, 101, "\u{e9}"),
-            Upgrade(0, 101, "websocket"),
-            Ask,
-        ],
-    ] {
-        let case = Case {
-            client: NAMING,
-            deeds,
-            replies: "0: GET /c 1.1 [Connection: Upgrade]; refused; no such; ended",
-            output: &[ERROR, EMPTY],
-        };
-        assert_case(&rt, rt.alloc(), &case)?;
-    }
-    Ok(())
+    let rows: &[Row<'_>] = &[
+        (
+            &[Ask, Upgrade(0, 101, "w\u{e9}"), Read(0, 8), Ask],
+            "0: GET /c 1.1 [Connection: Upgrade]; refused; no such; ended",
+            &[ERROR, EMPTY],
+        ),
+        (
+            &[
+                Ask,
+                Upgrade(0, 101, "\u{e9}"),
+                Upgrade(0, 101, "websocket"),
+                Ask,
+            ],
+            "0: GET /c 1.1 [Connection: Upgrade]; refused; no such; ended",
+            &[ERROR, EMPTY],
+        ),
+    ];
+    assert_rows(&rt, rt.alloc(), NAMING, rows)
 }
 
 // Two requests, of which the second names an upgrade.
@@ -198,23 +199,21 @@ fn the_end_of_the_stream_passes_the_turn(rt: HostRuntime) -> Result<(), Fail> {
 // No reply reports a fault within the answer; after it nothing more is sent, and the body is still read.
 #[test]
 fn the_writer_fails_within_an_upgrade(rt: HostRuntime) -> Result<(), Fail> {
-    for (room, output) in [(0, ""), (4, "HTTP"), (9, "HTTP/1.1 ")] {
-        let case = Case {
-            client: NAMING,
-            deeds: &[
-                Ask,
-                Upgrade(0, 101, "websocket"),
-                Write(0, "ok"),
-                Flush(0),
-                Read(0, 8),
-                Finish(0),
-            ],
-            replies: "0: GET /c 1.1 [Connection: Upgrade]; done; done; done; given xyz; done",
-            output: &[output],
-        };
-        assert_troubled(&rt, rt.alloc(), &case, takes(room, ErrorKind::Other))?;
-    }
-    Ok(())
+    let case = Case {
+        client: NAMING,
+        deeds: &[
+            Ask,
+            Upgrade(0, 101, "websocket"),
+            Write(0, "ok"),
+            Flush(0),
+            Read(0, 8),
+            Finish(0),
+        ],
+        replies: "0: GET /c 1.1 [Connection: Upgrade]; done; done; done; given xyz; done",
+        output: &[],
+    };
+    let rows = &[(0, ""), (4, "HTTP"), (9, "HTTP/1.1 ")];
+    assert_cut_outputs(&rt, rt.alloc(), &case, rows)
 }
 
 // The reply to an upgrade by these data.
@@ -275,10 +274,7 @@ fn assert_upgrades(
         assert_upgrade(rt, alloc, &mut connection, *upgrading, reply)?;
     }
     let (_source, outlet) = connection.into_parts();
-    let output = output_of(alloc, outlet)?;
-    let wanted = joined(alloc, wanted)?;
-    assert_same(rt, str::from_utf8(&output)?, wanted.as_str());
-    Ok(())
+    assert_output(rt, alloc, outlet, wanted)
 }
 
 // The length of the data isn't known. In any other answer to a client of version 1.0 such data are read before the head.
@@ -292,17 +288,25 @@ fn the_data_of_an_upgrade_are_not_read(rt: HostRuntime) -> Result<(), Fail> {
     Ok(())
 }
 
+// The output ends by an answer whose data fail.
+fn assert_broken(
+    rt: &impl Abort,
+    alloc: Global,
+    connection: &mut Connection<Canned, Budget>,
+) -> Result<(), Fail> {
+    let now = date()?;
+    let mut broken = Watched::new(alloc, b"hello", Some(ErrorKind::Other))?;
+    let fault = [reply_to(alloc, now, connection, 0, &mut broken)];
+    let fault = describe(alloc, &fault)?;
+    assert_same(rt, fault.as_str(), "fault Other");
+    Ok(())
+}
+
 // The output has ended by an answer whose data failed.
 #[test]
 fn after_the_end_of_the_output_the_data_are_not_read(rt: HostRuntime) -> Result<(), Fail> {
-    let (alloc, now) = (rt.alloc(), date()?);
-    let mut connection = asked(alloc, now, THREE)?;
-    let mut broken = Watched::new(alloc, b"hello", Some(ErrorKind::Other))?;
-    let fault = [reply_to(alloc, now, &mut connection, 0, &mut broken)];
-    let fault = describe(alloc, &fault)?;
-    assert_same(&rt, fault.as_str(), "fault Other");
-    for (upgrading, wanted) in [((1, "\u{e9}"), "refused"), ((2, "a"), "done")] {
-        assert_upgrade(&rt, alloc, &mut connection, upgrading, wanted)?;
-    }
-    Ok(())
+    let mut connection = asked(rt.alloc(), date()?, THREE)?;
+    assert_broken(&rt, rt.alloc(), &mut connection)?;
+    assert_upgrade(&rt, rt.alloc(), &mut connection, (1, "\u{e9}"), "refused")?;
+    assert_upgrade(&rt, rt.alloc(), &mut connection, (2, "a"), "done")
 }

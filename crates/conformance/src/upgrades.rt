@@ -1,8 +1,8 @@
 //! Upgrades of a connection to another protocol, sent on an outlet without a driver.
 use crate::broken_answers::{Watched, lent};
-use crate::exchanges::{date, request, source_of};
-use crate::runs::{AMPLE, DATED, joined, output_of};
-use crate::same::{assert_holds, assert_same};
+use crate::exchanges::{assert_read, date, request, source_of};
+use crate::runs::{AMPLE, DATED, assert_joined, assert_output, output_of};
+use crate::same::assert_same;
 use std::alloc::Global;
 use std::io::ErrorKind;
 use std::process::Abort;
@@ -36,24 +36,42 @@ fn outlet_of(alloc: Global, room: usize) -> Outlet<Budget> {
     Outlet::new(Budget::new(alloc, room, ErrorKind::Other))
 }
 
-// A request that is upgraded sends these pieces, and no 100 after them.
+// The request that these bytes are.
+fn exchange_of(rt: &impl Abort, alloc: Global, client: &[u8]) -> Result<Exchange, Fail> {
+    let mut source = source_of(alloc, client, None, 1024)?;
+    request(rt, alloc, &mut source, "/c")
+}
+
+// The protocol is taken, and nothing is held back.
+fn assert_taken(
+    rt: &impl Abort,
+    alloc: Global,
+    exchange: &mut Exchange,
+    outlet: &mut Outlet<Budget>,
+) -> Result<(), Fail> {
+    let fault = upgraded(alloc, exchange, outlet, "websocket")?;
+    assert_same(rt, (fault.is_none(), outlet.held().len()), (true, 0));
+    Ok(())
+}
+
+// What is sent as this request is upgraded, and no 100 after it.
+fn sent(rt: &impl Abort, alloc: Global, exchange: &mut Exchange) -> Result<Vec<u8>, Fail> {
+    let mut outlet = outlet_of(alloc, AMPLE);
+    assert_taken(rt, alloc, exchange, &mut outlet)?;
+    exchange.send_continue(alloc, &mut outlet, date()?);
+    output_of(alloc, outlet)
+}
+
+// A request that is upgraded sends these pieces.
 fn assert_upgraded(
     rt: &impl Abort,
     alloc: Global,
     client: &[u8],
     pieces: &[&str],
 ) -> Result<(), Fail> {
-    let mut source = source_of(alloc, client, None, 1024)?;
-    let mut exchange = request(rt, alloc, &mut source, "/c")?;
-    let mut outlet = outlet_of(alloc, AMPLE);
-    let fault = upgraded(alloc, &mut exchange, &mut outlet, "websocket")?;
-    assert_holds(rt, "the protocol is taken", fault.is_none());
-    assert_same(rt, outlet.held().len(), 0);
-    exchange.send_continue(alloc, &mut outlet, date()?);
-    let wanted = joined(alloc, pieces)?;
-    let bytes = output_of(alloc, outlet)?;
-    assert_same(rt, str::from_utf8(&bytes)?, wanted.as_str());
-    Ok(())
+    let mut exchange = exchange_of(rt, alloc, client)?;
+    let bytes = sent(rt, alloc, &mut exchange)?;
+    assert_joined(rt, alloc, &bytes, pieces)
 }
 
 #[test]
@@ -68,62 +86,75 @@ fn an_upgrade_is_a_head_alone(rt: HostRuntime) -> Result<(), Fail> {
 
 #[test]
 fn the_input_behind_an_upgrade_is_the_body(rt: HostRuntime) -> Result<(), Fail> {
-    let alloc = rt.alloc();
-    let mut source = source_of(alloc, ASKS_TO_UPGRADE, None, 1024)?;
-    let mut exchange = request(&rt, alloc, &mut source, "/c")?;
+    let mut source = source_of(rt.alloc(), ASKS_TO_UPGRADE, None, 1024)?;
+    let mut exchange = request(&rt, rt.alloc(), &mut source, "/c")?;
+    let _head = sent(&rt, rt.alloc(), &mut exchange)?;
+    assert_read(&rt, &mut exchange, &mut source, b"xyz")
+}
+
+// A protocol of other letters is refused in these words, and nothing is sent.
+fn assert_refused(rt: &impl Abort, alloc: Global, exchange: &mut Exchange) -> Result<(), Fail> {
     let mut outlet = outlet_of(alloc, AMPLE);
-    let _none = upgraded(alloc, &mut exchange, &mut outlet, "websocket")?;
-    let mut buf = [0u8; 8];
-    let n = exchange.read_body(&mut source, &mut buf)?;
-    assert_same(&rt, &buf[..n], b"xyz");
-    Ok(())
+    let Some(fault) = upgraded(alloc, exchange, &mut outlet, "w\u{e9}")? else {
+        return Err("the protocol is taken".into());
+    };
+    assert_same(rt, fault.as_str(), "the protocol's name is not ASCII");
+    assert_output(rt, alloc, outlet, &[])
 }
 
 #[test]
 fn a_protocol_that_is_not_ascii(rt: HostRuntime) -> Result<(), Fail> {
-    let alloc = rt.alloc();
-    let mut source = source_of(alloc, ASKS_TO_UPGRADE, None, 1024)?;
-    let mut exchange = request(&rt, alloc, &mut source, "/c")?;
+    let mut exchange = exchange_of(&rt, rt.alloc(), ASKS_TO_UPGRADE)?;
+    assert_refused(&rt, rt.alloc(), &mut exchange)?;
+    let text = exchange.text_of_drop();
+    let wanted = &[
+        "HTTP/1.1 500 Internal Server Error\r\n",
+        DATED,
+        "Content-Length: 0\r\n\r\n",
+    ];
+    assert_joined(&rt, rt.alloc(), &text, wanted)
+}
+
+// A request that is upgraded with these data doesn't end the outlet.
+fn assert_goes_on(
+    rt: &impl Abort,
+    alloc: Global,
+    exchange: &mut Exchange,
+    data: &mut Watched,
+) -> Result<(), Fail> {
+    let now = date()?;
     let mut outlet = outlet_of(alloc, AMPLE);
-    let Some(fault) = upgraded(alloc, &mut exchange, &mut outlet, "w\u{e9}")? else {
-        return Err("the protocol is taken".into());
-    };
-    assert_same(&rt, fault.as_str(), "the protocol's name is not ASCII");
-    assert_same(&rt, output_of(alloc, outlet)?.len(), 0);
-    let wanted = joined(
-        alloc,
-        &[
-            "HTTP/1.1 500 Internal Server Error\r\n",
-            DATED,
-            "Content-Length: 0\r\n\r\n",
-        ],
-    )?;
-    assert_same(&rt, exchange.text_of_drop().as_slice(), wanted.as_bytes());
+    exchange.upgrade_on(alloc, &mut outlet, "a", lent(alloc, data), now)?;
+    assert_same(rt, outlet.is_ended(), false);
     Ok(())
 }
 
 #[test]
 fn the_data_of_an_upgrade_are_left_unread(rt: HostRuntime) -> Result<(), Fail> {
-    let alloc = rt.alloc();
-    let mut source = source_of(alloc, ASKS_TO_UPGRADE, None, 1024)?;
-    let mut exchange = request(&rt, alloc, &mut source, "/c")?;
-    let mut outlet = outlet_of(alloc, AMPLE);
-    let mut data = Watched::new(alloc, b"hello", None)?;
-    exchange.upgrade_on(alloc, &mut outlet, "a", lent(alloc, &mut data), date()?)?;
-    assert_same(&rt, (data.reads, outlet.is_ended()), (0, false));
+    let mut data = Watched::new(rt.alloc(), b"hello", None)?;
+    let mut exchange = exchange_of(&rt, rt.alloc(), ASKS_TO_UPGRADE)?;
+    assert_goes_on(&rt, rt.alloc(), &mut exchange, &mut data)?;
+    assert_same(&rt, data.reads, 0);
+    Ok(())
+}
+
+// Nothing is reported of a writer that fails in an upgrade, or before it.
+fn assert_unreported(
+    rt: &impl Abort,
+    alloc: Global,
+    exchange: &mut Exchange,
+    outlet: &mut Outlet<Budget>,
+) -> Result<(), Fail> {
+    let fault = upgraded(alloc, exchange, outlet, "websocket")?;
+    assert_same(rt, (fault.is_none(), outlet.is_ended()), (true, true));
     Ok(())
 }
 
 #[test]
 fn a_writer_that_fails_in_an_upgrade(rt: HostRuntime) -> Result<(), Fail> {
-    let alloc = rt.alloc();
-    let mut source = source_of(alloc, ASKS_TO_UPGRADE, None, 1024)?;
-    let mut exchange = request(&rt, alloc, &mut source, "/c")?;
-    let mut outlet = outlet_of(alloc, 10);
-    let fault = upgraded(alloc, &mut exchange, &mut outlet, "websocket")?;
-    assert_same(&rt, (fault.is_none(), outlet.is_ended()), (true, true));
-    let fault = upgraded(alloc, &mut exchange, &mut outlet, "websocket")?;
-    assert_holds(&rt, "nothing is reported", fault.is_none());
-    assert_same(&rt, output_of(alloc, outlet)?.as_slice(), b"HTTP/1.1 1");
-    Ok(())
+    let mut exchange = exchange_of(&rt, rt.alloc(), ASKS_TO_UPGRADE)?;
+    let mut outlet = outlet_of(rt.alloc(), 10);
+    assert_unreported(&rt, rt.alloc(), &mut exchange, &mut outlet)?;
+    assert_unreported(&rt, rt.alloc(), &mut exchange, &mut outlet)?;
+    assert_output(&rt, rt.alloc(), outlet, &["HTTP/1.1 1"])
 }

@@ -1,12 +1,13 @@
 //! Versions above 1.1, which are refused.
-use crate::exchanges::{date, request, source_of};
+use crate::bodies::lettered;
+use crate::exchanges::{assert_ended, assert_last, date, source_of};
 use crate::runs::Deed::{Ask, Drop, IntoWriter, Text};
 use crate::runs::{
-    AMPLE, Case, EMPTY, Pieces, SIZES, TEXT, Trouble, assert_case, assert_troubled, joined,
+    Case, EMPTY, Pieces, Row, SIZES, TEXT, assert_case, assert_clients, assert_late_outputs,
+    assert_outputs, assert_rows, joined,
 };
-use crate::same::{assert_holds, assert_same};
-use std::alloc::Global;
-use std::io::ErrorKind;
+use crate::same::assert_same;
+use std::alloc::{AllocError, Global};
 use std::process::Abort;
 use std::test::Fail;
 use tiny_http_core::exchange::{HeadRead, read_head};
@@ -27,6 +28,18 @@ fn refusal(alloc: Global, client: &[u8], most: usize) -> Result<(u16, Vec<u8>), 
     }
 }
 
+// The first head is refused by this status and this text.
+fn assert_refusal(
+    rt: &impl Abort,
+    alloc: Global,
+    (client, most): (&[u8], usize),
+    wanted: (u16, &str),
+) -> Result<(), Fail> {
+    let (status, text) = refusal(alloc, client, most)?;
+    assert_same(rt, (status, str::from_utf8(&text)?), wanted);
+    Ok(())
+}
+
 // The first head is refused by 505, with these pieces.
 fn assert_too_new(
     rt: &impl Abort,
@@ -36,9 +49,7 @@ fn assert_too_new(
 ) -> Result<(), Fail> {
     let wanted = joined(alloc, pieces)?;
     for most in SIZES {
-        let (status, text) = refusal(alloc, client, most)?;
-        assert_same(rt, status, 505);
-        assert_same(rt, str::from_utf8(&text)?, wanted.as_str());
+        assert_refusal(rt, alloc, (client, most), (505, wanted.as_str()))?;
     }
     Ok(())
 }
@@ -84,29 +95,29 @@ const X: &str = "Content-Length: 1\r\n\r\nx";
 // It is not handed out. The same ask hands out what stands behind its body, under the next number.
 #[test]
 fn an_ask_goes_on_behind_a_version_above_1_1(rt: HostRuntime) -> Result<(), Fail> {
-    for (client, supported) in [
+    let rows: &[(&[u8], &[&str])] = &[
         (
-            b"GET / HTTP/2.0\r\n\r\nGET /b HTTP/1.1\r\n\r\n".as_slice(),
-            SUPPORTED,
+            b"GET / HTTP/2.0\r\n\r\nGET /b HTTP/1.1\r\n\r\n",
+            &[TOO_NEW, TEXT, LENGTH, SUPPORTED, ANSWERED, TEXT, X],
         ),
         (
-            b"HEAD / HTTP/2.0\r\n\r\nGET /b HTTP/1.1\r\n\r\n".as_slice(),
-            "",
+            b"HEAD / HTTP/2.0\r\n\r\nGET /b HTTP/1.1\r\n\r\n",
+            &[TOO_NEW, TEXT, LENGTH, "", ANSWERED, TEXT, X],
         ),
         (
-            b"POST / HTTP/3.0\r\nConnection: close\r\nContent-Length: 5\r\n\r\nhelloGET /b HTTP/1.1\r\n\r\n".as_slice(),
-            SUPPORTED,
+            b"POST / HTTP/3.0\r\nConnection: close\r\nContent-Length: 5\r\n\r\nhelloGET /b HTTP/1.1\r\n\r\n",
+            &[TOO_NEW, TEXT, LENGTH, SUPPORTED, ANSWERED, TEXT, X],
         ),
-    ] {
-        let case = Case {
-            client,
-            deeds: &[Ask, Text(0, "x"), IntoWriter(0), Drop(0), Text(1, "x"), Ask],
-            replies: "1: GET /b 1.1; no such; no such; no such; done; ended",
-            output: &[TOO_NEW, TEXT, LENGTH, supported, ANSWERED, TEXT, X],
-        };
-        assert_case(&rt, rt.alloc(), &case)?;
-    }
-    Ok(())
+    ];
+    assert_outputs(
+        &rt,
+        rt.alloc(),
+        (
+            &[Ask, Text(0, "x"), IntoWriter(0), Drop(0), Text(1, "x"), Ask],
+            "1: GET /b 1.1; no such; no such; no such; done; ended",
+        ),
+        rows,
+    )
 }
 
 // The worked row: 2000 bytes of a body are passed over.
@@ -126,19 +137,20 @@ fn an_ask_goes_on_behind_a_long_body(rt: HostRuntime) -> Result<(), Fail> {
 
 #[test]
 fn a_connection_ends_behind_an_upgrade_or_chunks(rt: HostRuntime) -> Result<(), Fail> {
-    for client in [
-        b"POST / HTTP/2.0\r\nConnection: upgrade\r\nContent-Length: 5\r\n\r\nhelloGET /b HTTP/1.1\r\n\r\n".as_slice(),
-        b"POST / HTTP/2.0\r\nTransfer-Encoding: chunked\r\n\r\n0\r\n\r\nGET /b HTTP/1.1\r\n\r\n".as_slice(),
-    ] {
-        let case = Case {
-            client,
-            deeds: &[Ask, Ask, Text(0, "x"), Text(1, "x")],
-            replies: "ended; ended; no such; no such",
-            output: &[TOO_NEW, TEXT, LENGTH, SUPPORTED],
-        };
-        assert_case(&rt, rt.alloc(), &case)?;
-    }
-    Ok(())
+    let clients: &[&[u8]] = &[
+        b"POST / HTTP/2.0\r\nConnection: upgrade\r\nContent-Length: 5\r\n\r\nhelloGET /b HTTP/1.1\r\n\r\n",
+        b"POST / HTTP/2.0\r\nTransfer-Encoding: chunked\r\n\r\n0\r\n\r\nGET /b HTTP/1.1\r\n\r\n",
+    ];
+    assert_clients(
+        &rt,
+        rt.alloc(),
+        clients,
+        (
+            &[Ask, Ask, Text(0, "x"), Text(1, "x")],
+            "ended; ended; no such; no such",
+            &[TOO_NEW, TEXT, LENGTH, SUPPORTED],
+        ),
+    )
 }
 
 // One ask passes as many heads as are refused by 505.
@@ -173,48 +185,30 @@ fn an_ask_passes_several_heads(rt: HostRuntime) -> Result<(), Fail> {
 // Behind the 505 a time-out in front of a head is answered, and one within the body isn't.
 #[test]
 fn a_time_out_behind_a_505(rt: HostRuntime) -> Result<(), Fail> {
-    for (client, output) in [
+    let rows: &[(&[u8], &[&str])] = &[
         (
-            b"GET / HTTP/2.0\r\n\r\n".as_slice(),
-            [
+            b"GET / HTTP/2.0\r\n\r\n",
+            &[
                 TOO_NEW,
                 TEXT,
                 LENGTH,
                 SUPPORTED,
                 "HTTP/1.1 408 Request Timeout\r\n",
                 EMPTY,
-            ]
-            .as_slice(),
+            ],
         ),
         (
-            b"POST / HTTP/2.0\r\nContent-Length: 2000\r\n\r\nxy".as_slice(),
+            b"POST / HTTP/2.0\r\nContent-Length: 2000\r\n\r\nxy",
             &[TOO_NEW, TEXT, LENGTH, SUPPORTED],
         ),
-    ] {
-        let case = Case {
-            client,
-            deeds: &[Ask, Ask],
-            replies: "ended; ended",
-            output,
-        };
-        let trouble = Trouble {
-            reader: Some(ErrorKind::TimedOut),
-            room: AMPLE,
-            writer: ErrorKind::Other,
-        };
-        assert_troubled(&rt, rt.alloc(), &case, trouble)?;
-    }
-    Ok(())
+    ];
+    assert_late_outputs(&rt, rt.alloc(), (&[Ask, Ask], "ended; ended"), rows)
 }
 
 #[test]
 fn the_505_waits_for_its_turn(rt: HostRuntime) -> Result<(), Fail> {
-    for (deeds, replies, output) in [
-        (
-            [Ask, Ask, Ask].as_slice(),
-            "0: GET / 1.1; 2: GET /b 1.1; ended",
-            [].as_slice(),
-        ),
+    let rows: &[Row<'_>] = &[
+        (&[Ask, Ask, Ask], "0: GET / 1.1; 2: GET /b 1.1; ended", &[]),
         (
             &[Ask, Ask, Text(2, "x"), Drop(0), Text(2, "x")],
             "0: GET / 1.1; 2: GET /b 1.1; not yet; done; done",
@@ -230,16 +224,13 @@ fn the_505_waits_for_its_turn(rt: HostRuntime) -> Result<(), Fail> {
                 X,
             ],
         ),
-    ] {
-        let case = Case {
-            client: b"GET / HTTP/1.1\r\n\r\nGET / HTTP/2.0\r\n\r\nGET /b HTTP/1.1\r\n\r\n",
-            deeds,
-            replies,
-            output,
-        };
-        assert_case(&rt, rt.alloc(), &case)?;
-    }
-    Ok(())
+    ];
+    assert_rows(
+        &rt,
+        rt.alloc(),
+        b"GET / HTTP/1.1\r\n\r\nGET / HTTP/2.0\r\n\r\nGET /b HTTP/1.1\r\n\r\n",
+        rows,
+    )
 }
 
 // Refuses the next head, and says whether no head follows.
@@ -250,18 +241,33 @@ fn is_last(alloc: Global, source: &mut Source<Pieces>) -> Result<bool, Fail> {
     }
 }
 
-// Whether the requests have ended.
-fn is_ended(alloc: Global, source: &mut Source<Pieces>) -> Result<bool, Fail> {
-    let read = read_head(alloc, source, date()?)?;
-    Ok(matches!(read, HeadRead::Ended(_)))
+// The next head is refused, and is the last or not.
+fn assert_refused(
+    rt: &impl Abort,
+    alloc: Global,
+    source: &mut Source<Pieces>,
+    wanted: bool,
+) -> Result<(), Fail> {
+    let found = is_last(alloc, source)?;
+    assert_same(rt, found, wanted);
+    Ok(())
+}
+
+// The head of this client is refused, is known as the last or not, and no head follows.
+fn assert_ends_behind(
+    rt: &impl Abort,
+    alloc: Global,
+    client: &[u8],
+    is_last: bool,
+) -> Result<(), Fail> {
+    let mut source = source_of(alloc, client, None, 1024)?;
+    assert_refused(rt, alloc, &mut source, is_last)?;
+    assert_ended(rt, alloc, &mut source)
 }
 
 // So many bytes stand behind this head, and then a request.
-fn client_of(alloc: Global, head: &str, count: usize) -> Result<Vec<u8>, Fail> {
-    let mut client = head.as_bytes().to_vec(alloc)?;
-    for _ in 0..count {
-        client.push(b'x')?;
-    }
+fn client_of(alloc: Global, head: &str, count: usize) -> Result<Vec<u8>, AllocError> {
+    let mut client = lettered(alloc, head, count)?;
     client.extend_from_slice(b"GET /b HTTP/1.1\r\n\r\n")?;
     Ok(client)
 }
@@ -276,10 +282,8 @@ fn assert_goes_on(
 ) -> Result<(), Fail> {
     let client = client_of(alloc, head, count)?;
     let mut source = source_of(alloc, client.as_slice(), None, most)?;
-    assert_holds(rt, "a head follows", !is_last(alloc, &mut source)?);
-    let _behind = request(rt, alloc, &mut source, "/b")?;
-    assert_holds(rt, "no head follows", is_ended(alloc, &mut source)?);
-    Ok(())
+    assert_refused(rt, alloc, &mut source, false)?;
+    assert_last(rt, alloc, &mut source)
 }
 
 const GOES_ON: &[(&str, usize)] = &[
@@ -308,24 +312,17 @@ fn the_next_head_stands_behind_the_body(rt: HostRuntime) -> Result<(), Fail> {
 
 #[test]
 fn no_head_stands_behind_an_upgrade_or_chunks(rt: HostRuntime) -> Result<(), Fail> {
-    let alloc = rt.alloc();
     for client in [
         b"GET / HTTP/2.0\r\nConnection: upgrade\r\n\r\nGET /b HTTP/1.1\r\n\r\n".as_slice(),
         b"POST / HTTP/2.0\r\nTransfer-Encoding: chunked\r\n\r\n0\r\n\r\nGET /b HTTP/1.1\r\n\r\n".as_slice(),
     ] {
-        let mut source = source_of(alloc, client, None, 1024)?;
-        assert_holds(&rt, "it is the last", is_last(alloc, &mut source)?);
-        assert_holds(&rt, "no head follows", is_ended(alloc, &mut source)?);
+        assert_ends_behind(&rt, rt.alloc(), client, true)?;
     }
     Ok(())
 }
 
 #[test]
 fn the_body_of_a_refused_head_is_cut(rt: HostRuntime) -> Result<(), Fail> {
-    let alloc = rt.alloc();
-    let client = b"POST / HTTP/2.0\r\nContent-Length: 2000\r\n\r\nxy".as_slice();
-    let mut source = source_of(alloc, client, None, 1024)?;
-    assert_holds(&rt, "a head may follow", !is_last(alloc, &mut source)?);
-    assert_holds(&rt, "no head follows", is_ended(alloc, &mut source)?);
-    Ok(())
+    let client = b"POST / HTTP/2.0\r\nContent-Length: 2000\r\n\r\nxy";
+    assert_ends_behind(&rt, rt.alloc(), client, false)
 }

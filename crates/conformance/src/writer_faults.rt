@@ -3,8 +3,8 @@ use crate::exchanges::date;
 use crate::relay::{NEVER, RelayRun, run_relayed};
 use crate::runs::Deed::{Ask, Data, Drop, Finish, Flush, IntoWriter, Text, Write};
 use crate::runs::{
-    AMPLE, Case, DATED, Deed, EMPTY, TEXT, assert_case, assert_troubled, describe, joined,
-    output_of, takes,
+    AMPLE, Case, DATED, Deed, EMPTY, TEXT, assert_case, assert_cut_outputs, assert_output,
+    assert_troubled, describe, joined, takes,
 };
 use crate::same::{assert_holds, assert_same};
 use crate::writers::{A, ERROR, FOUR, OK, ONE, THREE, TWO};
@@ -153,6 +153,20 @@ fn assert_reported(
     assert_troubled(rt, alloc, &case, takes(room, kind))
 }
 
+// The fifth step reports each kind of fault: the writer takes nothing, or one byte, which is this text.
+fn assert_each_reported(
+    rt: &impl Abort,
+    alloc: Global,
+    deeds: &[Deed<'_>],
+    first: &str,
+) -> Result<(), Fail> {
+    for kind in KINDS {
+        assert_reported(rt, alloc, (0, kind), deeds, "")?;
+        assert_reported(rt, alloc, (1, kind), deeds, first)?;
+    }
+    Ok(())
+}
+
 // Also where the client has gone, of which an answer reports nothing.
 #[test]
 fn a_write_reports_the_fault_that_it_meets(rt: HostRuntime) -> Result<(), Fail> {
@@ -168,11 +182,7 @@ fn a_write_reports_the_fault_that_it_meets(rt: HostRuntime) -> Result<(), Fail> 
         Finish(0),
         Text(1, "x"),
     ];
-    for kind in KINDS {
-        assert_reported(&rt, rt.alloc(), (0, kind), &deeds, "")?;
-        assert_reported(&rt, rt.alloc(), (1, kind), &deeds, "<")?;
-    }
-    Ok(())
+    assert_each_reported(&rt, rt.alloc(), &deeds, "<")
 }
 
 #[test]
@@ -188,37 +198,30 @@ fn a_flush_reports_the_fault_that_it_meets(rt: HostRuntime) -> Result<(), Fail> 
         Finish(0),
         Text(1, "x"),
     ];
-    for kind in KINDS {
-        assert_reported(&rt, rt.alloc(), (0, kind), &deeds, "")?;
-        assert_reported(&rt, rt.alloc(), (1, kind), &deeds, "a")?;
-    }
-    Ok(())
+    assert_each_reported(&rt, rt.alloc(), &deeds, "a")
 }
 
 // Nor of a fault in a text that waited behind it.
 #[test]
 fn no_reply_reports_a_fault_in_a_finish(rt: HostRuntime) -> Result<(), Fail> {
-    for (room, output) in [(1, "a"), (12, "abHTTP/1.1 5")] {
-        let case = Case {
-            client: THREE,
-            deeds: &[
-                Ask,
-                Ask,
-                Ask,
-                IntoWriter(0),
-                Drop(1),
-                Write(0, "ab"),
-                Finish(0),
-                IntoWriter(2),
-                Write(2, "c"),
-                Flush(2),
-            ],
-            replies: "0: GET / 1.1; 1: GET / 1.1; 2: GET / 1.1; done; done; done; done; done; done; done",
-            output: &[output],
-        };
-        assert_troubled(&rt, rt.alloc(), &case, takes(room, ErrorKind::Other))?;
-    }
-    Ok(())
+    let case = Case {
+        client: THREE,
+        deeds: &[
+            Ask,
+            Ask,
+            Ask,
+            IntoWriter(0),
+            Drop(1),
+            Write(0, "ab"),
+            Finish(0),
+            IntoWriter(2),
+            Write(2, "c"),
+            Flush(2),
+        ],
+        replies: "0: GET / 1.1; 1: GET / 1.1; 2: GET / 1.1; done; done; done; done; done; done; done",
+        output: &[],
+    };
+    assert_cut_outputs(&rt, rt.alloc(), &case, &[(1, "a"), (12, "abHTTP/1.1 5")])
 }
 
 #[test]
@@ -380,6 +383,23 @@ fn faults_of(
     Ok(places)
 }
 
+// Faults of this kind are met in those steps of the row, and in no other.
+fn assert_meeting(
+    rt: &impl Abort,
+    alloc: Global,
+    row: &[(Deed<'_>, &str)],
+    kind: ErrorKind,
+    whole: &[u8],
+) -> Result<(), Fail> {
+    let places = faults_of(rt, alloc, row, kind, whole)?;
+    for place in MEETING {
+        assert_holds(rt, "the step meets the fault", places.contains(&place));
+    }
+    let is_met = places.iter().all(|place| MEETING.contains(place));
+    assert_holds(rt, "no other step does", is_met);
+    Ok(())
+}
+
 #[test]
 fn each_call_of_the_writer_fails(rt: HostRuntime) -> Result<(), Fail> {
     let alloc = rt.alloc();
@@ -389,27 +409,19 @@ fn each_call_of_the_writer_fails(rt: HostRuntime) -> Result<(), Fail> {
     let whole = whole.as_str().as_bytes();
     let none = run_front(alloc, &row, row.len(), NEVER)?;
     assert_same(&rt, none.relay.sent_on(), whole);
-    for kind in [ErrorKind::Other, ErrorKind::BrokenPipe] {
-        let places = faults_of(&rt, alloc, &row, kind, whole)?;
-        for place in MEETING {
-            assert_holds(&rt, "the step meets the fault", places.contains(&place));
-        }
-        assert_holds(
-            &rt,
-            "no other step does",
-            places.iter().all(|place| MEETING.contains(place)),
-        );
-    }
-    Ok(())
+    assert_meeting(&rt, alloc, &row, ErrorKind::Other, whole)?;
+    assert_meeting(&rt, alloc, &row, ErrorKind::BrokenPipe, whole)
 }
 
-// The same steps by the calls that they name.
-#[test]
-fn the_calls_of_a_connection(rt: HostRuntime) -> Result<(), Fail> {
-    let (alloc, now) = (rt.alloc(), date()?);
-    let reader = Canned::new(TWO.to_vec(alloc)?, None);
+fn connection_of(alloc: Global, client: &[u8]) -> Result<Connection<Canned, Budget>, Fail> {
+    let reader = Canned::new(client.to_vec(alloc)?, None);
     let writer = Budget::new(alloc, AMPLE, ErrorKind::Other);
-    let mut connection = Connection::new(alloc, reader, writer);
+    Ok(Connection::new(alloc, reader, writer))
+}
+
+// What the calls are replied that the steps name.
+fn call_each(alloc: Global, connection: &mut Connection<Canned, Budget>) -> Result<String, Fail> {
+    let now = date()?;
     let replies = [
         connection.ask(alloc, now),
         connection.ask(alloc, now),
@@ -424,23 +436,27 @@ fn the_calls_of_a_connection(rt: HostRuntime) -> Result<(), Fail> {
         connection.write(1, b"b"),
         connection.finish(alloc, 1),
     ];
-    let replies = describe(alloc, &replies)?;
+    Ok(describe(alloc, &replies)?)
+}
+
+// The same steps by the calls that they name.
+#[test]
+fn the_calls_of_a_connection(rt: HostRuntime) -> Result<(), Fail> {
+    let mut connection = connection_of(rt.alloc(), TWO)?;
+    let replies = call_each(rt.alloc(), &mut connection)?;
     assert_same(
         &rt,
         replies.as_str(),
         "0: GET / 1.1; 1: GET / 1.1; done; not yet; not yet; done; done; done; done; no such; done; done",
     );
     let (_source, outlet) = connection.into_parts();
-    assert_same(&rt, output_of(alloc, outlet)?.as_slice(), b"ab");
-    Ok(())
+    assert_output(&rt, rt.alloc(), outlet, &["ab"])
 }
 
 #[test]
 fn a_request_with_a_raw_writer_waits_for_no_answer(rt: HostRuntime) -> Result<(), Fail> {
     let (alloc, now) = (rt.alloc(), date()?);
-    let reader = Canned::new(ONE.to_vec(alloc)?, None);
-    let writer = Budget::new(alloc, AMPLE, ErrorKind::Other);
-    let mut connection = Connection::new(alloc, reader, writer);
+    let mut connection = connection_of(alloc, ONE)?;
     drop(connection.ask(alloc, now));
     assert_holds(&rt, "it waits for its answer", connection.is_open(0));
     drop(connection.into_writer(0));

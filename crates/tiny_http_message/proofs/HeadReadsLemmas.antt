@@ -1,5 +1,5 @@
 -- From lines read to heads read.
-use Rattle.std.proofs.Common.{◌≡◌, refl, sym, ap, ◌∙◌, subst, ℕ, List, [], ◌∷◌, ◌++◌, length, Option, Some, None, Ok, Err, inl, inr, arith}
+use Rattle.std.proofs.Common.{◌≡◌, refl, sym, ap, ◌∙◌, subst, ℕ, List, [], ◌∷◌, ◌++◌, length, Option, Some, None, Result, Ok, Err, inl, inr, arith}
 use Rattle.tiny_http_wire.specs.declared.common.Header.{Header}
 use Rattle.tiny_http_wire.specs.Device.{Feed}
 use Rattle.tiny_http_wire.specs.Bytes.{AreAscii}
@@ -15,8 +15,8 @@ use Rattle.tiny_http_stream.specs.declared.source.LineFault.{LineFault}
 use Rattle.tiny_http_stream.specs.declared.source.LineFault.TheVariants as linefault
 use Rattle.tiny_http_message.specs.declared.heads.HeadFault.{HeadFault}
 use Rattle.tiny_http_message.specs.declared.heads.HeadFault.TheVariants as fault
-use Rattle.tiny_http_stream.specs.Source.{ReadsLine, feed_from}
-use Rattle.tiny_http_message.specs.HeadReads.{ReadsText, ReadsStart, HasReadFields, ReadsField, ReadsFields, ReadsMessage, IsFaulty, IsFaultyHead, head_fault}
+use Rattle.tiny_http_stream.specs.Source.{ReadsLine, TakesLine, feed_from}
+use Rattle.tiny_http_message.specs.HeadReads.{StartIn, FieldIn, ReadsText, ReadsStart, HasReadFields, ReadsField, ReadsFields, ReadsMessage, IsFaulty, IsFaultyHead, head_fault}
 
 pub text-read : (o p : Option Feed) (text : List ℕ) → ReadsLine o p (Ok text) → ReadsText o p (Ok text)
 text-read None p text h = tt
@@ -75,6 +75,48 @@ head_reads-field-malformed (Some f) p text h n e = (text, h.0, h.1, h.2, no-fiel
     no-field : IsFieldOrEnd text → ⊥
     no-field (inl empty) = n (ap length empty)
     no-field (inr k) = none-some (e ∙ header-line-one text k.0 k.1 k.2)
+
+-- a line that was taken off, and what its text is read as
+text-taken : (o p : Option Feed) (text : List ℕ) → TakesLine o p text → AreAscii text → ReadsText o p (Ok text)
+text-taken None p text h k = tt
+text-taken (Some f) p text h k = (h.0, h.1, k, h.2)
+
+not-text-taken : (o p : Option Feed) (text : List ℕ) → TakesLine o p text → (AreAscii text → ⊥) → ReadsText o p (Err fault.NotAscii)
+not-text-taken None p text h k = tt
+not-text-taken (Some f) p text h k = (text, h.0, h.1, k)
+
+pub start-taken : (o p : Option Feed) (text : List ℕ) (r : Result (Method × List ℕ × HTTPVersion) HeadFault) → TakesLine o p text → StartIn text r → ReadsStart o p r
+start-taken o p text (Ok r) h k = start-read o p text r (text-taken o p text h k.0) (sym k.1)
+start-taken o p text (Err fault.NotAscii) h k = start-err o p fault.NotAscii (not-text-taken o p text h k)
+start-taken o p text (Err fault.Malformed) h k = start-malformed o p text (text-taken o p text h k.0) (sym k.1)
+start-taken o p text (Err fault.Cut) h k = absurd k
+start-taken o p text (Err fault.Memory) h k = start-err o p fault.Memory (memory-read o p)
+  where
+    memory-read : (o p : Option Feed) → ReadsText o p (Err fault.Memory)
+    memory-read None p = tt
+    memory-read (Some f) p = tt
+
+pub field-taken : (o p : Option Feed) (text : List ℕ) (r : Result (Option Header) HeadFault) → TakesLine o p text → FieldIn text r → ReadsField o p r
+field-taken o p text (Ok None) h k =
+    let P : List ℕ → Type 0 = λ t. TakesLine o p t in
+    nothing-taken o p (subst P k h)
+  where
+    nothing-taken : (o p : Option Feed) → TakesLine o p [] → ReadsField o p (Ok None)
+    nothing-taken None p h = tt
+    nothing-taken (Some f) p h = h
+field-taken o p text (Ok (Some x)) h k = field-read o p text x (text-taken o p text h k.0) (sym k.1)
+field-taken o p text (Err fault.NotAscii) h k = field-err o p fault.NotAscii (not-text-taken o p text h k)
+field-taken o p text (Err fault.Malformed) h k = head_reads-field-malformed o p text (text-taken o p text h k.0) (λ e. k.1 (no-text text e)) (sym k.2)
+  where
+    no-text : (t : List ℕ) → length t ≡ 0 → t ≡ []
+    no-text [] e = refl
+    no-text (b ∷ bs) e = absurd (omega (arith, e))
+field-taken o p text (Err fault.Cut) h k = absurd k
+field-taken o p text (Err fault.Memory) h k = field-err o p fault.Memory (memory-read o p)
+  where
+    memory-read : (o p : Option Feed) → ReadsText o p (Err fault.Memory)
+    memory-read None p = tt
+    memory-read (Some f) p = tt
 
 Fields-push : (bytes : List ℕ) (hs : List Header) (mid text next : List ℕ) (h : Header) → BeginsWithHeaderLines bytes hs mid → Line mid text next → AreAscii text → HeaderLine text h.field h.value → BeginsWithHeaderLines bytes (hs ++ h ∷ []) next
 Fields-push bytes [] mid text next h here l a k =

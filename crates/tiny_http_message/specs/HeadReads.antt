@@ -10,6 +10,7 @@ use Rattle.tiny_http_wire.specs.declared.device.Stop.TheVariants.{End, Fault}
 use Rattle.tiny_http_wire.specs.Device.{Feed, whole_feed}
 use Rattle.tiny_http_wire.specs.Bytes.{AreAscii}
 use Rattle.tiny_http_wire.specs.Lines.{Line, IsUnfinished}
+use Rattle.tiny_http_wire.specs.HeadReading as reading
 use Rattle.tiny_http_wire.specs.Heads.{Message as Texted, BeginsWithRequestLine, BeginsWithHeaderLines, HeaderLine, FaultyLine, FaultyHead, BeginsWithRequestHead, IsRequestLine, IsFieldOrEnd, Cut, NotAscii, Malformed, version}
 use Rattle.tiny_http_message.specs.declared.heads.Message.{Message}
 use Rattle.tiny_http_message.specs.declared.framing.Framing.{Framing}
@@ -28,7 +29,8 @@ use Rattle.tiny_http_message.specs.declared.heads.HeadFault.{HeadFault}
 use Rattle.tiny_http_message.specs.declared.heads.HeadFault.TheVariants as fault
 use Rattle.tiny_http_message.specs.declared.body.Body.{Body}
 use Rattle.tiny_http_message.specs.Framing.{framing}
-use Rattle.tiny_http_stream.specs.Source.{SourceState, feed_from, IsAtEnd}
+use Rattle.tiny_http_stream.specs.declared.source.FirstLine.{FirstLine}
+use Rattle.tiny_http_stream.specs.Source.{SourceState, feed_from, FindsLine, IsAtEnd}
 use Rattle.tiny_http_message.specs.Pipeline.{Request, Asks, Refuses, Refusal, VersionNotSupported, refusal_status, is_timed_out, Place, IsCutWithHead, BodyAt, OneHead, body_length_or_0, place_after}
 use Rattle.tiny_http_message.specs.OwnAnswer.{own_text, refusal_response, refused_text}
 use Rattle.tiny_http_message.specs.Body.{Remaining, remaining, Fits}
@@ -55,6 +57,28 @@ ReadsText (Some f) new (Err fault.Cut) = IsUnfinished f.bytes
 ReadsText (Some f) new (Err fault.NotAscii) = (text : List ℕ) × (rest : List ℕ) × Line f.bytes text rest × (AreAscii text → ⊥)
 ReadsText (Some f) new (Err fault.Malformed) = ⊥
 ReadsText (Some f) new (Err fault.Memory) = ⊤
+
+-- what a text is read as: a request line
+abbrev pub StartIn : List ℕ → Result (Method × List ℕ × HTTPVersion) HeadFault → Type 0
+StartIn text (Ok r) = AreAscii text × (reading.request_line text ≡ Some r)
+StartIn text (Err fault.NotAscii) = AreAscii text → ⊥
+StartIn text (Err fault.Malformed) = AreAscii text × (reading.request_line text ≡ None)
+StartIn text (Err fault.Cut) = ⊥
+StartIn text (Err fault.Memory) = ⊤
+
+-- what a text is read as: a header line, or the empty line
+abbrev pub FieldIn : List ℕ → Result (Option Header) HeadFault → Type 0
+FieldIn text (Ok None) = text ≡ []
+FieldIn text (Ok (Some h)) = AreAscii text × (reading.header_line text ≡ Some h)
+FieldIn text (Err fault.NotAscii) = AreAscii text → ⊥
+FieldIn text (Err fault.Malformed) = AreAscii text × (text ≢ []) × (reading.header_line text ≡ None)
+FieldIn text (Err fault.Cut) = ⊥
+FieldIn text (Err fault.Memory) = ⊤
+
+-- where the next line of a head is found, or why there is none
+abbrev pub FindsText : Option Feed → Option Feed → List ℕ → ℕ → Result FirstLine HeadFault → Type 0
+FindsText old new held skip (Ok line) = FindsLine old new held skip (Ok line)
+FindsText old new held skip (Err e) = ReadsText old new (Err e) × (IsBadLine e → ⊥)
 
 -- a line that has to be good, and is not
 abbrev pub IsFaulty : (List ℕ → Type 0) → List ℕ → HeadFault → Type 0

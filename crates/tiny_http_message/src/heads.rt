@@ -1,10 +1,11 @@
 //! The lines of a head.
 ghost use Rattle.std.specs.Prelude.{◌≡◌, None, Err, OnOk, IfErr};
 ghost use Rattle.tiny_http_stream.specs.Source.{GoesOn, IsAtEnd};
-ghost use Rattle.tiny_http_message.specs.HeadReads.{IsBadLine, ReadsText, ReadsStart, ReadsField, ReadsFields, ReadsMessage, IsCutOff, head_fault};
+ghost use Rattle.tiny_http_message.specs.HeadReads.{IsBadLine, StartIn, FieldIn, FindsText, ReadsStart, ReadsField, ReadsFields, ReadsMessage, IsCutOff, head_fault};
 
 use std::alloc::Global;
-use tiny_http_stream::source::{LineFault, Source};
+use tiny_http_stream::source::{FirstLine, LineFault, Source};
+use tiny_http_text::bytes::are_ascii;
 use tiny_http_wire::ascii::AsciiString;
 use tiny_http_wire::common::{HTTPVersion, Header, Method};
 use tiny_http_wire::device::ReadDevice;
@@ -38,22 +39,35 @@ fn head_fault(fault: LineFault) -> HeadFault
     }
 }
 
-// The next line.
-fn read_text_line<R: ReadDevice>(
+// The next line: held by the source, or taken off.
+fn find_text_line<R: ReadDevice>(
     alloc: Global,
     source: &mut Source<R>,
-) -> Result<AsciiString, HeadFault>
-    ensures reads { ReadsText source.old.feed source.new.feed result }
+) -> Result<FirstLine, HeadFault>
+    ensures finds { FindsText source.old.feed source.new.feed source.new.held source.new.skip result }
     ensures goes_on { GoesOn source.old.feed source.new.feed }
     ensures cut { result ≡ Err HeadFault.Cut → IsCutOff source.old source.new }
     ensures lazy { OnOk result (source.new.stop ≡ source.old.stop) }
-    ensures passed { IfErr result (λ fault. IsBadLine fault → source.new.stop ≡ source.old.stop) }
     ensures standing { source.new.standing ≡ source.old.standing }
     ensures at_end { IsAtEnd source.old → (result ≡ Err HeadFault.Cut) × (source.new ≡ source.old) }
 {
-    match source.read_line(alloc) {
-        Ok(text) => Ok(text),
+    match source.find_line(alloc) {
+        Ok(line) => Ok(line),
         Err(fault) => Err(head_fault(fault)),
+    }
+}
+
+// The request line that this text is.
+fn start_in(alloc: Global, text: &[u8]) -> Result<(Method, AsciiString, HTTPVersion), HeadFault>
+    ensures { StartIn text.now result }
+{
+    if !are_ascii(text) {
+        return Err(HeadFault::NotAscii);
+    }
+    match parse_request_line(alloc, text) {
+        Ok(Some(start)) => Ok(start),
+        Ok(None) => Err(HeadFault::Malformed),
+        Err(_) => Err(HeadFault::Memory),
     }
 }
 
@@ -70,9 +84,28 @@ fn read_start<R: ReadDevice>(
     ensures standing { source.new.standing ≡ source.old.standing }
     ensures at_end { IsAtEnd source.old → (result ≡ Err HeadFault.Cut) × (source.new ≡ source.old) }
 {
-    let text = read_text_line(alloc, source)?;
-    match parse_request_line(alloc, text.as_str().as_bytes()) {
-        Ok(Some(start)) => Ok(start),
+    match find_text_line(alloc, source)? {
+        FirstLine::Taken(text) => start_in(alloc, text.as_slice()),
+        FirstLine::Held(n) => {
+            let start = start_in(alloc, &source.held()[..n]);
+            source.pass_line(n);
+            start
+        }
+    }
+}
+
+// The header that this text is, or None where it is empty.
+fn field_in(alloc: Global, text: &[u8]) -> Result<Option<Header>, HeadFault>
+    ensures { FieldIn text.now result }
+{
+    if text.is_empty() {
+        return Ok(None);
+    }
+    if !are_ascii(text) {
+        return Err(HeadFault::NotAscii);
+    }
+    match parse_header_line(alloc, text) {
+        Ok(Some(header)) => Ok(Some(header)),
         Ok(None) => Err(HeadFault::Malformed),
         Err(_) => Err(HeadFault::Memory),
     }
@@ -90,14 +123,13 @@ fn read_field<R: ReadDevice>(
     ensures passed { IfErr result (λ fault. IsBadLine fault → source.new.stop ≡ source.old.stop) }
     ensures standing { source.new.standing ≡ source.old.standing }
 {
-    let text = read_text_line(alloc, source)?;
-    if text.is_empty() {
-        return Ok(None);
-    }
-    match parse_header_line(alloc, text.as_str().as_bytes()) {
-        Ok(Some(header)) => Ok(Some(header)),
-        Ok(None) => Err(HeadFault::Malformed),
-        Err(_) => Err(HeadFault::Memory),
+    match find_text_line(alloc, source)? {
+        FirstLine::Taken(text) => field_in(alloc, text.as_slice()),
+        FirstLine::Held(n) => {
+            let field = field_in(alloc, &source.held()[..n]);
+            source.pass_line(n);
+            field
+        }
     }
 }
 

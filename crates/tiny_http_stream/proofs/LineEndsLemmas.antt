@@ -1,7 +1,5 @@
 -- Lemmas on how far a line has been read.
-use Rattle.std.proofs.Common.{◌≡◌, ◌≢◌, ℕ, Bool, true, false, cond, ◌&&◌, List, [], ◌∷◌, ◌++◌, refl, ap, ◌∙◌, arith, append_assoc}
-use Rattle.std.specs.Prelude.{◌==◌}
-use Rattle.std.proofs.lemmas.Bool.{ne_eqb}
+use Rattle.std.proofs.Common.{◌≡◌, ◌≢◌, ℕ, Bool, true, false, List, [], ◌∷◌, ◌++◌, refl, ap, ◌∙◌, arith, append_assoc}
 use Rattle.tiny_http_text.specs.Lines.{Line, has_crlf}
 use Rattle.tiny_http_text.proofs.LinesLemmas.{line-plain, line-return, clear-front}
 use Rattle.tiny_http_stream.specs.LineEnds.{held_return, BeginsNoLineEnd}

@@ -1,11 +1,13 @@
 -- What was read stood at the front of what was to come.
+use Rattle.tiny_http_stream.specs.declared.source.FirstLine.{FirstLine}
+use Rattle.tiny_http_stream.specs.declared.source.FirstLine.TheVariants.{Held, Taken}
 use Rattle.std.proofs.Common.{◌≡◌, refl, sym, ap, ◌∙◌, subst, ℕ, List, [], ◌++◌, Option, None, Some, Result, Ok, Err, append_assoc, append-nil}
 use Rattle.tiny_http_device.specs.Device.{Feed, prepended}
 use Rattle.tiny_http_text.specs.Bytes.{crlf}
 use Rattle.tiny_http_stream.specs.declared.source.LineFault.{LineFault}
 use Rattle.tiny_http_stream.specs.declared.source.LineFault.TheVariants as fault
 use Rattle.tiny_http_text.specs.Lines.{Line}
-use Rattle.tiny_http_stream.specs.Source.{ReadsLine, GoesOn}
+use Rattle.tiny_http_stream.specs.Source.{ReadsLine, TakesLine, FindsLine, GoesOn}
 
 pub goes-on_same : (o : Option Feed) → GoesOn o o
 goes-on_same None = tt
@@ -41,3 +43,12 @@ reads-goes_on (Some f) new (Err fault.Memory) h = at-end f new _ refl h
 reads-goes_on (Some f) new (Err fault.End) h = at-end f new _ refl h.2
 reads-goes_on (Some f) new (Err fault.TimedOut) h = at-end f new _ refl h.2
 reads-goes_on (Some f) new (Err (fault.Broken kind)) h = at-end f new _ refl h.2
+
+pub takes-goes_on : (old new : Option Feed) (text : List ℕ) → TakesLine old new text → GoesOn old new
+takes-goes_on None new text h = tt
+takes-goes_on (Some f) new text h = past-line f new text h.0 h.1 h.2
+
+pub finds-goes_on : (old new : Option Feed) (held : List ℕ) (skip : ℕ) (r : Result FirstLine LineFault) → FindsLine old new held skip r → GoesOn old new
+finds-goes_on old new held skip (Ok (Taken text)) h = takes-goes_on old new text.items h
+finds-goes_on old new held skip (Ok (Held n)) h = let P : Option Feed → Type 0 = λ x. GoesOn old x in subst P (sym h.0) (goes-on_same old)
+finds-goes_on old new held skip (Err fault) h = reads-goes_on old new (Err fault) h.0

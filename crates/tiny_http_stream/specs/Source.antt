@@ -1,5 +1,5 @@
 -- What a `Source` still gives, and what its calls make of it.
-use Rattle.std.specs.Prelude.{ℕ, ◌≡◌, ◌<◌, ◌++◌, length, drop, Bool, true, List, ⊤, Option, None, Some, Result, Ok, Err, IsSome, IfOk, IfErr, IfSome}
+use Rattle.std.specs.Prelude.{ℕ, ◌≡◌, ◌≢◌, ◌<◌, ◌++◌, length, drop, Bool, true, List, ⊤, Option, None, Some, Result, Ok, Err, IsSome, IfOk, IfErr, IfSome}
 use Rattle.std.specs.IoError.{error_kind}
 use Rattle.std.specs.declared.io.Error.{Error}
 use Rattle.std.specs.Str.{IsAscii, IsNotAscii}
@@ -9,6 +9,9 @@ use Rattle.tiny_http_device.specs.declared.device.Stop.{Stop}
 use Rattle.tiny_http_device.specs.declared.device.Stop.TheVariants.{End, Fault}
 use Rattle.tiny_http_text.specs.Lines.{Line, IsUnfinished, has_crlf}
 use Rattle.tiny_http_stream.specs.ToCome.{stopped}
+use Rattle.tiny_http_stream.specs.LineEnds.{EndsLine}
+use Rattle.tiny_http_stream.specs.declared.source.FirstLine.{FirstLine}
+use Rattle.tiny_http_stream.specs.declared.source.FirstLine.TheVariants.{Held, Taken}
 use Rattle.tiny_http_stream.specs.declared.source.Standing.{Standing}
 use Rattle.tiny_http_stream.specs.declared.source.LineFault.{LineFault}
 use Rattle.tiny_http_stream.specs.declared.source.LineFault.TheVariants.{NotAscii, Broken, Memory, End as EndOfLines, TimedOut as LineTimedOut}
@@ -48,6 +51,17 @@ ReadsLine (Some old) new (Err NotAscii) =
     (text : List ℕ) × (rest : List ℕ) × Line old.bytes text rest × IsNotAscii text × (new ≡ Some (record { bytes = rest; stop = old.stop }))
 ReadsLine (Some old) new (Err Memory) = new ≡ Some (stopped End)
 ReadsLine (Some old) new (Err fault) = IsUnfinished old.bytes × (fault ≡ line_fault_of old.stop) × (new ≡ Some (stopped old.stop))
+
+-- What taking a line off makes of the feed, whatever bytes it has: it stood at the front, with its CR LF.
+abbrev pub TakesLine : Option Feed → Option Feed → List ℕ → Type 0
+TakesLine None new text = ⊤
+TakesLine (Some old) new text = (rest : List ℕ) × Line old.bytes text rest × (new ≡ Some (record { bytes = rest; stop = old.stop }))
+
+-- What finding a line makes of the feed: it was taken off; or it is held, and nothing was; or there is none.
+abbrev pub FindsLine : Option Feed → Option Feed → List ℕ → ℕ → Result FirstLine LineFault → Type 0
+FindsLine old new held skip (Ok (Taken text)) = TakesLine old new text.items
+FindsLine old new held skip (Ok (Held n)) = (new ≡ old) × (skip ≡ 0) × EndsLine held n
+FindsLine old new held skip (Err fault) = ReadsLine old new (Err fault) × (fault ≢ NotAscii)
 
 -- ONE READ of a source. Of its feed it is a read; and whatever the reader states: into an empty buffer it changes nothing,
 -- after an end or a fault the reader isn't called again, and a source that has reported how it stops is over: it stays so, and

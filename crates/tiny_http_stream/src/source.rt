@@ -30,6 +30,15 @@ pub enum LineFault {
     Memory,
 }
 
+/// Where the first line is found.
+#[derive(Drop)]
+pub enum FirstLine {
+    /// It lies whole in the buffer: so many bytes, and CR LF after them. It isn't taken off yet.
+    Held(usize),
+    /// It was taken off, and is here without its CR LF.
+    Taken(Vec<u8>),
+}
+
 /// Where a source stands among the heads and bodies of its connection.
 #[derive(Clone, Copy, Debug, PartialEq, Eq)]
 pub enum Standing {
@@ -100,7 +109,7 @@ impl<R: ReadDevice> Model for Source<R> {
 }
 
 impl<R: ReadDevice> Source<R> {
-    ghost use Rattle.tiny_http_stream.specs.Source.{line_fault_of, ReadsLine, ReadsSource, TakesExactly, GoesOn, IsAtEnd, HoldsLine};
+    ghost use Rattle.tiny_http_stream.specs.Source.{line_fault_of, ReadsLine, TakesLine, FindsLine, ReadsSource, TakesExactly, GoesOn, IsAtEnd, HoldsLine};
 
     /// A source over this reader. A head comes first.
     pub fn new(inner: R) -> Source<R>
@@ -206,6 +215,40 @@ impl<R: ReadDevice> Source<R> {
         self.input.read_line(alloc)
     }
 
+    /// Finds the first line, as `read_line`, whatever bytes it has. Where it lies whole in the buffer it is left there, and
+    /// no memory is taken; for the crates above, which parse it in its place.
+    pub fn find_line(&mut self, alloc: Global) -> Result<FirstLine, LineFault>
+        ensures line { FindsLine self.old.feed self.new.feed self.new.held self.new.skip result }
+        ensures goes_on { GoesOn self.old.feed self.new.feed }
+        ensures over { OnErr result ((self.new.is_over ≡ true) × IsSome self.new.stop) }
+        ensures memory { IfErr result (λ fault. fault ≡ LineFault.Memory → self.new.stop ≡ Some Stop.End) }
+        ensures stop { IfErr result (λ fault. fault ≢ LineFault.Memory → IfSome self.new.stop (λ stop. fault ≡ line_fault_of stop)) }
+        ensures stays { self.old.is_over ≡ true → (self.new ≡ self.old) × IfSome self.old.stop (λ stop. result ≡ Err (line_fault_of stop)) }
+        ensures lazy { OnOk result (self.new.stop ≡ self.old.stop) }
+        ensures standing { self.new.standing ≡ self.old.standing }
+    {
+        self.input.find_line(alloc)
+    }
+
+    /// The bytes that are held; for the crates above.
+    pub fn held(&self) -> &[u8]
+        ensures { result.now ≡ self.now.held }
+    {
+        self.input.held()
+    }
+
+    /// Takes a line off that `find_line` found in the buffer: n bytes, and the CR LF after them; for the crates above.
+    pub fn pass_line(&mut self, n: usize)
+        requires skip { self.old.skip ≡ 0 }
+        requires line { EndsLine self.old.held n }
+        ensures line { TakesLine self.old.feed self.new.feed (take n self.old.held) }
+        ensures goes_on { GoesOn self.old.feed self.new.feed }
+        ensures stop { self.new.stop ≡ self.old.stop }
+        ensures standing { self.new.standing ≡ self.old.standing }
+    {
+        self.input.pass_line(n)
+    }
+
     /// Reads some bytes. After them each call answers how the reader stopped.
     pub fn read(&mut self, buf: &mut [u8]) -> Result<usize, io::Error>
         ensures reads { ReadsSource self.old self.new result buf.new }
@@ -272,7 +315,7 @@ struct Input<R> {
 
 impl<R: ReadDevice> Input<R> {
     ghost use Rattle.tiny_http_stream.specs.Input.{input_feed, input_stop, input_reader, input_held, input_skip, IsInputOver, SkipsHeld};
-    ghost use Rattle.tiny_http_stream.specs.Source.{line_fault_of, ReadsLine, TakesExactly, GoesOn};
+    ghost use Rattle.tiny_http_stream.specs.Source.{line_fault_of, ReadsLine, TakesLine, FindsLine, TakesExactly, GoesOn};
 
     pub fn new(inner: R) -> Input<R>
         ensures feed { input_feed R.feed result ≡ R.feed inner }
@@ -385,6 +428,48 @@ impl<R: ReadDevice> Input<R> {
             Some(n) => self.take_line(alloc, n),
             None => self.read_slowly(alloc),
         }
+    }
+
+    /// Finds the first line: held, or taken off.
+    pub fn find_line(&mut self, alloc: Global) -> Result<FirstLine, LineFault>
+        ensures line { FindsLine (input_feed R.feed self.old) (input_feed R.feed self.new) (input_held self.new) (input_skip self.new) result }
+        ensures over { OnErr result (IsInputOver self.new) }
+        ensures memory { IfErr result (λ fault. fault ≡ LineFault.Memory → input_stop self.new ≡ Some Stop.End) }
+        ensures stop { IfErr result (λ fault. fault ≢ LineFault.Memory → IfSome (input_stop self.new) (λ stop. fault ≡ line_fault_of stop)) }
+        ensures stays { IsInputOver self.old → (self.new ≡ self.old) × IfSome (input_stop self.old) (λ stop. result ≡ Err (line_fault_of stop)) }
+        ensures lazy { OnOk result (input_stop self.new ≡ input_stop self.old) }
+    {
+        self.fill();
+        if let Some(n) = line_end(self.held.as_slice()) {
+            return Ok(FirstLine::Held(n));
+        }
+        match self.read_slowly(alloc) {
+            Ok(text) => Ok(FirstLine::Taken(text)),
+            Err(fault) => {
+                if fault == LineFault::Memory {
+                    self.end();
+                }
+                Err(fault)
+            }
+        }
+    }
+
+    /// The bytes that are held.
+    pub fn held(&self) -> &[u8]
+        ensures { result.now ≡ input_held self.now }
+    {
+        self.held.as_slice()
+    }
+
+    /// Takes n bytes off that are held, and the CR LF after them.
+    pub fn pass_line(&mut self, n: usize)
+        requires skip { input_skip self.old ≡ 0 }
+        requires line { EndsLine (input_held self.old) n }
+        ensures line { TakesLine (input_feed R.feed self.old) (input_feed R.feed self.new) (take n (input_held self.old)) }
+        ensures stop { input_stop self.new ≡ input_stop self.old }
+    {
+        self.held.consume(n);
+        self.held.consume(2);
     }
 
     // Takes n bytes off that are held, and the CR LF after them.
