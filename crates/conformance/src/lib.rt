@@ -28,6 +28,8 @@ mod heads;
 #[cfg(test)]
 mod laziness;
 #[cfg(test)]
+mod line_lengths;
+#[cfg(test)]
 mod outlet;
 #[cfg(test)]
 mod persistence;

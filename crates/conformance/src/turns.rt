@@ -150,3 +150,25 @@ fn faults_in_words(rt: HostRuntime) -> Result<(), Fail> {
     assert_shown(&rt, rt.alloc(), &TurnsError::Memory, "out of memory")?;
     assert_shown(&rt, rt.alloc(), &TurnsError::Exhausted, "no number is left")
 }
+
+// The next number takes its turn, and finishes it.
+fn pass_one(turns: &mut Turns<u8>) -> Result<u64, Fail> {
+    let number = turns.issue()?;
+    let Some(item) = turns.take(number) else {
+        return Err("the turn has not come".into());
+    };
+    match turns.finish(number, item) {
+        Finishing::Passed => Ok(number),
+        _ => Err("the turn did not pass".into()),
+    }
+}
+
+#[test]
+fn a_hundred_thousand_turns(rt: HostRuntime) -> Result<(), Fail> {
+    let mut turns = Turns::new(rt.alloc(), 7u8);
+    for number in 0..100_000 {
+        assert_same(&rt, pass_one(&mut turns)?, number);
+    }
+    assert_same(&rt, turns.issue(), Ok(100_000));
+    Ok(())
+}
