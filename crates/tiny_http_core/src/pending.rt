@@ -147,7 +147,10 @@ impl Pending {
     {
         if let Some(mut waiting) = self.take(number, Some(Unfinished::Raw)) {
             waiting.owes_continue = false;
-            drop(self.requests.replace(number, Some(Unfinished::Waiting(waiting))));
+            drop(
+                self.requests
+                    .replace(number, Some(Unfinished::Waiting(waiting))),
+            );
         }
     }
 
@@ -159,7 +162,10 @@ impl Pending {
     {
         if let Some(waiting) = self.take(number, Some(Unfinished::Raw)) {
             let Waiting { body, .. } = waiting;
-            drop(self.requests.replace(number, Some(Unfinished::Upgraded(body))));
+            drop(
+                self.requests
+                    .replace(number, Some(Unfinished::Upgraded(body))),
+            );
         }
     }
 

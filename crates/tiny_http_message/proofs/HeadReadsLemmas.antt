@@ -18,10 +18,6 @@ use Rattle.tiny_http_message.specs.declared.heads.HeadFault.TheVariants as fault
 use Rattle.tiny_http_stream.specs.Source.{ReadsLine, TakesLine, feed_from}
 use Rattle.tiny_http_message.specs.HeadReads.{StartIn, FieldIn, ReadsText, ReadsStart, HasReadFields, ReadsField, ReadsFields, ReadsMessage, IsFaulty, IsFaultyHead, head_fault}
 
-pub text-read : (o p : Option Feed) (text : List ℕ) → ReadsLine o p (Ok text) → ReadsText o p (Ok text)
-text-read None p text h = tt
-text-read (Some f) p text h = (h.0, h.1, are-ascii text h.2, h.3)
-
 pub text-not-read : (o p : Option Feed) (e : LineFault) → ReadsLine o p (Err e) → ReadsText o p (Err (head_fault e))
 text-not-read None p e h = tt
 text-not-read (Some f) p linefault.NotAscii h = (h.0, h.1, h.2, not-ascii h.0 h.3)
@@ -55,11 +51,6 @@ start-malformed (Some f) p text h e = (text, h.0, h.1, h.2, λ k. none-some (e �
 pub field-err : (o p : Option Feed) (e : HeadFault) → ReadsText o p (Err e) → ReadsField o p (Err e)
 field-err None p e h = tt
 field-err (Some f) p e h = text-faulty IsFieldOrEnd f p e h
-
-pub field-end : (o p : Option Feed) (text : List ℕ) → ReadsText o p (Ok text) → length text ≡ 0 → ReadsField o p (Ok None)
-field-end None p text h e = tt
-field-end (Some f) p [] h e = (h.0, h.1, h.3)
-field-end (Some f) p (b ∷ bs) h e = absurd (omega arith)
 
 pub field-read : (o p : Option Feed) (text : List ℕ) (x : Header) → ReadsText o p (Ok text) → Some x ≡ reading.header_line text → ReadsField o p (Ok (Some x))
 field-read None p text x h e = tt

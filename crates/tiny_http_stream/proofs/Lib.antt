@@ -3,6 +3,7 @@ pub mod BufferLemmas
 pub mod ToComeLemmas
 pub mod LineEndsLemmas
 pub mod LineEndsScanning
+pub mod LineEndsSearching
 pub mod SourceLines
 pub mod OutletLemmas
 pub mod SourceGoesOn

@@ -8,6 +8,7 @@ ghost use Rattle.tiny_http_stream.specs.LineEnds.{held_return, BeginsNoLineEnd, 
 ghost use Rattle.tiny_http_stream.specs.ToCome.{skipped, stopped, HasByte, HasNoByte};
 
 use crate::buffer::Buffer;
+use memchr::memchr;
 use std::alloc::{AllocError, Global};
 use std::io;
 use std::io::{ErrorKind, Read};
@@ -215,14 +216,17 @@ impl<R: ReadDevice> Source<R> {
         self.input.read_line(alloc)
     }
 
-    /// Finds the first line, as `read_line`, whatever bytes it has. Where it lies whole in the buffer it is left there, and
-    /// no memory is taken; for the crates above, which parse it in its place.
+    /// Finds the first line, whatever bytes it has; for the crates above. A line that lies whole in the buffer stays there, to
+    /// be parsed in its place, and takes no memory. Any other line is taken off. The faults are those of `read_line`.
     pub fn find_line(&mut self, alloc: Global) -> Result<FirstLine, LineFault>
         ensures line { FindsLine self.old.feed self.new.feed self.new.held self.new.skip result }
         ensures goes_on { GoesOn self.old.feed self.new.feed }
         ensures over { OnErr result ((self.new.is_over ≡ true) × IsSome self.new.stop) }
         ensures memory { IfErr result (λ fault. fault ≡ LineFault.Memory → self.new.stop ≡ Some Stop.End) }
         ensures stop { IfErr result (λ fault. fault ≢ LineFault.Memory → IfSome self.new.stop (λ stop. fault ≡ line_fault_of stop)) }
+        // After an end or a fault the reader isn't called again; nor where the line is held.
+        ensures once { IsSome self.old.stop → IsSome self.new.stop × (self.new.reader ≡ self.old.reader) }
+        ensures held { HoldsLine self.old → self.new.reader ≡ self.old.reader }
         ensures stays { self.old.is_over ≡ true → (self.new ≡ self.old) × IfSome self.old.stop (λ stop. result ≡ Err (line_fault_of stop)) }
         ensures lazy { OnOk result (self.new.stop ≡ self.old.stop) }
         ensures standing { self.new.standing ≡ self.old.standing }
@@ -230,19 +234,22 @@ impl<R: ReadDevice> Source<R> {
         self.input.find_line(alloc)
     }
 
-    /// The bytes that are held; for the crates above.
+    /// The bytes in the buffer; for the crates above. Those that are still to be skipped stand first.
     pub fn held(&self) -> &[u8]
         ensures { result.now ≡ self.now.held }
     {
         self.input.held()
     }
 
-    /// Takes a line off that `find_line` found in the buffer: n bytes, and the CR LF after them; for the crates above.
+    /// Takes a line off that `find_line` found in the buffer: n bytes, and the CR LF after them; for the crates above. The
+    /// reader isn't called.
     pub fn pass_line(&mut self, n: usize)
         requires skip { self.old.skip ≡ 0 }
         requires line { EndsLine self.old.held n }
         ensures line { TakesLine self.old.feed self.new.feed (take n self.old.held) }
         ensures goes_on { GoesOn self.old.feed self.new.feed }
+        ensures rest { (self.new.held ≡ drop (n + 2) self.old.held) × (self.new.skip ≡ 0) }
+        ensures reader { self.new.reader ≡ self.old.reader }
         ensures stop { self.new.stop ≡ self.old.stop }
         ensures standing { self.new.standing ≡ self.old.standing }
     {
@@ -437,6 +444,8 @@ impl<R: ReadDevice> Input<R> {
         ensures memory { IfErr result (λ fault. fault ≡ LineFault.Memory → input_stop self.new ≡ Some Stop.End) }
         ensures stop { IfErr result (λ fault. fault ≢ LineFault.Memory → IfSome (input_stop self.new) (λ stop. fault ≡ line_fault_of stop)) }
         ensures stays { IsInputOver self.old → (self.new ≡ self.old) × IfSome (input_stop self.old) (λ stop. result ≡ Err (line_fault_of stop)) }
+        ensures once { IsSome (input_stop self.old) → IsSome (input_stop self.new) × (input_reader self.new ≡ input_reader self.old) }
+        ensures held { has_crlf (drop (input_skip self.old) (input_held self.old)) ≡ true → input_reader self.new ≡ input_reader self.old }
         ensures lazy { OnOk result (input_stop self.new ≡ input_stop self.old) }
     {
         self.fill();
@@ -466,6 +475,8 @@ impl<R: ReadDevice> Input<R> {
         requires skip { input_skip self.old ≡ 0 }
         requires line { EndsLine (input_held self.old) n }
         ensures line { TakesLine (input_feed R.feed self.old) (input_feed R.feed self.new) (take n (input_held self.old)) }
+        ensures rest { (input_held self.new ≡ drop (n + 2) (input_held self.old)) × (input_skip self.new ≡ 0) }
+        ensures reader { input_reader self.new ≡ input_reader self.old }
         ensures stop { input_stop self.new ≡ input_stop self.old }
     {
         self.held.consume(n);
@@ -649,15 +660,12 @@ fn line_end(bytes: &[u8]) -> Option<usize>
     ensures some { IfSome result (EndsLine bytes.now) }
     ensures none { IfNone result (has_crlf bytes.now ≡ false) }
 {
-    let mut returned = false;
     let mut at = 0;
-    while at < bytes.len() {
-        let b = bytes[at];
-        if returned && b == b'\n' {
+    while let Some(n) = memchr(b'\r', &bytes[at..]) {
+        at += n + 1;
+        if at < bytes.len() && bytes[at] == b'\n' {
             return Some(at - 1);
         }
-        returned = b == b'\r';
-        at += 1;
     }
     None
 }

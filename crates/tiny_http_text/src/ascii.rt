@@ -105,11 +105,11 @@ impl AsciiString {
                 place,
             });
         }
-        Ok(AsciiString::from_checked(bytes))
+        Ok(AsciiString::from_ascii_unchecked(bytes))
     }
 
-    /// The text of bytes that are known to be below 128.
-    pub(crate) fn from_checked(bytes: Vec<u8>) -> AsciiString
+    /// The text of bytes that are all below 128, which isn't checked again.
+    pub(crate) fn from_ascii_unchecked(bytes: Vec<u8>) -> AsciiString
         requires { IsAscii bytes.items }
         ensures { result ≡ bytes.items }
     {

@@ -11,5 +11,5 @@ pub fn owned(alloc: Global, text: &[u8]) -> Result<AsciiString, AllocError>
     ensures { IfOk result (λ s. s ≡ text.now) }
 {
     let bytes = text.to_vec(alloc)?;
-    Ok(AsciiString::from_checked(bytes))
+    Ok(AsciiString::from_ascii_unchecked(bytes))
 }

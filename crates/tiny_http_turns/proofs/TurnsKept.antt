@@ -28,10 +28,6 @@ turn-of zero (HeldEntry ∷ items) = refl
 turn-of zero (LeftEntry text ∷ items) = refl
 turn-of (suc n) items = ap suc (turn-of n items)
 
-pub length-of : (n : ℕ) (items : List Entry) → length (marks_of n items) ≡ n + length items
-length-of n items =
-    length-append (replicate n Finished) (map mark_of items) ∙ (ap (λ x. x + length (map mark_of items)) (length-replicate n Finished) ∙ ap (λ x. n + x) (length-map items mark_of))
-
 pub get-of : (n : ℕ) (items : List Entry) (at k : ℕ) → k ≡ n + at → slice_get (marks_of n items) k ≡ slice_get (map mark_of items) at
 get-of n items at k e = ap (slice_get (marks_of n items)) e ∙ get-behind Finished n (map mark_of items) at
 
@@ -79,16 +75,6 @@ strange-finish marks k other = by (slice_get marks k) other
     by (Some Open) n = refl
     by (Some Held) n = absurd (n refl)
     by (Some (Left text)) n = refl
-    by (Some Finished) n = refl
-
-pub strange-leave : (marks : List Mark) (k : ℕ) (text : List ℕ) → (slice_get marks k ≡ Some Open → ⊥) → turn_outcome (Leave k text) marks ≡ (Strange, marks)
-strange-leave marks k text other = by (slice_get marks k) other
-  where
-    by : (o : Option Mark) → (o ≡ Some Open → ⊥) → leave_at o k text marks ≡ (Strange, marks)
-    by None n = refl
-    by (Some Open) n = absurd (n refl)
-    by (Some Held) n = refl
-    by (Some (Left was)) n = refl
     by (Some Finished) n = refl
 
 -- no number but the first that is kept is held

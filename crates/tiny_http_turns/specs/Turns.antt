@@ -107,13 +107,6 @@ put_back_at (Some Held) k marks = (Opened, slice_set marks k Open)
 put_back_at (Some (Left text)) k marks = (Strange, marks)
 put_back_at (Some Finished) k marks = (Strange, marks)
 
-abbrev pub is_left_mark : Option Mark → Bool
-is_left_mark None = false
-is_left_mark (Some Open) = false
-is_left_mark (Some Held) = false
-is_left_mark (Some (Left text)) = true
-is_left_mark (Some Finished) = false
-
 -- a number that was left is held as its turn comes, and its text comes out
 abbrev pub pass_to : Option Mark → ℕ → List Mark → TurnOutcome
 pass_to None k marks = (Passed, marks)

@@ -1,4 +1,4 @@
-//! Values under numbers, for those who keep something of each number whose turn hasn't passed.
+//! Values under numbers. Nothing is kept of the numbers in front that have none.
 ghost use Rattle.std.specs.Prelude.{◌≡◌, ◌+◌, ◌-◌, ◌^◌, ◌<◌, ◌↔◌, ◌++◌, ◌∷◌, [], length, Some, None, Err, OnOk, OnErr, IfSome, IfNone, slice_get, slice_set};
 ghost use Rattle.std.specs.Option.{option_to_list};
 ghost use Rattle.tiny_http_turns.specs.ByNumber.{with_passed, BeginsWithValue, value_of};
@@ -10,8 +10,8 @@ use std::collections::VecDeque;
 use std::marker::Model;
 use std::mem;
 
-/// Values under numbers from 0 on; a number may have none. Nothing is kept of the numbers before the first that has a value,
-/// so the memory is that of the numbers from there on. A contract sees an entry for each number.
+/// A queue of optional values, numbered from 0. The numbers before the first value are only counted. A contract sees an entry
+/// for each number.
 #[derive(Drop)]
 pub struct ByNumber<T> {
     // The numbers from `passed` on. The first of them has a value.
@@ -92,7 +92,8 @@ impl<T: Drop> ByNumber<T> {
         Some(None)
     }
 
-    /// Puts this in the place of the value under a number, and gives that value. Where there is none nothing changes.
+    /// Puts this in the place of the value under a number, and gives that value. Where there is none nothing changes, and
+    /// what was handed in is dropped.
     pub fn replace(&mut self, number: u64, value: Option<T>) -> Option<T>
         ensures some { IfSome result (λ was. (slice_get self.old number ≡ Some (Some was)) × (self.new ≡ slice_set self.old number value)) }
         ensures none { IfNone result ((value_of (slice_get self.old number) ≡ None) × (self.new ≡ self.old)) }

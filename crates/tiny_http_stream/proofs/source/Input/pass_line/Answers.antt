@@ -13,3 +13,6 @@ returns-clause-line g c =
     takes-line (input_feed g.R.ReadDevice.feed self) (input_feed g.R.ReadDevice.feed new) (take n self.held)
     (line-given {E = ℕ} g.R.ReadDevice.feed (Ok (take n self.held)) (λ x. x) n self self new refl c.requires.skip c.requires.line refl (ap (λ h. record self { held = h }) left))
     c.requires.line.first
+
+pub returns-clause-rest : goal.returns-clause-rest
+returns-clause-rest g c = (c.consume-2.ensures ∙ (ap (drop 2) c.consume.ensures ∙ drop-drop 2 c.args.n c.args.self.now.held), c.requires.skip)
