@@ -1,5 +1,5 @@
 //! Texts whose bytes are all below 128.
-ghost use Rattle.std.specs.Prelude.{◌≡◌, ◌==◌, ◌≤◌, ◌<◌, ◌↔◌, ℕ, List, length, map, IsTrue, IsOk, IfOk, IfErr, OnOk, OnErr, string_bytes, IsAscii, nat_eq};
+ghost use Rattle.std.specs.Prelude.{◌≡◌, ◌==◌, ◌≤◌, ◌<◌, ◌↔◌, ℕ, List, length, map, IsTrue, IsOk, IfOk, IfErr, OnOk, OnErr, IsAscii, nat_eq, take};
 ghost use Rattle.std.specs.Cmp.Lexicographic.{pointwise};
 ghost use Rattle.std.specs.Cmp.Rules.{comparing, hashing};
 ghost use Rattle.std.specs.Hash as fed;
@@ -11,22 +11,45 @@ ghost use Rattle.tiny_http_text.specs.Ascii.{IsFirstNotAscii};
 
 use crate::text::trim;
 use std::alloc::{AllocError, Global};
+use std::fmt;
 use std::hash::{Hash, Hasher};
 use std::marker::Model;
 use thiserror::Error;
 
-/// A text that owns its bytes, all below 128. A contract sees it as the list of its bytes.
-#[derive(Debug, Drop)]
+// How many bytes a text has at most that lies in place, without memory of its own.
+const SHORT: usize = 30;
+
+// The bytes of a text that lies in place: the first `len` of these.
+#[derive(Clone, Copy, Drop)]
+struct ShortBytes {
+    bytes: [u8; 30],
+    len: u8,
+    ghost within: { len ≤ 30 },
+}
+
+// The bytes of a text: in place where they are few, as those of most headers are.
+#[derive(Drop)]
+enum TextBytes {
+    Short(ShortBytes),
+    Long(Vec<u8>),
+}
+
+/// A text that owns its bytes, all below 128. One of up to 30 bytes that is made by a copy takes no memory of its own. A
+/// contract sees it as the list of its bytes.
+#[derive(Drop)]
 pub struct AsciiString {
-    text: String,
+    text: TextBytes,
 }
 
 impl Model for AsciiString {
+    ghost use Rattle.std.specs.Prelude.{ℕ, List, IsAscii};
+    ghost use Rattle.tiny_http_text.specs.TextBytes.{text_bytes};
+
     ghost Value = { List ℕ };
 
-    ghost view = { λ s. string_bytes s.text };
+    ghost view = { λ s. text_bytes s.text };
 
-    ghost invariant = { λ s. IsAscii (string_bytes s.text) };
+    ghost invariant = { λ s. IsAscii (text_bytes s.text) };
 }
 
 /// A view of an `AsciiString`, or of a part of one. A contract sees it as the list of its bytes.
@@ -86,6 +109,63 @@ fn ascii_len(bytes: &[u8]) -> usize
     bytes.len()
 }
 
+impl ShortBytes {
+    // A copy of a few bytes.
+    fn copied(bytes: &[u8]) -> ShortBytes
+        requires { length bytes.now ≤ 30 }
+        ensures { take result.len result.bytes ≡ bytes.now }
+    {
+        let mut room = [0u8; SHORT];
+        let len = bytes.len();
+        room[..len].copy_from_slice(bytes);
+        ShortBytes {
+            bytes: room,
+            len: len as u8,
+        }
+    }
+
+    // The bytes.
+    fn as_slice(&self) -> &[u8]
+        ensures { result.now ≡ take self.now.len self.now.bytes }
+    {
+        &self.bytes[..usize::from(self.len)]
+    }
+}
+
+impl TextBytes {
+    ghost use Rattle.tiny_http_text.specs.TextBytes.{text_bytes};
+
+    // A copy of the bytes, in place where they are few. An error where there is no memory for more of them.
+    fn copied(alloc: Global, bytes: &[u8]) -> Result<TextBytes, AllocError>
+        ensures { IfOk result (λ t. text_bytes t ≡ bytes.now) }
+    {
+        if bytes.len() <= SHORT {
+            return Ok(TextBytes::Short(ShortBytes::copied(bytes)));
+        }
+        Ok(TextBytes::Long(bytes.to_vec(alloc)?))
+    }
+
+    // The bytes.
+    fn as_slice(&self) -> &[u8]
+        ensures { result.now ≡ text_bytes self.now }
+    {
+        match self {
+            TextBytes::Short(short) => short.as_slice(),
+            TextBytes::Long(bytes) => bytes.as_slice(),
+        }
+    }
+
+    // A copy of the text's bytes.
+    fn try_clone(&self) -> Result<TextBytes, AllocError>
+        ensures { IfOk result (λ t. text_bytes t ≡ text_bytes self.now) }
+    {
+        match self {
+            TextBytes::Short(short) => Ok(TextBytes::Short(*short)),
+            TextBytes::Long(bytes) => TextBytes::copied(*bytes.allocator(), bytes.as_slice()),
+        }
+    }
+}
+
 impl AsciiString {
     ghost use Rattle.tiny_http_text.specs.FromAsciiError.{refused_bytes, bad_place};
 
@@ -105,16 +185,18 @@ impl AsciiString {
                 place,
             });
         }
-        Ok(AsciiString::from_ascii_unchecked(bytes))
+        Ok(AsciiString {
+            text: TextBytes::Long(bytes),
+        })
     }
 
-    /// The text of bytes that are all below 128, which isn't checked again.
-    pub(crate) fn from_ascii_unchecked(bytes: Vec<u8>) -> AsciiString
-        requires { IsAscii bytes.items }
-        ensures { result ≡ bytes.items }
+    /// A copy of bytes that are all below 128, which isn't checked again. An error where there is no memory for it.
+    pub(crate) fn copied_unchecked(alloc: Global, bytes: &[u8]) -> Result<AsciiString, AllocError>
+        requires { IsAscii bytes.now }
+        ensures { IfOk result (λ s. s ≡ bytes.now) }
     {
-        let text = unsafe { String::from_utf8_unchecked(bytes) };
-        AsciiString { text }
+        let text = TextBytes::copied(alloc, bytes)?;
+        Ok(AsciiString { text })
     }
 
     /// The text as a `&str`.
@@ -122,7 +204,7 @@ impl AsciiString {
         ensures value { result.now ≡ self.now }
         ensures ascii { IsAscii self.now }
     {
-        self.text.as_str()
+        unsafe { str::from_utf8_unchecked(self.text.as_slice()) }
     }
 
     /// A view of the text.
@@ -166,9 +248,15 @@ impl AsciiString {
     pub fn try_clone(&self) -> Result<AsciiString, AllocError>
         ensures { IfOk result (λ s. s ≡ self.now) }
     {
-        Ok(AsciiString {
-            text: self.text.clone()?,
-        })
+        let text = self.text.try_clone()?;
+        Ok(AsciiString { text })
+    }
+}
+
+impl fmt::Debug for AsciiString {
+    /// Writes the text in quotes, as a `&str` does.
+    fn fmt<W: fmt::Write>(&self, f: &mut fmt::Formatter<W>) -> fmt::Result {
+        fmt::Debug::fmt(self.as_str(), f)
     }
 }
 

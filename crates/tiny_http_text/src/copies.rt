@@ -10,6 +10,5 @@ pub fn owned(alloc: Global, text: &[u8]) -> Result<AsciiString, AllocError>
     requires { AreAscii text.now }
     ensures { IfOk result (λ s. s ≡ text.now) }
 {
-    let bytes = text.to_vec(alloc)?;
-    Ok(AsciiString::from_ascii_unchecked(bytes))
+    AsciiString::copied_unchecked(alloc, text)
 }
