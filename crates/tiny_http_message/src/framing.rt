@@ -1,11 +1,11 @@
 //! How a message is framed, and whether the connection goes on.
-ghost use Rattle.std.specs.Prelude.{◌≡◌, ◌==◌, Option, codes};
+ghost use Rattle.std.specs.Prelude.{◌≡◌, ◌==◌, codes, is_some};
 ghost use Rattle.std.specs.Option.{option_copied};
 ghost use Rattle.std.specs.List.{starts_with};
 ghost use Rattle.tiny_http_wire.specs.Bytes.{contains_word};
 ghost use Rattle.tiny_http_wire.specs.Common.{lowercase};
 ghost use Rattle.tiny_http_wire.specs.Heads.{is_too_new};
-ghost use Rattle.tiny_http_message.specs.Framing.{value_of, mentions, body_length, expectation, sized_form, form_of, is_last, framing};
+ghost use Rattle.tiny_http_message.specs.Framing.{value_of, mentions, body_length, expectation, sized_form, form_by, is_last, framing};
 
 use tiny_http_wire::ascii::AsciiString;
 use tiny_http_wire::common::{HTTPVersion, Header};
@@ -79,21 +79,21 @@ fn contains_word(text: &[u8], word: &[u8]) -> bool
     word.is_empty()
 }
 
-// Whether the value of the first header of that name has the word in it.
-fn mentions(headers: &[Header], name: &str, word: &str) -> bool
-    ensures { result ≡ mentions word.now (value_of name.now headers.now) }
+// Whether the word stands in the value, if there is one.
+fn mentions(value: Option<&AsciiString>, word: &str) -> bool
+    ensures { result ≡ mentions word.now (option_copied value.entry) }
 {
-    match value_of(headers, name) {
+    match value {
         Some(value) => contains_word(value.as_str().as_bytes(), word.as_bytes()),
         None => false,
     }
 }
 
 // The length that the headers say; a Transfer-Encoding hides it.
-fn body_length(headers: &[Header]) -> Option<usize>
-    ensures { result ≡ body_length headers.now }
+fn body_length(is_coded: bool, headers: &[Header]) -> Option<usize>
+    ensures { is_coded ≡ is_some (value_of (codes "Transfer-Encoding") headers.now) → result ≡ body_length headers.now }
 {
-    if value_of(headers, "Transfer-Encoding").is_some() {
+    if is_coded {
         return None;
     }
     match value_of(headers, "Content-Length") {
@@ -123,24 +123,25 @@ fn sized_form(owed: bool, length: Option<usize>) -> Form
     }
 }
 
-fn form_of(owed: bool, headers: &[Header]) -> Form
-    ensures { result ≡ form_of owed headers.now }
+fn form_by(is_upgrade: bool, is_coded: bool, owed: bool, length: Option<usize>) -> Form
+    ensures { result ≡ form_by is_upgrade is_coded owed length }
 {
-    if mentions(headers, "Connection", "upgrade") {
+    if is_upgrade {
         return Form::Rest;
     }
-    if value_of(headers, "Transfer-Encoding").is_some() {
+    if is_coded {
         return Form::Chunked;
     }
-    sized_form(owed, body_length(headers))
+    sized_form(owed, length)
 }
 
-fn is_last(version: HTTPVersion, headers: &[Header]) -> bool
-    ensures { result ≡ is_last version (value_of (codes "Connection") headers.now) }
+// Whether the connection ends after the request, by its version and its `Connection` header.
+fn is_last(version: HTTPVersion, connection: Option<&AsciiString>) -> bool
+    ensures { result ≡ is_last version (option_copied connection.entry) }
 {
-    mentions(headers, "Connection", "close")
-        || mentions(headers, "Connection", "upgrade")
-        || (version.0 == 1 && version.1 == 0 && !mentions(headers, "Connection", "keep-alive"))
+    mentions(connection, "close")
+        || mentions(connection, "upgrade")
+        || (version.0 == 1 && version.1 == 0 && !mentions(connection, "keep-alive"))
 }
 
 /// The framing that version and headers give; None for an expectation that can't be met.
@@ -149,11 +150,14 @@ pub fn framing_of(version: HTTPVersion, headers: &[Header]) -> Option<Framing>
     ensures { result ≡ framing version headers.now }
 {
     let owed = expectation(headers)?;
+    let connection = value_of(headers, "Connection");
+    let is_coded = value_of(headers, "Transfer-Encoding").is_some();
+    let body_length = body_length(is_coded, headers);
     Some(Framing {
-        form: form_of(owed, headers),
+        form: form_by(mentions(connection, "upgrade"), is_coded, owed, body_length),
         owes_continue: owed,
-        body_length: body_length(headers),
-        is_last: is_last(version, headers),
+        body_length,
+        is_last: is_last(version, connection),
     })
 }
 

@@ -7,7 +7,7 @@ ghost use Rattle.tiny_http_text.specs.Lines.{IsUnfinished, has_crlf};
 ghost use Rattle.tiny_http_stream.specs.LineEnds.{held_return, BeginsNoLineEnd, EndsLine};
 ghost use Rattle.tiny_http_stream.specs.ToCome.{skipped, stopped, HasByte, HasNoByte};
 
-use crate::buffer::Buffer;
+use crate::buffer::{Buffer, CAPACITY};
 use memchr::memchr;
 use std::alloc::{AllocError, Global};
 use std::io;
@@ -625,7 +625,36 @@ impl<R: ReadDevice> Input<R> {
         self.held.pop()
     }
 
-    /// Reads some bytes. After them each call answers how the input stopped.
+    // Reads once, past the empty buffer.
+    fn read_past_buffer(&mut self, buf: &mut [u8]) -> Result<usize, io::Error>
+        requires room { 0 < length buf.old }
+        requires empty { (self.old.held ≡ []) × (self.old.skip ≡ 0) }
+        requires open { self.old.stop ≡ None }
+        ensures bound { IfOk result (λ n. n ≤ length buf.new) }
+        ensures bytes { IfOk result (λ n. input_feed R.feed self.old ≡ prepended (take n buf.new) (input_feed R.feed self.new)) }
+        ensures end { IfOk result (λ n. n ≡ 0 → StopsBy Stop.End (input_feed R.feed self.old)) }
+        ensures fault { IfErr result (λ e. StopsBy (Stop.Fault (error_kind e)) (input_feed R.feed self.old)) }
+        ensures again { OnErr result (input_feed R.feed self.new ≡ input_feed R.feed self.old) }
+        ensures over { OnErr result (IsInputOver self.new) }
+        ensures none { IfOk result (λ n. n ≡ 0 → IsInputOver self.new × (input_stop self.new ≡ Some Stop.End)) }
+        ensures kind { IfErr result (λ e. input_stop self.new ≡ Some (Stop.Fault (error_kind e))) }
+        ensures lazy { IfOk result (λ n. 0 < n → input_stop self.new ≡ None) }
+    {
+        match self.inner.read_in(buf) {
+            Ok(0) => {
+                self.stop = Some(Stop::End);
+                Ok(0)
+            }
+            Ok(n) => Ok(n),
+            Err(e) => {
+                self.stop = Some(Stop::Fault(e.kind()));
+                Err(e)
+            }
+        }
+    }
+
+    /// Reads some bytes. After them each call answers how the input stopped. Into as much room as the buffer has, or more, the
+    /// reader is read without the buffer.
     pub fn read(&mut self, buf: &mut [u8]) -> Result<usize, io::Error>
         ensures bound { IfOk result (λ n. n ≤ length buf.new) }
         ensures bytes { IfOk result (λ n. input_feed R.feed self.old ≡ prepended (take n buf.new) (input_feed R.feed self.new)) }
@@ -644,6 +673,10 @@ impl<R: ReadDevice> Input<R> {
     {
         if buf.is_empty() {
             return Ok(0);
+        }
+        self.pass();
+        if self.skip == 0 && self.held.is_empty() && self.stop.is_none() && buf.len() >= CAPACITY {
+            return self.read_past_buffer(buf);
         }
         self.fill();
         if self.held.is_empty()
