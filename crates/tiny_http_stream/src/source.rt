@@ -405,6 +405,9 @@ impl<R: ReadDevice> Input<R> {
         ensures lazy { 0 < length self.new.held → input_stop self.new ≡ input_stop self.old }
         ensures held { input_skip self.old < length (input_held self.old) → SkipsHeld self.old self.new }
     {
+        if self.skip == 0 && !self.held.is_empty() {
+            return;
+        }
         self.pass();
         while self.stop.is_none() && self.held.is_empty() {
             self.refill();

@@ -7,6 +7,7 @@ ghost use Rattle.tiny_http_wire.specs.Top.{top_text};
 ghost use Rattle.tiny_http_wire.specs.Answer.{has_header, status_line, field_line, field_line_of, protocol_lines, upgrade_lines, server_line, date_line, length_line, framing_line};
 
 use crate::coding::FramingHeader;
+use crate::page::Page;
 use httpdate::HttpDate;
 use std::io;
 use tiny_http_device::device::{WriteDevice, put, put_all};
@@ -170,9 +171,8 @@ fn put_framing<W: WriteDevice>(writer: &mut W, framing: FramingHeader) -> Result
     }
 }
 
-/// Writes the head of an answer: the status line, the header lines in their order, and an empty
-/// line (RFC 9112, sections 4 and 5).
-pub(crate) fn put_head<W: WriteDevice>(
+// The lines of a head, piece by piece, and the empty line.
+fn put_lines<W: WriteDevice>(
     writer: &mut W,
     top: &Top<'_>,
     upgrade: Option<&str>,
@@ -188,4 +188,22 @@ pub(crate) fn put_head<W: WriteDevice>(
     put_headers(writer, top.headers)?;
     put_framing(writer, framing)?;
     put(writer, b"\r\n")
+}
+
+/// Writes the head of an answer: the status line, the header lines in their order, and an empty
+/// line (RFC 9112, sections 4 and 5). A head of up to 512 bytes is written as one piece.
+pub(crate) fn put_head<W: WriteDevice>(
+    writer: &mut W,
+    top: &Top<'_>,
+    upgrade: Option<&str>,
+    framing: FramingHeader,
+) -> Result<(), io::Error>
+    ensures { Puts (W.sink writer.old) (W.sink writer.new) result
+        (top_text top.now (option_copied upgrade.entry) framing) }
+{
+    let mut page = Page::new();
+    match put_lines(&mut page, top, upgrade, framing) {
+        Ok(()) => put(writer, page.as_slice()),
+        Err(_) => put_lines(writer, top, upgrade, framing),
+    }
 }

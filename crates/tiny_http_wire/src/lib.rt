@@ -6,6 +6,7 @@
 mod add_header;
 pub mod answer_context;
 mod answer_head;
+mod page;
 pub mod chunked;
 pub mod laws;
 pub mod response;
