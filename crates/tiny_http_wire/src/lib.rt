@@ -6,9 +6,9 @@
 mod add_header;
 pub mod answer_context;
 mod answer_head;
-mod page;
 pub mod chunked;
 pub mod laws;
+mod page;
 pub mod response;
 
 pub use tiny_http_coding::coding;
