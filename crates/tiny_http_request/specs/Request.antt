@@ -1,0 +1,1 @@
+-- What clauses read of a request.
