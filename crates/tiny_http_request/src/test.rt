@@ -91,7 +91,7 @@ impl TestRequest {
 
     /// With this body.
     pub fn with_body(self, body: &'static str) -> TestRequest
-        ensures { result ≡ record self { body = body } }
+        ensures { result ≡ record self { body = body.entry } }
     {
         let mut request = self;
         request.body = body;
