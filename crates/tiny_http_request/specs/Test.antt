@@ -8,9 +8,8 @@ use Rattle.tiny_http_request.specs.declared.test.TestRequest.{TestRequest}
 abbrev pub nowhere_sink : Nowhere → Sink
 nowhere_sink _ = record { taken = None; sent = []; failures = 0; last_kind = None; has_ended = false }
 
--- the two are the same but for their headers
+-- the two are the same but for their headers and their bodies
 pub record IsLike (old new : TestRequest) : Type 0 where
-  pub body : new.body ≡ old.body
   pub remote_addr : new.remote_addr ≡ old.remote_addr
   pub secure : new.secure ≡ old.secure
   pub method : new.method ≡ old.method

@@ -1,4 +1,8 @@
 //! A connection whose requests threads may hold.
+ghost use Rattle.std.specs.Prelude.{◌≡◌, true, Ok, None, IfOk, OnErr, IfSome, IfNone};
+ghost use Rattle.tiny_http_message.specs.Exchange.{exchange_head};
+ghost use Rattle.tiny_http_request.specs.Request.{request_head, request_secure, request_address};
+
 use crate::request::Request;
 use crate::sequential::{SequentialReader, SequentialReaderBuilder, SequentialWriterBuilder};
 use httpdate::HttpDate;
@@ -23,6 +27,8 @@ pub struct ClientConnection<R: ReadDevice + Drop, W: WriteDevice + Drop, Rt: Wai
 }
 
 impl<R: ReadDevice + Drop, W: WriteDevice + Drop, Rt: Wait + Copy> ClientConnection<R, W, Rt> {
+    ghost use Rattle.tiny_http_request.specs.Client.{IsOver, client_secure, client_address};
+
     /// A connection over a writer and a reader, on which nothing was read yet. `remote_addr` and `secure` are what its requests
     /// say. An error where memory was refused.
     pub fn over(
@@ -32,7 +38,9 @@ impl<R: ReadDevice + Drop, W: WriteDevice + Drop, Rt: Wait + Copy> ClientConnect
         reader: R,
         remote_addr: Option<SocketAddr>,
         secure: bool,
-    ) -> Result<ClientConnection<R, W, Rt>, AllocError> {
+    ) -> Result<ClientConnection<R, W, Rt>, AllocError>
+        ensures { IfOk result (λ c. (client_secure c ≡ secure) × (client_address c ≡ remote_addr)) }
+    {
         let mut source = SequentialReaderBuilder::new(rt, alloc, Source::new(reader))?;
         let sink = SequentialWriterBuilder::new(rt, alloc, Outlet::new(writer))?;
         let next_head = Some(source.next()?);
@@ -47,7 +55,9 @@ impl<R: ReadDevice + Drop, W: WriteDevice + Drop, Rt: Wait + Copy> ClientConnect
     }
 
     /// Whether the connection is encrypted.
-    pub fn secure(&self) -> bool {
+    pub fn secure(&self) -> bool
+        ensures { result ≡ client_secure self.now }
+    {
         self.secure
     }
 
@@ -56,25 +66,25 @@ impl<R: ReadDevice + Drop, W: WriteDevice + Drop, Rt: Wait + Copy> ClientConnect
     /// are answered in their turn, without waiting for it, and end the requests; after most of those of a version above 1.1 the
     /// next head is read. An error where memory was refused; then each later call answers `None`. `now` dates the answers to
     /// refused heads, and the 500 of this request if it is dropped.
-    pub fn next(&mut self, now: HttpDate) -> Result<Option<Request<R, W, Rt>>, AllocError> {
+    pub fn next(&mut self, now: HttpDate) -> Result<Option<Request<R, W, Rt>>, AllocError>
+        ensures over { IsOver self.old → (result ≡ Ok None) × IsOver self.new }
+        ensures none { IfOk result (λ r. IfNone r (IsOver self.new)) }
+        ensures err { OnErr result (IsOver self.new) }
+        ensures last { IfOk result (λ r. IfSome r (λ request. (request_head request).is_last ≡ true → IsOver self.new)) }
+        ensures client { IfOk result (λ r. IfSome r (λ request. (request_secure request ≡ client_secure self.old) × (request_address request ≡ client_address self.old))) }
+        ensures same { (client_secure self.new ≡ client_secure self.old) × (client_address self.new ≡ client_address self.old) }
+    {
         let Some(mut reader) = self.next_head.take() else {
             return Ok(None);
         };
-        for _ in 0..u64::MAX {
-            match read_head(self.alloc, reader.hold(), now)? {
-                HeadRead::Request(exchange) => {
-                    return Ok(Some(self.hand_out(reader, exchange)?));
-                }
-                HeadRead::Refused { text, last, .. } => {
-                    self.sink.next()?.leave(text);
-                    if last {
-                        return Ok(None);
-                    }
-                }
-                HeadRead::Ended(_) => return Ok(None),
-            }
+        match read_request(self.alloc, &mut self.sink, &mut reader, now) {
+            Ok(Some(exchange)) => match self.hand_out(reader, exchange) {
+                Ok(request) => Ok(Some(request)),
+                Err(e) => Err(e),
+            },
+            Ok(None) => Ok(None),
+            Err(e) => Err(e),
         }
-        Ok(None)
     }
 
     // Hands out a request that was read by this reader. The reader goes with a body that is read from it.
@@ -82,23 +92,49 @@ impl<R: ReadDevice + Drop, W: WriteDevice + Drop, Rt: Wait + Copy> ClientConnect
         &mut self,
         reader: SequentialReader<Source<R>, Rt>,
         exchange: Exchange,
-    ) -> Result<Request<R, W, Rt>, AllocError> {
+    ) -> Result<Request<R, W, Rt>, AllocError>
+        requires { IsOver self.old }
+        ensures head { IfOk result (λ request. request_head request ≡ exchange_head exchange) }
+        ensures err { OnErr result (IsOver self.new) }
+        ensures last { IfOk result (λ request. (request_head request).is_last ≡ true → IsOver self.new) }
+        ensures client { IfOk result (λ request. (request_secure request ≡ client_secure self.old) × (request_address request ≡ client_address self.old)) }
+        ensures same { (client_secure self.new ≡ client_secure self.old) × (client_address self.new ≡ client_address self.old) }
+    {
         let (head, waiting) = exchange.into_parts();
-        let holds_reader = waiting.body.holds_reader();
-        let next_head = match (head.is_last, holds_reader) {
-            (true, _) => None,
-            (false, true) => Some(self.source.next()?),
-            (false, false) => None,
-        };
         let writer = self.sink.next()?;
         let client = (self.secure, self.remote_addr);
-        if holds_reader {
-            self.next_head = next_head;
-            return Ok(Request::from_parts(self.alloc, client, head, waiting, Some(reader), writer));
+        if !waiting.body.holds_reader() {
+            if !head.is_last {
+                self.next_head = Some(reader);
+            }
+            return Ok(Request::from_parts(self.alloc, client, head, waiting, None, writer));
         }
         if !head.is_last {
-            self.next_head = Some(reader);
+            self.next_head = Some(self.source.next()?);
         }
-        Ok(Request::from_parts(self.alloc, client, head, waiting, None, writer))
+        let reader = Some(reader);
+        Ok(Request::from_parts(self.alloc, client, head, waiting, reader, writer))
     }
+}
+
+// Reads heads up to that of the next request. Refused ones are answered in their turn. `None` where no request comes.
+fn read_request<R: ReadDevice + Drop, W: WriteDevice + Drop, Rt: Wait + Copy>(
+    alloc: Global,
+    sink: &mut SequentialWriterBuilder<Outlet<W>, Rt>,
+    reader: &mut SequentialReader<Source<R>, Rt>,
+    now: HttpDate,
+) -> Result<Option<Exchange>, AllocError> {
+    for _ in 0..u64::MAX {
+        match read_head(alloc, reader.hold(), now)? {
+            HeadRead::Request(exchange) => return Ok(Some(exchange)),
+            HeadRead::Refused { text, last, .. } => {
+                sink.next()?.leave(text);
+                if last {
+                    return Ok(None);
+                }
+            }
+            HeadRead::Ended(_) => return Ok(None),
+        }
+    }
+    Ok(None)
 }

@@ -1,5 +1,16 @@
 //! A request that threads may hold: its head, its body on the connection's input, and its turn at the output.
-ghost use Rattle.std.specs.Prelude.{◌≡◌, ◌≤◌, length, IfOk};
+ghost use Rattle.std.specs.Prelude.{◌≡◌, ◌≤◌, ◌<◌, ◌^◌, true, false, [], length, Ok, Err, Some, None, IfOk, IfErr, OnErr, is_ok};
+ghost use Rattle.std.specs.IoError.{error_kind};
+ghost use Rattle.std.specs.List.{list_all};
+ghost use Rattle.std.specs.Option.{option_copied};
+ghost use Rattle.tiny_http_wire.specs.Bytes.{is_ascii};
+ghost use Rattle.tiny_http_wire.specs.Device.{Feed};
+ghost use Rattle.tiny_http_stream.specs.Outlet.{output_of, outlet_ended, outlet_held, SentOn};
+ghost use Rattle.tiny_http_sending.specs.ResponseValue.{printing_in};
+ghost use Rattle.tiny_http_sending.specs.Sending.{CanSend, Sends, FailsOnceUnlessEnded, IsHonest};
+ghost use Rattle.tiny_http_message.specs.Framing.{framing};
+ghost use Rattle.tiny_http_message.specs.HeadReads.{head_framing};
+ghost use Rattle.tiny_http_request.specs.Request.{request_head, request_secure, request_address, is_expectation_failed};
 
 use crate::sequential::{
     SequentialReader, SequentialReaderBuilder, SequentialWriter, SequentialWriterBuilder,
@@ -46,6 +57,10 @@ pub enum RequestCreationError {
 }
 
 impl From<io::Error> for RequestCreationError {
+    ghost use Rattle.tiny_http_request.specs.declared.request.RequestCreationError.TheVariants.{CreationIoError};
+
+    ghost from_gives = { λ fault error. error ≡ CreationIoError fault };
+
     /// The body couldn't be read.
     fn from(error: io::Error) -> RequestCreationError {
         RequestCreationError::CreationIoError(error)
@@ -53,6 +68,10 @@ impl From<io::Error> for RequestCreationError {
 }
 
 impl From<AllocError> for RequestCreationError {
+    ghost use Rattle.tiny_http_request.specs.declared.request.RequestCreationError.TheVariants.{Memory};
+
+    ghost from_gives = { λ _ error. error ≡ Memory };
+
     /// Memory was refused.
     fn from(_error: AllocError) -> RequestCreationError {
         RequestCreationError::Memory
@@ -153,18 +172,35 @@ pub struct Request<R: ReadDevice + Drop, W: WriteDevice + Drop, Rt: Wait + Drop>
     writer: SequentialWriter<Outlet<W>, Rt>,
 }
 
-// Sends an answer, unless the output has ended. A fault by which the client has gone isn't reported.
-fn answer<W: WriteDevice, D: ReadDevice + Drop>(
+// Sends an answer, unless the output has ended: then its data aren't read.
+fn send_answer<W: WriteDevice, D: ReadDevice + Drop>(
     alloc: Global,
     outlet: &mut Outlet<W>,
     response: Response<D>,
     context: AnswerContext,
     now: HttpDate,
-) -> Result<(), io::Error> {
+) -> Result<(), io::Error>
+    ensures past { outlet_ended outlet.old ≡ true → (outlet.new ≡ outlet.old) × (result ≡ Ok tt) }
+    ensures sends { (content : Feed) → D.feed response.data_reader ≡ Some content → length content.bytes < 2 ^ 63
+        → outlet_ended outlet.old ≡ false → CanSend (output_of outlet.old)
+        → Sends (output_of outlet.old) (output_of outlet.new) (outlet_ended outlet.new) result response.answer content (printing_in context now) }
+    ensures fails_once { FailsOnceUnlessEnded (outlet_ended outlet.old) (output_of outlet.old) (output_of outlet.new) (outlet_ended outlet.new) }
+    ensures honest { IfErr result (λ e.
+        IsHonest (output_of outlet.old) (output_of outlet.new) response.answer (D.feed response.data_reader) (printing_in context now) (error_kind e)) }
+    ensures ended { OnErr result (outlet_ended outlet.new ≡ true) }
+    ensures flushed { outlet_held outlet.new ≡ [] }
+    ensures sent_on { SentOn outlet.new }
+{
     if outlet.is_ended() {
+        outlet.facts();
         return Ok(());
     }
-    match send(alloc, outlet, response, context, now) {
+    send(alloc, outlet, response, context, now)
+}
+
+// Passes over a fault by which the client has gone.
+fn unless_gone(sent: Result<(), io::Error>) -> Result<(), io::Error> {
+    match sent {
         Err(fault) if !is_client_gone(fault.kind()) => Err(fault),
         _ => Ok(()),
     }
@@ -190,7 +226,10 @@ impl<R: ReadDevice + Drop, W: WriteDevice + Drop, Rt: Wait + Drop> Request<R, W,
         waiting: Waiting,
         reader: Option<SequentialReader<Source<R>, Rt>>,
         writer: SequentialWriter<Outlet<W>, Rt>,
-    ) -> Request<R, W, Rt> {
+    ) -> Request<R, W, Rt>
+        ensures head { request_head result ≡ head }
+        ensures client { (request_secure result ≡ client.0) × (request_address result ≡ client.1) }
+    {
         let (secure, remote_addr) = client;
         let Waiting {
             answer_context,
@@ -212,37 +251,51 @@ impl<R: ReadDevice + Drop, W: WriteDevice + Drop, Rt: Wait + Drop> Request<R, W,
     }
 
     /// Whether the connection is encrypted.
-    pub fn secure(&self) -> bool {
+    pub fn secure(&self) -> bool
+        ensures { result ≡ request_secure self.now }
+    {
         self.secure
     }
 
     /// What is asked for.
-    pub fn method(&self) -> &Method {
+    pub fn method(&self) -> &Method
+        ensures { result.now ≡ (request_head self.now).method }
+    {
         &self.head.method
     }
 
     /// The request's target, as it was sent; it may be empty.
-    pub fn url(&self) -> &str {
+    pub fn url(&self) -> &str
+        ensures { result.now ≡ (request_head self.now).path }
+    {
         self.head.path.as_str()
     }
 
     /// The headers, in their order.
-    pub fn headers(&self) -> &[Header] {
+    pub fn headers(&self) -> &[Header]
+        ensures { result.now ≡ (request_head self.now).headers.items }
+    {
         self.head.headers.as_slice()
     }
 
     /// The version of the request line.
-    pub fn http_version(&self) -> &HTTPVersion {
+    pub fn http_version(&self) -> &HTTPVersion
+        ensures { result.now ≡ (request_head self.now).version }
+    {
         &self.head.version
     }
 
     /// The length that `Content-Length` says, where it can be read and no `Transfer-Encoding` hides it.
-    pub fn body_length(&self) -> Option<usize> {
+    pub fn body_length(&self) -> Option<usize>
+        ensures { result ≡ (request_head self.now).body_length }
+    {
         self.head.body_length
     }
 
     /// The client's address; none of a client of a Unix socket.
-    pub fn remote_addr(&self) -> Option<&SocketAddr> {
+    pub fn remote_addr(&self) -> Option<&SocketAddr>
+        ensures { option_copied result ≡ request_address self.now }
+    {
         self.remote_addr.as_ref()
     }
 
@@ -281,10 +334,10 @@ impl<R: ReadDevice + Drop, W: WriteDevice + Drop, Rt: Wait + Drop> Request<R, W,
             body,
             mut writer,
         } = self;
-        let sent = answer(alloc, writer.hold(), response, answer_context, now);
+        let sent = send_answer(alloc, writer.hold(), response, answer_context, now);
         writer.pass();
         drop(body);
-        sent
+        unless_gone(sent)
     }
 
     /// Takes the raw writer in place of an answer, and gives the body up. What is written is all that the client gets for the
@@ -314,7 +367,9 @@ impl<R: ReadDevice + Drop, W: WriteDevice + Drop, Rt: Wait + Drop> Request<R, W,
         protocol: &str,
         response: Response<D>,
         now: HttpDate,
-    ) -> Result<CustomStream<Body<R, Rt>, SequentialWriter<Outlet<W>, Rt>>, UpgradeError> {
+    ) -> Result<CustomStream<Body<R, Rt>, SequentialWriter<Outlet<W>, Rt>>, UpgradeError>
+        ensures { is_ok result ≡ list_all is_ascii protocol.now }
+    {
         if !are_ascii(protocol.as_bytes()) {
             return Err(UpgradeError::Protocol);
         }
@@ -375,7 +430,9 @@ fn begin_body<R: ReadDevice>(
     alloc: Global,
     source: &mut Source<R>,
     framing: Framing,
-) -> Result<Unread, RequestCreationError> {
+) -> Result<Unread, RequestCreationError>
+    ensures { IfErr result (λ e. is_expectation_failed e ≡ false) }
+{
     let length = framing.body_length.unwrap_or(0);
     match framing.form {
         Form::Rest => Ok(Unread::Rest),
@@ -391,7 +448,9 @@ fn begin_body<R: ReadDevice>(
 }
 
 // A body couldn't be read to its length, as its reader stopped so.
-fn cut_body(stop: Option<Stop>) -> RequestCreationError {
+fn cut_body(stop: Option<Stop>) -> RequestCreationError
+    ensures { is_expectation_failed result ≡ false }
+{
     let kind = match stop {
         Some(Stop::Fault(kind)) => kind,
         _ => ErrorKind::ConnectionAborted,
@@ -430,7 +489,13 @@ pub fn new_request<R: ReadDevice + Drop, W: WriteDevice + Drop, Rt: Wait + Copy>
     source_data: R,
     writer: W,
     now: HttpDate,
-) -> Result<Request<R, W, Rt>, RequestCreationError> {
+) -> Result<Request<R, W, Rt>, RequestCreationError>
+    ensures head { IfOk result (λ r. let h = request_head r in (h.method ≡ method) × (h.path ≡ path) × (h.version ≡ version) × (h.headers ≡ headers)) }
+    ensures framing { IfOk result (λ r. framing version headers.items ≡ Some (head_framing (request_head r))) }
+    ensures client { IfOk result (λ r. (request_secure r ≡ secure) × (request_address r ≡ remote_addr)) }
+    ensures refused { framing version headers.items ≡ None → result ≡ Err RequestCreationError.ExpectationFailed }
+    ensures expectation { IfErr result (λ e. is_expectation_failed e ≡ true → framing version headers.items ≡ None) }
+{
     let Some(framing) = framing_of(version, headers.as_slice()) else {
         return Err(RequestCreationError::ExpectationFailed);
     };

@@ -1,5 +1,8 @@
 //! Requests for the tests of a program that answers them.
-ghost use Rattle.std.specs.Prelude.{◌≡◌, ◌++◌, ◌∷◌, [], true, IfOk};
+ghost use Rattle.std.specs.Prelude.{◌≡◌, ◌++◌, ◌∷◌, [], true, false, Some, IfOk};
+ghost use Rattle.std.specs.Net.Socket.{socket_port};
+ghost use Rattle.tiny_http_wire.specs.Heads.{version};
+ghost use Rattle.tiny_http_request.specs.Request.{request_head, request_secure, request_address};
 ghost use Rattle.tiny_http_request.specs.Test.{IsLike};
 
 use crate::request::{Request, RequestCreationError, new_request};
@@ -73,7 +76,11 @@ fn length_header(alloc: Global, length: usize) -> Option<Header> {
 impl TestRequest {
     /// `GET /` in version 1.1 with no header and no body, from 127.0.0.1:23456, not encrypted. An error where memory was
     /// refused.
-    pub fn new(alloc: Global) -> Result<TestRequest, AllocError> {
+    pub fn new(alloc: Global) -> Result<TestRequest, AllocError>
+        ensures head { IfOk result (λ r. (r.method ≡ Method.Get) × (r.path ≡ 47 ∷ []) × (r.version ≡ version 1 1)) }
+        ensures none { IfOk result (λ r. (r.headers.items ≡ []) × (r.body.now ≡ [])) }
+        ensures client { IfOk result (λ r. (r.secure ≡ false) × (socket_port r.remote_addr ≡ 23456)) }
+    {
         let path = b"/".to_vec(alloc)?;
         let Ok(path) = AsciiString::from_ascii(path) else {
             unreachable!()
@@ -91,7 +98,9 @@ impl TestRequest {
 
     /// With this body.
     pub fn with_body(self, body: &'static str) -> TestRequest
-        ensures { result ≡ record self { body = body.entry } }
+        ensures body { result.body.now ≡ body.now }
+        ensures headers { result.headers ≡ self.headers }
+        ensures others { IsLike self result }
     {
         let mut request = self;
         request.body = body;
@@ -145,7 +154,9 @@ impl TestRequest {
 
     /// With this header behind those that it has. An error where memory was refused.
     pub fn with_header(self, header: Header) -> Result<TestRequest, AllocError>
-        ensures { IfOk result (λ r. (r.headers.items ≡ self.headers.items ++ (header ∷ [])) × IsLike self r) }
+        ensures headers { IfOk result (λ r. r.headers.items ≡ self.headers.items ++ (header ∷ [])) }
+        ensures body { IfOk result (λ r. r.body.now ≡ self.body.now) }
+        ensures others { IfOk result (λ r. IsLike self r) }
     {
         let mut request = self;
         request.headers.push(header)?;
@@ -159,7 +170,10 @@ impl TestRequest {
         rt: Rt,
         alloc: Global,
         now: HttpDate,
-    ) -> Result<Request<Cursor<Vec<u8>>, Nowhere, Rt>, RequestCreationError> {
+    ) -> Result<Request<Cursor<Vec<u8>>, Nowhere, Rt>, RequestCreationError>
+        ensures head { IfOk result (λ r. let h = request_head r in (h.method ≡ self.method) × (h.path ≡ self.path) × (h.version ≡ self.version)) }
+        ensures client { IfOk result (λ r. (request_secure r ≡ self.secure) × (request_address r ≡ Some self.remote_addr)) }
+    {
         let TestRequest {
             body,
             remote_addr,
