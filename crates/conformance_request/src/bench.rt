@@ -33,12 +33,14 @@ pub(crate) fn now() -> Result<HttpDate, Fail> {
     Ok(HttpDate::from_unix_secs(420_895_020)?)
 }
 
-/// A writer that keeps what it takes where a test can look. After so many bytes it fails. While its gate is 0 it waits.
+/// A writer that keeps what it takes where a test can look. After so many bytes it fails by this kind. While its gate is 0 it
+/// waits.
 #[derive(Drop)]
 pub(crate) struct Recorder<R: Wait + Clock> {
     rt: R,
     bytes: Arc<Mutex<Vec<u8>>>,
     room: usize,
+    kind: ErrorKind,
     gate: Arc<AtomicU64>,
 }
 
@@ -58,7 +60,7 @@ impl<R: Wait + Clock> Write for Recorder<R> {
         is_reached(&self.rt, &self.gate, 1);
         let n = buf.len().min(self.room);
         if n == 0 && !buf.is_empty() {
-            return Err(ErrorKind::Other.into());
+            return Err(self.kind.into());
         }
         self.bytes.lock(&self.rt).extend_from_slice(&buf[..n])?;
         self.room -= n;
@@ -81,12 +83,14 @@ pub(crate) struct Bench<R: Wait + Clock + Copy> {
     pub gate: Arc<AtomicU64>,
 }
 
-/// A connection to a client that sends these bytes and ends, over a writer with so much room, whose gate has this count.
+/// A connection to a client that sends these bytes and ends, over a writer with so much room that then fails so, and
+/// whose gate has this count.
 pub(crate) fn gated<R: Wait + Clock + Copy>(
     rt: R,
     alloc: Global,
     client: &[u8],
     room: usize,
+    kind: ErrorKind,
     gate: u64,
 ) -> Result<Bench<R>, AllocError> {
     let output = Arc::new(alloc, Mutex::new(Vec::new(alloc)))?;
@@ -95,6 +99,7 @@ pub(crate) fn gated<R: Wait + Clock + Copy>(
         rt,
         bytes: Arc::try_clone(&output)?,
         room,
+        kind,
         gate: Arc::try_clone(&gate)?,
     });
     let reader = Canned::new(client.to_vec(alloc)?, None);
@@ -112,7 +117,7 @@ pub(crate) fn connect<R: Wait + Clock + Copy>(
     alloc: Global,
     client: &[u8],
 ) -> Result<Bench<R>, AllocError> {
-    gated(rt, alloc, client, AMPLE, 1)
+    gated(rt, alloc, client, AMPLE, ErrorKind::Other, 1)
 }
 
 /// The next request, which there must be.

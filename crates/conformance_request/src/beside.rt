@@ -1,6 +1,7 @@
 //! What goes on beside a held writer.
 use crate::bench::{Bench, DROPPED, TEXT, assert_output, gated, is_reached, next, now, text};
 use httpdate::HttpDate;
+use std::io::ErrorKind;
 use std::sync::atomic::{AtomicU64, Ordering};
 use std::sync::{Arc, Wait};
 use std::test::Fail;
@@ -26,7 +27,7 @@ fn drop_next<R: Wait + Clock + Copy>(
 fn ask_beside_held_writer(rt: HostRuntime) -> Result<(), Fail> {
     let alloc = rt.alloc();
     let client = b"GET / HTTP/1.1\r\n\r\nGET / HTTP/1.1\r\n\r\n";
-    let mut bench = gated(rt, alloc, client, 10_000, 0)?;
+    let mut bench = gated(rt, alloc, client, 10_000, ErrorKind::Other, 0)?;
     let output = Arc::try_clone(&bench.output)?;
     let gate = Arc::try_clone(&bench.gate)?;
     let handed = Arc::new(alloc, AtomicU64::new(0))?;

@@ -1,5 +1,5 @@
 //! What comes of calls on requests, in their turn and out of it.
-use crate::bench::{Asked, DATED, DROPPED, TEXT, assert_output, connect, next, now, text};
+use crate::bench::{Asked, DATED, DROPPED, TEXT, assert_output, connect, gated, next, now, text};
 use httpdate::HttpDate;
 use std::alloc::Global;
 use std::io::{Read, Write};
@@ -208,4 +208,20 @@ fn after_the_end_there_is_none(rt: HostRuntime) -> Result<(), Fail> {
         assert!(rt; bench.client.next(now()?)?.is_none());
     }
     assert_output(&rt, alloc, &bench.output, &[DROPPED])
+}
+
+#[test]
+fn a_client_that_has_gone_is_no_fault(rt: HostRuntime) -> Result<(), Fail> {
+    let alloc = rt.alloc();
+    let gone = ErrorKind::BrokenPipe;
+    for (kind, is_fault) in [(gone, false), (ErrorKind::Other, true)] {
+        let mut bench = gated(rt, alloc, TWO, 10, kind, 1)?;
+        let first = next(&mut bench)?;
+        let second = next(&mut bench)?;
+        let answered = first.respond(text(alloc, "a")?, now()?);
+        assert_eq!(rt; answered.is_err(), is_fault);
+        second.respond(text(alloc, "b")?, now()?)?;
+        assert_output(&rt, alloc, &bench.output, &["HTTP/1.1 2"])?;
+    }
+    Ok(())
 }

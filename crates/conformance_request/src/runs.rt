@@ -247,7 +247,7 @@ fn by_requests<R: Wait + Clock + Copy>(
     plan: Plan,
     room: usize,
 ) -> Result<Outcome, Fail> {
-    let mut bench = gated(rt, alloc, CLIENT, room, 1)?;
+    let mut bench = gated(rt, alloc, CLIENT, room, ErrorKind::Other, 1)?;
     let mut requests = [
         Some(next(&mut bench)?),
         Some(next(&mut bench)?),

@@ -1,7 +1,7 @@
 //! A connection whose requests threads may hold.
 ghost use Rattle.std.specs.Prelude.{◌≡◌, true, Ok, None, IfOk, OnErr, IfSome, IfNone};
-ghost use Rattle.tiny_http_message.specs.Exchange.{exchange_head};
-ghost use Rattle.tiny_http_request.specs.Request.{request_head, request_secure, request_address};
+ghost use Rattle.tiny_http_message.specs.Exchange.{exchange_of};
+ghost use Rattle.tiny_http_request.specs.Request.{request_head, request_secure, request_address, request_waiting};
 
 use crate::request::Request;
 use crate::sequential::{SequentialReader, SequentialReaderBuilder, SequentialWriterBuilder};
@@ -94,7 +94,7 @@ impl<R: ReadDevice + Drop, W: WriteDevice + Drop, Rt: Wait + Copy> ClientConnect
         exchange: Exchange,
     ) -> Result<Request<R, W, Rt>, AllocError>
         requires { IsOver self.old }
-        ensures head { IfOk result (λ request. request_head request ≡ exchange_head exchange) }
+        ensures exchange { IfOk result (λ request. exchange ≡ exchange_of (request_head request) (request_waiting request)) }
         ensures err { OnErr result (IsOver self.new) }
         ensures last { IfOk result (λ request. (request_head request).is_last ≡ true → IsOver self.new) }
         ensures client { IfOk result (λ request. (request_secure request ≡ client_secure self.old) × (request_address request ≡ client_address self.old)) }

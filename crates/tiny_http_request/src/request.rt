@@ -9,8 +9,10 @@ ghost use Rattle.tiny_http_stream.specs.Outlet.{output_of, outlet_ended, outlet_
 ghost use Rattle.tiny_http_sending.specs.ResponseValue.{printing_in};
 ghost use Rattle.tiny_http_sending.specs.Sending.{CanSend, Sends, FailsOnceUnlessEnded, IsHonest};
 ghost use Rattle.tiny_http_message.specs.Framing.{framing};
+ghost use Rattle.tiny_http_message.specs.Exchange.{KeepsHead};
 ghost use Rattle.tiny_http_message.specs.HeadReads.{head_framing};
-ghost use Rattle.tiny_http_request.specs.Request.{request_head, request_secure, request_address, is_expectation_failed};
+ghost use Rattle.tiny_http_message.specs.Pipeline.{is_head_method};
+ghost use Rattle.tiny_http_request.specs.Request.{request_head, request_secure, request_address, request_waiting, is_expectation_failed};
 
 use crate::sequential::{
     SequentialReader, SequentialReaderBuilder, SequentialWriter, SequentialWriterBuilder,
@@ -106,7 +108,9 @@ impl<R: ReadDevice + Drop, Rt: Wait + Drop> Body<R, Rt> {
     pub(crate) fn new(
         unread: Unread,
         reader: Option<SequentialReader<Source<R>, Rt>>,
-    ) -> Body<R, Rt> {
+    ) -> Body<R, Rt>
+        ensures { result.unread ≡ unread }
+    {
         Body { unread, reader }
     }
 
@@ -228,6 +232,7 @@ impl<R: ReadDevice + Drop, W: WriteDevice + Drop, Rt: Wait + Drop> Request<R, W,
         writer: SequentialWriter<Outlet<W>, Rt>,
     ) -> Request<R, W, Rt>
         ensures head { request_head result ≡ head }
+        ensures waiting { request_waiting result ≡ waiting }
         ensures client { (request_secure result ≡ client.0) × (request_address result ≡ client.1) }
     {
         let (secure, remote_addr) = client;
@@ -458,7 +463,36 @@ fn cut_body(stop: Option<Stop>) -> RequestCreationError
     RequestCreationError::CreationIoError(kind.into())
 }
 
-// A reader and a writer of their own, the reader only where the body is to be read from the source.
+// What is kept of a request until it is answered.
+fn waiting_of(
+    alloc: Global,
+    head: &Head,
+    body: Unread,
+    now: HttpDate,
+) -> Result<Waiting, AllocError>
+    ensures { IfOk result (λ w. (w.body ≡ body) × KeepsHead w head.now now) }
+{
+    let answer_context = AnswerContext {
+        version: head.version,
+        asked_coding: asked_coding(head.headers.as_slice()),
+        no_body: is_head(&head.method),
+    };
+    let dropped = DropText::new(alloc, answer_context, now)?;
+    Ok(Waiting {
+        answer_context,
+        owes_continue: head.owes_continue,
+        dropped,
+        body,
+    })
+}
+
+fn is_head(method: &Method) -> bool
+    ensures { result ≡ is_head_method method.now }
+{
+    matches!(method, Method::Head)
+}
+
+// The only reader of a source, where the body is to be read from it.
 fn alone<R: ReadDevice + Drop, Rt: Wait + Copy>(
     rt: Rt,
     alloc: Global,
@@ -492,6 +526,7 @@ pub fn new_request<R: ReadDevice + Drop, W: WriteDevice + Drop, Rt: Wait + Copy>
 ) -> Result<Request<R, W, Rt>, RequestCreationError>
     ensures head { IfOk result (λ r. let h = request_head r in (h.method ≡ method) × (h.path ≡ path) × (h.version ≡ version) × (h.headers ≡ headers)) }
     ensures framing { IfOk result (λ r. framing version headers.items ≡ Some (head_framing (request_head r))) }
+    ensures keeps { IfOk result (λ r. KeepsHead (request_waiting r) (request_head r) now) }
     ensures client { IfOk result (λ r. (request_secure r ≡ secure) × (request_address r ≡ remote_addr)) }
     ensures refused { framing version headers.items ≡ None → result ≡ Err RequestCreationError.ExpectationFailed }
     ensures expectation { IfErr result (λ e. is_expectation_failed e ≡ true → framing version headers.items ≡ None) }
@@ -501,12 +536,6 @@ pub fn new_request<R: ReadDevice + Drop, W: WriteDevice + Drop, Rt: Wait + Copy>
     };
     let mut source = Source::new(source_data);
     let body = begin_body(alloc, &mut source, framing)?;
-    let answer_context = AnswerContext {
-        version,
-        asked_coding: asked_coding(headers.as_slice()),
-        no_body: matches!(method, Method::Head),
-    };
-    let dropped = DropText::new(alloc, answer_context, now)?;
     let reader = alone(rt, alloc, source, &body)?;
     let writer = SequentialWriterBuilder::new(rt, alloc, Outlet::new(writer))?.next()?;
     let head = Head {
@@ -519,12 +548,7 @@ pub fn new_request<R: ReadDevice + Drop, W: WriteDevice + Drop, Rt: Wait + Copy>
         owes_continue: framing.owes_continue,
         is_last: framing.is_last,
     };
-    let waiting = Waiting {
-        answer_context,
-        owes_continue: framing.owes_continue,
-        dropped,
-        body,
-    };
+    let waiting = waiting_of(alloc, &head, body, now)?;
     let client = (secure, remote_addr);
     Ok(Request::from_parts(alloc, client, head, waiting, reader, writer))
 }
