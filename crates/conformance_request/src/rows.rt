@@ -2,7 +2,7 @@
 use crate::bench::{Asked, DATED, DROPPED, TEXT, assert_output, connect, gated, next, now, text};
 use httpdate::HttpDate;
 use std::alloc::Global;
-use std::io::{Read, Write};
+use std::io::{ErrorKind, Read, Write};
 use std::sync::Wait;
 use std::test::Fail;
 use std::time::{Clock, Duration};
