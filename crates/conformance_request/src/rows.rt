@@ -225,3 +225,26 @@ fn a_client_that_has_gone_is_no_fault(rt: HostRuntime) -> Result<(), Fail> {
     }
     Ok(())
 }
+
+// A counted body of more bytes than are read with a head, and a request after it.
+fn counted(alloc: Global) -> Result<Vec<u8>, Fail> {
+    let mut client = b"POST / HTTP/1.1\r\nContent-Length: 1025\r\n\r\n".to_vec(alloc)?;
+    client.resize(client.len().saturating_add(1025), b'x')?;
+    client.extend_from_slice(b"GET /b HTTP/1.1\r\n\r\n")?;
+    Ok(client)
+}
+
+#[test]
+fn a_counted_body_that_is_given_up_is_skipped(rt: HostRuntime) -> Result<(), Fail> {
+    let alloc = rt.alloc();
+    let client = counted(alloc)?;
+    let mut dropped = connect(rt, alloc, client.as_slice())?;
+    let mut request = next(&mut dropped)?;
+    assert_eq!(rt; &five(request.as_reader(now()?))?, b"xxxxx");
+    drop(request);
+    assert_eq!(rt; next(&mut dropped)?.url(), "/b");
+    let mut answered = connect(rt, alloc, client.as_slice())?;
+    next(&mut answered)?.respond(text(alloc, "a")?, now()?)?;
+    assert_eq!(rt; next(&mut answered)?.url(), "/b");
+    Ok(())
+}
