@@ -255,7 +255,9 @@ fn by_requests<R: Wait + Clock + Copy>(
     ];
     let mut faults = Vec::new(alloc);
     for (number, way) in plan {
-        if let Some(request) = requests[number % 3].take() {
+        if let Some(place) = requests.get_mut(number)
+            && let Some(request) = place.take()
+        {
             treat(alloc, request, way, &mut faults)?;
         }
     }
