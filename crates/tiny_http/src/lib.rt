@@ -1,8 +1,15 @@
 //! What the threads of a small HTTP server share: a queue, a pool of workers, two counts. Each is a plain value under one
-//! lock. It stands on the standard library alone; the server and its sockets will stand here, on `tiny_http_core`.
+//! lock. The server and its sockets will stand here. It names the modules of `tiny_http_request`, `tiny_http_core` and
+//! `tiny_http_wire` again, so a program needs to list no other crate.
 #![tactic(auto)]
 
 pub mod headcount;
 pub mod messages_queue;
 pub mod roster;
 pub mod task_pool;
+
+pub use tiny_http_core::{custom_stream, driver, equal_reader, exchange, fused_reader, outlet};
+pub use tiny_http_core::{source, turns, upgrading};
+pub use tiny_http_request::{client, request, sequential, test};
+pub use tiny_http_wire::{ascii, chunked, coding, common, device, encoder, grammar, header_value};
+pub use tiny_http_wire::{number, response};

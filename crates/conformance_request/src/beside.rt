@@ -1,0 +1,49 @@
+//! What goes on beside a held writer.
+use crate::bench::{Bench, DROPPED, TEXT, assert_output, gated, is_reached, next, now, text};
+use httpdate::HttpDate;
+use std::io::ErrorKind;
+use std::sync::atomic::{AtomicU64, Ordering};
+use std::sync::{Arc, Wait};
+use std::test::Fail;
+use std::thread;
+use std::time::Clock;
+
+// Takes the next request and counts it, and then drops it.
+fn drop_next<R: Wait + Clock + Copy>(
+    bench: &mut Bench<R>,
+    date: HttpDate,
+    handed: &AtomicU64,
+) -> bool {
+    let Ok(Some(request)) = bench.client.next(date) else {
+        return false;
+    };
+    handed.fetch_add(1, Ordering::SeqCst);
+    drop(request);
+    true
+}
+
+// A writer that holds an answer holds up no other thread: the next request is handed out meanwhile.
+#[test]
+fn ask_beside_held_writer(rt: HostRuntime) -> Result<(), Fail> {
+    let alloc = rt.alloc();
+    let client = b"GET / HTTP/1.1\r\n\r\nGET / HTTP/1.1\r\n\r\n";
+    let mut bench = gated(rt, alloc, client, 10_000, ErrorKind::Other, 0)?;
+    let output = Arc::try_clone(&bench.output)?;
+    let gate = Arc::try_clone(&bench.gate)?;
+    let handed = Arc::new(alloc, AtomicU64::new(0))?;
+    let counted = Arc::try_clone(&handed)?;
+    let first = next(&mut bench)?;
+    let answer = text(alloc, "a")?;
+    let date = now()?;
+    let held = thread::spawn(&rt, move || first.respond(answer, date).is_ok());
+    let held = held.map_err(|_| "no thread")?;
+    let asks = thread::spawn(&rt, move || drop_next(&mut bench, date, &counted));
+    let asks = asks.map_err(|_| "no thread")?;
+    assert!(rt; is_reached(&rt, &handed, 1));
+    assert_output(&rt, alloc, &output, &[])?;
+    gate.store(1, Ordering::SeqCst);
+    assert!(rt; held.join(&rt));
+    assert!(rt; asks.join(&rt));
+    let sent = &[TEXT, "Content-Length: 1\r\n\r\na", DROPPED];
+    assert_output(&rt, alloc, &output, sent)
+}

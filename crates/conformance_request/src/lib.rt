@@ -1,0 +1,15 @@
+//! Tests of `tiny_http_request`: requests that threads hold, over memory.
+#![tactic(auto)]
+
+#[cfg(test)]
+mod bench;
+#[cfg(test)]
+mod beside;
+#[cfg(test)]
+mod rows;
+#[cfg(test)]
+mod runs;
+#[cfg(test)]
+mod storm;
+#[cfg(test)]
+mod test_request;

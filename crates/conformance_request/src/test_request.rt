@@ -1,0 +1,87 @@
+//! Requests made of their parts.
+use httpdate::HttpDate;
+use std::io::{ErrorKind, Read};
+use std::test::Fail;
+use tiny_http_request::request::RequestCreationError;
+use tiny_http_request::test::TestRequest;
+use tiny_http_wire::common::{HTTPVersion, Header};
+
+const SECONDS: u64 = 420_895_020;
+
+#[test]
+fn a_new_one_has_its_length_alone(rt: HostRuntime) -> Result<(), Fail> {
+    let alloc = rt.alloc();
+    let now = HttpDate::from_unix_secs(SECONDS)?;
+    let Ok(request) = TestRequest::new(alloc)?.into_request(rt, alloc, now) else {
+        return Err("refused".into());
+    };
+    assert_eq!(rt; request.headers().len(), 1);
+    for header in request.headers() {
+        assert_eq!(rt;
+            format!(in alloc; "{header}")?.as_str(),
+            "Content-Length: 0"
+        );
+    }
+    assert_eq!(rt; request.url(), "/");
+    assert!(rt; !request.secure());
+    assert_eq!(rt;
+        format!(in alloc; "{request:?}")?.as_str(),
+        "Request(GET / from Some(127.0.0.1:23456))"
+    );
+    Ok(())
+}
+
+#[test]
+fn a_body_is_read(rt: HostRuntime) -> Result<(), Fail> {
+    let alloc = rt.alloc();
+    let now = HttpDate::from_unix_secs(SECONDS)?;
+    let made = TestRequest::new(alloc)?.with_body("42");
+    let Ok(mut request) = made.into_request(rt, alloc, now) else {
+        return Err("refused".into());
+    };
+    assert_eq!(rt; request.body_length(), Some(2));
+    let mut text = String::new(alloc);
+    request.as_reader(now).read_to_string(&mut text)?;
+    assert_eq!(rt; text.as_str(), "42");
+    Ok(())
+}
+
+#[test]
+fn another_expectation_fails(rt: HostRuntime) -> Result<(), Fail> {
+    let alloc = rt.alloc();
+    let now = HttpDate::from_unix_secs(SECONDS)?;
+    let header = Header::from_str(alloc, "Expect: 189-dummy")?;
+    let made = TestRequest::new(alloc)?.with_header(header)?;
+    let made = made.into_request(rt, alloc, now);
+    assert!(rt; matches!(made, Err(RequestCreationError::ExpectationFailed)));
+    Ok(())
+}
+
+#[test]
+fn a_cut_body_fails(rt: HostRuntime) -> Result<(), Fail> {
+    let alloc = rt.alloc();
+    let now = HttpDate::from_unix_secs(SECONDS)?;
+    let header = Header::from_str(alloc, "Content-Length: 5")?;
+    let made = TestRequest::new(alloc)?
+        .with_body("42")
+        .with_header(header)?;
+    match made.into_request(rt, alloc, now) {
+        Err(RequestCreationError::CreationIoError(fault)) => {
+            assert_eq!(rt; fault.kind(), ErrorKind::ConnectionAborted);
+        }
+        _ => return Err("not refused".into()),
+    }
+    Ok(())
+}
+
+#[test]
+fn version_2_is_accepted(rt: HostRuntime) -> Result<(), Fail> {
+    let alloc = rt.alloc();
+    let now = HttpDate::from_unix_secs(SECONDS)?;
+    let made = TestRequest::new(alloc)?.with_http_version(HTTPVersion(2, 0));
+    let Ok(request) = made.into_request(rt, alloc, now) else {
+        return Err("refused".into());
+    };
+    assert_eq!(rt; *request.http_version(), HTTPVersion(2, 0));
+    Ok(())
+}

@@ -1,0 +1,4 @@
+pub mod Sequential
+pub mod Request
+pub mod Client
+pub mod Test

@@ -1,0 +1,8 @@
+-- What clauses read of a sequential writer.
+use Rattle.std.specs.Prelude.{[], None, false}
+use Rattle.tiny_http_device.specs.Device.{Sink}
+use Rattle.tiny_http_request.specs.declared.sequential.SequentialWriter.{SequentialWriter}
+
+-- what it states as a writer: its failures, and no bytes
+abbrev pub writer_sink : {W : Type 0} → {R : Type 0} → SequentialWriter W R → Sink
+writer_sink w = record { taken = None; sent = []; failures = w.failures; last_kind = None; has_ended = false }

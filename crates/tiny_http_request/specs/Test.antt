@@ -1,0 +1,17 @@
+-- What clauses read of a test's request.
+use Rattle.std.specs.Prelude.{◌≡◌, [], None, false}
+use Rattle.tiny_http_device.specs.Device.{Sink}
+use Rattle.tiny_http_request.specs.declared.test.Nowhere.{Nowhere}
+use Rattle.tiny_http_request.specs.declared.test.TestRequest.{TestRequest}
+
+-- what a writer states that takes all bytes and keeps none: it never fails
+abbrev pub nowhere_sink : Nowhere → Sink
+nowhere_sink _ = record { taken = None; sent = []; failures = 0; last_kind = None; has_ended = false }
+
+-- the two are the same but for their headers and their bodies
+pub record IsLike (old new : TestRequest) : Type 0 where
+  pub remote_addr : new.remote_addr ≡ old.remote_addr
+  pub secure : new.secure ≡ old.secure
+  pub method : new.method ≡ old.method
+  pub path : new.path ≡ old.path
+  pub version : new.version ≡ old.version

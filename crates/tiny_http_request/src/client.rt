@@ -1,0 +1,140 @@
+//! A connection whose requests threads may hold.
+ghost use Rattle.std.specs.Prelude.{◌≡◌, true, Ok, None, IfOk, OnErr, IfSome, IfNone};
+ghost use Rattle.tiny_http_message.specs.Exchange.{exchange_of};
+ghost use Rattle.tiny_http_request.specs.Request.{request_head, request_secure, request_address, request_waiting};
+
+use crate::request::Request;
+use crate::sequential::{SequentialReader, SequentialReaderBuilder, SequentialWriterBuilder};
+use httpdate::HttpDate;
+use std::alloc::{AllocError, Global};
+use std::net::SocketAddr;
+use std::sync::Wait;
+use tiny_http_device::device::{ReadDevice, WriteDevice};
+use tiny_http_message::exchange::{Exchange, HeadRead, read_head};
+use tiny_http_stream::outlet::Outlet;
+use tiny_http_stream::source::Source;
+
+/// A connection, whose requests are handed out one after another. Any thread may hold one, also while the next is read.
+#[derive(Drop)]
+pub struct ClientConnection<R: ReadDevice + Drop, W: WriteDevice + Drop, Rt: Wait + Drop> {
+    alloc: Global,
+    secure: bool,
+    remote_addr: Option<SocketAddr>,
+    source: SequentialReaderBuilder<Source<R>, Rt>,
+    sink: SequentialWriterBuilder<Outlet<W>, Rt>,
+    // None once the connection has no further request.
+    next_head: Option<SequentialReader<Source<R>, Rt>>,
+}
+
+impl<R: ReadDevice + Drop, W: WriteDevice + Drop, Rt: Wait + Copy> ClientConnection<R, W, Rt> {
+    ghost use Rattle.tiny_http_request.specs.Client.{IsOver, client_secure, client_address};
+
+    /// A connection over a writer and a reader, on which nothing was read yet. `remote_addr` and `secure` are what its requests
+    /// say. An error where memory was refused.
+    pub fn over(
+        rt: Rt,
+        alloc: Global,
+        writer: W,
+        reader: R,
+        remote_addr: Option<SocketAddr>,
+        secure: bool,
+    ) -> Result<ClientConnection<R, W, Rt>, AllocError>
+        ensures { IfOk result (λ c. (client_secure c ≡ secure) × (client_address c ≡ remote_addr)) }
+    {
+        let mut source = SequentialReaderBuilder::new(rt, alloc, Source::new(reader))?;
+        let sink = SequentialWriterBuilder::new(rt, alloc, Outlet::new(writer))?;
+        let next_head = Some(source.next()?);
+        Ok(ClientConnection {
+            alloc,
+            secure,
+            remote_addr,
+            source,
+            sink,
+            next_head,
+        })
+    }
+
+    /// Whether the connection is encrypted.
+    pub fn secure(&self) -> bool
+        ensures { result ≡ client_secure self.now }
+    {
+        self.secure
+    }
+
+    /// Goes to the next request, and hands it out; `None` once the connection has no further one, from then on. It waits for
+    /// the client, and while the last request's body holds the input: until that was read to its end or given up. Refused heads
+    /// are answered in their turn, without waiting for it, and end the requests; after most of those of a version above 1.1 the
+    /// next head is read. An error where memory was refused; then each later call answers `None`. `now` dates the answers to
+    /// refused heads, and the 500 of this request if it is dropped.
+    pub fn next(&mut self, now: HttpDate) -> Result<Option<Request<R, W, Rt>>, AllocError>
+        ensures over { IsOver self.old → (result ≡ Ok None) × IsOver self.new }
+        ensures none { IfOk result (λ r. IfNone r (IsOver self.new)) }
+        ensures err { OnErr result (IsOver self.new) }
+        ensures last { IfOk result (λ r. IfSome r (λ request. (request_head request).is_last ≡ true → IsOver self.new)) }
+        ensures client { IfOk result (λ r. IfSome r (λ request. (request_secure request ≡ client_secure self.old) × (request_address request ≡ client_address self.old))) }
+        ensures same { (client_secure self.new ≡ client_secure self.old) × (client_address self.new ≡ client_address self.old) }
+    {
+        let Some(mut reader) = self.next_head.take() else {
+            return Ok(None);
+        };
+        match read_request(self.alloc, &mut self.sink, &mut reader, now) {
+            Ok(Some(exchange)) => match self.hand_out(reader, exchange) {
+                Ok(request) => Ok(Some(request)),
+                Err(e) => Err(e),
+            },
+            Ok(None) => Ok(None),
+            Err(e) => Err(e),
+        }
+    }
+
+    // Hands out a request that was read by this reader. The reader goes with a body that is read from it.
+    fn hand_out(
+        &mut self,
+        reader: SequentialReader<Source<R>, Rt>,
+        exchange: Exchange,
+    ) -> Result<Request<R, W, Rt>, AllocError>
+        requires { IsOver self.old }
+        ensures exchange { IfOk result (λ request. exchange ≡ exchange_of (request_head request) (request_waiting request)) }
+        ensures err { OnErr result (IsOver self.new) }
+        ensures last { IfOk result (λ request. (request_head request).is_last ≡ true → IsOver self.new) }
+        ensures client { IfOk result (λ request. (request_secure request ≡ client_secure self.old) × (request_address request ≡ client_address self.old)) }
+        ensures same { (client_secure self.new ≡ client_secure self.old) × (client_address self.new ≡ client_address self.old) }
+    {
+        let (head, waiting) = exchange.into_parts();
+        let writer = self.sink.next()?;
+        let client = (self.secure, self.remote_addr);
+        if !waiting.body.holds_reader() {
+            if !head.is_last {
+                self.next_head = Some(reader);
+            }
+            return Ok(Request::from_parts(self.alloc, client, head, waiting, None, writer));
+        }
+        if !head.is_last {
+            self.next_head = Some(self.source.next()?);
+        }
+        let reader = Some(reader);
+        Ok(Request::from_parts(self.alloc, client, head, waiting, reader, writer))
+    }
+}
+
+// Reads heads up to that of the next request. Refused ones are answered in their turn. `None` where no request comes.
+fn read_request<R: ReadDevice + Drop, W: WriteDevice + Drop, Rt: Wait + Copy>(
+    alloc: Global,
+    sink: &mut SequentialWriterBuilder<Outlet<W>, Rt>,
+    reader: &mut SequentialReader<Source<R>, Rt>,
+    now: HttpDate,
+) -> Result<Option<Exchange>, AllocError> {
+    for _ in 0..u64::MAX {
+        match read_head(alloc, reader.hold(), now)? {
+            HeadRead::Request(exchange) => return Ok(Some(exchange)),
+            HeadRead::Refused { text, last, .. } => {
+                sink.next()?.leave(text);
+                if last {
+                    return Ok(None);
+                }
+            }
+            HeadRead::Ended(_) => return Ok(None),
+        }
+    }
+    Ok(None)
+}

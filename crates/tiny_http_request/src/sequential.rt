@@ -1,0 +1,216 @@
+//! A reader or a writer that its holders use one after another, in the order in which they were made.
+ghost use Rattle.std.specs.Prelude.{◌≡◌, [], length, Ok, None, OnOk, false};
+ghost use Rattle.tiny_http_device.specs.Device.{Reads, Puts, PutsFront, HoldsNothing, next_count};
+
+use crate::line::{Held, Line, Turn};
+use std::alloc::{AllocError, Global};
+use std::io;
+use std::io::{ErrorKind, Read, Write};
+use std::sync::{Arc, Wait};
+use tiny_http_device::device::WriteDevice;
+
+/// Gives out readers, each of which reads once those before it are dropped.
+#[derive(Drop)]
+pub struct SequentialReaderBuilder<I, R: Wait> {
+    rt: R,
+    alloc: Global,
+    line: Arc<Line<I>>,
+}
+
+impl<I: Read + Drop, R: Wait + Copy> SequentialReaderBuilder<I, R> {
+    /// Gives out readers of this one. An error where memory was refused.
+    pub fn new(
+        rt: R,
+        alloc: Global,
+        reader: I,
+    ) -> Result<SequentialReaderBuilder<I, R>, AllocError> {
+        let line = Line::new(alloc, reader)?;
+        Ok(SequentialReaderBuilder { rt, alloc, line })
+    }
+
+    /// The next reader. An error where memory was refused, or 2^64 - 1 readers were given out.
+    pub fn next(&mut self) -> Result<SequentialReader<I, R>, AllocError> {
+        let turn = Turn::new(self.rt, self.alloc, &self.line)?;
+        Ok(SequentialReader { turn })
+    }
+}
+
+/// Reads in its turn: its first read waits until those before it are dropped. Dropping it finishes its turn, or leaves it if
+/// the turn has not come: that waits for nobody's turn.
+pub struct SequentialReader<I: Read + Drop, R: Wait + Drop> {
+    turn: Turn<I, R>,
+}
+
+impl<I: Read + Drop, R: Wait + Drop> SequentialReader<I, R> {
+    /// Waits for its turn, and lends the reader.
+    pub(crate) fn hold(&mut self) -> &mut I {
+        self.turn.hold()
+    }
+
+    /// The reader, if its turn has come and it was used.
+    pub(crate) fn held(&mut self) -> Option<&mut I> {
+        self.turn.held()
+    }
+}
+
+impl<I: Read + Drop, R: Wait + Drop> Read for SequentialReader<I, R> {
+    /// Waits for its turn, and reads once.
+    fn read(&mut self, buf: &mut [u8]) -> io::Result<usize> {
+        self.turn.hold().read(buf)
+    }
+}
+
+impl<I: Read + Drop, R: Wait + Drop> Drop for SequentialReader<I, R> {
+    fn drop(self) {
+        let Self { turn } = self;
+        let none = Vec::new(turn.alloc());
+        let Some((mut held, _)) = turn.leave(none) else {
+            return;
+        };
+        for _ in 0..u64::MAX {
+            let Some((next, _)) = held.finish() else {
+                return;
+            };
+            held = next;
+        }
+    }
+}
+
+/// Gives out writers, each of which writes once those before it are dropped.
+#[derive(Drop)]
+pub struct SequentialWriterBuilder<W, R: Wait> {
+    rt: R,
+    alloc: Global,
+    line: Arc<Line<W>>,
+}
+
+impl<W: Write + Drop, R: Wait + Copy> SequentialWriterBuilder<W, R> {
+    /// Gives out writers to this one. An error where memory was refused.
+    pub fn new(
+        rt: R,
+        alloc: Global,
+        writer: W,
+    ) -> Result<SequentialWriterBuilder<W, R>, AllocError> {
+        let line = Line::new(alloc, writer)?;
+        Ok(SequentialWriterBuilder { rt, alloc, line })
+    }
+
+    /// The next writer. An error where memory was refused, or 2^64 - 1 writers were given out.
+    pub fn next(&mut self) -> Result<SequentialWriter<W, R>, AllocError> {
+        let turn = Turn::new(self.rt, self.alloc, &self.line)?;
+        Ok(SequentialWriter { turn, failures: 0 })
+    }
+}
+
+// Finishes a number that is held, and writes the texts of those after it that were left. What they meet isn't reported.
+fn pass_writer<W: Write + Drop, R: Wait + Drop>(held: Held<W, R>) {
+    let mut held = held;
+    for _ in 0..u64::MAX {
+        let Some((next, text)) = held.finish() else {
+            return;
+        };
+        held = next;
+        write_text(held.item(), &text);
+    }
+}
+
+// Ends a turn with a text.
+fn leave_writer<W: Write + Drop, R: Wait + Drop>(turn: Turn<W, R>, text: Vec<u8>) {
+    if let Some((mut held, text)) = turn.leave(text) {
+        write_text(held.item(), &text);
+        pass_writer(held);
+    }
+}
+
+// Writes a text and flushes.
+fn write_text<W: Write>(writer: &mut W, text: &[u8]) {
+    let _ = writer.write_all(text);
+    let _ = writer.flush();
+}
+
+/// Writes in its turn: its first write or flush waits until those before it are dropped. Dropping it flushes and finishes its
+/// turn, or leaves it if the turn has not come: that waits for nobody's turn. As a `WriteDevice` it counts its own failures,
+/// and states no bytes.
+pub struct SequentialWriter<W: Write + Drop, R: Wait + Drop> {
+    turn: Turn<W, R>,
+    failures: u64,
+}
+
+impl<W: Write + Drop, R: Wait + Drop> SequentialWriter<W, R> {
+    /// Waits for its turn, and lends the writer.
+    pub(crate) fn hold(&mut self) -> &mut W {
+        self.turn.hold()
+    }
+
+    /// Ends its turn with a text, which is written once the turn has come. It waits for no turn.
+    pub fn leave(self, text: Vec<u8>) {
+        let Self { turn, failures: _ } = self;
+        leave_writer(turn, text);
+    }
+
+    /// Ends its turn. What was written must have been flushed. It waits for no turn.
+    pub(crate) fn pass(self) {
+        let Self { turn, failures: _ } = self;
+        let none = Vec::new(turn.alloc());
+        if let Some((held, _)) = turn.leave(none) {
+            pass_writer(held);
+        }
+    }
+}
+
+impl<W: Write + Drop, R: Wait + Drop> Write for SequentialWriter<W, R> {
+    /// Waits for its turn, and writes once.
+    fn write(&mut self, buf: &[u8]) -> io::Result<usize> {
+        self.turn.hold().write(buf)
+    }
+
+    /// Waits for its turn, and flushes.
+    fn flush(&mut self) -> io::Result<()> {
+        self.turn.hold().flush()
+    }
+
+    /// Waits for its turn, and writes all the bytes as the writer itself does.
+    fn write_all(&mut self, buf: &[u8]) -> io::Result<()> {
+        self.turn.hold().write_all(buf)
+    }
+}
+
+impl<W: Write + Drop, R: Wait + Drop> WriteDevice for SequentialWriter<W, R> {
+    ghost use Rattle.tiny_http_request.specs.Sequential.{writer_sink};
+
+    ghost sink = { writer_sink };
+
+    /// The count of this writer's own failures.
+    fn failures(&self) -> u64 {
+        self.failures
+    }
+
+    /// Waits for its turn, and writes once. That no byte of some is taken is a fault of kind `WriteZero`.
+    fn write_out(&mut self, buf: &[u8]) -> Result<usize, io::Error> {
+        let written = match self.turn.hold().write(buf) {
+            Ok(0) if !buf.is_empty() => Err(ErrorKind::WriteZero.into()),
+            written => written,
+        };
+        if written.is_err() {
+            self.failures = self.failures.saturating_add(1);
+        }
+        written
+    }
+
+    /// Waits for its turn, and flushes.
+    fn flush_out(&mut self) -> Result<(), io::Error> {
+        let flushed = self.turn.hold().flush();
+        if flushed.is_err() {
+            self.failures = self.failures.saturating_add(1);
+        }
+        flushed
+    }
+}
+
+impl<W: Write + Drop, R: Wait + Drop> Drop for SequentialWriter<W, R> {
+    fn drop(self) {
+        let Self { turn, failures: _ } = self;
+        let none = Vec::new(turn.alloc());
+        leave_writer(turn, none);
+    }
+}
