@@ -221,3 +221,75 @@ fn after_the_last_request_nothing_is_asked_for(rt: HostRuntime) -> Result<(), Fa
     let wanted = [0, 1, 1, 2, 2, 2, 2];
     assert_calls(&rt, rt.alloc(), LAST, deeds, &wanted)
 }
+
+// Rooms about as large as the source's buffer, and a much larger one.
+const ROOMS: [usize; 4] = [1023, 1024, 1025, 8192];
+
+// How many bytes one read of this client gives into so much room, and how often it calls the client.
+fn read_once(
+    alloc: Global,
+    pieces: &'static [&'static [u8]],
+    room: usize,
+) -> Result<(usize, usize), Fail> {
+    let mut source = Source::new(Client { pieces, calls: 0 });
+    let mut bytes = Vec::new(alloc);
+    bytes.resize(room, 0)?;
+    let n = source.read(bytes.as_mut_slice())?;
+    Ok((n, source.into_inner().calls))
+}
+
+// A read doesn't wait for a second piece, whether it goes through the buffer or past it.
+#[test]
+fn a_read_calls_the_client_once(rt: HostRuntime) -> Result<(), Fail> {
+    for room in ROOMS {
+        let read = read_once(rt.alloc(), &[b"a", b"b"], room)?;
+        assert_same(&rt, (room, read), (room, (1, 1)));
+    }
+    Ok(())
+}
+
+// More than the buffer holds.
+const PIECE: &[u8] = &[b'x'; 3000];
+
+// A read into less room than the buffer has gives what the room takes; one into more gives all that comes in the call.
+#[test]
+fn a_read_into_much_room_goes_past_the_buffer(rt: HostRuntime) -> Result<(), Fail> {
+    for room in [1023, 1024, 1025, 2000] {
+        let read = read_once(rt.alloc(), &[PIECE], room)?;
+        assert_same(&rt, (room, read), (room, (room, 1)));
+    }
+    Ok(())
+}
+
+// The kind of the fault that a read of a source reports, if it reports one.
+fn fault_of(source: &mut Source<Recovering>, buf: &mut [u8]) -> Option<ErrorKind> {
+    match source.read(buf) {
+        Ok(_) => None,
+        Err(fault) => Some(fault.kind()),
+    }
+}
+
+// The faults of two reads of a reader that fails once, and how often it is called.
+fn read_twice(
+    alloc: Global,
+    room: usize,
+) -> Result<(Option<ErrorKind>, Option<ErrorKind>, usize), Fail> {
+    let mut source = Source::new(Recovering { calls: 0 });
+    let mut bytes = Vec::new(alloc);
+    bytes.resize(room, 0)?;
+    let first = fault_of(&mut source, bytes.as_mut_slice());
+    let second = fault_of(&mut source, bytes.as_mut_slice());
+    Ok((first, second, source.into_inner().calls))
+}
+
+// A fault is reported again, and the reader that could go on isn't called.
+#[test]
+fn a_fault_of_a_read_is_the_last_word(rt: HostRuntime) -> Result<(), Fail> {
+    for room in ROOMS {
+        let (first, second, calls) = read_twice(rt.alloc(), room)?;
+        assert_same(&rt, first, Some(ErrorKind::TimedOut));
+        assert_same(&rt, second, Some(ErrorKind::TimedOut));
+        assert_same(&rt, (room, calls), (room, 1));
+    }
+    Ok(())
+}

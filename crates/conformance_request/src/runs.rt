@@ -240,6 +240,14 @@ fn treat<R: Wait + Clock + Copy>(
     Ok(())
 }
 
+// Takes the request of this number out, if it is there.
+fn taken<R: Wait + Clock + Copy>(
+    requests: &mut Vec<Option<Asked<R>>>,
+    number: usize,
+) -> Option<Asked<R>> {
+    requests.get_mut(number)?.take()
+}
+
 // What comes of a plan by requests.
 fn by_requests<R: Wait + Clock + Copy>(
     rt: R,
@@ -248,16 +256,13 @@ fn by_requests<R: Wait + Clock + Copy>(
     room: usize,
 ) -> Result<Outcome, Fail> {
     let mut bench = gated(rt, alloc, CLIENT, room, ErrorKind::Other, 1)?;
-    let mut requests = [
-        Some(next(&mut bench)?),
-        Some(next(&mut bench)?),
-        Some(next(&mut bench)?),
-    ];
+    let mut requests = Vec::new(alloc);
+    for _ in 0..3u8 {
+        requests.push(Some(next(&mut bench)?))?;
+    }
     let mut faults = Vec::new(alloc);
     for (number, way) in plan {
-        if let Some(place) = requests.get_mut(number)
-            && let Some(request) = place.take()
-        {
+        if let Some(request) = taken(&mut requests, number) {
             treat(alloc, request, way, &mut faults)?;
         }
     }

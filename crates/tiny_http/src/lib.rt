@@ -8,8 +8,10 @@ pub mod messages_queue;
 pub mod roster;
 pub mod task_pool;
 
-pub use tiny_http_core::{custom_stream, driver, equal_reader, exchange, fused_reader, outlet};
-pub use tiny_http_core::{source, turns, upgrading};
+pub use tiny_http_core::{
+    custom_stream, driver, equal_reader, exchange, fused_reader, outlet, source, turns, upgrading,
+};
 pub use tiny_http_request::{client, request, sequential, test};
-pub use tiny_http_wire::{ascii, chunked, coding, common, device, encoder, grammar, header_value};
-pub use tiny_http_wire::{number, response};
+pub use tiny_http_wire::{
+    ascii, chunked, coding, common, device, encoder, grammar, header_value, number, response,
+};

@@ -256,7 +256,8 @@ impl<R: ReadDevice> Source<R> {
         self.input.pass_line(n)
     }
 
-    /// Reads some bytes. After them each call answers how the reader stopped.
+    /// Reads some bytes. After them each call answers how the reader stopped. Where no byte is held or to be skipped, a read
+    /// into 1024 bytes or more goes straight to the reader.
     pub fn read(&mut self, buf: &mut [u8]) -> Result<usize, io::Error>
         ensures reads { ReadsSource self.old self.new result buf.new }
     {
@@ -656,8 +657,8 @@ impl<R: ReadDevice> Input<R> {
         }
     }
 
-    /// Reads some bytes. After them each call answers how the input stopped. Into as much room as the buffer has, or more, the
-    /// reader is read without the buffer.
+    /// Reads some bytes. After them each call answers how the input stopped. Where no byte is held or to be skipped, a read
+    /// into 1024 bytes or more goes straight to the reader.
     pub fn read(&mut self, buf: &mut [u8]) -> Result<usize, io::Error>
         ensures bound { IfOk result (λ n. n ≤ length buf.new) }
         ensures bytes { IfOk result (λ n. input_feed R.feed self.old ≡ prepended (take n buf.new) (input_feed R.feed self.new)) }
