@@ -1,5 +1,5 @@
 //! A connection whose requests threads may hold.
-ghost use Rattle.std.specs.Prelude.{◌≡◌, true, Ok, None, IfOk, OnErr, IfSome, IfNone};
+ghost use Rattle.std.specs.Prelude.{◌≡◌, true, false, Ok, None, IfOk, OnErr, IfSome, IfNone};
 ghost use Rattle.tiny_http_message.specs.Exchange.{exchange_of};
 ghost use Rattle.tiny_http_request.specs.Request.{request_head, request_secure, request_address, request_waiting};
 
@@ -39,7 +39,8 @@ impl<R: ReadDevice + Drop, W: WriteDevice + Drop, Rt: Wait + Copy> ClientConnect
         remote_addr: Option<SocketAddr>,
         secure: bool,
     ) -> Result<ClientConnection<R, W, Rt>, AllocError>
-        ensures { IfOk result (λ c. (client_secure c ≡ secure) × (client_address c ≡ remote_addr)) }
+        ensures client { IfOk result (λ c. (client_secure c ≡ secure) × (client_address c ≡ remote_addr)) }
+        ensures open { IfOk result (λ c. IsOver c → ⊥) }
     {
         let mut source = SequentialReaderBuilder::new(rt, alloc, Source::new(reader))?;
         let sink = SequentialWriterBuilder::new(rt, alloc, Outlet::new(writer))?;
@@ -71,6 +72,7 @@ impl<R: ReadDevice + Drop, W: WriteDevice + Drop, Rt: Wait + Copy> ClientConnect
         ensures none { IfOk result (λ r. IfNone r (IsOver self.new)) }
         ensures err { OnErr result (IsOver self.new) }
         ensures last { IfOk result (λ r. IfSome r (λ request. (request_head request).is_last ≡ true → IsOver self.new)) }
+        ensures open { IfOk result (λ r. IfSome r (λ request. (request_head request).is_last ≡ false → IsOver self.new → ⊥)) }
         ensures client { IfOk result (λ r. IfSome r (λ request. (request_secure request ≡ client_secure self.old) × (request_address request ≡ client_address self.old))) }
         ensures same { (client_secure self.new ≡ client_secure self.old) × (client_address self.new ≡ client_address self.old) }
     {
@@ -97,6 +99,7 @@ impl<R: ReadDevice + Drop, W: WriteDevice + Drop, Rt: Wait + Copy> ClientConnect
         ensures exchange { IfOk result (λ request. exchange ≡ exchange_of (request_head request) (request_waiting request)) }
         ensures err { OnErr result (IsOver self.new) }
         ensures last { IfOk result (λ request. (request_head request).is_last ≡ true → IsOver self.new) }
+        ensures open { IfOk result (λ request. (request_head request).is_last ≡ false → IsOver self.new → ⊥) }
         ensures client { IfOk result (λ request. (request_secure request ≡ client_secure self.old) × (request_address request ≡ client_address self.old)) }
         ensures same { (client_secure self.new ≡ client_secure self.old) × (client_address self.new ≡ client_address self.old) }
     {

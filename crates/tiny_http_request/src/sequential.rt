@@ -143,7 +143,7 @@ impl<W: Write + Drop, R: Wait + Drop> SequentialWriter<W, R> {
     }
 
     /// Ends its turn with a text, which is written once the turn has come. It waits for no turn.
-    pub fn leave(self, text: Vec<u8>) {
+    pub(crate) fn leave(self, text: Vec<u8>) {
         let Self { turn, failures: _ } = self;
         leave_writer(turn, text);
     }
