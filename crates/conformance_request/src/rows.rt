@@ -248,3 +248,40 @@ fn a_counted_body_that_is_given_up_is_skipped(rt: HostRuntime) -> Result<(), Fai
     assert_eq!(rt; next(&mut answered)?.url(), "/b");
     Ok(())
 }
+
+// A head of a version above 1.1 is refused, and the same call reads the next one.
+#[test]
+fn a_505_is_passed(rt: HostRuntime) -> Result<(), Fail> {
+    let alloc = rt.alloc();
+    let client = b"GET / HTTP/2.0\r\n\r\nGET /b HTTP/1.1\r\n\r\n";
+    let mut bench = connect(rt, alloc, client)?;
+    let request = next(&mut bench)?;
+    assert_eq!(rt; request.url(), "/b");
+    request.abandon();
+    let sent = &[
+        "HTTP/1.1 505 HTTP Version Not Supported\r\n",
+        DATED,
+        "Content-Type: text/plain; charset=UTF-8\r\nContent-Length: 51\r\n\r\n",
+        "This server only supports HTTP versions 1.0 and 1.1",
+        DROPPED,
+    ];
+    assert_output(&rt, alloc, &bench.output, sent)
+}
+
+// A refusal behind an open request waits for its turn. The call that met it doesn't.
+#[test]
+fn a_refusal_waits_for_its_turn(rt: HostRuntime) -> Result<(), Fail> {
+    let alloc = rt.alloc();
+    let mut bench = connect(rt, alloc, b"GET / HTTP/1.1\r\n\r\nbad\r\n")?;
+    let first = next(&mut bench)?;
+    assert!(rt; bench.client.next(now()?)?.is_none());
+    assert_output(&rt, alloc, &bench.output, &[])?;
+    first.abandon();
+    let sent = &[
+        DROPPED,
+        "HTTP/1.1 400 Bad Request\r\n",
+        DATED,
+        "Content-Length: 0\r\n\r\n",
+    ];
+    assert_output(&rt, alloc, &bench.output, sent)
+}

@@ -1,6 +1,6 @@
 //! What the threads of a small HTTP server share: a queue, a pool of workers, two counts. Each is a plain value under one
 //! lock. The server and its sockets will stand here. It names the modules of `tiny_http_request`, `tiny_http_core` and
-//! `tiny_http_wire` again, so a program needs to list no other crate.
+//! `tiny_http_wire` again, so a program lists this crate, and `httpdate` for its dates.
 #![tactic(auto)]
 
 pub mod headcount;
