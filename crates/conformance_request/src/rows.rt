@@ -1,5 +1,7 @@
 //! What comes of calls on requests, in their turn and out of it.
-use crate::bench::{Asked, DATED, DROPPED, TEXT, assert_output, connect, gated, next, now, text};
+use crate::bench::{
+    Asked, DATED, DROPPED, TEXT, assert_output, client, connect, gated, next, now, text,
+};
 use httpdate::HttpDate;
 use std::alloc::Global;
 use std::io::{ErrorKind, Read, Write};
@@ -213,9 +215,15 @@ fn after_the_end_there_is_none(rt: HostRuntime) -> Result<(), Fail> {
 #[test]
 fn a_client_that_has_gone_is_no_fault(rt: HostRuntime) -> Result<(), Fail> {
     let alloc = rt.alloc();
-    let gone = ErrorKind::BrokenPipe;
-    for (kind, is_fault) in [(gone, false), (ErrorKind::Other, true)] {
-        let mut bench = gated(rt, alloc, TWO, 10, kind, 1)?;
+    for (kind, is_fault) in [
+        (ErrorKind::BrokenPipe, false),
+        (ErrorKind::ConnectionAborted, false),
+        (ErrorKind::ConnectionRefused, false),
+        (ErrorKind::ConnectionReset, false),
+        (ErrorKind::Other, true),
+    ] {
+        let client = client(alloc, TWO, None)?;
+        let mut bench = gated(rt, alloc, client, 10, kind, 1)?;
         let first = next(&mut bench)?;
         let second = next(&mut bench)?;
         let answered = first.respond(text(alloc, "a")?, now()?);
@@ -282,6 +290,40 @@ fn a_refusal_waits_for_its_turn(rt: HostRuntime) -> Result<(), Fail> {
         "HTTP/1.1 400 Bad Request\r\n",
         DATED,
         "Content-Length: 0\r\n\r\n",
+    ];
+    assert_output(&rt, alloc, &bench.output, sent)
+}
+
+// The text of a 505 is withheld from a HEAD.
+#[test]
+fn a_505_of_a_head_has_no_body(rt: HostRuntime) -> Result<(), Fail> {
+    let alloc = rt.alloc();
+    let client = b"HEAD / HTTP/2.0\r\n\r\n";
+    let mut bench = connect(rt, alloc, client)?;
+    assert!(rt; bench.client.next(now()?)?.is_none());
+    let sent = &[
+        "HTTP/1.1 505 HTTP Version Not Supported\r\n",
+        DATED,
+        "Content-Type: text/plain; charset=UTF-8\r\nContent-Length: 51\r\n\r\n",
+    ];
+    assert_output(&rt, alloc, &bench.output, sent)
+}
+
+// After a 505 of a chunked body no head is read.
+#[test]
+fn a_505_of_a_chunked_body_is_the_last(rt: HostRuntime) -> Result<(), Fail> {
+    let alloc = rt.alloc();
+    let client =
+        b"POST / HTTP/2.0\r\nTransfer-Encoding: chunked\r\n\r\n0\r\n\r\nGET /b HTTP/1.1\r\n\r\n";
+    let mut bench = connect(rt, alloc, client)?;
+    for _ in 0..2u8 {
+        assert!(rt; bench.client.next(now()?)?.is_none());
+    }
+    let sent = &[
+        "HTTP/1.1 505 HTTP Version Not Supported\r\n",
+        DATED,
+        "Content-Type: text/plain; charset=UTF-8\r\nContent-Length: 51\r\n\r\n",
+        "This server only supports HTTP versions 1.0 and 1.1",
     ];
     assert_output(&rt, alloc, &bench.output, sent)
 }

@@ -85,3 +85,23 @@ fn version_2_is_accepted(rt: HostRuntime) -> Result<(), Fail> {
     assert_eq!(rt; *request.http_version(), HTTPVersion(2, 0));
     Ok(())
 }
+
+// A length that was given stands alone, and bounds the body.
+#[test]
+fn a_length_is_kept(rt: HostRuntime) -> Result<(), Fail> {
+    let alloc = rt.alloc();
+    let now = HttpDate::from_unix_secs(SECONDS)?;
+    let header = Header::from_str(alloc, "Content-Length: 1")?;
+    let made = TestRequest::new(alloc)?
+        .with_body("42")
+        .with_header(header)?;
+    let Ok(mut request) = made.into_request(rt, alloc, now) else {
+        return Err("refused".into());
+    };
+    assert_eq!(rt; request.headers().len(), 1);
+    assert_eq!(rt; request.body_length(), Some(1));
+    let mut text = String::new(alloc);
+    request.as_reader(now).read_to_string(&mut text)?;
+    assert_eq!(rt; text.as_str(), "4");
+    Ok(())
+}

@@ -4,6 +4,7 @@
 #![tactic(auto)]
 
 pub mod headcount;
+pub mod laws;
 pub mod messages_queue;
 pub mod roster;
 pub mod task_pool;
@@ -13,5 +14,5 @@ pub use tiny_http_core::{
 };
 pub use tiny_http_request::{client, request, sequential, test};
 pub use tiny_http_wire::{
-    ascii, chunked, coding, common, device, encoder, grammar, header_value, number, response,
+    answer_context, ascii, chunked, coding, common, device, encoder, grammar, header_value, number, response,
 };

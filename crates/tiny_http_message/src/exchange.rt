@@ -21,18 +21,17 @@ use crate::framing::{Framing, framing_of, is_too_new};
 use crate::heads::{HeadFault, Message, read_message};
 use crate::own_answer::{DropText, own_answer, send_own_quietly, too_new_answer};
 use crate::upgrading::{UpgradeError, send_upgrade_quietly};
-use crate::waiting::Waiting;
+use crate::waiting::{Waiting, is_head};
 use httpdate::HttpDate;
 use std::alloc::{AllocError, Global};
 use std::io;
 use std::io::{Cursor, ErrorKind};
-use tiny_http_sending::sending::send;
+use tiny_http_sending::sending::send_unless_ended;
 use tiny_http_stream::outlet::Outlet;
 use tiny_http_stream::source::{Source, Standing};
 use tiny_http_wire::answer_context::AnswerContext;
 use tiny_http_wire::ascii::AsciiString;
 use tiny_http_wire::chunked::Decoding;
-use tiny_http_wire::coding::asked_coding;
 use tiny_http_wire::common::{HTTPVersion, Header, Method, StatusCode};
 use tiny_http_wire::device::{ReadDevice, Stop, WriteDevice};
 use tiny_http_wire::response::Response;
@@ -176,11 +175,7 @@ impl Exchange {
         ensures once { OwesNoContinue self.old self.new }
     {
         self.owe_no_continue();
-        if outlet.is_ended() {
-            outlet.facts();
-            return Ok(());
-        }
-        send(alloc, outlet, response, self.waiting.answer_context, now)
+        send_unless_ended(alloc, outlet, response, self.waiting.answer_context, now)
     }
 
     /// Sends the answer that upgrades the connection to this protocol (RFC 9110, section 7.8), printed for this request and
@@ -403,12 +398,6 @@ fn answer_fault(
     }
 }
 
-fn is_head(method: &Method) -> bool
-    ensures { result ≡ is_head_method method.now }
-{
-    matches!(method, Method::Head)
-}
-
 // The head that a message and its framing make.
 fn head_of(message: Message, framing: Framing) -> Head
     ensures message { head_message result ≡ message_of message }
@@ -430,23 +419,13 @@ fn head_of(message: Message, framing: Framing) -> Head
 fn hand_out(alloc: Global, head: Head, body: Body, now: HttpDate) -> Result<Exchange, AllocError>
     ensures { IfOk result (λ x. (x.head ≡ head) × (x.waiting.body ≡ body) × KeepsHead x.waiting head now) }
 {
-    let answer_context = AnswerContext {
-        version: head.version,
-        asked_coding: asked_coding(head.headers.as_slice()),
-        no_body: is_head(&head.method),
-    };
-    let dropped = DropText::new(alloc, answer_context, now)?;
-    let waiting = Waiting {
-        answer_context,
-        owes_continue: head.owes_continue,
-        dropped,
-        body,
-    };
+    let waiting = Waiting::new(alloc, &head, body, now)?;
     Ok(Exchange { head, waiting })
 }
 
-// The body after a head that is so framed; None where one that is read with its head is cut.
-fn begin_body<R: ReadDevice>(
+/// The body after a head that is so framed. One of up to 1024 bytes is read at once, unless a 100 is owed: `None` where it is
+/// cut, by the source's end or by a fault. It is an error where memory for it was refused.
+pub fn begin_body<R: ReadDevice>(
     alloc: Global,
     source: &mut Source<R>,
     framing: Framing,
