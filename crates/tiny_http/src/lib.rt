@@ -14,5 +14,6 @@ pub use tiny_http_core::{
 };
 pub use tiny_http_request::{client, request, sequential, test};
 pub use tiny_http_wire::{
-    answer_context, ascii, chunked, coding, common, device, encoder, grammar, header_value, number, response,
+    answer_context, ascii, chunked, coding, common, device, encoder, grammar, header_value, number,
+    response,
 };

@@ -28,12 +28,7 @@ pub struct Waiting {
 impl Waiting {
     /// What is kept of a request with this head and this body, which is dropped, if it is, on this date. It is an error where
     /// memory for the text of that was refused.
-    pub fn new(
-        alloc: Global,
-        head: &Head,
-        body: Body,
-        now: HttpDate,
-    ) -> Result<Waiting, AllocError>
+    pub fn new(alloc: Global, head: &Head, body: Body, now: HttpDate) -> Result<Waiting, AllocError>
         ensures { IfOk result (λ w. (w.body ≡ body) × KeepsHead w head.now now) }
     {
         let answer_context = AnswerContext {
