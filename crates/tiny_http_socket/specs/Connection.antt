@@ -1,7 +1,8 @@
 -- What clauses read of sockets and of their addresses: of which kind they are.
-use Rattle.std.specs.Prelude.{ℕ, List, Option, Some, None, ⊤}
+use Rattle.std.specs.Prelude.{◌≡◌, ℕ, List, Option, Some, None, ⊤}
 use Rattle.std.specs.declared.net.socket_addr.SocketAddr.{SocketAddr}
 use Rattle.std.specs.declared.net.unix.addr.SocketAddr.{SocketAddr as UnixAddr}
+use Rattle.std.specs.Path.{path_buf_bytes}
 use Rattle.std.specs.Net.Text.{socket_text}
 use Rattle.tiny_http_socket.specs.declared.connection.Listener.{Listener}
 use Rattle.tiny_http_socket.specs.declared.connection.Listener.TheVariants as L
@@ -11,6 +12,13 @@ use Rattle.tiny_http_socket.specs.declared.connection.ConfigListenAddr.{ConfigLi
 use Rattle.tiny_http_socket.specs.declared.connection.ConfigListenAddr.TheVariants as G
 use Rattle.tiny_http_socket.specs.declared.connection.ListenAddr.{ListenAddr}
 use Rattle.tiny_http_socket.specs.declared.connection.ListenAddr.TheVariants as A
+
+-- the two are the same addresses in the same order, or the same path
+abbrev pub IsCopyOf : ConfigListenAddr → ConfigListenAddr → Type 0
+IsCopyOf (G.IP addrs) (G.IP copy) = copy.items ≡ addrs.items
+IsCopyOf (G.IP addrs) (G.Unix path) = ⊥
+IsCopyOf (G.Unix path) (G.IP addrs) = ⊥
+IsCopyOf (G.Unix path) (G.Unix copy) = path_buf_bytes copy ≡ path_buf_bytes path
 
 -- a socket that listens at such a place is of its kind
 abbrev pub IsBoundAs : ConfigListenAddr → Listener → Type 0

@@ -1,6 +1,6 @@
 //! TCP and Unix sockets under one name, and their addresses.
 ghost use Rattle.std.specs.Prelude.{◌≡◌, IfOk};
-ghost use Rattle.tiny_http_socket.specs.Connection.{IsBoundAs, HasAddressOf, IsAcceptedBy, HasPeerOf, IsSameKind, ip_of, unix_of};
+ghost use Rattle.tiny_http_socket.specs.Connection.{IsBoundAs, HasAddressOf, IsAcceptedBy, HasPeerOf, IsSameKind, IsCopyOf, ip_of, unix_of};
 
 use std::alloc::{AllocError, Global};
 use std::io::{Read, Write};
@@ -195,10 +195,13 @@ impl ConfigListenAddr {
 
     /// A copy. An error where memory was refused.
     pub fn try_clone(&self) -> Result<ConfigListenAddr, AllocError>
-        ensures { IfOk result (λ copy. copy ≡ self.now) }
+        ensures { IfOk result (λ copy. IsCopyOf self.now copy) }
     {
         match self {
-            ConfigListenAddr::IP(addrs) => Ok(ConfigListenAddr::IP(addrs.clone()?)),
+            ConfigListenAddr::IP(addrs) => {
+                let copy = addrs.as_slice().to_vec(*addrs.allocator())?;
+                Ok(ConfigListenAddr::IP(copy))
+            }
             ConfigListenAddr::Unix(path) => Ok(ConfigListenAddr::Unix(path.clone()?)),
         }
     }
