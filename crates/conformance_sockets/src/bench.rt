@@ -28,8 +28,10 @@ pub fn turn<R: Clock>(rt: &R) {
 pub fn connect<R: Net<Listener = TcpListener, Stream = TcpStream> + Files + Wait + Drop>(
     rt: &R,
     server: &Server<R>,
-) -> Result<TcpStream, Fail> {
-    let addr = server.server_addr().to_ip().ok_or("no TCP")?;
+) -> io::Result<TcpStream> {
+    let Some(addr) = server.server_addr().to_ip() else {
+        return Err(ErrorKind::InvalidInput.into());
+    };
     let client = TcpStream::connect(rt, addr)?;
     client.set_read_timeout(Some(Duration::from_millis(1)))?;
     Ok(client)
@@ -76,6 +78,11 @@ fn read_up_to<S: Read>(alloc: Global, stream: &mut S, count: usize) -> io::Resul
     Ok(bytes)
 }
 
+/// All that comes up to the end.
+pub fn read_all<S: Read>(alloc: Global, stream: &mut S) -> io::Result<Vec<u8>> {
+    read_up_to(alloc, stream, usize::MAX)
+}
+
 // Whether the date of an answer begins here.
 fn is_date(text: &[u8]) -> bool {
     text.starts_with(b"Date: ")
@@ -105,7 +112,7 @@ pub fn assert_reads<R: Abort, S: Read>(
     stream: &mut S,
     want: &[&str],
 ) -> Result<(), Fail> {
-    let got = read_up_to(alloc, stream, usize::MAX)?;
+    let got = read_all(alloc, stream)?;
     let got = undated(alloc, got.as_slice())?;
     let want = joined(alloc, want)?;
     assert_eq!(rt; String::from_utf8(got).ok(), Some(want));
@@ -185,6 +192,7 @@ fn answer_all<R: Net + Files + Clock + Wait + Drop>(
 }
 
 /// A server that answers each request by `hello world`, by a thread.
+#[derive(Drop)]
 pub struct HelloWorld<R: Net + Files + Wait + Drop> {
     pub server: Arc<Server<R>>,
     answering: JoinHandle<u64>,

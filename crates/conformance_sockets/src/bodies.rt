@@ -1,17 +1,15 @@
 //! Bodies of requests, and answers that come before them.
 use crate::bench::{
-    DATED, assert_reads, assert_reads_next, connect, one_server_one_client, respond,
-    respond_empty,
+    DATED, assert_reads, assert_reads_next, connect, one_server_one_client, respond, respond_empty,
 };
+use std::alloc::Global;
 use std::io::{Read, Write};
 use std::net::Shutdown;
-use std::test::Fail;
-use std::thread;
-use tiny_http::server::{Server, ServerRequest, current_date};
-use std::alloc::Global;
 use std::sync::Wait;
+use std::test::Fail;
 use std::time::Clock;
-use std::io;
+use std::{io, thread};
+use tiny_http::server::{Server, ServerRequest, current_date};
 
 /// All bytes of a request's body.
 pub fn body_of<R: Clock + Wait + Drop>(
@@ -40,7 +38,10 @@ fn the_client_has_gone(rt: HostRuntime) -> Result<(), Fail> {
         client.write_all(rest.as_bytes())?;
         drop(client);
         let mut request = server.recv()?;
-        assert_eq!(rt; body_of(&rt, alloc, &mut request)?.as_slice(), want.as_bytes());
+        assert_eq!(rt;
+            body_of(&rt, alloc, &mut request)?.as_slice(),
+            want.as_bytes()
+        );
     }
     Ok(())
 }
@@ -49,7 +50,7 @@ fn the_client_has_gone(rt: HostRuntime) -> Result<(), Fail> {
 fn reads_hello<R: Clock + Wait + Drop>(rt: &R, alloc: Global, request: ServerRequest<R>) -> bool {
     let mut request = request;
     match body_of(rt, alloc, &mut request) {
-        Ok(body) => body.as_slice() == b"hello",
+        Ok(body) => body.as_slice() == b"hello".as_slice(),
         Err(_) => false,
     }
 }
@@ -64,12 +65,20 @@ fn a_100_comes_before_the_body(rt: HostRuntime) -> Result<(), Fail> {
     let request = server.recv()?;
     let reading = thread::spawn(&rt, move || reads_hello(&rt, alloc, request));
     let reading = reading.map_err(|_| "no thread")?;
-    let want = ["HTTP/1.1 100 Continue\r\n", DATED, "Content-Length: 0\r\n\r\n"];
+    let want = [
+        "HTTP/1.1 100 Continue\r\n",
+        DATED,
+        "Content-Length: 0\r\n\r\n",
+    ];
     assert_reads_next(&rt, alloc, &mut client, &want, 1)?;
     client.write_all(b"hello")?;
     client.shutdown(Shutdown::Write)?;
     assert!(rt; reading.join(&rt));
-    let want = ["HTTP/1.1 500 Internal Server Error\r\n", DATED, "Content-Length: 0\r\n\r\n"];
+    let want = [
+        "HTTP/1.1 500 Internal Server Error\r\n",
+        DATED,
+        "Content-Length: 0\r\n\r\n",
+    ];
     assert_reads(&rt, alloc, &mut client, &want)
 }
 
@@ -78,11 +87,31 @@ fn a_100_comes_before_the_body(rt: HostRuntime) -> Result<(), Fail> {
 fn an_answer_waits_for_no_body(rt: HostRuntime) -> Result<(), Fail> {
     let alloc = rt.alloc();
     let rows: [(&str, &str, bool); 5] = [
-        ("GET / HTTP/1.1\r\nContent-Length: 5000\r\n\r\n", "HTTP/1.1 400 Bad Request\r\n", true),
-        ("GET / HTTP/1.0\r\nContent-Length: 5000\r\n\r\n", "HTTP/1.0 400 Bad Request\r\n", false),
-        ("GET / HTTP/1.1\r\nTransfer-Encoding: chunked\r\n\r\n", "HTTP/1.1 400 Bad Request\r\n", false),
-        ("GET / HTTP/1.1\r\nExpect: 100-continue\r\nContent-Length: 5000\r\n\r\n", "HTTP/1.1 400 Bad Request\r\n", true),
-        ("GET / HTTP/1.0\r\nConnection: keep-alive\r\nContent-Length: 5000\r\n\r\n", "HTTP/1.0 400 Bad Request\r\n", true),
+        (
+            "GET / HTTP/1.1\r\nContent-Length: 5000\r\n\r\n",
+            "HTTP/1.1 400 Bad Request\r\n",
+            true,
+        ),
+        (
+            "GET / HTTP/1.0\r\nContent-Length: 5000\r\n\r\n",
+            "HTTP/1.0 400 Bad Request\r\n",
+            false,
+        ),
+        (
+            "GET / HTTP/1.1\r\nTransfer-Encoding: chunked\r\n\r\n",
+            "HTTP/1.1 400 Bad Request\r\n",
+            false,
+        ),
+        (
+            "GET / HTTP/1.1\r\nExpect: 100-continue\r\nContent-Length: 5000\r\n\r\n",
+            "HTTP/1.1 400 Bad Request\r\n",
+            true,
+        ),
+        (
+            "GET / HTTP/1.0\r\nConnection: keep-alive\r\nContent-Length: 5000\r\n\r\n",
+            "HTTP/1.0 400 Bad Request\r\n",
+            true,
+        ),
     ];
     let body = vec![in alloc; b'A'; 5000]?;
     let server = Server::http(rt, alloc, "127.0.0.1:0")?;
@@ -99,7 +128,12 @@ fn an_answer_waits_for_no_body(rt: HostRuntime) -> Result<(), Fail> {
             assert_eq!(rt; request.url(), "/b", "{head:?}");
             assert!(rt; respond(&rt, alloc, request, "b"));
             let rest = "Content-Type: text/plain; charset=UTF-8\r\nContent-Length: 1\r\n\r\nb";
-            assert_reads(&rt, alloc, &mut client, &["HTTP/1.1 200 OK\r\n", DATED, rest])?;
+            assert_reads(
+                &rt,
+                alloc,
+                &mut client,
+                &["HTTP/1.1 200 OK\r\n", DATED, rest],
+            )?;
         } else {
             assert_reads(&rt, alloc, &mut client, &[])?;
         }

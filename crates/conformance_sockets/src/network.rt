@@ -15,7 +15,8 @@ use tiny_http::response::Response;
 use tiny_http::server::{Server, current_date};
 
 // An answer `hello world` in version 1.1, but for its status line.
-const HELLO: &str = "Content-Type: text/plain; charset=UTF-8\r\nContent-Length: 11\r\n\r\nhello world";
+const HELLO: &str =
+    "Content-Type: text/plain; charset=UTF-8\r\nContent-Length: 11\r\n\r\nhello world";
 
 const NOTHING: &str = "Content-Length: 0\r\n\r\n";
 
@@ -42,7 +43,10 @@ fn one_write_until_the_end(rt: HostRuntime) -> Result<(), Fail> {
     let alloc = rt.alloc();
     let rows: [(&str, &[&str]); 5] = [
         // In version 1.0 a request is the last.
-        ("GET / HTTP/1.0\r\nHost: localhost\r\n\r\n", &["HTTP/1.0 200 OK\r\n", DATED, HELLO]),
+        (
+            "GET / HTTP/1.0\r\nHost: localhost\r\n\r\n",
+            &["HTTP/1.0 200 OK\r\n", DATED, HELLO],
+        ),
         (
             "GET / HTTP/1.1\r\nHost: localhost\r\n\r\nGET /hello HTTP/1.1\r\nHost: localhost\r\n\r\nGET /world HTTP/1.1\r\nHost: localhost\r\nConnection: close\r\n\r\n",
             &[OK, DATED, HELLO, OK, DATED, HELLO, OK, DATED, HELLO],
@@ -56,7 +60,14 @@ fn one_write_until_the_end(rt: HostRuntime) -> Result<(), Fail> {
             "GET / HTTP/1.1\r\nHost: localhost\r\nConnection: close\r\nContent-Type: text/plain; charset=utf8\r\nContent-Length : 5\r\n\r\nhello",
             &["HTTP/1.1 400 Bad Request\r\n", DATED, NOTHING],
         ),
-        ("HEAD / HTTP/1.1\r\nConnection: close\r\n\r\n", &[OK, DATED, "Content-Type: text/plain; charset=UTF-8\r\nContent-Length: 11\r\n\r\n"]),
+        (
+            "HEAD / HTTP/1.1\r\nConnection: close\r\n\r\n",
+            &[
+                OK,
+                DATED,
+                "Content-Type: text/plain; charset=UTF-8\r\nContent-Length: 11\r\n\r\n",
+            ],
+        ),
     ];
     let serving = hello_world(rt, alloc)?;
     for (sent, want) in rows {
@@ -177,7 +188,12 @@ fn answers_in_the_order_of_the_requests(rt: HostRuntime) -> Result<(), Fail> {
         "Content-Type: text/plain; charset=UTF-8\r\nContent-Length: 13\r\n\r\nfirst request";
     let second =
         "Content-Type: text/plain; charset=UTF-8\r\nContent-Length: 14\r\n\r\nsecond request";
-    assert_reads(&rt, alloc, &mut client, &[OK, DATED, first, OK, DATED, second])
+    assert_reads(
+        &rt,
+        alloc,
+        &mut client,
+        &[OK, DATED, first, OK, DATED, second],
+    )
 }
 
 #[test]

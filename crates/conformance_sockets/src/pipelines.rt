@@ -35,7 +35,10 @@ fn five_are_read_before_the_first_is_answered(rt: HostRuntime) -> Result<(), Fai
         let mut requests = Vec::new(alloc);
         for _ in 0..5u8 {
             let mut request = server.recv()?;
-            assert_eq!(rt; body_of(&rt, alloc, &mut request)?.as_slice(), body.as_slice());
+            assert_eq!(rt;
+                body_of(&rt, alloc, &mut request)?.as_slice(),
+                body.as_slice()
+            );
             requests.push(request)?;
         }
         for request in requests {

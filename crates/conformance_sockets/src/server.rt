@@ -1,7 +1,5 @@
 //! The calls of a server.
-use crate::bench::{
-    DATED, TURNS, assert_reads, connect, one_server_one_client, respond, turn,
-};
+use crate::bench::{DATED, TURNS, assert_reads, connect, one_server_one_client, respond, turn};
 use httpdate::HttpDate;
 use std::alloc::Global;
 use std::io::{ErrorKind, Write};
@@ -177,10 +175,16 @@ fn clients_outlive_their_server(rt: HostRuntime) -> Result<(), Fail> {
     assert!(rt; is_closed(&rt, addr));
     assert!(rt; respond(&rt, alloc, request, "a"));
     let rest = "Content-Type: text/plain; charset=UTF-8\r\nContent-Length: 1\r\n\r\na";
-    assert_reads(&rt, alloc, &mut client, &["HTTP/1.1 200 OK\r\n", DATED, rest])
+    assert_reads(
+        &rt,
+        alloc,
+        &mut client,
+        &["HTTP/1.1 200 OK\r\n", DATED, rest],
+    )
 }
 
 // A clock that stands at a time since 1970, or can't be read.
+#[derive(Drop)]
 struct Standing(Option<u64>);
 
 impl Clock for Standing {

@@ -20,7 +20,7 @@ fn a_half_closes_its_direction_alone(rt: HostRuntime) -> Result<(), Fail> {
     assert_eq!(rt; theirs.read(&mut buf)?, 0);
     theirs.write_all(b"fro")?;
     assert_eq!(rt; reader.read_in(&mut buf)?, 3);
-    assert_eq!(rt; &buf[..3], b"fro");
+    assert_eq!(rt; &buf[..3], b"fro".as_slice());
     drop(reader);
     let Err(fault) = theirs.write(b"x") else {
         return Err(Fail::new("a reader is left"));

@@ -134,7 +134,7 @@ impl ReadDevice for RefinedTcpStream {
 }
 
 impl WriteDevice for RefinedTcpStream {
-    ghost use Rattle.tiny_http_device.specs.Device.{Puts, HoldsNothing};
+    ghost use Rattle.tiny_http_device.specs.Device.{Puts, PutsFront, HoldsNothing};
     ghost use Rattle.tiny_http_socket.specs.Stream.{stream_sink};
 
     ghost sink = { stream_sink };
@@ -144,10 +144,16 @@ impl WriteDevice for RefinedTcpStream {
         self.failures
     }
 
-    /// Writes once to the client. That no byte of some is taken is a fault of kind `WriteZero`.
-    fn write_out(&mut self, buf: &[u8]) -> Result<usize, io::Error> {
+    /// Writes once to the client, and not at all from an empty buffer. That no byte is taken is a fault of kind `WriteZero`.
+    fn write_out(&mut self, buf: &[u8]) -> Result<usize, io::Error>
+        ensures puts { PutsFront (stream_sink self.old) (stream_sink self.new) result buf.now }
+        ensures empty { length buf.now ≡ 0 → (result ≡ Ok 0) × (self.new ≡ self.old) }
+    {
+        if buf.is_empty() {
+            return Ok(0);
+        }
         let written = match self.connection.write(buf) {
-            Ok(0) if !buf.is_empty() => Err(ErrorKind::WriteZero.into()),
+            Ok(0) => Err(ErrorKind::WriteZero.into()),
             written => written,
         };
         if let Err(e) = &written {
