@@ -13,16 +13,14 @@ use std::alloc::Global;
 use std::io::{ErrorKind, Write};
 use std::net::{Net, TcpListener, TcpStream};
 use std::process::ExitCode;
-use std::rt::{Env, Files};
-use std::sync::{Arc, Wait};
-use std::thread::{JoinHandle, Threads};
+use std::rt::Env;
+use std::sync::Wait;
+use std::thread::Threads;
 use std::time::Clock;
 use std::{env, thread};
+use tiny_http::connection::SocketFiles;
 use tiny_http::response::Response;
 use tiny_http::server::{Server, ServerRequest, current_date};
-
-// So many threads answer, besides the first one.
-const HELPERS: usize = 3;
 
 // Answers a request. One for whose answer there is no memory is dropped. That the client doesn't take its answer is passed over.
 fn answer<R: Clock + Wait + Drop>(rt: &R, alloc: Global, request: ServerRequest<R>) {
@@ -35,7 +33,9 @@ fn answer<R: Clock + Wait + Drop>(rt: &R, alloc: Global, request: ServerRequest<
 }
 
 // Answers requests until the server has no more, and then has another thread, if one waits, end too.
-fn answer_all<R: Net + Files + Clock + Wait + Drop>(rt: &R, alloc: Global, server: &Server<R>) {
+fn answer_all<
+    R: Net<Listener = TcpListener, Stream = TcpStream> + SocketFiles + Clock + Wait + Drop,
+>(rt: &R, alloc: Global, server: &Server<R>) {
     let mut requests = server.incoming_requests();
     for _ in rt.forever() {
         let Some(request) = requests.next() else {
@@ -46,34 +46,42 @@ fn answer_all<R: Net + Files + Clock + Wait + Drop>(rt: &R, alloc: Global, serve
     }
 }
 
-// Starts a thread that answers too, if there is memory and a thread for it.
-fn start_helper<R>(rt: R, alloc: Global, server: &Arc<Server<R>>) -> Option<JoinHandle<()>>
+// Answers all requests of a server, by two threads.
+fn answer_by_two<R>(rt: &R, alloc: Global, server: &Server<R>)
 where
-    R: Net + Files + Clock + Wait + Threads + Copy + Send + Sync + 'static,
+    R: Net<Listener = TcpListener, Stream = TcpStream>
+        + SocketFiles
+        + Clock
+        + Wait
+        + Threads
+        + Drop
+        + Send
+        + Sync,
 {
-    let theirs = Arc::try_clone(server).ok()?;
-    thread::spawn(&rt, move || answer_all(&rt, alloc, &theirs)).ok()
+    thread::join(
+        rt,
+        || answer_all(rt, alloc, server),
+        || answer_all(rt, alloc, server),
+    );
 }
 
-// Answers all requests of a server, by several threads.
-fn serve<R>(rt: R, alloc: Global, server: Server<R>)
+// Answers all requests of a server, by four threads.
+fn answer_by_four<R>(rt: &R, alloc: Global, server: &Server<R>)
 where
-    R: Net + Files + Clock + Wait + Threads + Copy + Send + Sync + 'static,
+    R: Net<Listener = TcpListener, Stream = TcpStream>
+        + SocketFiles
+        + Clock
+        + Wait
+        + Threads
+        + Drop
+        + Send
+        + Sync,
 {
-    let Ok(server) = Arc::new(alloc, server) else {
-        return;
-    };
-    let helpers: [Option<JoinHandle<()>>; HELPERS] = [
-        start_helper(rt, alloc, &server),
-        start_helper(rt, alloc, &server),
-        start_helper(rt, alloc, &server),
-    ];
-    answer_all(&rt, alloc, &server);
-    for helper in helpers {
-        if let Some(helper) = helper {
-            helper.join(&rt);
-        }
-    }
+    thread::join(
+        rt,
+        || answer_by_two(rt, alloc, server),
+        || answer_by_two(rt, alloc, server),
+    );
 }
 
 // Listens at the address that the one word names, and answers all requests.
@@ -85,7 +93,7 @@ fn hello<'a, R, O: Write>(
 ) -> Result<(), HelloFault<'a>>
 where
     R: Net<Listener = TcpListener, Stream = TcpStream>
-        + Files
+        + SocketFiles
         + Clock
         + Wait
         + Threads
@@ -104,7 +112,7 @@ where
     let bound = server.server_addr();
     let _ = writeln!(out, "listening on {bound}");
     let _ = out.flush();
-    serve(rt, alloc, server);
+    answer_by_four(&rt, alloc, &server);
     Ok(())
 }
 
@@ -128,7 +136,7 @@ pub fn hello_on<R, O: Write, E: Write>(
 ) -> u8
 where
     R: Net<Listener = TcpListener, Stream = TcpStream>
-        + Files
+        + SocketFiles
         + Clock
         + Wait
         + Threads

@@ -10,14 +10,13 @@ use std::io::ErrorKind;
 use std::net::{Net, TcpListener, TcpStream, ToSocketAddrs};
 use std::os::unix::net::UnixStream;
 use std::path::{AsPath, Path, PathBuf};
-use std::rt::Files;
 use std::sync::{Arc, Mutex, Wait};
 use std::thread::Threads;
 use std::time::{Clock, Duration};
-use std::{fs, io, thread};
+use std::{io, thread};
 use thiserror::Error;
 use tiny_http_request::request::Request;
-use tiny_http_socket::connection::{ConfigListenAddr, ListenAddr, Listener};
+use tiny_http_socket::connection::{ConfigListenAddr, ListenAddr, Listener, SocketFiles};
 use tiny_http_socket::refined_tcp_stream::RefinedTcpStream;
 use tiny_http_threads::headcount::Headcount;
 use tiny_http_threads::messages_queue::MessagesQueue;
@@ -78,7 +77,7 @@ pub struct SslConfig {
 /// A server. Threads may share it, and each may ask for requests. Where it is dropped it accepts no further client, and the
 /// file of its Unix socket is removed. Clients that were accepted stay connected, and requests that were handed out can still be
 /// answered.
-pub struct Server<R: Net + Files + Wait + Drop> {
+pub struct Server<R: Net + SocketFiles + Wait + Drop> {
     rt: R,
     // Set where the server is dropped.
     close: Arc<Mutex<bool>>,
@@ -90,7 +89,7 @@ pub struct Server<R: Net + Files + Wait + Drop> {
 impl<R> Server<R>
 where
     R: Net<Listener = TcpListener, Stream = TcpStream>
-        + Files
+        + SocketFiles
         + Clock
         + Wait
         + Threads
@@ -124,7 +123,7 @@ where
         if made.is_err()
             && let ConfigListenAddr::Unix(path) = &addr
         {
-            let _ = fs::remove_file(&rt, path.as_path());
+            let _ = rt.remove_socket(path.as_path());
         }
         made
     }
@@ -174,7 +173,7 @@ where
     }
 }
 
-impl<R: Net + Files + Wait + Drop> Server<R> {
+impl<R: Net + SocketFiles + Wait + Drop> Server<R> {
     /// The requests, one after another.
     pub fn incoming_requests(&self) -> IncomingRequests<'_, R> {
         IncomingRequests { server: self }
@@ -214,7 +213,7 @@ impl<R: Net + Files + Wait + Drop> Server<R> {
     }
 }
 
-impl<R: Net + Files + Wait + Clock + Drop> Server<R> {
+impl<R: Net + SocketFiles + Wait + Clock + Drop> Server<R> {
     /// Waits for a request, for so long at most, and then reports none; less than a millisecond counts as nothing. Else as
     /// `try_recv`.
     pub fn recv_timeout(&self, timeout: Duration) -> io::Result<Option<ServerRequest<R>>> {
@@ -222,7 +221,7 @@ impl<R: Net + Files + Wait + Clock + Drop> Server<R> {
     }
 }
 
-impl<R: Net + Files + Wait + Drop> Drop for Server<R> {
+impl<R: Net + SocketFiles + Wait + Drop> Drop for Server<R> {
     /// Ends accepting, for which it connects to itself once, and removes the file of a Unix socket.
     fn drop(self) {
         let Server {
@@ -238,7 +237,7 @@ impl<R: Net + Files + Wait + Drop> Drop for Server<R> {
             ListenAddr::Unix(addr) => {
                 drop(UnixStream::connect_addr(&rt, addr));
                 if let Some(path) = addr.as_pathname() {
-                    let _ = fs::remove_file(&rt, path);
+                    let _ = rt.remove_socket(path);
                 }
             }
         }
@@ -247,11 +246,11 @@ impl<R: Net + Files + Wait + Drop> Drop for Server<R> {
 
 /// The requests of a server.
 #[derive(Drop)]
-pub struct IncomingRequests<'a, R: Net + Files + Wait + Drop> {
+pub struct IncomingRequests<'a, R: Net + SocketFiles + Wait + Drop> {
     server: &'a Server<R>,
 }
 
-impl<R: Net + Files + Wait + Drop> IncomingRequests<'_, R> {
+impl<R: Net + SocketFiles + Wait + Drop> IncomingRequests<'_, R> {
     /// Waits for the next request. None where accepting ended, or `unblock` was called.
     pub fn next(&mut self) -> Option<ServerRequest<R>> {
         self.server.recv().ok()

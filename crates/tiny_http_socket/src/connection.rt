@@ -6,9 +6,31 @@ use std::alloc::{AllocError, Global};
 use std::io::{Read, Write};
 use std::net::{Net, Shutdown, SocketAddr, TcpListener, TcpStream, ToSocketAddrs};
 use std::os::unix::net as unix_net;
-use std::path::PathBuf;
+use std::path::{Path, PathBuf};
 use std::rt::Files;
-use std::{fmt, io};
+use std::{fmt, fs, io};
+
+/// What a server needs of the file system: the files of Unix sockets. Any runtime with files and sockets has it. It stands in
+/// bounds in place of `Files`, under which no generic code can share a server among threads.
+pub trait SocketFiles {
+    /// Listens at this path, at which it makes a file. The system's fault where it can't.
+    fn bind_unix(&self, path: Path<'_>) -> io::Result<unix_net::UnixListener>;
+
+    /// Removes the file at this path. The system's fault where it can't.
+    fn remove_socket(&self, path: Path<'_>) -> io::Result<()>;
+}
+
+impl<R: Files + Net> SocketFiles for R {
+    /// Listens by the system.
+    fn bind_unix(&self, path: Path<'_>) -> io::Result<unix_net::UnixListener> {
+        unix_net::UnixListener::bind(self, path)
+    }
+
+    /// Removes the file by the system.
+    fn remove_socket(&self, path: Path<'_>) -> io::Result<()> {
+        fs::remove_file(self, path)
+    }
+}
 
 /// A listening socket: a TCP one, or a Unix one.
 #[derive(Debug, Drop)]
@@ -208,7 +230,7 @@ impl ConfigListenAddr {
 
     /// Listens there: at the first address that can be bound, or at the path, at which it makes a file. The system's fault
     /// where it can't: the last address's, or of kind `InvalidInput` where there is no address or the path is too long.
-    pub fn bind<R: Net<Listener = TcpListener, Stream = TcpStream> + Files>(
+    pub fn bind<R: Net<Listener = TcpListener, Stream = TcpStream> + SocketFiles>(
         &self,
         rt: &R,
     ) -> io::Result<Listener>
@@ -219,7 +241,7 @@ impl ConfigListenAddr {
                 Ok(Listener::Tcp(TcpListener::bind(rt, addrs.as_slice())?))
             }
             ConfigListenAddr::Unix(path) => {
-                Ok(Listener::Unix(unix_net::UnixListener::bind(rt, path.as_path())?))
+                Ok(Listener::Unix(SocketFiles::bind_unix(rt, path.as_path())?))
             }
         }
     }
