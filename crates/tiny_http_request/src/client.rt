@@ -11,6 +11,7 @@ use std::net::SocketAddr;
 use std::sync::Wait;
 use tiny_http_device::device::{ReadDevice, WriteDevice};
 use tiny_http_message::exchange::{Exchange, HeadRead, read_head};
+use tiny_http_socket::refined_tcp_stream::RefinedTcpStream;
 use tiny_http_stream::outlet::Outlet;
 use tiny_http_stream::source::Source;
 
@@ -24,6 +25,27 @@ pub struct ClientConnection<R: ReadDevice + Drop, W: WriteDevice + Drop, Rt: Wai
     sink: SequentialWriterBuilder<Outlet<W>, Rt>,
     // None once the connection has no further request.
     next_head: Option<SequentialReader<Source<R>, Rt>>,
+}
+
+impl<Rt: Wait + Copy> ClientConnection<RefinedTcpStream, RefinedTcpStream, Rt> {
+    ghost use Rattle.std.specs.Prelude.{◌≡◌, false, IfOk};
+    ghost use Rattle.tiny_http_request.specs.Client.{IsOver, client_secure};
+
+    /// A connection over the two halves of a client's socket, on which nothing was read yet. Its requests say the client's
+    /// address; none of a Unix socket, or where the system no longer knows it. An error where memory was refused.
+    pub fn new(
+        rt: Rt,
+        alloc: Global,
+        write_socket: RefinedTcpStream,
+        read_socket: RefinedTcpStream,
+    ) -> Result<ClientConnection<RefinedTcpStream, RefinedTcpStream, Rt>, AllocError>
+        ensures secure { IfOk result (λ c. client_secure c ≡ false) }
+        ensures open { IfOk result (λ c. IsOver c → ⊥) }
+    {
+        let remote_addr = read_socket.peer_addr().unwrap_or(None);
+        let secure = read_socket.secure();
+        ClientConnection::over(rt, alloc, write_socket, read_socket, remote_addr, secure)
+    }
 }
 
 impl<R: ReadDevice + Drop, W: WriteDevice + Drop, Rt: Wait + Copy> ClientConnection<R, W, Rt> {
