@@ -104,10 +104,36 @@ impl Drop for RefinedTcpStream {
     }
 }
 
+// Reads once. A call that a signal interrupts is made again.
+fn read_once(connection: &mut Connection, buf: &mut [u8]) -> io::Result<usize>
+    ensures { IfOk result (λ n. n ≤ length buf.new) }
+{
+    for _ in 0..u64::MAX {
+        match connection.read(buf) {
+            Err(fault) if fault.kind() == ErrorKind::Interrupted => {}
+            read => return read,
+        }
+    }
+    Err(ErrorKind::Interrupted.into())
+}
+
+// Writes once. A call that a signal interrupts is made again.
+fn write_once(connection: &mut Connection, buf: &[u8]) -> io::Result<usize>
+    ensures { IfOk result (λ n. n ≤ length buf.now) }
+{
+    for _ in 0..u64::MAX {
+        match connection.write(buf) {
+            Err(fault) if fault.kind() == ErrorKind::Interrupted => {}
+            written => return written,
+        }
+    }
+    Err(ErrorKind::Interrupted.into())
+}
+
 impl Read for RefinedTcpStream {
-    /// Reads once: 0 at the end of what the client sends.
+    /// Reads once, as `read_in`.
     fn read(&mut self, buf: &mut [u8]) -> io::Result<usize> {
-        self.connection.read(buf)
+        self.read_in(buf)
     }
 }
 
@@ -124,12 +150,13 @@ impl Write for RefinedTcpStream {
 }
 
 impl ReadDevice for RefinedTcpStream {
-    /// Reads once from the client, and not at all into an empty buffer.
+    /// Reads once from the client, and not at all into an empty buffer: 0 at the end of what the client sends. A call that a
+    /// signal interrupts is made again.
     fn read_in(&mut self, buf: &mut [u8]) -> Result<usize, io::Error> {
         if buf.is_empty() {
             return Ok(0);
         }
-        self.connection.read(buf)
+        read_once(&mut self.connection, buf)
     }
 }
 
@@ -144,7 +171,8 @@ impl WriteDevice for RefinedTcpStream {
         self.failures
     }
 
-    /// Writes once to the client, and not at all from an empty buffer. That no byte is taken is a fault of kind `WriteZero`.
+    /// Writes once to the client, and not at all from an empty buffer. That no byte is taken is a fault of kind `WriteZero`. A
+    /// call that a signal interrupts is made again.
     fn write_out(&mut self, buf: &[u8]) -> Result<usize, io::Error>
         ensures puts { PutsFront (stream_sink self.old) (stream_sink self.new) result buf.now }
         ensures empty { length buf.now ≡ 0 → (result ≡ Ok 0) × (self.new ≡ self.old) }
@@ -152,7 +180,7 @@ impl WriteDevice for RefinedTcpStream {
         if buf.is_empty() {
             return Ok(0);
         }
-        let written = match self.connection.write(buf) {
+        let written = match write_once(&mut self.connection, buf) {
             Ok(0) => Err(ErrorKind::WriteZero.into()),
             written => written,
         };
