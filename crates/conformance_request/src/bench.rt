@@ -61,6 +61,13 @@ pub(crate) fn is_reached<R: Clock>(rt: &R, count: &AtomicU64, want: u64) -> bool
     false
 }
 
+/// Waits until a thread is about to make its call, which it says by this count, and then for 20 ms more. Whether it was.
+pub(crate) fn is_about_to_call<R: Clock>(rt: &R, begun: &AtomicU64) -> bool {
+    let is_begun = is_reached(rt, begun, 1);
+    thread::sleep(rt, Duration::from_millis(20));
+    is_begun
+}
+
 impl<R: Wait + Clock> Write for Recorder<R> {
     fn write(&mut self, buf: &[u8]) -> io::Result<usize> {
         self.entered.fetch_add(1, Ordering::SeqCst);

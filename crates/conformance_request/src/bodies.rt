@@ -1,6 +1,7 @@
 //! Bodies that are cut, broken or waited for, read by the calls of requests.
 use crate::bench::{
-    AMPLE, Bench, DROPPED, assert_output, client, connect, gated, is_reached, next, now,
+    AMPLE, Bench, DROPPED, assert_output, client, connect, gated, is_about_to_call, is_reached,
+    next, now,
 };
 use httpdate::HttpDate;
 use std::io::{ErrorKind, Read};
@@ -8,7 +9,7 @@ use std::sync::atomic::{AtomicU64, Ordering};
 use std::sync::{Arc, Wait};
 use std::test::Fail;
 use std::thread;
-use std::time::{Clock, Duration};
+use std::time::Clock;
 
 // The kind of a read's fault; None where it met none.
 fn kind_of<B: Read>(body: &mut B) -> Option<ErrorKind> {
@@ -37,6 +38,37 @@ fn a_broken_body_reports_its_fault_again(rt: HostRuntime) -> Result<(), Fail> {
     drop(request);
     assert!(rt; bench.client.next(now()?)?.is_none());
     assert_output(&rt, alloc, &bench.output, &[DROPPED])
+}
+
+// A body that was read with its head is given out in the pieces that are asked for.
+#[test]
+fn a_body_that_was_read_with_its_head_is_read_in_pieces(rt: HostRuntime) -> Result<(), Fail> {
+    let alloc = rt.alloc();
+    let client = b"POST / HTTP/1.1\r\nContent-Length: 3\r\n\r\nabcGET /b HTTP/1.1\r\n\r\n";
+    let mut bench = connect(rt, alloc, client)?;
+    let mut request = next(&mut bench)?;
+    for want in *b"abc" {
+        let mut byte = [0; 1];
+        assert_eq!(rt; request.as_reader(now()?).read(&mut byte)?, 1);
+        assert_eq!(rt; byte[0], want);
+    }
+    assert_eq!(rt; request.as_reader(now()?).read(&mut [0; 9])?, 0);
+    assert_eq!(rt; next(&mut bench)?.url(), "/b");
+    Ok(())
+}
+
+// A buffer is filled from as many chunks as it takes.
+#[test]
+fn a_buffer_is_filled_from_two_chunks(rt: HostRuntime) -> Result<(), Fail> {
+    let alloc = rt.alloc();
+    let client =
+        b"POST / HTTP/1.1\r\nTransfer-Encoding: chunked\r\n\r\n1\r\na\r\n2\r\nbc\r\n0\r\n\r\n";
+    let mut bench = connect(rt, alloc, client)?;
+    let mut request = next(&mut bench)?;
+    let mut bytes = [0; 3];
+    request.as_reader(now()?).read_exact(&mut bytes)?;
+    assert_eq!(rt; &bytes, b"abc");
+    Ok(())
 }
 
 // A body of 2000 bytes of which 10 come.
@@ -86,12 +118,14 @@ fn a_body_that_is_too_short_is_an_end_of_file(rt: HostRuntime) -> Result<(), Fai
     Ok(())
 }
 
-// Takes the next request, and counts that it came.
+// Takes the next request. It counts that it is about to, and that it came.
 fn take_next<R: Wait + Clock + Copy>(
     bench: &mut Bench<R>,
     date: HttpDate,
+    begun: &AtomicU64,
     handed: &AtomicU64,
 ) -> bool {
+    begun.fetch_add(1, Ordering::SeqCst);
     let Ok(Some(request)) = bench.client.next(date) else {
         return false;
     };
@@ -110,11 +144,13 @@ fn the_next_head_waits_for_the_body(rt: HostRuntime) -> Result<(), Fail> {
     let mut bench = connect(rt, alloc, CHUNKED)?;
     let mut request = next(&mut bench)?;
     let handed = Arc::new(alloc, AtomicU64::new(0))?;
+    let begun = Arc::new(alloc, AtomicU64::new(0))?;
+    let entered = Arc::try_clone(&begun)?;
     let counted = Arc::try_clone(&handed)?;
     let date = now()?;
-    let asks = thread::spawn(&rt, move || take_next(&mut bench, date, &counted));
+    let asks = thread::spawn(&rt, move || take_next(&mut bench, date, &entered, &counted));
     let asks = asks.map_err(|_| "no thread")?;
-    thread::sleep(&rt, Duration::from_millis(20));
+    assert!(rt; is_about_to_call(&rt, &begun));
     assert_eq!(rt; handed.load(Ordering::SeqCst), 0);
     let mut given = String::new(alloc);
     request.as_reader(now()?).read_to_string(&mut given)?;

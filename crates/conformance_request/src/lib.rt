@@ -10,6 +10,8 @@ mod bodies;
 #[cfg(test)]
 mod dates;
 #[cfg(test)]
+mod faults;
+#[cfg(test)]
 mod in_turn;
 #[cfg(test)]
 mod rows;

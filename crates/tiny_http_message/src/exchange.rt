@@ -8,7 +8,7 @@ ghost use Rattle.tiny_http_wire.specs.Device.{AnswersStop};
 ghost use Rattle.tiny_http_stream.specs.Source.{GoesOn, IsAtEnd};
 ghost use Rattle.tiny_http_message.specs.Pipeline.{is_head_method, is_timed_out, ends_too_new};
 ghost use Rattle.tiny_http_message.specs.Body.{prepended_body, BodyStops, PassesOver};
-ghost use Rattle.tiny_http_message.specs.HeadReads.{ReadsHead, EndsUnlessHanded, RefusesWith, RefusesTooNew, AnswersCut, AnswersFault, HasByteOrTimedOut, Begins, IsCutOff, IsRequest, IsRefusedUncut, IsOkEnd, IsBeforeHead, cut_end, end_at, standing_of, standing_read, message_of, head_message, head_framing};
+ghost use Rattle.tiny_http_message.specs.HeadReads.{ReadsHead, EndsUnlessHanded, RefusesWith, RefusesTooNew, AnswersCut, AnswersFault, HasByteOrTimedOut, Begins, IsCutOff, IsRequest, IsFramedRequest, IsRefusedUncut, IsOkEnd, IsBeforeHead, cut_end, end_at, standing_of, standing_read, message_of, head_message, head_framing};
 ghost use Rattle.tiny_http_message.specs.Exchange.{KeepsHead};
 ghost use Rattle.tiny_http_wire.specs.Device.{Feed};
 ghost use Rattle.tiny_http_stream.specs.Outlet.{output_of, outlet_ended, outlet_held, SentOn};
@@ -460,6 +460,7 @@ fn read_item<R: ReadDevice>(
     ensures goes_on { GoesOn source.old.feed source.new.feed }
     ensures at_end { IsAtEnd source.old → IsOkEnd result × (source.new ≡ source.old) }
     ensures begun { (IsOkEnd result → ⊥) → HasByteOrTimedOut source.old.feed }
+    ensures framed { IfOk result (IsFramedRequest now) }
     ensures lazy { IfOk result (λ read. IsRequest read → source.new.stop ≡ source.old.stop) }
     ensures passed { IfOk result (λ read. IsRefusedUncut read → source.new.stop ≡ source.old.stop) }
     ensures standing { source.new.standing ≡ source.old.standing }
@@ -543,6 +544,8 @@ pub fn read_head<R: ReadDevice>(
     ensures at_end { IsAtEnd source.old → IsOkEnd result × (source.new.reader ≡ source.old.reader) }
     // Unless it is the end, a byte of a head has come, or the reader timed out: memory isn't refused in place of the end.
     ensures begun { (IsOkEnd result → ⊥) → HasByteOrTimedOut source.old.feed }
+    // Whatever the reader states: a request is framed as its version and headers say, and its drop's text is that of its head.
+    ensures framed { IfOk result (IsFramedRequest now) }
     // Nothing is read ahead: where a request was read no end or fault of the reader was met.
     ensures lazy { IfOk result (λ read. IsRequest read → source.new.stop ≡ source.old.stop) }
     ensures standing { source.new.standing ≡ standing_read result source.old.standing }

@@ -26,8 +26,8 @@ pub struct Waiting {
 }
 
 impl Waiting {
-    /// What is kept of a request with this head and this body, which is dropped, if it is, on this date. It is an error where
-    /// memory for the text of that was refused.
+    /// What is kept of a request with this head and this body. `now` dates the 500 that is sent if it is dropped. It is an error
+    /// where memory for that was refused.
     pub fn new(alloc: Global, head: &Head, body: Body, now: HttpDate) -> Result<Waiting, AllocError>
         ensures { IfOk result (λ w. (w.body ≡ body) × KeepsHead w head.now now) }
     {

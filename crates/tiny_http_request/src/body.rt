@@ -1,20 +1,22 @@
 //! The body of a request that a thread may read, while the connection reads on.
-ghost use Rattle.std.specs.Prelude.{◌≡◌, ◌≤◌, ◌<◌, ◌==◌, false, length, is_some, Ok, Some, None, IfOk, IfErr, IfSome};
+ghost use Rattle.std.specs.Prelude.{◌≡◌, ◌≤◌, ◌<◌, ◌==◌, false, length, take, Option, is_some, Ok, Some, None, IfOk, IfErr, IfSome};
 ghost use Rattle.std.specs.IoError.{error_kind};
-ghost use Rattle.tiny_http_device.specs.Device.{AnswersStop, Reads};
-ghost use Rattle.tiny_http_message.specs.Body.{is_streaming, body_stop, ReadsOn};
+ghost use Rattle.tiny_http_device.specs.Device.{AnswersStop, Feed, Reads};
+ghost use Rattle.tiny_http_device.specs.declared.device.Stop.TheVariants.{Fault};
+ghost use Rattle.tiny_http_message.specs.Body.{is_streaming, body_stop, ReadsOn, remaining, prepended_body};
 
 use crate::sequential::SequentialReader;
 use std::io;
 use std::io::{ErrorKind, Read};
 use std::marker::Model;
 use std::sync::Wait;
-use tiny_http_device::device::{ReadDevice, Stop};
+use tiny_http_device::device::ReadDevice;
 use tiny_http_message::body::Body as Unread;
 use tiny_http_stream::source::Source;
 
-/// The body of a request. While bytes of it are to be read from the connection it holds the connection's input; after its last
-/// one, or where it is dropped, the next head is read.
+/// The body of a request. While bytes of it are to be read from the connection it holds the connection's input, and the next
+/// head waits: a counted body gives the input on with its last byte, a chunked one once a read has answered 0. A dropped body
+/// gives it on too; but after a chunked one whose end wasn't reported, and after one that is cut or broken, no head follows.
 ///
 /// After its end each read answers 0. A fault, the client's or the body's own, is answered by each read from then on, and so is
 /// one of kind `Interrupted`. The standard library's `read_to_end` and `read_to_string` try again after that kind, without an
@@ -37,22 +39,6 @@ impl<R: ReadDevice + Drop, Rt: Wait + Drop> Model for Body<R, Rt> {
     ghost invariant = { λ b. is_some b.reader ≡ is_streaming b.unread };
 }
 
-// Reads some bytes of a body that isn't read from the input.
-fn read_held(unread: &mut Unread, buf: &mut [u8]) -> Result<usize, io::Error>
-    requires held { is_streaming unread.old ≡ false }
-    ensures bound { IfOk result (λ n. n ≤ length buf.new) }
-    ensures moves { IfOk result (λ n. ReadsOn unread.old n (n == 0) unread.new) }
-    ensures broken { IfErr result (λ e. body_stop unread.new ≡ Some (Stop.Fault (error_kind e))) }
-    ensures reports_stop { IfSome (body_stop unread.old) (λ stop. AnswersStop stop result × (body_stop unread.new ≡ Some stop)) }
-    ensures held { is_streaming unread.new ≡ false }
-{
-    match unread {
-        Unread::WithHead(bytes) => bytes.read_in(buf),
-        Unread::Over(Stop::Fault(kind)) => Err((*kind).into()),
-        Unread::Over(Stop::End) | Unread::Counted(_) | Unread::Chunked(_) | Unread::Rest => Ok(0),
-    }
-}
-
 impl<R: ReadDevice + Drop, Rt: Wait + Drop> Body<R, Rt> {
     /// A body that is read by this reader, if it is read from the input.
     pub(crate) fn new(
@@ -69,12 +55,14 @@ impl<R: ReadDevice + Drop, Rt: Wait + Drop> Body<R, Rt> {
     fn read_some(&mut self, buf: &mut [u8]) -> Result<usize, io::Error>
         requires room { 0 < length buf.old }
         ensures bound { IfOk result (λ n. n ≤ length buf.new) }
+        ensures held { is_streaming self.old ≡ false → (feed : Option Feed)
+            → IfOk result (λ n. remaining self.old feed ≡ prepended_body (take n buf.new) (remaining self.new feed)) }
         ensures moves { IfOk result (λ n. ReadsOn self.old n (n == 0) self.new) }
-        ensures broken { IfErr result (λ e. body_stop self.new ≡ Some (Stop.Fault (error_kind e))) }
+        ensures broken { IfErr result (λ e. body_stop self.new ≡ Some (Fault (error_kind e))) }
         ensures reports_stop { IfSome (body_stop self.old) (λ stop. AnswersStop stop result × (body_stop self.new ≡ Some stop)) }
     {
         let Some(reader) = &mut self.reader else {
-            return read_held(&mut self.unread, buf);
+            return self.unread.read_held(buf);
         };
         let read = self.unread.read(reader.hold(), buf);
         if !self.unread.holds_reader() {
@@ -89,8 +77,11 @@ impl<R: ReadDevice + Drop, Rt: Wait + Drop> ReadDevice for Body<R, Rt> {
     /// each later read answers the same.
     fn read_in(&mut self, buf: &mut [u8]) -> Result<usize, io::Error>
         ensures reads { Reads None None result buf.new }
+        // The bytes of a body that was read with its head are the next of it, whatever the input still gives.
+        ensures held { is_streaming self.old ≡ false → (feed : Option Feed)
+            → IfOk result (λ n. remaining self.old feed ≡ prepended_body (take n buf.new) (remaining self.new feed)) }
         ensures moves { IfOk result (λ n. 0 < length buf.new → ReadsOn self.old n (n == 0) self.new) }
-        ensures broken { IfErr result (λ e. body_stop self.new ≡ Some (Stop.Fault (error_kind e))) }
+        ensures broken { IfErr result (λ e. body_stop self.new ≡ Some (Fault (error_kind e))) }
         ensures reports_stop { IfSome (body_stop self.old) (λ stop. 0 < length buf.new → AnswersStop stop result × (body_stop self.new ≡ Some stop)) }
         ensures empty { length buf.new ≡ 0 → (result ≡ Ok 0) × (self.new ≡ self.old) }
     {
@@ -116,7 +107,15 @@ fn read_whole<R: ReadDevice>(reader: &mut R, buf: &mut [u8]) -> io::Result<()> {
 
 impl<R: ReadDevice + Drop, Rt: Wait + Drop> Read for Body<R, Rt> {
     /// Reads some bytes of the body, as `read_in`.
-    fn read(&mut self, buf: &mut [u8]) -> io::Result<usize> {
+    fn read(&mut self, buf: &mut [u8]) -> io::Result<usize>
+        ensures bound { IfOk result (λ n. n ≤ length buf.new) }
+        ensures held { is_streaming self.old ≡ false → (feed : Option Feed)
+            → IfOk result (λ n. remaining self.old feed ≡ prepended_body (take n buf.new) (remaining self.new feed)) }
+        ensures moves { IfOk result (λ n. 0 < length buf.new → ReadsOn self.old n (n == 0) self.new) }
+        ensures broken { IfErr result (λ e. body_stop self.new ≡ Some (Fault (error_kind e))) }
+        ensures reports_stop { IfSome (body_stop self.old) (λ stop. 0 < length buf.new → AnswersStop stop result × (body_stop self.new ≡ Some stop)) }
+        ensures empty { length buf.new ≡ 0 → (result ≡ Ok 0) × (self.new ≡ self.old) }
+    {
         self.read_in(buf)
     }
 

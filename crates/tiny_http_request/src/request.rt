@@ -209,7 +209,8 @@ impl<R: ReadDevice + Drop, W: WriteDevice + Drop, Rt: Wait + Drop> Request<R, W,
 
     /// Sends the answer, dated `now`, in the turn of the request, and then gives the body up. It waits until the requests
     /// before are finished. The first fault is the error: the data's, or the writer's; after it nothing more is sent on the
-    /// connection. A fault by which the client has gone isn't reported.
+    /// connection. One of kind `BrokenPipe`, `ConnectionAborted`, `ConnectionRefused` or `ConnectionReset` isn't reported, also one
+    /// of the data.
     pub fn respond<D: ReadDevice + Drop>(
         self,
         response: Response<D>,
@@ -236,7 +237,7 @@ impl<R: ReadDevice + Drop, W: WriteDevice + Drop, Rt: Wait + Drop> Request<R, W,
     }
 
     /// Takes the raw writer in place of an answer, and gives the body up. What is written is all that the client gets for the
-    /// request. The turn ends as the writer is dropped.
+    /// request, but for a 100 that was sent before. The turn ends as the writer is dropped.
     pub fn into_writer(self) -> SequentialWriter<Outlet<W>, Rt> {
         let Self {
             alloc: _,

@@ -48,8 +48,8 @@ impl WriteDevice for Nowhere {
     }
 }
 
-/// A request to be made: `GET /` in version 1.1 with no header and no body, from 127.0.0.1:23456, not encrypted, unless it is
-/// told otherwise.
+/// A request to be made: `GET /` in version 1.1 with no header and no body, from 127.0.0.1:23456, not encrypted, unless a
+/// call below changes it.
 #[derive(Drop)]
 pub struct TestRequest {
     body: &'static str,
@@ -178,8 +178,8 @@ impl TestRequest {
         Ok(request)
     }
 
-    /// The request, which is answered to nobody. It has the header `Content-Length` with the body's length behind its others, if
-    /// it has none of that name. `now` dates the 500 that is sent if it is dropped.
+    /// The request; its answer is thrown away. It has the header `Content-Length` with the body's length behind its others, if it
+    /// has none of that name. `now` dates the 500 that is sent if it is dropped. Errors are those of `new_request`.
     pub fn into_request<Rt: Wait + Copy>(
         self,
         rt: Rt,

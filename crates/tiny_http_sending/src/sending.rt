@@ -124,7 +124,8 @@ pub fn is_closed_client(kind: ErrorKind) -> bool
     )
 }
 
-/// What is reported of an answer that was sent so: its fault, unless the client has closed the connection.
+/// What is reported of an answer that was sent so: its fault, unless that is of a kind which says that the client has closed the
+/// connection, also where it is one of the data.
 pub fn reported(sent: Result<(), io::Error>) -> Result<(), io::Error>
     ensures { result ≡ reported sent }
 {
