@@ -1,5 +1,5 @@
 //! Threads that share one server, and count the requests that they answer.
-ghost use Rattle.std.specs.Prelude.{◌≡◌, ◌+◌, ◌<◌, ◌×◌};
+ghost use Rattle.std.specs.Prelude.{◌≡◌, ◌+◌, ◌<◌};
 
 use crate::bench::{connect, read_all, respond};
 use std::alloc::Global;
@@ -182,7 +182,10 @@ where
     let (good, mut all) = thread::join(
         rt,
         move || ask(rt, alloc, server),
-        move || four_answer(rt, shared, mine),
+        move || -> Share<L>
+            requires { mine.parts ≡ 4 }
+            ensures { result.parts ≡ 4 }
+        { four_answer(rt, shared, mine) },
     );
     (good, roster.close(&mut all))
 }
