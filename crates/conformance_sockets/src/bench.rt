@@ -3,13 +3,13 @@ use std::alloc::{AllocError, Global};
 use std::io::{ErrorKind, Read};
 use std::net::{Net, TcpListener, TcpStream};
 use std::process::Abort;
-use std::rt::Files;
 use std::sync::{Arc, Wait};
 use std::test::Fail;
 use std::thread::{JoinHandle, Threads};
 use std::time::{Clock, Duration};
 use std::{io, thread};
 use tiny_http::common::StatusCode;
+use tiny_http::connection::SocketFiles;
 use tiny_http::response::Response;
 use tiny_http::server::{Server, ServerRequest, current_date};
 
@@ -25,7 +25,7 @@ pub fn turn<R: Clock>(rt: &R) {
 }
 
 /// A client of this server, each read of whom waits for 1 ms.
-pub fn connect<R: Net<Listener = TcpListener, Stream = TcpStream> + Files + Wait + Drop>(
+pub fn connect<R: Net<Listener = TcpListener, Stream = TcpStream> + SocketFiles + Wait + Drop>(
     rt: &R,
     server: &Server<R>,
 ) -> io::Result<TcpStream> {
@@ -41,7 +41,7 @@ pub fn connect<R: Net<Listener = TcpListener, Stream = TcpStream> + Files + Wait
 pub fn one_server_one_client<R>(rt: R, alloc: Global) -> Result<(Server<R>, TcpStream), Fail>
 where
     R: Net<Listener = TcpListener, Stream = TcpStream>
-        + Files
+        + SocketFiles
         + Clock
         + Wait
         + Threads
@@ -174,7 +174,7 @@ pub fn respond_empty<R: Clock + Wait + Drop>(
 }
 
 // Answers each request by `hello world`, until it is unblocked. The number of those that it answered.
-fn answer_all<R: Net + Files + Clock + Wait + Drop>(
+fn answer_all<R: Net + SocketFiles + Clock + Wait + Drop>(
     rt: &R,
     alloc: Global,
     server: &Server<R>,
@@ -193,7 +193,7 @@ fn answer_all<R: Net + Files + Clock + Wait + Drop>(
 
 /// A server that answers each request by `hello world`, by a thread.
 #[derive(Drop)]
-pub struct HelloWorld<R: Net + Files + Wait + Drop> {
+pub struct HelloWorld<R: Net + SocketFiles + Wait + Drop> {
     pub server: Arc<Server<R>>,
     answering: JoinHandle<u64>,
 }
@@ -202,7 +202,7 @@ pub struct HelloWorld<R: Net + Files + Wait + Drop> {
 pub fn hello_world<R>(rt: R, alloc: Global) -> Result<HelloWorld<R>, Fail>
 where
     R: Net<Listener = TcpListener, Stream = TcpStream>
-        + Files
+        + SocketFiles
         + Clock
         + Wait
         + Threads
@@ -219,7 +219,7 @@ where
 }
 
 /// Ends it. The number of requests that it answered.
-pub fn end<R: Net + Files + Wait + Threads + Drop>(
+pub fn end<R: Net + SocketFiles + Wait + Threads + Drop>(
     rt: &R,
     serving: HelloWorld<R>,
 ) -> Result<u64, AllocError> {

@@ -1,18 +1,18 @@
 //! Threads that share one server, and count the requests that they answer.
-ghost use Rattle.std.specs.Prelude.{◌≡◌, ◌+◌, ◌<◌, ◌×◌};
+ghost use Rattle.std.specs.Prelude.{◌≡◌, ◌+◌, ◌<◌};
 
 use crate::bench::{connect, read_all, respond};
 use std::alloc::Global;
 use std::io::Write;
 use std::marker::Brand;
 use std::net::{Net, TcpListener, TcpStream};
-use std::rt::Files;
 use std::sync::Wait;
 use std::sync::ledger::{Blank, Ledger, Share};
 use std::test::Fail;
 use std::thread;
 use std::thread::Threads;
 use std::time::Clock;
+use tiny_http::connection::SocketFiles;
 use tiny_http::roster::Roster;
 use tiny_http::server::{Server, ServerRequest};
 
@@ -21,7 +21,7 @@ const CLIENTS: usize = 40;
 
 // What the answering threads share.
 #[derive(Drop)]
-struct Shared<'a, L: Ledger, R: Net + Files + Wait + Drop> {
+struct Shared<'a, L: Ledger, R: Net + SocketFiles + Wait + Drop> {
     alloc: Global,
     server: &'a Server<R>,
     roster: &'a Roster<L>,
@@ -35,7 +35,7 @@ fn answer_path<R: Clock + Wait + Drop>(rt: &R, alloc: Global, request: ServerReq
 }
 
 // Answers requests until it is unblocked, and enters once for each. The share.
-fn answers<L: Ledger, R: Net + Files + Clock + Wait + Drop>(
+fn answers<L: Ledger, R: Net + SocketFiles + Clock + Wait + Drop>(
     rt: &R,
     shared: &Shared<'_, L, R>,
     mut mine: Share<L>,
@@ -62,7 +62,14 @@ fn two_answer<L, R>(
 ) -> Share<L>
 where
     L: Ledger + Send + Sync,
-    R: Net + Files + Clock + Wait + Threads + Drop + Send + Sync,
+    R: Net<Listener = TcpListener, Stream = TcpStream>
+        + SocketFiles
+        + Clock
+        + Wait
+        + Threads
+        + Drop
+        + Send
+        + Sync,
     requires first { 0 < first.parts }
     requires second { 0 < second.parts }
     ensures { result.parts ≡ first.parts + second.parts }
@@ -80,7 +87,14 @@ where
 fn four_answer<L, R>(rt: &R, shared: &Shared<'_, L, R>, mine: Share<L>) -> Share<L>
 where
     L: Ledger + Send + Sync,
-    R: Net + Files + Clock + Wait + Threads + Drop + Send + Sync,
+    R: Net<Listener = TcpListener, Stream = TcpStream>
+        + SocketFiles
+        + Clock
+        + Wait
+        + Threads
+        + Drop
+        + Send
+        + Sync,
     requires { mine.parts ≡ 4 }
     ensures { result.parts ≡ 4 }
 {
@@ -107,7 +121,7 @@ where
 // path that it asked for.
 fn ask<R>(rt: &R, alloc: Global, server: &Server<R>) -> bool
 where
-    R: Net<Listener = TcpListener, Stream = TcpStream> + Files + Clock + Wait + Drop,
+    R: Net<Listener = TcpListener, Stream = TcpStream> + SocketFiles + Clock + Wait + Drop,
 {
     let good = ask_paths(rt, alloc, server).is_some();
     for _ in 0..4u8 {
@@ -121,7 +135,7 @@ where
 // The same, but for the unblocking. None where a client got something else.
 fn ask_paths<R>(rt: &R, alloc: Global, server: &Server<R>) -> Option<()>
 where
-    R: Net<Listener = TcpListener, Stream = TcpStream> + Files + Clock + Wait + Drop,
+    R: Net<Listener = TcpListener, Stream = TcpStream> + SocketFiles + Clock + Wait + Drop,
 {
     let mut clients = Vec::new(alloc);
     for number in 0..CLIENTS {
@@ -146,7 +160,7 @@ fn serve_all<L, R>(rt: &R, alloc: Global, server: &Server<R>, blank: Blank) -> (
 where
     L: Ledger + Send + Sync,
     R: Net<Listener = TcpListener, Stream = TcpStream>
-        + Files
+        + SocketFiles
         + Clock
         + Wait
         + Threads
@@ -168,7 +182,10 @@ where
     let (good, mut all) = thread::join(
         rt,
         move || ask(rt, alloc, server),
-        move || four_answer(rt, shared, mine),
+        move || -> Share<L>
+            requires { mine.parts ≡ 4 }
+            ensures { result.parts ≡ 4 }
+        { four_answer(rt, shared, mine) },
     );
     (good, roster.close(&mut all))
 }

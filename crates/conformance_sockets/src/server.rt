@@ -11,7 +11,7 @@ use std::sync::Wait;
 use std::test::Fail;
 use std::time::{Clock, Duration};
 use std::{fs, io};
-use tiny_http::connection::{ConfigListenAddr, Listener};
+use tiny_http::connection::{ConfigListenAddr, Listener, SocketFiles};
 use tiny_http::server::{Server, ServerConfig, ServerError, SslConfig, current_date};
 
 // The path of a socket of this process.
@@ -107,7 +107,7 @@ fn each_call_gives_a_request(rt: HostRuntime) -> Result<(), Fail> {
 }
 
 // Whether so many clients are connected, within a number of turns.
-fn has_clients<R: Net + Files + Clock + Wait + Drop>(
+fn has_clients<R: Net + SocketFiles + Clock + Wait + Drop>(
     rt: &R,
     server: &Server<R>,
     count: usize,

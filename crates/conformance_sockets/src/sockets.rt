@@ -1,4 +1,5 @@
 //! Halves of a connection.
+use crate::bench::{DATED, assert_reads, respond};
 use std::io::{ErrorKind, Read, Write};
 use std::net::{TcpListener, TcpStream};
 use std::os::unix::net::UnixStream;
@@ -6,6 +7,7 @@ use std::test::Fail;
 use tiny_http::connection::{Connection, ListenAddr, Listener};
 use tiny_http::device::{ReadDevice, WriteDevice};
 use tiny_http::refined_tcp_stream::RefinedTcpStream;
+use tiny_http::server::{client_of, current_date};
 
 #[test]
 fn a_half_closes_its_direction_alone(rt: HostRuntime) -> Result<(), Fail> {
@@ -72,4 +74,30 @@ fn addresses_of_tcp(rt: HostRuntime) -> Result<(), Fail> {
     assert_eq!(rt; from, Some(client.local_addr()?));
     assert_eq!(rt; connection.peer_addr()?, from);
     Ok(())
+}
+
+#[test]
+fn a_client_over_two_halves(rt: HostRuntime) -> Result<(), Fail> {
+    let alloc = rt.alloc();
+    let (ours, mut theirs) = UnixStream::pair(&rt)?;
+    theirs.write_all(b"GET /a HTTP/1.1\r\nConnection: close\r\n\r\n")?;
+    let (reader, writer) = RefinedTcpStream::new(Connection::from(ours))?;
+    let mut client = client_of(rt, alloc, writer, reader)?;
+    assert!(rt; !client.secure());
+    let now = current_date(&rt);
+    let Some(request) = client.next(now)? else {
+        return Err(Fail::new("no request"));
+    };
+    assert_eq!(rt; request.url(), "/a");
+    assert!(rt; request.remote_addr().is_none());
+    assert!(rt; client.next(now)?.is_none());
+    drop(client);
+    assert!(rt; respond(&rt, alloc, request, "a"));
+    let rest = "Content-Type: text/plain; charset=UTF-8\r\nContent-Length: 1\r\n\r\na";
+    assert_reads(
+        &rt,
+        alloc,
+        &mut theirs,
+        &["HTTP/1.1 200 OK\r\n", DATED, rest],
+    )
 }

@@ -1,11 +1,12 @@
 -- What clauses read of a half of a client's connection.
-use Rattle.std.specs.Prelude.{◌≡◌, [], None, false, Option}
+use Rattle.std.specs.Prelude.{◌≡◌, [], Some, None, ⊤, false, Option}
 use Rattle.std.specs.declared.net.Shutdown.{Shutdown}
 use Rattle.std.specs.declared.net.Shutdown.TheVariants.{Read, Write}
 use Rattle.std.specs.declared.net.socket_addr.SocketAddr.{SocketAddr}
 use Rattle.tiny_http_device.specs.Device.{Sink}
 use Rattle.tiny_http_socket.specs.Connection.{HasPeerOf, IsSameKind}
 use Rattle.tiny_http_socket.specs.declared.connection.Connection.{Connection}
+use Rattle.tiny_http_socket.specs.declared.connection.Connection.TheVariants as C
 use Rattle.tiny_http_socket.specs.declared.refined_tcp_stream.Half.{Half}
 use Rattle.tiny_http_socket.specs.declared.refined_tcp_stream.Half.TheVariants.{Reading, Writing}
 use Rattle.tiny_http_socket.specs.declared.refined_tcp_stream.RefinedTcpStream.{RefinedTcpStream}
@@ -38,3 +39,13 @@ pub record IsWritingHalf (connection : Connection) (s : RefinedTcpStream) : Type
 -- it has the peer's address as its connection has
 abbrev pub HasSamePeer : RefinedTcpStream → Option SocketAddr → Type 0
 HasSamePeer s addr = HasPeerOf s.connection addr
+
+-- a Unix connection has no peer's address; a TCP one may have one
+abbrev pub MayHavePeerOf : Connection → Option SocketAddr → Type 0
+MayHavePeerOf (C.Tcp s) addr = ⊤
+MayHavePeerOf (C.Unix s) None = ⊤
+MayHavePeerOf (C.Unix s) (Some addr) = ⊥
+
+-- so it is of the connection of this half
+abbrev pub MayHavePeer : RefinedTcpStream → Option SocketAddr → Type 0
+MayHavePeer s addr = MayHavePeerOf s.connection addr
