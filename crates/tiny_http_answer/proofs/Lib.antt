@@ -1,0 +1,4 @@
+pub mod ClientReadingRows
+pub mod ClientReadingLines
+pub mod ClientAnswerLemmas
+pub mod ClientAnswerLaws

@@ -1,0 +1,3 @@
+pub mod ClientAnswer
+pub mod ClientReading
+pub mod AnswerParts
