@@ -29,7 +29,7 @@ pub decimal-has_no : (c n : ℕ) → 10 ≤ digit_value c → n < 2 ^ 64 → Has
 decimal-has_no c n h lt = digits-have_no c (decimal n) h (decimal_is_IsNumeral n lt).0.1
 
 -- the first c
-cut-front : (c : ℕ) (w rest : List ℕ) → HasNo c w → cut c (w ++ c ∷ rest) ≡ Some (w, rest)
+pub cut-front : (c : ℕ) (w rest : List ℕ) → HasNo c w → cut c (w ++ c ∷ rest) ≡ Some (w, rest)
 cut-front c [] rest h = rw (eq-eqb c c refl) refl
 cut-front c (b ∷ bs) rest h =
     let k = and_parts (not (b == c)) (list_all (λ x. not (x == c)) bs) h in
@@ -56,7 +56,7 @@ some-same : {A : Type 0} (x y : A) → Some x ≡ Some y → x ≡ y
 some-same x y e = cc
 
 -- a decimal_read is read as it is written, and so alone
-number-is : (most : ℕ) (text : List ℕ) (n : ℕ) → decimal_read most text ≡ Some n → (text ≡ decimal n) × (n ≤ most)
+pub number-is : (most : ℕ) (text : List ℕ) (n : ℕ) → decimal_read most text ≡ Some n → (text ≡ decimal n) × (n ≤ most)
 unfolding decimal_read
 number-is most text n e =
     let k = cond-some (bytes_eq text (decimal (digits_value 10 text)) && nat_le (digits_value 10 text) most) (Some (digits_value 10 text)) n e in
@@ -65,7 +65,7 @@ number-is most text n e =
     let fits : digits_value 10 text ≤ most = leb-true (digits_value 10 text) most t.1 in
     ((bytes_eq-Decides text (decimal (digits_value 10 text))).0 t.0 ∙ ap decimal same, omega arith)
 
-number-one : (most n : ℕ) → n ≤ most → most < 2 ^ 64 → decimal_read most (decimal n) ≡ Some n
+pub number-one : (most n : ℕ) → n ≤ most → most < 2 ^ 64 → decimal_read most (decimal n) ≡ Some n
 unfolding decimal_read
 number-one most n h lt =
     let fits : n < 2 ^ 64 = omega arith in

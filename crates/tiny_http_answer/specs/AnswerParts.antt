@@ -1,5 +1,7 @@
 -- What the calls that read the parts of an answer give.
 use Rattle.std.specs.Prelude.{◌≡◌, ℕ, List, [], Option, Some, None, Result, Ok, Err, false, ⊤}
+use Rattle.std.specs.declared.io.ErrorKind.{ErrorKind}
+use Rattle.std.specs.declared.io.ErrorKind.TheVariants.{InvalidData}
 use Rattle.tiny_http_wire.specs.declared.common.HTTPVersion.{HTTPVersion}
 use Rattle.tiny_http_wire.specs.declared.common.StatusCode.{StatusCode}
 use Rattle.tiny_http_wire.specs.declared.common.Header.{Header}
@@ -27,6 +29,11 @@ abbrev pub LacksBy : (Lack → Type 0) → Fault → Type 0
 LacksBy lacks IsCut = lacks Unfinished
 LacksBy lacks IsBad = lacks Invalid
 LacksBy lacks IsMemory = ⊤
+
+-- what a fault of this kind says of a chunked body whose bytes end
+abbrev pub chunk_fault : ErrorKind → Fault
+chunk_fault InvalidData = IsBad
+chunk_fault _ = IsCut
 
 -- a call takes the next field-line, or the empty line
 abbrev pub ReadsFieldLine : List ℕ → List ℕ → Result (Option Header) Fault → Type 0

@@ -1,17 +1,18 @@
 //! The body of an answer, as a client reads it.
-ghost use Rattle.std.specs.Prelude.{◌≡◌, codes, OnOk, IfOk, IfErr};
+ghost use Rattle.std.specs.Prelude.{◌≡◌, ◌&&◌, codes, OnOk, IfOk, IfErr};
 ghost use Rattle.std.specs.Option.{option_copied};
+ghost use Rattle.tiny_http_wire.specs.Common.{same_name};
 ghost use Rattle.tiny_http_answer.specs.ClientAnswer.{has_no_body, says_chunked, content_length, first_value, extent, BeginsWithBody, LacksBody, OfChunks, OfLength};
-ghost use Rattle.tiny_http_answer.specs.AnswerParts.{head_of, LacksBy};
+ghost use Rattle.tiny_http_answer.specs.AnswerParts.{head_of, LacksBy, chunk_fault};
 
 use crate::head::{Fault, Head};
+use crate::number::number_in;
 use crate::rest::Rest;
 use std::alloc::Global;
 use std::io::ErrorKind;
 use tiny_http_wire::ascii::AsciiString;
 use tiny_http_wire::chunked::Decoding;
 use tiny_http_wire::common::{Header, Method, StatusCode};
-use tiny_http_wire::grammar::parse_content_length;
 
 // How many bytes of a chunked body are decoded at a time, at most.
 const PIECE: usize = 1024;
@@ -26,13 +27,19 @@ fn has_no_body(method: &Method, status: StatusCode) -> bool
     }
 }
 
-// Whether some Transfer-Encoding says chunked.
+// Whether the header says that the body is chunked.
+fn is_chunked(header: &Header) -> bool
+    ensures { result ≡ (same_name header.now.field (codes "Transfer-Encoding") && same_name header.now.value (codes "chunked")) }
+{
+    header.field.equiv("Transfer-Encoding") && header.value.eq_ignore_ascii_case("chunked")
+}
+
+// Whether some header says so.
+#[tactic(auto, unfolding(crate::specs::ClientAnswer::says_chunked))]
 fn says_chunked(headers: &[Header]) -> bool
     ensures { result ≡ says_chunked headers.now }
 {
-    headers.iter().any(|header| {
-        header.field.equiv("Transfer-Encoding") && header.value.eq_ignore_ascii_case("chunked")
-    })
+    headers.iter().any(|header| is_chunked(header))
 }
 
 // The value of the first header of that name.
@@ -47,18 +54,24 @@ fn first_value<'a>(headers: &'a [Header], name: &str) -> Option<&'a AsciiString>
     None
 }
 
-// What the first Content-Length says. Unlike in a request, a plus is no part of it.
+// What the first Content-Length says. Unlike in a request, no plus may stand before the digits.
 fn content_length(headers: &[Header]) -> Option<usize>
     ensures { result ≡ content_length headers.now }
 {
-    let value = first_value(headers, "Content-Length")?.as_str();
-    if value.starts_with('+') {
-        return None;
-    }
-    parse_content_length(value)
+    number_in(first_value(headers, "Content-Length")?.as_str())
 }
 
-// Takes the data of a chunked body, and the body.
+// What a fault of this kind says of a chunked body whose bytes end.
+fn chunk_fault(kind: ErrorKind) -> Fault
+    ensures { result ≡ chunk_fault kind }
+{
+    match kind {
+        ErrorKind::InvalidData => Fault::Malformed,
+        _ => Fault::Unfinished,
+    }
+}
+
+// Takes a chunked body, and gives its data.
 fn read_chunks(alloc: Global, rest: &mut Rest<'_>) -> Result<Vec<u8>, Fault>
     ensures read { IfOk result (λ body. BeginsWithBody OfChunks rest.old body.items rest.new) }
     ensures lacks { IfErr result (LacksBy (LacksBody OfChunks rest.old)) }
@@ -70,12 +83,7 @@ fn read_chunks(alloc: Global, rest: &mut Rest<'_>) -> Result<Vec<u8>, Fault>
         match decoding.read(rest, &mut piece) {
             Ok(0) => return Ok(body),
             Ok(n) => body.extend_from_slice(&piece[..n])?,
-            Err(e) => {
-                return Err(match e.kind() {
-                    ErrorKind::InvalidData => Fault::Malformed,
-                    _ => Fault::Unfinished,
-                });
-            }
+            Err(e) => return Err(chunk_fault(e.kind())),
         }
     }
 }

@@ -1,17 +1,16 @@
 //! The head of an answer: its lines, as a client reads them.
 ghost use Rattle.std.specs.Prelude.{◌≡◌, ◌<◌, ◌^◌, ◌≤◌, IfOk, IfErr, IfSome, IfNone, OnErr, IsSome, None, Some, option_map};
 ghost use Rattle.tiny_http_wire.specs.Bytes.{AreAscii};
-ghost use Rattle.tiny_http_answer.specs.ClientReading.{decimal_read, decimal_until, status_line_read, field_line_read, value_read};
+ghost use Rattle.tiny_http_answer.specs.ClientReading.{decimal_until, status_line_read, field_line_read, value_read};
 ghost use Rattle.tiny_http_answer.specs.AnswerParts.{status_line_of, LacksBy, head_of, ReadsFieldLine, BeginsWithAllFieldLines, LacksFieldLines};
 ghost use Rattle.tiny_http_answer.specs.ClientAnswer.{BeginsWithStatusLine, BeginsWithFieldLines, BeginsWithAnswerHead, LacksLine, LacksHead, IsStatusLine};
 
+use crate::number::decimal;
 use crate::rest::Rest;
 use std::alloc::{AllocError, Global};
 use tiny_http_text::bytes::{are_ascii, cut, has_no_blank, is};
 use tiny_http_text::copies::owned;
 use tiny_http_wire::common::{HTTPVersion, Header, HeaderField, StatusCode};
-use tiny_http_wire::grammar::parse_content_length;
-use tiny_http_wire::number::Numeral;
 
 /// Why a part of an answer isn't read.
 #[derive(Clone, Copy, Drop)]
@@ -42,25 +41,11 @@ pub(crate) struct Head {
     pub(crate) headers: Vec<Header>,
 }
 
-// The number that the text is, in decimal without leading zeros.
-fn decimal(text: &[u8], most: usize) -> Option<usize>
-    requires { AreAscii text.now }
-    ensures { result ≡ decimal_read most text.now }
-{
-    let Ok(digits) = str::from_utf8(text) else {
-        return None;
-    };
-    let number = parse_content_length(digits)?;
-    if number <= most && Numeral::decimal(number as u64).as_bytes() == text {
-        return Some(number);
-    }
-    None
-}
-
-// Such a number in front of the first c, and what stands after that.
+// The decimal number in front of the first c, up to `most`, and what stands after that.
 fn decimal_until(text: &[u8], c: u8, most: usize) -> Option<(usize, &[u8])>
     requires { AreAscii text.now }
     ensures some { IfSome result (λ r. (decimal_until most c text.now ≡ Some (r.0, r.1.now)) × AreAscii r.1.now) }
+    ensures fits { IfSome result (λ r. r.0 ≤ most) }
     ensures none { IfNone result (decimal_until most c text.now ≡ None) }
 {
     let Some((digits, after)) = cut(text, c) else {

@@ -6,4 +6,5 @@ pub mod answer;
 mod body;
 mod head;
 pub mod laws;
+mod number;
 mod rest;

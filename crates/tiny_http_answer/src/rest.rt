@@ -1,7 +1,6 @@
 //! Bytes that are read from their front.
-ghost use Rattle.std.specs.Prelude.{◌≡◌, ◌<◌, ◌++◌, length, option_map, Some, IfSome, IfNone};
+ghost use Rattle.std.specs.Prelude.{◌≡◌, ◌+◌, ◌<◌, ◌≤◌, ◌++◌, length, take, drop, Some, IfSome, IfNone};
 ghost use Rattle.tiny_http_wire.specs.Lines.{Line, IsUnfinished};
-ghost use Rattle.tiny_http_wire.specs.HeadReading.{line};
 ghost use Rattle.tiny_http_wire.specs.Device.{whole_feed};
 
 use std::io;
@@ -10,7 +9,9 @@ use tiny_http_wire::device::ReadDevice;
 
 // Where the first CR LF begins.
 fn line_end(bytes: &[u8]) -> Option<usize>
-    ensures { result ≡ option_map (λ l. length l.0) (line bytes.now) }
+    ensures within { IfSome result (λ n. n + 2 ≤ length bytes.now) }
+    ensures line { IfSome result (λ n. Line bytes.now (take n bytes.now) (drop (n + 2) bytes.now)) }
+    ensures none { IfNone result (IsUnfinished bytes.now) }
 {
     for at in 0..bytes.len() {
         if bytes[at..].starts_with(b"\r\n") {
@@ -18,6 +19,15 @@ fn line_end(bytes: &[u8]) -> Option<usize>
         }
     }
     None
+}
+
+// The first line, and what stands after its CR LF.
+fn split_line(bytes: &[u8]) -> Option<(&[u8], &[u8])>
+    ensures some { IfSome result (λ r. Line bytes.now r.0.now r.1.now) }
+    ensures none { IfNone result (IsUnfinished bytes.now) }
+{
+    let n = line_end(bytes)?;
+    Some((&bytes[..n], &bytes[n + 2..]))
 }
 
 /// Bytes that are still to be read. A contract sees it as the list of them.
@@ -49,18 +59,17 @@ impl<'a> Rest<'a> {
         self.bytes.len()
     }
 
-    /// Takes the first line and its CR LF. Where none is finished nothing changes.
+    /// Takes the first line and its CR LF, if one is finished.
     pub(crate) fn take_line(&mut self) -> Option<&'a [u8]>
         ensures some { IfSome result (λ text. Line self.old text.now self.new) }
         ensures none { IfNone result (IsUnfinished self.old) }
     {
-        let n = line_end(self.bytes)?;
-        let text = &self.bytes[..n];
-        self.bytes = &self.bytes[n + 2..];
+        let (text, rest) = split_line(self.bytes)?;
+        self.bytes = rest;
         Some(text)
     }
 
-    /// Takes n bytes. Where there are fewer nothing changes.
+    /// Takes n bytes, if there are so many.
     pub(crate) fn take(&mut self, n: usize) -> Option<&'a [u8]>
         ensures some { IfSome result (λ front. (self.old ≡ front.now ++ self.new) × (length front.now ≡ n)) }
         ensures none { IfNone result (length self.old < n) }
