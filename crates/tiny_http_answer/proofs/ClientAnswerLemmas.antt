@@ -208,7 +208,7 @@ breaks-kind (LongTrailer last trailers next) bytes part kind h = inl h.5
 abbrev pub BodyIs : Extent → List ℕ → AnswerBodyRead → Type 0
 BodyIs e bytes r = MatchResult r (λ b. BeginsWithBody e bytes b.0 b.1) (LacksBody e bytes)
 
-lack-is : (bytes body : List ℕ) (kind : ErrorKind) → CutChunks bytes End body kind → LacksBody OfChunks bytes (lack_of kind)
+pub lack-is : (bytes body : List ℕ) (kind : ErrorKind) → CutChunks bytes End body kind → LacksBody OfChunks bytes (lack_of kind)
 lack-is bytes body kind f =
     let P : ErrorKind → Type 0 = λ k. LacksBody OfChunks bytes (lack_of k) in
     ⊎_elim

@@ -18,7 +18,7 @@ use Rattle.tiny_http_wire.specs.QualityReading.{cut}
 use Rattle.tiny_http_text.proofs.BytesLemmas.{none-from, ascii-at}
 use Rattle.tiny_http_head.proofs.LinesLemmas.{both}
 use Rattle.tiny_http_head.proofs.HeadsLengths.{length_of-some, length_of-none}
-use Rattle.tiny_http_answer.specs.ClientReading.{decimal_read, decimal_of, decimal_until, with_rest, status_line_read, protocol_read, major_read, minor_read, status_read, field_line_read, value_read}
+use Rattle.tiny_http_answer.specs.ClientReading.{decimal_read, decimal_of, decimal_until, with_rest, status_line_read, protocol_read, major_read, field_line_read, value_read}
 use Rattle.tiny_http_answer.proofs.ClientReadingLines.{number-one, number-is, cut-front}
 
 -- a number that is no numeral, is above the most, or isn't written so

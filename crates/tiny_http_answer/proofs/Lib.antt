@@ -5,3 +5,4 @@ pub mod ClientAnswerLaws
 pub mod RestLemmas
 pub mod HeadLemmas
 pub mod PartsLemmas
+pub mod ChunksReading

@@ -1,5 +1,5 @@
 -- The parts of an answer, one after another.
-use Rattle.std.proofs.Common.{◌≡◌, refl, sym, ap, ◌∙◌, subst, ℕ, Bool, true, false, cond, List, [], ◌∷◌, ◌++◌, length, drop, ◌+◌, ◌-◌, ◌≤◌, Option, Some, None, inl, inr, append_assoc, arith}
+use Rattle.std.proofs.Common.{◌≡◌, refl, sym, ap, ◌∙◌, subst, ℕ, true, false, List, [], ◌∷◌, ◌++◌, length, drop, ◌+◌, ◌-◌, ◌≤◌, Option, Some, None, inl, inr, append_assoc, arith}
 use Rattle.std.specs.Prelude.{MatchOption}
 use Rattle.std.proofs.Math.Seq.{drop-append_seam}
 use Rattle.std.proofs.lemmas.List.{length-append}
@@ -12,7 +12,7 @@ use Rattle.tiny_http_wire.specs.Chunks.{WholeChunks, chunk_text, lines_text}
 use Rattle.std.specs.List.{flat_map}
 use Rattle.tiny_http_answer.specs.declared.head.Fault.{Fault}
 use Rattle.tiny_http_answer.specs.declared.head.Fault.TheVariants.{Unfinished as IsCut, Malformed as IsBad, Memory as IsMemory}
-use Rattle.tiny_http_answer.specs.ClientAnswer.{StatusLine, FieldLine, BeginsWithStatusLine, BeginsWithFieldLines, AnswerHead, BeginsWithAnswerHead, PassesOver, is_interim, Extent, NoBody, OfChunks, OfLength, OfUnknownLength, has_no_body, says_chunked, content_length, extent_of_length, extent, BeginsWithBody, ClientAnswer, ReadsAnswer, Lack, IsStatusLine, IsFieldLineOrEmpty}
+use Rattle.tiny_http_answer.specs.ClientAnswer.{StatusLine, FieldLine, BeginsWithFieldLines, AnswerHead, BeginsWithAnswerHead, PassesOver, is_interim, Extent, NoBody, OfChunks, OfLength, OfUnknownLength, has_no_body, says_chunked, content_length, extent_of_length, extent, BeginsWithBody, ClientAnswer, ReadsAnswer, Lack, IsStatusLine, IsFieldLineOrEmpty}
 use Rattle.tiny_http_answer.specs.ClientReading.{status_line_read, field_line_read}
 use Rattle.tiny_http_answer.specs.AnswerParts.{LacksBy}
 use Rattle.tiny_http_answer.proofs.ClientReadingLines.{status-line-one, status-line-are, field-line-one, field-line-are}

@@ -1,10 +1,9 @@
 -- The search for the first CR LF of some bytes.
-use Rattle.std.proofs.Common.{◌≡◌, refl, sym, ap, ◌∙◌, subst, ℕ, ◌+◌, ◌<◌, ◌≤◌, Bool, true, false, ◌&&◌, cond, List, [], ◌∷◌, ◌++◌, length, take, drop, get_or, suc, Option, Some, None, append_assoc, arith, eqb-true, inl, inr}
+use Rattle.std.proofs.Common.{◌≡◌, refl, sym, ap, ◌∙◌, subst, ℕ, ◌+◌, ◌<◌, ◌≤◌, Bool, true, false, ◌&&◌, List, [], ◌∷◌, ◌++◌, length, take, drop, get_or, suc, Option, Some, None, append_assoc, arith, eqb-true}
 use Rattle.std.specs.Prelude.{◌==◌, option_map, MatchOption}
 use Rattle.std.specs.List.{starts_with}
 use Rattle.std.specs.Cmp.Lexicographic.{pointwise}
 use Rattle.std.proofs.lemmas.Slice.Eq.{bytes_eq-Decides}
-use Rattle.std.proofs.lemmas.Bool.Decides.{eqb_tells}
 use Rattle.std.proofs.lemmas.List.{length-take, length-append}
 use Rattle.std.proofs.Math.Seq.{drop-cons, take-suc, take-append_seam, drop-append_seam}
 use Rattle.tiny_http_wire.specs.Bytes.{crlf}
@@ -52,10 +51,10 @@ searched-more bytes at h n s =
     let none : crlf ≡ take 2 (a ∷ drop (suc at) bytes) → ⊥ = λ e. n (e ∙ ap (take 2) (sym here)) in
     let next : at + 1 ≡ suc at = omega arith in
     let more : SearchedTo bytes (suc at) =
-        s ∙ ap (λ (x : List ℕ). ahead (take at bytes) (line x)) here
-        ∙ ap (ahead (take at bytes)) (line-past a (drop (suc at) bytes) none)
-        ∙ ahead-ahead (take at bytes) a (line (drop (suc at) bytes))
-        ∙ ap (λ (x : List ℕ). ahead x (line (drop (suc at) bytes))) (sym (take-suc bytes at 0 h)) in
+    s ∙ ap (λ (x : List ℕ). ahead (take at bytes) (line x)) here
+    ∙ ap (ahead (take at bytes)) (line-past a (drop (suc at) bytes) none)
+    ∙ ahead-ahead (take at bytes) a (line (drop (suc at) bytes))
+    ∙ ap (λ (x : List ℕ). ahead x (line (drop (suc at) bytes))) (sym (take-suc bytes at 0 h)) in
     rw next more
 
 line-here : (bs : List ℕ) → crlf ≡ take 2 bs → (rest : List ℕ) × (line bs ≡ Some ([], rest))

@@ -1,4 +1,3 @@
-use Rattle.std.proofs.Common.{◌≡◌, sym, ap, ◌∙◌}
 use Rattle.tiny_http_text.proofs.BytesTrimming.{ascii-cut}
 use Rattle.tiny_http_answer.proofs.HeadLemmas.{until-nothing, until-there, until-fits}
 use Rattle.tiny_http_answer.proofs.head.decimal_until.Goals as goal
@@ -13,9 +12,10 @@ returns-in_err-number-clause-none c =
 
 pub returns-clause-some : goal.returns-clause-some
 returns-clause-some c =
-    let cut = c.in-Some.ensures.some in
-    (until-there c.args.most c.args.c c.args.text.now c.in-Some.digits.now c.in-Some.after.now _ cut.0 cut.1 c.in_ok-number.ensures,
-      (ascii-cut c.args.c c.args.text.now c.in-Some.digits.now c.in-Some.after.now cut.0 c.requires).1)
+    let cut = c.in-Some.ensures.some in (
+      until-there c.args.most c.args.c c.args.text.now c.in-Some.digits.now c.in-Some.after.now _ cut.0 cut.1 c.in_ok-number.ensures,
+      (ascii-cut c.args.c c.args.text.now c.in-Some.digits.now c.in-Some.after.now cut.0 c.requires).1,
+    )
 
 pub returns-clause-fits : goal.returns-clause-fits
 returns-clause-fits c = until-fits c.args.most c.in_ok-number.number c.in-Some.digits.now c.in_ok-number.ensures

@@ -1,6 +1,4 @@
-use Rattle.std.proofs.Common.{rules, sym, ◌∙◌}
-use Rattle.tiny_http_text.proofs.BytesTrimming.{ascii-cut}
-use Rattle.tiny_http_wire.specs.Bytes.{colon}
+use Rattle.std.proofs.Common.{rules}
 use Rattle.tiny_http_answer.proofs.HeadLemmas.{field-line-no_colon, field-line-blank, field-line-valueless, field-line-made}
 use Rattle.tiny_http_answer.proofs.head.parse_field_line.Goals as goal
 

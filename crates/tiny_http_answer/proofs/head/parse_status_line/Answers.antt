@@ -1,6 +1,5 @@
-use Rattle.std.proofs.Common.{rules, sym, ap, ◌∙◌}
-use Rattle.tiny_http_text.proofs.BytesTrimming.{ascii-cut}
-use Rattle.tiny_http_answer.proofs.HeadLemmas.{status-line-no_slash, status-line-other, status-line-after}
+use Rattle.std.proofs.Common.{rules}
+use Rattle.tiny_http_answer.proofs.HeadLemmas.{status-line-no_slash, status-line-other}
 use Rattle.tiny_http_answer.proofs.head.parse_status_line.Goals as goal
 
 pub returns-in_default : goal.returns-in_default

@@ -1,4 +1,4 @@
-use Rattle.std.proofs.Common.{◌≡◌, sym, ap, ◌∙◌, subst, arith, ◌<◌, ◌^◌, ℕ, List}
+use Rattle.std.proofs.Common.{sym, ap, ◌∙◌, subst, arith, ◌<◌, ◌^◌, ℕ, List}
 use Rattle.std.specs.Str.Parse.{IsNumeral, digits_value}
 use Rattle.tiny_http_answer.proofs.HeadLemmas.{decimal-none, decimal-more, decimal-other, decimal-some, text-is_utf8, differs, agrees}
 use Rattle.tiny_http_answer.proofs.number.decimal.Goals as goal
