@@ -6,3 +6,7 @@ pub mod RestLemmas
 pub mod HeadLemmas
 pub mod PartsLemmas
 pub mod ChunksReading
+pub mod PlainLemmas
+pub mod SentChunks
+pub mod PrintedLemmas
+pub mod TextLaw

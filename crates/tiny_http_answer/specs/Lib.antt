@@ -1,3 +1,4 @@
 pub mod ClientAnswer
 pub mod ClientReading
 pub mod AnswerParts
+pub mod ClientText
