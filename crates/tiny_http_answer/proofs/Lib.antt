@@ -10,3 +10,6 @@ pub mod PlainLemmas
 pub mod SentChunks
 pub mod PrintedLemmas
 pub mod TextLaw
+pub mod FrontLemmas
+pub mod BrokenLemmas
+pub mod SentTextsLemmas

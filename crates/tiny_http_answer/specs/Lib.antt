@@ -2,3 +2,4 @@ pub mod ClientAnswer
 pub mod ClientReading
 pub mod AnswerParts
 pub mod ClientText
+pub mod SentTexts
