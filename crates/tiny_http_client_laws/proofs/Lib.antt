@@ -1,0 +1,3 @@
+pub mod JoinedGrows
+pub mod StepsAdd
+pub mod RunFronts

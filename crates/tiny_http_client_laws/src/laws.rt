@@ -1,0 +1,22 @@
+//! The client theorem.
+ghost use Rattle.std.specs.Prelude.{◌≡◌, ◌++◌, ℕ, Bool, List, Option, None};
+ghost use Rattle.std.specs.List.{AllByRecursion};
+ghost use Rattle.tiny_http_wire.specs.Device.{Feed, Sink};
+ghost use Rattle.tiny_http_core.specs.Steps.{ReplyValue};
+ghost use Rattle.tiny_http_core.specs.Conversation.{TimedValue, IsConversation};
+ghost use Rattle.tiny_http_answer.specs.ClientAnswer.{ReadsAnswers};
+ghost use Rattle.tiny_http_answer.specs.SentTexts.{methods, whole_answers, remains};
+ghost use Rattle.tiny_http_client_laws.specs.ClientReads.{CanBeReadAt, IsOutputOf, ReadsNumbers, sent_texts};
+
+/// THE CLIENT THEOREM, of the contract of `tiny_http_core::driver::run` alone. Where each number that was reached is finished
+/// by a response of a status from 200 on with readable headers, by a drop or by a refused upgrade, or isn't answered yet, a
+/// client that knows the methods alone reads the output as one answer after another, in the order of the numbers.
+pub fn conversation_is_read()
+    // All that was sent and is held, however the writer failed.
+    ensures output { (feed : Feed) (before after : Sink) (steps : List TimedValue) (replies : List ReplyValue) (held out : List ℕ) (ended : Bool) (unread : Option Feed)
+        → (c : IsConversation feed before steps replies after held ended unread) → AllByRecursion CanBeReadAt c.end.reached.slots → IsOutputOf after held out → ReadsNumbers c.end.reached.slots out }
+    // Where the writer did not fail, these are the answers of all the numbers up to the first whose text breaks off.
+    ensures whole { (feed : Feed) (before after : Sink) (steps : List TimedValue) (replies : List ReplyValue) (held out : List ℕ) (ended : Bool) (unread : Option Feed)
+        → (c : IsConversation feed before steps replies after held ended unread) → AllByRecursion CanBeReadAt c.end.reached.slots → IsOutputOf after held out → c.end.failure ≡ None
+        → (let texts = sent_texts c.end.reached.slots in ReadsAnswers (methods texts) out (whole_answers texts) (remains texts)) }
+{}
