@@ -1,19 +1,13 @@
 -- A step only adds to the joined output, and its own text is what it adds first.
-use Rattle.std.proofs.Common.{◌≡◌, refl, sym, ap, ◌∙◌, subst, ℕ, zero, suc, ◌+◌, Bool, true, false, not, ◌&&◌, ◌||◌, List, [], ◌∷◌, ◌++◌, take, map, length, Option, Some, None, append_assoc, append-nil}
-use Rattle.std.specs.Prelude.{if◌then◌else◌, slice_get, slice_set, ◌==◌, nat_lt}
-use Rattle.std.specs.List.{list_all, AllByRecursion}
+use Rattle.std.proofs.Common.{◌≡◌, refl, sym, ap, ◌∙◌, subst, ℕ, zero, suc, Bool, true, false, not, ◌&&◌, List, [], ◌∷◌, ◌++◌, take, Option, Some, append_assoc, append-nil}
+use Rattle.std.specs.Prelude.{if◌then◌else◌, slice_get, slice_set}
+use Rattle.std.specs.List.{list_all}
 use Rattle.std.specs.declared.io.ErrorKind.{ErrorKind}
 use Rattle.std.proofs.lemmas.Bool.{and_parts}
-use Rattle.httpdate.specs.declared.date.HttpDate.{HttpDate}
-use Rattle.tiny_http_wire.specs.Bytes.{is_ascii}
 use Rattle.tiny_http_wire.specs.Device.{IsFront}
-use Rattle.tiny_http_encoding.specs.Text.{Text, Ending, Whole, Broken}
-use Rattle.tiny_http_message.specs.Pipeline.{Item, Asks, Refuses, Request}
-use Rattle.tiny_http_sending.specs.ResponseValue.{ResponseValue, response_text}
 use Rattle.tiny_http_sending.proofs.SendingLemmas.{or-parts}
-use Rattle.tiny_http_device.proofs.DeviceLemmas.{IsFront-append}
-use Rattle.tiny_http_core.specs.Slots.{Slot, Stage, Unanswered, Answered, ByServer, Raw, Upgraded, printing_for, to_request, text_if, stage_text, opening, segment, is_broken, is_slot_broken, is_stage_finished, is_finished, turn_has_come, joined, is_output_broken, new_slot, rest_of, last_slot, last_holds_reader, last_was_abandoned}
-use Rattle.tiny_http_core.specs.Steps.{StepValue, Ask, AsReader, Read, Respond, IntoWriter, Write, Flush, Upgrade, Finish, Drop, ReplyValue, Ended, Given, NotYet, Done, Refused, NoSuch, WriterUse, Unused, Unreported, Reported, Outcome, Reached, unchanged, changes, asks_from, ask, read_reply, finished_as, written_to, stage_closed, fault_in, fault_reply, accepts_step, needs_turn, use_in_turn, effect, at_item, at_slot, at_number, outcome}
+use Rattle.tiny_http_core.specs.Slots.{Slot, Stage, Unanswered, Answered, ByServer, Raw, Upgraded, segment, is_slot_broken, is_stage_finished, is_finished, turn_has_come, joined, is_output_broken}
+use Rattle.tiny_http_core.specs.Steps.{StepValue, Read, Write, Flush, Finish, ReplyValue, WriterUse, Unused, Unreported, Reported, Outcome, Reached, unchanged, changes, accepts_step, use_in_turn}
 
 -- more numbers send as much, and more
 pub rest-grows : (c : Bool) (w u v : List ℕ) → IsFront u v → IsFront (w ++ (if c then u else [])) (w ++ (if c then v else []))

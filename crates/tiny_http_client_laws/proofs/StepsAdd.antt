@@ -1,19 +1,17 @@
 -- What holds of the numbers of a conversation: an owed 100 wasn't sent, and each version fits its bytes. Each step keeps it,
 -- and only adds to the joined output.
-use Rattle.std.proofs.Common.{◌≡◌, refl, sym, ap, ◌∙◌, subst, ℕ, zero, suc, ◌+◌, ◌≤◌, Bool, true, false, not, ◌&&◌, ◌||◌, List, [], ◌∷◌, ◌++◌, take, map, length, Option, Some, None, append_assoc, append-nil}
-use Rattle.std.specs.Prelude.{if◌then◌else◌, slice_get, slice_set, ◌==◌, nat_lt, MatchOption}
+use Rattle.std.proofs.Common.{◌≡◌, refl, sym, ap, ◌∙◌, subst, ℕ, zero, suc, ◌+◌, ◌≤◌, Bool, true, false, ◌||◌, List, [], ◌∷◌, ◌++◌, take, length, Some, None, append_assoc, append-nil}
+use Rattle.std.specs.Prelude.{if◌then◌else◌, slice_get, slice_set, ◌==◌, nat_lt}
 use Rattle.std.specs.List.{list_all, AllByRecursion}
 use Rattle.httpdate.specs.declared.date.HttpDate.{HttpDate}
 use Rattle.tiny_http_wire.specs.declared.common.HTTPVersion.{HTTPVersion}
 use Rattle.tiny_http_wire.specs.Bytes.{is_ascii}
 use Rattle.tiny_http_wire.specs.Device.{IsFront}
-use Rattle.tiny_http_encoding.specs.Text.{Text, Ending, Whole, Broken}
 use Rattle.tiny_http_message.specs.Pipeline.{Item, Asks, Refuses, Request}
 use Rattle.tiny_http_sending.specs.ResponseValue.{ResponseValue, response_text}
-use Rattle.tiny_http_device.proofs.DeviceLemmas.{IsFront-append}
-use Rattle.tiny_http_core.specs.Slots.{Slot, Stage, Unanswered, Answered, ByServer, Raw, Upgraded, printing_for, to_request, text_if, stage_text, opening, segment, is_stage_finished, turn_has_come, joined, is_output_broken, new_slot, rest_of, last_slot, last_holds_reader, last_was_abandoned, server_response}
-use Rattle.tiny_http_core.specs.Steps.{StepValue, Ask, AsReader, Read, Respond, IntoWriter, Write, Flush, Upgrade, Finish, Drop, ReplyValue, Ended, Given, NotYet, Done, Refused, NoSuch, WriterUse, Unused, Unreported, Reported, Outcome, Reached, unchanged, changes, asks_from, ask, read_reply, finished_as, written_to, stage_closed, fault_in, fault_reply, Fault, accepts_step, needs_turn, use_in_turn, effect, at_item, at_slot, at_number, outcome}
-use Rattle.tiny_http_client_laws.proofs.JoinedGrows.{joined-grows, SendsMore, set-grows, set-own, AddsOwn, Adds, in-turn-ownless, taken-unfinished}
+use Rattle.tiny_http_core.specs.Slots.{Slot, Stage, Unanswered, Answered, ByServer, Raw, Upgraded, printing_for, to_request, text_if, stage_text, opening, segment, is_stage_finished, turn_has_come, joined, is_output_broken, rest_of}
+use Rattle.tiny_http_core.specs.Steps.{StepValue, Ask, AsReader, Read, Respond, IntoWriter, Write, Flush, Upgrade, Finish, Drop, ReplyValue, Given, Done, Refused, NoSuch, WriterUse, Unused, Unreported, Reported, Outcome, Reached, unchanged, changes, read_reply, finished_as, written_to, stage_closed, fault_in, fault_reply, Fault, accepts_step, needs_turn, use_in_turn, effect}
+use Rattle.tiny_http_client_laws.proofs.JoinedGrows.{SendsMore, set-grows, set-own, AddsOwn, Adds, in-turn-ownless, taken-unfinished}
 
 -- the version of an item fits its bytes
 abbrev pub VersionFits : HTTPVersion → Type 0
@@ -184,7 +182,7 @@ effect-keeps found date old r s turn (AsReader k) h here is takes comes =
     let own = opening s.item (Some date) in
     let empty : opening s.item s.continued ≡ [] = ap (opening s.item) none in
     let all : segment t ≡ opening s.item s.continued ++ own =
-        ap (λ (x : Stage). opening s.item (Some date) ++ (stage_text s.item s.date x).bytes) u ∙ append-nil own ∙ ap (λ x. x ++ own) (sym empty) in
+    ap (λ (x : Stage). opening s.item (Some date) ++ (stage_text s.item s.date x).bytes) u ∙ append-nil own ∙ ap (λ x. x ++ own) (sym empty) in
     quiet old h k s here t own Done Unreported (unanswered-sends s t own u all) (settled s t i refl refl) tt)
     (λ o. keeps-all old Done h)
 effect-keeps found date old r s turn (Read k n) h here is takes comes =

@@ -1,9 +1,9 @@
 -- What a client reads of a connection's output.
-use Rattle.std.specs.Prelude.{◌≡◌, ℕ, ◌<◌, ◌≤◌, ◌^◌, Bool, true, false, List, [], ◌∷◌, ◌++◌, map, Option, Some, None, if◌then◌else◌, codes, ⊤}
+use Rattle.std.specs.Prelude.{◌≡◌, ℕ, ◌<◌, ◌≤◌, ◌^◌, false, List, ◌++◌, map, Option, Some, None, if◌then◌else◌, codes, ⊤}
 use Rattle.std.specs.List.{AllByRecursion}
 use Rattle.tiny_http_wire.specs.declared.common.Method.{Method}
 use Rattle.tiny_http_wire.specs.declared.common.Method.TheVariants.{Get, Head}
-use Rattle.tiny_http_wire.specs.Device.{Sink, IsFront}
+use Rattle.tiny_http_wire.specs.Device.{Sink}
 use Rattle.tiny_http_wire.specs.Answer.{Printing, has_header}
 use Rattle.tiny_http_wire.specs.Text.{Ending, Whole, Broken}
 use Rattle.tiny_http_message.specs.Pipeline.{Item, Asks, Refuses}
@@ -11,7 +11,7 @@ use Rattle.tiny_http_sending.specs.ResponseValue.{ResponseValue}
 use Rattle.tiny_http_core.specs.Slots.{Slot, Stage, Unanswered, Answered, ByServer, Raw, Upgraded, printing_for, server_response, stage_text, segment}
 use Rattle.tiny_http_answer.specs.ClientAnswer.{ClientAnswer, ReadsAnswers}
 use Rattle.tiny_http_answer.specs.ClientText.{IsReadable, stated_length, received_answer}
-use Rattle.tiny_http_answer.specs.SentTexts.{SentText, methods, whole_answers, remains, StandIn}
+use Rattle.tiny_http_answer.specs.SentTexts.{SentText, methods, StandIn}
 
 -- the method as whose answer a number's text is read: a refused head counts as a GET, the 505 of a HEAD as a HEAD
 abbrev pub counts_as : Item → Method
