@@ -220,3 +220,12 @@ output-all slots flushed None before after held taken out ended o n e j =
     let same : o.1 ≡ taken = cc (o.2, e) in
     sym (j ∙ ap (λ x. x ++ held) (sym same) ∙ o.3)
 output-all slots flushed (Some f) before after held taken out ended o n e j = cc
+
+-- an output that has not ended: the writer did not fail, and nothing broke off
+pub record Unended (slots : List Slot) (failure : Option Failure) : Type 0 where
+  pub unfailed : failure ≡ None
+  pub whole : is_output_broken slots ≡ false
+
+pub output-unended : (slots : List Slot) (flushed : List ℕ) (failure : Option Failure) (before after : Sink) (held : List ℕ) → IsOutput slots flushed failure before after held false → Unended slots failure
+output-unended slots flushed None before after held o = record { unfailed = refl; whole = sym o.5 }
+output-unended slots flushed (Some f) before after held o = cc (o.4)

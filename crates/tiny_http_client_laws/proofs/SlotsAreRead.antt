@@ -1,7 +1,9 @@
 -- The joined output, and each front of it, is read as the answers of its numbers.
-use Rattle.std.proofs.Common.{◌≡◌, refl, sym, ap, ◌∙◌, subst, ℕ, Bool, true, false, not, ◌&&◌, List, [], ◌∷◌, ◌++◌, Option, Some, None, append_assoc, append-nil, arith}
+use Rattle.std.proofs.Common.{◌≡◌, refl, sym, ap, ◌∙◌, subst, ℕ, Bool, true, false, not, ◌&&◌, List, [], ◌∷◌, ◌++◌, map, Option, Some, None, append_assoc, append-nil, arith}
 use Rattle.std.specs.Prelude.{if◌then◌else◌, MatchOption}
-use Rattle.std.specs.List.{AllByRecursion}
+use Rattle.std.proofs.lemmas.Bool.{and_parts}
+use Rattle.tiny_http_sending.proofs.SendingLemmas.{or-parts}
+use Rattle.std.specs.List.{AllByRecursion, list_all}
 use Rattle.httpdate.specs.declared.date.HttpDate.{HttpDate}
 use Rattle.tiny_http_wire.specs.declared.common.Method.{Method}
 use Rattle.tiny_http_wire.specs.declared.common.Method.TheVariants.{Get, Head}
@@ -11,14 +13,14 @@ use Rattle.tiny_http_wire.specs.Answer.{Printing, text_plain}
 use Rattle.tiny_http_message.specs.Pipeline.{Item, Asks, Refuses, Refusal, BadRequest, RequestTimeout, ExpectationFailed, VersionNotSupported, is_head_method}
 use Rattle.tiny_http_message.specs.OwnAnswer.{refusal_response}
 use Rattle.tiny_http_sending.specs.ResponseValue.{ResponseValue, response_text}
-use Rattle.tiny_http_core.specs.Slots.{Slot, Stage, Unanswered, Answered, ByServer, Raw, Upgraded, drop_response, continue_response, printing_for, server_response, text_if, stage_text, opening, segment, is_broken, is_slot_broken, is_stage_finished, joined}
+use Rattle.tiny_http_core.specs.Slots.{Slot, Stage, Unanswered, Answered, ByServer, Raw, Upgraded, drop_response, continue_response, printing_for, server_response, text_if, stage_text, opening, segment, is_broken, is_slot_broken, is_stage_finished, is_finished, joined, is_output_broken}
 use Rattle.tiny_http_answer.specs.ClientAnswer.{ClientAnswer, ReadsAnswer, ReadsAnswers, is_head}
 use Rattle.tiny_http_answer.specs.ClientText.{IsReadableAnswer, received_answer}
-use Rattle.tiny_http_answer.specs.SentTexts.{BreaksOff, IsSentText, joined_texts, joined_behind, methods, whole_answers, remains}
+use Rattle.tiny_http_answer.specs.SentTexts.{BreaksOff, IsSentText, joined_texts, joined_behind, methods, whole_by, whole_answers, remains_by, remains}
 use Rattle.tiny_http_answer.proofs.TextLaw.{read_back}
 use Rattle.tiny_http_answer.proofs.BrokenLemmas.{broken-off, nothing-off, passed-over, interim-head}
 use Rattle.tiny_http_answer.proofs.SentTextsLemmas.{reads, reads-all, Reads}
-use Rattle.tiny_http_client_laws.specs.ClientReads.{counts_as, CanBeRead, IsReadableStage, CanBeReadAt, answer_if_whole, stage_answer, sent_text, sent_texts}
+use Rattle.tiny_http_client_laws.specs.ClientReads.{counts_as, CanBeRead, IsReadableStage, CanBeReadAt, answer_if_whole, stage_answer, sent_text, sent_texts, HaveAnswers}
 use Rattle.tiny_http_client_laws.proofs.StepsAdd.{ItemFits, AllSound}
 
 -- a HEAD is a HEAD
@@ -162,3 +164,39 @@ slots-are-read-all slots out c h e =
     let texts = sent_texts slots in
     let P : List ℕ → Type 0 = λ z. ReadsAnswers (methods texts) z (whole_answers texts) (remains texts) in
     subst P (joined-is slots c ∙ e) (reads-all texts (all-texts slots c h))
+
+-- where each number is finished and none broke off, each has its answer, and nothing remains
+pub record AllAnswered (slots : List Slot) : Type 0 where
+  pub answers : List ClientAnswer
+  pub have : HaveAnswers slots answers
+  pub whole : whole_answers (sent_texts slots) ≡ answers
+  pub nothing : remains (sent_texts slots) ≡ []
+
+ending-answer : (e : Ending) (r : ResponseValue) (p : Printing) → is_broken e ≡ false → answer_if_whole e r p ≡ Some (received_answer r.answer r.content p)
+ending-answer Whole r p h = refl
+ending-answer (Broken kind) r p h = cc
+
+has-answer : (s : Slot) (stage : Stage) → s.stage ≡ stage → IsReadableStage stage → is_stage_finished stage ≡ true → is_slot_broken s ≡ false → (a : ClientAnswer) × (stage_answer s stage ≡ Some a)
+has-answer s Unanswered e c f b = cc
+has-answer s (Answered response date found) e c f b =
+    let p = printing_for s.item date in (received_answer response.answer response.content p, ending-answer (stage_text s.item s.date s.stage).ending response p b)
+has-answer s ByServer e c f b =
+    let p = printing_for s.item s.date in
+    let r = server_response s.item in (received_answer r.answer r.content p, ending-answer (stage_text s.item s.date s.stage).ending r p b)
+has-answer s (Raw written closed) e c f b = elim c [ ]
+has-answer s (Upgraded protocol response date written closed) e c f b = elim c [ ]
+
+pub all-answered : (slots : List Slot) → AllByRecursion CanBeReadAt slots → list_all is_finished slots ≡ true → is_output_broken slots ≡ false → AllAnswered slots
+all-answered [] c f b = record { answers = []; have = refl; whole = refl; nothing = refl }
+all-answered (s ∷ slots) c f b =
+    let h = and_parts (is_finished s) (list_all is_finished slots) f in
+    let k = or-parts (is_slot_broken s) (is_finished s && is_output_broken slots) b in
+    let rest : is_output_broken slots ≡ false = rw h.0 at k.1 in
+    let go = all-answered slots c.1 h.1 rest in
+    let a = has-answer s s.stage refl c.0 h.0 k.0 in
+    record {
+      answers = a.0 ∷ go.answers;
+      have = ap (λ o. o ∷ map (λ (x : Slot). stage_answer x x.stage) slots) a.1 ∙ ap (λ os. Some a.0 ∷ os) go.have;
+      whole = ap (λ o. whole_by o (whole_answers (sent_texts slots))) a.1 ∙ ap (λ list. a.0 ∷ list) go.whole;
+      nothing = ap (λ o. remains_by o (segment s) (remains (sent_texts slots))) a.1 ∙ go.nothing;
+    }

@@ -71,3 +71,7 @@ pub record ReadsNumbers (slots : List Slot) (out : List ℕ) : Type 0 where
   pub rest : List ℕ
   pub reads : ReadsAnswers (methods (sent_texts slots)) out answers rest
   pub stand : StandIn (sent_texts slots) out answers rest
+
+-- each of these numbers has this answer
+abbrev pub HaveAnswers : List Slot → List ClientAnswer → Type 0
+HaveAnswers slots answers = map (λ s. stage_answer s s.stage) slots ≡ map (λ a. Some a) answers

@@ -1,12 +1,13 @@
 //! The client theorem.
-ghost use Rattle.std.specs.Prelude.{◌≡◌, ◌++◌, ℕ, Bool, List, Option, None};
-ghost use Rattle.std.specs.List.{AllByRecursion};
+ghost use Rattle.std.specs.Prelude.{◌≡◌, ℕ, Bool, false, List, [], Option, None, IsTrue};
+ghost use Rattle.std.specs.List.{AllByRecursion, list_all};
 ghost use Rattle.tiny_http_wire.specs.Device.{Feed, Sink};
+ghost use Rattle.tiny_http_core.specs.Slots.{is_finished};
 ghost use Rattle.tiny_http_core.specs.Steps.{ReplyValue};
 ghost use Rattle.tiny_http_core.specs.Conversation.{TimedValue, IsConversation};
-ghost use Rattle.tiny_http_answer.specs.ClientAnswer.{ReadsAnswers};
+ghost use Rattle.tiny_http_answer.specs.ClientAnswer.{ClientAnswer, ReadsAnswers};
 ghost use Rattle.tiny_http_answer.specs.SentTexts.{methods, whole_answers, remains};
-ghost use Rattle.tiny_http_client_laws.specs.ClientReads.{CanBeReadAt, IsOutputOf, ReadsNumbers, sent_texts};
+ghost use Rattle.tiny_http_client_laws.specs.ClientReads.{CanBeReadAt, IsOutputOf, HaveAnswers, ReadsNumbers, sent_texts};
 
 /// THE CLIENT THEOREM, of the contract of `tiny_http_core::driver::run` alone. Where each number that was reached is finished
 /// by a response of a status from 200 on with readable headers, by a drop or by a refused upgrade, or isn't answered yet, a
@@ -19,4 +20,8 @@ pub fn conversation_is_read()
     ensures whole { (feed : Feed) (before after : Sink) (steps : List TimedValue) (replies : List ReplyValue) (held out : List ℕ) (ended : Bool) (unread : Option Feed)
         → (c : IsConversation feed before steps replies after held ended unread) → AllByRecursion CanBeReadAt c.end.reached.slots → IsOutputOf after held out → c.end.failure ≡ None
         → (let texts = sent_texts c.end.reached.slots in ReadsAnswers (methods texts) out (whole_answers texts) (remains texts)) }
+    // Where nothing broke off either, and each number is finished, each has its answer, and nothing remains.
+    ensures complete { (feed : Feed) (before after : Sink) (steps : List TimedValue) (replies : List ReplyValue) (held out : List ℕ) (unread : Option Feed)
+        → (c : IsConversation feed before steps replies after held false unread) → AllByRecursion CanBeReadAt c.end.reached.slots → IsOutputOf after held out → IsTrue (list_all is_finished c.end.reached.slots)
+        → (answers : List ClientAnswer) × HaveAnswers c.end.reached.slots answers × ReadsAnswers (methods (sent_texts c.end.reached.slots)) out answers [] }
 {}
