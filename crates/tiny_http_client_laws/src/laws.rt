@@ -1,5 +1,5 @@
 //! The client theorem.
-ghost use Rattle.std.specs.Prelude.{◌≡◌, ℕ, Bool, false, List, [], Option, None, IsTrue};
+ghost use Rattle.std.specs.Prelude.{◌≡◌, ◌<◌, ◌≤◌, ◌^◌, length, ℕ, Bool, false, List, [], Option, None, IsTrue};
 ghost use Rattle.std.specs.List.{AllByRecursion, list_all};
 ghost use Rattle.tiny_http_wire.specs.Device.{Feed, Sink};
 ghost use Rattle.tiny_http_core.specs.Slots.{is_finished};
@@ -7,7 +7,10 @@ ghost use Rattle.tiny_http_core.specs.Steps.{ReplyValue};
 ghost use Rattle.tiny_http_core.specs.Conversation.{TimedValue, IsConversation};
 ghost use Rattle.tiny_http_answer.specs.ClientAnswer.{ClientAnswer, ReadsAnswers};
 ghost use Rattle.tiny_http_answer.specs.SentTexts.{methods, whole_answers, remains};
-ghost use Rattle.tiny_http_client_laws.specs.ClientReads.{CanBeReadAt, IsOutputOf, HaveAnswers, ReadsNumbers, sent_texts};
+ghost use Rattle.tiny_http_answer.specs.ClientText.{IsReadable};
+ghost use Rattle.tiny_http_client_laws.specs.ClientReads.{CanBeRead, CanBeReadAt, IsOutputOf, HaveAnswers, ReadsNumbers, sent_texts};
+
+use tiny_http_wire::response::Response;
 
 /// THE CLIENT THEOREM, of the contract of `tiny_http_core::driver::run` alone. Where each number that was reached is finished
 /// by a response of a status from 200 on with readable headers, by a drop or by a refused upgrade, or isn't answered yet, a
@@ -25,3 +28,15 @@ pub fn conversation_is_read()
         → (c : IsConversation feed before steps replies after held false unread) → AllByRecursion CanBeReadAt c.end.reached.slots → IsOutputOf after held out → IsTrue (list_all is_finished c.end.reached.slots)
         → (answers : List ClientAnswer) × HaveAnswers c.end.reached.slots answers × ReadsAnswers (methods (sent_texts c.end.reached.slots)) out answers [] }
 {}
+
+/// What `conversation_is_read` asks of responses holds of each `Response` of a status from 200 on with readable headers, whose
+/// data are fewer than 2^63 bytes: its status and its length fit their types, and its list holds no `Transfer-Encoding` and no
+/// `Content-Length`.
+pub fn response_can_be_read<D>(response: &Response<D>)
+    ensures { (content : Feed) → length content.bytes < 2 ^ 63 → 200 ≤ response.now.answer.status → AllByRecursion IsReadable response.now.answer.headers
+        → CanBeRead (record { answer = response.now.answer; content = content }) }
+{
+    let _status = response.status_code();
+    let _length = response.data_length();
+    let _headers = response.headers();
+}
