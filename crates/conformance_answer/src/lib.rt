@@ -9,3 +9,5 @@ mod grammar;
 mod outputs;
 #[cfg(test)]
 mod same;
+#[cfg(test)]
+mod served;

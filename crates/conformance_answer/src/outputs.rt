@@ -16,13 +16,13 @@ const OUTPUTS: &[Output] = &[
         false,
         &[(200, "a"), (500, ""), (200, "c")],
     ),
-    // A version above 1.1, asked for by a GET and by a HEAD.
+    // A version above 1.1, asked for by a GET.
     (
         "HTTP/1.1 505 HTTP Version Not Supported\r\nServer: tiny-http (Rust)\r\nDate: Wed, 04 May 1983 11:17:00 GMT\r\nContent-Type: text/plain; charset=UTF-8\r\nContent-Length: 51\r\n\r\nThis server only supports HTTP versions 1.0 and 1.1",
         false,
         &[(505, "This server only supports HTTP versions 1.0 and 1.1")],
     ),
-    // The same by a HEAD.
+    // The same, asked for by a HEAD.
     (
         "HTTP/1.1 505 HTTP Version Not Supported\r\nServer: tiny-http (Rust)\r\nDate: Wed, 04 May 1983 11:17:00 GMT\r\nContent-Type: text/plain; charset=UTF-8\r\nContent-Length: 51\r\n\r\n",
         true,
@@ -46,13 +46,13 @@ const OUTPUTS: &[Output] = &[
         false,
         &[(204, "")],
     ),
-    // Behind a 204 the next answer stands at once.
+    // After a 204 the next answer stands at once.
     (
         "HTTP/1.1 204 No Content\r\nServer: tiny-http (Rust)\r\nDate: Wed, 04 May 1983 11:17:00 GMT\r\nContent-Length: 0\r\n\r\nHTTP/1.1 200 OK\r\nServer: tiny-http (Rust)\r\nDate: Wed, 04 May 1983 11:17:00 GMT\r\nContent-Type: text/plain; charset=UTF-8\r\nContent-Length: 1\r\n\r\nb",
         false,
         &[(204, ""), (200, "b")],
     ),
-    // An upgrade that was refused.
+    // A request that was dropped after its 100.
     (
         "HTTP/1.1 100 Continue\r\nServer: tiny-http (Rust)\r\nDate: Wed, 04 May 1983 11:17:00 GMT\r\nContent-Length: 0\r\n\r\nHTTP/1.1 500 Internal Server Error\r\nServer: tiny-http (Rust)\r\nDate: Wed, 04 May 1983 11:17:00 GMT\r\nContent-Length: 0\r\n\r\n",
         false,
@@ -60,8 +60,8 @@ const OUTPUTS: &[Output] = &[
     ),
 ];
 
-// Reads one answer, which is to be this one, and gives what follows it.
-fn rest_after<'a>(
+/// Reads one answer, which is to be this one, and gives what follows it.
+pub(crate) fn rest_after<'a>(
     rt: &impl Abort,
     alloc: Global,
     method: &Method,

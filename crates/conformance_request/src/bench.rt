@@ -30,17 +30,23 @@ pub(crate) const AMPLE: usize = 10_000_000;
 
 /// Wed, 04 May 1983 11:17:00 GMT.
 pub(crate) fn now() -> Result<HttpDate, Fail> {
-    Ok(HttpDate::from_unix_secs(420_895_020)?)
+    after(0)
 }
 
-/// A writer that keeps what it takes where a test can look. After so many bytes it fails by this kind. While its gate is 0 it
-/// waits.
+/// So many seconds after that.
+pub(crate) fn after(seconds: u64) -> Result<HttpDate, Fail> {
+    Ok(HttpDate::from_unix_secs(seconds.saturating_add(420_895_020))?)
+}
+
+/// A writer that keeps what it takes where a test can look, and counts the calls. After so many bytes it fails by this kind.
+/// While its gate is 0 it waits.
 #[derive(Drop)]
 pub(crate) struct Recorder<R: Wait + Clock> {
     rt: R,
     bytes: Arc<Mutex<Vec<u8>>>,
     room: usize,
     kind: ErrorKind,
+    entered: Arc<AtomicU64>,
     gate: Arc<AtomicU64>,
 }
 
@@ -55,8 +61,16 @@ pub(crate) fn is_reached<R: Clock>(rt: &R, count: &AtomicU64, want: u64) -> bool
     false
 }
 
+/// Waits until a thread is about to make its call, which it says by this count, and then for 20 ms more. Whether it was.
+pub(crate) fn is_about_to_call<R: Clock>(rt: &R, begun: &AtomicU64) -> bool {
+    let is_begun = is_reached(rt, begun, 1);
+    thread::sleep(rt, Duration::from_millis(20));
+    is_begun
+}
+
 impl<R: Wait + Clock> Write for Recorder<R> {
     fn write(&mut self, buf: &[u8]) -> io::Result<usize> {
+        self.entered.fetch_add(1, Ordering::SeqCst);
         is_reached(&self.rt, &self.gate, 1);
         let n = buf.len().min(self.room);
         if n == 0 && !buf.is_empty() {
@@ -80,35 +94,78 @@ pub(crate) type Asked<R> = Request<Canned, Metered<Recorder<R>>, R>;
 pub(crate) struct Bench<R: Wait + Clock + Copy> {
     pub client: ClientConnection<Canned, Metered<Recorder<R>>, R>,
     pub output: Arc<Mutex<Vec<u8>>>,
+    pub entered: Arc<AtomicU64>,
     pub gate: Arc<AtomicU64>,
 }
 
-/// A connection to a client that sends these bytes and ends, over a writer with so much room that then fails so, and
-/// whose gate has this count.
-pub(crate) fn gated<R: Wait + Clock + Copy>(
+/// A writer of these tests, and what a test looks at.
+#[derive(Drop)]
+pub(crate) struct Recording<R: Wait + Clock> {
+    pub writer: Recorder<R>,
+    pub output: Arc<Mutex<Vec<u8>>>,
+    pub entered: Arc<AtomicU64>,
+    pub gate: Arc<AtomicU64>,
+}
+
+/// A writer with so much room that then fails so, and whose gate has this count.
+pub(crate) fn record<R: Wait + Clock + Copy>(
     rt: R,
     alloc: Global,
-    client: &[u8],
     room: usize,
     kind: ErrorKind,
     gate: u64,
-) -> Result<Bench<R>, AllocError> {
+) -> Result<Recording<R>, AllocError> {
     let output = Arc::new(alloc, Mutex::new(Vec::new(alloc)))?;
+    let entered = Arc::new(alloc, AtomicU64::new(0))?;
     let gate = Arc::new(alloc, AtomicU64::new(gate))?;
-    let writer = Metered::new(Recorder {
+    let writer = Recorder {
         rt,
         bytes: Arc::try_clone(&output)?,
         room,
         kind,
+        entered: Arc::try_clone(&entered)?,
         gate: Arc::try_clone(&gate)?,
-    });
-    let reader = Canned::new(client.to_vec(alloc)?, None);
-    let client = ClientConnection::over(rt, alloc, writer, reader, None, false)?;
+    };
+    Ok(Recording {
+        writer,
+        output,
+        entered,
+        gate,
+    })
+}
+
+/// A connection to this client, over a writer with so much room that then fails so, and whose gate has this count.
+pub(crate) fn gated<R: Wait + Clock + Copy>(
+    rt: R,
+    alloc: Global,
+    client: Canned,
+    room: usize,
+    kind: ErrorKind,
+    gate: u64,
+) -> Result<Bench<R>, AllocError> {
+    let Recording {
+        writer,
+        output,
+        entered,
+        gate,
+    } = record(rt, alloc, room, kind, gate)?;
+    let writer = Metered::new(writer);
+    let client = ClientConnection::over(rt, alloc, writer, client, None, false)?;
     Ok(Bench {
         client,
         output,
+        entered,
         gate,
     })
+}
+
+/// A client that sends these bytes and then ends, or stops by a fault.
+pub(crate) fn client(
+    alloc: Global,
+    bytes: &[u8],
+    stop: Option<ErrorKind>,
+) -> Result<Canned, AllocError> {
+    Ok(Canned::new(bytes.to_vec(alloc)?, stop))
 }
 
 /// A connection to a client that sends these bytes and ends.
@@ -117,6 +174,7 @@ pub(crate) fn connect<R: Wait + Clock + Copy>(
     alloc: Global,
     client: &[u8],
 ) -> Result<Bench<R>, AllocError> {
+    let client = self::client(alloc, client, None)?;
     gated(rt, alloc, client, AMPLE, ErrorKind::Other, 1)
 }
 

@@ -1,5 +1,7 @@
 //! What goes on beside a held writer.
-use crate::bench::{Bench, DROPPED, TEXT, assert_output, gated, is_reached, next, now, text};
+use crate::bench::{
+    Bench, DROPPED, TEXT, assert_output, client, gated, is_reached, next, now, text,
+};
 use httpdate::HttpDate;
 use std::io::ErrorKind;
 use std::sync::atomic::{AtomicU64, Ordering};
@@ -8,7 +10,7 @@ use std::test::Fail;
 use std::thread;
 use std::time::Clock;
 
-// Takes the next request and counts it, and then drops it.
+// Takes the next request and counts it, and drops it and counts that.
 fn drop_next<R: Wait + Clock + Copy>(
     bench: &mut Bench<R>,
     date: HttpDate,
@@ -19,15 +21,17 @@ fn drop_next<R: Wait + Clock + Copy>(
     };
     handed.fetch_add(1, Ordering::SeqCst);
     drop(request);
+    handed.fetch_add(1, Ordering::SeqCst);
     true
 }
 
-// A writer that holds an answer holds up no other thread: the next request is handed out meanwhile.
+// A writer that holds an answer holds up no other thread: the next request is handed out and dropped meanwhile.
 #[test]
 fn ask_beside_held_writer(rt: HostRuntime) -> Result<(), Fail> {
     let alloc = rt.alloc();
-    let client = b"GET / HTTP/1.1\r\n\r\nGET / HTTP/1.1\r\n\r\n";
+    let client = client(alloc, b"GET / HTTP/1.1\r\n\r\nGET / HTTP/1.1\r\n\r\n", None)?;
     let mut bench = gated(rt, alloc, client, 10_000, ErrorKind::Other, 0)?;
+    let entered = Arc::try_clone(&bench.entered)?;
     let output = Arc::try_clone(&bench.output)?;
     let gate = Arc::try_clone(&bench.gate)?;
     let handed = Arc::new(alloc, AtomicU64::new(0))?;
@@ -37,9 +41,10 @@ fn ask_beside_held_writer(rt: HostRuntime) -> Result<(), Fail> {
     let date = now()?;
     let held = thread::spawn(&rt, move || first.respond(answer, date).is_ok());
     let held = held.map_err(|_| "no thread")?;
+    assert!(rt; is_reached(&rt, &entered, 1));
     let asks = thread::spawn(&rt, move || drop_next(&mut bench, date, &counted));
     let asks = asks.map_err(|_| "no thread")?;
-    assert!(rt; is_reached(&rt, &handed, 1));
+    assert!(rt; is_reached(&rt, &handed, 2));
     assert_output(&rt, alloc, &output, &[])?;
     gate.store(1, Ordering::SeqCst);
     assert!(rt; held.join(&rt));

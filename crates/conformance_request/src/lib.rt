@@ -6,6 +6,14 @@ mod bench;
 #[cfg(test)]
 mod beside;
 #[cfg(test)]
+mod bodies;
+#[cfg(test)]
+mod dates;
+#[cfg(test)]
+mod faults;
+#[cfg(test)]
+mod in_turn;
+#[cfg(test)]
 mod rows;
 #[cfg(test)]
 mod runs;

@@ -1,11 +1,15 @@
 //! What comes of calls on requests, in their turn and out of it.
-use crate::bench::{Asked, DATED, DROPPED, TEXT, assert_output, connect, gated, next, now, text};
+use crate::bench::{
+    Asked, DATED, DROPPED, TEXT, assert_output, client, connect, gated, is_about_to_call, next,
+    now, text,
+};
 use httpdate::HttpDate;
 use std::alloc::Global;
 use std::io::{ErrorKind, Read, Write};
-use std::sync::Wait;
+use std::sync::atomic::{AtomicU64, Ordering};
+use std::sync::{Arc, Wait};
 use std::test::Fail;
-use std::time::{Clock, Duration};
+use std::time::Clock;
 use std::{io, thread};
 use tiny_http_wire::common::StatusCode;
 use tiny_http_wire::device::Canned;
@@ -61,16 +65,18 @@ fn a_chunked_body_that_was_read_frees_the_input(rt: HostRuntime) -> Result<(), F
     )
 }
 
-// Answers by a text, in the turn of the request.
+// Answers by a text, in the turn of the request. It counts that it is about to.
 fn respond_later<R: Wait + Clock + Copy>(
     request: Asked<R>,
     alloc: Global,
     words: &str,
     date: HttpDate,
+    begun: &AtomicU64,
 ) -> bool {
     let Ok(answer) = text(alloc, words) else {
         return false;
     };
+    begun.fetch_add(1, Ordering::SeqCst);
     request.respond(answer, date).is_ok()
 }
 
@@ -82,9 +88,14 @@ fn answers_wait_for_their_turns(rt: HostRuntime) -> Result<(), Fail> {
     next(&mut bench)?.abandon();
     let third = next(&mut bench)?;
     let date = now()?;
-    let later = thread::spawn(&rt, move || respond_later(third, alloc, "c", date));
+    let begun = Arc::new(alloc, AtomicU64::new(0))?;
+    let counted = Arc::try_clone(&begun)?;
+    let later = thread::spawn(
+        &rt,
+        move || respond_later(third, alloc, "c", date, &counted),
+    );
     let later = later.map_err(|_| "no thread")?;
-    thread::sleep(&rt, Duration::from_millis(20));
+    assert!(rt; is_about_to_call(&rt, &begun));
     assert_output(&rt, alloc, &bench.output, &[])?;
     first.respond(text(alloc, "a")?, now()?)?;
     assert!(rt; later.join(&rt));
@@ -179,10 +190,12 @@ fn an_upgrade_to_no_ascii_is_dropped(rt: HostRuntime) -> Result<(), Fail> {
     assert_output(&rt, alloc, &bench.output, &[DROPPED])
 }
 
-// Writes by a raw writer, in the turn of the request.
-fn write_later<R: Wait + Clock + Copy>(request: Asked<R>, words: &str) -> bool {
+// Writes by a raw writer and flushes, in the turn of the request. It counts that it is about to.
+fn write_later<R: Wait + Clock + Copy>(request: Asked<R>, words: &str, begun: &AtomicU64) -> bool {
     let mut writer = request.into_writer();
-    writer.write_all(words.as_bytes()).is_ok()
+    begun.fetch_add(1, Ordering::SeqCst);
+    let is_written = writer.write_all(words.as_bytes()).is_ok();
+    is_written && writer.flush().is_ok()
 }
 
 #[test]
@@ -191,10 +204,13 @@ fn raw_writers_wait_for_their_turns(rt: HostRuntime) -> Result<(), Fail> {
     let mut bench = connect(rt, alloc, TWO)?;
     let first = next(&mut bench)?;
     let second = next(&mut bench)?;
-    let later = thread::spawn(&rt, move || write_later(second, "b"));
+    let begun = Arc::new(alloc, AtomicU64::new(0))?;
+    let counted = Arc::try_clone(&begun)?;
+    let later = thread::spawn(&rt, move || write_later(second, "b", &counted));
     let later = later.map_err(|_| "no thread")?;
-    thread::sleep(&rt, Duration::from_millis(20));
-    assert!(rt; write_later(first, "a"));
+    assert!(rt; is_about_to_call(&rt, &begun));
+    assert_output(&rt, alloc, &bench.output, &[])?;
+    assert!(rt; write_later(first, "a", &begun));
     assert!(rt; later.join(&rt));
     assert_output(&rt, alloc, &bench.output, &["ab"])
 }
@@ -213,9 +229,15 @@ fn after_the_end_there_is_none(rt: HostRuntime) -> Result<(), Fail> {
 #[test]
 fn a_client_that_has_gone_is_no_fault(rt: HostRuntime) -> Result<(), Fail> {
     let alloc = rt.alloc();
-    let gone = ErrorKind::BrokenPipe;
-    for (kind, is_fault) in [(gone, false), (ErrorKind::Other, true)] {
-        let mut bench = gated(rt, alloc, TWO, 10, kind, 1)?;
+    for (kind, is_fault) in [
+        (ErrorKind::BrokenPipe, false),
+        (ErrorKind::ConnectionAborted, false),
+        (ErrorKind::ConnectionRefused, false),
+        (ErrorKind::ConnectionReset, false),
+        (ErrorKind::Other, true),
+    ] {
+        let client = client(alloc, TWO, None)?;
+        let mut bench = gated(rt, alloc, client, 10, kind, 1)?;
         let first = next(&mut bench)?;
         let second = next(&mut bench)?;
         let answered = first.respond(text(alloc, "a")?, now()?);
@@ -282,6 +304,40 @@ fn a_refusal_waits_for_its_turn(rt: HostRuntime) -> Result<(), Fail> {
         "HTTP/1.1 400 Bad Request\r\n",
         DATED,
         "Content-Length: 0\r\n\r\n",
+    ];
+    assert_output(&rt, alloc, &bench.output, sent)
+}
+
+// The text of a 505 is withheld from a HEAD.
+#[test]
+fn a_505_of_a_head_has_no_body(rt: HostRuntime) -> Result<(), Fail> {
+    let alloc = rt.alloc();
+    let client = b"HEAD / HTTP/2.0\r\n\r\n";
+    let mut bench = connect(rt, alloc, client)?;
+    assert!(rt; bench.client.next(now()?)?.is_none());
+    let sent = &[
+        "HTTP/1.1 505 HTTP Version Not Supported\r\n",
+        DATED,
+        "Content-Type: text/plain; charset=UTF-8\r\nContent-Length: 51\r\n\r\n",
+    ];
+    assert_output(&rt, alloc, &bench.output, sent)
+}
+
+// After a 505 of a chunked body no head is read.
+#[test]
+fn a_505_of_a_chunked_body_is_the_last(rt: HostRuntime) -> Result<(), Fail> {
+    let alloc = rt.alloc();
+    let client =
+        b"POST / HTTP/2.0\r\nTransfer-Encoding: chunked\r\n\r\n0\r\n\r\nGET /b HTTP/1.1\r\n\r\n";
+    let mut bench = connect(rt, alloc, client)?;
+    for _ in 0..2u8 {
+        assert!(rt; bench.client.next(now()?)?.is_none());
+    }
+    let sent = &[
+        "HTTP/1.1 505 HTTP Version Not Supported\r\n",
+        DATED,
+        "Content-Type: text/plain; charset=UTF-8\r\nContent-Length: 51\r\n\r\n",
+        "This server only supports HTTP versions 1.0 and 1.1",
     ];
     assert_output(&rt, alloc, &bench.output, sent)
 }

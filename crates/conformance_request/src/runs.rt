@@ -1,5 +1,5 @@
 //! The same calls by `run` and by requests.
-use crate::bench::{AMPLE, Asked, gated, next, now};
+use crate::bench::{AMPLE, Asked, client, gated, next, now};
 use httpdate::HttpDate;
 use std::alloc::{AllocError, Global};
 use std::io;
@@ -255,7 +255,8 @@ fn by_requests<R: Wait + Clock + Copy>(
     plan: Plan,
     room: usize,
 ) -> Result<Outcome, Fail> {
-    let mut bench = gated(rt, alloc, CLIENT, room, ErrorKind::Other, 1)?;
+    let client = client(alloc, CLIENT, None)?;
+    let mut bench = gated(rt, alloc, client, room, ErrorKind::Other, 1)?;
     let mut requests = Vec::new(alloc);
     for _ in 0..3u8 {
         requests.push(Some(next(&mut bench)?))?;

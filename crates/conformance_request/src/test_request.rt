@@ -85,3 +85,51 @@ fn version_2_is_accepted(rt: HostRuntime) -> Result<(), Fail> {
     assert_eq!(rt; *request.http_version(), HTTPVersion(2, 0));
     Ok(())
 }
+
+// A length that was given stands alone, and bounds the body.
+#[test]
+fn a_length_is_kept(rt: HostRuntime) -> Result<(), Fail> {
+    let alloc = rt.alloc();
+    let now = HttpDate::from_unix_secs(SECONDS)?;
+    let header = Header::from_str(alloc, "Content-Length: 1")?;
+    let made = TestRequest::new(alloc)?
+        .with_body("42")
+        .with_header(header)?;
+    let Ok(mut request) = made.into_request(rt, alloc, now) else {
+        return Err("refused".into());
+    };
+    assert_eq!(rt; request.headers().len(), 1);
+    assert_eq!(rt; request.body_length(), Some(1));
+    let mut text = String::new(alloc);
+    request.as_reader(now).read_to_string(&mut text)?;
+    assert_eq!(rt; text.as_str(), "4");
+    Ok(())
+}
+
+// A body that isn't read with its head is read from the given bytes, whatever its framing.
+#[test]
+fn a_body_is_read_later(rt: HostRuntime) -> Result<(), Fail> {
+    let alloc = rt.alloc();
+    let now = HttpDate::from_unix_secs(SECONDS)?;
+    for (header, body, want) in [
+        ("Expect: 100-continue", "42", "42"),
+        (
+            "Transfer-Encoding: chunked",
+            "1\r\n4\r\n1\r\n2\r\n0\r\n\r\n",
+            "42",
+        ),
+        ("Connection: upgrade", "421", "421"),
+    ] {
+        let header = Header::from_str(alloc, header)?;
+        let made = TestRequest::new(alloc)?
+            .with_body(body)
+            .with_header(header)?;
+        let Ok(mut request) = made.into_request(rt, alloc, now) else {
+            return Err("refused".into());
+        };
+        let mut text = String::new(alloc);
+        request.as_reader(now).read_to_string(&mut text)?;
+        assert_eq!(rt; text.as_str(), want);
+    }
+    Ok(())
+}

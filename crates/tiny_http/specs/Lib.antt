@@ -1,3 +1,3 @@
-pub mod Queue
-pub mod Pool
-pub mod Headcount
+pub mod Message
+pub mod ServerError
+pub mod Clock

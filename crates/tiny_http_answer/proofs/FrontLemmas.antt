@@ -1,4 +1,4 @@
--- More bytes behind an answer change nothing of it, and a proper front of an answer is unfinished.
+-- More bytes after an answer change nothing of it, and a proper front of an answer is unfinished.
 use Rattle.std.proofs.Common.{◌≡◌, refl, sym, ap, ◌∙◌, ℕ, ◌+◌, ◌<◌, inl, inr, List, [], ◌∷◌, ◌++◌, length, take, append_assoc, arith, length-append, ⊎_elim}
 use Rattle.std.proofs.lemmas.List.{take-append-le}
 use Rattle.std.specs.declared.io.ErrorKind.TheVariants.{InvalidData, UnexpectedEof}

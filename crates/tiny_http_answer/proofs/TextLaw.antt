@@ -132,7 +132,7 @@ module _ (m : Method) (v : HTTPVersion) (status : ℕ) (headers : List Header) (
   abbrev top : FramingHeader → List ℕ
   top framing = answer_head_text v status None headers date framing
 
-  -- a head and the body that it tells
+  -- a head and the body whose length it states
   put-together : (framing : FramingHeader) (text body : List ℕ) → FramingFits framing → BeginsWithBody (extent m (head_with framing)) (text ++ rest) body rest
       → ReadsAnswer m ((top framing ++ text) ++ rest) (record { head = head_with framing; body = body }) rest
   put-together framing text body f b =

@@ -1,5 +1,5 @@
 //! An answer, read as a client reads it.
-ghost use Rattle.std.specs.Prelude.{◌≡◌, ◌≤◌, ◌⊎◌, length, drop, IfOk, IfErr, IfSome, Ok, Err, None, IsErrOf};
+ghost use Rattle.std.specs.Prelude.{◌≡◌, ◌≤◌, length, drop, IfOk, IfErr, IfSome, Ok, Err, None};
 ghost use Rattle.tiny_http_answer.specs.ClientAnswer.{is_interim, ReadsAnswer, LacksAnswer, UnfinishedAnswer, MalformedAnswer};
 ghost use Rattle.tiny_http_answer.specs.AnswerParts.{head_of, LacksBy, answer_of, BeginsWithFinalHead, LacksFinalHead};
 
@@ -23,10 +23,10 @@ pub struct Answer {
     pub body: Vec<u8>,
 }
 
-/// Why no answer is read, however the bytes go on.
+/// Why no answer is read.
 #[derive(Clone, Copy, Debug, PartialEq, Eq, Error)]
 pub enum AnswerFault {
-    /// The bytes break a rule of the grammar.
+    /// The bytes break a rule of the grammar, however they go on.
     #[error("malformed")]
     Malformed,
     /// There is no memory for the answer.

@@ -1,5 +1,5 @@
 //! The body of an answer, as a client reads it.
-ghost use Rattle.std.specs.Prelude.{◌≡◌, ◌&&◌, codes, OnOk, IfOk, IfErr};
+ghost use Rattle.std.specs.Prelude.{◌≡◌, ◌&&◌, codes, IfOk, IfErr};
 ghost use Rattle.std.specs.Option.{option_copied};
 ghost use Rattle.tiny_http_wire.specs.Common.{same_name};
 ghost use Rattle.tiny_http_answer.specs.ClientAnswer.{has_no_body, says_chunked, content_length, first_value, extent, BeginsWithBody, LacksBody, OfChunks, OfLength};

@@ -1,9 +1,9 @@
 //! The head of an answer: its lines, as a client reads them.
-ghost use Rattle.std.specs.Prelude.{◌≡◌, ◌<◌, ◌^◌, ◌≤◌, IfOk, IfErr, IfSome, IfNone, OnErr, IsSome, None, Some, option_map};
+ghost use Rattle.std.specs.Prelude.{◌≡◌, ◌≤◌, IfOk, IfErr, IfSome, IfNone, None, Some, option_map};
 ghost use Rattle.tiny_http_wire.specs.Bytes.{AreAscii};
 ghost use Rattle.tiny_http_answer.specs.ClientReading.{decimal_until, status_line_read, field_line_read, value_read};
 ghost use Rattle.tiny_http_answer.specs.AnswerParts.{status_line_of, LacksBy, head_of, ReadsFieldLine, BeginsWithAllFieldLines, LacksFieldLines};
-ghost use Rattle.tiny_http_answer.specs.ClientAnswer.{BeginsWithStatusLine, BeginsWithFieldLines, BeginsWithAnswerHead, LacksLine, LacksHead, IsStatusLine};
+ghost use Rattle.tiny_http_answer.specs.ClientAnswer.{BeginsWithStatusLine, BeginsWithAnswerHead, LacksLine, LacksHead, IsStatusLine};
 
 use crate::number::decimal;
 use crate::rest::Rest;

@@ -2,7 +2,6 @@
 use Rattle.std.specs.Prelude.{ℕ, ◌+◌, Bool, true, false, not, ◌&&◌, ◌||◌, ◌==◌, nat_lt, List, [], ◌∷◌, ◌++◌, length, take, Option, Some, None, if◌then◌else◌, slice_get, slice_set}
 use Rattle.std.specs.List.{list_all}
 use Rattle.std.specs.declared.io.ErrorKind.{ErrorKind}
-use Rattle.std.specs.declared.io.ErrorKind.TheVariants.{BrokenPipe, ConnectionAborted, ConnectionRefused, ConnectionReset}
 use Rattle.httpdate.specs.declared.date.HttpDate.{HttpDate}
 use Rattle.tiny_http_wire.specs.declared.device.Stop.{Stop}
 use Rattle.tiny_http_wire.specs.declared.device.Stop.TheVariants.{End, Fault as Faults}
@@ -12,6 +11,7 @@ use Rattle.tiny_http_encoding.specs.Text.{Ending, Whole, Broken}
 use Rattle.tiny_http_message.specs.declared.framing.Framing.{Framing}
 use Rattle.tiny_http_message.specs.Pipeline.{Item, Asks, Refuses, Request}
 use Rattle.tiny_http_sending.specs.ResponseValue.{ResponseValue}
+use Rattle.tiny_http_sending.specs.Sending.{is_closed_client}
 use Rattle.tiny_http_core.specs.Slots.{Slot, Stage, Unanswered, Answered, ByServer, Raw, Upgraded, turn_has_come, to_request, text_if, new_slot, rest_of, last_slot, last_holds_reader, last_was_abandoned}
 
 -- a step, with its response as a value
@@ -39,14 +39,7 @@ pub data ReplyValue : Type 0 where
   NoSuch : ReplyValue
   Memory : ReplyValue
 
--- a client that has closed the connection is no fault of an answer
-abbrev pub is_closed_client : ErrorKind → Bool
-is_closed_client BrokenPipe = true
-is_closed_client ConnectionAborted = true
-is_closed_client ConnectionRefused = true
-is_closed_client ConnectionReset = true
-is_closed_client _ = false
-
+-- how a fault of an answer is replied: a client that has closed the connection is none
 abbrev pub fault_reply : ErrorKind → ReplyValue
 fault_reply kind = if is_closed_client kind then Done else Fault kind
 

@@ -7,7 +7,7 @@ ghost use Rattle.tiny_http_sending.specs.ResponseValue.{ResponseValue};
 ghost use Rattle.tiny_http_message.specs.Pipeline.{Item, Pipeline};
 ghost use Rattle.tiny_http_core.specs.Conversation.{IsConversation, IsFresh, TimedValue};
 ghost use Rattle.httpdate.specs.declared.date.HttpDate.{HttpDate as Date};
-ghost use Rattle.tiny_http_core.specs.Steps.{ReplyValue, Done, Fault, is_closed_client, fault_reply};
+ghost use Rattle.tiny_http_core.specs.Steps.{ReplyValue, Done, Fault, fault_reply};
 ghost use Rattle.std.specs.declared.io.ErrorKind.{ErrorKind};
 ghost use Rattle.tiny_http_stream.specs.Source.{GoesOn};
 ghost use Rattle.tiny_http_core.specs.Pending.{waiting_answer_context};
@@ -28,7 +28,7 @@ use tiny_http_message::exchange::{EndOfRequests, Head, HeadRead, read_head};
 use tiny_http_message::own_answer::send_own_quietly;
 use tiny_http_message::upgrading::{UpgradeError, send_upgrade_quietly};
 use tiny_http_message::waiting::Waiting;
-use tiny_http_sending::sending::send;
+use tiny_http_sending::sending::{is_closed_client, send_unless_ended};
 use tiny_http_stream::outlet::Outlet;
 use tiny_http_stream::source::{Source, Standing};
 use tiny_http_text::bytes::are_ascii;
@@ -142,19 +142,6 @@ impl<R: ReadDevice, W: WriteDevice> Model for Connection<R, W> {
     ghost view = { λ c. record { marks = c.pending.turns.marks; requests = c.pending.requests; end = c.end; source = c.source; outlet = c.outlet } };
 }
 
-// The kinds of fault of a client that has closed the connection: an answer to it is no failure.
-fn is_closed_client(kind: ErrorKind) -> bool
-    ensures { result ≡ is_closed_client kind }
-{
-    matches!(
-        kind,
-        ErrorKind::BrokenPipe
-            | ErrorKind::ConnectionAborted
-            | ErrorKind::ConnectionRefused
-            | ErrorKind::ConnectionReset
-    )
-}
-
 impl Reply {
     // How a fault of an answer is reported.
     fn fault_reply(kind: ErrorKind) -> Reply
@@ -197,11 +184,7 @@ fn answer<W: WriteDevice, D: ReadDevice + Drop>(
     ensures honest { (kind : ErrorKind) → seen result ≡ Fault kind → (outlet_ended outlet.new ≡ true)
         × IsHonest (output_of outlet.old) (output_of outlet.new) response.answer (D.feed response.data_reader) (printing_in answer_context now) kind }
 {
-    if outlet.is_ended() {
-        outlet.facts();
-        return Reply::Done;
-    }
-    match send(alloc, outlet, response, answer_context, now) {
+    match send_unless_ended(alloc, outlet, response, answer_context, now) {
         Ok(()) => Reply::Done,
         Err(fault) => Reply::fault_reply(fault.kind()),
     }

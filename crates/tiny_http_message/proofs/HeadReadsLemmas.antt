@@ -6,7 +6,7 @@ use Rattle.tiny_http_wire.specs.Bytes.{AreAscii}
 use Rattle.tiny_http_wire.specs.Lines.{Line}
 use Rattle.tiny_http_wire.specs.Heads.{BeginsWithHeaderLines, HeaderLine, IsRequestLine, IsFieldOrEnd}
 use Rattle.tiny_http_wire.specs.HeadReading as reading
-use Rattle.tiny_http_text.proofs.BytesLemmas.{are-ascii, not-ascii}
+use Rattle.tiny_http_text.proofs.BytesLemmas.{not-ascii}
 use Rattle.tiny_http_head.proofs.HeadsLemmas.{request-line-is, request-line-one, header-line-is, header-line-one}
 use Rattle.tiny_http_wire.specs.declared.common.Method.{Method}
 use Rattle.tiny_http_wire.specs.declared.common.HTTPVersion.{HTTPVersion}

@@ -26,6 +26,10 @@ exchange_of head waiting = record { head = head; waiting = waiting }
 abbrev pub exchange_head : Exchange → Head
 exchange_head x = x.head
 
+-- what is kept of it until it is answered
+abbrev pub exchange_waiting : Exchange → Waiting
+exchange_waiting x = x.waiting
+
 -- what is still to come of its body, where the input still gives this, and what stands after it
 abbrev pub exchange_left : Exchange → Option Feed → Option Remaining
 exchange_left x feed = remaining x.waiting.body feed

@@ -34,7 +34,7 @@ use Rattle.tiny_http_stream.specs.Source.{SourceState, feed_from, FindsLine, IsA
 use Rattle.tiny_http_message.specs.Pipeline.{Request, Asks, Refuses, Refusal, VersionNotSupported, refusal_status, is_timed_out, Place, IsCutWithHead, BodyAt, OneHead, body_length_or_0, place_after}
 use Rattle.tiny_http_message.specs.OwnAnswer.{own_text, refusal_response, refused_text}
 use Rattle.tiny_http_message.specs.Body.{Remaining, remaining, Fits}
-use Rattle.tiny_http_message.specs.Exchange.{exchange_head, exchange_left, exchange_streams, KeepsRequest}
+use Rattle.tiny_http_message.specs.Exchange.{exchange_head, exchange_waiting, exchange_left, exchange_streams, KeepsHead, KeepsRequest}
 
 -- what is wrong with a head whose next line isn't read
 abbrev pub head_fault : LineFault → HeadFault
@@ -272,6 +272,12 @@ IsRequest _ = ⊥
 abbrev pub IsRefusedUncut : HeadRead → Type 0
 IsRefusedUncut (read.Refused status text last) = (status.0 ≢ 408) × (last ≡ true)
 IsRefusedUncut _ = ⊥
+
+-- a request is framed as its version and headers say, and what is kept of it on this date is that of its head
+abbrev pub IsFramedRequest : HttpDate → HeadRead → Type 0
+IsFramedRequest date (read.Request x) =
+    (framing (exchange_head x).version (exchange_head x).headers.items ≡ Some (head_framing (exchange_head x))) × KeepsHead (exchange_waiting x) (exchange_head x) date
+IsFramedRequest date _ = ⊤
 
 -- where a source stands after the head of this request
 abbrev pub standing_of : Exchange → Standing

@@ -188,8 +188,7 @@ impl Body {
         }
         let standing = source.standing();
         let read = match self {
-            Body::Over(stop) => return report(*stop),
-            Body::WithHead(bytes) => return bytes.read_in(buf),
+            Body::Over(_) | Body::WithHead(_) => return self.read_held(buf),
             Body::Counted(left) => {
                 let left = *left;
                 self.read_counted(source, left, buf)
@@ -202,6 +201,26 @@ impl Body {
         };
         source.stand_at(self.standing_after(standing));
         read
+    }
+
+    /// Reads some bytes of a body that isn't read from the input, into a buffer with room: as `read`, without a source.
+    pub fn read_held(&mut self, buf: &mut [u8]) -> Result<usize, io::Error>
+        requires held { is_streaming self.old ≡ false }
+        requires room { 0 < length buf.old }
+        ensures bound { IfOk result (λ n. n ≤ length buf.new) }
+        ensures bytes { (feed : Option Feed) → IfOk result (λ n. remaining self.old feed ≡ prepended_body (take n buf.new) (remaining self.new feed)) }
+        ensures end { (feed : Option Feed) → IfOk result (λ n. n ≡ 0 → 0 < length buf.new → BodyStops Stop.End (remaining self.old feed)) }
+        ensures fault { (feed : Option Feed) → IfErr result (λ e. BodyStops (Stop.Fault (error_kind e)) (remaining self.old feed)) }
+        ensures moves { IfOk result (λ n. ReadsOn self.old n (n == 0) self.new) }
+        ensures broken { IfErr result (λ e. (self.new ≡ self.old) × (self.new ≡ Body.Over (Stop.Fault (error_kind e)))) }
+        ensures reports_stop { IfSome (body_stop self.old) (λ stop. AnswersStop stop result × (self.new ≡ self.old)) }
+        ensures held { is_streaming self.new ≡ false }
+    {
+        match self {
+            Body::Over(stop) => report(*stop),
+            Body::WithHead(bytes) => bytes.read_in(buf),
+            Body::Counted(_) | Body::Chunked(_) | Body::Rest => unreachable!(),
+        }
     }
 
     // Where a source stands after a read that left this of the body.

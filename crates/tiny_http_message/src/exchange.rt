@@ -8,7 +8,7 @@ ghost use Rattle.tiny_http_wire.specs.Device.{AnswersStop};
 ghost use Rattle.tiny_http_stream.specs.Source.{GoesOn, IsAtEnd};
 ghost use Rattle.tiny_http_message.specs.Pipeline.{is_head_method, is_timed_out, ends_too_new};
 ghost use Rattle.tiny_http_message.specs.Body.{prepended_body, BodyStops, PassesOver};
-ghost use Rattle.tiny_http_message.specs.HeadReads.{ReadsHead, EndsUnlessHanded, RefusesWith, RefusesTooNew, AnswersCut, AnswersFault, HasByteOrTimedOut, Begins, IsCutOff, IsRequest, IsRefusedUncut, IsOkEnd, IsBeforeHead, cut_end, end_at, standing_of, standing_read, message_of, head_message, head_framing};
+ghost use Rattle.tiny_http_message.specs.HeadReads.{ReadsHead, EndsUnlessHanded, RefusesWith, RefusesTooNew, AnswersCut, AnswersFault, HasByteOrTimedOut, Begins, IsCutOff, IsRequest, IsFramedRequest, IsRefusedUncut, IsOkEnd, IsBeforeHead, cut_end, end_at, standing_of, standing_read, message_of, head_message, head_framing};
 ghost use Rattle.tiny_http_message.specs.Exchange.{KeepsHead};
 ghost use Rattle.tiny_http_wire.specs.Device.{Feed};
 ghost use Rattle.tiny_http_stream.specs.Outlet.{output_of, outlet_ended, outlet_held, SentOn};
@@ -21,18 +21,17 @@ use crate::framing::{Framing, framing_of, is_too_new};
 use crate::heads::{HeadFault, Message, read_message};
 use crate::own_answer::{DropText, own_answer, send_own_quietly, too_new_answer};
 use crate::upgrading::{UpgradeError, send_upgrade_quietly};
-use crate::waiting::Waiting;
+use crate::waiting::{Waiting, is_head};
 use httpdate::HttpDate;
 use std::alloc::{AllocError, Global};
 use std::io;
 use std::io::{Cursor, ErrorKind};
-use tiny_http_sending::sending::send;
+use tiny_http_sending::sending::send_unless_ended;
 use tiny_http_stream::outlet::Outlet;
 use tiny_http_stream::source::{Source, Standing};
 use tiny_http_wire::answer_context::AnswerContext;
 use tiny_http_wire::ascii::AsciiString;
 use tiny_http_wire::chunked::Decoding;
-use tiny_http_wire::coding::asked_coding;
 use tiny_http_wire::common::{HTTPVersion, Header, Method, StatusCode};
 use tiny_http_wire::device::{ReadDevice, Stop, WriteDevice};
 use tiny_http_wire::response::Response;
@@ -176,11 +175,7 @@ impl Exchange {
         ensures once { OwesNoContinue self.old self.new }
     {
         self.owe_no_continue();
-        if outlet.is_ended() {
-            outlet.facts();
-            return Ok(());
-        }
-        send(alloc, outlet, response, self.waiting.answer_context, now)
+        send_unless_ended(alloc, outlet, response, self.waiting.answer_context, now)
     }
 
     /// Sends the answer that upgrades the connection to this protocol (RFC 9110, section 7.8), printed for this request and
@@ -403,12 +398,6 @@ fn answer_fault(
     }
 }
 
-fn is_head(method: &Method) -> bool
-    ensures { result ≡ is_head_method method.now }
-{
-    matches!(method, Method::Head)
-}
-
 // The head that a message and its framing make.
 fn head_of(message: Message, framing: Framing) -> Head
     ensures message { head_message result ≡ message_of message }
@@ -430,23 +419,13 @@ fn head_of(message: Message, framing: Framing) -> Head
 fn hand_out(alloc: Global, head: Head, body: Body, now: HttpDate) -> Result<Exchange, AllocError>
     ensures { IfOk result (λ x. (x.head ≡ head) × (x.waiting.body ≡ body) × KeepsHead x.waiting head now) }
 {
-    let answer_context = AnswerContext {
-        version: head.version,
-        asked_coding: asked_coding(head.headers.as_slice()),
-        no_body: is_head(&head.method),
-    };
-    let dropped = DropText::new(alloc, answer_context, now)?;
-    let waiting = Waiting {
-        answer_context,
-        owes_continue: head.owes_continue,
-        dropped,
-        body,
-    };
+    let waiting = Waiting::new(alloc, &head, body, now)?;
     Ok(Exchange { head, waiting })
 }
 
-// The body after a head that is so framed; None where one that is read with its head is cut.
-fn begin_body<R: ReadDevice>(
+/// The body after a head that is so framed. One of up to 1024 bytes is read at once, unless a 100 is owed: `None` where it is
+/// cut, by the source's end or by a fault. It is an error where memory for it was refused.
+pub fn begin_body<R: ReadDevice>(
     alloc: Global,
     source: &mut Source<R>,
     framing: Framing,
@@ -481,6 +460,7 @@ fn read_item<R: ReadDevice>(
     ensures goes_on { GoesOn source.old.feed source.new.feed }
     ensures at_end { IsAtEnd source.old → IsOkEnd result × (source.new ≡ source.old) }
     ensures begun { (IsOkEnd result → ⊥) → HasByteOrTimedOut source.old.feed }
+    ensures framed { IfOk result (IsFramedRequest now) }
     ensures lazy { IfOk result (λ read. IsRequest read → source.new.stop ≡ source.old.stop) }
     ensures passed { IfOk result (λ read. IsRefusedUncut read → source.new.stop ≡ source.old.stop) }
     ensures standing { source.new.standing ≡ source.old.standing }
@@ -564,6 +544,8 @@ pub fn read_head<R: ReadDevice>(
     ensures at_end { IsAtEnd source.old → IsOkEnd result × (source.new.reader ≡ source.old.reader) }
     // Unless it is the end, a byte of a head has come, or the reader timed out: memory isn't refused in place of the end.
     ensures begun { (IsOkEnd result → ⊥) → HasByteOrTimedOut source.old.feed }
+    // Whatever the reader states: a request is framed as its version and headers say, and its drop's text is that of its head.
+    ensures framed { IfOk result (IsFramedRequest now) }
     // Nothing is read ahead: where a request was read no end or fault of the reader was met.
     ensures lazy { IfOk result (λ read. IsRequest read → source.new.stop ≡ source.old.stop) }
     ensures standing { source.new.standing ≡ standing_read result source.old.standing }

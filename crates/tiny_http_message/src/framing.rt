@@ -40,8 +40,8 @@ pub struct Framing {
     pub is_last: bool,
 }
 
-// The value of the first header of that name.
-fn value_of<'a>(headers: &'a [Header], name: &str) -> Option<&'a AsciiString>
+/// The value of the first header of that name, in either case of its letters.
+pub fn value_of<'a>(headers: &'a [Header], name: &str) -> Option<&'a AsciiString>
     ensures { option_copied result ≡ value_of name.now headers.now }
 {
     for header in headers {

@@ -1,7 +1,20 @@
 -- What clauses read of a request, and of why none is made.
-use Rattle.std.specs.Prelude.{Bool, true, false, Option}
+use Rattle.std.specs.Prelude.{◌≡◌, ⊤, Bool, true, false, List, Option, None, Some}
+use Rattle.std.specs.declared.io.Error.{Error}
+use Rattle.std.specs.declared.io.ErrorKind.{ErrorKind}
+use Rattle.std.specs.declared.io.ErrorKind.TheVariants.{ConnectionAborted}
 use Rattle.std.specs.declared.net.socket_addr.SocketAddr.{SocketAddr}
+use Rattle.tiny_http_device.specs.Device.{Feed}
+use Rattle.tiny_http_device.specs.declared.device.Stop.{Stop}
+use Rattle.tiny_http_device.specs.declared.device.Stop.TheVariants.{End, Fault}
+use Rattle.tiny_http_wire.specs.declared.common.Header.{Header}
+use Rattle.tiny_http_wire.specs.declared.common.HTTPVersion.{HTTPVersion}
+use Rattle.tiny_http_message.specs.declared.body.Body.{Body}
 use Rattle.tiny_http_message.specs.declared.exchange.Head.{Head}
+use Rattle.tiny_http_message.specs.declared.framing.Framing.{Framing}
+use Rattle.tiny_http_message.specs.Framing.{framing}
+use Rattle.tiny_http_message.specs.HeadReads.{Begins}
+use Rattle.tiny_http_message.specs.Pipeline.{IsCutWithHead, body_length_or_0}
 use Rattle.tiny_http_message.specs.declared.waiting.Waiting.{Waiting}
 use Rattle.tiny_http_request.specs.declared.request.Request.{Request}
 use Rattle.tiny_http_request.specs.declared.request.RequestCreationError.{RequestCreationError}
@@ -21,10 +34,34 @@ request_address r = r.remote_addr
 
 -- what is kept of it until it is answered
 abbrev pub request_waiting : {R : Type 0} → {W : Type 0} → {Rt : Type 0} → Request R W Rt → Waiting
-request_waiting r = record { answer_context = r.answer_context; owes_continue = r.owes_continue; dropped = r.dropped; body = r.body.unread }
+request_waiting r = record { answer_context = r.answer_context; owes_continue = r.owes_continue; dropped = r.dropped; body = r.body }
 
 -- whether no request is made since its expectation can't be met
 abbrev pub is_expectation_failed : RequestCreationError → Bool
 is_expectation_failed ExpectationFailed = true
 is_expectation_failed (CreationIoError e) = false
 is_expectation_failed Memory = false
+
+-- this, of the fault by which a body couldn't be read
+abbrev pub IfCreationIo : RequestCreationError → (Error → Type 0) → Type 0
+IfCreationIo ExpectationFailed P = ⊤
+IfCreationIo (CreationIoError e) P = P e
+IfCreationIo Memory P = ⊤
+
+-- the kind of error of a body that ends early because its reader stopped so
+abbrev pub cut_kind : Stop → ErrorKind
+cut_kind End = ConnectionAborted
+cut_kind (Fault kind) = kind
+
+-- the body that is so framed is read at once and cut short, and this kind of error says so
+abbrev pub IsCutShort : Framing → Option Feed → ErrorKind → Type 0
+IsCutShort f None kind = ⊤
+IsCutShort f (Some x) kind = IsCutWithHead f.form (body_length_or_0 f) x.bytes × (kind ≡ cut_kind x.stop)
+
+-- the same of the body after a head of these headers
+abbrev pub CutsShort : HTTPVersion → List Header → Option Feed → ErrorKind → Type 0
+CutsShort v headers feed kind = (f : Framing) × (framing v headers ≡ Some f) × IsCutShort f feed kind
+
+-- the body that is so framed begins where the reader gives this
+abbrev pub BeginsWith : Framing → Option Feed → Body → Type 0
+BeginsWith f feed body = (left : Option Feed) × Begins f feed left (Some body)

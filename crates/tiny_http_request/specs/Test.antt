@@ -1,5 +1,7 @@
 -- What clauses read of a test's request.
-use Rattle.std.specs.Prelude.{◌≡◌, [], None, false}
+use Rattle.std.specs.Prelude.{◌≡◌, ℕ, List, ◌∷◌, ◌++◌, [], None, false, is_some, codes, decimal, if◌then◌else◌}
+use Rattle.tiny_http_wire.specs.declared.common.Header.{Header}
+use Rattle.tiny_http_message.specs.Framing.{value_of}
 use Rattle.tiny_http_device.specs.Device.{Sink}
 use Rattle.tiny_http_request.specs.declared.test.Nowhere.{Nowhere}
 use Rattle.tiny_http_request.specs.declared.test.TestRequest.{TestRequest}
@@ -15,3 +17,11 @@ pub record IsLike (old new : TestRequest) : Type 0 where
   pub method : new.method ≡ old.method
   pub path : new.path ≡ old.path
   pub version : new.version ≡ old.version
+
+-- the header that says this length
+abbrev pub length_header : ℕ → Header
+length_header n = record { field = codes "Content-Length"; value = decimal n }
+
+-- the headers, and behind them the one that says this length, if they have none of that name
+abbrev pub with_length : ℕ → List Header → List Header
+with_length n headers = if is_some (value_of (codes "Content-Length") headers) then headers else headers ++ (length_header n ∷ [])

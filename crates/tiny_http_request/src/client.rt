@@ -1,6 +1,8 @@
 //! A connection whose requests threads may hold.
-ghost use Rattle.std.specs.Prelude.{◌≡◌, true, false, Ok, None, IfOk, OnErr, IfSome, IfNone};
-ghost use Rattle.tiny_http_message.specs.Exchange.{exchange_of};
+ghost use Rattle.std.specs.Prelude.{◌≡◌, true, false, Ok, None, Some, IfOk, OnErr, IfSome, IfNone};
+ghost use Rattle.tiny_http_message.specs.Exchange.{exchange_of, KeepsHead};
+ghost use Rattle.tiny_http_message.specs.Framing.{framing};
+ghost use Rattle.tiny_http_message.specs.HeadReads.{head_framing, IsFramedRequest};
 ghost use Rattle.tiny_http_request.specs.Request.{request_head, request_secure, request_address, request_waiting};
 
 use crate::request::Request;
@@ -11,6 +13,7 @@ use std::net::SocketAddr;
 use std::sync::Wait;
 use tiny_http_device::device::{ReadDevice, WriteDevice};
 use tiny_http_message::exchange::{Exchange, HeadRead, read_head};
+use tiny_http_socket::refined_tcp_stream::RefinedTcpStream;
 use tiny_http_stream::outlet::Outlet;
 use tiny_http_stream::source::Source;
 
@@ -24,6 +27,27 @@ pub struct ClientConnection<R: ReadDevice + Drop, W: WriteDevice + Drop, Rt: Wai
     sink: SequentialWriterBuilder<Outlet<W>, Rt>,
     // None once the connection has no further request.
     next_head: Option<SequentialReader<Source<R>, Rt>>,
+}
+
+impl<Rt: Wait + Copy> ClientConnection<RefinedTcpStream, RefinedTcpStream, Rt> {
+    ghost use Rattle.std.specs.Prelude.{◌≡◌, false, IfOk};
+    ghost use Rattle.tiny_http_request.specs.Client.{IsOver, client_secure};
+
+    /// A connection over the two halves of a client's socket, on which nothing was read yet. Its requests say the client's
+    /// address; none of a Unix socket, or where the system no longer knows it. An error where memory was refused.
+    pub fn new(
+        rt: Rt,
+        alloc: Global,
+        write_socket: RefinedTcpStream,
+        read_socket: RefinedTcpStream,
+    ) -> Result<ClientConnection<RefinedTcpStream, RefinedTcpStream, Rt>, AllocError>
+        ensures secure { IfOk result (λ c. client_secure c ≡ false) }
+        ensures open { IfOk result (λ c. IsOver c → ⊥) }
+    {
+        let remote_addr = read_socket.peer_addr().unwrap_or(None);
+        let secure = read_socket.secure();
+        ClientConnection::over(rt, alloc, write_socket, read_socket, remote_addr, secure)
+    }
 }
 
 impl<R: ReadDevice + Drop, W: WriteDevice + Drop, Rt: Wait + Copy> ClientConnection<R, W, Rt> {
@@ -64,8 +88,8 @@ impl<R: ReadDevice + Drop, W: WriteDevice + Drop, Rt: Wait + Copy> ClientConnect
 
     /// Goes to the next request, and hands it out; `None` once the connection has no further one, from then on. It waits for
     /// the client, and while the last request's body holds the input: until that was read to its end or given up. Refused heads
-    /// are answered in their turn, without waiting for it, and end the requests; after most of those of a version above 1.1 the
-    /// next head is read. An error where memory was refused; then each later call answers `None`. `now` dates the answers to
+    /// are answered in their turn, without waiting for it, and end the requests; but behind one of a version above 1.1 the next
+    /// head is read, unless it names an upgrade or its body is chunked. An error where memory was refused; then each later call answers `None`. `now` dates the answers to
     /// refused heads, and the 500 of this request if it is dropped.
     pub fn next(&mut self, now: HttpDate) -> Result<Option<Request<R, W, Rt>>, AllocError>
         ensures over { IsOver self.old → (result ≡ Ok None) × IsOver self.new }
@@ -73,6 +97,9 @@ impl<R: ReadDevice + Drop, W: WriteDevice + Drop, Rt: Wait + Copy> ClientConnect
         ensures err { OnErr result (IsOver self.new) }
         ensures last { IfOk result (λ r. IfSome r (λ request. (request_head request).is_last ≡ true → IsOver self.new)) }
         ensures open { IfOk result (λ r. IfSome r (λ request. (request_head request).is_last ≡ false → IsOver self.new → ⊥)) }
+        // A request is framed as its version and headers say, and what is kept for its answer is that of its head, on this date.
+        ensures framing { IfOk result (λ r. IfSome r (λ request. let h = request_head request in framing h.version h.headers.items ≡ Some (head_framing h))) }
+        ensures keeps { IfOk result (λ r. IfSome r (λ request. KeepsHead (request_waiting request) (request_head request) now)) }
         ensures client { IfOk result (λ r. IfSome r (λ request. (request_secure request ≡ client_secure self.old) × (request_address request ≡ client_address self.old))) }
         ensures same { (client_secure self.new ≡ client_secure self.old) × (client_address self.new ≡ client_address self.old) }
     {
@@ -126,7 +153,9 @@ fn read_request<R: ReadDevice + Drop, W: WriteDevice + Drop, Rt: Wait + Copy>(
     sink: &mut SequentialWriterBuilder<Outlet<W>, Rt>,
     reader: &mut SequentialReader<Source<R>, Rt>,
     now: HttpDate,
-) -> Result<Option<Exchange>, AllocError> {
+) -> Result<Option<Exchange>, AllocError>
+    ensures { IfOk result (λ r. IfSome r (λ exchange. IsFramedRequest now (HeadRead.Request exchange))) }
+{
     for _ in 0..u64::MAX {
         match read_head(alloc, reader.hold(), now)? {
             HeadRead::Request(exchange) => return Ok(Some(exchange)),

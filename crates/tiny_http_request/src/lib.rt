@@ -3,6 +3,7 @@
 //! modules again.
 #![tactic(auto)]
 
+mod body;
 pub mod client;
 mod line;
 pub mod request;

@@ -1,46 +1,42 @@
 //! A request that threads may hold: its head, its body on the connection's input, and its turn at the output.
-ghost use Rattle.std.specs.Prelude.{◌≡◌, ◌≤◌, ◌<◌, ◌^◌, true, false, [], length, Ok, Err, Some, None, IfOk, IfErr, OnErr, is_ok};
+ghost use Rattle.std.specs.Prelude.{◌≡◌, true, false, Ok, Err, Some, None, IfOk, IfErr, IfSome, is_ok, is_some};
 ghost use Rattle.std.specs.IoError.{error_kind};
 ghost use Rattle.std.specs.List.{list_all};
 ghost use Rattle.std.specs.Option.{option_copied};
 ghost use Rattle.tiny_http_wire.specs.Bytes.{is_ascii};
-ghost use Rattle.tiny_http_wire.specs.Device.{Feed};
-ghost use Rattle.tiny_http_stream.specs.Outlet.{output_of, outlet_ended, outlet_held, SentOn};
-ghost use Rattle.tiny_http_sending.specs.ResponseValue.{printing_in};
-ghost use Rattle.tiny_http_sending.specs.Sending.{CanSend, Sends, FailsOnceUnlessEnded, IsHonest};
+ghost use Rattle.tiny_http_sending.specs.Sending.{is_closed_client};
 ghost use Rattle.tiny_http_message.specs.Framing.{framing};
 ghost use Rattle.tiny_http_message.specs.Exchange.{KeepsHead};
-ghost use Rattle.tiny_http_message.specs.HeadReads.{head_framing};
-ghost use Rattle.tiny_http_message.specs.Pipeline.{is_head_method};
-ghost use Rattle.tiny_http_request.specs.Request.{request_head, request_secure, request_address, request_waiting, is_expectation_failed};
+ghost use Rattle.tiny_http_message.specs.Body.{is_streaming};
+ghost use Rattle.tiny_http_message.specs.HeadReads.{head_framing, Begins};
+ghost use Rattle.tiny_http_request.specs.Request.{request_head, request_secure, request_address, request_waiting, is_expectation_failed, IfCreationIo, cut_kind, IsCutShort, CutsShort, BeginsWith};
 
+pub use crate::body::Body;
 use crate::sequential::{
     SequentialReader, SequentialReaderBuilder, SequentialWriter, SequentialWriterBuilder,
 };
 use httpdate::HttpDate;
 use std::alloc::{AllocError, Global};
-use std::io::{Cursor, ErrorKind, Read, Write};
+use std::io::{ErrorKind, Read, Write};
 use std::net::SocketAddr;
 use std::sync::Wait;
 use std::{fmt, io};
 use thiserror::Error;
 use tiny_http_device::device::{ReadDevice, Stop, WriteDevice};
-use tiny_http_message::body::{Body as Unread, counted};
-use tiny_http_message::exchange::Head;
-use tiny_http_message::framing::{Form, Framing, framing_of};
+use tiny_http_message::body::Body as Unread;
+use tiny_http_message::exchange::{Head, begin_body};
+use tiny_http_message::framing::{Framing, framing_of};
 use tiny_http_message::own_answer::{DropText, send_own_quietly};
 pub use tiny_http_message::upgrading::UpgradeError;
 use tiny_http_message::upgrading::send_upgrade_quietly;
 use tiny_http_message::waiting::Waiting;
-use tiny_http_sending::sending::send;
+use tiny_http_sending::sending::{reported, send_unless_ended};
 use tiny_http_stream::custom_stream::CustomStream;
 use tiny_http_stream::outlet::Outlet;
 use tiny_http_stream::source::Source;
 use tiny_http_text::ascii::AsciiString;
 use tiny_http_text::bytes::are_ascii;
 use tiny_http_wire::answer_context::AnswerContext;
-use tiny_http_wire::chunked::Decoding;
-use tiny_http_wire::coding::asked_coding;
 use tiny_http_wire::common::{HTTPVersion, Header, Method, StatusCode};
 use tiny_http_wire::response::Response;
 
@@ -85,83 +81,6 @@ pub trait ReadWrite: Read + Write {}
 
 impl<R: ReadDevice, W: WriteDevice> ReadWrite for CustomStream<R, W> {}
 
-/// The body of a request. While bytes of it are to be read from the connection it holds the connection's input; after its last
-/// one, or where it is dropped, the next head is read.
-pub struct Body<R: ReadDevice + Drop, Rt: Wait + Drop> {
-    unread: Unread,
-    reader: Option<SequentialReader<Source<R>, Rt>>,
-}
-
-// Reads some bytes of a body that was read with its head, or is over.
-fn read_held(unread: &mut Unread, buf: &mut [u8]) -> Result<usize, io::Error>
-    ensures { IfOk result (λ n. n ≤ length buf.new) }
-{
-    match unread {
-        Unread::WithHead(bytes) => bytes.read_in(buf),
-        Unread::Over(Stop::Fault(kind)) => Err((*kind).into()),
-        Unread::Over(Stop::End) | Unread::Counted(_) | Unread::Chunked(_) | Unread::Rest => Ok(0),
-    }
-}
-
-impl<R: ReadDevice + Drop, Rt: Wait + Drop> Body<R, Rt> {
-    /// A body that is read by this reader, while it holds it.
-    pub(crate) fn new(
-        unread: Unread,
-        reader: Option<SequentialReader<Source<R>, Rt>>,
-    ) -> Body<R, Rt>
-        ensures { result.unread ≡ unread }
-    {
-        Body { unread, reader }
-    }
-
-    // Reads some bytes into a buffer that has room.
-    fn read_some(&mut self, buf: &mut [u8]) -> Result<usize, io::Error>
-        ensures { IfOk result (λ n. n ≤ length buf.new) }
-    {
-        let Some(reader) = &mut self.reader else {
-            return read_held(&mut self.unread, buf);
-        };
-        let read = self.unread.read(reader.hold(), buf);
-        if !self.unread.holds_reader() {
-            drop(self.reader.take());
-        }
-        read
-    }
-}
-
-impl<R: ReadDevice + Drop, Rt: Wait + Drop> ReadDevice for Body<R, Rt> {
-    /// Reads some bytes of the body: 0 after its last one, or the fault by which it is cut or broken.
-    fn read_in(&mut self, buf: &mut [u8]) -> Result<usize, io::Error> {
-        if buf.is_empty() {
-            return Ok(0);
-        }
-        self.read_some(buf)
-    }
-}
-
-impl<R: ReadDevice + Drop, Rt: Wait + Drop> Read for Body<R, Rt> {
-    /// Reads some bytes of the body, as `read_in`.
-    fn read(&mut self, buf: &mut [u8]) -> io::Result<usize> {
-        self.read_in(buf)
-    }
-}
-
-impl<R: ReadDevice + Drop, Rt: Wait + Drop> Drop for Body<R, Rt> {
-    /// Gives the body up.
-    fn drop(self) {
-        let Self {
-            mut unread,
-            mut reader,
-        } = self;
-        if let Some(reader) = &mut reader
-            && let Some(source) = reader.held()
-        {
-            unread.give_up(source);
-        }
-        drop(reader);
-    }
-}
-
 /// A request. Any thread may hold it, read its body and answer it, while the connection reads on. Answers are sent in the order
 /// of the requests. If it is dropped it is answered by an empty 500, in its turn.
 pub struct Request<R: ReadDevice + Drop, W: WriteDevice + Drop, Rt: Wait + Drop> {
@@ -176,51 +95,6 @@ pub struct Request<R: ReadDevice + Drop, W: WriteDevice + Drop, Rt: Wait + Drop>
     writer: SequentialWriter<Outlet<W>, Rt>,
 }
 
-// Sends an answer, unless the output has ended: then its data aren't read.
-fn send_answer<W: WriteDevice, D: ReadDevice + Drop>(
-    alloc: Global,
-    outlet: &mut Outlet<W>,
-    response: Response<D>,
-    context: AnswerContext,
-    now: HttpDate,
-) -> Result<(), io::Error>
-    ensures past { outlet_ended outlet.old ≡ true → (outlet.new ≡ outlet.old) × (result ≡ Ok tt) }
-    ensures sends { (content : Feed) → D.feed response.data_reader ≡ Some content → length content.bytes < 2 ^ 63
-        → outlet_ended outlet.old ≡ false → CanSend (output_of outlet.old)
-        → Sends (output_of outlet.old) (output_of outlet.new) (outlet_ended outlet.new) result response.answer content (printing_in context now) }
-    ensures fails_once { FailsOnceUnlessEnded (outlet_ended outlet.old) (output_of outlet.old) (output_of outlet.new) (outlet_ended outlet.new) }
-    ensures honest { IfErr result (λ e.
-        IsHonest (output_of outlet.old) (output_of outlet.new) response.answer (D.feed response.data_reader) (printing_in context now) (error_kind e)) }
-    ensures ended { OnErr result (outlet_ended outlet.new ≡ true) }
-    ensures flushed { outlet_held outlet.new ≡ [] }
-    ensures sent_on { SentOn outlet.new }
-{
-    if outlet.is_ended() {
-        outlet.facts();
-        return Ok(());
-    }
-    send(alloc, outlet, response, context, now)
-}
-
-// Passes over a fault by which the client has gone.
-fn unless_gone(sent: Result<(), io::Error>) -> Result<(), io::Error> {
-    match sent {
-        Err(fault) if !is_client_gone(fault.kind()) => Err(fault),
-        _ => Ok(()),
-    }
-}
-
-// Whether a fault of this kind says that the client has gone.
-fn is_client_gone(kind: ErrorKind) -> bool {
-    matches!(
-        kind,
-        ErrorKind::BrokenPipe
-            | ErrorKind::ConnectionAborted
-            | ErrorKind::ConnectionRefused
-            | ErrorKind::ConnectionReset
-    )
-}
-
 impl<R: ReadDevice + Drop, W: WriteDevice + Drop, Rt: Wait + Drop> Request<R, W, Rt> {
     /// A request of these parts.
     pub(crate) fn from_parts(
@@ -231,6 +105,7 @@ impl<R: ReadDevice + Drop, W: WriteDevice + Drop, Rt: Wait + Drop> Request<R, W,
         reader: Option<SequentialReader<Source<R>, Rt>>,
         writer: SequentialWriter<Outlet<W>, Rt>,
     ) -> Request<R, W, Rt>
+        requires { is_some reader ≡ is_streaming waiting.body }
         ensures head { request_head result ≡ head }
         ensures waiting { request_waiting result ≡ waiting }
         ensures client { (request_secure result ≡ client.0) × (request_address result ≡ client.1) }
@@ -304,30 +179,45 @@ impl<R: ReadDevice + Drop, W: WriteDevice + Drop, Rt: Wait + Drop> Request<R, W,
         self.remote_addr.as_ref()
     }
 
-    /// The body. If a 100 is owed it is sent first, dated `now`, in the turn of the request: that waits until the requests
-    /// before are finished. A fault of the writer isn't reported there.
-    pub fn as_reader(&mut self, now: HttpDate) -> &mut Body<R, Rt> {
+    // Sends the 100 that is owed, if one is, in the turn of the request. None is owed any more.
+    fn send_continue(&mut self, now: HttpDate)
+        ensures waiting { request_waiting self.new ≡ record (request_waiting self.old) { owes_continue = false } }
+        ensures head { request_head self.new ≡ request_head self.old }
+        ensures client { (request_secure self.new ≡ request_secure self.old) × (request_address self.new ≡ request_address self.old) }
+    {
         if self.owes_continue {
+            let outlet = self.writer.hold();
             send_own_quietly(
                 self.alloc,
-                self.writer.hold(),
+                outlet,
                 StatusCode(100),
                 self.answer_context,
                 now,
             );
             self.owes_continue = false;
         }
+    }
+
+    /// The body. If a 100 is owed it is sent first, dated `now`, in the turn of the request: that waits until the requests
+    /// before are finished. A fault of the writer isn't reported there.
+    pub fn as_reader(&mut self, now: HttpDate) -> &mut Body<R, Rt>
+        ensures { result.now ≡ (request_waiting self.old).body }
+    {
+        self.send_continue(now);
         &mut self.body
     }
 
     /// Sends the answer, dated `now`, in the turn of the request, and then gives the body up. It waits until the requests
     /// before are finished. The first fault is the error: the data's, or the writer's; after it nothing more is sent on the
-    /// connection. A fault by which the client has gone isn't reported.
+    /// connection. One of kind `BrokenPipe`, `ConnectionAborted`, `ConnectionRefused` or `ConnectionReset` isn't reported, also one
+    /// of the data.
     pub fn respond<D: ReadDevice + Drop>(
         self,
         response: Response<D>,
         now: HttpDate,
-    ) -> Result<(), io::Error> {
+    ) -> Result<(), io::Error>
+        ensures { IfErr result (λ e. is_closed_client (error_kind e) ≡ false) }
+    {
         let Self {
             alloc,
             secure: _,
@@ -339,14 +229,15 @@ impl<R: ReadDevice + Drop, W: WriteDevice + Drop, Rt: Wait + Drop> Request<R, W,
             body,
             mut writer,
         } = self;
-        let sent = send_answer(alloc, writer.hold(), response, answer_context, now);
+        let outlet = writer.hold();
+        let sent = send_unless_ended(alloc, outlet, response, answer_context, now);
         writer.pass();
         drop(body);
-        unless_gone(sent)
+        reported(sent)
     }
 
     /// Takes the raw writer in place of an answer, and gives the body up. What is written is all that the client gets for the
-    /// request. The turn ends as the writer is dropped.
+    /// request, but for a 100 that was sent before. The turn ends as the writer is dropped.
     pub fn into_writer(self) -> SequentialWriter<Outlet<W>, Rt> {
         let Self {
             alloc: _,
@@ -430,66 +321,34 @@ impl<R: ReadDevice + Drop, W: WriteDevice + Drop, Rt: Wait + Drop> fmt::Debug
     }
 }
 
+// The kind of error of a body that ends early because its reader stopped so.
+fn cut_kind(stop: Option<Stop>) -> ErrorKind
+    ensures { IfSome stop (λ stop. result ≡ cut_kind stop) }
+{
+    match stop {
+        Some(Stop::Fault(kind)) => kind,
+        _ => ErrorKind::ConnectionAborted,
+    }
+}
+
 // The body that is so framed. One of up to 1024 bytes is read at once.
-fn begin_body<R: ReadDevice>(
+fn body_of<R: ReadDevice>(
     alloc: Global,
     source: &mut Source<R>,
     framing: Framing,
 ) -> Result<Unread, RequestCreationError>
-    ensures { IfErr result (λ e. is_expectation_failed e ≡ false) }
+    ensures begins { IfOk result (λ body. Begins framing source.old.feed source.new.feed (Some body)) }
+    ensures cut { IfErr result (λ e. IfCreationIo e (λ fault. IsCutShort framing source.old.feed (error_kind fault))) }
+    ensures no_expectation { IfErr result (λ e. is_expectation_failed e ≡ false) }
 {
-    let length = framing.body_length.unwrap_or(0);
-    match framing.form {
-        Form::Rest => Ok(Unread::Rest),
-        Form::Nothing => Ok(Unread::Over(Stop::End)),
-        Form::Counted => Ok(counted(length)),
-        Form::Chunked => Ok(Unread::Chunked(Decoding::new())),
-        Form::WithHead => match source.take_exactly(alloc, length) {
-            Ok(Some(bytes)) => Ok(Unread::WithHead(Cursor::new(bytes))),
-            Ok(None) => Err(cut_body(source.stop())),
-            Err(_) => Err(RequestCreationError::Memory),
-        },
+    match begin_body(alloc, source, framing) {
+        Ok(Some(body)) => Ok(body),
+        Ok(None) => {
+            let kind = cut_kind(source.stop());
+            Err(RequestCreationError::CreationIoError(kind.into()))
+        }
+        Err(_) => Err(RequestCreationError::Memory),
     }
-}
-
-// A body couldn't be read to its length, as its reader stopped so.
-fn cut_body(stop: Option<Stop>) -> RequestCreationError
-    ensures { is_expectation_failed result ≡ false }
-{
-    let kind = match stop {
-        Some(Stop::Fault(kind)) => kind,
-        _ => ErrorKind::ConnectionAborted,
-    };
-    RequestCreationError::CreationIoError(kind.into())
-}
-
-// What is kept of a request until it is answered.
-fn waiting_of(
-    alloc: Global,
-    head: &Head,
-    body: Unread,
-    now: HttpDate,
-) -> Result<Waiting, AllocError>
-    ensures { IfOk result (λ w. (w.body ≡ body) × KeepsHead w head.now now) }
-{
-    let answer_context = AnswerContext {
-        version: head.version,
-        asked_coding: asked_coding(head.headers.as_slice()),
-        no_body: is_head(&head.method),
-    };
-    let dropped = DropText::new(alloc, answer_context, now)?;
-    Ok(Waiting {
-        answer_context,
-        owes_continue: head.owes_continue,
-        dropped,
-        body,
-    })
-}
-
-fn is_head(method: &Method) -> bool
-    ensures { result ≡ is_head_method method.now }
-{
-    matches!(method, Method::Head)
 }
 
 // The only reader of a source, where the body is to be read from it.
@@ -498,7 +357,9 @@ fn alone<R: ReadDevice + Drop, Rt: Wait + Copy>(
     alloc: Global,
     source: Source<R>,
     body: &Unread,
-) -> Result<Option<SequentialReader<Source<R>, Rt>>, AllocError> {
+) -> Result<Option<SequentialReader<Source<R>, Rt>>, AllocError>
+    ensures { IfOk result (λ reader. is_some reader ≡ is_streaming body.now) }
+{
     if !body.holds_reader() {
         return Ok(None);
     }
@@ -526,16 +387,18 @@ pub fn new_request<R: ReadDevice + Drop, W: WriteDevice + Drop, Rt: Wait + Copy>
 ) -> Result<Request<R, W, Rt>, RequestCreationError>
     ensures head { IfOk result (λ r. let h = request_head r in (h.method ≡ method) × (h.path ≡ path) × (h.version ≡ version) × (h.headers ≡ headers)) }
     ensures framing { IfOk result (λ r. framing version headers.items ≡ Some (head_framing (request_head r))) }
+    ensures body { IfOk result (λ r. BeginsWith (head_framing (request_head r)) (R.feed source_data) (request_waiting r).body) }
     ensures keeps { IfOk result (λ r. KeepsHead (request_waiting r) (request_head r) now) }
     ensures client { IfOk result (λ r. (request_secure r ≡ secure) × (request_address r ≡ remote_addr)) }
     ensures refused { framing version headers.items ≡ None → result ≡ Err RequestCreationError.ExpectationFailed }
+    ensures cut { IfErr result (λ e. IfCreationIo e (λ fault. CutsShort version headers.items (R.feed source_data) (error_kind fault))) }
     ensures expectation { IfErr result (λ e. is_expectation_failed e ≡ true → framing version headers.items ≡ None) }
 {
     let Some(framing) = framing_of(version, headers.as_slice()) else {
         return Err(RequestCreationError::ExpectationFailed);
     };
     let mut source = Source::new(source_data);
-    let body = begin_body(alloc, &mut source, framing)?;
+    let body = body_of(alloc, &mut source, framing)?;
     let reader = alone(rt, alloc, source, &body)?;
     let writer = SequentialWriterBuilder::new(rt, alloc, Outlet::new(writer))?.next()?;
     let head = Head {
@@ -548,7 +411,7 @@ pub fn new_request<R: ReadDevice + Drop, W: WriteDevice + Drop, Rt: Wait + Copy>
         owes_continue: framing.owes_continue,
         is_last: framing.is_last,
     };
-    let waiting = waiting_of(alloc, &head, body, now)?;
+    let waiting = Waiting::new(alloc, &head, body, now)?;
     let client = (secure, remote_addr);
     Ok(Request::from_parts(alloc, client, head, waiting, reader, writer))
 }

@@ -129,8 +129,8 @@ fn write_text<W: Write>(writer: &mut W, text: &[u8]) {
 }
 
 /// Writes in its turn: its first write or flush waits until those before it are dropped. Dropping it flushes and finishes its
-/// turn, or leaves it if the turn has not come: that waits for nobody's turn. As a `WriteDevice` it counts its own failures,
-/// and states no bytes.
+/// turn, or leaves it if the turn has not come: that waits for nobody's turn. As a `WriteDevice` it counts the
+/// failures of its own `write_out` and `flush_out`, and states no bytes.
 pub struct SequentialWriter<W: Write + Drop, R: Wait + Drop> {
     turn: Turn<W, R>,
     failures: u64,
@@ -180,7 +180,7 @@ impl<W: Write + Drop, R: Wait + Drop> WriteDevice for SequentialWriter<W, R> {
 
     ghost sink = { writer_sink };
 
-    /// The count of this writer's own failures.
+    /// The count of the failures of this writer's own `write_out` and `flush_out`.
     fn failures(&self) -> u64 {
         self.failures
     }

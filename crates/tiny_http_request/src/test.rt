@@ -1,9 +1,14 @@
 //! Requests for the tests of a program that answers them.
-ghost use Rattle.std.specs.Prelude.{◌≡◌, ◌++◌, ◌∷◌, [], true, false, Some, IfOk};
+ghost use Rattle.std.specs.Prelude.{◌≡◌, ◌++◌, ◌∷◌, [], length, true, false, Some, None, IfOk, IfErr};
+ghost use Rattle.std.specs.IoError.{error_kind};
 ghost use Rattle.std.specs.Net.Socket.{socket_port};
 ghost use Rattle.tiny_http_wire.specs.Heads.{version};
-ghost use Rattle.tiny_http_request.specs.Request.{request_head, request_secure, request_address};
-ghost use Rattle.tiny_http_request.specs.Test.{IsLike};
+ghost use Rattle.tiny_http_device.specs.Device.{whole_feed};
+ghost use Rattle.tiny_http_message.specs.Framing.{framing};
+ghost use Rattle.tiny_http_message.specs.HeadReads.{head_framing};
+ghost use Rattle.tiny_http_message.specs.Exchange.{KeepsHead};
+ghost use Rattle.tiny_http_request.specs.Request.{request_head, request_secure, request_address, request_waiting, is_expectation_failed, IfCreationIo, CutsShort, BeginsWith};
+ghost use Rattle.tiny_http_request.specs.Test.{IsLike, length_header, with_length};
 
 use crate::request::{Request, RequestCreationError, new_request};
 use httpdate::HttpDate;
@@ -13,6 +18,7 @@ use std::io::Cursor;
 use std::net::{IpAddr, Ipv4Addr, SocketAddr};
 use std::sync::Wait;
 use tiny_http_device::device::WriteDevice;
+use tiny_http_message::framing::value_of;
 use tiny_http_text::ascii::AsciiString;
 use tiny_http_text::number::Numeral;
 use tiny_http_wire::common::{HTTPVersion, Header, Method};
@@ -42,8 +48,8 @@ impl WriteDevice for Nowhere {
     }
 }
 
-/// A request to be made: `GET /` in version 1.1 with no header and no body, from 127.0.0.1:23456, not encrypted, unless it is
-/// told otherwise.
+/// A request to be made: `GET /` in version 1.1 with no header and no body, from 127.0.0.1:23456, not encrypted, unless a
+/// call below changes it.
 #[derive(Drop)]
 pub struct TestRequest {
     body: &'static str,
@@ -55,22 +61,31 @@ pub struct TestRequest {
     headers: Vec<Header>,
 }
 
-// Whether a header of this name is among these.
-fn has_header(headers: &[Header], name: &str) -> bool {
-    for header in headers {
-        if header.field.equiv(name) {
-            return true;
-        }
-    }
-    false
+// `Content-Length` of so many bytes. An error where memory was refused.
+fn length_header(alloc: Global, length: usize) -> Result<Header, AllocError>
+    ensures { IfOk result (λ h. h ≡ length_header length) }
+{
+    let field = b"Content-Length".to_vec(alloc)?;
+    let value = Numeral::decimal(length as u64).as_bytes().to_vec(alloc)?;
+    let Ok(header) = Header::from_bytes(field, value) else {
+        unreachable!()
+    };
+    Ok(header)
 }
 
-// `Content-Length` of so many bytes. None where memory was refused.
-fn length_header(alloc: Global, length: usize) -> Option<Header> {
-    let field = b"Content-Length".to_vec(alloc).ok()?;
-    let value = Numeral::decimal(length as u64);
-    let value = value.as_bytes().to_vec(alloc).ok()?;
-    Header::from_bytes(field, value).ok()
+// The headers, with the length of the body behind them if they have none. An error where memory was refused.
+fn with_length(
+    alloc: Global,
+    headers: Vec<Header>,
+    length: usize,
+) -> Result<Vec<Header>, AllocError>
+    ensures { IfOk result (λ v. v.items ≡ with_length length headers.items) }
+{
+    let mut headers = headers;
+    if value_of(headers.as_slice(), "Content-Length").is_none() {
+        headers.push(length_header(alloc, length)?)?;
+    }
+    Ok(headers)
 }
 
 impl TestRequest {
@@ -163,8 +178,8 @@ impl TestRequest {
         Ok(request)
     }
 
-    /// The request, which is answered to nobody. It has the header `Content-Length` with the body's length behind its others, if
-    /// it has none of that name. `now` dates the 500 that is sent if it is dropped.
+    /// The request; its answer is thrown away. It has the header `Content-Length` with the body's length behind its others, if it
+    /// has none of that name. `now` dates the 500 that is sent if it is dropped. Errors are those of `new_request`.
     pub fn into_request<Rt: Wait + Copy>(
         self,
         rt: Rt,
@@ -172,7 +187,13 @@ impl TestRequest {
         now: HttpDate,
     ) -> Result<Request<Cursor<Vec<u8>>, Nowhere, Rt>, RequestCreationError>
         ensures head { IfOk result (λ r. let h = request_head r in (h.method ≡ self.method) × (h.path ≡ self.path) × (h.version ≡ self.version)) }
+        ensures headers { IfOk result (λ r. (request_head r).headers.items ≡ with_length (length self.body.now) self.headers.items) }
+        ensures framing { IfOk result (λ r. framing self.version (request_head r).headers.items ≡ Some (head_framing (request_head r))) }
+        ensures body { IfOk result (λ r. BeginsWith (head_framing (request_head r)) (Some (whole_feed self.body.now)) (request_waiting r).body) }
+        ensures keeps { IfOk result (λ r. KeepsHead (request_waiting r) (request_head r) now) }
         ensures client { IfOk result (λ r. (request_secure r ≡ self.secure) × (request_address r ≡ Some self.remote_addr)) }
+        ensures expectation { IfErr result (λ e. is_expectation_failed e ≡ true → framing self.version (with_length (length self.body.now) self.headers.items) ≡ None) }
+        ensures cut { IfErr result (λ e. IfCreationIo e (λ fault. CutsShort self.version (with_length (length self.body.now) self.headers.items) (Some (whole_feed self.body.now)) (error_kind fault))) }
     {
         let TestRequest {
             body,
@@ -181,16 +202,9 @@ impl TestRequest {
             method,
             path,
             version,
-            mut headers,
+            headers,
         } = self;
-        if !has_header(headers.as_slice(), "Content-Length") {
-            let Some(header) = length_header(alloc, body.len()) else {
-                return Err(RequestCreationError::Memory);
-            };
-            if headers.push(header).is_err() {
-                return Err(RequestCreationError::Memory);
-            }
-        }
+        let headers = with_length(alloc, headers, body.len())?;
         let data = Cursor::new(body.as_bytes().to_vec(alloc)?);
         new_request(
             rt,

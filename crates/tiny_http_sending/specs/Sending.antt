@@ -1,9 +1,9 @@
 -- What sending an answer makes of an outlet.
-use Rattle.std.specs.Prelude.{◌≡◌, ℕ, ◌-◌, ◌^◌, ◌<◌, ◌⊎◌, Bool, true, false, List, [], length, Option, None, Some, Result, Ok, Err, MatchBool}
+use Rattle.std.specs.Prelude.{◌≡◌, ℕ, ◌-◌, ◌^◌, ◌<◌, ◌⊎◌, ⊤, Bool, true, false, List, [], length, Option, None, Some, Result, Ok, Err, MatchBool, if◌then◌else◌}
 use Rattle.std.specs.IoError.{error_kind}
 use Rattle.std.specs.declared.io.Error.{Error}
 use Rattle.std.specs.declared.io.ErrorKind.{ErrorKind}
-use Rattle.std.specs.declared.io.ErrorKind.TheVariants.{OutOfMemory}
+use Rattle.std.specs.declared.io.ErrorKind.TheVariants.{OutOfMemory, BrokenPipe, ConnectionAborted, ConnectionRefused, ConnectionReset}
 use Rattle.std.specs.Io.KnownBytes.{append_known}
 use Rattle.tiny_http_wire.specs.Device.{Feed, Sink, IsFront, BeginsKnown, HoldsNothing, IsKnownFront, StatesKind, next_count}
 use Rattle.tiny_http_wire.specs.Answer.{Answer, Printing, text_of, IsGathered}
@@ -98,3 +98,16 @@ MayBreakOff a (Some f) p kind = length f.bytes < 2 ^ 63 → BreaksOff a f p kind
 -- a fault that an answer reports is the writer's, whose count rose, or its data's
 abbrev pub IsHonest : Sink → Sink → Answer → Option Feed → Printing → ErrorKind → Type 0
 IsHonest old new a feed p kind = (new.failures ≡ next_count old.failures) ⊎ MayBreakOff a feed p kind
+
+-- a client that has closed the connection is no fault of an answer
+abbrev pub is_closed_client : ErrorKind → Bool
+is_closed_client BrokenPipe = true
+is_closed_client ConnectionAborted = true
+is_closed_client ConnectionRefused = true
+is_closed_client ConnectionReset = true
+is_closed_client _ = false
+
+-- what is reported of an answer: its fault, unless the client has closed the connection
+abbrev pub reported : Result ⊤ Error → Result ⊤ Error
+reported (Ok u) = Ok u
+reported (Err e) = if is_closed_client (error_kind e) then Ok tt else Err e

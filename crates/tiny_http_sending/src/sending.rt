@@ -1,16 +1,17 @@
 //! An answer on its way out: printed, flushed, and what follows a fault.
-ghost use Rattle.std.specs.Prelude.{◌≡◌, ◌<◌, ◌^◌, ◌==◌, true, false, [], length, Some, None, IfErr, OnErr, MatchBool};
+ghost use Rattle.std.specs.Prelude.{◌≡◌, ◌<◌, ◌^◌, ◌==◌, true, false, [], length, Some, None, Ok, IfErr, OnErr, MatchBool};
 ghost use Rattle.std.specs.IoError.{error_kind};
 ghost use Rattle.std.specs.Option.{option_copied};
 ghost use Rattle.tiny_http_wire.specs.Answer.{text_of};
 ghost use Rattle.tiny_http_wire.specs.Device.{Feed};
 ghost use Rattle.tiny_http_sending.specs.ResponseValue.{printing_in, printing_with, upgrading};
 ghost use Rattle.tiny_http_stream.specs.Outlet.{output_of, outlet_ended, outlet_held, SentOn};
-ghost use Rattle.tiny_http_sending.specs.Sending.{Sends, SendsText, SendsUnlessEnded, EndsQuietly, DropsHeld, CanSend, FailsOnce, FailsOnceUnlessEnded, IsHonest};
+ghost use Rattle.tiny_http_sending.specs.Sending.{Sends, SendsText, SendsUnlessEnded, EndsQuietly, DropsHeld, CanSend, FailsOnce, FailsOnceUnlessEnded, IsHonest, is_closed_client, reported};
 
 use httpdate::HttpDate;
 use std::alloc::Global;
 use std::io;
+use std::io::ErrorKind;
 use tiny_http_stream::outlet::Outlet;
 use tiny_http_wire::answer_context::AnswerContext;
 use tiny_http_wire::device::{ReadDevice, WriteDevice};
@@ -81,6 +82,57 @@ pub fn send<W: WriteDevice, D: ReadDevice + Drop>(
     ensures sent_on { SentOn outlet.new }
 {
     send_printed(alloc, outlet, response, answer_context, None, now)
+}
+
+/// Sends an answer as `send` does, unless the output has ended: then nothing is sent, the data aren't read, and the result is
+/// `Ok`.
+pub fn send_unless_ended<W: WriteDevice, D: ReadDevice + Drop>(
+    alloc: Global,
+    outlet: &mut Outlet<W>,
+    response: Response<D>,
+    answer_context: AnswerContext,
+    now: HttpDate,
+) -> Result<(), io::Error>
+    ensures past { outlet_ended outlet.old ≡ true → (outlet.new ≡ outlet.old) × (result ≡ Ok tt) }
+    ensures sends { (content : Feed) → D.feed response.data_reader ≡ Some content → length content.bytes < 2 ^ 63
+        → outlet_ended outlet.old ≡ false → CanSend (output_of outlet.old)
+        → Sends (output_of outlet.old) (output_of outlet.new) (outlet_ended outlet.new) result response.answer content (printing_in answer_context now) }
+    ensures fails_once { FailsOnceUnlessEnded (outlet_ended outlet.old) (output_of outlet.old) (output_of outlet.new) (outlet_ended outlet.new) }
+    ensures honest { IfErr result (λ e.
+        IsHonest (output_of outlet.old) (output_of outlet.new) response.answer (D.feed response.data_reader) (printing_in answer_context now) (error_kind e)) }
+    ensures ended { OnErr result (outlet_ended outlet.new ≡ true) }
+    ensures flushed { outlet_held outlet.new ≡ [] }
+    ensures sent_on { SentOn outlet.new }
+{
+    if outlet.is_ended() {
+        outlet.facts();
+        return Ok(());
+    }
+    send(alloc, outlet, response, answer_context, now)
+}
+
+/// Whether a fault of this kind says that the client has closed the connection: an answer to it is no failure.
+pub fn is_closed_client(kind: ErrorKind) -> bool
+    ensures { result ≡ is_closed_client kind }
+{
+    matches!(
+        kind,
+        ErrorKind::BrokenPipe
+            | ErrorKind::ConnectionAborted
+            | ErrorKind::ConnectionRefused
+            | ErrorKind::ConnectionReset
+    )
+}
+
+/// What is reported of an answer that was sent so: its fault, unless that is of a kind which says that the client has closed the
+/// connection, also where it is one of the data.
+pub fn reported(sent: Result<(), io::Error>) -> Result<(), io::Error>
+    ensures { result ≡ reported sent }
+{
+    match sent {
+        Err(fault) if !is_closed_client(fault.kind()) => Err(fault),
+        _ => Ok(()),
+    }
 }
 
 /// Prints an answer that upgrades the connection to a protocol, and flushes it (RFC 9110, section 7.8): its head alone, with

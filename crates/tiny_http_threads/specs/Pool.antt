@@ -1,7 +1,7 @@
 -- A POOL OF WORKERS: jobs that wait for one, and how many workers there are.
 use Rattle.std.specs.Prelude.{◌≡◌, ℕ, ◌+◌, ◌-◌, ◌^◌, ◌<◌, ◌≤◌, ◌⊎◌, Bool, true, false, List, [], ◌∷◌, ◌++◌, length, Option, Some, None}
-use Rattle.tiny_http.specs.declared.task_pool.Offered.{Offered}
-use Rattle.tiny_http.specs.declared.task_pool.Offered.TheVariants.{Queued, Start, Back}
+use Rattle.tiny_http_threads.specs.declared.task_pool.Offered.{Offered}
+use Rattle.tiny_http_threads.specs.declared.task_pool.Offered.TheVariants.{Queued, Start, Back}
 
 -- the jobs that wait, the front first; how many workers run, and how many of these are idle; whether the pool is closed
 pub record Pool (J : Type 0) : Type 0 where

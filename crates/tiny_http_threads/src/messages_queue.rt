@@ -1,7 +1,7 @@
 //! A queue that threads share, and that can be told to wake one who waits.
 ghost use Rattle.std.specs.Prelude.{◌≡◌, ◌++◌, ◌∷◌, [], Some, None, OnOk, OnErr, IfOk, IfErr, IfSome, IsSome, IsSomeAnd, ◌↔◌, ◌+◌, ◌≤◌};
 ghost use Rattle.std.specs.Duration.{as_nanos};
-ghost use Rattle.tiny_http.specs.Queue.{popped_value};
+ghost use Rattle.tiny_http_threads.specs.Queue.{popped_value};
 
 use std::alloc::{AllocError, Global};
 use std::collections::VecDeque;
@@ -67,7 +67,7 @@ impl<T: Drop> QueueState<T> {
 
 // With no `T: Drop` a value can't be dropped, so none of these calls can lose one.
 impl<T> QueueState<T> {
-    ghost use Rattle.tiny_http.specs.Queue.{Pops};
+    ghost use Rattle.tiny_http_threads.specs.Queue.{Pops};
 
     /// Adds a value at the back. It comes back where room for it was refused, and nothing has changed.
     pub fn push(&mut self, value: T) -> Result<(), T>

@@ -1,7 +1,7 @@
 -- A QUEUE: a list of marks, the front first. A mark is a value, or a call to unblock one who waits, which is None.
 use Rattle.std.specs.Prelude.{◌≡◌, List, [], ◌∷◌, Option, Some, None}
-use Rattle.tiny_http.specs.declared.messages_queue.Popped.{Popped}
-use Rattle.tiny_http.specs.declared.messages_queue.Popped.TheVariants.{Value, Unblocked, Empty}
+use Rattle.tiny_http_threads.specs.declared.messages_queue.Popped.{Popped}
+use Rattle.tiny_http_threads.specs.declared.messages_queue.Popped.TheVariants.{Value, Unblocked, Empty}
 
 module _ {T : Type 0} where
   -- a pop takes the mark at the front and reports which it was, or that there is none

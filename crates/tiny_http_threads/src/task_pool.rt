@@ -46,7 +46,7 @@ pub struct PoolState<J> {
 }
 
 impl<J> Model for PoolState<J> {
-    ghost use Rattle.tiny_http.specs.Pool.{Pool, IsSound};
+    ghost use Rattle.tiny_http_threads.specs.Pool.{Pool, IsSound};
 
     ghost Value = { Pool J };
 
@@ -57,7 +57,7 @@ impl<J> Model for PoolState<J> {
 
 impl<J> PoolState<J> {
     ghost use Rattle.std.specs.Prelude.{true};
-    ghost use Rattle.tiny_http.specs.Pool.{IsSound, new_pool, Offers, NotStarted, TakesJob, Rests, Wakes, EndsIdle};
+    ghost use Rattle.tiny_http_threads.specs.Pool.{IsSound, new_pool, Offers, NotStarted, TakesJob, Rests, Wakes, EndsIdle};
 
     /// A pool of `running` workers, none of them idle. Nothing waits.
     pub fn new(alloc: Global, running: usize) -> PoolState<J>

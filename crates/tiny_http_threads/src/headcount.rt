@@ -1,5 +1,5 @@
 //! How many are in.
-ghost use Rattle.tiny_http.specs.Headcount.{CountsIn, CountsOut};
+ghost use Rattle.tiny_http_threads.specs.Headcount.{CountsIn, CountsOut};
 
 use std::marker::Model;
 

@@ -1,0 +1,17 @@
+//! Tests of `tiny_http` over sockets: servers and their clients in one process.
+#![tactic(auto)]
+
+#[cfg(test)]
+mod bench;
+#[cfg(test)]
+mod bodies;
+#[cfg(test)]
+mod network;
+#[cfg(test)]
+mod pipelines;
+#[cfg(test)]
+mod roster;
+#[cfg(test)]
+mod server;
+#[cfg(test)]
+mod sockets;

@@ -1,0 +1,37 @@
+//! Why nothing is served, as one line and an exit status.
+ghost use Rattle.std.specs.Prelude.{◌≡◌, ◌<◌, ◌≤◌};
+
+use std::fmt;
+
+/// Why nothing is served.
+#[derive(Clone, Copy, Debug, PartialEq, Eq)]
+pub(crate) enum HelloFault<'a> {
+    Usage,
+    /// At this address.
+    CannotListen(&'a str),
+    OutOfMemory,
+}
+
+impl HelloFault<'_> {
+    ghost use Rattle.hello.specs.HelloFault.{exit_status};
+
+    /// The exit status that reports it: 2 for what was asked wrongly, and 1 for what the system refused.
+    pub(crate) fn status(&self) -> u8
+        ensures { result ≡ exit_status self.now }
+    {
+        match self {
+            HelloFault::Usage => 2,
+            HelloFault::CannotListen(_) | HelloFault::OutOfMemory => 1,
+        }
+    }
+}
+
+impl fmt::Display for HelloFault<'_> {
+    fn fmt<W: fmt::Write>(&self, f: &mut fmt::Formatter<W>) -> fmt::Result {
+        match self {
+            HelloFault::Usage => write!(f, "usage: hello ADDRESS"),
+            HelloFault::CannotListen(address) => write!(f, "cannot listen on {address}"),
+            HelloFault::OutOfMemory => write!(f, "out of memory"),
+        }
+    }
+}

@@ -1,0 +1,175 @@
+//! Answers every request by `hello world`: `hello ADDRESS`. It stands on `tiny_http`.
+#![tactic(auto)]
+
+ghost use Rattle.std.specs.Prelude.{◌≡◌, ◌≤◌, ◌<◌, ◌⊎◌, length};
+ghost use Rattle.hello.specs.HelloFault.{exit_status};
+
+mod fault;
+#[cfg(test)]
+mod tests;
+
+use crate::fault::HelloFault;
+use std::alloc::Global;
+use std::io::{ErrorKind, Write};
+use std::net::{Net, TcpListener, TcpStream};
+use std::process::ExitCode;
+use std::rt::Env;
+use std::sync::Wait;
+use std::thread::Threads;
+use std::time::Clock;
+use std::{env, thread};
+use tiny_http::connection::SocketFiles;
+use tiny_http::response::Response;
+use tiny_http::server::{Server, ServerRequest, current_date};
+
+// Answers a request. One for whose answer there is no memory is dropped. That the client doesn't take its answer is passed over.
+fn answer<R: Clock + Wait + Drop>(rt: &R, alloc: Global, request: ServerRequest<R>) {
+    let Ok(text) = String::from_str(alloc, "hello world") else {
+        return;
+    };
+    if let Ok(response) = Response::from_string(alloc, text) {
+        let _ = request.respond(response, current_date(rt));
+    }
+}
+
+// Answers requests until the server has no more, and then has another thread, if one waits, end too.
+fn answer_all<
+    R: Net<Listener = TcpListener, Stream = TcpStream> + SocketFiles + Clock + Wait + Drop,
+>(rt: &R, alloc: Global, server: &Server<R>) {
+    let mut requests = server.incoming_requests();
+    for _ in rt.forever() {
+        let Some(request) = requests.next() else {
+            let _ = server.unblock();
+            return;
+        };
+        answer(rt, alloc, request);
+    }
+}
+
+// Answers all requests of a server, by two threads.
+fn answer_by_two<R>(rt: &R, alloc: Global, server: &Server<R>)
+where
+    R: Net<Listener = TcpListener, Stream = TcpStream>
+        + SocketFiles
+        + Clock
+        + Wait
+        + Threads
+        + Drop
+        + Send
+        + Sync,
+{
+    thread::join(
+        rt,
+        || answer_all(rt, alloc, server),
+        || answer_all(rt, alloc, server),
+    );
+}
+
+// Answers all requests of a server, by four threads.
+fn answer_by_four<R>(rt: &R, alloc: Global, server: &Server<R>)
+where
+    R: Net<Listener = TcpListener, Stream = TcpStream>
+        + SocketFiles
+        + Clock
+        + Wait
+        + Threads
+        + Drop
+        + Send
+        + Sync,
+{
+    thread::join(
+        rt,
+        || answer_by_two(rt, alloc, server),
+        || answer_by_two(rt, alloc, server),
+    );
+}
+
+// Listens at the address that the one word names, and answers all requests.
+fn hello<'a, R, O: Write>(
+    rt: R,
+    alloc: Global,
+    words: &'a [String],
+    out: &mut O,
+) -> Result<(), HelloFault<'a>>
+where
+    R: Net<Listener = TcpListener, Stream = TcpStream>
+        + SocketFiles
+        + Clock
+        + Wait
+        + Threads
+        + Copy
+        + Send
+        + Sync
+        + 'static,
+{
+    let [address] = words else {
+        return Err(HelloFault::Usage);
+    };
+    let address = address.as_str();
+    let Ok(server) = Server::http(rt, alloc, address) else {
+        return Err(HelloFault::CannotListen(address));
+    };
+    let bound = server.server_addr();
+    let _ = writeln!(out, "listening on {bound}");
+    let _ = out.flush();
+    answer_by_four(&rt, alloc, &server);
+    Ok(())
+}
+
+// Reports a fault by a line, and gives the exit status that reports it.
+fn report<E: Write>(fault: &HelloFault<'_>, err: &mut E) -> u8
+    ensures { result ≡ exit_status fault.now }
+{
+    let _ = writeln!(err, "hello: {fault}");
+    fault.status()
+}
+
+/// Listens at the address that the one word names, says so on `out`, and answers every request by `hello world` until there
+/// are no more. Gives the exit status: 0; or 2 where there isn't one word, and 1 where it can't listen there, which a line on
+/// `err` says.
+pub fn hello_on<R, O: Write, E: Write>(
+    rt: R,
+    alloc: Global,
+    words: &[String],
+    out: &mut O,
+    err: &mut E,
+) -> u8
+where
+    R: Net<Listener = TcpListener, Stream = TcpStream>
+        + SocketFiles
+        + Clock
+        + Wait
+        + Threads
+        + Copy
+        + Send
+        + Sync
+        + 'static,
+{
+    match hello(rt, alloc, words, out) {
+        Ok(()) => 0,
+        Err(fault) => report(&fault, err),
+    }
+}
+
+// The words of the command line, the program's name first. One that isn't UTF-8 is no address.
+fn words<R: Env + AllocGlobal>(rt: &R) -> Result<Vec<String>, HelloFault<'static>> {
+    match env::args(rt) {
+        Ok(words) => match words.collect(rt.alloc()) {
+            Ok(words) => Ok(words),
+            Err(_) => Err(HelloFault::OutOfMemory),
+        },
+        Err(fault) if fault.kind() == ErrorKind::OutOfMemory => Err(HelloFault::OutOfMemory),
+        Err(_) => Err(HelloFault::Usage),
+    }
+}
+
+fn main(rt: HostRuntime) -> ExitCode {
+    let mut out = rt.stdout();
+    let mut err = rt.stderr();
+    let words = match words(&rt) {
+        Ok(words) => words,
+        Err(fault) => return ExitCode::from(report(&fault, &mut err)),
+    };
+    let words = words.as_slice().get(1..).unwrap_or(&[]);
+    ExitCode::from(hello_on(rt, rt.alloc(), words, &mut out, &mut err))
+}

@@ -1,0 +1,13 @@
+-- What a server reports of what its queue has.
+use Rattle.std.specs.Prelude.{Option, Some, None, Result, Ok, Err}
+use Rattle.std.specs.declared.io.Error.{Error as IoError}
+use Rattle.tiny_http_socket.specs.declared.refined_tcp_stream.RefinedTcpStream.{RefinedTcpStream}
+use Rattle.tiny_http_request.specs.declared.request.Request.{Request}
+use Rattle.tiny_http.specs.declared.accepting.Message.{Message}
+use Rattle.tiny_http.specs.declared.accepting.Message.TheVariants.{Error, NewRequest}
+
+-- the request or the fault that was popped; nothing of a mark, or of an empty queue
+abbrev pub received : {R : Type 0} → Option (Message R) → Result (Option (Request RefinedTcpStream RefinedTcpStream R)) IoError
+received (Some (Error fault)) = Err fault
+received (Some (NewRequest request)) = Ok (Some request)
+received None = Ok None

@@ -1,0 +1,10 @@
+//! The laws of the definitions, each the contract of a function that does nothing.
+
+pub use tiny_http_core::laws::{
+    one_client_answer, one_list_of_client_answers, one_pipeline, turns_pass_in_order,
+};
+pub use tiny_http_wire::laws::{
+    header_field_equality, header_from_its_text, http_version_order, lines_by_the_grammar,
+    method_from_its_name, method_hash, one_chunked_body, one_coding_asked, one_quality_list,
+    response_headers, status_code_order,
+};

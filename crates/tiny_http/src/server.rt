@@ -1,0 +1,285 @@
+//! The server: it listens, accepts clients, and hands out their requests to whoever asks.
+ghost use Rattle.std.specs.Prelude.{◌≡◌, Err, IsSome, IsErr};
+ghost use Rattle.httpdate.specs.Date.{unix_secs};
+ghost use Rattle.tiny_http.specs.Clock.{seconds_of};
+
+use crate::accepting::{Accepting, Message, Messages};
+use httpdate::HttpDate;
+use std::alloc::{AllocError, Global};
+use std::io::ErrorKind;
+use std::net::{Net, TcpListener, TcpStream, ToSocketAddrs};
+use std::os::unix::net::UnixStream;
+use std::path::{AsPath, Path, PathBuf};
+use std::sync::{Arc, Mutex, Wait};
+use std::thread::Threads;
+use std::time::{Clock, Duration};
+use std::{io, thread};
+use thiserror::Error;
+use tiny_http_request::request::Request;
+use tiny_http_socket::connection::{ConfigListenAddr, ListenAddr, Listener, SocketFiles};
+use tiny_http_socket::refined_tcp_stream::RefinedTcpStream;
+use tiny_http_threads::headcount::Headcount;
+use tiny_http_threads::messages_queue::MessagesQueue;
+use tiny_http_threads::task_pool::TaskPool;
+
+// So many messages the queue has room for at first.
+const QUEUE_ROOM: usize = 8;
+
+/// A request of a server's client.
+pub type ServerRequest<R> = Request<RefinedTcpStream, RefinedTcpStream, R>;
+
+/// Why no server is made.
+#[derive(Debug, Drop, Error)]
+pub enum ServerError {
+    /// It can't listen there, or the system has no thread for it.
+    #[error("{0}")]
+    Io(io::Error),
+    /// TLS was asked for, which isn't built.
+    #[error("Building a server with SSL requires enabling the `ssl` feature in tiny-http")]
+    Ssl,
+    /// Memory was refused.
+    #[error("out of memory")]
+    Memory,
+}
+
+impl From<io::Error> for ServerError {
+    ghost use Rattle.tiny_http.specs.ServerError.{IsServerErrorOf};
+
+    ghost from_gives = { IsServerErrorOf };
+
+    /// `Memory` of the kind `OutOfMemory`, and `Io` of each other one.
+    fn from(fault: io::Error) -> ServerError {
+        if fault.kind() == ErrorKind::OutOfMemory {
+            return ServerError::Memory;
+        }
+        ServerError::Io(fault)
+    }
+}
+
+/// What a server is made of.
+#[derive(Debug, Drop)]
+pub struct ServerConfig {
+    /// Where it is to listen.
+    pub addr: ConfigListenAddr,
+    /// What it is to encrypt by; none of it is built.
+    pub ssl: Option<SslConfig>,
+}
+
+/// What a server is to encrypt by.
+#[derive(Debug, Drop)]
+pub struct SslConfig {
+    /// The certificate that is sent to clients.
+    pub certificate: Vec<u8>,
+    /// The key to decrypt by.
+    pub private_key: Vec<u8>,
+}
+
+/// A server. Threads may share it, and each may ask for requests. Where it is dropped it accepts no further client, and the
+/// file of its Unix socket is removed. Clients that were accepted stay connected, and requests that were handed out can still be
+/// answered.
+pub struct Server<R: Net + SocketFiles + Wait + Drop> {
+    rt: R,
+    // Set where the server is dropped.
+    close: Arc<Mutex<bool>>,
+    messages: Arc<Messages<R>>,
+    connections: Arc<Mutex<Headcount>>,
+    listening_addr: ListenAddr,
+}
+
+impl<R> Server<R>
+where
+    R: Net<Listener = TcpListener, Stream = TcpStream>
+        + SocketFiles
+        + Clock
+        + Wait
+        + Threads
+        + Copy
+        + Send
+        + 'static,
+{
+    /// A server at the first of these addresses that can be bound. Errors as `new`, and where a host's name isn't found or the
+    /// text is no address.
+    pub fn http<A: ToSocketAddrs>(rt: R, alloc: Global, addr: A) -> Result<Server<R>, ServerError> {
+        let addr = ConfigListenAddr::from_socket_addrs(&rt, alloc, addr)?;
+        Server::new(rt, alloc, ServerConfig { addr, ssl: None })
+    }
+
+    /// A server at this path, at which it makes a file. Errors as `new`.
+    pub fn http_unix(rt: R, alloc: Global, path: Path<'_>) -> Result<Server<R>, ServerError> {
+        let path = PathBuf::from_str(alloc, path.path_text()).map_err(|_| ServerError::Memory)?;
+        let addr = ConfigListenAddr::unix_from_path(path);
+        Server::new(rt, alloc, ServerConfig { addr, ssl: None })
+    }
+
+    /// A server that listens as this says. `Io` where it can't listen there, and else as `from_listener`. Where no server is
+    /// made no file of a Unix socket is left.
+    pub fn new(rt: R, alloc: Global, config: ServerConfig) -> Result<Server<R>, ServerError>
+        ensures ssl { IsSome config.ssl → IsErr result }
+        ensures refused { result ≡ Err ServerError.Ssl → IsSome config.ssl }
+    {
+        let ServerConfig { addr, ssl } = config;
+        let listener = addr.bind(&rt)?;
+        let made = Server::from_listener(rt, alloc, listener, ssl);
+        if made.is_err()
+            && let ConfigListenAddr::Unix(path) = &addr
+        {
+            let _ = rt.remove_socket(path.as_path());
+        }
+        made
+    }
+
+    /// A server over this listening socket. `Ssl` where it is to encrypt; `Io` where the socket has no address, or the system
+    /// has no thread for the server; `Memory` where memory was refused.
+    pub fn from_listener(
+        rt: R,
+        alloc: Global,
+        listener: Listener,
+        ssl: Option<SslConfig>,
+    ) -> Result<Server<R>, ServerError>
+        ensures ssl { IsSome ssl → result ≡ Err ServerError.Ssl }
+        ensures refused { result ≡ Err ServerError.Ssl → IsSome ssl }
+    {
+        if ssl.is_some() {
+            return Err(ServerError::Ssl);
+        }
+        Ok(Server::over(rt, alloc, listener)?)
+    }
+
+    // A server over this listening socket.
+    fn over(rt: R, alloc: Global, listener: Listener) -> io::Result<Server<R>> {
+        let listening_addr = listener.local_addr()?;
+        let close = Arc::new(alloc, Mutex::new(false))?;
+        let messages = MessagesQueue::with_capacity(alloc, QUEUE_ROOM)?;
+        let connections = Arc::new(alloc, Mutex::new(Headcount::new()))?;
+        let accepting = Accepting {
+            rt,
+            alloc,
+            listener,
+            close: Arc::try_clone(&close)?,
+            messages: Arc::try_clone(&messages)?,
+            connections: Arc::try_clone(&connections)?,
+            pool: TaskPool::new(rt, alloc)?,
+        };
+        if thread::spawn(&rt, move || accepting.run()).is_err() {
+            return Err(ErrorKind::WouldBlock.into());
+        }
+        Ok(Server {
+            rt,
+            close,
+            messages,
+            connections,
+            listening_addr,
+        })
+    }
+}
+
+impl<R: Net + SocketFiles + Wait + Drop> Server<R> {
+    /// The requests, one after another.
+    pub fn incoming_requests(&self) -> IncomingRequests<'_, R> {
+        IncomingRequests { server: self }
+    }
+
+    /// The address at which it listens.
+    pub fn server_addr(&self) -> ListenAddr {
+        match self.listening_addr.clone() {
+            Ok(addr) => addr,
+            Err(_) => unreachable!(),
+        }
+    }
+
+    /// How many clients are connected, but for those of whom nothing more is read.
+    pub fn num_connections(&self) -> usize {
+        self.connections.lock(&self.rt).count()
+    }
+
+    /// Waits for a request. An error is the fault by which accepting ended, which one call reports, or of kind `Other` where
+    /// `unblock` was called.
+    pub fn recv(&self) -> io::Result<ServerRequest<R>> {
+        match Message::received(self.messages.pop(&self.rt))? {
+            Some(request) => Ok(request),
+            None => Err(ErrorKind::Other.into()),
+        }
+    }
+
+    /// A request, if one has come; it waits for none. None too where `unblock` was called. An error is the fault by which
+    /// accepting ended, which one call reports.
+    pub fn try_recv(&self) -> io::Result<Option<ServerRequest<R>>> {
+        Message::received(self.messages.try_pop(&self.rt))
+    }
+
+    /// Has one call that waits for a request, now or later, go on without one. An error where memory was refused.
+    pub fn unblock(&self) -> Result<(), AllocError> {
+        self.messages.unblock(&self.rt)
+    }
+}
+
+impl<R: Net + SocketFiles + Wait + Clock + Drop> Server<R> {
+    /// Waits for a request, for so long at most, and then reports none; less than a millisecond counts as nothing. Else as
+    /// `try_recv`.
+    pub fn recv_timeout(&self, timeout: Duration) -> io::Result<Option<ServerRequest<R>>> {
+        Message::received(self.messages.pop_timeout(&self.rt, timeout))
+    }
+}
+
+impl<R: Net + SocketFiles + Wait + Drop> Drop for Server<R> {
+    /// Ends accepting, for which it connects to itself once, and removes the file of a Unix socket.
+    fn drop(self) {
+        let Server {
+            rt,
+            close,
+            messages: _,
+            connections: _,
+            listening_addr,
+        } = self;
+        *close.lock(&rt) = true;
+        match &listening_addr {
+            ListenAddr::IP(addr) => drop(TcpStream::connect(&rt, *addr)),
+            ListenAddr::Unix(addr) => {
+                drop(UnixStream::connect_addr(&rt, addr));
+                if let Some(path) = addr.as_pathname() {
+                    let _ = rt.remove_socket(path);
+                }
+            }
+        }
+    }
+}
+
+/// The requests of a server.
+#[derive(Drop)]
+pub struct IncomingRequests<'a, R: Net + SocketFiles + Wait + Drop> {
+    server: &'a Server<R>,
+}
+
+impl<R: Net + SocketFiles + Wait + Drop> IncomingRequests<'_, R> {
+    /// Waits for the next request. None where accepting ended, or `unblock` was called.
+    pub fn next(&mut self) -> Option<ServerRequest<R>> {
+        self.server.recv().ok()
+    }
+}
+
+/// The date of the machine's clock, in whole seconds; that of second 0 where the clock can't be read, or stands before 1970 or
+/// after 9999.
+pub fn current_date<R: Clock>(rt: &R) -> HttpDate {
+    date_of(rt.since_1970().ok())
+}
+
+// The date of this time since 1970.
+fn date_of(time: Option<Duration>) -> HttpDate
+    ensures { unix_secs result ≡ seconds_of time }
+{
+    let seconds = time.map_or(0, |time| time.as_secs());
+    match HttpDate::from_unix_secs(seconds) {
+        Ok(date) => date,
+        Err(_) => epoch(),
+    }
+}
+
+// The date of second 0.
+fn epoch() -> HttpDate
+    ensures { unix_secs result ≡ 0 }
+{
+    match HttpDate::from_unix_secs(0) {
+        Ok(date) => date,
+        Err(_) => unreachable!(),
+    }
+}

@@ -1,0 +1,19 @@
+use Rattle.std.proofs.Common.{rules, ◌≡◌, sym, subst, Option, Some}
+use Rattle.tiny_http_device.specs.Device.{Feed}
+use Rattle.tiny_http_message.specs.declared.body.Body.{Body}
+use Rattle.tiny_http_message.specs.declared.framing.Framing.{Framing}
+use Rattle.tiny_http_message.specs.HeadReads.{Begins, head_framing}
+use Rattle.tiny_http_request.specs.Request.{request_head}
+use Rattle.tiny_http_request.proofs.request.new_request.Goals as goal
+
+-- a body begins by what is equal to its framing and its feed
+begins-by : (f f' : Framing) (feed feed' left : Option Feed) (b b' : Body) → f' ≡ f → feed' ≡ feed → b' ≡ b → Begins f feed left (Some b) → Begins f' feed' left (Some b')
+begins-by f f' feed feed' left b b' same-f same-feed same-b begins =
+    let F : Framing → Type 0 = λ x. Begins x feed' left (Some b') in
+    let O : Option Feed → Type 0 = λ x. Begins f x left (Some b') in
+    let B : Body → Type 0 = λ x. Begins f feed left (Some x) in
+    subst F (sym same-f) (subst O (sym same-feed) (subst B (sym same-b) begins))
+
+pub returns-clause-body : goal.returns-clause-body
+returns-clause-body g c =
+    (c.body_of.new.source.feed, begins-by c.in-Some.framing (head_framing (request_head c.from_parts.result)) c.new-source.result.feed (g.R.ReadDevice.feed c.args.source_data) c.body_of.new.source.feed c.in_ok-body.body c.from_parts.result.body (search rules) (search rules) (search rules) c.in_ok-body.ensures.begins)

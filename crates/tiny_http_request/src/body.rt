@@ -1,0 +1,143 @@
+//! The body of a request that a thread may read, while the connection reads on.
+ghost use Rattle.std.specs.Prelude.{◌≡◌, ◌≤◌, ◌<◌, ◌==◌, false, length, take, Option, is_some, Ok, Some, None, IfOk, IfErr, IfSome};
+ghost use Rattle.std.specs.IoError.{error_kind};
+ghost use Rattle.tiny_http_device.specs.Device.{AnswersStop, Feed, Reads};
+ghost use Rattle.tiny_http_device.specs.declared.device.Stop.TheVariants.{Fault};
+ghost use Rattle.tiny_http_message.specs.Body.{is_streaming, body_stop, ReadsOn, remaining, prepended_body};
+
+use crate::sequential::SequentialReader;
+use std::io;
+use std::io::{ErrorKind, Read};
+use std::marker::Model;
+use std::sync::Wait;
+use tiny_http_device::device::ReadDevice;
+use tiny_http_message::body::Body as Unread;
+use tiny_http_stream::source::Source;
+
+/// The body of a request. While bytes of it are to be read from the connection it holds the connection's input, and the next
+/// head waits: a counted body gives the input on with its last byte, a chunked one once a read has answered 0. A dropped body
+/// gives it on too; but after a chunked one whose end wasn't reported, and after one that is cut or broken, no head follows.
+///
+/// After its end each read answers 0. A fault, the client's or the body's own, is answered by each read from then on, and so is
+/// one of kind `Interrupted`. The standard library's `read_to_end` and `read_to_string` try again after that kind, without an
+/// end: where the client's reader may be interrupted use `read` or `read_exact`.
+pub struct Body<R: ReadDevice + Drop, Rt: Wait + Drop> {
+    unread: Unread,
+    reader: Option<SequentialReader<Source<R>, Rt>>,
+}
+
+impl<R: ReadDevice + Drop, Rt: Wait + Drop> Model for Body<R, Rt> {
+    ghost use Rattle.std.specs.Prelude.{◌≡◌, is_some};
+    ghost use Rattle.tiny_http_message.specs.declared.body.Body.{Body as Unread};
+    ghost use Rattle.tiny_http_message.specs.Body.{is_streaming};
+
+    ghost Value = { Unread };
+
+    ghost view = { λ b. b.unread };
+
+    // It holds the input exactly while it is read from there.
+    ghost invariant = { λ b. is_some b.reader ≡ is_streaming b.unread };
+}
+
+impl<R: ReadDevice + Drop, Rt: Wait + Drop> Body<R, Rt> {
+    /// A body that is read by this reader, if it is read from the input.
+    pub(crate) fn new(
+        unread: Unread,
+        reader: Option<SequentialReader<Source<R>, Rt>>,
+    ) -> Body<R, Rt>
+        requires { is_some reader ≡ is_streaming unread }
+        ensures { result ≡ unread }
+    {
+        Body { unread, reader }
+    }
+
+    // Reads some bytes into a buffer that has room.
+    fn read_some(&mut self, buf: &mut [u8]) -> Result<usize, io::Error>
+        requires room { 0 < length buf.old }
+        ensures bound { IfOk result (λ n. n ≤ length buf.new) }
+        ensures held { is_streaming self.old ≡ false → (feed : Option Feed)
+            → IfOk result (λ n. remaining self.old feed ≡ prepended_body (take n buf.new) (remaining self.new feed)) }
+        ensures moves { IfOk result (λ n. ReadsOn self.old n (n == 0) self.new) }
+        ensures broken { IfErr result (λ e. body_stop self.new ≡ Some (Fault (error_kind e))) }
+        ensures reports_stop { IfSome (body_stop self.old) (λ stop. AnswersStop stop result × (body_stop self.new ≡ Some stop)) }
+    {
+        let Some(reader) = &mut self.reader else {
+            return self.unread.read_held(buf);
+        };
+        let read = self.unread.read(reader.hold(), buf);
+        if !self.unread.holds_reader() {
+            drop(self.reader.take());
+        }
+        read
+    }
+}
+
+impl<R: ReadDevice + Drop, Rt: Wait + Drop> ReadDevice for Body<R, Rt> {
+    /// Reads some bytes of the body: 0 after its last one, or the fault by which it is cut or broken. After the end or a fault
+    /// each later read answers the same.
+    fn read_in(&mut self, buf: &mut [u8]) -> Result<usize, io::Error>
+        ensures reads { Reads None None result buf.new }
+        // The bytes of a body that was read with its head are the next of it, whatever the input still gives.
+        ensures held { is_streaming self.old ≡ false → (feed : Option Feed)
+            → IfOk result (λ n. remaining self.old feed ≡ prepended_body (take n buf.new) (remaining self.new feed)) }
+        ensures moves { IfOk result (λ n. 0 < length buf.new → ReadsOn self.old n (n == 0) self.new) }
+        ensures broken { IfErr result (λ e. body_stop self.new ≡ Some (Fault (error_kind e))) }
+        ensures reports_stop { IfSome (body_stop self.old) (λ stop. 0 < length buf.new → AnswersStop stop result × (body_stop self.new ≡ Some stop)) }
+        ensures empty { length buf.new ≡ 0 → (result ≡ Ok 0) × (self.new ≡ self.old) }
+    {
+        if buf.is_empty() {
+            return Ok(0);
+        }
+        self.read_some(buf)
+    }
+}
+
+// Reads until the buffer is full, or an end or a fault comes: the end as one of kind `UnexpectedEof`.
+fn read_whole<R: ReadDevice>(reader: &mut R, buf: &mut [u8]) -> io::Result<()> {
+    let mut at = 0;
+    while at < buf.len() {
+        let n = reader.read_in(&mut buf[at..])?;
+        if n == 0 {
+            return Err(ErrorKind::UnexpectedEof.into());
+        }
+        at += n;
+    }
+    Ok(())
+}
+
+impl<R: ReadDevice + Drop, Rt: Wait + Drop> Read for Body<R, Rt> {
+    /// Reads some bytes of the body, as `read_in`.
+    fn read(&mut self, buf: &mut [u8]) -> io::Result<usize>
+        ensures bound { IfOk result (λ n. n ≤ length buf.new) }
+        ensures held { is_streaming self.old ≡ false → (feed : Option Feed)
+            → IfOk result (λ n. remaining self.old feed ≡ prepended_body (take n buf.new) (remaining self.new feed)) }
+        ensures moves { IfOk result (λ n. 0 < length buf.new → ReadsOn self.old n (n == 0) self.new) }
+        ensures broken { IfErr result (λ e. body_stop self.new ≡ Some (Fault (error_kind e))) }
+        ensures reports_stop { IfSome (body_stop self.old) (λ stop. 0 < length buf.new → AnswersStop stop result × (body_stop self.new ≡ Some stop)) }
+        ensures empty { length buf.new ≡ 0 → (result ≡ Ok 0) × (self.new ≡ self.old) }
+    {
+        self.read_in(buf)
+    }
+
+    /// Fills the buffer. The first fault is the error, also one of kind `Interrupted`; a body that ends before is one of kind
+    /// `UnexpectedEof`.
+    fn read_exact(&mut self, buf: &mut [u8]) -> io::Result<()> {
+        read_whole(self, buf)
+    }
+}
+
+impl<R: ReadDevice + Drop, Rt: Wait + Drop> Drop for Body<R, Rt> {
+    /// Gives the body up.
+    fn drop(self) {
+        let Self {
+            mut unread,
+            mut reader,
+        } = self;
+        if let Some(reader) = &mut reader
+            && let Some(source) = reader.held()
+        {
+            unread.give_up(source);
+        }
+        drop(reader);
+    }
+}

@@ -1,0 +1,315 @@
+//! TCP and Unix sockets under one name, and their addresses.
+ghost use Rattle.std.specs.Prelude.{◌≡◌, IfOk};
+ghost use Rattle.tiny_http_socket.specs.Connection.{IsBoundAs, HasAddressOf, IsAcceptedBy, HasPeerOf, IsSameKind, IsCopyOf, ip_of, unix_of};
+
+use std::alloc::{AllocError, Global};
+use std::io::{Read, Write};
+use std::net::{Net, Shutdown, SocketAddr, TcpListener, TcpStream, ToSocketAddrs};
+use std::os::unix::net as unix_net;
+use std::path::{Path, PathBuf};
+use std::rt::Files;
+use std::{fmt, fs, io};
+
+/// What a server needs of the file system: the files of Unix sockets. Any runtime with files and sockets has it. It stands in
+/// bounds in place of `Files`, under which no generic code can share a server among threads.
+pub trait SocketFiles {
+    /// Listens at this path, at which it makes a file. The system's fault where it can't.
+    fn bind_unix(&self, path: Path<'_>) -> io::Result<unix_net::UnixListener>;
+
+    /// Removes the file at this path. The system's fault where it can't.
+    fn remove_socket(&self, path: Path<'_>) -> io::Result<()>;
+}
+
+impl<R: Files + Net> SocketFiles for R {
+    /// Listens by the system.
+    fn bind_unix(&self, path: Path<'_>) -> io::Result<unix_net::UnixListener> {
+        unix_net::UnixListener::bind(self, path)
+    }
+
+    /// Removes the file by the system.
+    fn remove_socket(&self, path: Path<'_>) -> io::Result<()> {
+        fs::remove_file(self, path)
+    }
+}
+
+/// A listening socket: a TCP one, or a Unix one.
+#[derive(Debug, Drop)]
+pub enum Listener {
+    /// One of an IP address and a port.
+    Tcp(TcpListener),
+    /// One of a path.
+    Unix(unix_net::UnixListener),
+}
+
+impl Listener {
+    /// The address that it is bound to. The system's fault, where it doesn't tell one.
+    pub fn local_addr(&self) -> io::Result<ListenAddr>
+        ensures { IfOk result (λ addr. HasAddressOf self.now addr) }
+    {
+        match self {
+            Listener::Tcp(listener) => Ok(ListenAddr::IP(listener.local_addr()?)),
+            Listener::Unix(listener) => Ok(ListenAddr::Unix(listener.local_addr()?)),
+        }
+    }
+
+    /// Waits for a client, and gives the connection to it, of the listener's kind, and the client's address, where it is a
+    /// TCP one. The system's fault, where it has no client to give.
+    pub fn accept(&self) -> io::Result<(Connection, Option<SocketAddr>)>
+        ensures { IfOk result (λ client. IsAcceptedBy self.now client.0 client.1) }
+    {
+        match self {
+            Listener::Tcp(listener) => {
+                let (stream, addr) = listener.accept()?;
+                Ok((Connection::Tcp(stream), Some(addr)))
+            }
+            Listener::Unix(listener) => {
+                let (stream, _) = listener.accept()?;
+                Ok((Connection::Unix(stream), None))
+            }
+        }
+    }
+}
+
+impl From<TcpListener> for Listener {
+    ghost use Rattle.tiny_http_socket.specs.declared.connection.Listener.TheVariants.{Tcp};
+
+    ghost from_gives = { λ listener result. result ≡ Tcp listener };
+
+    /// A TCP one.
+    fn from(listener: TcpListener) -> Listener {
+        Listener::Tcp(listener)
+    }
+}
+
+impl From<unix_net::UnixListener> for Listener {
+    ghost use Rattle.tiny_http_socket.specs.declared.connection.Listener.TheVariants.{Unix};
+
+    ghost from_gives = { λ listener result. result ≡ Unix listener };
+
+    /// A Unix one.
+    fn from(listener: unix_net::UnixListener) -> Listener {
+        Listener::Unix(listener)
+    }
+}
+
+/// A connection to a peer: a TCP one, or a Unix one.
+#[derive(Debug, Drop)]
+pub enum Connection {
+    /// One between two IP addresses and ports.
+    Tcp(TcpStream),
+    /// One over a path.
+    Unix(unix_net::UnixStream),
+}
+
+impl Connection {
+    /// The peer's address; none of a Unix one. The system's fault, where it no longer knows it.
+    pub fn peer_addr(&self) -> io::Result<Option<SocketAddr>>
+        ensures { IfOk result (λ addr. HasPeerOf self.now addr) }
+    {
+        match self {
+            Connection::Tcp(stream) => Ok(Some(stream.peer_addr()?)),
+            Connection::Unix(_) => Ok(None),
+        }
+    }
+
+    /// Closes one direction or both, for this and each other handle of the connection. The system's fault, where the peer has
+    /// gone.
+    pub fn shutdown(&self, how: Shutdown) -> io::Result<()> {
+        match self {
+            Connection::Tcp(stream) => stream.shutdown(how),
+            Connection::Unix(stream) => stream.shutdown(how),
+        }
+    }
+
+    /// Another handle of the same connection. The system's fault, where it has none left.
+    pub fn try_clone(&self) -> io::Result<Connection>
+        ensures { IfOk result (λ other. IsSameKind self.now other) }
+    {
+        match self {
+            Connection::Tcp(stream) => Ok(Connection::Tcp(stream.try_clone()?)),
+            Connection::Unix(stream) => Ok(Connection::Unix(stream.try_clone()?)),
+        }
+    }
+
+    /// Has TCP send each piece at once (TCP_NODELAY), or gather small ones. Nothing is done at a Unix one.
+    pub fn set_nodelay(&self, nodelay: bool) -> io::Result<()> {
+        match self {
+            Connection::Tcp(stream) => stream.set_nodelay(nodelay),
+            Connection::Unix(_) => Ok(()),
+        }
+    }
+}
+
+impl Read for Connection {
+    /// Reads once: 0 at the end of what the peer sends.
+    fn read(&mut self, buf: &mut [u8]) -> io::Result<usize> {
+        match self {
+            Connection::Tcp(stream) => stream.read(buf),
+            Connection::Unix(stream) => stream.read(buf),
+        }
+    }
+}
+
+impl Write for Connection {
+    /// Writes once.
+    fn write(&mut self, buf: &[u8]) -> io::Result<usize> {
+        match self {
+            Connection::Tcp(stream) => stream.write(buf),
+            Connection::Unix(stream) => stream.write(buf),
+        }
+    }
+
+    /// Nothing is held back.
+    fn flush(&mut self) -> io::Result<()> {
+        Ok(())
+    }
+}
+
+impl From<TcpStream> for Connection {
+    ghost use Rattle.tiny_http_socket.specs.declared.connection.Connection.TheVariants.{Tcp};
+
+    ghost from_gives = { λ stream result. result ≡ Tcp stream };
+
+    /// A TCP one.
+    fn from(stream: TcpStream) -> Connection {
+        Connection::Tcp(stream)
+    }
+}
+
+impl From<unix_net::UnixStream> for Connection {
+    ghost use Rattle.tiny_http_socket.specs.declared.connection.Connection.TheVariants.{Unix};
+
+    ghost from_gives = { λ stream result. result ≡ Unix stream };
+
+    /// A Unix one.
+    fn from(stream: unix_net::UnixStream) -> Connection {
+        Connection::Unix(stream)
+    }
+}
+
+/// Where a server is to listen.
+#[derive(Debug, Drop)]
+pub enum ConfigListenAddr {
+    /// At the first of these addresses that can be bound.
+    IP(Vec<SocketAddr>),
+    /// At this path.
+    Unix(PathBuf),
+}
+
+impl ConfigListenAddr {
+    /// The addresses that these stand for. An error where a host's name isn't found or the text is no address, and of kind
+    /// `OutOfMemory` where memory was refused.
+    pub fn from_socket_addrs<R: Net, A: ToSocketAddrs>(
+        rt: &R,
+        alloc: Global,
+        addrs: A,
+    ) -> io::Result<ConfigListenAddr> {
+        let found = addrs.to_socket_addrs(rt)?;
+        Ok(ConfigListenAddr::IP(found.collect(alloc)?))
+    }
+
+    /// This path.
+    pub fn unix_from_path(path: PathBuf) -> ConfigListenAddr
+        ensures { result ≡ ConfigListenAddr.Unix path }
+    {
+        ConfigListenAddr::Unix(path)
+    }
+
+    /// A copy. An error where memory was refused.
+    pub fn try_clone(&self) -> Result<ConfigListenAddr, AllocError>
+        ensures { IfOk result (λ copy. IsCopyOf self.now copy) }
+    {
+        match self {
+            ConfigListenAddr::IP(addrs) => {
+                let copy = addrs.as_slice().to_vec(*addrs.allocator())?;
+                Ok(ConfigListenAddr::IP(copy))
+            }
+            ConfigListenAddr::Unix(path) => Ok(ConfigListenAddr::Unix(path.clone()?)),
+        }
+    }
+
+    /// Listens there: at the first address that can be bound, or at the path, at which it makes a file. The system's fault
+    /// where it can't: the last address's, or of kind `InvalidInput` where there is no address or the path is too long.
+    pub fn bind<R: Net<Listener = TcpListener, Stream = TcpStream> + SocketFiles>(
+        &self,
+        rt: &R,
+    ) -> io::Result<Listener>
+        ensures { IfOk result (λ listener. IsBoundAs self.now listener) }
+    {
+        match self {
+            ConfigListenAddr::IP(addrs) => {
+                Ok(Listener::Tcp(TcpListener::bind(rt, addrs.as_slice())?))
+            }
+            ConfigListenAddr::Unix(path) => {
+                Ok(Listener::Unix(SocketFiles::bind_unix(rt, path.as_path())?))
+            }
+        }
+    }
+}
+
+/// The address at which a server listens.
+#[derive(Clone, Debug, Drop)]
+pub enum ListenAddr {
+    /// An IP address and a port.
+    IP(SocketAddr),
+    /// The address of a Unix socket.
+    Unix(unix_net::SocketAddr),
+}
+
+impl ListenAddr {
+    /// The IP address and port; none of a Unix socket.
+    pub fn to_ip(self) -> Option<SocketAddr>
+        ensures { result ≡ ip_of self }
+    {
+        match self {
+            ListenAddr::IP(addr) => Some(addr),
+            ListenAddr::Unix(_) => None,
+        }
+    }
+
+    /// The address of a Unix socket; none of another.
+    pub fn to_unix(self) -> Option<unix_net::SocketAddr>
+        ensures { result ≡ unix_of self }
+    {
+        match self {
+            ListenAddr::IP(_) => None,
+            ListenAddr::Unix(addr) => Some(addr),
+        }
+    }
+}
+
+impl From<SocketAddr> for ListenAddr {
+    ghost use Rattle.tiny_http_socket.specs.declared.connection.ListenAddr.TheVariants.{IP};
+
+    ghost from_gives = { λ addr result. result ≡ IP addr };
+
+    /// An IP address and a port.
+    fn from(addr: SocketAddr) -> ListenAddr {
+        ListenAddr::IP(addr)
+    }
+}
+
+impl From<unix_net::SocketAddr> for ListenAddr {
+    ghost use Rattle.tiny_http_socket.specs.declared.connection.ListenAddr.TheVariants.{Unix};
+
+    ghost from_gives = { λ addr result. result ≡ Unix addr };
+
+    /// The address of a Unix socket.
+    fn from(addr: unix_net::SocketAddr) -> ListenAddr {
+        ListenAddr::Unix(addr)
+    }
+}
+
+impl fmt::Display for ListenAddr {
+    ghost use Rattle.tiny_http_socket.specs.Connection.{address_text};
+
+    ghost output = { address_text };
+
+    /// Writes the IP address and the port, or the debug text of a Unix socket's address.
+    fn fmt<W: fmt::Write>(&self, f: &mut fmt::Formatter<W>) -> fmt::Result {
+        match self {
+            ListenAddr::IP(addr) => fmt::Display::fmt(addr, f),
+            ListenAddr::Unix(addr) => fmt::Debug::fmt(addr, f),
+        }
+    }
+}

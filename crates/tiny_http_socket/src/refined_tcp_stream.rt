@@ -1,0 +1,202 @@
+//! The two halves of a client's connection. A half that is dropped closes its direction.
+ghost use Rattle.std.specs.Prelude.{◌≡◌, ◌<◌, ◌≤◌, [], length, Ok, None, Some, OnOk, IfOk, IfErr, false, IsOk};
+ghost use Rattle.std.specs.IoError.{error_kind};
+ghost use Rattle.tiny_http_device.specs.Device.{next_count};
+ghost use Rattle.tiny_http_socket.specs.Stream.{shutdown_of};
+
+use crate::connection::Connection;
+use std::io;
+use std::io::{ErrorKind, Read, Write};
+use std::net::{Shutdown, SocketAddr};
+use tiny_http_device::device::{ReadDevice, WriteDevice};
+
+/// A direction of a connection.
+#[derive(Clone, Copy, Debug, PartialEq, Eq)]
+enum Half {
+    /// From the client.
+    Reading,
+    /// To the client.
+    Writing,
+}
+
+impl Half {
+    // What closes this direction alone.
+    fn shutdown(self) -> Shutdown
+        ensures { result ≡ shutdown_of self }
+    {
+        match self {
+            Half::Reading => Shutdown::Read,
+            Half::Writing => Shutdown::Write,
+        }
+    }
+}
+
+/// A half of a client's connection. Where it is dropped it closes its direction: the other half is as it was. It reads and
+/// writes the connection itself; as a `ReadDevice` it states no feed, and as a `WriteDevice` it counts its failures and states
+/// no bytes.
+pub struct RefinedTcpStream {
+    connection: Connection,
+    half: Half,
+    failures: u64,
+    last: Option<ErrorKind>,
+}
+
+impl RefinedTcpStream {
+    ghost use Rattle.tiny_http_socket.specs.Stream.{IsReadingHalf, IsWritingHalf, stream_sink, HasSamePeer};
+
+    /// The reading half of a connection, and its writing half. The system's fault where the connection can't be doubled; it is
+    /// closed then.
+    pub fn new(connection: Connection) -> io::Result<(RefinedTcpStream, RefinedTcpStream)>
+        ensures { IfOk result (λ halves. IsReadingHalf connection halves.0 × IsWritingHalf connection halves.1) }
+    {
+        let other = connection.try_clone()?;
+        Ok((
+            RefinedTcpStream::of(other, Half::Reading),
+            RefinedTcpStream::of(connection, Half::Writing),
+        ))
+    }
+
+    // A half that has not failed.
+    fn of(connection: Connection, half: Half) -> RefinedTcpStream
+        ensures { result ≡ record { connection = connection; half = half; failures = 0; last = None } }
+    {
+        RefinedTcpStream {
+            connection,
+            half,
+            failures: 0,
+            last: None,
+        }
+    }
+
+    /// Whether the connection is encrypted. None is.
+    pub fn secure(&self) -> bool
+        ensures { result ≡ false }
+    {
+        false
+    }
+
+    /// The client's address; none of a Unix one. The system's fault, where it no longer knows it.
+    pub fn peer_addr(&self) -> io::Result<Option<SocketAddr>>
+        ensures { IfOk result (λ addr. HasSamePeer self.now addr) }
+    {
+        self.connection.peer_addr()
+    }
+
+    // Counts a failure of this kind.
+    fn count(&mut self, kind: ErrorKind)
+        ensures { self.new ≡ record self.old { failures = next_count self.old.failures; last = Some kind } }
+    {
+        self.failures = self.failures.saturating_add(1);
+        self.last = Some(kind);
+    }
+}
+
+impl Drop for RefinedTcpStream {
+    /// Closes its direction. What the system answers is passed over.
+    fn drop(self) {
+        let RefinedTcpStream {
+            connection,
+            half,
+            failures: _,
+            last: _,
+        } = self;
+        let _ = connection.shutdown(half.shutdown());
+    }
+}
+
+// Reads once. A call that a signal interrupts is made again.
+fn read_once(connection: &mut Connection, buf: &mut [u8]) -> io::Result<usize>
+    ensures { IfOk result (λ n. n ≤ length buf.new) }
+{
+    for _ in 0..u64::MAX {
+        match connection.read(buf) {
+            Err(fault) if fault.kind() == ErrorKind::Interrupted => {}
+            read => return read,
+        }
+    }
+    Err(ErrorKind::Interrupted.into())
+}
+
+// Writes once. A call that a signal interrupts is made again.
+fn write_once(connection: &mut Connection, buf: &[u8]) -> io::Result<usize>
+    ensures { IfOk result (λ n. n ≤ length buf.now) }
+{
+    for _ in 0..u64::MAX {
+        match connection.write(buf) {
+            Err(fault) if fault.kind() == ErrorKind::Interrupted => {}
+            written => return written,
+        }
+    }
+    Err(ErrorKind::Interrupted.into())
+}
+
+impl Read for RefinedTcpStream {
+    /// Reads once, as `read_in`.
+    fn read(&mut self, buf: &mut [u8]) -> io::Result<usize> {
+        self.read_in(buf)
+    }
+}
+
+impl Write for RefinedTcpStream {
+    /// Writes once, as `write_out`.
+    fn write(&mut self, buf: &[u8]) -> io::Result<usize> {
+        self.write_out(buf)
+    }
+
+    /// Nothing is held back.
+    fn flush(&mut self) -> io::Result<()> {
+        Ok(())
+    }
+}
+
+impl ReadDevice for RefinedTcpStream {
+    /// Reads once from the client, and not at all into an empty buffer: 0 at the end of what the client sends. A call that a
+    /// signal interrupts is made again.
+    fn read_in(&mut self, buf: &mut [u8]) -> Result<usize, io::Error> {
+        if buf.is_empty() {
+            return Ok(0);
+        }
+        read_once(&mut self.connection, buf)
+    }
+}
+
+impl WriteDevice for RefinedTcpStream {
+    ghost use Rattle.tiny_http_device.specs.Device.{Puts, PutsFront, HoldsNothing};
+    ghost use Rattle.tiny_http_socket.specs.Stream.{stream_sink};
+
+    ghost sink = { stream_sink };
+
+    /// The count.
+    fn failures(&self) -> u64 {
+        self.failures
+    }
+
+    /// Writes once to the client, and not at all from an empty buffer. That no byte is taken is a fault of kind `WriteZero`. A
+    /// call that a signal interrupts is made again.
+    fn write_out(&mut self, buf: &[u8]) -> Result<usize, io::Error>
+        ensures puts { PutsFront (stream_sink self.old) (stream_sink self.new) result buf.now }
+        ensures empty { length buf.now ≡ 0 → (result ≡ Ok 0) × (self.new ≡ self.old) }
+    {
+        if buf.is_empty() {
+            return Ok(0);
+        }
+        let written = match write_once(&mut self.connection, buf) {
+            Ok(0) => Err(ErrorKind::WriteZero.into()),
+            written => written,
+        };
+        if let Err(e) = &written {
+            self.count(e.kind());
+        }
+        written
+    }
+
+    /// Nothing is held back.
+    fn flush_out(&mut self) -> Result<(), io::Error>
+        ensures puts { Puts (stream_sink self.old) (stream_sink self.new) result [] }
+        ensures sent { OnOk result ((stream_sink self.new).has_ended ≡ false → HoldsNothing (stream_sink self.new)) }
+        ensures ok { IsOk result }
+        ensures unchanged { self.new ≡ self.old }
+    {
+        Ok(())
+    }
+}
