@@ -19,7 +19,3 @@ pub mod SeenLemmas
 pub mod ConversationRuns
 pub mod DrivingLemmas
 pub mod ConversationReadingRows
-pub mod ClientReadingRows
-pub mod ClientReadingLines
-pub mod ClientAnswerLemmas
-pub mod ClientAnswerLaws

@@ -7,8 +7,6 @@ pub mod Connection
 pub mod Driving
 pub mod Asking
 pub mod ConversationReading
-pub mod ClientAnswer
-pub mod ClientReading
 pub use Rattle.tiny_http_stream.specs.ToCome
 pub use Rattle.tiny_http_stream.specs.Input
 pub use Rattle.tiny_http_stream.specs.Source
@@ -33,3 +31,8 @@ pub use Rattle.tiny_http_message.specs.HeadReads
 pub use Rattle.tiny_http_turns.specs.Turns
 pub use Rattle.tiny_http_turns.specs.TurnsCalls
 pub use Rattle.tiny_http_turns.specs.TurnsLaw
+pub use Rattle.tiny_http_answer.specs.ClientAnswer
+pub use Rattle.tiny_http_answer.specs.ClientReading
+pub use Rattle.tiny_http_answer.specs.ClientText
+pub use Rattle.tiny_http_answer.specs.SentTexts
+pub use Rattle.tiny_http_answer.specs.AnswerParts

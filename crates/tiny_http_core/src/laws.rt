@@ -1,26 +1,7 @@
 //! Laws of the definitions, each the contract of a function that does nothing.
-ghost use Rattle.std.specs.Prelude.{◌≡◌, ◌⊎◌, ℕ, List, MatchResult};
-ghost use Rattle.tiny_http_wire.specs.declared.common.Method.{Method};
-ghost use Rattle.tiny_http_core.specs.ClientAnswer.{ClientAnswer, ReadsAnswer, LacksAnswer, UnfinishedAnswer, MalformedAnswer, ReadsAnswers};
-ghost use Rattle.tiny_http_core.specs.ClientReading.{answer_read};
-
+pub use tiny_http_answer::laws::{
+    fronts_are_unfinished, one_client_answer, one_list_of_client_answers, sent_texts_are_read,
+    text_is_read_back,
+};
 pub use tiny_http_message::laws::one_pipeline;
 pub use tiny_http_turns::laws::turns_pass_in_order;
-
-/// All bytes begin with an answer to a request of the method, or end before it does, or break a rule
-/// of the client's grammar: one of the three. There is one answer, and one rest after it. The plain
-/// reading finds which.
-pub fn one_client_answer()
-    ensures some { (method : Method) (bytes : List ℕ) → ((answer : ClientAnswer) × (rest : List ℕ) × ReadsAnswer method bytes answer rest) ⊎ (UnfinishedAnswer method bytes ⊎ MalformedAnswer method bytes) }
-    ensures one { (method : Method) (bytes : List ℕ) (answer other : ClientAnswer) (rest remainder : List ℕ) → ReadsAnswer method bytes answer rest → ReadsAnswer method bytes other remainder → (answer ≡ other) × (rest ≡ remainder) }
-    ensures not_unfinished { (method : Method) (bytes : List ℕ) (answer : ClientAnswer) (rest : List ℕ) → ReadsAnswer method bytes answer rest → UnfinishedAnswer method bytes → ⊥ }
-    ensures not_malformed { (method : Method) (bytes : List ℕ) (answer : ClientAnswer) (rest : List ℕ) → ReadsAnswer method bytes answer rest → MalformedAnswer method bytes → ⊥ }
-    ensures not_both { (method : Method) (bytes : List ℕ) → UnfinishedAnswer method bytes → MalformedAnswer method bytes → ⊥ }
-    ensures computed { (method : Method) (bytes : List ℕ) → MatchResult (answer_read method bytes) (λ a. ReadsAnswer method bytes a.0 a.1) (LacksAnswer method bytes) }
-{}
-
-/// All bytes are one list of answers to requests of these methods, in their order, and one rest.
-pub fn one_list_of_client_answers()
-    ensures some { (methods : List Method) (bytes : List ℕ) → (answers : List ClientAnswer) × (rest : List ℕ) × ReadsAnswers methods bytes answers rest }
-    ensures one { (methods : List Method) (bytes : List ℕ) (answers others : List ClientAnswer) (rest remainder : List ℕ) → ReadsAnswers methods bytes answers rest → ReadsAnswers methods bytes others remainder → (answers ≡ others) × (rest ≡ remainder) }
-{}

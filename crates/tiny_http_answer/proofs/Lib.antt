@@ -1,0 +1,15 @@
+pub mod ClientReadingRows
+pub mod ClientReadingLines
+pub mod ClientAnswerLemmas
+pub mod ClientAnswerLaws
+pub mod RestLemmas
+pub mod HeadLemmas
+pub mod PartsLemmas
+pub mod ChunksReading
+pub mod PlainLemmas
+pub mod SentChunks
+pub mod PrintedLemmas
+pub mod TextLaw
+pub mod FrontLemmas
+pub mod BrokenLemmas
+pub mod SentTextsLemmas

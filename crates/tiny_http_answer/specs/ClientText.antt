@@ -1,0 +1,82 @@
+-- What a client is to read of an answer's text: its printed headers and its sent body.
+use Rattle.std.specs.Prelude.{◌≡◌, ℕ, ◌<◌, ◌≤◌, ◌^◌, Bool, false, List, [], ◌∷◌, ◌++◌, length, take, Option, Some, None, codes, decimal, if◌then◌else◌, IsTrue}
+use Rattle.std.specs.List.{AllByRecursion}
+use Rattle.httpdate.specs.Date.{date_text}
+use Rattle.httpdate.specs.declared.date.HttpDate.{HttpDate}
+use Rattle.tiny_http_wire.specs.declared.common.Header.{Header}
+use Rattle.tiny_http_wire.specs.declared.common.Method.{Method}
+use Rattle.tiny_http_wire.specs.declared.coding.Coding.{Coding}
+use Rattle.tiny_http_wire.specs.declared.coding.Coding.TheVariants.{Identity, Chunked}
+use Rattle.tiny_http_wire.specs.declared.coding.FramingHeader.{FramingHeader}
+use Rattle.tiny_http_wire.specs.declared.coding.FramingHeader.TheVariants.{Neither, TransferEncoding, ContentLength}
+use Rattle.tiny_http_wire.specs.Bytes.{is_blank, AreAscii, HasNo, HasNoBlank, has_bare_front, has_bare_end, colon}
+use Rattle.tiny_http_wire.specs.Device.{Feed}
+use Rattle.tiny_http_wire.specs.Lines.{has_crlf}
+use Rattle.tiny_http_wire.specs.Answer.{Answer, Printing, has_header, is_withheld, answer_coding}
+use Rattle.tiny_http_answer.specs.ClientAnswer.{ClientAnswer, is_head}
+
+-- A header that is read back as it is printed: its name has no white space and no colon, its value is trimmed and has no
+-- CR LF, and both are ASCII.
+pub record IsReadable (header : Header) : Type 0 where
+  pub ascii_field : AreAscii header.field
+  pub ascii_value : AreAscii header.value
+  pub no_blank : HasNoBlank header.field
+  pub no_colon : HasNo colon header.field
+  pub bare_front : IsTrue (has_bare_front is_blank header.value)
+  pub bare_end : IsTrue (has_bare_end is_blank header.value)
+  pub one_line : has_crlf header.value ≡ false
+
+-- the headers of an answer without upgrade, in their printed order
+abbrev pub server_header : List Header → List Header
+server_header headers = if has_header headers (codes "Server") then [] else record { field = codes "Server"; value = codes "tiny-http (Rust)" } ∷ []
+
+abbrev pub date_header : List Header → HttpDate → List Header
+date_header headers date = if has_header headers (codes "Date") then [] else record { field = codes "Date"; value = date_text date } ∷ []
+
+abbrev pub framing_header : FramingHeader → List Header
+framing_header Neither = []
+framing_header TransferEncoding = record { field = codes "Transfer-Encoding"; value = codes "chunked" } ∷ []
+framing_header (ContentLength n) = record { field = codes "Content-Length"; value = decimal n } ∷ []
+
+unfoldable pub printed_headers : List Header → HttpDate → FramingHeader → List Header
+printed_headers headers date framing = server_header headers ++ (date_header headers date ++ (headers ++ framing_header framing))
+
+-- the length that the head of an answer without upgrade states, where it states one
+abbrev pub stated_length : Option ℕ → Feed → ℕ
+stated_length None feed = length feed.bytes
+stated_length (Some n) feed = n
+
+abbrev pub framing_of : Coding → Option ℕ → Feed → FramingHeader
+framing_of Chunked length feed = TransferEncoding
+framing_of Identity length feed = ContentLength (stated_length length feed)
+
+-- the data that is sent, where a body is sent
+abbrev pub sent_data : Coding → Option ℕ → Feed → List ℕ
+sent_data Chunked length feed = feed.bytes
+sent_data Identity None feed = feed.bytes
+sent_data Identity (Some n) feed = take n feed.bytes
+
+abbrev pub sent_body : Coding → Option ℕ → Feed → Bool → List ℕ
+sent_body coding length feed withheld = if withheld then [] else sent_data coding length feed
+
+-- version, status, printed headers and sent body of an answer
+abbrev pub received_answer : Answer → Feed → Printing → ClientAnswer
+received_answer a feed p =
+    record {
+      head = record { version = p.version; status = a.status; headers = printed_headers a.headers p.date (framing_of (answer_coding a p) a.data_length feed) };
+      body = sent_body (answer_coding a p) a.data_length feed (is_withheld p.no_body a.status);
+    }
+
+-- An answer without upgrade to a request of this method, that a client reads back.
+pub record IsReadableAnswer (method : Method) (a : Answer) (feed : Feed) (p : Printing) : Type 0 where
+  pub no_upgrade : p.upgrade ≡ None
+  pub same_method : p.no_body ≡ is_head method
+  pub final : 200 ≤ a.status
+  pub status_fits : a.status ≤ 65535
+  pub major_fits : p.version.0 ≤ 255
+  pub minor_fits : p.version.1 ≤ 255
+  pub length_fits : stated_length a.data_length feed < 2 ^ 64
+  pub readable : AllByRecursion IsReadable a.headers
+  -- what a response's list never holds
+  pub no_coding : has_header a.headers (codes "Transfer-Encoding") ≡ false
+  pub no_length : has_header a.headers (codes "Content-Length") ≡ false

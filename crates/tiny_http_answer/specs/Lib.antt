@@ -1,0 +1,5 @@
+pub mod ClientAnswer
+pub mod ClientReading
+pub mod AnswerParts
+pub mod ClientText
+pub mod SentTexts

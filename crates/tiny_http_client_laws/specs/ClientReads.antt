@@ -1,0 +1,77 @@
+-- What a client reads of a connection's output.
+use Rattle.std.specs.Prelude.{◌≡◌, ℕ, ◌<◌, ◌≤◌, ◌^◌, false, List, ◌++◌, map, Option, Some, None, if◌then◌else◌, codes, ⊤}
+use Rattle.std.specs.List.{AllByRecursion}
+use Rattle.tiny_http_wire.specs.declared.common.Method.{Method}
+use Rattle.tiny_http_wire.specs.declared.common.Method.TheVariants.{Get, Head}
+use Rattle.tiny_http_wire.specs.Device.{Sink}
+use Rattle.tiny_http_wire.specs.Answer.{Printing, has_header}
+use Rattle.tiny_http_wire.specs.Text.{Ending, Whole, Broken}
+use Rattle.tiny_http_message.specs.Pipeline.{Item, Asks, Refuses}
+use Rattle.tiny_http_sending.specs.ResponseValue.{ResponseValue}
+use Rattle.tiny_http_core.specs.Slots.{Slot, Stage, Unanswered, Answered, ByServer, Raw, Upgraded, printing_for, server_response, stage_text, segment}
+use Rattle.tiny_http_answer.specs.ClientAnswer.{ClientAnswer, ReadsAnswers}
+use Rattle.tiny_http_answer.specs.ClientText.{IsReadable, stated_length, received_answer}
+use Rattle.tiny_http_answer.specs.SentTexts.{SentText, methods, StandIn}
+
+-- the method as whose answer a number's text is read: a refused head counts as a GET, the 505 of a HEAD as a HEAD
+abbrev pub counts_as : Item → Method
+counts_as (Asks r) = r.message.method
+counts_as (Refuses refusal version no_body last) = if no_body then Head else Get
+
+-- A response that a client can read: its status is 200 or more, and its headers are readable. The other facts hold of each
+-- response of the program: status and length fit their types, and its list holds no Transfer-Encoding and no Content-Length.
+pub record CanBeRead (r : ResponseValue) : Type 0 where
+  pub final : 200 ≤ r.answer.status
+  pub readable : AllByRecursion IsReadable r.answer.headers
+  pub status_fits : r.answer.status ≤ 65535
+  pub length_fits : stated_length r.answer.data_length r.content < 2 ^ 64
+  pub no_coding : has_header r.answer.headers (codes "Transfer-Encoding") ≡ false
+  pub no_length : has_header r.answer.headers (codes "Content-Length") ≡ false
+
+-- The number was finished by a response that can be read, or by the server: a refused head, a drop, a refused upgrade. Or it
+-- isn't answered yet.
+abbrev pub IsReadableStage : Stage → Type 0
+IsReadableStage Unanswered = ⊤
+IsReadableStage (Answered response date found) = CanBeRead response
+IsReadableStage ByServer = ⊤
+IsReadableStage (Raw written closed) = ⊥
+IsReadableStage (Upgraded protocol response date written closed) = ⊥
+
+abbrev pub CanBeReadAt : Slot → Type 0
+CanBeReadAt s = IsReadableStage s.stage
+
+-- the answer that a response is read as, where its text is whole
+abbrev pub answer_if_whole : Ending → ResponseValue → Printing → Option ClientAnswer
+answer_if_whole Whole r p = Some (received_answer r.answer r.content p)
+answer_if_whole (Broken kind) r p = None
+
+-- the response that answers a number, and how it is printed
+abbrev pub stage_answer : Slot → Stage → Option ClientAnswer
+stage_answer s Unanswered = None
+stage_answer s (Answered response date found) = answer_if_whole (stage_text s.item s.date s.stage).ending response (printing_for s.item date)
+stage_answer s ByServer = answer_if_whole (stage_text s.item s.date s.stage).ending (server_response s.item) (printing_for s.item s.date)
+stage_answer s (Raw written closed) = None
+stage_answer s (Upgraded protocol response date written closed) = None
+
+-- a number's text, as a client is to read it
+abbrev pub sent_text : Slot → SentText
+sent_text s = record { method = counts_as s.item; text = segment s; answer = stage_answer s s.stage }
+
+abbrev pub sent_texts : List Slot → List SentText
+sent_texts slots = map sent_text slots
+
+-- what a writer took and what is held after it
+abbrev pub IsOutputOf : Sink → List ℕ → List ℕ → Type 0
+IsOutputOf sink held out = (taken : List ℕ) × (sink.taken ≡ Some taken) × (out ≡ taken ++ held)
+
+-- A CLIENT READS the output as the answers of these numbers, in their order: those whose text stands in it to its end. What
+-- remains is nothing, or an unfinished front of the next number's text.
+pub record ReadsNumbers (slots : List Slot) (out : List ℕ) : Type 0 where
+  pub answers : List ClientAnswer
+  pub rest : List ℕ
+  pub reads : ReadsAnswers (methods (sent_texts slots)) out answers rest
+  pub stand : StandIn (sent_texts slots) out answers rest
+
+-- each of these numbers has this answer
+abbrev pub HaveAnswers : List Slot → List ClientAnswer → Type 0
+HaveAnswers slots answers = map (λ s. stage_answer s s.stage) slots ≡ map (λ a. Some a) answers
