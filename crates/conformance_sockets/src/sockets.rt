@@ -4,10 +4,11 @@ use std::io::{ErrorKind, Read, Write};
 use std::net::{TcpListener, TcpStream};
 use std::os::unix::net::UnixStream;
 use std::test::Fail;
+use tiny_http::client::ClientConnection;
 use tiny_http::connection::{Connection, ListenAddr, Listener};
 use tiny_http::device::{ReadDevice, WriteDevice};
 use tiny_http::refined_tcp_stream::RefinedTcpStream;
-use tiny_http::server::{client_of, current_date};
+use tiny_http::server::current_date;
 
 #[test]
 fn a_half_closes_its_direction_alone(rt: HostRuntime) -> Result<(), Fail> {
@@ -82,7 +83,7 @@ fn a_client_over_two_halves(rt: HostRuntime) -> Result<(), Fail> {
     let (ours, mut theirs) = UnixStream::pair(&rt)?;
     theirs.write_all(b"GET /a HTTP/1.1\r\nConnection: close\r\n\r\n")?;
     let (reader, writer) = RefinedTcpStream::new(Connection::from(ours))?;
-    let mut client = client_of(rt, alloc, writer, reader)?;
+    let mut client = ClientConnection::new(rt, alloc, writer, reader)?;
     assert!(rt; !client.secure());
     let now = current_date(&rt);
     let Some(request) = client.next(now)? else {

@@ -10,7 +10,8 @@ pub use crate::server::{
     IncomingRequests, Server, ServerConfig, ServerError, ServerRequest, SslConfig, current_date,
 };
 pub use tiny_http_core::{
-    custom_stream, driver, equal_reader, exchange, fused_reader, outlet, source, turns, upgrading,
+    answer, custom_stream, driver, equal_reader, exchange, fused_reader, outlet, source, turns,
+    upgrading,
 };
 pub use tiny_http_request::{client, request, sequential, test};
 pub use tiny_http_socket::{connection, refined_tcp_stream};

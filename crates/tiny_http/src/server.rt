@@ -1,15 +1,13 @@
 //! The server: it listens, accepts clients, and hands out their requests to whoever asks.
-ghost use Rattle.std.specs.Prelude.{◌≡◌, false, Err, IsSome, IsErr, IfOk};
+ghost use Rattle.std.specs.Prelude.{◌≡◌, Err, IsSome, IsErr};
 ghost use Rattle.httpdate.specs.Date.{unix_secs};
-ghost use Rattle.tiny_http_socket.specs.Stream.{MayHavePeer};
-ghost use Rattle.tiny_http_request.specs.Client.{IsOver, client_secure, client_address};
 ghost use Rattle.tiny_http.specs.Clock.{seconds_of};
 
 use crate::accepting::{Accepting, Message, Messages};
 use httpdate::HttpDate;
 use std::alloc::{AllocError, Global};
 use std::io::ErrorKind;
-use std::net::{Net, SocketAddr, TcpListener, TcpStream, ToSocketAddrs};
+use std::net::{Net, TcpListener, TcpStream, ToSocketAddrs};
 use std::os::unix::net::UnixStream;
 use std::path::{AsPath, Path, PathBuf};
 use std::sync::{Arc, Mutex, Wait};
@@ -17,7 +15,6 @@ use std::thread::Threads;
 use std::time::{Clock, Duration};
 use std::{io, thread};
 use thiserror::Error;
-use tiny_http_request::client::ClientConnection;
 use tiny_http_request::request::Request;
 use tiny_http_socket::connection::{ConfigListenAddr, ListenAddr, Listener, SocketFiles};
 use tiny_http_socket::refined_tcp_stream::RefinedTcpStream;
@@ -257,34 +254,6 @@ impl<R: Net + SocketFiles + Wait + Drop> IncomingRequests<'_, R> {
     /// Waits for the next request. None where accepting ended, or `unblock` was called.
     pub fn next(&mut self) -> Option<ServerRequest<R>> {
         self.server.recv().ok()
-    }
-}
-
-/// The connection of a client over the two halves of its socket. Its requests say the client's address as the reading half does,
-/// and none where the system no longer knows it. An error where memory was refused. In the Rust crate it is
-/// `ClientConnection::new`.
-pub fn client_of<R: Wait + Copy>(
-    rt: R,
-    alloc: Global,
-    write_socket: RefinedTcpStream,
-    read_socket: RefinedTcpStream,
-) -> Result<ClientConnection<RefinedTcpStream, RefinedTcpStream, R>, AllocError>
-    ensures secure { IfOk result (λ client. client_secure client ≡ false) }
-    ensures address { IfOk result (λ client. MayHavePeer read_socket (client_address client)) }
-    ensures open { IfOk result (λ client. IsOver client → ⊥) }
-{
-    let remote_addr = peer_if_known(&read_socket);
-    let secure = read_socket.secure();
-    ClientConnection::over(rt, alloc, write_socket, read_socket, remote_addr, secure)
-}
-
-// The client's address, where there is one and the system knows it.
-fn peer_if_known(socket: &RefinedTcpStream) -> Option<SocketAddr>
-    ensures { MayHavePeer socket.now result }
-{
-    match socket.peer_addr() {
-        Ok(addr) => addr,
-        Err(_) => None,
     }
 }
 

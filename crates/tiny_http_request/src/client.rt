@@ -3,6 +3,7 @@ ghost use Rattle.std.specs.Prelude.{◌≡◌, true, false, Ok, None, Some, IfOk
 ghost use Rattle.tiny_http_message.specs.Exchange.{exchange_of, KeepsHead};
 ghost use Rattle.tiny_http_message.specs.Framing.{framing};
 ghost use Rattle.tiny_http_message.specs.HeadReads.{head_framing, IsFramedRequest};
+ghost use Rattle.tiny_http_socket.specs.Stream.{MayHavePeer};
 ghost use Rattle.tiny_http_request.specs.Request.{request_head, request_secure, request_address, request_waiting};
 
 use crate::request::Request;
@@ -29,9 +30,20 @@ pub struct ClientConnection<R: ReadDevice + Drop, W: WriteDevice + Drop, Rt: Wai
     next_head: Option<SequentialReader<Source<R>, Rt>>,
 }
 
+// The client's address, where there is one and the system knows it.
+fn peer_if_known(socket: &RefinedTcpStream) -> Option<SocketAddr>
+    ensures { MayHavePeer socket.now result }
+{
+    match socket.peer_addr() {
+        Ok(addr) => addr,
+        Err(_) => None,
+    }
+}
+
 impl<Rt: Wait + Copy> ClientConnection<RefinedTcpStream, RefinedTcpStream, Rt> {
     ghost use Rattle.std.specs.Prelude.{◌≡◌, false, IfOk};
-    ghost use Rattle.tiny_http_request.specs.Client.{IsOver, client_secure};
+    ghost use Rattle.tiny_http_socket.specs.Stream.{MayHavePeer};
+    ghost use Rattle.tiny_http_request.specs.Client.{IsOver, client_secure, client_address};
 
     /// A connection over the two halves of a client's socket, on which nothing was read yet. Its requests say the client's
     /// address; none of a Unix socket, or where the system no longer knows it. An error where memory was refused.
@@ -42,9 +54,10 @@ impl<Rt: Wait + Copy> ClientConnection<RefinedTcpStream, RefinedTcpStream, Rt> {
         read_socket: RefinedTcpStream,
     ) -> Result<ClientConnection<RefinedTcpStream, RefinedTcpStream, Rt>, AllocError>
         ensures secure { IfOk result (λ c. client_secure c ≡ false) }
+        ensures address { IfOk result (λ c. MayHavePeer read_socket (client_address c)) }
         ensures open { IfOk result (λ c. IsOver c → ⊥) }
     {
-        let remote_addr = read_socket.peer_addr().unwrap_or(None);
+        let remote_addr = peer_if_known(&read_socket);
         let secure = read_socket.secure();
         ClientConnection::over(rt, alloc, write_socket, read_socket, remote_addr, secure)
     }
