@@ -1,11 +1,12 @@
 //! What an outlet holds and sends.
 use crate::same::{assert_holds, assert_same};
 use std::alloc::Global;
+use std::io;
 use std::io::{ErrorKind, Write};
 use std::process::Abort;
 use std::test::Fail;
 use tiny_http_core::outlet::Outlet;
-use tiny_http_wire::device::{Budget, WriteDevice};
+use tiny_http_wire::device::{Budget, Metered, WriteDevice};
 
 fn outlet_of(alloc: Global, room: usize) -> Outlet<Budget> {
     Outlet::new(Budget::new(alloc, room, ErrorKind::Other))
@@ -61,6 +62,37 @@ fn what_does_not_fit_is_sent(rt: HostRuntime) -> Result<(), Fail> {
         let bytes = bytes_of(rt.alloc(), length)?;
         assert_written(&rt, rt.alloc(), bytes.as_slice())?;
     }
+    Ok(())
+}
+
+// A writer that notes the length of each write.
+#[derive(Drop)]
+struct Lengths(Vec<usize>);
+
+impl Write for Lengths {
+    fn write(&mut self, buf: &[u8]) -> io::Result<usize> {
+        self.0.push(buf.len())?;
+        Ok(buf.len())
+    }
+
+    fn flush(&mut self) -> io::Result<()> {
+        Ok(())
+    }
+}
+
+// What is held is filled up and sent first; what would fill the empty buffer goes past it.
+#[test]
+fn what_would_fill_it_goes_past_it(rt: HostRuntime) -> Result<(), Fail> {
+    let bytes = bytes_of(rt.alloc(), 8192)?;
+    let bytes = bytes.as_slice();
+    let mut outlet = Outlet::new(Metered::new(Lengths(Vec::new(rt.alloc()))));
+    outlet.write(bytes)?;
+    outlet.write(b"head")?;
+    outlet.write(bytes)?;
+    outlet.write(bytes.get(..1023).unwrap_or_default())?;
+    outlet.flush()?;
+    let Lengths(lengths) = outlet.into_inner().into_inner();
+    assert_same(&rt, lengths.as_slice(), &[8192, 1024, 7172, 1023]);
     Ok(())
 }
 

@@ -4,7 +4,8 @@ use Rattle.tiny_http_wire.specs.declared.common.Method.{Method}
 use Rattle.tiny_http_wire.specs.Device.{IsFront}
 use Rattle.tiny_http_answer.specs.ClientAnswer.{ClientAnswer, ReadsAnswer, UnfinishedAnswer}
 
--- the text under one number: for which method it counts, and the answer that it is, or None where it breaks off
+-- the text under one number: for which method it counts, and the answer that it is, or None where it breaks off or isn't
+-- answered yet
 pub record SentText : Type 0 where
   pub method : Method
   pub text : List ℕ

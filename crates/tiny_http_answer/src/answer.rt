@@ -26,7 +26,7 @@ pub struct Answer {
 /// Why no answer is read.
 #[derive(Clone, Copy, Debug, PartialEq, Eq, Error)]
 pub enum AnswerFault {
-    /// The bytes break a rule of the grammar, however they go on.
+    /// The bytes break a rule of the grammar.
     #[error("malformed")]
     Malformed,
     /// There is no memory for the answer.
@@ -82,14 +82,16 @@ fn read_whole(alloc: Global, method: &Method, rest: &mut Rest<'_>) -> Result<Ans
 /// up to an empty line. Each has a name without white space (bytes 9 to 13 and 32), its first colon, exactly one space, and
 /// the value as it stands. No body follows an answer to a `HEAD`, a 204 and a 304. Else, where some `Transfer-Encoding`
 /// is `chunked`, the body is chunked, as `chunked::Decoding` reads it. Else it has as many bytes as the first
-/// `Content-Length` says: one decimal digit or more, at most 18446744073709551615.
+/// `Content-Length` says: one decimal digit or more, at most 18446744073709551615. Case doesn't matter in these two names and
+/// in `chunked`.
 ///
 /// `None` where the bytes end before the answer does, and no rule is broken so far. An unfinished line breaks none.
 ///
 /// # Errors
-/// `Malformed` where a finished line of a head breaks a rule, where the head states no length, and where the chunked body is
-/// `InvalidData`. `Memory` where there is no memory for the headers or the body. (RFC 9112, sections 2.2, 4, 5, 6.3 and 7.1;
-/// it is no part of the original crate.)
+/// `Malformed` where a finished line of a head breaks a rule, where a body has to follow and its head says neither `chunked`
+/// nor a length that is one, and where the chunked body is `InvalidData`. `Memory` where there is no memory for the headers of
+/// a head, one that is passed over included, or for the body. (RFC 9112, sections 2.2, 4, 5, 6.3 and 7.1; it is no part of the
+/// original crate.)
 pub fn read_answer(
     alloc: Global,
     method: &Method,

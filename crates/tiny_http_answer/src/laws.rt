@@ -29,8 +29,9 @@ pub fn one_list_of_client_answers()
     ensures one { (methods : List Method) (bytes : List ℕ) (answers others : List ClientAnswer) (rest remainder : List ℕ) → ReadsAnswers methods bytes answers rest → ReadsAnswers methods bytes others remainder → (answers ≡ others) × (rest ≡ remainder) }
 {}
 
-/// The whole text of an answer without upgrade, of a status from 200 on, is read back, whatever follows it: its version,
-/// status, printed headers and sent body, and exactly the text is taken.
+/// The whole text of an answer without upgrade, of a status from 200 on, is read back as the answer to the method that it was
+/// printed for, whatever follows it: its version, status, printed headers and sent body, and exactly the text is taken. The
+/// names and values of its headers have to be readable, and its numbers to fit their types (`IsReadableAnswer`).
 pub fn text_is_read_back()
     ensures { (method : Method) (answer : Answer) (feed : Feed) (printing : Printing) (rest : List ℕ) → IsReadableAnswer method answer feed printing → (text_of answer feed printing).ending ≡ Whole
         → ReadsAnswer method ((text_of answer feed printing).bytes ++ rest) (received_answer answer feed printing) rest }

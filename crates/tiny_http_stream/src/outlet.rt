@@ -2,7 +2,7 @@
 ghost use Rattle.std.specs.Prelude.{◌≡◌, ◌≤◌, true, false, [], length, Ok, OnOk, OnErr};
 ghost use Rattle.tiny_http_device.specs.Device.{BeginsKnown, HoldsNothing, Puts, PutsFront};
 
-use crate::buffer::Buffer;
+use crate::buffer::{Buffer, CAPACITY};
 use std::io;
 use std::io::Write;
 use std::marker::Model;
@@ -72,6 +72,37 @@ impl<W: WriteDevice> Outlet<W> {
         }
     }
 
+    // Hands bytes to the writer itself, where none are held.
+    fn pass(&mut self, buf: &[u8]) -> Result<usize, io::Error>
+        requires open { self.old.ended ≡ false }
+        requires none { self.old.held ≡ [] }
+        ensures puts { PutsFront (output_of self.old) (output_of self.new) result buf.now }
+        ensures ended { OnErr result (self.new.ended ≡ true) }
+        ensures open { OnOk result (self.new.ended ≡ false) }
+    {
+        match self.inner.write_out(buf) {
+            Ok(n) => Ok(n),
+            Err(e) => {
+                self.ended = true;
+                Err(e)
+            }
+        }
+    }
+
+    // Takes some bytes where none are held. Those that would fill the buffer go past it.
+    fn take_first(&mut self, buf: &[u8]) -> Result<usize, io::Error>
+        requires open { self.old.ended ≡ false }
+        requires none { self.old.held ≡ [] }
+        ensures puts { PutsFront (output_of self.old) (output_of self.new) result buf.now }
+        ensures ended { OnErr result (self.new.ended ≡ true) }
+        ensures open { OnOk result (self.new.ended ≡ false) }
+    {
+        if buf.len() >= CAPACITY {
+            return self.pass(buf);
+        }
+        Ok(self.held.append(buf))
+    }
+
     // Takes some bytes, at least one if there is one.
     fn take_some(&mut self, buf: &[u8]) -> Result<usize, io::Error>
         ensures puts { PutsFront (output_of self.old) (output_of self.new) result buf.now }
@@ -82,6 +113,9 @@ impl<W: WriteDevice> Outlet<W> {
         if self.ended {
             return Ok(buf.len());
         }
+        if self.held.is_empty() {
+            return self.take_first(buf);
+        }
         let n = self.held.append(buf);
         if n > 0 || buf.is_empty() {
             return Ok(n);
@@ -89,7 +123,7 @@ impl<W: WriteDevice> Outlet<W> {
         if let Err(e) = self.send() {
             return Err(e);
         }
-        Ok(self.held.append(buf))
+        self.take_first(buf)
     }
 
     /// Takes all the bytes, and sends what doesn't fit into the buffer. After the outlet has ended it takes none and
