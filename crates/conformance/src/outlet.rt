@@ -92,7 +92,8 @@ fn what_would_fill_it_goes_past_it(rt: HostRuntime) -> Result<(), Fail> {
     outlet.write(bytes.get(..1023).unwrap_or_default())?;
     outlet.flush()?;
     let Lengths(lengths) = outlet.into_inner().into_inner();
-    assert_same(&rt, lengths.as_slice(), &[8192, 1024, 7172, 1023]);
+    let wanted: &[usize] = &[8192, 1024, 7172, 1023];
+    assert_same(&rt, lengths.as_slice(), wanted);
     Ok(())
 }
 
