@@ -55,6 +55,14 @@ fn length_of<D: ReadDevice>(body: &mut D, buf: &mut [u8]) -> io::Result<u64> {
     Err(ErrorKind::Other.into())
 }
 
+// Whether a body ended before the length that its head says: the end of the input is no fault there.
+fn is_cut(length: Option<usize>, count: u64) -> bool {
+    match length {
+        Some(length) => count < length as u64,
+        None => false,
+    }
+}
+
 // Answers a request by the length of its body. One whose body is cut or broken, or for whose answer there is no memory, is
 // dropped.
 fn answer_length<R: Clock + Wait + Drop>(
@@ -66,6 +74,9 @@ fn answer_length<R: Clock + Wait + Drop>(
     let Ok(count) = length_of(request.as_reader(current_date(rt)), buf) else {
         return;
     };
+    if is_cut(request.body_length(), count) {
+        return;
+    }
     let Ok(text) = format!(in alloc; "{count}") else {
         return;
     };
