@@ -4,19 +4,9 @@
 //! by the same in chunks. Any other request is answered 404.
 #![tactic(auto)]
 
-ghost use Rattle.std.specs.Prelude.{◌≡◌, ◌≤◌, ◌<◌, ◌⊎◌, length};
-ghost use Rattle.bodies.specs.BodiesFault.{exit_status};
-
-mod fault;
-#[cfg(test)]
-mod tests;
-
-use crate::fault::BodiesFault;
 use std::alloc::Global;
 use std::io::{ErrorKind, Read, Repeat, Take, Write};
 use std::net::{Net, TcpListener, TcpStream};
-use std::process::ExitCode;
-use std::rt::Env;
 use std::sync::Wait;
 use std::thread::Threads;
 use std::time::Clock;
@@ -123,6 +113,7 @@ fn answer_all<
         answer(rt, alloc, &mut buf, request);
     }
 }
+
 // Answers all requests of a server, by two threads.
 fn answer_by_two<R>(rt: &R, alloc: Global, server: &Server<R>)
 where
@@ -161,92 +152,18 @@ where
     );
 }
 
-// Listens at the address that the one word names, and answers all requests.
-fn bodies<'a, R, O: Write>(
-    rt: R,
-    alloc: Global,
-    words: &'a [String],
-    out: &mut O,
-) -> Result<(), BodiesFault<'a>>
-where
-    R: Net<Listener = TcpListener, Stream = TcpStream>
-        + SocketFiles
-        + Clock
-        + Wait
-        + Threads
-        + Copy
-        + Send
-        + Sync
-        + 'static,
-{
-    let [address] = words else {
-        return Err(BodiesFault::Usage);
+fn main(rt: HostRuntime) -> io::Result<()> {
+    let words: Vec<String> = env::args(&rt)?.collect(rt.alloc())?;
+    let [_, address] = words.as_slice() else {
+        return Err(ErrorKind::InvalidInput.into());
     };
-    let address = address.as_str();
-    let Ok(server) = Server::http(rt, alloc, address) else {
-        return Err(BodiesFault::CannotListen(address));
+    let Ok(server) = Server::http(rt, rt.alloc(), address.as_str()) else {
+        return Err(ErrorKind::AddrNotAvailable.into());
     };
     let bound = server.server_addr();
-    let _ = writeln!(out, "listening on {bound}");
-    let _ = out.flush();
-    answer_by_four(&rt, alloc, &server);
-    Ok(())
-}
-
-// Reports a fault by a line, and gives the exit status that reports it.
-fn report<E: Write>(fault: &BodiesFault<'_>, err: &mut E) -> u8
-    ensures { result ≡ exit_status fault.now }
-{
-    let _ = writeln!(err, "bodies: {fault}");
-    fault.status()
-}
-
-/// Listens at the address that the one word names, says so on `out`, and answers every request as above until there
-/// are no more. Gives the exit status: 0; or 2 where there isn't one word, and 1 where it can't listen there, which a line on
-/// `err` says.
-pub fn bodies_on<R, O: Write, E: Write>(
-    rt: R,
-    alloc: Global,
-    words: &[String],
-    out: &mut O,
-    err: &mut E,
-) -> u8
-where
-    R: Net<Listener = TcpListener, Stream = TcpStream>
-        + SocketFiles
-        + Clock
-        + Wait
-        + Threads
-        + Copy
-        + Send
-        + Sync
-        + 'static,
-{
-    match bodies(rt, alloc, words, out) {
-        Ok(()) => 0,
-        Err(fault) => report(&fault, err),
-    }
-}
-
-// The words of the command line, the program's name first. One that isn't UTF-8 is no address.
-fn words<R: Env + AllocGlobal>(rt: &R) -> Result<Vec<String>, BodiesFault<'static>> {
-    match env::args(rt) {
-        Ok(words) => match words.collect(rt.alloc()) {
-            Ok(words) => Ok(words),
-            Err(_) => Err(BodiesFault::OutOfMemory),
-        },
-        Err(fault) if fault.kind() == ErrorKind::OutOfMemory => Err(BodiesFault::OutOfMemory),
-        Err(_) => Err(BodiesFault::Usage),
-    }
-}
-
-fn main(rt: HostRuntime) -> ExitCode {
     let mut out = rt.stdout();
-    let mut err = rt.stderr();
-    let words = match words(&rt) {
-        Ok(words) => words,
-        Err(fault) => return ExitCode::from(report(&fault, &mut err)),
-    };
-    let words = words.as_slice().get(1..).unwrap_or(&[]);
-    ExitCode::from(bodies_on(rt, rt.alloc(), words, &mut out, &mut err))
+    writeln!(out, "listening on {bound}")?;
+    out.flush()?;
+    answer_by_four(&rt, rt.alloc(), &server);
+    Ok(())
 }

@@ -54,8 +54,8 @@ where
     Ok((server, client))
 }
 
-// Reads once, for a number of turns at most.
-fn read_once<S: Read>(stream: &mut S, buf: &mut [u8]) -> io::Result<usize> {
+/// Reads once, for a number of turns at most.
+pub fn read_once<S: Read>(stream: &mut S, buf: &mut [u8]) -> io::Result<usize> {
     for _ in 0..TURNS {
         match stream.read(buf) {
             Err(e) if e.kind() == ErrorKind::WouldBlock => {}
@@ -63,6 +63,21 @@ fn read_once<S: Read>(stream: &mut S, buf: &mut [u8]) -> io::Result<usize> {
         }
     }
     Err(ErrorKind::TimedOut.into())
+}
+
+/// Whether so many clients are connected, within a number of turns.
+pub fn has_clients<R: Net + SocketFiles + Clock + Wait + Drop>(
+    rt: &R,
+    server: &Server<R>,
+    count: usize,
+) -> bool {
+    for _ in 0..TURNS {
+        if server.num_connections() == count {
+            return true;
+        }
+        turn(rt);
+    }
+    false
 }
 
 // Reads until so many bytes are there, or the end.

@@ -6,6 +6,8 @@ mod bench;
 #[cfg(test)]
 mod bodies;
 #[cfg(test)]
+mod closing;
+#[cfg(test)]
 mod network;
 #[cfg(test)]
 mod pipelines;

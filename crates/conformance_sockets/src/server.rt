@@ -1,5 +1,8 @@
 //! The calls of a server.
-use crate::bench::{DATED, TURNS, assert_reads, connect, one_server_one_client, respond, turn};
+use crate::bench::{
+    DATED, TURNS, assert_reads, connect, has_clients, one_server_one_client, read_all, respond,
+    turn,
+};
 use httpdate::HttpDate;
 use std::alloc::Global;
 use std::io::{ErrorKind, Write};
@@ -9,8 +12,9 @@ use std::path::{Path, PathBuf};
 use std::rt::Files;
 use std::sync::Wait;
 use std::test::Fail;
+use std::thread::Threads;
 use std::time::{Clock, Duration};
-use std::{fs, io};
+use std::{fs, io, thread};
 use tiny_http::connection::{ConfigListenAddr, Listener, SocketFiles};
 use tiny_http::server::{Server, ServerConfig, ServerError, SslConfig, current_date};
 
@@ -62,6 +66,19 @@ fn a_path_is_bound_once(rt: HostRuntime) -> Result<(), Fail> {
     let addr = format!(in alloc; "{}", server.server_addr())?;
     let want = format!(in alloc; "\"{}\" (pathname)", path.as_path().display())?;
     assert_eq!(rt; addr, want);
+    // The path is bound before TLS is looked at.
+    let config = ServerConfig {
+        addr: ConfigListenAddr::unix_from_path(path.clone()?),
+        ssl: Some(SslConfig {
+            certificate: Vec::new(alloc),
+            private_key: Vec::new(alloc),
+        }),
+    };
+    let Err(ServerError::Io(fault)) = Server::new(rt, alloc, config) else {
+        return Err(Fail::new("a third server"));
+    };
+    assert_eq!(rt; fault.kind(), ErrorKind::AddrInUse);
+    assert!(rt; is_there(&rt, path.as_path()));
     drop(server);
     assert!(rt; !is_there(&rt, path.as_path()));
     Ok(())
@@ -82,6 +99,63 @@ fn an_unblocked_call_reports_none(rt: HostRuntime) -> Result<(), Fail> {
     server.unblock()?;
     assert!(rt; server.incoming_requests().next().is_none());
     assert!(rt; server.recv_timeout(Duration::from_millis(2))?.is_none());
+    Ok(())
+}
+
+// A mark is for one call: the next one gives the request that comes.
+#[test]
+fn a_mark_unblocks_one_call(rt: HostRuntime) -> Result<(), Fail> {
+    let (server, mut client) = one_server_one_client(rt, rt.alloc())?;
+    server.unblock()?;
+    assert!(rt; server.recv().is_err());
+    client.write_all(b"GET /a HTTP/1.1\r\n\r\n")?;
+    assert_eq!(rt; server.recv()?.url(), "/a");
+    Ok(())
+}
+
+// Sends a request after a while.
+fn send_late<R: Clock, S: Write>(rt: &R, client: &mut S) -> bool {
+    for _ in 0..50u8 {
+        turn(rt);
+    }
+    client.write_all(b"GET / HTTP/1.1\r\n\r\n").is_ok()
+}
+
+// Each call waits for a request that comes while it waits.
+#[test]
+fn calls_wait_for_a_request(rt: HostRuntime) -> Result<(), Fail> {
+    let (server, mut client) = one_server_one_client(rt, rt.alloc())?;
+    let (sent, timed) = thread::join(
+        &rt,
+        || send_late(&rt, &mut client),
+        || server.recv_timeout(Duration::from_secs(10)),
+    );
+    assert!(rt; sent);
+    assert!(rt; timed?.is_some());
+    let (sent, next) = thread::join(
+        &rt,
+        || send_late(&rt, &mut client),
+        || server.incoming_requests().next(),
+    );
+    assert!(rt; sent);
+    assert!(rt; next.is_some());
+    Ok(())
+}
+
+// The 500 of a dropped request has the time at which its head was waited for.
+#[test]
+fn a_dropped_request_has_its_date(rt: HostRuntime) -> Result<(), Fail> {
+    let alloc = rt.alloc();
+    let before = current_date(&rt);
+    let (server, mut client) = one_server_one_client(rt, alloc)?;
+    client.write_all(b"GET / HTTP/1.1\r\nConnection: close\r\n\r\n")?;
+    drop(server.recv()?);
+    let answer = read_all(alloc, &mut client)?;
+    let after = current_date(&rt);
+    let front = "HTTP/1.1 500 Internal Server Error\r\nServer: tiny-http (Rust)\r\nDate: ".len();
+    let date = answer.as_slice().get(front..front + 29).unwrap_or_default();
+    let date = HttpDate::parse_ascii(date)?;
+    assert!(rt; before.unix_secs() <= date.unix_secs() && date.unix_secs() <= after.unix_secs());
     Ok(())
 }
 
@@ -106,21 +180,6 @@ fn each_call_gives_a_request(rt: HostRuntime) -> Result<(), Fail> {
     Ok(())
 }
 
-// Whether so many clients are connected, within a number of turns.
-fn has_clients<R: Net + SocketFiles + Clock + Wait + Drop>(
-    rt: &R,
-    server: &Server<R>,
-    count: usize,
-) -> bool {
-    for _ in 0..TURNS {
-        if server.num_connections() == count {
-            return true;
-        }
-        turn(rt);
-    }
-    false
-}
-
 #[test]
 fn clients_are_counted(rt: HostRuntime) -> Result<(), Fail> {
     let alloc = rt.alloc();
@@ -135,44 +194,82 @@ fn clients_are_counted(rt: HostRuntime) -> Result<(), Fail> {
     Ok(())
 }
 
-// A socket that doesn't wait has no client to give.
+// A client whose last request isn't answered counts.
 #[test]
-fn a_fault_of_accepting_is_reported_once(rt: HostRuntime) -> Result<(), Fail> {
+fn a_client_counts_until_it_is_answered(rt: HostRuntime) -> Result<(), Fail> {
     let alloc = rt.alloc();
-    let listener = TcpListener::bind(&rt, "127.0.0.1:0")?;
-    listener.set_nonblocking(true)?;
-    let server = Server::from_listener(rt, alloc, Listener::from(listener), None)?;
-    let Err(fault) = server.recv() else {
-        return Err(Fail::new("a request"));
-    };
-    assert_eq!(rt; fault.kind(), ErrorKind::WouldBlock);
-    assert!(rt; server.try_recv()?.is_none());
+    let (server, mut client) = one_server_one_client(rt, alloc)?;
+    client.write_all(b"GET / HTTP/1.1\r\nConnection: close\r\n\r\n")?;
+    let request = server.recv()?;
+    for _ in 0..20u8 {
+        turn(&rt);
+    }
+    assert_eq!(rt; server.num_connections(), 1);
+    assert!(rt; respond(&rt, alloc, request, "a"));
+    read_all(alloc, &mut client)?;
+    drop(client);
+    assert!(rt; has_clients(&rt, &server, 0));
     Ok(())
 }
 
-// Whether no client is accepted at this address any more, within a number of turns.
-fn is_closed<R: Net<Listener = TcpListener, Stream = TcpStream> + Clock>(
+// A server whose socket doesn't wait: it has no client to give.
+fn broken_server<R>(rt: R, alloc: Global) -> Result<Server<R>, Fail>
+where
+    R: Net<Listener = TcpListener, Stream = TcpStream>
+        + SocketFiles
+        + Clock
+        + Wait
+        + Threads
+        + Copy
+        + Send
+        + 'static,
+{
+    let listener = TcpListener::bind(&rt, "127.0.0.1:0")?;
+    listener.set_nonblocking(true)?;
+    let listener = Listener::from(listener);
+    Ok(Server::from_listener(rt, alloc, listener, None)?)
+}
+
+// The kind of fault that `try_recv` reports, within a number of turns.
+fn fault_tried<R: Net + SocketFiles + Clock + Wait + Drop>(
     rt: &R,
-    addr: std::net::SocketAddr,
-) -> bool {
+    server: &Server<R>,
+) -> Option<ErrorKind> {
     for _ in 0..TURNS {
-        if TcpStream::connect(rt, addr).is_err() {
-            return true;
+        if let Err(fault) = server.try_recv() {
+            return Some(fault.kind());
         }
         turn(rt);
     }
-    false
+    None
 }
 
 #[test]
-fn clients_outlive_their_server(rt: HostRuntime) -> Result<(), Fail> {
+fn a_fault_of_accepting_is_reported_once(rt: HostRuntime) -> Result<(), Fail> {
+    let waiting = broken_server(rt, rt.alloc())?;
+    let Err(fault) = waiting.recv() else {
+        return Err(Fail::new("a request"));
+    };
+    assert_eq!(rt; fault.kind(), ErrorKind::WouldBlock);
+    assert!(rt; waiting.try_recv()?.is_none());
+    let trying = broken_server(rt, rt.alloc())?;
+    assert_eq!(rt; fault_tried(&rt, &trying), Some(ErrorKind::WouldBlock));
+    let timed = broken_server(rt, rt.alloc())?;
+    let Err(fault) = timed.recv_timeout(Duration::from_secs(10)) else {
+        return Err(Fail::new("no fault"));
+    };
+    assert_eq!(rt; fault.kind(), ErrorKind::WouldBlock);
+    assert!(rt; timed.recv_timeout(Duration::from_millis(2))?.is_none());
+    Ok(())
+}
+
+#[test]
+fn a_request_outlives_its_server(rt: HostRuntime) -> Result<(), Fail> {
     let alloc = rt.alloc();
     let (server, mut client) = one_server_one_client(rt, alloc)?;
-    let addr = server.server_addr().to_ip().ok_or("no TCP")?;
     client.write_all(b"GET / HTTP/1.1\r\nConnection: close\r\n\r\n")?;
     let request = server.recv()?;
     drop(server);
-    assert!(rt; is_closed(&rt, addr));
     assert!(rt; respond(&rt, alloc, request, "a"));
     let rest = "Content-Type: text/plain; charset=UTF-8\r\nContent-Length: 1\r\n\r\na";
     assert_reads(

@@ -5,16 +5,26 @@ ghost use Rattle.tiny_http.specs.Message.{received};
 use crate::server::{ServerRequest, current_date};
 use std::alloc::Global;
 use std::io;
-use std::net::SocketAddr;
+use std::io::Read;
+use std::net::{Shutdown, SocketAddr};
+use std::sync::atomic::{AtomicBool, Ordering};
 use std::sync::{Arc, Mutex, Wait};
 use std::thread::Threads;
-use std::time::Clock;
+use std::time::{Clock, Duration};
 use tiny_http_request::client::ClientConnection;
 use tiny_http_socket::connection::{Connection, Listener};
 use tiny_http_socket::refined_tcp_stream::RefinedTcpStream;
 use tiny_http_threads::headcount::Headcount;
 use tiny_http_threads::messages_queue::MessagesQueue;
 use tiny_http_threads::task_pool::{Job, TaskPool};
+
+// So many milliseconds a read waits for a client that was sent the end of the answers.
+const LINGER_MILLIS: u64 = 500;
+
+// So many bytes one such read asks for, and so many reads there are at most: 64 MiB in all.
+const LINGER_PIECE: usize = 16_384;
+
+const LINGER_READS: u32 = 4_096;
 
 /// What waits in a server's queue.
 #[derive(Drop)]
@@ -66,19 +76,43 @@ impl<R: Wait + Drop> Drop for Presence<R> {
     }
 }
 
+// Closes a connection in stages, once all is answered (RFC 9112, section 9.6): sends the end, and then reads away what the
+// client still sends, until it closes, waits for too long or sends too much. A connection that is closed while bytes are unread
+// is reset, and the client may lose the last answer.
+fn close_in_stages(socket: &mut Connection) {
+    let _ = socket.shutdown(Shutdown::Write);
+    if socket
+        .set_read_timeout(Duration::from_millis(LINGER_MILLIS))
+        .is_err()
+    {
+        return;
+    }
+    let mut away = [0u8; LINGER_PIECE];
+    for _ in 0..LINGER_READS {
+        match socket.read(&mut away) {
+            Ok(0) | Err(_) => return,
+            Ok(_) => {}
+        }
+    }
+}
+
 /// A client that was accepted. It is closed where it is dropped, but for the requests that are held.
 #[derive(Drop)]
 pub(crate) struct Client<R: Wait + Drop> {
     rt: R,
+    close: Arc<AtomicBool>,
     messages: Arc<Messages<R>>,
     connection: ClientConnection<RefinedTcpStream, RefinedTcpStream, R>,
+    // One more handle of the connection, to close it by.
+    socket: Connection,
     // It counts until the connection is let go.
     presence: Presence<R>,
 }
 
-impl<R: Wait + Clock + Copy> Job for Client<R> {
-    /// Puts its requests into the queue, until it has no further one. One for which the queue has no room is dropped.
-    fn run(&mut self) {
+impl<R: Wait + Clock + Copy> Client<R> {
+    // Puts its requests into the queue, until it has no further one. One for which the queue has no room is dropped. Once the
+    // server was dropped nobody takes them, so whoever puts one there then empties the queue.
+    fn read_requests(&mut self) {
         let rt = self.rt;
         for _ in rt.forever() {
             let now = current_date(&rt);
@@ -86,6 +120,20 @@ impl<R: Wait + Clock + Copy> Job for Client<R> {
                 return;
             };
             let _ = self.messages.push(&rt, Message::NewRequest(request));
+            if self.close.load(Ordering::SeqCst) {
+                self.messages.clear(&rt);
+                return;
+            }
+        }
+    }
+}
+
+impl<R: Wait + Clock + Copy> Job for Client<R> {
+    /// Puts its requests into the queue, waits until all are answered, and closes the connection.
+    fn run(&mut self) {
+        self.read_requests();
+        if self.connection.wait_for_answers().is_ok() {
+            close_in_stages(&mut self.socket);
         }
     }
 }
@@ -96,7 +144,7 @@ pub(crate) struct Accepting<R: Wait + Drop> {
     pub rt: R,
     pub alloc: Global,
     pub listener: Listener,
-    pub close: Arc<Mutex<bool>>,
+    pub close: Arc<AtomicBool>,
     pub messages: Arc<Messages<R>>,
     pub connections: Arc<Mutex<Headcount>>,
     pub pool: TaskPool<Client<R>, R>,
@@ -107,7 +155,7 @@ impl<R: Wait + Clock + Threads + Copy + Send + 'static> Accepting<R> {
     pub fn run(self) {
         for _ in self.rt.forever() {
             let accepted = self.listener.accept();
-            if *self.close.lock(&self.rt) {
+            if self.close.load(Ordering::SeqCst) {
                 return;
             }
             match accepted {
@@ -127,19 +175,23 @@ impl<R: Wait + Clock + Threads + Copy + Send + 'static> Accepting<R> {
         }
     }
 
-    // The client of this connection. None where the connection can't be doubled, or memory was refused. That its small answers
+    // The client of this connection. None where its handle can't be duplicated, or memory was refused. That its small answers
     // are sent at once (TCP_NODELAY) is asked for, but not needed.
     fn client(&self, connection: Connection, remote_addr: Option<SocketAddr>) -> Option<Client<R>> {
         let _ = connection.set_nodelay(true);
+        let socket = connection.try_clone().ok()?;
         let (reader, writer) = RefinedTcpStream::new(connection).ok()?;
+        let close = Arc::try_clone(&self.close).ok()?;
         let messages = Arc::try_clone(&self.messages).ok()?;
         let presence = Presence::enter(self.rt, &self.connections)?;
         let secure = reader.secure();
         let made = ClientConnection::over(self.rt, self.alloc, writer, reader, remote_addr, secure);
         Some(Client {
             rt: self.rt,
+            close,
             messages,
             connection: made.ok()?,
+            socket,
             presence,
         })
     }

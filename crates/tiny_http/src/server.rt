@@ -10,6 +10,7 @@ use std::io::ErrorKind;
 use std::net::{Net, TcpListener, TcpStream, ToSocketAddrs};
 use std::os::unix::net::UnixStream;
 use std::path::{AsPath, Path, PathBuf};
+use std::sync::atomic::{AtomicBool, Ordering};
 use std::sync::{Arc, Mutex, Wait};
 use std::thread::Threads;
 use std::time::{Clock, Duration};
@@ -25,13 +26,16 @@ use tiny_http_threads::task_pool::TaskPool;
 // So many messages the queue has room for at first.
 const QUEUE_ROOM: usize = 8;
 
+// So many seconds a server that is dropped tries to connect to itself.
+const SELF_CONNECT_SECS: u64 = 1;
+
 /// A request of a server's client.
 pub type ServerRequest<R> = Request<RefinedTcpStream, RefinedTcpStream, R>;
 
 /// Why no server is made.
 #[derive(Debug, Drop, Error)]
 pub enum ServerError {
-    /// It can't listen there, or the system has no thread for it.
+    /// It can't listen there, the host's name isn't found, the text is no address, or the system has no thread for it.
     #[error("{0}")]
     Io(io::Error),
     /// TLS was asked for, which isn't built.
@@ -61,11 +65,11 @@ impl From<io::Error> for ServerError {
 pub struct ServerConfig {
     /// Where it is to listen.
     pub addr: ConfigListenAddr,
-    /// What it is to encrypt by; none of it is built.
+    /// The TLS settings. TLS isn't built: `Some` is refused by `ServerError::Ssl`.
     pub ssl: Option<SslConfig>,
 }
 
-/// What a server is to encrypt by.
+/// TLS settings, which are refused.
 #[derive(Debug, Drop)]
 pub struct SslConfig {
     /// The certificate that is sent to clients.
@@ -74,13 +78,18 @@ pub struct SslConfig {
     pub private_key: Vec<u8>,
 }
 
-/// A server. Threads may share it, and each may ask for requests. Where it is dropped it accepts no further client, and the
-/// file of its Unix socket is removed. Clients that were accepted stay connected, and requests that were handed out can still be
-/// answered.
+/// A server. Threads may share it, and each may ask for requests.
+///
+/// Where it is dropped it accepts no further client, and the file of its Unix socket is removed; the accepting thread ends soon
+/// after. Requests that were handed out can still be answered. Each other request, one that waits or comes later, is answered by
+/// an empty 500, and its connection ends.
+///
+/// A request's date, that of its 500 if it is dropped, is read before the wait for its head: on a connection that was idle
+/// it is older than the request.
 pub struct Server<R: Net + SocketFiles + Wait + Drop> {
     rt: R,
     // Set where the server is dropped.
-    close: Arc<Mutex<bool>>,
+    close: Arc<AtomicBool>,
     messages: Arc<Messages<R>>,
     connections: Arc<Mutex<Headcount>>,
     listening_addr: ListenAddr,
@@ -112,7 +121,7 @@ where
     }
 
     /// A server that listens as this says. `Io` where it can't listen there, and else as `from_listener`. Where no server is
-    /// made no file of a Unix socket is left.
+    /// made, no file of a Unix socket is left that this call made.
     pub fn new(rt: R, alloc: Global, config: ServerConfig) -> Result<Server<R>, ServerError>
         ensures ssl { IsSome config.ssl → IsErr result }
         ensures refused { result ≡ Err ServerError.Ssl → IsSome config.ssl }
@@ -128,8 +137,9 @@ where
         made
     }
 
-    /// A server over this listening socket. `Ssl` where it is to encrypt; `Io` where the socket has no address, or the system
-    /// has no thread for the server; `Memory` where memory was refused.
+    /// A server over this listening socket, which has to wait for clients: one that doesn't ends accepting by `WouldBlock`. The
+    /// file of a Unix socket is removed where the server is dropped. `Ssl` where it is to encrypt; `Io` where the socket has no
+    /// address, or the system has no thread for the server; `Memory` where memory was refused. Then such a file stays.
     pub fn from_listener(
         rt: R,
         alloc: Global,
@@ -148,7 +158,7 @@ where
     // A server over this listening socket.
     fn over(rt: R, alloc: Global, listener: Listener) -> io::Result<Server<R>> {
         let listening_addr = listener.local_addr()?;
-        let close = Arc::new(alloc, Mutex::new(false))?;
+        let close = Arc::new(alloc, AtomicBool::new(false))?;
         let messages = MessagesQueue::with_capacity(alloc, QUEUE_ROOM)?;
         let connections = Arc::new(alloc, Mutex::new(Headcount::new()))?;
         let accepting = Accepting {
@@ -187,13 +197,14 @@ impl<R: Net + SocketFiles + Wait + Drop> Server<R> {
         }
     }
 
-    /// How many clients are connected, but for those of whom nothing more is read.
+    /// How many clients that were accepted are connected. One counts until all its requests are answered and its connection is
+    /// closed.
     pub fn num_connections(&self) -> usize {
         self.connections.lock(&self.rt).count()
     }
 
     /// Waits for a request. An error is the fault by which accepting ended, which one call reports, or of kind `Other` where
-    /// `unblock` was called.
+    /// `unblock` was called. After such a fault no further client is accepted, and requests come only from those that were.
     pub fn recv(&self) -> io::Result<ServerRequest<R>> {
         match Message::received(self.messages.pop(&self.rt))? {
             Some(request) => Ok(request),
@@ -222,18 +233,22 @@ impl<R: Net + SocketFiles + Wait + Clock + Drop> Server<R> {
 }
 
 impl<R: Net + SocketFiles + Wait + Drop> Drop for Server<R> {
-    /// Ends accepting, for which it connects to itself once, and removes the file of a Unix socket.
+    /// Ends accepting, for which it connects to itself once, drops the requests that wait, and removes the file of a Unix
+    /// socket.
     fn drop(self) {
         let Server {
             rt,
             close,
-            messages: _,
+            messages,
             connections: _,
             listening_addr,
         } = self;
-        *close.lock(&rt) = true;
+        close.store(true, Ordering::SeqCst);
         match &listening_addr {
-            ListenAddr::IP(addr) => drop(TcpStream::connect(&rt, *addr)),
+            ListenAddr::IP(addr) => {
+                let most = Duration::from_secs(SELF_CONNECT_SECS);
+                drop(TcpStream::connect_timeout(&rt, addr, most));
+            }
             ListenAddr::Unix(addr) => {
                 drop(UnixStream::connect_addr(&rt, addr));
                 if let Some(path) = addr.as_pathname() {
@@ -241,6 +256,7 @@ impl<R: Net + SocketFiles + Wait + Drop> Drop for Server<R> {
                 }
             }
         }
+        messages.clear(&rt);
     }
 }
 
@@ -251,7 +267,8 @@ pub struct IncomingRequests<'a, R: Net + SocketFiles + Wait + Drop> {
 }
 
 impl<R: Net + SocketFiles + Wait + Drop> IncomingRequests<'_, R> {
-    /// Waits for the next request. None where accepting ended, or `unblock` was called.
+    /// Waits for the next request. None where `recv` reports an error: once for the fault by which accepting ended, and once for
+    /// each `unblock`. A later call waits again.
     pub fn next(&mut self) -> Option<ServerRequest<R>> {
         self.server.recv().ok()
     }

@@ -102,8 +102,8 @@ impl<R: ReadDevice + Drop, W: WriteDevice + Drop, Rt: Wait + Copy> ClientConnect
     /// Goes to the next request, and hands it out; `None` once the connection has no further one, from then on. It waits for
     /// the client, and while the last request's body holds the input: until that was read to its end or given up. Refused heads
     /// are answered in their turn, without waiting for it, and end the requests; but behind one of a version above 1.1 the next
-    /// head is read, unless it names an upgrade or its body is chunked. An error where memory was refused; then each later call answers `None`. `now` dates the answers to
-    /// refused heads, and the 500 of this request if it is dropped.
+    /// head is read, unless it names an upgrade or its body is chunked. An error where memory was refused; then each later call
+    /// answers `None`. `now` dates the answers to refused heads, and the 500 of this request if it is dropped.
     pub fn next(&mut self, now: HttpDate) -> Result<Option<Request<R, W, Rt>>, AllocError>
         ensures over { IsOver self.old → (result ≡ Ok None) × IsOver self.new }
         ensures none { IfOk result (λ r. IfNone r (IsOver self.new)) }
@@ -127,6 +127,18 @@ impl<R: ReadDevice + Drop, W: WriteDevice + Drop, Rt: Wait + Copy> ClientConnect
             Ok(None) => Ok(None),
             Err(e) => Err(e),
         }
+    }
+
+    /// Waits until all that was handed out is answered: each request was answered or dropped, or its raw writer or stream was,
+    /// and the refused heads were answered. Nobody reads or writes the connection then, if no further request is asked for. An
+    /// error where memory was refused.
+    pub fn wait_for_answers(&mut self) -> Result<(), AllocError>
+        ensures over { IsOver self.old → IsOver self.new }
+        ensures same { (client_secure self.new ≡ client_secure self.old) × (client_address self.new ≡ client_address self.old) }
+    {
+        let mut writer = self.sink.next()?;
+        let _ = writer.hold();
+        Ok(())
     }
 
     // Hands out a request that was read by this reader. The reader goes with a body that is read from it.

@@ -8,10 +8,11 @@ use std::net::{Net, Shutdown, SocketAddr, TcpListener, TcpStream, ToSocketAddrs}
 use std::os::unix::net as unix_net;
 use std::path::{Path, PathBuf};
 use std::rt::Files;
+use std::time::Duration;
 use std::{fmt, fs, io};
 
-/// What a server needs of the file system: the files of Unix sockets. Any runtime with files and sockets has it. It stands in
-/// bounds in place of `Files`, under which no generic code can share a server among threads.
+/// What a server needs of the file system: the files of Unix sockets. Any runtime with files and sockets has it. A bound by
+/// `Files` in its place would not let generic code share a server among threads.
 pub trait SocketFiles {
     /// Listens at this path, at which it makes a file. The system's fault where it can't.
     fn bind_unix(&self, path: Path<'_>) -> io::Result<unix_net::UnixListener>;
@@ -112,8 +113,8 @@ impl Connection {
         }
     }
 
-    /// Closes one direction or both, for this and each other handle of the connection. The system's fault, where the peer has
-    /// gone.
+    /// Shuts down one direction or both, for this and each other handle of the connection. The system's fault, where the peer
+    /// has gone.
     pub fn shutdown(&self, how: Shutdown) -> io::Result<()> {
         match self {
             Connection::Tcp(stream) => stream.shutdown(how),
@@ -136,6 +137,17 @@ impl Connection {
         match self {
             Connection::Tcp(stream) => stream.set_nodelay(nodelay),
             Connection::Unix(_) => Ok(()),
+        }
+    }
+}
+
+impl Connection {
+    /// Has each later read, by this and each other handle, wait for so long at most, and then report `WouldBlock`. The system's
+    /// fault, and `InvalidInput` of no time.
+    pub fn set_read_timeout(&self, timeout: Duration) -> io::Result<()> {
+        match self {
+            Connection::Tcp(stream) => stream.set_read_timeout(Some(timeout)),
+            Connection::Unix(stream) => stream.set_read_timeout(Some(timeout)),
         }
     }
 }

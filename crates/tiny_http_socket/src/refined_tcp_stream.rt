@@ -1,4 +1,4 @@
-//! The two halves of a client's connection. A half that is dropped closes its direction.
+//! The two halves of a client's connection. A half that is dropped shuts its direction down.
 ghost use Rattle.std.specs.Prelude.{◌≡◌, ◌<◌, ◌≤◌, [], length, Ok, None, Some, OnOk, IfOk, IfErr, false, IsOk};
 ghost use Rattle.std.specs.IoError.{error_kind};
 ghost use Rattle.tiny_http_device.specs.Device.{next_count};
@@ -31,7 +31,7 @@ impl Half {
     }
 }
 
-/// A half of a client's connection. Where it is dropped it closes its direction: the other half is as it was. It reads and
+/// A half of a client's connection. Where it is dropped it shuts its direction down: the other half is as it was. It reads and
 /// writes the connection itself; as a `ReadDevice` it states no feed, and as a `WriteDevice` it counts its failures and states
 /// no bytes.
 pub struct RefinedTcpStream {
@@ -44,8 +44,8 @@ pub struct RefinedTcpStream {
 impl RefinedTcpStream {
     ghost use Rattle.tiny_http_socket.specs.Stream.{IsReadingHalf, IsWritingHalf, stream_sink, HasSamePeer};
 
-    /// The reading half of a connection, and its writing half. The system's fault where the connection can't be doubled; it is
-    /// closed then.
+    /// The reading half of a connection, and its writing half. The system's fault where the handle can't be duplicated; the
+    /// connection is closed then.
     pub fn new(connection: Connection) -> io::Result<(RefinedTcpStream, RefinedTcpStream)>
         ensures { IfOk result (λ halves. IsReadingHalf connection halves.0 × IsWritingHalf connection halves.1) }
     {
@@ -92,7 +92,7 @@ impl RefinedTcpStream {
 }
 
 impl Drop for RefinedTcpStream {
-    /// Closes its direction. What the system answers is passed over.
+    /// Shuts its direction down. What the system answers is passed over.
     fn drop(self) {
         let RefinedTcpStream {
             connection,

@@ -125,6 +125,16 @@ impl<T: Drop> MessagesQueue<T> {
         self.woken.notify_one();
         Ok(())
     }
+
+    /// Takes out what is in the queue, one after another, and drops it without the lock, until the queue is empty.
+    pub fn clear<R: Wait>(&self, rt: &R) {
+        for _ in rt.forever() {
+            let found = self.state.lock(rt).pop();
+            if let Popped::Empty = found {
+                return;
+            }
+        }
+    }
 }
 
 // None of these calls can lose a value either.
