@@ -1,6 +1,7 @@
 //! What goes on beside a held writer.
 use crate::bench::{
-    Bench, DROPPED, TEXT, assert_output, client, gated, is_reached, next, now, text,
+    Bench, DROPPED, TEXT, assert_output, client, gated, is_about_to_call, is_reached, next, now,
+    text,
 };
 use httpdate::HttpDate;
 use std::io::ErrorKind;
@@ -23,6 +24,40 @@ fn drop_next<R: Wait + Clock + Copy>(
     drop(request);
     handed.fetch_add(1, Ordering::SeqCst);
     true
+}
+
+// Waits until all is answered, and counts that it is about to and that it has.
+fn wait_for_answers<R: Wait + Clock + Copy>(bench: &mut Bench<R>, done: &AtomicU64) -> bool {
+    done.fetch_add(1, Ordering::SeqCst);
+    let waited = bench.client.wait_for_answers();
+    done.fetch_add(1, Ordering::SeqCst);
+    waited.is_ok()
+}
+
+// A connection is waited for until each request is answered, in whatever order.
+#[test]
+fn all_answers_are_waited_for(rt: HostRuntime) -> Result<(), Fail> {
+    let alloc = rt.alloc();
+    let client = client(alloc, b"GET / HTTP/1.1\r\n\r\nGET / HTTP/1.1\r\n\r\n", None)?;
+    let mut bench = gated(rt, alloc, client, 10_000, ErrorKind::Other, 1)?;
+    let output = Arc::try_clone(&bench.output)?;
+    let done = Arc::new(alloc, AtomicU64::new(0))?;
+    let counted = Arc::try_clone(&done)?;
+    let first = next(&mut bench)?;
+    let second = next(&mut bench)?;
+    let waits = thread::spawn(&rt, move || wait_for_answers(&mut bench, &counted));
+    let waits = waits.map_err(|_| "no thread")?;
+    drop(second);
+    assert!(rt; is_about_to_call(&rt, &done));
+    assert_eq!(rt; done.load(Ordering::SeqCst), 1);
+    first.respond(text(alloc, "a")?, now()?)?;
+    assert!(rt; waits.join(&rt));
+    assert_output(
+        &rt,
+        alloc,
+        &output,
+        &[TEXT, "Content-Length: 1\r\n\r\na", DROPPED],
+    )
 }
 
 // A writer that holds an answer holds up no other thread: the next request is handed out and dropped meanwhile.

@@ -29,6 +29,23 @@ fn marks_come_in_order(rt: HostRuntime) -> Result<(), Fail> {
     Ok(())
 }
 
+// Values behind a mark are dropped too.
+#[test]
+fn a_cleared_queue_is_empty(rt: HostRuntime) -> Result<(), Fail> {
+    let queue = MessagesQueue::with_capacity(rt.alloc(), 8)?;
+    let value = Arc::new(rt.alloc(), 7u8)?;
+    for _ in 0..2u8 {
+        assert!(rt; queue.push(&rt, Arc::try_clone(&value)?).is_ok());
+        queue.unblock(&rt)?;
+    }
+    queue.clear(&rt);
+    assert_eq!(rt; Arc::strong_count(&value), 1);
+    assert!(rt; queue.push(&rt, Arc::try_clone(&value)?).is_ok());
+    assert!(rt; queue.try_pop(&rt).is_some());
+    assert!(rt; queue.try_pop(&rt).is_none());
+    Ok(())
+}
+
 #[test]
 fn a_mark_is_no_empty_queue(rt: HostRuntime) -> Result<(), Fail> {
     let mut queue = QueueState::new(rt.alloc());

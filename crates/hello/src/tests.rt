@@ -1,6 +1,45 @@
-//! What is written where nothing is served, and the exit status.
-use crate::hello_on;
+//! What is written where nothing is served, and the exit status; and what is answered.
+use crate::{answer_by_four, hello_on};
+use std::alloc::Global;
+use std::io::{Read, Write};
+use std::net::{Net, TcpListener, TcpStream};
+use std::sync::Wait;
 use std::test::Fail;
+use std::thread;
+use tiny_http::connection::SocketFiles;
+use tiny_http::server::Server;
+
+// What a client of the server gets. Then one thread is unblocked.
+fn ask_and_end<R: Net<Listener = TcpListener, Stream = TcpStream> + SocketFiles + Wait + Drop>(
+    rt: &R,
+    alloc: Global,
+    server: &Server<R>,
+) -> Option<Vec<u8>> {
+    let mut answer = Vec::new(alloc);
+    let mut client = TcpStream::connect(rt, server.server_addr().to_ip()?).ok()?;
+    let sent = client.write_all(b"GET / HTTP/1.1\r\nConnection: close\r\n\r\n");
+    let read = client.read_to_end(&mut answer);
+    server.unblock().ok()?;
+    sent.ok()?;
+    read.ok()?;
+    Some(answer)
+}
+
+// Four threads answer, and one mark ends them all.
+#[test]
+fn four_answer_and_end(rt: HostRuntime) -> Result<(), Fail> {
+    let alloc = rt.alloc();
+    let server = Server::http(rt, alloc, "127.0.0.1:0")?;
+    let (answer, ()) = thread::join(
+        &rt,
+        || ask_and_end(&rt, alloc, &server),
+        || answer_by_four(&rt, alloc, &server),
+    );
+    let answer = answer.ok_or("no answer")?;
+    assert!(rt; answer.as_slice().starts_with(b"HTTP/1.1 200 OK\r\n"));
+    assert!(rt; answer.as_slice().ends_with(b"\r\n\r\nhello world"));
+    Ok(())
+}
 
 #[test]
 fn refused_words(rt: HostRuntime) -> Result<(), Fail> {
