@@ -15,8 +15,8 @@ use tiny_http::device::Metered;
 use tiny_http::response::Response;
 use tiny_http::server::{Server, current_date};
 
-// So many bytes are more than the buffers of a socket hold.
-const LONG: usize = 8_000_000;
+// So many bytes are more than the client's end takes before it reads, and fewer than the server's end takes with it.
+const LONG: usize = 1_000_000;
 
 // Answers the next request by a long body, and leaves its own unread. Whether all could be sent.
 fn respond_long<R: Net + SocketFiles + Clock + Wait + Drop>(
@@ -34,8 +34,11 @@ fn respond_long<R: Net + SocketFiles + Clock + Wait + Drop>(
     request.respond(response, current_date(rt)).is_ok()
 }
 
-// How many bytes come up to the end.
-fn count_all<S: Read>(stream: &mut S) -> io::Result<usize> {
+// How many bytes come up to the end, to a client that begins to read late.
+fn count_all<R: Clock, S: Read>(rt: &R, stream: &mut S) -> io::Result<usize> {
+    for _ in 0..200u8 {
+        turn(rt);
+    }
     let mut buf = [0u8; 8192];
     let mut count = 0usize;
     for _ in 0..u64::MAX {
@@ -64,7 +67,7 @@ fn an_answer_outlives_unread_bytes(rt: HostRuntime) -> Result<(), Fail> {
         let (sent, count) = thread::join(
             &rt,
             || respond_long(&rt, alloc, &server),
-            || count_all(&mut client),
+            || count_all(&rt, &mut client),
         );
         let count = count?;
         assert!(rt; sent, "{head:?}");

@@ -6,8 +6,7 @@ use std::io::ErrorKind;
 use std::sync::Wait;
 use std::time::Clock;
 use std::{env, io};
-use tiny_http::response::Response;
-use tiny_http::{Server, ServerRequest, current_date};
+use tiny_http::{Response, Server, ServerRequest, current_date};
 
 // Answers a request by its path.
 fn answer<R: Clock + Wait + Drop>(

@@ -1,5 +1,21 @@
-//! A small HTTP server: it accepts clients and hands out their requests, which any thread may read and answer. It names the
-//! modules of the crates beneath again, so a program lists this crate, and `httpdate` for its dates.
+//! A small HTTP server: it accepts clients, and hands out their requests, which any thread may read and answer.
+//!
+//! `Server::http` listens at an address. `recv` waits for a request, and `respond` answers it. Answers leave in the order of the
+//! requests of their connection, so `respond` waits until those before are answered; a request that is dropped is answered by an
+//! empty 500. Threads may share a server, and each may ask for requests. A loop over `incoming_requests` is a whole program:
+//!
+//! ```text
+//! let server = Server::http(rt, alloc, "0.0.0.0:8000")?;
+//! let mut requests = server.incoming_requests();
+//! for _ in rt.forever() {
+//!     let Some(request) = requests.next() else { break };
+//!     let text = String::from_str(alloc, "hello world")?;
+//!     let _ = request.respond(Response::from_string(alloc, text)?, current_date(&rt));
+//! }
+//! ```
+//!
+//! Calls are passed the runtime, which locks, waits and opens sockets, and the allocator: none is taken silently. The crate names
+//! the modules of the crates beneath again, so a program lists this crate, and `httpdate` where it makes dates of its own.
 #![tactic(auto)]
 
 mod accepting;
@@ -13,9 +29,14 @@ pub use tiny_http_core::{
     answer, custom_stream, driver, equal_reader, exchange, fused_reader, outlet, source, turns,
     upgrading,
 };
+pub use tiny_http_request::request::{ReadWrite, Request};
+pub use tiny_http_request::test::TestRequest;
 pub use tiny_http_request::{client, request, sequential, test};
+pub use tiny_http_socket::connection::{ConfigListenAddr, ListenAddr, Listener};
 pub use tiny_http_socket::{connection, refined_tcp_stream};
 pub use tiny_http_threads::{headcount, messages_queue, roster, task_pool};
+pub use tiny_http_wire::common::{HTTPVersion, Header, HeaderField, Method, StatusCode};
+pub use tiny_http_wire::response::{Response, ResponseBox};
 pub use tiny_http_wire::{
     answer_context, ascii, chunked, coding, common, device, encoder, grammar, header_value, number,
     response,
