@@ -1,6 +1,7 @@
 //! How connections end: while bytes of the client are unread, and after their server.
 use crate::bench::{
-    DATED, assert_reads, connect, has_clients, one_server_one_client, read_once, turn,
+    DATED, assert_reads, assert_reads_next, connect, has_clients, one_server_one_client, read_once,
+    turn,
 };
 use std::alloc::Global;
 use std::io::{Read, Write};
@@ -98,27 +99,33 @@ const DROPPED: [&str; 3] = [
     "Content-Length: 0\r\n\r\n",
 ];
 
-// A request that waits in the queue of a server that is dropped, and one that comes later, are answered 500. A client that sends
-// nothing keeps neither from it.
+// A request that waits in the queue of a server that is dropped is answered 500. A client that sends nothing doesn't keep it
+// from that.
 #[test]
-fn no_request_outlives_its_server(rt: HostRuntime) -> Result<(), Fail> {
+fn a_waiting_request_is_dropped_with_its_server(rt: HostRuntime) -> Result<(), Fail> {
     let alloc = rt.alloc();
     let (server, mut waiting) = one_server_one_client(rt, alloc)?;
-    let mut later = connect(&rt, &server)?;
     let silent = connect(&rt, &server)?;
     waiting.write_all(b"GET / HTTP/1.1\r\n\r\n")?;
-    assert!(rt; has_clients(&rt, &server, 3));
+    assert!(rt; has_clients(&rt, &server, 2));
     for _ in 0..50u8 {
         turn(&rt);
     }
     drop(server);
-    later.write_all(b"GET / HTTP/1.1\r\n\r\n")?;
-    assert_reads(&rt, alloc, &mut later, &DROPPED)?;
-    waiting.write_all(b"GET /b HTTP/1.1\r\n\r\n")?;
-    let both = [DROPPED[0], DATED, DROPPED[2], DROPPED[0], DATED, DROPPED[2]];
-    assert_reads(&rt, alloc, &mut waiting, &both)?;
+    assert_reads_next(&rt, alloc, &mut waiting, &DROPPED, 1)?;
     drop(silent);
     Ok(())
+}
+
+// A request that comes after its server was dropped is answered 500, and its connection ends.
+#[test]
+fn a_late_request_is_dropped(rt: HostRuntime) -> Result<(), Fail> {
+    let alloc = rt.alloc();
+    let (server, mut client) = one_server_one_client(rt, alloc)?;
+    assert!(rt; has_clients(&rt, &server, 1));
+    drop(server);
+    client.write_all(b"GET / HTTP/1.1\r\n\r\n")?;
+    assert_reads(&rt, alloc, &mut client, &DROPPED)
 }
 
 // Whether nobody listens at this address any more, within a number of turns: else it can't be bound.
