@@ -1,6 +1,6 @@
 //! Answers, read from the front of some bytes.
 use crate::same::Reading::{self, Answer, Malformed, Unfinished};
-use crate::same::assert_reads;
+use crate::same::{assert_read, assert_reads};
 use std::test::Fail;
 use tiny_http_wire::common::Method;
 
@@ -31,6 +31,12 @@ const TO_GET: &[Row] = &[
         "",
     ),
     ("HTTP/1.1 100 Continue\r\n\r\n", Unfinished, ""),
+    // So are three heads.
+    (
+        "HTTP/1.1 100 Continue\r\n\r\nHTTP/1.1 103 Early Hints\r\nLink: </a>\r\n\r\nHTTP/1.1 199 x\r\n\r\nHTTP/1.1 200 OK\r\nContent-Length: 2\r\n\r\nab",
+        Answer(200, 123),
+        "ab",
+    ),
     ("HTTP/1.1 200 OK\r\n\r\n", Malformed, ""),
     ("HTTP/1.1 0200 OK\r\n", Malformed, ""),
     ("HTTP/1.1 200 OK\r\nX:y\r\n", Malformed, ""),
@@ -77,6 +83,27 @@ const TO_GET: &[Row] = &[
 fn to_get(rt: HostRuntime) -> Result<(), Fail> {
     for (bytes, reading, body) in TO_GET {
         assert_reads(&rt, rt.alloc(), &Method::Get, bytes, (*reading, *body));
+    }
+    Ok(())
+}
+
+// A body is read for each method but HEAD; `head` isn't that one.
+const METHODS: &[&str] = &[
+    "GET", "POST", "PUT", "DELETE", "CONNECT", "OPTIONS", "TRACE", "PATCH", "BREW", "head", "",
+];
+
+#[test]
+fn to_each_method(rt: HostRuntime) -> Result<(), Fail> {
+    for name in METHODS {
+        let method = Method::from_str(rt.alloc(), name)?;
+        let bytes = b"HTTP/1.1 200 OK\r\nContent-Length: 2\r\n\r\nxxHTTP";
+        assert_read(
+            &rt,
+            rt.alloc(),
+            (*name, &method),
+            bytes,
+            (Answer(200, 40), 2),
+        );
     }
     Ok(())
 }
@@ -138,6 +165,28 @@ const CHUNKED: &[Row] = &[
     ),
     (
         "HTTP/1.1 200 OK\r\nTransfer-Encoding: gzip\r\n\r\n0\r\n\r\n",
+        Malformed,
+        "",
+    ),
+    // Of two codings the second is `chunked`.
+    (
+        "HTTP/1.1 200 OK\r\nTransfer-Encoding: gzip\r\nTransfer-Encoding: chunked\r\n\r\n1\r\nx\r\n0\r\n\r\n",
+        Answer(200, 83),
+        "x",
+    ),
+    // A size has at most 16 digits.
+    (
+        "HTTP/1.1 200 OK\r\nTransfer-Encoding: chunked\r\n\r\nffffffffffffffff\r\nx",
+        Unfinished,
+        "",
+    ),
+    (
+        "HTTP/1.1 200 OK\r\nTransfer-Encoding: chunked\r\n\r\n0000000000000001\r\nx\r\n0\r\n\r\n",
+        Answer(200, 73),
+        "x",
+    ),
+    (
+        "HTTP/1.1 200 OK\r\nTransfer-Encoding: chunked\r\n\r\n00000000000000001\r\nx\r\n0\r\n\r\n",
         Malformed,
         "",
     ),

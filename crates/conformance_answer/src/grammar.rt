@@ -28,6 +28,10 @@ const HEADS: &[(&str, Reading)] = &[
     (" HTTP/1.1 200 x\r\n\r\n", Malformed),
     ("\r\n", Malformed),
     ("HTTP/1.1 200 x\n\n", Unfinished),
+    // A line ends at the first CR LF; a lone LF stays in it.
+    ("\n\r", Unfinished),
+    ("HTTP/1.1 200 x\n\r\n", Unfinished),
+    ("HTTP/1.1 200 x\n\r\n\r\n", Answer(200, 19)),
     ("HTTP/1.1 200 \u{e9}\r\n\r\n", Malformed),
     ("HTTP/1.1 200 x\r\nA: b", Unfinished),
     ("HTTP/1.1 200 x\r\nA: b\r\n", Unfinished),

@@ -11,3 +11,5 @@ mod outputs;
 mod same;
 #[cfg(test)]
 mod served;
+#[cfg(test)]
+mod sizes;

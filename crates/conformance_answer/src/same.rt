@@ -3,6 +3,7 @@
 use std::alloc::Global;
 use std::fmt::Debug;
 use std::process::Abort;
+use std::test::Fail;
 use tiny_http_answer::answer::{Answer, AnswerFault, read_answer};
 use tiny_http_wire::common::Method;
 
@@ -49,4 +50,32 @@ pub(crate) fn assert_reads(
     let outcome = read_answer(alloc, method, bytes.as_bytes());
     assert_same(rt, (bytes, read_of(&outcome)), (bytes, wanted.0));
     assert_same(rt, (bytes, body(&outcome)), (bytes, wanted.1.as_bytes()));
+}
+
+/// The bytes are read so, as the answer to a request of the method, with a body of so many `x`. The key names them in a failure.
+pub(crate) fn assert_read(
+    rt: &impl Abort,
+    alloc: Global,
+    (key, method): (&str, &Method),
+    bytes: &[u8],
+    (reading, length): (Reading, usize),
+) {
+    let outcome = read_answer(alloc, method, bytes);
+    assert_same(
+        rt,
+        (key, bytes.len(), read_of(&outcome)),
+        (key, bytes.len(), reading),
+    );
+    let body = body(&outcome);
+    let is_of_x = body.iter().all(|b| *b == b'x');
+    assert_same(rt, (key, body.len(), is_of_x), (key, length, true));
+}
+
+/// The pieces together.
+pub(crate) fn joined(alloc: Global, pieces: &[&str]) -> Result<String, Fail> {
+    let mut text = String::new(alloc);
+    for piece in pieces {
+        text.push_str(piece)?;
+    }
+    Ok(text)
 }
