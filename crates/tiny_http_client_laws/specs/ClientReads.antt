@@ -1,25 +1,30 @@
 -- What a client reads of a connection's output.
 use Rattle.std.specs.Prelude.{◌≡◌, ℕ, ◌<◌, ◌≤◌, ◌^◌, false, List, ◌++◌, map, Option, Some, None, if◌then◌else◌, codes, ⊤}
-use Rattle.std.specs.List.{AllByRecursion}
+use Rattle.std.specs.List.{AllByRecursion, list_all}
 use Rattle.tiny_http_wire.specs.declared.common.Method.{Method}
 use Rattle.tiny_http_wire.specs.declared.common.Method.TheVariants.{Get, Head}
+use Rattle.tiny_http_wire.specs.Bytes.{is_ascii}
 use Rattle.tiny_http_wire.specs.Device.{Sink}
 use Rattle.tiny_http_wire.specs.Answer.{Printing, has_header}
 use Rattle.tiny_http_wire.specs.Text.{Ending, Whole, Broken}
 use Rattle.tiny_http_message.specs.Pipeline.{Item, Asks, Refuses}
 use Rattle.tiny_http_sending.specs.ResponseValue.{ResponseValue}
 use Rattle.tiny_http_core.specs.Slots.{Slot, Stage, Unanswered, Answered, ByServer, Raw, Upgraded, printing_for, server_response, stage_text, segment}
+use Rattle.tiny_http_core.specs.Steps.{StepValue, Respond, IntoWriter, Upgrade}
+use Rattle.tiny_http_core.specs.Conversation.{TimedValue}
 use Rattle.tiny_http_answer.specs.ClientAnswer.{ClientAnswer, ReadsAnswers}
 use Rattle.tiny_http_answer.specs.ClientText.{IsReadable, stated_length, received_answer}
 use Rattle.tiny_http_answer.specs.SentTexts.{SentText, methods, StandIn}
 
--- the method as whose answer a number's text is read: a refused head counts as a GET, the 505 of a HEAD as a HEAD
+-- The method as whose answer a number's text is read: that of the request. A refused head counts as a GET, the 505 of a HEAD as
+-- a HEAD.
 abbrev pub counts_as : Item → Method
 counts_as (Asks r) = r.message.method
 counts_as (Refuses refusal version no_body last) = if no_body then Head else Get
 
 -- A response that a client can read: its status is 200 or more, and its headers are readable. The other facts hold of each
--- response of the program: status and length fit their types, and its list holds no Transfer-Encoding and no Content-Length.
+-- response of the program whose data are fewer than 2^63 bytes: status and length fit their types, and its list holds no
+-- Transfer-Encoding and no Content-Length.
 pub record CanBeRead (r : ResponseValue) : Type 0 where
   pub final : 200 ≤ r.answer.status
   pub readable : AllByRecursion IsReadable r.answer.headers
@@ -27,6 +32,17 @@ pub record CanBeRead (r : ResponseValue) : Type 0 where
   pub length_fits : stated_length r.answer.data_length r.content < 2 ^ 64
   pub no_coding : has_header r.answer.headers (codes "Transfer-Encoding") ≡ false
   pub no_length : has_header r.answer.headers (codes "Content-Length") ≡ false
+
+-- A step that leaves an output that can be read: it takes no raw writer, and an upgrade is refused, since its protocol isn't
+-- ASCII. The response of a Respond can be read, also where it is answered NotYet or NoSuch.
+abbrev pub IsReadableStep : StepValue → Type 0
+IsReadableStep (Respond k response) = CanBeRead response
+IsReadableStep (IntoWriter k) = ⊥
+IsReadableStep (Upgrade k protocol response) = list_all is_ascii protocol ≡ false
+IsReadableStep _ = ⊤
+
+abbrev pub AreReadable : List TimedValue → Type 0
+AreReadable steps = AllByRecursion (λ t. IsReadableStep t.1) steps
 
 -- The number was finished by a response that can be read, or by the server: a refused head, a drop, a refused upgrade. Or it
 -- isn't answered yet.

@@ -8,28 +8,68 @@ ghost use Rattle.tiny_http_core.specs.Conversation.{TimedValue, IsConversation};
 ghost use Rattle.tiny_http_answer.specs.ClientAnswer.{ClientAnswer, ReadsAnswers};
 ghost use Rattle.tiny_http_answer.specs.SentTexts.{methods, whole_answers, remains};
 ghost use Rattle.tiny_http_answer.specs.ClientText.{IsReadable};
-ghost use Rattle.tiny_http_client_laws.specs.ClientReads.{CanBeRead, CanBeReadAt, IsOutputOf, HaveAnswers, ReadsNumbers, sent_texts};
+ghost use Rattle.tiny_http_client_laws.specs.ClientReads.{CanBeRead, AreReadable, CanBeReadAt, IsOutputOf, HaveAnswers, ReadsNumbers, sent_texts};
 
 use tiny_http_wire::response::Response;
 
-/// THE CLIENT THEOREM, of the contract of `tiny_http_core::driver::run` alone. Where each number that was reached is finished
-/// by a response of a status from 200 on with readable headers, by a drop or by a refused upgrade, or isn't answered yet, a
-/// client that knows the methods alone reads the output as one answer after another, in the order of the numbers.
+/// THE CLIENT THEOREM, of the contract of `tiny_http_core::driver::run` alone: a client that knows only the methods reads the
+/// output as one answer after another, in the order of the numbers.
+///
+/// The premise is on the steps. Each `Respond` has a status of 200 or more and readable headers. Each `Upgrade` names a
+/// protocol that isn't ASCII, and so is refused. There is no `IntoWriter`. So each number that was reached is a refused head,
+/// or is finished by such a `Respond`, by a `Drop` or by a refused `Upgrade`, or isn't answered yet. Raw writers and upgrades
+/// that were done are excluded: their bytes may be anything.
+///
+/// A header is readable if its name and its value are ASCII, its name has no white space and no colon, and its value is
+/// trimmed and has no CR LF.
+///
+/// The answer to a refused head is read as one to a GET, but the 505 of a HEAD as one to a HEAD. What is read of an answer is
+/// its version, its status, its headers as they are printed (with `Server`, `Date` and the one that frames the body), and the
+/// body that is sent. A 100 in front of it is passed over. What remains behind the last answer is nothing, or an unfinished
+/// front of the next number's text.
 pub fn conversation_is_read()
-    // All that was sent and is held, however the writer failed.
+    // All that was sent and is held, however the writer failed: the answers of the first numbers, and what remains.
+    ensures output { (feed : Feed) (before after : Sink) (steps : List TimedValue) (replies : List ReplyValue) (held out : List ℕ) (ended : Bool) (unread : Option Feed)
+        → (c : IsConversation feed before steps replies after held ended unread) → AreReadable steps → IsOutputOf after held out → ReadsNumbers c.end.reached.slots out }
+    // Where the writer's count did not rise, these are the answers of all the numbers up to the first whose text breaks off, or
+    // that isn't answered yet.
+    ensures whole { (feed : Feed) (before after : Sink) (steps : List TimedValue) (replies : List ReplyValue) (held out : List ℕ) (ended : Bool) (unread : Option Feed)
+        → (c : IsConversation feed before steps replies after held ended unread) → AreReadable steps → IsOutputOf after held out → after.failures ≡ before.failures
+        → (let texts = sent_texts c.end.reached.slots in ReadsAnswers (methods texts) out (whole_answers texts) (remains texts)) }
+    // Where the output has not ended, and each number is finished, each has its answer, and nothing remains.
+    ensures complete { (feed : Feed) (before after : Sink) (steps : List TimedValue) (replies : List ReplyValue) (held out : List ℕ) (unread : Option Feed)
+        → (c : IsConversation feed before steps replies after held false unread) → AreReadable steps → IsOutputOf after held out → IsTrue (list_all is_finished c.end.reached.slots)
+        → (answers : List ClientAnswer) × HaveAnswers c.end.reached.slots answers × ReadsAnswers (methods (sent_texts c.end.reached.slots)) out answers [] }
+{}
+
+/// The premise of `conversation_is_read` gives that of `slots_are_read`.
+pub fn steps_can_be_read()
+    // No number that was reached has a raw writer or was upgraded, and each response that answers one can be read.
+    ensures slots { (feed : Feed) (before after : Sink) (steps : List TimedValue) (replies : List ReplyValue) (held : List ℕ) (ended : Bool) (unread : Option Feed)
+        → (c : IsConversation feed before steps replies after held ended unread) → AreReadable steps → AllByRecursion CanBeReadAt c.end.reached.slots }
+    // Where the writer's count did not rise, the writer did not fail.
+    ensures unfailed { (feed : Feed) (before after : Sink) (steps : List TimedValue) (replies : List ReplyValue) (held : List ℕ) (ended : Bool) (unread : Option Feed)
+        → (c : IsConversation feed before steps replies after held ended unread) → after.failures ≡ before.failures → c.end.failure ≡ None }
+{}
+
+/// The client theorem with its premise on the numbers that were reached. It says more than `conversation_is_read`: a step that
+/// was answered `NotYet` or `NoSuch` may be any.
+pub fn slots_are_read()
+    // All that was sent and is held, however the writer failed: the answers of the first numbers, and what remains.
     ensures output { (feed : Feed) (before after : Sink) (steps : List TimedValue) (replies : List ReplyValue) (held out : List ℕ) (ended : Bool) (unread : Option Feed)
         → (c : IsConversation feed before steps replies after held ended unread) → AllByRecursion CanBeReadAt c.end.reached.slots → IsOutputOf after held out → ReadsNumbers c.end.reached.slots out }
-    // Where the writer did not fail, these are the answers of all the numbers up to the first whose text breaks off.
+    // Where the writer did not fail, these are the answers of all the numbers up to the first whose text breaks off, or that
+    // isn't answered yet.
     ensures whole { (feed : Feed) (before after : Sink) (steps : List TimedValue) (replies : List ReplyValue) (held out : List ℕ) (ended : Bool) (unread : Option Feed)
         → (c : IsConversation feed before steps replies after held ended unread) → AllByRecursion CanBeReadAt c.end.reached.slots → IsOutputOf after held out → c.end.failure ≡ None
         → (let texts = sent_texts c.end.reached.slots in ReadsAnswers (methods texts) out (whole_answers texts) (remains texts)) }
-    // Where nothing broke off either, and each number is finished, each has its answer, and nothing remains.
+    // Where the output has not ended, and each number is finished, each has its answer, and nothing remains.
     ensures complete { (feed : Feed) (before after : Sink) (steps : List TimedValue) (replies : List ReplyValue) (held out : List ℕ) (unread : Option Feed)
         → (c : IsConversation feed before steps replies after held false unread) → AllByRecursion CanBeReadAt c.end.reached.slots → IsOutputOf after held out → IsTrue (list_all is_finished c.end.reached.slots)
         → (answers : List ClientAnswer) × HaveAnswers c.end.reached.slots answers × ReadsAnswers (methods (sent_texts c.end.reached.slots)) out answers [] }
 {}
 
-/// What `conversation_is_read` asks of responses holds of each `Response` of a status from 200 on with readable headers, whose
+/// What the client theorem asks of responses holds of each `Response` of a status of 200 or more with readable headers, whose
 /// data are fewer than 2^63 bytes: its status and its length fit their types, and its list holds no `Transfer-Encoding` and no
 /// `Content-Length`.
 pub fn response_can_be_read<D>(response: &Response<D>)

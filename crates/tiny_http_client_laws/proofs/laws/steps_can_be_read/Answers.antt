@@ -1,0 +1,8 @@
+use Rattle.tiny_http_client_laws.proofs.ReadableSteps.{steps-can_be_read, run-unfailed}
+use Rattle.tiny_http_client_laws.proofs.laws.steps_can_be_read.Goals as goal
+
+pub returns-clause-slots : goal.returns-clause-slots
+returns-clause-slots c = λ feed before after steps replies held ended unread k can. steps-can_be_read feed before after steps replies held ended unread k can
+
+pub returns-clause-unfailed : goal.returns-clause-unfailed
+returns-clause-unfailed c = λ feed before after steps replies held ended unread k same. run-unfailed feed before after steps replies held ended unread k same
