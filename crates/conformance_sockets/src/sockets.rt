@@ -14,7 +14,7 @@ use tiny_http::server::current_date;
 #[test]
 fn a_half_closes_its_direction_alone(rt: HostRuntime) -> Result<(), Fail> {
     let (ours, mut theirs) = UnixStream::pair(&rt)?;
-    let (mut reader, mut writer) = RefinedTcpStream::new(Connection::from(ours))?;
+    let (mut reader, mut writer) = RefinedTcpStream::new(rt.alloc(), Connection::from(ours))?;
     assert!(rt; !reader.secure());
     assert!(rt; reader.peer_addr()?.is_none());
     writer.write_all(b"to")?;
@@ -36,7 +36,7 @@ fn a_half_closes_its_direction_alone(rt: HostRuntime) -> Result<(), Fail> {
 #[test]
 fn the_reading_half_closes_its_direction_alone(rt: HostRuntime) -> Result<(), Fail> {
     let (ours, mut theirs) = UnixStream::pair(&rt)?;
-    let (reader, mut writer) = RefinedTcpStream::new(Connection::from(ours))?;
+    let (reader, mut writer) = RefinedTcpStream::new(rt.alloc(), Connection::from(ours))?;
     drop(reader);
     assert!(rt; theirs.write(b"x").is_err());
     assert_eq!(rt; writer.write_out(b"to")?, 2);
@@ -61,7 +61,7 @@ fn halves_of_a_tcp_connection(rt: HostRuntime) -> Result<(), Fail> {
     let (ours, mut theirs) = tcp_pair(&rt)?;
     let mut handle = ours.try_clone()?;
     handle.set_read_timeout(Some(Duration::from_secs(10)))?;
-    let (mut reader, writer) = RefinedTcpStream::new(Connection::from(ours))?;
+    let (mut reader, writer) = RefinedTcpStream::new(rt.alloc(), Connection::from(ours))?;
     drop(writer);
     let mut buf = [0u8; 8];
     assert_eq!(rt; theirs.read(&mut buf)?, 0);
@@ -109,7 +109,7 @@ fn addresses_are_tried_in_turn(rt: HostRuntime) -> Result<(), Fail> {
 fn a_client_over_tcp_has_an_address(rt: HostRuntime) -> Result<(), Fail> {
     let (ours, mut theirs) = tcp_pair(&rt)?;
     theirs.write_all(b"GET /a HTTP/1.1\r\nConnection: close\r\n\r\n")?;
-    let (reader, writer) = RefinedTcpStream::new(Connection::from(ours))?;
+    let (reader, writer) = RefinedTcpStream::new(rt.alloc(), Connection::from(ours))?;
     let mut client = ClientConnection::new(rt, rt.alloc(), writer, reader)?;
     let Some(request) = client.next(current_date(&rt))? else {
         return Err(Fail::new("no request"));
@@ -121,7 +121,7 @@ fn a_client_over_tcp_has_an_address(rt: HostRuntime) -> Result<(), Fail> {
 #[test]
 fn failures_are_counted(rt: HostRuntime) -> Result<(), Fail> {
     let (ours, theirs) = UnixStream::pair(&rt)?;
-    let (_, mut writer) = RefinedTcpStream::new(Connection::from(ours))?;
+    let (_, mut writer) = RefinedTcpStream::new(rt.alloc(), Connection::from(ours))?;
     drop(theirs);
     for want in [0, 1] {
         assert_eq!(rt; writer.failures(), want);
@@ -155,7 +155,7 @@ fn a_client_over_two_halves(rt: HostRuntime) -> Result<(), Fail> {
     let alloc = rt.alloc();
     let (ours, mut theirs) = UnixStream::pair(&rt)?;
     theirs.write_all(b"GET /a HTTP/1.1\r\nConnection: close\r\n\r\n")?;
-    let (reader, writer) = RefinedTcpStream::new(Connection::from(ours))?;
+    let (reader, writer) = RefinedTcpStream::new(rt.alloc(), Connection::from(ours))?;
     let mut client = ClientConnection::new(rt, alloc, writer, reader)?;
     assert!(rt; !client.secure());
     let now = current_date(&rt);

@@ -5,7 +5,6 @@ ghost use Rattle.tiny_http.specs.Message.{received};
 use crate::server::{ServerRequest, current_date};
 use std::alloc::Global;
 use std::io;
-use std::io::Read;
 use std::net::{Shutdown, SocketAddr};
 use std::sync::atomic::{AtomicBool, Ordering};
 use std::sync::{Arc, Mutex, Wait};
@@ -79,7 +78,7 @@ impl<R: Wait + Drop> Drop for Presence<R> {
 // Closes a connection in stages, once all is answered (RFC 9112, section 9.6): sends the end, and then reads away what the
 // client still sends, until it closes, waits for too long or sends too much. A connection that is closed while bytes are unread
 // is reset, and the client may lose the last answer.
-fn close_in_stages(socket: &mut Connection) {
+fn close_in_stages(socket: &Connection) {
     let _ = socket.shutdown(Shutdown::Write);
     if socket
         .set_read_timeout(Duration::from_millis(LINGER_MILLIS))
@@ -89,7 +88,7 @@ fn close_in_stages(socket: &mut Connection) {
     }
     let mut away = [0u8; LINGER_PIECE];
     for _ in 0..LINGER_READS {
-        match socket.read(&mut away) {
+        match socket.read_shared(&mut away) {
             Ok(0) | Err(_) => return,
             Ok(_) => {}
         }
@@ -103,8 +102,8 @@ pub(crate) struct Client<R: Wait + Drop> {
     close: Arc<AtomicBool>,
     messages: Arc<Messages<R>>,
     connection: ClientConnection<RefinedTcpStream, RefinedTcpStream, R>,
-    // One more handle of the connection, to close it by.
-    socket: Connection,
+    // To close it by.
+    socket: Arc<Connection>,
     // It counts until the connection is let go.
     presence: Presence<R>,
 }
@@ -133,7 +132,7 @@ impl<R: Wait + Clock + Copy> Job for Client<R> {
     fn run(&mut self) {
         self.read_requests();
         if self.connection.wait_for_answers().is_ok() {
-            close_in_stages(&mut self.socket);
+            close_in_stages(&self.socket);
         }
     }
 }
@@ -175,12 +174,12 @@ impl<R: Wait + Clock + Threads + Copy + Send + 'static> Accepting<R> {
         }
     }
 
-    // The client of this connection. None where its handle can't be duplicated, or memory was refused. That its small answers
-    // are sent at once (TCP_NODELAY) is asked for, but not needed.
+    // The client of this connection. None where memory was refused. That its small answers are sent at once (TCP_NODELAY) is
+    // asked for, but not needed.
     fn client(&self, connection: Connection, remote_addr: Option<SocketAddr>) -> Option<Client<R>> {
         let _ = connection.set_nodelay(true);
-        let socket = connection.try_clone().ok()?;
-        let (reader, writer) = RefinedTcpStream::new(connection).ok()?;
+        let (reader, writer) = RefinedTcpStream::new(self.alloc, connection).ok()?;
+        let socket = Arc::try_clone(reader.connection()).ok()?;
         let close = Arc::try_clone(&self.close).ok()?;
         let messages = Arc::try_clone(&self.messages).ok()?;
         let presence = Presence::enter(self.rt, &self.connections)?;

@@ -4,14 +4,14 @@ use Rattle.std.specs.declared.net.Shutdown.{Shutdown}
 use Rattle.std.specs.declared.net.Shutdown.TheVariants.{Read, Write}
 use Rattle.std.specs.declared.net.socket_addr.SocketAddr.{SocketAddr}
 use Rattle.tiny_http_device.specs.Device.{Sink}
-use Rattle.tiny_http_socket.specs.Connection.{HasPeerOf, IsSameKind}
+use Rattle.tiny_http_socket.specs.Connection.{HasPeerOf}
 use Rattle.tiny_http_socket.specs.declared.connection.Connection.{Connection}
 use Rattle.tiny_http_socket.specs.declared.connection.Connection.TheVariants as C
 use Rattle.tiny_http_socket.specs.declared.refined_tcp_stream.Half.{Half}
 use Rattle.tiny_http_socket.specs.declared.refined_tcp_stream.Half.TheVariants.{Reading, Writing}
 use Rattle.tiny_http_socket.specs.declared.refined_tcp_stream.RefinedTcpStream.{RefinedTcpStream}
 
--- what closes a direction alone
+-- what shuts a direction down alone
 abbrev pub shutdown_of : Half → Shutdown
 shutdown_of Reading = Read
 shutdown_of Writing = Write
@@ -24,21 +24,25 @@ stream_sink s = record { taken = None; sent = []; failures = s.failures; last_ki
 abbrev pub fresh_sink : Sink
 fresh_sink = record { taken = None; sent = []; failures = 0; last_kind = None; has_ended = false }
 
--- it closes the direction from the client, and is over a handle of the connection
+-- the connection that it shares with the other half
+abbrev pub connection_of : RefinedTcpStream → Connection
+connection_of s = s.connection.value
+
+-- it shuts the direction from the client down, and is over the connection
 pub record IsReadingHalf (connection : Connection) (s : RefinedTcpStream) : Type 0 where
   pub half : s.half ≡ Reading
-  pub kind : IsSameKind connection s.connection
+  pub same : connection_of s ≡ connection
   pub sink : stream_sink s ≡ fresh_sink
 
--- it closes the direction to the client, and is over the connection
+-- it shuts the direction to the client down, and is over the connection
 pub record IsWritingHalf (connection : Connection) (s : RefinedTcpStream) : Type 0 where
   pub half : s.half ≡ Writing
-  pub same : s.connection ≡ connection
+  pub same : connection_of s ≡ connection
   pub sink : stream_sink s ≡ fresh_sink
 
 -- it has the peer's address as its connection has
 abbrev pub HasSamePeer : RefinedTcpStream → Option SocketAddr → Type 0
-HasSamePeer s addr = HasPeerOf s.connection addr
+HasSamePeer s addr = HasPeerOf (connection_of s) addr
 
 -- a Unix connection has no peer's address; a TCP one may have one
 abbrev pub MayHavePeerOf : Connection → Option SocketAddr → Type 0
@@ -48,4 +52,4 @@ MayHavePeerOf (C.Unix s) (Some addr) = ⊥
 
 -- so it is of the connection of this half
 abbrev pub MayHavePeer : RefinedTcpStream → Option SocketAddr → Type 0
-MayHavePeer s addr = MayHavePeerOf s.connection addr
+MayHavePeer s addr = MayHavePeerOf (connection_of s) addr

@@ -1,5 +1,5 @@
 //! TCP and Unix sockets under one name, and their addresses.
-ghost use Rattle.std.specs.Prelude.{◌≡◌, IfOk};
+ghost use Rattle.std.specs.Prelude.{◌≡◌, ◌≤◌, length, IfOk};
 ghost use Rattle.tiny_http_socket.specs.Connection.{IsBoundAs, HasAddressOf, IsAcceptedBy, HasPeerOf, IsSameKind, IsCopyOf, ip_of, unix_of};
 
 use std::alloc::{AllocError, Global};
@@ -174,6 +174,44 @@ impl Write for Connection {
     /// Nothing is held back.
     fn flush(&mut self) -> io::Result<()> {
         Ok(())
+    }
+}
+
+// Reads once.
+fn read_by<S: Read + Drop>(stream: S, buf: &mut [u8]) -> io::Result<usize>
+    ensures { IfOk result (λ n. n ≤ length buf.new) }
+{
+    let mut stream = stream;
+    stream.read(buf)
+}
+
+// Writes once.
+fn write_by<S: Write + Drop>(stream: S, buf: &[u8]) -> io::Result<usize>
+    ensures { IfOk result (λ n. n ≤ length buf.now) }
+{
+    let mut stream = stream;
+    stream.write(buf)
+}
+
+impl Connection {
+    /// Reads once, as `read` of a connection that is held alone: 0 at the end of what the peer sends.
+    pub fn read_shared(&self, buf: &mut [u8]) -> io::Result<usize>
+        ensures { IfOk result (λ n. n ≤ length buf.new) }
+    {
+        match self {
+            Connection::Tcp(stream) => read_by(stream, buf),
+            Connection::Unix(stream) => read_by(stream, buf),
+        }
+    }
+
+    /// Writes once, as `write` of a connection that is held alone.
+    pub fn write_shared(&self, buf: &[u8]) -> io::Result<usize>
+        ensures { IfOk result (λ n. n ≤ length buf.now) }
+    {
+        match self {
+            Connection::Tcp(stream) => write_by(stream, buf),
+            Connection::Unix(stream) => write_by(stream, buf),
+        }
     }
 }
 

@@ -5,9 +5,11 @@ ghost use Rattle.tiny_http_device.specs.Device.{next_count};
 ghost use Rattle.tiny_http_socket.specs.Stream.{shutdown_of};
 
 use crate::connection::Connection;
+use std::alloc::{AllocError, Global};
 use std::io;
 use std::io::{ErrorKind, Read, Write};
 use std::net::{Shutdown, SocketAddr};
+use std::sync::Arc;
 use tiny_http_device::device::{ReadDevice, WriteDevice};
 
 /// A direction of a connection.
@@ -35,29 +37,40 @@ impl Half {
 /// writes the connection itself; as a `ReadDevice` it states no feed, and as a `WriteDevice` it counts its failures and states
 /// no bytes.
 pub struct RefinedTcpStream {
-    connection: Connection,
+    connection: Arc<Connection>,
     half: Half,
     failures: u64,
     last: Option<ErrorKind>,
 }
 
 impl RefinedTcpStream {
-    ghost use Rattle.tiny_http_socket.specs.Stream.{IsReadingHalf, IsWritingHalf, stream_sink, HasSamePeer};
+    ghost use Rattle.tiny_http_socket.specs.Stream.{IsReadingHalf, IsWritingHalf, stream_sink, connection_of, HasSamePeer};
 
-    /// The reading half of a connection, and its writing half. The system's fault where the handle can't be duplicated; the
-    /// connection is closed then.
-    pub fn new(connection: Connection) -> io::Result<(RefinedTcpStream, RefinedTcpStream)>
+    /// The reading half of a connection, and its writing half. They share it: it is closed once both are dropped, and whoever
+    /// else holds it. An error where memory was refused; the connection is closed then.
+    pub fn new(
+        alloc: Global,
+        connection: Connection,
+    ) -> Result<(RefinedTcpStream, RefinedTcpStream), AllocError>
         ensures { IfOk result (λ halves. IsReadingHalf connection halves.0 × IsWritingHalf connection halves.1) }
     {
-        let other = connection.try_clone()?;
+        let connection = Arc::new(alloc, connection)?;
+        let other = Arc::try_clone(&connection)?;
         Ok((
             RefinedTcpStream::of(other, Half::Reading),
             RefinedTcpStream::of(connection, Half::Writing),
         ))
     }
 
+    /// The connection, which both halves share.
+    pub fn connection(&self) -> &Arc<Connection>
+        ensures { result.now.value ≡ connection_of self.now }
+    {
+        &self.connection
+    }
+
     // A half that has not failed.
-    fn of(connection: Connection, half: Half) -> RefinedTcpStream
+    fn of(connection: Arc<Connection>, half: Half) -> RefinedTcpStream
         ensures { result ≡ record { connection = connection; half = half; failures = 0; last = None } }
     {
         RefinedTcpStream {
@@ -105,11 +118,11 @@ impl Drop for RefinedTcpStream {
 }
 
 // Reads once. A call that a signal interrupts is made again.
-fn read_once(connection: &mut Connection, buf: &mut [u8]) -> io::Result<usize>
+fn read_once(connection: &Connection, buf: &mut [u8]) -> io::Result<usize>
     ensures { IfOk result (λ n. n ≤ length buf.new) }
 {
     for _ in 0..u64::MAX {
-        match connection.read(buf) {
+        match connection.read_shared(buf) {
             Err(fault) if fault.kind() == ErrorKind::Interrupted => {}
             read => return read,
         }
@@ -118,11 +131,11 @@ fn read_once(connection: &mut Connection, buf: &mut [u8]) -> io::Result<usize>
 }
 
 // Writes once. A call that a signal interrupts is made again.
-fn write_once(connection: &mut Connection, buf: &[u8]) -> io::Result<usize>
+fn write_once(connection: &Connection, buf: &[u8]) -> io::Result<usize>
     ensures { IfOk result (λ n. n ≤ length buf.now) }
 {
     for _ in 0..u64::MAX {
-        match connection.write(buf) {
+        match connection.write_shared(buf) {
             Err(fault) if fault.kind() == ErrorKind::Interrupted => {}
             written => return written,
         }
@@ -156,7 +169,7 @@ impl ReadDevice for RefinedTcpStream {
         if buf.is_empty() {
             return Ok(0);
         }
-        read_once(&mut self.connection, buf)
+        read_once(&self.connection, buf)
     }
 }
 
@@ -180,7 +193,7 @@ impl WriteDevice for RefinedTcpStream {
         if buf.is_empty() {
             return Ok(0);
         }
-        let written = match write_once(&mut self.connection, buf) {
+        let written = match write_once(&self.connection, buf) {
             Ok(0) => Err(ErrorKind::WriteZero.into()),
             written => written,
         };
