@@ -1,5 +1,0 @@
-pub mod ReplyHex
-mod ScriptLineLemmas
-pub mod ReplyLemmas
-pub mod ScriptLemmas
-pub mod XsLemmas

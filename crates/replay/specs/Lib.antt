@@ -1,5 +1,2 @@
 pub mod ReplayFault
-pub mod ScriptLine
-pub mod Reply
-pub mod ReplayData
-pub mod Script
+pub mod Replay

@@ -1,29 +1,26 @@
 //! Runs the steps of a script over a client's bytes: `replay BYTES SCRIPT`. The output of the connection goes to standard
-//! output, a line for each step's reply to standard error. It stands on `tiny_http_core`, whose `run` it calls, and
-//! `tiny_http_wire`.
+//! output, a line for each step's reply to standard error. It stands on `replay_script`, which reads the script, on
+//! `tiny_http_core`, whose `run` it calls, and on `tiny_http_wire`.
 #![tactic(auto)]
 
 ghost use Rattle.std.specs.Prelude.{◌≡◌, ◌<◌, ◌≤◌, ◌⊎◌, ℕ, ◌++◌, map, Err, IsErrAnd, IfOk, IfErr, OnOk};
 ghost use Rattle.replay.specs.ReplayFault.{exit_status};
-ghost use Rattle.replay.specs.Script.{script_lines, IsFirstBadLine, timed_value, HasRun, WritesReplay};
+ghost use Rattle.replay.specs.Replay.{HasRun, WritesReplay};
+ghost use Rattle.replay_script.specs.Script.{script_lines, IsFirstBadLine, timed_value};
 ghost use Rattle.std.specs.Io.KnownBytes.{Appends};
 ghost use Rattle.std.specs.List.{flat_map};
-ghost use Rattle.replay.specs.Reply.{reply_line};
+ghost use Rattle.replay_script.specs.Reply.{reply_line};
 ghost use Rattle.tiny_http_wire.specs.Budget.{budget_bytes};
 ghost use Rattle.tiny_http_core.specs.Seen.{seen};
 
 mod fault;
-mod line;
-mod replay_data;
-mod reply;
-mod script;
 #[cfg(test)]
 mod tests;
 
 use crate::fault::ReplayFault;
-use crate::replay_data::ReplayData;
-use crate::reply::ReplyLine;
-use crate::script::{ScriptFault, read_script};
+use replay_script::reply::ReplyLine;
+use replay_script::script::{ScriptFault, read_script};
+use replay_script::script_data::ScriptData;
 use std::alloc::Global;
 use std::io::{ErrorKind, Write};
 use std::process::ExitCode;
@@ -44,7 +41,7 @@ struct Replayed {
 fn run_steps(
     alloc: Global,
     bytes: Vec<u8>,
-    steps: Vec<Timed<ReplayData>>,
+    steps: Vec<Timed<ScriptData>>,
 ) -> Result<Replayed, ReplayFault<'static>>
     ensures runs { IfOk result (λ o. HasRun bytes.items (map timed_value steps.items) (map seen o.replies.items)
         (budget_bytes o.writer ++ o.held.items)) }
@@ -70,7 +67,7 @@ fn run_steps(
 }
 
 // Writes the output to the one, and a line for each reply to the other.
-#[tactic(auto, using(crate::proofs::ReplyLemmas::line_more))]
+#[tactic(auto, using(replay_script::proofs::ReplyLemmas::line_more))]
 fn write_outcome<O: Write, E: Write>(
     outcome: &Replayed,
     out: &mut O,

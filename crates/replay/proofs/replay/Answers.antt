@@ -1,7 +1,7 @@
 use Rattle.std.proofs.Common.{map}
 use Rattle.tiny_http_core.specs.Seen.{seen}
-use Rattle.replay.specs.Script.{timed_value}
-use Rattle.replay.proofs.ScriptLemmas.{no_bad}
+use Rattle.replay_script.specs.Script.{timed_value}
+use Rattle.replay_script.proofs.ScriptLemmas.{no_bad}
 use Rattle.replay.proofs.replay.Goals as goal
 
 pub returns-in-Ok-write_outcome-clause-refused : goal.returns-in-Ok-write_outcome-clause-refused

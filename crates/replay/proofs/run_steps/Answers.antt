@@ -3,8 +3,8 @@ use Rattle.tiny_http_wire.specs.Device.{Sink, whole_feed}
 use Rattle.tiny_http_wire.specs.Budget.{budget_sink, budget_bytes}
 use Rattle.tiny_http_core.specs.Conversation.{IsFresh}
 use Rattle.tiny_http_core.specs.Outlet.{outlet_held, outlet_ended}
-use Rattle.replay.specs.Script.{timed_value}
-use Rattle.replay.proofs.ScriptLemmas.{steps_stated}
+use Rattle.replay_script.specs.Script.{timed_value}
+use Rattle.replay_script.proofs.ScriptLemmas.{steps_stated}
 use Rattle.replay.proofs.run_steps.Goals as goal
 
 pub returns-clause-runs : goal.returns-clause-runs

@@ -2,7 +2,7 @@ use Rattle.std.proofs.Common.{take, map}
 use Rattle.std.specs.List.{flat_map}
 use Rattle.std.specs.Io.KnownBytes.{Appends}
 use Rattle.tiny_http_core.specs.Seen.{seen}
-use Rattle.replay.specs.Reply.{reply_line}
+use Rattle.replay_script.specs.Reply.{reply_line}
 use Rattle.replay.proofs.write_outcome.Given as goal
 
 abbrev pub invariant-loop-reply : goal.invariant-loop-reply

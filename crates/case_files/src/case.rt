@@ -1,0 +1,60 @@
+//! A case: what goes into a connection, and what has to come out of it.
+use std::io::ErrorKind;
+
+/// How many bytes a writer takes, and the kind by which it then fails.
+#[derive(Clone, Copy, Debug, PartialEq, Eq)]
+pub struct Room {
+    pub bytes: usize,
+    pub fault: ErrorKind,
+}
+
+/// An answer that no line of a script can make.
+#[derive(Drop)]
+pub struct Answer {
+    /// The request's number.
+    pub number: u64,
+    pub status: u16,
+    /// The header lines, each without its line end.
+    pub headers: Vec<String>,
+    /// The length that is stated of the data, if one is.
+    pub length: Option<usize>,
+    /// From how many bytes on the body is sent in chunks, if the case says so.
+    pub threshold: Option<usize>,
+    pub data: Vec<u8>,
+    /// The fault of the data in place of their end.
+    pub fault: Option<ErrorKind>,
+}
+
+/// What a step does.
+#[derive(Drop)]
+pub enum Deed {
+    /// What this line of a script says, a step or a date.
+    Script(String),
+    /// Answers a request.
+    Answer(Answer),
+}
+
+/// A step of a case, and what it is answered.
+#[derive(Drop)]
+pub struct CaseStep {
+    pub deed: Deed,
+    /// The line of the reply, its escapes replaced; of a date there is none.
+    pub reply: Vec<u8>,
+    /// Whether there is a reply yet.
+    pub is_answered: bool,
+}
+
+/// A case.
+#[derive(Drop)]
+pub struct Case {
+    pub name: String,
+    /// The bytes that the client sends.
+    pub client: Vec<u8>,
+    /// The reader's fault behind them, in place of an end.
+    pub stop: Option<ErrorKind>,
+    /// Where the writer fails, if it doesn't take all.
+    pub room: Option<Room>,
+    pub steps: Vec<CaseStep>,
+    /// What is sent, and then held back.
+    pub output: Vec<u8>,
+}

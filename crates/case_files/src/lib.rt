@@ -1,0 +1,15 @@
+//! Files of cases: what a client sends, the steps of a server, what they are answered, and the output. This library reads
+//! such files, and tries each case by all readers and with each call of the writer failing, in whatever way a program runs
+//! its steps. docs/CASES.md describes the language. It stands on `replay_script`, whose lines are steps here.
+#![tactic(auto)]
+
+pub mod case;
+pub mod devices;
+pub mod kinds;
+pub mod outcome;
+pub mod program;
+pub mod reading;
+pub mod replies;
+pub mod report;
+pub mod steps;
+pub mod text;

@@ -1,0 +1,185 @@
+//! What comes of a trial of a case, and where it differs from what the case says.
+use crate::case::{Case, CaseStep, Deed};
+use crate::devices::{Pieces, Trier};
+use crate::text::shown;
+use std::alloc::{AllocError, Global};
+use std::io::ErrorKind;
+use tiny_http_wire::device::Canned;
+
+/// How a case is tried.
+#[derive(Clone, Copy, Debug, PartialEq, Eq)]
+pub struct Trial {
+    /// The most bytes that a call of the reader gives.
+    pub piece: usize,
+    /// The call of the writer that fails, counted from 1, if one does.
+    pub failing: Option<u64>,
+}
+
+/// What came of a trial.
+#[derive(Drop)]
+pub struct Outcome {
+    /// The line of each step's reply.
+    pub replies: Vec<Vec<u8>>,
+    /// What the writer took, and what was held back.
+    pub output: Vec<u8>,
+    /// How many calls of the writer failed.
+    pub failures: u64,
+    /// How many calls came after one that failed.
+    pub later: u64,
+}
+
+/// The kind by which a call of the writer is made to fail: that by which much code tries again.
+pub const FAILING: ErrorKind = ErrorKind::Interrupted;
+
+impl Trial {
+    /// The reader of this trial.
+    pub fn reader(&self, alloc: Global, case: &Case) -> Result<Pieces, AllocError> {
+        let client = Canned::new(case.client.as_slice().to_vec(alloc)?, case.stop);
+        Ok(Pieces::new(client, self.piece))
+    }
+
+    /// The writer of this trial.
+    pub fn writer(&self, alloc: Global, case: &Case) -> Trier {
+        match (self.failing, case.room) {
+            (Some(call), _) => Trier::failing_at(alloc, call, FAILING),
+            (None, Some(room)) => Trier::with_room(alloc, room.bytes, room.fault),
+            (None, None) => Trier::with_room(alloc, usize::MAX, ErrorKind::Other),
+        }
+    }
+}
+
+/// Where an outcome first differs from its case: what differs, what was found, and what the case says.
+#[derive(Drop)]
+pub struct Difference {
+    pub what: String,
+    pub found: String,
+    pub wanted: String,
+}
+
+// Such a difference, of bytes.
+fn differing(
+    alloc: Global,
+    what: String,
+    found: &[u8],
+    wanted: &[u8],
+) -> Result<Option<Difference>, AllocError> {
+    Ok(Some(Difference {
+        what,
+        found: shown(alloc, found)?,
+        wanted: shown(alloc, wanted)?,
+    }))
+}
+
+// Whether the data of an answer were not read, as the output had ended, so that their fault wasn't met.
+fn is_unmet(step: &CaseStep, found: &[u8]) -> bool {
+    let is_answer = match &step.deed {
+        Deed::Answer(_) => true,
+        Deed::Script(line) => line.starts_with("respond "),
+    };
+    is_answer && found == b"done".as_slice() && step.reply.starts_with(b"fault ")
+}
+
+// The first reply that differs, of the steps that have replies. Where a call was made to fail, those up to the one that
+// reports it count.
+fn replies_differ(
+    alloc: Global,
+    case: &Case,
+    outcome: &Outcome,
+    is_failing: bool,
+) -> Result<Option<Difference>, AllocError> {
+    let mut found = outcome.replies.iter();
+    let mut number = 0usize;
+    for step in case.steps.iter().filter(|step| !is_date(step)) {
+        number = number.saturating_add(1);
+        let reply = match found.next() {
+            Some(reply) => reply.as_slice(),
+            None => b"",
+        };
+        if reply == step.reply.as_slice() || (is_failing && is_unmet(step, reply)) {
+            continue;
+        }
+        if is_failing && reply == b"fault Interrupted".as_slice() {
+            return Ok(None);
+        }
+        let what = format!(in alloc; "reply {number}")?;
+        return differing(alloc, what, reply, step.reply.as_slice());
+    }
+    Ok(None)
+}
+
+/// Whether a step is a date, which has no reply.
+pub fn is_date(step: &CaseStep) -> bool {
+    match &step.deed {
+        Deed::Answer(_) => false,
+        Deed::Script(line) => line.starts_with("now "),
+    }
+}
+
+// A count that differs.
+fn count_differs(
+    alloc: Global,
+    what: &str,
+    found: u64,
+    wanted: u64,
+) -> Result<Option<Difference>, AllocError> {
+    if found == wanted {
+        return Ok(None);
+    }
+    Ok(Some(Difference {
+        what: String::from_str(alloc, what)?,
+        found: format!(in alloc; "{found}")?,
+        wanted: format!(in alloc; "{wanted}")?,
+    }))
+}
+
+// The place of the first byte that differs.
+fn first_place(found: &[u8], wanted: &[u8]) -> usize {
+    found
+        .iter()
+        .zip(wanted.iter())
+        .position(|(one, other)| one != other)
+        .unwrap_or(found.len().min(wanted.len()))
+}
+
+// The output, where it differs: from where on, and both texts from there.
+fn output_differs(
+    alloc: Global,
+    found: &[u8],
+    wanted: &[u8],
+    is_front: bool,
+) -> Result<Option<Difference>, AllocError> {
+    if found == wanted || (is_front && wanted.starts_with(found)) {
+        return Ok(None);
+    }
+    let place = first_place(found, wanted);
+    let what = format!(in alloc; "output from byte {place}")?;
+    let found = found.get(place..).unwrap_or_default();
+    let wanted = wanted.get(place..).unwrap_or_default();
+    differing(alloc, what, found, wanted)
+}
+
+/// Where the outcome of a trial first differs from what its case says, if it does. Where a call of the writer failed that was
+/// made to, the output is a front of the case's, one failure is counted, and the replies are those of the case up to the one
+/// that reports it. After a failure the writer is never called again.
+pub fn first_difference(
+    alloc: Global,
+    case: &Case,
+    outcome: &Outcome,
+    is_made_to_fail: bool,
+) -> Result<Option<Difference>, AllocError> {
+    let is_failing = is_made_to_fail && outcome.failures > 0;
+    if let Some(found) = replies_differ(alloc, case, outcome, is_failing)? {
+        return Ok(Some(found));
+    }
+    let output = outcome.output.as_slice();
+    if let Some(found) = output_differs(alloc, output, case.output.as_slice(), is_failing)? {
+        return Ok(Some(found));
+    }
+    if case.room.is_none() || is_failing {
+        let failures = u64::from(is_failing);
+        if let Some(found) = count_differs(alloc, "failures", outcome.failures, failures)? {
+            return Ok(Some(found));
+        }
+    }
+    count_differs(alloc, "calls after a failure", outcome.later, 0)
+}

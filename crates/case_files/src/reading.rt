@@ -1,0 +1,260 @@
+//! Reads a file of cases, line by line.
+use crate::case::{Answer, Case, CaseStep, Deed, Room};
+use crate::kinds::kind_of;
+use crate::text::{TextFault, add_text, number_in, text_of};
+use replay_script::line::{ScriptLine, text_in};
+use std::alloc::{AllocError, Global};
+
+/// Why a file's cases can't be read.
+#[derive(Clone, Copy, Debug, PartialEq, Eq)]
+pub enum CaseFault {
+    /// This line, counted from 1, isn't of the format, for this reason.
+    BadLine(usize, &'static str),
+    OutOfMemory,
+}
+
+// Why one line isn't of the format.
+enum LineFault {
+    Bad(&'static str),
+    OutOfMemory,
+}
+
+impl From<AllocError> for LineFault {
+    fn from(_error: AllocError) -> LineFault {
+        LineFault::OutOfMemory
+    }
+}
+
+impl From<TextFault> for LineFault {
+    fn from(fault: TextFault) -> LineFault {
+        match fault {
+            TextFault::NoEscape => LineFault::Bad("a backslash begins no escape"),
+            TextFault::NoRepeat => LineFault::Bad("a repeated piece is \\{COUNT TEXT}"),
+            TextFault::OutOfMemory => LineFault::OutOfMemory,
+        }
+    }
+}
+
+const NO_KIND: LineFault = LineFault::Bad("no such kind of fault");
+
+const NO_NUMBER: LineFault = LineFault::Bad("no number stands where one has to");
+
+// Begins a case of this name.
+fn begin(alloc: Global, cases: &mut Vec<Case>, name: &str) -> Result<(), LineFault> {
+    if name.is_empty() || name.contains(' ') {
+        return Err(LineFault::Bad("a case has a name of one word"));
+    }
+    if cases.iter().any(|case| case.name.as_str() == name) {
+        return Err(LineFault::Bad("an earlier case has this name"));
+    }
+    let case = Case {
+        name: String::from_str(alloc, name)?,
+        client: Vec::new(alloc),
+        stop: None,
+        room: None,
+        steps: Vec::new(alloc),
+        output: Vec::new(alloc),
+    };
+    cases.push(case).map_err(AllocError::from)?;
+    Ok(())
+}
+
+// Why the last case isn't whole, if it isn't.
+fn lack_of(cases: &[Case]) -> Option<&'static str> {
+    let case = cases.last()?;
+    let Some(step) = case.steps.last() else {
+        return Some("the case in front has no step");
+    };
+    if !step.is_answered {
+        return Some("the last step of the case in front has no reply");
+    }
+    None
+}
+
+// The size of a writer's room and its fault.
+fn room_in(words: &str) -> Result<Room, LineFault> {
+    let Some((digits, name)) = words.split_once(' ') else {
+        return Err(LineFault::Bad("a writer's room is a number and a kind"));
+    };
+    let Some(bytes) = number_in(digits) else {
+        return Err(NO_NUMBER);
+    };
+    match kind_of(name) {
+        Some(fault) => Ok(Room { bytes, fault }),
+        None => Err(NO_KIND),
+    }
+}
+
+// Adds a step that has no reply yet.
+fn add_step(case: &mut Case, deed: Deed, reply: Vec<u8>, is_date: bool) -> Result<(), LineFault> {
+    if let Some(step) = case.steps.last()
+        && !step.is_answered
+    {
+        return Err(LineFault::Bad("the step in front has no reply"));
+    }
+    let step = CaseStep {
+        deed,
+        reply,
+        is_answered: is_date,
+    };
+    case.steps.push(step).map_err(AllocError::from)?;
+    Ok(())
+}
+
+// The number and the status of an answer.
+fn answer_in(alloc: Global, words: &str) -> Result<Answer, LineFault> {
+    let Some((number, status)) = words.split_once(' ') else {
+        return Err(LineFault::Bad("an answer has a number and a status"));
+    };
+    let (Some(number), Some(status)) = (number_in(number), number_in(status)) else {
+        return Err(NO_NUMBER);
+    };
+    let Ok(status) = u16::try_from(status) else {
+        return Err(LineFault::Bad("a status is below 65536"));
+    };
+    Ok(Answer {
+        number: number as u64,
+        status,
+        headers: Vec::new(alloc),
+        length: None,
+        threshold: None,
+        data: Vec::new(alloc),
+        fault: None,
+    })
+}
+
+// A line of a script, its escapes replaced; whether it is a date.
+fn script_in(alloc: Global, text: &str) -> Result<(String, bool), LineFault> {
+    let Ok(line) = String::from_utf8(text_of(alloc, text)?) else {
+        return Err(LineFault::Bad("a step is UTF-8"));
+    };
+    match text_in(line.as_str()) {
+        None | Some(ScriptLine::Blank) => Err(LineFault::Bad("no such line")),
+        Some(ScriptLine::Now(_)) => Ok((line, true)),
+        Some(_) => Ok((line, false)),
+    }
+}
+
+// Adds what a line says of an answer.
+fn add_part(alloc: Global, answer: &mut Answer, text: &str) -> Result<(), LineFault> {
+    let (word, words) = text.split_once(' ').unwrap_or((text, ""));
+    match word {
+        "data" => add_text(alloc, words, &mut answer.data)?,
+        "header" => {
+            let Ok(header) = String::from_utf8(text_of(alloc, words)?) else {
+                return Err(LineFault::Bad("a header is UTF-8"));
+            };
+            answer.headers.push(header).map_err(AllocError::from)?;
+        }
+        "length" if answer.length.is_none() => match number_in(words) {
+            Some(length) => answer.length = Some(length),
+            None => return Err(NO_NUMBER),
+        },
+        "threshold" if answer.threshold.is_none() => match number_in(words) {
+            Some(threshold) => answer.threshold = Some(threshold),
+            None => return Err(NO_NUMBER),
+        },
+        "fault" if answer.fault.is_none() => match kind_of(words) {
+            Some(kind) => answer.fault = Some(kind),
+            None => return Err(NO_KIND),
+        },
+        _ => return Err(LineFault::Bad("an answer has no such part, or has it already")),
+    }
+    Ok(())
+}
+
+// The answer that a part belongs to: that of the last step, as long as this has no reply.
+fn open_answer(case: &mut Case) -> Result<&mut Answer, LineFault> {
+    if let Some(step) = case.steps.last_mut()
+        && !step.is_answered
+        && let Deed::Answer(answer) = &mut step.deed
+    {
+        return Ok(answer);
+    }
+    Err(LineFault::Bad("no answer stands in front of this part"))
+}
+
+// Adds the reply of the last step.
+fn add_reply(alloc: Global, case: &mut Case, text: &str) -> Result<(), LineFault> {
+    let Some(step) = case.steps.last_mut() else {
+        return Err(LineFault::Bad("no step stands in front of this reply"));
+    };
+    if step.is_answered {
+        return Err(LineFault::Bad("the step in front has a reply already"));
+    }
+    add_text(alloc, text, &mut step.reply)?;
+    step.is_answered = true;
+    Ok(())
+}
+
+// Adds what a line says of a case that is begun.
+fn add_line(alloc: Global, case: &mut Case, text: &str) -> Result<(), LineFault> {
+    if let Some(text) = text.strip_prefix("  ") {
+        return add_reply(alloc, case, text);
+    }
+    if let Some(part) = text.strip_prefix("+ ") {
+        return add_part(alloc, open_answer(case)?, part);
+    }
+    let (word, words) = text.split_once(' ').unwrap_or((text, ""));
+    match word {
+        "client" => add_text(alloc, words, &mut case.client)?,
+        "output" => add_text(alloc, words, &mut case.output)?,
+        "stop" if case.stop.is_none() => match kind_of(words) {
+            Some(kind) => case.stop = Some(kind),
+            None => return Err(NO_KIND),
+        },
+        "takes" if case.room.is_none() => case.room = Some(room_in(words)?),
+        "stop" | "takes" => return Err(LineFault::Bad("the case says so already")),
+        "answer" => {
+            let answer = answer_in(alloc, words)?;
+            add_step(case, Deed::Answer(answer), Vec::new(alloc), false)?;
+        }
+        _ => {
+            let (line, is_date) = script_in(alloc, text)?;
+            add_step(case, Deed::Script(line), Vec::new(alloc), is_date)?;
+        }
+    }
+    Ok(())
+}
+
+// Reads one line: passed over, the beginning of a case, or a line of the last case.
+fn read_line(alloc: Global, cases: &mut Vec<Case>, line: &[u8]) -> Result<(), LineFault> {
+    if line.is_empty() || line.starts_with(b"#") {
+        return Ok(());
+    }
+    if !line.is_ascii() {
+        return Err(LineFault::Bad("a byte from 128 on is written \\xHH"));
+    }
+    let text = str::from_utf8(line).unwrap_or_default();
+    if let Some(name) = text.strip_prefix("case ") {
+        if let Some(why) = lack_of(cases.as_slice()) {
+            return Err(LineFault::Bad(why));
+        }
+        return begin(alloc, cases, name);
+    }
+    match cases.last_mut() {
+        Some(case) => add_line(alloc, case, text),
+        None => Err(LineFault::Bad("no case has begun")),
+    }
+}
+
+/// The cases of a file; or its first line that isn't of the format, and why. A file without a case isn't of the format.
+pub fn read_cases(alloc: Global, file: &[u8]) -> Result<Vec<Case>, CaseFault> {
+    let mut cases = Vec::new(alloc);
+    let mut number = 0usize;
+    for line in file.split(|byte| *byte == b'\n') {
+        number = number.saturating_add(1);
+        match read_line(alloc, &mut cases, line) {
+            Ok(()) => {}
+            Err(LineFault::Bad(why)) => return Err(CaseFault::BadLine(number, why)),
+            Err(LineFault::OutOfMemory) => return Err(CaseFault::OutOfMemory),
+        }
+    }
+    if cases.is_empty() {
+        return Err(CaseFault::BadLine(number, "there is no case"));
+    }
+    match lack_of(cases.as_slice()) {
+        Some(why) => Err(CaseFault::BadLine(number, why)),
+        None => Ok(cases),
+    }
+}

@@ -1,0 +1,63 @@
+//! The lines of replies.
+use replay_script::reply::ReplyLine;
+use std::alloc::{AllocError, Global};
+use std::fmt::Write;
+use std::io::ErrorKind;
+use tiny_http_core::driver::Reply;
+use tiny_http_wire::common::{HTTPVersion, Header, Method};
+
+// Writes the length that a head says, or `-`.
+fn add_length(line: &mut String, length: Option<usize>) -> Result<(), AllocError> {
+    match length {
+        Some(length) => write!(line, " {length}"),
+        None => line.push_str(" -"),
+    }
+}
+
+/// The line of a request that was handed out under this number: as a script's, and then each header in brackets.
+pub fn handed_line(
+    alloc: Global,
+    (number, method): (&str, &Method),
+    (path, version): (&str, HTTPVersion),
+    headers: &[Header],
+    length: Option<usize>,
+) -> Result<Vec<u8>, AllocError> {
+    let mut line = String::new(alloc);
+    let count = headers.len();
+    write!(line, "handed {number} {method} {path} {version} {count}")?;
+    add_length(&mut line, length)?;
+    for header in headers {
+        write!(line, " [{header}]")?;
+    }
+    Ok(line.into_bytes())
+}
+
+/// The line of a fault of this kind.
+pub fn fault_line(alloc: Global, kind: ErrorKind) -> Result<Vec<u8>, AllocError> {
+    Ok(format!(in alloc; "fault {kind:?}")?.into_bytes())
+}
+
+/// The line of bytes that a read gave.
+pub fn given_line(alloc: Global, bytes: &[u8]) -> Result<Vec<u8>, AllocError> {
+    let mut line = b"given".to_vec(alloc)?;
+    if !bytes.is_empty() {
+        line.extend_from_slice(b" ")?;
+        line.extend_from_slice(bytes)?;
+    }
+    Ok(line)
+}
+
+/// The line of a reply of `run`.
+pub fn reply_line(alloc: Global, reply: &Reply) -> Result<Vec<u8>, AllocError> {
+    match reply {
+        Reply::Handed(number, head) => {
+            let number = format!(in alloc; "{number}")?;
+            let request = (number.as_str(), &head.method);
+            let target = (head.path.as_str(), head.version);
+            handed_line(alloc, request, target, head.headers.as_slice(), head.body_length)
+        }
+        Reply::Fault(kind) => fault_line(alloc, *kind),
+        Reply::Given(bytes) => given_line(alloc, bytes.as_slice()),
+        _ => Ok(format!(in alloc; "{}", ReplyLine(reply))?.into_bytes()),
+    }
+}

@@ -1,0 +1,5 @@
+pub mod ReplyHex
+mod ScriptLineLemmas
+pub mod ReplyLemmas
+pub mod ScriptLemmas
+pub mod XsLemmas

@@ -1,0 +1,4 @@
+pub mod ScriptLine
+pub mod Reply
+pub mod ScriptData
+pub mod Script

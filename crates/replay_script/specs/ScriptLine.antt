@@ -1,0 +1,85 @@
+-- What the lines of a script say.
+use Rattle.std.specs.Prelude.{◌≡◌, ◌⊎◌, ◌<◌, ◌^◌, ℕ, List, [], ◌∷◌, ◌++◌, codes, IsAscii}
+use Rattle.std.specs.Str.Parse.{IsNumeral, digits_value}
+use Rattle.httpdate.specs.Date.{unix_secs}
+use Rattle.httpdate.specs.declared.date.HttpDate.{HttpDate}
+use Rattle.replay_script.specs.declared.line.ScriptLine.{ScriptLine}
+use Rattle.replay_script.specs.declared.line.ScriptLine.TheVariants.{Blank, Now, Ask, AsReader, Read, Respond, Writer, Write, Flush, Upgrade, Finish, Drop}
+use Rattle.replay_script.specs.declared.line.Content.{Content}
+use Rattle.replay_script.specs.declared.line.Content.TheVariants.{Text, Empty, Stream, Broken}
+
+-- the text is one decimal digit or more, and they write this number
+abbrev pub WritesNumber : List ℕ → ℕ → Type 0
+WritesNumber digits n = IsNumeral 10 digits × (digits_value 10 digits ≡ n)
+
+-- the text is such a number, a space, and the rest
+abbrev pub BeginsByNumber : List ℕ → ℕ → List ℕ → Type 0
+BeginsByNumber text n rest = (digits : List ℕ) × (text ≡ digits ++ 32 ∷ rest) × WritesNumber digits n
+
+-- the text is a number of 64 bits, a space, a code of 16 bits, a space, and the rest
+abbrev pub BeginsByNumbers : List ℕ → ℕ → ℕ → List ℕ → Type 0
+BeginsByNumbers text number status rest =
+    (behind : List ℕ) × BeginsByNumber text number behind × BeginsByNumber behind status rest × (number < 2 ^ 64) × (status < 2 ^ 16)
+
+-- the text is the seconds of a date, up to the end of the year 9999
+abbrev pub WritesDate : List ℕ → HttpDate → Type 0
+WritesDate text date = WritesNumber text (unix_secs date) × (unix_secs date < 253_402_300_800)
+
+-- the text is the seconds of some date
+abbrev pub IsDate : List ℕ → Type 0
+IsDate text = (date : HttpDate) × WritesDate text date
+
+-- the text is a number of 16 bits
+abbrev pub WritesCount : List ℕ → ℕ → Type 0
+WritesCount digits count = WritesNumber digits count × (count < 2 ^ 16)
+
+-- the grammar of what stands after the code of an answer
+abbrev pub WritesContent : List ℕ → Content → Type 0
+WritesContent text (Text rest) = text ≡ codes "text " ++ rest.now
+WritesContent text Empty = text ≡ codes "empty"
+WritesContent text (Stream count) = (digits : List ℕ) × (text ≡ codes "stream " ++ digits) × WritesCount digits count
+WritesContent text (Broken count) = (digits : List ℕ) × (text ≡ codes "broken " ++ digits) × WritesCount digits count
+
+-- the text is some content
+abbrev pub IsContent : List ℕ → Type 0
+IsContent text = (content : Content) × WritesContent text content
+
+-- the grammar of what stands after `respond`: a number, a code, and the content
+abbrev pub WritesAnswer : List ℕ → ℕ → ℕ → Content → Type 0
+WritesAnswer words number status content = (text : List ℕ) × BeginsByNumbers words number status text × WritesContent text content
+
+-- the words are some answer
+abbrev pub IsAnswer : List ℕ → Type 0
+IsAnswer words = (number : ℕ) × (status : ℕ) × (content : Content) × WritesAnswer words number status content
+
+-- the grammar of what stands after `read`: a number of 64 bits, a space, and one of 16 bits
+abbrev pub WritesRead : List ℕ → ℕ → ℕ → Type 0
+WritesRead words number count =
+    (digits : List ℕ) × BeginsByNumber words number digits × (number < 2 ^ 64) × WritesCount digits count
+
+-- the grammar of a line: which text says what
+abbrev pub SaysLine : List ℕ → ScriptLine → Type 0
+SaysLine text Blank = (text ≡ []) ⊎ ((comment : List ℕ) × (text ≡ codes "#" ++ comment))
+SaysLine text (Now date) = (digits : List ℕ) × (text ≡ codes "now " ++ digits) × WritesDate digits date
+SaysLine text Ask = text ≡ codes "ask"
+SaysLine text (AsReader number) = (digits : List ℕ) × (text ≡ codes "asreader " ++ digits) × WritesNumber digits number × (number < 2 ^ 64)
+SaysLine text (Read number count) = (words : List ℕ) × (text ≡ codes "read " ++ words) × WritesRead words number count
+SaysLine text (Respond number status content) = (words : List ℕ) × (text ≡ codes "respond " ++ words) × WritesAnswer words number status content
+SaysLine text (Writer number) = (digits : List ℕ) × (text ≡ codes "writer " ++ digits) × WritesNumber digits number × (number < 2 ^ 64)
+SaysLine text (Write number written) = (words : List ℕ) × (text ≡ codes "write " ++ words) × BeginsByNumber words number written.now × (number < 2 ^ 64)
+SaysLine text (Flush number) = (digits : List ℕ) × (text ≡ codes "flush " ++ digits) × WritesNumber digits number × (number < 2 ^ 64)
+SaysLine text (Upgrade number status protocol) = (words : List ℕ) × (text ≡ codes "upgrade " ++ words) × BeginsByNumbers words number status protocol.now
+SaysLine text (Finish number) = (digits : List ℕ) × (text ≡ codes "finish " ++ digits) × WritesNumber digits number × (number < 2 ^ 64)
+SaysLine text (Drop number) = (digits : List ℕ) × (text ≡ codes "drop " ++ digits) × WritesNumber digits number × (number < 2 ^ 64)
+
+-- the text says something
+abbrev pub SaysSome : List ℕ → Type 0
+SaysSome text = (line : ScriptLine) × SaysLine text line
+
+-- the line is ASCII and says this
+abbrev pub IsLine : List ℕ → ScriptLine → Type 0
+IsLine bytes line = IsAscii bytes × SaysLine bytes line
+
+-- the line is ASCII and says something
+abbrev pub IsGood : List ℕ → Type 0
+IsGood bytes = IsAscii bytes × SaysSome bytes

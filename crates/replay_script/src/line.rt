@@ -1,0 +1,191 @@
+//! What a line of a script says.
+ghost use Rattle.std.specs.Prelude.{◌≡◌, ◌<◌, ◌^◌, ℕ, List, ◌↔◌, IfSome, IsSomeAnd, IsSome};
+ghost use Rattle.std.specs.Option.{SomeIff};
+ghost use Rattle.std.specs.Str.Parse.{IsNumeral, digits_value};
+ghost use Rattle.replay_script.specs.ScriptLine.{BeginsByNumber, BeginsByNumbers, WritesDate, IsDate, WritesContent, IsContent, WritesAnswer, IsAnswer, WritesRead, SaysLine, SaysSome, IsLine, IsGood};
+
+use httpdate::HttpDate;
+
+/// What a line says.
+#[derive(Clone, Copy, Debug)]
+pub enum ScriptLine<'a> {
+    /// Nothing: it is empty, or a comment.
+    Blank,
+    /// The date of all the steps after it.
+    Now(HttpDate),
+    /// Asks for the next request.
+    Ask,
+    /// Sends the 100 that the request of this number expects.
+    AsReader(u64),
+    /// Reads the body of the request of this number, up to so many bytes.
+    Read(u64, u16),
+    /// Answers the request of this number by this code and content.
+    Respond(u64, u16, Content<'a>),
+    /// Takes the raw writer of the request of this number.
+    Writer(u64),
+    /// Writes this text by the raw writer of this number, or to the stream of its upgrade.
+    Write(u64, &'a str),
+    /// Sends what was written under this number.
+    Flush(u64),
+    /// Upgrades the request of this number by this code to this protocol.
+    Upgrade(u64, u16, &'a str),
+    /// Ends the raw writer of this number, or the stream of its upgrade.
+    Finish(u64),
+    /// Drops the request of this number.
+    Drop(u64),
+}
+
+/// What an answer consists of, after its code.
+#[derive(Clone, Copy, Debug)]
+pub enum Content<'a> {
+    /// This text.
+    Text(&'a str),
+    /// No data.
+    Empty,
+    /// So many bytes `x`, whose number isn't said.
+    Stream(u16),
+    /// The same, and a fault in place of the end.
+    Broken(u16),
+}
+
+// The number that decimal digits write, if it is below 2^64. `parse` takes a plus before them; a script doesn't.
+fn number_in(digits: &str) -> Option<u64>
+    ensures { SomeIff result (IsNumeral 10 digits.now × (digits_value 10 digits.now < 2 ^ 64))
+        (digits_value 10 digits.now) }
+{
+    if digits.starts_with('+') {
+        return None;
+    }
+    digits.parse::<u64>().ok()
+}
+
+// The number that stands before the first space, and what stands after it.
+fn number_before(text: &str) -> Option<(u64, &str)>
+    ensures some { IfSome result (λ r. BeginsByNumber text.now r.0 r.1.now) }
+    ensures found { (n : ℕ) → (rest : List ℕ) → n < 2 ^ 64 → BeginsByNumber text.now n rest
+        → IsSomeAnd result (λ r. (r.0 ≡ n) × (r.1.now ≡ rest)) }
+{
+    let (digits, rest) = text.split_once(' ')?;
+    Some((number_in(digits)?, rest))
+}
+
+// The date so many seconds after the beginning of 1970, up to the end of the year 9999.
+fn date_in(seconds: &str) -> Option<HttpDate>
+    ensures some { IfSome result (λ date. WritesDate seconds.now date) }
+    ensures found { IsDate seconds.now → IsSome result }
+{
+    HttpDate::from_unix_secs(number_in(seconds)?).ok()
+}
+
+// The number that decimal digits write, if it is below 2^16.
+fn count_in(digits: &str) -> Option<u16>
+    ensures { SomeIff result (IsNumeral 10 digits.now × (digits_value 10 digits.now < 2 ^ 16))
+        (digits_value 10 digits.now) }
+{
+    u16::try_from(number_in(digits)?).ok()
+}
+
+// What stands after the code of an answer: `empty`, or `text` and the text, or `stream` or `broken` and a number.
+fn content_in(text: &str) -> Option<Content<'_>>
+    ensures some { IfSome result (λ content. WritesContent text.now content) }
+    ensures found { IsContent text.now → IsSome result }
+{
+    if text == "empty" {
+        return Some(Content::Empty);
+    }
+    if let Some(text) = text.strip_prefix("text ") {
+        return Some(Content::Text(text));
+    }
+    if let Some(digits) = text.strip_prefix("stream ") {
+        return Some(Content::Stream(count_in(digits)?));
+    }
+    let digits = text.strip_prefix("broken ")?;
+    Some(Content::Broken(count_in(digits)?))
+}
+
+// The number and the code that stand before the first two spaces, and what stands after them.
+fn numbers_before(text: &str) -> Option<(u64, u16, &str)>
+    ensures some { IfSome result (λ r. BeginsByNumbers text.now r.0 r.1 r.2.now) }
+    ensures found { (n : ℕ) → (status : ℕ) → (rest : List ℕ) → BeginsByNumbers text.now n status rest
+        → IsSomeAnd result (λ r. (r.0 ≡ n) × (r.1 ≡ status) × (r.2.now ≡ rest)) }
+{
+    let (number, behind) = number_before(text)?;
+    let (status, rest) = number_before(behind)?;
+    let status = u16::try_from(status).ok()?;
+    Some((number, status, rest))
+}
+
+// What stands after `respond`: a number, a code, and the content.
+fn answer_in(words: &str) -> Option<(u64, u16, Content<'_>)>
+    ensures some { IfSome result (λ r. WritesAnswer words.now r.0 r.1 r.2) }
+    ensures found { IsAnswer words.now → IsSome result }
+{
+    let (number, status, text) = numbers_before(words)?;
+    Some((number, status, content_in(text)?))
+}
+
+// What stands after `read`: a number, and how many bytes are read.
+fn read_in(words: &str) -> Option<(u64, u16)>
+    ensures some { IfSome result (λ r. WritesRead words.now r.0 r.1) }
+    ensures found { (n : ℕ) → (count : ℕ) → WritesRead words.now n count → IsSome result }
+{
+    let (number, digits) = number_before(words)?;
+    Some((number, count_in(digits)?))
+}
+
+/// What a text says, whatever its characters are; None where it says nothing known.
+pub fn text_in(text: &str) -> Option<ScriptLine<'_>>
+    ensures some { IfSome result (λ line. SaysLine text.now line) }
+    ensures found { SaysSome text.now → IsSome result }
+{
+    if text.is_empty() || text.starts_with('#') {
+        return Some(ScriptLine::Blank);
+    }
+    if text == "ask" {
+        return Some(ScriptLine::Ask);
+    }
+    if let Some(seconds) = text.strip_prefix("now ") {
+        return Some(ScriptLine::Now(date_in(seconds)?));
+    }
+    if let Some(number) = text.strip_prefix("asreader ") {
+        return Some(ScriptLine::AsReader(number_in(number)?));
+    }
+    if let Some(number) = text.strip_prefix("writer ") {
+        return Some(ScriptLine::Writer(number_in(number)?));
+    }
+    if let Some(number) = text.strip_prefix("flush ") {
+        return Some(ScriptLine::Flush(number_in(number)?));
+    }
+    if let Some(number) = text.strip_prefix("finish ") {
+        return Some(ScriptLine::Finish(number_in(number)?));
+    }
+    if let Some(number) = text.strip_prefix("drop ") {
+        return Some(ScriptLine::Drop(number_in(number)?));
+    }
+    if let Some(words) = text.strip_prefix("write ") {
+        let (number, written) = number_before(words)?;
+        return Some(ScriptLine::Write(number, written));
+    }
+    if let Some(words) = text.strip_prefix("upgrade ") {
+        let (number, status, protocol) = numbers_before(words)?;
+        return Some(ScriptLine::Upgrade(number, status, protocol));
+    }
+    if let Some(words) = text.strip_prefix("read ") {
+        let (number, count) = read_in(words)?;
+        return Some(ScriptLine::Read(number, count));
+    }
+    let words = text.strip_prefix("respond ")?;
+    let (number, status, content) = answer_in(words)?;
+    Some(ScriptLine::Respond(number, status, content))
+}
+
+/// What a line says; None for a line that says nothing known, or that has a byte from 128 on.
+pub fn line_in(bytes: &[u8]) -> Option<ScriptLine<'_>>
+    ensures says { IfSome result (λ line. IsLine bytes.now line) }
+    ensures good { IsSome result ↔ IsGood bytes.now }
+{
+    if !bytes.is_ascii() {
+        return None;
+    }
+    text_in(str::from_utf8(bytes).ok()?)
+}

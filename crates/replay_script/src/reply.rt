@@ -1,0 +1,102 @@
+//! The lines that report what the steps were answered.
+ghost use Rattle.std.specs.Prelude.{◌≡◌, Some};
+ghost use Rattle.replay_script.specs.Reply.{kind_name, length_text, handed_text, bytes_text, reply_text};
+ghost use Rattle.tiny_http_core.specs.HeadReads.{head_message};
+ghost use Rattle.tiny_http_core.specs.Seen.{seen};
+
+use std::fmt;
+use std::io::ErrorKind;
+use tiny_http_core::driver::Reply;
+use tiny_http_core::exchange::Head;
+
+/// A reply, printed as one line without its end.
+#[derive(Drop)]
+pub struct ReplyLine<'a>(pub &'a Reply);
+
+/// A body's length, printed as a number, or as `-` where the head says none.
+#[derive(Drop)]
+struct Length(Option<usize>);
+
+impl fmt::Display for Length {
+    ghost output = { λ l. Some (length_text l.0) };
+
+    fn fmt<W: fmt::Write>(&self, f: &mut fmt::Formatter<W>) -> fmt::Result {
+        match self.0 {
+            Some(length) => write!(f, "{length}"),
+            None => write!(f, "-"),
+        }
+    }
+}
+
+/// A request that was handed out under this number.
+#[derive(Drop)]
+struct Handed<'a>(u64, &'a Head);
+
+impl fmt::Display for Handed<'_> {
+    ghost output = { λ h. Some (handed_text h.0 (head_message h.1.now) h.1.now.body_length) };
+
+    fn fmt<W: fmt::Write>(&self, f: &mut fmt::Formatter<W>) -> fmt::Result {
+        let number = self.0;
+        let head = self.1;
+        let method = &head.method;
+        let path = head.path.as_str();
+        let version = head.version;
+        let headers = head.headers.len();
+        let length = Length(head.body_length);
+        write!(
+            f,
+            "handed {number} {method} {path} {version} {headers} {length}"
+        )
+    }
+}
+
+/// Bytes of a body, printed as a space and two hexadecimal digits a byte; nothing where there are none.
+#[derive(Drop)]
+struct Bytes<'a>(&'a [u8]);
+
+impl fmt::Display for Bytes<'_> {
+    ghost output = { λ b. Some (bytes_text b.0.now) };
+
+    fn fmt<W: fmt::Write>(&self, f: &mut fmt::Formatter<W>) -> fmt::Result {
+        let bytes = self.0;
+        if bytes.is_empty() {
+            return Ok(());
+        }
+        write!(f, " ")?;
+        for byte in bytes {
+            let byte = *byte;
+            write!(f, "{byte:02x}")?;
+        }
+        Ok(())
+    }
+}
+
+// The kinds of fault that the replies report apart.
+fn name_of(kind: ErrorKind) -> &'static str
+    ensures { result.now ≡ kind_name kind }
+{
+    match kind {
+        ErrorKind::InvalidData => "InvalidData",
+        ErrorKind::UnexpectedEof => "UnexpectedEof",
+        ErrorKind::OutOfMemory => "OutOfMemory",
+        _ => "Other",
+    }
+}
+
+impl fmt::Display for ReplyLine<'_> {
+    ghost output = { λ r. Some (reply_text (seen r.0.now)) };
+
+    fn fmt<W: fmt::Write>(&self, f: &mut fmt::Formatter<W>) -> fmt::Result {
+        match self.0 {
+            Reply::Handed(number, head) => write!(f, "{}", Handed(*number, head)),
+            Reply::Fault(kind) => write!(f, "fault {}", name_of(*kind)),
+            Reply::NotYet => write!(f, "notyet"),
+            Reply::Given(bytes) => write!(f, "given{}", Bytes(bytes.as_slice())),
+            Reply::Ended => write!(f, "ended"),
+            Reply::Done => write!(f, "done"),
+            Reply::Refused => write!(f, "refused"),
+            Reply::NoSuch => write!(f, "nosuch"),
+            Reply::Memory => write!(f, "memory"),
+        }
+    }
+}

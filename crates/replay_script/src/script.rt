@@ -1,0 +1,198 @@
+//! The steps that a script names, line by line.
+ghost use Rattle.std.specs.Prelude.{◌≡◌, ℕ, ◌++◌, ◌∷◌, [], map, Err, IfOk};
+ghost use Rattle.std.specs.Option.{option_map};
+ghost use Rattle.std.specs.List.{AllZip};
+ghost use Rattle.httpdate.specs.Date.{unix_secs};
+ghost use Rattle.tiny_http_wire.specs.Answer.{text_plain};
+ghost use Rattle.tiny_http_core.specs.ResponseValue.{response_of};
+ghost use Rattle.replay_script.specs.ScriptLine.{IsLine};
+ghost use Rattle.replay_script.specs.Script.{script_lines, IsFirstBadLine, xs_response, response_with, said_step, date_behind, on_date, steps_from, IsScript, response_value, step_value, timed_value};
+
+use crate::line::{Content, ScriptLine, line_in};
+use crate::script_data::ScriptData;
+use httpdate::HttpDate;
+use std::alloc::{AllocError, Global};
+use std::io::ErrorKind;
+use tiny_http_core::driver::{Step, Timed};
+use tiny_http_wire::common::StatusCode;
+use tiny_http_wire::device::Stop;
+use tiny_http_wire::response::Response;
+
+/// Why a script names no steps.
+#[derive(Clone, Copy, Debug, PartialEq, Eq)]
+pub enum ScriptFault {
+    /// The first line that says nothing known, counted from 1 over all lines.
+    BadLine(usize),
+    OutOfMemory,
+}
+
+/// The date of the steps before any line `now`: Wed, 04 May 1983 11:17:00 GMT.
+pub fn first_date() -> HttpDate
+    ensures { unix_secs result ≡ 420_895_020 }
+{
+    match HttpDate::from_unix_secs(420_895_020) {
+        Ok(date) => date,
+        Err(_) => unreachable!(),
+    }
+}
+
+// The lines of a script: a LF ends a line, and so does the end.
+fn split_lines(alloc: Global, script: &[u8]) -> Result<Vec<&[u8]>, AllocError>
+    ensures { IfOk result (λ lines. map (λ line. line.now) lines.items ≡ script_lines script.now) }
+{
+    script.split(|b| *b == b'\n').collect(alloc)
+}
+
+// What the lines say; or the first one that says nothing.
+fn read_lines<'a>(alloc: Global, lines: &[&'a [u8]]) -> Result<Vec<ScriptLine<'a>>, ScriptFault>
+    ensures says { IfOk result (λ said. AllZip IsLine (map (λ line. line.now) lines.now) said.items) }
+    ensures bad { (n : ℕ) → result ≡ Err (ScriptFault.BadLine n)
+        → IsFirstBadLine (map (λ line. line.now) lines.now) n }
+{
+    let mut said = Vec::new(alloc);
+    for (i, bytes) in lines.iter().enumerate() {
+        let Some(line) = line_in(bytes) else {
+            return Err(ScriptFault::BadLine(i + 1));
+        };
+        if said.push(line).is_err() {
+            return Err(ScriptFault::OutOfMemory);
+        }
+    }
+    Ok(said)
+}
+
+// An answer by this code with a text.
+fn text_response(
+    alloc: Global,
+    status: StatusCode,
+    text: &str,
+) -> Result<Response<ScriptData>, AllocError>
+    ensures { IfOk result (λ response. response_value response ≡ response_of status.0 (text_plain ∷ []) text.now) }
+{
+    let data = ScriptData::from_text(String::from_str(alloc, text)?);
+    // The header is that of every text, and an empty one takes no memory.
+    let response = Response::from_string(alloc, String::new(alloc))?.with_status_code(status);
+    Ok(response.with_data(data, Some(text.len())))
+}
+
+// An answer by this code with so many bytes `x` and this stop, of this length, if it is known.
+fn xs_response(
+    alloc: Global,
+    status: StatusCode,
+    count: u16,
+    stop: Stop,
+    length: Option<usize>,
+) -> Response<ScriptData>
+    ensures { response_value result ≡ xs_response status.0 count stop length }
+{
+    Response::empty(alloc, status).with_data(ScriptData::xs(count, stop), length)
+}
+
+// The answer by this code with this content.
+fn response_with(
+    alloc: Global,
+    status: StatusCode,
+    content: &Content<'_>,
+) -> Result<Response<ScriptData>, AllocError>
+    ensures { IfOk result (λ response. response_value response ≡ response_with status.0 content.now) }
+{
+    match content {
+        Content::Text(text) => text_response(alloc, status, text),
+        Content::Empty => Ok(xs_response(alloc, status, 0, Stop::End, Some(0))),
+        Content::Stream(count) => Ok(xs_response(alloc, status, *count, Stop::End, None)),
+        Content::Broken(count) => {
+            let fault = Stop::Fault(ErrorKind::Other);
+            Ok(xs_response(alloc, status, *count, fault, None))
+        }
+    }
+}
+
+/// The step that a line names, if it names one. It takes memory for a response and for the bytes of a `write`.
+pub fn step_in(alloc: Global, line: &ScriptLine<'_>) -> Result<Option<Step<ScriptData>>, AllocError>
+    ensures { IfOk result (λ step. option_map step_value step ≡ said_step line.now) }
+{
+    match line {
+        ScriptLine::Blank | ScriptLine::Now(_) => Ok(None),
+        ScriptLine::Ask => Ok(Some(Step::Ask)),
+        ScriptLine::AsReader(number) => Ok(Some(Step::AsReader(*number))),
+        ScriptLine::Read(number, count) => Ok(Some(Step::Read(*number, *count))),
+        ScriptLine::Respond(number, status, content) => {
+            let response = response_with(alloc, StatusCode(*status), content)?;
+            Ok(Some(Step::Respond(*number, response)))
+        }
+        ScriptLine::Writer(number) => Ok(Some(Step::IntoWriter(*number))),
+        ScriptLine::Write(number, written) => {
+            let written = String::from_str(alloc, written)?;
+            Ok(Some(Step::Write(*number, written.into_bytes())))
+        }
+        ScriptLine::Flush(number) => Ok(Some(Step::Flush(*number))),
+        ScriptLine::Upgrade(number, status, protocol) => {
+            let protocol = String::from_str(alloc, protocol)?;
+            let response = response_with(alloc, StatusCode(*status), &Content::Empty)?;
+            Ok(Some(Step::Upgrade(*number, protocol, response)))
+        }
+        ScriptLine::Finish(number) => Ok(Some(Step::Finish(*number))),
+        ScriptLine::Drop(number) => Ok(Some(Step::Drop(*number))),
+    }
+}
+
+// The date from a line on.
+fn date_from(now: HttpDate, line: &ScriptLine<'_>) -> HttpDate
+    ensures { result ≡ date_behind now line.now }
+{
+    match line {
+        ScriptLine::Now(date) => *date,
+        _ => now,
+    }
+}
+
+// Adds the step that a line names, if it names one, on this date.
+fn add_step(
+    alloc: Global,
+    steps: &mut Vec<Timed<ScriptData>>,
+    now: HttpDate,
+    line: &ScriptLine<'_>,
+) -> Result<(), AllocError>
+    ensures { IfOk result (λ _. map timed_value steps.new.items
+        ≡ map timed_value steps.old.items ++ on_date now (said_step line.now)) }
+{
+    if let Some(step) = step_in(alloc, line)? {
+        steps.push(Timed { now, step })?;
+    }
+    Ok(())
+}
+
+// The steps of these lines, from a date on.
+fn read_steps(
+    alloc: Global,
+    first: HttpDate,
+    lines: &[ScriptLine<'_>],
+) -> Result<Vec<Timed<ScriptData>>, AllocError>
+    ensures { IfOk result (λ steps. map timed_value steps.items ≡ steps_from first lines.now) }
+{
+    let mut steps = Vec::new(alloc);
+    let mut now = first;
+    for line in lines {
+        now = date_from(now, line);
+        add_step(alloc, &mut steps, now, line)?;
+    }
+    Ok(steps)
+}
+
+/// The steps that a script names, each with its date; or its first bad line.
+pub fn read_script(
+    alloc: Global,
+    script: &[u8],
+) -> Result<Vec<Timed<ScriptData>>, ScriptFault>
+    ensures steps { IfOk result (λ steps. IsScript script.now (map timed_value steps.items)) }
+    ensures bad { (n : ℕ) → result ≡ Err (ScriptFault.BadLine n) → IsFirstBadLine (script_lines script.now) n }
+{
+    let Ok(lines) = split_lines(alloc, script) else {
+        return Err(ScriptFault::OutOfMemory);
+    };
+    let said = read_lines(alloc, lines.as_slice())?;
+    match read_steps(alloc, first_date(), said.as_slice()) {
+        Ok(steps) => Ok(steps),
+        Err(_) => Err(ScriptFault::OutOfMemory),
+    }
+}

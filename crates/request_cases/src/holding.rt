@@ -1,0 +1,95 @@
+//! A connection, and what the program holds of its requests.
+use crate::shared::Shared;
+use case_files::devices::Pieces;
+use std::alloc::{AllocError, Global};
+use std::io::Write;
+use std::sync::Wait;
+use tiny_http_core::custom_stream::CustomStream;
+use tiny_http_core::outlet::Outlet;
+use tiny_http_request::client::ClientConnection;
+use tiny_http_request::request::{Body, Request};
+use tiny_http_request::sequential::SequentialWriter;
+use tiny_http_wire::device::Metered;
+
+/// The writer below a connection's outlet.
+pub(crate) type Below<R> = Metered<Shared<R>>;
+
+/// A request of these connections.
+pub(crate) type Asked<R> = Request<Pieces, Below<R>, R>;
+
+/// A raw writer of these connections.
+pub(crate) type RawWriter<R> = SequentialWriter<Outlet<Below<R>>, R>;
+
+/// The stream of an upgrade.
+pub(crate) type Stream<R> = CustomStream<Body<Pieces, R>, RawWriter<R>>;
+
+/// What is held under a number.
+#[derive(Drop)]
+pub(crate) enum Held<R: Wait + Copy> {
+    Request(Asked<R>),
+    Writer(RawWriter<R>),
+    Stream(Stream<R>),
+}
+
+/// What is held, its number, and whether it has written what may not have been sent yet.
+#[derive(Drop)]
+struct Numbered<R: Wait + Copy> {
+    number: u64,
+    held: Held<R>,
+    has_written: bool,
+}
+
+/// A connection, and what is held of its requests.
+#[derive(Drop)]
+pub(crate) struct Holding<R: Wait + Copy> {
+    pub(crate) client: ClientConnection<Pieces, Below<R>, R>,
+    items: Vec<Numbered<R>>,
+}
+
+impl<R: Wait + Copy> Holding<R> {
+    /// Holds nothing of this connection.
+    pub(crate) fn new(
+        alloc: Global,
+        client: ClientConnection<Pieces, Below<R>, R>,
+    ) -> Holding<R> {
+        Holding {
+            client,
+            items: Vec::new(alloc),
+        }
+    }
+
+    /// Takes out what is held under a number.
+    pub(crate) fn take(&mut self, number: u64) -> Option<Held<R>> {
+        let place = self.items.iter().position(|item| item.number == number)?;
+        let Numbered { held, .. } = self.items.remove(place);
+        Some(held)
+    }
+
+    /// Holds this under a number.
+    pub(crate) fn put(
+        &mut self,
+        number: u64,
+        held: Held<R>,
+        has_written: bool,
+    ) -> Result<(), AllocError> {
+        let item = Numbered {
+            number,
+            held,
+            has_written,
+        };
+        self.items.push(item).map_err(AllocError::from)
+    }
+
+    /// Sends what raw writers and streams have written.
+    pub(crate) fn send_held(&mut self) {
+        for item in self.items.iter_mut() {
+            if item.has_written {
+                match &mut item.held {
+                    Held::Request(_) => {}
+                    Held::Writer(writer) => drop(writer.flush()),
+                    Held::Stream(stream) => drop(stream.flush()),
+                }
+            }
+        }
+    }
+}
