@@ -54,7 +54,13 @@ pub fn reply_line(alloc: Global, reply: &Reply) -> Result<Vec<u8>, AllocError> {
             let number = format!(in alloc; "{number}")?;
             let request = (number.as_str(), &head.method);
             let target = (head.path.as_str(), head.version);
-            handed_line(alloc, request, target, head.headers.as_slice(), head.body_length)
+            handed_line(
+                alloc,
+                request,
+                target,
+                head.headers.as_slice(),
+                head.body_length,
+            )
         }
         Reply::Fault(kind) => fault_line(alloc, *kind),
         Reply::Given(bytes) => given_line(alloc, bytes.as_slice()),

@@ -4,9 +4,8 @@ use crate::outcome::{Difference, Outcome, Trial, first_difference};
 use crate::reading::{CaseFault, read_cases};
 use crate::steps::StepsFault;
 use std::alloc::{AllocError, Global};
-use std::fmt;
-use std::io;
 use std::io::Write;
+use std::{fmt, io};
 
 /// A way to run the steps of a case.
 pub trait Runner {
@@ -52,8 +51,8 @@ impl fmt::Display for CasesFault<'_> {
     }
 }
 
-impl From<AllocError> for CasesFault<'_> {
-    fn from(_error: AllocError) -> CasesFault<'static> {
+impl<'a> From<AllocError> for CasesFault<'a> {
+    fn from(_error: AllocError) -> CasesFault<'a> {
         CasesFault::OutOfMemory
     }
 }
@@ -201,7 +200,12 @@ pub fn try_file<'a, F: Runner, O: Write>(
         runs,
         differing,
     } = tally;
-    if writeln!(out, "{name}: {cases} cases, {runs} runs, {differing} differ").is_err() {
+    if writeln!(
+        out,
+        "{name}: {cases} cases, {runs} runs, {differing} differ"
+    )
+    .is_err()
+    {
         return Err(CasesFault::CannotWrite);
     }
     Ok(tally)

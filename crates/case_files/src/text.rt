@@ -56,7 +56,9 @@ fn digit(letter: u8) -> Option<u8> {
 fn byte_before(digits: &[u8]) -> Option<(u8, &[u8])> {
     let (first, behind) = digits.split_first()?;
     let (second, behind) = behind.split_first()?;
-    let byte = digit(*first)?.checked_mul(16)?.checked_add(digit(*second)?)?;
+    let byte = digit(*first)?
+        .checked_mul(16)?
+        .checked_add(digit(*second)?)?;
     Some((byte, behind))
 }
 

@@ -1,11 +1,11 @@
 //! Scripts as a whole: what is written, and the exit status.
 use crate::fault::ReplayFault;
 use crate::{read_files, replay_on, report};
+use replay_script::reply::ReplyLine;
 use std::alloc::{AllocError, Global};
 use std::io::ErrorKind;
 use std::process::Abort;
 use std::test::Fail;
-use replay_script::reply::ReplyLine;
 use tiny_http_core::driver::Reply;
 
 /// What a replay wrote, and its exit status.

@@ -180,10 +180,7 @@ fn read_steps(
 }
 
 /// The steps that a script names, each with its date; or its first bad line.
-pub fn read_script(
-    alloc: Global,
-    script: &[u8],
-) -> Result<Vec<Timed<ScriptData>>, ScriptFault>
+pub fn read_script(alloc: Global, script: &[u8]) -> Result<Vec<Timed<ScriptData>>, ScriptFault>
     ensures steps { IfOk result (λ steps. IsScript script.now (map timed_value steps.items)) }
     ensures bad { (n : ℕ) → result ≡ Err (ScriptFault.BadLine n) → IsFirstBadLine (script_lines script.now) n }
 {

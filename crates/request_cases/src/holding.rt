@@ -48,10 +48,7 @@ pub(crate) struct Holding<R: Wait + Copy> {
 
 impl<R: Wait + Copy> Holding<R> {
     /// Holds nothing of this connection.
-    pub(crate) fn new(
-        alloc: Global,
-        client: ClientConnection<Pieces, Below<R>, R>,
-    ) -> Holding<R> {
+    pub(crate) fn new(alloc: Global, client: ClientConnection<Pieces, Below<R>, R>) -> Holding<R> {
         Holding {
             client,
             items: Vec::new(alloc),

@@ -40,8 +40,14 @@ impl<R: Wait + Copy> Runner for ByRequests<R> {
         let writer = writer.map_err(AllocError::from)?;
         let theirs = Shared::new(self.rt, Arc::try_clone(&writer)?);
         let reader = trial.reader(alloc, case)?;
-        let client =
-            ClientConnection::over(self.rt, alloc, Metered::new(theirs), reader, None, false)?;
+        let client = ClientConnection::over(
+            self.rt,
+            alloc,
+            Metered::new(theirs),
+            reader,
+            None,
+            false,
+        )?;
         let mut holding = Holding::new(alloc, client);
         let mut replies = Vec::new(alloc);
         let mut wanted = case.steps.iter().filter(|step| !is_date(step));

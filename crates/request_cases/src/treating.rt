@@ -239,9 +239,10 @@ pub(crate) fn treat<R: Wait + Copy>(
             drop(stream);
             word(alloc, "done")?
         }
-        (Held::Request(request), step @ (Step::Respond(..) | Step::IntoWriter(_) | Step::Upgrade(..) | Step::Drop(_))) => {
-            treat_request(alloc, holding, (number, request), step, now)?
-        }
+        (
+            Held::Request(request),
+            step @ (Step::Respond(..) | Step::IntoWriter(_) | Step::Upgrade(..) | Step::Drop(_)),
+        ) => { treat_request(alloc, holding, (number, request), step, now)? }
         (held, step) => treat_held(alloc, holding, (number, held), step, now)?,
     };
     Ok(line)
