@@ -9,6 +9,9 @@ use std::{fmt, io};
 
 /// A way to run the steps of a case.
 pub trait Runner {
+    /// How the lines of a report say that a case was run in this way.
+    fn how(&self) -> &'static str;
+
     /// Whether the case is one that this way can run.
     fn takes(&self, case: &Case) -> bool;
 
@@ -94,7 +97,7 @@ const MOST_CALLS: u64 = 10_000;
 // Reports a difference by a line.
 fn report<O: Write>(
     out: &mut O,
-    case: &Case,
+    (case, how): (&Case, &str),
     trial: Trial,
     difference: &Difference,
 ) -> io::Result<()> {
@@ -106,11 +109,11 @@ fn report<O: Write>(
     match trial.failing {
         Some(call) => writeln!(
             out,
-            "{name}, {piece} bytes a read, call {call} failing: {what} is {found} and not {wanted}"
+            "{name}{how}, {piece} bytes a read, call {call} failing: {what} is {found} and not {wanted}"
         ),
         None => writeln!(
             out,
-            "{name}, {piece} bytes a read: {what} is {found} and not {wanted}"
+            "{name}{how}, {piece} bytes a read: {what} is {found} and not {wanted}"
         ),
     }
 }
@@ -130,7 +133,7 @@ fn try_once<'a, F: Runner, O: Write>(
     let is_made_to_fail = trial.failing.is_some();
     if let Some(difference) = first_difference(alloc, case, &outcome, is_made_to_fail)? {
         tally.differing = tally.differing.saturating_add(1);
-        if report(out, case, trial, &difference).is_err() {
+        if report(out, (case, runner.how()), trial, &difference).is_err() {
             return Err(CasesFault::CannotWrite);
         }
     }
@@ -200,9 +203,10 @@ pub fn try_file<'a, F: Runner, O: Write>(
         runs,
         differing,
     } = tally;
+    let how = runner.how();
     if writeln!(
         out,
-        "{name}: {cases} cases, {runs} runs, {differing} differ"
+        "{name}: {cases} cases, {runs} runs{how}, {differing} differ"
     )
     .is_err()
     {
@@ -211,17 +215,18 @@ pub fn try_file<'a, F: Runner, O: Write>(
     Ok(tally)
 }
 
-/// Tries the cases of all files. Whether no run differed.
-pub fn try_files<'a, F: Runner, O: Write>(
+/// Tries the cases of all files in both ways. Whether no run differed.
+pub fn try_files<'a, F: Runner, G: Runner, O: Write>(
     alloc: Global,
-    runner: &mut F,
+    (first, second): (&mut F, &mut G),
     out: &mut O,
     files: &[CaseFile<'a>],
 ) -> Result<bool, CasesFault<'a>> {
     let mut is_same = true;
     for file in files {
-        let tally = try_file(alloc, runner, out, file)?;
-        is_same = is_same && tally.differing == 0;
+        let one = try_file(alloc, first, out, file)?;
+        let other = try_file(alloc, second, out, file)?;
+        is_same = is_same && one.differing == 0 && other.differing == 0;
     }
     if out.flush().is_err() {
         return Err(CasesFault::CannotWrite);

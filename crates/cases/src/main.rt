@@ -1,62 +1,23 @@
-//! Runs the cases of files by `run`: `cases FILE..`. Each case is tried by four readers, and with each call of its writer
-//! failing. docs/CASES.md describes the files.
+//! Runs the cases of files: `cases FILE..`. Each case is run by `run`, and by requests behind locks in one thread if no call
+//! would have to wait there. It is tried by four readers, and with each call of its writer failing. docs/CASES.md describes
+//! the files.
 #![tactic(auto)]
 
-use case_files::case::Case;
-use case_files::outcome::{Outcome, Trial};
+mod by_requests;
+mod by_run;
+mod holding;
+mod shared;
+mod treating;
+
+use crate::by_requests::ByRequests;
+use crate::by_run::ByRun;
 use case_files::program::run_program;
-use case_files::replies::reply_line;
-use case_files::report::Runner;
-use case_files::steps::{StepsFault, steps_of};
-use std::alloc::{AllocError, Global};
 use std::process::ExitCode;
-use tiny_http_core::driver::{Reply, run};
-use tiny_http_wire::device::{Metered, WriteDevice};
-
-/// Runs steps by `run`.
-#[derive(Drop)]
-struct ByRun;
-
-// The lines of the replies.
-fn lines_of(alloc: Global, replies: &[Reply]) -> Result<Vec<Vec<u8>>, AllocError> {
-    let mut lines = Vec::new(alloc);
-    for reply in replies {
-        lines.push(reply_line(alloc, reply)?)?;
-    }
-    Ok(lines)
-}
-
-impl Runner for ByRun {
-    /// `run` takes all steps.
-    fn takes(&self, _case: &Case) -> bool {
-        true
-    }
-
-    /// Runs the steps. The output is what the writer took, and what was held back.
-    fn run(&mut self, alloc: Global, case: &Case, trial: Trial) -> Result<Outcome, StepsFault> {
-        let reader = trial.reader(alloc, case)?;
-        let writer = Metered::new(trial.writer(alloc, case));
-        let Ok(record) = run(alloc, reader, writer, steps_of(alloc, case)?) else {
-            return Err(StepsFault::OutOfMemory);
-        };
-        let replies = lines_of(alloc, record.replies.as_slice())?;
-        let held = record.outlet.held().to_vec(alloc)?;
-        let writer = record.outlet.into_inner();
-        let failures = writer.failures();
-        let writer = writer.into_inner();
-        let mut output = writer.taken().to_vec(alloc)?;
-        output.extend_from_slice(held.as_slice())?;
-        Ok(Outcome {
-            replies,
-            output,
-            failures,
-            later: writer.later(),
-        })
-    }
-}
 
 fn main(rt: HostRuntime) -> ExitCode {
     let mut out = rt.stdout();
     let mut err = rt.stderr();
-    ExitCode::from(run_program(&rt, "cases", &mut ByRun, &mut out, &mut err))
+    let mut by_requests = ByRequests::new(rt);
+    let runners = (&mut ByRun, &mut by_requests);
+    ExitCode::from(run_program(&rt, "cases", runners, &mut out, &mut err))
 }

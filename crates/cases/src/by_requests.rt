@@ -1,32 +1,34 @@
-//! Runs the cases of files by requests behind locks, in one thread: `request_cases FILE..`. It leaves out the cases in which a
-//! call would have to wait. docs/CASES.md describes the files.
-#![tactic(auto)]
-
-mod holding;
-mod shared;
-mod treating;
-
+//! The cases by the calls of a connection and of its requests behind locks, in one thread.
 use crate::holding::Holding;
 use crate::shared::Shared;
 use crate::treating::treat;
 use case_files::case::Case;
 use case_files::outcome::{Outcome, Trial, is_date};
-use case_files::program::run_program;
 use case_files::report::Runner;
 use case_files::steps::{StepsFault, steps_of};
 use std::alloc::{AllocError, Global};
-use std::process::ExitCode;
 use std::sync::{Arc, Mutex, Wait};
 use tiny_http_request::client::ClientConnection;
 use tiny_http_wire::device::Metered;
 
 /// Runs steps by the calls of a connection and of its requests.
 #[derive(Drop)]
-struct ByRequests<R> {
+pub(crate) struct ByRequests<R> {
     rt: R,
 }
 
+impl<R> ByRequests<R> {
+    /// Runs steps over this runtime.
+    pub(crate) fn new(rt: R) -> ByRequests<R> {
+        ByRequests { rt }
+    }
+}
+
 impl<R: Wait + Copy> Runner for ByRequests<R> {
+    fn how(&self) -> &'static str {
+        " by requests"
+    }
+
     /// In one thread no call waits: a case with a step that is put off is left out.
     fn takes(&self, case: &Case) -> bool {
         case.steps
@@ -68,11 +70,4 @@ impl<R: Wait + Copy> Runner for ByRequests<R> {
             later: writer.later(),
         })
     }
-}
-
-fn main(rt: HostRuntime) -> ExitCode {
-    let mut out = rt.stdout();
-    let mut err = rt.stderr();
-    let mut runner = ByRequests { rt };
-    ExitCode::from(run_program(&rt, "request_cases", &mut runner, &mut out, &mut err))
 }
