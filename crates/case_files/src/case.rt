@@ -57,4 +57,6 @@ pub struct Case {
     pub steps: Vec<CaseStep>,
     /// What is sent, and then held back.
     pub output: Vec<u8>,
+    /// Why no further request comes after the steps, if the case says so.
+    pub end: Option<Vec<u8>>,
 }

@@ -26,6 +26,8 @@ pub struct Outcome {
     pub failures: u64,
     /// How many calls came after one that failed.
     pub later: u64,
+    /// Why no further request comes, if that can be known.
+    pub end: Option<Vec<u8>>,
 }
 
 /// The kind by which a call of the writer is made to fail: that by which much code tries again.
@@ -158,6 +160,22 @@ fn output_differs(
     differing(alloc, what, found, wanted)
 }
 
+// Why no further request comes, where the case says so, it is known, and it differs.
+fn end_differs(
+    alloc: Global,
+    case: &Case,
+    outcome: &Outcome,
+) -> Result<Option<Difference>, AllocError> {
+    let (Some(wanted), Some(found)) = (&case.end, &outcome.end) else {
+        return Ok(None);
+    };
+    if found.as_slice() == wanted.as_slice() {
+        return Ok(None);
+    }
+    let what = String::from_str(alloc, "the end")?;
+    differing(alloc, what, found.as_slice(), wanted.as_slice())
+}
+
 /// Where the outcome of a trial first differs from what its case says, if it does. Where a call of the writer failed that was
 /// made to, the output is a front of the case's, one failure is counted, and the replies are those of the case up to the one
 /// that reports it. After a failure the writer is never called again.
@@ -169,6 +187,9 @@ pub fn first_difference(
 ) -> Result<Option<Difference>, AllocError> {
     let is_failing = is_made_to_fail && outcome.failures > 0;
     if let Some(found) = replies_differ(alloc, case, outcome, is_failing)? {
+        return Ok(Some(found));
+    }
+    if let Some(found) = end_differs(alloc, case, outcome)? {
         return Ok(Some(found));
     }
     let output = outcome.output.as_slice();

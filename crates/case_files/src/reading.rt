@@ -54,6 +54,7 @@ fn begin(alloc: Global, cases: &mut Vec<Case>, name: &str) -> Result<(), LineFau
         room: None,
         steps: Vec::new(alloc),
         output: Vec::new(alloc),
+        end: None,
     };
     cases.push(case).map_err(AllocError::from)?;
     Ok(())
@@ -204,7 +205,8 @@ fn add_line(alloc: Global, case: &mut Case, text: &str) -> Result<(), LineFault>
             None => return Err(NO_KIND),
         },
         "takes" if case.room.is_none() => case.room = Some(room_in(words)?),
-        "stop" | "takes" => return Err(LineFault::Bad("the case says so already")),
+        "end" if case.end.is_none() => case.end = Some(text_of(alloc, words)?),
+        "stop" | "takes" | "end" => return Err(LineFault::Bad("the case says so already")),
         "answer" => {
             let answer = answer_in(alloc, words)?;
             add_step(case, Deed::Answer(answer), Vec::new(alloc), false)?;

@@ -4,6 +4,7 @@ use std::alloc::{AllocError, Global};
 use std::fmt::Write;
 use std::io::ErrorKind;
 use tiny_http_core::driver::Reply;
+use tiny_http_core::exchange::EndOfRequests;
 use tiny_http_wire::common::{HTTPVersion, Header, Method};
 
 // Writes the length that a head says, or `-`.
@@ -66,4 +67,27 @@ pub fn reply_line(alloc: Global, reply: &Reply) -> Result<Vec<u8>, AllocError> {
         Reply::Given(bytes) => given_line(alloc, bytes.as_slice()),
         _ => Ok(format!(in alloc; "{}", ReplyLine(reply))?.into_bytes()),
     }
+}
+
+/// The words for why no further request comes; `open` where one may.
+pub fn end_words(alloc: Global, end: Option<EndOfRequests>) -> Result<Vec<u8>, AllocError> {
+    let words = match end {
+        None => "open",
+        Some(EndOfRequests::LastRequest) => "last request",
+        Some(EndOfRequests::Closed) => "closed",
+        Some(EndOfRequests::Cut) => "cut",
+        Some(EndOfRequests::NotAscii) => "not ASCII",
+        Some(EndOfRequests::AbandonedBody) => "abandoned body",
+        Some(EndOfRequests::UnreadBody) => "unread body",
+        Some(EndOfRequests::Memory) => "memory",
+        Some(EndOfRequests::Refused(status)) => {
+            let status = status.0;
+            return Ok(format!(in alloc; "refused {status}")?.into_bytes());
+        }
+        Some(EndOfRequests::Fault(kind)) => return fault_line(alloc, kind),
+        Some(EndOfRequests::BrokenBody(kind)) => {
+            return Ok(format!(in alloc; "broken body {kind:?}")?.into_bytes());
+        }
+    };
+    words.as_bytes().to_vec(alloc)
 }

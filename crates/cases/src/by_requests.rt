@@ -68,6 +68,7 @@ impl<R: Wait + Copy> Runner for ByRequests<R> {
             output: writer.taken().to_vec(alloc)?,
             failures: writer.failures(),
             later: writer.later(),
+            end: None,
         })
     }
 }

@@ -1,11 +1,11 @@
 //! The cases by `run`.
 use case_files::case::Case;
 use case_files::outcome::{Outcome, Trial};
-use case_files::replies::reply_line;
+use case_files::replies::{end_words, reply_line};
 use case_files::report::Runner;
 use case_files::steps::{StepsFault, steps_of};
 use std::alloc::{AllocError, Global};
-use tiny_http_core::driver::{Reply, run};
+use tiny_http_core::driver::{Connection, Reply, run};
 use tiny_http_wire::device::{Metered, WriteDevice};
 
 /// Runs steps by `run`.
@@ -19,6 +19,20 @@ fn lines_of(alloc: Global, replies: &[Reply]) -> Result<Vec<Vec<u8>>, AllocError
         lines.push(reply_line(alloc, reply)?)?;
     }
     Ok(lines)
+}
+
+// Why no further request comes after the steps, if the case says so: no reply of `run` does.
+fn end_of(alloc: Global, case: &Case, trial: Trial) -> Result<Option<Vec<u8>>, StepsFault> {
+    if case.end.is_none() {
+        return Ok(None);
+    }
+    let reader = trial.reader(alloc, case)?;
+    let writer = Metered::new(trial.writer(alloc, case));
+    let mut connection = Connection::new(alloc, reader, writer);
+    for timed in steps_of(alloc, case)? {
+        drop(connection.step(alloc, timed));
+    }
+    Ok(Some(end_words(alloc, connection.end_of_requests())?))
 }
 
 impl Runner for ByRun {
@@ -50,6 +64,7 @@ impl Runner for ByRun {
             output,
             failures,
             later: writer.later(),
+            end: end_of(alloc, case, trial)?,
         })
     }
 }

@@ -1,15 +1,16 @@
 //! Answers to requests that were read without a driver, sent on an outlet.
 use crate::broken_answers::{Watched, lent};
 use crate::exchanges::{date, request, source_of};
-use crate::runs::{AMPLE, DATED, TEXT, assert_joined, assert_output, output_of};
+use crate::runs::{AMPLE, DATED, EMPTY, TEXT, assert_joined, assert_output, output_of};
 use crate::same::{assert_holds, assert_same};
+use httpdate::HttpDate;
 use std::alloc::Global;
 use std::io::{Cursor, ErrorKind};
 use std::process::Abort;
 use std::test::Fail;
 use tiny_http_core::exchange::Exchange;
 use tiny_http_core::outlet::Outlet;
-use tiny_http_wire::common::Method;
+use tiny_http_wire::common::{HTTPVersion, Method};
 use tiny_http_wire::device::{Budget, ReadDevice};
 use tiny_http_wire::response::Response;
 
@@ -345,4 +346,61 @@ fn no_100_is_sent_for_a_body_that_was_given_up(rt: HostRuntime) -> Result<(), Fa
     exchange.give_up(&mut source);
     assert_same(&rt, continued(alloc, &mut exchange)?.len(), 0);
     Ok(())
+}
+
+// What an answer with so many bytes of data is printed as.
+fn printed_whole(alloc: Global, count: usize) -> Result<Vec<u8>, Fail> {
+    let mut data = Vec::new(alloc);
+    data.resize(count, b'x')?;
+    let mut writer = Budget::new(alloc, AMPLE, ErrorKind::Other);
+    let now = HttpDate::from_unix_secs(420_895_020)?;
+    let answer = Response::from_data(alloc, data);
+    answer.raw_print(alloc, &mut writer, HTTPVersion(1, 1), &[], false, None, now)?;
+    Ok(writer.into_bytes())
+}
+
+// The head that says so many bytes, and then as many.
+fn is_whole(alloc: Global, bytes: &[u8], count: usize) -> Result<bool, Fail> {
+    let length = format!(in alloc; "\r\nContent-Length: {count}\r\n\r\n")?;
+    let Some(head) = bytes.len().checked_sub(count) else {
+        return Ok(false);
+    };
+    let (head, data) = bytes.split_at(head);
+    Ok(head.ends_with(length.as_bytes()) && data.iter().all(|b| *b == b'x'))
+}
+
+#[test]
+fn data_of_each_size_are_sent_whole(rt: HostRuntime) -> Result<(), Fail> {
+    for count in [0, 1, 1023, 1024, 1025, 8191, 8192, 8193, 20_000] {
+        let bytes = printed_whole(rt.alloc(), count)?;
+        assert_same(
+            &rt,
+            (count, is_whole(rt.alloc(), &bytes, count)?),
+            (count, true),
+        );
+    }
+    Ok(())
+}
+
+const CONTINUE: [&str; 2] = ["HTTP/1.1 100 Continue\r\n", EMPTY];
+
+// Sends a 100 that is owed, and holds nothing back.
+fn send_continue(
+    rt: &impl Abort,
+    alloc: Global,
+    exchange: &mut Exchange,
+    outlet: &mut Outlet<Budget>,
+) -> Result<(), Fail> {
+    exchange.send_continue(alloc, outlet, date()?);
+    assert_holds(rt, "it is flushed", outlet.held().is_empty());
+    Ok(())
+}
+
+#[test]
+fn an_exchange_sends_its_100_once(rt: HostRuntime) -> Result<(), Fail> {
+    let mut exchange = exchange_of(&rt, rt.alloc(), EXPECTING)?;
+    let mut outlet = Outlet::new(Budget::new(rt.alloc(), AMPLE, ErrorKind::Other));
+    send_continue(&rt, rt.alloc(), &mut exchange, &mut outlet)?;
+    send_continue(&rt, rt.alloc(), &mut exchange, &mut outlet)?;
+    assert_output(&rt, rt.alloc(), outlet, &CONTINUE)
 }

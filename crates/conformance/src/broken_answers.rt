@@ -1,7 +1,7 @@
 //! Answers of more than one chunk, and answers whose data fail: the output ends with what was sent of them.
 use crate::exchanges::date;
-use crate::runs::Deed::{Ask, Data, Drop, Text};
-use crate::runs::{AMPLE, Case, DATED, Deed, assert_case, assert_cases, assert_output, describe};
+use crate::runs::Deed::{Data, Drop};
+use crate::runs::{AMPLE, assert_output, describe};
 use crate::same::assert_same;
 use httpdate::HttpDate;
 use std::alloc::Global;
@@ -14,92 +14,11 @@ use tiny_http_wire::common::StatusCode;
 use tiny_http_wire::device::{Budget, Canned, ReadDevice};
 use tiny_http_wire::response::Response;
 
-// A full chunk of data, and five bytes more.
-const BYTES: &[u8] = &[b'x'; 8197];
-
-// The full chunk.
-const CHUNK: &[u8] = &[b'x'; 8192];
-
 pub(crate) const THREE: &[u8] =
     b"GET /a HTTP/1.1\r\n\r\nGET /b HTTP/1.1\r\n\r\nGET /c HTTP/1.1\r\n\r\n";
 
 pub(crate) const THREE_OLDER: &[u8] =
     b"GET /a HTTP/1.0\r\nConnection: keep-alive\r\n\r\nGET /b HTTP/1.0\r\nConnection: keep-alive\r\n\r\nGET /c HTTP/1.0\r\nConnection: keep-alive\r\n\r\n";
-
-// An answer that breaks, before it a drop out of turn and after it an answer.
-const DEEDS: &[Deed<'static>] = &[
-    Ask,
-    Ask,
-    Ask,
-    Drop(1),
-    Data(0, BYTES, Some(ErrorKind::Other)),
-    Text(2, "c"),
-    Ask,
-];
-
-#[test]
-fn after_a_broken_answer_nothing_is_sent(rt: HostRuntime) -> Result<(), Fail> {
-    let case = Case {
-        client: THREE,
-        deeds: DEEDS,
-        replies: "0: GET /a 1.1; 1: GET /b 1.1; 2: GET /c 1.1; done; fault Other; done; ended",
-        output: &[
-            "HTTP/1.1 200 OK\r\n",
-            DATED,
-            "Transfer-Encoding: chunked\r\n\r\n2000\r\n",
-            str::from_utf8(CHUNK)?,
-            "\r\n",
-        ],
-    };
-    assert_case(&rt, rt.alloc(), &case)
-}
-
-// One byte more than a full chunk.
-const CHUNK_AND_BYTE: &[u8] = &[b'x'; 8193];
-
-#[test]
-fn data_of_more_than_a_chunk_are_sent(rt: HostRuntime) -> Result<(), Fail> {
-    let chunk = str::from_utf8(CHUNK)?;
-    let cases: &[Case<'_>] = &[
-        Case {
-            client: b"GET / HTTP/1.1\r\n\r\n",
-            deeds: &[Ask, Data(0, CHUNK_AND_BYTE, None)],
-            replies: "0: GET / 1.1; done",
-            output: &[
-                "HTTP/1.1 200 OK\r\n",
-                DATED,
-                "Transfer-Encoding: chunked\r\n\r\n2000\r\n",
-                chunk,
-                "\r\n1\r\nx\r\n0\r\n\r\n",
-            ],
-        },
-        Case {
-            client: b"GET / HTTP/1.0\r\n\r\n",
-            deeds: &[Ask, Data(0, CHUNK_AND_BYTE, None)],
-            replies: "0: GET / 1.0; done",
-            output: &[
-                "HTTP/1.0 200 OK\r\n",
-                DATED,
-                "Content-Length: 8193\r\n\r\n",
-                chunk,
-                "x",
-            ],
-        },
-    ];
-    assert_cases(&rt, rt.alloc(), cases)
-}
-
-// Data of unknown length that aren't sent in chunks are read whole before the head.
-#[test]
-fn of_an_older_client_nothing_is_sent(rt: HostRuntime) -> Result<(), Fail> {
-    let case = Case {
-        client: THREE_OLDER,
-        deeds: DEEDS,
-        replies: "0: GET /a 1.0 [Connection: keep-alive]; 1: GET /b 1.0 [Connection: keep-alive]; 2: GET /c 1.0 [Connection: keep-alive]; done; fault Other; done; ended",
-        output: &[],
-    };
-    assert_case(&rt, rt.alloc(), &case)
-}
 
 /// Data whose reads are counted, but for those into no room.
 #[derive(Drop)]

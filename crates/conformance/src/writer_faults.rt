@@ -1,19 +1,30 @@
-//! Raw writers: what is held until it is sent on, and how a writer that fails is reported.
+//! Raw writers by the calls of a connection: what is held until it is sent on, and how a writer that fails is reported.
 use crate::exchanges::date;
 use crate::relay::{NEVER, RelayRun, run_relayed};
-use crate::runs::Deed::{Ask, Data, Drop, Finish, Flush, IntoWriter, Text, Write};
-use crate::runs::{
-    AMPLE, Case, DATED, Deed, EMPTY, TEXT, assert_case, assert_cut_outputs, assert_output,
-    assert_troubled, describe, joined, takes,
-};
+use crate::runs::Deed::{Ask, Drop, Finish, Flush, IntoWriter, Text, Write};
+use crate::runs::{AMPLE, Deed, EMPTY, TEXT, assert_output, describe, joined};
 use crate::same::{assert_holds, assert_same};
-use crate::writers::{A, ERROR, FOUR, OK, ONE, THREE, TWO};
 use std::alloc::Global;
 use std::io::ErrorKind;
 use std::process::Abort;
 use std::test::Fail;
 use tiny_http_core::driver::Connection;
 use tiny_http_wire::device::{Budget, Canned};
+
+const ONE: &[u8] = b"GET / HTTP/1.1\r\n\r\n";
+
+const TWO: &[u8] = b"GET / HTTP/1.1\r\n\r\nGET / HTTP/1.1\r\n\r\n";
+
+const THREE: &[u8] = b"GET / HTTP/1.1\r\n\r\nGET / HTTP/1.1\r\n\r\nGET / HTTP/1.1\r\n\r\n";
+
+const FOUR: &[u8] =
+    b"GET / HTTP/1.1\r\n\r\nGET / HTTP/1.1\r\n\r\nGET / HTTP/1.1\r\n\r\nGET / HTTP/1.1\r\n\r\n";
+
+const OK: &str = "HTTP/1.1 200 OK\r\n";
+
+const ERROR: &str = "HTTP/1.1 500 Internal Server Error\r\n";
+
+const A: &str = "Content-Length: 1\r\n\r\na";
 
 // So many letters, those of the alphabet in turn.
 fn letters(alloc: Global, length: usize) -> Result<String, Fail> {
@@ -22,62 +33,6 @@ fn letters(alloc: Global, length: usize) -> Result<String, Fail> {
         text.push((b'a' + (i % 26) as u8) as char)?;
     }
     Ok(text)
-}
-
-// After these steps a text between two bytes is the output.
-fn assert_long_by(
-    rt: &impl Abort,
-    alloc: Global,
-    long: &str,
-    deeds: &[Deed<'_>],
-) -> Result<(), Fail> {
-    let case = Case {
-        client: ONE,
-        deeds,
-        replies: "0: GET / 1.1; done; done; done; done; done",
-        output: &["<", long, ">"],
-    };
-    assert_case(rt, alloc, &case)
-}
-
-// A text between two bytes comes out whole, whether the writer is finished, flushed or neither.
-fn assert_long(rt: &impl Abort, alloc: Global, long: &str) -> Result<(), Fail> {
-    let finished = [
-        Ask,
-        IntoWriter(0),
-        Write(0, "<"),
-        Write(0, long),
-        Write(0, ">"),
-        Finish(0),
-    ];
-    assert_long_by(rt, alloc, long, &finished)?;
-    let flushed = [
-        Ask,
-        IntoWriter(0),
-        Write(0, "<"),
-        Write(0, long),
-        Write(0, ">"),
-        Flush(0),
-    ];
-    assert_long_by(rt, alloc, long, &flushed)?;
-    let held = [
-        Ask,
-        IntoWriter(0),
-        Write(0, "<"),
-        Flush(0),
-        Write(0, long),
-        Write(0, ">"),
-    ];
-    assert_long_by(rt, alloc, long, &held)
-}
-
-#[test]
-fn a_long_write_comes_out_whole(rt: HostRuntime) -> Result<(), Fail> {
-    for length in [1022, 1023, 1024, 1025, 2048, 5000] {
-        let long = letters(rt.alloc(), length)?;
-        assert_long(&rt, rt.alloc(), long.as_str())?;
-    }
-    Ok(())
 }
 
 // These pieces were sent on after these steps.
@@ -122,130 +77,6 @@ fn a_write_is_held_until_the_flush_or_the_finish(rt: HostRuntime) -> Result<(), 
         assert_sent_on(&rt, rt.alloc(), deeds.as_slice(), pieces)?;
     }
     Ok(())
-}
-
-const KINDS: [ErrorKind; 6] = [
-    ErrorKind::Other,
-    ErrorKind::Interrupted,
-    ErrorKind::BrokenPipe,
-    ErrorKind::ConnectionAborted,
-    ErrorKind::ConnectionRefused,
-    ErrorKind::ConnectionReset,
-];
-
-// The fifth step reports a fault of this kind, which the writer meets after so many bytes. The later steps are done.
-fn assert_reported(
-    rt: &impl Abort,
-    alloc: Global,
-    (room, kind): (usize, ErrorKind),
-    deeds: &[Deed<'_>],
-    output: &str,
-) -> Result<(), Fail> {
-    let replies = format!(in alloc;
-        "0: GET / 1.1; 1: GET / 1.1; done; done; fault {kind:?}; done; done; done; done"
-    )?;
-    let case = Case {
-        client: TWO,
-        deeds,
-        replies: replies.as_str(),
-        output: &[output],
-    };
-    assert_troubled(rt, alloc, &case, takes(room, kind))
-}
-
-// The fifth step reports each kind of fault: the writer takes nothing, or one byte, which is this text.
-fn assert_each_reported(
-    rt: &impl Abort,
-    alloc: Global,
-    deeds: &[Deed<'_>],
-    first: &str,
-) -> Result<(), Fail> {
-    for kind in KINDS {
-        assert_reported(rt, alloc, (0, kind), deeds, "")?;
-        assert_reported(rt, alloc, (1, kind), deeds, first)?;
-    }
-    Ok(())
-}
-
-// Also where the client has gone, of which an answer reports nothing.
-#[test]
-fn a_write_reports_the_fault_that_it_meets(rt: HostRuntime) -> Result<(), Fail> {
-    let long = letters(rt.alloc(), 1025)?;
-    let deeds = [
-        Ask,
-        Ask,
-        IntoWriter(0),
-        Write(0, "<"),
-        Write(0, long.as_str()),
-        Write(0, long.as_str()),
-        Flush(0),
-        Finish(0),
-        Text(1, "x"),
-    ];
-    assert_each_reported(&rt, rt.alloc(), &deeds, "<")
-}
-
-#[test]
-fn a_flush_reports_the_fault_that_it_meets(rt: HostRuntime) -> Result<(), Fail> {
-    let deeds = [
-        Ask,
-        Ask,
-        IntoWriter(0),
-        Write(0, "ab"),
-        Flush(0),
-        Flush(0),
-        Write(0, "c"),
-        Finish(0),
-        Text(1, "x"),
-    ];
-    assert_each_reported(&rt, rt.alloc(), &deeds, "a")
-}
-
-// Nor of a fault in a text that waited behind it.
-#[test]
-fn no_reply_reports_a_fault_in_a_finish(rt: HostRuntime) -> Result<(), Fail> {
-    let case = Case {
-        client: THREE,
-        deeds: &[
-            Ask,
-            Ask,
-            Ask,
-            IntoWriter(0),
-            Drop(1),
-            Write(0, "ab"),
-            Finish(0),
-            IntoWriter(2),
-            Write(2, "c"),
-            Flush(2),
-        ],
-        replies: "0: GET / 1.1; 1: GET / 1.1; 2: GET / 1.1; done; done; done; done; done; done; done",
-        output: &[],
-    };
-    assert_cut_outputs(&rt, rt.alloc(), &case, &[(1, "a"), (12, "abHTTP/1.1 5")])
-}
-
-#[test]
-fn after_a_broken_answer_a_raw_writer_sends_nothing(rt: HostRuntime) -> Result<(), Fail> {
-    let case = Case {
-        client: THREE,
-        deeds: &[
-            Ask,
-            Ask,
-            Ask,
-            IntoWriter(2),
-            Data(0, b"hello", Some(ErrorKind::Other)),
-            IntoWriter(1),
-            Write(1, "b"),
-            Flush(1),
-            Write(2, "c"),
-            Finish(1),
-            Write(2, "c"),
-            Finish(2),
-        ],
-        replies: "0: GET / 1.1; 1: GET / 1.1; 2: GET / 1.1; done; fault Other; done; done; done; not yet; done; done; done",
-        output: &[OK, DATED, "Transfer-Encoding: chunked\r\n\r\n"],
-    };
-    assert_case(&rt, rt.alloc(), &case)
 }
 
 // Steps over four requests, each with its reply where the writer takes all.
