@@ -1,8 +1,5 @@
 //! Bodies that are cut, broken or waited for, read by the calls of requests.
-use crate::bench::{
-    AMPLE, Bench, DROPPED, assert_output, client, connect, gated, is_about_to_call, is_reached,
-    next, now,
-};
+use crate::bench::{AMPLE, Bench, client, connect, gated, is_about_to_call, is_reached, next, now};
 use httpdate::HttpDate;
 use std::io::{ErrorKind, Read};
 use std::sync::atomic::{AtomicU64, Ordering};
@@ -17,44 +14,6 @@ fn kind_of<B: Read>(body: &mut B) -> Option<ErrorKind> {
         Ok(_) => None,
         Err(fault) => Some(fault.kind()),
     }
-}
-
-// A chunk without its end is given out, and then the fault, again and again. No head is read behind it.
-#[test]
-fn a_broken_body_reports_its_fault_again(rt: HostRuntime) -> Result<(), Fail> {
-    let alloc = rt.alloc();
-    let client = b"POST / HTTP/1.1\r\nTransfer-Encoding: chunked\r\n\r\n5\r\nhelloXY";
-    let mut bench = connect(rt, alloc, client)?;
-    let mut request = next(&mut bench)?;
-    let mut bytes = [0; 5];
-    request.as_reader(now()?).read_exact(&mut bytes)?;
-    assert_eq!(rt; &bytes, b"hello");
-    for _ in 0..2u8 {
-        assert_eq!(rt;
-            kind_of(request.as_reader(now()?)),
-            Some(ErrorKind::InvalidData)
-        );
-    }
-    drop(request);
-    assert!(rt; bench.client.next(now()?)?.is_none());
-    assert_output(&rt, alloc, &bench.output, &[DROPPED])
-}
-
-// A body that was read with its head is given out in the pieces that are asked for.
-#[test]
-fn a_body_that_was_read_with_its_head_is_read_in_pieces(rt: HostRuntime) -> Result<(), Fail> {
-    let alloc = rt.alloc();
-    let client = b"POST / HTTP/1.1\r\nContent-Length: 3\r\n\r\nabcGET /b HTTP/1.1\r\n\r\n";
-    let mut bench = connect(rt, alloc, client)?;
-    let mut request = next(&mut bench)?;
-    for want in *b"abc" {
-        let mut byte = [0; 1];
-        assert_eq!(rt; request.as_reader(now()?).read(&mut byte)?, 1);
-        assert_eq!(rt; byte[0], want);
-    }
-    assert_eq!(rt; request.as_reader(now()?).read(&mut [0; 9])?, 0);
-    assert_eq!(rt; next(&mut bench)?.url(), "/b");
-    Ok(())
 }
 
 // A buffer is filled from as many chunks as it takes.
@@ -73,19 +32,6 @@ fn a_buffer_is_filled_from_two_chunks(rt: HostRuntime) -> Result<(), Fail> {
 
 // A body of 2000 bytes of which 10 come.
 const CUT: &[u8] = b"POST / HTTP/1.1\r\nContent-Length: 2000\r\n\r\n0123456789";
-
-#[test]
-fn a_counted_body_that_is_cut_ends(rt: HostRuntime) -> Result<(), Fail> {
-    let alloc = rt.alloc();
-    let mut bench = connect(rt, alloc, CUT)?;
-    let mut request = next(&mut bench)?;
-    let mut given = String::new(alloc);
-    request.as_reader(now()?).read_to_string(&mut given)?;
-    assert_eq!(rt; given.as_str(), "0123456789");
-    assert_eq!(rt; request.as_reader(now()?).read(&mut [0; 9])?, 0);
-    assert!(rt; bench.client.next(now()?)?.is_none());
-    Ok(())
-}
 
 // A reader that is interrupted is a fault, and `read_exact` doesn't try again.
 #[test]

@@ -1,10 +1,7 @@
 //! Answers whose data fail, and answers after the end of the output.
-use crate::bench::{
-    Asked, DATED, assert_output, client, connect, gated, is_about_to_call, next, now,
-};
+use crate::bench::{Asked, DATED, assert_output, connect, is_about_to_call, next, now};
 use httpdate::HttpDate;
-use std::alloc::{AllocError, Global};
-use std::io::ErrorKind;
+use std::alloc::Global;
 use std::sync::atomic::{AtomicU64, Ordering};
 use std::sync::{Arc, Wait};
 use std::test::Fail;
@@ -15,51 +12,6 @@ use tiny_http_wire::device::Canned;
 use tiny_http_wire::response::Response;
 
 const TWO: &[u8] = b"GET / HTTP/1.1\r\n\r\nGET / HTTP/1.1\r\n\r\n";
-
-// An answer of 10 bytes, whose data are `abcd` and then end, or fail.
-fn short(alloc: Global, stop: Option<ErrorKind>) -> Result<Response<Canned>, AllocError> {
-    let data = Canned::new(b"abcd".to_vec(alloc)?, stop);
-    Ok(Response::empty(alloc, StatusCode(200)).with_data(data, Some(10)))
-}
-
-// The fault of the data is reported, unless its kind is one of a client that has gone. What came before it is sent, and after it
-// nothing is.
-#[test]
-fn a_fault_of_the_data_ends_the_output(rt: HostRuntime) -> Result<(), Fail> {
-    let alloc = rt.alloc();
-    for (stop, want) in [
-        (None, Some(ErrorKind::UnexpectedEof)),
-        (Some(ErrorKind::Other), Some(ErrorKind::Other)),
-        (Some(ErrorKind::ConnectionReset), None),
-    ] {
-        let mut bench = connect(rt, alloc, TWO)?;
-        let first = next(&mut bench)?;
-        let second = next(&mut bench)?;
-        let answered = first.respond(short(alloc, stop)?, now()?);
-        assert_eq!(rt; answered.err().map(|fault| fault.kind()), want);
-        second.respond(short(alloc, None)?, now()?)?;
-        let sent = &[
-            "HTTP/1.1 200 OK\r\n",
-            DATED,
-            "Content-Length: 10\r\n\r\nabcd",
-        ];
-        assert_output(&rt, alloc, &bench.output, sent)?;
-    }
-    Ok(())
-}
-
-// After the writer's fault the data of later answers aren't read, so their fault isn't met.
-#[test]
-fn after_the_end_of_the_output_the_data_are_not_read(rt: HostRuntime) -> Result<(), Fail> {
-    let alloc = rt.alloc();
-    let client = client(alloc, TWO, None)?;
-    let mut bench = gated(rt, alloc, client, 10, ErrorKind::Other, 1)?;
-    let first = next(&mut bench)?;
-    let second = next(&mut bench)?;
-    assert!(rt; first.respond(short(alloc, None)?, now()?).is_err());
-    second.respond(short(alloc, Some(ErrorKind::Other))?, now()?)?;
-    assert_output(&rt, alloc, &bench.output, &["HTTP/1.1 2"])
-}
 
 // A GET, and a request that expects a 100.
 const EXPECTS: &[u8] =

@@ -8,15 +8,11 @@ mod beside;
 #[cfg(test)]
 mod bodies;
 #[cfg(test)]
-mod dates;
-#[cfg(test)]
 mod faults;
 #[cfg(test)]
 mod in_turn;
 #[cfg(test)]
 mod rows;
-#[cfg(test)]
-mod runs;
 #[cfg(test)]
 mod storm;
 #[cfg(test)]
