@@ -18,8 +18,15 @@ const THREADS: usize = 8;
 // So many requests each thread gets.
 const EACH: usize = 250;
 
-// Requests, and their numbers.
-type Share<R> = Vec<(usize, Asked<R>)>;
+// A request, and its number.
+#[derive(Drop)]
+struct Dealt<R: Wait + Clock + Copy> {
+    number: usize,
+    request: Asked<R>,
+}
+
+// The requests of a thread.
+type Share<R> = Vec<Dealt<R>>;
 
 // Drops every fourth request, takes the raw writer of another, and answers the others.
 fn treat<R: Wait + Clock + Copy>(
@@ -50,7 +57,7 @@ fn treat_all<R: Wait + Clock + Copy>(
     done: &AtomicU64,
 ) -> usize {
     let mut well = 0usize;
-    for (number, request) in share {
+    for Dealt { number, request } in share {
         if treat(alloc, date, number, request).is_ok() {
             well = well.saturating_add(1);
         }
@@ -78,7 +85,7 @@ fn deal<R: Wait + Clock + Copy>(
         let at = round.wrapping_mul(mixed | 1).wrapping_add(mixed >> 8) % THREADS;
         let request = next(bench)?;
         if let Some(share) = shares.get_mut(at) {
-            share.push((number, request))?;
+            share.push(Dealt { number, request })?;
         }
     }
     Ok(())
