@@ -1,10 +1,10 @@
-//! A server and a client of it, what the client reads, and the texts of answers.
+//! A server and a client of it, what the client reads, and the texts of answers. What goes wrong here ends the test.
+use crate::same::assert_same;
 use std::alloc::{AllocError, Global};
-use std::io::{ErrorKind, Read};
-use std::net::{Net, TcpListener, TcpStream};
+use std::io::{ErrorKind, Read, Write};
+use std::net::{Net, Shutdown, TcpListener, TcpStream};
 use std::process::Abort;
 use std::sync::{Arc, Wait};
-use std::test::Fail;
 use std::thread::{JoinHandle, Threads};
 use std::time::{Clock, Duration};
 use std::{io, thread};
@@ -19,39 +19,90 @@ pub const TURNS: u32 = 10_000;
 /// The headers in front of an answer's own, its date left out.
 pub const DATED: &str = "Server: tiny-http (Rust)\r\nDate: \r\n";
 
-/// A short wait.
-pub fn turn<R: Clock>(rt: &R) {
-    thread::sleep(rt, Duration::from_millis(1));
-}
+/// What a server and its clients need of the system, and an end where something goes wrong.
+pub trait Host: Net<Listener = TcpListener, Stream = TcpStream>
+    + SocketFiles
+    + Clock
+    + Wait
+    + Threads
+    + Abort
+    + Copy
+    + Send
+    + Sync
+    + 'static {}
 
-/// A client of this server, each read of whom waits for 1 ms.
-pub fn connect<R: Net<Listener = TcpListener, Stream = TcpStream> + SocketFiles + Wait + Drop>(
-    rt: &R,
-    server: &Server<R>,
-) -> io::Result<TcpStream> {
-    let Some(addr) = server.server_addr().to_ip() else {
-        return Err(ErrorKind::InvalidInput.into());
-    };
-    let client = TcpStream::connect(rt, addr)?;
-    client.set_read_timeout(Some(Duration::from_millis(1)))?;
-    Ok(client)
-}
-
-/// A server, and a client of it.
-pub fn one_server_one_client<R>(rt: R, alloc: Global) -> Result<(Server<R>, TcpStream), Fail>
+impl<R> Host for R
 where
     R: Net<Listener = TcpListener, Stream = TcpStream>
         + SocketFiles
         + Clock
         + Wait
         + Threads
+        + Abort
         + Copy
         + Send
+        + Sync
         + 'static,
-{
-    let server = Server::http(rt, alloc, "127.0.0.1:0")?;
-    let client = connect(&rt, &server)?;
-    Ok((server, client))
+{}
+
+/// A short wait.
+pub fn turn<R: Clock>(rt: &R) {
+    thread::sleep(rt, Duration::from_millis(1));
+}
+
+/// So many short waits.
+pub fn turns<R: Clock>(rt: &R, count: u8) {
+    for _ in 0..count {
+        turn(rt);
+    }
+}
+
+/// A server that listens on loopback.
+pub fn serve<R: Host>(rt: &R, alloc: Global) -> Server<R> {
+    Server::http(*rt, alloc, "127.0.0.1:0").expect(rt, "a server")
+}
+
+/// A client of this server, each read of whom waits for 1 ms.
+pub fn connect<R: Host>(rt: &R, server: &Server<R>) -> TcpStream {
+    let addr = server.server_addr().to_ip().expect(rt, "an address of TCP");
+    let client = TcpStream::connect(rt, addr).expect(rt, "a client");
+    let timed = client.set_read_timeout(Some(Duration::from_millis(1)));
+    timed.expect(rt, "reads that wait for 1 ms");
+    client
+}
+
+/// A server, and a client of it.
+pub fn one_server_one_client<R: Host>(rt: &R, alloc: Global) -> (Server<R>, TcpStream) {
+    let server = serve(rt, alloc);
+    let client = connect(rt, &server);
+    (server, client)
+}
+
+/// Sends these bytes.
+pub fn send_bytes<S: Write>(rt: &impl Abort, stream: &mut S, bytes: &[u8]) {
+    stream.write_all(bytes).expect(rt, "it is sent");
+}
+
+/// Sends this text.
+pub fn send<S: Write>(rt: &impl Abort, stream: &mut S, text: &str) {
+    send_bytes(rt, stream, text.as_bytes());
+}
+
+/// Sends so many bytes of a body.
+pub fn send_body<S: Write>(rt: &impl Abort, alloc: Global, stream: &mut S, length: usize) {
+    let body = vec![in alloc; b'A'; length].expect(rt, "memory");
+    send_bytes(rt, stream, &body);
+}
+
+/// The client sends no more.
+pub fn end_sending(rt: &impl Abort, client: &TcpStream) {
+    let shut = client.shutdown(Shutdown::Write);
+    shut.expect(rt, "an end of what the client sends");
+}
+
+/// The next request of a server.
+pub fn receive<R: Host>(rt: &R, server: &Server<R>) -> ServerRequest<R> {
+    server.recv().expect(rt, "a request")
 }
 
 /// Reads once, for a number of turns at most.
@@ -65,19 +116,15 @@ pub fn read_once<S: Read>(stream: &mut S, buf: &mut [u8]) -> io::Result<usize> {
     Err(ErrorKind::TimedOut.into())
 }
 
-/// Whether so many clients are connected, within a number of turns.
-pub fn has_clients<R: Net + SocketFiles + Clock + Wait + Drop>(
-    rt: &R,
-    server: &Server<R>,
-    count: usize,
-) -> bool {
+/// So many clients are connected, within a number of turns.
+pub fn assert_clients<R: Host>(rt: &R, server: &Server<R>, count: usize) {
     for _ in 0..TURNS {
         if server.num_connections() == count {
-            return true;
+            return;
         }
         turn(rt);
     }
-    false
+    assert_same(rt, server.num_connections(), count);
 }
 
 // Reads until so many bytes are there, or the end.
@@ -94,8 +141,8 @@ fn read_up_to<S: Read>(alloc: Global, stream: &mut S, count: usize) -> io::Resul
 }
 
 /// All that comes up to the end.
-pub fn read_all<S: Read>(alloc: Global, stream: &mut S) -> io::Result<Vec<u8>> {
-    read_up_to(alloc, stream, usize::MAX)
+pub fn read_all<S: Read>(rt: &impl Abort, alloc: Global, stream: &mut S) -> Vec<u8> {
+    read_up_to(alloc, stream, usize::MAX).expect(rt, "an end of what is read")
 }
 
 // Whether the date of an answer begins here.
@@ -120,34 +167,25 @@ fn undated(alloc: Global, text: &[u8]) -> Result<Vec<u8>, AllocError> {
     Ok(bytes)
 }
 
-/// The client gets just this, but for the dates, and then the end.
-pub fn assert_reads<R: Abort, S: Read>(
-    rt: &R,
-    alloc: Global,
-    stream: &mut S,
-    want: &[&str],
-) -> Result<(), Fail> {
-    let got = read_all(alloc, stream)?;
-    let got = undated(alloc, got.as_slice())?;
-    let want = joined(alloc, want)?;
-    assert_eq!(rt; String::from_utf8(got).ok(), Some(want));
-    Ok(())
+// The bytes are this text, but for the dates.
+fn assert_answers(rt: &impl Abort, alloc: Global, found: &[u8], wanted: &str) {
+    let found = undated(alloc, found).expect(rt, "memory");
+    assert_same(rt, str::from_utf8(&found).ok(), Some(wanted));
 }
 
-/// The next bytes that the client gets are these, but for the dates, of which there are so many.
-pub fn assert_reads_next<R: Abort, S: Read>(
-    rt: &R,
-    alloc: Global,
-    stream: &mut S,
-    want: &[&str],
-    dates: usize,
-) -> Result<(), Fail> {
-    let want = joined(alloc, want)?;
-    let length = want.len().saturating_add(dates.saturating_mul(29));
-    let got = read_up_to(alloc, stream, length)?;
-    let got = undated(alloc, got.as_slice())?;
-    assert_eq!(rt; String::from_utf8(got).ok(), Some(want));
-    Ok(())
+/// The client gets just this, but for the dates, and then the end.
+pub fn assert_reads<S: Read>(rt: &impl Abort, alloc: Global, stream: &mut S, wanted: &[&str]) {
+    let wanted = joined(alloc, wanted).expect(rt, "memory");
+    let found = read_all(rt, alloc, stream);
+    assert_answers(rt, alloc, &found, wanted.as_str());
+}
+
+/// The next bytes that the client gets are these, but for the date, of which there is one.
+pub fn assert_reads_next<S: Read>(rt: &impl Abort, alloc: Global, stream: &mut S, wanted: &[&str]) {
+    let wanted = joined(alloc, wanted).expect(rt, "memory");
+    let length = wanted.len().saturating_add(29);
+    let found = read_up_to(alloc, stream, length).expect(rt, "an answer");
+    assert_answers(rt, alloc, &found, wanted.as_str());
 }
 
 // Texts one after another.
@@ -177,23 +215,28 @@ pub fn respond<R: Clock + Wait + Drop>(
     request.respond(response, current_date(rt)).is_ok()
 }
 
-/// Answers a request by this status and no body. Whether that could be sent.
-pub fn respond_empty<R: Clock + Wait + Drop>(
+/// A request is answered by this text.
+pub fn assert_responds<R: Host>(rt: &R, alloc: Global, request: ServerRequest<R>, answer: &str) {
+    assert!(rt;
+        respond(rt, alloc, request, answer),
+        "{answer} can't be sent"
+    );
+}
+
+/// A request is answered by this status and no body.
+pub fn assert_responds_empty<R: Host>(
     rt: &R,
     alloc: Global,
     request: ServerRequest<R>,
     status: u16,
-) -> bool {
+) {
     let response = Response::empty(alloc, StatusCode(status));
-    request.respond(response, current_date(rt)).is_ok()
+    let sent = request.respond(response, current_date(rt));
+    sent.expect(rt, "an answer of no body can be sent");
 }
 
 // Answers each request by `hello world`, until it is unblocked. The number of those that it answered.
-fn answer_all<R: Net + SocketFiles + Clock + Wait + Drop>(
-    rt: &R,
-    alloc: Global,
-    server: &Server<R>,
-) -> u64 {
+fn answer_all<R: Host>(rt: &R, alloc: Global, server: &Server<R>) -> u64 {
     let mut answered = 0u64;
     for _ in rt.forever() {
         let Ok(request) = server.recv() else {
@@ -214,31 +257,19 @@ pub struct HelloWorld<R: Net + SocketFiles + Wait + Drop> {
 }
 
 /// Such a server.
-pub fn hello_world<R>(rt: R, alloc: Global) -> Result<HelloWorld<R>, Fail>
-where
-    R: Net<Listener = TcpListener, Stream = TcpStream>
-        + SocketFiles
-        + Clock
-        + Wait
-        + Threads
-        + Copy
-        + Send
-        + Sync
-        + 'static,
-{
-    let server = Arc::new(alloc, Server::http(rt, alloc, "0.0.0.0:0")?)?;
-    let theirs = Arc::try_clone(&server)?;
+pub fn hello_world<R: Host>(rt: &R, alloc: Global) -> HelloWorld<R> {
+    let rt = *rt;
+    let server = Server::http(rt, alloc, "0.0.0.0:0").expect(&rt, "a server");
+    let server = Arc::new(alloc, server).expect(&rt, "memory");
+    let theirs = Arc::try_clone(&server).expect(&rt, "memory");
     let started = thread::spawn(&rt, move || answer_all(&rt, alloc, &theirs));
-    let answering = started.map_err(|_| "no thread")?;
-    Ok(HelloWorld { server, answering })
+    let answering = started.ok().expect(&rt, "a thread");
+    HelloWorld { server, answering }
 }
 
-/// Ends it. The number of requests that it answered.
-pub fn end<R: Net + SocketFiles + Wait + Threads + Drop>(
-    rt: &R,
-    serving: HelloWorld<R>,
-) -> Result<u64, AllocError> {
+/// Ends it, which has answered so many requests.
+pub fn assert_ends<R: Host>(rt: &R, serving: HelloWorld<R>, answered: u64) {
     let HelloWorld { server, answering } = serving;
-    server.unblock()?;
-    Ok(answering.join(rt))
+    server.unblock().expect(rt, "memory");
+    assert_same(rt, answering.join(rt), answered);
 }

@@ -1,17 +1,14 @@
 //! How connections end: while bytes of the client are unread, and after their server.
 use crate::bench::{
-    DATED, assert_reads, assert_reads_next, connect, has_clients, one_server_one_client, read_once,
-    turn,
+    DATED, Host, TURNS, assert_clients, assert_reads, assert_reads_next, connect,
+    one_server_one_client, read_once, receive, send, send_body, serve, turn, turns,
 };
+use crate::same::assert_holds;
 use std::alloc::Global;
-use std::io::{Read, Write};
-use std::net::{Net, TcpListener, TcpStream};
-use std::sync::Wait;
-use std::test::Fail;
-use std::time::Clock;
+use std::io::Read;
+use std::net::{SocketAddr, TcpListener, TcpStream};
 use std::{io, thread};
 use tiny_http::common::StatusCode;
-use tiny_http::connection::SocketFiles;
 use tiny_http::device::Metered;
 use tiny_http::response::Response;
 use tiny_http::server::{Server, current_date};
@@ -19,27 +16,19 @@ use tiny_http::server::{Server, current_date};
 // So many bytes are more than the client's end takes before it reads, and fewer than the server's end takes with it.
 const LONG: usize = 1_000_000;
 
-// Answers the next request by a long body, and leaves its own unread. Whether all could be sent.
-fn respond_long<R: Net + SocketFiles + Clock + Wait + Drop>(
-    rt: &R,
-    alloc: Global,
-    server: &Server<R>,
-) -> bool {
-    let Ok(request) = server.recv() else {
-        return false;
-    };
+// Answers the next request by a long body, and leaves its own unread. All can be sent.
+fn respond_long<R: Host>(rt: &R, alloc: Global, server: &Server<R>) {
+    let request = receive(rt, server);
     let data = Metered::new(io::repeat(b'x').take(LONG as u64));
     let response = Response::empty(alloc, StatusCode(200))
         .with_data(data, Some(LONG))
         .with_chunked_threshold(usize::MAX);
-    request.respond(response, current_date(rt)).is_ok()
+    let sent = request.respond(response, current_date(rt));
+    sent.expect(rt, "a long answer");
 }
 
-// How many bytes come up to the end, to a client that begins to read late.
-fn count_all<R: Clock, S: Read>(rt: &R, stream: &mut S) -> io::Result<usize> {
-    for _ in 0..200u8 {
-        turn(rt);
-    }
+// How many bytes come up to the end.
+fn count_all<S: Read>(stream: &mut S) -> io::Result<usize> {
     let mut buf = [0u8; 8192];
     let mut count = 0usize;
     for _ in 0..u64::MAX {
@@ -51,46 +40,58 @@ fn count_all<R: Clock, S: Read>(rt: &R, stream: &mut S) -> io::Result<usize> {
     Ok(count)
 }
 
+// The same, to a client that begins to read late.
+fn count_late<R: Host>(rt: &R, client: &mut TcpStream) -> usize {
+    turns(rt, 200);
+    count_all(client).expect(rt, "a whole answer")
+}
+
+// The answer to this head, whose body is unread, comes whole.
+fn assert_comes_whole<R: Host>(rt: &R, alloc: Global, head: &str) {
+    let (server, mut client) = one_server_one_client(rt, alloc);
+    send(rt, &mut client, head);
+    send_body(rt, alloc, &mut client, 50_000);
+    let ((), count) = thread::join(
+        rt,
+        || respond_long(rt, alloc, &server),
+        || count_late(rt, &mut client),
+    );
+    assert!(rt; count > LONG && count < LONG + 400, "{head:?}: {count}");
+}
+
 // An answer that is sent while much of the request's body is unread comes whole, though the connection ends behind it.
-#[test]
-fn an_answer_outlives_unread_bytes(rt: HostRuntime) -> Result<(), Fail> {
-    let alloc = rt.alloc();
+fn assert_long_answers_come_whole<R: Host>(rt: &R, alloc: Global) {
     let heads = [
         "POST / HTTP/1.1\r\nConnection: close\r\nContent-Length: 50000\r\n\r\n",
         "POST / HTTP/1.0\r\nContent-Length: 50000\r\n\r\n",
         "POST / HTTP/1.1\r\nTransfer-Encoding: chunked\r\n\r\nC350\r\n",
     ];
-    let body = vec![in alloc; b'A'; 50_000]?;
     for head in heads {
-        let (server, mut client) = one_server_one_client(rt, alloc)?;
-        client.write_all(head.as_bytes())?;
-        client.write_all(body.as_slice())?;
-        let (sent, count) = thread::join(
-            &rt,
-            || respond_long(&rt, alloc, &server),
-            || count_all(&rt, &mut client),
-        );
-        let count = count?;
-        assert!(rt; sent, "{head:?}");
-        assert!(rt; count > LONG && count < LONG + 400, "{head:?}: {count}");
+        assert_comes_whole(rt, alloc, head);
     }
-    Ok(())
+}
+
+#[test]
+fn an_answer_outlives_unread_bytes(rt: HostRuntime) {
+    assert_long_answers_come_whole(&rt, rt.alloc());
 }
 
 // The answer to a refused head comes, though much of what follows is unread.
-#[test]
-fn a_refusal_outlives_unread_bytes(rt: HostRuntime) -> Result<(), Fail> {
-    let alloc = rt.alloc();
-    let (_server, mut client) = one_server_one_client(rt, alloc)?;
-    let rest = vec![in alloc; b'A'; 50_000]?;
-    client.write_all(b"\r\n")?;
-    client.write_all(rest.as_slice())?;
-    let want = [
+fn assert_refusal_comes<R: Host>(rt: &R, alloc: Global) {
+    let (_server, mut client) = one_server_one_client(rt, alloc);
+    send(rt, &mut client, "\r\n");
+    send_body(rt, alloc, &mut client, 50_000);
+    let refused = [
         "HTTP/1.1 400 Bad Request\r\n",
         DATED,
         "Content-Length: 0\r\n\r\n",
     ];
-    assert_reads(&rt, alloc, &mut client, &want)
+    assert_reads(rt, alloc, &mut client, &refused);
+}
+
+#[test]
+fn a_refusal_outlives_unread_bytes(rt: HostRuntime) {
+    assert_refusal_comes(&rt, rt.alloc());
 }
 
 const DROPPED: [&str; 3] = [
@@ -101,40 +102,45 @@ const DROPPED: [&str; 3] = [
 
 // A request that waits in the queue of a server that is dropped is answered 500. A client that sends nothing doesn't keep it
 // from that.
-#[test]
-fn a_waiting_request_is_dropped_with_its_server(rt: HostRuntime) -> Result<(), Fail> {
-    let alloc = rt.alloc();
-    let (server, mut waiting) = one_server_one_client(rt, alloc)?;
-    let silent = connect(&rt, &server)?;
-    waiting.write_all(b"GET / HTTP/1.1\r\n\r\n")?;
-    assert!(rt; has_clients(&rt, &server, 2));
-    for _ in 0..50u8 {
-        turn(&rt);
-    }
+fn assert_waiting_request_is_dropped<R: Host>(rt: &R, alloc: Global) {
+    let (server, mut waiting) = one_server_one_client(rt, alloc);
+    let silent = connect(rt, &server);
+    send(rt, &mut waiting, "GET / HTTP/1.1\r\n\r\n");
+    assert_clients(rt, &server, 2);
+    turns(rt, 50);
     drop(server);
-    assert_reads_next(&rt, alloc, &mut waiting, &DROPPED, 1)?;
+    assert_reads_next(rt, alloc, &mut waiting, &DROPPED);
     drop(silent);
-    Ok(())
+}
+
+#[test]
+fn a_waiting_request_is_dropped_with_its_server(rt: HostRuntime) {
+    assert_waiting_request_is_dropped(&rt, rt.alloc());
 }
 
 // A request that comes after its server was dropped is answered 500, and its connection ends.
-#[test]
-fn a_late_request_is_dropped(rt: HostRuntime) -> Result<(), Fail> {
-    let alloc = rt.alloc();
-    let (server, mut client) = one_server_one_client(rt, alloc)?;
-    assert!(rt; has_clients(&rt, &server, 1));
+fn assert_late_request_is_dropped<R: Host>(rt: &R, alloc: Global) {
+    let (server, mut client) = one_server_one_client(rt, alloc);
+    assert_clients(rt, &server, 1);
     drop(server);
-    client.write_all(b"GET / HTTP/1.1\r\n\r\n")?;
-    assert_reads(&rt, alloc, &mut client, &DROPPED)
+    send(rt, &mut client, "GET / HTTP/1.1\r\n\r\n");
+    assert_reads(rt, alloc, &mut client, &DROPPED);
 }
 
-// Whether nobody listens at this address any more, within a number of turns: else it can't be bound.
-fn is_free<R: Net<Listener = TcpListener, Stream = TcpStream> + Clock>(
-    rt: &R,
-    addr: std::net::SocketAddr,
-) -> bool {
-    for _ in 0..crate::bench::TURNS {
-        if TcpListener::bind(rt, addr).is_ok() {
+#[test]
+fn a_late_request_is_dropped(rt: HostRuntime) {
+    assert_late_request_is_dropped(&rt, rt.alloc());
+}
+
+// Whether nobody listens at this address: else it can't be bound.
+fn is_free<R: Host>(rt: &R, addr: SocketAddr) -> bool {
+    TcpListener::bind(rt, addr).is_ok()
+}
+
+// The same, within a number of turns.
+fn gets_free<R: Host>(rt: &R, addr: SocketAddr) -> bool {
+    for _ in 0..TURNS {
+        if is_free(rt, addr) {
             return true;
         }
         turn(rt);
@@ -142,12 +148,16 @@ fn is_free<R: Net<Listener = TcpListener, Stream = TcpStream> + Clock>(
     false
 }
 
-#[test]
-fn a_dropped_server_listens_no_more(rt: HostRuntime) -> Result<(), Fail> {
-    let server = Server::http(rt, rt.alloc(), "127.0.0.1:0")?;
-    let addr = server.server_addr().to_ip().ok_or("no TCP")?;
-    assert!(rt; TcpListener::bind(&rt, addr).is_err());
+// A server listens at its address until it is dropped.
+fn assert_listens_until_dropped<R: Host>(rt: &R, alloc: Global) {
+    let server = serve(rt, alloc);
+    let addr = server.server_addr().to_ip().expect(rt, "an address of TCP");
+    assert_holds(rt, "a server listens", !is_free(rt, addr));
     drop(server);
-    assert!(rt; is_free(&rt, addr));
-    Ok(())
+    assert_holds(rt, "a dropped server listens no more", gets_free(rt, addr));
+}
+
+#[test]
+fn a_dropped_server_listens_no_more(rt: HostRuntime) {
+    assert_listens_until_dropped(&rt, rt.alloc());
 }

@@ -14,6 +14,8 @@ mod pipelines;
 #[cfg(test)]
 mod roster;
 #[cfg(test)]
+mod same;
+#[cfg(test)]
 mod server;
 #[cfg(test)]
 mod sockets;

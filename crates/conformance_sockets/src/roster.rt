@@ -1,17 +1,14 @@
 //! Threads that share one server, and count the requests that they answer.
 ghost use Rattle.std.specs.Prelude.{◌≡◌, ◌+◌, ◌<◌};
 
-use crate::bench::{connect, read_all, respond};
+use crate::bench::{Host, connect, read_all, respond, send, serve};
+use crate::same::assert_same;
 use std::alloc::Global;
-use std::io::Write;
 use std::marker::Brand;
-use std::net::{Net, TcpListener, TcpStream};
+use std::net::{Net, TcpStream};
 use std::sync::Wait;
 use std::sync::ledger::{Blank, Ledger, Share};
-use std::test::Fail;
 use std::thread;
-use std::thread::Threads;
-use std::time::Clock;
 use tiny_http::connection::SocketFiles;
 use tiny_http::roster::Roster;
 use tiny_http::server::{Server, ServerRequest};
@@ -28,18 +25,14 @@ struct Shared<'a, L: Ledger, R: Net + SocketFiles + Wait + Drop> {
 }
 
 // Answers a request by its path.
-fn answer_path<R: Clock + Wait + Drop>(rt: &R, alloc: Global, request: ServerRequest<R>) {
+fn answer_path<R: Host>(rt: &R, alloc: Global, request: ServerRequest<R>) {
     if let Ok(path) = String::from_str(alloc, request.url()) {
         respond(rt, alloc, request, path.as_str());
     }
 }
 
 // Answers requests until it is unblocked, and enters once for each. The share.
-fn answers<L: Ledger, R: Net + SocketFiles + Clock + Wait + Drop>(
-    rt: &R,
-    shared: &Shared<'_, L, R>,
-    mut mine: Share<L>,
-) -> Share<L>
+fn answers<L: Ledger, R: Host>(rt: &R, shared: &Shared<'_, L, R>, mut mine: Share<L>) -> Share<L>
     requires { 0 < mine.parts }
     ensures { result.parts ≡ mine.parts }
 {
@@ -62,22 +55,21 @@ fn two_answer<L, R>(
 ) -> Share<L>
 where
     L: Ledger + Send + Sync,
-    R: Net<Listener = TcpListener, Stream = TcpStream>
-        + SocketFiles
-        + Clock
-        + Wait
-        + Threads
-        + Drop
-        + Send
-        + Sync,
+    R: Host,
     requires first { 0 < first.parts }
     requires second { 0 < second.parts }
     ensures { result.parts ≡ first.parts + second.parts }
 {
     let (mut both, other) = thread::join(
         rt,
-        move || answers(rt, shared, first),
-        move || answers(rt, shared, second),
+        move || -> Share<L>
+            requires { 0 < first.parts }
+            ensures { result.parts ≡ first.parts }
+        { answers(rt, shared, first) },
+        move || -> Share<L>
+            requires { 0 < second.parts }
+            ensures { result.parts ≡ second.parts }
+        { answers(rt, shared, second) },
     );
     both.merge(other);
     both
@@ -87,14 +79,7 @@ where
 fn four_answer<L, R>(rt: &R, shared: &Shared<'_, L, R>, mine: Share<L>) -> Share<L>
 where
     L: Ledger + Send + Sync,
-    R: Net<Listener = TcpListener, Stream = TcpStream>
-        + SocketFiles
-        + Clock
-        + Wait
-        + Threads
-        + Drop
-        + Send
-        + Sync,
+    R: Host,
     requires { mine.parts ≡ 4 }
     ensures { result.parts ≡ 4 }
 {
@@ -117,56 +102,52 @@ where
     all
 }
 
-// The clients send a request each, and then each reads its answer. Then the threads are unblocked. Whether each client got the
-// path that it asked for.
-fn ask<R>(rt: &R, alloc: Global, server: &Server<R>) -> bool
-where
-    R: Net<Listener = TcpListener, Stream = TcpStream> + SocketFiles + Clock + Wait + Drop,
-{
-    let good = ask_paths(rt, alloc, server).is_some();
-    for _ in 0..4u8 {
-        if server.unblock().is_err() {
-            return false;
-        }
-    }
-    good
+// A client that has asked for the path of its number, which it is to be answered by.
+fn ask_path<R: Host>(
+    rt: &R,
+    alloc: Global,
+    server: &Server<R>,
+    number: usize,
+) -> (TcpStream, String) {
+    let mut client = connect(rt, server);
+    let path = format!(in alloc; "/client/{number}").expect(rt, "memory");
+    let head = format!(in alloc; "GET {path} HTTP/1.1\r\nConnection: close\r\n\r\n");
+    send(rt, &mut client, head.expect(rt, "memory").as_str());
+    (client, path)
 }
 
-// The same, but for the unblocking. None where a client got something else.
-fn ask_paths<R>(rt: &R, alloc: Global, server: &Server<R>) -> Option<()>
-where
-    R: Net<Listener = TcpListener, Stream = TcpStream> + SocketFiles + Clock + Wait + Drop,
-{
-    let mut clients = Vec::new(alloc);
+// A client gets the path that it asked for.
+fn assert_gets_path<R: Host>(rt: &R, alloc: Global, asked: (TcpStream, String)) {
+    let (mut client, path) = asked;
+    let answer = read_all(rt, alloc, &mut client);
+    assert!(rt; answer.as_slice().ends_with(path.as_bytes()), "{path}");
+}
+
+// The clients send a request each, and then each gets the path that it asked for. Then the threads are unblocked.
+fn ask_all<R: Host>(rt: &R, alloc: Global, server: &Server<R>) {
+    let mut asked = Vec::new(alloc);
     for number in 0..CLIENTS {
-        let mut client = connect(rt, server).ok()?;
-        let path = format!(in alloc; "/client/{number}").ok()?;
-        let head = format!(in alloc; "GET {path} HTTP/1.1\r\nConnection: close\r\n\r\n").ok()?;
-        client.write_all(head.as_bytes()).ok()?;
-        clients.push((client, path)).ok()?;
+        let client = ask_path(rt, alloc, server, number);
+        asked.push(client).ok().expect(rt, "memory");
     }
-    for (client, path) in clients {
-        let mut client = client;
-        let answer = read_all(alloc, &mut client).ok()?;
-        if !answer.as_slice().ends_with(path.as_bytes()) {
-            return None;
-        }
+    for client in asked {
+        assert_gets_path(rt, alloc, client);
     }
-    Some(())
+    unblock_four(rt, server);
 }
 
-// Four threads answer all clients. Whether each client got its path, and what the roster counts.
-fn serve_all<L, R>(rt: &R, alloc: Global, server: &Server<R>, blank: Blank) -> (bool, u64)
+// Four marks, one for each thread.
+fn unblock_four<R: Host>(rt: &R, server: &Server<R>) {
+    for _ in 0..4u8 {
+        server.unblock().expect(rt, "memory");
+    }
+}
+
+// Four threads answer all clients, each of which gets its path. What the roster counts.
+fn serve_all<L, R>(rt: &R, alloc: Global, server: &Server<R>, blank: Blank) -> u64
 where
     L: Ledger + Send + Sync,
-    R: Net<Listener = TcpListener, Stream = TcpStream>
-        + SocketFiles
-        + Clock
-        + Wait
-        + Threads
-        + Drop
-        + Send
-        + Sync,
+    R: Host,
     requires name { blank.name ≡ L.name }
     requires parts { blank.parts ≡ L.parts }
     requires four { blank.parts ≡ 4 }
@@ -179,23 +160,20 @@ where
         roster: &roster,
     };
     let shared = &shared;
-    let (good, mut all) = thread::join(
+    let ((), mut all) = thread::join(
         rt,
-        move || ask(rt, alloc, server),
+        move || ask_all(rt, alloc, server),
         move || -> Share<L>
             requires { mine.parts ≡ 4 }
             ensures { result.parts ≡ 4 }
         { four_answer(rt, shared, mine) },
     );
-    (good, roster.close(&mut all))
+    roster.close(&mut all)
 }
 
 #[test]
-fn four_threads_answer_forty_clients(rt: HostRuntime) -> Result<(), Fail> {
-    let alloc = rt.alloc();
-    let server = Server::http(rt, alloc, "127.0.0.1:0")?;
-    let (good, count) = serve_all::<Brand, _>(&rt, alloc, &server, Blank::new(4));
-    assert!(rt; good);
-    assert_eq!(rt; count, 40);
-    Ok(())
+fn four_threads_answer_forty_clients(rt: HostRuntime) {
+    let server = serve(&rt, rt.alloc());
+    let count = serve_all::<Brand, _>(&rt, rt.alloc(), &server, Blank::new(4));
+    assert_same(&rt, count, 40);
 }

@@ -1,27 +1,28 @@
 //! The calls of a server.
 use crate::bench::{
-    DATED, TURNS, assert_reads, connect, has_clients, one_server_one_client, read_all, respond,
-    turn,
+    DATED, Host, TURNS, assert_clients, assert_reads, assert_responds, connect,
+    one_server_one_client, read_all, receive, send, serve, turn, turns,
 };
+use crate::same::{assert_holds, assert_same, assert_shown};
 use httpdate::HttpDate;
 use std::alloc::Global;
 use std::io::{ErrorKind, Write};
-use std::net::{Net, TcpListener, TcpStream};
+use std::net::TcpListener;
 use std::os::unix::net::UnixStream;
 use std::path::{Path, PathBuf};
+use std::process::Abort;
 use std::rt::Files;
-use std::sync::Wait;
-use std::test::Fail;
-use std::thread::Threads;
 use std::time::{Clock, Duration};
 use std::{fs, io, thread};
-use tiny_http::connection::{ConfigListenAddr, Listener, SocketFiles};
-use tiny_http::server::{Server, ServerConfig, ServerError, SslConfig, current_date};
+use tiny_http::connection::{ConfigListenAddr, Listener};
+use tiny_http::server::{
+    Server, ServerConfig, ServerError, ServerRequest, SslConfig, current_date,
+};
 
 // The path of a socket of this process.
-fn socket_path(alloc: Global, process: u32, name: &str) -> Result<PathBuf, Fail> {
-    let text = format!(in alloc; "/tmp/tiny-http-{process}-{name}.sock")?;
-    Ok(PathBuf::from_str(alloc, text.as_str())?)
+fn socket_path(rt: &impl Abort, alloc: Global, process: u32, name: &str) -> PathBuf {
+    let text = format!(in alloc; "/tmp/tiny-http-{process}-{name}.sock").expect(rt, "memory");
+    PathBuf::from_str(alloc, text.as_str()).expect(rt, "memory")
 }
 
 // Whether there is a file at this path.
@@ -29,212 +30,285 @@ fn is_there<R: Files>(rt: &R, path: Path<'_>) -> bool {
     fs::metadata(rt, path).is_ok()
 }
 
-#[test]
-fn tls_is_refused(rt: HostRuntime) -> Result<(), Fail> {
-    let alloc = rt.alloc();
-    let path = socket_path(alloc, std::process::id(rt.process()), "tls")?;
-    let addrs = [
-        ConfigListenAddr::from_socket_addrs(&rt, alloc, "127.0.0.1:0")?,
-        ConfigListenAddr::unix_from_path(path.clone()?),
-    ];
-    for addr in addrs {
-        let ssl = Some(SslConfig {
-            certificate: Vec::new(alloc),
-            private_key: Vec::new(alloc),
-        });
-        let Err(fault) = Server::new(rt, alloc, ServerConfig { addr, ssl }) else {
-            return Err(Fail::new("a server with TLS"));
-        };
-        let text = format!(in alloc; "{fault}")?;
-        let want = "Building a server with SSL requires enabling the `ssl` feature in tiny-http";
-        assert_eq!(rt; text.as_str(), want);
-    }
-    assert!(rt; !is_there(&rt, path.as_path()));
-    Ok(())
-}
-
-#[test]
-fn a_path_is_bound_once(rt: HostRuntime) -> Result<(), Fail> {
-    let alloc = rt.alloc();
-    let path = socket_path(alloc, std::process::id(rt.process()), "once")?;
-    let server = Server::http_unix(rt, alloc, path.as_path())?;
-    let Err(ServerError::Io(fault)) = Server::http_unix(rt, alloc, path.as_path()) else {
-        return Err(Fail::new("a second server"));
+// A server with TLS.
+fn with_tls<R: Host>(
+    rt: &R,
+    alloc: Global,
+    addr: ConfigListenAddr,
+) -> Result<Server<R>, ServerError> {
+    let ssl = SslConfig {
+        certificate: Vec::new(alloc),
+        private_key: Vec::new(alloc),
     };
-    assert_eq!(rt; fault.kind(), ErrorKind::AddrInUse);
-    assert!(rt; is_there(&rt, path.as_path()));
-    let addr = format!(in alloc; "{}", server.server_addr())?;
-    let want = format!(in alloc; "\"{}\" (pathname)", path.as_path().display())?;
-    assert_eq!(rt; addr, want);
-    // The path is bound before TLS is looked at.
     let config = ServerConfig {
-        addr: ConfigListenAddr::unix_from_path(path.clone()?),
-        ssl: Some(SslConfig {
-            certificate: Vec::new(alloc),
-            private_key: Vec::new(alloc),
-        }),
+        addr,
+        ssl: Some(ssl),
     };
-    let Err(ServerError::Io(fault)) = Server::new(rt, alloc, config) else {
-        return Err(Fail::new("a third server"));
-    };
-    assert_eq!(rt; fault.kind(), ErrorKind::AddrInUse);
-    assert!(rt; is_there(&rt, path.as_path()));
-    drop(server);
-    assert!(rt; !is_there(&rt, path.as_path()));
-    Ok(())
+    Server::new(*rt, alloc, config)
+}
+
+// There is no server with TLS at this address.
+fn assert_no_tls<R: Host>(rt: &R, alloc: Global, addr: ConfigListenAddr) {
+    let fault = with_tls(rt, alloc, addr).err();
+    let fault = fault.expect(rt, "no server with TLS");
+    let wanted = "Building a server with SSL requires enabling the `ssl` feature in tiny-http";
+    assert_shown(rt, alloc, &fault, wanted);
+}
+
+// No server with TLS is made at an address of either kind, and no file.
+fn assert_tls_is_refused<R: Host, F: Files>(rt: &R, files: &F, alloc: Global, process: u32) {
+    let tcp = ConfigListenAddr::from_socket_addrs(rt, alloc, "127.0.0.1:0");
+    assert_no_tls(rt, alloc, tcp.expect(rt, "an address"));
+    let path = socket_path(rt, alloc, process, "tls");
+    let unix = ConfigListenAddr::unix_from_path(path.clone().expect(rt, "memory"));
+    assert_no_tls(rt, alloc, unix);
+    assert_holds(rt, "there is no file", !is_there(files, path.as_path()));
 }
 
 #[test]
-fn an_unblocked_call_reports_none(rt: HostRuntime) -> Result<(), Fail> {
-    let server = Server::http(rt, rt.alloc(), "127.0.0.1:0")?;
-    server.unblock()?;
-    let Err(fault) = server.recv() else {
-        return Err(Fail::new("a request"));
+fn tls_is_refused(rt: HostRuntime) {
+    assert_tls_is_refused(&rt, &rt, rt.alloc(), std::process::id(rt.process()));
+}
+
+// No server was made, since its path is bound.
+fn assert_in_use<R: Host>(rt: &R, made: Result<Server<R>, ServerError>) {
+    let Err(ServerError::Io(fault)) = made else {
+        panic!(rt; "no fault of the system");
     };
-    assert_eq!(rt; fault.kind(), ErrorKind::Other);
-    server.unblock()?;
-    assert!(rt; server.try_recv()?.is_none());
-    server.unblock()?;
-    assert!(rt; server.recv_timeout(Duration::from_secs(3_600))?.is_none());
-    server.unblock()?;
-    assert!(rt; server.incoming_requests().next().is_none());
-    assert!(rt; server.recv_timeout(Duration::from_millis(2))?.is_none());
-    Ok(())
+    assert_same(rt, fault.kind(), ErrorKind::AddrInUse);
+}
+
+// A server is shown by its path.
+fn assert_shown_by_path<R: Host>(rt: &R, alloc: Global, server: &Server<R>, path: Path<'_>) {
+    let wanted = format!(in alloc; "\"{}\" (pathname)", path.display()).expect(rt, "memory");
+    assert_shown(rt, alloc, &server.server_addr(), wanted.as_str());
+}
+
+// A path is bound by a server, and its file stays until that one is dropped. It is bound before TLS is looked at.
+fn assert_path_is_bound_once<R: Host, F: Files>(rt: &R, files: &F, alloc: Global, process: u32) {
+    let path = socket_path(rt, alloc, process, "once");
+    let server = Server::http_unix(*rt, alloc, path.as_path()).expect(rt, "a server");
+    assert_in_use(rt, Server::http_unix(*rt, alloc, path.as_path()));
+    assert_holds(rt, "the file is there", is_there(files, path.as_path()));
+    assert_shown_by_path(rt, alloc, &server, path.as_path());
+    let again = ConfigListenAddr::unix_from_path(path.clone().expect(rt, "memory"));
+    assert_in_use(rt, with_tls(rt, alloc, again));
+    assert_holds(rt, "the file stays", is_there(files, path.as_path()));
+    drop(server);
+    assert_holds(rt, "the file is gone", !is_there(files, path.as_path()));
+}
+
+#[test]
+fn a_path_is_bound_once(rt: HostRuntime) {
+    assert_path_is_bound_once(&rt, &rt, rt.alloc(), std::process::id(rt.process()));
+}
+
+// A mark for one call.
+fn unblock<R: Host>(rt: &R, server: &Server<R>) {
+    server.unblock().expect(rt, "memory");
+}
+
+// The kind of fault that a wait reports.
+fn fault_received<R: Host>(rt: &R, server: &Server<R>) -> ErrorKind {
+    let fault = server.recv().err();
+    fault.expect(rt, "no request").kind()
+}
+
+// A call that looks for a request finds none.
+fn assert_no_request<R: Host>(rt: &R, server: &Server<R>) {
+    let tried = server.try_recv().expect(rt, "no fault");
+    assert_holds(rt, "try_recv finds no request", tried.is_none());
+}
+
+// A call that waits for so long at most finds none.
+fn assert_none_within<R: Host>(rt: &R, server: &Server<R>, time: Duration) {
+    let timed = server.recv_timeout(time).expect(rt, "no fault");
+    assert_holds(rt, "recv_timeout finds no request", timed.is_none());
+}
+
+// Each call that a mark unblocks reports that no request is there.
+fn assert_unblocked_calls<R: Host>(rt: &R, alloc: Global) {
+    let server = serve(rt, alloc);
+    unblock(rt, &server);
+    assert_same(rt, fault_received(rt, &server), ErrorKind::Other);
+    unblock(rt, &server);
+    assert_no_request(rt, &server);
+    unblock(rt, &server);
+    assert_none_within(rt, &server, Duration::from_secs(3_600));
+    unblock(rt, &server);
+    let next = server.incoming_requests().next();
+    assert_holds(rt, "no request comes in", next.is_none());
+    assert_none_within(rt, &server, Duration::from_millis(2));
+}
+
+#[test]
+fn an_unblocked_call_reports_none(rt: HostRuntime) {
+    assert_unblocked_calls(&rt, rt.alloc());
 }
 
 // A mark is for one call: the next one gives the request that comes.
+fn assert_mark_is_for_one<R: Host>(rt: &R, alloc: Global) {
+    let (server, mut client) = one_server_one_client(rt, alloc);
+    unblock(rt, &server);
+    assert_holds(rt, "one call is unblocked", server.recv().is_err());
+    send(rt, &mut client, "GET /a HTTP/1.1\r\n\r\n");
+    assert_same(rt, receive(rt, &server).url(), "/a");
+}
+
 #[test]
-fn a_mark_unblocks_one_call(rt: HostRuntime) -> Result<(), Fail> {
-    let (server, mut client) = one_server_one_client(rt, rt.alloc())?;
-    server.unblock()?;
-    assert!(rt; server.recv().is_err());
-    client.write_all(b"GET /a HTTP/1.1\r\n\r\n")?;
-    assert_eq!(rt; server.recv()?.url(), "/a");
-    Ok(())
+fn a_mark_unblocks_one_call(rt: HostRuntime) {
+    assert_mark_is_for_one(&rt, rt.alloc());
 }
 
 // Sends a request after a while.
-fn send_late<R: Clock, S: Write>(rt: &R, client: &mut S) -> bool {
-    for _ in 0..50u8 {
-        turn(rt);
-    }
-    client.write_all(b"GET / HTTP/1.1\r\n\r\n").is_ok()
+fn send_late<S: Write>(rt: &(impl Clock + Abort), client: &mut S) {
+    turns(rt, 50);
+    send(rt, client, "GET / HTTP/1.1\r\n\r\n");
+}
+
+// A request comes within a time.
+fn assert_one_within<R: Host>(rt: &R, server: &Server<R>) {
+    let timed = server
+        .recv_timeout(Duration::from_secs(10))
+        .expect(rt, "no fault");
+    assert_holds(rt, "recv_timeout finds a request", timed.is_some());
+}
+
+// A request comes in.
+fn assert_one_comes_in<R: Host>(rt: &R, server: &Server<R>) {
+    let next = server.incoming_requests().next();
+    assert_holds(rt, "a request comes in", next.is_some());
 }
 
 // Each call waits for a request that comes while it waits.
+fn assert_calls_wait<R: Host>(rt: &R, alloc: Global) {
+    let (server, mut client) = one_server_one_client(rt, alloc);
+    thread::join(
+        rt,
+        || send_late(rt, &mut client),
+        || assert_one_within(rt, &server),
+    );
+    thread::join(
+        rt,
+        || send_late(rt, &mut client),
+        || assert_one_comes_in(rt, &server),
+    );
+}
+
 #[test]
-fn calls_wait_for_a_request(rt: HostRuntime) -> Result<(), Fail> {
-    let (server, mut client) = one_server_one_client(rt, rt.alloc())?;
-    let (sent, timed) = thread::join(
-        &rt,
-        || send_late(&rt, &mut client),
-        || server.recv_timeout(Duration::from_secs(10)),
-    );
-    assert!(rt; sent);
-    assert!(rt; timed?.is_some());
-    let (sent, next) = thread::join(
-        &rt,
-        || send_late(&rt, &mut client),
-        || server.incoming_requests().next(),
-    );
-    assert!(rt; sent);
-    assert!(rt; next.is_some());
-    Ok(())
+fn calls_wait_for_a_request(rt: HostRuntime) {
+    assert_calls_wait(&rt, rt.alloc());
+}
+
+// The date of an answer 500, in seconds since 1970.
+fn seconds_of(rt: &impl Abort, answer: &[u8]) -> u64 {
+    let front = "HTTP/1.1 500 Internal Server Error\r\nServer: tiny-http (Rust)\r\nDate: ".len();
+    let date = answer.get(front..front + 29).unwrap_or_default();
+    let date = HttpDate::parse_ascii(date).expect(rt, "a date");
+    date.unix_secs()
 }
 
 // The 500 of a dropped request has the time at which its head was waited for.
-#[test]
-fn a_dropped_request_has_its_date(rt: HostRuntime) -> Result<(), Fail> {
-    let alloc = rt.alloc();
-    let before = current_date(&rt);
-    let (server, mut client) = one_server_one_client(rt, alloc)?;
-    client.write_all(b"GET / HTTP/1.1\r\nConnection: close\r\n\r\n")?;
-    drop(server.recv()?);
-    let answer = read_all(alloc, &mut client)?;
-    let after = current_date(&rt);
-    let front = "HTTP/1.1 500 Internal Server Error\r\nServer: tiny-http (Rust)\r\nDate: ".len();
-    let date = answer.as_slice().get(front..front + 29).unwrap_or_default();
-    let date = HttpDate::parse_ascii(date)?;
-    assert!(rt; before.unix_secs() <= date.unix_secs() && date.unix_secs() <= after.unix_secs());
-    Ok(())
+fn assert_dropped_has_its_date<R: Host>(rt: &R, alloc: Global) {
+    let before = current_date(rt).unix_secs();
+    let (server, mut client) = one_server_one_client(rt, alloc);
+    send(
+        rt,
+        &mut client,
+        "GET / HTTP/1.1\r\nConnection: close\r\n\r\n",
+    );
+    drop(receive(rt, &server));
+    let answer = read_all(rt, alloc, &mut client);
+    let after = current_date(rt).unix_secs();
+    let date = seconds_of(rt, &answer);
+    assert_holds(rt, "it has its date", before <= date && date <= after);
 }
 
 #[test]
-fn each_call_gives_a_request(rt: HostRuntime) -> Result<(), Fail> {
-    let alloc = rt.alloc();
-    let (server, mut client) = one_server_one_client(rt, alloc)?;
-    for _ in 0..3u8 {
-        client.write_all(b"GET / HTTP/1.1\r\n\r\n")?;
-    }
-    let mut first = None;
+fn a_dropped_request_has_its_date(rt: HostRuntime) {
+    assert_dropped_has_its_date(&rt, rt.alloc());
+}
+
+// The request that `try_recv` finds, within a number of turns.
+fn try_in_turns<R: Host>(rt: &R, server: &Server<R>) -> Option<ServerRequest<R>> {
     for _ in 0..TURNS {
-        first = server.try_recv()?;
-        if first.is_some() {
-            break;
+        let found = server.try_recv().expect(rt, "no fault");
+        if found.is_some() {
+            return found;
         }
-        turn(&rt);
+        turn(rt);
     }
-    assert!(rt; first.is_some());
-    assert!(rt; server.recv_timeout(Duration::from_secs(10))?.is_some());
-    assert!(rt; server.incoming_requests().next().is_some());
-    Ok(())
+    None
+}
+
+// Three requests are there, one for each call.
+fn assert_each_call_gives<R: Host>(rt: &R, alloc: Global) {
+    let (server, mut client) = one_server_one_client(rt, alloc);
+    for _ in 0..3u8 {
+        send(rt, &mut client, "GET / HTTP/1.1\r\n\r\n");
+    }
+    let first = try_in_turns(rt, &server);
+    assert_holds(rt, "try_recv finds a request", first.is_some());
+    assert_one_within(rt, &server);
+    assert_one_comes_in(rt, &server);
 }
 
 #[test]
-fn clients_are_counted(rt: HostRuntime) -> Result<(), Fail> {
-    let alloc = rt.alloc();
-    let (server, client) = one_server_one_client(rt, alloc)?;
-    assert!(rt; has_clients(&rt, &server, 1));
-    let second = connect(&rt, &server)?;
-    assert!(rt; has_clients(&rt, &server, 2));
+fn each_call_gives_a_request(rt: HostRuntime) {
+    assert_each_call_gives(&rt, rt.alloc());
+}
+
+// Two clients come and go.
+fn assert_clients_are_counted<R: Host>(rt: &R, alloc: Global) {
+    let (server, client) = one_server_one_client(rt, alloc);
+    assert_clients(rt, &server, 1);
+    let second = connect(rt, &server);
+    assert_clients(rt, &server, 2);
     drop(client);
-    assert!(rt; has_clients(&rt, &server, 1));
+    assert_clients(rt, &server, 1);
     drop(second);
-    assert!(rt; has_clients(&rt, &server, 0));
-    Ok(())
+    assert_clients(rt, &server, 0);
+}
+
+#[test]
+fn clients_are_counted(rt: HostRuntime) {
+    assert_clients_are_counted(&rt, rt.alloc());
 }
 
 // A client whose last request isn't answered counts.
-#[test]
-fn a_client_counts_until_it_is_answered(rt: HostRuntime) -> Result<(), Fail> {
-    let alloc = rt.alloc();
-    let (server, mut client) = one_server_one_client(rt, alloc)?;
-    client.write_all(b"GET / HTTP/1.1\r\nConnection: close\r\n\r\n")?;
-    let request = server.recv()?;
-    for _ in 0..20u8 {
-        turn(&rt);
-    }
-    assert_eq!(rt; server.num_connections(), 1);
-    assert!(rt; respond(&rt, alloc, request, "a"));
-    read_all(alloc, &mut client)?;
+fn assert_unanswered_counts<R: Host>(rt: &R, alloc: Global) {
+    let (server, mut client) = one_server_one_client(rt, alloc);
+    send(
+        rt,
+        &mut client,
+        "GET / HTTP/1.1\r\nConnection: close\r\n\r\n",
+    );
+    let request = receive(rt, &server);
+    turns(rt, 20);
+    assert_same(rt, server.num_connections(), 1);
+    assert_responds(rt, alloc, request, "a");
+    read_all(rt, alloc, &mut client);
     drop(client);
-    assert!(rt; has_clients(&rt, &server, 0));
-    Ok(())
+    assert_clients(rt, &server, 0);
+}
+
+#[test]
+fn a_client_counts_until_it_is_answered(rt: HostRuntime) {
+    assert_unanswered_counts(&rt, rt.alloc());
 }
 
 // A server whose socket doesn't wait: it has no client to give.
-fn broken_server<R>(rt: R, alloc: Global) -> Result<Server<R>, Fail>
-where
-    R: Net<Listener = TcpListener, Stream = TcpStream>
-        + SocketFiles
-        + Clock
-        + Wait
-        + Threads
-        + Copy
-        + Send
-        + 'static,
-{
-    let listener = TcpListener::bind(&rt, "127.0.0.1:0")?;
-    listener.set_nonblocking(true)?;
-    let listener = Listener::from(listener);
-    Ok(Server::from_listener(rt, alloc, listener, None)?)
+fn broken_server<R: Host>(rt: &R, alloc: Global) -> Server<R> {
+    let listener = TcpListener::bind(rt, "127.0.0.1:0").expect(rt, "a listener");
+    listener
+        .set_nonblocking(true)
+        .expect(rt, "one that doesn't wait");
+    let made = Server::from_listener(*rt, alloc, Listener::from(listener), None);
+    made.expect(rt, "a server")
 }
 
 // The kind of fault that `try_recv` reports, within a number of turns.
-fn fault_tried<R: Net + SocketFiles + Clock + Wait + Drop>(
-    rt: &R,
-    server: &Server<R>,
-) -> Option<ErrorKind> {
+fn fault_tried<R: Host>(rt: &R, server: &Server<R>) -> Option<ErrorKind> {
     for _ in 0..TURNS {
         if let Err(fault) = server.try_recv() {
             return Some(fault.kind());
@@ -244,40 +318,48 @@ fn fault_tried<R: Net + SocketFiles + Clock + Wait + Drop>(
     None
 }
 
-#[test]
-fn a_fault_of_accepting_is_reported_once(rt: HostRuntime) -> Result<(), Fail> {
-    let waiting = broken_server(rt, rt.alloc())?;
-    let Err(fault) = waiting.recv() else {
-        return Err(Fail::new("a request"));
-    };
-    assert_eq!(rt; fault.kind(), ErrorKind::WouldBlock);
-    assert!(rt; waiting.try_recv()?.is_none());
-    let trying = broken_server(rt, rt.alloc())?;
-    assert_eq!(rt; fault_tried(&rt, &trying), Some(ErrorKind::WouldBlock));
-    let timed = broken_server(rt, rt.alloc())?;
-    let Err(fault) = timed.recv_timeout(Duration::from_secs(10)) else {
-        return Err(Fail::new("no fault"));
-    };
-    assert_eq!(rt; fault.kind(), ErrorKind::WouldBlock);
-    assert!(rt; timed.recv_timeout(Duration::from_millis(2))?.is_none());
-    Ok(())
+// The kind of fault that a wait for a time reports.
+fn fault_timed<R: Host>(rt: &R, server: &Server<R>) -> ErrorKind {
+    let fault = server.recv_timeout(Duration::from_secs(10)).err();
+    fault.expect(rt, "a fault").kind()
+}
+
+// By each call, the fault of accepting is reported once.
+fn assert_fault_is_reported_once<R: Host>(rt: &R, alloc: Global) {
+    let waiting = broken_server(rt, alloc);
+    assert_same(rt, fault_received(rt, &waiting), ErrorKind::WouldBlock);
+    assert_no_request(rt, &waiting);
+    let trying = broken_server(rt, alloc);
+    assert_same(rt, fault_tried(rt, &trying), Some(ErrorKind::WouldBlock));
+    let timed = broken_server(rt, alloc);
+    assert_same(rt, fault_timed(rt, &timed), ErrorKind::WouldBlock);
+    assert_none_within(rt, &timed, Duration::from_millis(2));
 }
 
 #[test]
-fn a_request_outlives_its_server(rt: HostRuntime) -> Result<(), Fail> {
-    let alloc = rt.alloc();
-    let (server, mut client) = one_server_one_client(rt, alloc)?;
-    client.write_all(b"GET / HTTP/1.1\r\nConnection: close\r\n\r\n")?;
-    let request = server.recv()?;
-    drop(server);
-    assert!(rt; respond(&rt, alloc, request, "a"));
-    let rest = "Content-Type: text/plain; charset=UTF-8\r\nContent-Length: 1\r\n\r\na";
-    assert_reads(
-        &rt,
-        alloc,
+fn a_fault_of_accepting_is_reported_once(rt: HostRuntime) {
+    assert_fault_is_reported_once(&rt, rt.alloc());
+}
+
+// A request is answered after its server was dropped.
+fn assert_request_outlives<R: Host>(rt: &R, alloc: Global) {
+    let (server, mut client) = one_server_one_client(rt, alloc);
+    send(
+        rt,
         &mut client,
-        &["HTTP/1.1 200 OK\r\n", DATED, rest],
-    )
+        "GET / HTTP/1.1\r\nConnection: close\r\n\r\n",
+    );
+    let request = receive(rt, &server);
+    drop(server);
+    assert_responds(rt, alloc, request, "a");
+    let rest = "Content-Type: text/plain; charset=UTF-8\r\nContent-Length: 1\r\n\r\na";
+    let wanted = ["HTTP/1.1 200 OK\r\n", DATED, rest];
+    assert_reads(rt, alloc, &mut client, &wanted);
+}
+
+#[test]
+fn a_request_outlives_its_server(rt: HostRuntime) {
+    assert_request_outlives(&rt, rt.alloc());
 }
 
 // A clock that stands at a time since 1970, or can't be read.
@@ -297,33 +379,44 @@ impl Clock for Standing {
     }
 }
 
+// By a clock that stands at so many milliseconds the date is that of so many seconds.
+fn assert_seconds(rt: &impl Abort, millis: Option<u64>, wanted: u64) {
+    let found = current_date(&Standing(millis));
+    let wanted = HttpDate::from_unix_secs(wanted).expect(rt, "a date");
+    assert_same(rt, (millis, found), (millis, wanted));
+}
+
+// Times of a clock in milliseconds, and the seconds of its date.
+const TIMES: [(Option<u64>, u64); 6] = [
+    (Some(0), 0),
+    (Some(999), 0),
+    (Some(420_895_020_999), 420_895_020),
+    (Some(253_402_300_799_999), 253_402_300_799),
+    (Some(253_402_300_800_000), 0),
+    (None, 0),
+];
+
 #[test]
-fn whole_seconds_of_a_clock(rt: HostRuntime) -> Result<(), Fail> {
-    let rows: [(Option<u64>, u64); 6] = [
-        (Some(0), 0),
-        (Some(999), 0),
-        (Some(420_895_020_999), 420_895_020),
-        (Some(253_402_300_799_999), 253_402_300_799),
-        (Some(253_402_300_800_000), 0),
-        (None, 0),
-    ];
-    for (millis, want) in rows {
-        let date = current_date(&Standing(millis));
-        assert_eq!(rt; date, HttpDate::from_unix_secs(want)?, "{millis:?}");
+fn whole_seconds_of_a_clock(rt: HostRuntime) {
+    for (millis, wanted) in TIMES {
+        assert_seconds(&rt, millis, wanted);
     }
-    assert!(rt; current_date(&rt).unix_secs() > 1_700_000_000);
-    Ok(())
+    let now = current_date(&rt).unix_secs();
+    assert_holds(&rt, "the clock goes on", now > 1_700_000_000);
+}
+
+// A client connects, and goes.
+fn assert_no_request_of_silent<R: Host>(rt: &R, alloc: Global, process: u32) {
+    let path = socket_path(rt, alloc, process, "nothing");
+    let server = Server::http_unix(*rt, alloc, path.as_path()).expect(rt, "a server");
+    let client = UnixStream::connect(rt, path.as_path()).expect(rt, "a client");
+    assert_clients(rt, &server, 1);
+    drop(client);
+    assert_clients(rt, &server, 0);
+    assert_no_request(rt, &server);
 }
 
 #[test]
-fn a_client_that_sends_nothing_is_no_request(rt: HostRuntime) -> Result<(), Fail> {
-    let alloc = rt.alloc();
-    let path = socket_path(alloc, std::process::id(rt.process()), "nothing")?;
-    let server = Server::http_unix(rt, alloc, path.as_path())?;
-    let client = UnixStream::connect(&rt, path.as_path())?;
-    assert!(rt; has_clients(&rt, &server, 1));
-    drop(client);
-    assert!(rt; has_clients(&rt, &server, 0));
-    assert!(rt; server.try_recv()?.is_none());
-    Ok(())
+fn a_client_that_sends_nothing_is_no_request(rt: HostRuntime) {
+    assert_no_request_of_silent(&rt, rt.alloc(), std::process::id(rt.process()));
 }

@@ -1,177 +1,290 @@
 //! Halves of a connection.
-use crate::bench::{DATED, assert_reads, respond};
+use crate::bench::{DATED, Host, assert_reads, assert_responds, send};
+use crate::same::{assert_holds, assert_same, assert_shown};
+use std::alloc::Global;
+use std::io;
 use std::io::{ErrorKind, Read, Write};
-use std::net::{Net, TcpListener, TcpStream};
+use std::net::{SocketAddr, TcpListener, TcpStream};
 use std::os::unix::net::UnixStream;
-use std::test::Fail;
+use std::process::Abort;
 use std::time::Duration;
 use tiny_http::client::ClientConnection;
 use tiny_http::connection::{ConfigListenAddr, Connection, ListenAddr, Listener};
 use tiny_http::device::{ReadDevice, WriteDevice};
 use tiny_http::refined_tcp_stream::RefinedTcpStream;
-use tiny_http::server::current_date;
+use tiny_http::server::{ServerRequest, current_date};
 
-#[test]
-fn a_half_closes_its_direction_alone(rt: HostRuntime) -> Result<(), Fail> {
-    let (ours, mut theirs) = UnixStream::pair(&rt)?;
-    let (mut reader, mut writer) = RefinedTcpStream::new(rt.alloc(), Connection::from(ours))?;
-    assert!(rt; !reader.secure());
-    assert!(rt; reader.peer_addr()?.is_none());
-    writer.write_all(b"to")?;
-    drop(writer);
+// The reading and the writing half of a connection.
+type Halves = (RefinedTcpStream, RefinedTcpStream);
+
+// A connection over two halves.
+type Client<R> = ClientConnection<RefinedTcpStream, RefinedTcpStream, R>;
+
+// The halves of this connection.
+fn halves_of<C>(rt: &impl Abort, alloc: Global, connection: C) -> Halves
+where
+    Connection: From<C>,
+{
+    let halves = RefinedTcpStream::new(alloc, Connection::from(connection));
+    halves.expect(rt, "memory")
+}
+
+// A read takes so many bytes.
+fn assert_read<S: Read>(rt: &impl Abort, stream: &mut S, wanted: usize) {
     let mut buf = [0u8; 8];
-    assert_eq!(rt; theirs.read(&mut buf)?, 2);
-    assert_eq!(rt; theirs.read(&mut buf)?, 0);
-    theirs.write_all(b"fro")?;
-    assert_eq!(rt; reader.read_in(&mut buf)?, 3);
-    assert_eq!(rt; &buf[..3], b"fro".as_slice());
+    let count = stream.read(&mut buf).expect(rt, "a read");
+    assert_same(rt, count, wanted);
+}
+
+// A read of a half takes these bytes.
+fn assert_reads_in(rt: &impl Abort, half: &mut RefinedTcpStream, wanted: &[u8]) {
+    let mut buf = [0u8; 8];
+    let count = half.read_in(&mut buf).expect(rt, "a read");
+    assert_same(rt, buf.get(..count), Some(wanted));
+}
+
+// A write takes so many bytes.
+fn assert_writes_out(rt: &impl Abort, half: &mut RefinedTcpStream, bytes: &[u8], wanted: usize) {
+    let count = half.write_out(bytes).expect(rt, "a write");
+    assert_same(rt, count, wanted);
+}
+
+// A write was refused, as nobody reads.
+fn assert_broken(rt: &impl Abort, written: io::Result<usize>) {
+    let fault = written.err().expect(rt, "no write");
+    assert_same(rt, fault.kind(), ErrorKind::BrokenPipe);
+}
+
+// The halves of a connection are dropped, the writing one first.
+fn assert_halves_close_alone<R: Host>(rt: &R, alloc: Global) {
+    let (ours, mut theirs) = UnixStream::pair(rt).expect(rt, "a pair");
+    let (mut reader, mut writer) = halves_of(rt, alloc, ours);
+    assert_holds(rt, "it is without TLS", !reader.secure());
+    let peer = reader.peer_addr().expect(rt, "no fault");
+    assert_holds(rt, "it has no address", peer.is_none());
+    writer.write_all(b"to").expect(rt, "it is sent");
+    drop(writer);
+    assert_read(rt, &mut theirs, 2);
+    assert_read(rt, &mut theirs, 0);
+    send(rt, &mut theirs, "fro");
+    assert_reads_in(rt, &mut reader, b"fro");
     drop(reader);
-    let Err(fault) = theirs.write(b"x") else {
-        return Err(Fail::new("a reader is left"));
-    };
-    assert_eq!(rt; fault.kind(), ErrorKind::BrokenPipe);
-    Ok(())
+    assert_broken(rt, theirs.write(b"x"));
 }
 
 #[test]
-fn the_reading_half_closes_its_direction_alone(rt: HostRuntime) -> Result<(), Fail> {
-    let (ours, mut theirs) = UnixStream::pair(&rt)?;
-    let (reader, mut writer) = RefinedTcpStream::new(rt.alloc(), Connection::from(ours))?;
+fn a_half_closes_its_direction_alone(rt: HostRuntime) {
+    assert_halves_close_alone(&rt, rt.alloc());
+}
+
+// The reading half of a connection is dropped first.
+fn assert_reading_half_closes_alone<R: Host>(rt: &R, alloc: Global) {
+    let (ours, mut theirs) = UnixStream::pair(rt).expect(rt, "a pair");
+    let (reader, mut writer) = halves_of(rt, alloc, ours);
     drop(reader);
-    assert!(rt; theirs.write(b"x").is_err());
-    assert_eq!(rt; writer.write_out(b"to")?, 2);
-    writer.flush_out()?;
-    let mut buf = [0u8; 8];
-    assert_eq!(rt; theirs.read(&mut buf)?, 2);
-    Ok(())
+    assert_holds(rt, "nobody reads", theirs.write(b"x").is_err());
+    assert_writes_out(rt, &mut writer, b"to", 2);
+    writer.flush_out().expect(rt, "it is sent on");
+    assert_read(rt, &mut theirs, 2);
+}
+
+#[test]
+fn the_reading_half_closes_its_direction_alone(rt: HostRuntime) {
+    assert_reading_half_closes_alone(&rt, rt.alloc());
 }
 
 // The two ends of a TCP connection.
-fn tcp_pair<R: Net<Listener = TcpListener, Stream = TcpStream>>(
-    rt: &R,
-) -> Result<(TcpStream, TcpStream), Fail> {
-    let listener = TcpListener::bind(rt, "127.0.0.1:0")?;
-    let theirs = TcpStream::connect(rt, listener.local_addr()?)?;
-    let (ours, _) = listener.accept()?;
-    Ok((ours, theirs))
+fn tcp_pair<R: Host>(rt: &R) -> (TcpStream, TcpStream) {
+    let listener = TcpListener::bind(rt, "127.0.0.1:0").expect(rt, "a listener");
+    let addr = listener.local_addr().expect(rt, "an address");
+    let theirs = TcpStream::connect(rt, addr).expect(rt, "a client");
+    let (ours, _) = listener.accept().expect(rt, "a connection");
+    (ours, theirs)
 }
 
-#[test]
-fn halves_of_a_tcp_connection(rt: HostRuntime) -> Result<(), Fail> {
-    let (ours, mut theirs) = tcp_pair(&rt)?;
-    let mut handle = ours.try_clone()?;
-    handle.set_read_timeout(Some(Duration::from_secs(10)))?;
-    let (mut reader, writer) = RefinedTcpStream::new(rt.alloc(), Connection::from(ours))?;
+// Another handle of a connection, each read of which waits for 10 s.
+fn handle_of(rt: &impl Abort, stream: &TcpStream) -> TcpStream {
+    let handle = stream.try_clone().expect(rt, "a handle");
+    let timed = handle.set_read_timeout(Some(Duration::from_secs(10)));
+    timed.expect(rt, "reads that wait for 10 s");
+    handle
+}
+
+// The halves of a TCP connection are dropped, the writing one first.
+fn assert_halves_of_tcp<R: Host>(rt: &R, alloc: Global) {
+    let (ours, mut theirs) = tcp_pair(rt);
+    let mut handle = handle_of(rt, &ours);
+    let (mut reader, writer) = halves_of(rt, alloc, ours);
     drop(writer);
-    let mut buf = [0u8; 8];
-    assert_eq!(rt; theirs.read(&mut buf)?, 0);
-    theirs.write_all(b"fro")?;
-    assert_eq!(rt; reader.read_in(&mut buf)?, 3);
+    assert_read(rt, &mut theirs, 0);
+    send(rt, &mut theirs, "fro");
+    assert_reads_in(rt, &mut reader, b"fro");
     drop(reader);
-    assert_eq!(rt; handle.read(&mut buf)?, 0);
-    Ok(())
+    assert_read(rt, &mut handle, 0);
 }
 
 #[test]
-fn small_pieces_are_sent_at_once(rt: HostRuntime) -> Result<(), Fail> {
-    let (ours, _theirs) = tcp_pair(&rt)?;
+fn halves_of_a_tcp_connection(rt: HostRuntime) {
+    assert_halves_of_tcp(&rt, rt.alloc());
+}
+
+// Whether small pieces are sent at once over this connection.
+fn nodelay_of(rt: &impl Abort, connection: &Connection) -> bool {
+    let Connection::Tcp(stream) = connection else {
+        panic!(rt; "no TCP");
+    };
+    stream.nodelay().expect(rt, "it is known")
+}
+
+// Small pieces are to be sent at once, and then not.
+fn assert_nodelay_is_set<R: Host>(rt: &R, alloc: Global) {
+    let (ours, _theirs) = tcp_pair(rt);
     let connection = Connection::from(ours);
     for nodelay in [true, false] {
-        connection.set_nodelay(nodelay)?;
-        let Connection::Tcp(stream) = &connection else {
-            return Err(Fail::new("no TCP"));
-        };
-        assert_eq!(rt; stream.nodelay()?, nodelay);
+        connection.set_nodelay(nodelay).expect(rt, "it is set");
+        assert_same(rt, nodelay_of(rt, &connection), nodelay);
     }
-    Ok(())
+}
+
+#[test]
+fn small_pieces_are_sent_at_once(rt: HostRuntime) {
+    assert_nodelay_is_set(&rt, rt.alloc());
+}
+
+// The address at which one listens.
+fn addr_of(rt: &impl Abort, listener: &Listener) -> SocketAddr {
+    let addr = listener.local_addr().expect(rt, "an address");
+    addr.to_ip().expect(rt, "an address of TCP")
+}
+
+// Of these two addresses the second is bound, as the first is taken.
+fn assert_binds_second<R: Host>(rt: &R, alloc: Global, first: SocketAddr, second: SocketAddr) {
+    let both = [first, second].to_vec(alloc).expect(rt, "memory");
+    let listener = ConfigListenAddr::IP(both).bind(rt).expect(rt, "a listener");
+    let port = addr_of(rt, &listener).port();
+    assert_holds(rt, "another port is bound", port != first.port());
 }
 
 // The first address that can be bound is.
-#[test]
-fn addresses_are_tried_in_turn(rt: HostRuntime) -> Result<(), Fail> {
-    let taken = TcpListener::bind(&rt, "127.0.0.1:0")?;
-    let free = std::net::SocketAddr::from(([127, 0, 0, 1], 0));
-    let addrs = [taken.local_addr()?, free];
-    let both = ConfigListenAddr::IP(addrs.to_vec(rt.alloc())?);
-    let ListenAddr::IP(addr) = both.bind(&rt)?.local_addr()? else {
-        return Err(Fail::new("no TCP"));
-    };
-    assert!(rt; addr.port() != taken.local_addr()?.port());
-    let none = ConfigListenAddr::IP(Vec::new(rt.alloc()));
-    let Err(fault) = none.bind(&rt) else {
-        return Err(Fail::new("a listener"));
-    };
-    assert_eq!(rt; fault.kind(), ErrorKind::InvalidInput);
-    Ok(())
+fn assert_addresses_in_turn<R: Host>(rt: &R, alloc: Global) {
+    let taken = TcpListener::bind(rt, "127.0.0.1:0").expect(rt, "a listener");
+    let first = taken.local_addr().expect(rt, "an address");
+    assert_binds_second(rt, alloc, first, SocketAddr::from(([127, 0, 0, 1], 0)));
+    let none = ConfigListenAddr::IP(Vec::new(alloc));
+    let fault = none.bind(rt).err().expect(rt, "no listener");
+    assert_same(rt, fault.kind(), ErrorKind::InvalidInput);
 }
 
 #[test]
-fn a_client_over_tcp_has_an_address(rt: HostRuntime) -> Result<(), Fail> {
-    let (ours, mut theirs) = tcp_pair(&rt)?;
-    theirs.write_all(b"GET /a HTTP/1.1\r\nConnection: close\r\n\r\n")?;
-    let (reader, writer) = RefinedTcpStream::new(rt.alloc(), Connection::from(ours))?;
-    let mut client = ClientConnection::new(rt, rt.alloc(), writer, reader)?;
-    let Some(request) = client.next(current_date(&rt))? else {
-        return Err(Fail::new("no request"));
-    };
-    assert_eq!(rt; request.remote_addr().copied(), Some(theirs.local_addr()?));
-    Ok(())
+fn addresses_are_tried_in_turn(rt: HostRuntime) {
+    assert_addresses_in_turn(&rt, rt.alloc());
 }
 
-#[test]
-fn failures_are_counted(rt: HostRuntime) -> Result<(), Fail> {
-    let (ours, theirs) = UnixStream::pair(&rt)?;
-    let (_, mut writer) = RefinedTcpStream::new(rt.alloc(), Connection::from(ours))?;
-    drop(theirs);
-    for want in [0, 1] {
-        assert_eq!(rt; writer.failures(), want);
-        let Err(fault) = writer.write_out(b"x") else {
-            return Err(Fail::new("a reader is left"));
-        };
-        assert_eq!(rt; fault.kind(), ErrorKind::BrokenPipe);
-    }
-    assert_eq!(rt; writer.failures(), 2);
-    assert_eq!(rt; writer.write_out(b"")?, 0);
-    Ok(())
+// A connection over the halves of this one.
+fn client_over<C, R: Host>(rt: &R, alloc: Global, connection: C) -> Client<R>
+where
+    Connection: From<C>,
+{
+    let (reader, writer) = halves_of(rt, alloc, connection);
+    ClientConnection::new(*rt, alloc, writer, reader).expect(rt, "memory")
 }
 
-#[test]
-fn addresses_of_tcp(rt: HostRuntime) -> Result<(), Fail> {
-    let listener = Listener::from(TcpListener::bind(&rt, "127.0.0.1:0")?);
-    let ListenAddr::IP(addr) = listener.local_addr()? else {
-        return Err(Fail::new("no TCP"));
-    };
-    let shown = format!(in rt.alloc(); "{}", listener.local_addr()?)?;
-    assert_eq!(rt; shown, format!(in rt.alloc(); "127.0.0.1:{}", addr.port())?);
-    let client = TcpStream::connect(&rt, addr)?;
-    let (connection, from) = listener.accept()?;
-    assert_eq!(rt; from, Some(client.local_addr()?));
-    assert_eq!(rt; connection.peer_addr()?, from);
-    Ok(())
+// The next request of a connection, if it has one.
+fn next_of<R: Host>(rt: &R, client: &mut Client<R>) -> Option<ServerRequest<R>> {
+    client.next(current_date(rt)).expect(rt, "memory")
 }
 
-#[test]
-fn a_client_over_two_halves(rt: HostRuntime) -> Result<(), Fail> {
-    let alloc = rt.alloc();
-    let (ours, mut theirs) = UnixStream::pair(&rt)?;
-    theirs.write_all(b"GET /a HTTP/1.1\r\nConnection: close\r\n\r\n")?;
-    let (reader, writer) = RefinedTcpStream::new(rt.alloc(), Connection::from(ours))?;
-    let mut client = ClientConnection::new(rt, alloc, writer, reader)?;
-    assert!(rt; !client.secure());
-    let now = current_date(&rt);
-    let Some(request) = client.next(now)? else {
-        return Err(Fail::new("no request"));
-    };
-    assert_eq!(rt; request.url(), "/a");
-    assert!(rt; request.remote_addr().is_none());
-    assert!(rt; client.next(now)?.is_none());
-    drop(client);
-    assert!(rt; respond(&rt, alloc, request, "a"));
-    let rest = "Content-Type: text/plain; charset=UTF-8\r\nContent-Length: 1\r\n\r\na";
-    assert_reads(
-        &rt,
-        alloc,
+// The request of a client has its address.
+fn assert_client_over_tcp<R: Host>(rt: &R, alloc: Global) {
+    let (ours, mut theirs) = tcp_pair(rt);
+    send(
+        rt,
         &mut theirs,
-        &["HTTP/1.1 200 OK\r\n", DATED, rest],
-    )
+        "GET /a HTTP/1.1\r\nConnection: close\r\n\r\n",
+    );
+    let mut client = client_over(rt, alloc, ours);
+    let request = next_of(rt, &mut client).expect(rt, "a request");
+    let wanted = theirs.local_addr().expect(rt, "an address");
+    assert_same(rt, request.remote_addr(), Some(&wanted));
+}
+
+#[test]
+fn a_client_over_tcp_has_an_address(rt: HostRuntime) {
+    assert_client_over_tcp(&rt, rt.alloc());
+}
+
+// A half whose connection has ended counts its failures.
+fn assert_failures<R: Host>(rt: &R, alloc: Global) {
+    let (ours, theirs) = UnixStream::pair(rt).expect(rt, "a pair");
+    let (_, mut writer) = halves_of(rt, alloc, ours);
+    drop(theirs);
+    for wanted in [0, 1] {
+        assert_same(rt, writer.failures(), wanted);
+        assert_broken(rt, writer.write_out(b"x"));
+    }
+    assert_same(rt, writer.failures(), 2);
+    assert_writes_out(rt, &mut writer, b"", 0);
+}
+
+#[test]
+fn failures_are_counted(rt: HostRuntime) {
+    assert_failures(&rt, rt.alloc());
+}
+
+// A listener gives a connection of this client, and its address.
+fn assert_accepts(rt: &impl Abort, listener: &Listener, client: &TcpStream) {
+    let wanted = client.local_addr().expect(rt, "an address");
+    let (connection, from) = listener.accept().expect(rt, "a connection");
+    assert_same(rt, from, Some(wanted));
+    let peer = connection.peer_addr().expect(rt, "no fault");
+    assert_same(rt, peer, from);
+}
+
+// A listener shows its address, and accepts a client that has one.
+fn assert_addresses_of_tcp<R: Host>(rt: &R, alloc: Global) {
+    let listener = TcpListener::bind(rt, "127.0.0.1:0").expect(rt, "a listener");
+    let listener = Listener::from(listener);
+    let addr = addr_of(rt, &listener);
+    let wanted = format!(in alloc; "127.0.0.1:{}", addr.port()).expect(rt, "memory");
+    let shown = listener.local_addr().expect(rt, "an address");
+    assert_shown(rt, alloc, &shown, wanted.as_str());
+    let client = TcpStream::connect(rt, addr).expect(rt, "a client");
+    assert_accepts(rt, &listener, &client);
+}
+
+#[test]
+fn addresses_of_tcp(rt: HostRuntime) {
+    assert_addresses_of_tcp(&rt, rt.alloc());
+}
+
+// The connection has one request, for `/a` and of no address.
+fn assert_one_request<R: Host>(rt: &R, client: &mut Client<R>) -> ServerRequest<R> {
+    assert_holds(rt, "it is without TLS", !client.secure());
+    let request = next_of(rt, client).expect(rt, "a request");
+    assert_same(rt, request.url(), "/a");
+    assert_holds(rt, "it has no address", request.remote_addr().is_none());
+    assert_holds(rt, "it is the last", next_of(rt, client).is_none());
+    request
+}
+
+// A client of a Unix socket has one request, which is answered after its connection was dropped.
+fn assert_client_over_halves<R: Host>(rt: &R, alloc: Global) {
+    let (ours, mut theirs) = UnixStream::pair(rt).expect(rt, "a pair");
+    send(
+        rt,
+        &mut theirs,
+        "GET /a HTTP/1.1\r\nConnection: close\r\n\r\n",
+    );
+    let mut client = client_over(rt, alloc, ours);
+    let request = assert_one_request(rt, &mut client);
+    drop(client);
+    assert_responds(rt, alloc, request, "a");
+    let rest = "Content-Type: text/plain; charset=UTF-8\r\nContent-Length: 1\r\n\r\na";
+    let wanted = ["HTTP/1.1 200 OK\r\n", DATED, rest];
+    assert_reads(rt, alloc, &mut theirs, &wanted);
+}
+
+#[test]
+fn a_client_over_two_halves(rt: HostRuntime) {
+    assert_client_over_halves(&rt, rt.alloc());
 }
