@@ -21,9 +21,9 @@ pub fn empty_input(alloc: Global) -> Input {
         upgrade: None,
         is_withheld: false,
         has_flushes: false,
-        is_left: false,
+        is_open: false,
         room: None,
-        rooms: Rooms::Ample,
+        rooms: None,
     }
 }
 
@@ -34,7 +34,7 @@ fn parts_of(call: &Call) -> &'static [&'static str] {
         Call::Decoder => &["data", "series", "stop"],
         Call::PutChunk => &["data", "series"],
         Call::PutChunked => &["data", "series", "stop", "rooms"],
-        Call::Encoder(_) => &["data", "series", "flushes", "left", "rooms"],
+        Call::Encoder(_) => &["data", "series", "flushes", "open", "rooms"],
         Call::AskedCoding => &["request"],
         Call::RawPrint(_) => &[
             "data",
@@ -68,7 +68,10 @@ fn put<T: Drop>(slot: &mut Option<T>, value: T) -> Result<(), LineFault> {
 
 // Says that something is so, which wasn't said before and has no words.
 fn mark(slot: &mut bool, words: &str) -> Result<(), LineFault> {
-    if *slot || !words.is_empty() {
+    if !words.is_empty() {
+        return Err(LineFault::Bad("this part takes no words"));
+    }
+    if *slot {
         return Err(TWICE);
     }
     *slot = true;
@@ -149,12 +152,9 @@ fn add_of_writing(
 ) -> Result<(), LineFault> {
     match word {
         "flushes" => mark(&mut input.has_flushes, words),
-        "left" => mark(&mut input.is_left, words),
+        "open" => mark(&mut input.is_open, words),
         "takes" => put(&mut input.room, room(words)?),
-        _ => {
-            input.rooms = rooms(alloc, words)?;
-            Ok(())
-        }
+        _ => put(&mut input.rooms, rooms(alloc, words)?),
     }
 }
 
@@ -173,7 +173,7 @@ pub fn add_part(
         "version" | "upgrade" | "withheld" | "request" => {
             add_of_request(alloc, input, word, words)
         }
-        "flushes" | "left" | "takes" | "rooms" => add_of_writing(alloc, input, word, words),
+        "flushes" | "open" | "takes" | "rooms" => add_of_writing(alloc, input, word, words),
         _ => add_of_answer(alloc, input, word, words),
     }
 }

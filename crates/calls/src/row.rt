@@ -68,11 +68,9 @@ pub enum Call {
     Numeral(u64),
 }
 
-/// The writers with too little room that a call is tried with.
+/// Writers with too little room.
 #[derive(Drop)]
 pub enum Rooms {
-    /// None.
-    Ample,
     /// Those that take so many bytes.
     These(Vec<usize>),
     /// Each that takes fewer bytes than there are.
@@ -101,11 +99,12 @@ pub struct Input {
     pub is_withheld: bool,
     /// Whether a flush and an empty write follow each write.
     pub has_flushes: bool,
-    /// Whether the body is left without its end.
-    pub is_left: bool,
+    /// Whether the body is left open, without its end.
+    pub is_open: bool,
     /// Where the writer fails, if it doesn't take all.
     pub room: Option<Room>,
-    pub rooms: Rooms,
+    /// The writers with too little room that the call is tried with too.
+    pub rooms: Option<Rooms>,
 }
 
 /// Something that comes of a call: what it is, and its text.

@@ -98,6 +98,9 @@ fn line_of(alloc: Global, finding: Option<&Finding>) -> Result<String, AllocErro
         return String::from_str(alloc, "nothing");
     };
     let word = finding.word;
+    if finding.text.is_empty() {
+        return format!(in alloc; "[{word}]");
+    }
     let text = shown(alloc, finding.text.as_slice())?;
     let text = text.as_str();
     format!(in alloc; "[{word} {text}]")
@@ -186,9 +189,9 @@ fn try_room(alloc: Global, row: &Row, bytes: usize) -> Result<Option<Difference>
 // How many bytes the writers take that a call is tried with.
 fn rooms_of(alloc: Global, row: &Row) -> Result<Vec<usize>, AllocError> {
     match &row.input.rooms {
-        Rooms::Ample => Ok(Vec::new(alloc)),
-        Rooms::These(rooms) => rooms.as_slice().to_vec(alloc),
-        Rooms::Each => (0..output_of(row).len()).collect(alloc),
+        None => Ok(Vec::new(alloc)),
+        Some(Rooms::These(rooms)) => rooms.as_slice().to_vec(alloc),
+        Some(Rooms::Each) => (0..output_of(row).len()).collect(alloc),
     }
 }
 

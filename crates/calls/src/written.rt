@@ -100,11 +100,11 @@ fn write_pieces<W: Write>(writer: &mut W, input: &Input, piece: usize) -> io::Re
     Ok(())
 }
 
-// Gives the bytes to an encoder over the writer, and ends the body unless it is to be left without its end.
+// Gives the bytes to an encoder over the writer, and ends the body unless it is to be left open.
 fn give(writer: &mut Metered<Trier>, input: &Input, piece: usize) -> io::Result<()> {
     let mut encoder = Encoder::new(writer);
     write_pieces(&mut encoder, input, piece)?;
-    if !input.is_left {
+    if !input.is_open {
         let _writer = encoder.finish()?;
     }
     Ok(())
