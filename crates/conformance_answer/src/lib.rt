@@ -1,15 +1,7 @@
-//! Tests of what a client reads. They stand apart because a crate with tests is proved once more with them.
+//! A test of what a client reads of what a server sends. The tables of what a client reads are rows of the program `calls`.
 #![tactic(auto)]
 
-#[cfg(test)]
-mod answers;
-#[cfg(test)]
-mod grammar;
-#[cfg(test)]
-mod outputs;
 #[cfg(test)]
 mod same;
 #[cfg(test)]
 mod served;
-#[cfg(test)]
-mod sizes;

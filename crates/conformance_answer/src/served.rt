@@ -1,10 +1,15 @@
 //! What a server sends, read as a client reads it.
-use crate::outputs::{Wanted, rest_after};
 use crate::same::assert_same;
 use greeter::serve_bytes;
 use httpdate::HttpDate;
+use std::alloc::Global;
+use std::process::Abort;
 use std::test::Fail;
-use tiny_http_wire::common::HTTPVersion;
+use tiny_http_answer::answer::read_answer;
+use tiny_http_wire::common::{HTTPVersion, Method};
+
+// Whether an answer is one to a HEAD, its version, its status and its body.
+type Wanted = (bool, HTTPVersion, u16, &'static str);
 
 // A GET, a HEAD, a version above 1.1, a request that takes chunks, and a head that is none.
 const CLIENT: &[u8] =
@@ -24,6 +29,28 @@ const ANSWERS: &[Wanted] = &[
     (false, V1_1, 404, ""),
     (false, V1_1, 400, ""),
 ];
+
+// Reads one answer, which is to be this one, and gives what follows it.
+fn rest_after<'a>(
+    rt: &impl Abort,
+    alloc: Global,
+    bytes: &'a [u8],
+    wanted: &Wanted,
+) -> Result<&'a [u8], Fail> {
+    let (to_head, version, status, body) = *wanted;
+    let method = if to_head { Method::Head } else { Method::Get };
+    let outcome = read_answer(alloc, &method, bytes).map_err(|_| "malformed, or no memory")?;
+    let (answer, taken) = outcome.ok_or("unfinished")?;
+    assert_same(
+        rt,
+        (answer.version, answer.status.0, answer.body.as_slice()),
+        (version, status, body.as_bytes()),
+    );
+    match bytes.get(taken..) {
+        Some(rest) => Ok(rest),
+        None => Err("more taken than there is".into()),
+    }
+}
 
 #[test]
 fn each_request_is_answered(rt: HostRuntime) -> Result<(), Fail> {

@@ -35,30 +35,6 @@ fn nine_methods() -> [(&'static str, Method); 9] {
     ]
 }
 
-const PHRASES: &[(u16, &str)] = &[
-    (100, "Continue"),
-    (200, "OK"),
-    (203, "Non-Authoritative Information"),
-    (226, "IM Used"),
-    (299, "Unknown"),
-    (306, "Unknown"),
-    (404, "Not Found"),
-    (408, "Request Timeout"),
-    (417, "Expectation Failed"),
-    (431, "Request Header Fields Too Large"),
-    (505, "HTTP Version Not Supported"),
-    (511, "Network Authentication Required"),
-    (65535, "Unknown"),
-];
-
-#[test]
-fn phrases(rt: HostRuntime) {
-    for (code, phrase) in PHRASES {
-        let found = StatusCode(*code).default_reason_phrase();
-        assert_same(&rt, (*code, found), (*code, *phrase));
-    }
-}
-
 fn code<N>(number: N) -> u16
 where
     StatusCode: From<N>,
@@ -143,14 +119,6 @@ fn versions_against_pairs(rt: HostRuntime) {
     for (version, pair, order) in VERSIONS_AGAINST_PAIRS {
         assert_version(&rt, *version, *pair, *order);
     }
-}
-
-#[test]
-fn versions_are_shown(rt: HostRuntime) -> Result<(), Fail> {
-    for (version, text) in [((1, 1), "1.1"), ((0, 9), "0.9"), ((255, 10), "255.10")] {
-        assert_shown(&rt, rt.alloc(), &HTTPVersion::from(version), text)?;
-    }
-    Ok(())
 }
 
 #[test]
@@ -263,114 +231,6 @@ fn methods_are_copied(rt: HostRuntime) -> Result<(), Fail> {
         assert_copy(&rt, rt.alloc(), name)?;
     }
     Ok(())
-}
-
-const HEADERS: &[(&str, &str, &str)] = &[
-    ("Content-Type: text/html", "content-type", "text/html"),
-    ("Time: 20: 34", "time", "20: 34"),
-    ("Transfer-Encoding: chunked", "Transfer-Encoding", "chunked"),
-    (
-        "Transfer-Encoding: chunked ",
-        "Transfer-Encoding",
-        "chunked",
-    ),
-    (
-        "Transfer-Encoding:   chunked ",
-        "Transfer-Encoding",
-        "chunked",
-    ),
-    (":", "", ""),
-    ("a:\t\n\x0b\x0c\r b\t\n\x0b\x0c\r ", "a", "b"),
-    ("a:\x1cb", "a", "\x1cb"),
-];
-
-// The text is read as a header of this name, in any case, and this value.
-fn assert_header(
-    rt: &impl Abort,
-    alloc: Global,
-    text: &str,
-    field: &str,
-    value: &str,
-) -> Result<(), Fail> {
-    let header = Header::from_str(alloc, text)?;
-    assert_holds(rt, text, header.field.equiv(field));
-    assert_same(rt, (text, header.value.as_str()), (text, value));
-    Ok(())
-}
-
-#[test]
-fn headers_read(rt: HostRuntime) -> Result<(), Fail> {
-    for (text, field, value) in HEADERS {
-        assert_header(&rt, rt.alloc(), text, field, value)?;
-    }
-    Ok(())
-}
-
-#[test]
-fn headers_refused(rt: HostRuntime) {
-    for text in [
-        "hello world",
-        "",
-        " Transfer-Encoding: chunked",
-        "Transfer Encoding: chunked",
-        "Transfer-Encoding : chunked",
-        " Transfer\tEncoding : chunked",
-        "a\x0b: b",
-        "é: a",
-        "a: é",
-        "a: b\u{a0}",
-    ] {
-        let refused = Header::from_str(rt.alloc(), text);
-        assert_holds(&rt, text, matches!(refused, Err(ParseError::Refused)));
-    }
-}
-
-#[test]
-fn names_read(rt: HostRuntime) -> Result<(), Fail> {
-    for text in ["Host", "", "a:b", "\x1c"] {
-        let field = HeaderField::from_str(rt.alloc(), text)?;
-        assert_same(&rt, field.as_str().as_str(), text);
-    }
-    Ok(())
-}
-
-#[test]
-fn names_refused(rt: HostRuntime) {
-    for text in ["a b", "a\t", "\x0ba", "é"] {
-        let refused = HeaderField::from_str(rt.alloc(), text);
-        assert_holds(&rt, text, matches!(refused, Err(ParseError::Refused)));
-    }
-}
-
-// The name is read as this method.
-fn assert_read(rt: &impl Abort, alloc: Global, name: &str, wanted: &Method) -> Result<(), Fail> {
-    let method = Method::from_str(alloc, name)?;
-    assert_holds(rt, name, method == *wanted);
-    Ok(())
-}
-
-#[test]
-fn methods_read(rt: HostRuntime) -> Result<(), Fail> {
-    for (name, method) in &nine_methods() {
-        assert_read(&rt, rt.alloc(), name, method)?;
-    }
-    Ok(())
-}
-
-#[test]
-fn methods_of_other_names_read(rt: HostRuntime) -> Result<(), Fail> {
-    for text in ["get", "", "GET ", "Patch"] {
-        let found = Method::from_str(rt.alloc(), text)?;
-        assert_holds(&rt, text, matches!(found, Method::NonStandard(_)));
-        assert_same(&rt, found.as_str(), text);
-    }
-    Ok(())
-}
-
-#[test]
-fn a_method_that_is_not_ascii_is_refused(rt: HostRuntime) {
-    let refused = Method::from_str(rt.alloc(), "gé");
-    assert!(rt; matches!(refused, Err(ParseError::Refused)));
 }
 
 fn hash_of(method: &Method) -> u64 {

@@ -1,5 +1,4 @@
 //! A writer of chunks (RFC 9112, section 7.1).
-use crate::chunks::{BODIES, SizedChunk, body, chunks, data};
 use crate::same::assert_same;
 use std::alloc::Global;
 use std::io;
@@ -11,80 +10,21 @@ use tiny_http_wire::encoder::Encoder;
 
 const ROOM: usize = 100_000;
 
-// How many bytes are given at a time.
-const CUTS: &[usize] = &[1, 3, 4096, 8191, 8192, 8193, 20_000];
-
-// Gives the bytes piece by piece, with a flush and an empty write after each if that is said.
-fn give<W: Write>(
-    writer: &mut W,
-    bytes: &[u8],
-    cut: usize,
-    with_flushes: bool,
-) -> Result<(), io::Error> {
-    let mut rest = bytes;
-    for _ in 0..bytes.len() {
-        let (piece, more) = rest.split_at(cut.min(rest.len()));
-        writer.write_all(piece)?;
-        if with_flushes {
-            writer.flush()?;
-            writer.write(b"")?;
-        }
-        rest = more;
+// So many bytes, each unlike its neighbours.
+fn data(alloc: Global, count: usize) -> Result<Vec<u8>, Fail> {
+    let mut bytes = Vec::new(alloc);
+    for place in 0..count {
+        bytes.push((place % 251) as u8)?;
     }
-    Ok(())
+    Ok(bytes)
 }
 
-// The body of so many bytes that are given in pieces.
-fn assert_encoded(
-    rt: &impl Abort,
-    alloc: Global,
-    (count, sizes): (usize, &[SizedChunk]),
-    cut: usize,
-    with_flushes: bool,
-) -> Result<(), Fail> {
-    let bytes = data(alloc, count)?;
-    let whole = body(alloc, bytes.as_slice(), sizes)?;
-    let mut encoder = Encoder::new(Budget::new(alloc, ROOM, ErrorKind::Other));
-    give(&mut encoder, bytes.as_slice(), cut, with_flushes)?;
-    let writer = encoder.finish()?;
-    assert_same(
-        rt,
-        (count, cut, writer.bytes()),
-        (count, cut, whole.as_slice()),
-    );
-    Ok(())
-}
-
-#[test]
-fn bodies_however_they_are_cut(rt: HostRuntime) -> Result<(), Fail> {
-    for body in BODIES {
-        for cut in CUTS {
-            assert_encoded(&rt, rt.alloc(), *body, *cut, false)?;
-        }
-    }
-    Ok(())
-}
-
-#[test]
-fn flushes_and_empty_writes_change_nothing(rt: HostRuntime) -> Result<(), Fail> {
-    for body in BODIES {
-        for cut in [4096, 8192, 20_000] {
-            assert_encoded(&rt, rt.alloc(), *body, cut, true)?;
-        }
-    }
-    Ok(())
-}
-
-// What is written before the end.
-#[test]
-fn full_chunks_alone_before_the_end(rt: HostRuntime) -> Result<(), Fail> {
-    let bytes = data(rt.alloc(), 8197)?;
-    let front = chunks(rt.alloc(), bytes.as_slice(), &[("2000", 8192)])?;
-    let mut encoder = Encoder::new(Budget::new(rt.alloc(), ROOM, ErrorKind::Other));
-    encoder.write_all(bytes.as_slice())?;
-    encoder.flush()?;
-    assert_same(&rt, encoder.get_ref().bytes(), front.as_slice());
-    Ok(())
+// A chunk of 8192 bytes.
+fn chunk(alloc: Global, bytes: &[u8]) -> Result<Vec<u8>, Fail> {
+    let mut text = b"2000\r\n".to_vec(alloc)?;
+    text.extend_from_slice(bytes)?;
+    text.extend_from_slice(b"\r\n")?;
+    Ok(text)
 }
 
 // How many bytes one write takes: with nothing held, a full chunk at most; else what fills it.
@@ -99,16 +39,16 @@ fn what_a_write_takes(rt: HostRuntime) -> Result<(), Fail> {
     Ok(())
 }
 
-/// A stream that fails once, by a time-out, after it took so many bytes. It takes what comes later.
+// A stream that fails once, by a time-out, after it took so many bytes. It takes what comes later.
 #[derive(Drop)]
-pub(crate) struct FailsOnce {
-    pub taken: Vec<u8>,
+struct FailsOnce {
+    taken: Vec<u8>,
     room: usize,
     has_failed: bool,
 }
 
 impl FailsOnce {
-    pub(crate) fn new(alloc: Global, room: usize) -> FailsOnce {
+    fn new(alloc: Global, room: usize) -> FailsOnce {
         FailsOnce {
             taken: Vec::new(alloc),
             room,
@@ -173,7 +113,7 @@ fn fault<T: Drop>(outcome: Result<T, io::Error>) -> Option<ErrorKind> {
 
 // A writer that fails after so many bytes took no more, and each later call is an error of its own.
 fn assert_failed(rt: &impl Abort, alloc: Global, bytes: &[u8], room: usize) -> Result<(), Fail> {
-    let whole = chunks(alloc, bytes, &[("2000", 8192)])?;
+    let whole = chunk(alloc, bytes)?;
     let mut writer = Metered::new(FailsOnce::new(alloc, room));
     let mut encoder = Encoder::new(&mut writer);
     let first = fault(encoder.write(bytes));
@@ -202,23 +142,6 @@ fn nothing_after_a_fault_of_the_writer(rt: HostRuntime) -> Result<(), Fail> {
     let bytes = data(rt.alloc(), 8192)?;
     for room in [0, 3, 5, 6, 8197, 8198, 8199] {
         assert_failed(&rt, rt.alloc(), bytes.as_slice(), room)?;
-    }
-    Ok(())
-}
-
-// Room for the chunk that is held, but not for the end of the body. The writer would take what comes after its fault.
-#[test]
-fn a_fault_at_the_end(rt: HostRuntime) -> Result<(), Fail> {
-    for room in [0, 1, 3, 8, 10, 14] {
-        let mut writer = Metered::new(FailsOnce::new(rt.alloc(), room));
-        let mut encoder = Encoder::new(&mut writer);
-        encoder.write_all(b"hello")?;
-        assert_same(&rt, fault(encoder.finish()), Some(ErrorKind::TimedOut));
-        assert_same(
-            &rt,
-            Some(writer.into_inner().taken.as_slice()),
-            b"5\r\nhello\r\n0\r\n\r\n".get(..room),
-        );
     }
     Ok(())
 }

@@ -1,5 +1,5 @@
-//! Tests of the calls of `tiny_http_wire` and the crates beneath it, with tables of what they answer. They stand apart because
-//! a crate with tests is proved once more with them.
+//! Tests of the types and calls of `tiny_http_wire` and the crates beneath it. What a call makes of bytes stands in the rows of
+//! the program `calls`. The tests stand apart because a crate with tests is proved once more with them.
 #![tactic(auto)]
 
 #[cfg(test)]
@@ -7,21 +7,11 @@ mod ascii;
 #[cfg(test)]
 mod chunked;
 #[cfg(test)]
-mod chunks;
-#[cfg(test)]
-mod coding;
-#[cfg(test)]
 mod common;
 #[cfg(test)]
 mod device;
 #[cfg(test)]
 mod encoder;
-#[cfg(test)]
-mod grammar;
-#[cfg(test)]
-mod header_value;
-#[cfg(test)]
-mod number;
 #[cfg(test)]
 mod response;
 #[cfg(test)]

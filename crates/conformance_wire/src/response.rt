@@ -1,20 +1,17 @@
-//! Answers, made and printed into a writer of bounded room.
-use crate::coding::headers;
+//! Answers, made, and printed to writers of several kinds.
+use crate::encoder::Flushes;
 use crate::same::{assert_holds, assert_same, assert_shown};
 use httpdate::HttpDate;
 use std::alloc::Global;
+use std::io;
 use std::io::{Cursor, ErrorKind};
 use std::process::Abort;
 use std::test::Fail;
-use tiny_http_wire::common::{HTTPVersion, StatusCode};
-use tiny_http_wire::device::{Budget, ReadDevice, WriteDevice};
+use tiny_http_wire::common::{HTTPVersion, Header, StatusCode};
+use tiny_http_wire::device::{Budget, Canned, Metered, ReadDevice, WriteDevice};
 use tiny_http_wire::response::Response;
 
 const ROOM: usize = 100_000;
-
-const V1_0: HTTPVersion = HTTPVersion(1, 0);
-
-const V1_1: HTTPVersion = HTTPVersion(1, 1);
 
 fn text(alloc: Global, text: &str) -> Result<Response<Cursor<Vec<u8>>>, Fail> {
     Ok(Response::from_string(alloc, String::from_str(alloc, text)?)?)
@@ -63,32 +60,18 @@ fn answers_of_data_and_of_none(rt: HostRuntime) -> Result<(), Fail> {
     Ok(())
 }
 
-// How the printing of an answer ended, what was written, and how often the writer failed.
-#[derive(Drop)]
-struct Printed {
-    fault: Option<ErrorKind>,
-    bytes: Vec<u8>,
-    failures: u64,
-}
-
-// How an answer is printed.
+// A request: its version, its header line, and the protocol of its upgrade.
 #[derive(Clone, Copy)]
-struct Setting<'a> {
-    // The header lines of the request.
-    lines: &'a [&'a str],
+struct Asking {
     version: HTTPVersion,
-    no_body: bool,
-    upgrade: Option<&'a str>,
-    // How many bytes the writer takes.
-    room: usize,
+    line: &'static str,
+    upgrade: Option<&'static str>,
 }
 
-const PLAIN: Setting<'static> = Setting {
-    lines: &[],
-    version: V1_1,
-    no_body: false,
+const PLAIN: Asking = Asking {
+    version: HTTPVersion(1, 1),
+    line: "Host: a",
     upgrade: None,
-    room: ROOM,
 };
 
 // Prints the answer into this writer, and answers the fault, if there is one.
@@ -96,187 +79,114 @@ fn print_into<R: ReadDevice + Drop, W: WriteDevice>(
     alloc: Global,
     answer: Response<R>,
     writer: &mut W,
-    setting: Setting<'_>,
+    asking: Asking,
 ) -> Result<Option<ErrorKind>, Fail> {
-    let Setting {
-        lines,
+    let Asking {
         version,
-        no_body,
+        line,
         upgrade,
-        room: _,
-    } = setting;
-    let headers = headers(alloc, lines)?;
+    } = asking;
+    let headers = [Header::from_str(alloc, line)?];
     let now = HttpDate::from_unix_secs(420895020)?;
-    let outcome = answer.raw_print(
-        alloc,
-        writer,
-        version,
-        headers.as_slice(),
-        no_body,
-        upgrade,
-        now,
-    );
-    let fault = outcome.err().map(|e| e.kind());
-    if fault == Some(ErrorKind::OutOfMemory) {
-        return Err("no memory for what is printed".into());
-    }
-    Ok(fault)
+    let outcome = answer.raw_print(alloc, writer, version, &headers, false, upgrade, now);
+    Ok(outcome.err().map(|e| e.kind()))
 }
 
-fn print<R: ReadDevice + Drop>(
-    alloc: Global,
-    answer: Response<R>,
-    setting: Setting<'_>,
-) -> Result<Printed, Fail> {
-    let mut writer = Budget::new(alloc, setting.room, ErrorKind::Other);
-    let fault = print_into(alloc, answer, &mut writer, setting)?;
-    Ok(Printed {
-        fault,
-        bytes: writer.bytes().to_vec(alloc)?,
-        failures: writer.failures(),
-    })
-}
-
-// The answer is printed so with ample room.
+// The answer is printed so.
 fn assert_printed<R: ReadDevice + Drop>(
     rt: &impl Abort,
     alloc: Global,
     answer: Response<R>,
-    setting: Setting<'_>,
-    (wanted, fault): (&str, Option<ErrorKind>),
+    wanted: &str,
 ) -> Result<(), Fail> {
-    let printed = print(alloc, answer, setting)?;
-    assert_same(rt, str::from_utf8(&printed.bytes)?, wanted);
-    assert_same(rt, (printed.fault, printed.failures), (fault, 0));
+    let mut writer = Budget::new(alloc, ROOM, ErrorKind::Other);
+    let fault = print_into(alloc, answer, &mut writer, PLAIN)?;
+    assert_same(rt, str::from_utf8(writer.bytes())?, wanted);
+    assert_same(rt, (fault, writer.failures()), (None, 0));
     Ok(())
 }
 
-const HELLO: &str =
-    "HTTP/1.1 200 OK\r\nServer: tiny-http (Rust)\r\nDate: Wed, 04 May 1983 11:17:00 GMT\r\nContent-Type: text/plain; charset=UTF-8\r\nContent-Length: 11\r\n\r\nhello world";
-
-const HELLO_HEAD: &str =
-    "HTTP/1.1 200 OK\r\nServer: tiny-http (Rust)\r\nDate: Wed, 04 May 1983 11:17:00 GMT\r\nContent-Type: text/plain; charset=UTF-8\r\nContent-Length: 11\r\n\r\n";
-
-#[test]
-fn a_text(rt: HostRuntime) -> Result<(), Fail> {
-    for (no_body, wanted) in [(false, HELLO), (true, HELLO_HEAD)] {
-        let setting = Setting { no_body, ..PLAIN };
-        let answer = text(rt.alloc(), "hello world")?;
-        assert_printed(&rt, rt.alloc(), answer, setting, (wanted, None))?;
-    }
-    Ok(())
-}
-
-// A head without headers of its own, in this version, with this code, phrase and length.
-fn head_of(
+// How often printing this answer flushes.
+fn flushes<R: ReadDevice + Drop>(
     alloc: Global,
-    version: HTTPVersion,
-    (code, phrase): (u16, &str),
-    length: usize,
-) -> Result<String, Fail> {
-    Ok(format!(in alloc;
-        "HTTP/{version} {code} {phrase}\r\nServer: tiny-http (Rust)\r\nDate: Wed, 04 May 1983 11:17:00 GMT\r\nContent-Length: {length}\r\n\r\n"
-    )?)
+    answer: Response<R>,
+    asking: Asking,
+) -> Result<u64, Fail> {
+    let mut writer = Metered::new(Flushes { count: 0 });
+    let _fault = print_into(alloc, answer, &mut writer, asking)?;
+    Ok(writer.into_inner().count)
 }
 
-// Of an answer of five bytes and this code the head alone is printed.
-fn assert_bodiless(rt: &impl Abort, alloc: Global, code: u16, phrase: &str) -> Result<(), Fail> {
-    let answer = Response::from_data(alloc, b"hello".to_vec(alloc)?);
-    let answer = answer.with_status_code(StatusCode(code));
-    let head = head_of(alloc, V1_0, (code, phrase), 5)?;
-    let setting = Setting {
-        version: V1_0,
+// An answer whose data are three bytes, and whose length isn't known.
+fn stream(alloc: Global) -> Result<Response<Canned>, Fail> {
+    let data = Canned::new(b"abc".to_vec(alloc)?, None);
+    Ok(Response::empty(alloc, StatusCode(200)).with_data(data, None))
+}
+
+// However its body is sent.
+#[test]
+fn an_answer_is_printed_without_a_flush(rt: HostRuntime) -> Result<(), Fail> {
+    let alloc = rt.alloc();
+    let chunks = Asking {
+        line: "TE: chunked",
         ..PLAIN
     };
-    assert_printed(rt, alloc, answer, setting, (head.as_str(), None))
-}
-
-#[test]
-fn codes_without_a_body(rt: HostRuntime) -> Result<(), Fail> {
-    for (code, phrase) in [
-        (100, "Continue"),
-        (199, "Unknown"),
-        (204, "No Content"),
-        (304, "Not Modified"),
-    ] {
-        assert_bodiless(&rt, rt.alloc(), code, phrase)?;
-    }
-    Ok(())
-}
-
-#[test]
-fn empty_answers(rt: HostRuntime) -> Result<(), Fail> {
-    for (code, phrase) in [(204, "No Content"), (500, "Internal Server Error")] {
-        let answer = Response::empty(rt.alloc(), StatusCode(code));
-        let head = head_of(rt.alloc(), V1_1, (code, phrase), 0)?;
-        assert_printed(&rt, rt.alloc(), answer, PLAIN, (head.as_str(), None))?;
-    }
-    Ok(())
-}
-
-const SWITCHING: &str =
-    "HTTP/1.1 101 Switching Protocols\r\nConnection: upgrade\r\nUpgrade: websocket\r\nServer: tiny-http (Rust)\r\nDate: Wed, 04 May 1983 11:17:00 GMT\r\n\r\n";
-
-const NO_PROTOCOL: &str = "w\u{e9}";
-
-#[test]
-fn upgrades(rt: HostRuntime) -> Result<(), Fail> {
-    for (lines, protocol, wanted, fault) in [
-        ([].as_slice(), "websocket", SWITCHING, None),
-        (["TE: chunked"].as_slice(), "websocket", SWITCHING, None),
-        (
-            [].as_slice(),
-            NO_PROTOCOL,
-            "",
-            Some(ErrorKind::InvalidInput),
-        ),
-    ] {
-        let setting = Setting {
-            lines,
-            upgrade: Some(protocol),
-            ..PLAIN
-        };
-        let answer = Response::empty(rt.alloc(), StatusCode(101));
-        assert_printed(&rt, rt.alloc(), answer, setting, (wanted, fault))?;
-    }
-    Ok(())
-}
-
-#[test]
-fn an_answer_to_an_upgrade_sends_no_data(rt: HostRuntime) -> Result<(), Fail> {
-    let setting = Setting {
-        upgrade: Some("a"),
+    let older = Asking {
+        version: HTTPVersion(1, 0),
         ..PLAIN
     };
-    let printed = print(rt.alloc(), text(rt.alloc(), "x")?, setting)?;
-    let end = b"\r\nContent-Type: text/plain; charset=UTF-8\r\n\r\n";
-    assert_holds(&rt, "the head is the end", printed.bytes.ends_with(end));
+    let upgrade = Asking {
+        upgrade: Some("websocket"),
+        ..PLAIN
+    };
+    let counts = [
+        flushes(alloc, text(alloc, "a")?, PLAIN)?,
+        flushes(alloc, text(alloc, "a")?, chunks)?,
+        flushes(alloc, stream(alloc)?, older)?,
+        flushes(alloc, text(alloc, "a")?, upgrade)?,
+    ];
+    assert_same(&rt, counts, [0; 4]);
     Ok(())
 }
 
-// A writer of this room takes the front of the answer, and its fault is reported.
-fn assert_cut(rt: &impl Abort, alloc: Global, room: usize) -> Result<(), Fail> {
-    let answer = text(alloc, "hello world")?;
-    let printed = print(alloc, answer, Setting { room, ..PLAIN })?;
-    assert_same(
-        rt,
-        Some(printed.bytes.as_slice()),
-        HELLO.as_bytes().get(..room),
-    );
-    let found = (printed.fault, printed.failures);
-    assert_same(rt, found, (Some(ErrorKind::Other), 1));
-    Ok(())
+// The answer with one header more.
+fn with_header<R: Drop>(
+    alloc: Global,
+    answer: Response<R>,
+    line: &str,
+) -> Result<Response<R>, Fail> {
+    answer
+        .with_header(Header::from_str(alloc, line)?)
+        .ok()
+        .ok_or_else(|| Fail::from("no memory for a header"))
+}
+
+const CHAINED: &str =
+    "HTTP/1.1 201 Created\r\nServer: tiny-http (Rust)\r\nDate: Wed, 04 May 1983 11:17:00 GMT\r\nContent-Type: a/b\r\nX: 1\r\nContent-Length: 2\r\n\r\nhi";
+
+#[test]
+fn builders_in_a_chain(rt: HostRuntime) -> Result<(), Fail> {
+    let alloc = rt.alloc();
+    let answer = text(alloc, "hello")?
+        .with_status_code(StatusCode(201))
+        .with_chunked_threshold(77);
+    let answer = with_header(alloc, answer, "content-type: a/b")?;
+    let answer = with_header(alloc, answer, "X: 1")?;
+    let other = Response::from_data(alloc, b"hi".to_vec(alloc)?).into_reader();
+    let answer = answer.with_data(other, Some(2));
+    assert_same(&rt, answer.chunked_threshold(), 77);
+    assert_printed(&rt, alloc, answer, CHAINED)
 }
 
 #[test]
-fn a_writer_that_fails(rt: HostRuntime) -> Result<(), Fail> {
-    for room in 0..HELLO.len() {
-        assert_cut(&rt, rt.alloc(), room)?;
-    }
+fn other_data_of_unknown_length(rt: HostRuntime) -> Result<(), Fail> {
+    let answer = Response::empty(rt.alloc(), StatusCode(404)).with_chunked_threshold(5);
+    let answer = answer.with_data(io::empty(), None);
+    assert_same(&rt, answer.data_length(), None);
+    assert_same(&rt, answer.chunked_threshold(), 5);
+    assert_same(&rt, answer.status_code(), StatusCode(404));
+    assert_holds(&rt, "no headers", answer.headers().is_empty());
     Ok(())
 }
 
-mod added;
-mod coded;
-mod data;
 mod file;

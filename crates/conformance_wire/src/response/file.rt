@@ -1,5 +1,5 @@
 //! Answers of files: a file of the system, and stand-ins for one.
-use super::{PLAIN, assert_printed};
+use super::assert_printed;
 use crate::same::{assert_holds, assert_same};
 use std::fs::{File, Metadata, OpenFile};
 use std::io;
@@ -62,7 +62,7 @@ fn a_file_by_its_metadata(rt: HostRuntime) -> Result<(), Fail> {
         assert_same(&rt, answer.data_length(), length.map(|n| n as usize));
         assert_holds(&rt, "no headers", answer.headers().is_empty());
         assert_same(&rt, answer.chunked_threshold(), 32768);
-        assert_printed(&rt, rt.alloc(), answer, PLAIN, (whole, None))?;
+        assert_printed(&rt, rt.alloc(), answer, whole)?;
     }
     Ok(())
 }
@@ -83,5 +83,5 @@ fn any_reader(rt: HostRuntime) -> Result<(), Fail> {
         Metered::new(reader),
         Some(5),
     );
-    assert_printed(&rt, rt.alloc(), answer, PLAIN, (HELLO, None))
+    assert_printed(&rt, rt.alloc(), answer, HELLO)
 }

@@ -1,0 +1,155 @@
+//! Answers and bodies that are read.
+use crate::findings::{add, add_kind, add_shown, add_some};
+use crate::row::{Finding, Input};
+use case_files::devices::Pieces;
+use std::alloc::{AllocError, Global};
+use tiny_http_answer::answer::{Answer, AnswerFault, read_answer};
+use tiny_http_wire::chunked::Decoder;
+use tiny_http_wire::common::{Header, Method};
+use tiny_http_wire::device::{Canned, ReadDevice, Stop};
+
+// The headers of an answer, and then how many there are and how many bytes their values have.
+fn add_headers(alloc: Global, to: &mut Vec<Finding>, headers: &[Header]) -> Result<(), AllocError> {
+    let mut size: usize = 0;
+    for header in headers {
+        add_shown(alloc, to, "header", header)?;
+        size = size.saturating_add(header.value.as_str().len());
+    }
+    let count = headers.len();
+    let text = format!(in alloc; "{count} {size}")?;
+    add(alloc, to, "headers", text.as_bytes())
+}
+
+// An answer that took so many bytes.
+fn add_answer(
+    alloc: Global,
+    to: &mut Vec<Finding>,
+    answer: &Answer,
+    taken: usize,
+) -> Result<(), AllocError> {
+    add_shown(alloc, to, "answer", &answer.status.0)?;
+    add_shown(alloc, to, "taken", &taken)?;
+    add_shown(alloc, to, "version", &answer.version)?;
+    add_headers(alloc, to, answer.headers.as_slice())?;
+    add_some(alloc, to, "body", answer.body.as_slice())
+}
+
+// Reads one answer, and gives how many bytes it took if it is one.
+fn read_one(
+    alloc: Global,
+    method: &Method,
+    bytes: &[u8],
+    to: &mut Vec<Finding>,
+) -> Result<Option<usize>, AllocError> {
+    let why = match read_answer(alloc, method, bytes) {
+        Ok(Some((answer, taken))) => {
+            add_answer(alloc, to, &answer, taken)?;
+            return Ok(Some(taken));
+        }
+        Ok(None) => "unfinished",
+        Err(AnswerFault::Malformed) => "malformed",
+        Err(AnswerFault::Memory) => "memory",
+    };
+    add(alloc, to, why, b"")?;
+    Ok(None)
+}
+
+/// The answers to requests of these methods, one after another, up to the first that isn't one; and the bytes that are left.
+pub fn read_answers(
+    alloc: Global,
+    methods: &[Method],
+    bytes: &[u8],
+    to: &mut Vec<Finding>,
+) -> Result<(), AllocError> {
+    let mut rest = bytes;
+    for method in methods {
+        let Some(taken) = read_one(alloc, method, rest, to)? else {
+            break;
+        };
+        rest = rest.get(taken..).unwrap_or_default();
+    }
+    add(alloc, to, "rest", rest)
+}
+
+// The most reads up to the end of some data.
+const MOST_READS: u64 = 1_000_000;
+
+// Reads the bytes that are left, and how they stop; no stop where they don't.
+fn drain<R: ReadDevice>(
+    alloc: Global,
+    reader: &mut R,
+) -> Result<(Vec<u8>, Option<Stop>), AllocError> {
+    let mut bytes = Vec::new(alloc);
+    let mut buf = [0u8; 7];
+    for _ in 0..MOST_READS {
+        match reader.read_in(&mut buf) {
+            Ok(0) => return Ok((bytes, Some(Stop::End))),
+            Ok(n) => bytes.extend_from_slice(&buf[..n])?,
+            Err(e) => return Ok((bytes, Some(Stop::Fault(e.kind())))),
+        }
+    }
+    Ok((bytes, None))
+}
+
+// How data stop.
+fn add_stop(alloc: Global, to: &mut Vec<Finding>, stop: Option<Stop>) -> Result<(), AllocError> {
+    match stop {
+        Some(Stop::End) => add(alloc, to, "end", b""),
+        Some(Stop::Fault(kind)) => add_kind(alloc, to, "fault", kind),
+        None => add(alloc, to, "endless", b""),
+    }
+}
+
+// Whether each further read answers that the data stop so.
+fn is_settled(
+    alloc: Global,
+    decoder: &mut Decoder<Pieces>,
+    stop: Option<Stop>,
+) -> Result<bool, AllocError> {
+    let (second, second_stop) = drain(alloc, decoder)?;
+    let (third, third_stop) = drain(alloc, decoder)?;
+    Ok(second.is_empty() && second_stop == stop && third.is_empty() && third_stop == stop)
+}
+
+// The data of a body, and how they stop. A read into no room takes nothing.
+fn read_body(
+    alloc: Global,
+    decoder: &mut Decoder<Pieces>,
+    to: &mut Vec<Finding>,
+) -> Result<(), AllocError> {
+    if !matches!(decoder.read(&mut []), Ok(0)) {
+        add(alloc, to, "changed", b"by a read into no room")?;
+    }
+    let (data, stop) = drain(alloc, decoder)?;
+    add_some(alloc, to, "data", data.as_slice())?;
+    add_stop(alloc, to, stop)?;
+    if !is_settled(alloc, decoder, stop)? {
+        add(alloc, to, "changed", b"by a read after the stop")?;
+    }
+    Ok(())
+}
+
+/// What a reader that gives so many bytes a call gives under a decoder, how it stops, and what is left in it.
+pub fn decode(
+    alloc: Global,
+    input: &Input,
+    piece: usize,
+    to: &mut Vec<Finding>,
+) -> Result<(), AllocError> {
+    let whole = Canned::new(input.bytes.as_slice().to_vec(alloc)?, input.stop);
+    let mut decoder = Decoder::new(Pieces::new(whole, piece));
+    read_body(alloc, &mut decoder, to)?;
+    let mut reader = decoder.into_inner();
+    let (rest, _) = drain(alloc, &mut reader)?;
+    add(alloc, to, "rest", rest.as_slice())
+}
+
+/// What a reader still gives.
+pub fn add_left(
+    alloc: Global,
+    reader: &mut Canned,
+    to: &mut Vec<Finding>,
+) -> Result<(), AllocError> {
+    let (left, _) = drain(alloc, reader)?;
+    add(alloc, to, "left", left.as_slice())
+}

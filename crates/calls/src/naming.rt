@@ -1,0 +1,116 @@
+//! The first line of a row: which call it is.
+use crate::fault::LineFault;
+use crate::row::{Call, Choice, TextCall};
+use crate::words::{coding, number, number_or_none, numbers, split, status, text, version};
+use std::alloc::{AllocError, Global};
+use tiny_http_wire::common::{Method, ParseError};
+
+// The calls that take a text and nothing else, by their names.
+const TEXT_CALLS: [(&str, TextCall); 8] = [
+    ("parse_header_value", TextCall::HeaderValue),
+    ("parse_element", TextCall::Element),
+    ("parse_header_line", TextCall::HeaderLine),
+    ("parse_request_line", TextCall::RequestLine),
+    ("parse_content_length", TextCall::ContentLength),
+    ("Header::from_str", TextCall::HeaderFromStr),
+    ("HeaderField::from_str", TextCall::FieldFromStr),
+    ("Method::from_str", TextCall::MethodFromStr),
+];
+
+// The call of a text that has this name.
+fn text_call(name: &str) -> Option<TextCall> {
+    for (known, call) in &TEXT_CALLS {
+        if *known == name {
+            return Some(*call);
+        }
+    }
+    None
+}
+
+// A method by its name.
+fn method(alloc: Global, name: &str) -> Result<Method, LineFault> {
+    match Method::from_str(alloc, name) {
+        Ok(method) => Ok(method),
+        Err(ParseError::Refused) => Err(LineFault::Bad("a method is ASCII")),
+        Err(ParseError::Memory) => Err(LineFault::OutOfMemory),
+    }
+}
+
+// Methods, with a space between them; at least one.
+fn methods(alloc: Global, words: &str) -> Result<Vec<Method>, LineFault> {
+    let mut list = Vec::new(alloc);
+    for word in words.split(' ') {
+        let method = method(alloc, word)?;
+        list.push(method).map_err(AllocError::from)?;
+    }
+    Ok(list)
+}
+
+// How many bytes are given at a time: at least one byte.
+fn sizes(alloc: Global, words: &str) -> Result<Vec<usize>, LineFault> {
+    let sizes = numbers(alloc, words)?;
+    if sizes.iter().any(|size| *size == 0) {
+        return Err(LineFault::Bad("a piece has at least one byte"));
+    }
+    Ok(sizes)
+}
+
+// What is chosen by: the version, the coding that is asked for, the status, the length and the threshold.
+fn choice(words: &str) -> Result<Choice, LineFault> {
+    let (version_word, words) = split(words);
+    let (asked, words) = split(words);
+    let (status_word, words) = split(words);
+    let (length, threshold) = split(words);
+    Ok(Choice {
+        version: version(version_word)?,
+        asked: coding(asked)?,
+        status: status(status_word)?,
+        length: number_or_none(length)?,
+        threshold: number(threshold)?,
+    })
+}
+
+// The call of this name that takes parts alone.
+fn bare_call(name: &str) -> Option<Call> {
+    match name {
+        "Decoder" => Some(Call::Decoder),
+        "put_chunk" => Some(Call::PutChunk),
+        "put_chunked" => Some(Call::PutChunked),
+        "asked_coding" => Some(Call::AskedCoding),
+        "add_header" => Some(Call::AddHeader),
+        _ => None,
+    }
+}
+
+// The call of this name over these words.
+fn worded_call(alloc: Global, name: &str, words: &str) -> Result<Call, LineFault> {
+    match name {
+        "read_answer" => Ok(Call::Answers(methods(alloc, words)?)),
+        "Encoder" => Ok(Call::Encoder(sizes(alloc, words)?)),
+        "choose" => Ok(Call::Choose(choice(words)?)),
+        "raw_print" => Ok(Call::RawPrint(status(words)?)),
+        "default_reason_phrase" => Ok(Call::Phrase(status(words)?)),
+        "HTTPVersion" => Ok(Call::Version(version(words)?)),
+        "Numeral" => Ok(Call::Numeral(number(words)? as u64)),
+        _ => Err(LineFault::Bad("no call has this name")),
+    }
+}
+
+/// The call that the first line of a row names.
+pub fn call_in(alloc: Global, line: &str) -> Result<Call, LineFault> {
+    let (name, words) = split(line);
+    if let Some(call) = text_call(name) {
+        let text = text(alloc, words)?;
+        if call == TextCall::RequestLine || call == TextCall::HeaderLine {
+            if !text.as_str().is_ascii() {
+                return Err(LineFault::Bad("such a line is ASCII"));
+            }
+        }
+        return Ok(Call::Text(call, text));
+    }
+    match bare_call(name) {
+        Some(call) if words.is_empty() => Ok(call),
+        Some(_) => Err(LineFault::Bad("this call takes no words")),
+        None => worded_call(alloc, name, words),
+    }
+}

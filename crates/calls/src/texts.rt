@@ -1,0 +1,193 @@
+//! Calls that take a text, a number or a version.
+use crate::findings::{add, add_shown};
+use crate::row::{Choice, Finding, TextCall};
+use std::alloc::{AllocError, Global};
+use tiny_http_text::bytes::are_ascii;
+use tiny_http_wire::coding::{Coding, asked_coding, choose};
+use tiny_http_wire::common::{HTTPVersion, Header, HeaderField, Method, ParseError, StatusCode};
+use tiny_http_wire::grammar::{parse_content_length, parse_header_line, parse_request_line};
+use tiny_http_wire::header_value::{parse_element, parse_header_value};
+use tiny_http_wire::number::Numeral;
+
+// Nothing was read.
+fn add_refused(alloc: Global, to: &mut Vec<Finding>) -> Result<(), AllocError> {
+    add(alloc, to, "refused", b"")
+}
+
+// Why nothing was read.
+fn add_fault(alloc: Global, to: &mut Vec<Finding>, fault: ParseError) -> Result<(), AllocError> {
+    match fault {
+        ParseError::Refused => add_refused(alloc, to),
+        ParseError::Memory => Err(AllocError),
+    }
+}
+
+// An element's quality in thousandths, and its name.
+fn add_element(
+    alloc: Global,
+    to: &mut Vec<Finding>,
+    (name, quality): (&str, u32),
+) -> Result<(), AllocError> {
+    let text = format!(in alloc; "{quality} {name}")?;
+    add(alloc, to, "element", text.as_bytes())
+}
+
+// The elements of a header value.
+fn read_header_value(alloc: Global, text: &str, to: &mut Vec<Finding>) -> Result<(), AllocError> {
+    let elements = parse_header_value(alloc, text)?;
+    for element in elements.as_slice() {
+        add_element(alloc, to, *element)?;
+    }
+    Ok(())
+}
+
+// A header's name and value.
+fn add_header(alloc: Global, to: &mut Vec<Finding>, header: &Header) -> Result<(), AllocError> {
+    let name = header.field.as_str();
+    add(alloc, to, "name", name.as_str().as_bytes())?;
+    add(alloc, to, "value", header.value.as_str().as_bytes())
+}
+
+// A header line.
+fn read_header_line(alloc: Global, text: &str, to: &mut Vec<Finding>) -> Result<(), AllocError> {
+    let line = text.as_bytes();
+    if !are_ascii(line) {
+        return Ok(());
+    }
+    match parse_header_line(alloc, line)? {
+        Some(header) => add_header(alloc, to, &header),
+        None => add_refused(alloc, to),
+    }
+}
+
+// A request line.
+fn read_request_line(alloc: Global, text: &str, to: &mut Vec<Finding>) -> Result<(), AllocError> {
+    let line = text.as_bytes();
+    if !are_ascii(line) {
+        return Ok(());
+    }
+    let Some((method, target, version)) = parse_request_line(alloc, line)? else {
+        return add_refused(alloc, to);
+    };
+    add(alloc, to, "method", method.as_str().as_bytes())?;
+    add(alloc, to, "target", target.as_str().as_bytes())?;
+    add_shown(alloc, to, "version", &version)
+}
+
+// The value of a length.
+fn read_length(alloc: Global, text: &str, to: &mut Vec<Finding>) -> Result<(), AllocError> {
+    match parse_content_length(text) {
+        Some(length) => add_shown(alloc, to, "length", &length),
+        None => add_refused(alloc, to),
+    }
+}
+
+// A header.
+fn read_header(alloc: Global, text: &str, to: &mut Vec<Finding>) -> Result<(), AllocError> {
+    match Header::from_str(alloc, text) {
+        Ok(header) => add_header(alloc, to, &header),
+        Err(fault) => add_fault(alloc, to, fault),
+    }
+}
+
+// The name of a header.
+fn read_field(alloc: Global, text: &str, to: &mut Vec<Finding>) -> Result<(), AllocError> {
+    match HeaderField::from_str(alloc, text) {
+        Ok(field) => add(alloc, to, "name", field.as_str().as_str().as_bytes()),
+        Err(fault) => add_fault(alloc, to, fault),
+    }
+}
+
+// A method, of its own or not.
+fn add_method(alloc: Global, to: &mut Vec<Finding>, method: &Method) -> Result<(), AllocError> {
+    let word = match method {
+        Method::NonStandard(_) => "nonstandard",
+        _ => "method",
+    };
+    add(alloc, to, word, method.as_str().as_bytes())
+}
+
+// A method.
+fn read_method(alloc: Global, text: &str, to: &mut Vec<Finding>) -> Result<(), AllocError> {
+    match Method::from_str(alloc, text) {
+        Ok(method) => add_method(alloc, to, &method),
+        Err(fault) => add_fault(alloc, to, fault),
+    }
+}
+
+/// What comes of a call that reads a text.
+pub fn read_text(
+    alloc: Global,
+    call: TextCall,
+    text: &str,
+    to: &mut Vec<Finding>,
+) -> Result<(), AllocError> {
+    match call {
+        TextCall::HeaderValue => read_header_value(alloc, text, to),
+        TextCall::Element => add_element(alloc, to, parse_element(text)),
+        TextCall::HeaderLine => read_header_line(alloc, text, to),
+        TextCall::RequestLine => read_request_line(alloc, text, to),
+        TextCall::ContentLength => read_length(alloc, text, to),
+        TextCall::HeaderFromStr => read_header(alloc, text, to),
+        TextCall::FieldFromStr => read_field(alloc, text, to),
+        TextCall::MethodFromStr => read_method(alloc, text, to),
+    }
+}
+
+// A coding, or none.
+fn add_coding(
+    alloc: Global,
+    to: &mut Vec<Finding>,
+    coding: Option<Coding>,
+) -> Result<(), AllocError> {
+    let name = match coding {
+        Some(Coding::Chunked) => "chunked",
+        Some(Coding::Identity) => "identity",
+        None => "-",
+    };
+    add(alloc, to, "coding", name.as_bytes())
+}
+
+/// The coding that a request of these headers asks for.
+pub fn ask(alloc: Global, request: &[Header], to: &mut Vec<Finding>) -> Result<(), AllocError> {
+    add_coding(alloc, to, asked_coding(request))
+}
+
+/// The coding that is chosen.
+pub fn choose_by(alloc: Global, choice: Choice, to: &mut Vec<Finding>) -> Result<(), AllocError> {
+    let Choice {
+        version,
+        asked,
+        status,
+        length,
+        threshold,
+    } = choice;
+    let coding = choose(version, asked, status, length, threshold);
+    add_coding(alloc, to, Some(coding))
+}
+
+/// The phrase of a status.
+pub fn phrase(alloc: Global, status: StatusCode, to: &mut Vec<Finding>) -> Result<(), AllocError> {
+    add(
+        alloc,
+        to,
+        "phrase",
+        status.default_reason_phrase().as_bytes(),
+    )
+}
+
+/// A version as it is shown.
+pub fn show(alloc: Global, version: HTTPVersion, to: &mut Vec<Finding>) -> Result<(), AllocError> {
+    add_shown(alloc, to, "version", &version)
+}
+
+/// A number in both bases.
+pub fn write_number(alloc: Global, number: u64, to: &mut Vec<Finding>) -> Result<(), AllocError> {
+    add(alloc, to, "decimal", Numeral::decimal(number).as_bytes())?;
+    add(
+        alloc,
+        to,
+        "hexadecimal",
+        Numeral::hexadecimal(number).as_bytes(),
+    )
+}
