@@ -1,7 +1,7 @@
 //! Answers of more than one chunk, and answers whose data fail: the output ends with what was sent of them.
 use crate::exchanges::date;
 use crate::runs::Deed::{Data, Drop};
-use crate::runs::{AMPLE, assert_output, note};
+use crate::runs::{AMPLE, assert_output, describe};
 use crate::same::assert_same;
 use httpdate::HttpDate;
 use std::alloc::Global;
@@ -81,18 +81,21 @@ pub(crate) fn reply_to(
     connection.respond(alloc, now, number, lent(alloc, data))
 }
 
-// Notes the reply to an answer by data that end, or fail by this kind, before a full chunk.
+// The replies to a whole answer, one whose data fail before a full chunk, and one by these data.
 fn talk(
     alloc: Global,
-    summary: &mut String,
     connection: &mut Connection<Canned, Budget>,
-    number: u64,
-    fault: Option<ErrorKind>,
-) -> Result<u64, Fail> {
-    let mut data = Watched::new(alloc, b"hello", fault)?;
-    let reply = reply_to(alloc, date()?, connection, number, &mut data);
-    note(summary, &reply)?;
-    Ok(data.reads)
+    unread: &mut Watched,
+) -> Result<String, Fail> {
+    let now = date()?;
+    let mut whole = Watched::new(alloc, b"hello", None)?;
+    let mut broken = Watched::new(alloc, b"hello", Some(ErrorKind::Other))?;
+    let replies = [
+        reply_to(alloc, now, connection, 0, &mut whole),
+        reply_to(alloc, now, connection, 1, &mut broken),
+        reply_to(alloc, now, connection, 2, unread),
+    ];
+    Ok(describe(alloc, &replies)?)
 }
 
 // A whole answer, and the head of one that broke before its first chunk.
@@ -105,16 +108,17 @@ fn assert_not_read(
     alloc: Global,
     connection: &mut Connection<Canned, Budget>,
 ) -> Result<(), Fail> {
-    for (number, wanted) in [
-        (1, "not yet"),
-        (2, "not yet"),
-        (3, "no such"),
-        (u64::MAX, "no such"),
-    ] {
-        let mut summary = String::new(alloc);
-        let reads = talk(alloc, &mut summary, connection, number, None)?;
-        assert_same(rt, (summary.as_str(), reads), (wanted, 0));
-    }
+    let now = date()?;
+    let mut unread = Watched::new(alloc, b"hello", None)?;
+    let replies = [
+        reply_to(alloc, now, connection, 1, &mut unread),
+        reply_to(alloc, now, connection, 2, &mut unread),
+        reply_to(alloc, now, connection, 3, &mut unread),
+        reply_to(alloc, now, connection, u64::MAX, &mut unread),
+    ];
+    let described = describe(alloc, &replies)?;
+    let found = (described.as_str(), unread.reads);
+    assert_same(rt, found, ("not yet; not yet; no such; no such", 0));
     Ok(())
 }
 
@@ -125,28 +129,13 @@ fn data_of_an_answer_that_is_not_sent_are_not_read(rt: HostRuntime) -> Result<()
     assert_not_read(&rt, rt.alloc(), &mut connection)
 }
 
-// A whole answer, one whose data fail, and one whose data are not read.
-fn assert_broken(
-    rt: &impl Abort,
-    alloc: Global,
-    connection: &mut Connection<Canned, Budget>,
-) -> Result<(), Fail> {
-    let mut summary = String::new(alloc);
-    talk(alloc, &mut summary, connection, 0, None)?;
-    talk(alloc, &mut summary, connection, 1, Some(ErrorKind::Other))?;
-    let reads = talk(alloc, &mut summary, connection, 2, None)?;
-    assert_same(
-        rt,
-        (summary.as_str(), reads),
-        ("done; fault Other; done", 0),
-    );
-    Ok(())
-}
-
 #[test]
 fn data_are_not_read_after_a_broken_answer(rt: HostRuntime) -> Result<(), Fail> {
+    let mut unread = Watched::new(rt.alloc(), b"hello", None)?;
     let mut connection = asked(rt.alloc(), date()?, THREE)?;
-    assert_broken(&rt, rt.alloc(), &mut connection)?;
+    let replies = talk(rt.alloc(), &mut connection, &mut unread)?;
+    let found = (replies.as_str(), unread.reads);
+    assert_same(&rt, found, ("done; fault Other; done", 0));
     let (_source, outlet) = connection.into_parts();
     assert_output(&rt, rt.alloc(), outlet, &[WHOLE_AND_BROKEN])
 }

@@ -199,17 +199,12 @@ fn describe_reply(summary: &mut String, reply: &Reply) -> Result<(), AllocError>
 pub(crate) fn describe(alloc: Global, replies: &[Reply]) -> Result<String, AllocError> {
     let mut summary = String::new(alloc);
     for reply in replies {
-        note(&mut summary, reply)?;
+        if !summary.is_empty() {
+            summary.push_str("; ")?;
+        }
+        describe_reply(&mut summary, reply)?;
     }
     Ok(summary)
-}
-
-/// Writes a reply in words behind others, with `; ` between two.
-pub(crate) fn note(summary: &mut String, reply: &Reply) -> Result<(), AllocError> {
-    if !summary.is_empty() {
-        summary.push_str("; ")?;
-    }
-    describe_reply(summary, reply)
 }
 
 /// What the writer took, and what is held back after it.

@@ -1,7 +1,7 @@
 //! Requests that are upgraded to another protocol, on a connection (RFC 9110, section 7.8).
 use crate::broken_answers::{THREE, THREE_OLDER, Watched, asked, lent, reply_to};
 use crate::exchanges::date;
-use crate::runs::{DATED, assert_output, note};
+use crate::runs::{DATED, assert_output, describe};
 use crate::same::assert_same;
 use httpdate::HttpDate;
 use std::alloc::Global;
@@ -49,11 +49,8 @@ fn assert_upgrade(
 ) -> Result<(), Fail> {
     let now = date()?;
     let mut data = Watched::new(alloc, b"hello", None)?;
-    let mut reply = String::new(alloc);
-    note(
-        &mut reply,
-        &upgrade(alloc, now, connection, upgrading, &mut data),
-    )?;
+    let reply = [upgrade(alloc, now, connection, upgrading, &mut data)];
+    let reply = describe(alloc, &reply)?;
     assert_same(
         rt,
         (upgrading, reply.as_str(), data.reads),
@@ -96,11 +93,8 @@ fn assert_broken(
 ) -> Result<(), Fail> {
     let now = date()?;
     let mut broken = Watched::new(alloc, b"hello", Some(ErrorKind::Other))?;
-    let mut fault = String::new(alloc);
-    note(
-        &mut fault,
-        &reply_to(alloc, now, connection, 0, &mut broken),
-    )?;
+    let fault = [reply_to(alloc, now, connection, 0, &mut broken)];
+    let fault = describe(alloc, &fault)?;
     assert_same(rt, fault.as_str(), "fault Other");
     Ok(())
 }

@@ -2,7 +2,7 @@
 use crate::exchanges::date;
 use crate::relay::{NEVER, RelayRun, run_relayed};
 use crate::runs::Deed::{Ask, Drop, Finish, Flush, IntoWriter, Text, Write};
-use crate::runs::{AMPLE, Deed, EMPTY, TEXT, assert_output, joined, note};
+use crate::runs::{AMPLE, Deed, EMPTY, TEXT, assert_output, describe, joined};
 use crate::same::{assert_holds, assert_same};
 use std::alloc::Global;
 use std::io::ErrorKind;
@@ -251,50 +251,30 @@ fn connection_of(alloc: Global, client: &[u8]) -> Result<Connection<Canned, Budg
 }
 
 // What the calls are replied that the steps name.
-fn call_each(
-    alloc: Global,
-    summary: &mut String,
-    connection: &mut Connection<Canned, Budget>,
-) -> Result<(), Fail> {
-    for _ in 0..2u8 {
-        note(summary, &connection.ask(alloc, date()?))?;
-    }
-    note(summary, &connection.into_writer(1))?;
-    note(summary, &connection.write(1, b"b"))?;
-    note(summary, &connection.flush(1))?;
-    note(summary, &connection.into_writer(0))?;
-    note(summary, &connection.write(0, b"a"))?;
-    note(summary, &connection.flush(0))?;
-    Ok(())
-}
-
-// What the calls are replied that end the two raw writers.
-fn finish_each(
-    alloc: Global,
-    summary: &mut String,
-    connection: &mut Connection<Canned, Budget>,
-) -> Result<(), Fail> {
-    for _ in 0..2u8 {
-        note(summary, &connection.finish(alloc, 0))?;
-    }
-    note(summary, &connection.write(1, b"b"))?;
-    note(summary, &connection.finish(alloc, 1))?;
-    Ok(())
-}
-
-// What all the calls are replied.
-fn replies_of(alloc: Global, connection: &mut Connection<Canned, Budget>) -> Result<String, Fail> {
-    let mut summary = String::new(alloc);
-    call_each(alloc, &mut summary, connection)?;
-    finish_each(alloc, &mut summary, connection)?;
-    Ok(summary)
+fn call_each(alloc: Global, connection: &mut Connection<Canned, Budget>) -> Result<String, Fail> {
+    let now = date()?;
+    let replies = [
+        connection.ask(alloc, now),
+        connection.ask(alloc, now),
+        connection.into_writer(1),
+        connection.write(1, b"b"),
+        connection.flush(1),
+        connection.into_writer(0),
+        connection.write(0, b"a"),
+        connection.flush(0),
+        connection.finish(alloc, 0),
+        connection.finish(alloc, 0),
+        connection.write(1, b"b"),
+        connection.finish(alloc, 1),
+    ];
+    Ok(describe(alloc, &replies)?)
 }
 
 // The same steps by the calls that they name.
 #[test]
 fn the_calls_of_a_connection(rt: HostRuntime) -> Result<(), Fail> {
     let mut connection = connection_of(rt.alloc(), TWO)?;
-    let replies = replies_of(rt.alloc(), &mut connection)?;
+    let replies = call_each(rt.alloc(), &mut connection)?;
     assert_same(
         &rt,
         replies.as_str(),
