@@ -44,6 +44,34 @@ pub struct CaseStep {
     pub is_answered: bool,
 }
 
+impl CaseStep {
+    /// Whether it is a date, which has no reply.
+    pub fn is_date(&self) -> bool {
+        match &self.deed {
+            Deed::Answer(_) => false,
+            Deed::Script(line) => line.starts_with("now "),
+        }
+    }
+
+    /// Whether it answers a request by a response.
+    pub fn is_answer(&self) -> bool {
+        match &self.deed {
+            Deed::Answer(_) => true,
+            Deed::Script(line) => line.starts_with("respond "),
+        }
+    }
+
+    /// Whether its reply may report a fault of the writer.
+    pub fn may_report(&self) -> bool {
+        match &self.deed {
+            Deed::Answer(_) => true,
+            Deed::Script(line) => ["respond ", "write ", "flush "]
+                .iter()
+                .any(|word| line.starts_with(word)),
+        }
+    }
+}
+
 /// A case.
 #[derive(Drop)]
 pub struct Case {

@@ -1,5 +1,5 @@
 //! What comes of a trial of a case, and where it differs from what the case says.
-use crate::case::{Case, CaseStep, Deed};
+use crate::case::{Case, CaseStep};
 use crate::devices::{Pieces, Trier};
 use crate::text::shown;
 use std::alloc::{AllocError, Global};
@@ -22,7 +22,9 @@ pub struct Outcome {
     pub replies: Vec<Vec<u8>>,
     /// What the writer took, and what was held back.
     pub output: Vec<u8>,
-    /// How many calls of the writer failed.
+    /// Whether a call of the writer failed.
+    pub has_failed: bool,
+    /// How many failures were counted.
     pub failures: u64,
     /// How many calls came after one that failed.
     pub later: u64,
@@ -72,17 +74,18 @@ fn differing(
     }))
 }
 
-// Whether the data of an answer were not read, as the output had ended, so that their fault wasn't met.
+// Whether a reply is one that a failing writer leads to in place of the case's: the answer's data were not read, as the output
+// had ended, so that their fault wasn't met.
 fn is_unmet(step: &CaseStep, found: &[u8]) -> bool {
-    let is_answer = match &step.deed {
-        Deed::Answer(_) => true,
-        Deed::Script(line) => line.starts_with("respond "),
-    };
-    is_answer && found == b"done".as_slice() && step.reply.starts_with(b"fault ")
+    step.is_answer() && found == b"done".as_slice() && step.reply.starts_with(b"fault ")
 }
 
-// The first reply that differs, of the steps that have replies. Where a call was made to fail, those up to the one that
-// reports it count.
+// Whether the reply reports the fault of the call that was made to fail.
+fn is_reported(step: &CaseStep, found: &[u8]) -> bool {
+    step.may_report() && found == b"fault Interrupted".as_slice()
+}
+
+// The first reply that differs, of the steps that have replies. Where a call was made to fail, one of them may report that.
 fn replies_differ(
     alloc: Global,
     case: &Case,
@@ -91,7 +94,8 @@ fn replies_differ(
 ) -> Result<Option<Difference>, AllocError> {
     let mut found = outcome.replies.iter();
     let mut number = 0usize;
-    for step in case.steps.iter().filter(|step| !is_date(step)) {
+    let mut may_report = is_failing;
+    for step in case.steps.iter().filter(|step| !step.is_date()) {
         number = number.saturating_add(1);
         let reply = match found.next() {
             Some(reply) => reply.as_slice(),
@@ -100,20 +104,19 @@ fn replies_differ(
         if reply == step.reply.as_slice() || (is_failing && is_unmet(step, reply)) {
             continue;
         }
-        if is_failing && reply == b"fault Interrupted".as_slice() {
-            return Ok(None);
+        if may_report && is_reported(step, reply) {
+            may_report = false;
+            continue;
         }
         let what = format!(in alloc; "reply {number}")?;
         return differing(alloc, what, reply, step.reply.as_slice());
     }
-    Ok(None)
-}
-
-/// Whether a step is a date, which has no reply.
-pub fn is_date(step: &CaseStep) -> bool {
-    match &step.deed {
-        Deed::Answer(_) => false,
-        Deed::Script(line) => line.starts_with("now "),
+    match found.next() {
+        Some(reply) => {
+            let what = String::from_str(alloc, "a reply too many")?;
+            differing(alloc, what, reply.as_slice(), b"")
+        }
+        None => Ok(None),
     }
 }
 
@@ -177,15 +180,15 @@ fn end_differs(
 }
 
 /// Where the outcome of a trial first differs from what its case says, if it does. Where a call of the writer failed that was
-/// made to, the output is a front of the case's, one failure is counted, and the replies are those of the case up to the one
-/// that reports it. After a failure the writer is never called again.
+/// made to, the output is a front of the case's, one failure is counted, and the replies are those of the case but for one that
+/// reports it, and for faults of data that were not read after it. After a failure the writer is never called again.
 pub fn first_difference(
     alloc: Global,
     case: &Case,
     outcome: &Outcome,
     is_made_to_fail: bool,
 ) -> Result<Option<Difference>, AllocError> {
-    let is_failing = is_made_to_fail && outcome.failures > 0;
+    let is_failing = is_made_to_fail && outcome.has_failed;
     if let Some(found) = replies_differ(alloc, case, outcome, is_failing)? {
         return Ok(Some(found));
     }

@@ -54,9 +54,9 @@ fn report<E: Write>(program: &str, fault: &CasesFault<'_>, err: &mut E) -> u8 {
     }
 }
 
-/// Tries the cases of the files that the command line names in both ways, and gives the exit status: 0 where no run differs, and 3 where
-/// one does; 2 with one line on `err` for a wrong use and for a file that isn't of the format, before anything is run; 1 with
-/// one line for a file that can't be read, for no memory, and where `out` can't be written.
+/// Tries the cases of the files that the command line names in both ways, and gives the exit status: 0 where no run differs,
+/// and 3 where one does; 2 with one line on `err` for a wrong use and for a file that isn't of the format, before anything is
+/// run; 1 with one line for a file that can't be read, for no memory, and where `out` can't be written.
 pub fn run_program<R: Env + Files + AllocGlobal, F: Runner, G: Runner, O: Write, E: Write>(
     rt: &R,
     program: &str,

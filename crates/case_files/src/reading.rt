@@ -4,6 +4,7 @@ use crate::kinds::kind_of;
 use crate::text::{TextFault, add_text, number_in, text_of};
 use replay_script::line::{ScriptLine, text_in};
 use std::alloc::{AllocError, Global};
+use tiny_http_wire::common::{Header, ParseError};
 
 /// Why a file's cases can't be read.
 #[derive(Clone, Copy, Debug, PartialEq, Eq)]
@@ -37,6 +38,8 @@ impl From<TextFault> for LineFault {
 
 const NO_KIND: LineFault = LineFault::Bad("no such kind of fault");
 
+const NO_HEADER: LineFault = LineFault::Bad("no such header line");
+
 const NO_NUMBER: LineFault = LineFault::Bad("no number stands where one has to");
 
 // Begins a case of this name.
@@ -66,6 +69,9 @@ fn lack_of(cases: &[Case]) -> Option<&'static str> {
     let Some(step) = case.steps.last() else {
         return Some("the case in front has no step");
     };
+    if case.steps.iter().all(CaseStep::is_date) {
+        return Some("the case in front has no step");
+    }
     if !step.is_answered {
         return Some("the last step of the case in front has no reply");
     }
@@ -136,15 +142,25 @@ fn script_in(alloc: Global, text: &str) -> Result<(String, bool), LineFault> {
     }
 }
 
+// A header line that can be read as one.
+fn header_in(alloc: Global, text: &str) -> Result<String, LineFault> {
+    let Ok(line) = String::from_utf8(text_of(alloc, text)?) else {
+        return Err(NO_HEADER);
+    };
+    match Header::from_str(alloc, line.as_str()) {
+        Ok(_) => Ok(line),
+        Err(ParseError::Refused) => Err(NO_HEADER),
+        Err(ParseError::Memory) => Err(LineFault::OutOfMemory),
+    }
+}
+
 // Adds what a line says of an answer.
 fn add_part(alloc: Global, answer: &mut Answer, text: &str) -> Result<(), LineFault> {
     let (word, words) = text.split_once(' ').unwrap_or((text, ""));
     match word {
         "data" => add_text(alloc, words, &mut answer.data)?,
         "header" => {
-            let Ok(header) = String::from_utf8(text_of(alloc, words)?) else {
-                return Err(LineFault::Bad("a header is UTF-8"));
-            };
+            let header = header_in(alloc, words)?;
             answer.headers.push(header).map_err(AllocError::from)?;
         }
         "length" if answer.length.is_none() => match number_in(words) {

@@ -137,7 +137,7 @@ fn try_once<'a, F: Runner, O: Write>(
             return Err(CasesFault::CannotWrite);
         }
     }
-    Ok(is_made_to_fail && outcome.failures > 0)
+    Ok(is_made_to_fail && outcome.has_failed)
 }
 
 // Tries a case with each call of the writer failing, until none fails.
@@ -147,16 +147,25 @@ fn try_failing<'a, F: Runner, O: Write>(
     case: &Case,
     tally: &mut Tally,
 ) -> Result<(), CasesFault<'a>> {
-    for call in 1..MOST_CALLS {
+    for call in 1..=MOST_CALLS {
         let trial = Trial {
             piece: 1024,
             failing: Some(call),
         };
         if !try_once((alloc, &mut *runner), out, case, trial, tally)? {
-            break;
+            return Ok(());
         }
     }
-    Ok(())
+    tally.differing = tally.differing.saturating_add(1);
+    let name = case.name.as_str();
+    let how = runner.how();
+    match writeln!(
+        out,
+        "{name}{how}: more than {MOST_CALLS} calls of the writer"
+    ) {
+        Ok(()) => Ok(()),
+        Err(_) => Err(CasesFault::CannotWrite),
+    }
 }
 
 // Tries a case by each reader, and with each call of the writer failing.
@@ -180,23 +189,42 @@ fn try_case<'a, F: Runner, O: Write>(
     try_failing((alloc, runner), out, case, tally)
 }
 
-/// Tries the cases of a file that the runner takes, reports each run that differs by a line, and then the file by a line.
-pub fn try_file<'a, F: Runner, O: Write>(
-    alloc: Global,
-    runner: &mut F,
+// Tries the cases of a file that the runner takes, but for those at the left out places, and reports each run that differs by
+// a line. What came of them, and the places of the cases that differ.
+fn try_cases<'a, F: Runner, O: Write>(
+    (alloc, runner): (Global, &mut F),
     out: &mut O,
     file: &CaseFile<'a>,
-) -> Result<Tally, CasesFault<'a>> {
+    left_out: &[usize],
+) -> Result<(Tally, Vec<usize>), CasesFault<'a>> {
     let mut tally = Tally {
         cases: 0,
         runs: 0,
         differing: 0,
     };
-    for case in &file.cases {
-        if runner.takes(case) {
+    let mut places = Vec::new(alloc);
+    for (place, case) in file.cases.iter().enumerate() {
+        let before = tally.differing;
+        if runner.takes(case) && !left_out.contains(&place) {
             try_case((alloc, &mut *runner), out, case, &mut tally)?;
         }
+        if tally.differing > before {
+            places.extend_from_slice(&[place])?;
+        }
     }
+    Ok((tally, places))
+}
+
+/// Tries the cases of a file that the runner takes, but for those at the left out places, reports each run that differs by a
+/// line, and then the file by a line. The places of the cases that differ.
+pub fn try_file<'a, F: Runner, O: Write>(
+    alloc: Global,
+    runner: &mut F,
+    out: &mut O,
+    file: &CaseFile<'a>,
+    left_out: &[usize],
+) -> Result<Vec<usize>, CasesFault<'a>> {
+    let (tally, places) = try_cases((alloc, &mut *runner), out, file, left_out)?;
     let name = file.name;
     let Tally {
         cases,
@@ -212,10 +240,11 @@ pub fn try_file<'a, F: Runner, O: Write>(
     {
         return Err(CasesFault::CannotWrite);
     }
-    Ok(tally)
+    Ok(places)
 }
 
-/// Tries the cases of all files in both ways. Whether no run differed.
+/// Tries the cases of all files in the first way, and those that did not differ in the second, where a case with a wrong reply
+/// might wait for ever. Whether no run differed.
 pub fn try_files<'a, F: Runner, G: Runner, O: Write>(
     alloc: Global,
     (first, second): (&mut F, &mut G),
@@ -224,9 +253,9 @@ pub fn try_files<'a, F: Runner, G: Runner, O: Write>(
 ) -> Result<bool, CasesFault<'a>> {
     let mut is_same = true;
     for file in files {
-        let one = try_file(alloc, first, out, file)?;
-        let other = try_file(alloc, second, out, file)?;
-        is_same = is_same && one.differing == 0 && other.differing == 0;
+        let one = try_file(alloc, first, out, file, &[])?;
+        let other = try_file(alloc, second, out, file, one.as_slice())?;
+        is_same = is_same && one.is_empty() && other.is_empty();
     }
     if out.flush().is_err() {
         return Err(CasesFault::CannotWrite);

@@ -38,19 +38,18 @@ fn with_header(
     }
 }
 
-/// The response of an answer. Its headers are added first, then its data and what is stated of their length.
+/// The response of an answer: its data and what is stated of their length, and then its headers, each added to those before.
 pub fn response_of(alloc: Global, answer: &Answer) -> Result<Response<ScriptData>, StepsFault> {
     let data = ScriptData::from_bytes(answer.data.as_slice().to_vec(alloc)?, answer.fault);
     let status = StatusCode(answer.status);
-    let mut response = Response::empty(alloc, status).with_data(data, None);
+    let mut response = Response::empty(alloc, status).with_data(data, answer.length);
     for line in &answer.headers {
         response = with_header(alloc, response, line.as_str())?;
     }
     if let Some(threshold) = answer.threshold {
         response = response.with_chunked_threshold(threshold);
     }
-    let data = ScriptData::from_bytes(answer.data.as_slice().to_vec(alloc)?, answer.fault);
-    Ok(response.with_data(data, answer.length))
+    Ok(response)
 }
 
 /// What a deed does on a connection, and the date from it on; no step where it is a date.

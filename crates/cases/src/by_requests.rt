@@ -3,7 +3,7 @@ use crate::holding::Holding;
 use crate::shared::Shared;
 use crate::treating::treat;
 use case_files::case::Case;
-use case_files::outcome::{Outcome, Trial, is_date};
+use case_files::outcome::{Outcome, Trial};
 use case_files::report::Runner;
 use case_files::steps::{StepsFault, steps_of};
 use std::alloc::{AllocError, Global};
@@ -52,7 +52,7 @@ impl<R: Wait + Copy> Runner for ByRequests<R> {
         )?;
         let mut holding = Holding::new(alloc, client);
         let mut replies = Vec::new(alloc);
-        let mut wanted = case.steps.iter().filter(|step| !is_date(step));
+        let mut wanted = case.steps.iter().filter(|step| !step.is_date());
         for timed in steps_of(alloc, case)? {
             let reply = match wanted.next() {
                 Some(step) => step.reply.as_slice(),
@@ -66,6 +66,7 @@ impl<R: Wait + Copy> Runner for ByRequests<R> {
         Ok(Outcome {
             replies,
             output: writer.taken().to_vec(alloc)?,
+            has_failed: writer.failures() > 0,
             failures: writer.failures(),
             later: writer.later(),
             end: None,

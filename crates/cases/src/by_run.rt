@@ -62,6 +62,7 @@ impl Runner for ByRun {
         Ok(Outcome {
             replies,
             output,
+            has_failed: writer.failures() > 0,
             failures,
             later: writer.later(),
             end: end_of(alloc, case, trial)?,

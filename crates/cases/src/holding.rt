@@ -55,11 +55,15 @@ impl<R: Wait + Copy> Holding<R> {
         }
     }
 
-    /// Takes out what is held under a number.
-    pub(crate) fn take(&mut self, number: u64) -> Option<Held<R>> {
+    /// Takes out what is held under a number, and whether it has written what may not have been sent yet.
+    pub(crate) fn take(&mut self, number: u64) -> Option<(Held<R>, bool)> {
         let place = self.items.iter().position(|item| item.number == number)?;
-        let Numbered { held, .. } = self.items.remove(place);
-        Some(held)
+        let Numbered {
+            number: _,
+            held,
+            has_written,
+        } = self.items.remove(place);
+        Some((held, has_written))
     }
 
     /// Holds this under a number.

@@ -58,30 +58,37 @@ fn ask<R: Wait + Copy>(
     Ok(line)
 }
 
-// Reads until so many bytes are there, the end is reported, or a fault. The bytes, or the fault where there are none.
+// Reads at least once, until so many bytes are there, the end is reported, or a fault. The bytes, or the fault where there are
+// none.
 fn read_up_to<B: Read>(alloc: Global, body: &mut B, count: u16) -> Result<Vec<u8>, AllocError> {
     let mut bytes = Vec::new(alloc);
-    let mut buf = [0u8; 1];
-    for _ in 0..count {
-        match body.read(&mut buf) {
+    let mut buf = [0u8; 1024];
+    let mut left = usize::from(count);
+    for _ in 0..=count {
+        let room = left.min(buf.len());
+        match body.read(&mut buf[..room]) {
             Ok(0) => break,
-            Ok(_) => bytes.extend_from_slice(&buf)?,
+            Ok(n) => bytes.extend_from_slice(buf.get(..n).unwrap_or_default())?,
             Err(fault) if bytes.is_empty() => return fault_line(alloc, fault.kind()),
             Err(_) => break,
+        }
+        left = usize::from(count).saturating_sub(bytes.len());
+        if left == 0 {
+            break;
         }
     }
     given_line(alloc, bytes.as_slice())
 }
 
-// Writes all bytes, and tries no call again.
+// Writes all bytes, by at least one call, and tries none again.
 fn write_through<W: Write>(writer: &mut W, bytes: &[u8]) -> io::Result<()> {
     let mut rest = bytes;
-    for _ in 0..bytes.len() {
+    for _ in 0..=bytes.len() {
+        let n = writer.write(rest)?;
+        rest = rest.get(n..).unwrap_or_default();
         if rest.is_empty() {
             break;
         }
-        let n = writer.write(rest)?;
-        rest = rest.get(n..).unwrap_or_default();
     }
     Ok(())
 }
@@ -173,10 +180,10 @@ fn treat_held<R: Wait + Copy>(
     alloc: Global,
     holding: &mut Holding<R>,
     (number, mut held): (u64, Held<R>),
+    mut has_written: bool,
     step: Step<ScriptData>,
     now: HttpDate,
 ) -> Result<Vec<u8>, AllocError> {
-    let mut has_written = false;
     let line = match step {
         Step::AsReader(_) => {
             if let Held::Request(request) = &mut held {
@@ -189,7 +196,10 @@ fn treat_held<R: Wait + Copy>(
             has_written = true;
             write(alloc, &mut held, bytes.as_slice())?
         }
-        Step::Flush(_) => flush(alloc, &mut held)?,
+        Step::Flush(_) => {
+            has_written = false;
+            flush(alloc, &mut held)?
+        }
         _ => word(alloc, "nosuch")?,
     };
     holding.put(number, held, has_written)?;
@@ -227,7 +237,7 @@ pub(crate) fn treat<R: Wait + Copy>(
     if wanted == b"nosuch".as_slice() {
         return Ok(word(alloc, "nosuch")?);
     }
-    let Some(held) = holding.take(number) else {
+    let Some((held, has_written)) = holding.take(number) else {
         return Ok(word(alloc, "nosuch")?);
     };
     let line = match (held, step) {
@@ -243,7 +253,7 @@ pub(crate) fn treat<R: Wait + Copy>(
             Held::Request(request),
             step @ (Step::Respond(..) | Step::IntoWriter(_) | Step::Upgrade(..) | Step::Drop(_)),
         ) => { treat_request(alloc, holding, (number, request), step, now)? }
-        (held, step) => treat_held(alloc, holding, (number, held), step, now)?,
+        (held, step) => treat_held(alloc, holding, (number, held), has_written, step, now)?,
     };
     Ok(line)
 }
