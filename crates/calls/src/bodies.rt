@@ -100,15 +100,24 @@ fn add_stop(alloc: Global, to: &mut Vec<Finding>, stop: Option<Stop>) -> Result<
     }
 }
 
-// Whether each further read answers that the data stop so.
+// Whether a further read answers that the data stop so.
+fn is_over(
+    alloc: Global,
+    decoder: &mut Decoder<Pieces>,
+    stop: Option<Stop>,
+) -> Result<bool, AllocError> {
+    let (data, found) = drain(alloc, decoder)?;
+    Ok(data.is_empty() && found == stop)
+}
+
+// Whether two further reads answer that the data stop so.
 fn is_settled(
     alloc: Global,
     decoder: &mut Decoder<Pieces>,
     stop: Option<Stop>,
 ) -> Result<bool, AllocError> {
-    let (second, second_stop) = drain(alloc, decoder)?;
-    let (third, third_stop) = drain(alloc, decoder)?;
-    Ok(second.is_empty() && second_stop == stop && third.is_empty() && third_stop == stop)
+    let is_over_once = is_over(alloc, decoder, stop)?;
+    Ok(is_over(alloc, decoder, stop)? && is_over_once)
 }
 
 // The data of a body, and how they stop. A read into no room takes nothing.

@@ -28,7 +28,8 @@ fn add_element(
     to: &mut Vec<Finding>,
     (name, quality): (&str, u32),
 ) -> Result<(), AllocError> {
-    let text = format!(in alloc; "{quality} {name}")?;
+    let mut text = format!(in alloc; "{quality} ")?;
+    text.push_str(name)?;
     add(alloc, to, "element", text.as_bytes())
 }
 

@@ -7,7 +7,10 @@ use tiny_http_wire::common::{HTTPVersion, Header, ParseError, StatusCode};
 
 /// The first word of a line, and what stands behind the space after it.
 pub fn split(line: &str) -> (&str, &str) {
-    line.split_once(' ').unwrap_or((line, ""))
+    match line.split_once(' ') {
+        Some(parts) => parts,
+        None => (line, ""),
+    }
 }
 
 /// A number.
