@@ -8,4 +8,6 @@ mod messages_queue;
 #[cfg(test)]
 mod roster;
 #[cfg(test)]
+mod same;
+#[cfg(test)]
 mod task_pool;

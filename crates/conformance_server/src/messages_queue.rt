@@ -1,8 +1,9 @@
 //! A queue that threads share.
-use std::alloc::{AllocError, Global};
+use crate::same::{assert_holds, assert_same};
+use std::alloc::Global;
+use std::process::Abort;
 use std::sync::atomic::{AtomicU64, Ordering};
 use std::sync::{Arc, Wait};
-use std::test::Fail;
 use std::thread;
 use std::thread::{JoinHandle, Threads};
 use std::time::{Clock, Duration};
@@ -17,102 +18,173 @@ const VALUES: usize = 10_000;
 // A value: who pushed it, and its number.
 type Numbered = (usize, usize);
 
+// What these tests need of the system, and an end where something goes wrong.
+trait Host: Threads + Wait + Clock + Abort + Copy + Send + 'static {}
+
+impl<R: Threads + Wait + Clock + Abort + Copy + Send + 'static> Host for R {}
+
+// An empty queue.
+fn empty_queue<T: Drop>(rt: &impl Abort, alloc: Global) -> Arc<MessagesQueue<T>> {
+    MessagesQueue::with_capacity(alloc, 8).expect(rt, "memory")
+}
+
+// A value is pushed.
+fn push<T: Drop, R: Wait + Abort>(rt: &R, queue: &MessagesQueue<T>, value: T) {
+    queue.push(rt, value).ok().expect(rt, "memory");
+}
+
+// A mark is added.
+fn unblock<T: Drop, R: Wait + Abort>(rt: &R, queue: &MessagesQueue<T>) {
+    queue.unblock(rt).expect(rt, "memory");
+}
+
 #[test]
-fn marks_come_in_order(rt: HostRuntime) -> Result<(), Fail> {
-    let queue = MessagesQueue::with_capacity(rt.alloc(), 8)?;
-    assert_eq!(rt; queue.push(&rt, 1u8), Ok(()));
-    queue.unblock(&rt)?;
-    assert_eq!(rt; queue.push(&rt, 2), Ok(()));
-    for want in [Some(1), None, Some(2), None] {
-        assert_eq!(rt; queue.try_pop(&rt), want);
+fn marks_come_in_order(rt: HostRuntime) {
+    let queue = empty_queue(&rt, rt.alloc());
+    push(&rt, &queue, 1u8);
+    unblock(&rt, &queue);
+    push(&rt, &queue, 2);
+    for wanted in [Some(1), None, Some(2), None] {
+        assert_same(&rt, queue.try_pop(&rt), wanted);
     }
-    Ok(())
+}
+
+// One more holder of a value.
+fn clone_of(rt: &impl Abort, value: &Arc<u8>) -> Arc<u8> {
+    Arc::try_clone(value).expect(rt, "memory")
 }
 
 // Values behind a mark are dropped too.
 #[test]
-fn a_cleared_queue_is_empty(rt: HostRuntime) -> Result<(), Fail> {
-    let queue = MessagesQueue::with_capacity(rt.alloc(), 8)?;
-    let value = Arc::new(rt.alloc(), 7u8)?;
+fn a_cleared_queue_is_empty(rt: HostRuntime) {
+    let queue = empty_queue(&rt, rt.alloc());
+    let value = Arc::new(rt.alloc(), 7u8).expect(&rt, "memory");
     for _ in 0..2u8 {
-        assert!(rt; queue.push(&rt, Arc::try_clone(&value)?).is_ok());
-        queue.unblock(&rt)?;
+        push(&rt, &queue, clone_of(&rt, &value));
+        unblock(&rt, &queue);
     }
     queue.clear(&rt);
-    assert_eq!(rt; Arc::strong_count(&value), 1);
-    assert!(rt; queue.push(&rt, Arc::try_clone(&value)?).is_ok());
-    assert!(rt; queue.try_pop(&rt).is_some());
-    assert!(rt; queue.try_pop(&rt).is_none());
-    Ok(())
+    assert_same(&rt, Arc::strong_count(&value), 1);
+    push(&rt, &queue, clone_of(&rt, &value));
+    let first = queue.try_pop(&rt);
+    assert_holds(&rt, "the new value comes", first.is_some());
+    let second = queue.try_pop(&rt);
+    assert_holds(&rt, "no other comes", second.is_none());
+}
+
+// A value waits.
+fn assert_pushes(rt: &impl Abort, queue: &mut QueueState<usize>, value: usize) {
+    assert_same(rt, queue.push(value), Ok(()));
+}
+
+// What a pop finds.
+fn assert_pops(rt: &impl Abort, queue: &mut QueueState<usize>, wanted: Popped<usize>) {
+    assert_same(rt, queue.pop(), wanted);
 }
 
 #[test]
-fn a_mark_is_no_empty_queue(rt: HostRuntime) -> Result<(), Fail> {
+fn a_mark_is_no_empty_queue(rt: HostRuntime) {
     let mut queue = QueueState::new(rt.alloc());
-    assert_eq!(rt; queue.pop(), Popped::Empty);
-    queue.unblock()?;
-    assert_eq!(rt; queue.push(1u8), Ok(()));
-    assert_eq!(rt; queue.pop(), Popped::Unblocked);
-    assert_eq!(rt; queue.pop(), Popped::Value(1));
-    assert_eq!(rt; queue.pop(), Popped::Empty);
-    Ok(())
+    assert_pops(&rt, &mut queue, Popped::Empty);
+    queue.unblock().expect(&rt, "memory");
+    assert_pushes(&rt, &mut queue, 1);
+    assert_pops(&rt, &mut queue, Popped::Unblocked);
+    assert_pops(&rt, &mut queue, Popped::Value(1));
+    assert_pops(&rt, &mut queue, Popped::Empty);
 }
 
 #[test]
 fn room_past_all_memory_is_refused(rt: HostRuntime) {
     let refused = MessagesQueue::<u64>::with_capacity(rt.alloc(), usize::MAX);
-    assert!(rt; refused.is_err());
+    assert_holds(&rt, "there is no such room", refused.is_err());
+}
+
+// Whether a value is pushed. Else it comes back.
+fn is_pushed(rt: &impl Abort, queue: &mut QueueState<usize>, value: usize) -> bool {
+    match queue.push(value) {
+        Ok(()) => true,
+        Err(back) => {
+            assert_same(rt, back, value);
+            false
+        }
+    }
+}
+
+// A value is pushed, and a mark behind it. Whether either could be.
+fn push_both(rt: &impl Abort, queue: &mut QueueState<usize>, value: usize) -> (bool, bool) {
+    let is_there = is_pushed(rt, queue, value);
+    (is_there, queue.unblock().is_ok())
+}
+
+// A value and a mark are popped, where each could be pushed.
+fn assert_pops_both(
+    rt: &impl Abort,
+    queue: &mut QueueState<usize>,
+    value: usize,
+    pushed: (bool, bool),
+) {
+    if pushed.0 {
+        assert_pops(rt, queue, Popped::Value(value));
+    }
+    if pushed.1 {
+        assert_pops(rt, queue, Popped::Unblocked);
+    }
 }
 
 // Run with each allocation failing in turn it shows what a refused push or mark leaves.
 #[test]
 fn a_refusal_changes_nothing(rt: HostRuntime) {
     let mut queue = QueueState::new(rt.alloc());
-    let mut values = [false; 64];
-    let mut marks = [false; 64];
-    for (number, (value, mark)) in values.iter_mut().zip(&mut marks).enumerate() {
-        match queue.push(number) {
-            Ok(()) => *value = true,
-            Err(back) => assert_eq!(rt; back, number),
-        }
-        *mark = queue.unblock().is_ok();
+    let mut pushed = [(false, false); 64];
+    for (number, both) in pushed.iter_mut().enumerate() {
+        *both = push_both(&rt, &mut queue, number);
     }
-    for (number, (value, mark)) in values.iter().zip(&marks).enumerate() {
-        if *value {
-            assert_eq!(rt; queue.pop(), Popped::Value(number));
-        }
-        if *mark {
-            assert_eq!(rt; queue.pop(), Popped::Unblocked);
-        }
+    for (number, both) in pushed.iter().enumerate() {
+        assert_pops_both(&rt, &mut queue, number, *both);
     }
-    assert_eq!(rt; queue.pop(), Popped::Empty);
+    assert_pops(&rt, &mut queue, Popped::Empty);
+}
+
+// A pop that waits for so long at most comes back with this.
+fn assert_comes_within<R: Wait + Clock + Abort>(
+    rt: &R,
+    queue: &MessagesQueue<u8>,
+    micros: u64,
+    wanted: Option<u8>,
+) {
+    let found = queue.pop_timeout(rt, Duration::from_micros(micros));
+    assert_same(rt, (micros, found), (micros, wanted));
 }
 
 #[test]
-fn a_pop_waits_for_so_long_at_most(rt: HostRuntime) -> Result<(), Fail> {
-    let queue = MessagesQueue::with_capacity(rt.alloc(), 8)?;
+fn a_pop_waits_for_so_long_at_most(rt: HostRuntime) {
+    let queue = empty_queue(&rt, rt.alloc());
     for micros in [0, 999, 1_000, 20_000] {
-        let time = Duration::from_micros(micros);
-        assert_eq!(rt; queue.pop_timeout(&rt, time), None);
-        assert_eq!(rt; queue.push(&rt, 7u8), Ok(()));
-        assert_eq!(rt; queue.pop_timeout(&rt, time), Some(7));
-        queue.unblock(&rt)?;
-        assert_eq!(rt; queue.push(&rt, 8), Ok(()));
-        assert_eq!(rt; queue.pop_timeout(&rt, time), None);
-        assert_eq!(rt; queue.pop_timeout(&rt, time), Some(8));
+        assert_comes_within(&rt, &queue, micros, None);
+        push(&rt, &queue, 7);
+        assert_comes_within(&rt, &queue, micros, Some(7));
+        unblock(&rt, &queue);
+        push(&rt, &queue, 8);
+        assert_comes_within(&rt, &queue, micros, None);
+        assert_comes_within(&rt, &queue, micros, Some(8));
     }
-    Ok(())
 }
 
-// Waits until there is such a count, 10,000 turns of 1 ms at most, and says whether there is.
-fn is_reached<R: Clock>(rt: &R, count: &AtomicU64, want: u64) -> bool {
+// Waits until so many came, 10,000 turns of 1 ms at most.
+fn assert_come<R: Clock + Abort>(rt: &R, came: &AtomicU64, wanted: u64) {
     for _ in 0..10_000u32 {
-        if count.load(Ordering::SeqCst) >= want {
-            return true;
+        if came.load(Ordering::SeqCst) >= wanted {
+            return;
         }
         thread::sleep(rt, Duration::from_millis(1));
     }
-    false
+    let came = came.load(Ordering::SeqCst);
+    assert!(rt; came >= wanted, "{came} of {wanted} came back");
+}
+
+// A count of those who came back.
+fn nobody_came(rt: &impl Abort, alloc: Global) -> Arc<AtomicU64> {
+    Arc::new(alloc, AtomicU64::new(0)).expect(rt, "memory")
 }
 
 // Waits by each call that waits, and counts those that came back.
@@ -130,26 +202,37 @@ fn pop_three<R: Wait + Clock>(
     [first, second, third]
 }
 
+// Another holder of a queue or a count.
+fn shared<T>(rt: &impl Abort, value: &Arc<T>) -> Arc<T> {
+    Arc::try_clone(value).expect(rt, "memory")
+}
+
+// A thread that pops three times.
+fn start_three<R: Host>(
+    rt: &R,
+    queue: &Arc<MessagesQueue<u8>>,
+    came: &Arc<AtomicU64>,
+) -> JoinHandle<[Option<u8>; 3]> {
+    let (theirs, queue, came) = (*rt, shared(rt, queue), shared(rt, came));
+    let started = thread::spawn(rt, move || pop_three(&theirs, &queue, &came));
+    started.ok().expect(rt, "a thread")
+}
+
 // Each of the three wakes is looked for by itself, as the next one would make up for one that was left out.
 #[test]
-fn one_who_waits_is_woken(rt: HostRuntime) -> Result<(), Fail> {
-    let alloc = rt.alloc();
-    let queue = MessagesQueue::with_capacity(alloc, 8)?;
-    let came = Arc::new(alloc, AtomicU64::new(0))?;
-    let theirs = Arc::try_clone(&queue)?;
-    let counted = Arc::try_clone(&came)?;
-    let waits = move || pop_three(&rt, &theirs, &counted);
-    let popper = thread::spawn(&rt, waits).map_err(|_| "no thread")?;
+fn one_who_waits_is_woken(rt: HostRuntime) {
+    let queue = empty_queue(&rt, rt.alloc());
+    let came = nobody_came(&rt, rt.alloc());
+    let popping = start_three(&rt, &queue, &came);
     for value in [1u8, 2] {
         thread::sleep(&rt, Duration::from_millis(20));
-        assert_eq!(rt; queue.push(&rt, value), Ok(()));
-        assert!(rt; is_reached(&rt, &came, value as u64));
+        push(&rt, &queue, value);
+        assert_come(&rt, &came, value as u64);
     }
     thread::sleep(&rt, Duration::from_millis(20));
-    queue.unblock(&rt)?;
-    assert!(rt; is_reached(&rt, &came, 3));
-    assert_eq!(rt; popper.join(&rt), [Some(1), Some(2), None]);
-    Ok(())
+    unblock(&rt, &queue);
+    assert_come(&rt, &came, 3);
+    assert_same(&rt, popping.join(&rt), [Some(1), Some(2), None]);
 }
 
 // Pops once, and counts it.
@@ -159,28 +242,47 @@ fn pop_one<R: Wait>(rt: &R, queue: &MessagesQueue<usize>, came: &AtomicU64) -> O
     found
 }
 
+// A thread that pops once.
+fn start_one<R: Host>(
+    rt: &R,
+    queue: &Arc<MessagesQueue<usize>>,
+    came: &Arc<AtomicU64>,
+) -> JoinHandle<Option<usize>> {
+    let (theirs, queue, came) = (*rt, shared(rt, queue), shared(rt, came));
+    let started = thread::spawn(rt, move || pop_one(&theirs, &queue, &came));
+    started.ok().expect(rt, "a thread")
+}
+
+// Eight threads that pop once each.
+fn start_eight<R: Host>(
+    rt: &R,
+    alloc: Global,
+    queue: &Arc<MessagesQueue<usize>>,
+    came: &Arc<AtomicU64>,
+) -> Vec<JoinHandle<Option<usize>>> {
+    let mut popping = Vec::new(alloc);
+    for _ in 0..THREADS {
+        let started = start_one(rt, queue, came);
+        popping.push(started).ok().expect(rt, "memory");
+    }
+    popping
+}
+
 // Eight wait, and eight values come at once. A push that woke only where the queue was empty would leave some of them.
 #[test]
-fn each_push_wakes_one(rt: HostRuntime) -> Result<(), Fail> {
-    let alloc = rt.alloc();
-    let queue = MessagesQueue::with_capacity(alloc, 8)?;
-    let came = Arc::new(alloc, AtomicU64::new(0))?;
-    let mut poppers = Vec::new(alloc);
-    for _ in 0..THREADS {
-        let theirs = Arc::try_clone(&queue)?;
-        let counted = Arc::try_clone(&came)?;
-        let handle = thread::spawn(&rt, move || pop_one(&rt, &theirs, &counted));
-        poppers.push(handle.map_err(|_| "no thread")?)?;
-    }
+fn each_push_wakes_one(rt: HostRuntime) {
+    let queue = empty_queue(&rt, rt.alloc());
+    let came = nobody_came(&rt, rt.alloc());
+    let popping = start_eight(&rt, rt.alloc(), &queue, &came);
     thread::sleep(&rt, Duration::from_millis(50));
     for value in 0..THREADS {
-        assert_eq!(rt; queue.push(&rt, value), Ok(()));
+        push(&rt, &queue, value);
     }
-    assert!(rt; is_reached(&rt, &came, 8));
-    for popper in poppers {
-        assert!(rt; popper.join(&rt).is_some());
+    assert_come(&rt, &came, 8);
+    for popper in popping {
+        let found = popper.join(&rt);
+        assert_holds(&rt, "each gets a value", found.is_some());
     }
-    Ok(())
 }
 
 // Pushes all values of one thread. The number of those that came back.
@@ -235,42 +337,83 @@ fn count_in(seen: &mut [u8], came: &[Numbered]) {
     }
 }
 
-fn start_pushers<R: Threads + Wait + Copy + Send + 'static>(
-    rt: R,
+// A thread that pushes all its values.
+fn start_pusher<R: Host>(
+    rt: &R,
+    queue: &Arc<MessagesQueue<Numbered>>,
+    pusher: usize,
+) -> JoinHandle<usize> {
+    let (theirs, queue) = (*rt, shared(rt, queue));
+    let started = thread::spawn(rt, move || push_all(&theirs, &queue, pusher));
+    started.ok().expect(rt, "a thread")
+}
+
+// Eight threads that push all their values.
+fn start_pushers<R: Host>(
+    rt: &R,
     alloc: Global,
     queue: &Arc<MessagesQueue<Numbered>>,
-) -> Result<Vec<JoinHandle<usize>>, AllocError> {
-    let mut pushers = Vec::new(alloc);
+) -> Vec<JoinHandle<usize>> {
+    let mut pushing = Vec::new(alloc);
     for pusher in 0..THREADS {
-        let theirs = Arc::try_clone(queue)?;
-        pushers.push(thread::spawn(&rt, move || push_all(&rt, &theirs, pusher))?)?;
+        let started = start_pusher(rt, queue, pusher);
+        pushing.push(started).ok().expect(rt, "memory");
     }
-    Ok(pushers)
+    pushing
+}
+
+// A thread that pops up to the first mark.
+fn start_popper<R: Host>(
+    rt: &R,
+    alloc: Global,
+    queue: &Arc<MessagesQueue<Numbered>>,
+) -> JoinHandle<Option<Vec<Numbered>>> {
+    let (theirs, queue) = (*rt, shared(rt, queue));
+    let started = thread::spawn(rt, move || pop_all(&theirs, alloc, &queue));
+    started.ok().expect(rt, "a thread")
+}
+
+// Eight threads that pop up to a mark each.
+fn start_poppers<R: Host>(
+    rt: &R,
+    alloc: Global,
+    queue: &Arc<MessagesQueue<Numbered>>,
+) -> Vec<JoinHandle<Option<Vec<Numbered>>>> {
+    let mut popping = Vec::new(alloc);
+    for _ in 0..THREADS {
+        let started = start_popper(rt, alloc, queue);
+        popping.push(started).ok().expect(rt, "memory");
+    }
+    popping
+}
+
+// Eight threads push all their values, and then there is a mark for each that pops.
+fn push_by_eight<R: Host>(rt: &R, alloc: Global, queue: &Arc<MessagesQueue<Numbered>>) {
+    for pusher in start_pushers(rt, alloc, queue) {
+        assert_same(rt, pusher.join(rt), 0);
+    }
+    for _ in 0..THREADS {
+        unblock(rt, queue);
+    }
+}
+
+// What one thread popped is in order, and is counted.
+fn assert_in_order(rt: &impl Abort, came: Option<Vec<Numbered>>, seen: &mut [u8]) {
+    let came = came.expect(rt, "memory");
+    assert_holds(rt, "each pusher's values are in order", is_in_order(&came));
+    count_in(seen, &came);
 }
 
 #[test]
-fn eight_push_and_eight_pop(rt: HostRuntime) -> Result<(), Fail> {
-    let alloc = rt.alloc();
-    let queue = MessagesQueue::with_capacity(alloc, 8)?;
-    let mut poppers = Vec::new(alloc);
-    for _ in 0..THREADS {
-        let theirs = Arc::try_clone(&queue)?;
-        let handle = thread::spawn(&rt, move || pop_all(&rt, alloc, &theirs));
-        poppers.push(handle.map_err(|_| "no thread")?)?;
+fn eight_push_and_eight_pop(rt: HostRuntime) {
+    let queue = empty_queue(&rt, rt.alloc());
+    let popping = start_poppers(&rt, rt.alloc(), &queue);
+    push_by_eight(&rt, rt.alloc(), &queue);
+    let mut seen = vec![in rt.alloc(); 0u8; THREADS * VALUES].expect(&rt, "memory");
+    for popper in popping {
+        assert_in_order(&rt, popper.join(&rt), &mut seen);
     }
-    for pusher in start_pushers(rt, alloc, &queue)? {
-        assert_eq!(rt; pusher.join(&rt), 0);
-    }
-    for _ in 0..THREADS {
-        queue.unblock(&rt)?;
-    }
-    let mut seen = vec![in alloc; 0u8; THREADS * VALUES]?;
-    for popper in poppers {
-        let came = popper.join(&rt).ok_or("no memory")?;
-        assert!(rt; is_in_order(&came));
-        count_in(&mut seen, &came);
-    }
-    assert!(rt; seen.iter().all(|times| *times == 1));
-    assert_eq!(rt; queue.try_pop(&rt), None);
-    Ok(())
+    let is_once = seen.iter().all(|times| *times == 1);
+    assert_holds(&rt, "each value comes once", is_once);
+    assert_same(&rt, queue.try_pop(&rt), None);
 }

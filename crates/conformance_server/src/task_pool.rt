@@ -1,7 +1,9 @@
 //! Workers that run jobs.
+use crate::same::assert_holds;
+use std::alloc::Global;
+use std::process::Abort;
 use std::sync::Arc;
 use std::sync::atomic::{AtomicBool, Ordering};
-use std::test::Fail;
 use std::thread;
 use std::time::{Clock, Duration};
 use tiny_http::task_pool::{Job, TaskPool};
@@ -36,21 +38,40 @@ fn is_set<R: Clock>(rt: &R, flag: &AtomicBool) -> bool {
     false
 }
 
-#[test]
-fn pool_two_jobs_at_once(rt: HostRuntime) -> Result<(), Fail> {
-    let alloc = rt.alloc();
-    let second_ran = Arc::new(alloc, AtomicBool::new(false))?;
-    let first_ended = Arc::new(alloc, AtomicBool::new(false))?;
-    let pool = TaskPool::new(rt, alloc)?;
-    for is_first in [true, false] {
-        let job = OneOfTwo {
-            rt,
-            is_first,
-            second_ran: Arc::try_clone(&second_ran)?,
-            first_ended: Arc::try_clone(&first_ended)?,
-        };
-        assert!(rt; pool.spawn(&rt, alloc, job).is_ok());
+// A flag that isn't set.
+fn unset(rt: &impl Abort, alloc: Global) -> Arc<AtomicBool> {
+    Arc::new(alloc, AtomicBool::new(false)).expect(rt, "memory")
+}
+
+// Another holder of a flag.
+fn shared(rt: &impl Abort, flag: &Arc<AtomicBool>) -> Arc<AtomicBool> {
+    Arc::try_clone(flag).expect(rt, "memory")
+}
+
+// The first job or the second.
+fn job_of<R: Clock + Abort + Copy>(
+    rt: &R,
+    is_first: bool,
+    second_ran: &Arc<AtomicBool>,
+    first_ended: &Arc<AtomicBool>,
+) -> OneOfTwo<R> {
+    OneOfTwo {
+        rt: *rt,
+        is_first,
+        second_ran: shared(rt, second_ran),
+        first_ended: shared(rt, first_ended),
     }
-    assert!(rt; is_set(&rt, &first_ended));
-    Ok(())
+}
+
+#[test]
+fn pool_two_jobs_at_once(rt: HostRuntime) {
+    let second_ran = unset(&rt, rt.alloc());
+    let first_ended = unset(&rt, rt.alloc());
+    let pool = TaskPool::new(rt, rt.alloc()).expect(&rt, "a pool");
+    for is_first in [true, false] {
+        let job = job_of(&rt, is_first, &second_ran, &first_ended);
+        let spawned = pool.spawn(&rt, rt.alloc(), job);
+        assert_holds(&rt, "a job is taken", spawned.is_ok());
+    }
+    assert_holds(&rt, "the first ends", is_set(&rt, &first_ended));
 }

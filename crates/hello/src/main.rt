@@ -6,6 +6,8 @@ ghost use Rattle.hello.specs.HelloFault.{exit_status};
 
 mod fault;
 #[cfg(test)]
+mod same;
+#[cfg(test)]
 mod tests;
 
 use crate::fault::HelloFault;

@@ -1,50 +1,110 @@
 //! What is written where nothing is served, and the exit status; and what is answered.
+use crate::same::{assert_holds, assert_same};
 use crate::{answer_by_four, hello_on};
 use std::alloc::Global;
 use std::io::{Read, Write};
 use std::net::{Net, TcpListener, TcpStream};
+use std::process::Abort;
 use std::sync::Wait;
-use std::test::Fail;
 use std::thread;
+use std::thread::Threads;
+use std::time::Clock;
 use tiny_http::connection::SocketFiles;
 use tiny_http::server::Server;
 
+// What `hello` needs of the system, and an end where something goes wrong.
+trait Host: Net<Listener = TcpListener, Stream = TcpStream>
+    + SocketFiles
+    + Clock
+    + Wait
+    + Threads
+    + Abort
+    + Copy
+    + Send
+    + Sync
+    + 'static {}
+
+impl<R> Host for R
+where
+    R: Net<Listener = TcpListener, Stream = TcpStream>
+        + SocketFiles
+        + Clock
+        + Wait
+        + Threads
+        + Abort
+        + Copy
+        + Send
+        + Sync
+        + 'static,
+{}
+
 // What a client of the server gets. Then one thread is unblocked.
-fn ask_and_end<R: Net<Listener = TcpListener, Stream = TcpStream> + SocketFiles + Wait + Drop>(
-    rt: &R,
-    alloc: Global,
-    server: &Server<R>,
-) -> Option<Vec<u8>> {
-    let mut answer = Vec::new(alloc);
-    let mut client = TcpStream::connect(rt, server.server_addr().to_ip()?).ok()?;
+fn ask_and_end<R: Host>(rt: &R, alloc: Global, server: &Server<R>) -> Vec<u8> {
+    let addr = server.server_addr().to_ip().expect(rt, "an address of TCP");
+    let mut client = TcpStream::connect(rt, addr).expect(rt, "a client");
     let sent = client.write_all(b"GET / HTTP/1.1\r\nConnection: close\r\n\r\n");
+    sent.expect(rt, "a request is sent");
+    let mut answer = Vec::new(alloc);
     let read = client.read_to_end(&mut answer);
-    server.unblock().ok()?;
-    sent.ok()?;
-    read.ok()?;
-    Some(answer)
+    read.expect(rt, "an answer");
+    server.unblock().expect(rt, "memory");
+    answer
 }
 
-// Four threads answer, and one mark ends them all.
-#[test]
-fn four_answer_and_end(rt: HostRuntime) -> Result<(), Fail> {
-    let alloc = rt.alloc();
-    let server = Server::http(rt, alloc, "127.0.0.1:0")?;
+// Four threads answer a client, and one mark ends them all.
+fn assert_four_answer<R: Host>(rt: &R, alloc: Global) {
+    let server = Server::http(*rt, alloc, "127.0.0.1:0").expect(rt, "a server");
     let (answer, ()) = thread::join(
-        &rt,
-        || ask_and_end(&rt, alloc, &server),
-        || answer_by_four(&rt, alloc, &server),
+        rt,
+        || ask_and_end(rt, alloc, &server),
+        || answer_by_four(rt, alloc, &server),
     );
-    let answer = answer.ok_or("no answer")?;
-    assert!(rt; answer.as_slice().starts_with(b"HTTP/1.1 200 OK\r\n"));
-    assert!(rt; answer.as_slice().ends_with(b"\r\n\r\nhello world"));
-    Ok(())
+    let answer = answer.as_slice();
+    assert_holds(
+        rt,
+        "the status is 200",
+        answer.starts_with(b"HTTP/1.1 200 OK\r\n"),
+    );
+    assert_holds(
+        rt,
+        "the body is hello world",
+        answer.ends_with(b"\r\n\r\nhello world"),
+    );
 }
 
 #[test]
-fn refused_words(rt: HostRuntime) -> Result<(), Fail> {
-    let alloc = rt.alloc();
-    let rows: [(&[&str], &str, u8); 4] = [
+fn four_answer_and_end(rt: HostRuntime) {
+    assert_four_answer(&rt, rt.alloc());
+}
+
+// Words of a command line.
+fn strings_of(rt: &impl Abort, alloc: Global, words: &[&str]) -> Vec<String> {
+    let mut strings = Vec::new(alloc);
+    for word in words {
+        let string = String::from_str(alloc, word).expect(rt, "memory");
+        strings.push(string).ok().expect(rt, "memory");
+    }
+    strings
+}
+
+// Words of a command line, the line that refuses them, and the exit status.
+type Refused = (&'static [&'static str], &'static str, u8);
+
+// Such words are refused, and nothing else is written.
+fn assert_refused<R: Host>(rt: &R, alloc: Global, row: Refused) {
+    let (words, line, status) = row;
+    let given = strings_of(rt, alloc, words);
+    let mut out = Vec::new(alloc);
+    let mut err = Vec::new(alloc);
+    let ended = hello_on(*rt, alloc, given.as_slice(), &mut out, &mut err);
+    assert_same(rt, (words, ended), (words, status));
+    assert_same(rt, (words, err.as_slice()), (words, line.as_bytes()));
+    assert_same(rt, (words, out.as_slice()), (words, b"".as_slice()));
+}
+
+#[test]
+fn refused_words(rt: HostRuntime) {
+    let rows: [Refused; 4] = [
         (&[], "hello: usage: hello ADDRESS\n", 2),
         (&["127.0.0.1:0", "x"], "hello: usage: hello ADDRESS\n", 2),
         (&["nonsense"], "hello: cannot listen on nonsense\n", 1),
@@ -54,17 +114,7 @@ fn refused_words(rt: HostRuntime) -> Result<(), Fail> {
             1,
         ),
     ];
-    for (words, want, status) in rows {
-        let mut given = Vec::new(alloc);
-        for word in words {
-            given.push(String::from_str(alloc, word)?)?;
-        }
-        let mut out = Vec::new(alloc);
-        let mut err = Vec::new(alloc);
-        let ended = hello_on(rt, alloc, given.as_slice(), &mut out, &mut err);
-        assert_eq!(rt; ended, status, "{words:?}");
-        assert_eq!(rt; err.as_slice(), want.as_bytes(), "{words:?}");
-        assert!(rt; out.is_empty(), "{words:?}");
+    for row in rows {
+        assert_refused(&rt, rt.alloc(), row);
     }
-    Ok(())
 }
