@@ -1,13 +1,16 @@
 //! Files of cases: lines that aren't of the format, and how runs that differ are reported.
 use crate::same::assert_same;
 use case_files::case::Case;
-use case_files::outcome::{Outcome, Trial};
+use case_files::devices::{Pieces, Trier};
+use case_files::outcome::{Outcome, Trial, first_difference};
 use case_files::reading::{CaseFault, read_cases};
 use case_files::report::{Runner, file_of, try_files};
 use case_files::steps::StepsFault;
 use std::alloc::Global;
+use std::io::{ErrorKind, Write};
 use std::process::Abort;
 use std::test::Fail;
+use tiny_http_wire::device::{Canned, ReadDevice};
 
 // Files, the line of each that isn't of the format, and why.
 const BAD: &[(&str, usize, &str)] = &[
@@ -21,6 +24,12 @@ const BAD: &[(&str, usize, &str)] = &[
         "an earlier case has this name",
     ),
     ("case a\ncase b\n", 2, "the case in front has no step"),
+    ("case a\nnow 5\n", 3, "the case in front has no step"),
+    (
+        "case a\nanswer 0 200\n+ header no colon\n",
+        3,
+        "no such header line",
+    ),
     (
         "case a\nask\ncase b\n",
         3,
@@ -100,12 +109,168 @@ fn lines_that_are_not_of_the_format(rt: HostRuntime) -> Result<(), Fail> {
     Ok(())
 }
 
-// A way to run a case that always gives the same.
-#[derive(Drop)]
-struct Fixed {
+// What came of a trial, in short.
+#[derive(Clone, Copy, Debug)]
+struct Found {
     reply: &'static str,
     output: &'static str,
+    failures: u64,
+    later: u64,
+    end: &'static str,
 }
+
+// What the case says.
+const GOOD: Found = Found {
+    reply: "ended",
+    output: "a\r\nb",
+    failures: 0,
+    later: 0,
+    end: "cut",
+};
+
+const CASE: &str = "case a\nclient G\nask\n  ended\noutput a\\r\\nb\nend cut\n";
+
+impl Found {
+    fn outcome(self, alloc: Global) -> Result<Outcome, StepsFault> {
+        let mut replies = Vec::new(alloc);
+        let reply = self.reply.as_bytes().to_vec(alloc)?;
+        if replies.push(reply).is_err() {
+            return Err(StepsFault::OutOfMemory);
+        }
+        Ok(Outcome {
+            replies,
+            output: self.output.as_bytes().to_vec(alloc)?,
+            has_failed: self.failures > 0,
+            failures: self.failures,
+            later: self.later,
+            end: Some(self.end.as_bytes().to_vec(alloc)?),
+        })
+    }
+}
+
+// Outcomes of the case, whether a call was made to fail, and what differs first.
+const DIFFERENCES: &[(Found, bool, &str)] = &[
+    (GOOD, false, ""),
+    (GOOD, true, ""),
+    (
+        Found {
+            reply: "done",
+            ..GOOD
+        },
+        false,
+        "reply 1: done, ended",
+    ),
+    (
+        Found {
+            output: "a\nb",
+            ..GOOD
+        },
+        false,
+        "output from byte 1: \\nb, \\r\\nb",
+    ),
+    (
+        Found {
+            output: "a\r\n",
+            ..GOOD
+        },
+        true,
+        "output from byte 3: , b",
+    ),
+    (
+        Found {
+            output: "a\r\nbc",
+            ..GOOD
+        },
+        false,
+        "output from byte 4: c, ",
+    ),
+    (
+        Found {
+            end: "closed",
+            ..GOOD
+        },
+        false,
+        "the end: closed, cut",
+    ),
+    (
+        Found { later: 1, ..GOOD },
+        false,
+        "calls after a failure: 1, 0",
+    ),
+    (
+        Found {
+            failures: 1,
+            ..GOOD
+        },
+        false,
+        "failures: 1, 0",
+    ),
+    // A front of the output is left where a call was made to fail, and no reply but that of a write or an answer reports it.
+    (
+        Found {
+            failures: 1,
+            output: "a",
+            ..GOOD
+        },
+        true,
+        "",
+    ),
+    (
+        Found {
+            failures: 1,
+            output: "b",
+            ..GOOD
+        },
+        true,
+        "output from byte 0: b, a\\r\\nb",
+    ),
+    (
+        Found {
+            failures: 2,
+            ..GOOD
+        },
+        true,
+        "failures: 2, 1",
+    ),
+    (
+        Found {
+            failures: 1,
+            reply: "fault Interrupted",
+            ..GOOD
+        },
+        true,
+        "reply 1: fault Interrupted, ended",
+    ),
+];
+
+// What differs first in this outcome of the case; nothing where none does.
+fn difference_of(alloc: Global, found: Found, is_made_to_fail: bool) -> Result<String, Fail> {
+    let cases = read_cases(alloc, CASE.as_bytes())?;
+    let outcome = found.outcome(alloc)?;
+    let Some(case) = cases.first() else {
+        return Err("no case".into());
+    };
+    match first_difference(alloc, case, &outcome, is_made_to_fail)? {
+        Some(it) => {
+            let (what, found, wanted) = (it.what.as_str(), it.found.as_str(), it.wanted.as_str());
+            Ok(format!(in alloc; "{what}: {found}, {wanted}")?)
+        }
+        None => Ok(String::new(alloc)),
+    }
+}
+
+#[test]
+fn outcomes_that_differ(rt: HostRuntime) -> Result<(), Fail> {
+    for (found, is_made_to_fail, wanted) in DIFFERENCES {
+        let difference = difference_of(rt.alloc(), *found, *is_made_to_fail)?;
+        assert_same(&rt, difference.as_str(), *wanted);
+    }
+    Ok(())
+}
+
+/// A way to run a case that always gives the same.
+#[derive(Drop)]
+struct Fixed(Found);
 
 impl Runner for Fixed {
     fn how(&self) -> &'static str {
@@ -117,77 +282,83 @@ impl Runner for Fixed {
     }
 
     fn run(&mut self, alloc: Global, _case: &Case, _trial: Trial) -> Result<Outcome, StepsFault> {
-        let mut replies = Vec::new(alloc);
-        let reply = self.reply.as_bytes().to_vec(alloc)?;
-        if replies.push(reply).is_err() {
-            return Err(StepsFault::OutOfMemory);
-        }
-        Ok(Outcome {
-            replies,
-            output: self.output.as_bytes().to_vec(alloc)?,
-            failures: 0,
-            later: 0,
-            end: None,
-        })
+        self.0.outcome(alloc)
     }
 }
 
-// Two ways to run a case, and what is reported of it.
+// Two ways to run the case, and what is reported of it.
 fn assert_report(
     rt: &impl Abort,
     alloc: Global,
-    (mut one, mut other): (Fixed, Fixed),
+    (one, other): (Found, Found),
     wanted: &str,
 ) -> Result<(), Fail> {
-    let case = b"case a\nclient G\nask\n  ended\noutput a\\r\\nb\n";
-    let Ok(file) = file_of(alloc, "a.cases", case.as_slice()) else {
+    let Ok(file) = file_of(alloc, "a.cases", CASE.as_bytes()) else {
         return Err("no file of cases".into());
     };
     let mut out = Vec::new(alloc);
-    let Ok(_) = try_files(alloc, (&mut one, &mut other), &mut out, &[file]) else {
+    let mut ways = (Fixed(one), Fixed(other));
+    let Ok(_) = try_files(alloc, (&mut ways.0, &mut ways.1), &mut out, &[file]) else {
         return Err("no report".into());
     };
     assert_same(rt, str::from_utf8(out.as_slice())?, wanted);
     Ok(())
 }
 
+// What differs in the first way isn't tried in the second.
 #[test]
 fn runs_that_differ_are_reported(rt: HostRuntime) -> Result<(), Fail> {
-    let good = Fixed {
-        reply: "ended",
-        output: "a\r\nb",
-    };
-    let short = Fixed {
-        reply: "ended",
-        output: "a\r\n",
-    };
-    let wanted = "a.cases: 1 cases, 5 runs, 0 differ\n\
-        a, 1 bytes a read: output from byte 3 is  and not b\n\
-        a, 2 bytes a read: output from byte 3 is  and not b\n\
-        a, 1023 bytes a read: output from byte 3 is  and not b\n\
-        a, 1024 bytes a read: output from byte 3 is  and not b\n\
-        a, 1024 bytes a read, call 1 failing: output from byte 3 is  and not b\n\
-        a.cases: 1 cases, 5 runs, 5 differ\n";
-    assert_report(&rt, rt.alloc(), (good, short), wanted)?;
-    let done = Fixed {
+    let done = Found {
         reply: "done",
-        output: "a\r\nb",
+        ..GOOD
     };
-    let other = Fixed {
-        reply: "ended",
-        output: "a\nb",
-    };
-    let wanted = "a, 1 bytes a read: reply 1 is done and not ended\n\
+    let differing = "a, 1 bytes a read: reply 1 is done and not ended\n\
         a, 2 bytes a read: reply 1 is done and not ended\n\
         a, 1023 bytes a read: reply 1 is done and not ended\n\
         a, 1024 bytes a read: reply 1 is done and not ended\n\
         a, 1024 bytes a read, call 1 failing: reply 1 is done and not ended\n\
-        a.cases: 1 cases, 5 runs, 5 differ\n\
-        a, 1 bytes a read: output from byte 1 is \\nb and not \\r\\nb\n\
-        a, 2 bytes a read: output from byte 1 is \\nb and not \\r\\nb\n\
-        a, 1023 bytes a read: output from byte 1 is \\nb and not \\r\\nb\n\
-        a, 1024 bytes a read: output from byte 1 is \\nb and not \\r\\nb\n\
-        a, 1024 bytes a read, call 1 failing: output from byte 1 is \\nb and not \\r\\nb\n\
         a.cases: 1 cases, 5 runs, 5 differ\n";
-    assert_report(&rt, rt.alloc(), (done, other), wanted)
+    let good = "a.cases: 1 cases, 5 runs, 0 differ\n";
+    let none = "a.cases: 0 cases, 0 runs, 0 differ\n";
+    let wanted = format!(in rt.alloc(); "{good}{differing}")?;
+    assert_report(&rt, rt.alloc(), (GOOD, done), wanted.as_str())?;
+    let wanted = format!(in rt.alloc(); "{differing}{none}")?;
+    assert_report(&rt, rt.alloc(), (done, GOOD), wanted.as_str())
+}
+
+#[test]
+fn a_reader_gives_pieces(rt: HostRuntime) -> Result<(), Fail> {
+    let client = Canned::new(b"hello".to_vec(rt.alloc())?, Some(ErrorKind::TimedOut));
+    let mut reader = Pieces::new(client, 2);
+    for wanted in [Some(2), Some(2), Some(1), None] {
+        let found = reader.read_in(&mut [0; 9]).ok();
+        assert_same(&rt, found, wanted);
+    }
+    Ok(())
+}
+
+// Writes twice and flushes: what each call took, and then what was taken, how often it failed, and the calls after that.
+fn write_by(writer: &mut Trier) -> ([Option<usize>; 3], (u64, u64)) {
+    let calls = [
+        writer.write(b"hello").ok(),
+        writer.write(b"!").ok(),
+        writer.flush().ok().map(|_| 0),
+    ];
+    (calls, (writer.failures(), writer.later()))
+}
+
+#[test]
+fn a_writer_fails_once(rt: HostRuntime) {
+    let mut full = Trier::with_room(rt.alloc(), 3, ErrorKind::Other);
+    assert_same(&rt, write_by(&mut full), ([Some(3), None, Some(0)], (1, 1)));
+    assert_same(&rt, full.taken(), b"hel".as_slice());
+    let mut failing = Trier::failing_at(rt.alloc(), 1, ErrorKind::Other);
+    assert_same(
+        &rt,
+        write_by(&mut failing),
+        ([None, Some(1), Some(0)], (1, 2)),
+    );
+    assert_same(&rt, failing.taken(), b"!".as_slice());
+    let mut last = Trier::failing_at(rt.alloc(), 3, ErrorKind::Other);
+    assert_same(&rt, write_by(&mut last), ([Some(5), Some(1), None], (1, 0)));
 }
