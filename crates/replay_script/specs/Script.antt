@@ -1,22 +1,19 @@
 -- The steps that a script names, and its first bad line.
-use Rattle.std.specs.Prelude.{◌≡◌, ◌==◌, ◌+◌, ℕ, Bool, Option, Some, None, List, [], ◌∷◌, ◌++◌, length, string_bytes}
-use Rattle.std.specs.List.{AllZip, AllByRecursion, slice_split, flat_map}
-use Rattle.std.specs.Io.KnownBytes.{Appends}
+use Rattle.std.specs.Prelude.{◌≡◌, ◌==◌, ◌+◌, ℕ, Option, Some, None, List, [], ◌∷◌, ◌++◌, length, string_bytes}
+use Rattle.std.specs.List.{AllZip, AllByRecursion, slice_split}
 use Rattle.std.specs.declared.io.ErrorKind.TheVariants.{Other}
 use Rattle.httpdate.specs.declared.date.HttpDate.{HttpDate}
 use Rattle.httpdate.specs.Date.{unix_secs}
 use Rattle.tiny_http_wire.specs.Answer.{ResponseState, text_plain}
-use Rattle.tiny_http_wire.specs.Device.{Feed, Sink, whole_feed}
 use Rattle.tiny_http_wire.specs.declared.device.Stop.{Stop}
 use Rattle.tiny_http_wire.specs.declared.device.Stop.TheVariants.{End, Fault}
 use Rattle.tiny_http_core.specs.ResponseValue.{ResponseValue, response_of}
-use Rattle.tiny_http_core.specs.Steps.{StepValue, Ask, AsReader, Read, Respond, IntoWriter, Write, Flush, Upgrade, Finish, Drop, ReplyValue}
-use Rattle.tiny_http_core.specs.Conversation.{TimedValue, IsFresh, IsConversation}
+use Rattle.tiny_http_core.specs.Steps.{StepValue, Ask, AsReader, Read, Respond, IntoWriter, Write, Flush, Upgrade, Finish, Drop}
+use Rattle.tiny_http_core.specs.Conversation.{TimedValue}
 use Rattle.tiny_http_core.specs.declared.driver.Step.{Step}
 use Rattle.tiny_http_core.specs.declared.driver.Step.TheVariants.{Ask as AskStep, AsReader as AsReaderStep, Read as ReadStep, Respond as RespondStep, IntoWriter as IntoWriterStep, Write as WriteStep, Flush as FlushStep, Upgrade as UpgradeStep, Finish as FinishStep, Drop as DropStep}
 use Rattle.tiny_http_core.specs.declared.driver.Timed.{Timed}
 use Rattle.replay_script.specs.ScriptData.{data_feed, xs}
-use Rattle.replay_script.specs.Reply.{reply_line}
 use Rattle.replay_script.specs.ScriptLine.{IsLine, IsGood}
 use Rattle.replay_script.specs.declared.line.ScriptLine.{ScriptLine}
 use Rattle.replay_script.specs.declared.line.ScriptLine.TheVariants.{Blank, Now, Ask as AskLine, AsReader as AsReaderLine, Read as ReadLine, Respond as RespondLine, Writer as WriterLine, Write as WriteLine, Flush as FlushLine, Upgrade as UpgradeLine, Finish as FinishLine, Drop as DropLine}
