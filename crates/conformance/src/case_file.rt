@@ -297,8 +297,9 @@ fn assert_report(
         return Err("no file of cases".into());
     };
     let mut out = Vec::new(alloc);
-    let mut ways = (Fixed(one), Fixed(other));
-    let Ok(_) = try_files(alloc, (&mut ways.0, &mut ways.1), &mut out, &[file]) else {
+    let mut first = Fixed(one);
+    let mut second = Fixed(other);
+    let Ok(_) = try_files(alloc, (&mut first, &mut second), &mut out, &[file]) else {
         return Err("no report".into());
     };
     assert_same(rt, str::from_utf8(out.as_slice())?, wanted);
