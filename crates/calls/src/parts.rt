@@ -1,8 +1,8 @@
 //! What goes into a call, part by part.
-use crate::fault::LineFault;
 use crate::row::{Call, Input, Rooms};
 use crate::words::{add_series, header, header_line, number, numbers, split, text, version};
 use case_files::case::Room;
+use case_files::fault::LineFault;
 use case_files::kinds::kind_of;
 use case_files::text::add_text;
 use std::alloc::{AllocError, Global};

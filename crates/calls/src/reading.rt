@@ -1,10 +1,10 @@
 //! Reads a file of rows, line by line.
-use crate::fault::LineFault;
 use crate::naming::call_in;
 use crate::parts::{add_part, empty_input};
 use crate::row::{Finding, Row, is_long, word_of};
 use crate::words::{add_series, split};
-use case_files::report::CasesFault;
+use case_files::fault::{FilesFault, LineFault, line_text};
+use case_files::program::NamedFile;
 use case_files::text::{add_text, text_of};
 use std::alloc::{AllocError, Global};
 
@@ -85,13 +85,9 @@ fn read_line(
     number: usize,
     line: &[u8],
 ) -> Result<(), LineFault> {
-    if line.is_empty() || line.starts_with(b"#") {
+    let Some(text) = line_text(line)? else {
         return Ok(());
-    }
-    if !line.is_ascii() {
-        return Err(LineFault::Bad("a byte from 128 on is written \\xHH"));
-    }
-    let text = str::from_utf8(line).unwrap_or_default();
+    };
     if let Some(part) = text.strip_prefix("+ ") {
         return add_to_input(alloc, rows, part);
     }
@@ -104,35 +100,35 @@ fn read_line(
     }
 }
 
-// The fault of a file of this name at this line.
-fn fault_at<'a>(name: &'a str, line: usize, fault: LineFault) -> CasesFault<'a> {
-    match fault {
-        LineFault::Bad(why) => CasesFault::BadLine(name, line, why),
-        LineFault::OutOfMemory => CasesFault::OutOfMemory,
-    }
-}
-
-/// The rows of a file of this name and these bytes; or its first line that isn't of the format, and why. A file without a row
-/// isn't of the format.
-pub fn file_of<'a>(
-    alloc: Global,
-    name: &'a str,
-    bytes: &[u8],
-) -> Result<RowFile<'a>, CasesFault<'a>> {
+// The rows of a file; or its first line that isn't of the format, and why. A file without a row isn't of the format.
+fn file_of<'a>(alloc: Global, file: &NamedFile<'a>) -> Result<RowFile<'a>, FilesFault<'a>> {
+    let name = file.name;
     let mut rows = Vec::new(alloc);
     let mut number = 0usize;
-    for line in bytes.split(|byte| *byte == b'\n') {
+    for line in file.bytes.split(|byte| *byte == b'\n') {
         number = number.saturating_add(1);
         if let Err(fault) = read_line(alloc, &mut rows, number, line) {
-            return Err(fault_at(name, number, fault));
+            return Err(FilesFault::at_line(name, number, fault));
         }
     }
     match rows.last() {
-        None => Err(CasesFault::BadLine(name, number, "there is no row")),
+        None => Err(FilesFault::BadLine(name, number, "there is no row")),
         Some(row) if row.wanted.is_empty() => {
             let why = "the last row says nothing of what comes";
-            Err(CasesFault::BadLine(name, number, why))
+            Err(FilesFault::BadLine(name, number, why))
         }
         Some(_) => Ok(RowFile { name, rows }),
     }
+}
+
+/// The rows of each of these files; or the first line that isn't of the format, and why.
+pub fn files_of<'a>(
+    alloc: Global,
+    files: &[NamedFile<'a>],
+) -> Result<Vec<RowFile<'a>>, FilesFault<'a>> {
+    let mut all = Vec::new(alloc);
+    for file in files {
+        all.push(file_of(alloc, file)?).map_err(AllocError::from)?;
+    }
+    Ok(all)
 }

@@ -7,7 +7,8 @@ use crate::row::{Call, Finding, Rooms, Row, is_asked};
 use crate::texts::{ask, choose_by, phrase, read_text, show, write_number};
 use crate::written::{encode, print, write_chunk, write_chunked};
 use case_files::case::Room;
-use case_files::report::{CasesFault, PIECES};
+use case_files::fault::FilesFault;
+use case_files::report::PIECES;
 use case_files::text::shown;
 use std::alloc::{AllocError, Global};
 use std::io::{ErrorKind, Write};
@@ -219,13 +220,13 @@ fn report<'a, O: Write>(
     name: &str,
     line: usize,
     difference: &Difference,
-) -> Result<(), CasesFault<'a>> {
+) -> Result<(), FilesFault<'a>> {
     let how = difference.how.as_str();
     let found = difference.found.as_str();
     let wanted = difference.wanted.as_str();
     match writeln!(out, "{name}:{line}{how}: {found} and not {wanted}") {
         Ok(()) => Ok(()),
-        Err(_) => Err(CasesFault::CannotWrite),
+        Err(_) => Err(FilesFault::CannotWrite),
     }
 }
 
@@ -234,7 +235,7 @@ fn try_rows<'a, O: Write>(
     alloc: Global,
     out: &mut O,
     file: &RowFile<'a>,
-) -> Result<u64, CasesFault<'a>> {
+) -> Result<u64, FilesFault<'a>> {
     let mut differing = 0u64;
     for row in &file.rows {
         if let Some(difference) = try_row(alloc, row)? {
@@ -250,13 +251,13 @@ fn try_file<'a, O: Write>(
     alloc: Global,
     out: &mut O,
     file: &RowFile<'a>,
-) -> Result<bool, CasesFault<'a>> {
+) -> Result<bool, FilesFault<'a>> {
     let differing = try_rows(alloc, out, file)?;
     let name = file.name;
     let count = file.rows.len();
     match writeln!(out, "{name}: {count} rows, {differing} differ") {
         Ok(()) => Ok(differing == 0),
-        Err(_) => Err(CasesFault::CannotWrite),
+        Err(_) => Err(FilesFault::CannotWrite),
     }
 }
 
@@ -265,7 +266,7 @@ pub fn try_files<'a, O: Write>(
     alloc: Global,
     out: &mut O,
     files: &[RowFile<'a>],
-) -> Result<bool, CasesFault<'a>> {
+) -> Result<bool, FilesFault<'a>> {
     let mut is_same = true;
     for file in files {
         let is_same_there = try_file(alloc, out, file)?;
@@ -273,6 +274,6 @@ pub fn try_files<'a, O: Write>(
     }
     match out.flush() {
         Ok(()) => Ok(is_same),
-        Err(_) => Err(CasesFault::CannotWrite),
+        Err(_) => Err(FilesFault::CannotWrite),
     }
 }

@@ -1,5 +1,5 @@
 //! The words of a line: numbers, versions, codings, texts.
-use crate::fault::LineFault;
+use case_files::fault::LineFault;
 use case_files::text::{number_in, text_of};
 use std::alloc::{AllocError, Global};
 use tiny_http_wire::coding::Coding;

@@ -5,6 +5,7 @@
 
 pub mod case;
 pub mod devices;
+pub mod fault;
 pub mod kinds;
 pub mod outcome;
 pub mod program;

@@ -1,66 +1,80 @@
-//! A program over files of cases: its command line, and its exit status.
-use crate::report::{CaseFile, CasesFault, Runner, file_of, try_files};
+//! A program over files: its command line, and its exit status.
+use crate::fault::FilesFault;
+use std::alloc::{AllocError, Global};
 use std::io::{ErrorKind, Write};
 use std::rt::{Env, Files};
-use std::{env, fs, io};
+use std::{env, fs};
 
-// The cases of the file of this name.
+/// A file that the command line names.
+#[derive(Drop)]
+pub struct NamedFile<'a> {
+    pub name: &'a str,
+    pub bytes: Vec<u8>,
+}
+
+/// What a program does with its files.
+pub trait Checker {
+    /// Reads what all files hold, and then tries it. Whether nothing differs.
+    fn check<'a, O: Write>(
+        &mut self,
+        alloc: Global,
+        files: &[NamedFile<'a>],
+        out: &mut O,
+    ) -> Result<bool, FilesFault<'a>>;
+}
+
+// The file of this name.
 fn read_file<'a, R: Files + AllocGlobal>(
     rt: &R,
     name: &'a str,
-) -> Result<CaseFile<'a>, CasesFault<'a>> {
+) -> Result<NamedFile<'a>, FilesFault<'a>> {
     match fs::read(rt, name) {
-        Ok(bytes) => file_of(rt.alloc(), name, bytes.as_slice()),
-        Err(fault) if fault.kind() == ErrorKind::OutOfMemory => Err(CasesFault::OutOfMemory),
-        Err(_) => Err(CasesFault::CannotRead(name)),
+        Ok(bytes) => Ok(NamedFile { name, bytes }),
+        Err(fault) if fault.kind() == ErrorKind::OutOfMemory => Err(FilesFault::OutOfMemory),
+        Err(_) => Err(FilesFault::CannotRead(name)),
     }
 }
 
-// The cases of the files that the words after the first name.
+// The files that the words after the first name.
 fn read_files<'a, R: Files + AllocGlobal>(
     rt: &R,
     words: &'a [String],
-) -> Result<Vec<CaseFile<'a>>, CasesFault<'a>> {
+) -> Result<Vec<NamedFile<'a>>, FilesFault<'a>> {
     let mut files = Vec::new(rt.alloc());
     for name in words.iter().skip(1) {
         let file = read_file(rt, name.as_str())?;
-        if files.push(file).is_err() {
-            return Err(CasesFault::OutOfMemory);
-        }
+        files.push(file).map_err(AllocError::from)?;
     }
     if files.is_empty() {
-        return Err(CasesFault::Usage);
+        return Err(FilesFault::Usage);
     }
     Ok(files)
 }
 
 // The words of the command line, the program's name first. One that isn't UTF-8 can't name a file here.
-fn words<R: Env + AllocGlobal>(rt: &R) -> Result<Vec<String>, CasesFault<'static>> {
+fn words<R: Env + AllocGlobal>(rt: &R) -> Result<Vec<String>, FilesFault<'static>> {
     match env::args(rt) {
-        Ok(words) => match words.collect(rt.alloc()) {
-            Ok(words) => Ok(words),
-            Err(_) => Err(CasesFault::OutOfMemory),
-        },
-        Err(fault) if fault.kind() == ErrorKind::OutOfMemory => Err(CasesFault::OutOfMemory),
-        Err(_) => Err(CasesFault::Usage),
+        Ok(words) => Ok(words.collect(rt.alloc())?),
+        Err(fault) if fault.kind() == ErrorKind::OutOfMemory => Err(FilesFault::OutOfMemory),
+        Err(_) => Err(FilesFault::Usage),
     }
 }
 
 // Reports a fault by a line that the program's name begins, and gives its exit status.
-fn report<E: Write>(program: &str, fault: &CasesFault<'_>, err: &mut E) -> u8 {
+fn report<E: Write>(program: &str, fault: &FilesFault<'_>, err: &mut E) -> u8 {
     match writeln!(err, "{program}: {fault}") {
         Ok(()) => fault.status(),
-        Err(_) => CasesFault::CannotWrite.status(),
+        Err(_) => FilesFault::CannotWrite.status(),
     }
 }
 
-/// Tries the cases of the files that the command line names in both ways, and gives the exit status: 0 where no run differs,
-/// and 3 where one does; 2 with one line on `err` for a wrong use and for a file that isn't of the format, before anything is
-/// run; 1 with one line for a file that can't be read, for no memory, and where `out` can't be written.
-pub fn run_program<R: Env + Files + AllocGlobal, F: Runner, G: Runner, O: Write, E: Write>(
+/// Checks the files that the command line names, and gives the exit status: 0 where nothing differs, and 3 where something does;
+/// 2 with one line on `err` for a wrong use and for a file that isn't of the format, before anything is tried; 1 with one line
+/// for a file that can't be read, for no memory, and where `out` can't be written.
+pub fn run_program<R: Env + Files + AllocGlobal, C: Checker, O: Write, E: Write>(
     rt: &R,
     program: &str,
-    runners: (&mut F, &mut G),
+    checker: &mut C,
     out: &mut O,
     err: &mut E,
 ) -> u8 {
@@ -72,7 +86,7 @@ pub fn run_program<R: Env + Files + AllocGlobal, F: Runner, G: Runner, O: Write,
         Ok(files) => files,
         Err(fault) => return report(program, &fault, err),
     };
-    match try_files(rt.alloc(), runners, out, files.as_slice()) {
+    match checker.check(rt.alloc(), files.as_slice(), out) {
         Ok(true) => 0,
         Ok(false) => 3,
         Err(fault) => report(program, &fault, err),

@@ -1,40 +1,11 @@
 //! Reads a file of cases, line by line.
 use crate::case::{Answer, Case, CaseStep, Deed, Room};
+use crate::fault::{FilesFault, LineFault, line_text};
 use crate::kinds::kind_of;
-use crate::text::{TextFault, add_text, number_in, text_of};
+use crate::text::{add_text, number_in, text_of};
 use replay_script::line::{ScriptLine, text_in};
 use std::alloc::{AllocError, Global};
 use tiny_http_wire::common::{Header, ParseError};
-
-/// Why a file's cases can't be read.
-#[derive(Clone, Copy, Debug, PartialEq, Eq)]
-pub enum CaseFault {
-    /// This line, counted from 1, isn't of the format, for this reason.
-    BadLine(usize, &'static str),
-    OutOfMemory,
-}
-
-// Why one line isn't of the format.
-enum LineFault {
-    Bad(&'static str),
-    OutOfMemory,
-}
-
-impl From<AllocError> for LineFault {
-    fn from(_error: AllocError) -> LineFault {
-        LineFault::OutOfMemory
-    }
-}
-
-impl From<TextFault> for LineFault {
-    fn from(fault: TextFault) -> LineFault {
-        match fault {
-            TextFault::NoEscape => LineFault::Bad("a backslash begins no escape"),
-            TextFault::NoRepeat => LineFault::Bad("a repeated piece is \\{COUNT TEXT}"),
-            TextFault::OutOfMemory => LineFault::OutOfMemory,
-        }
-    }
-}
 
 const NO_KIND: LineFault = LineFault::Bad("no such kind of fault");
 
@@ -237,13 +208,9 @@ fn add_line(alloc: Global, case: &mut Case, text: &str) -> Result<(), LineFault>
 
 // Reads one line: passed over, the beginning of a case, or a line of the last case.
 fn read_line(alloc: Global, cases: &mut Vec<Case>, line: &[u8]) -> Result<(), LineFault> {
-    if line.is_empty() || line.starts_with(b"#") {
+    let Some(text) = line_text(line)? else {
         return Ok(());
-    }
-    if !line.is_ascii() {
-        return Err(LineFault::Bad("a byte from 128 on is written \\xHH"));
-    }
-    let text = str::from_utf8(line).unwrap_or_default();
+    };
     if let Some(name) = text.strip_prefix("case ") {
         if let Some(why) = lack_of(cases.as_slice()) {
             return Err(LineFault::Bad(why));
@@ -256,23 +223,26 @@ fn read_line(alloc: Global, cases: &mut Vec<Case>, line: &[u8]) -> Result<(), Li
     }
 }
 
-/// The cases of a file; or its first line that isn't of the format, and why. A file without a case isn't of the format.
-pub fn read_cases(alloc: Global, file: &[u8]) -> Result<Vec<Case>, CaseFault> {
+/// The cases of a file of this name and these bytes; or its first line that isn't of the format, and why. A file without a case
+/// isn't of the format.
+pub fn read_cases<'a>(
+    alloc: Global,
+    name: &'a str,
+    bytes: &[u8],
+) -> Result<Vec<Case>, FilesFault<'a>> {
     let mut cases = Vec::new(alloc);
     let mut number = 0usize;
-    for line in file.split(|byte| *byte == b'\n') {
+    for line in bytes.split(|byte| *byte == b'\n') {
         number = number.saturating_add(1);
-        match read_line(alloc, &mut cases, line) {
-            Ok(()) => {}
-            Err(LineFault::Bad(why)) => return Err(CaseFault::BadLine(number, why)),
-            Err(LineFault::OutOfMemory) => return Err(CaseFault::OutOfMemory),
+        if let Err(fault) = read_line(alloc, &mut cases, line) {
+            return Err(FilesFault::at_line(name, number, fault));
         }
     }
     if cases.is_empty() {
-        return Err(CaseFault::BadLine(number, "there is no case"));
+        return Err(FilesFault::BadLine(name, number, "there is no case"));
     }
     match lack_of(cases.as_slice()) {
-        Some(why) => Err(CaseFault::BadLine(number, why)),
+        Some(why) => Err(FilesFault::BadLine(name, number, why)),
         None => Ok(cases),
     }
 }

@@ -1,11 +1,13 @@
 //! Tries the cases of files, and reports those that differ.
 use crate::case::Case;
+use crate::fault::FilesFault;
 use crate::outcome::{Difference, Outcome, Trial, first_difference};
-use crate::reading::{CaseFault, read_cases};
+use crate::program::NamedFile;
+use crate::reading::read_cases;
 use crate::steps::StepsFault;
 use std::alloc::{AllocError, Global};
+use std::io;
 use std::io::Write;
-use std::{fmt, io};
 
 /// A way to run the steps of a case.
 pub trait Runner {
@@ -19,47 +21,6 @@ pub trait Runner {
     fn run(&mut self, alloc: Global, case: &Case, trial: Trial) -> Result<Outcome, StepsFault>;
 }
 
-/// Why files of cases are not tried to the end.
-#[derive(Clone, Copy, Debug, PartialEq, Eq)]
-pub enum CasesFault<'a> {
-    /// No file is named.
-    Usage,
-    /// The file of this name can't be read.
-    CannotRead(&'a str),
-    /// A line of the file of this name isn't of the format, for this reason.
-    BadLine(&'a str, usize, &'static str),
-    OutOfMemory,
-    CannotWrite,
-}
-
-impl CasesFault<'_> {
-    /// The exit status that reports it: 2 for what was asked wrongly, and 1 for what the system refused.
-    pub fn status(&self) -> u8 {
-        match self {
-            CasesFault::Usage | CasesFault::BadLine(..) => 2,
-            CasesFault::CannotRead(_) | CasesFault::OutOfMemory | CasesFault::CannotWrite => 1,
-        }
-    }
-}
-
-impl fmt::Display for CasesFault<'_> {
-    fn fmt<W: fmt::Write>(&self, f: &mut fmt::Formatter<W>) -> fmt::Result {
-        match self {
-            CasesFault::Usage => write!(f, "no file is named"),
-            CasesFault::CannotRead(name) => write!(f, "cannot read {name}"),
-            CasesFault::BadLine(name, number, why) => write!(f, "{name}:{number}: {why}"),
-            CasesFault::OutOfMemory => write!(f, "out of memory"),
-            CasesFault::CannotWrite => write!(f, "cannot write"),
-        }
-    }
-}
-
-impl<'a> From<AllocError> for CasesFault<'a> {
-    fn from(_error: AllocError) -> CasesFault<'a> {
-        CasesFault::OutOfMemory
-    }
-}
-
 /// The cases of a file, and its name.
 #[derive(Drop)]
 pub struct CaseFile<'a> {
@@ -67,17 +28,18 @@ pub struct CaseFile<'a> {
     pub cases: Vec<Case>,
 }
 
-/// The cases of a file of this name and these bytes.
-pub fn file_of<'a>(
+/// The cases of each of these files; or the first line that isn't of the format, and why.
+pub fn files_of<'a>(
     alloc: Global,
-    name: &'a str,
-    bytes: &[u8],
-) -> Result<CaseFile<'a>, CasesFault<'a>> {
-    match read_cases(alloc, bytes) {
-        Ok(cases) => Ok(CaseFile { name, cases }),
-        Err(CaseFault::BadLine(number, why)) => Err(CasesFault::BadLine(name, number, why)),
-        Err(CaseFault::OutOfMemory) => Err(CasesFault::OutOfMemory),
+    files: &[NamedFile<'a>],
+) -> Result<Vec<CaseFile<'a>>, FilesFault<'a>> {
+    let mut all = Vec::new(alloc);
+    for NamedFile { name, bytes } in files {
+        let cases = read_cases(alloc, name, bytes.as_slice())?;
+        all.push(CaseFile { name, cases })
+            .map_err(AllocError::from)?;
     }
+    Ok(all)
 }
 
 /// How many cases were tried, how often they were run, and how many of the runs differ.
@@ -125,16 +87,16 @@ fn try_once<'a, F: Runner, O: Write>(
     case: &Case,
     trial: Trial,
     tally: &mut Tally,
-) -> Result<bool, CasesFault<'a>> {
+) -> Result<bool, FilesFault<'a>> {
     let Ok(outcome) = runner.run(alloc, case, trial) else {
-        return Err(CasesFault::OutOfMemory);
+        return Err(FilesFault::OutOfMemory);
     };
     tally.runs = tally.runs.saturating_add(1);
     let is_made_to_fail = trial.failing.is_some();
     if let Some(difference) = first_difference(alloc, case, &outcome, is_made_to_fail)? {
         tally.differing = tally.differing.saturating_add(1);
         if report(out, (case, runner.how()), trial, &difference).is_err() {
-            return Err(CasesFault::CannotWrite);
+            return Err(FilesFault::CannotWrite);
         }
     }
     Ok(is_made_to_fail && outcome.has_failed)
@@ -146,7 +108,7 @@ fn try_failing<'a, F: Runner, O: Write>(
     out: &mut O,
     case: &Case,
     tally: &mut Tally,
-) -> Result<(), CasesFault<'a>> {
+) -> Result<(), FilesFault<'a>> {
     for call in 1..=MOST_CALLS {
         let trial = Trial {
             piece: 1024,
@@ -164,7 +126,7 @@ fn try_failing<'a, F: Runner, O: Write>(
         "{name}{how}: more than {MOST_CALLS} calls of the writer"
     ) {
         Ok(()) => Ok(()),
-        Err(_) => Err(CasesFault::CannotWrite),
+        Err(_) => Err(FilesFault::CannotWrite),
     }
 }
 
@@ -174,7 +136,7 @@ fn try_case<'a, F: Runner, O: Write>(
     out: &mut O,
     case: &Case,
     tally: &mut Tally,
-) -> Result<(), CasesFault<'a>> {
+) -> Result<(), FilesFault<'a>> {
     tally.cases = tally.cases.saturating_add(1);
     for piece in PIECES {
         let trial = Trial {
@@ -196,7 +158,7 @@ fn try_cases<'a, F: Runner, O: Write>(
     out: &mut O,
     file: &CaseFile<'a>,
     left_out: &[usize],
-) -> Result<(Tally, Vec<usize>), CasesFault<'a>> {
+) -> Result<(Tally, Vec<usize>), FilesFault<'a>> {
     let mut tally = Tally {
         cases: 0,
         runs: 0,
@@ -223,7 +185,7 @@ pub fn try_file<'a, F: Runner, O: Write>(
     out: &mut O,
     file: &CaseFile<'a>,
     left_out: &[usize],
-) -> Result<Vec<usize>, CasesFault<'a>> {
+) -> Result<Vec<usize>, FilesFault<'a>> {
     let (tally, places) = try_cases((alloc, &mut *runner), out, file, left_out)?;
     let name = file.name;
     let Tally {
@@ -238,7 +200,7 @@ pub fn try_file<'a, F: Runner, O: Write>(
     )
     .is_err()
     {
-        return Err(CasesFault::CannotWrite);
+        return Err(FilesFault::CannotWrite);
     }
     Ok(places)
 }
@@ -250,7 +212,7 @@ pub fn try_files<'a, F: Runner, G: Runner, O: Write>(
     (first, second): (&mut F, &mut G),
     out: &mut O,
     files: &[CaseFile<'a>],
-) -> Result<bool, CasesFault<'a>> {
+) -> Result<bool, FilesFault<'a>> {
     let mut is_same = true;
     for file in files {
         let one = try_file(alloc, first, out, file, &[])?;
@@ -258,7 +220,7 @@ pub fn try_files<'a, F: Runner, G: Runner, O: Write>(
         is_same = is_same && one.is_empty() && other.is_empty();
     }
     if out.flush().is_err() {
-        return Err(CasesFault::CannotWrite);
+        return Err(FilesFault::CannotWrite);
     }
     Ok(is_same)
 }

@@ -11,13 +11,36 @@ mod treating;
 
 use crate::by_requests::ByRequests;
 use crate::by_run::ByRun;
-use case_files::program::run_program;
+use case_files::fault::FilesFault;
+use case_files::program::{Checker, NamedFile, run_program};
+use case_files::report::{files_of, try_files};
+use std::alloc::Global;
+use std::io::Write;
 use std::process::ExitCode;
+use std::sync::Wait;
+
+// Tries the cases of files in both ways.
+#[derive(Drop)]
+struct BothWays<R> {
+    rt: R,
+}
+
+impl<R: Wait + Copy> Checker for BothWays<R> {
+    fn check<'a, O: Write>(
+        &mut self,
+        alloc: Global,
+        files: &[NamedFile<'a>],
+        out: &mut O,
+    ) -> Result<bool, FilesFault<'a>> {
+        let files = files_of(alloc, files)?;
+        let mut by_requests = ByRequests::new(self.rt);
+        try_files(alloc, (&mut ByRun, &mut by_requests), out, files.as_slice())
+    }
+}
 
 fn main(rt: HostRuntime) -> ExitCode {
     let mut out = rt.stdout();
     let mut err = rt.stderr();
-    let mut by_requests = ByRequests::new(rt);
-    let runners = (&mut ByRun, &mut by_requests);
-    ExitCode::from(run_program(&rt, "cases", runners, &mut out, &mut err))
+    let mut both_ways = BothWays { rt };
+    ExitCode::from(run_program(&rt, "cases", &mut both_ways, &mut out, &mut err))
 }

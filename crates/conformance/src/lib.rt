@@ -1,4 +1,4 @@
-//! Tests of `tiny_http_core`, `greeter` and `case_files` that are no run of a whole connection: those are cases, in `cases`.
+//! Tests of `tiny_http_core` and `greeter` that are no run of a whole connection: those are cases, in `cases`.
 //! They stand apart because a crate with tests is proved once more with them.
 #![tactic(auto)]
 
@@ -6,8 +6,6 @@
 mod answers_alone;
 #[cfg(test)]
 mod broken_answers;
-#[cfg(test)]
-mod case_file;
 #[cfg(test)]
 mod custom_stream;
 #[cfg(test)]

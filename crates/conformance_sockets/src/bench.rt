@@ -1,11 +1,11 @@
 //! A server and a client of it, what the client reads, and the texts of answers. What goes wrong here ends the test.
-use crate::same::assert_same;
+use crate::same::{assert_holds, assert_same};
 use std::alloc::{AllocError, Global};
 use std::io::{ErrorKind, Read, Write};
 use std::net::{Net, Shutdown, TcpListener, TcpStream};
 use std::process::Abort;
-use std::sync::{Arc, Wait};
-use std::thread::{JoinHandle, Threads};
+use std::sync::Wait;
+use std::thread::Threads;
 use std::time::{Clock, Duration};
 use std::{io, thread};
 use tiny_http::common::StatusCode;
@@ -18,6 +18,11 @@ pub const TURNS: u32 = 10_000;
 
 /// The headers in front of an answer's own, its date left out.
 pub const DATED: &str = "Server: tiny-http (Rust)\r\nDate: \r\n";
+
+/// Sockets of TCP, and an end where something goes wrong.
+pub trait Tcp: Net<Listener = TcpListener, Stream = TcpStream> + Abort {}
+
+impl<R: Net<Listener = TcpListener, Stream = TcpStream> + Abort> Tcp for R {}
 
 /// What a server and its clients need of the system, and an end where something goes wrong.
 pub trait Host: Net<Listener = TcpListener, Stream = TcpStream>
@@ -103,6 +108,12 @@ pub fn end_sending(rt: &impl Abort, client: &TcpStream) {
 /// The next request of a server.
 pub fn receive<R: Host>(rt: &R, server: &Server<R>) -> ServerRequest<R> {
     server.recv().expect(rt, "a request")
+}
+
+/// `try_recv` finds no request.
+pub fn assert_no_request<R: Host>(rt: &R, server: &Server<R>) {
+    let tried = server.try_recv().expect(rt, "no fault");
+    assert_holds(rt, "try_recv finds no request", tried.is_none());
 }
 
 /// Reads once, for a number of turns at most.
@@ -197,6 +208,25 @@ fn joined(alloc: Global, texts: &[&str]) -> Result<String, AllocError> {
     Ok(all)
 }
 
+/// The body of a request is just this.
+pub fn assert_body<R: Host>(rt: &R, alloc: Global, request: &mut ServerRequest<R>, wanted: &[u8]) {
+    let mut body = Vec::new(alloc);
+    let read = request.as_reader(current_date(rt)).read_to_end(&mut body);
+    read.expect(rt, "the whole body");
+    assert_same(rt, body.as_slice(), wanted);
+}
+
+/// The body of a request is so many bytes.
+pub fn assert_body_of<R: Host>(
+    rt: &R,
+    alloc: Global,
+    request: &mut ServerRequest<R>,
+    length: usize,
+) {
+    let wanted = vec![in alloc; b'A'; length].expect(rt, "memory");
+    assert_body(rt, alloc, request, &wanted);
+}
+
 /// An answer of this text.
 pub fn text(alloc: Global, text: &str) -> Result<Response<io::Cursor<Vec<u8>>>, AllocError> {
     Response::from_string(alloc, String::from_str(alloc, text)?)
@@ -233,43 +263,4 @@ pub fn assert_responds_empty<R: Host>(
     let response = Response::empty(alloc, StatusCode(status));
     let sent = request.respond(response, current_date(rt));
     sent.expect(rt, "an answer of no body can be sent");
-}
-
-// Answers each request by `hello world`, until it is unblocked. The number of those that it answered.
-fn answer_all<R: Host>(rt: &R, alloc: Global, server: &Server<R>) -> u64 {
-    let mut answered = 0u64;
-    for _ in rt.forever() {
-        let Ok(request) = server.recv() else {
-            break;
-        };
-        if respond(rt, alloc, request, "hello world") {
-            answered = answered.saturating_add(1);
-        }
-    }
-    answered
-}
-
-/// A server that answers each request by `hello world`, by a thread.
-#[derive(Drop)]
-pub struct HelloWorld<R: Net + SocketFiles + Wait + Drop> {
-    pub server: Arc<Server<R>>,
-    answering: JoinHandle<u64>,
-}
-
-/// Such a server.
-pub fn hello_world<R: Host>(rt: &R, alloc: Global) -> HelloWorld<R> {
-    let rt = *rt;
-    let server = Server::http(rt, alloc, "0.0.0.0:0").expect(&rt, "a server");
-    let server = Arc::new(alloc, server).expect(&rt, "memory");
-    let theirs = Arc::try_clone(&server).expect(&rt, "memory");
-    let started = thread::spawn(&rt, move || answer_all(&rt, alloc, &theirs));
-    let answering = started.ok().expect(&rt, "a thread");
-    HelloWorld { server, answering }
-}
-
-/// Ends it, which has answered so many requests.
-pub fn assert_ends<R: Host>(rt: &R, serving: HelloWorld<R>, answered: u64) {
-    let HelloWorld { server, answering } = serving;
-    server.unblock().expect(rt, "memory");
-    assert_same(rt, answering.join(rt), answered);
 }

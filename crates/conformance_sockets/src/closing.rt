@@ -1,12 +1,15 @@
 //! How connections end: while bytes of the client are unread, and after their server.
 use crate::bench::{
-    DATED, Host, TURNS, assert_clients, assert_reads, assert_reads_next, connect,
-    one_server_one_client, read_once, receive, send, send_body, serve, turn, turns,
+    DATED, Host, TURNS, Tcp, one_server_one_client, read_once, receive, send, send_body, serve,
+    turn, turns,
 };
 use crate::same::assert_holds;
+use crate::script::{Step, play};
 use std::alloc::Global;
 use std::io::Read;
 use std::net::{SocketAddr, TcpListener, TcpStream};
+use std::process::Abort;
+use std::time::Clock;
 use std::{io, thread};
 use tiny_http::common::StatusCode;
 use tiny_http::device::Metered;
@@ -41,7 +44,7 @@ fn count_all<S: Read>(stream: &mut S) -> io::Result<usize> {
 }
 
 // The same, to a client that begins to read late.
-fn count_late<R: Host>(rt: &R, client: &mut TcpStream) -> usize {
+fn count_late<R: Clock + Abort>(rt: &R, client: &mut TcpStream) -> usize {
     turns(rt, 200);
     count_all(client).expect(rt, "a whole answer")
 }
@@ -76,25 +79,7 @@ fn an_answer_outlives_unread_bytes(rt: HostRuntime) {
     assert_long_answers_come_whole(&rt, rt.alloc());
 }
 
-// The answer to a refused head comes, though much of what follows is unread.
-fn assert_refusal_comes<R: Host>(rt: &R, alloc: Global) {
-    let (_server, mut client) = one_server_one_client(rt, alloc);
-    send(rt, &mut client, "\r\n");
-    send_body(rt, alloc, &mut client, 50_000);
-    let refused = [
-        "HTTP/1.1 400 Bad Request\r\n",
-        DATED,
-        "Content-Length: 0\r\n\r\n",
-    ];
-    assert_reads(rt, alloc, &mut client, &refused);
-}
-
-#[test]
-fn a_refusal_outlives_unread_bytes(rt: HostRuntime) {
-    assert_refusal_comes(&rt, rt.alloc());
-}
-
-const DROPPED: [&str; 3] = [
+const DROPPED: &[&str] = &[
     "HTTP/1.1 500 Internal Server Error\r\n",
     DATED,
     "Content-Length: 0\r\n\r\n",
@@ -102,43 +87,40 @@ const DROPPED: [&str; 3] = [
 
 // A request that waits in the queue of a server that is dropped is answered 500. A client that sends nothing doesn't keep it
 // from that.
-fn assert_waiting_request_is_dropped<R: Host>(rt: &R, alloc: Global) {
-    let (server, mut waiting) = one_server_one_client(rt, alloc);
-    let silent = connect(rt, &server);
-    send(rt, &mut waiting, "GET / HTTP/1.1\r\n\r\n");
-    assert_clients(rt, &server, 2);
-    turns(rt, 50);
-    drop(server);
-    assert_reads_next(rt, alloc, &mut waiting, &DROPPED);
-    drop(silent);
-}
+const WAITING: [Step; 6] = [
+    Step::Come,
+    Step::Send("GET / HTTP/1.1\r\n\r\n"),
+    Step::Clients(2),
+    Step::Turns(50),
+    Step::Close,
+    Step::Next(DROPPED),
+];
 
 #[test]
 fn a_waiting_request_is_dropped_with_its_server(rt: HostRuntime) {
-    assert_waiting_request_is_dropped(&rt, rt.alloc());
+    play(&rt, rt.alloc(), &WAITING);
 }
 
 // A request that comes after its server was dropped is answered 500, and its connection ends.
-fn assert_late_request_is_dropped<R: Host>(rt: &R, alloc: Global) {
-    let (server, mut client) = one_server_one_client(rt, alloc);
-    assert_clients(rt, &server, 1);
-    drop(server);
-    send(rt, &mut client, "GET / HTTP/1.1\r\n\r\n");
-    assert_reads(rt, alloc, &mut client, &DROPPED);
-}
+const LATE: [Step; 4] = [
+    Step::Clients(1),
+    Step::Close,
+    Step::Send("GET / HTTP/1.1\r\n\r\n"),
+    Step::Rest(DROPPED),
+];
 
 #[test]
 fn a_late_request_is_dropped(rt: HostRuntime) {
-    assert_late_request_is_dropped(&rt, rt.alloc());
+    play(&rt, rt.alloc(), &LATE);
 }
 
 // Whether nobody listens at this address: else it can't be bound.
-fn is_free<R: Host>(rt: &R, addr: SocketAddr) -> bool {
+fn is_free<R: Tcp>(rt: &R, addr: SocketAddr) -> bool {
     TcpListener::bind(rt, addr).is_ok()
 }
 
 // The same, within a number of turns.
-fn gets_free<R: Host>(rt: &R, addr: SocketAddr) -> bool {
+fn gets_free<R: Tcp + Clock>(rt: &R, addr: SocketAddr) -> bool {
     for _ in 0..TURNS {
         if is_free(rt, addr) {
             return true;

@@ -16,6 +16,8 @@ mod roster;
 #[cfg(test)]
 mod same;
 #[cfg(test)]
+mod script;
+#[cfg(test)]
 mod server;
 #[cfg(test)]
 mod sockets;

@@ -1,9 +1,10 @@
 //! The calls of a server.
 use crate::bench::{
-    DATED, Host, TURNS, assert_clients, assert_reads, assert_responds, connect,
-    one_server_one_client, read_all, receive, send, serve, turn, turns,
+    DATED, Host, TURNS, assert_clients, assert_no_request, one_server_one_client, read_all,
+    receive, send, serve, turn, turns,
 };
 use crate::same::{assert_holds, assert_same, assert_shown};
+use crate::script::{Step, play_each};
 use httpdate::HttpDate;
 use std::alloc::Global;
 use std::io::{ErrorKind, Write};
@@ -112,12 +113,6 @@ fn unblock<R: Host>(rt: &R, server: &Server<R>) {
 fn fault_received<R: Host>(rt: &R, server: &Server<R>) -> ErrorKind {
     let fault = server.recv().err();
     fault.expect(rt, "no request").kind()
-}
-
-// A call that looks for a request finds none.
-fn assert_no_request<R: Host>(rt: &R, server: &Server<R>) {
-    let tried = server.try_recv().expect(rt, "no fault");
-    assert_holds(rt, "try_recv finds no request", tried.is_none());
 }
 
 // A call that waits for so long at most finds none.
@@ -258,43 +253,37 @@ fn each_call_gives_a_request(rt: HostRuntime) {
     assert_each_call_gives(&rt, rt.alloc());
 }
 
-// Two clients come and go.
-fn assert_clients_are_counted<R: Host>(rt: &R, alloc: Global) {
-    let (server, client) = one_server_one_client(rt, alloc);
-    assert_clients(rt, &server, 1);
-    let second = connect(rt, &server);
-    assert_clients(rt, &server, 2);
-    drop(client);
-    assert_clients(rt, &server, 1);
-    drop(second);
-    assert_clients(rt, &server, 0);
-}
+const CLIENTS: [&[Step]; 2] = [
+    // Two clients come and go.
+    &[
+        Step::Clients(1),
+        Step::Come,
+        Step::Clients(2),
+        Step::Leave,
+        Step::Clients(1),
+        Step::Leave,
+        Step::Clients(0),
+    ],
+    // A client whose last request isn't answered counts.
+    &[
+        Step::Send("GET / HTTP/1.1\r\nConnection: close\r\n\r\n"),
+        Step::Receive("/"),
+        Step::Turns(20),
+        Step::ClientsNow(1),
+        Step::Respond("a"),
+        Step::Rest(&[
+            "HTTP/1.1 200 OK\r\n",
+            DATED,
+            "Content-Type: text/plain; charset=UTF-8\r\nContent-Length: 1\r\n\r\na",
+        ]),
+        Step::Leave,
+        Step::Clients(0),
+    ],
+];
 
 #[test]
 fn clients_are_counted(rt: HostRuntime) {
-    assert_clients_are_counted(&rt, rt.alloc());
-}
-
-// A client whose last request isn't answered counts.
-fn assert_unanswered_counts<R: Host>(rt: &R, alloc: Global) {
-    let (server, mut client) = one_server_one_client(rt, alloc);
-    send(
-        rt,
-        &mut client,
-        "GET / HTTP/1.1\r\nConnection: close\r\n\r\n",
-    );
-    let request = receive(rt, &server);
-    turns(rt, 20);
-    assert_same(rt, server.num_connections(), 1);
-    assert_responds(rt, alloc, request, "a");
-    read_all(rt, alloc, &mut client);
-    drop(client);
-    assert_clients(rt, &server, 0);
-}
-
-#[test]
-fn a_client_counts_until_it_is_answered(rt: HostRuntime) {
-    assert_unanswered_counts(&rt, rt.alloc());
+    play_each(&rt, rt.alloc(), &CLIENTS);
 }
 
 // A server whose socket doesn't wait: it has no client to give.
@@ -339,27 +328,6 @@ fn assert_fault_is_reported_once<R: Host>(rt: &R, alloc: Global) {
 #[test]
 fn a_fault_of_accepting_is_reported_once(rt: HostRuntime) {
     assert_fault_is_reported_once(&rt, rt.alloc());
-}
-
-// A request is answered after its server was dropped.
-fn assert_request_outlives<R: Host>(rt: &R, alloc: Global) {
-    let (server, mut client) = one_server_one_client(rt, alloc);
-    send(
-        rt,
-        &mut client,
-        "GET / HTTP/1.1\r\nConnection: close\r\n\r\n",
-    );
-    let request = receive(rt, &server);
-    drop(server);
-    assert_responds(rt, alloc, request, "a");
-    let rest = "Content-Type: text/plain; charset=UTF-8\r\nContent-Length: 1\r\n\r\na";
-    let wanted = ["HTTP/1.1 200 OK\r\n", DATED, rest];
-    assert_reads(rt, alloc, &mut client, &wanted);
-}
-
-#[test]
-fn a_request_outlives_its_server(rt: HostRuntime) {
-    assert_request_outlives(&rt, rt.alloc());
 }
 
 // A clock that stands at a time since 1970, or can't be read.

@@ -1,10 +1,10 @@
 //! Halves of a connection.
-use crate::bench::{DATED, Host, assert_reads, assert_responds, send};
+use crate::bench::{DATED, Host, Tcp, assert_reads, assert_responds, send};
 use crate::same::{assert_holds, assert_same, assert_shown};
 use std::alloc::Global;
 use std::io;
 use std::io::{ErrorKind, Read, Write};
-use std::net::{SocketAddr, TcpListener, TcpStream};
+use std::net::{Net, SocketAddr, TcpListener, TcpStream};
 use std::os::unix::net::UnixStream;
 use std::process::Abort;
 use std::time::Duration;
@@ -56,7 +56,7 @@ fn assert_broken(rt: &impl Abort, written: io::Result<usize>) {
 }
 
 // The halves of a connection are dropped, the writing one first.
-fn assert_halves_close_alone<R: Host>(rt: &R, alloc: Global) {
+fn assert_halves_close_alone<R: Net + Abort>(rt: &R, alloc: Global) {
     let (ours, mut theirs) = UnixStream::pair(rt).expect(rt, "a pair");
     let (mut reader, mut writer) = halves_of(rt, alloc, ours);
     assert_holds(rt, "it is without TLS", !reader.secure());
@@ -78,7 +78,7 @@ fn a_half_closes_its_direction_alone(rt: HostRuntime) {
 }
 
 // The reading half of a connection is dropped first.
-fn assert_reading_half_closes_alone<R: Host>(rt: &R, alloc: Global) {
+fn assert_reading_half_closes_alone<R: Net + Abort>(rt: &R, alloc: Global) {
     let (ours, mut theirs) = UnixStream::pair(rt).expect(rt, "a pair");
     let (reader, mut writer) = halves_of(rt, alloc, ours);
     drop(reader);
@@ -94,7 +94,7 @@ fn the_reading_half_closes_its_direction_alone(rt: HostRuntime) {
 }
 
 // The two ends of a TCP connection.
-fn tcp_pair<R: Host>(rt: &R) -> (TcpStream, TcpStream) {
+fn tcp_pair<R: Tcp>(rt: &R) -> (TcpStream, TcpStream) {
     let listener = TcpListener::bind(rt, "127.0.0.1:0").expect(rt, "a listener");
     let addr = listener.local_addr().expect(rt, "an address");
     let theirs = TcpStream::connect(rt, addr).expect(rt, "a client");
@@ -214,7 +214,7 @@ fn a_client_over_tcp_has_an_address(rt: HostRuntime) {
 }
 
 // A half whose connection has ended counts its failures.
-fn assert_failures<R: Host>(rt: &R, alloc: Global) {
+fn assert_failures<R: Net + Abort>(rt: &R, alloc: Global) {
     let (ours, theirs) = UnixStream::pair(rt).expect(rt, "a pair");
     let (_, mut writer) = halves_of(rt, alloc, ours);
     drop(theirs);

@@ -2,9 +2,11 @@
 use crate::same::assert_same;
 use case_files::case::Case;
 use case_files::devices::{Pieces, Trier};
+use case_files::fault::FilesFault;
 use case_files::outcome::{Outcome, Trial, first_difference};
-use case_files::reading::{CaseFault, read_cases};
-use case_files::report::{Runner, file_of, try_files};
+use case_files::program::NamedFile;
+use case_files::reading::read_cases;
+use case_files::report::{Runner, files_of, try_files};
 use case_files::steps::StepsFault;
 use std::alloc::Global;
 use std::io::{ErrorKind, Write};
@@ -103,8 +105,12 @@ const BAD: &[(&str, usize, &str)] = &[
 #[test]
 fn lines_that_are_not_of_the_format(rt: HostRuntime) -> Result<(), Fail> {
     for (file, number, why) in BAD {
-        let fault = read_cases(rt.alloc(), file.as_bytes()).err();
-        assert_same(&rt, fault, Some(CaseFault::BadLine(*number, why)));
+        let fault = read_cases(rt.alloc(), "a.cases", file.as_bytes()).err();
+        assert_same(
+            &rt,
+            fault,
+            Some(FilesFault::BadLine("a.cases", *number, why)),
+        );
     }
     Ok(())
 }
@@ -245,7 +251,9 @@ const DIFFERENCES: &[(Found, bool, &str)] = &[
 
 // What differs first in this outcome of the case; nothing where none does.
 fn difference_of(alloc: Global, found: Found, is_made_to_fail: bool) -> Result<String, Fail> {
-    let cases = read_cases(alloc, CASE.as_bytes())?;
+    let Ok(cases) = read_cases(alloc, "a.cases", CASE.as_bytes()) else {
+        return Err("no case".into());
+    };
     let outcome = found.outcome(alloc)?;
     let Some(case) = cases.first() else {
         return Err("no case".into());
@@ -293,13 +301,15 @@ fn assert_report(
     (one, other): (Found, Found),
     wanted: &str,
 ) -> Result<(), Fail> {
-    let Ok(file) = file_of(alloc, "a.cases", CASE.as_bytes()) else {
+    let name = "a.cases";
+    let bytes = CASE.as_bytes().to_vec(alloc)?;
+    let Ok(files) = files_of(alloc, &[NamedFile { name, bytes }]) else {
         return Err("no file of cases".into());
     };
     let mut out = Vec::new(alloc);
     let mut first = Fixed(one);
     let mut second = Fixed(other);
-    let Ok(_) = try_files(alloc, (&mut first, &mut second), &mut out, &[file]) else {
+    let Ok(_) = try_files(alloc, (&mut first, &mut second), &mut out, files.as_slice()) else {
         return Err("no report".into());
     };
     assert_same(rt, str::from_utf8(out.as_slice())?, wanted);

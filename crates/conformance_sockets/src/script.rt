@@ -1,0 +1,184 @@
+//! What a server and its clients do one after another, as data.
+use crate::bench::{
+    Host, assert_body, assert_body_of, assert_clients, assert_no_request, assert_reads,
+    assert_reads_next, assert_responds, assert_responds_empty, connect, end_sending, receive, send,
+    send_body, serve, turns,
+};
+use crate::same::{assert_holds, assert_same};
+use std::alloc::Global;
+use std::collections::VecDeque;
+use std::net::{Net, TcpStream};
+use std::sync::Wait;
+use tiny_http::common::{Header, Method};
+use tiny_http::connection::SocketFiles;
+use tiny_http::response::Response;
+use tiny_http::server::{Server, ServerRequest, current_date};
+
+/// A step of the client that stands first, or of the server.
+#[derive(Clone, Copy)]
+pub enum Step {
+    /// The client sends this text.
+    Send(&'static str),
+    /// It sends so many bytes of a body.
+    SendBody(usize),
+    /// It sends no more.
+    End,
+    /// Its small pieces are sent at once.
+    NoDelay,
+    /// The next bytes that it gets are these, but for the date, of which there is one.
+    Next(&'static [&'static str]),
+    /// It gets just this, but for the dates, and then the end.
+    Rest(&'static [&'static str]),
+    /// It goes, and the next one stands first.
+    Leave,
+    /// One more client comes, and stands last.
+    Come,
+    /// So many short waits.
+    Turns(u8),
+    /// So many clients are connected, within a number of turns.
+    Clients(usize),
+    /// So many clients are connected at once.
+    ClientsNow(usize),
+    /// The server receives a request for this path.
+    Receive(&'static str),
+    /// The request is a `GET` of the client's address, without TLS.
+    IsPlain,
+    /// The body of the request is this.
+    Body(&'static str),
+    /// The body of the request is so many bytes.
+    BodyOf(usize),
+    /// The first request is answered by this text.
+    Respond(&'static str),
+    /// The first request is answered by this status, and by no body.
+    RespondEmpty(u16),
+    /// The first request is answered by JSON.
+    RespondJson,
+    /// The first request is dropped.
+    Drop,
+    /// No request is left.
+    NoRequest,
+    /// The server is dropped.
+    Close,
+}
+
+/// A server, its clients, and its requests that aren't answered yet.
+#[derive(Drop)]
+pub struct Stage<R: Net + SocketFiles + Wait + Drop> {
+    server: Option<Server<R>>,
+    clients: VecDeque<TcpStream>,
+    requests: VecDeque<ServerRequest<R>>,
+}
+
+/// A server and a client of it.
+pub fn stage_of<R: Host>(rt: &R, alloc: Global) -> Stage<R> {
+    let mut stage = Stage {
+        server: Some(serve(rt, alloc)),
+        clients: VecDeque::new(alloc),
+        requests: VecDeque::new(alloc),
+    };
+    come(rt, &mut stage);
+    stage
+}
+
+// The server.
+fn server_of<'a, R: Host>(rt: &R, stage: &'a Stage<R>) -> &'a Server<R> {
+    stage.server.as_ref().expect(rt, "a server")
+}
+
+// The client that stands first.
+fn client_of<'a, R: Host>(rt: &R, stage: &'a mut Stage<R>) -> &'a mut TcpStream {
+    stage.clients.front_mut().expect(rt, "a client")
+}
+
+// The request that was received last.
+fn request_of<'a, R: Host>(rt: &R, stage: &'a mut Stage<R>) -> &'a mut ServerRequest<R> {
+    stage.requests.back_mut().expect(rt, "a request")
+}
+
+// Takes the first request.
+fn take_request<R: Host>(rt: &R, stage: &mut Stage<R>) -> ServerRequest<R> {
+    stage.requests.pop_front().expect(rt, "a request")
+}
+
+// One more client comes.
+fn come<R: Host>(rt: &R, stage: &mut Stage<R>) {
+    let client = connect(rt, server_of(rt, stage));
+    stage.clients.push_back(client).ok().expect(rt, "memory");
+}
+
+// A request for this path is received.
+fn keep_request<R: Host>(rt: &R, stage: &mut Stage<R>, path: &str) {
+    let request = receive(rt, server_of(rt, stage));
+    assert_same(rt, request.url(), path);
+    stage.requests.push_back(request).ok().expect(rt, "memory");
+}
+
+// The request that was received last is a `GET` of the client's address, without TLS.
+fn assert_plain<R: Host>(rt: &R, stage: &mut Stage<R>) {
+    let from = client_of(rt, stage).local_addr().expect(rt, "an address");
+    let request = request_of(rt, stage);
+    assert_same(rt, request.method(), &Method::Get);
+    assert_holds(rt, "it comes without TLS", !request.secure());
+    assert_same(rt, request.remote_addr(), Some(&from));
+}
+
+// A request is answered by JSON.
+fn respond_json<R: Host>(rt: &R, alloc: Global, request: ServerRequest<R>) {
+    let header = Header::from_str(alloc, "Content-Type: application/json");
+    let body = String::from_str(alloc, "{\"custom\": \"Content-Type\"}").expect(rt, "memory");
+    let response = Response::from_string(alloc, body).expect(rt, "memory");
+    let response = response.with_header(header.ok().expect(rt, "a header"));
+    let sent = request.respond(response.ok().expect(rt, "memory"), current_date(rt));
+    sent.expect(rt, "it is sent");
+}
+
+// One step of the client that stands first, or of the server.
+fn act<R: Host>(rt: &R, alloc: Global, stage: &mut Stage<R>, step: Step) {
+    match step {
+        Step::Send(text) => send(rt, client_of(rt, stage), text),
+        Step::SendBody(length) => send_body(rt, alloc, client_of(rt, stage), length),
+        Step::End => end_sending(rt, client_of(rt, stage)),
+        Step::NoDelay => client_of(rt, stage)
+            .set_nodelay(true)
+            .expect(rt, "no delay"),
+        Step::Next(wanted) => assert_reads_next(rt, alloc, client_of(rt, stage), wanted),
+        Step::Rest(wanted) => assert_reads(rt, alloc, client_of(rt, stage), wanted),
+        Step::Leave => drop(stage.clients.pop_front()),
+        Step::Come => come(rt, stage),
+        Step::Turns(count) => turns(rt, count),
+        Step::Clients(count) => assert_clients(rt, server_of(rt, stage), count),
+        Step::ClientsNow(count) => assert_same(rt, server_of(rt, stage).num_connections(), count),
+        Step::Receive(path) => keep_request(rt, stage, path),
+        Step::IsPlain => assert_plain(rt, stage),
+        Step::Body(wanted) => assert_body(rt, alloc, request_of(rt, stage), wanted.as_bytes()),
+        Step::BodyOf(length) => assert_body_of(rt, alloc, request_of(rt, stage), length),
+        Step::Respond(text) => assert_responds(rt, alloc, take_request(rt, stage), text),
+        Step::RespondEmpty(status) => {
+            assert_responds_empty(rt, alloc, take_request(rt, stage), status)
+        }
+        Step::RespondJson => respond_json(rt, alloc, take_request(rt, stage)),
+        Step::Drop => drop(take_request(rt, stage)),
+        Step::NoRequest => assert_no_request(rt, server_of(rt, stage)),
+        Step::Close => stage.server = None,
+    }
+}
+
+/// Steps one after another.
+pub fn act_all<R: Host>(rt: &R, alloc: Global, stage: &mut Stage<R>, steps: &[Step]) {
+    for step in steps {
+        act(rt, alloc, stage, *step);
+    }
+}
+
+/// These steps of a server and a client of it.
+pub fn play<R: Host>(rt: &R, alloc: Global, steps: &[Step]) {
+    let mut stage = stage_of(rt, alloc);
+    act_all(rt, alloc, &mut stage, steps);
+}
+
+/// Each row of steps, of a server of its own.
+pub fn play_each<R: Host>(rt: &R, alloc: Global, rows: &[&[Step]]) {
+    for steps in rows {
+        play(rt, alloc, steps);
+    }
+}
