@@ -53,6 +53,14 @@ impl CaseStep {
         }
     }
 
+    /// Whether it asks for the next request.
+    pub fn is_ask(&self) -> bool {
+        match &self.deed {
+            Deed::Answer(_) => false,
+            Deed::Script(line) => line.as_str() == "ask",
+        }
+    }
+
     /// Whether it answers a request by a response.
     pub fn is_answer(&self) -> bool {
         match &self.deed {
@@ -82,6 +90,8 @@ pub struct Case {
     pub stop: Option<ErrorKind>,
     /// Where the writer fails, if it doesn't take all.
     pub room: Option<Room>,
+    /// How many of the client's bytes are replaced by each value in turn.
+    pub varied: Option<usize>,
     pub steps: Vec<CaseStep>,
     /// What is sent, and then held back.
     pub output: Vec<u8>,

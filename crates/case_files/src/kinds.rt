@@ -33,3 +33,11 @@ pub fn kind_of(name: &str) -> Option<ErrorKind> {
     }
     None
 }
+
+/// The kind at this place, where they follow one another in turn without end.
+pub fn kind_at(place: usize) -> ErrorKind {
+    match KINDS.get(place % KINDS.len()) {
+        Some((_, kind)) => *kind,
+        None => ErrorKind::Other,
+    }
+}

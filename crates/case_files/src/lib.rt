@@ -6,11 +6,14 @@
 pub mod case;
 pub mod devices;
 pub mod fault;
+pub mod front;
 pub mod kinds;
 pub mod outcome;
+pub mod plain;
 pub mod program;
 pub mod reading;
 pub mod replies;
 pub mod report;
 pub mod steps;
 pub mod text;
+pub mod trial;

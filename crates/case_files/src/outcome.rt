@@ -1,19 +1,7 @@
 //! What comes of a trial of a case, and where it differs from what the case says.
 use crate::case::{Case, CaseStep};
-use crate::devices::{Pieces, Trier};
 use crate::text::shown;
 use std::alloc::{AllocError, Global};
-use std::io::ErrorKind;
-use tiny_http_wire::device::Canned;
-
-/// How a case is tried.
-#[derive(Clone, Copy, Debug, PartialEq, Eq)]
-pub struct Trial {
-    /// The most bytes that a call of the reader gives.
-    pub piece: usize,
-    /// The call of the writer that fails, counted from 1, if one does.
-    pub failing: Option<u64>,
-}
 
 /// What came of a trial.
 #[derive(Drop)]
@@ -32,26 +20,6 @@ pub struct Outcome {
     pub end: Option<Vec<u8>>,
 }
 
-/// The kind by which a call of the writer is made to fail: that by which much code tries again.
-pub const FAILING: ErrorKind = ErrorKind::Interrupted;
-
-impl Trial {
-    /// The reader of this trial.
-    pub fn reader(&self, alloc: Global, case: &Case) -> Result<Pieces, AllocError> {
-        let client = Canned::new(case.client.as_slice().to_vec(alloc)?, case.stop);
-        Ok(Pieces::new(client, self.piece))
-    }
-
-    /// The writer of this trial.
-    pub fn writer(&self, alloc: Global, case: &Case) -> Trier {
-        match (self.failing, case.room) {
-            (Some(call), _) => Trier::failing_at(alloc, call, FAILING),
-            (None, Some(room)) => Trier::with_room(alloc, room.bytes, room.fault),
-            (None, None) => Trier::with_room(alloc, usize::MAX, ErrorKind::Other),
-        }
-    }
-}
-
 /// Where an outcome first differs from its case: what differs, what was found, and what the case says.
 #[derive(Drop)]
 pub struct Difference {
@@ -60,8 +28,8 @@ pub struct Difference {
     pub wanted: String,
 }
 
-// Such a difference, of bytes.
-fn differing(
+/// Such a difference, of bytes.
+pub fn differing(
     alloc: Global,
     what: String,
     found: &[u8],
@@ -120,8 +88,8 @@ fn replies_differ(
     }
 }
 
-// A count that differs.
-fn count_differs(
+/// A count that differs.
+pub fn count_differs(
     alloc: Global,
     what: &str,
     found: u64,
@@ -146,8 +114,8 @@ fn first_place(found: &[u8], wanted: &[u8]) -> usize {
         .unwrap_or(found.len().min(wanted.len()))
 }
 
-// The output, where it differs: from where on, and both texts from there.
-fn output_differs(
+/// The output, where it differs: from where on, and both texts from there. A front may be enough.
+pub fn output_differs(
     alloc: Global,
     found: &[u8],
     wanted: &[u8],

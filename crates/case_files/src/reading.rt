@@ -26,6 +26,7 @@ fn begin(alloc: Global, cases: &mut Vec<Case>, name: &str) -> Result<(), LineFau
         client: Vec::new(alloc),
         stop: None,
         room: None,
+        varied: None,
         steps: Vec::new(alloc),
         output: Vec::new(alloc),
         end: None,
@@ -192,8 +193,12 @@ fn add_line(alloc: Global, case: &mut Case, text: &str) -> Result<(), LineFault>
             None => return Err(NO_KIND),
         },
         "takes" if case.room.is_none() => case.room = Some(room_in(words)?),
+        "vary" if case.varied.is_none() => match number_in(words) {
+            Some(count) => case.varied = Some(count),
+            None => return Err(NO_NUMBER),
+        },
         "end" if case.end.is_none() => case.end = Some(text_of(alloc, words)?),
-        "stop" | "takes" | "end" => return Err(LineFault::Bad("the case says so already")),
+        "stop" | "takes" | "vary" | "end" => return Err(LineFault::Bad("the case says so already")),
         "answer" => {
             let answer = answer_in(alloc, words)?;
             add_step(case, Deed::Answer(answer), Vec::new(alloc), false)?;

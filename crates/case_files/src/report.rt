@@ -1,18 +1,24 @@
 //! Tries the cases of files, and reports those that differ.
 use crate::case::Case;
 use crate::fault::FilesFault;
-use crate::outcome::{Difference, Outcome, Trial, first_difference};
+use crate::front::{cut_difference, plain_difference};
+use crate::kinds::kind_at;
+use crate::outcome::{Difference, Outcome, first_difference};
 use crate::program::NamedFile;
 use crate::reading::read_cases;
 use crate::steps::StepsFault;
+use crate::trial::{Harm, Trial};
 use std::alloc::{AllocError, Global};
 use std::io;
-use std::io::Write;
+use std::io::{ErrorKind, Write};
 
 /// A way to run the steps of a case.
 pub trait Runner {
     /// How the lines of a report say that a case was run in this way.
     fn how(&self) -> &'static str;
+
+    /// Whether it says the number of a request by itself, and doesn't take it from the case.
+    fn knows_numbers(&self) -> bool;
 
     /// Whether the case is one that this way can run.
     fn takes(&self, case: &Case) -> bool;
@@ -46,8 +52,25 @@ pub fn files_of<'a>(
 #[derive(Clone, Copy, Debug, PartialEq, Eq)]
 pub struct Tally {
     pub cases: u64,
+    /// Runs of whole cases.
     pub runs: u64,
+    /// Runs in which the client's bytes were cut.
+    pub cuts: u64,
+    /// Runs in which one of the client's bytes was replaced.
+    pub changes: u64,
     pub differing: u64,
+}
+
+impl Tally {
+    // Counts a run.
+    fn count(&mut self, trial: Trial) {
+        let count = match trial.harm {
+            None | Some(Harm::Call(_)) => &mut self.runs,
+            Some(Harm::Cut(..)) => &mut self.cuts,
+            Some(Harm::Byte(..)) => &mut self.changes,
+        };
+        *count = count.saturating_add(1);
+    }
 }
 
 /// The most bytes of a call of the readers that each case is tried with.
@@ -55,6 +78,24 @@ pub const PIECES: [usize; 4] = [1, 2, 1023, 1024];
 
 // The most calls of the writer that are made to fail.
 const MOST_CALLS: u64 = 10_000;
+
+// Where the outcome of a trial differs from what it should be.
+fn difference_of(
+    alloc: Global,
+    case: &Case,
+    outcome: &Outcome,
+    trial: Trial,
+) -> Result<Option<Difference>, AllocError> {
+    match trial.harm {
+        None => first_difference(alloc, case, outcome, false),
+        Some(Harm::Call(_)) => first_difference(alloc, case, outcome, true),
+        Some(Harm::Cut(_, stop)) => cut_difference(alloc, case, outcome, stop),
+        Some(Harm::Byte(..)) => {
+            let client = trial.client(alloc, case)?;
+            plain_difference(alloc, case, outcome, client.as_slice())
+        }
+    }
+}
 
 // Reports a difference by a line.
 fn report<O: Write>(
@@ -64,20 +105,13 @@ fn report<O: Write>(
     difference: &Difference,
 ) -> io::Result<()> {
     let name = case.name.as_str();
-    let piece = trial.piece;
     let what = difference.what.as_str();
     let found = difference.found.as_str();
     let wanted = difference.wanted.as_str();
-    match trial.failing {
-        Some(call) => writeln!(
-            out,
-            "{name}{how}, {piece} bytes a read, call {call} failing: {what} is {found} and not {wanted}"
-        ),
-        None => writeln!(
-            out,
-            "{name}{how}, {piece} bytes a read: {what} is {found} and not {wanted}"
-        ),
-    }
+    writeln!(
+        out,
+        "{name}{how}, {trial}: {what} is {found} and not {wanted}"
+    )
 }
 
 // Tries a case once, and says whether a call of the writer failed that was made to.
@@ -91,15 +125,14 @@ fn try_once<'a, F: Runner, O: Write>(
     let Ok(outcome) = runner.run(alloc, case, trial) else {
         return Err(FilesFault::OutOfMemory);
     };
-    tally.runs = tally.runs.saturating_add(1);
-    let is_made_to_fail = trial.failing.is_some();
-    if let Some(difference) = first_difference(alloc, case, &outcome, is_made_to_fail)? {
+    tally.count(trial);
+    if let Some(difference) = difference_of(alloc, case, &outcome, trial)? {
         tally.differing = tally.differing.saturating_add(1);
         if report(out, (case, runner.how()), trial, &difference).is_err() {
             return Err(FilesFault::CannotWrite);
         }
     }
-    Ok(is_made_to_fail && outcome.has_failed)
+    Ok(outcome.has_failed)
 }
 
 // Tries a case with each call of the writer failing, until none fails.
@@ -110,10 +143,7 @@ fn try_failing<'a, F: Runner, O: Write>(
     tally: &mut Tally,
 ) -> Result<(), FilesFault<'a>> {
     for call in 1..=MOST_CALLS {
-        let trial = Trial {
-            piece: 1024,
-            failing: Some(call),
-        };
+        let trial = Trial::harmed(Harm::Call(call));
         if !try_once((alloc, &mut *runner), out, case, trial, tally)? {
             return Ok(());
         }
@@ -130,7 +160,62 @@ fn try_failing<'a, F: Runner, O: Write>(
     }
 }
 
-// Tries a case by each reader, and with each call of the writer failing.
+// Whether the bytes of a client are cut behind this many: at each place, but of a long one in its middle, where it is at some.
+fn is_cut_at(count: usize, length: usize) -> bool {
+    count < 1200 || length - count <= 50 || count % 997 == 0
+}
+
+// Tries a case with the client's bytes cut, by an end, by a time-out, and by the other kinds of fault in turn.
+fn try_cuts<'a, F: Runner, O: Write>(
+    (alloc, runner): (Global, &mut F),
+    out: &mut O,
+    case: &Case,
+    tally: &mut Tally,
+) -> Result<(), FilesFault<'a>> {
+    let length = case.client.len();
+    for count in (0..length).filter(|count| is_cut_at(*count, length)) {
+        for stop in [None, Some(ErrorKind::TimedOut), Some(kind_at(count))] {
+            let trial = Trial::harmed(Harm::Cut(count, stop));
+            try_once((alloc, &mut *runner), out, case, trial, tally)?;
+        }
+    }
+    Ok(())
+}
+
+// Tries a case with each of its first bytes replaced by each value.
+fn try_bytes<'a, F: Runner, O: Write>(
+    (alloc, runner): (Global, &mut F),
+    out: &mut O,
+    case: &Case,
+    tally: &mut Tally,
+) -> Result<(), FilesFault<'a>> {
+    for place in 0..case.varied.unwrap_or(0) {
+        for byte in 0..=u8::MAX {
+            let trial = Trial::harmed(Harm::Byte(place, byte));
+            try_once((alloc, &mut *runner), out, case, trial, tally)?;
+        }
+    }
+    Ok(())
+}
+
+// Tries a case by each reader, and with each call of the writer failing. Whether it is as it should be.
+fn try_whole<'a, F: Runner, O: Write>(
+    (alloc, runner): (Global, &mut F),
+    out: &mut O,
+    case: &Case,
+    tally: &mut Tally,
+) -> Result<(), FilesFault<'a>> {
+    for piece in PIECES {
+        let trial = Trial { piece, harm: None };
+        try_once((alloc, &mut *runner), out, case, trial, tally)?;
+    }
+    match case.room {
+        Some(_) => Ok(()),
+        None => try_failing((alloc, runner), out, case, tally),
+    }
+}
+
+// Tries a case in each way; with other bytes of the client where the whole ones give what they should.
 fn try_case<'a, F: Runner, O: Write>(
     (alloc, runner): (Global, &mut F),
     out: &mut O,
@@ -138,17 +223,16 @@ fn try_case<'a, F: Runner, O: Write>(
     tally: &mut Tally,
 ) -> Result<(), FilesFault<'a>> {
     tally.cases = tally.cases.saturating_add(1);
-    for piece in PIECES {
-        let trial = Trial {
-            piece,
-            failing: None,
-        };
-        try_once((alloc, &mut *runner), out, case, trial, tally)?;
-    }
-    if case.room.is_some() {
+    let before = tally.differing;
+    try_whole((alloc, &mut *runner), out, case, tally)?;
+    if tally.differing > before || case.room.is_some() {
         return Ok(());
     }
-    try_failing((alloc, runner), out, case, tally)
+    try_cuts((alloc, &mut *runner), out, case, tally)?;
+    match runner.knows_numbers() {
+        true => try_bytes((alloc, runner), out, case, tally),
+        false => Ok(()),
+    }
 }
 
 // Tries the cases of a file that the runner takes, but for those at the left out places, and reports each run that differs by
@@ -162,6 +246,8 @@ fn try_cases<'a, F: Runner, O: Write>(
     let mut tally = Tally {
         cases: 0,
         runs: 0,
+        cuts: 0,
+        changes: 0,
         differing: 0,
     };
     let mut places = Vec::new(alloc);
@@ -191,12 +277,14 @@ pub fn try_file<'a, F: Runner, O: Write>(
     let Tally {
         cases,
         runs,
+        cuts,
+        changes,
         differing,
     } = tally;
     let how = runner.how();
     if writeln!(
         out,
-        "{name}: {cases} cases, {runs} runs{how}, {differing} differ"
+        "{name}: {cases} cases, {runs} runs{how}, {cuts} cuts, {changes} changes, {differing} differ"
     )
     .is_err()
     {

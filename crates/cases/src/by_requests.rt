@@ -3,9 +3,10 @@ use crate::holding::Holding;
 use crate::shared::Shared;
 use crate::treating::treat;
 use case_files::case::Case;
-use case_files::outcome::{Outcome, Trial};
+use case_files::outcome::Outcome;
 use case_files::report::Runner;
 use case_files::steps::{StepsFault, steps_of};
+use case_files::trial::Trial;
 use std::alloc::{AllocError, Global};
 use std::sync::{Arc, Mutex, Wait};
 use tiny_http_request::client::ClientConnection;
@@ -27,6 +28,11 @@ impl<R> ByRequests<R> {
 impl<R: Wait + Copy> Runner for ByRequests<R> {
     fn how(&self) -> &'static str {
         " by requests"
+    }
+
+    /// A request doesn't say its number.
+    fn knows_numbers(&self) -> bool {
+        false
     }
 
     /// In one thread no call waits: a case with a step that is put off is left out.

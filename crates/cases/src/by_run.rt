@@ -1,9 +1,10 @@
 //! The cases by `run`.
 use case_files::case::Case;
-use case_files::outcome::{Outcome, Trial};
+use case_files::outcome::Outcome;
 use case_files::replies::{end_words, reply_line};
 use case_files::report::Runner;
 use case_files::steps::{StepsFault, steps_of};
+use case_files::trial::Trial;
 use std::alloc::{AllocError, Global};
 use tiny_http_core::driver::{Connection, Reply, run};
 use tiny_http_wire::device::{Metered, WriteDevice};
@@ -38,6 +39,10 @@ fn end_of(alloc: Global, case: &Case, trial: Trial) -> Result<Option<Vec<u8>>, S
 impl Runner for ByRun {
     fn how(&self) -> &'static str {
         ""
+    }
+
+    fn knows_numbers(&self) -> bool {
+        true
     }
 
     /// `run` takes all steps.

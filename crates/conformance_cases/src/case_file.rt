@@ -3,11 +3,12 @@ use crate::same::assert_same;
 use case_files::case::Case;
 use case_files::devices::{Pieces, Trier};
 use case_files::fault::FilesFault;
-use case_files::outcome::{Outcome, Trial, first_difference};
+use case_files::outcome::{Outcome, first_difference};
 use case_files::program::NamedFile;
 use case_files::reading::read_cases;
 use case_files::report::{Runner, files_of, try_files};
 use case_files::steps::StepsFault;
+use case_files::trial::Trial;
 use std::alloc::Global;
 use std::io::{ErrorKind, Write};
 use std::process::Abort;
@@ -283,6 +284,10 @@ struct Fixed(Found);
 impl Runner for Fixed {
     fn how(&self) -> &'static str {
         ""
+    }
+
+    fn knows_numbers(&self) -> bool {
+        true
     }
 
     fn takes(&self, _case: &Case) -> bool {

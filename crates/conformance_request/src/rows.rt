@@ -79,11 +79,20 @@ fn empty(alloc: Global, code: u16) -> Response<Canned> {
     Response::empty(alloc, StatusCode(code)).with_data(data, Some(0))
 }
 
-// Writes by a raw writer and flushes, in the turn of the request. It counts that it is about to.
-fn write_later<R: Wait + Clock + Copy>(request: Asked<R>, words: &str, begun: &AtomicU64) -> bool {
+// Bytes of which an outlet holds one piece and not two.
+const A: &[u8] = &[b'a'; 600];
+
+const B: &[u8] = &[b'b'; 600];
+
+// Writes twice by a raw writer and flushes, in the turn of the request. It counts that it is about to.
+fn write_later<R: Wait + Clock + Copy>(
+    request: Asked<R>,
+    bytes: &'static [u8],
+    begun: &AtomicU64,
+) -> bool {
     let mut writer = request.into_writer();
     begun.fetch_add(1, Ordering::SeqCst);
-    let is_written = writer.write_all(words.as_bytes()).is_ok();
+    let is_written = writer.write_all(bytes).is_ok() && writer.write_all(bytes).is_ok();
     is_written && writer.flush().is_ok()
 }
 
@@ -95,13 +104,14 @@ fn raw_writers_wait_for_their_turns(rt: HostRuntime) -> Result<(), Fail> {
     let second = next(&mut bench)?;
     let begun = Arc::new(alloc, AtomicU64::new(0))?;
     let counted = Arc::try_clone(&begun)?;
-    let later = thread::spawn(&rt, move || write_later(second, "b", &counted));
+    let later = thread::spawn(&rt, move || write_later(second, B, &counted));
     let later = later.map_err(|_| "no thread")?;
     assert!(rt; is_about_to_call(&rt, &begun));
     assert_output(&rt, alloc, &bench.output, &[])?;
-    assert!(rt; write_later(first, "a", &begun));
+    assert!(rt; write_later(first, A, &begun));
     assert!(rt; later.join(&rt));
-    assert_output(&rt, alloc, &bench.output, &["ab"])
+    let (a, b) = (str::from_utf8(A)?, str::from_utf8(B)?);
+    assert_output(&rt, alloc, &bench.output, &[a, a, b, b])
 }
 
 // A counted body of more bytes than are read with a head, and a request after it.

@@ -1,12 +1,12 @@
 //! How connections end: while bytes of the client are unread, and after their server.
 use crate::bench::{
-    DATED, Host, TURNS, Tcp, one_server_one_client, read_once, receive, send, send_body, serve,
-    turn, turns,
+    DATED, Host, TURNS, Tcp, assert_responds_empty, one_server_one_client, read_once, receive,
+    send, send_body, serve, turn, turns,
 };
 use crate::same::assert_holds;
-use crate::script::{Step, play};
+use crate::script::{Step, play, play_each};
 use std::alloc::Global;
-use std::io::Read;
+use std::io::{ErrorKind, Read, Write};
 use std::net::{SocketAddr, TcpListener, TcpStream};
 use std::process::Abort;
 use std::time::Clock;
@@ -85,27 +85,121 @@ const DROPPED: &[&str] = &[
     "Content-Length: 0\r\n\r\n",
 ];
 
-// A request that waits in the queue of a server that is dropped is answered 500. A client that sends nothing doesn't keep it
-// from that.
-const WAITING: [Step; 6] = [
-    Step::Come,
-    Step::Send("GET / HTTP/1.1\r\n\r\n"),
-    Step::Clients(2),
-    Step::Turns(50),
-    Step::Close,
-    Step::Next(DROPPED),
+const GET: &str = "GET / HTTP/1.1\r\n\r\n";
+
+// Each request that waits in the queue of a server that is dropped is answered 500. A client that sends nothing doesn't keep
+// them from that.
+const WAITING: [&[Step]; 2] = [
+    &[
+        Step::Come,
+        Step::Send(GET),
+        Step::Clients(2),
+        Step::Turns(50),
+        Step::Close,
+        Step::Next(DROPPED),
+    ],
+    &[
+        Step::Come,
+        Step::Send(GET),
+        Step::Rotate,
+        Step::Send(GET),
+        Step::Clients(2),
+        Step::Turns(50),
+        Step::Close,
+        Step::Next(DROPPED),
+        Step::Rotate,
+        Step::Next(DROPPED),
+    ],
 ];
 
 #[test]
 fn a_waiting_request_is_dropped_with_its_server(rt: HostRuntime) {
-    play(&rt, rt.alloc(), &WAITING);
+    play_each(&rt, rt.alloc(), &WAITING);
+}
+
+const LAST: &str = "GET / HTTP/1.1\r\nConnection: close\r\n\r\n";
+
+const REFUSED: &[&str] = &[
+    "HTTP/1.1 400 Bad Request\r\n",
+    DATED,
+    "Content-Length: 0\r\n\r\n",
+];
+
+// How a connection ends whose last answer was sent.
+const LAST_ANSWERS: [&[Step]; 2] = [
+    // A client that stays open is connected for a while, and then let go.
+    &[
+        Step::Send(LAST),
+        Step::Receive("/"),
+        Step::RespondEmpty(400),
+        Step::Next(REFUSED),
+        Step::Turns(100),
+        Step::ClientsNow(1),
+        Step::Clients(0),
+    ],
+    // A client whose body comes late gets the whole answer.
+    &[
+        Step::Send("POST / HTTP/1.1\r\nConnection: close\r\nContent-Length: 5000\r\n\r\n"),
+        Step::Receive("/"),
+        Step::RespondEmpty(400),
+        Step::Turns(100),
+        Step::SendBody(5000),
+        Step::Turns(20),
+        Step::Rest(REFUSED),
+    ],
+];
+
+#[test]
+fn a_last_answer_is_read_in_peace(rt: HostRuntime) {
+    play_each(&rt, rt.alloc(), &LAST_ANSWERS);
+}
+
+// Whether a client can send so much: 70 MiB.
+fn can_send_on<R: Host>(rt: &R, alloc: Global, client: &mut TcpStream) -> bool {
+    let piece = vec![in alloc; b'A'; 65_536].expect(rt, "memory");
+    (0..1_120u32).all(|_| client.write_all(&piece).is_ok())
+}
+
+// A client that sends on after its last answer is cut off.
+fn assert_is_cut_off<R: Host>(rt: &R, alloc: Global) {
+    let (server, mut client) = one_server_one_client(rt, alloc);
+    send(rt, &mut client, LAST);
+    assert_responds_empty(rt, alloc, receive(rt, &server), 400);
+    let sends_on = can_send_on(rt, alloc, &mut client);
+    assert_holds(rt, "not all of 70 MiB is taken", !sends_on);
+}
+
+#[test]
+fn a_client_that_sends_on_is_cut_off(rt: HostRuntime) {
+    assert_is_cut_off(&rt, rt.alloc());
+}
+
+// A server is dropped while a request comes. Its client sees an end, whether it gets an answer or not.
+fn assert_sees_an_end<R: Host>(rt: &R, alloc: Global) {
+    let (server, mut client) = one_server_one_client(rt, alloc);
+    send(rt, &mut client, GET);
+    drop(server);
+    let fault = count_all(&mut client).err().map(|fault| fault.kind());
+    assert_holds(
+        rt,
+        "a client waits for no end",
+        fault != Some(ErrorKind::TimedOut),
+    );
+}
+
+// The same again and again, as it differs what comes first.
+#[test]
+fn a_server_is_dropped_while_a_request_comes(rt: HostRuntime) {
+    for _ in 0..300u16 {
+        assert_sees_an_end(&rt, rt.alloc());
+    }
 }
 
 // A request that comes after its server was dropped is answered 500, and its connection ends.
 const LATE: [Step; 4] = [
     Step::Clients(1),
     Step::Close,
-    Step::Send("GET / HTTP/1.1\r\n\r\n"),
+    Step::Send(GET),
     Step::Rest(DROPPED),
 ];
 

@@ -1,12 +1,14 @@
 //! What clients get of a server.
 use crate::bench::{
-    DATED, Host, assert_reads, assert_responds, one_server_one_client, receive, send,
+    DATED, Host, assert_clients, assert_reads, assert_responds, one_server_one_client, receive,
+    send, turns,
 };
 use crate::same::{assert_holds, assert_same};
 use crate::script::{Step, play_each};
 use std::alloc::Global;
 use std::os::unix::net::UnixStream;
 use std::path::{Path, PathBuf};
+use std::process::Abort;
 use std::thread;
 use std::time::Duration;
 use tiny_http::common::Method;
@@ -246,10 +248,15 @@ fn connect_unix<R: Host>(rt: &R, path: Path<'_>) -> UnixStream {
     client
 }
 
+// A path of this process.
+fn unix_path(rt: &impl Abort, alloc: Global, process: u32, of: &str) -> PathBuf {
+    let name = format!(in alloc; "/tmp/tiny-http-{of}-{process}.sock").expect(rt, "memory");
+    PathBuf::from_str(alloc, name.as_str()).expect(rt, "memory")
+}
+
 // A client of a Unix socket of this process is answered.
 fn assert_unix_is_answered<R: Host>(rt: &R, alloc: Global, process: u32) {
-    let name = format!(in alloc; "/tmp/tiny-http-{process}.sock").expect(rt, "memory");
-    let path = PathBuf::from_str(alloc, name.as_str()).expect(rt, "memory");
+    let path = unix_path(rt, alloc, process, "one");
     let server = Server::http_unix(*rt, alloc, path.as_path()).expect(rt, "a server");
     let mut client = connect_unix(rt, path.as_path());
     send(rt, &mut client, LAST);
@@ -260,4 +267,25 @@ fn assert_unix_is_answered<R: Host>(rt: &R, alloc: Global, process: u32) {
 #[test]
 fn a_unix_socket(rt: HostRuntime) {
     assert_unix_is_answered(&rt, rt.alloc(), std::process::id(rt.process()));
+}
+
+// Two clients of a Unix socket have a request each that waits, and their server is dropped.
+fn assert_unix_is_dropped<R: Host>(rt: &R, alloc: Global, process: u32) {
+    let path = unix_path(rt, alloc, process, "two");
+    let server = Server::http_unix(*rt, alloc, path.as_path()).expect(rt, "a server");
+    let mut first = connect_unix(rt, path.as_path());
+    let mut second = connect_unix(rt, path.as_path());
+    send(rt, &mut first, LAST);
+    send(rt, &mut second, LAST);
+    assert_clients(rt, &server, 2);
+    turns(rt, 50);
+    drop(server);
+    let dropped = ["HTTP/1.1 500 Internal Server Error\r\n", DATED, NOTHING];
+    assert_reads(rt, alloc, &mut first, &dropped);
+    assert_reads(rt, alloc, &mut second, &dropped);
+}
+
+#[test]
+fn a_unix_socket_is_dropped(rt: HostRuntime) {
+    assert_unix_is_dropped(&rt, rt.alloc(), std::process::id(rt.process()));
 }

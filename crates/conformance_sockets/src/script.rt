@@ -33,6 +33,8 @@ pub enum Step {
     Leave,
     /// One more client comes, and stands last.
     Come,
+    /// The client that stands first stands last.
+    Rotate,
     /// So many short waits.
     Turns(u8),
     /// So many clients are connected, within a number of turns.
@@ -106,6 +108,12 @@ fn come<R: Host>(rt: &R, stage: &mut Stage<R>) {
     stage.clients.push_back(client).ok().expect(rt, "memory");
 }
 
+// The client that stands first stands last.
+fn rotate<R: Host>(rt: &R, stage: &mut Stage<R>) {
+    let client = stage.clients.pop_front().expect(rt, "a client");
+    stage.clients.push_back(client).ok().expect(rt, "memory");
+}
+
 // A request for this path is received.
 fn keep_request<R: Host>(rt: &R, stage: &mut Stage<R>, path: &str) {
     let request = receive(rt, server_of(rt, stage));
@@ -145,6 +153,7 @@ fn act<R: Host>(rt: &R, alloc: Global, stage: &mut Stage<R>, step: Step) {
         Step::Rest(wanted) => assert_reads(rt, alloc, client_of(rt, stage), wanted),
         Step::Leave => drop(stage.clients.pop_front()),
         Step::Come => come(rt, stage),
+        Step::Rotate => rotate(rt, stage),
         Step::Turns(count) => turns(rt, count),
         Step::Clients(count) => assert_clients(rt, server_of(rt, stage), count),
         Step::ClientsNow(count) => assert_same(rt, server_of(rt, stage).num_connections(), count),

@@ -12,7 +12,7 @@ use tiny_http::client::ClientConnection;
 use tiny_http::connection::{ConfigListenAddr, Connection, ListenAddr, Listener};
 use tiny_http::device::{ReadDevice, WriteDevice};
 use tiny_http::refined_tcp_stream::RefinedTcpStream;
-use tiny_http::server::{ServerRequest, current_date};
+use tiny_http::server::{Server, ServerRequest, current_date};
 
 // The reading and the writing half of a connection.
 type Halves = (RefinedTcpStream, RefinedTcpStream);
@@ -165,11 +165,20 @@ fn assert_binds_second<R: Host>(rt: &R, alloc: Global, first: SocketAddr, second
     assert_holds(rt, "another port is bound", port != first.port());
 }
 
+// Of two addresses a server listens at the second, as the first is taken.
+fn assert_serves_second<R: Host>(rt: &R, alloc: Global, both: &[SocketAddr]) {
+    let server = Server::http(*rt, alloc, both).expect(rt, "a server");
+    let addr = server.server_addr().to_ip().expect(rt, "an address of TCP");
+    assert_holds(rt, "another port is bound", Some(&addr) != both.first());
+}
+
 // The first address that can be bound is.
 fn assert_addresses_in_turn<R: Host>(rt: &R, alloc: Global) {
     let taken = TcpListener::bind(rt, "127.0.0.1:0").expect(rt, "a listener");
     let first = taken.local_addr().expect(rt, "an address");
     assert_binds_second(rt, alloc, first, SocketAddr::from(([127, 0, 0, 1], 0)));
+    let both = [first, SocketAddr::from(([127, 0, 0, 1], 0))];
+    assert_serves_second(rt, alloc, &both);
     let none = ConfigListenAddr::IP(Vec::new(alloc));
     let fault = none.bind(rt).err().expect(rt, "no listener");
     assert_same(rt, fault.kind(), ErrorKind::InvalidInput);

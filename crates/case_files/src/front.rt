@@ -1,0 +1,159 @@
+//! Cases whose client's bytes are cut, or one of them is another: what comes of them.
+use crate::case::{Case, CaseStep, Deed};
+use crate::outcome::{Difference, Outcome, count_differs, differing, output_differs};
+use crate::plain::plain_lines;
+use std::alloc::{AllocError, Global};
+use std::io::ErrorKind;
+
+// The lines of the requests that were handed out in a trial.
+fn handed_in<'a>(alloc: Global, outcome: &'a Outcome) -> Result<Vec<&'a [u8]>, AllocError> {
+    let mut handed = Vec::new(alloc);
+    for reply in &outcome.replies {
+        if reply.starts_with(b"handed ") {
+            handed.push(reply.as_slice()).map_err(AllocError::from)?;
+        }
+    }
+    Ok(handed)
+}
+
+// The lines of the requests that a case hands out.
+fn handed_of<'a>(alloc: Global, case: &'a Case) -> Result<Vec<&'a [u8]>, AllocError> {
+    let mut handed = Vec::new(alloc);
+    for step in &case.steps {
+        if step.reply.starts_with(b"handed ") {
+            handed
+                .push(step.reply.as_slice())
+                .map_err(AllocError::from)?;
+        }
+    }
+    Ok(handed)
+}
+
+// The first request that was handed out and is not the one that is wanted there.
+fn handed_differ(
+    alloc: Global,
+    found: &[&[u8]],
+    wanted: &[&[u8]],
+) -> Result<Option<Difference>, AllocError> {
+    for (place, line) in found.iter().enumerate() {
+        let there = wanted.get(place).copied().unwrap_or_default();
+        if *line != there {
+            let what = format!(in alloc; "request {place} that is handed out")?;
+            return differing(alloc, what, line, there);
+        }
+    }
+    Ok(None)
+}
+
+// The number of the request that a step reads, as its line has it.
+fn read_number(step: &CaseStep) -> Option<&str> {
+    match &step.deed {
+        Deed::Script(line) => {
+            let (number, _) = line.as_str().strip_prefix("read ")?.split_once(' ')?;
+            Some(number)
+        }
+        Deed::Answer(_) => None,
+    }
+}
+
+// The bytes that a reply gives.
+fn given_in(reply: &[u8]) -> &[u8] {
+    reply.strip_prefix(b"given ").unwrap_or_default()
+}
+
+// What the reads of the request of this number gave, in the trial and in the case.
+fn given_of(
+    alloc: Global,
+    case: &Case,
+    outcome: &Outcome,
+    number: &str,
+) -> Result<(Vec<u8>, Vec<u8>), AllocError> {
+    let mut found = Vec::new(alloc);
+    let mut wanted = Vec::new(alloc);
+    let steps = case.steps.iter().filter(|step| !step.is_date());
+    for (step, reply) in steps.zip(outcome.replies.iter()) {
+        if read_number(step) == Some(number) {
+            found.extend_from_slice(given_in(reply.as_slice()))?;
+            wanted.extend_from_slice(given_in(step.reply.as_slice()))?;
+        }
+    }
+    Ok((found, wanted))
+}
+
+// The first request whose reads gave what is no front of what they give in the case.
+fn given_differs(
+    alloc: Global,
+    case: &Case,
+    outcome: &Outcome,
+) -> Result<Option<Difference>, AllocError> {
+    for number in case.steps.iter().filter_map(read_number) {
+        let (found, wanted) = given_of(alloc, case, outcome, number)?;
+        if !wanted.starts_with(found.as_slice()) {
+            let what = format!(in alloc; "the body of request {number}")?;
+            return differing(alloc, what, found.as_slice(), wanted.as_slice());
+        }
+    }
+    Ok(None)
+}
+
+// The bytes of a date.
+const DATE: usize = 29;
+
+// An output without the 408 at its end.
+fn before_408(output: &[u8]) -> Option<&[u8]> {
+    let front = output.strip_suffix(b"\r\nContent-Length: 0\r\n\r\n")?;
+    let dated = front.get(..front.len().checked_sub(DATE)?)?;
+    dated.strip_suffix(b"HTTP/1.1 408 Request Timeout\r\nServer: tiny-http (Rust)\r\nDate: ")
+}
+
+/// Where an outcome is no front of its case, whose client's bytes were cut, with this fault of the reader or an end behind them:
+/// the requests that are handed out, what their bodies give, and the output, behind which a 408 may stand where a time-out cut
+/// the bytes. The writer doesn't fail.
+pub fn cut_difference(
+    alloc: Global,
+    case: &Case,
+    outcome: &Outcome,
+    stop: Option<ErrorKind>,
+) -> Result<Option<Difference>, AllocError> {
+    let handed = handed_in(alloc, outcome)?;
+    let wanted = handed_of(alloc, case)?;
+    if let Some(found) = handed_differ(alloc, handed.as_slice(), wanted.as_slice())? {
+        return Ok(Some(found));
+    }
+    if let Some(found) = given_differs(alloc, case, outcome)? {
+        return Ok(Some(found));
+    }
+    let mut output = outcome.output.as_slice();
+    if stop == Some(ErrorKind::TimedOut) && !case.output.starts_with(output) {
+        output = before_408(output).unwrap_or(output);
+    }
+    if let Some(found) = output_differs(alloc, output, case.output.as_slice(), true)? {
+        return Ok(Some(found));
+    }
+    count_differs(alloc, "failures", outcome.failures, 0)
+}
+
+/// Where the requests that are handed out of these bytes are not those that a plain reading of them finds.
+pub fn plain_difference(
+    alloc: Global,
+    case: &Case,
+    outcome: &Outcome,
+    client: &[u8],
+) -> Result<Option<Difference>, AllocError> {
+    let asks = case.steps.iter().filter(|step| step.is_ask()).count();
+    let lines = plain_lines(alloc, client, asks)?;
+    let mut wanted = Vec::new(alloc);
+    for line in &lines {
+        wanted.push(line.as_slice()).map_err(AllocError::from)?;
+    }
+    let handed = handed_in(alloc, outcome)?;
+    if let Some(found) = handed_differ(alloc, handed.as_slice(), wanted.as_slice())? {
+        return Ok(Some(found));
+    }
+    count_differs(
+        alloc,
+        "requests that are handed out",
+        handed.len() as u64,
+        wanted.len() as u64,
+    )
+}

@@ -1,0 +1,227 @@
+//! A plain reading of what a client sends: all of its bytes at once, line by line, without a buffer. What connections hand out
+//! is compared with it.
+use std::alloc::{AllocError, Global};
+use std::fmt::Write;
+
+const VERSIONS: [&str; 5] = ["HTTP/0.9", "HTTP/1.0", "HTTP/1.1", "HTTP/2.0", "HTTP/3.0"];
+
+// The most bytes of a body that is read with its head.
+const SHORT: usize = 1024;
+
+// A head, and the bytes behind it.
+#[derive(Drop)]
+struct PlainHead<'a> {
+    method: &'a str,
+    target: &'a str,
+    version: &'a str,
+    headers: Vec<(&'a str, &'a str)>,
+    behind: &'a [u8],
+}
+
+// Whether it is white space.
+fn is_white(letter: char) -> bool {
+    matches!(letter, '\t' | '\n' | '\x0b' | '\x0c' | '\r' | ' ')
+}
+
+// The first line, if it has ended and is ASCII, and the bytes behind it.
+fn line_of(bytes: &[u8]) -> Option<(&str, &[u8])> {
+    let second = bytes.iter().skip(1);
+    let place = bytes
+        .iter()
+        .zip(second)
+        .position(|(one, next)| *one == b'\r' && *next == b'\n')?;
+    let line = bytes.get(..place)?;
+    let behind = bytes.get(place.checked_add(2)?..)?;
+    if !line.is_ascii() {
+        return None;
+    }
+    Some((str::from_utf8(line).ok()?, behind))
+}
+
+// The name and the value of a header line.
+fn header_of(line: &str) -> Option<(&str, &str)> {
+    let (name, value) = line.split_once(':')?;
+    if name.contains(is_white) {
+        return None;
+    }
+    Some((name, value.trim_matches(is_white)))
+}
+
+// The header lines, and the bytes behind the empty line.
+fn headers_of(
+    alloc: Global,
+    bytes: &[u8],
+) -> Result<Option<(Vec<(&str, &str)>, &[u8])>, AllocError> {
+    let mut headers = Vec::new(alloc);
+    let mut rest = bytes;
+    for _ in 0..=bytes.len() {
+        let Some((line, behind)) = line_of(rest) else {
+            return Ok(None);
+        };
+        if line.is_empty() {
+            return Ok(Some((headers, behind)));
+        }
+        let Some(header) = header_of(line) else {
+            return Ok(None);
+        };
+        headers.push(header).map_err(AllocError::from)?;
+        rest = behind;
+    }
+    Ok(None)
+}
+
+// The method, the target and the version of a request line.
+fn request_line_of(line: &str) -> Option<(&str, &str, &str)> {
+    let mut words = line.trim_matches(is_white).split(' ');
+    let method = words.next()?;
+    let target = words.next()?;
+    let version = words.next()?;
+    if !VERSIONS.contains(&version) {
+        return None;
+    }
+    Some((method, target, version.strip_prefix("HTTP/")?))
+}
+
+// The head that these bytes begin with; none where it is refused, cut, or not ASCII.
+fn head_of(alloc: Global, bytes: &[u8]) -> Result<Option<PlainHead<'_>>, AllocError> {
+    let Some((line, rest)) = line_of(bytes) else {
+        return Ok(None);
+    };
+    let Some((method, target, version)) = request_line_of(line) else {
+        return Ok(None);
+    };
+    let Some((headers, behind)) = headers_of(alloc, rest)? else {
+        return Ok(None);
+    };
+    Ok(Some(PlainHead {
+        method,
+        target,
+        version,
+        headers,
+        behind,
+    }))
+}
+
+// The number that a length says.
+fn number_of(value: &str) -> Option<usize> {
+    let digits = value.strip_prefix('+').unwrap_or(value);
+    if digits.is_empty() {
+        return None;
+    }
+    let mut number = 0usize;
+    for digit in digits.bytes() {
+        if !digit.is_ascii_digit() {
+            return None;
+        }
+        let digit = usize::from(digit - b'0');
+        number = number.checked_mul(10)?.checked_add(digit)?;
+    }
+    Some(number)
+}
+
+impl<'a> PlainHead<'a> {
+    // The value of the first header of this name.
+    fn value(&self, name: &str) -> Option<&'a str> {
+        self.headers
+            .iter()
+            .find(|header| header.0.eq_ignore_ascii_case(name))
+            .map(|header| header.1)
+    }
+
+    // Whether the connection is told this, in whatever case.
+    fn tells(&self, word: &str) -> bool {
+        let Some(value) = self.value("Connection") else {
+            return false;
+        };
+        (0..value.len()).any(|place| {
+            value
+                .get(place..)
+                .and_then(|rest| rest.get(..word.len()))
+                .is_some_and(|there| there.eq_ignore_ascii_case(word))
+        })
+    }
+
+    // The length of the body, if one is said.
+    fn length(&self) -> Option<usize> {
+        match self.value("Transfer-Encoding") {
+            Some(_) => None,
+            None => number_of(self.value("Content-Length")?),
+        }
+    }
+
+    // Whether the body has no length: it is chunked, or the rest of the stream.
+    fn is_endless(&self) -> bool {
+        self.value("Transfer-Encoding").is_some() || self.tells("upgrade")
+    }
+
+    // Whether it is handed out, or answered 505: nothing is expected but a 100, and a short body is there.
+    fn is_whole(&self) -> bool {
+        let length = self.length().unwrap_or(0);
+        match self.value("Expect") {
+            Some(expected) => expected.eq_ignore_ascii_case("100-continue"),
+            None => self.is_endless() || length > SHORT || length <= self.behind.len(),
+        }
+    }
+
+    // Whether it is handed out, and not answered 505.
+    fn is_known(&self) -> bool {
+        !matches!(self.version, "2.0" | "3.0")
+    }
+
+    // Whether it is the connection's last, if it is handed out.
+    fn is_last(&self) -> bool {
+        let ends = self.version == "1.0" && !self.tells("keep-alive");
+        ends || self.tells("close") || self.tells("upgrade")
+    }
+
+    // The bytes behind the body, which is given up.
+    fn after_body(&self) -> Option<&'a [u8]> {
+        if self.is_endless() {
+            return None;
+        }
+        self.behind.get(self.length().unwrap_or(0)..)
+    }
+
+    // Its line, as the request of this number.
+    fn line(&self, alloc: Global, number: usize) -> Result<Vec<u8>, AllocError> {
+        let mut line = String::new(alloc);
+        let count = self.headers.len();
+        let (method, target, version) = (self.method, self.target, self.version);
+        write!(line, "handed {number} {method} {target} {version} {count} ")?;
+        match self.length() {
+            Some(length) => write!(line, "{length}")?,
+            None => line.push('-')?,
+        }
+        for (name, value) in &self.headers {
+            write!(line, " [{name}: {value}]")?;
+        }
+        Ok(line.into_bytes())
+    }
+}
+
+/// The lines of the requests that these bytes have, `most` at most, where each request is dropped before the next is asked for.
+pub fn plain_lines(alloc: Global, bytes: &[u8], most: usize) -> Result<Vec<Vec<u8>>, AllocError> {
+    let mut lines = Vec::new(alloc);
+    let mut rest = bytes;
+    for number in 0..=bytes.len() {
+        let Some(head) = head_of(alloc, rest)? else {
+            break;
+        };
+        if !head.is_whole() || lines.len() == most {
+            break;
+        }
+        if head.is_known() {
+            lines
+                .push(head.line(alloc, number)?)
+                .map_err(AllocError::from)?;
+            if head.is_last() {
+                break;
+            }
+        }
+        match head.after_body() {
+            Some(behind) => rest = behind,
+            None => break,
+        }
+    }
+    Ok(lines)
+}
