@@ -90,6 +90,8 @@ pub struct Case {
     pub stop: Option<ErrorKind>,
     /// Where the writer fails, if it doesn't take all.
     pub room: Option<Room>,
+    /// Whether the client's bytes are always whole.
+    pub is_uncut: bool,
     /// How many of the client's bytes are replaced by each value in turn.
     pub varied: Option<usize>,
     pub steps: Vec<CaseStep>,

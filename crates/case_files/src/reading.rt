@@ -26,6 +26,7 @@ fn begin(alloc: Global, cases: &mut Vec<Case>, name: &str) -> Result<(), LineFau
         client: Vec::new(alloc),
         stop: None,
         room: None,
+        is_uncut: false,
         varied: None,
         steps: Vec::new(alloc),
         output: Vec::new(alloc),
@@ -193,12 +194,15 @@ fn add_line(alloc: Global, case: &mut Case, text: &str) -> Result<(), LineFault>
             None => return Err(NO_KIND),
         },
         "takes" if case.room.is_none() => case.room = Some(room_in(words)?),
+        "uncut" if words.is_empty() && !case.is_uncut => case.is_uncut = true,
         "vary" if case.varied.is_none() => match number_in(words) {
             Some(count) => case.varied = Some(count),
             None => return Err(NO_NUMBER),
         },
         "end" if case.end.is_none() => case.end = Some(text_of(alloc, words)?),
-        "stop" | "takes" | "vary" | "end" => return Err(LineFault::Bad("the case says so already")),
+        "stop" | "takes" | "uncut" | "vary" | "end" => return Err(LineFault::Bad(
+            "the case says so already",
+        )),
         "answer" => {
             let answer = answer_in(alloc, words)?;
             add_step(case, Deed::Answer(answer), Vec::new(alloc), false)?;

@@ -228,7 +228,9 @@ fn try_case<'a, F: Runner, O: Write>(
     if tally.differing > before || case.room.is_some() {
         return Ok(());
     }
-    try_cuts((alloc, &mut *runner), out, case, tally)?;
+    if !case.is_uncut {
+        try_cuts((alloc, &mut *runner), out, case, tally)?;
+    }
     match runner.knows_numbers() {
         true => try_bytes((alloc, runner), out, case, tally),
         false => Ok(()),

@@ -117,6 +117,29 @@ fn a_body_waits_for_no_byte_after_it(rt: HostRuntime) -> Result<(), Fail> {
     assert_calls(&rt, rt.alloc(), LONG, deeds, &[0, 1, 3, 3])
 }
 
+// A body of one byte that isn't read with its head, as a 100 is owed.
+const EXPECTING: &[&[u8]] = &[
+    b"POST / HTTP/1.1\r\nExpect: 100-continue\r\nContent-Length: 1\r\n\r\n",
+    b"x",
+];
+
+// By the calls of an exchange, too, a body is given before a byte after it is asked for.
+#[test]
+fn an_exchange_waits_for_no_byte_after_its_body(rt: HostRuntime) -> Result<(), Fail> {
+    let mut source = Source::new(Client {
+        pieces: EXPECTING,
+        calls: 0,
+    });
+    let HeadRead::Request(mut exchange) = read_head(rt.alloc(), &mut source, date()?)? else {
+        return Err("no request".into());
+    };
+    let mut buf = [0u8; 8];
+    let count = exchange.read_body(&mut source, &mut buf)?;
+    assert_same(&rt, buf.get(..count), Some(b"x".as_slice()));
+    assert_same(&rt, source.into_inner().calls, 2);
+    Ok(())
+}
+
 // Heads that are answered or passed over, each in one piece.
 const NO_REQUESTS: &[&[&[u8]]] = &[
     &[b"bad\r\n"],

@@ -5,7 +5,7 @@ use httpdate::HttpDate;
 use std::alloc::Global;
 use std::process::Abort;
 use std::test::Fail;
-use tiny_http_answer::answer::read_answer;
+use tiny_http_answer::answer::{AnswerFault, read_answer};
 use tiny_http_wire::common::{HTTPVersion, Method};
 
 // Whether an answer is one to a HEAD, its version, its status and its body.
@@ -62,5 +62,14 @@ fn each_request_is_answered(rt: HostRuntime) -> Result<(), Fail> {
         rest = rest_after(&rt, rt.alloc(), rest, wanted)?;
     }
     assert_same(&rt, rest.len(), 0);
+    Ok(())
+}
+
+#[test]
+fn faults_are_shown(rt: HostRuntime) -> Result<(), Fail> {
+    let malformed = AnswerFault::Malformed;
+    let memory = AnswerFault::Memory;
+    let shown = format!(in rt.alloc(); "{malformed}, {memory}")?;
+    assert_same(&rt, shown.as_str(), "malformed, out of memory");
     Ok(())
 }

@@ -67,6 +67,17 @@ fn a_file_by_its_metadata(rt: HostRuntime) -> Result<(), Fail> {
     Ok(())
 }
 
+// A file of 4 GiB.
+#[test]
+fn a_long_file(rt: HostRuntime) {
+    let file = Stand {
+        bytes: Cursor::new(Vec::new(rt.alloc())),
+        length: Some(1 << 32),
+    };
+    let answer = Response::from_file(rt.alloc(), file);
+    assert_same(&rt, answer.data_length(), Some(1 << 32));
+}
+
 #[test]
 fn a_file_of_the_system(rt: HostRuntime) -> Result<(), Fail> {
     let answer = Response::from_file(rt.alloc(), File::open(&rt, "/dev/null")?);
