@@ -1,4 +1,6 @@
 //! Readers of a part of another one, and readers that stay at their end.
+use crate::exchanges;
+use crate::runs::SIZES;
 use crate::same::{assert_holds, assert_same};
 use std::alloc::Global;
 use std::io::{ErrorKind, Read};
@@ -56,6 +58,32 @@ fn the_rest_of_a_part_is_read_away(rt: HostRuntime) -> Result<(), Fail> {
         assert_same(&rt, one, *b"h");
     }
     gives(&rt, &mut source, b" world");
+    Ok(())
+}
+
+// What stands behind a part of five bytes, of which so many reads took one byte each, where a call of the reader gives so many
+// bytes at most.
+fn behind_a_part(alloc: Global, most: usize, reads: usize) -> Result<Vec<u8>, Fail> {
+    let mut source = exchanges::source_of(alloc, b"hello world", None, most)?;
+    {
+        let mut part = EqualReader::new(&mut source, 5);
+        for _ in 0..reads {
+            part.read(&mut [0u8; 1])?;
+        }
+    }
+    let mut rest = Vec::new(alloc);
+    source.read_to_end(&mut rest)?;
+    Ok(rest)
+}
+
+#[test]
+fn a_part_by_readers_of_each_size(rt: HostRuntime) -> Result<(), Fail> {
+    for most in SIZES {
+        for reads in [0, 1, 5, 6] {
+            let rest = behind_a_part(rt.alloc(), most, reads)?;
+            assert_same(&rt, rest.as_slice(), b" world".as_slice());
+        }
+    }
     Ok(())
 }
 
