@@ -174,10 +174,10 @@ fn a_client_that_sends_on_is_cut_off(rt: HostRuntime) {
     assert_is_cut_off(&rt, rt.alloc());
 }
 
-// A server is dropped while a request comes. Its client sees an end, whether it gets an answer or not.
+// A server is dropped while a client's last request comes. The client sees an end, whether it gets an answer or not.
 fn assert_sees_an_end<R: Host>(rt: &R, alloc: Global) {
     let (server, mut client) = one_server_one_client(rt, alloc);
-    send(rt, &mut client, GET);
+    send(rt, &mut client, LAST);
     drop(server);
     let fault = count_all(&mut client).err().map(|fault| fault.kind());
     assert_holds(
