@@ -13,6 +13,8 @@ mod ends;
 #[cfg(test)]
 mod exchanges;
 #[cfg(test)]
+mod failing_writers;
+#[cfg(test)]
 mod greetings;
 #[cfg(test)]
 mod laziness;

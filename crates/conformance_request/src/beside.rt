@@ -1,9 +1,10 @@
 //! What goes on beside a held writer.
 use crate::bench::{
-    Bench, DROPPED, TEXT, assert_output, client, gated, is_about_to_call, is_reached, next, now,
-    text,
+    Asked, Bench, DROPPED, TEXT, assert_output, client, gated, is_about_to_call, is_reached, next,
+    now, text,
 };
 use httpdate::HttpDate;
+use std::alloc::Global;
 use std::io::ErrorKind;
 use std::sync::atomic::{AtomicU64, Ordering};
 use std::sync::{Arc, Wait};
@@ -86,4 +87,46 @@ fn ask_beside_held_writer(rt: HostRuntime) -> Result<(), Fail> {
     assert!(rt; asks.join(&rt));
     let sent = &[TEXT, "Content-Length: 1\r\n\r\na", DROPPED];
     assert_output(&rt, alloc, &output, sent)
+}
+
+// Answers by `b`. It counts that it is about to.
+fn respond_behind<R: Wait + Clock + Copy>(
+    request: Asked<R>,
+    alloc: Global,
+    date: HttpDate,
+    begun: &AtomicU64,
+) -> bool {
+    let Ok(answer) = text(alloc, "b") else {
+        return false;
+    };
+    begun.fetch_add(1, Ordering::SeqCst);
+    request.respond(answer, date).is_ok()
+}
+
+// An answer waits behind one that its writer holds, and then doesn't take: the first reports that, and nothing is written of the
+// second.
+#[test]
+fn an_answer_waits_behind_one_that_fails(rt: HostRuntime) -> Result<(), Fail> {
+    let alloc = rt.alloc();
+    let client = client(alloc, b"GET / HTTP/1.1\r\n\r\nGET / HTTP/1.1\r\n\r\n", None)?;
+    let mut bench = gated(rt, alloc, client, 0, ErrorKind::Other, 0)?;
+    let entered = Arc::try_clone(&bench.entered)?;
+    let gate = Arc::try_clone(&bench.gate)?;
+    let begun = Arc::new(alloc, AtomicU64::new(0))?;
+    let counted = Arc::try_clone(&begun)?;
+    let first = next(&mut bench)?;
+    let second = next(&mut bench)?;
+    let answer = text(alloc, "a")?;
+    let date = now()?;
+    let held = thread::spawn(&rt, move || first.respond(answer, date).is_ok());
+    let held = held.map_err(|_| "no thread")?;
+    assert!(rt; is_reached(&rt, &entered, 1));
+    let waits = thread::spawn(&rt, move || respond_behind(second, alloc, date, &counted));
+    let waits = waits.map_err(|_| "no thread")?;
+    assert!(rt; is_about_to_call(&rt, &begun));
+    gate.store(1, Ordering::SeqCst);
+    assert!(rt; !held.join(&rt));
+    assert!(rt; waits.join(&rt));
+    assert_eq!(rt; entered.load(Ordering::SeqCst), 1);
+    assert_output(&rt, alloc, &bench.output, &[])
 }
