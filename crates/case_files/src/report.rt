@@ -162,7 +162,7 @@ fn try_failing<'a, F: Runner, O: Write>(
 
 // Whether the bytes of a client are cut behind this many: at each place, but of a long one in its middle, where it is at some.
 fn is_cut_at(count: usize, length: usize) -> bool {
-    count < 1200 || length - count <= 50 || count % 997 == 0
+    count < 1200 || length.saturating_sub(count) <= 50 || count % 997 == 0
 }
 
 // Tries a case with the client's bytes cut, by an end, by a time-out, and by the other kinds of fault in turn.
