@@ -138,8 +138,8 @@ pub fn assert_clients<R: Host>(rt: &R, server: &Server<R>, count: usize) {
     assert_same(rt, server.num_connections(), count);
 }
 
-// Reads until so many bytes are there, or the end.
-fn read_up_to<S: Read>(alloc: Global, stream: &mut S, count: usize) -> io::Result<Vec<u8>> {
+/// Reads until so many bytes are there, or the end.
+pub fn read_up_to<S: Read>(alloc: Global, stream: &mut S, count: usize) -> io::Result<Vec<u8>> {
     let mut bytes = Vec::new(alloc);
     let mut buf = [0u8; 1];
     for _ in 0..count {

@@ -1,14 +1,14 @@
 //! The calls of a server.
 use crate::bench::{
     DATED, Host, TURNS, assert_clients, assert_no_request, one_server_one_client, read_all,
-    receive, send, serve, turn, turns,
+    read_up_to, receive, send, serve, turn, turns,
 };
 use crate::same::{assert_holds, assert_same, assert_shown};
 use crate::script::{Step, play_each};
 use httpdate::HttpDate;
 use std::alloc::Global;
 use std::io::{ErrorKind, Write};
-use std::net::TcpListener;
+use std::net::{TcpListener, TcpStream};
 use std::os::unix::net::UnixStream;
 use std::path::{Path, PathBuf};
 use std::process::Abort;
@@ -217,6 +217,41 @@ fn assert_dropped_has_its_date<R: Host>(rt: &R, alloc: Global) {
     let after = current_date(rt).unix_secs();
     let date = seconds_of(rt, &answer);
     assert_holds(rt, "it has its date", before <= date && date <= after);
+}
+
+// The date of the 500 of this client's next request, which is dropped.
+fn date_of_dropped<R: Host>(
+    rt: &R,
+    alloc: Global,
+    server: &Server<R>,
+    client: &mut TcpStream,
+    head: &str,
+) -> u64 {
+    send(rt, client, head);
+    drop(receive(rt, server));
+    seconds_of(
+        rt,
+        &read_up_to(alloc, client, DROPPED_LENGTH).expect(rt, "an answer"),
+    )
+}
+
+// The length of an empty 500.
+const DROPPED_LENGTH: usize = 120;
+
+// A client whose first request comes late, and then a second one: the server waits for that a second later.
+fn assert_dates_go_on<R: Host>(rt: &R, alloc: Global) {
+    let (server, mut client) = one_server_one_client(rt, alloc);
+    for _ in 0..10u8 {
+        turns(rt, 240);
+    }
+    let first = date_of_dropped(rt, alloc, &server, &mut client, "GET / HTTP/1.1\r\n\r\n");
+    let second = date_of_dropped(rt, alloc, &server, &mut client, "GET / HTTP/1.1\r\n\r\n");
+    assert_holds(rt, "the second has a later date", second > first);
+}
+
+#[test]
+fn each_dropped_request_has_its_date(rt: HostRuntime) {
+    assert_dates_go_on(&rt, rt.alloc());
 }
 
 #[test]
