@@ -3,7 +3,8 @@ use crate::same::assert_same;
 use case_files::case::Case;
 use case_files::devices::{Pieces, Trier};
 use case_files::fault::FilesFault;
-use case_files::outcome::{Outcome, first_difference};
+use case_files::front::{cut_difference, plain_difference};
+use case_files::outcome::{Difference, Outcome, first_difference};
 use case_files::program::NamedFile;
 use case_files::reading::read_cases;
 use case_files::report::{Runner, files_of, try_files};
@@ -259,7 +260,89 @@ fn difference_of(alloc: Global, found: Found, is_made_to_fail: bool) -> Result<S
     let Some(case) = cases.first() else {
         return Err("no case".into());
     };
-    match first_difference(alloc, case, &outcome, is_made_to_fail)? {
+    shown(
+        alloc,
+        first_difference(alloc, case, &outcome, is_made_to_fail)?,
+    )
+}
+
+#[test]
+fn outcomes_that_differ(rt: HostRuntime) -> Result<(), Fail> {
+    for (found, is_made_to_fail, wanted) in DIFFERENCES {
+        let difference = difference_of(rt.alloc(), *found, *is_made_to_fail)?;
+        assert_same(&rt, difference.as_str(), *wanted);
+    }
+    Ok(())
+}
+
+// A case of which a body is read.
+const READ: &str = "case a\nclient GG\nask\n  handed 0 G\nread 0 3\n  given abc\noutput xyz\n";
+
+const TIMED_OUT: &str =
+    "xHTTP/1.1 408 Request Timeout\r\nServer: tiny-http (Rust)\r\nDate: Wed, 04 May 1983 11:17:00 GMT\r\nContent-Length: 0\r\n\r\n";
+
+// Two replies and an output of which the client's bytes were cut, by this fault or an end, and what differs first.
+type CutRow = (
+    [&'static str; 2],
+    &'static str,
+    Option<ErrorKind>,
+    &'static str,
+);
+
+const CUTS: &[CutRow] = &[
+    (["ended", "nosuch"], "", None, ""),
+    (["handed 0 G", "given ab"], "xy", None, ""),
+    (
+        ["handed 0 H", "given"],
+        "",
+        None,
+        "request 0 that is handed out: handed 0 H, handed 0 G",
+    ),
+    (
+        ["handed 0 G", "given b"],
+        "",
+        None,
+        "the body of request 0: b, abc",
+    ),
+    (
+        ["handed 0 G", "given"],
+        "y",
+        None,
+        "output from byte 0: y, xyz",
+    ),
+    (
+        ["handed 0 G", "given"],
+        TIMED_OUT,
+        Some(ErrorKind::TimedOut),
+        "",
+    ),
+    (
+        ["handed 0 G", "given"],
+        "xHTTP",
+        Some(ErrorKind::TimedOut),
+        "output from byte 1: HTTP, yz",
+    ),
+];
+
+// What came of two steps.
+fn outcome_of(alloc: Global, lines: &[&str], output: &str) -> Result<Outcome, Fail> {
+    let mut replies = Vec::new(alloc);
+    for line in lines {
+        replies.push(line.as_bytes().to_vec(alloc)?)?;
+    }
+    Ok(Outcome {
+        replies,
+        output: output.as_bytes().to_vec(alloc)?,
+        has_failed: false,
+        failures: 0,
+        later: 0,
+        end: None,
+    })
+}
+
+// A difference in one line; nothing where there is none.
+fn shown(alloc: Global, difference: Option<Difference>) -> Result<String, Fail> {
+    match difference {
         Some(it) => {
             let (what, found, wanted) = (it.what.as_str(), it.found.as_str(), it.wanted.as_str());
             Ok(format!(in alloc; "{what}: {found}, {wanted}")?)
@@ -268,10 +351,77 @@ fn difference_of(alloc: Global, found: Found, is_made_to_fail: bool) -> Result<S
     }
 }
 
+// What differs first in a cut of the case.
+fn difference_of_cut(alloc: Global, row: &CutRow) -> Result<String, Fail> {
+    let (replies, output, stop, _) = row;
+    let Ok(cases) = read_cases(alloc, "a.cases", READ.as_bytes()) else {
+        return Err("no case".into());
+    };
+    let Some(case) = cases.first() else {
+        return Err("no case".into());
+    };
+    let outcome = outcome_of(alloc, replies, output)?;
+    shown(alloc, cut_difference(alloc, case, &outcome, *stop)?)
+}
+
 #[test]
-fn outcomes_that_differ(rt: HostRuntime) -> Result<(), Fail> {
-    for (found, is_made_to_fail, wanted) in DIFFERENCES {
-        let difference = difference_of(rt.alloc(), *found, *is_made_to_fail)?;
+fn cuts_that_differ(rt: HostRuntime) -> Result<(), Fail> {
+    for row in CUTS {
+        let difference = difference_of_cut(rt.alloc(), row)?;
+        assert_same(&rt, difference.as_str(), row.3);
+    }
+    Ok(())
+}
+
+// What a client sends, the reply to an `ask`, and what differs from a plain reading of it.
+const PLAIN: &[[&str; 3]] = &[
+    ["GET / HTTP/1.1\r\n\r\n", "handed 0 GET / 1.1 0 -", ""],
+    [
+        "POST /a HTTP/1.0\r\nA:b\r\nContent-Length: 2\r\n\r\nhi",
+        "handed 0 POST /a 1.0 2 2 [A: b] [Content-Length: 2]",
+        "",
+    ],
+    [
+        "GET /b HTTP/1.1\r\n\r\n",
+        "handed 0 GET / 1.1 0 -",
+        "request 0 that is handed out: handed 0 GET / 1.1 0 -, handed 0 GET /b 1.1 0 -",
+    ],
+    [
+        "GET / HTTP/1.1\r\n",
+        "handed 0 GET / 1.1 0 -",
+        "request 0 that is handed out: handed 0 GET / 1.1 0 -, ",
+    ],
+    [
+        "GET / HTTP/1.1\r\n\r\n",
+        "ended",
+        "requests that are handed out: 0, 1",
+    ],
+    ["GET / HTTP/1.1\r\nA : b\r\n\r\n", "ended", ""],
+    ["GET / HTTP/1.1\r\nExpect: x\r\n\r\n", "ended", ""],
+    [
+        "GET / HTTP/2.0\r\n\r\nGET / HTTP/1.1\r\n\r\n",
+        "handed 1 GET / 1.1 0 -",
+        "",
+    ],
+];
+
+// What differs from a plain reading.
+fn difference_of_plain(alloc: Global, client: &str, reply: &str) -> Result<String, Fail> {
+    let Ok(cases) = read_cases(alloc, "a.cases", CASE.as_bytes()) else {
+        return Err("no case".into());
+    };
+    let Some(case) = cases.first() else {
+        return Err("no case".into());
+    };
+    let outcome = outcome_of(alloc, &[reply], "")?;
+    let difference = plain_difference(alloc, case, &outcome, client.as_bytes())?;
+    shown(alloc, difference)
+}
+
+#[test]
+fn a_plain_reading_differs(rt: HostRuntime) -> Result<(), Fail> {
+    for [client, reply, wanted] in PLAIN {
+        let difference = difference_of_plain(rt.alloc(), client, reply)?;
         assert_same(&rt, difference.as_str(), *wanted);
     }
     Ok(())
@@ -333,9 +483,9 @@ fn runs_that_differ_are_reported(rt: HostRuntime) -> Result<(), Fail> {
         a, 1023 bytes a read: reply 1 is done and not ended\n\
         a, 1024 bytes a read: reply 1 is done and not ended\n\
         a, 1024 bytes a read, call 1 failing: reply 1 is done and not ended\n\
-        a.cases: 1 cases, 5 runs, 5 differ\n";
-    let good = "a.cases: 1 cases, 5 runs, 0 differ\n";
-    let none = "a.cases: 0 cases, 0 runs, 0 differ\n";
+        a.cases: 1 cases, 5 runs, 0 cuts, 0 changes, 5 differ\n";
+    let good = "a.cases: 1 cases, 5 runs, 3 cuts, 0 changes, 0 differ\n";
+    let none = "a.cases: 0 cases, 0 runs, 0 cuts, 0 changes, 0 differ\n";
     let wanted = format!(in rt.alloc(); "{good}{differing}")?;
     assert_report(&rt, rt.alloc(), (GOOD, done), wanted.as_str())?;
     let wanted = format!(in rt.alloc(); "{differing}{none}")?;
