@@ -89,7 +89,7 @@ fn ask_beside_held_writer(rt: HostRuntime) -> Result<(), Fail> {
     assert_output(&rt, alloc, &output, sent)
 }
 
-// Answers by `b`. It counts that it is about to.
+// Answers by `b`. It counts that it is about to, and that it has.
 fn respond_behind<R: Wait + Clock + Copy>(
     request: Asked<R>,
     alloc: Global,
@@ -100,7 +100,9 @@ fn respond_behind<R: Wait + Clock + Copy>(
         return false;
     };
     begun.fetch_add(1, Ordering::SeqCst);
-    request.respond(answer, date).is_ok()
+    let sent = request.respond(answer, date);
+    begun.fetch_add(1, Ordering::SeqCst);
+    sent.is_ok()
 }
 
 // An answer waits behind one that its writer holds, and then doesn't take: the first reports that, and nothing is written of the
@@ -124,6 +126,7 @@ fn an_answer_waits_behind_one_that_fails(rt: HostRuntime) -> Result<(), Fail> {
     let waits = thread::spawn(&rt, move || respond_behind(second, alloc, date, &counted));
     let waits = waits.map_err(|_| "no thread")?;
     assert!(rt; is_about_to_call(&rt, &begun));
+    assert_eq!(rt; begun.load(Ordering::SeqCst), 1);
     gate.store(1, Ordering::SeqCst);
     assert!(rt; !held.join(&rt));
     assert!(rt; waits.join(&rt));

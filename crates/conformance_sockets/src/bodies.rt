@@ -71,7 +71,8 @@ const ANSWERED: &[&str] = &[
     "Content-Type: text/plain; charset=UTF-8\r\nContent-Length: 1\r\n\r\nb",
 ];
 
-// The client sends a head alone, takes the whole answer, and then sends the body and a further request.
+// The client sends a head alone and takes the whole answer. Where the connection goes on it then sends the body and a further
+// request.
 const HEADS: [&[Step]; 5] = [
     &[
         Step::Send("GET / HTTP/1.1\r\nContent-Length: 5000\r\n\r\n"),

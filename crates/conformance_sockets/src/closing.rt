@@ -126,14 +126,14 @@ const REFUSED: &[&str] = &[
 ];
 
 // How a connection ends whose last answer was sent.
-const LAST_ANSWERS: [&[Step]; 2] = [
+const LAST_ANSWERS: [&[Step]; 3] = [
     // A client that stays open is connected for a while, and then let go.
     &[
         Step::Send(LAST),
         Step::Receive("/"),
         Step::RespondEmpty(400),
         Step::Next(REFUSED),
-        Step::Turns(100),
+        Step::Turns(20),
         Step::ClientsNow(1),
         Step::Clients(0),
     ],
@@ -142,22 +142,30 @@ const LAST_ANSWERS: [&[Step]; 2] = [
         Step::Send("POST / HTTP/1.1\r\nConnection: close\r\nContent-Length: 5000\r\n\r\n"),
         Step::Receive("/"),
         Step::RespondEmpty(400),
-        Step::Turns(100),
+        Step::Turns(30),
         Step::SendBody(5000),
         Step::Turns(20),
+        Step::Rest(REFUSED),
+    ],
+    // So does one that sends half a MiB more.
+    &[
+        Step::Send("POST / HTTP/1.1\r\nConnection: close\r\nContent-Length: 5000\r\n\r\n"),
+        Step::Receive("/"),
+        Step::RespondEmpty(400),
+        Step::SendBody(524_288),
         Step::Rest(REFUSED),
     ],
 ];
 
 #[test]
-fn a_last_answer_is_read_in_peace(rt: HostRuntime) {
+fn connections_close_in_stages(rt: HostRuntime) {
     play_each(&rt, rt.alloc(), &LAST_ANSWERS);
 }
 
-// Whether a client can send so much: 70 MiB.
+// Whether a client can send so much: 256 MiB.
 fn can_send_on<R: Host>(rt: &R, alloc: Global, client: &mut TcpStream) -> bool {
     let piece = vec![in alloc; b'A'; 65_536].expect(rt, "memory");
-    (0..1_120u32).all(|_| client.write_all(&piece).is_ok())
+    (0..4_096u32).all(|_| client.write_all(&piece).is_ok())
 }
 
 // A client that sends on after its last answer is cut off.
@@ -166,7 +174,7 @@ fn assert_is_cut_off<R: Host>(rt: &R, alloc: Global) {
     send(rt, &mut client, LAST);
     assert_responds_empty(rt, alloc, receive(rt, &server), 400);
     let sends_on = can_send_on(rt, alloc, &mut client);
-    assert_holds(rt, "not all of 70 MiB is taken", !sends_on);
+    assert_holds(rt, "not all of 256 MiB is taken", !sends_on);
 }
 
 #[test]
@@ -182,7 +190,7 @@ fn assert_sees_an_end<R: Host>(rt: &R, alloc: Global) {
     let fault = count_all(&mut client).err().map(|fault| fault.kind());
     assert_holds(
         rt,
-        "a client waits for no end",
+        "the client sees an end",
         fault != Some(ErrorKind::TimedOut),
     );
 }

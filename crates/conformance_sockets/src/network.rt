@@ -14,7 +14,7 @@ use std::time::Duration;
 use tiny_http::common::Method;
 use tiny_http::server::{Server, ServerRequest};
 
-// An answer `hello world` in version 1.1, but for its status line.
+// What an answer `hello world` has behind its date.
 const HELLO: &str =
     "Content-Type: text/plain; charset=UTF-8\r\nContent-Length: 11\r\n\r\nhello world";
 
