@@ -3,7 +3,7 @@
    REFUSE_NTH=N       the Nth call for memory fails, counted from 1
    REFUSE_EVERY=N     one call for memory in N fails, by a fixed series of numbers
    REFUSE_SOCKETS=N   one recv, send or accept4 in N fails by EINTR, and one in N moves a single byte
-   REFUSE_MARK=FILE   this file is made once a call for memory has failed
+   REFUSE_MARK=FILE   this file is made once a call has failed
    REFUSE_OFF=1       nothing fails before the signal SIGUSR1; SIGUSR2 ends it again */
 #define _GNU_SOURCE
 #include <dlfcn.h>
@@ -49,15 +49,20 @@ static int is_one_in(long many) {
     return many > 0 && (one >> 33) % (unsigned long)many == 0;
 }
 
-static int is_refused(void) {
-    if (!atomic_load(&is_on)) return 0;
-    if (atomic_fetch_add(&calls, 1) + 1 != nth && !is_one_in(every)) return 0;
+/* A call fails by this. */
+static int fail_by(int why) {
     if (mark) {
         int file = open(mark, O_CREAT | O_WRONLY, 0600);
         if (file >= 0) close(file);
     }
-    errno = ENOMEM;
+    errno = why;
     return 1;
+}
+
+static int is_refused(void) {
+    if (!atomic_load(&is_on)) return 0;
+    if (atomic_fetch_add(&calls, 1) + 1 != nth && !is_one_in(every)) return 0;
+    return fail_by(ENOMEM);
 }
 
 void *malloc(size_t size) { return is_refused() ? NULL : __libc_malloc(size); }
@@ -67,8 +72,7 @@ void *realloc(void *old, size_t size) { return is_refused() ? NULL : __libc_real
 /* Whether a call of a socket is to fail. */
 static int is_interrupted(void) {
     if (!atomic_load(&is_on) || !is_one_in(sockets)) return 0;
-    errno = EINTR;
-    return 1;
+    return fail_by(EINTR);
 }
 
 /* How many bytes a call of a socket may move. */

@@ -281,6 +281,9 @@ const READ: &str = "case a\nclient GG\nask\n  handed 0 G\nread 0 3\n  given abc\
 const TIMED_OUT: &str =
     "xHTTP/1.1 408 Request Timeout\r\nServer: tiny-http (Rust)\r\nDate: Wed, 04 May 1983 11:17:00 GMT\r\nContent-Length: 0\r\n\r\n";
 
+const LATE: &str =
+    "HTTP/1.1 408 Request Timeout\r\nServer: tiny-http (Rust)\r\nDate: Wed, 04 May 1983 11:17:00 GMT\r\nContent-Length: 0\r\n\r\n";
+
 // Two replies and an output of which the client's bytes were cut, by this fault or an end, and what differs first.
 type CutRow = (
     [&'static str; 2],
@@ -321,6 +324,18 @@ const CUTS: &[CutRow] = &[
         "xHTTP",
         Some(ErrorKind::TimedOut),
         "output from byte 1: HTTP, yz",
+    ),
+    (
+        ["handed 0 G", "given"],
+        LATE,
+        Some(ErrorKind::Other),
+        "output from byte 0: HTTP/1.1 408 Request Timeout\\r\\nServer: tiny-http (Rust)\\r\\nDate: Wed, 04 May 1983 11:17:00 GMT\\r\\nContent-Length: 0\\r\\n\\r\\n, xyz",
+    ),
+    (
+        ["handed 0 G", "handed 1 G"],
+        "",
+        None,
+        "request 1 that is handed out: handed 1 G, ",
     ),
 ];
 
