@@ -9,7 +9,7 @@ use case_files::program::NamedFile;
 use case_files::reading::read_cases;
 use case_files::report::{Runner, files_of, try_files};
 use case_files::steps::StepsFault;
-use case_files::trial::Trial;
+use case_files::trial::{Harm, Trial};
 use std::alloc::Global;
 use std::io::{ErrorKind, Write};
 use std::process::Abort;
@@ -438,6 +438,72 @@ fn a_plain_reading_differs(rt: HostRuntime) -> Result<(), Fail> {
     for [client, reply, wanted] in PLAIN {
         let difference = difference_of_plain(rt.alloc(), client, reply)?;
         assert_same(&rt, difference.as_str(), *wanted);
+    }
+    Ok(())
+}
+
+// What is done to the case, what its client then sends, the reader's fault behind that, and how a report says it.
+type HarmRow = (Option<Harm>, &'static str, Option<ErrorKind>, &'static str);
+
+const HARMS: &[HarmRow] = &[
+    (None, "GG", None, "1024 bytes a read"),
+    (
+        Some(Harm::Call(3)),
+        "GG",
+        None,
+        "1024 bytes a read, call 3 failing",
+    ),
+    (
+        Some(Harm::Cut(1, None)),
+        "G",
+        None,
+        "1024 bytes a read, cut at 1",
+    ),
+    (
+        Some(Harm::Cut(0, Some(ErrorKind::TimedOut))),
+        "",
+        Some(ErrorKind::TimedOut),
+        "1024 bytes a read, cut at 0 by TimedOut",
+    ),
+    (
+        Some(Harm::Byte(1, b'x')),
+        "Gx",
+        None,
+        "1024 bytes a read, byte 1 being 120",
+    ),
+];
+
+// What a reader gives in one call, and the fault of the next.
+fn read_twice(alloc: Global, reader: &mut Pieces) -> Result<(Vec<u8>, Option<ErrorKind>), Fail> {
+    let mut buf = [0u8; 9];
+    let count = reader.read_in(&mut buf).unwrap_or(0);
+    let bytes = buf.get(..count).unwrap_or_default().to_vec(alloc)?;
+    let fault = reader.read_in(&mut buf).err().map(|fault| fault.kind());
+    Ok((bytes, fault))
+}
+
+// A cut or a changed byte reaches the reader.
+fn assert_harm(rt: &impl Abort, alloc: Global, case: &Case, row: &HarmRow) -> Result<(), Fail> {
+    let (harm, client, stop, words) = *row;
+    let trial = Trial { piece: 1024, harm };
+    let (bytes, fault) = read_twice(alloc, &mut trial.reader(alloc, case)?)?;
+    assert_same(rt, bytes.as_slice(), client.as_bytes());
+    assert_same(rt, fault, stop);
+    let shown = format!(in alloc; "{trial}")?;
+    assert_same(rt, shown.as_str(), words);
+    Ok(())
+}
+
+#[test]
+fn a_trial_changes_what_the_client_sends(rt: HostRuntime) -> Result<(), Fail> {
+    let Ok(cases) = read_cases(rt.alloc(), "a.cases", READ.as_bytes()) else {
+        return Err("no case".into());
+    };
+    let Some(case) = cases.first() else {
+        return Err("no case".into());
+    };
+    for row in HARMS {
+        assert_harm(&rt, rt.alloc(), case, row)?;
     }
     Ok(())
 }
