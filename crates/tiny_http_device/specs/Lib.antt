@@ -2,3 +2,5 @@ pub mod Device
 pub mod Budget
 pub mod Metered
 pub mod Cursor
+pub mod Pieces
+pub mod FailsAt

@@ -405,6 +405,158 @@ pub fn put_all<W: WriteDevice>(writer: &mut W, pieces: &[&[u8]]) -> Result<(), i
     Ok(())
 }
 
+/// A reader that gives another's bytes, at most so many a call. It is for tests of what reads.
+#[derive(Drop)]
+pub struct ByPieces<R> {
+    inner: R,
+    most: usize,
+}
+
+impl<R> ByPieces<R> {
+    ghost use Rattle.std.specs.Prelude.{max};
+    ghost use Rattle.tiny_http_device.specs.Pieces.{pieces_inner, pieces_most};
+
+    /// Gives this reader's bytes, at most `most` a call, and at most one where `most` is 0.
+    pub fn new(inner: R, most: usize) -> ByPieces<R>
+        ensures inner { pieces_inner result ≡ inner }
+        ensures most { pieces_most result ≡ max most 1 }
+    {
+        ByPieces { inner, most }
+    }
+
+    /// Gives the reader back.
+    pub fn into_inner(self) -> R
+        ensures { result ≡ pieces_inner self }
+    {
+        self.inner
+    }
+}
+
+impl<R: ReadDevice> ReadDevice for ByPieces<R> {
+    ghost use Rattle.tiny_http_device.specs.Pieces.{pieces_inner, pieces_most};
+
+    ghost feed = { λ p. R.feed (pieces_inner p) };
+
+    /// Reads once from the reader, into the front of `buf`.
+    fn read_in(&mut self, buf: &mut [u8]) -> Result<usize, io::Error>
+        ensures reads { Reads (R.feed (pieces_inner self.old)) (R.feed (pieces_inner self.new)) result buf.new }
+        ensures empty { length buf.new ≡ 0 → (result ≡ Ok 0) × (self.new ≡ self.old) }
+        ensures most { IfOk result (λ n. n ≤ pieces_most self.old) }
+        ensures stays { pieces_most self.new ≡ pieces_most self.old }
+    {
+        read_front(&mut self.inner, self.most.max(1), buf)
+    }
+}
+
+/// A reader or a writer of which one call fails, once, and does nothing then. Its other calls are those of the stream inside.
+/// It is for tests of what reads and writes.
+#[derive(Drop)]
+pub struct FailsAt<S> {
+    inner: S,
+    // How many calls are left up to the one that fails, and with it. 0: none fails any more.
+    calls: u64,
+    kind: ErrorKind,
+    has_failed: bool,
+}
+
+impl<S> FailsAt<S> {
+    ghost use Rattle.tiny_http_device.specs.FailsAt.{inner_of, calls_left, fault_kind, has_failed, Counts};
+
+    /// The `nth` call, counted from 1, fails by this kind. For 0 none fails. Writes and flushes count alike. A read into an
+    /// empty buffer doesn't count.
+    pub fn new(inner: S, nth: u64, kind: ErrorKind) -> FailsAt<S>
+        ensures inner { inner_of result ≡ inner }
+        ensures calls { calls_left result ≡ nth }
+        ensures kind { fault_kind result ≡ kind }
+        ensures fresh { has_failed result ≡ false }
+    {
+        FailsAt {
+            inner,
+            calls: nth,
+            kind,
+            has_failed: false,
+        }
+    }
+
+    /// Whether the call that fails has come.
+    pub fn has_failed(&self) -> bool
+        ensures { result ≡ has_failed self.now }
+    {
+        self.has_failed
+    }
+
+    /// Gives the stream back.
+    pub fn into_inner(self) -> S
+        ensures { result ≡ inner_of self }
+    {
+        self.inner
+    }
+
+    // Counts a call. An error if it is the one that fails.
+    fn count(&mut self) -> Result<(), io::Error>
+        ensures { Counts self.old self.new result }
+    {
+        if self.calls == 1 {
+            self.calls = 0;
+            self.has_failed = true;
+            return Err(self.kind.into());
+        }
+        self.calls = self.calls.saturating_sub(1);
+        Ok(())
+    }
+}
+
+impl<S: ReadDevice> ReadDevice for FailsAt<S> {
+    ghost use Rattle.std.specs.Prelude.{◌≢◌};
+    ghost use Rattle.tiny_http_device.specs.FailsAt.{inner_of, calls_left, IsCounted, FailsNow};
+
+    /// Reads once from the reader, or fails. It states no feed, since what it gives may go on behind a fault.
+    fn read_in(&mut self, buf: &mut [u8]) -> Result<usize, io::Error>
+        ensures reads { Reads None None result buf.new }
+        ensures empty { length buf.new ≡ 0 → (result ≡ Ok 0) × (self.new ≡ self.old) }
+        ensures fails { 0 < length buf.new → calls_left self.old ≡ 1 → FailsNow self.old self.new result }
+        ensures counts { 0 < length buf.new → calls_left self.old ≢ 1 → IsCounted self.old self.new }
+        // What came is the reader's, if it states what it still gives.
+        ensures stream { calls_left self.old ≢ 1 → ReadsFrom (S.feed (inner_of self.old)) (S.feed (inner_of self.new)) result buf.new }
+    {
+        if buf.is_empty() {
+            return Ok(0);
+        }
+        self.count()?;
+        self.inner.read_in(buf)
+    }
+}
+
+impl<S: Write> Write for FailsAt<S> {
+    ghost use Rattle.std.specs.Prelude.{◌≢◌};
+    ghost use Rattle.std.specs.Io.{WritesAtMost};
+    ghost use Rattle.std.specs.Io.KnownBytes.{Keeps, WriteAppends};
+    ghost use Rattle.tiny_http_device.specs.FailsAt.{inner_of, calls_left, IsCounted, FailsNow};
+
+    ghost contents = { λ f. S.contents (inner_of f) };
+
+    /// Writes once to the stream, or fails.
+    fn write(&mut self, buf: &[u8]) -> io::Result<usize>
+        ensures bound { WritesAtMost result buf.now }
+        ensures bytes { WriteAppends (S.contents (inner_of self.old)) (S.contents (inner_of self.new)) result buf.now }
+        ensures fails { calls_left self.old ≡ 1 → FailsNow self.old self.new result }
+        ensures counts { calls_left self.old ≢ 1 → IsCounted self.old self.new }
+    {
+        self.count()?;
+        self.inner.write(buf)
+    }
+
+    /// Flushes the stream, or fails. No contract says that it is flushed, as std's words for a flush say only that the bytes stay.
+    fn flush(&mut self) -> io::Result<()>
+        ensures bytes { Keeps (S.contents (inner_of self.old)) (S.contents (inner_of self.new)) }
+        ensures fails { calls_left self.old ≡ 1 → FailsNow self.old self.new result }
+        ensures counts { calls_left self.old ≢ 1 → IsCounted self.old self.new }
+    {
+        self.count()?;
+        self.inner.flush()
+    }
+}
+
 impl<R: ReadDevice> ReadDevice for &mut R {
     ghost feed = { λ r. R.feed r.now };
 

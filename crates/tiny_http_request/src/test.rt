@@ -1,6 +1,7 @@
 //! Requests for the tests of a program that answers them.
-ghost use Rattle.std.specs.Prelude.{◌≡◌, ◌++◌, ◌∷◌, [], length, true, false, Some, None, IfOk, IfErr};
+ghost use Rattle.std.specs.Prelude.{◌≡◌, ◌++◌, ◌∷◌, [], length, true, false, Some, None, IfOk, IfErr, OnOk};
 ghost use Rattle.std.specs.IoError.{error_kind};
+ghost use Rattle.std.specs.Str.{IsAscii, IsNotAscii};
 ghost use Rattle.std.specs.Net.Socket.{socket_port};
 ghost use Rattle.tiny_http_wire.specs.Heads.{version};
 ghost use Rattle.tiny_http_device.specs.Device.{whole_feed};
@@ -21,7 +22,7 @@ use tiny_http_device::device::WriteDevice;
 use tiny_http_message::framing::value_of;
 use tiny_http_text::ascii::AsciiString;
 use tiny_http_text::number::Numeral;
-use tiny_http_wire::common::{HTTPVersion, Header, Method};
+use tiny_http_wire::common::{HTTPVersion, Header, Method, ParseError};
 
 /// A writer that takes all bytes, and keeps none.
 #[derive(Clone, Copy, Debug)]
@@ -149,13 +150,19 @@ impl TestRequest {
         request
     }
 
-    /// For this target.
-    pub fn with_path(self, path: AsciiString) -> TestRequest
-        ensures { result ≡ record self { path = path } }
+    /// For this target. It is refused where it isn't ASCII, as a request line with such a target is. An error too where
+    /// memory was refused.
+    pub fn with_path(self, alloc: Global, path: &str) -> Result<TestRequest, ParseError>
+        ensures path { IfOk result (λ r. r ≡ record self { path = path.now }) }
+        ensures ascii { OnOk result (IsAscii path.now) }
+        ensures refused { IfErr result (λ e. e ≡ ParseError.Refused → IsNotAscii path.now) }
     {
+        let Ok(path) = AsciiString::from_ascii(path.as_bytes().to_vec(alloc)?) else {
+            return Err(ParseError::Refused);
+        };
         let mut request = self;
         request.path = path;
-        request
+        Ok(request)
     }
 
     /// In this version.
