@@ -1,12 +1,11 @@
 //! Answers and bodies that are read.
 use crate::findings::{add, add_kind, add_shown, add_some};
 use crate::row::{Finding, Input};
-use case_files::devices::Pieces;
 use std::alloc::{AllocError, Global};
 use tiny_http_answer::answer::{Answer, AnswerFault, read_answer};
 use tiny_http_wire::chunked::Decoder;
 use tiny_http_wire::common::{Header, Method};
-use tiny_http_wire::device::{Canned, ReadDevice, Stop};
+use tiny_http_wire::device::{ByPieces, Canned, ReadDevice, Stop};
 
 // The headers of an answer, and then how many there are and how many bytes their values have.
 fn add_headers(alloc: Global, to: &mut Vec<Finding>, headers: &[Header]) -> Result<(), AllocError> {
@@ -103,7 +102,7 @@ fn add_stop(alloc: Global, to: &mut Vec<Finding>, stop: Option<Stop>) -> Result<
 // Whether a further read answers that the data stop so.
 fn is_over(
     alloc: Global,
-    decoder: &mut Decoder<Pieces>,
+    decoder: &mut Decoder<ByPieces<Canned>>,
     stop: Option<Stop>,
 ) -> Result<bool, AllocError> {
     let (data, found) = drain(alloc, decoder)?;
@@ -113,7 +112,7 @@ fn is_over(
 // Whether two further reads answer that the data stop so.
 fn is_settled(
     alloc: Global,
-    decoder: &mut Decoder<Pieces>,
+    decoder: &mut Decoder<ByPieces<Canned>>,
     stop: Option<Stop>,
 ) -> Result<bool, AllocError> {
     let is_over_once = is_over(alloc, decoder, stop)?;
@@ -123,7 +122,7 @@ fn is_settled(
 // The data of a body, and how they stop. A read into no room takes nothing.
 fn read_body(
     alloc: Global,
-    decoder: &mut Decoder<Pieces>,
+    decoder: &mut Decoder<ByPieces<Canned>>,
     to: &mut Vec<Finding>,
 ) -> Result<(), AllocError> {
     if !matches!(decoder.read(&mut []), Ok(0)) {
@@ -146,7 +145,7 @@ pub fn decode(
     to: &mut Vec<Finding>,
 ) -> Result<(), AllocError> {
     let whole = Canned::new(input.bytes.as_slice().to_vec(alloc)?, input.stop);
-    let mut decoder = Decoder::new(Pieces::new(whole, piece));
+    let mut decoder = Decoder::new(ByPieces::new(whole, piece));
     read_body(alloc, &mut decoder, to)?;
     let mut reader = decoder.into_inner();
     let (rest, _) = drain(alloc, &mut reader)?;

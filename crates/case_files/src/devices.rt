@@ -2,29 +2,10 @@
 use std::alloc::Global;
 use std::io;
 use std::io::{ErrorKind, Write};
-use tiny_http_wire::device::{Canned, ReadDevice};
+use tiny_http_wire::device::{ByPieces, Canned, FailsAt};
 
-/// A client's bytes, of which a call gives so many at most.
-#[derive(Drop)]
-pub struct Pieces {
-    client: Canned,
-    most: usize,
-}
-
-impl Pieces {
-    /// Gives what the client sends, `most` bytes a call at most.
-    pub fn new(client: Canned, most: usize) -> Pieces {
-        Pieces { client, most }
-    }
-}
-
-impl ReadDevice for Pieces {
-    /// Reads a piece.
-    fn read_in(&mut self, buf: &mut [u8]) -> Result<usize, io::Error> {
-        let room = buf.len().min(self.most);
-        self.client.read_in(&mut buf[..room])
-    }
-}
+/// The reader of a trial: a client's bytes, so many a call at most, and one call that may fail.
+pub type Reader = FailsAt<ByPieces<Canned>>;
 
 /// A writer that keeps what it takes. It takes so many bytes, and then fails; or one of its calls fails. Writes and flushes
 /// count alike.

@@ -96,6 +96,54 @@ fn given_differs(
     Ok(None)
 }
 
+// The first reply that differs though no call of its step reads what the client sends: of a cut the first to see anything is an
+// `ask` or a `read`.
+fn first_reply_differs(
+    alloc: Global,
+    case: &Case,
+    outcome: &Outcome,
+) -> Result<Option<Difference>, AllocError> {
+    let steps = case.steps.iter().filter(|step| !step.is_date());
+    for (step, reply) in steps.zip(outcome.replies.iter()) {
+        if reply.as_slice() == step.reply.as_slice() {
+            continue;
+        }
+        if step.is_ask() || read_number(step).is_some() {
+            return Ok(None);
+        }
+        let what = String::from_str(alloc, "the first other reply")?;
+        return differing(alloc, what, reply.as_slice(), step.reply.as_slice());
+    }
+    Ok(None)
+}
+
+// Whether what is left of an output begins with an answer, so that the answers in front of it are whole.
+fn is_answer_or_none(rest: &[u8]) -> bool {
+    rest.is_empty() || rest.starts_with(b"HTTP/")
+}
+
+// Whether only whole answers are sent in a case: by no step a request gets a raw writer.
+fn has_whole_answers(case: &Case) -> bool {
+    case.steps.iter().all(|step| match &step.deed {
+        Deed::Script(line) => !line.starts_with("writer ") && !line.starts_with("upgrade "),
+        Deed::Answer(_) => true,
+    })
+}
+
+// An answer that was cut: what was sent ends where no answer of the case does.
+fn answer_is_cut(
+    alloc: Global,
+    case: &Case,
+    output: &[u8],
+) -> Result<Option<Difference>, AllocError> {
+    let rest = case.output.get(output.len()..).unwrap_or_default();
+    if is_answer_or_none(rest) || !has_whole_answers(case) {
+        return Ok(None);
+    }
+    let what = String::from_str(alloc, "the output, which is cut in an answer,")?;
+    differing(alloc, what, output, case.output.as_slice())
+}
+
 // The bytes of a date.
 const DATE: usize = 29;
 
@@ -106,9 +154,18 @@ fn before_408(output: &[u8]) -> Option<&[u8]> {
     dated.strip_suffix(b"HTTP/1.1 408 Request Timeout\r\nServer: tiny-http (Rust)\r\nDate: ")
 }
 
-/// Where an outcome is no front of its case, whose client's bytes were cut, with this fault of the reader or an end behind them:
-/// the requests that are handed out, what their bodies give, and the output, behind which a 408 may stand where a time-out cut
-/// the bytes. The writer doesn't fail.
+// What an output has in front of the 408 that a time-out may have led to, where the case has none there.
+fn without_408<'a>(case: &Case, output: &'a [u8], stop: Option<ErrorKind>) -> &'a [u8] {
+    if stop != Some(ErrorKind::TimedOut) || case.output.starts_with(output) {
+        return output;
+    }
+    before_408(output).unwrap_or(output)
+}
+
+/// Where an outcome is no prefix of its case, whose client's bytes were cut, with this fault of the reader or an end behind
+/// them. The requests that are handed out are the first of the case's. What their bodies give is a prefix of what they give
+/// there. The first reply that is another one is that of an `ask` or a `read`. The output is whole answers, a prefix of the
+/// case's, behind which a 408 may stand where a time-out cut the bytes. The writer doesn't fail.
 pub fn cut_difference(
     alloc: Global,
     case: &Case,
@@ -123,11 +180,14 @@ pub fn cut_difference(
     if let Some(found) = given_differs(alloc, case, outcome)? {
         return Ok(Some(found));
     }
-    let mut output = outcome.output.as_slice();
-    if stop == Some(ErrorKind::TimedOut) && !case.output.starts_with(output) {
-        output = before_408(output).unwrap_or(output);
+    if let Some(found) = first_reply_differs(alloc, case, outcome)? {
+        return Ok(Some(found));
     }
+    let output = without_408(case, outcome.output.as_slice(), stop);
     if let Some(found) = output_differs(alloc, output, case.output.as_slice(), true)? {
+        return Ok(Some(found));
+    }
+    if let Some(found) = answer_is_cut(alloc, case, output)? {
         return Ok(Some(found));
     }
     count_differs(alloc, "failures", outcome.failures, 0)

@@ -131,6 +131,27 @@ pub fn output_differs(
     differing(alloc, what, found, wanted)
 }
 
+/// Where an outcome first differs from another one.
+pub fn outcomes_differ(
+    alloc: Global,
+    found: &Outcome,
+    wanted: &Outcome,
+) -> Result<Option<Difference>, AllocError> {
+    let pairs = found.replies.iter().zip(wanted.replies.iter());
+    for (place, (one, other)) in pairs.enumerate() {
+        if one.as_slice() != other.as_slice() {
+            let number = place.saturating_add(1);
+            let what = format!(in alloc; "reply {number}")?;
+            return differing(alloc, what, one.as_slice(), other.as_slice());
+        }
+    }
+    let (output, whole) = (found.output.as_slice(), wanted.output.as_slice());
+    match output_differs(alloc, output, whole, false)? {
+        Some(difference) => Ok(Some(difference)),
+        None => count_differs(alloc, "failures", found.failures, wanted.failures),
+    }
+}
+
 // Why no further request comes, where the case says so, it is known, and it differs.
 fn end_differs(
     alloc: Global,

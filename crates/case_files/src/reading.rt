@@ -48,6 +48,9 @@ fn lack_of(cases: &[Case]) -> Option<&'static str> {
     if !step.is_answered {
         return Some("the last step of the case in front has no reply");
     }
+    if case.varied.is_some_and(|count| count > case.client.len()) {
+        return Some("the case in front varies more bytes than its client sends");
+    }
     None
 }
 
@@ -194,7 +197,8 @@ fn add_line(alloc: Global, case: &mut Case, text: &str) -> Result<(), LineFault>
             None => return Err(NO_KIND),
         },
         "takes" if case.room.is_none() => case.room = Some(room_in(words)?),
-        "uncut" if words.is_empty() && !case.is_uncut => case.is_uncut = true,
+        "uncut" if !words.is_empty() => return Err(LineFault::Bad("nothing stands behind uncut")),
+        "uncut" if !case.is_uncut => case.is_uncut = true,
         "vary" if case.varied.is_none() => match number_in(words) {
             Some(count) => case.varied = Some(count),
             None => return Err(NO_NUMBER),

@@ -3,7 +3,7 @@ use crate::case::Case;
 use crate::fault::FilesFault;
 use crate::front::{cut_difference, plain_difference};
 use crate::kinds::kind_at;
-use crate::outcome::{Difference, Outcome, first_difference};
+use crate::outcome::{Difference, Outcome, first_difference, outcomes_differ};
 use crate::program::NamedFile;
 use crate::reading::read_cases;
 use crate::steps::StepsFault;
@@ -56,6 +56,8 @@ pub struct Tally {
     pub runs: u64,
     /// Runs in which the client's bytes were cut.
     pub cuts: u64,
+    /// Runs in which a call of the reader failed once.
+    pub faults: u64,
     /// Runs in which one of the client's bytes was replaced.
     pub changes: u64,
     pub differing: u64,
@@ -67,6 +69,7 @@ impl Tally {
         let count = match trial.harm {
             None | Some(Harm::Call(_)) => &mut self.runs,
             Some(Harm::Cut(..)) => &mut self.cuts,
+            Some(Harm::Once(..)) => &mut self.faults,
             Some(Harm::Byte(..)) => &mut self.changes,
         };
         *count = count.saturating_add(1);
@@ -79,22 +82,30 @@ pub const PIECES: [usize; 4] = [1, 2, 1023, 1024];
 // The most calls of the writer that are made to fail.
 const MOST_CALLS: u64 = 10_000;
 
-// Where the outcome of a trial differs from what it should be.
-fn difference_of(
-    alloc: Global,
+// Where the outcome of a trial differs from what it should be. A fault of the reader ends its bytes for good: what it leads to
+// is what comes where the bytes are cut there.
+fn difference_of<'a, F: Runner>(
+    (alloc, runner): (Global, &mut F),
     case: &Case,
     outcome: &Outcome,
     trial: Trial,
-) -> Result<Option<Difference>, AllocError> {
-    match trial.harm {
-        None => first_difference(alloc, case, outcome, false),
-        Some(Harm::Call(_)) => first_difference(alloc, case, outcome, true),
-        Some(Harm::Cut(_, stop)) => cut_difference(alloc, case, outcome, stop),
+) -> Result<Option<Difference>, FilesFault<'a>> {
+    Ok(match trial.harm {
+        None => first_difference(alloc, case, outcome, false)?,
+        Some(Harm::Call(_)) => first_difference(alloc, case, outcome, true)?,
+        Some(Harm::Cut(_, stop)) => cut_difference(alloc, case, outcome, stop)?,
+        Some(Harm::Once(count, kind)) => {
+            let harm = Some(Harm::Cut(count, Some(kind)));
+            let Ok(wanted) = runner.run(alloc, case, Trial { harm, ..trial }) else {
+                return Err(FilesFault::OutOfMemory);
+            };
+            outcomes_differ(alloc, outcome, &wanted)?
+        }
         Some(Harm::Byte(..)) => {
             let client = trial.client(alloc, case)?;
-            plain_difference(alloc, case, outcome, client.as_slice())
+            plain_difference(alloc, case, outcome, client.as_slice())?
         }
-    }
+    })
 }
 
 // Reports a difference by a line.
@@ -126,7 +137,7 @@ fn try_once<'a, F: Runner, O: Write>(
         return Err(FilesFault::OutOfMemory);
     };
     tally.count(trial);
-    if let Some(difference) = difference_of(alloc, case, &outcome, trial)? {
+    if let Some(difference) = difference_of((alloc, &mut *runner), case, &outcome, trial)? {
         tally.differing = tally.differing.saturating_add(1);
         if report(out, (case, runner.how()), trial, &difference).is_err() {
             return Err(FilesFault::CannotWrite);
@@ -165,7 +176,8 @@ fn is_cut_at(count: usize, length: usize) -> bool {
     count < 1200 || length.saturating_sub(count) <= 50 || count % 997 == 0
 }
 
-// Tries a case with the client's bytes cut, by an end, by a time-out, and by the other kinds of fault in turn.
+// Tries a case with the client's bytes cut, by an end, by a time-out, and by the other kinds of fault in turn; and with the
+// reader failing once there.
 fn try_cuts<'a, F: Runner, O: Write>(
     (alloc, runner): (Global, &mut F),
     out: &mut O,
@@ -176,6 +188,10 @@ fn try_cuts<'a, F: Runner, O: Write>(
     for count in (0..length).filter(|count| is_cut_at(*count, length)) {
         for stop in [None, Some(ErrorKind::TimedOut), Some(kind_at(count))] {
             let trial = Trial::harmed(Harm::Cut(count, stop));
+            try_once((alloc, &mut *runner), out, case, trial, tally)?;
+        }
+        for kind in [ErrorKind::TimedOut, ErrorKind::Interrupted] {
+            let trial = Trial::harmed(Harm::Once(count, kind));
             try_once((alloc, &mut *runner), out, case, trial, tally)?;
         }
     }
@@ -198,7 +214,7 @@ fn try_bytes<'a, F: Runner, O: Write>(
     Ok(())
 }
 
-// Tries a case by each reader, and with each call of the writer failing. Whether it is as it should be.
+// Tries a case by each reader, and with each call of the writer failing unless the case says how its writer fails.
 fn try_whole<'a, F: Runner, O: Write>(
     (alloc, runner): (Global, &mut F),
     out: &mut O,
@@ -215,7 +231,7 @@ fn try_whole<'a, F: Runner, O: Write>(
     }
 }
 
-// Tries a case in each way; with other bytes of the client where the whole ones give what they should.
+// Tries a case with the client's whole bytes, and where these give what they should, with other bytes.
 fn try_case<'a, F: Runner, O: Write>(
     (alloc, runner): (Global, &mut F),
     out: &mut O,
@@ -249,6 +265,7 @@ fn try_cases<'a, F: Runner, O: Write>(
         cases: 0,
         runs: 0,
         cuts: 0,
+        faults: 0,
         changes: 0,
         differing: 0,
     };
@@ -280,13 +297,14 @@ pub fn try_file<'a, F: Runner, O: Write>(
         cases,
         runs,
         cuts,
+        faults,
         changes,
         differing,
     } = tally;
     let how = runner.how();
     if writeln!(
         out,
-        "{name}: {cases} cases, {runs} runs{how}, {cuts} cuts, {changes} changes, {differing} differ"
+        "{name}: {cases} cases, {runs} runs{how}, {cuts} cuts, {faults} faults, {changes} changes, {differing} differ"
     )
     .is_err()
     {

@@ -1,10 +1,10 @@
 //! How a case is tried.
 use crate::case::Case;
-use crate::devices::{Pieces, Trier};
+use crate::devices::{Reader, Trier};
 use std::alloc::{AllocError, Global};
 use std::fmt;
 use std::io::ErrorKind;
-use tiny_http_wire::device::Canned;
+use tiny_http_wire::device::{ByPieces, Canned, FailsAt};
 
 /// What is done to a case in a trial.
 #[derive(Clone, Copy, Debug, PartialEq, Eq)]
@@ -13,6 +13,8 @@ pub enum Harm {
     Call(u64),
     /// So many of the client's bytes come. Then the reader fails by this kind, or ends.
     Cut(usize, Option<ErrorKind>),
+    /// The reader's call behind so many of the client's bytes fails once, by this kind. The reader gives one byte a call.
+    Once(usize, ErrorKind),
     /// The client's byte at this place is this one.
     Byte(usize, u8),
 }
@@ -32,7 +34,10 @@ pub const FAILING: ErrorKind = ErrorKind::Interrupted;
 impl Trial {
     /// A trial in which this is done to a case.
     pub fn harmed(harm: Harm) -> Trial {
-        let piece = 1024;
+        let piece = match harm {
+            Harm::Once(..) => 1,
+            Harm::Call(_) | Harm::Cut(..) | Harm::Byte(..) => 1024,
+        };
         let harm = Some(harm);
         Trial { piece, harm }
     }
@@ -49,18 +54,24 @@ impl Trial {
                 }
                 Ok(bytes)
             }
-            Some(Harm::Call(_)) | None => whole.to_vec(alloc),
+            Some(Harm::Call(_) | Harm::Once(..)) | None => whole.to_vec(alloc),
         }
     }
 
     /// The reader of this trial.
-    pub fn reader(&self, alloc: Global, case: &Case) -> Result<Pieces, AllocError> {
+    pub fn reader(&self, alloc: Global, case: &Case) -> Result<Reader, AllocError> {
         let stop = match self.harm {
             Some(Harm::Cut(_, stop)) => stop,
             _ => case.stop,
         };
         let client = Canned::new(self.client(alloc, case)?, stop);
-        Ok(Pieces::new(client, self.piece))
+        let pieces = ByPieces::new(client, self.piece);
+        Ok(match self.harm {
+            Some(Harm::Once(count, kind)) => {
+                FailsAt::new(pieces, (count as u64).saturating_add(1), kind)
+            }
+            _ => FailsAt::new(pieces, 0, ErrorKind::Other),
+        })
     }
 
     /// The writer of this trial.
@@ -82,6 +93,7 @@ impl fmt::Display for Trial {
             Some(Harm::Call(call)) => write!(f, ", call {call} failing"),
             Some(Harm::Cut(count, None)) => write!(f, ", cut at {count}"),
             Some(Harm::Cut(count, Some(kind))) => write!(f, ", cut at {count} by {kind:?}"),
+            Some(Harm::Once(count, kind)) => write!(f, ", {kind:?} once behind {count}"),
             Some(Harm::Byte(place, byte)) => write!(f, ", byte {place} being {byte}"),
         }
     }

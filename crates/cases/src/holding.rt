@@ -1,6 +1,6 @@
 //! A connection, and what the program holds of its requests.
 use crate::shared::Shared;
-use case_files::devices::Pieces;
+use case_files::devices::Reader;
 use std::alloc::{AllocError, Global};
 use std::io::Write;
 use std::sync::Wait;
@@ -15,13 +15,13 @@ use tiny_http_wire::device::Metered;
 pub(crate) type Below<R> = Metered<Shared<R>>;
 
 /// A request of these connections.
-pub(crate) type Asked<R> = Request<Pieces, Below<R>, R>;
+pub(crate) type Asked<R> = Request<Reader, Below<R>, R>;
 
 /// A raw writer of these connections.
 pub(crate) type RawWriter<R> = SequentialWriter<Outlet<Below<R>>, R>;
 
 /// The stream of an upgrade.
-pub(crate) type Stream<R> = CustomStream<Body<Pieces, R>, RawWriter<R>>;
+pub(crate) type Stream<R> = CustomStream<Body<Reader, R>, RawWriter<R>>;
 
 /// What is held under a number.
 #[derive(Drop)]
@@ -42,13 +42,13 @@ struct Numbered<R: Wait + Copy> {
 /// A connection, and what is held of its requests.
 #[derive(Drop)]
 pub(crate) struct Holding<R: Wait + Copy> {
-    pub(crate) client: ClientConnection<Pieces, Below<R>, R>,
+    pub(crate) client: ClientConnection<Reader, Below<R>, R>,
     items: Vec<Numbered<R>>,
 }
 
 impl<R: Wait + Copy> Holding<R> {
     /// Holds nothing of this connection.
-    pub(crate) fn new(alloc: Global, client: ClientConnection<Pieces, Below<R>, R>) -> Holding<R> {
+    pub(crate) fn new(alloc: Global, client: ClientConnection<Reader, Below<R>, R>) -> Holding<R> {
         Holding {
             client,
             items: Vec::new(alloc),

@@ -3,7 +3,6 @@ use crate::same::assert_same;
 use httpdate::HttpDate;
 use std::alloc::{AllocError, Global};
 use std::fmt::Write;
-use std::io;
 use std::io::ErrorKind;
 use std::process::Abort;
 use std::test::Fail;
@@ -11,7 +10,7 @@ use tiny_http_core::driver::{Reply, Step, Timed, run};
 use tiny_http_core::exchange::Head;
 use tiny_http_core::outlet::Outlet;
 use tiny_http_wire::common::StatusCode;
-use tiny_http_wire::device::{Budget, Canned, ReadDevice};
+use tiny_http_wire::device::{Budget, ByPieces, Canned};
 use tiny_http_wire::response::Response;
 
 /// The headers of each answer: the server, and the date of `SECONDS`.
@@ -61,26 +60,8 @@ pub(crate) enum Deed<'a> {
     Drop(u64),
 }
 
-/// A reader that gives another's bytes, at most so many a call.
-#[derive(Drop)]
-pub(crate) struct Pieces {
-    inner: Canned,
-    most: usize,
-}
-
-impl Pieces {
-    pub(crate) fn new(inner: Canned, most: usize) -> Pieces {
-        Pieces { inner, most }
-    }
-}
-
-impl ReadDevice for Pieces {
-    /// Reads a piece.
-    fn read_in(&mut self, buf: &mut [u8]) -> Result<usize, io::Error> {
-        let room = buf.len().min(self.most);
-        self.inner.read_in(&mut buf[..room])
-    }
-}
+/// A client's bytes, of which a call gives so many at most.
+pub(crate) type Pieces = ByPieces<Canned>;
 
 /// The most bytes a call of the readers that every run is tried with: one, two, and about as many as the source holds.
 pub(crate) const SIZES: [usize; 4] = [1, 2, 1023, 1024];

@@ -1,7 +1,7 @@
 //! Files of cases: lines that aren't of the format, and how runs that differ are reported.
 use crate::same::assert_same;
 use case_files::case::Case;
-use case_files::devices::{Pieces, Trier};
+use case_files::devices::{Reader, Trier};
 use case_files::fault::FilesFault;
 use case_files::front::{cut_difference, plain_difference};
 use case_files::outcome::{Difference, Outcome, first_difference};
@@ -14,7 +14,7 @@ use std::alloc::Global;
 use std::io::{ErrorKind, Write};
 use std::process::Abort;
 use std::test::Fail;
-use tiny_http_wire::device::{Canned, ReadDevice};
+use tiny_http_wire::device::ReadDevice;
 
 // Files, the line of each that isn't of the format, and why.
 const BAD: &[(&str, usize, &str)] = &[
@@ -96,6 +96,13 @@ const BAD: &[(&str, usize, &str)] = &[
         "case a\nanswer 0 200\n+ size 3\n",
         3,
         "an answer has no such part, or has it already",
+    ),
+    ("case a\nuncut x\n", 2, "nothing stands behind uncut"),
+    ("case a\nuncut\nuncut\n", 3, "the case says so already"),
+    (
+        "case a\nclient G\nvary 2\nask\n  ended\n",
+        6,
+        "the case in front varies more bytes than its client sends",
     ),
     (
         "case a\nclient caf\u{e9}\n",
@@ -275,71 +282,81 @@ fn outcomes_that_differ(rt: HostRuntime) -> Result<(), Fail> {
     Ok(())
 }
 
-// A case of which a body is read.
-const READ: &str = "case a\nclient GG\nask\n  handed 0 G\nread 0 3\n  given abc\noutput xyz\n";
+// A case of which a body is read, with two answers.
+const READ: &str =
+    "case a\nclient GG\nask\n  handed 0 G\nread 0 3\n  given abc\ndrop 0\n  done\noutput HTTP/xHTTP/y\n";
 
 const TIMED_OUT: &str =
-    "xHTTP/1.1 408 Request Timeout\r\nServer: tiny-http (Rust)\r\nDate: Wed, 04 May 1983 11:17:00 GMT\r\nContent-Length: 0\r\n\r\n";
+    "HTTP/xHTTP/1.1 408 Request Timeout\r\nServer: tiny-http (Rust)\r\nDate: Wed, 04 May 1983 11:17:00 GMT\r\nContent-Length: 0\r\n\r\n";
 
-const LATE: &str =
-    "HTTP/1.1 408 Request Timeout\r\nServer: tiny-http (Rust)\r\nDate: Wed, 04 May 1983 11:17:00 GMT\r\nContent-Length: 0\r\n\r\n";
-
-// Two replies and an output of which the client's bytes were cut, by this fault or an end, and what differs first.
+// Replies and an output of which the client's bytes were cut, by this fault or an end, and what differs first.
 type CutRow = (
-    [&'static str; 2],
+    &'static [&'static str],
     &'static str,
     Option<ErrorKind>,
     &'static str,
 );
 
 const CUTS: &[CutRow] = &[
-    (["ended", "nosuch"], "", None, ""),
-    (["handed 0 G", "given ab"], "xy", None, ""),
+    (&["ended", "nosuch", "nosuch"], "", None, ""),
+    (&["handed 0 G", "given ab"], "HTTP/x", None, ""),
     (
-        ["handed 0 H", "given"],
+        &["handed 0 H", "given"],
         "",
         None,
         "request 0 that is handed out: handed 0 H, handed 0 G",
     ),
     (
-        ["handed 0 G", "given b"],
+        &["handed 0 G", "given b"],
         "",
         None,
         "the body of request 0: b, abc",
     ),
     (
-        ["handed 0 G", "given"],
-        "y",
+        &["handed 0 G", "given abc", "nosuch"],
+        "",
         None,
-        "output from byte 0: y, xyz",
+        "the first other reply: nosuch, done",
     ),
     (
-        ["handed 0 G", "given"],
+        &["handed 0 G", "given"],
+        "y",
+        None,
+        "output from byte 0: y, HTTP/xHTTP/y",
+    ),
+    (
+        &["handed 0 G", "given"],
+        "HTTP/",
+        None,
+        "the output, which is cut in an answer,: HTTP/, HTTP/xHTTP/y",
+    ),
+    (
+        &["handed 0 G", "given"],
         TIMED_OUT,
         Some(ErrorKind::TimedOut),
         "",
     ),
     (
-        ["handed 0 G", "given"],
-        "xHTTP",
+        &["handed 0 G", "given"],
+        "HTTP/xHTTP/1",
         Some(ErrorKind::TimedOut),
-        "output from byte 1: HTTP, yz",
+        "output from byte 11: 1, y",
     ),
     (
-        ["handed 0 G", "given"],
-        LATE,
+        &["handed 0 G", "given"],
+        TIMED_OUT,
         Some(ErrorKind::Other),
-        "output from byte 0: HTTP/1.1 408 Request Timeout\\r\\nServer: tiny-http (Rust)\\r\\nDate: Wed, 04 May 1983 11:17:00 GMT\\r\\nContent-Length: 0\\r\\n\\r\\n, xyz",
+        "output from byte 11: 1.1 408 Request Timeout\\r\\nServer: tiny-http (Rust)\\r\\nDate: Wed, 04 May 1983 11:17:00 GMT\\r\\nContent-Length: 0\\r\\n\\r\\n, y",
     ),
     (
-        ["handed 0 G", "handed 1 G"],
+        &["handed 0 G", "handed 1 G"],
         "",
         None,
         "request 1 that is handed out: handed 1 G, ",
     ),
 ];
 
-// What came of two steps.
+// What came of these steps.
 fn outcome_of(alloc: Global, lines: &[&str], output: &str) -> Result<Outcome, Fail> {
     let mut replies = Vec::new(alloc);
     for line in lines {
@@ -471,10 +488,16 @@ const HARMS: &[HarmRow] = &[
         None,
         "1024 bytes a read, byte 1 being 120",
     ),
+    (
+        Some(Harm::Once(1, ErrorKind::TimedOut)),
+        "GG",
+        Some(ErrorKind::TimedOut),
+        "1024 bytes a read, TimedOut once behind 1",
+    ),
 ];
 
 // What a reader gives in one call, and the fault of the next.
-fn read_twice(alloc: Global, reader: &mut Pieces) -> Result<(Vec<u8>, Option<ErrorKind>), Fail> {
+fn read_twice(alloc: Global, reader: &mut Reader) -> Result<(Vec<u8>, Option<ErrorKind>), Fail> {
     let mut buf = [0u8; 9];
     let count = reader.read_in(&mut buf).unwrap_or(0);
     let bytes = buf.get(..count).unwrap_or_default().to_vec(alloc)?;
@@ -508,9 +531,12 @@ fn a_trial_changes_what_the_client_sends(rt: HostRuntime) -> Result<(), Fail> {
     Ok(())
 }
 
-/// A way to run a case that always gives the same.
+/// A way to run a case that gives the one where the reader fails once, and else the other.
 #[derive(Drop)]
-struct Fixed(Found);
+struct Fixed {
+    found: Found,
+    once: Found,
+}
 
 impl Runner for Fixed {
     fn how(&self) -> &'static str {
@@ -525,16 +551,19 @@ impl Runner for Fixed {
         true
     }
 
-    fn run(&mut self, alloc: Global, _case: &Case, _trial: Trial) -> Result<Outcome, StepsFault> {
-        self.0.outcome(alloc)
+    fn run(&mut self, alloc: Global, _case: &Case, trial: Trial) -> Result<Outcome, StepsFault> {
+        match trial.harm {
+            Some(Harm::Once(..)) => self.once.outcome(alloc),
+            _ => self.found.outcome(alloc),
+        }
     }
 }
 
-// Two ways to run the case, and what is reported of it.
+// Two ways to run the case, the second with another outcome where the reader fails once, and what is reported of it.
 fn assert_report(
     rt: &impl Abort,
     alloc: Global,
-    (one, other): (Found, Found),
+    [one, other, once]: [Found; 3],
     wanted: &str,
 ) -> Result<(), Fail> {
     let name = "a.cases";
@@ -543,8 +572,11 @@ fn assert_report(
         return Err("no file of cases".into());
     };
     let mut out = Vec::new(alloc);
-    let mut first = Fixed(one);
-    let mut second = Fixed(other);
+    let mut first = Fixed {
+        found: one,
+        once: one,
+    };
+    let mut second = Fixed { found: other, once };
     let Ok(_) = try_files(alloc, (&mut first, &mut second), &mut out, files.as_slice()) else {
         return Err("no report".into());
     };
@@ -564,24 +596,18 @@ fn runs_that_differ_are_reported(rt: HostRuntime) -> Result<(), Fail> {
         a, 1023 bytes a read: reply 1 is done and not ended\n\
         a, 1024 bytes a read: reply 1 is done and not ended\n\
         a, 1024 bytes a read, call 1 failing: reply 1 is done and not ended\n\
-        a.cases: 1 cases, 5 runs, 0 cuts, 0 changes, 5 differ\n";
-    let good = "a.cases: 1 cases, 5 runs, 3 cuts, 0 changes, 0 differ\n";
-    let none = "a.cases: 0 cases, 0 runs, 0 cuts, 0 changes, 0 differ\n";
+        a.cases: 1 cases, 5 runs, 0 cuts, 0 faults, 0 changes, 5 differ\n";
+    let good = "a.cases: 1 cases, 5 runs, 3 cuts, 2 faults, 0 changes, 0 differ\n";
+    let none = "a.cases: 0 cases, 0 runs, 0 cuts, 0 faults, 0 changes, 0 differ\n";
+    let late = "a, 1 bytes a read, TimedOut once behind 0: reply 1 is done and not ended\n\
+        a, 1 bytes a read, Interrupted once behind 0: reply 1 is done and not ended\n\
+        a.cases: 1 cases, 5 runs, 3 cuts, 2 faults, 0 changes, 2 differ\n";
     let wanted = format!(in rt.alloc(); "{good}{differing}")?;
-    assert_report(&rt, rt.alloc(), (GOOD, done), wanted.as_str())?;
+    assert_report(&rt, rt.alloc(), [GOOD, done, done], wanted.as_str())?;
     let wanted = format!(in rt.alloc(); "{differing}{none}")?;
-    assert_report(&rt, rt.alloc(), (done, GOOD), wanted.as_str())
-}
-
-#[test]
-fn a_reader_gives_pieces(rt: HostRuntime) -> Result<(), Fail> {
-    let client = Canned::new(b"hello".to_vec(rt.alloc())?, Some(ErrorKind::TimedOut));
-    let mut reader = Pieces::new(client, 2);
-    for wanted in [Some(2), Some(2), Some(1), None] {
-        let found = reader.read_in(&mut [0; 9]).ok();
-        assert_same(&rt, found, wanted);
-    }
-    Ok(())
+    assert_report(&rt, rt.alloc(), [done, GOOD, GOOD], wanted.as_str())?;
+    let wanted = format!(in rt.alloc(); "{good}{late}")?;
+    assert_report(&rt, rt.alloc(), [GOOD, GOOD, done], wanted.as_str())
 }
 
 // Writes twice and flushes: what each call took, and then what was taken, how often it failed, and the calls after that.

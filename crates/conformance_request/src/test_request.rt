@@ -4,7 +4,7 @@ use std::io::{ErrorKind, Read};
 use std::test::Fail;
 use tiny_http_request::request::RequestCreationError;
 use tiny_http_request::test::TestRequest;
-use tiny_http_wire::common::{HTTPVersion, Header};
+use tiny_http_wire::common::{HTTPVersion, Header, ParseError};
 
 const SECONDS: u64 = 420_895_020;
 
@@ -71,6 +71,21 @@ fn a_cut_body_fails(rt: HostRuntime) -> Result<(), Fail> {
         }
         _ => return Err("not refused".into()),
     }
+    Ok(())
+}
+
+// A target is a text; one that isn't ASCII is none of a request line.
+#[test]
+fn a_target_is_ascii(rt: HostRuntime) -> Result<(), Fail> {
+    let alloc = rt.alloc();
+    let now = HttpDate::from_unix_secs(SECONDS)?;
+    let refused = TestRequest::new(alloc)?.with_path(alloc, "/caf\u{e9}");
+    assert!(rt; matches!(refused, Err(ParseError::Refused)));
+    let made = TestRequest::new(alloc)?.with_path(alloc, "/a?b=c")?;
+    let Ok(request) = made.into_request(rt, alloc, now) else {
+        return Err("refused".into());
+    };
+    assert_eq!(rt; request.url(), "/a?b=c");
     Ok(())
 }
 

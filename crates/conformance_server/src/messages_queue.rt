@@ -285,6 +285,134 @@ fn each_push_wakes_one(rt: HostRuntime) {
     }
 }
 
+// A value that another takes: it wakes one who waits, who then finds nothing.
+fn wake_for_nothing<R: Wait + Abort>(rt: &R, queue: &MessagesQueue<u8>) {
+    push(rt, queue, 1);
+    let _ = queue.try_pop(rt);
+}
+
+// Pops by a call that waits until 7 comes, or nothing. A 1 was meant for another.
+fn pop_seven<R: Wait + Clock>(rt: &R, queue: &MessagesQueue<u8>, is_timed: bool) -> Option<u8> {
+    for _ in rt.forever() {
+        let found = match is_timed {
+            true => queue.pop_timeout(rt, Duration::from_secs(30)),
+            false => queue.pop(rt),
+        };
+        if found != Some(1) {
+            return found;
+        }
+    }
+    unreachable!()
+}
+
+// A thread that pops until 7 comes.
+fn start_seven<R: Host>(
+    rt: &R,
+    queue: &Arc<MessagesQueue<u8>>,
+    is_timed: bool,
+) -> JoinHandle<Option<u8>> {
+    let (theirs, queue) = (*rt, shared(rt, queue));
+    let started = thread::spawn(rt, move || pop_seven(&theirs, &queue, is_timed));
+    started.ok().expect(rt, "a thread")
+}
+
+#[test]
+fn a_wake_for_nothing_is_no_answer(rt: HostRuntime) {
+    let queue = empty_queue(&rt, rt.alloc());
+    for is_timed in [false, true] {
+        let popping = start_seven(&rt, &queue, is_timed);
+        for _ in 0..50u8 {
+            thread::sleep(&rt, Duration::from_millis(1));
+            wake_for_nothing(&rt, &queue);
+        }
+        push(&rt, &queue, 7);
+        assert_same(&rt, (is_timed, popping.join(&rt)), (is_timed, Some(7)));
+    }
+}
+
+// Waits for 400 ms at most, and counts that it came back.
+fn pop_shortly<R: Wait + Clock>(rt: &R, queue: &MessagesQueue<u8>, came: &AtomicU64) {
+    let _ = queue.pop_timeout(rt, Duration::from_millis(400));
+    came.fetch_add(1, Ordering::SeqCst);
+}
+
+// A thread that waits for 400 ms at most.
+fn start_shortly<R: Host>(
+    rt: &R,
+    queue: &Arc<MessagesQueue<u8>>,
+    came: &Arc<AtomicU64>,
+) -> JoinHandle<()> {
+    let (theirs, queue, came) = (*rt, shared(rt, queue), shared(rt, came));
+    let started = thread::spawn(rt, move || pop_shortly(&theirs, &queue, &came));
+    started.ok().expect(rt, "a thread")
+}
+
+// Wakes for nothing each 50 ms, 5 s long at most, until one came back. Whether one did.
+fn comes_back<R: Wait + Clock + Abort>(
+    rt: &R,
+    queue: &MessagesQueue<u8>,
+    came: &AtomicU64,
+) -> bool {
+    for _ in 0..100u8 {
+        if came.load(Ordering::SeqCst) > 0 {
+            return true;
+        }
+        thread::sleep(rt, Duration::from_millis(50));
+        wake_for_nothing(rt, queue);
+    }
+    false
+}
+
+// A pop that waited the whole time anew after each wake would not come back.
+#[test]
+fn a_wake_for_nothing_gives_no_time(rt: HostRuntime) {
+    let queue = empty_queue(&rt, rt.alloc());
+    let came = nobody_came(&rt, rt.alloc());
+    let popping = start_shortly(&rt, &queue, &came);
+    let is_back = comes_back(&rt, &queue, &came);
+    assert_holds(&rt, "it comes back", is_back);
+    popping.join(&rt);
+}
+
+// So many times a value or a mark is awaited.
+const ROUNDS: u16 = 2_000;
+
+// Pops, and answers by a mark, so many times.
+fn answer_each<R: Wait + Abort>(rt: &R, queue: &MessagesQueue<u8>, answers: &MessagesQueue<u8>) {
+    for _ in 0..ROUNDS {
+        let _ = queue.pop(rt);
+        unblock(rt, answers);
+    }
+}
+
+// A thread that answers each value and each mark.
+fn start_answers<R: Host>(
+    rt: &R,
+    queue: &Arc<MessagesQueue<u8>>,
+    answers: &Arc<MessagesQueue<u8>>,
+) -> JoinHandle<()> {
+    let (theirs, queue, answers) = (*rt, shared(rt, queue), shared(rt, answers));
+    let started = thread::spawn(rt, move || answer_each(&theirs, &queue, &answers));
+    started.ok().expect(rt, "a thread")
+}
+
+// Each value and each mark wakes one who waits, or is found by him. One that came behind its wake would be found by nobody.
+#[test]
+fn no_wake_is_lost(rt: HostRuntime) {
+    let queue = empty_queue(&rt, rt.alloc());
+    let answers = empty_queue(&rt, rt.alloc());
+    let answering = start_answers(&rt, &queue, &answers);
+    for round in 0..ROUNDS {
+        match round % 2 {
+            0 => push(&rt, &queue, 7),
+            _ => unblock(&rt, &queue),
+        }
+        let _ = answers.pop(&rt);
+    }
+    answering.join(&rt);
+    assert_same(&rt, answers.try_pop(&rt), None);
+}
+
 // Pushes all values of one thread. The number of those that came back.
 fn push_all<R: Wait>(rt: &R, queue: &MessagesQueue<Numbered>, pusher: usize) -> usize {
     let mut refused = 0usize;

@@ -2,10 +2,12 @@
 use crate::same::assert_holds;
 use std::alloc::Global;
 use std::process::Abort;
-use std::sync::Arc;
 use std::sync::atomic::{AtomicBool, Ordering};
+use std::sync::{Arc, Wait};
 use std::thread;
+use std::thread::Threads;
 use std::time::{Clock, Duration};
+use tiny_http::messages_queue::MessagesQueue;
 use tiny_http::task_pool::{Job, TaskPool};
 
 // Of two jobs the first waits for what the second sets.
@@ -74,4 +76,44 @@ fn pool_two_jobs_at_once(rt: HostRuntime) {
         assert_holds(&rt, "a job is taken", spawned.is_ok());
     }
     assert_holds(&rt, "the first ends", is_set(&rt, &first_ended));
+}
+
+// A job that tells that it ran.
+#[derive(Drop)]
+struct Tells<R: Wait> {
+    rt: R,
+    told: Arc<MessagesQueue<u8>>,
+}
+
+impl<R: Wait> Job for Tells<R> {
+    fn run(&mut self) {
+        let _ = self.told.push(&self.rt, 1);
+    }
+}
+
+// A job is taken, and runs.
+fn assert_runs<R: Wait + Threads + Clock + Abort + Copy + Send + Sync + 'static>(
+    rt: &R,
+    alloc: Global,
+    pool: &TaskPool<Tells<R>, R>,
+    told: &Arc<MessagesQueue<u8>>,
+) {
+    let told_too = Arc::try_clone(told).expect(rt, "memory");
+    let job = Tells {
+        rt: *rt,
+        told: told_too,
+    };
+    let spawned = pool.spawn(rt, alloc, job);
+    assert_holds(rt, "a job is taken", spawned.is_ok());
+    assert_holds(rt, "a job runs", told.pop(rt) == Some(1));
+}
+
+// A job that came behind its wake would be run by nobody.
+#[test]
+fn an_idle_pool_runs_each_job(rt: HostRuntime) {
+    let told = MessagesQueue::with_capacity(rt.alloc(), 8).expect(&rt, "memory");
+    let pool = TaskPool::new(rt, rt.alloc()).expect(&rt, "a pool");
+    for _ in 0..2_000u16 {
+        assert_runs(&rt, rt.alloc(), &pool, &told);
+    }
 }

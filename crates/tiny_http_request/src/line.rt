@@ -1,5 +1,5 @@
 //! An item that numbers have in turn, under a lock, and the threads that wait for their turns.
-ghost use Rattle.std.specs.Prelude.{◌≡◌, ◌^◌, ◌<◌, length};
+ghost use Rattle.std.specs.Prelude.{◌≡◌, ◌+◌, ◌^◌, ◌<◌, length, IfSome, IfNone};
 ghost use Rattle.tiny_http_turns.specs.Turns.{Finish, marks_after_step, turn_answer};
 ghost use Rattle.tiny_http_turns.specs.TurnsCalls.{Finishes};
 
@@ -32,14 +32,13 @@ fn find_waiter(waiters: &[Waiter], number: u64) -> Option<&Waiter> {
     None
 }
 
-// Takes out what wakes the thread of this number, if it waits.
-fn take_waiter(waiters: &mut Vec<Waiter>, number: u64) -> Option<Arc<Condvar>> {
-    for at in 0..waiters.len() {
-        if waiters[at].number == number {
-            return Some(waiters.swap_remove(at).woken);
-        }
-    }
-    None
+// Takes out what wakes the thread of this number, if it waits: it is listed no more.
+fn take_waiter(waiters: &mut Vec<Waiter>, number: u64) -> Option<Arc<Condvar>>
+    ensures taken { IfSome result (λ _. length waiters.new.items + 1 ≡ length waiters.old.items) }
+    ensures none { IfNone result (waiters.new ≡ waiters.old) }
+{
+    let at = waiters.iter().position(|waiter| waiter.number == number)?;
+    Some(waiters.swap_remove(at).woken)
 }
 
 impl<T: Drop> Queue<T> {
