@@ -96,13 +96,18 @@ fn given_differs(
     Ok(None)
 }
 
-// The first reply that differs though no call of its step reads what the client sends: of a cut the first to see anything is an
-// `ask` or a `read`.
+// The first reply that differs and isn't that of an `ask` or a `read`, by which alone the client is read; or a reply that is
+// missing.
 fn first_reply_differs(
     alloc: Global,
     case: &Case,
     outcome: &Outcome,
 ) -> Result<Option<Difference>, AllocError> {
+    let count = case.steps.iter().filter(|step| !step.is_date()).count();
+    let found = outcome.replies.len() as u64;
+    if let Some(difference) = count_differs(alloc, "replies", found, count as u64)? {
+        return Ok(Some(difference));
+    }
     let steps = case.steps.iter().filter(|step| !step.is_date());
     for (step, reply) in steps.zip(outcome.replies.iter()) {
         if reply.as_slice() == step.reply.as_slice() {

@@ -131,8 +131,8 @@ pub fn output_differs(
     differing(alloc, what, found, wanted)
 }
 
-/// Where an outcome first differs from another one.
-pub fn outcomes_differ(
+// The first reply that differs from another outcome's.
+fn reply_differs(
     alloc: Global,
     found: &Outcome,
     wanted: &Outcome,
@@ -145,11 +145,41 @@ pub fn outcomes_differ(
             return differing(alloc, what, one.as_slice(), other.as_slice());
         }
     }
-    let (output, whole) = (found.output.as_slice(), wanted.output.as_slice());
-    match output_differs(alloc, output, whole, false)? {
-        Some(difference) => Ok(Some(difference)),
-        None => count_differs(alloc, "failures", found.failures, wanted.failures),
+    let (count, whole) = (found.replies.len(), wanted.replies.len());
+    count_differs(alloc, "replies", count as u64, whole as u64)
+}
+
+// Why no further request comes, as bytes; none where it isn't known.
+fn end_known(outcome: &Outcome) -> &[u8] {
+    match &outcome.end {
+        Some(end) => end.as_slice(),
+        None => b"",
     }
+}
+
+/// Where an outcome first differs from another one: in a reply, the output, the count of failures, or the end.
+pub fn outcomes_differ(
+    alloc: Global,
+    found: &Outcome,
+    wanted: &Outcome,
+) -> Result<Option<Difference>, AllocError> {
+    if let Some(difference) = reply_differs(alloc, found, wanted)? {
+        return Ok(Some(difference));
+    }
+    let (output, whole) = (found.output.as_slice(), wanted.output.as_slice());
+    if let Some(difference) = output_differs(alloc, output, whole, false)? {
+        return Ok(Some(difference));
+    }
+    let (count, other) = (found.failures, wanted.failures);
+    if let Some(difference) = count_differs(alloc, "failures", count, other)? {
+        return Ok(Some(difference));
+    }
+    let (end, other) = (end_known(found), end_known(wanted));
+    if end == other {
+        return Ok(None);
+    }
+    let what = String::from_str(alloc, "the end")?;
+    differing(alloc, what, end, other)
 }
 
 // Why no further request comes, where the case says so, it is known, and it differs.

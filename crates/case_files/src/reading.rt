@@ -197,7 +197,7 @@ fn add_line(alloc: Global, case: &mut Case, text: &str) -> Result<(), LineFault>
             None => return Err(NO_KIND),
         },
         "takes" if case.room.is_none() => case.room = Some(room_in(words)?),
-        "uncut" if !words.is_empty() => return Err(LineFault::Bad("nothing stands behind uncut")),
+        "uncut" if text != "uncut" => return Err(LineFault::Bad("nothing stands behind uncut")),
         "uncut" if !case.is_uncut => case.is_uncut = true,
         "vary" if case.varied.is_none() => match number_in(words) {
             Some(count) => case.varied = Some(count),

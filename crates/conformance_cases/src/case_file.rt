@@ -299,19 +299,20 @@ type CutRow = (
 
 const CUTS: &[CutRow] = &[
     (&["ended", "nosuch", "nosuch"], "", None, ""),
-    (&["handed 0 G", "given ab"], "HTTP/x", None, ""),
+    (&["handed 0 G", "given ab", "done"], "HTTP/x", None, ""),
     (
-        &["handed 0 H", "given"],
+        &["handed 0 H", "given", "done"],
         "",
         None,
         "request 0 that is handed out: handed 0 H, handed 0 G",
     ),
     (
-        &["handed 0 G", "given b"],
+        &["handed 0 G", "given b", "done"],
         "",
         None,
         "the body of request 0: b, abc",
     ),
+    (&["handed 0 G", "given abc"], "", None, "replies: 2, 3"),
     (
         &["handed 0 G", "given abc", "nosuch"],
         "",
@@ -319,37 +320,37 @@ const CUTS: &[CutRow] = &[
         "the first other reply: nosuch, done",
     ),
     (
-        &["handed 0 G", "given"],
+        &["handed 0 G", "given", "done"],
         "y",
         None,
         "output from byte 0: y, HTTP/xHTTP/y",
     ),
     (
-        &["handed 0 G", "given"],
+        &["handed 0 G", "given", "done"],
         "HTTP/",
         None,
         "the output, which is cut in an answer,: HTTP/, HTTP/xHTTP/y",
     ),
     (
-        &["handed 0 G", "given"],
+        &["handed 0 G", "given", "done"],
         TIMED_OUT,
         Some(ErrorKind::TimedOut),
         "",
     ),
     (
-        &["handed 0 G", "given"],
+        &["handed 0 G", "given", "done"],
         "HTTP/xHTTP/1",
         Some(ErrorKind::TimedOut),
         "output from byte 11: 1, y",
     ),
     (
-        &["handed 0 G", "given"],
+        &["handed 0 G", "given", "done"],
         TIMED_OUT,
         Some(ErrorKind::Other),
         "output from byte 11: 1.1 408 Request Timeout\\r\\nServer: tiny-http (Rust)\\r\\nDate: Wed, 04 May 1983 11:17:00 GMT\\r\\nContent-Length: 0\\r\\n\\r\\n, y",
     ),
     (
-        &["handed 0 G", "handed 1 G"],
+        &["handed 0 G", "handed 1 G", "done"],
         "",
         None,
         "request 1 that is handed out: handed 1 G, ",
@@ -459,59 +460,68 @@ fn a_plain_reading_differs(rt: HostRuntime) -> Result<(), Fail> {
     Ok(())
 }
 
-// What is done to the case, what its client then sends, the reader's fault behind that, and how a report says it.
-type HarmRow = (Option<Harm>, &'static str, Option<ErrorKind>, &'static str);
+// What is done to the case, what three calls of its reader then give, and how a report says it.
+type HarmRow = (
+    Option<Harm>,
+    [Result<&'static str, ErrorKind>; 3],
+    &'static str,
+);
 
 const HARMS: &[HarmRow] = &[
-    (None, "GG", None, "1024 bytes a read"),
+    (None, [Ok("GG"), Ok(""), Ok("")], "1024 bytes a read"),
     (
         Some(Harm::Call(3)),
-        "GG",
-        None,
+        [Ok("GG"), Ok(""), Ok("")],
         "1024 bytes a read, call 3 failing",
     ),
     (
         Some(Harm::Cut(1, None)),
-        "G",
-        None,
+        [Ok("G"), Ok(""), Ok("")],
         "1024 bytes a read, cut at 1",
     ),
     (
-        Some(Harm::Cut(0, Some(ErrorKind::TimedOut))),
-        "",
-        Some(ErrorKind::TimedOut),
-        "1024 bytes a read, cut at 0 by TimedOut",
-    ),
-    (
-        Some(Harm::Byte(1, b'x')),
-        "Gx",
-        None,
-        "1024 bytes a read, byte 1 being 120",
+        Some(Harm::Cut(1, Some(ErrorKind::TimedOut))),
+        [Ok("G"), Err(ErrorKind::TimedOut), Err(ErrorKind::TimedOut)],
+        "1024 bytes a read, cut at 1 by TimedOut",
     ),
     (
         Some(Harm::Once(1, ErrorKind::TimedOut)),
-        "GG",
-        Some(ErrorKind::TimedOut),
-        "1024 bytes a read, TimedOut once behind 1",
+        [Ok("G"), Err(ErrorKind::TimedOut), Ok("G")],
+        "1 bytes a read, TimedOut once behind 1",
+    ),
+    (
+        Some(Harm::Byte(1, b'x')),
+        [Ok("Gx"), Ok(""), Ok("")],
+        "1024 bytes a read, byte 1 being 120",
     ),
 ];
 
-// What a reader gives in one call, and the fault of the next.
-fn read_twice(alloc: Global, reader: &mut Reader) -> Result<(Vec<u8>, Option<ErrorKind>), Fail> {
+// A call of a reader gives these bytes, or fails so.
+fn assert_reads(rt: &impl Abort, reader: &mut Reader, wanted: Result<&str, ErrorKind>) {
     let mut buf = [0u8; 9];
-    let count = reader.read_in(&mut buf).unwrap_or(0);
-    let bytes = buf.get(..count).unwrap_or_default().to_vec(alloc)?;
-    let fault = reader.read_in(&mut buf).err().map(|fault| fault.kind());
-    Ok((bytes, fault))
+    let found = match reader.read_in(&mut buf) {
+        Ok(count) => Ok(buf.get(..count).unwrap_or_default()),
+        Err(fault) => Err(fault.kind()),
+    };
+    assert_same(rt, found, wanted.map(str::as_bytes));
 }
 
-// A cut or a changed byte reaches the reader.
+// The trial in which this is done.
+fn trial_of(harm: Option<Harm>) -> Trial {
+    match harm {
+        Some(harm) => Trial::harmed(harm),
+        None => Trial { piece: 1024, harm },
+    }
+}
+
+// A cut, a fault or a changed byte reaches the reader.
 fn assert_harm(rt: &impl Abort, alloc: Global, case: &Case, row: &HarmRow) -> Result<(), Fail> {
-    let (harm, client, stop, words) = *row;
-    let trial = Trial { piece: 1024, harm };
-    let (bytes, fault) = read_twice(alloc, &mut trial.reader(alloc, case)?)?;
-    assert_same(rt, bytes.as_slice(), client.as_bytes());
-    assert_same(rt, fault, stop);
+    let (harm, wanted, words) = *row;
+    let trial = trial_of(harm);
+    let mut reader = trial.reader(alloc, case)?;
+    for read in wanted {
+        assert_reads(rt, &mut reader, read);
+    }
     let shown = format!(in alloc; "{trial}")?;
     assert_same(rt, shown.as_str(), words);
     Ok(())
@@ -599,15 +609,56 @@ fn runs_that_differ_are_reported(rt: HostRuntime) -> Result<(), Fail> {
         a.cases: 1 cases, 5 runs, 0 cuts, 0 faults, 0 changes, 5 differ\n";
     let good = "a.cases: 1 cases, 5 runs, 3 cuts, 2 faults, 0 changes, 0 differ\n";
     let none = "a.cases: 0 cases, 0 runs, 0 cuts, 0 faults, 0 changes, 0 differ\n";
-    let late = "a, 1 bytes a read, TimedOut once behind 0: reply 1 is done and not ended\n\
-        a, 1 bytes a read, Interrupted once behind 0: reply 1 is done and not ended\n\
-        a.cases: 1 cases, 5 runs, 3 cuts, 2 faults, 0 changes, 2 differ\n";
     let wanted = format!(in rt.alloc(); "{good}{differing}")?;
     assert_report(&rt, rt.alloc(), [GOOD, done, done], wanted.as_str())?;
     let wanted = format!(in rt.alloc(); "{differing}{none}")?;
-    assert_report(&rt, rt.alloc(), [done, GOOD, GOOD], wanted.as_str())?;
-    let wanted = format!(in rt.alloc(); "{good}{late}")?;
-    assert_report(&rt, rt.alloc(), [GOOD, GOOD, done], wanted.as_str())
+    assert_report(&rt, rt.alloc(), [done, GOOD, GOOD], wanted.as_str())
+}
+
+// What comes where the reader fails once, and how it is said that this isn't what comes of the cut there.
+const ONCE: &[(Found, &str)] = &[
+    (
+        Found {
+            reply: "done",
+            ..GOOD
+        },
+        "reply 1 is done and not ended",
+    ),
+    (
+        Found {
+            output: "a\r\n",
+            ..GOOD
+        },
+        "output from byte 3 is  and not b",
+    ),
+    (
+        Found {
+            failures: 1,
+            ..GOOD
+        },
+        "failures is 1 and not 0",
+    ),
+    (
+        Found {
+            end: "closed",
+            ..GOOD
+        },
+        "the end is closed and not cut",
+    ),
+];
+
+#[test]
+fn a_fault_that_is_no_cut_is_reported(rt: HostRuntime) -> Result<(), Fail> {
+    for (once, what) in ONCE {
+        let wanted = format!(in rt.alloc();
+            "a.cases: 1 cases, 5 runs, 3 cuts, 2 faults, 0 changes, 0 differ\n\
+            a, 1 bytes a read, TimedOut once behind 0: {what}\n\
+            a, 1 bytes a read, Interrupted once behind 0: {what}\n\
+            a.cases: 1 cases, 5 runs, 3 cuts, 2 faults, 0 changes, 2 differ\n"
+        )?;
+        assert_report(&rt, rt.alloc(), [GOOD, GOOD, *once], wanted.as_str())?;
+    }
+    Ok(())
 }
 
 // Writes twice and flushes: what each call took, and then what was taken, how often it failed, and the calls after that.

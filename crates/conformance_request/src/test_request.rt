@@ -74,7 +74,7 @@ fn a_cut_body_fails(rt: HostRuntime) -> Result<(), Fail> {
     Ok(())
 }
 
-// A target is a text; one that isn't ASCII is none of a request line.
+// A target that isn't ASCII is refused.
 #[test]
 fn a_target_is_ascii(rt: HostRuntime) -> Result<(), Fail> {
     let alloc = rt.alloc();

@@ -4,9 +4,10 @@ use std::alloc::Global;
 use std::process::Abort;
 use std::sync::atomic::{AtomicU64, Ordering};
 use std::sync::{Arc, Wait};
+use std::test::Fail;
 use std::thread;
 use std::thread::{JoinHandle, Threads};
-use std::time::{Clock, Duration};
+use std::time::{Clock, Duration, Instant};
 use tiny_http::messages_queue::{MessagesQueue, Popped, QueueState};
 
 // So many threads push, and as many pop.
@@ -285,7 +286,7 @@ fn each_push_wakes_one(rt: HostRuntime) {
     }
 }
 
-// A value that another takes: it wakes one who waits, who then finds nothing.
+// A value that is taken at once. One who waits is woken by it, and may find nothing.
 fn wake_for_nothing<R: Wait + Abort>(rt: &R, queue: &MessagesQueue<u8>) {
     push(rt, queue, 1);
     let _ = queue.try_pop(rt);
@@ -330,87 +331,73 @@ fn a_wake_for_nothing_is_no_answer(rt: HostRuntime) {
     }
 }
 
-// Waits for 400 ms at most, and counts that it came back.
-fn pop_shortly<R: Wait + Clock>(rt: &R, queue: &MessagesQueue<u8>, came: &AtomicU64) {
-    let _ = queue.pop_timeout(rt, Duration::from_millis(400));
-    came.fetch_add(1, Ordering::SeqCst);
-}
-
-// A thread that waits for 400 ms at most.
-fn start_shortly<R: Host>(
-    rt: &R,
-    queue: &Arc<MessagesQueue<u8>>,
-    came: &Arc<AtomicU64>,
-) -> JoinHandle<()> {
-    let (theirs, queue, came) = (*rt, shared(rt, queue), shared(rt, came));
-    let started = thread::spawn(rt, move || pop_shortly(&theirs, &queue, &came));
-    started.ok().expect(rt, "a thread")
-}
-
-// Wakes for nothing each 50 ms, 5 s long at most, until one came back. Whether one did.
-fn comes_back<R: Wait + Clock + Abort>(
-    rt: &R,
-    queue: &MessagesQueue<u8>,
-    came: &AtomicU64,
-) -> bool {
-    for _ in 0..100u8 {
-        if came.load(Ordering::SeqCst) > 0 {
-            return true;
-        }
-        thread::sleep(rt, Duration::from_millis(50));
-        wake_for_nothing(rt, queue);
-    }
-    false
-}
-
-// A pop that waited the whole time anew after each wake would not come back.
-#[test]
-fn a_wake_for_nothing_gives_no_time(rt: HostRuntime) {
-    let queue = empty_queue(&rt, rt.alloc());
-    let came = nobody_came(&rt, rt.alloc());
-    let popping = start_shortly(&rt, &queue, &came);
-    let is_back = comes_back(&rt, &queue, &came);
-    assert_holds(&rt, "it comes back", is_back);
-    popping.join(&rt);
-}
-
-// So many times a value or a mark is awaited.
+// The most rounds in which a value or a mark is awaited, and what a mark is answered by.
 const ROUNDS: u16 = 2_000;
 
-// Pops, and answers by a mark, so many times.
-fn answer_each<R: Wait + Abort>(rt: &R, queue: &MessagesQueue<u8>, answers: &MessagesQueue<u8>) {
-    for _ in 0..ROUNDS {
-        let _ = queue.pop(rt);
-        unblock(rt, answers);
+// The value that ends the rounds.
+const LAST: u16 = 2_001;
+
+// Answers each value by itself, and each mark by `ROUNDS`, up to the last value.
+fn answer_each<R: Wait + Abort>(rt: &R, queue: &MessagesQueue<u16>, answers: &MessagesQueue<u16>) {
+    for _ in rt.forever() {
+        let found = queue.pop(rt);
+        if found == Some(LAST) {
+            return;
+        }
+        push(rt, answers, found.unwrap_or(ROUNDS));
     }
 }
 
 // A thread that answers each value and each mark.
 fn start_answers<R: Host>(
     rt: &R,
-    queue: &Arc<MessagesQueue<u8>>,
-    answers: &Arc<MessagesQueue<u8>>,
+    queue: &Arc<MessagesQueue<u16>>,
+    answers: &Arc<MessagesQueue<u16>>,
 ) -> JoinHandle<()> {
     let (theirs, queue, answers) = (*rt, shared(rt, queue), shared(rt, answers));
     let started = thread::spawn(rt, move || answer_each(&theirs, &queue, &answers));
     started.ok().expect(rt, "a thread")
 }
 
-// Each value and each mark wakes one who waits, or is found by him. One that came behind its wake would be found by nobody.
+// A value, in every other round a mark, and then its answer.
+fn assert_answered<R: Wait + Abort>(
+    rt: &R,
+    queue: &MessagesQueue<u16>,
+    answers: &MessagesQueue<u16>,
+    round: u16,
+) {
+    let is_value = round % 2 == 0;
+    match is_value {
+        true => push(rt, queue, round),
+        false => unblock(rt, queue),
+    }
+    let wanted = if is_value { round } else { ROUNDS };
+    assert_same(rt, (round, answers.pop(rt)), (round, Some(wanted)));
+}
+
+// Whether fewer than 5 s have gone.
+fn is_early<R: Clock>(rt: &R, start: &Instant) -> bool {
+    start
+        .elapsed(rt)
+        .is_ok_and(|spent| spent < Duration::from_secs(5))
+}
+
+// A value or a mark that came behind its wake would sometimes be found by nobody, and the round would not end.
 #[test]
-fn no_wake_is_lost(rt: HostRuntime) {
+fn no_wake_is_lost(rt: HostRuntime) -> Result<(), Fail> {
     let queue = empty_queue(&rt, rt.alloc());
     let answers = empty_queue(&rt, rt.alloc());
     let answering = start_answers(&rt, &queue, &answers);
+    let start = Instant::now(&rt)?;
     for round in 0..ROUNDS {
-        match round % 2 {
-            0 => push(&rt, &queue, 7),
-            _ => unblock(&rt, &queue),
+        if is_early(&rt, &start) {
+            assert_answered(&rt, &queue, &answers, round);
         }
-        let _ = answers.pop(&rt);
     }
+    push(&rt, &queue, LAST);
     answering.join(&rt);
     assert_same(&rt, answers.try_pop(&rt), None);
+    Ok(())
 }
 
 // Pushes all values of one thread. The number of those that came back.

@@ -78,42 +78,45 @@ fn pool_two_jobs_at_once(rt: HostRuntime) {
     assert_holds(&rt, "the first ends", is_set(&rt, &first_ended));
 }
 
-// A job that tells that it ran.
+// A job that tells its number.
 #[derive(Drop)]
 struct Tells<R: Wait> {
     rt: R,
-    told: Arc<MessagesQueue<u8>>,
+    told: Arc<MessagesQueue<u16>>,
+    number: u16,
 }
 
 impl<R: Wait> Job for Tells<R> {
     fn run(&mut self) {
-        let _ = self.told.push(&self.rt, 1);
+        let _ = self.told.push(&self.rt, self.number);
     }
 }
 
-// A job is taken, and runs.
+// A job is taken by a pool that has come to rest, and runs.
 fn assert_runs<R: Wait + Threads + Clock + Abort + Copy + Send + Sync + 'static>(
     rt: &R,
     alloc: Global,
-    pool: &TaskPool<Tells<R>, R>,
-    told: &Arc<MessagesQueue<u8>>,
+    (pool, told): (&TaskPool<Tells<R>, R>, &Arc<MessagesQueue<u16>>),
+    number: u16,
 ) {
-    let told_too = Arc::try_clone(told).expect(rt, "memory");
+    thread::sleep(rt, Duration::from_millis(1));
     let job = Tells {
         rt: *rt,
-        told: told_too,
+        told: Arc::try_clone(told).expect(rt, "memory"),
+        number,
     };
     let spawned = pool.spawn(rt, alloc, job);
     assert_holds(rt, "a job is taken", spawned.is_ok());
-    assert_holds(rt, "a job runs", told.pop(rt) == Some(1));
+    assert_holds(rt, "a job runs once", told.pop(rt) == Some(number));
 }
 
-// A job that came behind its wake would be run by nobody.
+// Each job runs once, though all workers are idle when it comes.
 #[test]
 fn an_idle_pool_runs_each_job(rt: HostRuntime) {
     let told = MessagesQueue::with_capacity(rt.alloc(), 8).expect(&rt, "memory");
     let pool = TaskPool::new(rt, rt.alloc()).expect(&rt, "a pool");
-    for _ in 0..2_000u16 {
-        assert_runs(&rt, rt.alloc(), &pool, &told);
+    for number in 0..1_000u16 {
+        assert_runs(&rt, rt.alloc(), (&pool, &told), number);
     }
+    assert_holds(&rt, "no job runs twice", told.try_pop(&rt).is_none());
 }

@@ -3,24 +3,24 @@ use crate::bench::{DATED, Host};
 use crate::script::{Step, act_all, stage_of};
 use std::alloc::Global;
 
-// A form of requests: what the client sends, and what is read of the request.
-type Form = (&'static [Step], [Step; 2]);
+// A form of requests: what the client sends behind the first lines of the head, and how many bytes their bodies have.
+type Form = (&'static [Step], usize);
 
 const FORMS: [Form; 4] = [
-    (&[Step::Send("\r\n")], [Step::Receive("/"), Step::BodyOf(0)]),
+    (&[Step::Send("\r\n")], 0),
     (
         &[
             Step::Send("Content-Length: 100\r\n\r\n"),
             Step::SendBody(100),
         ],
-        [Step::Receive("/"), Step::BodyOf(100)],
+        100,
     ),
     (
         &[
             Step::Send("Content-Length: 10000\r\n\r\n"),
             Step::SendBody(10_000),
         ],
-        [Step::Receive("/"), Step::BodyOf(10_000)],
+        10_000,
     ),
     (
         &[
@@ -28,37 +28,47 @@ const FORMS: [Form; 4] = [
             Step::SendBody(10_000),
             Step::Send("\r\n0\r\n\r\n"),
         ],
-        [Step::Receive("/"), Step::BodyOf(10_000)],
+        10_000,
     ),
 ];
 
-const ONE: &str = "Content-Type: text/plain; charset=UTF-8\r\nContent-Length: 1\r\n\r\na";
+// The first lines of five heads, and their targets.
+const FIVE: [(&str, &str); 5] = [
+    ("GET /a HTTP/1.1\r\nConnection: keep-alive\r\n", "/a"),
+    ("GET /b HTTP/1.1\r\nConnection: keep-alive\r\n", "/b"),
+    ("GET /c HTTP/1.1\r\nConnection: keep-alive\r\n", "/c"),
+    ("GET /d HTTP/1.1\r\nConnection: keep-alive\r\n", "/d"),
+    ("GET /e HTTP/1.1\r\nConnection: keep-alive\r\n", "/e"),
+];
+
+const ONE: &str = "Content-Type: text/plain; charset=UTF-8\r\nContent-Length: 1\r\n\r\n";
 
 const OK: &str = "HTTP/1.1 200 OK\r\n";
 
-// The answers, and the end.
+// The answers, each with a text of its own, and the end.
 const ANSWERED: [Step; 6] = [
     Step::Respond("a"),
-    Step::Respond("a"),
-    Step::Respond("a"),
-    Step::Respond("a"),
-    Step::Respond("a"),
+    Step::Respond("b"),
+    Step::Respond("c"),
+    Step::Respond("d"),
+    Step::Respond("e"),
     Step::Rest(&[
-        OK, DATED, ONE, OK, DATED, ONE, OK, DATED, ONE, OK, DATED, ONE, OK, DATED, ONE,
+        OK, DATED, ONE, "a", OK, DATED, ONE, "b", OK, DATED, ONE, "c", OK, DATED, ONE, "d", OK,
+        DATED, ONE, "e",
     ]),
 ];
 
 // Five requests of a form are read, and then answered.
 fn assert_five_are_read<R: Host>(rt: &R, alloc: Global, form: Form) {
-    let (sent, read) = form;
+    let (sent, length) = form;
     let mut stage = stage_of(rt, alloc);
-    let head = [Step::Send("GET / HTTP/1.1\r\nConnection: keep-alive\r\n")];
-    for _ in 0..5u8 {
-        act_all(rt, alloc, &mut stage, &head);
+    for (head, _) in FIVE {
+        act_all(rt, alloc, &mut stage, &[Step::Send(head)]);
         act_all(rt, alloc, &mut stage, sent);
     }
     act_all(rt, alloc, &mut stage, &[Step::End]);
-    for _ in 0..5u8 {
+    for (_, target) in FIVE {
+        let read = [Step::Receive(target), Step::BodyOf(length)];
         act_all(rt, alloc, &mut stage, &read);
     }
     act_all(rt, alloc, &mut stage, &ANSWERED);

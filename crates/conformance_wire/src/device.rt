@@ -6,7 +6,7 @@ use std::io::{Cursor, ErrorKind, Write};
 use std::process::Abort;
 use std::test::Fail;
 use tiny_http_wire::device::{
-    Budget, Canned, Metered, ReadDevice, WriteDevice, put, put_all, read_front,
+    Budget, ByPieces, Canned, FailsAt, Metered, ReadDevice, WriteDevice, put, put_all, read_front,
 };
 
 // The bytes that are read into this buffer, or the fault.
@@ -41,6 +41,57 @@ fn a_canned_reader_fails(rt: HostRuntime) -> Result<(), Fail> {
     reads(&rt, &mut fails, [Ok(b"hell"), Ok(b"o"), late]);
     reads(&rt, &mut &mut fails, [late; 3]);
     Ok(())
+}
+
+#[test]
+fn a_reader_gives_pieces(rt: HostRuntime) -> Result<(), Fail> {
+    for (most, wanted) in [
+        (0, [Ok(b"h".as_slice()), Ok(b"e"), Ok(b"l")]),
+        (3, [Ok(b"hel"), Ok(b"lo"), Ok(b"")]),
+        (1024, ALL),
+    ] {
+        let whole = Canned::new(b"hello".to_vec(rt.alloc())?, None);
+        reads(&rt, &mut ByPieces::new(whole, most), wanted);
+    }
+    Ok(())
+}
+
+#[test]
+fn a_reader_fails_once(rt: HostRuntime) -> Result<(), Fail> {
+    let whole = Canned::new(b"hello".to_vec(rt.alloc())?, None);
+    let mut fails = FailsAt::new(whole, 2, ErrorKind::TimedOut);
+    assert_holds(&rt, "no read failed", !fails.has_failed());
+    let late = Err(ErrorKind::TimedOut);
+    reads(&rt, &mut fails, [Ok(b"hell"), late, Ok(b"o")]);
+    assert_holds(&rt, "a read failed", fails.has_failed());
+    Ok(())
+}
+
+// Two writes and a flush, of which the call of this number fails: what each answers.
+fn write_twice(writer: &mut FailsAt<Slow>) -> [Result<usize, ErrorKind>; 3] {
+    [
+        writer.write(b"hello").map_err(|e| e.kind()),
+        writer.write(b"wo").map_err(|e| e.kind()),
+        writer.flush().map(|()| 0).map_err(|e| e.kind()),
+    ]
+}
+
+// A flush reaches the stream, which fails by another kind.
+#[test]
+fn a_writer_fails_once(rt: HostRuntime) {
+    let late = Err(ErrorKind::TimedOut);
+    let flushed = Err(ErrorKind::ConnectionReset);
+    for (nth, wanted, taken) in [
+        (0, [Ok(2), Ok(2), flushed], b"hewo".as_slice()),
+        (1, [late, Ok(2), flushed], b"wo"),
+        (3, [Ok(2), Ok(2), late], b"hewo"),
+    ] {
+        let mut writer = FailsAt::new(Slow(Vec::new(rt.alloc())), nth, ErrorKind::TimedOut);
+        assert_same(&rt, write_twice(&mut writer), wanted);
+        assert_same(&rt, writer.has_failed(), nth > 0);
+        let Slow(found) = writer.into_inner();
+        assert_same(&rt, found.as_slice(), taken);
+    }
 }
 
 #[test]

@@ -32,7 +32,7 @@ fn find_waiter(waiters: &[Waiter], number: u64) -> Option<&Waiter> {
     None
 }
 
-// Takes out what wakes the thread of this number, if it waits: it is listed no more.
+// Takes out what wakes the thread of this number, if it waits: it is listed no more. That it is that of this number, tests show.
 fn take_waiter(waiters: &mut Vec<Waiter>, number: u64) -> Option<Arc<Condvar>>
     ensures taken { IfSome result (λ _. length waiters.new.items + 1 ≡ length waiters.old.items) }
     ensures none { IfNone result (waiters.new ≡ waiters.old) }

@@ -1,7 +1,7 @@
 //! Requests for the tests of a program that answers them.
-ghost use Rattle.std.specs.Prelude.{◌≡◌, ◌++◌, ◌∷◌, [], length, true, false, Some, None, IfOk, IfErr, OnOk};
+ghost use Rattle.std.specs.Prelude.{◌≡◌, ◌++◌, ◌∷◌, [], length, true, false, Some, None, IfOk, IfErr, IsErrOf, ◌↔◌};
 ghost use Rattle.std.specs.IoError.{error_kind};
-ghost use Rattle.std.specs.Str.{IsAscii, IsNotAscii};
+ghost use Rattle.std.specs.Str.{IsAscii};
 ghost use Rattle.std.specs.Net.Socket.{socket_port};
 ghost use Rattle.tiny_http_wire.specs.Heads.{version};
 ghost use Rattle.tiny_http_device.specs.Device.{whole_feed};
@@ -150,15 +150,16 @@ impl TestRequest {
         request
     }
 
-    /// For this target. It is refused where it isn't ASCII, as a request line with such a target is. An error too where
-    /// memory was refused.
+    /// For this target. It is refused where it isn't ASCII. An error too where memory was refused.
     pub fn with_path(self, alloc: Global, path: &str) -> Result<TestRequest, ParseError>
         ensures path { IfOk result (λ r. r ≡ record self { path = path.now }) }
-        ensures ascii { OnOk result (IsAscii path.now) }
-        ensures refused { IfErr result (λ e. e ≡ ParseError.Refused → IsNotAscii path.now) }
+        ensures refused { IsErrOf result ParseError.Refused ↔ ¬ (IsAscii path.now) }
     {
-        let Ok(path) = AsciiString::from_ascii(path.as_bytes().to_vec(alloc)?) else {
+        if !path.is_ascii() {
             return Err(ParseError::Refused);
+        }
+        let Ok(path) = AsciiString::from_ascii(path.as_bytes().to_vec(alloc)?) else {
+            unreachable!()
         };
         let mut request = self;
         request.path = path;
