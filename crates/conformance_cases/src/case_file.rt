@@ -463,35 +463,35 @@ fn a_plain_reading_differs(rt: HostRuntime) -> Result<(), Fail> {
 // What is done to the case, what three calls of its reader then give, and how a report says it.
 type HarmRow = (
     Option<Harm>,
-    [Result<&'static str, ErrorKind>; 3],
+    &'static [Result<&'static str, ErrorKind>],
     &'static str,
 );
 
 const HARMS: &[HarmRow] = &[
-    (None, [Ok("GG"), Ok(""), Ok("")], "1024 bytes a read"),
+    (None, &[Ok("GG"), Ok(""), Ok("")], "1024 bytes a read"),
     (
         Some(Harm::Call(3)),
-        [Ok("GG"), Ok(""), Ok("")],
+        &[Ok("GG"), Ok(""), Ok("")],
         "1024 bytes a read, call 3 failing",
     ),
     (
         Some(Harm::Cut(1, None)),
-        [Ok("G"), Ok(""), Ok("")],
+        &[Ok("G"), Ok(""), Ok("")],
         "1024 bytes a read, cut at 1",
     ),
     (
         Some(Harm::Cut(1, Some(ErrorKind::TimedOut))),
-        [Ok("G"), Err(ErrorKind::TimedOut), Err(ErrorKind::TimedOut)],
+        &[Ok("G"), Err(ErrorKind::TimedOut), Err(ErrorKind::TimedOut)],
         "1024 bytes a read, cut at 1 by TimedOut",
     ),
     (
         Some(Harm::Once(1, ErrorKind::TimedOut)),
-        [Ok("G"), Err(ErrorKind::TimedOut), Ok("G")],
+        &[Ok("G"), Err(ErrorKind::TimedOut), Ok("G")],
         "1 bytes a read, TimedOut once behind 1",
     ),
     (
         Some(Harm::Byte(1, b'x')),
-        [Ok("Gx"), Ok(""), Ok("")],
+        &[Ok("Gx"), Ok(""), Ok("")],
         "1024 bytes a read, byte 1 being 120",
     ),
 ];
@@ -520,7 +520,7 @@ fn assert_harm(rt: &impl Abort, alloc: Global, case: &Case, row: &HarmRow) -> Re
     let trial = trial_of(harm);
     let mut reader = trial.reader(alloc, case)?;
     for read in wanted {
-        assert_reads(rt, &mut reader, read);
+        assert_reads(rt, &mut reader, *read);
     }
     let shown = format!(in alloc; "{trial}")?;
     assert_same(rt, shown.as_str(), words);
