@@ -6,10 +6,10 @@ use Rattle.std.specs.declared.io.ErrorKind.{ErrorKind}
 use Rattle.tiny_http_device.specs.declared.device.FailsAt.{FailsAt}
 
 -- the stream inside
-abbrev pub inner_of : {S : Type 0} → FailsAt S → S
-inner_of f = f.inner
+abbrev pub fails_at_inner : {S : Type 0} → FailsAt S → S
+fails_at_inner f = f.inner
 
--- how many calls are left up to the one that fails, and with it; 0 where none fails any more
+-- how many calls are left up to the one that fails, that one included; 0 where none fails any more
 abbrev pub calls_left : {S : Type 0} → FailsAt S → ℕ
 calls_left f = f.calls
 
@@ -32,5 +32,5 @@ FailsNow old new (Err e) = (error_kind e ≡ fault_kind old) × (new ≡ record 
 
 -- what a call that is counted answers before the stream inside is called
 abbrev pub Counts : {S T : Type 0} → FailsAt S → FailsAt S → Result T Error → Type 0
-Counts old new (Ok x) = (old.calls ≢ 1) × (new ≡ record old { calls = old.calls - 1 })
-Counts old new (Err e) = (old.calls ≡ 1) × (error_kind e ≡ old.kind) × (new ≡ record old { calls = 0; has_failed = true })
+Counts {T = T} old new (Ok x) = (old.calls ≢ 1) × (new ≡ record old { calls = old.calls - 1 })
+Counts {T = T} old new (Err e) = (old.calls ≡ 1) × FailsNow {T = T} old new (Err e)

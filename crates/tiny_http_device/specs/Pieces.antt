@@ -6,6 +6,6 @@ use Rattle.tiny_http_device.specs.declared.device.ByPieces.{ByPieces}
 abbrev pub pieces_inner : {R : Type 0} → ByPieces R → R
 pieces_inner p = p.inner
 
--- the most bytes that a call gives: at least one
+-- the most bytes that a call gives; 1 where `most` is 0
 abbrev pub pieces_most : {R : Type 0} → ByPieces R → ℕ
 pieces_most p = max p.most 1

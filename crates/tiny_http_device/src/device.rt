@@ -448,24 +448,24 @@ impl<R: ReadDevice> ReadDevice for ByPieces<R> {
     }
 }
 
-/// A reader or a writer of which one call fails, once, and does nothing then. Its other calls are those of the stream inside.
-/// It is for tests of what reads and writes.
+/// A reader or a writer of which one call fails, once: that call doesn't reach the stream inside, and every other does. It is a
+/// `ReadDevice` over one, and std's `Write` over one. It is for tests of what reads and writes.
 #[derive(Drop)]
 pub struct FailsAt<S> {
     inner: S,
-    // How many calls are left up to the one that fails, and with it. 0: none fails any more.
+    // How many calls are left up to the one that fails, that one included. 0: none fails any more.
     calls: u64,
     kind: ErrorKind,
     has_failed: bool,
 }
 
 impl<S> FailsAt<S> {
-    ghost use Rattle.tiny_http_device.specs.FailsAt.{inner_of, calls_left, fault_kind, has_failed, Counts};
+    ghost use Rattle.tiny_http_device.specs.FailsAt.{fails_at_inner, calls_left, fault_kind, has_failed, Counts};
 
-    /// The `nth` call, counted from 1, fails by this kind. For 0 none fails. Writes and flushes count alike. A read into an
-    /// empty buffer doesn't count.
+    /// The `nth` call, counted from 1, fails by this kind. For 0 none fails. Reads, writes and flushes count alike. A read into
+    /// an empty buffer doesn't count.
     pub fn new(inner: S, nth: u64, kind: ErrorKind) -> FailsAt<S>
-        ensures inner { inner_of result ≡ inner }
+        ensures inner { fails_at_inner result ≡ inner }
         ensures calls { calls_left result ≡ nth }
         ensures kind { fault_kind result ≡ kind }
         ensures fresh { has_failed result ≡ false }
@@ -487,7 +487,7 @@ impl<S> FailsAt<S> {
 
     /// Gives the stream back.
     pub fn into_inner(self) -> S
-        ensures { result ≡ inner_of self }
+        ensures { result ≡ fails_at_inner self }
     {
         self.inner
     }
@@ -508,7 +508,7 @@ impl<S> FailsAt<S> {
 
 impl<S: ReadDevice> ReadDevice for FailsAt<S> {
     ghost use Rattle.std.specs.Prelude.{◌≢◌};
-    ghost use Rattle.tiny_http_device.specs.FailsAt.{inner_of, calls_left, IsCounted, FailsNow};
+    ghost use Rattle.tiny_http_device.specs.FailsAt.{fails_at_inner, calls_left, IsCounted, FailsNow};
 
     /// Reads once from the reader, or fails. It states no feed, since what it gives may go on behind a fault.
     fn read_in(&mut self, buf: &mut [u8]) -> Result<usize, io::Error>
@@ -517,7 +517,7 @@ impl<S: ReadDevice> ReadDevice for FailsAt<S> {
         ensures fails { 0 < length buf.new → calls_left self.old ≡ 1 → FailsNow self.old self.new result }
         ensures counts { 0 < length buf.new → calls_left self.old ≢ 1 → IsCounted self.old self.new }
         // What came is the reader's, if it states what it still gives.
-        ensures stream { calls_left self.old ≢ 1 → ReadsFrom (S.feed (inner_of self.old)) (S.feed (inner_of self.new)) result buf.new }
+        ensures stream { calls_left self.old ≢ 1 → ReadsFrom (S.feed (fails_at_inner self.old)) (S.feed (fails_at_inner self.new)) result buf.new }
     {
         if buf.is_empty() {
             return Ok(0);
@@ -531,14 +531,14 @@ impl<S: Write> Write for FailsAt<S> {
     ghost use Rattle.std.specs.Prelude.{◌≢◌};
     ghost use Rattle.std.specs.Io.{WritesAtMost};
     ghost use Rattle.std.specs.Io.KnownBytes.{Keeps, WriteAppends};
-    ghost use Rattle.tiny_http_device.specs.FailsAt.{inner_of, calls_left, IsCounted, FailsNow};
+    ghost use Rattle.tiny_http_device.specs.FailsAt.{fails_at_inner, calls_left, IsCounted, FailsNow};
 
-    ghost contents = { λ f. S.contents (inner_of f) };
+    ghost contents = { λ f. S.contents (fails_at_inner f) };
 
     /// Writes once to the stream, or fails.
     fn write(&mut self, buf: &[u8]) -> io::Result<usize>
         ensures bound { WritesAtMost result buf.now }
-        ensures bytes { WriteAppends (S.contents (inner_of self.old)) (S.contents (inner_of self.new)) result buf.now }
+        ensures bytes { WriteAppends (S.contents (fails_at_inner self.old)) (S.contents (fails_at_inner self.new)) result buf.now }
         ensures fails { calls_left self.old ≡ 1 → FailsNow self.old self.new result }
         ensures counts { calls_left self.old ≢ 1 → IsCounted self.old self.new }
     {
@@ -548,7 +548,7 @@ impl<S: Write> Write for FailsAt<S> {
 
     /// Flushes the stream, or fails. No contract says that it is flushed, as std's words for a flush say only that the bytes stay.
     fn flush(&mut self) -> io::Result<()>
-        ensures bytes { Keeps (S.contents (inner_of self.old)) (S.contents (inner_of self.new)) }
+        ensures bytes { Keeps (S.contents (fails_at_inner self.old)) (S.contents (fails_at_inner self.new)) }
         ensures fails { calls_left self.old ≡ 1 → FailsNow self.old self.new result }
         ensures counts { calls_left self.old ≢ 1 → IsCounted self.old self.new }
     {
