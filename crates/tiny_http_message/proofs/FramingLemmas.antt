@@ -1,40 +1,193 @@
--- A head that names an upgrade is the last.
-use Rattle.std.proofs.Common.{◌≡◌, refl, sym, ap, ◌∙◌, ℕ, Bool, true, false, not, ◌&&◌, ◌||◌, List, Option, Some, None}
-use Rattle.std.specs.Prelude.{◌==◌, nat_le, is_some, codes, if◌then◌else◌}
+-- How a head is framed: there is one way, and a head that names an upgrade is the last.
+use Rattle.std.proofs.Common.{◌≡◌, refl, sym, ap, ◌∙◌, subst, ℕ, zero, suc, T, Bool, true, false, not, ◌&&◌, ◌||◌, inl, inr, List, [], ◌∷◌, ◌++◌, Option, Some, None, Ok, Err, arith, eqb-true, ⊎_elim}
+use Rattle.std.specs.Prelude.{◌==◌, ◌<◌, ◌≤◌, ◌⊎◌, nat_le, is_some, Result, codes, if◌then◌else◌}
+use Rattle.std.specs.List.{list_all}
+use Rattle.std.proofs.Math.Dec.{eqb_refl, eqb-suc-zero}
+use Rattle.std.proofs.lemmas.Bool.{and_parts, leb-true, leb-false, le-leb, lt-leb}
+use Rattle.tiny_http_wire.specs.Common.{same_name}
+use Rattle.tiny_http_wire.specs.Heads.{length_of}
 use Rattle.tiny_http_wire.specs.declared.common.Header.{Header}
 use Rattle.tiny_http_wire.specs.declared.common.HTTPVersion.{HTTPVersion}
-use Rattle.tiny_http_message.specs.declared.framing.Form.TheVariants.{Rest, Nothing, WithHead, Counted}
+use Rattle.tiny_http_message.specs.declared.framing.Profile.{Profile}
+use Rattle.tiny_http_message.specs.declared.framing.Profile.TheVariants.{Lenient, Strict}
+use Rattle.tiny_http_message.specs.declared.framing.FramingFault.{FramingFault}
+use Rattle.tiny_http_message.specs.declared.framing.FramingFault.TheVariants.{Ambiguous, Expectation}
+use Rattle.tiny_http_message.specs.declared.framing.Form.{Form}
+use Rattle.tiny_http_message.specs.declared.framing.Form.TheVariants.{Rest, Nothing, WithHead, Counted, Chunked}
 use Rattle.tiny_http_message.specs.declared.framing.Framing.{Framing}
-use Rattle.tiny_http_message.specs.Framing.{framing, framed_by, form_by, form_of, mentions, value_of, body_length, is_last, expectation}
+use Rattle.tiny_http_message.specs.Framing.{framing, framed_if, framed_by, form_by, sized_form, mentions, value_of, elements_of, is_last, expectation, names_upgrade, names_coding, EachIs, EndsWithChunked, SaysOnce, SaysLength, IsForm, Frames, is_number, is_length, one_length, ends_with_chunked, said_once, said_length}
 
-sized-form : (none held : Bool) → (if none then Nothing else if held then WithHead else Counted) ≡ Rest → ⊥
-sized-form true held e = cc
-sized-form false true e = cc
-sized-form false false e = cc
+-- the length that the headers say
 
--- the body is the rest of the stream only where an upgrade is named
-form-named : (named coded owed : Bool) (n : Option ℕ) → form_by named coded owed n ≡ Rest → named ≡ true
-form-named true coded owed n e = refl
-form-named false true owed n e = cc
-form-named false false owed None e = cc
-form-named false false owed (Some n) e = absurd (sized-form (n == 0) (nat_le n 1024 && not owed) e)
+each-is : (n : ℕ) (texts : List (List ℕ)) → list_all (is_length n) texts ≡ true → EachIs n texts
+each-is n [] h = tt
+each-is n (text ∷ texts) h = let k = and_parts (is_length n text) (list_all (is_length n) texts) h in (number-is (length_of text) k.0, each-is n texts k.1)
+  where
+    number-is : (o : Option ℕ) → is_number n o ≡ true → o ≡ Some n
+    number-is None e = cc
+    number-is (Some m) e = ap Some (eqb-true m n e)
+
+same-number : (n : ℕ) → (n == n) ≡ true
+same-number n = T-to-path (eqb_refl n)
+  where
+    T-to-path : {t : Bool} → T t → t ≡ true
+    T-to-path {t = true} h = refl
+    T-to-path {t = false} h = absurd h
+
+each-one : (n : ℕ) (texts : List (List ℕ)) → EachIs n texts → list_all (is_length n) texts ≡ true
+each-one n [] h = refl
+each-one n (text ∷ texts) h = rw (h.0, same-number n, each-one n texts h.1) refl
+
+ends-is : (coding : List ℕ) (codings : List (List ℕ)) → ends_with_chunked coding codings ≡ true → EndsWithChunked (coding ∷ codings)
+ends-is coding [] h = ([], coding, refl, h)
+ends-is coding (last ∷ codings) h = let k = ends-is last codings h in (coding ∷ k.0, k.1, ap (λ x. coding ∷ x) k.2, k.3)
+
+ends-one : (before : List (List ℕ)) (last coding : List ℕ) (codings : List (List ℕ)) → coding ∷ codings ≡ before ++ last ∷ [] → same_name last (codes "chunked") ≡ true → ends_with_chunked coding codings ≡ true
+ends-one [] last coding [] e h = let same : coding ≡ last = cc in rw same h
+ends-one [] last coding (next ∷ codings) e h = cc
+ends-one (b ∷ before) last coding [] e h = absurd (nothing-behind before (let tail : [] ≡ before ++ last ∷ [] = cc in tail))
+  where
+    nothing-behind : (xs : List (List ℕ)) → [] ≡ xs ++ last ∷ [] → ⊥
+    nothing-behind [] e = cc
+    nothing-behind (x ∷ xs) e = cc
+ends-one (b ∷ before) last coding (next ∷ codings) e h = let tail : next ∷ codings ≡ before ++ last ∷ [] = cc in ends-one before last next codings tail h
+
+one-is : (text : List ℕ) (texts : List (List ℕ)) (n : Option ℕ) (o : Option ℕ) → length_of text ≡ o → one_length o texts ≡ Some n → SaysOnce (text ∷ texts) [] n
+one-is text texts n None e h = let no : ◌≡◌ {A = Option (Option ℕ)} None (Some n) = h in cc
+one-is text texts n (Some m) e h = by (list_all (is_length m) texts) refl h
+  where
+    by : (t : Bool) → list_all (is_length m) texts ≡ t → (if t then Some (Some m) else None) ≡ Some n → SaysOnce (text ∷ texts) [] n
+    by true all h = (m, (let same : Some m ≡ n = cc in sym same), (e, each-is m texts all))
+    by false all h = let no : ◌≡◌ {A = Option (Option ℕ)} None (Some n) = h in cc
+
+once-is : (lengths codings : List (List ℕ)) (n : Option ℕ) → said_once lengths codings ≡ Some n → SaysOnce lengths codings n
+once-is [] [] n h = let same : None ≡ n = cc in sym same
+once-is (text ∷ texts) [] n h = one-is text texts n (length_of text) refl h
+once-is [] (coding ∷ codings) n h = by (ends_with_chunked coding codings) refl h
+  where
+    by : (t : Bool) → ends_with_chunked coding codings ≡ t → (if t then Some None else None) ≡ Some n → SaysOnce [] (coding ∷ codings) n
+    by true e h = ((let same : None ≡ n = cc in sym same), ends-is coding codings e)
+    by false e h = let no : ◌≡◌ {A = Option (Option ℕ)} None (Some n) = h in cc
+once-is (text ∷ texts) (coding ∷ codings) n h = let no : ◌≡◌ {A = Option (Option ℕ)} None (Some n) = h in cc
+
+once-one : (lengths codings : List (List ℕ)) (n : Option ℕ) → SaysOnce lengths codings n → said_once lengths codings ≡ Some n
+once-one [] [] n h = ap Some (sym h)
+once-one (text ∷ texts) [] n h = rw (h.2.0, each-one h.0 texts h.2.1) (ap Some (sym h.1))
+once-one [] (coding ∷ codings) n h = rw (ends-one h.1.0 h.1.1 coding codings h.1.2 h.1.3) (ap Some (sym h.0))
+once-one (text ∷ texts) (coding ∷ codings) n h = absurd h
+
+said-is : (p : Profile) (headers : List Header) (n : Option ℕ) → said_length p headers ≡ Some n → SaysLength p headers n
+said-is Lenient headers n h = let same : n ≡ _ = said-same (sym h) in same
+  where
+    said-same : {x y : Option ℕ} → Some x ≡ Some y → x ≡ y
+    said-same e = cc
+said-is Strict headers n h = once-is (elements_of (codes "Content-Length") headers) (elements_of (codes "Transfer-Encoding") headers) n h
+
+said-one : (p : Profile) (headers : List Header) (n : Option ℕ) → SaysLength p headers n → said_length p headers ≡ Some n
+said-one Lenient headers n h = ap Some (sym h)
+said-one Strict headers n h = once-one (elements_of (codes "Content-Length") headers) (elements_of (codes "Transfer-Encoding") headers) n h
+
+-- the form of a body
+
+sized-is : (owed : Bool) (n : Option ℕ) → IsForm (sized_form owed n) false false owed n
+sized-is owed None = (refl, refl, inl refl)
+sized-is owed (Some n) = by (n == 0) refl
+  where
+    some : (m : ℕ) → (m == 0) ≡ false → 0 < m
+    some zero e = cc
+    some (suc m) e = omega arith
+
+    long : (t owes : Bool) → nat_le n 1024 ≡ t → (t && not owes) ≡ false → (1024 < n) ⊎ (owes ≡ true)
+    long true true e h = inr refl
+    long true false e h = cc
+    long false owes e h = inl (leb-false n 1024 e)
+
+    unowed : (owes : Bool) → not owes ≡ true → owes ≡ false
+    unowed true h = cc
+    unowed false h = refl
+
+    held : (t : Bool) → (nat_le n 1024 && not owed) ≡ t → (n == 0) ≡ false → IsForm (if t then WithHead else Counted) false false owed (Some n)
+    held true e nonzero = let k = and_parts (nat_le n 1024) (not owed) e in (refl, refl, n, refl, some n nonzero, leb-true n 1024 k.0, unowed owed k.1)
+    held false e nonzero = (refl, refl, n, refl, some n nonzero, long (nat_le n 1024) owed refl e)
+
+    by : (t : Bool) → (n == 0) ≡ t → IsForm (if t then Nothing else if (nat_le n 1024 && not owed) then WithHead else Counted) false false owed (Some n)
+    by true e = (refl, refl, inr (ap Some (eqb-true n 0 e)))
+    by false e = held (nat_le n 1024 && not owed) refl e
+
+form-is : (upgrade coded owed : Bool) (n : Option ℕ) → IsForm (form_by upgrade coded owed n) upgrade coded owed n
+form-is true coded owed n = refl
+form-is false true owed n = (refl, refl)
+form-is false false owed n = sized-is owed n
+
+-- a form that the cases allow is the one that is computed
+zero-or-more : (n : ℕ) → 0 < n → (n == 0) ≡ false
+zero-or-more zero h = absurd (omega (arith, h))
+zero-or-more (suc n) h = eqb-suc-zero n
+
+form-one : (form : Form) (upgrade coded owed : Bool) (n : Option ℕ) → IsForm form upgrade coded owed n → form ≡ form_by upgrade coded owed n
+form-one Rest upgrade coded owed n h = rw h refl
+form-one Chunked upgrade coded owed n h = rw (h.0, h.1) refl
+form-one Nothing upgrade coded owed n h = rw (h.0, h.1) (⊎_elim (λ none. rw none refl) (λ zero. rw zero refl) h.2)
+form-one WithHead upgrade coded owed n h = rw (h.0, h.1, h.3, zero-or-more h.2 h.4, le-leb h.2 1024 h.5, h.6) refl
+form-one Counted upgrade coded owed n h = rw (h.0, h.1, h.3, zero-or-more h.2 h.4, counted h.2 owed h.5) refl
+  where
+    counted : (m : ℕ) (owed : Bool) → (1024 < m) ⊎ (owed ≡ true) → (nat_le m 1024 && not owed) ≡ false
+    counted m true h = and-none (nat_le m 1024)
+      where
+        and-none : (t : Bool) → (t && false) ≡ false
+        and-none true = refl
+        and-none false = refl
+    counted m false (inl h) = rw (lt-leb m 1024 h) refl
+    counted m false (inr h) = let no : false ≡ true = h in cc
+
+-- the framing that is computed is one by the cases
+
+none-said : (p : Profile) (headers : List Header) → said_length p headers ≡ None → (n : Option ℕ) → SaysLength p headers n → ⊥
+none-said p headers e n h = let no : ◌≡◌ {A = Option (Option ℕ)} None (Some n) = sym e ∙ said-one p headers n h in cc
+
+framed-is : (p : Profile) (v : HTTPVersion) (headers : List Header) (n : Option ℕ) → SaysLength p headers n → (o : Option Bool) → expectation (value_of (codes "Expect") headers) ≡ o → Frames p v headers (framed_by v headers n o)
+framed-is p v headers n h None e = (n, h, e)
+framed-is p v headers n h (Some owed) e = (h, e, form-is (names_upgrade headers) (names_coding headers) owed n, refl)
+
+framed-if-is : (p : Profile) (v : HTTPVersion) (headers : List Header) (o : Option (Option ℕ)) → said_length p headers ≡ o → Frames p v headers (framed_if v headers o)
+framed-if-is p v headers None e = none-said p headers e
+framed-if-is p v headers (Some n) e = framed-is p v headers n (said-is p headers n e) (expectation (value_of (codes "Expect") headers)) refl
+
+pub framing-is : (p : Profile) (v : HTTPVersion) (headers : List Header) → Frames p v headers (framing p v headers)
+unfolding framing
+framing-is p v headers = framed-if-is p v headers (said_length p headers) refl
+
+-- and the only one
+
+framing-eq : (f : Framing) (form : Form) (owed : Bool) (n : Option ℕ) (last : Bool) → f.form ≡ form → f.owes_continue ≡ owed → f.body_length ≡ n → f.is_last ≡ last
+    → f ≡ record { form = form; owes_continue = owed; body_length = n; is_last = last }
+framing-eq f form owed n last a b c d =
+    let g : Form → Bool → Option ℕ → Bool → Framing = λ w x y z. record { form = w; owes_continue = x; body_length = y; is_last = z } in
+    ap (λ w. g w f.owes_continue f.body_length f.is_last) a ∙ ap (λ x. g form x f.body_length f.is_last) b ∙ ap (λ y. g form owed y f.is_last) c ∙ ap (g form owed n) d
+
+pub framing-one : (p : Profile) (v : HTTPVersion) (headers : List Header) (r : Result Framing FramingFault) → Frames p v headers r → r ≡ framing p v headers
+unfolding framing
+framing-one p v headers (Err Ambiguous) h = by (said_length p headers) refl
+  where
+    by : (o : Option (Option ℕ)) → said_length p headers ≡ o → Err Ambiguous ≡ framed_if v headers o
+    by None e = refl
+    by (Some n) e = absurd (h n (said-is p headers n e))
+framing-one p v headers (Err Expectation) h = rw (said-one p headers h.0 h.1, h.2) refl
+framing-one p v headers (Ok f) h =
+    rw (said-one p headers f.body_length h.0, h.1)
+    (ap Ok (framing-eq f _ f.owes_continue f.body_length _ (form-one f.form (names_upgrade headers) (names_coding headers) f.owes_continue f.body_length h.2) refl refl h.3))
+
+-- a head that names an upgrade is the last
 
 last-named : (closes named old : Bool) → named ≡ true → ((closes || named) || old) ≡ true
 last-named true named old e = refl
 last-named false true old e = refl
 last-named false false old e = cc
 
-framing-same : (x y : Framing) → Some x ≡ Some y → x ≡ y
-framing-same x y e = cc
-
-framed-last : (v : HTTPVersion) (headers : List Header) (o : Option Bool) (f : Framing) → framed_by v headers o ≡ Some f → f.form ≡ Rest → f.is_last ≡ true
-framed-last v headers None f e rest = let no : ◌≡◌ {A = Option Framing} None (Some f) = e in cc
-framed-last v headers (Some owed) f e rest =
-    let made : Framing = record { form = form_of owed headers; owes_continue = owed; body_length = body_length headers; is_last = is_last v (value_of (codes "Connection") headers) } in
-    let same : made ≡ f = framing-same made f e in
-    let named = form-named (mentions (codes "upgrade") (value_of (codes "Connection") headers)) (is_some (value_of (codes "Transfer-Encoding") headers)) owed (body_length headers) (ap (λ (x : Framing). x.form) same ∙ rest) in
-    sym (ap (λ (x : Framing). x.is_last) same) ∙ last-named (mentions (codes "close") (value_of (codes "Connection") headers)) (mentions (codes "upgrade") (value_of (codes "Connection") headers)) _ named
-
-pub rest-last : (v : HTTPVersion) (headers : List Header) (f : Framing) → framing v headers ≡ Some f → f.form ≡ Rest → f.is_last ≡ true
-unfolding framing
-rest-last v headers f e rest = framed-last v headers (expectation (value_of (codes "Expect") headers)) f e rest
+-- the body is the rest of the stream only where an upgrade is named
+pub rest-last : (p : Profile) (v : HTTPVersion) (headers : List Header) (f : Framing) → framing p v headers ≡ Ok f → f.form ≡ Rest → f.is_last ≡ true
+rest-last p v headers f e rest =
+    let R : Result Framing FramingFault → Type 0 = λ r. Frames p v headers r in
+    let h = subst R e (framing-is p v headers) in
+    let F : Form → Type 0 = λ x. IsForm x (names_upgrade headers) (names_coding headers) f.owes_continue f.body_length in
+    h.3 ∙ last-named (mentions (codes "close") (value_of (codes "Connection") headers)) (names_upgrade headers) _ (subst F rest h.2)

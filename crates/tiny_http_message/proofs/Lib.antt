@@ -5,4 +5,5 @@ pub mod BodyRemainsLemmas
 pub mod BytesWords
 pub mod FramingLemmas
 pub mod OwnAnswerLemmas
+pub mod WithinLemmas
 pub mod PipelineLemmas

@@ -1,24 +1,29 @@
 -- Each feed has one pipeline.
 use Rattle.std.proofs.Common.{◌≡◌, refl, sym, ap, ◌∙◌, subst, ℕ, zero, suc, ◌+◌, ◌<◌, ◌≤◌, Bool, true, false, inl, inr, List, [], ◌∷◌, ◌++◌, length, take, drop, Option, Some, None, Ok, Err, arith, length-append, ⊎_elim}
-use Rattle.std.specs.Prelude.{MatchResult, nat_lt, Result, if◌then◌else◌}
+use Rattle.std.specs.Prelude.{MatchResult, nat_lt, nat_le, Result, if◌then◌else◌}
 use Rattle.std.proofs.lemmas.Grind.{common_steps}
-use Rattle.std.proofs.lemmas.Bool.{ltb-true, ltb-false, lt-ltb, le-ltb}
+use Rattle.std.proofs.lemmas.Bool.{ltb-true, ltb-false, lt-ltb, le-ltb, leb-true, leb-false, le-leb, lt-leb}
 use Rattle.std.specs.declared.io.ErrorKind.{ErrorKind}
 use Rattle.tiny_http_wire.specs.declared.device.Stop.{Stop}
 use Rattle.tiny_http_wire.specs.declared.device.Stop.TheVariants.{End, Fault as Faults}
 use Rattle.tiny_http_wire.specs.Device.{Feed, whole_feed}
-use Rattle.tiny_http_wire.specs.Heads.{Message, BeginsWithRequestHead, is_too_new}
+use Rattle.tiny_http_wire.specs.declared.common.HTTPVersion.{HTTPVersion}
+use Rattle.tiny_http_wire.specs.Heads.{Message, BeginsWithRequestHead, FaultyHead, GrammarFault, Cut, NotAscii, Malformed, version, is_too_new}
 use Rattle.tiny_http_wire.specs.Chunks.{WholeChunks, CutChunks}
 use Rattle.tiny_http_wire.specs.HeadReading.{request_head_read, RequestHeadRead, Whole, Faulty}
 use Rattle.tiny_http_wire.specs.ChunkReading.{decoded}
 use Rattle.tiny_http_head.proofs.HeadsLemmas.{head-is, HeadIs, head-one, head-fault, line-shorter, fields-fewer}
 use Rattle.tiny_http_wire.proofs.ChunksLemmas.{decoded-is, decoded-one, decoded-front}
+use Rattle.tiny_http_message.specs.declared.framing.Profile.{Profile}
+use Rattle.tiny_http_message.specs.declared.framing.FramingFault.{FramingFault}
+use Rattle.tiny_http_message.specs.declared.framing.FramingFault.TheVariants.{Ambiguous, Expectation}
 use Rattle.tiny_http_message.specs.declared.framing.Form.{Form}
 use Rattle.tiny_http_message.specs.declared.framing.Form.TheVariants.{Rest, Nothing, WithHead, Counted, Chunked}
 use Rattle.tiny_http_message.specs.declared.framing.Framing.{Framing}
 use Rattle.tiny_http_message.specs.Framing.{framing}
-use Rattle.tiny_http_message.specs.Pipeline.{Item, Place, Heading, Ends, Heads, HeadAt, IsCutWithHead, cut_item, body_length_or_0, BodyAt, SizedBody, FoundAt, OneHead, item_of, next_place, ends_too_new, Pipeline, place_after}
-use Rattle.tiny_http_message.specs.PipelineReading.{BodyRead, chunked_read, sized_read, body_read, is_cut_with_head, framed, heading, heading_of, items_at, items_from, items_of}
+use Rattle.tiny_http_message.specs.Pipeline.{Refusal, BadRequest, RequestTimeout, ExpectationFailed, HeaderFieldsTooLarge, VersionNotSupported, Item, Refuses, Place, is_timed_out, head_limit, seen_bytes, BeginsWithin, IsUnfinishedHead, IsTooLarge, IsWholeHead, IsCutWithHead, IsCutHead, IsSilent, IsRefused, IsRequestHead, Heading, Silence, Refused, Heads, HeadAt, body_length_or_0, BodyAt, SizedBody, FoundAt, OneHead, item_of, next_place, ends_too_new, Pipeline, place_after}
+use Rattle.tiny_http_message.specs.PipelineReading.{BodyRead, chunked_read, sized_read, body_read, is_cut_with_head, cut_heading, framed, is_full, all_after, faulty, heading, heading_of, items_at, items_from, items_of}
+use Rattle.tiny_http_message.proofs.WithinLemmas.{seen-stands, stands-seen, seen-all}
 
 pub cut-with_head : (form : Form) (n : ℕ) (after : List ℕ) → is_cut_with_head form n after ≡ true → IsCutWithHead form n after
 cut-with_head WithHead n after c = ltb-true (length after) n c
@@ -41,33 +46,109 @@ cut-not : (form : Form) (n : ℕ) (after : List ℕ) → (t : Bool) → is_cut_w
 cut-not form n after true e h = absurd (h (cut-with_head form n after e))
 cut-not form n after false e h = refl
 
-pipeline-cut-step : (m : Message) (after : List ℕ) (stop : Stop) (bytes : List ℕ) (f : Framing) → BeginsWithRequestHead bytes m after → framing m.version m.headers ≡ Some f → (t : Bool) → is_cut_with_head f.form (body_length_or_0 f) after ≡ t
-    → HeadAt bytes stop (if t then Ends (cut_item stop) else Heads m f after)
-pipeline-cut-step m after stop bytes f h e true c = inr (inr (m, after, f, h, e, cut-with_head f.form (body_length_or_0 f) after c, refl))
-pipeline-cut-step m after stop bytes f h e false c = (h, e, not-cut f.form (body_length_or_0 f) after c)
+-- what is cut is answered at a time-out alone
+cut-heading-is : (p : Profile) (bytes : List ℕ) (stop : Stop) → IsCutHead p bytes → HeadAt p bytes stop (cut_heading stop)
+cut-heading-is p bytes stop h = by (is_timed_out stop) refl
+  where
+    by : (t : Bool) → is_timed_out stop ≡ t → HeadAt p bytes stop (if t then Refused RequestTimeout (version 1 1) else Silence)
+    by true e = (h, e, refl)
+    by false e = inl (h, e)
 
-framed-is : (m : Message) (after : List ℕ) (stop : Stop) (bytes : List ℕ) → BeginsWithRequestHead bytes m after → (o : Option Framing) → framing m.version m.headers ≡ o → HeadAt bytes stop (framed m after stop o)
-framed-is m after stop bytes h None e = inr (inl (m, after, h, e, refl))
-framed-is m after stop bytes h (Some f) e = pipeline-cut-step m after stop bytes f h e (is_cut_with_head f.form (body_length_or_0 f) after) refl
+pipeline-cut-step : (p : Profile) (m : Message) (after : List ℕ) (stop : Stop) (bytes : List ℕ) (f : Framing) → IsWholeHead p bytes m after (Ok f) → (t : Bool) → is_cut_with_head f.form (body_length_or_0 f) after ≡ t
+    → HeadAt p bytes stop (if t then cut_heading stop else Heads m f after)
+pipeline-cut-step p m after stop bytes f h true c = cut-heading-is p bytes stop (inr (m, after, f, h, cut-with_head f.form (body_length_or_0 f) after c))
+pipeline-cut-step p m after stop bytes f h false c = record { whole = h; uncut = not-cut f.form (body_length_or_0 f) after c }
 
-read-is : (bytes : List ℕ) (stop : Stop) (r : RequestHeadRead) → HeadIs bytes r → HeadAt bytes stop (heading stop r)
-read-is bytes stop (Faulty v fault) h = inl (v, fault, h, refl)
-read-is bytes stop (Whole m after) h = framed-is m after stop bytes h (framing m.version m.headers) refl
+framed-is : (p : Profile) (m : Message) (after : List ℕ) (stop : Stop) (bytes : List ℕ) (r : Result Framing FramingFault) → IsWholeHead p bytes m after r → HeadAt p bytes stop (framed m after stop r)
+framed-is p m after stop bytes (Err Ambiguous) h = inr (m, after, h, refl)
+framed-is p m after stop bytes (Err Expectation) h = (m, after, h, refl)
+framed-is p m after stop bytes (Ok f) h = pipeline-cut-step p m after stop bytes f h (is_cut_with_head f.form (body_length_or_0 f) after) refl
+
+-- a head that stands among the bytes that are looked at
+seen-within : (limit : Option ℕ) (bytes : List ℕ) (m : Message) (after : List ℕ) → BeginsWithRequestHead (seen_bytes limit bytes) m after → BeginsWithin limit bytes m (all_after limit bytes after)
+seen-within None bytes m after h = h
+seen-within (Some limit) bytes m after h = seen-stands limit bytes m after h
+
+within-seen : (limit : Option ℕ) (bytes : List ℕ) (m : Message) (after : List ℕ) → BeginsWithin limit bytes m after
+    → (front : List ℕ) × BeginsWithRequestHead (seen_bytes limit bytes) m front × (after ≡ all_after limit bytes front)
+within-seen None bytes m after h = (after, h, refl)
+within-seen (Some limit) bytes m after h = stands-seen limit bytes m after h.0 h.1
+
+-- a head that is only cut is too large, or isn't finished
+abbrev CutOrFull : Option ℕ → List ℕ → Option HTTPVersion → Bool → Type 0
+CutOrFull limit bytes v true = IsTooLarge limit bytes v
+CutOrFull limit bytes v false = IsUnfinishedHead limit bytes v
+
+cut-or-full : (limit : Option ℕ) (bytes : List ℕ) (v : Option HTTPVersion) → FaultyHead (seen_bytes limit bytes) v Cut → CutOrFull limit bytes v (is_full limit bytes)
+cut-or-full None bytes v h = h
+cut-or-full (Some limit) bytes v h = by (nat_le limit (length bytes)) refl
+  where
+    by : (t : Bool) → nat_le limit (length bytes) ≡ t → CutOrFull (Some limit) bytes v t
+    by true e = (leb-true limit (length bytes) e, h)
+    by false e =
+        let short = leb-false limit (length bytes) e in
+        let P : List ℕ → Type 0 = λ x. FaultyHead x v Cut in
+        (subst P (seen-all limit bytes short) h, short)
+
+-- a faulty head
+faulty-is : (p : Profile) (bytes : List ℕ) (stop : Stop) (v : Option HTTPVersion) (fault : GrammarFault) → FaultyHead (seen_bytes (head_limit p) bytes) v fault → HeadAt p bytes stop (faulty (is_full (head_limit p) bytes) v fault stop)
+faulty-is p bytes stop v NotAscii h = inr (v, h)
+faulty-is p bytes stop v Malformed h = inl (v, h, refl)
+faulty-is p bytes stop v Cut h = by (is_full (head_limit p) bytes) (cut-or-full (head_limit p) bytes v h)
+  where
+    by : (t : Bool) → CutOrFull (head_limit p) bytes v t → HeadAt p bytes stop (faulty t v Cut stop)
+    by true k = (v, k, refl)
+    by false k = cut-heading-is p bytes stop (inl (v, k))
+
+read-is : (p : Profile) (bytes : List ℕ) (stop : Stop) (r : RequestHeadRead) → HeadIs (seen_bytes (head_limit p) bytes) r → HeadAt p bytes stop (heading p bytes stop r)
+read-is p bytes stop (Faulty v fault) h = faulty-is p bytes stop v fault h
+read-is p bytes stop (Whole m after) h =
+    framed-is p m (all_after (head_limit p) bytes after) stop bytes (framing p m.version m.headers) (record { begins = seen-within (head_limit p) bytes m after h; frames = refl })
 
 -- each bytes have a heading
-pub heading-is : (bytes : List ℕ) (stop : Stop) → HeadAt bytes stop (heading_of stop bytes)
-heading-is bytes stop = read-is bytes stop (request_head_read bytes) (head-is bytes)
+pub heading-is : (p : Profile) (bytes : List ℕ) (stop : Stop) → HeadAt p bytes stop (heading_of p stop bytes)
+heading-is p bytes stop = read-is p bytes stop (request_head_read (seen_bytes (head_limit p) bytes)) (head-is (seen_bytes (head_limit p) bytes))
+
+-- a whole head is read as what it frames
+whole-read : (p : Profile) (bytes : List ℕ) (stop : Stop) (m : Message) (after : List ℕ) (r : Result Framing FramingFault) → IsWholeHead p bytes m after r → heading_of p stop bytes ≡ framed m after stop r
+whole-read p bytes stop m after r h =
+    let seen = within-seen (head_limit p) bytes m after h.begins in
+    rw (head-one (seen_bytes (head_limit p) bytes) m seen.0 seen.1, ← seen.2, h.frames) refl
+
+-- a head that isn't finished, and one that is too large
+unfinished-read : (limit : Option ℕ) (bytes : List ℕ) (v : Option HTTPVersion) → IsUnfinishedHead limit bytes v → (is_full limit bytes ≡ false) × FaultyHead (seen_bytes limit bytes) v Cut
+unfinished-read None bytes v h = (refl, h)
+unfinished-read (Some limit) bytes v h =
+    let P : List ℕ → Type 0 = λ x. FaultyHead x v Cut in
+    (lt-leb limit (length bytes) h.1, subst P (sym (seen-all limit bytes h.1)) h.0)
+
+large-read : (limit : Option ℕ) (bytes : List ℕ) (v : Option HTTPVersion) → IsTooLarge limit bytes v → (is_full limit bytes ≡ true) × FaultyHead (seen_bytes limit bytes) v Cut
+large-read None bytes v h = absurd h
+large-read (Some limit) bytes v h = (le-leb limit (length bytes) h.0, h.1)
+
+cut-read : (p : Profile) (bytes : List ℕ) (stop : Stop) → IsCutHead p bytes → heading_of p stop bytes ≡ cut_heading stop
+cut-read p bytes stop (inl k) =
+    let u = unfinished-read (head_limit p) bytes k.0 k.1 in
+    rw (head-fault (seen_bytes (head_limit p) bytes) k.0 Cut u.1, u.0) refl
+cut-read p bytes stop (inr k) = whole-read p bytes stop k.0 k.1 (Ok k.2) k.3 ∙ rw (with_head-cut k.2.form (body_length_or_0 k.2) k.1 k.4) refl
 
 -- and one
-pub heading-one : (bytes : List ℕ) (stop : Stop) (h : Heading) → HeadAt bytes stop h → heading_of stop bytes ≡ h
-heading-one bytes stop (Ends answer) h =
-    ⊎_elim (λ k. rw (head-fault bytes k.0 k.1 k.2) (ap Ends (sym k.3)))
-    (⊎_elim
-    (λ k. rw (head-one bytes k.0 k.1 k.2, k.3) (ap Ends (sym k.4)))
-    (λ k. rw (head-one bytes k.0 k.1 k.3, k.4, with_head-cut k.2.form (body_length_or_0 k.2) k.1 k.5) (ap Ends (sym k.6))))
-    h
-heading-one bytes stop (Heads m f after) h =
-    rw (head-one bytes m after h.0, h.1, cut-not f.form (body_length_or_0 f) after (is_cut_with_head f.form (body_length_or_0 f) after) refl h.2) refl
+refused-read : (p : Profile) (bytes : List ℕ) (stop : Stop) (refusal : Refusal) (v : HTTPVersion) → IsRefused p bytes stop refusal v → heading_of p stop bytes ≡ Refused refusal v
+refused-read p bytes stop BadRequest v (inl k) = rw (head-fault (seen_bytes (head_limit p) bytes) k.0 Malformed k.1) (ap (Refused BadRequest) (sym k.2))
+refused-read p bytes stop BadRequest v (inr k) = whole-read p bytes stop k.0 k.1 (Err Ambiguous) k.2 ∙ ap (Refused BadRequest) (sym k.3)
+refused-read p bytes stop RequestTimeout v k = cut-read p bytes stop k.0 ∙ rw k.1 (ap (Refused RequestTimeout) (sym k.2))
+refused-read p bytes stop ExpectationFailed v k = whole-read p bytes stop k.0 k.1 (Err Expectation) k.2 ∙ ap (Refused ExpectationFailed) (sym k.3)
+refused-read p bytes stop HeaderFieldsTooLarge v k =
+    let l = large-read (head_limit p) bytes k.0 k.1 in
+    rw (head-fault (seen_bytes (head_limit p) bytes) k.0 Cut l.1, l.0) (ap (Refused HeaderFieldsTooLarge) (sym k.2))
+refused-read p bytes stop VersionNotSupported v k = absurd k
+
+pub heading-one : (p : Profile) (bytes : List ℕ) (stop : Stop) (h : Heading) → HeadAt p bytes stop h → heading_of p stop bytes ≡ h
+heading-one p bytes stop Silence (inl k) = cut-read p bytes stop k.0 ∙ rw k.1 refl
+heading-one p bytes stop Silence (inr k) = rw (head-fault (seen_bytes (head_limit p) bytes) k.0 NotAscii k.1) refl
+heading-one p bytes stop (Refused refusal v) h = refused-read p bytes stop refusal v h
+heading-one p bytes stop (Heads m f after) h =
+    whole-read p bytes stop m after (Ok f) h.whole ∙ rw (cut-not f.form (body_length_or_0 f) after (is_cut_with_head f.form (body_length_or_0 f) after) refl h.uncut) refl
 
 chunked-is : (n : ℕ) (after : List ℕ) (stop : Stop) (body : List ℕ) (e : Result (List ℕ) ErrorKind) → MatchResult e (λ rest. WholeChunks after body rest) (λ kind. CutChunks after stop body kind)
     → BodyAt Chunked n after stop (chunked_read (record { body = body; ends = e })).body (chunked_read (record { body = body; ends = e })).next
@@ -128,24 +209,26 @@ abbrev Found : Type 0
 Found = Option Item × Place
 
 abbrev found_in : Stop → Heading → Found
-found_in stop (Ends answer) = (answer, None)
+found_in stop Silence = (None, None)
+found_in stop (Refused refusal v) = (Some (Refuses refusal v false true), None)
 found_in stop (Heads m f after) =
     let b = body_read f.form (body_length_or_0 f) after stop in (Some (item_of m f b.body), next_place m f b.next)
 
-abbrev found : Stop → List ℕ → Found
-found stop bytes = found_in stop (heading_of stop bytes)
+abbrev found : Profile → Stop → List ℕ → Found
+found p stop bytes = found_in stop (heading_of p stop bytes)
 
 pair-eq : (a b : Option Item) (p q : Place) → a ≡ b → p ≡ q → ◌≡◌ {A = Found} (a, p) (b, q)
 pair-eq a b p q e f = let g : Option Item → Place → Found = λ x y. (x, y) in ap (λ x. g x p) e ∙ ap (g b) f
 
 found-one : (stop : Stop) (h : Heading) (item : Option Item) (next : Place) → FoundAt stop h item next → found_in stop h ≡ (item, next)
-found-one stop (Ends answer) item next k = pair-eq answer item None next (sym k.0) (sym k.1)
+found-one stop Silence item next k = pair-eq None item None next (sym k.0) (sym k.1)
+found-one stop (Refused refusal v) item next k = pair-eq (Some (Refuses refusal v false true)) item None next (sym k.0) (sym k.1)
 found-one stop (Heads m f after) item next k =
     rw (body-one f.form (body_length_or_0 f) after stop k.0 k.1 k.2) (pair-eq _ _ _ _ (sym k.3) (sym k.4))
 
 -- one head has one item and one place after it
-one-head-one : (bytes : List ℕ) (stop : Stop) (item : Option Item) (next : Place) → OneHead bytes stop item next → found stop bytes ≡ (item, next)
-one-head-one bytes stop item next h = ap (λ x. found_in stop x) (heading-one bytes stop h.0 h.1) ∙ found-one stop h.0 item next h.2
+one-head-one : (p : Profile) (bytes : List ℕ) (stop : Stop) (item : Option Item) (next : Place) → OneHead p bytes stop item next → found p stop bytes ≡ (item, next)
+one-head-one p bytes stop item next h = ap (λ x. found_in stop x) (heading-one p bytes stop h.0 h.1) ∙ found-one stop h.0 item next h.2
 
 one-found : (i j : Option Item) (p q : Place) (f : Found) → f ≡ (i, p) → f ≡ (j, q) → (i ≡ j) × (p ≡ q)
 one-found i j p q f e g =
@@ -163,35 +246,35 @@ cons-eq : (x y : Item) (xs ys : List Item) → x ≡ y → xs ≡ ys → x ∷ x
 cons-eq x y xs ys e f = cc
 
 -- two ways to read one head are the same
-pub one-head : (bytes : List ℕ) (stop : Stop) (i j : Option Item) (p q : Place) → OneHead bytes stop i p → OneHead bytes stop j q → (i ≡ j) × (p ≡ q)
-one-head bytes stop i j p q h k = one-found i j p q (found stop bytes) (one-head-one bytes stop i p h) (one-head-one bytes stop j q k)
+pub one-head : (p : Profile) (bytes : List ℕ) (stop : Stop) (i j : Option Item) (a b : Place) → OneHead p bytes stop i a → OneHead p bytes stop j b → (i ≡ j) × (a ≡ b)
+one-head p bytes stop i j a b h k = one-found i j a b (found p stop bytes) (one-head-one p bytes stop i a h) (one-head-one p bytes stop j b k)
 
 -- each feed has at most one pipeline
-pub pipeline-one : (place : Place) (stop : Stop) (xs ys : List Item) → Pipeline place stop xs → Pipeline place stop ys → xs ≡ ys
-pipeline-one None stop [] [] h k = refl
-pipeline-one None stop [] (y ∷ ys) h k = elim k [ ]
-pipeline-one None stop (x ∷ xs) ys h k = elim h [ ]
-pipeline-one (Some bytes) stop [] [] h k = refl
-pipeline-one (Some bytes) stop [] (y ∷ ys) h k = none-some y (one-head bytes stop None (Some y) None k.0 h k.1).0
-pipeline-one (Some bytes) stop (x ∷ xs) [] h k = none-some x (one-head bytes stop None (Some x) None h.0 k h.1).0
-pipeline-one (Some bytes) stop (x ∷ xs) (y ∷ ys) h k =
-    let s = one-head bytes stop (Some x) (Some y) h.0 k.0 h.1 k.1 in
-    let P : Place → Type 0 = λ p. Pipeline p stop ys in
-    cons-eq x y xs ys (pipeline-some-eq x y s.0) (pipeline-one h.0 stop xs ys h.2 (subst P (sym s.1) k.2))
+pub pipeline-one : (p : Profile) (place : Place) (stop : Stop) (xs ys : List Item) → Pipeline p place stop xs → Pipeline p place stop ys → xs ≡ ys
+pipeline-one p None stop [] [] h k = refl
+pipeline-one p None stop [] (y ∷ ys) h k = elim k [ ]
+pipeline-one p None stop (x ∷ xs) ys h k = elim h [ ]
+pipeline-one p (Some bytes) stop [] [] h k = refl
+pipeline-one p (Some bytes) stop [] (y ∷ ys) h k = none-some y (one-head p bytes stop None (Some y) None k.0 h k.1).0
+pipeline-one p (Some bytes) stop (x ∷ xs) [] h k = none-some x (one-head p bytes stop None (Some x) None h.0 k h.1).0
+pipeline-one p (Some bytes) stop (x ∷ xs) (y ∷ ys) h k =
+    let s = one-head p bytes stop (Some x) (Some y) h.0 k.0 h.1 k.1 in
+    let P : Place → Type 0 = λ x. Pipeline p x stop ys in
+    cons-eq x y xs ys (pipeline-some-eq x y s.0) (pipeline-one p h.0 stop xs ys h.2 (subst P (sym s.1) k.2))
 
 -- an item that stands at a place is the first of its pipeline, and the others stand after it
-pub pipeline-first : (bytes : List ℕ) (stop : Stop) (item : Item) (next : Place) (xs : List Item) → OneHead bytes stop (Some item) next → Pipeline (Some bytes) stop xs
-    → (more : List Item) × (xs ≡ item ∷ more) × Pipeline next stop more
-pipeline-first bytes stop item next [] h k = none-some item (one-head bytes stop None (Some item) None next k h).0
-pipeline-first bytes stop item next (x ∷ xs) h k =
-    let s = one-head bytes stop (Some item) (Some x) next k.0 h k.1 in
-    let P : Place → Type 0 = λ p. Pipeline p stop xs in
+pub pipeline-first : (p : Profile) (bytes : List ℕ) (stop : Stop) (item : Item) (next : Place) (xs : List Item) → OneHead p bytes stop (Some item) next → Pipeline p (Some bytes) stop xs
+    → (more : List Item) × (xs ≡ item ∷ more) × Pipeline p next stop more
+pipeline-first p bytes stop item next [] h k = none-some item (one-head p bytes stop None (Some item) None next k h).0
+pipeline-first p bytes stop item next (x ∷ xs) h k =
+    let s = one-head p bytes stop (Some item) (Some x) next k.0 h k.1 in
+    let P : Place → Type 0 = λ x. Pipeline p x stop xs in
     (xs, cons-eq x item xs xs (sym (pipeline-some-eq item x s.0)) refl, subst P (sym s.1) k.2)
 
 -- where no item stands the pipeline ends
-pub pipeline-none : (bytes : List ℕ) (stop : Stop) (xs : List Item) → OneHead bytes stop None None → Pipeline (Some bytes) stop xs → xs ≡ []
-pipeline-none bytes stop [] h k = refl
-pipeline-none bytes stop (x ∷ xs) h k = none-some x (one-head bytes stop None (Some x) None k.0 h k.1).0
+pub pipeline-none : (p : Profile) (bytes : List ℕ) (stop : Stop) (xs : List Item) → OneHead p bytes stop None None → Pipeline p (Some bytes) stop xs → xs ≡ []
+pipeline-none p bytes stop [] h k = refl
+pipeline-none p bytes stop (x ∷ xs) h k = none-some x (one-head p bytes stop None (Some x) None k.0 h k.1).0
 
 -- how many bytes a place has
 abbrev place_len : Place → ℕ
@@ -224,35 +307,42 @@ head-shorter bytes m after h =
     let f = fields-fewer h.0 h.1 m.headers h.3 in
     let l = line-shorter h.1 [] after h.4 in omega arith
 
--- the pipeline that is read is the pipeline
-ends-is : (bytes : List ℕ) (stop : Stop) (go : Place → List Item) (answer : Option Item) → HeadAt bytes stop (Ends answer) → Pipeline (Some bytes) stop (items_at go stop (Ends answer))
-ends-is bytes stop go None h = (Ends None, h, (refl, refl))
-ends-is bytes stop go (Some item) h = (None, (Ends (Some item), h, (refl, refl)), tt)
+within-shorter : (limit : Option ℕ) (bytes : List ℕ) (m : Message) (after : List ℕ) → BeginsWithin limit bytes m after → length after < length bytes
+within-shorter None bytes m after h = head-shorter bytes m after h
+within-shorter (Some limit) bytes m after h = head-shorter bytes m after h.0
 
-heads-is : (fuel : ℕ) (stop : Stop) (bytes : List ℕ) → ((p : Place) → place_len p < length bytes → Pipeline p stop (items_from fuel stop p))
-    → (m : Message) (f : Framing) (after : List ℕ) → HeadAt bytes stop (Heads m f after) → Pipeline (Some bytes) stop (items_at (items_from fuel stop) stop (Heads m f after))
-heads-is fuel stop bytes go m f after h =
+-- the pipeline that is read is the pipeline
+ends-is : (p : Profile) (bytes : List ℕ) (stop : Stop) (go : Place → List Item) → IsSilent p bytes stop → Pipeline p (Some bytes) stop (items_at go stop Silence)
+ends-is p bytes stop go h = (Silence, h, (refl, refl))
+
+refused-is : (p : Profile) (bytes : List ℕ) (stop : Stop) (go : Place → List Item) (refusal : Refusal) (v : HTTPVersion) → IsRefused p bytes stop refusal v → Pipeline p (Some bytes) stop (items_at go stop (Refused refusal v))
+refused-is p bytes stop go refusal v h = (None, (Refused refusal v, h, (refl, refl)), tt)
+
+heads-is : (p : Profile) (fuel : ℕ) (stop : Stop) (bytes : List ℕ) → ((place : Place) → place_len place < length bytes → Pipeline p place stop (items_from p fuel stop place))
+    → (m : Message) (f : Framing) (after : List ℕ) → IsRequestHead p bytes m f after → Pipeline p (Some bytes) stop (items_at (items_from p fuel stop) stop (Heads m f after))
+heads-is p fuel stop bytes go m f after h =
     let r = body_read f.form (body_length_or_0 f) after stop in
-    let k = body-is f.form (body_length_or_0 f) after stop h.2 in
+    let k = body-is f.form (body_length_or_0 f) after stop h.uncut in
     let n = body-shorter f.form (body_length_or_0 f) after stop r.body r.next k in
     let g = goes-shorter m f r.next in
-    let s = head-shorter bytes m after h.0 in
+    let s = within-shorter (head_limit p) bytes m after h.whole.begins in
     (next_place m f r.next, (Heads m f after, h, (r.body, r.next, k, refl, refl)), go (next_place m f r.next) (omega arith))
 
-one-is : (fuel : ℕ) (stop : Stop) (bytes : List ℕ) → ((p : Place) → place_len p < length bytes → Pipeline p stop (items_from fuel stop p))
-    → (h : Heading) → HeadAt bytes stop h → Pipeline (Some bytes) stop (items_at (items_from fuel stop) stop h)
-one-is fuel stop bytes go (Ends answer) h = ends-is bytes stop (items_from fuel stop) answer h
-one-is fuel stop bytes go (Heads m f after) h = heads-is fuel stop bytes go m f after h
+one-is : (p : Profile) (fuel : ℕ) (stop : Stop) (bytes : List ℕ) → ((place : Place) → place_len place < length bytes → Pipeline p place stop (items_from p fuel stop place))
+    → (h : Heading) → HeadAt p bytes stop h → Pipeline p (Some bytes) stop (items_at (items_from p fuel stop) stop h)
+one-is p fuel stop bytes go Silence h = ends-is p bytes stop (items_from p fuel stop) h
+one-is p fuel stop bytes go (Refused refusal v) h = refused-is p bytes stop (items_from p fuel stop) refusal v h
+one-is p fuel stop bytes go (Heads m f after) h = heads-is p fuel stop bytes go m f after h
 
-items-are : (fuel : ℕ) (place : Place) (stop : Stop) → place_len place < fuel → Pipeline place stop (items_from fuel stop place)
-items-are zero place stop lt = absurd (omega arith)
-items-are (suc fuel) None stop lt = tt
-items-are (suc fuel) (Some bytes) stop lt =
-    one-is fuel stop bytes (λ p less. items-are fuel p stop (omega arith)) (heading_of stop bytes) (heading-is bytes stop)
+items-are : (p : Profile) (fuel : ℕ) (place : Place) (stop : Stop) → place_len place < fuel → Pipeline p place stop (items_from p fuel stop place)
+items-are p zero place stop lt = absurd (omega arith)
+items-are p (suc fuel) None stop lt = tt
+items-are p (suc fuel) (Some bytes) stop lt =
+    one-is p fuel stop bytes (λ place less. items-are p fuel place stop (omega arith)) (heading_of p stop bytes) (heading-is p bytes stop)
 
 -- each feed has a pipeline
-pub feed-pipeline : (feed : Feed) → Pipeline (Some feed.bytes) feed.stop (items_of feed)
-feed-pipeline feed = items-are (length feed.bytes + 1) (Some feed.bytes) feed.stop (omega arith)
+pub feed-pipeline : (p : Profile) (feed : Feed) → Pipeline p (Some feed.bytes) feed.stop (items_of p feed)
+feed-pipeline p feed = items-are p (length feed.bytes + 1) (Some feed.bytes) feed.stop (omega arith)
 
-pub has-pipeline : (feed : Feed) → (items : List Item) × Pipeline (Some feed.bytes) feed.stop items
-has-pipeline feed = (items_of feed, feed-pipeline feed)
+pub has-pipeline : (p : Profile) (feed : Feed) → (items : List Item) × Pipeline p (Some feed.bytes) feed.stop items
+has-pipeline p feed = (items_of p feed, feed-pipeline p feed)

@@ -13,6 +13,7 @@ use Rattle.tiny_http_wire.specs.Lines.{Line, IsUnfinished}
 use Rattle.tiny_http_wire.specs.HeadReading as reading
 use Rattle.tiny_http_wire.specs.Heads.{Message as Texted, BeginsWithRequestLine, BeginsWithHeaderLines, HeaderLine, FaultyLine, FaultyHead, BeginsWithRequestHead, IsRequestLine, IsFieldOrEnd, Cut, NotAscii, Malformed, version}
 use Rattle.tiny_http_message.specs.declared.heads.Message.{Message}
+use Rattle.tiny_http_message.specs.declared.framing.Profile.{Profile}
 use Rattle.tiny_http_message.specs.declared.framing.Framing.{Framing}
 use Rattle.tiny_http_message.specs.declared.exchange.Head.{Head}
 use Rattle.tiny_http_message.specs.declared.exchange.Exchange.{Exchange}
@@ -31,7 +32,7 @@ use Rattle.tiny_http_message.specs.declared.body.Body.{Body}
 use Rattle.tiny_http_message.specs.Framing.{framing}
 use Rattle.tiny_http_stream.specs.declared.source.FirstLine.{FirstLine}
 use Rattle.tiny_http_stream.specs.Source.{SourceState, feed_from, FindsLine, IsAtEnd}
-use Rattle.tiny_http_message.specs.Pipeline.{Request, Asks, Refuses, Refusal, VersionNotSupported, refusal_status, is_timed_out, Place, IsCutWithHead, BodyAt, OneHead, body_length_or_0, place_after}
+use Rattle.tiny_http_message.specs.Pipeline.{Request, Asks, Refuses, Refusal, VersionNotSupported, refusal_status, is_timed_out, Place, IsCutWithHead, IsCutHead, IsNotAsciiHead, BodyAt, OneHead, body_length_or_0, place_after}
 use Rattle.tiny_http_message.specs.OwnAnswer.{own_text, refusal_response, refused_text}
 use Rattle.tiny_http_message.specs.Body.{Remaining, remaining, Fits}
 use Rattle.tiny_http_message.specs.Exchange.{exchange_head, exchange_waiting, exchange_left, exchange_streams, KeepsHead, KeepsRequest}
@@ -149,24 +150,17 @@ cut_end (Fault kind) has_begun = because.Fault kind
 cut_end End true = because.Cut
 cut_end End false = because.Closed
 
--- the head, or a body that is read with it, is cut
-abbrev pub IsCutHead : List ℕ → Type 0
-IsCutHead bytes =
-    ((v : Option HTTPVersion) × FaultyHead bytes v Cut)
-    ⊎ ((m : Texted) × (after : List ℕ) × (f : Framing) × BeginsWithRequestHead bytes m after × (framing m.version m.headers ≡ Some f) × IsCutWithHead f.form (body_length_or_0 f) after)
-
 -- WHY NO REQUEST comes from these bytes, which are answered by nothing: the head is cut, and not by a time-out; or a line of
 -- it isn't ASCII.
-abbrev pub EndsBy : List ℕ → Stop → EndOfRequests → Type 0
-EndsBy bytes stop why =
-    (IsCutHead bytes × (is_timed_out stop ≡ false) × (why ≡ cut_end stop (nat_lt 0 (length bytes))))
-    ⊎ ((v : Option HTTPVersion) × FaultyHead bytes v NotAscii × (why ≡ because.NotAscii))
+abbrev pub EndsBy : Profile → List ℕ → Stop → EndOfRequests → Type 0
+EndsBy p bytes stop why =
+    (IsCutHead p bytes × (is_timed_out stop ≡ false) × (why ≡ cut_end stop (nat_lt 0 (length bytes)))) ⊎ (IsNotAsciiHead p bytes × (why ≡ because.NotAscii))
 
 -- the same at a place: after a body that was given up, or broke off, that is the reason
-abbrev pub EndsAt : Standing → List ℕ → Stop → EndOfRequests → Type 0
-EndsAt at.Abandoned bytes stop why = why ≡ because.AbandonedBody
-EndsAt (at.Broken kind) bytes stop why = why ≡ because.BrokenBody kind
-EndsAt _ bytes stop why = EndsBy bytes stop why
+abbrev pub EndsAt : Profile → Standing → List ℕ → Stop → EndOfRequests → Type 0
+EndsAt p at.Abandoned bytes stop why = why ≡ because.AbandonedBody
+EndsAt p (at.Broken kind) bytes stop why = why ≡ because.BrokenBody kind
+EndsAt p _ bytes stop why = EndsBy p bytes stop why
 
 -- the reason at a place, where the input alone gives this one
 abbrev pub end_at : Standing → EndOfRequests → EndOfRequests
@@ -233,16 +227,16 @@ GoesOnAt false stop next new = new ≡ Some (place_feed stop next)
 
 -- ONE HEAD, read at a place: the item that stands there, what is still to come of its body, and where the next head begins
 -- after that, unless the request is the last; or why no request comes.
-abbrev pub ReadsHead : Standing → HttpDate → Option Feed → Option Feed → Result HeadRead AllocError → Type 0
-ReadsHead from_here date None new r = ⊤
-ReadsHead from_here date (Some f) new (Ok (read.Request x)) =
-    (body : Feed) × (next : Place) × OneHead f.bytes f.stop (Some (Asks (request_of (exchange_head x) body))) (place_after (exchange_head x).is_last next)
+abbrev pub ReadsHead : Profile → Standing → HttpDate → Option Feed → Option Feed → Result HeadRead AllocError → Type 0
+ReadsHead p from_here date None new r = ⊤
+ReadsHead p from_here date (Some f) new (Ok (read.Request x)) =
+    (body : Feed) × (next : Place) × OneHead p f.bytes f.stop (Some (Asks (request_of (exchange_head x) body))) (place_after (exchange_head x).is_last next)
     × ComesWith (exchange_left x new) f.stop body next × KeepsRequest x date
-ReadsHead from_here date (Some f) new (Ok (read.Refused status text last)) =
-    (refusal : Refusal) × (v : HTTPVersion) × (no_body : Bool) × (next : Place) × OneHead f.bytes f.stop (Some (Refuses refusal v no_body last)) next
+ReadsHead p from_here date (Some f) new (Ok (read.Refused status text last)) =
+    (refusal : Refusal) × (v : HTTPVersion) × (no_body : Bool) × (next : Place) × OneHead p f.bytes f.stop (Some (Refuses refusal v no_body last)) next
     × (text.items ≡ refused_text (refusal_response refusal) v no_body date) × (status.0 ≡ refusal_status refusal) × GoesOnAt last f.stop next new
-ReadsHead from_here date (Some f) new (Ok (read.Ended why)) = OneHead f.bytes f.stop None None × EndsAt from_here f.bytes f.stop why
-ReadsHead from_here date (Some f) new (Err e) = ⊤
+ReadsHead p from_here date (Some f) new (Ok (read.Ended why)) = OneHead p f.bytes f.stop None None × EndsAt p from_here f.bytes f.stop why
+ReadsHead p from_here date (Some f) new (Err e) = ⊤
 
 -- after anything but a request, or a refused head after which another follows, the source has ended
 abbrev pub EndsUnlessHanded : {R : Type 0} → Result HeadRead AllocError → SourceState R → Type 0
@@ -274,10 +268,10 @@ IsRefusedUncut (read.Refused status text last) = (status.0 ≢ 408) × (last ≡
 IsRefusedUncut _ = ⊥
 
 -- a request is framed as its version and headers say, and what is kept of it on this date is that of its head
-abbrev pub IsFramedRequest : HttpDate → HeadRead → Type 0
-IsFramedRequest date (read.Request x) =
-    (framing (exchange_head x).version (exchange_head x).headers.items ≡ Some (head_framing (exchange_head x))) × KeepsHead (exchange_waiting x) (exchange_head x) date
-IsFramedRequest date _ = ⊤
+abbrev pub IsFramedRequest : Profile → HttpDate → HeadRead → Type 0
+IsFramedRequest p date (read.Request x) =
+    (framing p (exchange_head x).version (exchange_head x).headers.items ≡ Ok (head_framing (exchange_head x))) × KeepsHead (exchange_waiting x) (exchange_head x) date
+IsFramedRequest p date _ = ⊤
 
 -- where a source stands after the head of this request
 abbrev pub standing_of : Exchange → Standing

@@ -1,5 +1,5 @@
 -- What a connection's bytes ask: requests with their bodies, and heads that are refused.
-use Rattle.std.specs.Prelude.{◌≡◌, ℕ, ◌<◌, ◌⊎◌, Bool, true, false, List, [], ◌∷◌, ◌++◌, length, Option, Some, None, unwrap_or, if◌then◌else◌}
+use Rattle.std.specs.Prelude.{◌≡◌, ℕ, ◌<◌, ◌≤◌, ◌+◌, ◌⊎◌, Bool, true, false, List, [], ◌∷◌, ◌++◌, length, take, Option, Some, None, Result, Ok, Err, unwrap_or, if◌then◌else◌}
 use Rattle.std.specs.declared.io.ErrorKind.{ErrorKind}
 use Rattle.std.specs.declared.io.ErrorKind.TheVariants.{TimedOut}
 use Rattle.tiny_http_wire.specs.declared.common.Method.{Method}
@@ -9,7 +9,11 @@ use Rattle.tiny_http_wire.specs.declared.device.Stop.{Stop}
 use Rattle.tiny_http_wire.specs.declared.device.Stop.TheVariants.{End, Fault as Faults}
 use Rattle.tiny_http_wire.specs.Device.{Feed}
 use Rattle.tiny_http_wire.specs.Chunks.{WholeChunks, CutChunks}
-use Rattle.tiny_http_wire.specs.Heads.{Message, BeginsWithRequestHead, FaultyHead, GrammarFault, Cut, NotAscii, Malformed, version, is_too_new}
+use Rattle.tiny_http_wire.specs.Heads.{Message, BeginsWithRequestHead, FaultyHead, Cut, NotAscii, Malformed, version, is_too_new}
+use Rattle.tiny_http_message.specs.declared.framing.Profile.{Profile}
+use Rattle.tiny_http_message.specs.declared.framing.Profile.TheVariants.{Lenient, Strict}
+use Rattle.tiny_http_message.specs.declared.framing.FramingFault.{FramingFault}
+use Rattle.tiny_http_message.specs.declared.framing.FramingFault.TheVariants.{Ambiguous, Expectation}
 use Rattle.tiny_http_message.specs.declared.framing.Form.{Form}
 use Rattle.tiny_http_message.specs.declared.framing.Form.TheVariants.{Rest, Nothing, WithHead, Counted, Chunked}
 use Rattle.tiny_http_message.specs.declared.framing.Framing.{Framing}
@@ -23,21 +27,29 @@ pub record Request : Type 0 where
 
 -- why a head is refused
 pub data Refusal : Type 0 where
-  -- it is no head by the grammar
+  -- it is no head by the grammar, or its headers don't say where its body ends
   BadRequest : Refusal
   -- the reader timed out before it had come
   RequestTimeout : Refusal
   -- what it expects can't be met
   ExpectationFailed : Refusal
+  -- it is larger than the profile allows
+  HeaderFieldsTooLarge : Refusal
   -- its version is above 1.1
   VersionNotSupported : Refusal
 
--- the status that says so (RFC 9110, sections 15.5.1, 15.5.9, 15.5.18 and 15.6.6)
+-- the status that says so (RFC 9110, sections 15.5.1, 15.5.9, 15.5.18 and 15.6.6; RFC 6585, section 5)
 abbrev pub refusal_status : Refusal → ℕ
 refusal_status BadRequest = 400
 refusal_status RequestTimeout = 408
 refusal_status ExpectationFailed = 417
+refusal_status HeaderFieldsTooLarge = 431
 refusal_status VersionNotSupported = 505
+
+-- how a head is refused whose framing is
+abbrev pub framing_refusal : FramingFault → Refusal
+framing_refusal Ambiguous = BadRequest
+framing_refusal Expectation = ExpectationFailed
 
 -- a head of the connection: handed out, or refused, in this version, to a HEAD or not; if it is the last no
 -- head follows
@@ -57,15 +69,35 @@ abbrev pub is_head_method : Method → Bool
 is_head_method Head = true
 is_head_method _ = false
 
--- an unfinished head is answered only where the reader timed out
-abbrev pub cut_item : Stop → Option Item
-cut_item stop = if is_timed_out stop then Some (Refuses RequestTimeout (version 1 1) false true) else None
+-- the most bytes that a head may have, the CR LF of its empty line included; or None: any number
+abbrev pub head_limit : Profile → Option ℕ
+head_limit Lenient = None
+head_limit Strict = Some 65536
 
--- the answer to the first faulty line
-abbrev pub fault_item : Option HTTPVersion → GrammarFault → Stop → Option Item
-fault_item v Cut stop = cut_item stop
-fault_item v NotAscii stop = None
-fault_item v Malformed stop = Some (Refuses BadRequest (unwrap_or v (version 1 1)) false true)
+-- the bytes among which a head is looked for
+abbrev pub seen_bytes : Option ℕ → List ℕ → List ℕ
+seen_bytes None bytes = bytes
+seen_bytes (Some limit) bytes = take limit bytes
+
+-- the bytes begin with a head that keeps the limit; what follows it is after
+abbrev pub BeginsWithin : Option ℕ → List ℕ → Message → List ℕ → Type 0
+BeginsWithin None bytes m after = BeginsWithRequestHead bytes m after
+BeginsWithin (Some limit) bytes m after = BeginsWithRequestHead bytes m after × (length bytes ≤ limit + length after)
+
+-- the bytes end within a head, and before the limit; the version is that of the request line, if that has ended
+abbrev pub IsUnfinishedHead : Option ℕ → List ℕ → Option HTTPVersion → Type 0
+IsUnfinishedHead None bytes v = FaultyHead bytes v Cut
+IsUnfinishedHead (Some limit) bytes v = FaultyHead bytes v Cut × (length bytes < limit)
+
+-- as many bytes as the limit came, and the head hasn't ended among them, nor is a line of it faulty
+abbrev pub IsTooLarge : Option ℕ → List ℕ → Option HTTPVersion → Type 0
+IsTooLarge None bytes v = ⊥
+IsTooLarge (Some limit) bytes v = (limit ≤ length bytes) × FaultyHead (take limit bytes) v Cut
+
+-- the bytes begin with a whole head, and this is how it is framed, or why it isn't
+pub record IsWholeHead (p : Profile) (bytes : List ℕ) (m : Message) (after : List ℕ) (framed : Result Framing FramingFault) : Type 0 where
+  pub begins : BeginsWithin (head_limit p) bytes m after
+  pub frames : framing p m.version m.headers ≡ framed
 
 abbrev pub body_length_or_0 : Framing → ℕ
 body_length_or_0 f = unwrap_or f.body_length 0
@@ -75,19 +107,45 @@ abbrev pub IsCutWithHead : Form → ℕ → List ℕ → Type 0
 IsCutWithHead WithHead n after = length after < n
 IsCutWithHead _ n after = ⊥
 
+-- the head, or a body that is read with it, is cut
+abbrev pub IsCutHead : Profile → List ℕ → Type 0
+IsCutHead p bytes =
+    ((v : Option HTTPVersion) × IsUnfinishedHead (head_limit p) bytes v)
+    ⊎ ((m : Message) × (after : List ℕ) × (f : Framing) × IsWholeHead p bytes m after (Ok f) × IsCutWithHead f.form (body_length_or_0 f) after)
+
+-- the first faulty line of a head, among the bytes in which it is looked for, isn't ASCII
+abbrev pub IsNotAsciiHead : Profile → List ℕ → Type 0
+IsNotAsciiHead p bytes = (v : Option HTTPVersion) × FaultyHead (seen_bytes (head_limit p) bytes) v NotAscii
+
+-- NO ITEM: the head, or a body that is read with it, is cut, and not by a time-out; or a line of the head isn't ASCII.
+abbrev pub IsSilent : Profile → List ℕ → Stop → Type 0
+IsSilent p bytes stop = (IsCutHead p bytes × (is_timed_out stop ≡ false)) ⊎ IsNotAsciiHead p bytes
+
+-- A REFUSAL in this version: that of the request line, or 1.1 where that hasn't ended.
+abbrev pub IsRefused : Profile → List ℕ → Stop → Refusal → HTTPVersion → Type 0
+IsRefused p bytes stop BadRequest v =
+    ((line : Option HTTPVersion) × FaultyHead (seen_bytes (head_limit p) bytes) line Malformed × (v ≡ unwrap_or line (version 1 1)))
+    ⊎ ((m : Message) × (after : List ℕ) × IsWholeHead p bytes m after (Err Ambiguous) × (v ≡ m.version))
+IsRefused p bytes stop RequestTimeout v = IsCutHead p bytes × (is_timed_out stop ≡ true) × (v ≡ version 1 1)
+IsRefused p bytes stop ExpectationFailed v = (m : Message) × (after : List ℕ) × IsWholeHead p bytes m after (Err Expectation) × (v ≡ m.version)
+IsRefused p bytes stop HeaderFieldsTooLarge v = (line : Option HTTPVersion) × IsTooLarge (head_limit p) bytes line × (v ≡ unwrap_or line (version 1 1))
+IsRefused p bytes stop VersionNotSupported v = ⊥
+
+-- A REQUEST's head, framed so: a body that is read with it has come.
+pub record IsRequestHead (p : Profile) (bytes : List ℕ) (m : Message) (f : Framing) (after : List ℕ) : Type 0 where
+  pub whole : IsWholeHead p bytes m after (Ok f)
+  pub uncut : IsCutWithHead f.form (body_length_or_0 f) after → ⊥
+
 -- what the bytes at a head's place are
 pub data Heading : Type 0 where
-  Ends : (answer : Option Item) → Heading
+  Silence : Heading
+  Refused : (refusal : Refusal) (version : HTTPVersion) → Heading
   Heads : (message : Message) (framing : Framing) (after : List ℕ) → Heading
 
--- The first faulty line of the head decides; then the expectation; then a body that is read with its head that is cut. Else the head stands.
-abbrev pub HeadAt : List ℕ → Stop → Heading → Type 0
-HeadAt bytes stop (Ends answer) =
-    ((v : Option HTTPVersion) × (fault : GrammarFault) × FaultyHead bytes v fault × (answer ≡ fault_item v fault stop))
-    ⊎ (((m : Message) × (after : List ℕ) × BeginsWithRequestHead bytes m after × (framing m.version m.headers ≡ None) × (answer ≡ Some (Refuses ExpectationFailed m.version false true)))
-    ⊎ ((m : Message) × (after : List ℕ) × (f : Framing) × BeginsWithRequestHead bytes m after × (framing m.version m.headers ≡ Some f) × IsCutWithHead f.form (body_length_or_0 f) after × (answer ≡ cut_item stop)))
-HeadAt bytes stop (Heads m f after) =
-    BeginsWithRequestHead bytes m after × (framing m.version m.headers ≡ Some f) × (IsCutWithHead f.form (body_length_or_0 f) after → ⊥)
+abbrev pub HeadAt : Profile → List ℕ → Stop → Heading → Type 0
+HeadAt p bytes stop Silence = IsSilent p bytes stop
+HeadAt p bytes stop (Refused refusal v) = IsRefused p bytes stop refusal v
+HeadAt p bytes stop (Heads m f after) = IsRequestHead p bytes m f after
 
 -- the bytes begin with a body of n bytes
 abbrev pub SizedBody : ℕ → List ℕ → Feed → Place → Type 0
@@ -125,18 +183,19 @@ next_place m f next = place_after (if is_too_new m.version then ends_too_new f.f
 
 -- what a heading is: an item, if any, and where the next one begins
 abbrev pub FoundAt : Stop → Heading → Option Item → Place → Type 0
-FoundAt stop (Ends answer) item next = (item ≡ answer) × (next ≡ None)
+FoundAt stop Silence item next = (item ≡ None) × (next ≡ None)
+FoundAt stop (Refused refusal v) item next = (item ≡ Some (Refuses refusal v false true)) × (next ≡ None)
 FoundAt stop (Heads m f after) item next =
     (body : Feed) × (behind : Place) × BodyAt f.form (body_length_or_0 f) after stop body behind × (item ≡ Some (item_of m f body)) × (next ≡ next_place m f behind)
 
 -- One head: the item that it is, if any, and where the next one begins.
-abbrev pub OneHead : List ℕ → Stop → Option Item → Place → Type 0
-OneHead bytes stop item next = (heading : Heading) × HeadAt bytes stop heading × FoundAt stop heading item next
+abbrev pub OneHead : Profile → List ℕ → Stop → Option Item → Place → Type 0
+OneHead p bytes stop item next = (heading : Heading) × HeadAt p bytes stop heading × FoundAt stop heading item next
 
 -- The pipeline: the items that stand from a place on, one head after another, until the connection has ended (RFC 9112,
 -- section 9.3.2).
-abbrev pub Pipeline : Place → Stop → List Item → Type 0
-Pipeline None stop [] = Unit {0}
-Pipeline None stop (item ∷ items) = ⊥
-Pipeline (Some bytes) stop [] = OneHead bytes stop None None
-Pipeline (Some bytes) stop (item ∷ items) = (next : Place) × OneHead bytes stop (Some item) next × Pipeline next stop items
+abbrev pub Pipeline : Profile → Place → Stop → List Item → Type 0
+Pipeline p None stop [] = Unit {0}
+Pipeline p None stop (item ∷ items) = ⊥
+Pipeline p (Some bytes) stop [] = OneHead p bytes stop None None
+Pipeline p (Some bytes) stop (item ∷ items) = (next : Place) × OneHead p bytes stop (Some item) next × Pipeline p next stop items

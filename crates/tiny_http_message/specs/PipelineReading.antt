@@ -1,16 +1,19 @@
 -- The pipeline of a feed, computed: one plain reading, by which its law is proved.
-use Rattle.std.specs.Prelude.{ℕ, zero, suc, ◌+◌, Bool, true, false, nat_lt, List, [], ◌∷◌, length, take, drop, Option, Some, None, Ok, Err, if◌then◌else◌}
+use Rattle.std.specs.Prelude.{ℕ, zero, suc, ◌+◌, Bool, true, false, nat_lt, nat_le, List, [], ◌∷◌, ◌++◌, length, take, drop, Option, Some, None, unwrap_or, Result, Ok, Err, if◌then◌else◌}
 use Rattle.tiny_http_wire.specs.declared.device.Stop.{Stop}
 use Rattle.tiny_http_wire.specs.declared.device.Stop.TheVariants.{End, Fault as Faults}
 use Rattle.tiny_http_wire.specs.Device.{Feed}
-use Rattle.tiny_http_wire.specs.Heads.{Message}
+use Rattle.tiny_http_wire.specs.declared.common.HTTPVersion.{HTTPVersion}
+use Rattle.tiny_http_wire.specs.Heads.{Message, GrammarFault, Cut, NotAscii, Malformed, version}
 use Rattle.tiny_http_wire.specs.HeadReading.{request_head_read, RequestHeadRead, Whole, Faulty}
 use Rattle.tiny_http_wire.specs.ChunkReading.{decoded, Decoded}
+use Rattle.tiny_http_message.specs.declared.framing.Profile.{Profile}
+use Rattle.tiny_http_message.specs.declared.framing.FramingFault.{FramingFault}
 use Rattle.tiny_http_message.specs.declared.framing.Form.{Form}
 use Rattle.tiny_http_message.specs.declared.framing.Form.TheVariants.{Rest, Nothing, WithHead, Counted, Chunked}
 use Rattle.tiny_http_message.specs.declared.framing.Framing.{Framing}
 use Rattle.tiny_http_message.specs.Framing.{framing}
-use Rattle.tiny_http_message.specs.Pipeline.{Item, Refuses, ExpectationFailed, Place, Heading, Ends, Heads, fault_item, cut_item, body_length_or_0, item_of, next_place}
+use Rattle.tiny_http_message.specs.Pipeline.{Item, Refuses, BadRequest, RequestTimeout, HeaderFieldsTooLarge, framing_refusal, Place, is_timed_out, head_limit, seen_bytes, Heading, Silence, Refused, Heads, body_length_or_0, item_of, next_place}
 
 -- a body and where the next head begins
 pub record BodyRead : Type 0 where
@@ -40,29 +43,49 @@ is_cut_with_head Counted n after = false
 is_cut_with_head Rest n after = false
 is_cut_with_head Chunked n after = false
 
-abbrev pub framed : Message → List ℕ → Stop → Option Framing → Heading
-framed m after stop None = Ends (Some (Refuses ExpectationFailed m.version false true))
-framed m after stop (Some f) = if is_cut_with_head f.form (body_length_or_0 f) after then Ends (cut_item stop) else Heads m f after
+-- the head, or a body that is read with it, is cut
+abbrev pub cut_heading : Stop → Heading
+cut_heading stop = if is_timed_out stop then Refused RequestTimeout (version 1 1) else Silence
 
-abbrev pub heading : Stop → RequestHeadRead → Heading
-heading stop (Faulty v fault) = Ends (fault_item v fault stop)
-heading stop (Whole m after) = framed m after stop (framing m.version m.headers)
+abbrev pub framed : Message → List ℕ → Stop → Result Framing FramingFault → Heading
+framed m after stop (Err fault) = Refused (framing_refusal fault) m.version
+framed m after stop (Ok f) = if is_cut_with_head f.form (body_length_or_0 f) after then cut_heading stop else Heads m f after
+
+-- as many bytes as the limit came
+abbrev pub is_full : Option ℕ → List ℕ → Bool
+is_full None bytes = false
+is_full (Some limit) bytes = nat_le limit (length bytes)
+
+-- what follows of all bytes, where this follows of those in which the head was looked for
+abbrev pub all_after : Option ℕ → List ℕ → List ℕ → List ℕ
+all_after None bytes after = after
+all_after (Some limit) bytes after = after ++ drop limit bytes
+
+-- the head's first faulty line; if the head is only cut, the limit was reached or wasn't
+abbrev pub faulty : Bool → Option HTTPVersion → GrammarFault → Stop → Heading
+faulty full v Cut stop = if full then Refused HeaderFieldsTooLarge (unwrap_or v (version 1 1)) else cut_heading stop
+faulty full v NotAscii stop = Silence
+faulty full v Malformed stop = Refused BadRequest (unwrap_or v (version 1 1))
+
+abbrev pub heading : Profile → List ℕ → Stop → RequestHeadRead → Heading
+heading p bytes stop (Faulty v fault) = faulty (is_full (head_limit p) bytes) v fault stop
+heading p bytes stop (Whole m after) = framed m (all_after (head_limit p) bytes after) stop (framing p m.version m.headers)
 
 -- the heading at a place
-abbrev pub heading_of : Stop → List ℕ → Heading
-heading_of stop bytes = heading stop (request_head_read bytes)
+abbrev pub heading_of : Profile → Stop → List ℕ → Heading
+heading_of p stop bytes = heading p bytes stop (request_head_read (seen_bytes (head_limit p) bytes))
 
 abbrev pub items_at : (Place → List Item) → Stop → Heading → List Item
-items_at go stop (Ends None) = []
-items_at go stop (Ends (Some item)) = item ∷ []
+items_at go stop Silence = []
+items_at go stop (Refused refusal v) = Refuses refusal v false true ∷ []
 items_at go stop (Heads m f after) =
     let b = body_read f.form (body_length_or_0 f) after stop in
     item_of m f b.body ∷ go (next_place m f b.next)
 
-abbrev pub items_from : ℕ → Stop → Place → List Item
-items_from zero stop place = []
-items_from (suc fuel) stop place = elim place [ None ↦ [] | Some bytes ↦ items_at (items_from fuel stop) stop (heading_of stop bytes) ]
+abbrev pub items_from : Profile → ℕ → Stop → Place → List Item
+items_from p zero stop place = []
+items_from p (suc fuel) stop place = elim place [ None ↦ [] | Some bytes ↦ items_at (items_from p fuel stop) stop (heading_of p stop bytes) ]
 
 -- the pipeline of a feed
-abbrev pub items_of : Feed → List Item
-items_of feed = items_from (length feed.bytes + 1) feed.stop (Some feed.bytes)
+abbrev pub items_of : Profile → Feed → List Item
+items_of p feed = items_from p (length feed.bytes + 1) feed.stop (Some feed.bytes)

@@ -6,7 +6,7 @@ ghost use Rattle.tiny_http_wire.specs.Bytes.{is_ascii};
 ghost use Rattle.tiny_http_sending.specs.ResponseValue.{upgrade_text};
 ghost use Rattle.tiny_http_wire.specs.Device.{AnswersStop};
 ghost use Rattle.tiny_http_stream.specs.Source.{GoesOn, IsAtEnd};
-ghost use Rattle.tiny_http_message.specs.Pipeline.{is_head_method, is_timed_out, ends_too_new};
+ghost use Rattle.tiny_http_message.specs.Pipeline.{is_head_method, is_timed_out, ends_too_new, refusal_status, framing_refusal};
 ghost use Rattle.tiny_http_message.specs.Body.{prepended_body, BodyStops, PassesOver};
 ghost use Rattle.tiny_http_message.specs.HeadReads.{ReadsHead, EndsUnlessHanded, RefusesWith, RefusesTooNew, AnswersCut, AnswersFault, HasByteOrTimedOut, Begins, IsCutOff, IsRequest, IsFramedRequest, IsRefusedUncut, IsOkEnd, IsBeforeHead, cut_end, end_at, standing_of, standing_read, message_of, head_message, head_framing};
 ghost use Rattle.tiny_http_message.specs.Exchange.{KeepsHead};
@@ -17,7 +17,7 @@ ghost use Rattle.tiny_http_message.specs.OwnAnswer.{own_text_by};
 
 use crate::body::{Body, counted};
 pub use crate::framing::Form;
-use crate::framing::{Framing, framing_of, is_too_new};
+use crate::framing::{Framing, FramingFault, Profile, framing_of, is_too_new};
 use crate::heads::{HeadFault, Message, read_message};
 use crate::own_answer::{DropText, own_answer, send_own_quietly, too_new_answer};
 use crate::upgrading::{UpgradeError, send_upgrade_quietly};
@@ -315,6 +315,16 @@ fn refused_with(
     })
 }
 
+// The status by which a head is refused whose framing is.
+fn refusal_of(fault: FramingFault) -> StatusCode
+    ensures { result.0 ≡ refusal_status (framing_refusal fault) }
+{
+    match fault {
+        FramingFault::Ambiguous => StatusCode(400),
+        FramingFault::Expectation => StatusCode(417),
+    }
+}
+
 // Whether no head follows after a version above 1.1: an upgrade is named, or the body is chunked.
 fn ends_too_new(form: Form) -> bool
     ensures { result ≡ ends_too_new form }
@@ -456,11 +466,11 @@ fn read_item<R: ReadDevice>(
     source: &mut Source<R>,
     now: HttpDate,
 ) -> Result<HeadRead, AllocError>
-    ensures reads { ReadsHead Standing.Head now source.old.feed source.new.feed result }
+    ensures reads { ReadsHead Profile.Lenient Standing.Head now source.old.feed source.new.feed result }
     ensures goes_on { GoesOn source.old.feed source.new.feed }
     ensures at_end { IsAtEnd source.old → IsOkEnd result × (source.new ≡ source.old) }
     ensures begun { (IsOkEnd result → ⊥) → HasByteOrTimedOut source.old.feed }
-    ensures framed { IfOk result (IsFramedRequest now) }
+    ensures framed { IfOk result (IsFramedRequest Profile.Lenient now) }
     ensures lazy { IfOk result (λ read. IsRequest read → source.new.stop ≡ source.old.stop) }
     ensures passed { IfOk result (λ read. IsRefusedUncut read → source.new.stop ≡ source.old.stop) }
     ensures standing { source.new.standing ≡ source.old.standing }
@@ -474,8 +484,9 @@ fn read_item<R: ReadDevice>(
             return answer_fault(alloc, version, fault, source.stop(), now);
         }
     };
-    let Some(framing) = framing_of(message.version, message.headers.as_slice()) else {
-        return refused_with(alloc, StatusCode(417), message.version, now);
+    let framing = match framing_of(message.version, message.headers.as_slice()) {
+        Ok(framing) => framing,
+        Err(fault) => return refused_with(alloc, refusal_of(fault), message.version, now),
     };
     match begin_body(alloc, source, framing) {
         Ok(Some(body)) => {
@@ -535,7 +546,7 @@ pub fn read_head<R: ReadDevice>(
     source: &mut Source<R>,
     now: HttpDate,
 ) -> Result<HeadRead, AllocError>
-    ensures reads { IsBeforeHead source.old.standing → ReadsHead source.old.standing now source.old.feed source.new.feed result }
+    ensures reads { IsBeforeHead source.old.standing → ReadsHead Profile.Lenient source.old.standing now source.old.feed source.new.feed result }
     ensures ends { IsBeforeHead source.old.standing → EndsUnlessHanded result source.new }
     ensures last { source.old.standing ≡ Standing.Last → (result ≡ Ok (HeadRead.Ended EndOfRequests.LastRequest)) × (source.new ≡ source.old) }
     ensures unread { source.old.standing ≡ Standing.Body → (result ≡ Ok (HeadRead.Ended EndOfRequests.UnreadBody)) × IsAtEnd source.new × (source.new.reader ≡ source.old.reader) }
@@ -545,7 +556,7 @@ pub fn read_head<R: ReadDevice>(
     // Unless it is the end, a byte of a head has come, or the reader timed out: memory isn't refused in place of the end.
     ensures begun { (IsOkEnd result → ⊥) → HasByteOrTimedOut source.old.feed }
     // Whatever the reader states: a request is framed as its version and headers say, and its drop's text is that of its head.
-    ensures framed { IfOk result (IsFramedRequest now) }
+    ensures framed { IfOk result (IsFramedRequest Profile.Lenient now) }
     // Nothing is read ahead: where a request was read no end or fault of the reader was met.
     ensures lazy { IfOk result (λ read. IsRequest read → source.new.stop ≡ source.old.stop) }
     ensures standing { source.new.standing ≡ standing_read result source.old.standing }

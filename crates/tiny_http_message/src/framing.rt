@@ -11,6 +11,26 @@ use tiny_http_wire::ascii::AsciiString;
 use tiny_http_wire::common::{HTTPVersion, Header};
 use tiny_http_wire::grammar::parse_content_length;
 
+/// How strictly a head is judged.
+#[derive(Clone, Copy, Debug, PartialEq, Eq)]
+pub enum Profile {
+    /// As tiny_http: the first `Content-Length` counts, each `Transfer-Encoding` is chunked and hides it, and a head may be of
+    /// any size.
+    Lenient,
+    /// For a server behind a proxy: a head on whose end or whose body's end two servers may disagree is refused (RFC 9112,
+    /// sections 6.1 to 6.3), and so is one of more than 65,536 bytes (RFC 6585, section 5).
+    Strict,
+}
+
+/// Why the framing that a head asks for is refused.
+#[derive(Clone, Copy, Debug, PartialEq, Eq)]
+pub enum FramingFault {
+    /// Its headers don't say in one way where the body ends: 400 (RFC 9112, section 6.3). Only `Strict` refuses such a head.
+    Ambiguous,
+    /// It expects what can't be met: 417 (RFC 9110, section 10.1.1).
+    Expectation,
+}
+
 /// How a request's body is delimited (RFC 9112, section 6).
 #[derive(Clone, Copy, Debug, PartialEq, Eq)]
 pub enum Form {
@@ -144,16 +164,18 @@ fn is_last(version: HTTPVersion, connection: Option<&AsciiString>) -> bool
         || (version.0 == 1 && version.1 == 0 && !mentions(connection, "keep-alive"))
 }
 
-/// The framing that version and headers give; None for an expectation that can't be met.
+/// The framing that version and headers give under `Lenient`. It is an error where an expectation can't be met.
 #[tactic(auto, unfolding(crate::specs::Framing::framing))]
-pub fn framing_of(version: HTTPVersion, headers: &[Header]) -> Option<Framing>
-    ensures { result ≡ framing version headers.now }
+pub fn framing_of(version: HTTPVersion, headers: &[Header]) -> Result<Framing, FramingFault>
+    ensures { result ≡ framing Profile.Lenient version headers.now }
 {
-    let owed = expectation(headers)?;
+    let Some(owed) = expectation(headers) else {
+        return Err(FramingFault::Expectation);
+    };
     let connection = value_of(headers, "Connection");
     let is_coded = value_of(headers, "Transfer-Encoding").is_some();
     let body_length = body_length(is_coded, headers);
-    Some(Framing {
+    Ok(Framing {
         form: form_by(mentions(connection, "upgrade"), is_coded, owed, body_length),
         owes_continue: owed,
         body_length,

@@ -1,10 +1,21 @@
-//! The law of pipelines, the contract of a function that does nothing.
-ghost use Rattle.std.specs.Prelude.{◌≡◌, List, Some};
+//! Laws, each the contract of a function that does nothing.
+ghost use Rattle.std.specs.Prelude.{◌≡◌, List, Some, Result};
 ghost use Rattle.tiny_http_wire.specs.Device.{Feed};
+ghost use Rattle.tiny_http_message.specs.Framing.{Frames, framing};
 ghost use Rattle.tiny_http_message.specs.Pipeline.{Item, Pipeline};
 
-/// Each feed has exactly one pipeline.
+use crate::framing::{Framing, FramingFault, Profile};
+use tiny_http_wire::common::{HTTPVersion, Header};
+
+/// Under each profile each feed has exactly one pipeline.
 pub fn one_pipeline()
-    ensures some { (feed : Feed) → (items : List Item) × Pipeline (Some feed.bytes) feed.stop items }
-    ensures one { (feed : Feed) (items others : List Item) → Pipeline (Some feed.bytes) feed.stop items → Pipeline (Some feed.bytes) feed.stop others → items ≡ others }
+    ensures some { (p : Profile) (feed : Feed) → (items : List Item) × Pipeline p (Some feed.bytes) feed.stop items }
+    ensures one { (p : Profile) (feed : Feed) (items others : List Item) → Pipeline p (Some feed.bytes) feed.stop items → Pipeline p (Some feed.bytes) feed.stop others → items ≡ others }
+{}
+
+/// Under each profile a version and headers frame a message in exactly one way, or are refused for exactly one reason: the
+/// framing that is computed is the one that the cases name.
+pub fn one_framing()
+    ensures some { (p : Profile) (v : HTTPVersion) (headers : List Header) → Frames p v headers (framing p v headers) }
+    ensures one { (p : Profile) (v : HTTPVersion) (headers : List Header) (r : Result Framing FramingFault) → Frames p v headers r → r ≡ framing p v headers }
 {}

@@ -5,5 +5,5 @@ use Rattle.tiny_http_message.proofs.laws.one_pipeline.Goals as goal
 pub returns : goal.returns
 returns c = record {
   some = has-pipeline;
-  one = λ feed items others h k. pipeline-one (Some feed.bytes) feed.stop items others h k;
+  one = λ p feed items others h k. pipeline-one p (Some feed.bytes) feed.stop items others h k;
 }

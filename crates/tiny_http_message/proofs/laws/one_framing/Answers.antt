@@ -1,0 +1,5 @@
+use Rattle.tiny_http_message.proofs.FramingLemmas.{framing-is, framing-one}
+use Rattle.tiny_http_message.proofs.laws.one_framing.Goals as goal
+
+pub returns : goal.returns
+returns c = record { some = framing-is; one = framing-one }
