@@ -31,6 +31,7 @@ pub text-faulty : (IsGood : List ℕ → Type 0) (f : Feed) (p : Option Feed) (e
 text-faulty IsGood f p fault.Cut h = h
 text-faulty IsGood f p fault.NotAscii h = h
 text-faulty IsGood f p fault.Malformed h = absurd h
+text-faulty IsGood f p fault.TooLarge h = absurd h
 text-faulty IsGood f p fault.Memory h = tt
 
 pub start-err : (o p : Option Feed) (e : HeadFault) → ReadsText o p (Err e) → ReadsStart o p (Err e)
@@ -81,6 +82,7 @@ start-taken o p text (Ok r) h k = start-read o p text r (text-taken o p text h k
 start-taken o p text (Err fault.NotAscii) h k = start-err o p fault.NotAscii (not-text-taken o p text h k)
 start-taken o p text (Err fault.Malformed) h k = start-malformed o p text (text-taken o p text h k.0) (sym k.1)
 start-taken o p text (Err fault.Cut) h k = absurd k
+start-taken o p text (Err fault.TooLarge) h k = absurd k
 start-taken o p text (Err fault.Memory) h k = start-err o p fault.Memory (memory-read o p)
   where
     memory-read : (o p : Option Feed) → ReadsText o p (Err fault.Memory)
@@ -103,6 +105,7 @@ field-taken o p text (Err fault.Malformed) h k = head_reads-field-malformed o p 
     no-text [] e = refl
     no-text (b ∷ bs) e = absurd (omega (arith, e))
 field-taken o p text (Err fault.Cut) h k = absurd k
+field-taken o p text (Err fault.TooLarge) h k = absurd k
 field-taken o p text (Err fault.Memory) h k = field-err o p fault.Memory (memory-read o p)
   where
     memory-read : (o p : Option Feed) → ReadsText o p (Err fault.Memory)
@@ -143,7 +146,7 @@ pub fields-memory : {T : Type 0} (items : T → List Header) (o p q : Option Fee
 fields-memory items None p q hs r = tt
 fields-memory items (Some f) p q hs r = (hs, r.0, r.1, tt)
 
-pub message-read : {T : Type 0} (items : T → List Header) (o p q : Option Feed) (hs : T) (m : Message) → m.headers.items ≡ items hs → ReadsStart o p (Ok (m.method, m.path, m.version)) → ReadsFields items p q (Ok hs) → ReadsMessage o q (Ok m)
+pub message-read : {T : Type 0} (items : T → List Header) (o p q : Option Feed) (hs : T) (m : Message) → m.headers.items ≡ items hs → ReadsStart o p (Ok (m.method, m.path, m.version)) → ReadsFields items p q (Ok hs) → ReadsMessage None o q (Ok m)
 message-read items None p q hs m e s k = tt
 message-read items (Some f) p q hs m e s k =
     let P : Option Feed → Type 0 = λ x. ReadsFields items x q (Ok hs) in
@@ -151,21 +154,23 @@ message-read items (Some f) p q hs m e s k =
     let Q : List Header → Type 0 = λ x. BeginsWithHeaderLines s.0 x n.0 in
     (n.1, (s.0, n.0, s.1, subst Q (sym e) n.2, n.3), n.4)
 
-pub message-start_err : (o p : Option Feed) (e : HeadFault) → ReadsStart o p (Err e) → ReadsMessage o p (Err (None, e))
+pub message-start_err : (o p : Option Feed) (e : HeadFault) → ReadsStart o p (Err e) → ReadsMessage None o p (Err (None, e))
 message-start_err None p e h = tt
 message-start_err (Some f) p fault.Cut h = h
+message-start_err (Some f) p fault.TooLarge h = absurd h
 message-start_err (Some f) p fault.NotAscii h = h
 message-start_err (Some f) p fault.Malformed h = h
 message-start_err (Some f) p fault.Memory h = tt
 
 pub message-fields_err : {T : Type 0} (items : T → List Header) (o p q : Option Feed) (method : Method) (path : List ℕ) (v : HTTPVersion) (e : HeadFault)
-    → ReadsStart o p (Ok (method, path, v)) → ReadsFields items p q (Err e) → ReadsMessage o q (Err (Some v, e))
+    → ReadsStart o p (Ok (method, path, v)) → ReadsFields items p q (Err e) → ReadsMessage None o q (Err (Some v, e))
 message-fields_err items None p q method path v e s k = tt
 message-fields_err items (Some f) p q method path v e s k =
     let P : Option Feed → Type 0 = λ x. ReadsFields items x q (Err e) in
     faulty e (subst P s.2 k)
   where
-    faulty : (e : HeadFault) → ReadsFields items (feed_from f s.0) q (Err e) → IsFaultyHead f.bytes (Some v) e
+    faulty : (e : HeadFault) → ReadsFields items (feed_from f s.0) q (Err e) → IsFaultyHead None f.bytes (Some v) e
+    faulty fault.TooLarge n = absurd n.3
     faulty fault.Cut n = (method, path, s.0, s.1, n.0, n.1, n.2, n.3)
     faulty fault.NotAscii n = (method, path, s.0, s.1, n.0, n.1, n.2, n.3)
     faulty fault.Malformed n = (method, path, s.0, s.1, n.0, n.1, n.2, n.3)

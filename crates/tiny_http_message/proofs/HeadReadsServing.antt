@@ -21,6 +21,10 @@ use Rattle.tiny_http_wire.specs.Decoding.{Coming, decoding_coming}
 use Rattle.tiny_http_wire.proofs.ChunksLemmas.{decoded-is}
 use Rattle.tiny_http_wire.specs.Heads.{Message as Texted, BeginsWithRequestHead, FaultyHead, Cut, NotAscii, Malformed, version, is_too_new}
 use Rattle.tiny_http_message.specs.declared.heads.Message.{Message}
+use Rattle.tiny_http_message.specs.declared.framing.Profile.{Profile}
+use Rattle.tiny_http_message.specs.declared.framing.Profile.TheVariants.{Lenient, Strict}
+use Rattle.tiny_http_message.specs.declared.framing.FramingFault.{FramingFault}
+use Rattle.tiny_http_message.specs.declared.framing.FramingFault.TheVariants.{Ambiguous, Expectation}
 use Rattle.tiny_http_message.specs.declared.framing.Form.{Form}
 use Rattle.tiny_http_message.specs.declared.framing.Form.TheVariants.{Rest, Nothing, WithHead, Counted, Chunked}
 use Rattle.tiny_http_message.specs.declared.framing.Framing.{Framing}
@@ -38,8 +42,8 @@ use Rattle.tiny_http_stream.specs.ToCome.{skipped, stopped}
 use Rattle.tiny_http_message.specs.Body.{Remaining, remaining, taken_remaining, counted_remaining, coming_remaining, PassesOver, Fits, IsBodyOver, ReadsOn}
 use Rattle.tiny_http_message.specs.Exchange.{KeepsHead}
 use Rattle.tiny_http_stream.specs.Source.{TakesExactly, feed_from}
-use Rattle.tiny_http_message.specs.Pipeline.{Asks, Refuses, Refusal, BadRequest, RequestTimeout, ExpectationFailed, VersionNotSupported, refusal_status, is_head_method, ends_too_new, Place, Ends, Heads, HeadAt, IsCutWithHead, cut_item, is_timed_out, body_length_or_0, BodyAt, OneHead, item_of, next_place, place_after}
-use Rattle.tiny_http_message.specs.HeadReads.{ReadsMessage, ReadsHead, RefusesWith, AnswersCut, AnswersFault, RefusesTooNew, IsCutHead, IsBadLine, IsRefusedUncut, IsOkEnd, HasByteOrTimedOut, Begins, ComesWith, IsCutOff, IsBeforeHead, cut_end, end_at, place_feed, message_of, head_message, head_framing}
+use Rattle.tiny_http_message.specs.Pipeline.{Asks, Refuses, Refusal, BadRequest, RequestTimeout, ExpectationFailed, HeaderFieldsTooLarge, VersionNotSupported, refusal_status, framing_refusal, is_head_method, ends_too_new, Place, head_limit, BeginsWithin, IsUnfinishedHead, IsWholeHead, IsCutHead, IsRefused, IsRequestHead, Silence, Refused, Heads, IsCutWithHead, is_timed_out, body_length_or_0, BodyAt, OneHead, item_of, next_place, place_after}
+use Rattle.tiny_http_message.specs.HeadReads.{ReadsMessage, ReadsHead, RefusesWith, AnswersCut, AnswersFault, RefusesTooNew, IsBadLine, IsRefusedUncut, IsOkEnd, HasByteOrTimedOut, Begins, ComesWith, IsCutOff, IsBeforeHead, cut_end, end_at, place_feed, message_of, head_message, head_framing}
 use Rattle.tiny_http_message.specs.declared.exchange.EndOfRequests.{EndOfRequests}
 use Rattle.tiny_http_stream.specs.declared.source.Standing.{Standing}
 use Rattle.tiny_http_stream.specs.declared.source.Standing.TheVariants as at
@@ -54,50 +58,52 @@ use Rattle.tiny_http_message.specs.OwnAnswer.{refusal_response, refused_text}
 use Rattle.tiny_http_message.proofs.PipelineLemmas.{pipeline-sized-is}
 
 -- a head that is refused with an empty answer
-refused-at : (date : HttpDate) (f : Feed) (p : Option Feed) (refusal : Refusal) (v : HTTPVersion) (r : Result HeadRead AllocError) → refusal_response refusal ≡ response_of (refusal_status refusal) [] []
-    → HeadAt f.bytes f.stop (Ends (Some (Refuses refusal v false true))) → RefusesWith (refusal_status refusal) v date r → ReadsHead at.Head date (Some f) p r
-refused-at date f p refusal v (Err x) s h k = tt
-refused-at date f p refusal v (Ok (read.Refused status text true)) s h k =
-    (refusal, v, false, None, (Ends (Some (Refuses refusal v false true)), h, (refl, refl)), k.1 ∙ sym (ap (λ x. refused_text x v false date) s), k.0, refl)
-refused-at date f p refusal v (Ok (read.Refused status text false)) s h k = let no : false ≡ true = k.2 in cc
-refused-at date f p refusal v (Ok (read.Ended why)) s h k = absurd k
-refused-at date f p refusal v (Ok (read.Request x)) s h k = absurd k
+refused-at : (profile : Profile) (date : HttpDate) (f : Feed) (p : Option Feed) (refusal : Refusal) (v : HTTPVersion) (r : Result HeadRead AllocError) → refusal_response refusal ≡ response_of (refusal_status refusal) [] []
+    → IsRefused profile f.bytes f.stop refusal v → RefusesWith (refusal_status refusal) v date r → ReadsHead profile at.Head date (Some f) p r
+refused-at profile date f p refusal v (Err x) s h k = tt
+refused-at profile date f p refusal v (Ok (read.Refused status text true)) s h k =
+    (refusal, v, false, None, (Refused refusal v, h, (refl, refl)), k.1 ∙ sym (ap (λ x. refused_text x v false date) s), k.0, refl)
+refused-at profile date f p refusal v (Ok (read.Refused status text false)) s h k = let no : false ≡ true = k.2 in cc
+refused-at profile date f p refusal v (Ok (read.Ended why)) s h k = absurd k
+refused-at profile date f p refusal v (Ok (read.Request x)) s h k = absurd k
 
 -- a head that is cut: a 408 where the reader timed out
-cut-head : (date : HttpDate) (f : Feed) (p : Option Feed) (begun : Bool) (r : Result HeadRead AllocError) → IsCutHead f.bytes → HeadAt f.bytes f.stop (Ends (cut_item f.stop)) → begun ≡ nat_lt 0 (length f.bytes)
-    → AnswersCut f.stop begun date r → ReadsHead at.Head date (Some f) p r
-cut-head date f p begun r c h b k = by (is_timed_out f.stop) refl h k
+cut-head : (profile : Profile) (date : HttpDate) (f : Feed) (p : Option Feed) (begun : Bool) (r : Result HeadRead AllocError) → IsCutHead profile f.bytes → begun ≡ nat_lt 0 (length f.bytes)
+    → AnswersCut f.stop begun date r → ReadsHead profile at.Head date (Some f) p r
+cut-head profile date f p begun r c b k = by (is_timed_out f.stop) refl k
   where
-    by : (t : Bool) → is_timed_out f.stop ≡ t → HeadAt f.bytes f.stop (Ends (if t then Some (Refuses RequestTimeout (version 1 1) false true) else None))
-        → MatchBool t (RefusesWith 408 (version 1 1) date r) (r ≡ Ok (read.Ended (cut_end f.stop begun))) → ReadsHead at.Head date (Some f) p r
-    by true e h k = refused-at date f p RequestTimeout (version 1 1) r refl h k
-    by false e h k =
-        let P : Result HeadRead AllocError → Type 0 = λ x. ReadsHead at.Head date (Some f) p x in
-        subst P (sym k) ((Ends None, h, (refl, refl)), inl (c, e, ap (cut_end f.stop) b))
+    by : (t : Bool) → is_timed_out f.stop ≡ t → MatchBool t (RefusesWith 408 (version 1 1) date r) (r ≡ Ok (read.Ended (cut_end f.stop begun))) → ReadsHead profile at.Head date (Some f) p r
+    by true e k = refused-at profile date f p RequestTimeout (version 1 1) r refl (c, e, refl) k
+    by false e k =
+        let P : Result HeadRead AllocError → Type 0 = λ x. ReadsHead profile at.Head date (Some f) p x in
+        subst P (sym k) ((Silence, inl (c, e), (refl, refl)), inl (c, e, ap (cut_end f.stop) b))
 
 -- memory for a line was refused
-without-memory : (date : HttpDate) (f : Feed) (p : Option Feed) (r : Result HeadRead AllocError) → IsErr r → ReadsHead at.Head date (Some f) p r
-without-memory date f p (Ok x) k = let no : false ≡ true = k in cc
-without-memory date f p (Err x) k = tt
+without-memory : (profile : Profile) (date : HttpDate) (f : Feed) (p : Option Feed) (r : Result HeadRead AllocError) → IsErr r → ReadsHead profile at.Head date (Some f) p r
+without-memory profile date f p (Ok x) k = let no : false ≡ true = k in cc
+without-memory profile date f p (Err x) k = tt
 
 -- a faulty head; where it is cut, the input stopped so
-pub head-refused : (date : HttpDate) (o p : Option Feed) (v : Option HTTPVersion) (e : HeadFault) (stop : Option Stop) (r : Result HeadRead AllocError) → ReadsMessage o p (Err (v, e)) → AnswersFault v e stop date r
-    → ((f : Feed) → o ≡ Some f → e ≡ fault.Cut → (stop ≡ Some f.stop) × (true ≡ nat_lt 0 (length f.bytes))) → ReadsHead at.Head date o p r
-head-refused date None p v e stop r h k why = tt
-head-refused date (Some f) p v fault.Cut stop r h k why =
+pub head-refused : (profile : Profile) (date : HttpDate) (o p : Option Feed) (v : Option HTTPVersion) (e : HeadFault) (stop : Option Stop) (r : Result HeadRead AllocError) → ReadsMessage (head_limit profile) o p (Err (v, e)) → AnswersFault v e stop date r
+    → ((f : Feed) → o ≡ Some f → e ≡ fault.Cut → (stop ≡ Some f.stop) × (true ≡ nat_lt 0 (length f.bytes))) → ReadsHead profile at.Head date o p r
+head-refused profile date None p v e stop r h k why = tt
+head-refused profile date (Some f) p v fault.Cut stop r h k why =
     let w = why f refl refl in
     let P : Option Stop → Type 0 = λ o. IfSome o (λ s. AnswersCut s true date r) in
-    cut-head date f p true r (inl (v, h)) (inl (v, Cut, h, refl)) w.1 (subst P w.0 k)
-head-refused date (Some f) p v fault.NotAscii stop r h k why =
-    let P : Result HeadRead AllocError → Type 0 = λ x. ReadsHead at.Head date (Some f) p x in
-    subst P (sym k) ((Ends None, inl (v, NotAscii, h, refl), (refl, refl)), inr (v, h, refl))
-head-refused date (Some f) p v fault.Malformed stop r h k why = refused-at date f p BadRequest (unwrap_or v (version 1 1)) r refl (inl (v, Malformed, h, refl)) k
-head-refused date (Some f) p v fault.Memory stop r h k why = without-memory date f p r k
+    cut-head profile date f p true r (inl (v, h)) w.1 (subst P w.0 k)
+head-refused profile date (Some f) p v fault.TooLarge stop r h k why = refused-at profile date f p HeaderFieldsTooLarge (unwrap_or v (version 1 1)) r refl (v, h, refl) k
+head-refused profile date (Some f) p v fault.NotAscii stop r h k why =
+    let P : Result HeadRead AllocError → Type 0 = λ x. ReadsHead profile at.Head date (Some f) p x in
+    subst P (sym k) ((Silence, inr (v, h), (refl, refl)), inr ((v, h), refl))
+head-refused profile date (Some f) p v fault.Malformed stop r h k why = refused-at profile date f p BadRequest (unwrap_or v (version 1 1)) r refl (inl (v, h, refl)) k
+head-refused profile date (Some f) p v fault.Memory stop r h k why = without-memory profile date f p r k
 
--- an expectation that can't be met
-pub head-unframed : (date : HttpDate) (o p : Option Feed) (m : Message) (r : Result HeadRead AllocError) → ReadsMessage o p (Ok m) → framing m.version m.headers.items ≡ None → RefusesWith 417 m.version date r → ReadsHead at.Head date o p r
-head-unframed date None p m r h e k = tt
-head-unframed date (Some f) p m r h e k = refused-at date f p ExpectationFailed m.version r refl (inr (inl (message_of m, h.0, h.1, e, refl))) k
+-- headers that don't say where the body ends, or an expectation that can't be met
+pub head-unframed : (profile : Profile) (date : HttpDate) (o p : Option Feed) (m : Message) (e : FramingFault) (r : Result HeadRead AllocError) → ReadsMessage (head_limit profile) o p (Ok m) → framing profile m.version m.headers.items ≡ Err e
+    → RefusesWith (refusal_status (framing_refusal e)) m.version date r → ReadsHead profile at.Head date o p r
+head-unframed profile date None p m e r h is k = tt
+head-unframed profile date (Some f) p m Ambiguous r h is k = refused-at profile date f p BadRequest m.version r refl (inr (message_of m, h.0, record { begins = h.1; frames = is }, refl)) k
+head-unframed profile date (Some f) p m Expectation r h is k = refused-at profile date f p ExpectationFailed m.version r refl (message_of m, h.0, record { begins = h.1; frames = is }, refl) k
 
 -- a body that is passed over: the next head stands behind it
 same-remaining : (x y : Remaining) → Some x ≡ Some y → x ≡ y
@@ -123,28 +129,28 @@ ok-map (Ok x) P Q f h = f h
 ok-map (Err e) P Q f h = tt
 
 -- a version that is too new
-abbrev TooNewAt : HttpDate → Feed → Option Feed → Texted → Framing → List ℕ → Feed → Place → Result HeadRead AllocError → Type 0
-TooNewAt date x q m f after content next r =
-    HeadAt x.bytes x.stop (Heads m f after) → BodyAt f.form (body_length_or_0 f) after x.stop content next → is_too_new m.version ≡ true → RefusesTooNew (ends_too_new f.form) (is_head_method m.method) date r
-    → OnOk r (ends_too_new f.form ≡ false → q ≡ Some (place_feed x.stop next)) → ReadsHead at.Head date (Some x) q r
+abbrev TooNewAt : Profile → HttpDate → Feed → Option Feed → Texted → Framing → List ℕ → Feed → Place → Result HeadRead AllocError → Type 0
+TooNewAt profile date x q m f after content next r =
+    IsRequestHead profile x.bytes m f after → BodyAt f.form (body_length_or_0 f) after x.stop content next → is_too_new m.version ≡ true → RefusesTooNew (ends_too_new f.form) (is_head_method m.method) date r
+    → OnOk r (ends_too_new f.form ≡ false → q ≡ Some (place_feed x.stop next)) → ReadsHead profile at.Head date (Some x) q r
 
-too-new-at : (date : HttpDate) (x : Feed) (q : Option Feed) (m : Texted) (f : Framing) (after : List ℕ) (content : Feed) (next : Place) (r : Result HeadRead AllocError) → TooNewAt date x q m f after content next r
-too-new-at date x q m f after content next (Err e) h body new k goes = tt
-too-new-at date x q m f after content next (Ok (read.Ended why)) h body new k goes = absurd k
-too-new-at date x q m f after content next (Ok (read.Request y)) h body new k goes = absurd k
-too-new-at date x q m f after content next (Ok (read.Refused status text true)) h body new k goes =
+too-new-at : (profile : Profile) (date : HttpDate) (x : Feed) (q : Option Feed) (m : Texted) (f : Framing) (after : List ℕ) (content : Feed) (next : Place) (r : Result HeadRead AllocError) → TooNewAt profile date x q m f after content next r
+too-new-at profile date x q m f after content next (Err e) h body new k goes = tt
+too-new-at profile date x q m f after content next (Ok (read.Ended why)) h body new k goes = absurd k
+too-new-at profile date x q m f after content next (Ok (read.Request y)) h body new k goes = absurd k
+too-new-at profile date x q m f after content next (Ok (read.Refused status text true)) h body new k goes =
     (VersionNotSupported, version 1 1, is_head_method m.method, None, (Heads m f after, h, (content, next, body, rw (new, ← k.2) refl, rw (new, ← k.2) refl)), k.1, k.0, refl)
-too-new-at date x q m f after content next (Ok (read.Refused status text false)) h body new k goes =
+too-new-at profile date x q m f after content next (Ok (read.Refused status text false)) h body new k goes =
     (VersionNotSupported, version 1 1, is_head_method m.method, next, (Heads m f after, h, (content, next, body, rw (new, ← k.2) refl, rw (new, ← k.2) refl)), k.1, k.0, goes (sym k.2))
 
-pub head-too_new : {R : Type 0} (date : HttpDate) (o p : Option Feed) (old new : SourceState R) (m : Message) (f : Framing) (b : Body) (r : Result HeadRead AllocError) → ReadsMessage o p (Ok m) → framing m.version m.headers.items ≡ Some f
-    → Begins f p old.feed (Some b) → is_too_new m.version ≡ true → RefusesTooNew (ends_too_new f.form) (is_head_method m.method) date r → OnOk r (ends_too_new f.form ≡ false → PassesOver b old new) → ReadsHead at.Head date o new.feed r
-head-too_new date None p old new m f y r h e begins is k goes = tt
-head-too_new date (Some x) p old new m f y r h e begins is k goes =
+pub head-too_new : {R : Type 0} (profile : Profile) (date : HttpDate) (o p : Option Feed) (old new : SourceState R) (m : Message) (f : Framing) (b : Body) (r : Result HeadRead AllocError) → ReadsMessage (head_limit profile) o p (Ok m) → framing profile m.version m.headers.items ≡ Ok f
+    → Begins f p old.feed (Some b) → is_too_new m.version ≡ true → RefusesTooNew (ends_too_new f.form) (is_head_method m.method) date r → OnOk r (ends_too_new f.form ≡ false → PassesOver b old new) → ReadsHead profile at.Head date o new.feed r
+head-too_new profile date None p old new m f y r h e begins is k goes = tt
+head-too_new profile date (Some x) p old new m f y r h e begins is k goes =
     let B : Option Feed → Type 0 = λ z. Begins f z old.feed (Some y) in
     let started = subst B h.2 begins in
     let left : Remaining = record { body = started.1; behind = place_feed x.stop started.2 } in
-    too-new-at date x new.feed (message_of m) f h.0 started.1 started.2 r (h.1, e, started.0) started.3 is k
+    too-new-at profile date x new.feed (message_of m) f h.0 started.1 started.2 r (record { whole = record { begins = h.1; frames = e }; uncut = started.0 }) started.3 is k
     (ok-map r (ends_too_new f.form ≡ false → PassesOver y old new) (ends_too_new f.form ≡ false → new.feed ≡ Some (place_feed x.stop started.2)) (λ g ends. passed-over old new y f.form (body_length_or_0 f) left started.5 ends started.4 (g ends)) goes)
 
 -- the body that begins in front of some bytes
@@ -257,31 +263,31 @@ begins-cut f (Some x) new n e is h =
     subst P (sym e) (omega (arith, h.0, is))
 
 -- a head with its body
-head-whole : (x : Feed) (q : Option Feed) (m : Texted) (f : Framing) (after : List ℕ) (b : Body) → BeginsWithRequestHead x.bytes m after → framing m.version m.headers ≡ Some f → is_too_new m.version ≡ false → Begins f (feed_from x after) q (Some b)
-    → (content : Feed) × (next : Place) × OneHead x.bytes x.stop (Some (Asks (record { message = m; framing = f; body = content }))) (place_after f.is_last next) × ComesWith (remaining b q) x.stop content next × Fits b f.form (body_length_or_0 f) 0 false
-head-whole x q m f after b h e version_is begins =
+head-whole : (profile : Profile) (x : Feed) (q : Option Feed) (m : Texted) (f : Framing) (after : List ℕ) (b : Body) → IsWholeHead profile x.bytes m after (Ok f) → is_too_new m.version ≡ false → Begins f (feed_from x after) q (Some b)
+    → (content : Feed) × (next : Place) × OneHead profile x.bytes x.stop (Some (Asks (record { message = m; framing = f; body = content }))) (place_after f.is_last next) × ComesWith (remaining b q) x.stop content next × Fits b f.form (body_length_or_0 f) 0 false
+head-whole profile x q m f after b h version_is begins =
     let k = begins in
     let content = k.1 in
     let next = k.2 in
     let item : Some (Asks (record { message = m; framing = f; body = content })) ≡ Some (item_of m f content) = rw version_is refl in
     let place : place_after f.is_last next ≡ next_place m f next = rw version_is refl in
-    (content, next, (Heads m f after, (h, e, k.0), (content, next, k.3, item, place)), k.4, k.5)
+    (content, next, (Heads m f after, record { whole = h; uncut = k.0 }, (content, next, k.3, item, place)), k.4, k.5)
 
 -- the request under a message and a framing that are those of a head
-abbrev IsHanded : Feed → Option Feed → Body → Texted → Framing → Type 0
-IsHanded x q b m f =
-    (content : Feed) × (next : Place) × OneHead x.bytes x.stop (Some (Asks (record { message = m; framing = f; body = content }))) (place_after f.is_last next) × ComesWith (remaining b q) x.stop content next × Fits b f.form (body_length_or_0 f) 0 false
+abbrev IsHanded : Profile → Feed → Option Feed → Body → Texted → Framing → Type 0
+IsHanded profile x q b m f =
+    (content : Feed) × (next : Place) × OneHead profile x.bytes x.stop (Some (Asks (record { message = m; framing = f; body = content }))) (place_after f.is_last next) × ComesWith (remaining b q) x.stop content next × Fits b f.form (body_length_or_0 f) 0 false
 
-pub head-handed : (date : HttpDate) (o p q : Option Feed) (m : Message) (f : Framing) (h : Head) (b : Body) (y : Exchange) → head_message h ≡ message_of m → head_framing h ≡ f → ReadsMessage o p (Ok m) → framing m.version m.headers.items ≡ Some f → is_too_new m.version ≡ false
-    → Begins f p q (Some b) → y.head ≡ h → y.waiting.body ≡ b → KeepsHead y.waiting h date → ReadsHead at.Head date o q (Ok (read.Request y))
-head-handed date None p q m f h b y u v r e t begins heads bodies keeps = tt
-head-handed date (Some x) p q m f h b y u v r e t begins heads bodies keeps =
+pub head-handed : (profile : Profile) (date : HttpDate) (o p q : Option Feed) (m : Message) (f : Framing) (h : Head) (b : Body) (y : Exchange) → head_message h ≡ message_of m → head_framing h ≡ f → ReadsMessage (head_limit profile) o p (Ok m) → framing profile m.version m.headers.items ≡ Ok f → is_too_new m.version ≡ false
+    → Begins f p q (Some b) → y.head ≡ h → y.waiting.body ≡ b → KeepsHead y.waiting h date → ReadsHead profile at.Head date o q (Ok (read.Request y))
+head-handed profile date None p q m f h b y u v r e t begins heads bodies keeps = tt
+head-handed profile date (Some x) p q m f h b y u v r e t begins heads bodies keeps =
     let P : Option Feed → Type 0 = λ z. Begins f z q (Some b) in
-    let found = head-whole x q (message_of m) f r.0 b r.1 e t (subst P r.2 begins) in
-    let Q : Texted → Type 0 = λ z. IsHanded x q b z f in
-    let R : Framing → Type 0 = λ z. IsHanded x q b (head_message h) z in
-    let S : Body → Type 0 = λ z. IsHanded x q z (head_message h) (head_framing h) in
-    let T : Head → Type 0 = λ z. IsHanded x q y.waiting.body (head_message z) (head_framing z) in
+    let found = head-whole profile x q (message_of m) f r.0 b (record { begins = r.1; frames = e }) t (subst P r.2 begins) in
+    let Q : Texted → Type 0 = λ z. IsHanded profile x q b z f in
+    let R : Framing → Type 0 = λ z. IsHanded profile x q b (head_message h) z in
+    let S : Body → Type 0 = λ z. IsHanded profile x q z (head_message h) (head_framing h) in
+    let T : Head → Type 0 = λ z. IsHanded profile x q y.waiting.body (head_message z) (head_framing z) in
     let K : Head → Type 0 = λ z. KeepsHead y.waiting z date in
     let all = subst T (sym heads) (subst S (sym bodies) (subst R (sym v) (subst Q (sym u) found))) in
     (all.0, all.1, all.2, all.3, record { answer = subst K (sym heads) keeps; body = all.4 })
@@ -291,18 +297,22 @@ line-some [] rest = omega arith
 line-some (b ∷ bs) rest = omega arith
 
 -- a body that is read with its head, and cut, where the input stopped so
-pub head-cut : (date : HttpDate) (o p q : Option Feed) (m : Message) (f : Framing) (stop : Option Stop) (r : Result HeadRead AllocError) → ReadsMessage o p (Ok m) → framing m.version m.headers.items ≡ Some f → Begins f p q None
-    → ((x : Feed) → p ≡ Some x → stop ≡ Some x.stop) → IfSome stop (λ s. AnswersCut s true date r) → ReadsHead at.Head date o q r
-head-cut date None p q m f stop r h e t ends k = tt
-head-cut date (Some x) p q m f stop r h e t ends k =
+pub head-cut : (profile : Profile) (date : HttpDate) (o p q : Option Feed) (m : Message) (f : Framing) (stop : Option Stop) (r : Result HeadRead AllocError) → ReadsMessage (head_limit profile) o p (Ok m) → framing profile m.version m.headers.items ≡ Ok f → Begins f p q None
+    → ((x : Feed) → p ≡ Some x → stop ≡ Some x.stop) → IfSome stop (λ s. AnswersCut s true date r) → ReadsHead profile at.Head date o q r
+head-cut profile date None p q m f stop r h e t ends k = tt
+head-cut profile date (Some x) p q m f stop r h e t ends k =
     let P : Option Feed → Type 0 = λ y. Begins f y q None in
     let S : Option Stop → Type 0 = λ y. IfSome y (λ s. AnswersCut s true date r) in
     let cut = subst P h.2 t in
-    let begun : true ≡ nat_lt 0 (length x.bytes) = sym (lt-ltb 0 (length x.bytes) (head-some x.bytes (message_of m) h.0 h.1)) in
-    cut-head date x q true r (inr (message_of m, h.0, f, h.1, e, cut)) (inr (inr (message_of m, h.0, f, h.1, e, cut, refl))) begun (subst S (ends (record { bytes = h.0; stop = x.stop }) h.2) k)
+    let begun : true ≡ nat_lt 0 (length x.bytes) = sym (lt-ltb 0 (length x.bytes) (within-some (head_limit profile) x.bytes (message_of m) h.0 h.1)) in
+    cut-head profile date x q true r (inr (message_of m, h.0, f, record { begins = h.1; frames = e }, cut)) begun (subst S (ends (record { bytes = h.0; stop = x.stop }) h.2) k)
   where
     head-some : (bytes : List ℕ) (m : Texted) (after : List ℕ) → BeginsWithRequestHead bytes m after → 0 < length bytes
     head-some bytes m after t = let P : List ℕ → Type 0 = λ x. 0 < length x in let line = t.2.1 in subst P (sym line.joins) (line-some t.2.0 t.0)
+
+    within-some : (limit : Option ℕ) (bytes : List ℕ) (m : Texted) (after : List ℕ) → BeginsWithin limit bytes m after → 0 < length bytes
+    within-some None bytes m after t = head-some bytes m after t
+    within-some (Some limit) bytes m after t = head-some bytes m after t.0
 
 -- a source that was cut stopped as its feed does
 pub cut-stop : {R : Type 0} (old new : SourceState R) (stop : Option Stop) (f : Feed) → old.feed ≡ Some f → IsCutOff old new → (new.is_over ≡ true → IsSome stop × IfSome stop (λ s. StopsBy s new.feed)) → stop ≡ Some f.stop
@@ -313,18 +323,20 @@ cut-stop old new (Some stop) f e cut over =
     ap Some (sym stops.1)
 
 -- no byte of a head has come
-pub head-closed : {R : Type 0} (date : HttpDate) (o : Option Feed) (new : SourceState R) (stop : Option Stop) (r : Result HeadRead AllocError) → HasNoByte o → new.feed ≡ o → new.is_over ≡ true → (new.is_over ≡ true → IsSome stop × IfSome stop (λ s. StopsBy s new.feed))
-    → IfSome stop (λ s. AnswersCut s false date r) → ReadsHead at.Head date o new.feed r
-head-closed date None new stop r none same is over h = tt
-head-closed date (Some f) new None r none same is over h = let no : false ≡ true = (over is).0 in cc
-head-closed date (Some f) new (Some stop) r none same is over h =
+closed-short : (profile : Profile) (bytes : List ℕ) → bytes ≡ [] → IsUnfinishedHead (head_limit profile) bytes None
+closed-short Lenient bytes e = let Q : List ℕ → Type 0 = λ x. FaultyHead x None Cut in subst Q (sym e) refl
+closed-short Strict bytes e = let Q : List ℕ → Type 0 = λ x. FaultyHead x None Cut × (length x < 65536) in subst Q (sym e) (refl, omega arith)
+
+pub head-closed : {R : Type 0} (profile : Profile) (date : HttpDate) (o : Option Feed) (new : SourceState R) (stop : Option Stop) (r : Result HeadRead AllocError) → HasNoByte o → new.feed ≡ o → new.is_over ≡ true → (new.is_over ≡ true → IsSome stop × IfSome stop (λ s. StopsBy s new.feed))
+    → IfSome stop (λ s. AnswersCut s false date r) → ReadsHead profile at.Head date o new.feed r
+head-closed profile date None new stop r none same is over h = tt
+head-closed profile date (Some f) new None r none same is over h = let no : false ≡ true = (over is).0 in cc
+head-closed profile date (Some f) new (Some stop) r none same is over h =
     let P : Option Feed → Type 0 = λ x. StopsBy stop x in
     let stops = subst P same (over is).1 in
-    let Q : List ℕ → Type 0 = λ x. FaultyHead x None Cut in
     let S : Stop → Type 0 = λ s. AnswersCut s false date r in
-    let cut : FaultyHead f.bytes None Cut = subst Q (sym none) refl in
     let begun : false ≡ nat_lt 0 (length f.bytes) = sym (ap (λ (x : List ℕ). nat_lt 0 (length x)) none) in
-    cut-head date f new.feed false r (inl (None, cut)) (inl (None, Cut, cut, refl)) begun (subst S (sym stops.1) h)
+    cut-head profile date f new.feed false r (inl (None, closed-short profile f.bytes none)) begun (subst S (sym stops.1) h)
 
 -- after the end of a source nothing is answered
 pub end-unanswered : (date : HttpDate) (stop : Option Stop) (begun : Bool) (r : Result HeadRead AllocError) → stop ≡ Some End → IfSome stop (λ s. AnswersCut s begun date r) → IsOkEnd r
@@ -351,18 +363,18 @@ timed-out date (Some f) new (Some stop) r same is over h some =
 pub has-begun : (o : Option Feed) → HasByte o → HasByteOrTimedOut o
 has-begun o h = inl h
 
--- a head that is refused by another status than 408 was faulty in a line that was read
-refused-by : (status : ℕ) (v : HTTPVersion) (date : HttpDate) (x : HeadRead) → RefusesWith status v date (Ok x) → IsRefusedUncut x → status ≢ 408
-refused-by status v date (read.Refused code text last) k h e = h.0 (k.0 ∙ e)
-refused-by status v date (read.Ended why) k h e = absurd k
-refused-by status v date (read.Request x) k h e = absurd k
+-- a head that is refused by another status than 408 and 431 was faulty in a line that was read
+refused-by : (status : ℕ) (v : HTTPVersion) (date : HttpDate) (x : HeadRead) → RefusesWith status v date (Ok x) → IsRefusedUncut x → (status ≢ 408) × (status ≢ 431)
+refused-by status v date (read.Refused code text last) k h = (λ e. h.0 (k.0 ∙ e), λ e. h.1 (k.0 ∙ e))
+refused-by status v date (read.Ended why) k h = absurd k
+refused-by status v date (read.Request x) k h = absurd k
 
 cut-unrefused : (stop : Option Stop) (begun : Bool) (date : HttpDate) (x : HeadRead) → IsSome stop → IfSome stop (λ s. AnswersCut s begun date (Ok x)) → IsRefusedUncut x → ⊥
 cut-unrefused None begun date x some k h = let no : false ≡ true = some in cc
 cut-unrefused (Some s) begun date x some k h = by (is_timed_out s) k
   where
     by : (t : Bool) → MatchBool t (RefusesWith 408 (version 1 1) date (Ok x)) (◌≡◌ {A = Result HeadRead AllocError} (Ok x) (Ok (read.Ended (cut_end s begun)))) → ⊥
-    by true k = refused-by 408 (version 1 1) date x k h refl
+    by true k = (refused-by 408 (version 1 1) date x k h).0 refl
     by false k =
         let P : HeadRead → Type 0 = λ y. IsRefusedUncut y in
         let e : x ≡ read.Ended (cut_end s begun) = cc in
@@ -370,7 +382,7 @@ cut-unrefused (Some s) begun date x some k h = by (is_timed_out s) k
 
 -- a head that is refused for its version, after which none follows: its body isn't passed over
 pub passed-on : (T : Type 0) (ends no_body : Bool) (date : HttpDate) (r : Result HeadRead AllocError) → RefusesTooNew ends no_body date r → (ends ≡ true → T) → IfOk r (λ x. IsRefusedUncut x → T)
-passed-on T ends no_body date (Ok (read.Refused status text last)) k t = λ h. t (sym k.2 ∙ h.1)
+passed-on T ends no_body date (Ok (read.Refused status text last)) k t = λ h. t (sym k.2 ∙ h.2)
 passed-on T ends no_body date (Ok (read.Ended why)) k t = absurd k
 passed-on T ends no_body date (Ok (read.Request x)) k t = absurd k
 passed-on T ends no_body date (Err e) k t = tt
@@ -382,6 +394,7 @@ cut-passed T stop begun date (Err e) some k = tt
 pub fault-passed : (T : Type 0) (v : Option HTTPVersion) (e : HeadFault) (stop : Option Stop) (date : HttpDate) (r : Result HeadRead AllocError) → AnswersFault v e stop date r → (e ≡ fault.Cut → IsSome stop) → (IsBadLine e → T) → IfOk r (λ x. IsRefusedUncut x → T)
 fault-passed T v e stop date (Err x) k cut bad = tt
 fault-passed T v fault.Cut stop date (Ok x) k cut bad = λ h. absurd (cut-unrefused stop true date x (cut refl) k h)
+fault-passed T v fault.TooLarge stop date (Ok x) k cut bad = λ h. absurd ((refused-by 431 (unwrap_or v (version 1 1)) date x k h).1 refl)
 fault-passed T v fault.NotAscii stop date (Ok x) k cut bad = λ h. bad tt
 fault-passed T v fault.Malformed stop date (Ok x) k cut bad = λ h. bad tt
 fault-passed T v fault.Memory stop date (Ok x) k cut bad = let no : false ≡ true = k in cc
@@ -395,10 +408,10 @@ begun-is o f e some = let P : Option Feed → Type 0 = λ x. HasByte x in sym (l
     more (b ∷ bs) h = omega arith
 
 -- an end at its place is one after a body that was given up, or broke off, but for its reason
-pub head-end : (s : Standing) (date : HttpDate) (o p q : Option Feed) (why : EndOfRequests) → IsBeforeHead s → ReadsHead at.Head date o p (Ok (read.Ended why)) → ReadsHead s date o q (Ok (read.Ended (end_at s why)))
-head-end s date None p q why here h = tt
-head-end at.Head date (Some f) p q why here h = h
-head-end at.Abandoned date (Some f) p q why here h = (h.0, refl)
-head-end (at.Broken kind) date (Some f) p q why here h = (h.0, refl)
-head-end at.Body date (Some f) p q why here h = elim here [ ]
-head-end at.Last date (Some f) p q why here h = elim here [ ]
+pub head-end : (profile : Profile) (s : Standing) (date : HttpDate) (o p q : Option Feed) (why : EndOfRequests) → IsBeforeHead s → ReadsHead profile at.Head date o p (Ok (read.Ended why)) → ReadsHead profile s date o q (Ok (read.Ended (end_at s why)))
+head-end profile s date None p q why here h = tt
+head-end profile at.Head date (Some f) p q why here h = h
+head-end profile at.Abandoned date (Some f) p q why here h = (h.0, refl)
+head-end profile (at.Broken kind) date (Some f) p q why here h = (h.0, refl)
+head-end profile at.Body date (Some f) p q why here h = elim here [ ]
+head-end profile at.Last date (Some f) p q why here h = elim here [ ]

@@ -28,7 +28,7 @@ use Rattle.tiny_http_wire.specs.Answer.{text_plain}
 use Rattle.std.specs.Prelude.{◌∷◌}
 use Rattle.std.proofs.lemmas.Bool.{le-leb}
 use Rattle.tiny_http_sending.specs.ResponseValue.{response_of, response_text}
-use Rattle.tiny_http_message.specs.Pipeline.{Refusal, BadRequest, RequestTimeout, ExpectationFailed, VersionNotSupported}
+use Rattle.tiny_http_message.specs.Pipeline.{Refusal, BadRequest, RequestTimeout, ExpectationFailed, HeaderFieldsTooLarge, VersionNotSupported}
 use Rattle.std.specs.Prelude.{◌^◌, IfOk}
 use Rattle.std.specs.declared.alloc.AllocError.{AllocError}
 use Rattle.tiny_http_wire.specs.Heads.{version}
@@ -160,6 +160,7 @@ pub refusal-whole : (refusal : Refusal) (v : HTTPVersion) (no_body : Bool) (date
 refusal-whole BadRequest v no_body date = response-whole 400 [] [] v no_body date
 refusal-whole RequestTimeout v no_body date = response-whole 408 [] [] v no_body date
 refusal-whole ExpectationFailed v no_body date = response-whole 417 [] [] v no_body date
+refusal-whole HeaderFieldsTooLarge v no_body date = response-whole 431 [] [] v no_body date
 refusal-whole VersionNotSupported v no_body date = response-whole 505 (text_plain ∷ []) too_new_text v no_body date
 
 -- what is printed to a version that is too new

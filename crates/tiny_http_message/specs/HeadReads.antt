@@ -32,7 +32,7 @@ use Rattle.tiny_http_message.specs.declared.body.Body.{Body}
 use Rattle.tiny_http_message.specs.Framing.{framing}
 use Rattle.tiny_http_stream.specs.declared.source.FirstLine.{FirstLine}
 use Rattle.tiny_http_stream.specs.Source.{SourceState, feed_from, FindsLine, IsAtEnd}
-use Rattle.tiny_http_message.specs.Pipeline.{Request, Asks, Refuses, Refusal, VersionNotSupported, refusal_status, is_timed_out, Place, IsCutWithHead, IsCutHead, IsNotAsciiHead, BodyAt, OneHead, body_length_or_0, place_after}
+use Rattle.tiny_http_message.specs.Pipeline.{Request, Asks, Refuses, Refusal, VersionNotSupported, refusal_status, is_timed_out, Place, seen_bytes, BeginsWithin, IsUnfinishedHead, IsTooLarge, IsCutWithHead, IsCutHead, IsNotAsciiHead, BodyAt, OneHead, body_length_or_0, place_after}
 use Rattle.tiny_http_message.specs.OwnAnswer.{own_text, refusal_response, refused_text}
 use Rattle.tiny_http_message.specs.Body.{Remaining, remaining, Fits}
 use Rattle.tiny_http_message.specs.Exchange.{exchange_head, exchange_waiting, exchange_left, exchange_streams, KeepsHead, KeepsRequest}
@@ -48,6 +48,7 @@ abbrev pub IsBadLine : HeadFault → Type 0
 IsBadLine fault.NotAscii = ⊤
 IsBadLine fault.Malformed = ⊤
 IsBadLine fault.Cut = ⊥
+IsBadLine fault.TooLarge = ⊥
 IsBadLine fault.Memory = ⊥
 
 -- a line of ASCII text
@@ -55,6 +56,7 @@ abbrev pub ReadsText : Option Feed → Option Feed → Result (List ℕ) HeadFau
 ReadsText None new r = ⊤
 ReadsText (Some f) new (Ok text) = (rest : List ℕ) × Line f.bytes text rest × AreAscii text × (new ≡ feed_from f rest)
 ReadsText (Some f) new (Err fault.Cut) = IsUnfinished f.bytes
+ReadsText (Some f) new (Err fault.TooLarge) = ⊥
 ReadsText (Some f) new (Err fault.NotAscii) = (text : List ℕ) × (rest : List ℕ) × Line f.bytes text rest × (AreAscii text → ⊥)
 ReadsText (Some f) new (Err fault.Malformed) = ⊥
 ReadsText (Some f) new (Err fault.Memory) = ⊤
@@ -65,6 +67,7 @@ StartIn text (Ok r) = AreAscii text × (reading.request_line text ≡ Some r)
 StartIn text (Err fault.NotAscii) = AreAscii text → ⊥
 StartIn text (Err fault.Malformed) = AreAscii text × (reading.request_line text ≡ None)
 StartIn text (Err fault.Cut) = ⊥
+StartIn text (Err fault.TooLarge) = ⊥
 StartIn text (Err fault.Memory) = ⊤
 
 -- what a text is read as: a header line, or the empty line
@@ -74,6 +77,7 @@ FieldIn text (Ok (Some h)) = AreAscii text × (reading.header_line text ≡ Some
 FieldIn text (Err fault.NotAscii) = AreAscii text → ⊥
 FieldIn text (Err fault.Malformed) = AreAscii text × (text ≢ []) × (reading.header_line text ≡ None)
 FieldIn text (Err fault.Cut) = ⊥
+FieldIn text (Err fault.TooLarge) = ⊥
 FieldIn text (Err fault.Memory) = ⊤
 
 -- where the next line of a head is found, or why there is none
@@ -84,6 +88,7 @@ FindsText old new held skip (Err e) = ReadsText old new (Err e) × (IsBadLine e 
 -- a line that has to be good, and is not
 abbrev pub IsFaulty : (List ℕ → Type 0) → List ℕ → HeadFault → Type 0
 IsFaulty IsGood bytes fault.Cut = FaultyLine IsGood bytes Cut
+IsFaulty IsGood bytes fault.TooLarge = ⊥
 IsFaulty IsGood bytes fault.NotAscii = FaultyLine IsGood bytes NotAscii
 IsFaulty IsGood bytes fault.Malformed = FaultyLine IsGood bytes Malformed
 IsFaulty IsGood bytes fault.Memory = ⊤
@@ -126,18 +131,19 @@ head_framing h = record { form = h.form; owes_continue = h.owes_continue; body_l
 abbrev pub request_of : Head → Feed → Request
 request_of h body = record { message = head_message h; framing = head_framing h; body = body }
 
--- a head that is faulty so, under the version if that was read
-abbrev pub IsFaultyHead : List ℕ → Option HTTPVersion → HeadFault → Type 0
-IsFaultyHead bytes v fault.Cut = FaultyHead bytes v Cut
-IsFaultyHead bytes v fault.NotAscii = FaultyHead bytes v NotAscii
-IsFaultyHead bytes v fault.Malformed = FaultyHead bytes v Malformed
-IsFaultyHead bytes v fault.Memory = ⊤
+-- a head that is faulty so within this limit, under the version if that was read
+abbrev pub IsFaultyHead : Option ℕ → List ℕ → Option HTTPVersion → HeadFault → Type 0
+IsFaultyHead limit bytes v fault.Cut = IsUnfinishedHead limit bytes v
+IsFaultyHead limit bytes v fault.TooLarge = IsTooLarge limit bytes v
+IsFaultyHead limit bytes v fault.NotAscii = FaultyHead (seen_bytes limit bytes) v NotAscii
+IsFaultyHead limit bytes v fault.Malformed = FaultyHead (seen_bytes limit bytes) v Malformed
+IsFaultyHead limit bytes v fault.Memory = ⊤
 
--- a whole head, or its first faulty line
-abbrev pub ReadsMessage : Option Feed → Option Feed → Result Message (Option HTTPVersion × HeadFault) → Type 0
-ReadsMessage None new r = ⊤
-ReadsMessage (Some f) new (Ok m) = (rest : List ℕ) × BeginsWithRequestHead f.bytes (message_of m) rest × (new ≡ feed_from f rest)
-ReadsMessage (Some f) new (Err e) = IsFaultyHead f.bytes e.0 e.1
+-- a whole head that keeps this limit, or how it is faulty
+abbrev pub ReadsMessage : Option ℕ → Option Feed → Option Feed → Result Message (Option HTTPVersion × HeadFault) → Type 0
+ReadsMessage limit None new r = ⊤
+ReadsMessage limit (Some f) new (Ok m) = (rest : List ℕ) × BeginsWithin limit f.bytes (message_of m) rest × (new ≡ feed_from f rest)
+ReadsMessage limit (Some f) new (Err e) = IsFaultyHead limit f.bytes e.0 e.1
 
 -- nothing is left of the input, and it stopped as its feed does
 pub record IsCutOff {R : Type 0} (old new : SourceState R) : Type 0 where
@@ -191,6 +197,7 @@ AnswersCut stop has_begun date r = MatchBool (is_timed_out stop) (RefusesWith 40
 abbrev pub AnswersFault : Option HTTPVersion → HeadFault → Option Stop → HttpDate → Result HeadRead AllocError → Type 0
 AnswersFault v fault.Malformed stop date r = RefusesWith 400 (unwrap_or v (version 1 1)) date r
 AnswersFault v fault.Cut stop date r = IfSome stop (λ s. AnswersCut s true date r)
+AnswersFault v fault.TooLarge stop date r = RefusesWith 431 (unwrap_or v (version 1 1)) date r
 AnswersFault v fault.NotAscii stop date r = r ≡ Ok (read.Ended because.NotAscii)
 AnswersFault v fault.Memory stop date r = IsErr r
 
@@ -262,9 +269,9 @@ abbrev pub IsRequest : HeadRead → Type 0
 IsRequest (read.Request x) = ⊤
 IsRequest _ = ⊥
 
--- a head was refused, isn't cut (not by a 408), and no head follows
+-- a head was refused, was read to its end or its first bad line (not by a 408 or a 431), and no head follows
 abbrev pub IsRefusedUncut : HeadRead → Type 0
-IsRefusedUncut (read.Refused status text last) = (status.0 ≢ 408) × (last ≡ true)
+IsRefusedUncut (read.Refused status text last) = (status.0 ≢ 408) × (status.0 ≢ 431) × (last ≡ true)
 IsRefusedUncut _ = ⊥
 
 -- a request is framed as its version and headers say, and what is kept of it on this date is that of its head

@@ -402,6 +402,10 @@ fn answer_fault(
             let version = version.unwrap_or(HTTPVersion(1, 1));
             refused_with(alloc, StatusCode(400), version, now)
         }
+        HeadFault::TooLarge => {
+            let version = version.unwrap_or(HTTPVersion(1, 1));
+            refused_with(alloc, StatusCode(431), version, now)
+        }
         HeadFault::Memory => Err(AllocError),
         HeadFault::Cut => answer_cut(alloc, stop, true, now),
         HeadFault::NotAscii => Ok(HeadRead::Ended(EndOfRequests::NotAscii)),

@@ -24,6 +24,7 @@ pub(crate) struct Message {
 #[derive(Clone, Copy, Debug, PartialEq, Eq)]
 pub(crate) enum HeadFault {
     Cut,
+    TooLarge,
     NotAscii,
     Malformed,
     Memory,
@@ -164,7 +165,7 @@ pub(crate) fn read_message<R: ReadDevice>(
     alloc: Global,
     source: &mut Source<R>,
 ) -> Result<Message, (Option<HTTPVersion>, HeadFault)>
-    ensures reads { ReadsMessage source.old.feed source.new.feed result }
+    ensures reads { ReadsMessage None source.old.feed source.new.feed result }
     ensures goes_on { GoesOn source.old.feed source.new.feed }
     ensures cut { IfErr result (λ e. e.1 ≡ HeadFault.Cut → IsCutOff source.old source.new) }
     ensures lazy { OnOk result (source.new.stop ≡ source.old.stop) }
