@@ -23,11 +23,13 @@ use Rattle.tiny_http_wire.specs.Coding.{coding_asked}
 use Rattle.tiny_http_message.specs.declared.waiting.Waiting.{Waiting}
 use Rattle.tiny_http_core.specs.declared.pending.Unfinished.{Unfinished}
 use Rattle.tiny_http_core.specs.declared.pending.Unfinished.TheVariants as still
-use Rattle.tiny_http_message.specs.Framing.{framing}
+use Rattle.tiny_http_message.specs.declared.framing.Profile.{Profile}
+use Rattle.tiny_http_message.specs.declared.framing.Profile.TheVariants.{Lenient, Strict}
+use Rattle.tiny_http_message.specs.Framing.{Frames}
 use Rattle.tiny_http_wire.specs.Heads.{version, is_too_new}
 use Rattle.tiny_http_message.proofs.FramingLemmas.{rest-last}
 use Rattle.tiny_http_stream.specs.Source.{GoesOn}
-use Rattle.tiny_http_message.specs.Pipeline.{Item, Asks, Refuses, RequestTimeout, ExpectationFailed, VersionNotSupported, Refusal, fault_item, is_timed_out, Request, Place, Heading, HeadAt, Ends, Heads, OneHead, FoundAt, ends_too_new, is_head_method, Pipeline, place_after}
+use Rattle.tiny_http_message.specs.Pipeline.{Item, Asks, Refuses, VersionNotSupported, Refusal, Request, Place, Heading, HeadAt, Silence, Refused, Heads, OneHead, FoundAt, ends_too_new, is_head_method, Pipeline, place_after}
 use Rattle.tiny_http_message.specs.HeadReads.{ReadsHead, IsBeforeHead, standing_of, place_feed, request_of, head_message, head_framing}
 use Rattle.tiny_http_message.specs.declared.exchange.EndOfRequests.{EndOfRequests}
 use Rattle.tiny_http_stream.specs.declared.source.Standing.{Standing}
@@ -81,38 +83,24 @@ pub ask-goes : (date : HttpDate) (old : Reached) → old.asking_ended ≡ false 
     → ask date old ≡ asks_from date Unused old.slots old.rest
 ask-goes date old e h l = rw (e, h, l) refl
 
--- a head that isn't handed out is no request
-answered-by : (t : Bool) (r : Request) → Some (Asks r) ≡ (if t then Some (Refuses RequestTimeout (version 1 1) false true) else None) → ⊥
-answered-by true r e = cc
-answered-by false r e = cc
-
-fault-asks : (v : Option HTTPVersion) (fault : GrammarFault) (stop : Stop) (r : Request) → Some (Asks r) ≡ fault_item v fault stop → ⊥
-fault-asks v Cut stop r e = answered-by (is_timed_out stop) r e
-fault-asks v NotAscii stop r e = cc
-fault-asks v Malformed stop r e = cc
-
-ends-ask : (bytes : List ℕ) (stop : Stop) (answer : Option Item) (r : Request) → HeadAt bytes stop (Ends answer) → Some (Asks r) ≡ answer → ⊥
-ends-ask bytes stop answer r (inl k) e = fault-asks k.0 k.1 stop r (e ∙ k.3)
-ends-ask bytes stop answer r (inr (inl k)) e = let no : Some (Asks r) ≡ Some (Refuses ExpectationFailed k.0.version false true) = e ∙ k.4 in cc
-ends-ask bytes stop answer r (inr (inr k)) e = answered-by (is_timed_out stop) r (e ∙ k.6)
-
 -- the request is framed by its head
-record IsFramed (r : Request) : Type 0 where
-  pub framed : framing r.message.version r.message.headers ≡ Some r.framing
+record IsFramed (profile : Profile) (r : Request) : Type 0 where
+  pub framed : Frames profile r.message.version r.message.headers (Ok r.framing)
 
-found-framed : (bytes : List ℕ) (stop : Stop) (heading : Heading) (r : Request) (next : Place) → HeadAt bytes stop heading → FoundAt stop heading (Some (Asks r)) next → IsFramed r
-found-framed bytes stop (Ends answer) r next at h = absurd (ends-ask bytes stop answer r at h.0)
-found-framed bytes stop (Heads m f after) r next at h = by-version (is_too_new m.version) refl
+found-framed : (profile : Profile) (bytes : List ℕ) (stop : Stop) (heading : Heading) (r : Request) (next : Place) → HeadAt profile bytes stop heading → FoundAt stop heading (Some (Asks r)) next → IsFramed profile r
+found-framed profile bytes stop Silence r next at h = let no : Some (Asks r) ≡ None = h.0 in cc
+found-framed profile bytes stop (Refused refusal v) r next at h = let no : Some (Asks r) ≡ Some (Refuses refusal v false true) = h.0 in cc
+found-framed profile bytes stop (Heads m f after) r next at h = by-version (is_too_new m.version) refl
   where
-    by-version : (t : Bool) → is_too_new m.version ≡ t → IsFramed r
+    by-version : (t : Bool) → is_too_new m.version ≡ t → IsFramed profile r
     by-version true b = let no : Some (Asks r) ≡ Some (Refuses VersionNotSupported (version 1 1) (is_head_method m.method) (ends_too_new f.form)) = h.3 ∙ rw b refl in cc
     by-version false b =
         let item : Some (Asks r) ≡ Some (Asks (record { message = m; framing = f; body = h.0 })) = h.3 ∙ rw b refl in
         let same : r ≡ record { message = m; framing = f; body = h.0 } = cc in
-        subst IsFramed (sym same) (record { framed = at.1 })
+        subst (IsFramed profile) (sym same) (record { framed = at.whole.frames })
 
-one-head-framed : (bytes : List ℕ) (stop : Stop) (r : Request) (next : Place) → OneHead bytes stop (Some (Asks r)) next → IsFramed r
-one-head-framed bytes stop r next h = found-framed bytes stop h.0 r next h.1 h.2
+one-head-framed : (profile : Profile) (bytes : List ℕ) (stop : Stop) (r : Request) (next : Place) → OneHead profile bytes stop (Some (Asks r)) next → IsFramed profile r
+one-head-framed profile bytes stop r next h = found-framed profile bytes stop h.0 r next h.1 h.2
 
 -- where the asking goes on the rest of the pipeline stands where the input does
 pub record Going (k : Kept) (s : State) : Type 0 where
@@ -120,7 +108,7 @@ pub record Going (k : Kept) (s : State) : Type 0 where
   pub stated : k.feed ≡ Some feed
   pub unheld : last_holds_reader (last_slot s.reached.slots) ≡ false
   pub kept : last_was_abandoned (last_slot s.reached.slots) ≡ false
-  pub pipeline : Pipeline (Some feed.bytes) feed.stop s.reached.rest
+  pub pipeline : Pipeline k.profile (Some feed.bytes) feed.stop s.reached.rest
 
 pub stated-feed : (client : Feed) (o : Option Feed) → GoesOn (Some client) o → (f : Feed) × (o ≡ Some f)
 stated-feed client None h = absurd h
@@ -138,8 +126,8 @@ going client before k s h e o quiet open_input =
     let next = h.reader.next e in
     let kept : last_was_abandoned (last_slot s.reached.slots) ≡ false = by next (last_was_abandoned (last_slot s.reached.slots)) refl in
     let here : behind_body (last_body k.requests) k.feed ≡ Some f.0 = ap (behind_body (last_body k.requests)) f.1 ∙ behind-settled (last_slot s.reached.slots) (last_body k.requests) f.0 (last-of client before k s h) quiet in
-    let P : Bool → Type 0 = λ x. PlaceAt x (behind_body (last_body k.requests) k.feed) s.reached.rest in
-    let Q : Option Feed → Type 0 = λ x. PlaceAt false x s.reached.rest in
+    let P : Bool → Type 0 = λ x. PlaceAt k.profile x (behind_body (last_body k.requests) k.feed) s.reached.rest in
+    let Q : Option Feed → Type 0 = λ x. PlaceAt k.profile false x s.reached.rest in
     record { feed = f.0; stated = f.1; unheld = unheld client before k s h quiet; kept = kept; pipeline = subst Q here (subst P o (next.place kept)) }
   where
     by : NextHead k (last_slot s.reached.slots) s.reached.rest → (t : Bool) → last_was_abandoned (last_slot s.reached.slots) ≡ t → t ≡ false
@@ -182,9 +170,9 @@ settled-any (body.Chunked d) p content behind h e f = cc
 settled-any body.Rest p content behind h e f = cc
 
 -- what is kept of it
-kept-handed : (date : HttpDate) (x : Exchange) (p : Option Feed) (content behind : Feed) → KeepsRequest x date → remaining x.waiting.body p ≡ Some (record { body = content; behind = behind }) → IsFramed (request_of x.head content)
+kept-handed : (profile : Profile) (date : HttpDate) (x : Exchange) (p : Option Feed) (content behind : Feed) → KeepsRequest x date → remaining x.waiting.body p ≡ Some (record { body = content; behind = behind }) → IsFramed profile (request_of x.head content)
     → IsWaiting (handed_slot date (request_of x.head content)) x.waiting
-kept-handed date x p content behind k left framed = record {
+kept-handed profile date x p content behind k left framed = record {
   request = request_of x.head content;
   handed = record { date = date; continued = None; owed = x.head.owes_continue };
   given = 0;
@@ -192,7 +180,7 @@ kept-handed date x p content behind k left framed = record {
   is = refl;
   owed = k.answer.owes_continue;
   unsent = λ owed. refl;
-  rest_is_last = λ rest. rest-last x.head.version x.head.headers.items (head_framing x.head) framed.framed rest;
+  rest_is_last = λ rest. rest-last profile x.head.version x.head.headers.items (head_framing x.head) framed.framed rest;
   answer_context =
       let F : HTTPVersion → Option Coding → Bool → AnswerContext = λ v a b. record { version = v; asked_coding = a; no_body = b } in
       ap (λ v. F v x.waiting.answer_context.asked_coding x.waiting.answer_context.no_body) k.answer.version ∙ ap (λ a. F x.head.version a x.waiting.answer_context.no_body) k.answer.asked_coding ∙ ap (F x.head.version (coding_asked x.head.headers.items)) k.answer.no_body;
@@ -201,18 +189,19 @@ kept-handed date x p content behind k left framed = record {
   settled = settled-any x.waiting.body p content behind left;
 }
 
-pub no-items : (stop : Stop) (items : List Item) → Pipeline None stop items → items ≡ []
-no-items stop [] h = refl
-no-items stop (x ∷ xs) h = elim h [ ]
+pub no-items : (profile : Profile) (stop : Stop) (items : List Item) → Pipeline profile None stop items → items ≡ []
+no-items profile stop [] h = refl
+no-items profile stop (x ∷ xs) h = elim h [ ]
 
 -- no head stands in front of no byte
-pub pipeline-empty : Pipeline (Some []) End []
-pipeline-empty = feed-pipeline (whole_feed [])
+pub pipeline-empty : (profile : Profile) → Pipeline profile (Some []) End []
+pipeline-empty Lenient = feed-pipeline Lenient (whole_feed [])
+pipeline-empty Strict = feed-pipeline Strict (whole_feed [])
 
-pub handed-place : (last : Bool) (stop : Stop) (next : Place) (more : List Item) → Pipeline (place_after last next) stop more → PlaceAt last (Some (place_feed stop next)) more
-handed-place true stop next more items = no-items stop more items
-handed-place false stop None more items = let P : List Item → Type 0 = λ x. Pipeline (Some []) End x in subst P (sym (no-items stop more items)) pipeline-empty
-handed-place false stop (Some bytes) more items = items
+pub handed-place : (profile : Profile) (last : Bool) (stop : Stop) (next : Place) (more : List Item) → Pipeline profile (place_after last next) stop more → PlaceAt profile last (Some (place_feed stop next)) more
+handed-place profile true stop next more items = no-items profile stop more items
+handed-place profile false stop None more items = let P : List Item → Type 0 = λ x. Pipeline profile (Some []) End x in subst P (sym (no-items profile stop more items)) (pipeline-empty profile)
+handed-place profile false stop (Some bytes) more items = items
 
 -- the input as it stands now
 abbrev pub with_input : Kept → Option Feed → Option Stop → Bool → Standing → Kept
@@ -237,7 +226,7 @@ stands-for x content at e =
     by false false l t = record { past = rw (l, t) refl; within = rw (l, t) refl }
 
 handed-reader : (client : Feed) (k : Kept) (slots : List Slot) (rest more : List Item) (date : HttpDate) (r : Request) (w : Waiting) (p : Option Feed) (stop : Option Stop) (over : Bool) (at : Standing) (close : Stop) (next : Place) → InputStands client k slots rest → is_streaming_body (last_body k.requests) ≡ false
-    → remaining w.body p ≡ Some (record { body = r.body; behind = place_feed close next }) → Pipeline (place_after r.framing.is_last next) close more → GoesOn (Some client) p → StandsFor r w at
+    → remaining w.body p ≡ Some (record { body = r.body; behind = place_feed close next }) → Pipeline k.profile (place_after r.framing.is_last next) close more → GoesOn (Some client) p → StandsFor r w at
     → InputStands client (after_handed k w p stop over at) (slots ++ (handed_slot date r ∷ [])) more
 handed-reader client k slots rest more date r w p stop over at close next old quiet left items source stands =
     let x = handed_slot date r in
@@ -246,9 +235,9 @@ handed-reader client k slots rest more date r w p stop over at close next old qu
     let B : Option Remaining → Option Feed = λ o. option_map (λ (y : Remaining). y.body) o in
     let P : Option Slot → Option Body → Type 0 = λ o b. GivesRest b o p in
     let here : P (Some x) (Some w.body) = ap B left in
-    let Q : Bool → Option Body → Type 0 = λ y b. PlaceAt y (behind_body b p) more in
+    let Q : Bool → Option Body → Type 0 = λ y b. PlaceAt k.profile y (behind_body b p) more in
     let W : Option Slot → Option Body → Bool = λ o b. not (is_last_slot o) && is_streaming_body b in
-    let F : Option Feed → Type 0 = λ o. PlaceAt r.framing.is_last o more in
+    let F : Option Feed → Type 0 = λ o. PlaceAt k.profile r.framing.is_last o more in
     let behind : behind_body (Some w.body) p ≡ Some (place_feed close next) = ap (λ (o : Option Remaining). option_map (λ (y : Remaining). y.behind) o) left in
     let k2 : Kept = after_handed k w p stop over at in
     record {
@@ -258,21 +247,21 @@ handed-reader client k slots rest more date r w p stop over at close next old qu
         is_last = stands.past ∙ ap is_last_slot (sym last);
         within = stands.within ∙ ap (λ b. W (Some x) b) (sym content) ∙ ap (λ o. W o (last_body (k.requests ++ (Some (still.Waiting w) ∷ [])))) (sym last);
         lost = λ lost. (let no : true ≡ false = sym lost ∙ (ap last_was_abandoned last ∙ and-false (is_chunked r.framing.form)) in cc);
-        place = λ e. subst (λ y. Q y (last_body (k.requests ++ (Some (still.Waiting w) ∷ [])))) (sym stands.past) (subst (λ y. Q r.framing.is_last y) (sym content) (subst F (sym behind) (handed-place r.framing.is_last close next more items)));
+        place = λ e. subst (λ y. Q y (last_body (k.requests ++ (Some (still.Waiting w) ∷ [])))) (sym stands.past) (subst (λ y. Q r.framing.is_last y) (sym content) (subst F (sym behind) (handed-place k.profile r.framing.is_last close next more items)));
       };
       source = source;
     }
 
 pub ask-handed : (client : Feed) (before : Sink) (k : Kept) (s : State) (date : HttpDate) (x : Exchange) (from_here : Standing) (p : Option Feed) (stop : Option Stop) (over : Bool) (at : Standing) (n : ℕ) → Stands client before k s → k.asking_ended ≡ false → is_past_last k.standing ≡ false → is_streaming_body (last_body k.requests) ≡ false
-    → (InputEnded k → ⊥) → ReadsHead from_here date k.feed p (Ok (read.Request x)) → GoesOn k.feed p → n ≡ length k.marks → AreInShape (k.marks ++ (Open ∷ [])) → at ≡ standing_of x
+    → (InputEnded k → ⊥) → ReadsHead k.profile from_here date k.feed p (Ok (read.Request x)) → GoesOn k.feed p → n ≡ length k.marks → AreInShape (k.marks ++ (Open ∷ [])) → at ≡ standing_of x
     → StepIsAnswered client before (after_handed k x.waiting p stop over at) s date Ask (Handed n (head_message x.head) (head_framing x.head))
 ask-handed client before k s date x from_here p stop over at n st e o quiet open_input reads goes number shape stands =
     let g = going client before k s st e o quiet open_input in
-    let P : Option Feed → Type 0 = λ y. ReadsHead from_here date y p (Ok (read.Request x)) in
+    let P : Option Feed → Type 0 = λ y. ReadsHead k.profile from_here date y p (Ok (read.Request x)) in
     let found = subst P g.stated reads in
     let h = x.head in
     let r = request_of h found.0 in
-    let first = pipeline-first g.feed.bytes g.feed.stop (Asks r) (place_after h.is_last found.1) s.reached.rest found.2 g.pipeline in
+    let first = pipeline-first k.profile g.feed.bytes g.feed.stop (Asks r) (place_after h.is_last found.1) s.reached.rest found.2 g.pipeline in
     let y = handed_slot date r in
     let slots = s.reached.slots ++ (y ∷ []) in
     let ends : s.reached.asking_ended ≡ false = st.asking_ended ∙ e in
@@ -281,7 +270,7 @@ ask-handed client before k s date x from_here p stop over at n st e o quiet open
     let new : State = record { reached = record { slots = slots; rest = first.0; asking_ended = false }; flushed = s.flushed; failure = s.failure } in
     let G : Outcome → Type 0 = λ z. HasOutcome z s (Handed n (head_message h) (head_framing h)) new in
     let end_reported : n ≡ length s.reached.slots = number ∙ sym (kept-length s.reached.slots k.marks k.requests st.numbers) in
-    let waits = kept-handed date x p found.0 (place_feed g.feed.stop found.1) found.4 found.3 (one-head-framed g.feed.bytes g.feed.stop r (place_after h.is_last found.1) found.2) in (
+    let waits = kept-handed k.profile date x p found.0 (place_feed g.feed.stop found.1) found.4 found.3 (one-head-framed k.profile g.feed.bytes g.feed.stop r (place_after h.is_last found.1) found.2) in (
       new,
       record {
         numbers = kept-append s.reached.slots k.marks k.requests (y ∷ []) (Open ∷ []) (Some (still.Waiting x.waiting) ∷ []) st.numbers (waits, tt);
@@ -373,7 +362,7 @@ ask-over client before k s date st e o = by (last_was_abandoned (last_slot s.rea
           inl (true, tt, subst G (sym (ask-lost date s.reached (st.asking_ended ∙ e) unheld_now l)) (refl, refl, (refl, refl))),
         )
     by false l =
-        let P : Bool → Type 0 = λ x. PlaceAt x (behind_body (last_body k.requests) k.feed) s.reached.rest in
+        let P : Bool → Type 0 = λ x. PlaceAt k.profile x (behind_body (last_body k.requests) k.feed) s.reached.rest in
         let none : s.reached.rest ≡ [] = subst P o (next.place l) in
         let F : List Item → Outcome = λ x. asks_from date Unused slots x in
         let is : ask date s.reached ≡ ends_with s.reached = ask-goes date s.reached (st.asking_ended ∙ e) unheld_now l ∙ ap F none in
@@ -386,7 +375,7 @@ ask-over client before k s date st e o = by (last_was_abandoned (last_slot s.rea
 
 -- no head follows
 pub ask-none : (client : Feed) (before : Sink) (k : Kept) (s : State) (date : HttpDate) (from_here : Standing) (why : EndOfRequests) (p : Option Feed) (stop : Option Stop) (over : Bool) (at : Standing) → Stands client before k s → k.asking_ended ≡ false → is_past_last k.standing ≡ false → is_streaming_body (last_body k.requests) ≡ false
-    → ReadsHead from_here date k.feed p (Ok (read.Ended why)) → GoesOn k.feed p
+    → ReadsHead k.profile from_here date k.feed p (Ok (read.Ended why)) → GoesOn k.feed p
     → StepIsAnswered client before (after_end k p stop over at) s date Ask Ended
 ask-none client before k s date from_here why p stop over at st e o quiet reads goes = by (last_was_abandoned (last_slot s.reached.slots)) refl
   where
@@ -407,10 +396,10 @@ ask-none client before k s date from_here why p stop over at st e o quiet reads 
     by false l =
         let f = stated-feed client k.feed st.reader.source in
         let here : behind_body (last_body k.requests) k.feed ≡ Some f.0 = ap (behind_body (last_body k.requests)) f.1 ∙ behind-settled (last_slot slots) (last_body k.requests) f.0 (last-of client before k s st) quiet in
-        let P : Bool → Type 0 = λ x. PlaceAt x (behind_body (last_body k.requests) k.feed) s.reached.rest in
-        let Q : Option Feed → Type 0 = λ x. PlaceAt false x s.reached.rest in
-        let R : Option Feed → Type 0 = λ x. ReadsHead from_here date x p (Ok (read.Ended why)) in
-        let none = pipeline-none f.0.bytes f.0.stop s.reached.rest (subst R f.1 reads).0 (subst Q here (subst P o ((st.reader.next e).place l))) in
+        let P : Bool → Type 0 = λ x. PlaceAt k.profile x (behind_body (last_body k.requests) k.feed) s.reached.rest in
+        let Q : Option Feed → Type 0 = λ x. PlaceAt k.profile false x s.reached.rest in
+        let R : Option Feed → Type 0 = λ x. ReadsHead k.profile from_here date x p (Ok (read.Ended why)) in
+        let none = pipeline-none k.profile f.0.bytes f.0.stop s.reached.rest (subst R f.1 reads).0 (subst Q here (subst P o ((st.reader.next e).place l))) in
         let F : List Item → Outcome = λ x. asks_from date Unused slots x in
         let is : ask date s.reached ≡ ends_with s.reached = ask-goes date s.reached (st.asking_ended ∙ e) quiet_now l ∙ ap F none in
         let new : State = record { reached = record { slots = slots; rest = []; asking_ended = true }; flushed = s.flushed; failure = s.failure } in
@@ -504,20 +493,20 @@ refuses before sink new e ended s marks final requests n text h kept shape over 
     (turn-at slots marks requests [] kept (shape-issued marks shape))
 
 pub ask-refused : (client : Feed) (before : Sink) (k : Kept) (s : State) (date : HttpDate) (from_here : Standing) (status : StatusCode) (text : Vec ℕ) (p : Option Feed) (stop : Option Stop) (over : Bool) (at : Standing) (marks : List Mark) (sink : Sink) (ended : Bool) → Stands client before k s → before.failures < 2 ^ 64 - 1
-    → k.asking_ended ≡ false → is_past_last k.standing ≡ false → is_streaming_body (last_body k.requests) ≡ false → (InputEnded k → ⊥) → ReadsHead from_here date k.feed p (Ok (read.Refused status text true)) → GoesOn k.feed p
+    → k.asking_ended ≡ false → is_past_last k.standing ≡ false → is_streaming_body (last_body k.requests) ≡ false → (InputEnded k → ⊥) → ReadsHead k.profile from_here date k.feed p (Ok (read.Refused status text true)) → GoesOn k.feed p
     → LeavesText (length k.marks == first_unfinished k.marks) k.marks [] marks text.items k.output_ended k.sink sink ended
     → StepIsAnswered client before (after_refused k marks p stop over at sink ended) s date Ask Ended
 ask-refused client before k s date from_here status text p stop over at marks sink ended st low e o quiet open_input reads goes leaves =
     let g = going client before k s st e o quiet open_input in
-    let P : Option Feed → Type 0 = λ y. ReadsHead from_here date y p (Ok (read.Refused status text true)) in
+    let P : Option Feed → Type 0 = λ y. ReadsHead k.profile from_here date y p (Ok (read.Refused status text true)) in
     let found = subst P g.stated reads in
     let refusal = found.0 in
     let v = found.1 in
     let no_body = found.2 in
     let item : Item = Refuses refusal v no_body true in
-    let first = pipeline-first g.feed.bytes g.feed.stop item found.3 s.reached.rest found.4 g.pipeline in
-    let E : Place → Type 0 = λ y. Pipeline y g.feed.stop first.0 in
-    let none = no-items g.feed.stop first.0 (subst E found.7 first.2) in
+    let first = pipeline-first k.profile g.feed.bytes g.feed.stop item found.3 s.reached.rest found.4 g.pipeline in
+    let E : Place → Type 0 = λ y. Pipeline k.profile y g.feed.stop first.0 in
+    let none = no-items k.profile g.feed.stop first.0 (subst E found.7 first.2) in
     let n = new_slot date item in
     let slots = s.reached.slots ++ (n ∷ []) in
     let F : List Item → Outcome = λ y. asks_from date Unused s.reached.slots y in
@@ -548,7 +537,7 @@ ask-ended client before k s date st e = step-unchanged client before k s date As
 
 -- no request follows: the last one was read, or none stands in front of the input
 pub ask-final : (client : Feed) (before : Sink) (k : Kept) (s : State) (date : HttpDate) (why : EndOfRequests) (p : Option Feed) (stop : Option Stop) (over : Bool) (at : Standing) → Stands client before k s → k.asking_ended ≡ false → (k.standing ≡ in_place.Body → ⊥)
-    → (k.standing ≡ in_place.Last → (p ≡ k.feed) × (stop ≡ k.stop) × (over ≡ k.is_over) × (at ≡ k.standing)) → (IsBeforeHead k.standing → ReadsHead k.standing date k.feed p (Ok (read.Ended why))) → GoesOn k.feed p
+    → (k.standing ≡ in_place.Last → (p ≡ k.feed) × (stop ≡ k.stop) × (over ≡ k.is_over) × (at ≡ k.standing)) → (IsBeforeHead k.standing → ReadsHead k.profile k.standing date k.feed p (Ok (read.Ended why))) → GoesOn k.feed p
     → StepIsAnswered client before (after_end k p stop over at) s date Ask Ended
 ask-final client before k s date why p stop over at st e outside left reads goes = by k.standing refl
   where

@@ -293,14 +293,14 @@ after_passed k marks p stop over at sink ended = record k { marks = marks; reque
 -- the input stands in front of the next head
 passed-reader : (client : Feed) (k : Kept) (slots : List Slot) (rest more : List Item) (n : Slot) (p : Option Feed) (stop : Option Stop) (over : Bool) (at : Standing) (marks : List Mark) (sink : Sink) (ended : Bool) (close : Stop) (next : Place)
     → InputStands client k slots rest → is_streaming_body (last_body k.requests) ≡ false → is_last_slot (Some n) ≡ false → last_was_abandoned (Some n) ≡ false
-    → p ≡ Some (place_feed close next) → Pipeline next close more → GoesOn (Some client) p → at ≡ in_place.Head
+    → p ≡ Some (place_feed close next) → Pipeline k.profile next close more → GoesOn (Some client) p → at ≡ in_place.Head
     → InputStands client (after_passed k marks p stop over at sink ended) (slots ++ (n ∷ [])) more
 passed-reader client k slots rest more n p stop over at marks sink ended close next old quiet unread unlost here items source stands =
     let last : last_slot (slots ++ (n ∷ [])) ≡ Some n = last-snoc None slots n in
     let content : last_body (k.requests ++ (None ∷ [])) ≡ None = body-snoc k.requests None in
     let B : Option Body → Type 0 = λ b. GivesRest b (last_slot (slots ++ (n ∷ []))) p in
-    let Q : Option Body → Type 0 = λ b. PlaceAt (is_past_last at) (behind_body b p) more in
-    let F : Bool → Option Feed → Type 0 = λ y o. PlaceAt y o more in
+    let Q : Option Body → Type 0 = λ b. PlaceAt k.profile (is_past_last at) (behind_body b p) more in
+    let F : Bool → Option Feed → Type 0 = λ y o. PlaceAt k.profile y o more in
     record {
       settled = settled-snoc k.requests None old.settled quiet;
       gives = subst B (sym content) tt;
@@ -308,7 +308,7 @@ passed-reader client k slots rest more n p stop over at marks sink ended close n
         is_last = ap is_past_last stands ∙ sym (ap is_last_slot last ∙ unread);
         within = ap is_in_body stands ∙ sym (ap (λ o. not (is_last_slot o) && is_streaming_body (last_body (k.requests ++ (None ∷ [])))) last ∙ rw unread (ap is_streaming_body content));
         lost = λ lost. (let no : true ≡ false = sym lost ∙ (ap last_was_abandoned last ∙ unlost) in cc);
-        place = λ e. subst Q (sym content) (subst (λ y. F y p) (sym (ap is_past_last stands)) (subst (λ o. F false o) (sym here) (handed-place false close next more items)));
+        place = λ e. subst Q (sym content) (subst (λ y. F y p) (sym (ap is_past_last stands)) (subst (λ o. F false o) (sym here) (handed-place k.profile false close next more items)));
       };
       source = source;
     }
@@ -389,18 +389,18 @@ ask-from-behind client before later s m date item rest t reply p turn passed rea
 
 -- a head is refused, and the next one stands behind its body
 pub ask-passes : (client : Feed) (before : Sink) (k : Kept) (s : State) (date : HttpDate) (from_here : Standing) (status : StatusCode) (text : Vec ℕ) (p : Option Feed) (stop : Option Stop) (over : Bool) (at : Standing) (marks : List Mark) (sink : Sink) (ended : Bool) → Stands client before k s → before.failures < 2 ^ 64 - 1
-    → k.asking_ended ≡ false → is_past_last k.standing ≡ false → is_streaming_body (last_body k.requests) ≡ false → is_last_slot (last_slot s.reached.slots) ≡ false → (InputEnded k → ⊥) → ReadsHead from_here date k.feed p (Ok (read.Refused status text false)) → GoesOn k.feed p
+    → k.asking_ended ≡ false → is_past_last k.standing ≡ false → is_streaming_body (last_body k.requests) ≡ false → is_last_slot (last_slot s.reached.slots) ≡ false → (InputEnded k → ⊥) → ReadsHead k.profile from_here date k.feed p (Ok (read.Refused status text false)) → GoesOn k.feed p
     → LeavesText (length k.marks == first_unfinished k.marks) k.marks [] marks text.items k.output_ended k.sink sink ended → at ≡ in_place.Head
     → AskGoesOn client before (after_passed k marks p stop over at sink ended) s date
 ask-passes client before k s date from_here status text p stop over at marks sink ended st low e o quiet more open_input reads goes leaves head =
     let g = going client before k s st e o quiet open_input in
-    let P : Option Feed → Type 0 = λ y. ReadsHead from_here date y p (Ok (read.Refused status text false)) in
+    let P : Option Feed → Type 0 = λ y. ReadsHead k.profile from_here date y p (Ok (read.Refused status text false)) in
     let found = subst P g.stated reads in
     let refusal = found.0 in
     let v = found.1 in
     let no_body = found.2 in
     let item : Item = Refuses refusal v no_body false in
-    let first = pipeline-first g.feed.bytes g.feed.stop item found.3 s.reached.rest found.4 g.pipeline in
+    let first = pipeline-first k.profile g.feed.bytes g.feed.stop item found.3 s.reached.rest found.4 g.pipeline in
     let n = new_slot date item in
     let slots = s.reached.slots ++ (n ∷ []) in
     let t = turn_has_come (length s.reached.slots) s.reached.slots in

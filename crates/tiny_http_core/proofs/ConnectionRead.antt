@@ -345,8 +345,8 @@ read-last {R = R} client k old new bs us rest s u b c n reply q from reader is o
     let l = last-waits client k old bs us rest s (Some u) b h q.has from reader is in
     let A : List (Option Unfinished) → Type 0 = λ x. AreSettled x in
     let G : Option Body → Option Slot → Type 0 = λ b o. GivesRest b o new.feed in
-    let P : Bool → Option Body → Type 0 = λ x b. PlaceAt x (behind_body b new.feed) rest in
-    let Q : Option Feed → Type 0 = λ f. PlaceAt (is_past_last old.standing) f rest in
+    let P : Bool → Option Body → Type 0 = λ x b. PlaceAt k.profile x (behind_body b new.feed) rest in
+    let Q : Option Feed → Type 0 = λ f. PlaceAt k.profile (is_past_last old.standing) f rest in
     let W : Option Slot → Option Body → Bool = λ x y. not (is_last_slot x) && is_streaming_body y in
     let same : (e : k.asking_ended ≡ false) → StandsOn c old.standing new.standing (is_last_item s.item) =
     λ e. stands-on b c old.standing new.standing (is_last_item s.item) stands (λ quiet. ap (λ (x : SourceState R). x.standing) (leaves quiet)) on.stays (l.within e) in

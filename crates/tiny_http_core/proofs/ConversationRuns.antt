@@ -10,6 +10,7 @@ use Rattle.tiny_http_wire.specs.Device.{Feed, Sink, BeginsKnown, grown, next_cou
 use Rattle.tiny_http_device.proofs.DeviceLemmas.{IsFront-append}
 use Rattle.tiny_http_stream.specs.Outlet.{holding}
 use Rattle.tiny_http_stream.specs.Source.{GoesOn}
+use Rattle.tiny_http_message.specs.declared.framing.Profile.{Profile}
 use Rattle.tiny_http_message.specs.Pipeline.{Item, Place, Pipeline, body_length_or_0, place_after}
 use Rattle.tiny_http_message.specs.BodyRemains.{RemainsAt}
 use Rattle.tiny_http_message.specs.HeadReads.{place_feed}
@@ -73,13 +74,13 @@ joins-end all done [] joins len = grind (arith, common_steps)
 joins-end all done (x ∷ rest) joins len = absurd (omega arith)
 
 -- the connection at its begin
-abbrev pub begun : Option Feed → Bool → Sink → Kept
-begun feed is_over sink = record { marks = []; requests = []; standing = at.Head; asking_ended = false; feed = feed; stop = None; is_over = is_over; sink = holding sink [] false; output_ended = false }
+abbrev pub begun : Profile → Option Feed → Bool → Sink → Kept
+begun profile feed is_over sink = record { profile = profile; marks = []; requests = []; standing = at.Head; asking_ended = false; feed = feed; stop = None; is_over = is_over; sink = holding sink [] false; output_ended = false }
 
-pub stands-begun : (client : Feed) (feed : Option Feed) (is_over : Bool) (sink : Sink) (items : List Item) → feed ≡ Some client → IsFresh sink → Pipeline (Some client.bytes) client.stop items → Stands client sink (begun feed is_over sink) (start_state items)
-stands-begun client feed is_over sink items e fresh h =
+pub stands-begun : (profile : Profile) (client : Feed) (feed : Option Feed) (is_over : Bool) (sink : Sink) (items : List Item) → feed ≡ Some client → IsFresh sink → Pipeline profile (Some client.bytes) client.stop items → Stands client sink (begun profile feed is_over sink) (start_state items)
+stands-begun profile client feed is_over sink items e fresh h =
     let G : Option Feed → Type 0 = λ x. GoesOn (Some client) x in
-    let P : Option Feed → Type 0 = λ x. PlaceAt false x items in
+    let P : Option Feed → Type 0 = λ x. PlaceAt profile false x items in
     record {
       numbers = tt;
       shape = tt;
@@ -95,39 +96,39 @@ stands-begun client feed is_over sink items e fresh h =
     }
 
 -- what the bytes still ask from a place on
-place-pipeline : (last : Bool) (stop : Stop) (next : Place) (rest : List Item) → PlaceAt last (Some (place_feed stop next)) rest → Pipeline (place_after last next) stop rest
-place-pipeline true stop next rest h = let P : List Item → Type 0 = λ x. Pipeline None stop x in subst P (sym h) tt
-place-pipeline false stop None rest h = let P : List Item → Type 0 = λ x. Pipeline None stop x in subst P (sym (pipeline-none [] End rest pipeline-empty h)) tt
-place-pipeline false stop (Some bytes) rest h = h
+place-pipeline : (profile : Profile) (last : Bool) (stop : Stop) (next : Place) (rest : List Item) → PlaceAt profile last (Some (place_feed stop next)) rest → Pipeline profile (place_after last next) stop rest
+place-pipeline profile true stop next rest h = let P : List Item → Type 0 = λ x. Pipeline profile None stop x in subst P (sym h) tt
+place-pipeline profile false stop None rest h = let P : List Item → Type 0 = λ x. Pipeline profile None stop x in subst P (sym (pipeline-none profile [] End rest (pipeline-empty profile) h)) tt
+place-pipeline profile false stop (Some bytes) rest h = h
 
 -- the input within the last body
-within : (s : Slot) (b : Body) (f : Feed) (rest : List Item) (o : Option Remaining) → IsOpen s b → is_streaming b ≡ true → remaining b (Some f) ≡ o → option_map (λ (r : Remaining). r.body) o ≡ Some (slot_rest s)
-    → PlaceAt (is_last_item s.item) (option_map (λ (r : Remaining). r.behind) o) rest → WithinBody s s.item f rest
-within s b f rest None h is_streaming_body e g p = let no : None ≡ Some (slot_rest s) = g in cc
-within s b f rest (Some x) h is_streaming_body e g p =
+within : (profile : Profile) (s : Slot) (b : Body) (f : Feed) (rest : List Item) (o : Option Remaining) → IsOpen s b → is_streaming b ≡ true → remaining b (Some f) ≡ o → option_map (λ (r : Remaining). r.body) o ≡ Some (slot_rest s)
+    → PlaceAt profile (is_last_item s.item) (option_map (λ (r : Remaining). r.behind) o) rest → WithinBody profile s s.item f rest
+within profile s b f rest None h is_streaming_body e g p = let no : None ≡ Some (slot_rest s) = g in cc
+within profile s b f rest (Some x) h is_streaming_body e g p =
     let same : x.body ≡ slot_rest s = cc in
     let k = remains-of b h.request.framing.form (body_length_or_0 h.request.framing) h.given h.end_reported f x h.fits is_streaming_body e in
     let content : x.body ≡ k.content = ap (λ (r : Remaining). r.body) k.is in
     let behind : x.behind ≡ place_feed f.stop k.next = ap (λ (r : Remaining). r.behind) k.is in
-    let P : Slot → Type 0 = λ y. x.body ≡ slot_rest y → PlaceAt (is_last_item y.item) (Some x.behind) rest → WithinBody y y.item f rest in
+    let P : Slot → Type 0 = λ y. x.body ≡ slot_rest y → PlaceAt profile (is_last_item y.item) (Some x.behind) rest → WithinBody profile y y.item f rest in
     let A : Feed → Type 0 = λ b. RemainsAt h.request.framing.form (body_length_or_0 h.request.framing - h.given) f.bytes f.stop b k.next in
-    let B : Feed → Type 0 = λ b. PlaceAt h.request.framing.is_last (Some b) rest in
-    subst P (sym h.is) (λ is place. (k.next, subst A (sym content ∙ is) k.stands, place-pipeline h.request.framing.is_last f.stop k.next rest (subst B behind place))) same p
+    let B : Feed → Type 0 = λ b. PlaceAt profile h.request.framing.is_last (Some b) rest in
+    subst P (sym h.is) (λ is place. (k.next, subst A (sym content ∙ is) k.stands, place-pipeline profile h.request.framing.is_last f.stop k.next rest (subst B behind place))) same p
 
-within-last : (last : Option Slot) (b : Option Body) (feed : Option Feed) (f : Feed) (rest : List Item) → feed ≡ Some f → LastKept last b → last_is_open last ≡ true → GivesRest b last feed → PlaceAt (is_last_slot last) (behind_body b feed) rest → WithinLast last feed rest
-within-last last b feed f rest stated (inl n) h g p = let no : false ≡ true = ap last_is_open (sym n.0) ∙ h in cc
-within-last last b feed f rest stated (inr (inl d)) h g p = let no : false ≡ true = sym (done-open d.0 d.3) ∙ ap last_is_open (sym d.1) ∙ h in cc
-within-last last b feed f rest stated (inr (inr w)) h g p =
+within-last : (profile : Profile) (last : Option Slot) (b : Option Body) (feed : Option Feed) (f : Feed) (rest : List Item) → feed ≡ Some f → LastKept last b → last_is_open last ≡ true → GivesRest b last feed → PlaceAt profile (is_last_slot last) (behind_body b feed) rest → WithinLast profile last feed rest
+within-last profile last b feed f rest stated (inl n) h g p = let no : false ≡ true = ap last_is_open (sym n.0) ∙ h in cc
+within-last profile last b feed f rest stated (inr (inl d)) h g p = let no : false ≡ true = sym (done-open d.0 d.3) ∙ ap last_is_open (sym d.1) ∙ h in cc
+within-last profile last b feed f rest stated (inr (inr w)) h g p =
     let G : Option Slot → Option Body → Option Feed → Type 0 = λ x y z. GivesRest y x z in
-    let P : Option Slot → Option Body → Option Feed → Type 0 = λ x y z. PlaceAt (is_last_slot x) (behind_body y z) rest in
-    let Q : Option Slot → Option Feed → Type 0 = λ x z. WithinLast x z rest in
+    let P : Option Slot → Option Body → Option Feed → Type 0 = λ x y z. PlaceAt profile (is_last_slot x) (behind_body y z) rest in
+    let Q : Option Slot → Option Feed → Type 0 = λ x z. WithinLast profile x z rest in
     let gives = subst (λ z. G (Some w.0) (Some w.1) z) stated (subst (λ y. G (Some w.0) y feed) w.3 (subst (λ x. G x b feed) w.2 g)) in
     let place = subst (λ z. P (Some w.0) (Some w.1) z) stated (subst (λ y. P (Some w.0) y feed) w.3 (subst (λ x. P x b feed) w.2 p)) in
-    let inside = within w.0 w.1 f rest (remaining w.1 (Some f)) w.4 (sym (waiting-open w.0 w.1 w.4) ∙ ap last_is_open (sym w.2) ∙ h) refl gives place in
+    let inside = within profile w.0 w.1 f rest (remaining w.1 (Some f)) w.4 (sym (waiting-open w.0 w.1 w.4) ∙ ap last_is_open (sym w.2) ∙ h) refl gives place in
     subst (λ z. Q last z) (sym stated) (subst (λ x. Q x (Some f)) (sym w.2) inside)
 
 -- how the input stands at the end
-input-end : (client : Feed) (before : Sink) (k : Kept) (s : State) → Stands client before k s → InputAt s.reached k.feed
+input-end : (client : Feed) (before : Sink) (k : Kept) (s : State) → Stands client before k s → InputAt k.profile s.reached k.feed
 input-end client before k s st = by-ended s.reached.asking_ended refl
   where
     last : Option Slot
@@ -136,30 +137,30 @@ input-end client before k s st = by-ended s.reached.asking_ended refl
     over : Bool
     over = is_last_slot last
 
-    place : k.asking_ended ≡ false → last_was_abandoned last ≡ false → PlaceAt over (behind_body (last_body k.requests) k.feed) s.reached.rest
+    place : k.asking_ended ≡ false → last_was_abandoned last ≡ false → PlaceAt k.profile over (behind_body (last_body k.requests) k.feed) s.reached.rest
     place e l =
-        let P : Bool → Type 0 = λ x. PlaceAt x (behind_body (last_body k.requests) k.feed) s.reached.rest in
+        let P : Bool → Type 0 = λ x. PlaceAt k.profile x (behind_body (last_body k.requests) k.feed) s.reached.rest in
         subst P (st.reader.next e).is_last ((st.reader.next e).place l)
 
-    quiet : k.asking_ended ≡ false → last_is_open last ≡ false → last_was_abandoned last ≡ false → PlaceAt over k.feed s.reached.rest
+    quiet : k.asking_ended ≡ false → last_is_open last ≡ false → last_was_abandoned last ≡ false → PlaceAt k.profile over k.feed s.reached.rest
     quiet e h l =
         let f = stated-feed client k.feed st.reader.source in
         let free : is_streaming_body (last_body k.requests) ≡ false = sym (open-by last (last_body k.requests) (last-of client before k s st)) ∙ h in
         let here : behind_body (last_body k.requests) k.feed ≡ k.feed = ap (behind_body (last_body k.requests)) f.1 ∙ behind-settled last (last_body k.requests) f.0 (last-of client before k s st) free ∙ sym f.1 in
-        let P : Option Feed → Type 0 = λ x. PlaceAt over x s.reached.rest in
+        let P : Option Feed → Type 0 = λ x. PlaceAt k.profile over x s.reached.rest in
         subst P here (place e l)
 
-    by-held : (t : Bool) → last_is_open last ≡ t → k.asking_ended ≡ false → last_was_abandoned last ≡ false → MatchBool t (WithinLast last k.feed s.reached.rest) (PlaceAt over k.feed s.reached.rest)
+    by-held : (t : Bool) → last_is_open last ≡ t → k.asking_ended ≡ false → last_was_abandoned last ≡ false → MatchBool t (WithinLast k.profile last k.feed s.reached.rest) (PlaceAt k.profile over k.feed s.reached.rest)
     by-held true h e l =
         let f = stated-feed client k.feed st.reader.source in
-        within-last last (last_body k.requests) k.feed f.0 s.reached.rest f.1 (last-of client before k s st) h st.reader.gives (place e l)
+        within-last k.profile last (last_body k.requests) k.feed f.0 s.reached.rest f.1 (last-of client before k s st) h st.reader.gives (place e l)
     by-held false h e l = quiet e h l
 
-    by-lost : (t : Bool) → last_was_abandoned last ≡ t → k.asking_ended ≡ false → MatchBool t (k.feed ≡ Some (stopped End)) (MatchBool (last_is_open last) (WithinLast last k.feed s.reached.rest) (PlaceAt over k.feed s.reached.rest))
+    by-lost : (t : Bool) → last_was_abandoned last ≡ t → k.asking_ended ≡ false → MatchBool t (k.feed ≡ Some (stopped End)) (MatchBool (last_is_open last) (WithinLast k.profile last k.feed s.reached.rest) (PlaceAt k.profile over k.feed s.reached.rest))
     by-lost true l e = ((st.reader.next e).lost l).1
     by-lost false l e = by-held (last_is_open last) refl e l
 
-    by-ended : (t : Bool) → s.reached.asking_ended ≡ t → MatchBool t (Unit {0}) (MatchBool (last_was_abandoned last) (k.feed ≡ Some (stopped End)) (MatchBool (last_is_open last) (WithinLast last k.feed s.reached.rest) (PlaceAt over k.feed s.reached.rest)))
+    by-ended : (t : Bool) → s.reached.asking_ended ≡ t → MatchBool t (Unit {0}) (MatchBool (last_was_abandoned last) (k.feed ≡ Some (stopped End)) (MatchBool (last_is_open last) (WithinLast k.profile last k.feed s.reached.rest) (PlaceAt k.profile over k.feed s.reached.rest)))
     by-ended true e = tt
     by-ended false e = by-lost (last_was_abandoned last) refl (sym st.asking_ended ∙ e)
 
@@ -185,7 +186,7 @@ output-end before sink held ended slots flushed (Some f) empty begins h =
 
 -- a run to where the connection stands is a conversation, with what is then held and left
 pub conversation : (client : Feed) (before sink : Sink) (held : List ℕ) (k : Kept) (ended : Bool) (items : List Item) (end : State) (replies : List ReplyValue) (dated : List TimedValue) → k.sink ≡ holding sink held ended → k.output_ended ≡ ended → (ended ≡ true → held ≡ []) → BeginsKnown sink.sent sink.taken
-    → Pipeline (Some client.bytes) client.stop items → Run (start_state items) dated replies end → Stands client before k end → IsConversation client before dated replies sink held ended k.feed
+    → Pipeline k.profile (Some client.bytes) client.stop items → Run (start_state items) dated replies end → Stands client before k end → IsConversation k.profile client before dated replies sink held ended k.feed
 conversation client before sink held k ended items end replies dated same same_end empty begins pipeline run st =
     let P : Sink → Bool → Type 0 = λ x y. OutputAt before x y end.reached.slots end.flushed end.failure in
     let out : P (holding sink held ended) ended = subst (λ y. P (holding sink held ended) y) same_end (subst (λ x. P x k.output_ended) same st.output) in

@@ -43,7 +43,8 @@ use Rattle.tiny_http_wire.specs.declared.common.StatusCode.{StatusCode}
 use Rattle.tiny_http_message.specs.declared.exchange.HeadRead.TheVariants as read
 use Rattle.tiny_http_message.specs.declared.exchange.EndOfRequests.TheVariants as because
 use Rattle.tiny_http_message.specs.HeadReads.{ReadsHead, EndsAt, IsBeforeHead, HasByteOrTimedOut, place_feed}
-use Rattle.tiny_http_message.specs.Pipeline.{OneHead, Request, Item, Refuses, Place}
+use Rattle.tiny_http_message.specs.declared.framing.Profile.{Profile}
+use Rattle.tiny_http_message.specs.Pipeline.{OneHead, Request, Item, Refuses, Place, Pipeline}
 use Rattle.tiny_http_core.specs.Driving.{IsRefusal, EndsRequestsAt, EndsThere, ArePassedOver, HasByteBehind, standing_behind}
 use Rattle.tiny_http_message.specs.PipelineReading.{items_of}
 use Rattle.tiny_http_message.proofs.PipelineLemmas.{feed-pipeline}
@@ -54,14 +55,14 @@ use Rattle.tiny_http_core.specs.Asking.{AskStep, IsAskBehind}
 use Rattle.tiny_http_core.proofs.ConnectionAsking.{AskGoesOn}
 
 -- the fields as they are seen
-abbrev pub viewed : {R W : Type 0} → SourceState R → OutletState W → Pending → Option EndOfRequests → ConnectionState R W
-viewed source outlet pending end =
-    record { marks = pending.turns.marks; requests = pending.requests; end = end; source = source; outlet = outlet }
+abbrev pub viewed : {R W : Type 0} → Profile → SourceState R → OutletState W → Pending → Option EndOfRequests → ConnectionState R W
+viewed profile source outlet pending end =
+    record { profile = profile; marks = pending.turns.marks; requests = pending.requests; end = end; source = source; outlet = outlet }
 
 -- the same numbers, and the same kept of them
-pub same-view : {R W : Type 0} (source : SourceState R) (outlet : OutletState W) (p q : Pending) (end : Option EndOfRequests) → p.turns.marks ≡ q.turns.marks → p.requests ≡ q.requests → viewed source outlet p end ≡ viewed source outlet q end
-same-view {R = R} {W = W} source outlet p q end marks requests =
-    let V : List Mark → List (Option Unfinished) → ConnectionState R W = λ m r. record { marks = m; requests = r; end = end; source = source; outlet = outlet } in
+pub same-view : {R W : Type 0} (profile : Profile) (source : SourceState R) (outlet : OutletState W) (p q : Pending) (end : Option EndOfRequests) → p.turns.marks ≡ q.turns.marks → p.requests ≡ q.requests → viewed profile source outlet p end ≡ viewed profile source outlet q end
+same-view {R = R} {W = W} profile source outlet p q end marks requests =
+    let V : List Mark → List (Option Unfinished) → ConnectionState R W = λ m r. record { profile = profile; marks = m; requests = r; end = end; source = source; outlet = outlet } in
     ap (λ m. V m p.requests) marks ∙ ap (λ r. V q.turns.marks r) requests
 
 pub none-of : {X : Type 0} (o : Option X) → is_some o ≡ false → o ≡ None
@@ -69,46 +70,46 @@ none-of None e = refl
 none-of (Some x) e = cc
 
 -- why the requests end at a head that was refused, or at none
-refusal-at : (at : Standing) (date : HttpDate) (o p : Option Feed) (status : StatusCode) (text : Vec ℕ) → ReadsHead at date o p (Ok (read.Refused status text true)) → (f : Feed) → o ≡ Some f → IsRefusal f (because.Refused status)
-refusal-at at date o p status text h f e =
-    let P : Option Feed → Type 0 = λ y. ReadsHead at date y p (Ok (read.Refused status text true)) in
+refusal-at : (profile : Profile) (at : Standing) (date : HttpDate) (o p : Option Feed) (status : StatusCode) (text : Vec ℕ) → ReadsHead profile at date o p (Ok (read.Refused status text true)) → (f : Feed) → o ≡ Some f → IsRefusal profile f (because.Refused status)
+refusal-at profile at date o p status text h f e =
+    let P : Option Feed → Type 0 = λ y. ReadsHead profile at date y p (Ok (read.Refused status text true)) in
     let r = subst P e h in
-    let H : Place → Type 0 = λ y. OneHead f.bytes f.stop (Some (Refuses r.0 r.1 r.2 true)) y in
+    let H : Place → Type 0 = λ y. OneHead profile f.bytes f.stop (Some (Refuses r.0 r.1 r.2 true)) y in
     (status, r.0, r.1, r.2, subst H r.7 r.4, r.6, refl)
 
-end-at : (at : Standing) (date : HttpDate) (o p : Option Feed) (why : EndOfRequests) → ReadsHead at date o p (Ok (read.Ended why)) → (f : Feed) → o ≡ Some f → OneHead f.bytes f.stop None None × EndsAt at f.bytes f.stop why
-end-at at date o p why h f e = let P : Option Feed → Type 0 = λ y. ReadsHead at date y p (Ok (read.Ended why)) in subst P e h
+end-at : (profile : Profile) (at : Standing) (date : HttpDate) (o p : Option Feed) (why : EndOfRequests) → ReadsHead profile at date o p (Ok (read.Ended why)) → (f : Feed) → o ≡ Some f → OneHead profile f.bytes f.stop None None × EndsAt profile at f.bytes f.stop why
+end-at profile at date o p why h f e = let P : Option Feed → Type 0 = λ y. ReadsHead profile at date y p (Ok (read.Ended why)) in subst P e h
 
-pub end-refused : (at : Standing) (date : HttpDate) (o p : Option Feed) (status : StatusCode) (text : Vec ℕ) → IsBeforeHead at → ReadsHead at date o p (Ok (read.Refused status text true)) → EndsRequestsAt at o (because.Refused status)
-end-refused place.Head date o p status text here h = λ f e. ([], f, refl, inl (refusal-at place.Head date o p status text h f e))
-end-refused place.Abandoned date o p status text here h = λ f e. ([], f, refl, inl (refusal-at place.Abandoned date o p status text h f e))
-end-refused (place.Broken kind) date o p status text here h = λ f e. ([], f, refl, inl (refusal-at (place.Broken kind) date o p status text h f e))
-end-refused place.Body date o p status text here h = elim here [ ]
-end-refused place.Last date o p status text here h = elim here [ ]
+pub end-refused : (profile : Profile) (at : Standing) (date : HttpDate) (o p : Option Feed) (status : StatusCode) (text : Vec ℕ) → IsBeforeHead at → ReadsHead profile at date o p (Ok (read.Refused status text true)) → EndsRequestsAt profile at o (because.Refused status)
+end-refused profile place.Head date o p status text here h = λ f e. ([], f, refl, inl (refusal-at profile place.Head date o p status text h f e))
+end-refused profile place.Abandoned date o p status text here h = λ f e. ([], f, refl, inl (refusal-at profile place.Abandoned date o p status text h f e))
+end-refused profile (place.Broken kind) date o p status text here h = λ f e. ([], f, refl, inl (refusal-at profile (place.Broken kind) date o p status text h f e))
+end-refused profile place.Body date o p status text here h = elim here [ ]
+end-refused profile place.Last date o p status text here h = elim here [ ]
 
-pub end-final : (at : Standing) (date : HttpDate) (o p : Option Feed) (why : EndOfRequests) → (at ≡ place.Body → ⊥) → (at ≡ place.Last → why ≡ because.LastRequest) → (IsBeforeHead at → ReadsHead at date o p (Ok (read.Ended why))) → EndsRequestsAt at o why
-end-final place.Head date o p why outside last h = λ f e. ([], f, refl, inr (end-at place.Head date o p why (h tt) f e))
-end-final place.Abandoned date o p why outside last h = λ f e. ([], f, refl, inr (end-at place.Abandoned date o p why (h tt) f e))
-end-final (place.Broken kind) date o p why outside last h = λ f e. ([], f, refl, inr (end-at (place.Broken kind) date o p why (h tt) f e))
-end-final place.Body date o p why outside last h = absurd (outside refl)
-end-final place.Last date o p why outside last h = last refl
+pub end-final : (profile : Profile) (at : Standing) (date : HttpDate) (o p : Option Feed) (why : EndOfRequests) → (at ≡ place.Body → ⊥) → (at ≡ place.Last → why ≡ because.LastRequest) → (IsBeforeHead at → ReadsHead profile at date o p (Ok (read.Ended why))) → EndsRequestsAt profile at o why
+end-final profile place.Head date o p why outside last h = λ f e. ([], f, refl, inr (end-at profile place.Head date o p why (h tt) f e))
+end-final profile place.Abandoned date o p why outside last h = λ f e. ([], f, refl, inr (end-at profile place.Abandoned date o p why (h tt) f e))
+end-final profile (place.Broken kind) date o p why outside last h = λ f e. ([], f, refl, inr (end-at profile (place.Broken kind) date o p why (h tt) f e))
+end-final profile place.Body date o p why outside last h = absurd (outside refl)
+end-final profile place.Last date o p why outside last h = last refl
 
 -- a head was passed, and then the requests end
-pub end-behind : (at : Standing) (date : HttpDate) (o p : Option Feed) (status : StatusCode) (text : Vec ℕ) (why : EndOfRequests) → IsBeforeHead at → ReadsHead at date o p (Ok (read.Refused status text false)) → EndsRequestsAt place.Head p why → EndsRequestsAt at o why
-end-behind at date o p status text why here h ends = by at here h
+pub end-behind : (profile : Profile) (at : Standing) (date : HttpDate) (o p : Option Feed) (status : StatusCode) (text : Vec ℕ) (why : EndOfRequests) → IsBeforeHead at → ReadsHead profile at date o p (Ok (read.Refused status text false)) → EndsRequestsAt profile place.Head p why → EndsRequestsAt profile at o why
+end-behind profile at date o p status text why here h ends = by at here h
   where
-    stands : (xs : List Item) (rest : Feed) → EndsThere (standing_behind place.Head xs) rest why → EndsThere place.Head rest why
+    stands : (xs : List Item) (rest : Feed) → EndsThere profile (standing_behind place.Head xs) rest why → EndsThere profile place.Head rest why
     stands [] rest k = k
     stands (x ∷ xs) rest k = k
 
-    behind : (x : Standing) → ReadsHead x date o p (Ok (read.Refused status text false)) → (f : Feed) → o ≡ Some f → (passed : List Item) × (rest : Feed) × ArePassedOver f passed rest × EndsThere (standing_behind x passed) rest why
+    behind : (x : Standing) → ReadsHead profile x date o p (Ok (read.Refused status text false)) → (f : Feed) → o ≡ Some f → (passed : List Item) × (rest : Feed) × ArePassedOver profile f passed rest × EndsThere profile (standing_behind x passed) rest why
     behind x h f e =
-        let P : Option Feed → Type 0 = λ y. ReadsHead x date y p (Ok (read.Refused status text false)) in
+        let P : Option Feed → Type 0 = λ y. ReadsHead profile x date y p (Ok (read.Refused status text false)) in
         let r = subst P e h in
         let next = ends (place_feed f.stop r.3) r.7 in
         (Refuses r.0 r.1 r.2 false ∷ next.0, next.1, (refl, r.3, r.4, next.2), stands next.0 next.1 next.3)
 
-    by : (x : Standing) → IsBeforeHead x → ReadsHead x date o p (Ok (read.Refused status text false)) → EndsRequestsAt x o why
+    by : (x : Standing) → IsBeforeHead x → ReadsHead profile x date o p (Ok (read.Refused status text false)) → EndsRequestsAt profile x o why
     by place.Head here h = behind place.Head h
     by place.Abandoned here h = behind place.Abandoned h
     by (place.Broken kind) here h = behind (place.Broken kind) h
@@ -116,30 +117,32 @@ end-behind at date o p status text why here h ends = by at here h
     by place.Last here h = elim here [ ]
 
 -- a byte of a head comes behind a head that is passed
-pub begins-behind : (at : Standing) (date : HttpDate) (o p : Option Feed) (status : StatusCode) (text : Vec ℕ) → ReadsHead at date o p (Ok (read.Refused status text false)) → HasByteBehind p → HasByteBehind o
-begins-behind at date None p status text h begun = tt
-begins-behind at date (Some f) p status text h begun =
-    let H : Option Feed → Type 0 = λ y. HasByteBehind y in
+pub begins-behind : (profile : Profile) (at : Standing) (date : HttpDate) (o p : Option Feed) (status : StatusCode) (text : Vec ℕ) → ReadsHead profile at date o p (Ok (read.Refused status text false)) → HasByteBehind profile p → HasByteBehind profile o
+begins-behind profile at date None p status text h begun = tt
+begins-behind profile at date (Some f) p status text h begun =
+    let H : Option Feed → Type 0 = λ y. HasByteBehind profile y in
     let next = subst H h.7 begun in
     (Refuses h.0 h.1 h.2 false ∷ next.0, next.1, (refl, h.3, h.4, next.2), next.3)
 
 -- a byte of a head comes here
-pub begins-here : (o : Option Feed) → HasByteOrTimedOut o → HasByteBehind o
-begins-here None h = tt
-begins-here (Some f) h = ([], f, refl, h)
+pub begins-here : (profile : Profile) (o : Option Feed) → HasByteOrTimedOut o → HasByteBehind profile o
+begins-here profile None h = tt
+begins-here profile (Some f) h = ([], f, refl, h)
 
 -- what a step does to input and output, whatever they state; it holds back nothing if `all`, else if nothing was held before
 pub record Moves {R W : Type 0} (all : Bool) (old new : ConnectionState R W) : Type 0 where
+  pub profile : new.profile ≡ old.profile
   pub goes_on : GoesOn old.source.feed new.source.feed
   pub fails_once : FailsOnceUnlessEnded old.outlet.ended (output_of old.outlet) (output_of new.outlet) new.outlet.ended
   pub flushed : (all ≡ false → old.outlet.held ≡ []) → new.outlet.held ≡ []
   pub sent_on : (all ≡ false → SentOn old.outlet) → SentOn new.outlet
 
 -- nothing is written
-pub driving-reads-on : {R W : Type 0} (old new : ConnectionState R W) → old.outlet ≡ new.outlet → GoesOn old.source.feed new.source.feed → Moves false old new
-driving-reads-on {W = W} old new e h =
+pub driving-reads-on : {R W : Type 0} (old new : ConnectionState R W) → new.profile ≡ old.profile → old.outlet ≡ new.outlet → GoesOn old.source.feed new.source.feed → Moves false old new
+driving-reads-on {W = W} old new same e h =
     let P : OutletState W → Type 0 = λ o. FailsOnceUnlessEnded old.outlet.ended (output_of old.outlet) (output_of o) o.ended in
     record {
+      profile = same;
       goes_on = h;
       fails_once = subst P e (once-none old.outlet.ended (output_of old.outlet));
       flushed = λ none. ap (λ o. o.held) (sym e) ∙ none refl;
@@ -147,10 +150,11 @@ driving-reads-on {W = W} old new e h =
     }
 
 pub moves-none : {R W : Type 0} (c : ConnectionState R W) → Moves false c c
-moves-none c = driving-reads-on c c refl (goes-on_same c.source.feed)
+moves-none c = driving-reads-on c c refl refl (goes-on_same c.source.feed)
 
 -- the same, by the step and its reply
 pub record MovesBy {R W : Type 0} (x : Step (Option Feed)) (reply : ReplyValue) (old new : ConnectionState R W) : Type 0 where
+  pub profile : new.profile ≡ old.profile
   pub goes_on : GoesOn old.source.feed new.source.feed
   pub fails_once : FailsOnceUnlessEnded old.outlet.ended (output_of old.outlet) (output_of new.outlet) new.outlet.ended
   pub flushed : (sent : Bool) → (sent ≡ true → old.outlet.held ≡ []) → all_sent_after x reply sent ≡ true → new.outlet.held ≡ []
@@ -159,6 +163,7 @@ pub record MovesBy {R W : Type 0} (x : Step (Option Feed)) (reply : ReplyValue) 
 -- a step after which as much is sent on as before
 moves-kept : {R W : Type 0} (x : Step (Option Feed)) (reply : ReplyValue) (old new : ConnectionState R W) → ((sent : Bool) → all_sent_after x reply sent ≡ sent) → Moves false old new → MovesBy x reply old new
 moves-kept x reply old new same m = record {
+  profile = m.profile;
   goes_on = m.goes_on;
   fails_once = m.fails_once;
   flushed = λ sent was e. m.flushed (λ z. was (sym (same sent) ∙ e));
@@ -168,6 +173,7 @@ moves-kept x reply old new same m = record {
 -- an answer or a Flush, after which all is sent on if it is done
 moves-sent : {R W : Type 0} (x : Step (Option Feed)) (reply : ReplyValue) (all : Bool) (old new : ConnectionState R W) → ((sent : Bool) → all_sent_after x reply sent ≡ (sent || is_done reply)) → is_done reply ≡ all → Moves all old new → MovesBy x reply old new
 moves-sent x reply all old new same done m = record {
+  profile = m.profile;
   goes_on = m.goes_on;
   fails_once = m.fails_once;
   flushed = λ sent was e. m.flushed (λ z. was (before sent e z));
@@ -184,7 +190,9 @@ takes old new now x reply answers declined ends leaves moves honest =
     record {
       does = λ client before steps replies asked is done.
           let a = answers client before done.at asked done.fresh.can_count is done.stands in
-          record { fresh = done.fresh; items = done.items; pipeline = done.pipeline; at = a.0; run = run-more _ done.at a.0 steps replies (now, asked) reply done.run a.2; stands = a.1 };
+          let P : Profile → Type 0 = λ y. Pipeline y (Some client.bytes) client.stop done.items in
+          record { fresh = done.fresh; items = done.items; pipeline = subst P (sym moves.profile) done.pipeline; at = a.0; run = run-more _ done.at a.0 steps replies (now, asked) reply done.run a.2; stands = a.1 };
+      profile = moves.profile;
       declined = declined;
       ends = ends;
       leaves = leaves;
@@ -236,6 +244,7 @@ pub ask-step : {R W : Type 0} (old new : ConnectionState R W) (now : HttpDate) (
     → (IsDeclined step.Ask reply → new ≡ old) → AskEnds old new reply → AskLeaves old new reply → Moves false old new → AskStep old new now reply
 ask-step old new now reply answers declined ends leaves moves = record {
   does = answers;
+  profile = moves.profile;
   declined = declined;
   ends = ends;
   leaves = leaves;
@@ -250,7 +259,7 @@ takes-ask old new now reply a =
     takes old new now step.Ask reply
     (λ client before s asked low is st. step-ask {D = Option Feed} (λ f. f) client before (kept new) s now (now, asked) step.Ask reply refl refl is (a.does client before s low st))
     a.declined a.ends a.leaves
-    (moves-kept step.Ask reply old new (λ sent. refl) (record { goes_on = a.goes_on; fails_once = a.fails_once; flushed = λ was. a.flushed (was refl); sent_on = λ was. a.sent_on (was refl) }))
+    (moves-kept step.Ask reply old new (λ sent. refl) (record { profile = a.profile; goes_on = a.goes_on; fails_once = a.fails_once; flushed = λ was. a.flushed (was refl); sent_on = λ was. a.sent_on (was refl) }))
     (λ kind e. absurd (ask-reports-none old new reply a.ends kind e))
 
 -- What a head that is passed leaves: what stood in front of it asks no more than what stands behind it.
@@ -260,9 +269,9 @@ pub record PassesHead {R W : Type 0} (old mid : ConnectionState R W) (now : Http
   pub is_open : mid.end ≡ None
   pub here : IsBeforeHead old.source.standing
   pub unended : IsAtEnd old.source → ⊥
-  pub begins : HasByteBehind mid.source.feed → HasByteBehind old.source.feed
+  pub begins : HasByteBehind mid.profile mid.source.feed → HasByteBehind old.profile old.source.feed
   pub stands : mid.source.standing ≡ place.Head
-  pub ends : (why : EndOfRequests) → EndsRequestsAt place.Head mid.source.feed why → EndsRequestsAt old.source.standing old.source.feed why
+  pub ends : (why : EndOfRequests) → EndsRequestsAt mid.profile place.Head mid.source.feed why → EndsRequestsAt old.profile old.source.standing old.source.feed why
   pub requests : mid.requests ≡ old.requests ++ (None ∷ [])
   pub counts : length mid.marks ≡ length old.marks + 1
   pub moves : Moves false old mid
@@ -303,7 +312,7 @@ ends-behind old mid new now Ended p h = (
   λ last. absurd (not-last old.source.standing p.here last),
   λ open_is.
       let x = h.2 p.is_open in
-      let E : Standing → Type 0 = λ y. EndsRequestsAt y mid.source.feed x.0 in
+      let E : Standing → Type 0 = λ y. EndsRequestsAt mid.profile y mid.source.feed x.0 in
       (x.0, x.1, p.ends x.0 (subst E p.stands x.2)),
 )
 ends-behind old mid new now Memory p h = (p.was_open, h.1, p.here, p.begins h.3)
@@ -328,6 +337,7 @@ never-declined mid new NoSuch e h was = elim h [ ]
 pub asks-behind-head : {R W : Type 0} (old mid : ConnectionState R W) (now : HttpDate) → PassesHead old mid now → IsAskBehind old mid now
 asks-behind-head old mid now p = λ new reply a. record {
   does = λ client before s low st. (let g = p.does client before s low st in g.asks (kept new) reply (a.does client before g.mid low g.stands));
+  profile = a.profile ∙ p.moves.profile;
   declined = λ was. absurd (never-declined mid new reply p.stands a.ends was);
   ends = ends-behind old mid new now reply p a.ends;
   leaves = leaves-behind old mid new reply p.requests p.counts p.here p.unended a.leaves;
@@ -398,15 +408,16 @@ takes-flush all old new now n reply answers declined ends leaves done moves hone
 -- a Write that wasn't done leaves what is sent on as it was; of one that was nothing is said
 pub takes-write : {R W : Type 0} (old new : ConnectionState R W) (now : HttpDate) (n : ℕ) (v : Vec ℕ) (bytes : List ℕ) (reply : ReplyValue)
     → v.items ≡ bytes → ((client : Feed) (before : Sink) (s : State) → before.failures < 2 ^ 64 - 1 → Stands client before (kept old) s → StepIsAnswered client before (kept new) s now (Write n bytes) reply)
-    → (IsDeclined (step.Write n v) reply → new ≡ old) → new.end ≡ old.end → StepLeaves (step.Write n v) old new reply → GoesOn old.source.feed new.source.feed
+    → (IsDeclined (step.Write n v) reply → new ≡ old) → new.end ≡ old.end → StepLeaves (step.Write n v) old new reply → new.profile ≡ old.profile → GoesOn old.source.feed new.source.feed
     → FailsOnceUnlessEnded old.outlet.ended (output_of old.outlet) (output_of new.outlet) new.outlet.ended → (is_done reply ≡ false → new.outlet ≡ old.outlet) → ((kind : ErrorKind) → reply ≡ Fault kind → IsOfWriter (output_of old.outlet) (output_of new.outlet) kind)
     → TakesStep old new now (step.Write n v) reply
-takes-write {W = W} old new now n v bytes reply same answers declined ends leaves goes once still honest =
+takes-write {W = W} old new now n v bytes reply same answers declined ends leaves profile_is goes once still honest =
     takes old new now (step.Write n v) reply
     (λ client before s asked low is st.
     let P : List ℕ → Type 0 = λ l. StepIsAnswered client before (kept new) s now (Write n l) reply in
     step-write {D = Option Feed} (λ f. f) client before (kept new) s (now, asked) (step.Write n v) n v reply refl is (subst P (sym same) (answers client before s low st)))
     declined ends leaves (record {
+      profile = profile_is;
       goes_on = goes;
       fails_once = once;
       flushed = λ sent was e. let h = apart sent (is_done reply) refl e in ap (λ (o : OutletState W). o.held) (still h.1) ∙ was h.0;
@@ -472,17 +483,17 @@ pub begins : {R W : Type 0} (client : Feed) (before : Sink) (writer : W) (c : Co
     → c.outlet ≡ record { held = []; ended = false; writer = writer; sink = before } → IsFresh before → HasDone client before c [] []
 begins {W = W} client before writer c m r o e feed stop outlet fresh =
     let K : List Mark → List (Option Unfinished) → Standing → Option EndOfRequests → Option Stop → OutletState W → Kept = λ m r o e s w.
-    record { marks = m; requests = r; standing = o; asking_ended = is_some e; feed = c.source.feed; stop = s; is_over = c.source.is_over; sink = output_of w; output_ended = w.ended } in
-    let S : Kept → Type 0 = λ k. Stands client before k (start_state (items_of client)) in
+    record { profile = c.profile; marks = m; requests = r; standing = o; asking_ended = is_some e; feed = c.source.feed; stop = s; is_over = c.source.is_over; sink = output_of w; output_ended = w.ended } in
+    let S : Kept → Type 0 = λ k. Stands client before k (start_state (items_of c.profile client)) in
     let none : OutletState W = record { held = []; ended = false; writer = writer; sink = before } in
-    let st = stands-begun client c.source.feed c.source.is_over before (items_of client) feed fresh (feed-pipeline client) in
+    let st = stands-begun c.profile client c.source.feed c.source.is_over before (items_of c.profile client) feed fresh (feed-pipeline c.profile client) in
     let st1 = subst (λ w. S (K [] [] place.Head None None w)) (sym outlet) st in
     let st2 = subst (λ s. S (K [] [] place.Head None s c.outlet)) (sym stop) st1 in
     let st3 = subst (λ x. S (K [] [] place.Head x c.source.stop c.outlet)) (sym e) st2 in
     let st4 = subst (λ x. S (K [] [] x c.end c.source.stop c.outlet)) (sym o) st3 in
     let st5 = subst (λ x. S (K [] x c.source.standing c.end c.source.stop c.outlet)) (sym r) st4 in
     let st6 = subst (λ x. S (K x c.requests c.source.standing c.end c.source.stop c.outlet)) (sym m) st5 in
-    record { fresh = fresh; items = items_of client; pipeline = feed-pipeline client; at = start_state (items_of client); run = refl; stands = st6 }
+    record { fresh = fresh; items = items_of c.profile client; pipeline = feed-pipeline c.profile client; at = start_state (items_of c.profile client); run = refl; stands = st6 }
 
 pub honest-more : (mid ended : Bool) (a b c : Sink) (x : Answer) (feed : Option Feed) (p : Printing) (kind : ErrorKind) → mid ≡ true → FailsOnceUnlessEnded mid b c ended → IsHonest a b x feed p kind → IsHonest a c x feed p kind
 honest-more true ended a b c x feed p kind e k (inl h) = inl (k.0 ∙ h)

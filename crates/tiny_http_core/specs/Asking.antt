@@ -20,6 +20,7 @@ CanAsk c = (c.end ≡ None) × (c.source.standing ≡ at.Body → ⊥)
 pub record AskStep {R W : Type 0} (old new : ConnectionState R W) (now : HttpDate) (reply : ReplyValue) : Type 0 where
   pub does : (client : Feed) (before : Sink) (s : State) → before.failures < 2 ^ 64 - 1 → Stands client before (kept old) s
       → (left : State) × Stands client before (kept new) left × StepsTo s now Ask reply left
+  pub profile : new.profile ≡ old.profile
   pub declined : IsDeclined step.Ask reply → new ≡ old
   pub ends : AskEnds old new reply
   pub leaves : AskLeaves old new reply

@@ -12,6 +12,7 @@ use Rattle.tiny_http_wire.specs.declared.answer_context.AnswerContext.{AnswerCon
 use Rattle.tiny_http_message.specs.declared.waiting.Waiting.{Waiting}
 use Rattle.tiny_http_core.specs.declared.pending.Unfinished.{Unfinished}
 use Rattle.tiny_http_core.specs.declared.pending.Unfinished.TheVariants as still
+use Rattle.tiny_http_message.specs.declared.framing.Profile.{Profile}
 use Rattle.tiny_http_message.specs.declared.framing.Form.TheVariants.{Rest}
 use Rattle.tiny_http_stream.specs.Source.{SourceState, GoesOn}
 use Rattle.tiny_http_stream.specs.ToCome.{stopped}
@@ -28,10 +29,11 @@ use Rattle.tiny_http_sending.specs.ResponseValue.{ResponseValue}
 use Rattle.tiny_http_turns.specs.Turns.{Mark, Open, Left, Finished, AreInShape}
 use Rattle.tiny_http_core.specs.Conversation.{State, Failure, PlaceAt}
 
--- What the program keeps of a connection: the turns of its numbers, what is kept of those that aren't finished, where the
+-- What the program keeps of a connection: its profile, the turns of its numbers, what is kept of those that aren't finished, where the
 -- input stands among heads and bodies, whether the asking has ended, what is still to come of the input, how it stopped and
 -- whether it is over, what the writer states with what is held, and whether the output has ended.
 pub record Kept : Type 0 where
+  pub profile : Profile
   pub marks : List Mark
   pub requests : List (Option Unfinished)
   pub standing : Standing
@@ -42,9 +44,10 @@ pub record Kept : Type 0 where
   pub sink : Sink
   pub output_ended : Bool
 
--- What a clause sees of a `Connection`: the turns of its numbers, what is kept of those that aren't finished, why the asking
+-- What a clause sees of a `Connection`: its profile, the turns of its numbers, what is kept of those that aren't finished, why the asking
 -- has ended, if it has, its input and its output.
 pub record ConnectionState (R W : Type 0) : Type 0 where
+  pub profile : Profile
   pub marks : List Mark
   pub requests : List (Option Unfinished)
   pub end : Option EndOfRequests
@@ -53,7 +56,7 @@ pub record ConnectionState (R W : Type 0) : Type 0 where
 
 abbrev pub kept : {R W : Type 0} → ConnectionState R W → Kept
 kept c =
-    record { marks = c.marks; requests = c.requests; standing = c.source.standing; asking_ended = is_some c.end; feed = c.source.feed; stop = c.source.stop; is_over = c.source.is_over; sink = output_of c.outlet; output_ended = c.outlet.ended }
+    record { profile = c.profile; marks = c.marks; requests = c.requests; standing = c.source.standing; asking_ended = is_some c.end; feed = c.source.feed; stop = c.source.stop; is_over = c.source.is_over; sink = output_of c.outlet; output_ended = c.outlet.ended }
 
 -- how a request is answered
 abbrev pub answer_context_of : Request → AnswerContext
@@ -210,7 +213,7 @@ pub record NextHead (k : Kept) (last : Option Slot) (rest : List Item) : Type 0 
   pub is_last : is_past_last k.standing ≡ is_last_slot last
   pub within : is_in_body k.standing ≡ (not (is_last_slot last) && is_streaming_body (last_body k.requests))
   pub lost : last_was_abandoned last ≡ true → InputEnded k × (k.feed ≡ Some (stopped End))
-  pub place : last_was_abandoned last ≡ false → PlaceAt (is_past_last k.standing) (behind_body (last_body k.requests) k.feed) rest
+  pub place : last_was_abandoned last ≡ false → PlaceAt k.profile (is_past_last k.standing) (behind_body (last_body k.requests) k.feed) rest
 
 -- how the input stands to the bodies and to the rest of the pipeline, after this much of the client's feed
 pub record InputStands (client : Feed) (k : Kept) (slots : List Slot) (rest : List Item) : Type 0 where

@@ -4,6 +4,7 @@ use Rattle.std.specs.List.{AllByRecursion}
 use Rattle.std.specs.declared.io.ErrorKind.{ErrorKind}
 use Rattle.httpdate.specs.declared.date.HttpDate.{HttpDate}
 use Rattle.tiny_http_wire.specs.Device.{Feed, Sink, IsFront, StatesKind}
+use Rattle.tiny_http_message.specs.declared.framing.Profile.{Profile}
 use Rattle.tiny_http_message.specs.Pipeline.{Item, Asks, Refuses, Place, body_length_or_0, Pipeline, place_after}
 use Rattle.tiny_http_message.specs.BodyRemains.{RemainsAt}
 use Rattle.tiny_http_wire.specs.declared.device.Stop.TheVariants.{End}
@@ -168,39 +169,39 @@ IsOutput slots flushed (Some f) before after held ended =
     (after.failures ≡ before.failures + 1) × StatesKind after.last_kind f.kind × (after.taken ≡ Some f.output) × (held ≡ []) × (ended ≡ true)
 
 -- what the bytes still ask: nothing after the last head, else the pipeline from where the input stands
-abbrev pub PlaceAt : Bool → Option Feed → List Item → Type 0
-PlaceAt true feed rest = rest ≡ []
-PlaceAt false None rest = ⊥
-PlaceAt false (Some f) rest = Pipeline (Some f.bytes) f.stop rest
+abbrev pub PlaceAt : Profile → Bool → Option Feed → List Item → Type 0
+PlaceAt p true feed rest = rest ≡ []
+PlaceAt p false None rest = ⊥
+PlaceAt p false (Some f) rest = Pipeline p (Some f.bytes) f.stop rest
 
 -- The input stands within this number's body: what is left of the body comes next, and after it what the pipeline still has.
-abbrev pub WithinBody : Slot → Item → Feed → List Item → Type 0
-WithinBody s (Asks r) feed rest =
+abbrev pub WithinBody : Profile → Slot → Item → Feed → List Item → Type 0
+WithinBody p s (Asks r) feed rest =
     (next : Place) × RemainsAt r.framing.form (body_length_or_0 r.framing - s.given) feed.bytes feed.stop (rest_of r s.given) next
-    × Pipeline (place_after r.framing.is_last next) feed.stop rest
-WithinBody s (Refuses refusal version no_body last) feed rest = ⊥
+    × Pipeline p (place_after r.framing.is_last next) feed.stop rest
+WithinBody p s (Refuses refusal version no_body last) feed rest = ⊥
 
-abbrev pub WithinLast : Option Slot → Option Feed → List Item → Type 0
-WithinLast (Some s) (Some feed) rest = WithinBody s s.item feed rest
-WithinLast _ _ rest = ⊥
+abbrev pub WithinLast : Profile → Option Slot → Option Feed → List Item → Type 0
+WithinLast p (Some s) (Some feed) rest = WithinBody p s s.item feed rest
+WithinLast p _ _ rest = ⊥
 
 -- How the input stands while the asking goes on: it has ended after a chunked body that was given up before its end; it
 -- stands within the last body, while that is open; else what the bytes still ask is the rest of the pipeline.
-abbrev pub InputAt : Reached → Option Feed → Type 0
-InputAt old feed =
+abbrev pub InputAt : Profile → Reached → Option Feed → Type 0
+InputAt p old feed =
     MatchBool old.asking_ended (Unit {0})
     (MatchBool (last_was_abandoned (last_slot old.slots)) (feed ≡ Some (stopped End))
-    (MatchBool (last_is_open (last_slot old.slots)) (WithinLast (last_slot old.slots) feed old.rest) (PlaceAt (is_last_slot (last_slot old.slots)) feed old.rest)))
+    (MatchBool (last_is_open (last_slot old.slots)) (WithinLast p (last_slot old.slots) feed old.rest) (PlaceAt p (is_last_slot (last_slot old.slots)) feed old.rest)))
 
--- THE CONNECTION THEOREM: replies and output are those of a run over the pipeline that stands in the feed; and this of the
--- feed is left.
-pub record IsConversation (feed : Feed) (before : Sink) (steps : List TimedValue) (replies : List ReplyValue) (after : Sink) (held : List ℕ) (ended : Bool) (unread : Option Feed) : Type 0 where
+-- THE CONNECTION THEOREM: replies and output are those of a run over the pipeline that stands in the feed under this profile; and
+-- this of the feed is left.
+pub record IsConversation (p : Profile) (feed : Feed) (before : Sink) (steps : List TimedValue) (replies : List ReplyValue) (after : Sink) (held : List ℕ) (ended : Bool) (unread : Option Feed) : Type 0 where
   pub items : List Item
   pub end : State
-  pub pipeline : Pipeline (Some feed.bytes) feed.stop items
+  pub pipeline : Pipeline p (Some feed.bytes) feed.stop items
   pub run : Run (start_state items) steps replies end
   pub output : IsOutput end.reached.slots end.flushed end.failure before after held ended
-  pub input : InputAt end.reached unread
+  pub input : InputAt p end.reached unread
 
 -- the writer as a run takes it: it states that it took no bytes, it has not ended, and its count can rise
 pub record IsFresh (sink : Sink) : Type 0 where

@@ -2,6 +2,7 @@
 use Rattle.std.specs.Prelude.{ℕ, Bool, true, List, [], ◌∷◌, if◌then◌else◌}
 use Rattle.std.specs.Prelude.{false}
 use Rattle.tiny_http_wire.specs.Device.{Feed}
+use Rattle.tiny_http_message.specs.declared.framing.Profile.{Profile}
 use Rattle.tiny_http_message.specs.PipelineReading.{items_of}
 use Rattle.tiny_http_core.specs.Slots.{joined, is_output_broken}
 use Rattle.tiny_http_core.specs.Steps.{ReplyValue, WriterUse, Reached, outcome}
@@ -28,7 +29,7 @@ pub record Conversed : Type 0 where
   pub replies : List ReplyValue
   pub output : List ℕ
 
-abbrev pub conversed : Feed → List TimedValue → Conversed
-conversed feed steps =
-    let r = run_from (record { slots = []; rest = items_of feed; asking_ended = false }) steps in
+abbrev pub conversed : Profile → Feed → List TimedValue → Conversed
+conversed p feed steps =
+    let r = run_from (record { slots = []; rest = items_of p feed; asking_ended = false }) steps in
     record { replies = r.replies; output = joined r.end.slots }

@@ -16,6 +16,7 @@ use Rattle.tiny_http_wire.specs.declared.common.StatusCode.{StatusCode}
 use Rattle.tiny_http_message.specs.declared.exchange.EndOfRequests.{EndOfRequests}
 use Rattle.tiny_http_message.specs.declared.exchange.EndOfRequests.TheVariants as because
 use Rattle.tiny_http_message.specs.HeadReads.{EndsAt, IsBeforeHead, HasByteOrTimedOut, place_feed}
+use Rattle.tiny_http_message.specs.declared.framing.Profile.{Profile}
 use Rattle.tiny_http_message.specs.declared.framing.Framing.{Framing}
 use Rattle.tiny_http_stream.specs.Outlet.{output_of, SentOn}
 use Rattle.tiny_http_message.specs.Pipeline.{Item, Refuses, Refusal, refusal_status, OneHead, Pipeline, Place}
@@ -34,11 +35,11 @@ use Rattle.tiny_http_core.specs.Seen.{IsStep, IsAnswered, IsOfWriter, all_sent_a
 use Rattle.tiny_http_core.specs.Connection.{ConnectionState, kept, Stands}
 
 -- Over this client's feed and a fresh writer, these steps were done, with these replies: they are a run over the pipeline
--- that stands in the feed, and the connection stands where it leads.
+-- that stands in the feed under the connection's profile, and the connection stands where it leads.
 pub record HasDone {R W : Type 0} (client : Feed) (before : Sink) (c : ConnectionState R W) (steps : List TimedValue) (replies : List ReplyValue) : Type 0 where
   pub fresh : IsFresh before
   pub items : List Item
-  pub pipeline : Pipeline (Some client.bytes) client.stop items
+  pub pipeline : Pipeline c.profile (Some client.bytes) client.stop items
   pub at : State
   pub run : Run (start_state items) steps replies at
   pub stands : Stands client before (kept c) at
@@ -60,24 +61,24 @@ stated_step feed (step.Finish k) = step.Finish k
 stated_step feed (step.Drop k) = step.Drop k
 
 -- the head that stands there is refused, with this status
-abbrev pub IsRefusal : Feed → EndOfRequests → Type 0
-IsRefusal f why =
-    (status : StatusCode) × (refusal : Refusal) × (version : HTTPVersion) × (no_body : Bool) × OneHead f.bytes f.stop (Some (Refuses refusal version no_body true)) None
+abbrev pub IsRefusal : Profile → Feed → EndOfRequests → Type 0
+IsRefusal p f why =
+    (status : StatusCode) × (refusal : Refusal) × (version : HTTPVersion) × (no_body : Bool) × OneHead p f.bytes f.stop (Some (Refuses refusal version no_body true)) None
     × (status.0 ≡ refusal_status refusal) × (why ≡ because.Refused status)
 
 -- no request stands in these bytes: a head is refused, and ends the requests; or none stands there, for this reason
-abbrev pub EndsThere : Standing → Feed → EndOfRequests → Type 0
-EndsThere standing f why = IsRefusal f why ⊎ (OneHead f.bytes f.stop None None × EndsAt standing f.bytes f.stop why)
+abbrev pub EndsThere : Profile → Standing → Feed → EndOfRequests → Type 0
+EndsThere p standing f why = IsRefusal p f why ⊎ (OneHead p f.bytes f.stop None None × EndsAt p standing f.bytes f.stop why)
 
 -- These heads are refused one after another, and the asking goes on behind each; then this comes.
-abbrev pub ArePassedOver : Feed → List Item → Feed → Type 0
-ArePassedOver f [] behind = behind ≡ f
-ArePassedOver f (item ∷ items) behind = IsPassedOver item × (next : Place) × OneHead f.bytes f.stop (Some item) next × ArePassedOver (place_feed f.stop next) items behind
+abbrev pub ArePassedOver : Profile → Feed → List Item → Feed → Type 0
+ArePassedOver p f [] behind = behind ≡ f
+ArePassedOver p f (item ∷ items) behind = IsPassedOver item × (next : Place) × OneHead p f.bytes f.stop (Some item) next × ArePassedOver p (place_feed f.stop next) items behind
 
 -- a byte of a further head comes behind such heads, or the reader times out there
-abbrev pub HasByteBehind : Option Feed → Type 0
-HasByteBehind None = ⊤
-HasByteBehind (Some f) = (passed : List Item) × (behind : Feed) × ArePassedOver f passed behind × HasByteOrTimedOut (Some behind)
+abbrev pub HasByteBehind : Profile → Option Feed → Type 0
+HasByteBehind p None = ⊤
+HasByteBehind p (Some f) = (passed : List Item) × (behind : Feed) × ArePassedOver p f passed behind × HasByteOrTimedOut (Some behind)
 
 -- where the source stands behind such heads
 abbrev pub standing_behind : Standing → List Item → Standing
@@ -86,10 +87,10 @@ standing_behind standing (item ∷ items) = at.Head
 
 -- WHY THE REQUESTS END where the source stands: the last one was read; or no request stands in the bytes that come, behind the
 -- heads that are passed.
-abbrev pub EndsRequestsAt : Standing → Option Feed → EndOfRequests → Type 0
-EndsRequestsAt at.Last feed why = why ≡ because.LastRequest
-EndsRequestsAt standing feed why =
-    (f : Feed) → feed ≡ Some f → (passed : List Item) × (behind : Feed) × ArePassedOver f passed behind × EndsThere (standing_behind standing passed) behind why
+abbrev pub EndsRequestsAt : Profile → Standing → Option Feed → EndOfRequests → Type 0
+EndsRequestsAt p at.Last feed why = why ≡ because.LastRequest
+EndsRequestsAt p standing feed why =
+    (f : Feed) → feed ≡ Some f → (passed : List Item) × (behind : Feed) × ArePassedOver p f passed behind × EndsThere p (standing_behind standing passed) behind why
 
 -- What an Ask says of the end of the requests, by its reply: it ends them for a reason that stands in the client's bytes, or
 -- where memory for a head was refused; after the end it changes nothing, and after the last request the source is left alone.
@@ -98,8 +99,8 @@ AskEnds old new (Handed k message framing) = (old.end ≡ None) × (new.end ≡ 
 AskEnds old new NotYet = (old.end ≡ None) × (old.source.standing ≡ at.Body)
 AskEnds old new Ended =
     (IsSome old.end → new ≡ old) × (old.source.standing ≡ at.Last → new.source ≡ old.source)
-    × (old.end ≡ None → (why : EndOfRequests) × (new.end ≡ Some why) × EndsRequestsAt old.source.standing old.source.feed why)
-AskEnds old new Memory = (old.end ≡ None) × (new.end ≡ Some because.Memory) × IsBeforeHead old.source.standing × HasByteBehind old.source.feed
+    × (old.end ≡ None → (why : EndOfRequests) × (new.end ≡ Some why) × EndsRequestsAt old.profile old.source.standing old.source.feed why)
+AskEnds old new Memory = (old.end ≡ None) × (new.end ≡ Some because.Memory) × IsBeforeHead old.source.standing × HasByteBehind old.profile old.source.feed
 AskEnds old new _ = ⊥
 
 -- what a step says of the end of the requests
@@ -217,13 +218,14 @@ ReportsFault old new now (step.Respond k r) kind =
     (context : AnswerContext) × (waiting_answer_context (slice_get old.requests k) ≡ Some context)
     × IsHonest (output_of old.outlet) (output_of new.outlet) r.answer r.data_reader (printing_in context now) kind
 
--- One step on a date: what was done is done with this step and its reply after it. And whatever reader, writer and data
--- state: a step that was not done changes nothing, why the requests end is kept, the other requests are left alone, the source
+-- One step on a date: what was done is done with this step and its reply after it, and the profile is kept. And whatever reader,
+-- writer and data state: a step that was not done changes nothing, why the requests end is kept, the other requests are left alone, the source
 -- goes on, the writer fails once at most, what is held and what was sent on is told by step and reply, and a fault that is
 -- reported is one.
 pub record TakesStep {R W : Type 0} (old new : ConnectionState R W) (now : HttpDate) (step : Step (Option Feed)) (reply : ReplyValue) : Type 0 where
   pub does : (client : Feed) (before : Sink) (steps : List TimedValue) (replies : List ReplyValue) (asked : StepValue) → IsStep (λ f. f) step asked
       → HasDone client before old steps replies → HasDone client before new (steps ++ (now, asked) ∷ []) (replies ++ reply ∷ [])
+  pub profile : new.profile ≡ old.profile
   pub declined : IsDeclined step reply → new ≡ old
   pub ends : StepEnds step old new reply
   pub leaves : StepLeaves step old new reply

@@ -25,6 +25,7 @@ use std::io;
 use std::io::ErrorKind;
 use std::marker::Model;
 use tiny_http_message::exchange::{EndOfRequests, Head, HeadRead, read_head};
+use tiny_http_message::framing::Profile;
 use tiny_http_message::own_answer::send_own_quietly;
 use tiny_http_message::upgrading::{UpgradeError, send_upgrade_quietly};
 use tiny_http_message::waiting::Waiting;
@@ -136,10 +137,11 @@ pub struct Connection<R: ReadDevice, W: WriteDevice> {
 
 impl<R: ReadDevice, W: WriteDevice> Model for Connection<R, W> {
     ghost use Rattle.tiny_http_core.specs.Connection.{ConnectionState};
+    ghost use Rattle.tiny_http_message.specs.declared.framing.Profile.TheVariants.{Lenient};
 
     ghost Value = { ConnectionState R W };
 
-    ghost view = { λ c. record { marks = c.pending.turns.marks; requests = c.pending.requests; end = c.end; source = c.source; outlet = c.outlet } };
+    ghost view = { λ c. record { profile = Lenient; marks = c.pending.turns.marks; requests = c.pending.requests; end = c.end; source = c.source; outlet = c.outlet } };
 }
 
 impl Reply {
@@ -204,6 +206,7 @@ impl<R: ReadDevice, W: WriteDevice> Connection<R, W> {
     pub fn new(alloc: Global, reader: R, writer: W) -> Connection<R, W>
         ensures begins { (client : Feed) → R.feed reader ≡ Some client → IsFresh (W.sink writer) → HasDone client (W.sink writer) result [] [] }
         ensures open { (result.end ≡ None) × (result.requests ≡ []) }
+        ensures profile { result.profile ≡ Profile.Lenient }
         ensures source { (result.source.feed ≡ R.feed reader) × (result.source.standing ≡ Standing.Head) }
         ensures outlet { result.outlet ≡ record { held = []; ended = false; writer = writer; sink = W.sink writer } }
     {
@@ -538,7 +541,7 @@ impl<R: ReadDevice, W: WriteDevice> Connection<R, W> {
     /// without one.
     pub fn into_parts(self) -> (Source<R>, Outlet<W>)
         ensures conversation { (client : Feed) (before : Sink) (steps : List TimedValue) (replies : List ReplyValue) → HasDone client before self steps replies
-            → IsConversation client before steps replies (W.sink (outlet_writer result.1)) (outlet_held result.1) (outlet_ended result.1) result.0.feed }
+            → IsConversation self.profile client before steps replies (W.sink (outlet_writer result.1)) (outlet_held result.1) (outlet_ended result.1) result.0.feed }
         ensures source { result.0 ≡ self.source }
         ensures outlet { result.1 ≡ self.outlet }
         ensures sink { result.1.sink ≡ W.sink (outlet_writer result.1) }
@@ -560,7 +563,7 @@ pub fn run<R: ReadDevice + Drop, W: WriteDevice + Drop, D: ReadDevice + Drop>(
     // THE CONNECTION THEOREM: the reader states its feed; the writer states that it took nothing, has not ended, and its count
     // can rise; the responses' data state their feeds of fewer than 2^63 bytes.
     ensures conversation { IfOk result (λ done. (feed : Feed) (dated : List TimedValue) → R.feed reader ≡ Some feed → IsFresh (W.sink writer) → AllZip (IsTimedStep D.feed) steps.items dated
-        → IsConversation feed (W.sink writer) dated (map seen done.replies.items) (W.sink (outlet_writer done.outlet)) (outlet_held done.outlet) (outlet_ended done.outlet) done.source.feed) }
+        → IsConversation Profile.Lenient feed (W.sink writer) dated (map seen done.replies.items) (W.sink (outlet_writer done.outlet)) (outlet_held done.outlet) (outlet_ended done.outlet) done.source.feed) }
     // What the source still gives is the client's bytes from some place on.
     ensures source { IfOk result (λ done. GoesOn (R.feed reader) done.source.feed) }
 

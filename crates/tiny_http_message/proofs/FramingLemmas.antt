@@ -11,11 +11,12 @@ use Rattle.tiny_http_wire.specs.declared.common.HTTPVersion.{HTTPVersion}
 use Rattle.tiny_http_message.specs.declared.framing.Profile.{Profile}
 use Rattle.tiny_http_message.specs.declared.framing.Profile.TheVariants.{Lenient, Strict}
 use Rattle.tiny_http_message.specs.declared.framing.FramingFault.{FramingFault}
-use Rattle.tiny_http_message.specs.declared.framing.FramingFault.TheVariants.{Ambiguous, Expectation}
+use Rattle.tiny_http_message.specs.declared.framing.FramingFault.TheVariants.{Invalid, Expectation}
 use Rattle.tiny_http_message.specs.declared.framing.Form.{Form}
 use Rattle.tiny_http_message.specs.declared.framing.Form.TheVariants.{Rest, Nothing, WithHead, Counted, Chunked}
 use Rattle.tiny_http_message.specs.declared.framing.Framing.{Framing}
-use Rattle.tiny_http_message.specs.Framing.{framing, framed_if, framed_by, form_by, sized_form, mentions, value_of, elements_of, is_last, expectation, names_upgrade, names_coding, EachIs, EndsWithChunked, SaysOnce, SaysLength, IsForm, Frames, is_number, is_length, one_length, ends_with_chunked, said_once, said_length}
+use Rattle.tiny_http_message.specs.Framing.{mentions, value_of, elements_of, is_last, expectation, names_upgrade, names_coding, EachIs, EndsWithChunked, IsStrictLength, IsBodyLength, IsForm, Frames}
+use Rattle.tiny_http_message.specs.FramingReading.{framing, framed_if, framed_by, form_by, sized_form, is_number, is_length, one_length, ends_with_chunked, strict_length, body_length}
 
 -- the length that the headers say
 
@@ -52,39 +53,39 @@ ends-one (b ∷ before) last coding [] e h = absurd (nothing-behind before (let 
     nothing-behind (x ∷ xs) e = cc
 ends-one (b ∷ before) last coding (next ∷ codings) e h = let tail : next ∷ codings ≡ before ++ last ∷ [] = cc in ends-one before last next codings tail h
 
-one-is : (text : List ℕ) (texts : List (List ℕ)) (n : Option ℕ) (o : Option ℕ) → length_of text ≡ o → one_length o texts ≡ Some n → SaysOnce (text ∷ texts) [] n
-one-is text texts n None e h = let no : ◌≡◌ {A = Option (Option ℕ)} None (Some n) = h in cc
+same-length : {x y : Option ℕ} → ◌≡◌ {A = Result (Option ℕ) FramingFault} (Ok x) (Ok y) → x ≡ y
+same-length e = cc
+
+one-is : (text : List ℕ) (texts : List (List ℕ)) (n : Option ℕ) (o : Option ℕ) → length_of text ≡ o → one_length o texts ≡ Ok n → IsStrictLength (text ∷ texts) [] n
+one-is text texts n None e h = let no : ◌≡◌ {A = Result (Option ℕ) FramingFault} (Err Invalid) (Ok n) = h in cc
 one-is text texts n (Some m) e h = by (list_all (is_length m) texts) refl h
   where
-    by : (t : Bool) → list_all (is_length m) texts ≡ t → (if t then Some (Some m) else None) ≡ Some n → SaysOnce (text ∷ texts) [] n
-    by true all h = (m, (let same : Some m ≡ n = cc in sym same), (e, each-is m texts all))
-    by false all h = let no : ◌≡◌ {A = Option (Option ℕ)} None (Some n) = h in cc
+    by : (t : Bool) → list_all (is_length m) texts ≡ t → (if t then Ok (Some m) else Err Invalid) ≡ Ok n → IsStrictLength (text ∷ texts) [] n
+    by true all h = (m, (let same : Some m ≡ n = same-length h in sym same), (e, each-is m texts all))
+    by false all h = let no : ◌≡◌ {A = Result (Option ℕ) FramingFault} (Err Invalid) (Ok n) = h in cc
 
-once-is : (lengths codings : List (List ℕ)) (n : Option ℕ) → said_once lengths codings ≡ Some n → SaysOnce lengths codings n
-once-is [] [] n h = let same : None ≡ n = cc in sym same
+once-is : (lengths codings : List (List ℕ)) (n : Option ℕ) → strict_length lengths codings ≡ Ok n → IsStrictLength lengths codings n
+once-is [] [] n h = sym (same-length h)
 once-is (text ∷ texts) [] n h = one-is text texts n (length_of text) refl h
 once-is [] (coding ∷ codings) n h = by (ends_with_chunked coding codings) refl h
   where
-    by : (t : Bool) → ends_with_chunked coding codings ≡ t → (if t then Some None else None) ≡ Some n → SaysOnce [] (coding ∷ codings) n
-    by true e h = ((let same : None ≡ n = cc in sym same), ends-is coding codings e)
-    by false e h = let no : ◌≡◌ {A = Option (Option ℕ)} None (Some n) = h in cc
-once-is (text ∷ texts) (coding ∷ codings) n h = let no : ◌≡◌ {A = Option (Option ℕ)} None (Some n) = h in cc
+    by : (t : Bool) → ends_with_chunked coding codings ≡ t → (if t then Ok None else Err Invalid) ≡ Ok n → IsStrictLength [] (coding ∷ codings) n
+    by true e h = (sym (same-length h), ends-is coding codings e)
+    by false e h = let no : ◌≡◌ {A = Result (Option ℕ) FramingFault} (Err Invalid) (Ok n) = h in cc
+once-is (text ∷ texts) (coding ∷ codings) n h = let no : ◌≡◌ {A = Result (Option ℕ) FramingFault} (Err Invalid) (Ok n) = h in cc
 
-once-one : (lengths codings : List (List ℕ)) (n : Option ℕ) → SaysOnce lengths codings n → said_once lengths codings ≡ Some n
-once-one [] [] n h = ap Some (sym h)
-once-one (text ∷ texts) [] n h = rw (h.2.0, each-one h.0 texts h.2.1) (ap Some (sym h.1))
-once-one [] (coding ∷ codings) n h = rw (ends-one h.1.0 h.1.1 coding codings h.1.2 h.1.3) (ap Some (sym h.0))
+once-one : (lengths codings : List (List ℕ)) (n : Option ℕ) → IsStrictLength lengths codings n → strict_length lengths codings ≡ Ok n
+once-one [] [] n h = ap Ok (sym h)
+once-one (text ∷ texts) [] n h = rw (h.2.0, each-one h.0 texts h.2.1) (ap Ok (sym h.1))
+once-one [] (coding ∷ codings) n h = rw (ends-one h.1.0 h.1.1 coding codings h.1.2 h.1.3) (ap Ok (sym h.0))
 once-one (text ∷ texts) (coding ∷ codings) n h = absurd h
 
-said-is : (p : Profile) (headers : List Header) (n : Option ℕ) → said_length p headers ≡ Some n → SaysLength p headers n
-said-is Lenient headers n h = let same : n ≡ _ = said-same (sym h) in same
-  where
-    said-same : {x y : Option ℕ} → Some x ≡ Some y → x ≡ y
-    said-same e = cc
+said-is : (p : Profile) (headers : List Header) (n : Option ℕ) → body_length p headers ≡ Ok n → IsBodyLength p headers n
+said-is Lenient headers n h = sym (same-length h)
 said-is Strict headers n h = once-is (elements_of (codes "Content-Length") headers) (elements_of (codes "Transfer-Encoding") headers) n h
 
-said-one : (p : Profile) (headers : List Header) (n : Option ℕ) → SaysLength p headers n → said_length p headers ≡ Some n
-said-one Lenient headers n h = ap Some (sym h)
+said-one : (p : Profile) (headers : List Header) (n : Option ℕ) → IsBodyLength p headers n → body_length p headers ≡ Ok n
+said-one Lenient headers n h = ap Ok (sym h)
 said-one Strict headers n h = once-one (elements_of (codes "Content-Length") headers) (elements_of (codes "Transfer-Encoding") headers) n h
 
 -- the form of a body
@@ -142,20 +143,44 @@ form-one Counted upgrade coded owed n h = rw (h.0, h.1, h.3, zero-or-more h.2 h.
 
 -- the framing that is computed is one by the cases
 
-none-said : (p : Profile) (headers : List Header) → said_length p headers ≡ None → (n : Option ℕ) → SaysLength p headers n → ⊥
-none-said p headers e n h = let no : ◌≡◌ {A = Option (Option ℕ)} None (Some n) = sym e ∙ said-one p headers n h in cc
+none-said : (p : Profile) (headers : List Header) (fault : FramingFault) → body_length p headers ≡ Err fault → (n : Option ℕ) → IsBodyLength p headers n → ⊥
+none-said p headers fault e n h = let no : ◌≡◌ {A = Result (Option ℕ) FramingFault} (Err fault) (Ok n) = sym e ∙ said-one p headers n h in cc
 
-framed-is : (p : Profile) (v : HTTPVersion) (headers : List Header) (n : Option ℕ) → SaysLength p headers n → (o : Option Bool) → expectation (value_of (codes "Expect") headers) ≡ o → Frames p v headers (framed_by v headers n o)
+framed-is : (p : Profile) (v : HTTPVersion) (headers : List Header) (n : Option ℕ) → IsBodyLength p headers n → (o : Option Bool) → expectation (value_of (codes "Expect") headers) ≡ o → Frames p v headers (framed_by v headers n o)
 framed-is p v headers n h None e = (n, h, e)
 framed-is p v headers n h (Some owed) e = (h, e, form-is (names_upgrade headers) (names_coding headers) owed n, refl)
 
-framed-if-is : (p : Profile) (v : HTTPVersion) (headers : List Header) (o : Option (Option ℕ)) → said_length p headers ≡ o → Frames p v headers (framed_if v headers o)
-framed-if-is p v headers None e = none-said p headers e
-framed-if-is p v headers (Some n) e = framed-is p v headers n (said-is p headers n e) (expectation (value_of (codes "Expect") headers)) refl
+-- only an invalid length is an error of its own
+only-invalid : (p : Profile) (headers : List Header) (fault : FramingFault) → body_length p headers ≡ Err fault → fault ≡ Invalid
+only-invalid Lenient headers fault e = let no : ◌≡◌ {A = Result (Option ℕ) FramingFault} (Ok _) (Err fault) = e in cc
+only-invalid Strict headers fault e = by (elements_of (codes "Content-Length") headers) (elements_of (codes "Transfer-Encoding") headers) e
+  where
+    same-fault : {f g : FramingFault} → ◌≡◌ {A = Result (Option ℕ) FramingFault} (Err f) (Err g) → g ≡ f
+    same-fault e = cc
+
+    chosen : (t : Bool) (n : Option ℕ) → (if t then Ok n else Err Invalid) ≡ Err fault → fault ≡ Invalid
+    chosen true n e = let no : ◌≡◌ {A = Result (Option ℕ) FramingFault} (Ok n) (Err fault) = e in cc
+    chosen false n e = same-fault e
+
+    one : (o : Option ℕ) (lengths : List (List ℕ)) → one_length o lengths ≡ Err fault → fault ≡ Invalid
+    one None lengths e = same-fault e
+    one (Some n) lengths e = chosen (list_all (is_length n) lengths) (Some n) e
+
+    by : (lengths codings : List (List ℕ)) → strict_length lengths codings ≡ Err fault → fault ≡ Invalid
+    by [] [] e = let no : ◌≡◌ {A = Result (Option ℕ) FramingFault} (Ok None) (Err fault) = e in cc
+    by (length ∷ lengths) [] e = one (length_of length) lengths e
+    by [] (coding ∷ codings) e = chosen (ends_with_chunked coding codings) None e
+    by (length ∷ lengths) (coding ∷ codings) e = same-fault e
+
+framed-if-is : (p : Profile) (v : HTTPVersion) (headers : List Header) (r : Result (Option ℕ) FramingFault) → body_length p headers ≡ r → Frames p v headers (framed_if v headers r)
+framed-if-is p v headers (Err fault) e =
+    let F : FramingFault → Type 0 = λ x. Frames p v headers (Err x) in
+    subst F (sym (only-invalid p headers fault e)) (none-said p headers fault e)
+framed-if-is p v headers (Ok n) e = framed-is p v headers n (said-is p headers n e) (expectation (value_of (codes "Expect") headers)) refl
 
 pub framing-is : (p : Profile) (v : HTTPVersion) (headers : List Header) → Frames p v headers (framing p v headers)
 unfolding framing
-framing-is p v headers = framed-if-is p v headers (said_length p headers) refl
+framing-is p v headers = framed-if-is p v headers (body_length p headers) refl
 
 -- and the only one
 
@@ -167,11 +192,11 @@ framing-eq f form owed n last a b c d =
 
 pub framing-one : (p : Profile) (v : HTTPVersion) (headers : List Header) (r : Result Framing FramingFault) → Frames p v headers r → r ≡ framing p v headers
 unfolding framing
-framing-one p v headers (Err Ambiguous) h = by (said_length p headers) refl
+framing-one p v headers (Err Invalid) h = by (body_length p headers) refl
   where
-    by : (o : Option (Option ℕ)) → said_length p headers ≡ o → Err Ambiguous ≡ framed_if v headers o
-    by None e = refl
-    by (Some n) e = absurd (h n (said-is p headers n e))
+    by : (r : Result (Option ℕ) FramingFault) → body_length p headers ≡ r → Err Invalid ≡ framed_if v headers r
+    by (Err fault) e = ap Err (sym (only-invalid p headers fault e))
+    by (Ok n) e = absurd (h n (said-is p headers n e))
 framing-one p v headers (Err Expectation) h = rw (said-one p headers h.0 h.1, h.2) refl
 framing-one p v headers (Ok f) h =
     rw (said-one p headers f.body_length h.0, h.1)
@@ -185,9 +210,7 @@ last-named false true old e = refl
 last-named false false old e = cc
 
 -- the body is the rest of the stream only where an upgrade is named
-pub rest-last : (p : Profile) (v : HTTPVersion) (headers : List Header) (f : Framing) → framing p v headers ≡ Ok f → f.form ≡ Rest → f.is_last ≡ true
-rest-last p v headers f e rest =
-    let R : Result Framing FramingFault → Type 0 = λ r. Frames p v headers r in
-    let h = subst R e (framing-is p v headers) in
+pub rest-last : (p : Profile) (v : HTTPVersion) (headers : List Header) (f : Framing) → Frames p v headers (Ok f) → f.form ≡ Rest → f.is_last ≡ true
+rest-last p v headers f h rest =
     let F : Form → Type 0 = λ x. IsForm x (names_upgrade headers) (names_coding headers) f.owes_continue f.body_length in
     h.3 ∙ last-named (mentions (codes "close") (value_of (codes "Connection") headers)) (names_upgrade headers) _ (subst F rest h.2)

@@ -24,7 +24,7 @@ use Rattle.tiny_http_message.specs.declared.heads.Message.{Message}
 use Rattle.tiny_http_message.specs.declared.framing.Profile.{Profile}
 use Rattle.tiny_http_message.specs.declared.framing.Profile.TheVariants.{Lenient, Strict}
 use Rattle.tiny_http_message.specs.declared.framing.FramingFault.{FramingFault}
-use Rattle.tiny_http_message.specs.declared.framing.FramingFault.TheVariants.{Ambiguous, Expectation}
+use Rattle.tiny_http_message.specs.declared.framing.FramingFault.TheVariants.{Invalid, Expectation}
 use Rattle.tiny_http_message.specs.declared.framing.Form.{Form}
 use Rattle.tiny_http_message.specs.declared.framing.Form.TheVariants.{Rest, Nothing, WithHead, Counted, Chunked}
 use Rattle.tiny_http_message.specs.declared.framing.Framing.{Framing}
@@ -36,7 +36,10 @@ use Rattle.tiny_http_message.specs.declared.heads.HeadFault.{HeadFault}
 use Rattle.tiny_http_message.specs.declared.heads.HeadFault.TheVariants as fault
 use Rattle.tiny_http_message.specs.declared.body.Body.{Body}
 use Rattle.tiny_http_message.specs.declared.body.Body.TheVariants as body
-use Rattle.tiny_http_message.specs.Framing.{framing}
+use Rattle.tiny_http_wire.specs.declared.common.Header.{Header}
+use Rattle.tiny_http_message.specs.Framing.{Frames}
+use Rattle.tiny_http_message.specs.FramingReading.{framing}
+use Rattle.tiny_http_message.proofs.FramingLemmas.{framing-is}
 use Rattle.tiny_http_stream.specs.FeedParts.{feed_front}
 use Rattle.tiny_http_stream.specs.ToCome.{skipped, stopped}
 use Rattle.tiny_http_message.specs.Body.{Remaining, remaining, taken_remaining, counted_remaining, coming_remaining, PassesOver, Fits, IsBodyOver, ReadsOn}
@@ -98,12 +101,16 @@ head-refused profile date (Some f) p v fault.NotAscii stop r h k why =
 head-refused profile date (Some f) p v fault.Malformed stop r h k why = refused-at profile date f p BadRequest (unwrap_or v (version 1 1)) r refl (inl (v, h, refl)) k
 head-refused profile date (Some f) p v fault.Memory stop r h k why = without-memory profile date f p r k
 
--- headers that don't say where the body ends, or an expectation that can't be met
+-- the framing that is computed is the one by the cases
+framed-as : (profile : Profile) (v : HTTPVersion) (headers : List Header) (r : Result Framing FramingFault) → framing profile v headers ≡ r → Frames profile v headers r
+framed-as profile v headers r e = let F : Result Framing FramingFault → Type 0 = λ x. Frames profile v headers x in subst F e (framing-is profile v headers)
+
+-- an invalid framing, or an expectation that can't be met
 pub head-unframed : (profile : Profile) (date : HttpDate) (o p : Option Feed) (m : Message) (e : FramingFault) (r : Result HeadRead AllocError) → ReadsMessage (head_limit profile) o p (Ok m) → framing profile m.version m.headers.items ≡ Err e
     → RefusesWith (refusal_status (framing_refusal e)) m.version date r → ReadsHead profile at.Head date o p r
 head-unframed profile date None p m e r h is k = tt
-head-unframed profile date (Some f) p m Ambiguous r h is k = refused-at profile date f p BadRequest m.version r refl (inr (message_of m, h.0, record { begins = h.1; frames = is }, refl)) k
-head-unframed profile date (Some f) p m Expectation r h is k = refused-at profile date f p ExpectationFailed m.version r refl (message_of m, h.0, record { begins = h.1; frames = is }, refl) k
+head-unframed profile date (Some f) p m Invalid r h is k = refused-at profile date f p BadRequest m.version r refl (inr (message_of m, h.0, record { begins = h.1; frames = framed-as profile m.version m.headers.items (Err _) is }, refl)) k
+head-unframed profile date (Some f) p m Expectation r h is k = refused-at profile date f p ExpectationFailed m.version r refl (message_of m, h.0, record { begins = h.1; frames = framed-as profile m.version m.headers.items (Err _) is }, refl) k
 
 -- a body that is passed over: the next head stands behind it
 same-remaining : (x y : Remaining) → Some x ≡ Some y → x ≡ y
@@ -150,7 +157,7 @@ head-too_new profile date (Some x) p old new m f y r h e begins is k goes =
     let B : Option Feed → Type 0 = λ z. Begins f z old.feed (Some y) in
     let started = subst B h.2 begins in
     let left : Remaining = record { body = started.1; behind = place_feed x.stop started.2 } in
-    too-new-at profile date x new.feed (message_of m) f h.0 started.1 started.2 r (record { whole = record { begins = h.1; frames = e }; uncut = started.0 }) started.3 is k
+    too-new-at profile date x new.feed (message_of m) f h.0 started.1 started.2 r (record { whole = record { begins = h.1; frames = framed-as profile m.version m.headers.items (Ok f) e }; uncut = started.0 }) started.3 is k
     (ok-map r (ends_too_new f.form ≡ false → PassesOver y old new) (ends_too_new f.form ≡ false → new.feed ≡ Some (place_feed x.stop started.2)) (λ g ends. passed-over old new y f.form (body_length_or_0 f) left started.5 ends started.4 (g ends)) goes)
 
 -- the body that begins in front of some bytes
@@ -283,7 +290,7 @@ pub head-handed : (profile : Profile) (date : HttpDate) (o p q : Option Feed) (m
 head-handed profile date None p q m f h b y u v r e t begins heads bodies keeps = tt
 head-handed profile date (Some x) p q m f h b y u v r e t begins heads bodies keeps =
     let P : Option Feed → Type 0 = λ z. Begins f z q (Some b) in
-    let found = head-whole profile x q (message_of m) f r.0 b (record { begins = r.1; frames = e }) t (subst P r.2 begins) in
+    let found = head-whole profile x q (message_of m) f r.0 b (record { begins = r.1; frames = framed-as profile m.version m.headers.items (Ok f) e }) t (subst P r.2 begins) in
     let Q : Texted → Type 0 = λ z. IsHanded profile x q b z f in
     let R : Framing → Type 0 = λ z. IsHanded profile x q b (head_message h) z in
     let S : Body → Type 0 = λ z. IsHanded profile x q z (head_message h) (head_framing h) in
@@ -305,7 +312,7 @@ head-cut profile date (Some x) p q m f stop r h e t ends k =
     let S : Option Stop → Type 0 = λ y. IfSome y (λ s. AnswersCut s true date r) in
     let cut = subst P h.2 t in
     let begun : true ≡ nat_lt 0 (length x.bytes) = sym (lt-ltb 0 (length x.bytes) (within-some (head_limit profile) x.bytes (message_of m) h.0 h.1)) in
-    cut-head profile date x q true r (inr (message_of m, h.0, f, record { begins = h.1; frames = e }, cut)) begun (subst S (ends (record { bytes = h.0; stop = x.stop }) h.2) k)
+    cut-head profile date x q true r (inr (message_of m, h.0, f, record { begins = h.1; frames = framed-as profile m.version m.headers.items (Ok f) e }, cut)) begun (subst S (ends (record { bytes = h.0; stop = x.stop }) h.2) k)
   where
     head-some : (bytes : List ℕ) (m : Texted) (after : List ℕ) → BeginsWithRequestHead bytes m after → 0 < length bytes
     head-some bytes m after t = let P : List ℕ → Type 0 = λ x. 0 < length x in let line = t.2.1 in subst P (sym line.joins) (line-some t.2.0 t.0)

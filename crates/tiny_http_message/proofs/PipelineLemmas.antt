@@ -16,13 +16,14 @@ use Rattle.tiny_http_head.proofs.HeadsLemmas.{head-is, HeadIs, head-one, head-fa
 use Rattle.tiny_http_wire.proofs.ChunksLemmas.{decoded-is, decoded-one, decoded-front}
 use Rattle.tiny_http_message.specs.declared.framing.Profile.{Profile}
 use Rattle.tiny_http_message.specs.declared.framing.FramingFault.{FramingFault}
-use Rattle.tiny_http_message.specs.declared.framing.FramingFault.TheVariants.{Ambiguous, Expectation}
+use Rattle.tiny_http_message.specs.declared.framing.FramingFault.TheVariants.{Invalid, Expectation}
 use Rattle.tiny_http_message.specs.declared.framing.Form.{Form}
 use Rattle.tiny_http_message.specs.declared.framing.Form.TheVariants.{Rest, Nothing, WithHead, Counted, Chunked}
 use Rattle.tiny_http_message.specs.declared.framing.Framing.{Framing}
-use Rattle.tiny_http_message.specs.Framing.{framing}
+use Rattle.tiny_http_message.specs.FramingReading.{framing}
 use Rattle.tiny_http_message.specs.Pipeline.{Refusal, BadRequest, RequestTimeout, ExpectationFailed, HeaderFieldsTooLarge, VersionNotSupported, Item, Refuses, Place, is_timed_out, head_limit, seen_bytes, BeginsWithin, IsUnfinishedHead, IsTooLarge, IsWholeHead, IsCutWithHead, IsCutHead, IsSilent, IsRefused, IsRequestHead, Heading, Silence, Refused, Heads, HeadAt, body_length_or_0, BodyAt, SizedBody, FoundAt, OneHead, item_of, next_place, ends_too_new, Pipeline, place_after}
-use Rattle.tiny_http_message.specs.PipelineReading.{BodyRead, chunked_read, sized_read, body_read, is_cut_with_head, cut_heading, framed, is_full, all_after, faulty, heading, heading_of, items_at, items_from, items_of}
+use Rattle.tiny_http_message.specs.PipelineReading.{BodyRead, chunked_read, sized_read, body_read, is_cut_with_head, cut_heading, whole_heading, is_full, all_after, faulty, heading, heading_of, items_at, items_from, items_of}
+use Rattle.tiny_http_message.proofs.FramingLemmas.{framing-is, framing-one}
 use Rattle.tiny_http_message.proofs.WithinLemmas.{seen-stands, stands-seen, seen-all}
 
 pub cut-with_head : (form : Form) (n : ℕ) (after : List ℕ) → is_cut_with_head form n after ≡ true → IsCutWithHead form n after
@@ -59,8 +60,8 @@ pipeline-cut-step : (p : Profile) (m : Message) (after : List ℕ) (stop : Stop)
 pipeline-cut-step p m after stop bytes f h true c = cut-heading-is p bytes stop (inr (m, after, f, h, cut-with_head f.form (body_length_or_0 f) after c))
 pipeline-cut-step p m after stop bytes f h false c = record { whole = h; uncut = not-cut f.form (body_length_or_0 f) after c }
 
-framed-is : (p : Profile) (m : Message) (after : List ℕ) (stop : Stop) (bytes : List ℕ) (r : Result Framing FramingFault) → IsWholeHead p bytes m after r → HeadAt p bytes stop (framed m after stop r)
-framed-is p m after stop bytes (Err Ambiguous) h = inr (m, after, h, refl)
+framed-is : (p : Profile) (m : Message) (after : List ℕ) (stop : Stop) (bytes : List ℕ) (r : Result Framing FramingFault) → IsWholeHead p bytes m after r → HeadAt p bytes stop (whole_heading m after stop r)
+framed-is p m after stop bytes (Err Invalid) h = inr (m, after, h, refl)
 framed-is p m after stop bytes (Err Expectation) h = (m, after, h, refl)
 framed-is p m after stop bytes (Ok f) h = pipeline-cut-step p m after stop bytes f h (is_cut_with_head f.form (body_length_or_0 f) after) refl
 
@@ -72,7 +73,7 @@ seen-within (Some limit) bytes m after h = seen-stands limit bytes m after h
 within-seen : (limit : Option ℕ) (bytes : List ℕ) (m : Message) (after : List ℕ) → BeginsWithin limit bytes m after
     → (front : List ℕ) × BeginsWithRequestHead (seen_bytes limit bytes) m front × (after ≡ all_after limit bytes front)
 within-seen None bytes m after h = (after, h, refl)
-within-seen (Some limit) bytes m after h = stands-seen limit bytes m after h.0 h.1
+within-seen (Some limit) bytes m after h = stands-seen limit bytes m after h.0 h.1 h.2 h.3
 
 -- a head that is only cut is too large, or isn't finished
 abbrev CutOrFull : Option ℕ → List ℕ → Option HTTPVersion → Bool → Type 0
@@ -103,17 +104,17 @@ faulty-is p bytes stop v Cut h = by (is_full (head_limit p) bytes) (cut-or-full 
 read-is : (p : Profile) (bytes : List ℕ) (stop : Stop) (r : RequestHeadRead) → HeadIs (seen_bytes (head_limit p) bytes) r → HeadAt p bytes stop (heading p bytes stop r)
 read-is p bytes stop (Faulty v fault) h = faulty-is p bytes stop v fault h
 read-is p bytes stop (Whole m after) h =
-    framed-is p m (all_after (head_limit p) bytes after) stop bytes (framing p m.version m.headers) (record { begins = seen-within (head_limit p) bytes m after h; frames = refl })
+    framed-is p m (all_after (head_limit p) bytes after) stop bytes (framing p m.version m.headers) (record { begins = seen-within (head_limit p) bytes m after h; frames = framing-is p m.version m.headers })
 
 -- each bytes have a heading
 pub heading-is : (p : Profile) (bytes : List ℕ) (stop : Stop) → HeadAt p bytes stop (heading_of p stop bytes)
 heading-is p bytes stop = read-is p bytes stop (request_head_read (seen_bytes (head_limit p) bytes)) (head-is (seen_bytes (head_limit p) bytes))
 
 -- a whole head is read as what it frames
-whole-read : (p : Profile) (bytes : List ℕ) (stop : Stop) (m : Message) (after : List ℕ) (r : Result Framing FramingFault) → IsWholeHead p bytes m after r → heading_of p stop bytes ≡ framed m after stop r
+whole-read : (p : Profile) (bytes : List ℕ) (stop : Stop) (m : Message) (after : List ℕ) (r : Result Framing FramingFault) → IsWholeHead p bytes m after r → heading_of p stop bytes ≡ whole_heading m after stop r
 whole-read p bytes stop m after r h =
     let seen = within-seen (head_limit p) bytes m after h.begins in
-    rw (head-one (seen_bytes (head_limit p) bytes) m seen.0 seen.1, ← seen.2, h.frames) refl
+    rw (head-one (seen_bytes (head_limit p) bytes) m seen.0 seen.1, ← seen.2, ← framing-one p m.version m.headers r h.frames) refl
 
 -- a head that isn't finished, and one that is too large
 unfinished-read : (limit : Option ℕ) (bytes : List ℕ) (v : Option HTTPVersion) → IsUnfinishedHead limit bytes v → (is_full limit bytes ≡ false) × FaultyHead (seen_bytes limit bytes) v Cut
@@ -135,7 +136,7 @@ cut-read p bytes stop (inr k) = whole-read p bytes stop k.0 k.1 (Ok k.2) k.3 ∙
 -- and one
 refused-read : (p : Profile) (bytes : List ℕ) (stop : Stop) (refusal : Refusal) (v : HTTPVersion) → IsRefused p bytes stop refusal v → heading_of p stop bytes ≡ Refused refusal v
 refused-read p bytes stop BadRequest v (inl k) = rw (head-fault (seen_bytes (head_limit p) bytes) k.0 Malformed k.1) (ap (Refused BadRequest) (sym k.2))
-refused-read p bytes stop BadRequest v (inr k) = whole-read p bytes stop k.0 k.1 (Err Ambiguous) k.2 ∙ ap (Refused BadRequest) (sym k.3)
+refused-read p bytes stop BadRequest v (inr k) = whole-read p bytes stop k.0 k.1 (Err Invalid) k.2 ∙ ap (Refused BadRequest) (sym k.3)
 refused-read p bytes stop RequestTimeout v k = cut-read p bytes stop k.0 ∙ rw k.1 (ap (Refused RequestTimeout) (sym k.2))
 refused-read p bytes stop ExpectationFailed v k = whole-read p bytes stop k.0 k.1 (Err Expectation) k.2 ∙ ap (Refused ExpectationFailed) (sym k.3)
 refused-read p bytes stop HeaderFieldsTooLarge v k =

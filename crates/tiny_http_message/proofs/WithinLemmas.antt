@@ -57,25 +57,21 @@ head-text bytes m after h =
 
 -- a head that stands among the first bytes stands in all, and keeps the limit
 pub seen-stands : (limit : ℕ) (bytes : List ℕ) (m : Message) (front : List ℕ) → BeginsWithRequestHead (take limit bytes) m front
-    → BeginsWithRequestHead bytes m (front ++ drop limit bytes) × (length bytes ≤ limit + length (front ++ drop limit bytes))
+    → BeginsWithRequestHead bytes m (front ++ drop limit bytes) × (head : List ℕ) × (bytes ≡ head ++ (front ++ drop limit bytes)) × (length head ≤ limit)
 seen-stands limit bytes m front h =
     let text = head-text (take limit bytes) m front h in
     let all : text.0 ++ (front ++ drop limit bytes) ≡ bytes = joined-all text.0 front (drop limit bytes) (take limit bytes) text.1 ∙ take-append-drop limit bytes in
     let P : List ℕ → Type 0 = λ y. BeginsWithRequestHead y m (front ++ drop limit bytes) in
     let long : length (take limit bytes) ≡ length text.0 + length front = ap length text.1 ∙ length-append text.0 front in
-    let whole : length bytes ≡ length text.0 + length (front ++ drop limit bytes) = ap length (sym all) ∙ length-append text.0 (front ++ drop limit bytes) in
-    (subst P all (text.2 (front ++ drop limit bytes)), at-most limit bytes text.0 front (front ++ drop limit bytes) long whole)
+    (subst P all (text.2 (front ++ drop limit bytes)), text.0, sym all, omega (arith, long, taken limit bytes))
   where
     joined-all : (a b c d : List ℕ) → d ≡ a ++ b → a ++ (b ++ c) ≡ d ++ c
     joined-all a b c d e = rw e (simp append_assoc)
 
-    at-most : (limit : ℕ) (bytes text front after : List ℕ) → length (take limit bytes) ≡ length text + length front → length bytes ≡ length text + length after → length bytes ≤ limit + length after
-    at-most limit bytes text front after long whole = omega (arith, long, whole, taken limit bytes)
-      where
-        taken : (n : ℕ) (xs : List ℕ) → length (take n xs) ≤ n
-        taken zero xs = omega arith
-        taken (suc n) [] = omega arith
-        taken (suc n) (x ∷ xs) = let k = taken n xs in omega (arith, k)
+    taken : (n : ℕ) (xs : List ℕ) → length (take n xs) ≤ n
+    taken zero xs = omega arith
+    taken (suc n) [] = omega arith
+    taken (suc n) (x ∷ xs) = let k = taken n xs in omega (arith, k)
 
 -- what is seen and what isn't of a text and what follows it, where the limit lies behind the text
 seen-of : (limit : ℕ) (bytes text after : List ℕ) → bytes ≡ text ++ after → length text ≤ limit → take limit bytes ≡ text ++ take (limit - length text) after
@@ -89,12 +85,13 @@ unseen-of limit bytes text after e le =
     ap (λ x. drop limit x) e ∙ ap (λ n. drop n (text ++ after)) reaches ∙ drop-append-add text after (limit - length text)
 
 -- and one that keeps the limit stands among them
-pub stands-seen : (limit : ℕ) (bytes : List ℕ) (m : Message) (after : List ℕ) → BeginsWithRequestHead bytes m after → length bytes ≤ limit + length after
+pub stands-seen : (limit : ℕ) (bytes : List ℕ) (m : Message) (after : List ℕ) → BeginsWithRequestHead bytes m after → (head : List ℕ) → bytes ≡ head ++ after → length head ≤ limit
     → (front : List ℕ) × BeginsWithRequestHead (take limit bytes) m front × (after ≡ front ++ drop limit bytes)
-stands-seen limit bytes m after h fits =
+stands-seen limit bytes m after h head joins fits =
     let text = head-text bytes m after h in
     let long : length bytes ≡ length text.0 + length after = ap length text.1 ∙ length-append text.0 after in
-    let le : length text.0 ≤ limit = omega (arith, long, fits) in
+    let whole : length bytes ≡ length head + length after = ap length joins ∙ length-append head after in
+    let le : length text.0 ≤ limit = omega (arith, long, whole, fits) in
     let k = limit - length text.0 in
     let P : List ℕ → Type 0 = λ y. BeginsWithRequestHead y m (take k after) in
     (take k after, subst P (sym (seen-of limit bytes text.0 after text.1 le)) (text.2 (take k after)), sym (ap (λ y. take k after ++ y) (unseen-of limit bytes text.0 after text.1 le) ∙ take-append-drop k after))

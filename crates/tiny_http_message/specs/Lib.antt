@@ -1,4 +1,5 @@
 pub mod Framing
+pub mod FramingReading
 pub mod OwnAnswer
 pub mod Page
 pub mod TextState

@@ -1,5 +1,5 @@
 -- What a connection's bytes ask: requests with their bodies, and heads that are refused.
-use Rattle.std.specs.Prelude.{◌≡◌, ℕ, ◌<◌, ◌≤◌, ◌+◌, ◌⊎◌, Bool, true, false, List, [], ◌∷◌, ◌++◌, length, take, Option, Some, None, Result, Ok, Err, unwrap_or, if◌then◌else◌}
+use Rattle.std.specs.Prelude.{◌≡◌, ℕ, ◌<◌, ◌≤◌, ◌⊎◌, ⊤, Bool, true, false, List, [], ◌∷◌, ◌++◌, length, take, Option, Some, None, Result, Ok, Err, unwrap_or, if◌then◌else◌}
 use Rattle.std.specs.declared.io.ErrorKind.{ErrorKind}
 use Rattle.std.specs.declared.io.ErrorKind.TheVariants.{TimedOut}
 use Rattle.tiny_http_wire.specs.declared.common.Method.{Method}
@@ -13,11 +13,11 @@ use Rattle.tiny_http_wire.specs.Heads.{Message, BeginsWithRequestHead, FaultyHea
 use Rattle.tiny_http_message.specs.declared.framing.Profile.{Profile}
 use Rattle.tiny_http_message.specs.declared.framing.Profile.TheVariants.{Lenient, Strict}
 use Rattle.tiny_http_message.specs.declared.framing.FramingFault.{FramingFault}
-use Rattle.tiny_http_message.specs.declared.framing.FramingFault.TheVariants.{Ambiguous, Expectation}
+use Rattle.tiny_http_message.specs.declared.framing.FramingFault.TheVariants.{Invalid, Expectation}
 use Rattle.tiny_http_message.specs.declared.framing.Form.{Form}
 use Rattle.tiny_http_message.specs.declared.framing.Form.TheVariants.{Rest, Nothing, WithHead, Counted, Chunked}
 use Rattle.tiny_http_message.specs.declared.framing.Framing.{Framing}
-use Rattle.tiny_http_message.specs.Framing.{framing}
+use Rattle.tiny_http_message.specs.Framing.{Frames}
 
 -- a request that is handed out: its head, its framing, and what its body reader gives and how that closes
 pub record Request : Type 0 where
@@ -27,7 +27,7 @@ pub record Request : Type 0 where
 
 -- why a head is refused
 pub data Refusal : Type 0 where
-  -- it is no head by the grammar, or its headers don't say where its body ends
+  -- it is no head by the grammar, or its framing is invalid
   BadRequest : Refusal
   -- the reader timed out before it had come
   RequestTimeout : Refusal
@@ -48,11 +48,11 @@ refusal_status VersionNotSupported = 505
 
 -- how a head is refused whose framing is
 abbrev pub framing_refusal : FramingFault → Refusal
-framing_refusal Ambiguous = BadRequest
+framing_refusal Invalid = BadRequest
 framing_refusal Expectation = ExpectationFailed
 
--- a head of the connection: handed out, or refused, in this version, to a HEAD or not; if it is the last no
--- head follows
+-- a head of the connection: handed out, or refused, in this version; no_body says that it is a HEAD, which is told by a 505 alone;
+-- last says that the refusal itself ends the connection
 pub data Item : Type 0 where
   Asks : (request : Request) → Item
   Refuses : (refusal : Refusal) (version : HTTPVersion) (no_body last : Bool) → Item
@@ -79,17 +79,17 @@ abbrev pub seen_bytes : Option ℕ → List ℕ → List ℕ
 seen_bytes None bytes = bytes
 seen_bytes (Some limit) bytes = take limit bytes
 
--- the bytes begin with a head that keeps the limit; what follows it is after
+-- the bytes begin with a head of at most so many bytes; what follows it is after
 abbrev pub BeginsWithin : Option ℕ → List ℕ → Message → List ℕ → Type 0
 BeginsWithin None bytes m after = BeginsWithRequestHead bytes m after
-BeginsWithin (Some limit) bytes m after = BeginsWithRequestHead bytes m after × (length bytes ≤ limit + length after)
+BeginsWithin (Some limit) bytes m after = BeginsWithRequestHead bytes m after × (head : List ℕ) × (bytes ≡ head ++ after) × (length head ≤ limit)
 
--- the bytes end within a head, and before the limit; the version is that of the request line, if that has ended
+-- the bytes end within a head, before the limit; the version is that of the request line, if that has ended
 abbrev pub IsUnfinishedHead : Option ℕ → List ℕ → Option HTTPVersion → Type 0
 IsUnfinishedHead None bytes v = FaultyHead bytes v Cut
 IsUnfinishedHead (Some limit) bytes v = FaultyHead bytes v Cut × (length bytes < limit)
 
--- as many bytes as the limit came, and the head hasn't ended among them, nor is a line of it faulty
+-- as many bytes as the limit came, or more; each line that ends among so many is good, and the head doesn't end among them
 abbrev pub IsTooLarge : Option ℕ → List ℕ → Option HTTPVersion → Type 0
 IsTooLarge None bytes v = ⊥
 IsTooLarge (Some limit) bytes v = (limit ≤ length bytes) × FaultyHead (take limit bytes) v Cut
@@ -97,7 +97,7 @@ IsTooLarge (Some limit) bytes v = (limit ≤ length bytes) × FaultyHead (take l
 -- the bytes begin with a whole head, and this is how it is framed, or why it isn't
 pub record IsWholeHead (p : Profile) (bytes : List ℕ) (m : Message) (after : List ℕ) (framed : Result Framing FramingFault) : Type 0 where
   pub begins : BeginsWithin (head_limit p) bytes m after
-  pub frames : framing p m.version m.headers ≡ framed
+  pub frames : Frames p m.version m.headers framed
 
 abbrev pub body_length_or_0 : Framing → ℕ
 body_length_or_0 f = unwrap_or f.body_length 0
@@ -110,22 +110,23 @@ IsCutWithHead _ n after = ⊥
 -- the head, or a body that is read with it, is cut
 abbrev pub IsCutHead : Profile → List ℕ → Type 0
 IsCutHead p bytes =
-    ((v : Option HTTPVersion) × IsUnfinishedHead (head_limit p) bytes v)
+    ((line : Option HTTPVersion) × IsUnfinishedHead (head_limit p) bytes line)
     ⊎ ((m : Message) × (after : List ℕ) × (f : Framing) × IsWholeHead p bytes m after (Ok f) × IsCutWithHead f.form (body_length_or_0 f) after)
 
 -- the first faulty line of a head, among the bytes in which it is looked for, isn't ASCII
 abbrev pub IsNotAsciiHead : Profile → List ℕ → Type 0
-IsNotAsciiHead p bytes = (v : Option HTTPVersion) × FaultyHead (seen_bytes (head_limit p) bytes) v NotAscii
+IsNotAsciiHead p bytes = (line : Option HTTPVersion) × FaultyHead (seen_bytes (head_limit p) bytes) line NotAscii
 
--- NO ITEM: the head, or a body that is read with it, is cut, and not by a time-out; or a line of the head isn't ASCII.
+-- NO ITEM: the head, or a body that is read with it, is cut, and not by a time-out; or its first faulty line isn't ASCII.
 abbrev pub IsSilent : Profile → List ℕ → Stop → Type 0
 IsSilent p bytes stop = (IsCutHead p bytes × (is_timed_out stop ≡ false)) ⊎ IsNotAsciiHead p bytes
 
--- A REFUSAL in this version: that of the request line, or 1.1 where that hasn't ended.
+-- A REFUSAL in this version: that of the request line, or 1.1 where that hasn't ended; a 408 is always in 1.1. A version that is
+-- too new is judged by `item_of`, since a body follows it.
 abbrev pub IsRefused : Profile → List ℕ → Stop → Refusal → HTTPVersion → Type 0
 IsRefused p bytes stop BadRequest v =
     ((line : Option HTTPVersion) × FaultyHead (seen_bytes (head_limit p) bytes) line Malformed × (v ≡ unwrap_or line (version 1 1)))
-    ⊎ ((m : Message) × (after : List ℕ) × IsWholeHead p bytes m after (Err Ambiguous) × (v ≡ m.version))
+    ⊎ ((m : Message) × (after : List ℕ) × IsWholeHead p bytes m after (Err Invalid) × (v ≡ m.version))
 IsRefused p bytes stop RequestTimeout v = IsCutHead p bytes × (is_timed_out stop ≡ true) × (v ≡ version 1 1)
 IsRefused p bytes stop ExpectationFailed v = (m : Message) × (after : List ℕ) × IsWholeHead p bytes m after (Err Expectation) × (v ≡ m.version)
 IsRefused p bytes stop HeaderFieldsTooLarge v = (line : Option HTTPVersion) × IsTooLarge (head_limit p) bytes line × (v ≡ unwrap_or line (version 1 1))
@@ -195,7 +196,7 @@ OneHead p bytes stop item next = (heading : Heading) × HeadAt p bytes stop head
 -- The pipeline: the items that stand from a place on, one head after another, until the connection has ended (RFC 9112,
 -- section 9.3.2).
 abbrev pub Pipeline : Profile → Place → Stop → List Item → Type 0
-Pipeline p None stop [] = Unit {0}
+Pipeline p None stop [] = ⊤
 Pipeline p None stop (item ∷ items) = ⊥
 Pipeline p (Some bytes) stop [] = OneHead p bytes stop None None
 Pipeline p (Some bytes) stop (item ∷ items) = (next : Place) × OneHead p bytes stop (Some item) next × Pipeline p next stop items

@@ -12,7 +12,7 @@ use Rattle.tiny_http_message.specs.declared.framing.FramingFault.{FramingFault}
 use Rattle.tiny_http_message.specs.declared.framing.Form.{Form}
 use Rattle.tiny_http_message.specs.declared.framing.Form.TheVariants.{Rest, Nothing, WithHead, Counted, Chunked}
 use Rattle.tiny_http_message.specs.declared.framing.Framing.{Framing}
-use Rattle.tiny_http_message.specs.Framing.{framing}
+use Rattle.tiny_http_message.specs.FramingReading.{framing}
 use Rattle.tiny_http_message.specs.Pipeline.{Item, Refuses, BadRequest, RequestTimeout, HeaderFieldsTooLarge, framing_refusal, Place, is_timed_out, head_limit, seen_bytes, Heading, Silence, Refused, Heads, body_length_or_0, item_of, next_place}
 
 -- a body and where the next head begins
@@ -47,16 +47,16 @@ is_cut_with_head Chunked n after = false
 abbrev pub cut_heading : Stop → Heading
 cut_heading stop = if is_timed_out stop then Refused RequestTimeout (version 1 1) else Silence
 
-abbrev pub framed : Message → List ℕ → Stop → Result Framing FramingFault → Heading
-framed m after stop (Err fault) = Refused (framing_refusal fault) m.version
-framed m after stop (Ok f) = if is_cut_with_head f.form (body_length_or_0 f) after then cut_heading stop else Heads m f after
+abbrev pub whole_heading : Message → List ℕ → Stop → Result Framing FramingFault → Heading
+whole_heading m after stop (Err fault) = Refused (framing_refusal fault) m.version
+whole_heading m after stop (Ok f) = if is_cut_with_head f.form (body_length_or_0 f) after then cut_heading stop else Heads m f after
 
 -- as many bytes as the limit came
 abbrev pub is_full : Option ℕ → List ℕ → Bool
 is_full None bytes = false
 is_full (Some limit) bytes = nat_le limit (length bytes)
 
--- what follows of all bytes, where this follows of those in which the head was looked for
+-- what follows the head among all bytes, from what follows it among those that are looked at
 abbrev pub all_after : Option ℕ → List ℕ → List ℕ → List ℕ
 all_after None bytes after = after
 all_after (Some limit) bytes after = after ++ drop limit bytes
@@ -69,7 +69,7 @@ faulty full v Malformed stop = Refused BadRequest (unwrap_or v (version 1 1))
 
 abbrev pub heading : Profile → List ℕ → Stop → RequestHeadRead → Heading
 heading p bytes stop (Faulty v fault) = faulty (is_full (head_limit p) bytes) v fault stop
-heading p bytes stop (Whole m after) = framed m (all_after (head_limit p) bytes after) stop (framing p m.version m.headers)
+heading p bytes stop (Whole m after) = whole_heading m (all_after (head_limit p) bytes after) stop (framing p m.version m.headers)
 
 -- the heading at a place
 abbrev pub heading_of : Profile → Stop → List ℕ → Heading

@@ -320,7 +320,7 @@ fn refusal_of(fault: FramingFault) -> StatusCode
     ensures { result.0 ≡ refusal_status (framing_refusal fault) }
 {
     match fault {
-        FramingFault::Ambiguous => StatusCode(400),
+        FramingFault::Invalid => StatusCode(400),
         FramingFault::Expectation => StatusCode(417),
     }
 }

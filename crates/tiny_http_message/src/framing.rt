@@ -5,7 +5,8 @@ ghost use Rattle.std.specs.List.{starts_with};
 ghost use Rattle.tiny_http_wire.specs.Bytes.{contains_word};
 ghost use Rattle.tiny_http_wire.specs.Common.{lowercase};
 ghost use Rattle.tiny_http_wire.specs.Heads.{is_too_new};
-ghost use Rattle.tiny_http_message.specs.Framing.{value_of, mentions, body_length, expectation, sized_form, form_by, is_last, framing};
+ghost use Rattle.tiny_http_message.specs.Framing.{value_of, mentions, lenient_length, expectation, is_last};
+ghost use Rattle.tiny_http_message.specs.FramingReading.{sized_form, form_by, framing};
 
 use tiny_http_wire::ascii::AsciiString;
 use tiny_http_wire::common::{HTTPVersion, Header};
@@ -14,20 +15,22 @@ use tiny_http_wire::grammar::parse_content_length;
 /// How strictly a head is judged.
 #[derive(Clone, Copy, Debug, PartialEq, Eq)]
 pub enum Profile {
-    /// As tiny_http: the first `Content-Length` counts, each `Transfer-Encoding` is chunked and hides it, and a head may be of
-    /// any size.
+    /// As tiny_http 0.12: the first `Content-Length` counts, a `Transfer-Encoding` of any value means chunked and hides it, and
+    /// a head may be of any size.
     Lenient,
-    /// For a server behind a proxy: a head on whose end or whose body's end two servers may disagree is refused (RFC 9112,
-    /// sections 6.1 to 6.3), and so is one of more than 65,536 bytes (RFC 6585, section 5).
+    /// For a server behind a proxy. Refused as well are `Content-Length` values that aren't one number, `Content-Length` beside
+    /// `Transfer-Encoding`, a `Transfer-Encoding` that doesn't end in `chunked` (RFC 9112, sections 6.1 to 6.3), and a head of
+    /// more than 65,536 bytes (RFC 6585, section 5).
     Strict,
 }
 
 /// Why the framing that a head asks for is refused.
 #[derive(Clone, Copy, Debug, PartialEq, Eq)]
 pub enum FramingFault {
-    /// Its headers don't say in one way where the body ends: 400 (RFC 9112, section 6.3). Only `Strict` refuses such a head.
-    Ambiguous,
-    /// It expects what can't be met: 417 (RFC 9110, section 10.1.1).
+    /// It is invalid: lengths that aren't one number, a length beside a coding, or codings that don't end in `chunked`. Only
+    /// `Strict` refuses such a head, by 400 (RFC 9112, section 6.3).
+    Invalid,
+    /// The head expects what can't be met: 417 (RFC 9110, section 10.1.1).
     Expectation,
 }
 
@@ -110,8 +113,8 @@ fn mentions(value: Option<&AsciiString>, word: &str) -> bool
 }
 
 // The length that the headers say; a Transfer-Encoding hides it.
-fn body_length(is_coded: bool, headers: &[Header]) -> Option<usize>
-    ensures { is_coded ≡ is_some (value_of (codes "Transfer-Encoding") headers.now) → result ≡ body_length headers.now }
+fn lenient_length(is_coded: bool, headers: &[Header]) -> Option<usize>
+    ensures { is_coded ≡ is_some (value_of (codes "Transfer-Encoding") headers.now) → result ≡ lenient_length headers.now }
 {
     if is_coded {
         return None;
@@ -165,7 +168,7 @@ fn is_last(version: HTTPVersion, connection: Option<&AsciiString>) -> bool
 }
 
 /// The framing that version and headers give under `Lenient`. It is an error where an expectation can't be met.
-#[tactic(auto, unfolding(crate::specs::Framing::framing))]
+#[tactic(auto, unfolding(crate::specs::FramingReading::framing))]
 pub fn framing_of(version: HTTPVersion, headers: &[Header]) -> Result<Framing, FramingFault>
     ensures { result ≡ framing Profile.Lenient version headers.now }
 {
@@ -174,7 +177,7 @@ pub fn framing_of(version: HTTPVersion, headers: &[Header]) -> Result<Framing, F
     };
     let connection = value_of(headers, "Connection");
     let is_coded = value_of(headers, "Transfer-Encoding").is_some();
-    let body_length = body_length(is_coded, headers);
+    let body_length = lenient_length(is_coded, headers);
     Ok(Framing {
         form: form_by(mentions(connection, "upgrade"), is_coded, owed, body_length),
         owes_continue: owed,

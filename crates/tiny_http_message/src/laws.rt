@@ -1,7 +1,8 @@
 //! Laws, each the contract of a function that does nothing.
-ghost use Rattle.std.specs.Prelude.{◌≡◌, List, Some, Result};
+ghost use Rattle.std.specs.Prelude.{◌≡◌, List, Some, Err, Result};
 ghost use Rattle.tiny_http_wire.specs.Device.{Feed};
-ghost use Rattle.tiny_http_message.specs.Framing.{Frames, framing};
+ghost use Rattle.tiny_http_message.specs.Framing.{Frames};
+ghost use Rattle.tiny_http_message.specs.FramingReading.{framing};
 ghost use Rattle.tiny_http_message.specs.Pipeline.{Item, Pipeline};
 
 use crate::framing::{Framing, FramingFault, Profile};
@@ -13,9 +14,10 @@ pub fn one_pipeline()
     ensures one { (p : Profile) (feed : Feed) (items others : List Item) → Pipeline p (Some feed.bytes) feed.stop items → Pipeline p (Some feed.bytes) feed.stop others → items ≡ others }
 {}
 
-/// Under each profile a version and headers frame a message in exactly one way, or are refused for exactly one reason: the
-/// framing that is computed is the one that the cases name.
+/// Under each profile `framing` computes the one result that version and headers have by the cases of `Frames`. Under `Lenient`
+/// no framing is invalid.
 pub fn one_framing()
     ensures some { (p : Profile) (v : HTTPVersion) (headers : List Header) → Frames p v headers (framing p v headers) }
     ensures one { (p : Profile) (v : HTTPVersion) (headers : List Header) (r : Result Framing FramingFault) → Frames p v headers r → r ≡ framing p v headers }
+    ensures lenient { (v : HTTPVersion) (headers : List Header) → Frames Profile.Lenient v headers (Err FramingFault.Invalid) → ⊥ }
 {}

@@ -6,6 +6,7 @@ use Rattle.tiny_http_core.specs.Pending.{LeavesText}
 use Rattle.tiny_http_stream.specs.Outlet.{output_of, outlet_ended}
 use Rattle.tiny_http_core.specs.Connection.{Kept, kept}
 use Rattle.tiny_http_core.proofs.ConnectionDrop.{drop-done}
+use Rattle.tiny_http_message.specs.declared.framing.Profile.TheVariants.{Lenient}
 use Rattle.tiny_http_core.proofs.DrivingLemmas.{viewed, drops-by, gives-up-of}
 use Rattle.tiny_http_message.proofs.BodyReads.{gives-up}
 use Rattle.tiny_http_core.proofs.driver.Connection.let_go.Goals as goal
@@ -15,8 +16,8 @@ returns-clause-drops g c = λ yes now.
     let n = c.args.number in
     let q = c.self.inside in
     let source = c.give_up.new.source in
-    let old = viewed q.source q.outlet q.pending q.end in
-    let new = viewed source c.leave.new.outlet c.leave.new.self q.end in
+    let old = viewed Lenient q.source q.outlet q.pending q.end in
+    let new = viewed Lenient source c.leave.new.outlet c.leave.new.self q.end in
     let k : Kept = kept old in
     let left = c.leave.new in
     let w = c.in-Some.waiting in
@@ -31,4 +32,4 @@ returns-clause-drops g c = λ yes now.
     let L : List ℕ → Type 0 = λ x. LeavesText (n == first_unfinished c.take.new.self.turns.marks) front rest left.self.turns.marks x k.output_ended k.sink (output_of left.outlet) (outlet_ended left.outlet) in
     subst T (ap (λ t. t.marks) turns) (subst L c.into_text-text.ensures (c.leave.ensures.leaves front rest (ap (λ t. t.marks) turns ∙ e) place can))))
     refl (requests, gives-up-of q.source source (slice_get k.requests n) (still.Waiting w) some.0 c.give_up.ensures.gives_up)
-    (record { goes_on = gives-up w.body q.source source c.give_up.ensures.gives_up; fails_once = c.leave.ensures.fails_once; flushed = λ was. c.leave.ensures.flushed (was refl); sent_on = λ was. c.leave.ensures.sent_on (was refl) }))
+    (record { profile = refl; goes_on = gives-up w.body q.source source c.give_up.ensures.gives_up; fails_once = c.leave.ensures.fails_once; flushed = λ was. c.leave.ensures.flushed (was refl); sent_on = λ was. c.leave.ensures.sent_on (was refl) }))

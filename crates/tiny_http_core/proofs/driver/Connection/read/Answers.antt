@@ -8,6 +8,7 @@ use Rattle.tiny_http_core.specs.Seen.{seen}
 use Rattle.tiny_http_core.proofs.ConnectionAsk.{StepIsAnswered}
 use Rattle.tiny_http_core.proofs.ConnectionBody.{with_reader}
 use Rattle.tiny_http_core.proofs.ConnectionRead.{read-nothing, readable-some, read-none, read-memory, read-done}
+use Rattle.tiny_http_message.specs.declared.framing.Profile.TheVariants.{Lenient}
 use Rattle.tiny_http_core.proofs.DrivingLemmas.{viewed, takes-read, driving-reads-on, moves-none, stands-after}
 use Rattle.tiny_http_core.proofs.driver.Connection.read.Goals.{in-Ok-fill, in-Err}
 use Rattle.tiny_http_core.proofs.driver.Connection.read.Goals as goal
@@ -24,7 +25,7 @@ pub returns-then-not-is_readable : goal.returns-then-not-is_readable
 returns-then-not-is_readable g c =
     let n = c.args.number in
     let q = c.self.inside in
-    let old = viewed q.source q.outlet q.pending q.end in
+    let old = viewed Lenient q.source q.outlet q.pending q.end in
     record {
       step = λ date. rw (← c.self.view_is) (takes-read old old date n c.args.count NoSuch
           (λ client before s st. read-nothing client before (kept old) s date n c.args.count st (sym c.is_readable.ensures ∙ c.if-not-is_readable.true)) (λ no. refl) refl (refl, refl, inl (refl, refl)) (moves-none old));
@@ -34,7 +35,7 @@ pub returns-then-count-eq0 : goal.returns-then-count-eq0
 returns-then-count-eq0 g c =
     let n = c.args.number in
     let q = c.self.inside in
-    let old = viewed q.source q.outlet q.pending q.end in
+    let old = viewed Lenient q.source q.outlet q.pending q.end in
     let k : Kept = kept old in
     record {
       step = λ date. rw (← c.self.view_is) (takes-read old old date n c.args.count (Given c.new.result.items)
@@ -48,7 +49,7 @@ pub returns-in_default : goal.returns-in_default
 returns-in_default g c =
     let n = c.args.number in
     let q = c.self.inside in
-    let old = viewed q.source q.outlet q.pending q.end in
+    let old = viewed Lenient q.source q.outlet q.pending q.end in
     let k : Kept = kept old in
     record {
       step = λ date. rw (← c.self.view_is) (takes-read old old date n c.args.count Memory
@@ -61,8 +62,8 @@ pub returns : goal.returns
 returns g c =
     let n = c.args.number in
     let q = c.self.inside in
-    let old = viewed q.source q.outlet q.pending q.end in
-    let new = viewed c.fill.new.source q.outlet c.fill.new.self q.end in
+    let old = viewed Lenient q.source q.outlet q.pending q.end in
+    let new = viewed Lenient c.fill.new.source q.outlet c.fill.new.self q.end in
     let k : Kept = kept old in
     let w = readable-some (slice_get k.requests n) (sym c.is_readable.ensures ∙ c.if-not-is_readable.false) in
     let size : length c.fill.new.buf ≡ c.args.count = search (rules, c.in-Ok.ensures) in
@@ -82,5 +83,5 @@ returns g c =
           ])
           (elim c.match-fill.branch [ in-Ok-fill b ↦ rw b.result-is (λ no. elim no [ ]) | in-Err b ↦ rw b.result-is (λ no. elim no [ ]) ]) refl
           (let fills = c.fill.ensures.fills w.0 w.1 w.2 w.4 in (refl, ap (λ t. t.marks) c.fill.ensures.turns, inr (w.0, w.1, fills.0, w.2, w.4, fills.1, stands-after w.1 fills.0 q.source c.fill.new.source fills.3 fills.4)))
-          (driving-reads-on old new refl c.fill.ensures.goes_on));
+          (driving-reads-on old new refl refl c.fill.ensures.goes_on));
     }
