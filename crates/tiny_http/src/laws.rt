@@ -4,8 +4,8 @@ pub use tiny_http_client_laws::laws::{
     conversation_is_read, response_can_be_read, slots_are_read, steps_can_be_read,
 };
 pub use tiny_http_core::laws::{
-    fronts_are_unfinished, one_client_answer, one_list_of_client_answers, one_pipeline,
-    sent_texts_are_read, text_is_read_back, turns_pass_in_order,
+    fronts_are_unfinished, one_client_answer, one_framing, one_list_of_client_answers,
+    one_pipeline, sent_texts_are_read, text_is_read_back, turns_pass_in_order,
 };
 pub use tiny_http_wire::laws::{
     header_field_equality, header_from_its_text, http_version_order, lines_by_the_grammar,

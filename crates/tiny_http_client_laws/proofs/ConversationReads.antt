@@ -3,6 +3,7 @@ use Rattle.std.proofs.Common.{◌≡◌, ℕ, Bool, false, List, [], Option, Som
 use Rattle.std.specs.Prelude.{IsTrue}
 use Rattle.std.specs.List.{list_all}
 use Rattle.tiny_http_wire.specs.Device.{Feed, Sink}
+use Rattle.tiny_http_message.specs.declared.framing.Profile.{Profile}
 use Rattle.tiny_http_core.specs.Slots.{is_finished}
 use Rattle.tiny_http_core.specs.Steps.{ReplyValue}
 use Rattle.tiny_http_core.specs.Conversation.{State, TimedValue, start_state, IsConversation}
@@ -14,31 +15,31 @@ use Rattle.tiny_http_client_laws.proofs.RunFronts.{IsSoundState, run-sound, star
 use Rattle.tiny_http_client_laws.proofs.ReadableSteps.{CanAllBeRead}
 use Rattle.tiny_http_client_laws.proofs.SlotsAreRead.{slots-are-read, slots-are-read-all, all-answered}
 
-end-sound : (feed : Feed) (before after : Sink) (steps : List TimedValue) (replies : List ReplyValue) (held : List ℕ) (ended : Bool) (unread : Option Feed)
-    → (c : IsConversation feed before steps replies after held ended unread) → IsSoundState c.end
-end-sound feed before after steps replies held ended unread c =
-    run-sound (start_state c.items) c.end steps replies (start-sound c.items (items-fit (Some feed.bytes) feed.stop c.items c.pipeline)) c.run
+end-sound : (p : Profile) (feed : Feed) (before after : Sink) (steps : List TimedValue) (replies : List ReplyValue) (held : List ℕ) (ended : Bool) (unread : Option Feed)
+    → (c : IsConversation p feed before steps replies after held ended unread) → IsSoundState c.end
+end-sound p feed before after steps replies held ended unread c =
+    run-sound (start_state c.items) c.end steps replies (start-sound c.items (items-fit p (Some feed.bytes) feed.stop c.items c.pipeline)) c.run
 
-pub all-sent : (feed : Feed) (before after : Sink) (steps : List TimedValue) (replies : List ReplyValue) (held out : List ℕ) (ended : Bool) (unread : Option Feed)
-    → (c : IsConversation feed before steps replies after held ended unread) → CanAllBeRead c.end.reached.slots → IsOutputOf after held out → ReadsNumbers c.end.reached.slots out
-all-sent feed before after steps replies held out ended unread c can o =
-    let s = end-sound feed before after steps replies held ended unread c in
+pub all-sent : (p : Profile) (feed : Feed) (before after : Sink) (steps : List TimedValue) (replies : List ReplyValue) (held out : List ℕ) (ended : Bool) (unread : Option Feed)
+    → (c : IsConversation p feed before steps replies after held ended unread) → CanAllBeRead c.end.reached.slots → IsOutputOf after held out → ReadsNumbers c.end.reached.slots out
+all-sent p feed before after steps replies held out ended unread c can o =
+    let s = end-sound p feed before after steps replies held ended unread c in
     let f = output-front c.end.reached.slots c.end.flushed c.end.failure before after held o.0 out ended s.took c.output o.1 o.2 in
     let r = slots-are-read c.end.reached.slots out can s.holds.slots f in
     record { answers = r.0; rest = r.1; reads = r.2; stand = r.3 }
 
-pub all-whole : (feed : Feed) (before after : Sink) (steps : List TimedValue) (replies : List ReplyValue) (held out : List ℕ) (ended : Bool) (unread : Option Feed)
-    → (c : IsConversation feed before steps replies after held ended unread) → CanAllBeRead c.end.reached.slots → IsOutputOf after held out → c.end.failure ≡ None
+pub all-whole : (p : Profile) (feed : Feed) (before after : Sink) (steps : List TimedValue) (replies : List ReplyValue) (held out : List ℕ) (ended : Bool) (unread : Option Feed)
+    → (c : IsConversation p feed before steps replies after held ended unread) → CanAllBeRead c.end.reached.slots → IsOutputOf after held out → c.end.failure ≡ None
     → (let texts = sent_texts c.end.reached.slots in ReadsAnswers (methods texts) out (whole_answers texts) (remains texts))
-all-whole feed before after steps replies held out ended unread c can o none =
-    let s = end-sound feed before after steps replies held ended unread c in
+all-whole p feed before after steps replies held out ended unread c can o none =
+    let s = end-sound p feed before after steps replies held ended unread c in
     slots-are-read-all c.end.reached.slots out can s.holds.slots (output-all c.end.reached.slots c.end.flushed c.end.failure before after held o.0 out ended c.output none o.1 o.2)
 
-pub all-complete : (feed : Feed) (before after : Sink) (steps : List TimedValue) (replies : List ReplyValue) (held out : List ℕ) (unread : Option Feed)
-    → (c : IsConversation feed before steps replies after held false unread) → CanAllBeRead c.end.reached.slots → IsOutputOf after held out → IsTrue (list_all is_finished c.end.reached.slots)
+pub all-complete : (p : Profile) (feed : Feed) (before after : Sink) (steps : List TimedValue) (replies : List ReplyValue) (held out : List ℕ) (unread : Option Feed)
+    → (c : IsConversation p feed before steps replies after held false unread) → CanAllBeRead c.end.reached.slots → IsOutputOf after held out → IsTrue (list_all is_finished c.end.reached.slots)
     → (answers : List ClientAnswer) × HaveAnswers c.end.reached.slots answers × ReadsAnswers (methods (sent_texts c.end.reached.slots)) out answers []
-all-complete feed before after steps replies held out unread c can o finished =
-    let s = end-sound feed before after steps replies held false unread c in
+all-complete p feed before after steps replies held out unread c can o finished =
+    let s = end-sound p feed before after steps replies held false unread c in
     let slots = c.end.reached.slots in
     let u = output-unended slots c.end.flushed c.end.failure before after held c.output in
     let a = all-answered slots can finished u.whole in

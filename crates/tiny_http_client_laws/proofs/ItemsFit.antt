@@ -1,13 +1,14 @@
 -- The versions that a pipeline has fit their bytes.
-use Rattle.std.proofs.Common.{◌≡◌, sym, subst, ℕ, ◌≤◌, Bool, true, false, List, [], ◌∷◌, Option, Some, None, arith, ⊎_elim}
-use Rattle.std.specs.Prelude.{if◌then◌else◌, codes}
+use Rattle.std.proofs.Common.{◌≡◌, sym, subst, ℕ, ◌≤◌, Bool, true, false, List, [], ◌∷◌, Option, Some, None, inl, inr, arith}
+use Rattle.std.specs.Prelude.{if◌then◌else◌, codes, take, unwrap_or}
 use Rattle.std.specs.Str.{bytes_eq}
 use Rattle.tiny_http_wire.specs.declared.common.HTTPVersion.{HTTPVersion}
 use Rattle.tiny_http_wire.specs.declared.device.Stop.{Stop}
 use Rattle.tiny_http_wire.specs.Device.{Feed}
-use Rattle.tiny_http_wire.specs.Heads.{version, version_of, is_too_new, Message, BeginsWithRequestHead, FaultyHead, GrammarFault, Cut, NotAscii, Malformed}
+use Rattle.tiny_http_wire.specs.Heads.{version, version_of, is_too_new, Message, BeginsWithRequestHead, FaultyHead, GrammarFault, Cut, Malformed}
 use Rattle.tiny_http_message.specs.declared.framing.Framing.{Framing}
-use Rattle.tiny_http_message.specs.Pipeline.{Item, Asks, Refuses, RequestTimeout, VersionNotSupported, Place, is_timed_out, is_head_method, cut_item, fault_item, Heading, Ends, Heads, HeadAt, FoundAt, ends_too_new, Pipeline}
+use Rattle.tiny_http_message.specs.declared.framing.Profile.{Profile}
+use Rattle.tiny_http_message.specs.Pipeline.{Item, Asks, Refuses, Refusal, BadRequest, RequestTimeout, ExpectationFailed, HeaderFieldsTooLarge, VersionNotSupported, Place, is_head_method, head_limit, seen_bytes, BeginsWithin, IsTooLarge, IsRefused, Heading, Silence, Refused, Heads, HeadAt, FoundAt, ends_too_new, Pipeline}
 use Rattle.tiny_http_client_laws.proofs.StepsAdd.{VersionFits, ItemFits, AllFit}
 
 -- a version that a text names
@@ -35,38 +36,38 @@ abbrev AnswerFits : Option Item → Type 0
 AnswerFits None = Unit {0}
 AnswerFits (Some item) = ItemFits item
 
-cut-if : (t : Bool) → AnswerFits (if t then Some (Refuses RequestTimeout (version 1 1) false true) else None)
-cut-if true = first-fits
-cut-if false = tt
+-- the version of a faulty line
+line-fits : (bytes : List ℕ) (line : Option HTTPVersion) (fault : GrammarFault) → FaultyHead bytes line fault → VersionFits (unwrap_or line (version 1 1))
+line-fits bytes None fault h = first-fits
+line-fits bytes (Some v) fault h = let line = h.3 in named-fits line.3.version_text v line.3.names_version
 
-cut-fits : (stop : Stop) → AnswerFits (cut_item stop)
-cut-fits stop = cut-if (is_timed_out stop)
+within-fits : (limit : Option ℕ) (bytes : List ℕ) (m : Message) (after : List ℕ) → BeginsWithin limit bytes m after → VersionFits m.version
+within-fits None bytes m after h = head-fits bytes m after h
+within-fits (Some limit) bytes m after h = head-fits bytes m after h.0
 
-fault-fits : (bytes : List ℕ) (v : Option HTTPVersion) (fault : GrammarFault) (stop : Stop) → FaultyHead bytes v fault → AnswerFits (fault_item v fault stop)
-fault-fits bytes v Cut stop h = cut-fits stop
-fault-fits bytes v NotAscii stop h = tt
-fault-fits bytes None Malformed stop h = first-fits
-fault-fits bytes (Some v) Malformed stop h = let line = h.3 in named-fits line.3.version_text v line.3.names_version
+large-fits : (limit : Option ℕ) (bytes : List ℕ) (line : Option HTTPVersion) → IsTooLarge limit bytes line → VersionFits (unwrap_or line (version 1 1))
+large-fits None bytes line h = absurd h
+large-fits (Some limit) bytes line h = line-fits (take limit bytes) line Cut h.1
 
-answer-fits : (bytes : List ℕ) (stop : Stop) (answer : Option Item) → HeadAt bytes stop (Ends answer) → AnswerFits answer
-answer-fits bytes stop answer h =
-    ⊎_elim
-    (λ k. subst AnswerFits (sym k.3) (fault-fits bytes k.0 k.1 stop k.2))
-    (λ g. ⊎_elim
-    (λ k. subst AnswerFits (sym k.4) (head-fits bytes k.0 k.1 k.2))
-    (λ k. subst AnswerFits (sym k.6) (cut-fits stop)) g)
-    h
+refused-fits : (p : Profile) (bytes : List ℕ) (stop : Stop) (refusal : Refusal) (v : HTTPVersion) → IsRefused p bytes stop refusal v → VersionFits v
+refused-fits p bytes stop BadRequest v (inl k) = subst VersionFits (sym k.2) (line-fits (seen_bytes (head_limit p) bytes) k.0 Malformed k.1)
+refused-fits p bytes stop BadRequest v (inr k) = subst VersionFits (sym k.3) (within-fits (head_limit p) bytes k.0 k.1 k.2.begins)
+refused-fits p bytes stop RequestTimeout v k = subst VersionFits (sym k.2) first-fits
+refused-fits p bytes stop ExpectationFailed v k = subst VersionFits (sym k.3) (within-fits (head_limit p) bytes k.0 k.1 k.2.begins)
+refused-fits p bytes stop HeaderFieldsTooLarge v k = subst VersionFits (sym k.2) (large-fits (head_limit p) bytes k.0 k.1)
+refused-fits p bytes stop VersionNotSupported v k = absurd k
 
 too-new-fits : (t : Bool) (m : Message) (f : Framing) (body : Feed) → VersionFits m.version
     → ItemFits (if t then Refuses VersionNotSupported (version 1 1) (is_head_method m.method) (ends_too_new f.form) else Asks (record { message = m; framing = f; body = body }))
 too-new-fits true m f body h = first-fits
 too-new-fits false m f body h = h
 
-heading-fits : (bytes : List ℕ) (stop : Stop) (heading : Heading) (item : Option Item) (next : Place) → HeadAt bytes stop heading → FoundAt stop heading item next → AnswerFits item
-heading-fits bytes stop (Ends answer) item next h f = subst AnswerFits (sym f.0) (answer-fits bytes stop answer h)
-heading-fits bytes stop (Heads m framing after) item next h f = subst AnswerFits (sym f.3) (too-new-fits (is_too_new m.version) m framing f.0 (head-fits bytes m after h.0))
+heading-fits : (p : Profile) (bytes : List ℕ) (stop : Stop) (heading : Heading) (item : Option Item) (next : Place) → HeadAt p bytes stop heading → FoundAt stop heading item next → AnswerFits item
+heading-fits p bytes stop Silence item next h f = subst AnswerFits (sym f.0) tt
+heading-fits p bytes stop (Refused refusal v) item next h f = subst AnswerFits (sym f.0) (refused-fits p bytes stop refusal v h)
+heading-fits p bytes stop (Heads m framing after) item next h f = subst AnswerFits (sym f.3) (too-new-fits (is_too_new m.version) m framing f.0 (within-fits (head_limit p) bytes m after h.whole.begins))
 
-pub items-fit : (place : Place) (stop : Stop) (items : List Item) → Pipeline place stop items → AllFit items
-items-fit place stop [] p = tt
-items-fit None stop (item ∷ items) p = elim p [ ]
-items-fit (Some bytes) stop (item ∷ items) p = let head = p.1 in (heading-fits bytes stop head.0 (Some item) p.0 head.1 head.2, items-fit p.0 stop items p.2)
+pub items-fit : (p : Profile) (place : Place) (stop : Stop) (items : List Item) → Pipeline p place stop items → AllFit items
+items-fit p place stop [] h = tt
+items-fit p None stop (item ∷ items) h = elim h [ ]
+items-fit p (Some bytes) stop (item ∷ items) h = let head = h.1 in (heading-fits p bytes stop head.0 (Some item) h.0 head.1 head.2, items-fit p h.0 stop items h.2)

@@ -6,6 +6,7 @@ use Rattle.httpdate.specs.declared.date.HttpDate.{HttpDate}
 use Rattle.tiny_http_wire.specs.Bytes.{is_ascii}
 use Rattle.tiny_http_wire.specs.Device.{Feed, Sink}
 use Rattle.tiny_http_message.specs.Pipeline.{Item, Asks, Refuses, Request}
+use Rattle.tiny_http_message.specs.declared.framing.Profile.{Profile}
 use Rattle.tiny_http_core.specs.Slots.{Slot, Stage, Unanswered, Answered, ByServer, Raw, Upgraded, new_slot, turn_has_come, rest_of, last_slot, last_holds_reader, last_was_abandoned}
 use Rattle.tiny_http_core.specs.Steps.{StepValue, Ask, AsReader, Read, Respond, IntoWriter, Write, Flush, Upgrade, Finish, Drop, ReplyValue, Ended, Given, Done, Refused, NoSuch, NotYet, WriterUse, Unused, Unreported, Outcome, Reached, unchanged, changes, read_reply, finished_as, written_to, stage_closed, accepts_step, needs_turn, use_in_turn, effect, at_item, at_slot, at_number, asks_from, ask, outcome}
 use Rattle.tiny_http_core.specs.Conversation.{Failure, State, HasOutcome, FindsNoMemory, StepsTo, TimedValue, Run, start_state, IsOutput, IsConversation}
@@ -160,9 +161,9 @@ run-readable old new [] (x ∷ replies) c h r = elim r [ ]
 run-readable old new (s ∷ steps) [] c h r = elim r [ ]
 run-readable old new (s ∷ steps) (x ∷ replies) c h r = run-readable r.0 new steps replies c.1 (step-readable old r.0 s.0 s.1 x c.0 h r.1) r.2
 
-pub steps-can_be_read : (feed : Feed) (before after : Sink) (steps : List TimedValue) (replies : List ReplyValue) (held : List ℕ) (ended : Bool) (unread : Option Feed)
-    → (c : IsConversation feed before steps replies after held ended unread) → AreReadable steps → CanAllBeRead c.end.reached.slots
-steps-can_be_read feed before after steps replies held ended unread c can = run-readable (start_state c.items) c.end steps replies can tt c.run
+pub steps-can_be_read : (p : Profile) (feed : Feed) (before after : Sink) (steps : List TimedValue) (replies : List ReplyValue) (held : List ℕ) (ended : Bool) (unread : Option Feed)
+    → (c : IsConversation p feed before steps replies after held ended unread) → AreReadable steps → CanAllBeRead c.end.reached.slots
+steps-can_be_read p feed before after steps replies held ended unread c can = run-readable (start_state c.items) c.end steps replies can tt c.run
 
 -- the writer did not fail where its count did not rise
 unfailed : (slots : List Slot) (flushed : List ℕ) (failure : Option Failure) (before after : Sink) (held : List ℕ) (ended : Bool) → IsOutput slots flushed failure before after held ended
@@ -172,6 +173,6 @@ unfailed slots flushed (Some f) before after held ended o e =
     let rose : after.failures ≡ before.failures + 1 = o.0 in
     absurd (omega arith)
 
-pub run-unfailed : (feed : Feed) (before after : Sink) (steps : List TimedValue) (replies : List ReplyValue) (held : List ℕ) (ended : Bool) (unread : Option Feed)
-    → (c : IsConversation feed before steps replies after held ended unread) → after.failures ≡ before.failures → c.end.failure ≡ None
-run-unfailed feed before after steps replies held ended unread c e = unfailed c.end.reached.slots c.end.flushed c.end.failure before after held ended c.output e
+pub run-unfailed : (p : Profile) (feed : Feed) (before after : Sink) (steps : List TimedValue) (replies : List ReplyValue) (held : List ℕ) (ended : Bool) (unread : Option Feed)
+    → (c : IsConversation p feed before steps replies after held ended unread) → after.failures ≡ before.failures → c.end.failure ≡ None
+run-unfailed p feed before after steps replies held ended unread c e = unfailed c.end.reached.slots c.end.flushed c.end.failure before after held ended c.output e

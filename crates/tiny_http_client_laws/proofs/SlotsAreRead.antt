@@ -10,7 +10,7 @@ use Rattle.tiny_http_wire.specs.declared.common.Method.TheVariants.{Get, Head}
 use Rattle.tiny_http_wire.specs.Device.{IsFront}
 use Rattle.tiny_http_wire.specs.Text.{Ending, Whole, Broken}
 use Rattle.tiny_http_wire.specs.Answer.{Printing, text_plain}
-use Rattle.tiny_http_message.specs.Pipeline.{Item, Asks, Refuses, Refusal, BadRequest, RequestTimeout, ExpectationFailed, VersionNotSupported, is_head_method}
+use Rattle.tiny_http_message.specs.Pipeline.{Item, Asks, Refuses, Refusal, BadRequest, RequestTimeout, ExpectationFailed, HeaderFieldsTooLarge, VersionNotSupported, is_head_method}
 use Rattle.tiny_http_message.specs.OwnAnswer.{refusal_response}
 use Rattle.tiny_http_sending.specs.ResponseValue.{ResponseValue, response_text}
 use Rattle.tiny_http_core.specs.Slots.{Slot, Stage, Unanswered, Answered, ByServer, Raw, Upgraded, drop_response, continue_response, printing_for, server_response, text_if, stage_text, opening, segment, is_broken, is_slot_broken, is_stage_finished, is_finished, joined, is_output_broken}
@@ -103,6 +103,7 @@ unfolding text_plain
 empty-can_be_read BadRequest = record { final = omega arith; readable = tt; status_fits = omega arith; length_fits = omega arith; no_coding = refl; no_length = refl }
 empty-can_be_read RequestTimeout = record { final = omega arith; readable = tt; status_fits = omega arith; length_fits = omega arith; no_coding = refl; no_length = refl }
 empty-can_be_read ExpectationFailed = record { final = omega arith; readable = tt; status_fits = omega arith; length_fits = omega arith; no_coding = refl; no_length = refl }
+empty-can_be_read HeaderFieldsTooLarge = record { final = omega arith; readable = tt; status_fits = omega arith; length_fits = omega arith; no_coding = refl; no_length = refl }
 empty-can_be_read VersionNotSupported = record {
   final = omega arith;
   readable = (record { ascii_field = refl; ascii_value = refl; no_blank = refl; no_colon = refl; bare_front = refl; bare_end = refl; one_line = refl }, tt);

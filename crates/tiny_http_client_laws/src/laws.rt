@@ -4,6 +4,7 @@ ghost use Rattle.std.specs.List.{AllByRecursion, list_all};
 ghost use Rattle.tiny_http_wire.specs.Device.{Feed, Sink};
 ghost use Rattle.tiny_http_core.specs.Slots.{is_finished};
 ghost use Rattle.tiny_http_core.specs.Steps.{ReplyValue};
+ghost use Rattle.tiny_http_message.specs.declared.framing.Profile.{Profile};
 ghost use Rattle.tiny_http_core.specs.Conversation.{TimedValue, IsConversation};
 ghost use Rattle.tiny_http_answer.specs.ClientAnswer.{ClientAnswer, ReadsAnswers};
 ghost use Rattle.tiny_http_answer.specs.SentTexts.{methods, whole_answers, remains};
@@ -29,43 +30,43 @@ use tiny_http_wire::response::Response;
 /// front of the next number's text.
 pub fn conversation_is_read()
     // All that was sent and is held, however the writer failed: the answers of the first numbers, and what remains.
-    ensures output { (feed : Feed) (before after : Sink) (steps : List TimedValue) (replies : List ReplyValue) (held out : List ℕ) (ended : Bool) (unread : Option Feed)
-        → (c : IsConversation feed before steps replies after held ended unread) → AreReadable steps → IsOutputOf after held out → ReadsNumbers c.end.reached.slots out }
+    ensures output { (p : Profile) (feed : Feed) (before after : Sink) (steps : List TimedValue) (replies : List ReplyValue) (held out : List ℕ) (ended : Bool) (unread : Option Feed)
+        → (c : IsConversation p feed before steps replies after held ended unread) → AreReadable steps → IsOutputOf after held out → ReadsNumbers c.end.reached.slots out }
     // Where the writer's count did not rise, these are the answers of all the numbers up to the first whose text breaks off, or
     // that isn't answered yet.
-    ensures whole { (feed : Feed) (before after : Sink) (steps : List TimedValue) (replies : List ReplyValue) (held out : List ℕ) (ended : Bool) (unread : Option Feed)
-        → (c : IsConversation feed before steps replies after held ended unread) → AreReadable steps → IsOutputOf after held out → after.failures ≡ before.failures
+    ensures whole { (p : Profile) (feed : Feed) (before after : Sink) (steps : List TimedValue) (replies : List ReplyValue) (held out : List ℕ) (ended : Bool) (unread : Option Feed)
+        → (c : IsConversation p feed before steps replies after held ended unread) → AreReadable steps → IsOutputOf after held out → after.failures ≡ before.failures
         → (let texts = sent_texts c.end.reached.slots in ReadsAnswers (methods texts) out (whole_answers texts) (remains texts)) }
     // Where the output has not ended, and each number is finished, each has its answer, and nothing remains.
-    ensures complete { (feed : Feed) (before after : Sink) (steps : List TimedValue) (replies : List ReplyValue) (held out : List ℕ) (unread : Option Feed)
-        → (c : IsConversation feed before steps replies after held false unread) → AreReadable steps → IsOutputOf after held out → IsTrue (list_all is_finished c.end.reached.slots)
+    ensures complete { (p : Profile) (feed : Feed) (before after : Sink) (steps : List TimedValue) (replies : List ReplyValue) (held out : List ℕ) (unread : Option Feed)
+        → (c : IsConversation p feed before steps replies after held false unread) → AreReadable steps → IsOutputOf after held out → IsTrue (list_all is_finished c.end.reached.slots)
         → (answers : List ClientAnswer) × HaveAnswers c.end.reached.slots answers × ReadsAnswers (methods (sent_texts c.end.reached.slots)) out answers [] }
 {}
 
 /// The premise of `conversation_is_read` gives that of `slots_are_read`.
 pub fn steps_can_be_read()
     // No number that was reached has a raw writer or was upgraded, and each response that answers one can be read.
-    ensures slots { (feed : Feed) (before after : Sink) (steps : List TimedValue) (replies : List ReplyValue) (held : List ℕ) (ended : Bool) (unread : Option Feed)
-        → (c : IsConversation feed before steps replies after held ended unread) → AreReadable steps → AllByRecursion CanBeReadAt c.end.reached.slots }
+    ensures slots { (p : Profile) (feed : Feed) (before after : Sink) (steps : List TimedValue) (replies : List ReplyValue) (held : List ℕ) (ended : Bool) (unread : Option Feed)
+        → (c : IsConversation p feed before steps replies after held ended unread) → AreReadable steps → AllByRecursion CanBeReadAt c.end.reached.slots }
     // Where the writer's count did not rise, the writer did not fail.
-    ensures unfailed { (feed : Feed) (before after : Sink) (steps : List TimedValue) (replies : List ReplyValue) (held : List ℕ) (ended : Bool) (unread : Option Feed)
-        → (c : IsConversation feed before steps replies after held ended unread) → after.failures ≡ before.failures → c.end.failure ≡ None }
+    ensures unfailed { (p : Profile) (feed : Feed) (before after : Sink) (steps : List TimedValue) (replies : List ReplyValue) (held : List ℕ) (ended : Bool) (unread : Option Feed)
+        → (c : IsConversation p feed before steps replies after held ended unread) → after.failures ≡ before.failures → c.end.failure ≡ None }
 {}
 
 /// The client theorem with its premise on the numbers that were reached. It says more than `conversation_is_read`: a step that
 /// was answered `NotYet` or `NoSuch` may be any.
 pub fn slots_are_read()
     // All that was sent and is held, however the writer failed: the answers of the first numbers, and what remains.
-    ensures output { (feed : Feed) (before after : Sink) (steps : List TimedValue) (replies : List ReplyValue) (held out : List ℕ) (ended : Bool) (unread : Option Feed)
-        → (c : IsConversation feed before steps replies after held ended unread) → AllByRecursion CanBeReadAt c.end.reached.slots → IsOutputOf after held out → ReadsNumbers c.end.reached.slots out }
+    ensures output { (p : Profile) (feed : Feed) (before after : Sink) (steps : List TimedValue) (replies : List ReplyValue) (held out : List ℕ) (ended : Bool) (unread : Option Feed)
+        → (c : IsConversation p feed before steps replies after held ended unread) → AllByRecursion CanBeReadAt c.end.reached.slots → IsOutputOf after held out → ReadsNumbers c.end.reached.slots out }
     // Where the writer did not fail, these are the answers of all the numbers up to the first whose text breaks off, or that
     // isn't answered yet.
-    ensures whole { (feed : Feed) (before after : Sink) (steps : List TimedValue) (replies : List ReplyValue) (held out : List ℕ) (ended : Bool) (unread : Option Feed)
-        → (c : IsConversation feed before steps replies after held ended unread) → AllByRecursion CanBeReadAt c.end.reached.slots → IsOutputOf after held out → c.end.failure ≡ None
+    ensures whole { (p : Profile) (feed : Feed) (before after : Sink) (steps : List TimedValue) (replies : List ReplyValue) (held out : List ℕ) (ended : Bool) (unread : Option Feed)
+        → (c : IsConversation p feed before steps replies after held ended unread) → AllByRecursion CanBeReadAt c.end.reached.slots → IsOutputOf after held out → c.end.failure ≡ None
         → (let texts = sent_texts c.end.reached.slots in ReadsAnswers (methods texts) out (whole_answers texts) (remains texts)) }
     // Where the output has not ended, and each number is finished, each has its answer, and nothing remains.
-    ensures complete { (feed : Feed) (before after : Sink) (steps : List TimedValue) (replies : List ReplyValue) (held out : List ℕ) (unread : Option Feed)
-        → (c : IsConversation feed before steps replies after held false unread) → AllByRecursion CanBeReadAt c.end.reached.slots → IsOutputOf after held out → IsTrue (list_all is_finished c.end.reached.slots)
+    ensures complete { (p : Profile) (feed : Feed) (before after : Sink) (steps : List TimedValue) (replies : List ReplyValue) (held out : List ℕ) (unread : Option Feed)
+        → (c : IsConversation p feed before steps replies after held false unread) → AllByRecursion CanBeReadAt c.end.reached.slots → IsOutputOf after held out → IsTrue (list_all is_finished c.end.reached.slots)
         → (answers : List ClientAnswer) × HaveAnswers c.end.reached.slots answers × ReadsAnswers (methods (sent_texts c.end.reached.slots)) out answers [] }
 {}
 

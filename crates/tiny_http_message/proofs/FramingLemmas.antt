@@ -15,7 +15,7 @@ use Rattle.tiny_http_message.specs.declared.framing.FramingFault.TheVariants.{In
 use Rattle.tiny_http_message.specs.declared.framing.Form.{Form}
 use Rattle.tiny_http_message.specs.declared.framing.Form.TheVariants.{Rest, Nothing, WithHead, Counted, Chunked}
 use Rattle.tiny_http_message.specs.declared.framing.Framing.{Framing}
-use Rattle.tiny_http_message.specs.Framing.{mentions, value_of, elements_of, is_last, expectation, names_upgrade, names_coding, EachIs, EndsWithChunked, IsStrictLength, IsBodyLength, IsForm, Frames}
+use Rattle.tiny_http_message.specs.Framing.{mentions, value_of, elements_of, lenient_length, is_last, expectation, names_upgrade, names_coding, EachIs, EndsWithChunked, IsStrictLength, IsBodyLength, IsForm, Frames}
 use Rattle.tiny_http_message.specs.FramingReading.{framing, framed_if, framed_by, form_by, sized_form, is_number, is_length, one_length, ends_with_chunked, strict_length, body_length}
 
 -- the length that the headers say
@@ -214,3 +214,11 @@ pub rest-last : (p : Profile) (v : HTTPVersion) (headers : List Header) (f : Fra
 rest-last p v headers f h rest =
     let F : Form → Type 0 = λ x. IsForm x (names_upgrade headers) (names_coding headers) f.owes_continue f.body_length in
     h.3 ∙ last-named (mentions (codes "close") (value_of (codes "Connection") headers)) (names_upgrade headers) _ (subst F rest h.2)
+
+-- under Lenient only an expectation refuses a framing
+pub lenient-fault : (v : HTTPVersion) (headers : List Header) (fault : FramingFault) → framing Lenient v headers ≡ Err fault → fault ≡ Expectation
+lenient-fault v headers fault e = by fault (let R : Result Framing FramingFault → Type 0 = λ r. Frames Lenient v headers r in subst R e (framing-is Lenient v headers))
+  where
+    by : (f : FramingFault) → Frames Lenient v headers (Err f) → f ≡ Expectation
+    by Invalid h = absurd (h (lenient_length headers) refl)
+    by Expectation h = refl

@@ -1,5 +1,5 @@
 -- What clauses read of a request, and of why none is made.
-use Rattle.std.specs.Prelude.{◌≡◌, ⊤, Bool, true, false, List, Option, None, Some}
+use Rattle.std.specs.Prelude.{◌≡◌, ⊤, Bool, true, false, List, Option, None, Some, Ok}
 use Rattle.std.specs.declared.io.Error.{Error}
 use Rattle.std.specs.declared.io.ErrorKind.{ErrorKind}
 use Rattle.std.specs.declared.io.ErrorKind.TheVariants.{ConnectionAborted}
@@ -12,7 +12,8 @@ use Rattle.tiny_http_wire.specs.declared.common.HTTPVersion.{HTTPVersion}
 use Rattle.tiny_http_message.specs.declared.body.Body.{Body}
 use Rattle.tiny_http_message.specs.declared.exchange.Head.{Head}
 use Rattle.tiny_http_message.specs.declared.framing.Framing.{Framing}
-use Rattle.tiny_http_message.specs.Framing.{framing}
+use Rattle.tiny_http_message.specs.declared.framing.Profile.TheVariants.{Lenient}
+use Rattle.tiny_http_message.specs.FramingReading.{framing}
 use Rattle.tiny_http_message.specs.HeadReads.{Begins}
 use Rattle.tiny_http_message.specs.Pipeline.{IsCutWithHead, body_length_or_0}
 use Rattle.tiny_http_message.specs.declared.waiting.Waiting.{Waiting}
@@ -60,7 +61,7 @@ IsCutShort f (Some x) kind = IsCutWithHead f.form (body_length_or_0 f) x.bytes �
 
 -- the same of the body after a head of these headers
 abbrev pub CutsShort : HTTPVersion → List Header → Option Feed → ErrorKind → Type 0
-CutsShort v headers feed kind = (f : Framing) × (framing v headers ≡ Some f) × IsCutShort f feed kind
+CutsShort v headers feed kind = (f : Framing) × (framing Lenient v headers ≡ Ok f) × IsCutShort f feed kind
 
 -- the body that is so framed begins where the reader gives this
 abbrev pub BeginsWith : Framing → Option Feed → Body → Type 0

@@ -1,7 +1,7 @@
 //! A connection whose requests threads may hold.
 ghost use Rattle.std.specs.Prelude.{◌≡◌, true, false, Ok, None, Some, IfOk, OnErr, IfSome, IfNone};
 ghost use Rattle.tiny_http_message.specs.Exchange.{exchange_of, KeepsHead};
-ghost use Rattle.tiny_http_message.specs.Framing.{framing};
+ghost use Rattle.tiny_http_message.specs.FramingReading.{framing};
 ghost use Rattle.tiny_http_message.specs.HeadReads.{head_framing, IsFramedRequest};
 ghost use Rattle.tiny_http_socket.specs.Stream.{MayHavePeer};
 ghost use Rattle.tiny_http_request.specs.Request.{request_head, request_secure, request_address, request_waiting};
@@ -14,6 +14,7 @@ use std::net::SocketAddr;
 use std::sync::Wait;
 use tiny_http_device::device::{ReadDevice, WriteDevice};
 use tiny_http_message::exchange::{Exchange, HeadRead, read_head};
+use tiny_http_message::framing::Profile;
 use tiny_http_socket::refined_tcp_stream::RefinedTcpStream;
 use tiny_http_stream::outlet::Outlet;
 use tiny_http_stream::source::Source;
@@ -111,7 +112,7 @@ impl<R: ReadDevice + Drop, W: WriteDevice + Drop, Rt: Wait + Copy> ClientConnect
         ensures last { IfOk result (λ r. IfSome r (λ request. (request_head request).is_last ≡ true → IsOver self.new)) }
         ensures open { IfOk result (λ r. IfSome r (λ request. (request_head request).is_last ≡ false → IsOver self.new → ⊥)) }
         // A request is framed as its version and headers say, and what is kept for its answer is that of its head, on this date.
-        ensures framing { IfOk result (λ r. IfSome r (λ request. let h = request_head request in framing h.version h.headers.items ≡ Some (head_framing h))) }
+        ensures framing { IfOk result (λ r. IfSome r (λ request. let h = request_head request in framing Profile.Lenient h.version h.headers.items ≡ Ok (head_framing h))) }
         ensures keeps { IfOk result (λ r. IfSome r (λ request. KeepsHead (request_waiting request) (request_head request) now)) }
         ensures client { IfOk result (λ r. IfSome r (λ request. (request_secure request ≡ client_secure self.old) × (request_address request ≡ client_address self.old))) }
         ensures same { (client_secure self.new ≡ client_secure self.old) × (client_address self.new ≡ client_address self.old) }
@@ -179,7 +180,7 @@ fn read_request<R: ReadDevice + Drop, W: WriteDevice + Drop, Rt: Wait + Copy>(
     reader: &mut SequentialReader<Source<R>, Rt>,
     now: HttpDate,
 ) -> Result<Option<Exchange>, AllocError>
-    ensures { IfOk result (λ r. IfSome r (λ exchange. IsFramedRequest now (HeadRead.Request exchange))) }
+    ensures { IfOk result (λ r. IfSome r (λ exchange. IsFramedRequest Profile.Lenient now (HeadRead.Request exchange))) }
 {
     for _ in 0..u64::MAX {
         match read_head(alloc, reader.hold(), now)? {

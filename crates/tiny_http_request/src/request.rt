@@ -5,7 +5,7 @@ ghost use Rattle.std.specs.List.{list_all};
 ghost use Rattle.std.specs.Option.{option_copied};
 ghost use Rattle.tiny_http_wire.specs.Bytes.{is_ascii};
 ghost use Rattle.tiny_http_sending.specs.Sending.{is_closed_client};
-ghost use Rattle.tiny_http_message.specs.Framing.{framing};
+ghost use Rattle.tiny_http_message.specs.FramingReading.{framing};
 ghost use Rattle.tiny_http_message.specs.Exchange.{KeepsHead};
 ghost use Rattle.tiny_http_message.specs.Body.{is_streaming};
 ghost use Rattle.tiny_http_message.specs.HeadReads.{head_framing, Begins};
@@ -25,7 +25,7 @@ use thiserror::Error;
 use tiny_http_device::device::{ReadDevice, Stop, WriteDevice};
 use tiny_http_message::body::Body as Unread;
 use tiny_http_message::exchange::{Head, begin_body};
-use tiny_http_message::framing::{Framing, framing_of};
+use tiny_http_message::framing::{Framing, FramingFault, Profile, framing_of};
 use tiny_http_message::own_answer::{DropText, send_own_quietly};
 pub use tiny_http_message::upgrading::UpgradeError;
 use tiny_http_message::upgrading::send_upgrade_quietly;
@@ -386,15 +386,15 @@ pub fn new_request<R: ReadDevice + Drop, W: WriteDevice + Drop, Rt: Wait + Copy>
     now: HttpDate,
 ) -> Result<Request<R, W, Rt>, RequestCreationError>
     ensures head { IfOk result (λ r. let h = request_head r in (h.method ≡ method) × (h.path ≡ path) × (h.version ≡ version) × (h.headers ≡ headers)) }
-    ensures framing { IfOk result (λ r. framing version headers.items ≡ Some (head_framing (request_head r))) }
+    ensures framing { IfOk result (λ r. framing Profile.Lenient version headers.items ≡ Ok (head_framing (request_head r))) }
     ensures body { IfOk result (λ r. BeginsWith (head_framing (request_head r)) (R.feed source_data) (request_waiting r).body) }
     ensures keeps { IfOk result (λ r. KeepsHead (request_waiting r) (request_head r) now) }
     ensures client { IfOk result (λ r. (request_secure r ≡ secure) × (request_address r ≡ remote_addr)) }
-    ensures refused { framing version headers.items ≡ None → result ≡ Err RequestCreationError.ExpectationFailed }
+    ensures refused { framing Profile.Lenient version headers.items ≡ Err FramingFault.Expectation → result ≡ Err RequestCreationError.ExpectationFailed }
     ensures cut { IfErr result (λ e. IfCreationIo e (λ fault. CutsShort version headers.items (R.feed source_data) (error_kind fault))) }
-    ensures expectation { IfErr result (λ e. is_expectation_failed e ≡ true → framing version headers.items ≡ None) }
+    ensures expectation { IfErr result (λ e. is_expectation_failed e ≡ true → framing Profile.Lenient version headers.items ≡ Err FramingFault.Expectation) }
 {
-    let Some(framing) = framing_of(version, headers.as_slice()) else {
+    let Ok(framing) = framing_of(version, headers.as_slice()) else {
         return Err(RequestCreationError::ExpectationFailed);
     };
     let mut source = Source::new(source_data);

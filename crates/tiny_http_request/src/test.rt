@@ -1,11 +1,11 @@
 //! Requests for the tests of a program that answers them.
-ghost use Rattle.std.specs.Prelude.{◌≡◌, ◌++◌, ◌∷◌, [], length, true, false, Some, None, IfOk, IfErr, IsErrOf, ◌↔◌};
+ghost use Rattle.std.specs.Prelude.{◌≡◌, ◌++◌, ◌∷◌, [], length, true, false, Some, None, Ok, Err, IfOk, IfErr, IsErrOf, ◌↔◌};
 ghost use Rattle.std.specs.IoError.{error_kind};
 ghost use Rattle.std.specs.Str.{IsAscii};
 ghost use Rattle.std.specs.Net.Socket.{socket_port};
 ghost use Rattle.tiny_http_wire.specs.Heads.{version};
 ghost use Rattle.tiny_http_device.specs.Device.{whole_feed};
-ghost use Rattle.tiny_http_message.specs.Framing.{framing};
+ghost use Rattle.tiny_http_message.specs.FramingReading.{framing};
 ghost use Rattle.tiny_http_message.specs.HeadReads.{head_framing};
 ghost use Rattle.tiny_http_message.specs.Exchange.{KeepsHead};
 ghost use Rattle.tiny_http_request.specs.Request.{request_head, request_secure, request_address, request_waiting, is_expectation_failed, IfCreationIo, CutsShort, BeginsWith};
@@ -19,7 +19,7 @@ use std::io::Cursor;
 use std::net::{IpAddr, Ipv4Addr, SocketAddr};
 use std::sync::Wait;
 use tiny_http_device::device::WriteDevice;
-use tiny_http_message::framing::value_of;
+use tiny_http_message::framing::{FramingFault, Profile, value_of};
 use tiny_http_text::ascii::AsciiString;
 use tiny_http_text::number::Numeral;
 use tiny_http_wire::common::{HTTPVersion, Header, Method, ParseError};
@@ -196,11 +196,11 @@ impl TestRequest {
     ) -> Result<Request<Cursor<Vec<u8>>, Nowhere, Rt>, RequestCreationError>
         ensures head { IfOk result (λ r. let h = request_head r in (h.method ≡ self.method) × (h.path ≡ self.path) × (h.version ≡ self.version)) }
         ensures headers { IfOk result (λ r. (request_head r).headers.items ≡ with_length (length self.body.now) self.headers.items) }
-        ensures framing { IfOk result (λ r. framing self.version (request_head r).headers.items ≡ Some (head_framing (request_head r))) }
+        ensures framing { IfOk result (λ r. framing Profile.Lenient self.version (request_head r).headers.items ≡ Ok (head_framing (request_head r))) }
         ensures body { IfOk result (λ r. BeginsWith (head_framing (request_head r)) (Some (whole_feed self.body.now)) (request_waiting r).body) }
         ensures keeps { IfOk result (λ r. KeepsHead (request_waiting r) (request_head r) now) }
         ensures client { IfOk result (λ r. (request_secure r ≡ self.secure) × (request_address r ≡ Some self.remote_addr)) }
-        ensures expectation { IfErr result (λ e. is_expectation_failed e ≡ true → framing self.version (with_length (length self.body.now) self.headers.items) ≡ None) }
+        ensures expectation { IfErr result (λ e. is_expectation_failed e ≡ true → framing Profile.Lenient self.version (with_length (length self.body.now) self.headers.items) ≡ Err FramingFault.Expectation) }
         ensures cut { IfErr result (λ e. IfCreationIo e (λ fault. CutsShort self.version (with_length (length self.body.now) self.headers.items) (Some (whole_feed self.body.now)) (error_kind fault))) }
     {
         let TestRequest {

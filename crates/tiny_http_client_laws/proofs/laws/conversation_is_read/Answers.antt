@@ -4,14 +4,14 @@ use Rattle.std.proofs.Common.{false}
 use Rattle.tiny_http_client_laws.proofs.laws.conversation_is_read.Goals as goal
 
 pub returns-clause-output : goal.returns-clause-output
-returns-clause-output c = λ feed before after steps replies held out ended unread k can o.
-    all-sent feed before after steps replies held out ended unread k (steps-can_be_read feed before after steps replies held ended unread k can) o
+returns-clause-output c = λ p feed before after steps replies held out ended unread k can o.
+    all-sent p feed before after steps replies held out ended unread k (steps-can_be_read p feed before after steps replies held ended unread k can) o
 
 pub returns-clause-whole : goal.returns-clause-whole
-returns-clause-whole c = λ feed before after steps replies held out ended unread k can o same.
-    all-whole feed before after steps replies held out ended unread k (steps-can_be_read feed before after steps replies held ended unread k can) o
-    (run-unfailed feed before after steps replies held ended unread k same)
+returns-clause-whole c = λ p feed before after steps replies held out ended unread k can o same.
+    all-whole p feed before after steps replies held out ended unread k (steps-can_be_read p feed before after steps replies held ended unread k can) o
+    (run-unfailed p feed before after steps replies held ended unread k same)
 
 pub returns-clause-complete : goal.returns-clause-complete
-returns-clause-complete c = λ feed before after steps replies held out unread k can o finished.
-    all-complete feed before after steps replies held out unread k (steps-can_be_read feed before after steps replies held false unread k can) o finished
+returns-clause-complete c = λ p feed before after steps replies held out unread k can o finished.
+    all-complete p feed before after steps replies held out unread k (steps-can_be_read p feed before after steps replies held false unread k can) o finished

@@ -2,10 +2,10 @@ use Rattle.tiny_http_client_laws.proofs.ConversationReads.{all-sent, all-whole, 
 use Rattle.tiny_http_client_laws.proofs.laws.slots_are_read.Goals as goal
 
 pub returns-clause-output : goal.returns-clause-output
-returns-clause-output c = λ feed before after steps replies held out ended unread k can o. all-sent feed before after steps replies held out ended unread k can o
+returns-clause-output c = λ p feed before after steps replies held out ended unread k can o. all-sent p feed before after steps replies held out ended unread k can o
 
 pub returns-clause-whole : goal.returns-clause-whole
-returns-clause-whole c = λ feed before after steps replies held out ended unread k can o none. all-whole feed before after steps replies held out ended unread k can o none
+returns-clause-whole c = λ p feed before after steps replies held out ended unread k can o none. all-whole p feed before after steps replies held out ended unread k can o none
 
 pub returns-clause-complete : goal.returns-clause-complete
-returns-clause-complete c = λ feed before after steps replies held out unread k can o finished. all-complete feed before after steps replies held out unread k can o finished
+returns-clause-complete c = λ p feed before after steps replies held out unread k can o finished. all-complete p feed before after steps replies held out unread k can o finished

@@ -2,7 +2,7 @@ use Rattle.tiny_http_client_laws.proofs.ReadableSteps.{steps-can_be_read, run-un
 use Rattle.tiny_http_client_laws.proofs.laws.steps_can_be_read.Goals as goal
 
 pub returns-clause-slots : goal.returns-clause-slots
-returns-clause-slots c = λ feed before after steps replies held ended unread k can. steps-can_be_read feed before after steps replies held ended unread k can
+returns-clause-slots c = λ p feed before after steps replies held ended unread k can. steps-can_be_read p feed before after steps replies held ended unread k can
 
 pub returns-clause-unfailed : goal.returns-clause-unfailed
-returns-clause-unfailed c = λ feed before after steps replies held ended unread k same. run-unfailed feed before after steps replies held ended unread k same
+returns-clause-unfailed c = λ p feed before after steps replies held ended unread k same. run-unfailed p feed before after steps replies held ended unread k same
