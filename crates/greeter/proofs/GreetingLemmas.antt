@@ -8,6 +8,7 @@ use Rattle.tiny_http_core.specs.ResponseValue.{response_of}
 use Rattle.tiny_http_core.specs.Conversation.{TimedValue}
 use Rattle.tiny_http_core.specs.Connection.{ConnectionState}
 use Rattle.tiny_http_core.specs.Driving.{HasDone}
+use Rattle.tiny_http_core.specs.declared.framing.Profile.TheVariants.{Lenient}
 use Rattle.tiny_http_core.specs.declared.exchange.Head.{Head}
 use Rattle.tiny_http_core.specs.declared.driver.Reply.{Reply}
 use Rattle.tiny_http_core.specs.declared.driver.Reply.TheVariants as reply
@@ -19,7 +20,7 @@ pub record Greeted {R W : Type 0} (client : Feed) (before : Sink) (now : HttpDat
   pub greetings : List Greeting
   pub counted : length greetings ≡ count
   pub by_path : AreByPath greetings
-  pub done : HasDone client before c (steps_of now greetings) (replies_of greetings)
+  pub done : HasDone Lenient client before c (steps_of now greetings) (replies_of greetings)
 
 by_path-more : (greetings : List Greeting) (g : Greeting) → AreByPath greetings → IsStatus g.head.path g.status → AreByPath (greetings ++ g ∷ [])
 by_path-more [] g h s = (s, tt)
@@ -34,9 +35,9 @@ replies-more [] g = refl
 replies-more (x ∷ greetings) g = ap (λ (l : List ReplyValue). Handed x.number (head_message x.head) (head_framing x.head) ∷ x.reply ∷ l) (replies-more greetings g)
 
 pub greeted-more : {R W : Type 0} (client : Feed) (before : Sink) (now : HttpDate) (new : ConnectionState R W) (greetings : List Greeting) (g : Greeting) (count : ℕ) → length greetings ≡ count → AreByPath greetings → IsStatus g.head.path g.status
-    → HasDone client before new ((steps_of now greetings ++ (now, Ask) ∷ []) ++ (now, Respond g.number (response_of g.status [] [])) ∷ []) ((replies_of greetings ++ Handed g.number (head_message g.head) (head_framing g.head) ∷ []) ++ g.reply ∷ []) → Greeted client before now new (count + 1)
+    → HasDone Lenient client before new ((steps_of now greetings ++ (now, Ask) ∷ []) ++ (now, Respond g.number (response_of g.status [] [])) ∷ []) ((replies_of greetings ++ Handed g.number (head_message g.head) (head_framing g.head) ∷ []) ++ g.reply ∷ []) → Greeted client before now new (count + 1)
 greeted-more client before now new greetings g count counted h s done =
-    let P : List TimedValue → List ReplyValue → Type 0 = λ x y. HasDone client before new x y in
+    let P : List TimedValue → List ReplyValue → Type 0 = λ x y. HasDone Lenient client before new x y in
     record { greetings = greetings ++ g ∷ []; counted = omega (arith, counted, length-append greetings (g ∷ [])); by_path = by_path-more greetings g h s; done = subst (λ y. P (steps_of now (greetings ++ g ∷ [])) y) (replies-more greetings g) (subst (λ x. P x ((replies_of greetings ++ Handed g.number (head_message g.head) (head_framing g.head) ∷ []) ++ g.reply ∷ [])) (steps-more now greetings g) done) }
 
 -- a reply that hands out no request

@@ -4,6 +4,7 @@ use Rattle.httpdate.specs.declared.date.HttpDate.{HttpDate}
 use Rattle.tiny_http_wire.specs.Device.{Feed, Sink, whole_feed}
 use Rattle.tiny_http_wire.specs.declared.device.Budget.{Budget}
 use Rattle.tiny_http_wire.specs.Budget.{budget_sink}
+use Rattle.tiny_http_core.specs.declared.framing.Profile.TheVariants.{Lenient}
 use Rattle.tiny_http_core.specs.declared.exchange.Head.{Head}
 use Rattle.tiny_http_core.specs.declared.driver.Reply.{Reply}
 use Rattle.tiny_http_core.specs.Seen.{seen}
@@ -59,7 +60,7 @@ pub record Greets (client : Feed) (before : Sink) (now : HttpDate) (after : Sink
   pub greetings : List Greeting
   pub by_path : AreByPath greetings
   pub ends : EndsGreetings greetings last
-  pub conversation : IsConversation client before (steps_of now greetings ++ map (λ _. (now, Ask)) (last_reply last)) (replies_of greetings ++ last_reply last) after held ended unread
+  pub conversation : IsConversation Lenient client before (steps_of now greetings ++ map (λ _. (now, Ask)) (last_reply last)) (replies_of greetings ++ last_reply last) after held ended unread
 
 -- a writer that took nothing
 abbrev pub nothing_taken : Sink

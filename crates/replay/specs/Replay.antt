@@ -3,6 +3,7 @@ use Rattle.std.specs.Prelude.{◌≡◌, ℕ, Bool, Option, Some, List, ◌++◌
 use Rattle.std.specs.List.{flat_map}
 use Rattle.std.specs.Io.KnownBytes.{Appends}
 use Rattle.tiny_http_wire.specs.Device.{Feed, Sink, whole_feed}
+use Rattle.tiny_http_core.specs.declared.framing.Profile.TheVariants.{Lenient}
 use Rattle.tiny_http_core.specs.Steps.{ReplyValue}
 use Rattle.tiny_http_core.specs.Conversation.{TimedValue, IsFresh, IsConversation}
 use Rattle.replay_script.specs.Reply.{reply_line}
@@ -17,7 +18,7 @@ pub record HasRun (client : List ℕ) (steps : List TimedValue) (replies : List 
   pub fresh : IsFresh before
   pub ended : Bool
   pub unread : Option Feed
-  pub conversation : IsConversation (whole_feed client) before steps replies after held ended unread
+  pub conversation : IsConversation Lenient (whole_feed client) before steps replies after held ended unread
   pub no_fault : after.failures ≡ before.failures
   pub took : after.taken ≡ Some taken
   pub output_is : output ≡ taken ++ held

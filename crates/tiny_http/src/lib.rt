@@ -26,8 +26,8 @@ pub use crate::server::{
     IncomingRequests, Server, ServerConfig, ServerError, ServerRequest, SslConfig, current_date,
 };
 pub use tiny_http_core::{
-    answer, custom_stream, driver, equal_reader, exchange, fused_reader, outlet, source, turns,
-    upgrading,
+    answer, custom_stream, driver, equal_reader, exchange, framing, fused_reader, outlet, source,
+    turns, upgrading,
 };
 pub use tiny_http_request::request::{ReadWrite, Request};
 pub use tiny_http_request::test::TestRequest;

@@ -185,12 +185,12 @@ output-end before sink held ended slots flushed (Some f) empty begins h =
     (h.1, h.2, sym (grown-nil sink.has_ended sink.taken) ∙ ap (grown sink.has_ended sink.taken) (sym none) ∙ h.0, none, h.3)
 
 -- a run to where the connection stands is a conversation, with what is then held and left
-pub conversation : (client : Feed) (before sink : Sink) (held : List ℕ) (k : Kept) (ended : Bool) (items : List Item) (end : State) (replies : List ReplyValue) (dated : List TimedValue) → k.sink ≡ holding sink held ended → k.output_ended ≡ ended → (ended ≡ true → held ≡ []) → BeginsKnown sink.sent sink.taken
-    → Pipeline k.profile (Some client.bytes) client.stop items → Run (start_state items) dated replies end → Stands client before k end → IsConversation k.profile client before dated replies sink held ended k.feed
-conversation client before sink held k ended items end replies dated same same_end empty begins pipeline run st =
+pub conversation : (profile : Profile) (client : Feed) (before sink : Sink) (held : List ℕ) (k : Kept) (ended : Bool) (items : List Item) (end : State) (replies : List ReplyValue) (dated : List TimedValue) → k.profile ≡ profile → k.sink ≡ holding sink held ended → k.output_ended ≡ ended → (ended ≡ true → held ≡ []) → BeginsKnown sink.sent sink.taken
+    → Pipeline profile (Some client.bytes) client.stop items → Run (start_state items) dated replies end → Stands client before k end → IsConversation profile client before dated replies sink held ended k.feed
+conversation profile client before sink held k ended items end replies dated profile_is same same_end empty begins pipeline run st =
     let P : Sink → Bool → Type 0 = λ x y. OutputAt before x y end.reached.slots end.flushed end.failure in
     let out : P (holding sink held ended) ended = subst (λ y. P (holding sink held ended) y) same_end (subst (λ x. P x k.output_ended) same st.output) in
-    record { items = items; end = end; pipeline = pipeline; run = run; output = output-end before sink held ended end.reached.slots end.flushed end.failure empty begins out; input = input-end client before k end st }
+    record { items = items; end = end; pipeline = pipeline; run = run; output = output-end before sink held ended end.reached.slots end.flushed end.failure empty begins out; input = subst (λ p. InputAt p end.reached k.feed) profile_is (input-end client before k end st) }
 
 -- the writer's count over the steps
 pub fails-step : (writer old new : Sink) (was ended : Bool) → FailsOnce writer old was → FailsOnceUnlessEnded was old new ended → FailsOnce writer new ended

@@ -44,7 +44,7 @@ use Rattle.tiny_http_message.specs.declared.exchange.HeadRead.TheVariants as rea
 use Rattle.tiny_http_message.specs.declared.exchange.EndOfRequests.TheVariants as because
 use Rattle.tiny_http_message.specs.HeadReads.{ReadsHead, EndsAt, IsBeforeHead, HasByteOrTimedOut, place_feed}
 use Rattle.tiny_http_message.specs.declared.framing.Profile.{Profile}
-use Rattle.tiny_http_message.specs.Pipeline.{OneHead, Request, Item, Refuses, Place, Pipeline}
+use Rattle.tiny_http_message.specs.Pipeline.{OneHead, Request, Item, Refuses, Place}
 use Rattle.tiny_http_core.specs.Driving.{IsRefusal, EndsRequestsAt, EndsThere, ArePassedOver, HasByteBehind, standing_behind}
 use Rattle.tiny_http_message.specs.PipelineReading.{items_of}
 use Rattle.tiny_http_message.proofs.PipelineLemmas.{feed-pipeline}
@@ -188,10 +188,9 @@ pub takes : {R W : Type 0} (old new : ConnectionState R W) (now : HttpDate) (x :
     → (IsDeclined x reply → new ≡ old) → StepEnds x old new reply → StepLeaves x old new reply → MovesBy x reply old new → ((kind : ErrorKind) → reply ≡ Fault kind → ReportsFault old new now x kind) → TakesStep old new now x reply
 takes old new now x reply answers declined ends leaves moves honest =
     record {
-      does = λ client before steps replies asked is done.
+      does = λ p client before steps replies asked is done.
           let a = answers client before done.at asked done.fresh.can_count is done.stands in
-          let P : Profile → Type 0 = λ y. Pipeline y (Some client.bytes) client.stop done.items in
-          record { fresh = done.fresh; items = done.items; pipeline = subst P (sym moves.profile) done.pipeline; at = a.0; run = run-more _ done.at a.0 steps replies (now, asked) reply done.run a.2; stands = a.1 };
+          record { profile = moves.profile ∙ done.profile; fresh = done.fresh; items = done.items; pipeline = done.pipeline; at = a.0; run = run-more _ done.at a.0 steps replies (now, asked) reply done.run a.2; stands = a.1 };
       profile = moves.profile;
       declined = declined;
       ends = ends;
@@ -480,7 +479,7 @@ drops-by n old new now answers ends leaves moves = by
 
 -- a connection at its begin
 pub begins : {R W : Type 0} (client : Feed) (before : Sink) (writer : W) (c : ConnectionState R W) → c.marks ≡ [] → c.requests ≡ [] → c.source.standing ≡ place.Head → c.end ≡ None → c.source.feed ≡ Some client → c.source.stop ≡ None
-    → c.outlet ≡ record { held = []; ended = false; writer = writer; sink = before } → IsFresh before → HasDone client before c [] []
+    → c.outlet ≡ record { held = []; ended = false; writer = writer; sink = before } → IsFresh before → HasDone c.profile client before c [] []
 begins {W = W} client before writer c m r o e feed stop outlet fresh =
     let K : List Mark → List (Option Unfinished) → Standing → Option EndOfRequests → Option Stop → OutletState W → Kept = λ m r o e s w.
     record { profile = c.profile; marks = m; requests = r; standing = o; asking_ended = is_some e; feed = c.source.feed; stop = s; is_over = c.source.is_over; sink = output_of w; output_ended = w.ended } in
@@ -493,7 +492,7 @@ begins {W = W} client before writer c m r o e feed stop outlet fresh =
     let st4 = subst (λ x. S (K [] [] x c.end c.source.stop c.outlet)) (sym o) st3 in
     let st5 = subst (λ x. S (K [] x c.source.standing c.end c.source.stop c.outlet)) (sym r) st4 in
     let st6 = subst (λ x. S (K x c.requests c.source.standing c.end c.source.stop c.outlet)) (sym m) st5 in
-    record { fresh = fresh; items = items_of c.profile client; pipeline = feed-pipeline c.profile client; at = start_state (items_of c.profile client); run = refl; stands = st6 }
+    record { profile = refl; fresh = fresh; items = items_of c.profile client; pipeline = feed-pipeline c.profile client; at = start_state (items_of c.profile client); run = refl; stands = st6 }
 
 pub honest-more : (mid ended : Bool) (a b c : Sink) (x : Answer) (feed : Option Feed) (p : Printing) (kind : ErrorKind) → mid ≡ true → FailsOnceUnlessEnded mid b c ended → IsHonest a b x feed p kind → IsHonest a c x feed p kind
 honest-more true ended a b c x feed p kind e k (inl h) = inl (k.0 ∙ h)
@@ -532,15 +531,15 @@ may-fail feed old new now (step.Drop k) kind h = h
 pub reports-step : {R W D : Type 0} (feed : D → Option Feed) (old new : ConnectionState R W) (t : Timed D) (reply : Reply) → ((kind : ErrorKind) → seen reply ≡ Fault kind → ReportsFault old new t.now (stated_step feed t.step) kind) → ReportsHonestly feed (output_of old.outlet) (output_of new.outlet) t reply
 reports-step feed old new t reply h kind e = may-fail feed old new t.now t.step kind (h kind e)
 
-pub done-none : {R W X : Type 0} (stated : X → TimedValue → Type 0) (client : Feed) (before : Sink) (c : ConnectionState R W) (dated : List TimedValue) → HasDone client before c [] [] → AllZip stated [] dated → HasDone client before c dated []
-done-none stated client before c [] h t = h
-done-none stated client before c (d ∷ ds) h t = elim t [ ]
+pub done-none : {R W X : Type 0} (stated : X → TimedValue → Type 0) (p : Profile) (client : Feed) (before : Sink) (c : ConnectionState R W) (dated : List TimedValue) → HasDone p client before c [] [] → AllZip stated [] dated → HasDone p client before c dated []
+done-none stated p client before c [] h t = h
+done-none stated p client before c (d ∷ ds) h t = elim t [ ]
 
-pub done-step : {R W D : Type 0} (feed : D → Option Feed) (client : Feed) (before : Sink) (old new : ConnectionState R W) (t : Timed D) (done : List (Timed D)) (replies : List ReplyValue) (reply : ReplyValue) (dated : List TimedValue)
-    → ((ds : List TimedValue) → AllZip (IsTimedStep feed) done ds → HasDone client before old ds replies) → TakesStep old new t.now (stated_step feed t.step) reply → AllZip (IsTimedStep feed) (done ++ t ∷ []) dated
-    → HasDone client before new dated (replies ++ reply ∷ [])
-done-step feed client before old new t done replies reply dated has step stated =
-    let p = split (IsTimedStep feed) done t dated stated in
-    let more = step.does client before p.front replies p.last.1 (is-stated feed t.step p.last.1 p.one.1) (has p.front p.all) in
-    let H : List TimedValue → Type 0 = λ ds. HasDone client before new ds (replies ++ reply ∷ []) in
-    subst H (sym p.joins) (subst (λ (x : HttpDate). H (p.front ++ (x, p.last.1) ∷ [])) (sym p.one.0) more)
+pub done-step : {R W D : Type 0} (feed : D → Option Feed) (p : Profile) (client : Feed) (before : Sink) (old new : ConnectionState R W) (t : Timed D) (done : List (Timed D)) (replies : List ReplyValue) (reply : ReplyValue) (dated : List TimedValue)
+    → ((ds : List TimedValue) → AllZip (IsTimedStep feed) done ds → HasDone p client before old ds replies) → TakesStep old new t.now (stated_step feed t.step) reply → AllZip (IsTimedStep feed) (done ++ t ∷ []) dated
+    → HasDone p client before new dated (replies ++ reply ∷ [])
+done-step feed p client before old new t done replies reply dated has step stated =
+    let s = split (IsTimedStep feed) done t dated stated in
+    let more = step.does p client before s.front replies s.last.1 (is-stated feed t.step s.last.1 s.one.1) (has s.front s.all) in
+    let H : List TimedValue → Type 0 = λ ds. HasDone p client before new ds (replies ++ reply ∷ []) in
+    subst H (sym s.joins) (subst (λ (x : HttpDate). H (s.front ++ (x, s.last.1) ∷ [])) (sym s.one.0) more)

@@ -34,12 +34,13 @@ use Rattle.tiny_http_message.specs.Body.{is_streaming, body_standing}
 use Rattle.tiny_http_core.specs.Seen.{IsStep, IsAnswered, IsOfWriter, all_sent_after}
 use Rattle.tiny_http_core.specs.Connection.{ConnectionState, kept, Stands}
 
--- Over this client's feed and a fresh writer, these steps were done, with these replies: they are a run over the pipeline
--- that stands in the feed under the connection's profile, and the connection stands where it leads.
-pub record HasDone {R W : Type 0} (client : Feed) (before : Sink) (c : ConnectionState R W) (steps : List TimedValue) (replies : List ReplyValue) : Type 0 where
+-- By a connection of this profile, over this client's feed and a fresh writer, these steps were done, with these replies: they
+-- are a run over the pipeline that stands in the feed, and the connection stands where it leads.
+pub record HasDone {R W : Type 0} (p : Profile) (client : Feed) (before : Sink) (c : ConnectionState R W) (steps : List TimedValue) (replies : List ReplyValue) : Type 0 where
+  pub profile : c.profile ≡ p
   pub fresh : IsFresh before
   pub items : List Item
-  pub pipeline : Pipeline c.profile (Some client.bytes) client.stop items
+  pub pipeline : Pipeline p (Some client.bytes) client.stop items
   pub at : State
   pub run : Run (start_state items) steps replies at
   pub stands : Stands client before (kept c) at
@@ -223,8 +224,8 @@ ReportsFault old new now (step.Respond k r) kind =
 -- goes on, the writer fails once at most, what is held and what was sent on is told by step and reply, and a fault that is
 -- reported is one.
 pub record TakesStep {R W : Type 0} (old new : ConnectionState R W) (now : HttpDate) (step : Step (Option Feed)) (reply : ReplyValue) : Type 0 where
-  pub does : (client : Feed) (before : Sink) (steps : List TimedValue) (replies : List ReplyValue) (asked : StepValue) → IsStep (λ f. f) step asked
-      → HasDone client before old steps replies → HasDone client before new (steps ++ (now, asked) ∷ []) (replies ++ reply ∷ [])
+  pub does : (p : Profile) (client : Feed) (before : Sink) (steps : List TimedValue) (replies : List ReplyValue) (asked : StepValue) → IsStep (λ f. f) step asked
+      → HasDone p client before old steps replies → HasDone p client before new (steps ++ (now, asked) ∷ []) (replies ++ reply ∷ [])
   pub profile : new.profile ≡ old.profile
   pub declined : IsDeclined step reply → new ≡ old
   pub ends : StepEnds step old new reply

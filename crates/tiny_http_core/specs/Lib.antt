@@ -17,6 +17,7 @@ pub use Rattle.tiny_http_stream.specs.EqualReader
 pub use Rattle.tiny_http_stream.specs.FusedReader
 pub use Rattle.tiny_http_stream.specs.CustomStream
 pub use Rattle.tiny_http_message.specs.Framing
+pub use Rattle.tiny_http_message.specs.FramingReading
 pub use Rattle.tiny_http_sending.specs.ResponseValue
 pub use Rattle.tiny_http_sending.specs.Sending
 pub use Rattle.tiny_http_message.specs.OwnAnswer

@@ -204,7 +204,7 @@ fn zeros(alloc: Global, count: u16) -> Result<Vec<u8>, AllocError>
 impl<R: ReadDevice, W: WriteDevice> Connection<R, W> {
     /// A connection on which nothing was asked yet. Its theorem is for a writer that has taken nothing and has not ended.
     pub fn new(alloc: Global, reader: R, writer: W) -> Connection<R, W>
-        ensures begins { (client : Feed) → R.feed reader ≡ Some client → IsFresh (W.sink writer) → HasDone client (W.sink writer) result [] [] }
+        ensures begins { (client : Feed) → R.feed reader ≡ Some client → IsFresh (W.sink writer) → HasDone Profile.Lenient client (W.sink writer) result [] [] }
         ensures open { (result.end ≡ None) × (result.requests ≡ []) }
         ensures profile { result.profile ≡ Profile.Lenient }
         ensures source { (result.source.feed ≡ R.feed reader) × (result.source.standing ≡ Standing.Head) }
@@ -540,8 +540,8 @@ impl<R: ReadDevice, W: WriteDevice> Connection<R, W> {
     /// Reader and writer within their buffers, and the end of the connection: requests that wait for their answers are let go
     /// without one.
     pub fn into_parts(self) -> (Source<R>, Outlet<W>)
-        ensures conversation { (client : Feed) (before : Sink) (steps : List TimedValue) (replies : List ReplyValue) → HasDone client before self steps replies
-            → IsConversation self.profile client before steps replies (W.sink (outlet_writer result.1)) (outlet_held result.1) (outlet_ended result.1) result.0.feed }
+        ensures conversation { (p : Profile) (client : Feed) (before : Sink) (steps : List TimedValue) (replies : List ReplyValue) → HasDone p client before self steps replies
+            → IsConversation p client before steps replies (W.sink (outlet_writer result.1)) (outlet_held result.1) (outlet_ended result.1) result.0.feed }
         ensures source { result.0 ≡ self.source }
         ensures outlet { result.1 ≡ self.outlet }
         ensures sink { result.1.sink ≡ W.sink (outlet_writer result.1) }

@@ -8,6 +8,6 @@ pub mod laws;
 mod pending;
 
 pub use tiny_http_answer::answer;
-pub use tiny_http_message::{exchange, upgrading};
+pub use tiny_http_message::{exchange, framing, upgrading};
 pub use tiny_http_stream::{custom_stream, equal_reader, fused_reader, outlet, source};
 pub use tiny_http_turns::turns;

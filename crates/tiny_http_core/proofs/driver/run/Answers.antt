@@ -5,10 +5,9 @@ use Rattle.std.proofs.lemmas.Grind.{common_steps}
 use Rattle.tiny_http_wire.specs.Device.{Feed}
 use Rattle.tiny_http_stream.specs.Source.{GoesOn}
 use Rattle.tiny_http_core.specs.Seen.{IsTimedStep, seen, all_sent_after, all_sent}
-use Rattle.tiny_http_message.specs.declared.framing.Profile.{Profile}
-use Rattle.tiny_http_core.specs.Conversation.{IsConversation}
+use Rattle.tiny_http_message.specs.declared.framing.Profile.TheVariants.{Lenient}
 use Rattle.tiny_http_core.specs.Driving.{stated_step}
-use Rattle.tiny_http_stream.specs.Outlet.{OutletState, output_of, SentOn, outlet_writer, outlet_held, outlet_ended}
+use Rattle.tiny_http_stream.specs.Outlet.{OutletState, output_of, SentOn, outlet_writer}
 use Rattle.tiny_http_sending.specs.Sending.{FailsOnce}
 use Rattle.tiny_http_stream.proofs.SourceGoesOn.{goes-on_same, goes-on_more}
 use Rattle.tiny_http_core.proofs.ConversationRuns.{all-sent-snoc, sent-stated, joins-more, joins-end, fails-step, honest-step, honest-end}
@@ -22,12 +21,11 @@ loop-timed-init g c =
     let new = c.new-connection.result in
     let P : Option Feed → Type 0 = λ x. GoesOn reader x in
     record {
-      profile_is = c.new-connection.ensures.profile;
       joins = grind (arith, common_steps);
       counted = grind (arith, common_steps);
       fits = grind (arith, common_steps);
       as_many = rw c.in-Ok.ensures.items refl;
-      follows = λ client dated states fresh stated. rw c.in-Ok.ensures.items (done-none (IsTimedStep g.D.ReadDevice.feed) client writer new dated (c.new-connection.ensures.begins client states fresh) stated);
+      follows = λ client dated states fresh stated. rw c.in-Ok.ensures.items (done-none (IsTimedStep g.D.ReadDevice.feed) Lenient client writer new dated (c.new-connection.ensures.begins client states fresh) stated);
       source = subst P (sym c.new-connection.ensures.source.0) (goes-on_same reader);
       fails_once = rw c.new-connection.ensures.outlet (inl refl);
       flushed = λ all. rw c.new-connection.ensures.outlet refl;
@@ -47,13 +45,12 @@ loop-timed-preserved g c =
     let before : all_sent (done ++ c.in-Some.timed ∷ []) c.push_reserved.new.self.items true ≡ true → all_sent_after (stated_step g.D.ReadDevice.feed c.in-Some.timed.step) (seen c.step-reply.result) (all_sent done replies true) ≡ true =
     λ e. sent-stated g.D.ReadDevice.feed c.in-Some.timed.step (seen c.step-reply.result) (all_sent done replies true) ∙ sym (all-sent-snoc done replies c.in-Some.timed c.step-reply.result true inv.as_many) ∙ ap (λ l. all_sent (done ++ c.in-Some.timed ∷ []) l true) (sym c.push_reserved.ensures.items) ∙ e in
     record {
-      profile_is = step.profile ∙ inv.profile_is;
       joins = joins-more _ _ _ _ c.in-Some.timed inv.joins c.in-Some.ensures.steps.0;
       counted = grind (arith, common_steps);
       fits = grind (arith, common_steps);
       as_many = length-append done (c.in-Some.timed ∷ []) ∙ ap (λ n. n + 1) inv.as_many ∙ sym (length-append replies (c.step-reply.result ∷ [])) ∙ ap length (sym c.push_reserved.ensures.items);
       follows = λ client dated states fresh stated. rw (c.push_reserved.ensures.items, map-append)
-          (done-step g.D.ReadDevice.feed client writer old new c.in-Some.timed c.loop-timed.yielded (map seen c.loop-timed.replies.items) (seen c.step-reply.result) dated (λ ds t. inv.follows client ds states fresh t) step stated);
+          (done-step g.D.ReadDevice.feed Lenient client writer old new c.in-Some.timed c.loop-timed.yielded (map seen c.loop-timed.replies.items) (seen c.step-reply.result) dated (λ ds t. inv.follows client ds states fresh t) step stated);
       source = goes-on_more _ _ _ inv.source step.goes_on;
       fails_once = fails-step writer (output_of old.outlet) (output_of new.outlet) old.outlet.ended new.outlet.ended inv.fails_once step.fails_once;
       flushed = λ e. step.flushed (all_sent c.loop-timed.yielded c.loop-timed.replies.items true) inv.flushed (before e);
@@ -68,9 +65,7 @@ returns-clause-conversation g c feed dated states fresh stated =
     let whole : c.loop-timed.yielded ≡ c.args.steps.items =
     joins-end _ _ _ c.loop-timed.invariant.joins (sym c.loop-timed.timed-iterator.rest.ok.0 ∙ c.in-None.ensures.steps.0) in
     let stated_all : AllZip (IsTimedStep g.D.ReadDevice.feed) c.loop-timed.yielded dated = rw whole stated in
-    let P : Profile → Type 0 = λ p. IsConversation p feed (g.W.WriteDevice.sink c.args.writer) dated (map seen c.loop-timed.replies.items) (g.W.WriteDevice.sink (outlet_writer c.into_parts-source.result.1)) (outlet_held c.into_parts-source.result.1) (outlet_ended c.into_parts-source.result.1) c.into_parts-source.result.0.feed in
-    subst P c.loop-timed.invariant.profile_is
-    (c.into_parts-source.ensures.conversation feed (g.W.WriteDevice.sink c.args.writer) dated (map seen c.loop-timed.replies.items) (c.loop-timed.invariant.follows feed dated states fresh stated_all))
+    c.into_parts-source.ensures.conversation Lenient feed (g.W.WriteDevice.sink c.args.writer) dated (map seen c.loop-timed.replies.items) (c.loop-timed.invariant.follows feed dated states fresh stated_all)
 
 pub returns-clause-fails_once : goal.returns-clause-fails_once
 returns-clause-fails_once g c =

@@ -17,12 +17,11 @@ use Rattle.tiny_http_core.proofs.driver.run.Given as goal
 
 -- what holds before each step
 pub record Goes {R W D : Type 0} (feed : D → Option Feed) (reader : Option Feed) (writer : Sink) (all done rest : List (Timed D)) (replies : List Reply) (profile : Profile) (c : ConnectionState R W) (count room : ℕ) : Type 0 where
-  pub profile_is : c.profile ≡ profile
   pub joins : all ≡ done ++ rest
   pub counted : count ≡ length done
   pub as_many : length done ≡ length replies
   pub fits : length all ≤ room
-  pub follows : (client : Feed) (dated : List TimedValue) → reader ≡ Some client → IsFresh writer → AllZip (IsTimedStep feed) done dated → HasDone client writer c dated (map seen replies)
+  pub follows : (client : Feed) (dated : List TimedValue) → reader ≡ Some client → IsFresh writer → AllZip (IsTimedStep feed) done dated → HasDone profile client writer c dated (map seen replies)
   pub source : GoesOn reader c.source.feed
   pub fails_once : FailsOnce writer (output_of c.outlet) c.outlet.ended
   pub flushed : all_sent done replies true ≡ true → c.outlet.held ≡ []
