@@ -394,8 +394,9 @@ pub fn new_request<R: ReadDevice + Drop, W: WriteDevice + Drop, Rt: Wait + Copy>
     ensures cut { IfErr result (λ e. IfCreationIo e (λ fault. CutsShort version headers.items (R.feed source_data) (error_kind fault))) }
     ensures expectation { IfErr result (λ e. is_expectation_failed e ≡ true → framing Profile.Lenient version headers.items ≡ Err FramingFault.Expectation) }
 {
-    let Ok(framing) = framing_of(version, headers.as_slice()) else {
-        return Err(RequestCreationError::ExpectationFailed);
+    let framing = match framing_of(version, headers.as_slice()) {
+        Ok(framing) => framing,
+        Err(_) => return Err(RequestCreationError::ExpectationFailed),
     };
     let mut source = Source::new(source_data);
     let body = body_of(alloc, &mut source, framing)?;

@@ -1,7 +1,10 @@
-use Rattle.std.proofs.Common.{rules, ◌≡◌, sym, subst, Option, Some}
+use Rattle.std.proofs.Common.{rules, ◌≡◌, sym, ap, ◌∙◌, subst, Option, Some, Err}
 use Rattle.tiny_http_device.specs.Device.{Feed}
 use Rattle.tiny_http_message.specs.declared.body.Body.{Body}
+use Rattle.tiny_http_message.specs.declared.framing.Profile.TheVariants.{Lenient}
 use Rattle.tiny_http_message.specs.declared.framing.Framing.{Framing}
+use Rattle.tiny_http_message.specs.FramingReading.{framing}
+use Rattle.tiny_http_message.proofs.FramingLemmas.{lenient-fault}
 use Rattle.tiny_http_message.specs.HeadReads.{Begins, head_framing}
 use Rattle.tiny_http_request.specs.Request.{request_head}
 use Rattle.tiny_http_request.proofs.request.new_request.Goals as goal
@@ -17,3 +20,8 @@ begins-by f f' feed feed' left b b' same-f same-feed same-b begins =
 pub returns-clause-body : goal.returns-clause-body
 returns-clause-body g c =
     (c.body_of.new.source.feed, begins-by c.in-Ok.framing (head_framing (request_head c.from_parts.result)) c.new-source.result.feed (g.R.ReadDevice.feed c.args.source_data) c.body_of.new.source.feed c.in_ok-body.body c.from_parts.result.body (search rules) (search rules) (search rules) c.in_ok-body.ensures.begins)
+
+pub returns-in-Err-clause-expectation : goal.returns-in-Err-clause-expectation
+returns-in-Err-clause-expectation g c failed =
+    let e : framing Lenient c.args.version c.args.headers.items ≡ Err c.in-Err.field-0 = search (rules, c.as_slice.ensures.value, c.framing_of.ensures, c.in-Err.is) in
+    e ∙ ap Err (lenient-fault c.args.version c.args.headers.items c.in-Err.field-0 e)
