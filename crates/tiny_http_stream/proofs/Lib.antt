@@ -4,6 +4,7 @@ pub mod ToComeLemmas
 pub mod LineEndsLemmas
 pub mod LineEndsScanning
 pub mod LineEndsSearching
+pub mod WithinLines
 pub mod SourceLines
 pub mod OutletLemmas
 pub mod SourceGoesOn

@@ -76,7 +76,7 @@ not-end flag (inl p) e = p.1
 not-end flag (inr f) e = absurd (cc)
 
 -- nothing is to be skipped
-come-now : (held : List ℕ) (f : Feed) → to_come 0 held (Some f) ≡ Some (prepend held f)
+pub come-now : (held : List ℕ) (f : Feed) → to_come 0 held (Some f) ≡ Some (prepend held f)
 come-now held f = ap Some (skipped-within 0 (prepend held f) (omega arith))
 
 -- a line that is held is the first of what is to come

@@ -7,7 +7,7 @@ use Rattle.tiny_http_text.specs.Bytes.{crlf}
 use Rattle.tiny_http_stream.specs.declared.source.LineFault.{LineFault}
 use Rattle.tiny_http_stream.specs.declared.source.LineFault.TheVariants as fault
 use Rattle.tiny_http_text.specs.Lines.{Line}
-use Rattle.tiny_http_stream.specs.Source.{ReadsLine, TakesLine, FindsLine, GoesOn}
+use Rattle.tiny_http_stream.specs.Source.{ReadsLine, ReadsWithin, TakesLine, FindsLine, GoesOn}
 
 pub goes-on_same : (o : Option Feed) → GoesOn o o
 goes-on_same None = tt
@@ -39,6 +39,7 @@ pub reads-goes_on : (old new : Option Feed) (r : Result (List ℕ) LineFault) �
 reads-goes_on None new r h = tt
 reads-goes_on (Some f) new (Ok text) h = past-line f new text h.0 h.1 h.3
 reads-goes_on (Some f) new (Err fault.NotAscii) h = past-line f new h.0 h.1 h.2 h.4
+reads-goes_on (Some f) new (Err fault.TooLong) h = at-end f new _ refl h.2
 reads-goes_on (Some f) new (Err fault.Memory) h = at-end f new _ refl h
 reads-goes_on (Some f) new (Err fault.End) h = at-end f new _ refl h.2
 reads-goes_on (Some f) new (Err fault.TimedOut) h = at-end f new _ refl h.2
@@ -48,7 +49,28 @@ pub takes-goes_on : (old new : Option Feed) (text : List ℕ) → TakesLine old 
 takes-goes_on None new text h = tt
 takes-goes_on (Some f) new text h = past-line f new text h.0 h.1 h.2
 
-pub finds-goes_on : (old new : Option Feed) (held : List ℕ) (skip : ℕ) (r : Result FirstLine LineFault) → FindsLine old new held skip r → GoesOn old new
-finds-goes_on old new held skip (Ok (Taken text)) h = takes-goes_on old new text.items h
-finds-goes_on old new held skip (Ok (Held n)) h = let P : Option Feed → Type 0 = λ x. GoesOn old x in subst P (sym h.0) (goes-on_same old)
-finds-goes_on old new held skip (Err fault) h = reads-goes_on old new (Err fault) h.0
+pub within-goes_on : (left : Option ℕ) (old new : Option Feed) (r : Result (List ℕ) LineFault) → ReadsWithin left old new r → GoesOn old new
+within-goes_on left None new r h = tt
+within-goes_on left (Some f) new (Ok text) h = reads-goes_on (Some f) new (Ok text) h.0
+within-goes_on left (Some f) new (Err fault.NotAscii) h = past-line f new h.0 h.1 h.2 h.5
+within-goes_on left (Some f) new (Err fault.TooLong) h = at-end f new _ refl h.1
+within-goes_on left (Some f) new (Err fault.Memory) h = at-end f new _ refl h
+within-goes_on left (Some f) new (Err fault.End) h = reads-goes_on (Some f) new (Err fault.End) h.0
+within-goes_on left (Some f) new (Err fault.TimedOut) h = reads-goes_on (Some f) new (Err fault.TimedOut) h.0
+within-goes_on left (Some f) new (Err (fault.Broken kind)) h = reads-goes_on (Some f) new (Err (fault.Broken kind)) h.0
+
+-- without a limit
+pub reads-unlimited : (old new : Option Feed) (r : Result (List ℕ) LineFault) → ReadsWithin None old new r → ReadsLine old new r
+reads-unlimited None new r h = tt
+reads-unlimited (Some f) new (Ok text) h = h.0
+reads-unlimited (Some f) new (Err fault.NotAscii) h = (h.0, h.1, h.2, h.3, h.5)
+reads-unlimited (Some f) new (Err fault.TooLong) h = absurd h.0
+reads-unlimited (Some f) new (Err fault.Memory) h = h
+reads-unlimited (Some f) new (Err fault.End) h = h.0
+reads-unlimited (Some f) new (Err fault.TimedOut) h = h.0
+reads-unlimited (Some f) new (Err (fault.Broken kind)) h = h.0
+
+pub finds-goes_on : (left : Option ℕ) (old new : Option Feed) (held : List ℕ) (skip : ℕ) (r : Result FirstLine LineFault) → FindsLine left old new held skip r → GoesOn old new
+finds-goes_on left old new held skip (Ok (Taken text)) h = takes-goes_on old new text.items h.0
+finds-goes_on left old new held skip (Ok (Held n)) h = let P : Option Feed → Type 0 = λ x. GoesOn old x in subst P (sym h.0) (goes-on_same old)
+finds-goes_on left old new held skip (Err fault) h = within-goes_on left old new (Err fault) h.0

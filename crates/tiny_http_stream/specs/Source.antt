@@ -1,5 +1,5 @@
 -- What a `Source` still gives, and what its calls make of it.
-use Rattle.std.specs.Prelude.{ℕ, ◌≡◌, ◌≢◌, ◌<◌, ◌++◌, length, drop, Bool, true, List, ⊤, Option, None, Some, Result, Ok, Err, IsSome, IfOk, IfErr, IfSome}
+use Rattle.std.specs.Prelude.{ℕ, ◌+◌, ◌≡◌, ◌≢◌, ◌<◌, ◌≤◌, ◌++◌, length, take, drop, Bool, true, List, ⊤, Option, None, Some, Result, Ok, Err, IsSome, IfOk, IfErr, IfSome}
 use Rattle.std.specs.IoError.{error_kind}
 use Rattle.std.specs.declared.io.Error.{Error}
 use Rattle.std.specs.Str.{IsAscii, IsNotAscii}
@@ -14,7 +14,7 @@ use Rattle.tiny_http_stream.specs.declared.source.FirstLine.{FirstLine}
 use Rattle.tiny_http_stream.specs.declared.source.FirstLine.TheVariants.{Held, Taken}
 use Rattle.tiny_http_stream.specs.declared.source.Standing.{Standing}
 use Rattle.tiny_http_stream.specs.declared.source.LineFault.{LineFault}
-use Rattle.tiny_http_stream.specs.declared.source.LineFault.TheVariants.{NotAscii, Broken, Memory, End as EndOfLines, TimedOut as LineTimedOut}
+use Rattle.tiny_http_stream.specs.declared.source.LineFault.TheVariants.{NotAscii, TooLong, Broken, Memory, End as EndOfLines, TimedOut as LineTimedOut}
 
 -- What a clause sees of a `Source`: what is still to come, where the reader states it; how the reader stopped, if it has;
 -- whether, after that stop, nothing is left of what it gave; the reader; the bytes that are held, and how many bytes are to
@@ -52,16 +52,47 @@ ReadsLine (Some old) new (Err NotAscii) =
 ReadsLine (Some old) new (Err Memory) = new ≡ Some (stopped End)
 ReadsLine (Some old) new (Err fault) = IsUnfinished old.bytes × (fault ≡ line_fault_of old.stop) × (new ≡ Some (stopped old.stop))
 
+-- a line of so many bytes, with its CR LF, keeps the limit, if there is one
+abbrev pub IsWithin : Option ℕ → ℕ → Type 0
+IsWithin None n = ⊤
+IsWithin (Some left) n = n + 2 ≤ left
+
+-- the bytes that a limit lets through
+abbrev pub seen_within : Option ℕ → List ℕ → List ℕ
+seen_within None bytes = bytes
+seen_within (Some left) bytes = take left bytes
+
+-- the bytes end before the limit
+abbrev pub IsShort : Option ℕ → List ℕ → Type 0
+IsShort None bytes = ⊤
+IsShort (Some left) bytes = length bytes < left
+
+-- as many bytes as the limit came, and no line ends among them
+abbrev pub IsTooLong : Option ℕ → List ℕ → Type 0
+IsTooLong None bytes = ⊥
+IsTooLong (Some left) bytes = (left ≤ length bytes) × IsUnfinished (take left bytes)
+
+-- What reading a line within a limit makes of the feed: the first line is taken off, if it keeps the limit with its CR LF; or
+-- the limit was reached; or the bytes ended before that.
+abbrev pub ReadsWithin : Option ℕ → Option Feed → Option Feed → Result (List ℕ) LineFault → Type 0
+ReadsWithin left None new result = ⊤
+ReadsWithin left (Some old) new (Ok text) = ReadsLine (Some old) new (Ok text) × IsWithin left (length text)
+ReadsWithin left (Some old) new (Err NotAscii) =
+    (text : List ℕ) × (rest : List ℕ) × Line old.bytes text rest × IsNotAscii text × IsWithin left (length text) × (new ≡ Some (record { bytes = rest; stop = old.stop }))
+ReadsWithin left (Some old) new (Err TooLong) = IsTooLong left old.bytes × (new ≡ Some (stopped End))
+ReadsWithin left (Some old) new (Err Memory) = new ≡ Some (stopped End)
+ReadsWithin left (Some old) new (Err fault) = ReadsLine (Some old) new (Err fault) × IsShort left old.bytes
+
 -- What taking a line off makes of the feed, whatever bytes it has: it stood at the front, with its CR LF.
 abbrev pub TakesLine : Option Feed → Option Feed → List ℕ → Type 0
 TakesLine None new text = ⊤
 TakesLine (Some old) new text = (rest : List ℕ) × Line old.bytes text rest × (new ≡ Some (record { bytes = rest; stop = old.stop }))
 
--- What finding a line makes of the feed: it was taken off; or it is held, and nothing was; or there is none.
-abbrev pub FindsLine : Option Feed → Option Feed → List ℕ → ℕ → Result FirstLine LineFault → Type 0
-FindsLine old new held skip (Ok (Taken text)) = TakesLine old new text.items
-FindsLine old new held skip (Ok (Held n)) = (new ≡ old) × (skip ≡ 0) × EndsLine held n
-FindsLine old new held skip (Err fault) = ReadsLine old new (Err fault) × (fault ≢ NotAscii)
+-- What finding a line within a limit makes of the feed: it was taken off; or it is held, and nothing was; or there is none.
+abbrev pub FindsLine : Option ℕ → Option Feed → Option Feed → List ℕ → ℕ → Result FirstLine LineFault → Type 0
+FindsLine left old new held skip (Ok (Taken text)) = TakesLine old new text.items × IsWithin left (length text.items)
+FindsLine left old new held skip (Ok (Held n)) = (new ≡ old) × (skip ≡ 0) × EndsLine held n × IsWithin left n
+FindsLine left old new held skip (Err fault) = ReadsWithin left old new (Err fault) × (fault ≢ NotAscii)
 
 -- ONE READ of a source. Of its feed it is a read; and whatever the reader states: into an empty buffer it changes nothing,
 -- after an end or a fault the reader isn't called again, and a source that has reported how it stops is over: it stays so, and

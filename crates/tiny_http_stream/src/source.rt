@@ -1,10 +1,11 @@
 //! A connection's input, seen as what is still to come of it: lines and bytes through a buffer.
-ghost use Rattle.std.specs.Prelude.{◌≡◌, ◌≢◌, ℕ, true, false, vec_len, ◌*◌, ◌+◌, ◌-◌, ◌^◌, ◌<◌, ◌≤◌, min, List, [], ◌∷◌, ◌++◌, length, take, drop, Option, None, Some, Ok, Err, IfOk, IfErr, OnOk, OnErr, IsSome, IfSome, IfNone, IsTrue};
+ghost use Rattle.std.specs.Prelude.{◌≡◌, ◌≢◌, ℕ, true, false, vec_len, ◌*◌, ◌+◌, ◌-◌, ◌^◌, ◌<◌, ◌≤◌, ◌⊎◌, min, List, [], ◌∷◌, ◌++◌, length, take, drop, Option, None, Some, Ok, Err, IfOk, IfErr, OnOk, OnErr, IsSome, IfSome, IfNone, IsTrue};
 ghost use Rattle.std.specs.Option.{option_map};
 ghost use Rattle.std.specs.IoError.{error_kind};
 ghost use Rattle.tiny_http_device.specs.Device.{AnswersStop, prepended, StopsBy};
 ghost use Rattle.tiny_http_text.specs.Lines.{IsUnfinished, has_crlf};
-ghost use Rattle.tiny_http_stream.specs.LineEnds.{held_return, BeginsNoLineEnd, EndsLine};
+ghost use Rattle.tiny_http_stream.specs.LineEnds.{held_return, BeginsNoLineEnd, EndsLine, StopsWithin};
+ghost use Rattle.tiny_http_stream.specs.Source.{IsWithin, seen_within};
 ghost use Rattle.tiny_http_stream.specs.ToCome.{skipped, stopped, HasByte, HasNoByte};
 
 use crate::buffer::{Buffer, CAPACITY};
@@ -23,6 +24,8 @@ pub enum LineFault {
     End,
     /// The line has a byte from 128 on. The source goes on after it.
     NotAscii,
+    /// No line has ended in the next bytes, as many as were allowed, all of which came. The source answers `End` from then on.
+    TooLong,
     /// The reader timed out before a CR LF.
     TimedOut,
     /// The reader failed so before a CR LF.
@@ -110,7 +113,7 @@ impl<R: ReadDevice> Model for Source<R> {
 }
 
 impl<R: ReadDevice> Source<R> {
-    ghost use Rattle.tiny_http_stream.specs.Source.{line_fault_of, ReadsLine, TakesLine, FindsLine, ReadsSource, TakesExactly, GoesOn, IsAtEnd, HoldsLine};
+    ghost use Rattle.tiny_http_stream.specs.Source.{line_fault_of, ReadsLine, ReadsWithin, TakesLine, FindsLine, ReadsSource, TakesExactly, GoesOn, IsAtEnd, HoldsLine};
 
     /// A source over this reader. A head comes first.
     pub fn new(inner: R) -> Source<R>
@@ -213,25 +216,53 @@ impl<R: ReadDevice> Source<R> {
         ensures held { HoldsLine self.old → self.new.reader ≡ self.old.reader }
         ensures standing { self.new.standing ≡ self.old.standing }
     {
-        self.input.read_line(alloc)
+        self.input.read_line(alloc, None)
     }
 
-    /// Finds the first line, whatever bytes it has; for the crates above. A line that lies whole in the buffer stays there, to
-    /// be parsed in its place, and takes no memory. Any other line is taken off. The faults are those of `read_line`.
-    pub fn find_line(&mut self, alloc: Global) -> Result<FirstLine, LineFault>
-        ensures line { FindsLine self.old.feed self.new.feed self.new.held self.new.skip result }
+    /// Reads the first line, if it has ended within `left` bytes, its CR LF included. Else it is `TooLong` as soon as so many
+    /// bytes came, and the source ends. It holds no more of them. The other faults are those of `read_line`.
+    pub fn read_line_within(&mut self, alloc: Global, left: usize) -> Result<AsciiString, LineFault>
+        ensures line { ReadsWithin (Some left) self.old.feed self.new.feed result }
         ensures goes_on { GoesOn self.old.feed self.new.feed }
+
+        // After an end or a fault the reader isn't called again.
+        ensures once { IsSome self.old.stop → IsSome self.new.stop × (self.new.reader ≡ self.old.reader) }
+        // Whatever the reader states: after any fault but a line that isn't ASCII the source is over.
+        ensures over { IfErr result (λ fault. fault ≢ LineFault.NotAscii → (self.new.is_over ≡ true) × IsSome self.new.stop) }
+        ensures ended { IfErr result (λ fault. (fault ≡ LineFault.Memory) ⊎ (fault ≡ LineFault.TooLong) → self.new.stop ≡ Some Stop.End) }
+        ensures stop { IfErr result (λ fault. fault ≢ LineFault.NotAscii → fault ≢ LineFault.Memory → fault ≢ LineFault.TooLong → IfSome self.new.stop (λ stop. fault ≡ line_fault_of stop)) }
+        // A source that is over stays so, but for a limit of no byte each line is its stop.
+        ensures stays { self.old.is_over ≡ true → 0 < left → (self.new ≡ self.old) × IfSome self.old.stop (λ stop. result ≡ Err (line_fault_of stop)) }
+        // Nothing is read ahead: where a line was given, or passed over, no end or fault was met, and where it is held, or
+        // as many bytes as it may have, the reader isn't called.
+        ensures lazy { OnOk result (self.new.stop ≡ self.old.stop) }
+        ensures passed { result ≡ Err LineFault.NotAscii → self.new.stop ≡ self.old.stop }
+        ensures held { HoldsLine self.old → self.new.reader ≡ self.old.reader }
+        ensures full { self.old.skip + left ≤ length self.old.held → self.new.reader ≡ self.old.reader }
+        ensures standing { self.new.standing ≡ self.old.standing }
+    {
+        self.input.read_line(alloc, Some(left))
+    }
+
+    /// Finds the first line, whatever bytes it has, within `left` bytes where that is given; for the crates above. A line that
+    /// lies whole in the buffer stays there, to be parsed in its place, and takes no memory. Any other line is taken off. The
+    /// faults are those of `read_line_within`.
+    pub fn find_line(&mut self, alloc: Global, left: Option<usize>) -> Result<FirstLine, LineFault>
+        ensures line { FindsLine left self.old.feed self.new.feed self.new.held self.new.skip result }
+        ensures goes_on { GoesOn self.old.feed self.new.feed }
+        ensures limited { result ≡ Err LineFault.TooLong → IsSome left }
         ensures over { OnErr result ((self.new.is_over ≡ true) × IsSome self.new.stop) }
-        ensures memory { IfErr result (λ fault. fault ≡ LineFault.Memory → self.new.stop ≡ Some Stop.End) }
-        ensures stop { IfErr result (λ fault. fault ≢ LineFault.Memory → IfSome self.new.stop (λ stop. fault ≡ line_fault_of stop)) }
-        // After an end or a fault the reader isn't called again; nor where the line is held.
+        ensures ended { IfErr result (λ fault. (fault ≡ LineFault.Memory) ⊎ (fault ≡ LineFault.TooLong) → self.new.stop ≡ Some Stop.End) }
+        ensures stop { IfErr result (λ fault. fault ≢ LineFault.Memory → fault ≢ LineFault.TooLong → IfSome self.new.stop (λ stop. fault ≡ line_fault_of stop)) }
+        // After an end or a fault the reader isn't called again; nor where the line is held, or as many bytes as it may have.
         ensures once { IsSome self.old.stop → IsSome self.new.stop × (self.new.reader ≡ self.old.reader) }
         ensures held { HoldsLine self.old → self.new.reader ≡ self.old.reader }
-        ensures stays { self.old.is_over ≡ true → (self.new ≡ self.old) × IfSome self.old.stop (λ stop. result ≡ Err (line_fault_of stop)) }
+        ensures full { IfSome left (λ n. self.old.skip + n ≤ length self.old.held → self.new.reader ≡ self.old.reader) }
+        ensures stays { self.old.is_over ≡ true → left ≢ Some 0 → (self.new ≡ self.old) × IfSome self.old.stop (λ stop. result ≡ Err (line_fault_of stop)) }
         ensures lazy { OnOk result (self.new.stop ≡ self.old.stop) }
         ensures standing { self.new.standing ≡ self.old.standing }
     {
-        self.input.find_line(alloc)
+        self.input.find_line(alloc, left)
     }
 
     /// The bytes in the buffer; for the crates above. Those that are still to be skipped stand first.
@@ -323,7 +354,7 @@ struct Input<R> {
 
 impl<R: ReadDevice> Input<R> {
     ghost use Rattle.tiny_http_stream.specs.Input.{input_feed, input_stop, input_reader, input_held, input_skip, IsInputOver, SkipsHeld};
-    ghost use Rattle.tiny_http_stream.specs.Source.{line_fault_of, ReadsLine, TakesLine, FindsLine, TakesExactly, GoesOn};
+    ghost use Rattle.tiny_http_stream.specs.Source.{line_fault_of, ReadsWithin, TakesLine, FindsLine, TakesExactly, GoesOn};
 
     pub fn new(inner: R) -> Input<R>
         ensures feed { input_feed R.feed result ≡ R.feed inner }
@@ -420,50 +451,50 @@ impl<R: ReadDevice> Input<R> {
         }
     }
 
-    // The bytes of the first line.
-    fn take_first_line(&mut self, alloc: Global) -> Result<Vec<u8>, LineFault>
-        ensures text { IfOk result (λ text. input_feed R.feed self.old ≡ prepended (text.items ++ (13 ∷ (10 ∷ []))) (input_feed R.feed self.new)) }
-        ensures first { IfOk result (λ text. BeginsNoLineEnd text.items (13 ∷ [])) }
-        ensures still_stated { OnErr result (IsSome (input_feed R.feed self.old) → IsSome (input_feed R.feed self.new)) }
-        ensures none { IfErr result (λ fault. fault ≢ LineFault.Memory → (gone : List ℕ) × IsUnfinished gone
-            × (input_feed R.feed self.old ≡ prepended gone (input_feed R.feed self.new))) }
-        ensures fault { IfErr result (λ fault. fault ≢ LineFault.Memory → IsInputOver self.new
-            × IfSome (input_stop self.new) (λ stop. (fault ≡ line_fault_of stop) × StopsBy stop (input_feed R.feed self.new))) }
-        ensures once { IsSome (input_stop self.old) → IsSome (input_stop self.new) × (input_reader self.new ≡ input_reader self.old) }
-        ensures stays { IsInputOver self.old → (self.new ≡ self.old) × IfSome (input_stop self.old) (λ stop. result ≡ Err (line_fault_of stop)) }
-        ensures lazy { OnOk result (input_stop self.new ≡ input_stop self.old) }
-        ensures held { has_crlf (drop (input_skip self.old) (input_held self.old)) ≡ true → input_reader self.new ≡ input_reader self.old }
+    // The first line that is held, if it keeps the limit: so many bytes, and CR LF after them.
+    fn held_line(&self, left: Option<usize>) -> Option<usize>
+        ensures some { IfSome result (λ n. EndsLine (input_held self.now) n × IsWithin left n) }
+        ensures none { IfNone result (IsUnfinished (seen_within left (input_held self.now))) }
     {
-        self.fill();
         match line_end(self.held.as_slice()) {
-            Some(n) => self.take_line(alloc, n),
-            None => self.read_slowly(alloc),
+            Some(n) => {
+                if is_within(left, n) {
+                    return Some(n);
+                }
+                None
+            }
+            None => None,
         }
     }
 
-    /// Finds the first line: held, or taken off.
-    pub fn find_line(&mut self, alloc: Global) -> Result<FirstLine, LineFault>
-        ensures line { FindsLine (input_feed R.feed self.old) (input_feed R.feed self.new) (input_held self.new) (input_skip self.new) result }
+    /// Finds the first line within the limit: held, or taken off.
+    pub fn find_line(&mut self, alloc: Global, left: Option<usize>) -> Result<FirstLine, LineFault>
+        ensures line { FindsLine left (input_feed R.feed self.old) (input_feed R.feed self.new) (input_held self.new) (input_skip self.new) result }
+        ensures limited { result ≡ Err LineFault.TooLong → IsSome left }
         ensures over { OnErr result (IsInputOver self.new) }
-        ensures memory { IfErr result (λ fault. fault ≡ LineFault.Memory → input_stop self.new ≡ Some Stop.End) }
-        ensures stop { IfErr result (λ fault. fault ≢ LineFault.Memory → IfSome (input_stop self.new) (λ stop. fault ≡ line_fault_of stop)) }
-        ensures stays { IsInputOver self.old → (self.new ≡ self.old) × IfSome (input_stop self.old) (λ stop. result ≡ Err (line_fault_of stop)) }
+        ensures ended { IfErr result (λ fault. (fault ≡ LineFault.Memory) ⊎ (fault ≡ LineFault.TooLong) → input_stop self.new ≡ Some Stop.End) }
+        ensures stop { IfErr result (λ fault. fault ≢ LineFault.Memory → fault ≢ LineFault.TooLong → IfSome (input_stop self.new) (λ stop. fault ≡ line_fault_of stop)) }
+        ensures stays { IsInputOver self.old → left ≢ Some 0 → (self.new ≡ self.old) × IfSome (input_stop self.old) (λ stop. result ≡ Err (line_fault_of stop)) }
         ensures once { IsSome (input_stop self.old) → IsSome (input_stop self.new) × (input_reader self.new ≡ input_reader self.old) }
         ensures held { has_crlf (drop (input_skip self.old) (input_held self.old)) ≡ true → input_reader self.new ≡ input_reader self.old }
+        ensures full { IfSome left (λ n. input_skip self.old + n ≤ length (input_held self.old) → input_reader self.new ≡ input_reader self.old) }
         ensures lazy { OnOk result (input_stop self.new ≡ input_stop self.old) }
     {
+        if is_reached(left, 0) {
+            self.end();
+            return Err(LineFault::TooLong);
+        }
         self.fill();
-        if let Some(n) = line_end(self.held.as_slice()) {
+        if let Some(n) = self.held_line(left) {
             return Ok(FirstLine::Held(n));
         }
-        match self.read_slowly(alloc) {
+        if is_reached(left, self.held.len()) {
+            self.end();
+            return Err(LineFault::TooLong);
+        }
+        match self.read_slowly(alloc, left) {
             Ok(text) => Ok(FirstLine::Taken(text)),
-            Err(fault) => {
-                if fault == LineFault::Memory {
-                    self.end();
-                }
-                Err(fault)
-            }
+            Err(fault) => Err(fault),
         }
     }
 
@@ -502,28 +533,38 @@ impl<R: ReadDevice> Input<R> {
         Ok(text)
     }
 
-    // The same, byte by byte.
-    fn read_slowly(&mut self, alloc: Global) -> Result<Vec<u8>, LineFault>
+    // The first line within the limit, byte by byte.
+    fn read_slowly(&mut self, alloc: Global, left: Option<usize>) -> Result<Vec<u8>, LineFault>
         ensures text { IfOk result (λ text. input_feed R.feed self.old ≡ prepended (text.items ++ (13 ∷ (10 ∷ []))) (input_feed R.feed self.new)) }
         ensures first { IfOk result (λ text. BeginsNoLineEnd text.items (13 ∷ [])) }
-        ensures still_stated { OnErr result (IsSome (input_feed R.feed self.old) → IsSome (input_feed R.feed self.new)) }
-        ensures none { IfErr result (λ fault. fault ≢ LineFault.Memory → (gone : List ℕ) × IsUnfinished gone
-            × (input_feed R.feed self.old ≡ prepended gone (input_feed R.feed self.new))) }
-        ensures fault { IfErr result (λ fault. fault ≢ LineFault.Memory → IsInputOver self.new
-            × IfSome (input_stop self.new) (λ stop. (fault ≡ line_fault_of stop) × StopsBy stop (input_feed R.feed self.new))) }
+        ensures within { IfOk result (λ text. IsWithin left (length text.items)) }
+        ensures none { IfErr result (λ fault. ReadsWithin left (input_feed R.feed self.old) (input_feed R.feed self.new) (Err fault) × (fault ≢ LineFault.NotAscii)) }
+        ensures limited { result ≡ Err LineFault.TooLong → IsSome left }
+        ensures over { OnErr result (IsInputOver self.new) }
+        ensures ended { IfErr result (λ fault. (fault ≡ LineFault.Memory) ⊎ (fault ≡ LineFault.TooLong) → input_stop self.new ≡ Some Stop.End) }
+        ensures stop { IfErr result (λ fault. fault ≢ LineFault.Memory → fault ≢ LineFault.TooLong → IfSome (input_stop self.new) (λ stop. fault ≡ line_fault_of stop)) }
         ensures once { IsSome (input_stop self.old) → IsSome (input_stop self.new) × (input_reader self.new ≡ input_reader self.old) }
-        ensures stays { IsInputOver self.old → (self.new ≡ self.old) × IfSome (input_stop self.old) (λ stop. result ≡ Err (line_fault_of stop)) }
+        ensures stays { IsInputOver self.old → left ≢ Some 0 → (self.new ≡ self.old) × IfSome (input_stop self.old) (λ stop. result ≡ Err (line_fault_of stop)) }
         ensures lazy { OnOk result (input_stop self.new ≡ input_stop self.old) }
     {
         let mut text = Vec::new(alloc);
         let mut after_return = false;
-        while let Some(b) = self.pop_byte() {
+        let mut room = left;
+        while !is_reached(room, 0) {
+            let Some(b) = self.pop_byte() else {
+                return Err(self.line_fault());
+            };
             if after_return && b == b'\n' {
                 return Ok(text);
             }
-            go_on(&mut text, &mut after_return, b)?;
+            if go_on(&mut text, &mut after_return, b).is_err() {
+                self.end();
+                return Err(LineFault::Memory);
+            }
+            room = one_less(room);
         }
-        Err(self.line_fault())
+        self.end();
+        Err(LineFault::TooLong)
     }
 
     /// Lets the input end here.
@@ -538,30 +579,35 @@ impl<R: ReadDevice> Input<R> {
         self.stop = Some(Stop::End);
     }
 
-    /// Reads the first line, without its CR LF.
-    pub fn read_line(&mut self, alloc: Global) -> Result<AsciiString, LineFault>
-        ensures line { ReadsLine (input_feed R.feed self.old) (input_feed R.feed self.new) result }
+    /// Reads the first line within the limit, without its CR LF.
+    pub fn read_line(&mut self, alloc: Global, left: Option<usize>) -> Result<AsciiString, LineFault>
+        ensures line { ReadsWithin left (input_feed R.feed self.old) (input_feed R.feed self.new) result }
         // After an end or a fault the reader isn't called again.
         ensures once { IsSome (input_stop self.old) → IsSome (input_stop self.new) × (input_reader self.new ≡ input_reader self.old) }
         // Whatever the reader states, an input that is over stays so, and a line's place has its stop.
+        ensures limited { result ≡ Err LineFault.TooLong → IsSome left }
         ensures over { IfErr result (λ fault. fault ≢ LineFault.NotAscii → IsInputOver self.new) }
-        ensures memory { IfErr result (λ fault. fault ≡ LineFault.Memory → input_stop self.new ≡ Some Stop.End) }
-        ensures stop { IfErr result (λ fault. fault ≢ LineFault.NotAscii → fault ≢ LineFault.Memory → IfSome (input_stop self.new) (λ stop. fault ≡ line_fault_of stop)) }
-        ensures stays { IsInputOver self.old → (self.new ≡ self.old) × IfSome (input_stop self.old) (λ stop. result ≡ Err (line_fault_of stop)) }
+        ensures ended { IfErr result (λ fault. (fault ≡ LineFault.Memory) ⊎ (fault ≡ LineFault.TooLong) → input_stop self.new ≡ Some Stop.End) }
+        ensures stop { IfErr result (λ fault. fault ≢ LineFault.NotAscii → fault ≢ LineFault.Memory → fault ≢ LineFault.TooLong → IfSome (input_stop self.new) (λ stop. fault ≡ line_fault_of stop)) }
+        ensures stays { IsInputOver self.old → left ≢ Some 0 → (self.new ≡ self.old) × IfSome (input_stop self.old) (λ stop. result ≡ Err (line_fault_of stop)) }
         ensures lazy { OnOk result (input_stop self.new ≡ input_stop self.old) }
         ensures passed { result ≡ Err LineFault.NotAscii → input_stop self.new ≡ input_stop self.old }
         ensures held { has_crlf (drop (input_skip self.old) (input_held self.old)) ≡ true → input_reader self.new ≡ input_reader self.old }
+        ensures full { IfSome left (λ n. input_skip self.old + n ≤ length (input_held self.old) → input_reader self.new ≡ input_reader self.old) }
     {
-        match self.take_first_line(alloc) {
-            Ok(text) => match AsciiString::from_ascii(text) {
-                Ok(line) => Ok(line),
-                Err(_) => Err(LineFault::NotAscii),
+        let text = match self.find_line(alloc, left)? {
+            FirstLine::Taken(text) => text,
+            FirstLine::Held(n) => match self.take_line(alloc, n) {
+                Ok(text) => text,
+                Err(fault) => {
+                    self.end();
+                    return Err(fault);
+                }
             },
-            Err(LineFault::Memory) => {
-                self.end();
-                Err(LineFault::Memory)
-            }
-            Err(fault) => Err(fault),
+        };
+        match AsciiString::from_ascii(text) {
+            Ok(line) => Ok(line),
+            Err(_) => Err(LineFault::NotAscii),
         }
     }
 
@@ -587,7 +633,8 @@ impl<R: ReadDevice> Input<R> {
 
     // Why there is no line after the input.
     fn line_fault(&self) -> LineFault
-        ensures { IfSome (input_stop self.now) (λ stop. result ≡ line_fault_of stop) }
+        ensures fault { IfSome (input_stop self.now) (λ stop. result ≡ line_fault_of stop) }
+        ensures in_time { (result ≢ LineFault.TooLong) × (result ≢ LineFault.NotAscii) × (result ≢ LineFault.Memory) }
     {
         match self.stop {
             Some(Stop::Fault(ErrorKind::TimedOut)) => LineFault::TimedOut,
@@ -689,6 +736,40 @@ impl<R: ReadDevice> Input<R> {
             return Err(kind.into());
         }
         Ok(self.held.give(buf))
+    }
+}
+
+// Whether so many bytes, and a CR LF after them, keep the limit.
+fn is_within(left: Option<usize>, n: usize) -> bool
+    requires { n + 2 < 2 ^ 64 }
+    ensures within { IsTrue result → IsWithin left n }
+    ensures beyond { result ≡ false → IsSome left × IfSome left (λ left. left < n + 2) }
+{
+    match left {
+        Some(left) => n + 2 <= left,
+        None => true,
+    }
+}
+
+// Whether so many bytes reach the limit.
+fn is_reached(left: Option<usize>, n: usize) -> bool
+    ensures reached { IsTrue result → IsSome left × IfSome left (λ left. left ≤ n) }
+    ensures below { result ≡ false → IfSome left (λ left. n < left) }
+{
+    match left {
+        Some(left) => left <= n,
+        None => false,
+    }
+}
+
+// What is left of the limit after one byte.
+fn one_less(room: Option<usize>) -> Option<usize>
+    requires { IfSome room (λ n. 0 < n) }
+    ensures { result ≡ option_map (λ n. n - 1) room }
+{
+    match room {
+        Some(n) => Some(n - 1),
+        None => None,
     }
 }
 
