@@ -6,5 +6,6 @@ mod buffer;
 pub mod custom_stream;
 pub mod equal_reader;
 pub mod fused_reader;
+mod lines;
 pub mod outlet;
 pub mod source;

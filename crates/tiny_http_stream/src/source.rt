@@ -9,7 +9,7 @@ ghost use Rattle.tiny_http_stream.specs.Source.{IsWithin, seen_within};
 ghost use Rattle.tiny_http_stream.specs.ToCome.{skipped, stopped, HasByte, HasNoByte};
 
 use crate::buffer::{Buffer, CAPACITY};
-use memchr::memchr;
+use crate::lines::{is_reached, is_within, line_end, one_less};
 use std::alloc::{AllocError, Global};
 use std::io;
 use std::io::{ErrorKind, Read};
@@ -737,55 +737,6 @@ impl<R: ReadDevice> Input<R> {
         }
         Ok(self.held.give(buf))
     }
-}
-
-// Whether so many bytes, and a CR LF after them, keep the limit.
-fn is_within(left: Option<usize>, n: usize) -> bool
-    requires { n + 2 < 2 ^ 64 }
-    ensures within { IsTrue result → IsWithin left n }
-    ensures beyond { result ≡ false → IsSome left × IfSome left (λ left. left < n + 2) }
-{
-    match left {
-        Some(left) => n + 2 <= left,
-        None => true,
-    }
-}
-
-// Whether so many bytes reach the limit.
-fn is_reached(left: Option<usize>, n: usize) -> bool
-    ensures reached { IsTrue result → IsSome left × IfSome left (λ left. left ≤ n) }
-    ensures below { result ≡ false → IfSome left (λ left. n < left) }
-{
-    match left {
-        Some(left) => left <= n,
-        None => false,
-    }
-}
-
-// What is left of the limit after one byte.
-fn one_less(room: Option<usize>) -> Option<usize>
-    requires { IfSome room (λ n. 0 < n) }
-    ensures { result ≡ option_map (λ n. n - 1) room }
-{
-    match room {
-        Some(n) => Some(n - 1),
-        None => None,
-    }
-}
-
-// Where the first CR LF begins.
-fn line_end(bytes: &[u8]) -> Option<usize>
-    ensures some { IfSome result (EndsLine bytes.now) }
-    ensures none { IfNone result (has_crlf bytes.now ≡ false) }
-{
-    let mut at = 0;
-    while let Some(n) = memchr(b'\r', &bytes[at..]) {
-        at += n + 1;
-        if at < bytes.len() && bytes[at] == b'\n' {
-            return Some(at - 1);
-        }
-    }
-    None
 }
 
 // Takes a byte that doesn't end the line. A carriage return is kept once the byte after it is known.

@@ -1,6 +1,6 @@
 use Rattle.std.proofs.Common.{length, ◌-◌, ◌≤◌}
 use Rattle.tiny_http_stream.proofs.LineEndsSearching.{Searched}
-use Rattle.tiny_http_stream.proofs.source.line_end.Given as goal
+use Rattle.tiny_http_stream.proofs.lines.line_end.Given as goal
 
 abbrev pub invariant-loop-n : goal.invariant-loop-n
 invariant-loop-n l = record {

@@ -1,8 +1,8 @@
 use Rattle.std.proofs.Common.{arith, true, refl, ◌+◌}
 use Rattle.tiny_http_stream.proofs.LineEndsScanning.{scans-end}
 use Rattle.tiny_http_stream.proofs.LineEndsSearching.{rest-whole, searched-nothing, searched-return, searched-none}
-use Rattle.tiny_http_stream.proofs.source.line_end.Goals.{else-at-bytes-via-then-at-bytes+else-bytes-at-eq10, else-at-bytes-via-else-at-bytes}
-use Rattle.tiny_http_stream.proofs.source.line_end.Goals as goal
+use Rattle.tiny_http_stream.proofs.lines.line_end.Goals.{else-at-bytes-via-then-at-bytes+else-bytes-at-eq10, else-at-bytes-via-else-at-bytes}
+use Rattle.tiny_http_stream.proofs.lines.line_end.Goals as goal
 
 pub loop-n-init : goal.loop-n-init
 loop-n-init c = record { within = omega arith; searched = searched-nothing c.args.bytes.now }
