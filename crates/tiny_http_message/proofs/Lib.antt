@@ -6,4 +6,5 @@ pub mod BytesWords
 pub mod FramingLemmas
 pub mod OwnAnswerLemmas
 pub mod WithinLemmas
+pub mod SeenLemmas
 pub mod PipelineLemmas

@@ -8,20 +8,20 @@ use Rattle.tiny_http_wire.specs.Lines.{Line}
 use Rattle.tiny_http_wire.specs.Heads.{Message, BeginsWithHeaderLines, BeginsWithRequestHead}
 
 -- a line is its text and CR LF, whatever follows
-line-text : (bytes text rest : List ℕ) → Line bytes text rest → bytes ≡ (text ++ crlf) ++ rest
+pub line-text : (bytes text rest : List ℕ) → Line bytes text rest → bytes ≡ (text ++ crlf) ++ rest
 line-text bytes text rest l = l.joins ∙ simp append_assoc
 
-line-before : (bytes text rest x : List ℕ) → Line bytes text rest → Line ((text ++ crlf) ++ x) text x
+pub line-before : (bytes text rest x : List ℕ) → Line bytes text rest → Line ((text ++ crlf) ++ x) text x
 line-before bytes text rest x l = record { joins = simp append_assoc; first = l.first }
 
 -- header lines are a text of their own
-abbrev HeaderText : List ℕ → List Header → List ℕ → Type 0
+abbrev pub HeaderText : List ℕ → List Header → List ℕ → Type 0
 HeaderText bytes headers rest = (text : List ℕ) × (bytes ≡ text ++ rest) × ((x : List ℕ) → BeginsWithHeaderLines (text ++ x) headers x)
 
 joined : (a b c : List ℕ) (bytes next : List ℕ) → bytes ≡ a ++ next → next ≡ b ++ c → bytes ≡ (a ++ b) ++ c
 joined a b c bytes next e f = e ∙ ap (λ y. a ++ y) f ∙ simp append_assoc
 
-headers-text : (bytes : List ℕ) (headers : List Header) (rest : List ℕ) → BeginsWithHeaderLines bytes headers rest → HeaderText bytes headers rest
+pub headers-text : (bytes : List ℕ) (headers : List Header) (rest : List ℕ) → BeginsWithHeaderLines bytes headers rest → HeaderText bytes headers rest
 headers-text bytes [] rest h = ([], sym h, λ x. refl)
 headers-text bytes (header ∷ headers) rest h =
     let more = headers-text h.1 headers rest h.5 in

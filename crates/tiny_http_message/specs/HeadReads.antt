@@ -1,5 +1,5 @@
 -- What the calls that read a head make of the input.
-use Rattle.std.specs.Prelude.{◌≡◌, ◌≢◌, ℕ, ⊤, ◌⊎◌, List, [], length, nat_lt, Option, Some, None, Result, Ok, Err, unwrap_or, Bool, true, false, MatchBool, IfSome, IsErr, if◌then◌else◌}
+use Rattle.std.specs.Prelude.{◌≡◌, ◌≢◌, ℕ, ◌+◌, ◌-◌, ⊤, ◌⊎◌, List, [], length, nat_lt, Option, Some, None, Result, Ok, Err, unwrap_or, Bool, true, false, MatchBool, IfSome, IsErr, if◌then◌else◌}
 use Rattle.std.specs.declared.alloc.AllocError.{AllocError}
 use Rattle.httpdate.specs.declared.date.HttpDate.{HttpDate}
 use Rattle.tiny_http_wire.specs.declared.common.Method.{Method}
@@ -31,7 +31,7 @@ use Rattle.tiny_http_message.specs.declared.heads.HeadFault.TheVariants as fault
 use Rattle.tiny_http_message.specs.declared.body.Body.{Body}
 use Rattle.tiny_http_message.specs.FramingReading.{framing}
 use Rattle.tiny_http_stream.specs.declared.source.FirstLine.{FirstLine}
-use Rattle.tiny_http_stream.specs.Source.{SourceState, feed_from, FindsLine, IsAtEnd}
+use Rattle.tiny_http_stream.specs.Source.{SourceState, feed_from, FindsLine, IsShort, IsTooLong, IsAtEnd}
 use Rattle.tiny_http_message.specs.Pipeline.{Request, Asks, Refuses, Refusal, VersionNotSupported, refusal_status, is_timed_out, Place, seen_bytes, BeginsWithin, IsUnfinishedHead, IsTooLarge, IsCutWithHead, IsCutHead, IsNotAsciiHead, BodyAt, OneHead, body_length_or_0, place_after}
 use Rattle.tiny_http_message.specs.OwnAnswer.{own_text, refusal_response, refused_text}
 use Rattle.tiny_http_message.specs.Body.{Remaining, remaining, Fits}
@@ -40,6 +40,7 @@ use Rattle.tiny_http_message.specs.Exchange.{exchange_head, exchange_waiting, ex
 -- what is wrong with a head whose next line isn't read
 abbrev pub head_fault : LineFault → HeadFault
 head_fault linefault.NotAscii = fault.NotAscii
+head_fault linefault.TooLong = fault.TooLarge
 head_fault linefault.Memory = fault.Memory
 head_fault _ = fault.Cut
 
@@ -51,15 +52,16 @@ IsBadLine fault.Cut = ⊥
 IsBadLine fault.TooLarge = ⊥
 IsBadLine fault.Memory = ⊥
 
--- a line of ASCII text
-abbrev pub ReadsText : Option Feed → Option Feed → Result (List ℕ) HeadFault → Type 0
-ReadsText None new r = ⊤
-ReadsText (Some f) new (Ok text) = (rest : List ℕ) × Line f.bytes text rest × AreAscii text × (new ≡ feed_from f rest)
-ReadsText (Some f) new (Err fault.Cut) = IsUnfinished f.bytes
-ReadsText (Some f) new (Err fault.TooLarge) = ⊥
-ReadsText (Some f) new (Err fault.NotAscii) = (text : List ℕ) × (rest : List ℕ) × Line f.bytes text rest × (AreAscii text → ⊥)
-ReadsText (Some f) new (Err fault.Malformed) = ⊥
-ReadsText (Some f) new (Err fault.Memory) = ⊤
+-- what is left of a limit in front of the rest of these bytes
+abbrev pub IsSpent : Option ℕ → List ℕ → Option ℕ → List ℕ → Type 0
+IsSpent None bytes None rest = ⊤
+IsSpent (Some limit) bytes (Some left) rest = limit + length rest ≡ left + length bytes
+IsSpent _ bytes _ rest = ⊥
+
+-- the limit after a line of so many bytes and its CR LF
+abbrev pub left_after : ℕ → Option ℕ → Option ℕ
+left_after n None = None
+left_after n (Some left) = Some (left - (n + 2))
 
 -- what a text is read as: a request line
 abbrev pub StartIn : List ℕ → Result (Method × List ℕ × HTTPVersion) HeadFault → Type 0
@@ -80,42 +82,54 @@ FieldIn text (Err fault.Cut) = ⊥
 FieldIn text (Err fault.TooLarge) = ⊥
 FieldIn text (Err fault.Memory) = ⊤
 
+-- why there is no next line within this limit
+abbrev pub HasNoLine : Option ℕ → Option Feed → HeadFault → Type 0
+HasNoLine left None e = ⊤
+HasNoLine left (Some f) fault.Cut = IsUnfinished f.bytes × IsShort left f.bytes
+HasNoLine left (Some f) fault.TooLarge = IsTooLong left f.bytes
+HasNoLine left (Some f) fault.NotAscii = ⊥
+HasNoLine left (Some f) fault.Malformed = ⊥
+HasNoLine left (Some f) fault.Memory = ⊤
+
 -- where the next line of a head is found, or why there is none
-abbrev pub FindsText : Option Feed → Option Feed → List ℕ → ℕ → Result FirstLine HeadFault → Type 0
-FindsText old new held skip (Ok line) = FindsLine old new held skip (Ok line)
-FindsText old new held skip (Err e) = ReadsText old new (Err e) × (IsBadLine e → ⊥)
+abbrev pub FindsText : Option ℕ → Option Feed → Option Feed → List ℕ → ℕ → Result FirstLine HeadFault → Type 0
+FindsText left old new held skip (Ok line) = FindsLine left old new held skip (Ok line)
+FindsText left old new held skip (Err e) = HasNoLine left old e × (IsBadLine e → ⊥)
 
--- a line that has to be good, and is not
-abbrev pub IsFaulty : (List ℕ → Type 0) → List ℕ → HeadFault → Type 0
-IsFaulty IsGood bytes fault.Cut = FaultyLine IsGood bytes Cut
-IsFaulty IsGood bytes fault.TooLarge = ⊥
-IsFaulty IsGood bytes fault.NotAscii = FaultyLine IsGood bytes NotAscii
-IsFaulty IsGood bytes fault.Malformed = FaultyLine IsGood bytes Malformed
-IsFaulty IsGood bytes fault.Memory = ⊤
+-- a line that has to be good and to keep this limit, and doesn't
+abbrev pub IsFaulty : Option ℕ → (List ℕ → Type 0) → List ℕ → HeadFault → Type 0
+IsFaulty left IsGood bytes fault.Cut = IsUnfinished bytes × IsShort left bytes
+IsFaulty left IsGood bytes fault.TooLarge = IsTooLong left bytes
+IsFaulty left IsGood bytes fault.NotAscii = FaultyLine IsGood (seen_bytes left bytes) NotAscii
+IsFaulty left IsGood bytes fault.Malformed = FaultyLine IsGood (seen_bytes left bytes) Malformed
+IsFaulty left IsGood bytes fault.Memory = ⊤
 
--- a request line
-abbrev pub ReadsStart : Option Feed → Option Feed → Result (Method × List ℕ × HTTPVersion) HeadFault → Type 0
-ReadsStart None new r = ⊤
-ReadsStart (Some f) new (Ok r) = (rest : List ℕ) × BeginsWithRequestLine f.bytes r.0 r.1 r.2 rest × (new ≡ feed_from f rest)
-ReadsStart (Some f) new (Err e) = IsFaulty IsRequestLine f.bytes e
+-- a request line, within this limit, of which so much is left
+abbrev pub ReadsStart : Option ℕ → Option ℕ → Option Feed → Option Feed → Result (Method × List ℕ × HTTPVersion) HeadFault → Type 0
+ReadsStart limit left None new r = ⊤
+ReadsStart limit left (Some f) new (Ok r) = (rest : List ℕ) × BeginsWithRequestLine f.bytes r.0 r.1 r.2 rest × (new ≡ feed_from f rest) × IsSpent limit f.bytes left rest
+ReadsStart limit left (Some f) new (Err e) = IsFaulty limit IsRequestLine f.bytes e
 
 -- a header line, or the empty line
-abbrev pub ReadsField : Option Feed → Option Feed → Result (Option Header) HeadFault → Type 0
-ReadsField None new r = ⊤
-ReadsField (Some f) new (Ok (Some h)) = (text : List ℕ) × (rest : List ℕ) × Line f.bytes text rest × AreAscii text × HeaderLine text h.field h.value × (new ≡ feed_from f rest)
-ReadsField (Some f) new (Ok None) = (rest : List ℕ) × Line f.bytes [] rest × (new ≡ feed_from f rest)
-ReadsField (Some f) new (Err e) = IsFaulty IsFieldOrEnd f.bytes e
+abbrev pub ReadsField : Option ℕ → Option ℕ → Option Feed → Option Feed → Result (Option Header) HeadFault → Type 0
+ReadsField limit left None new r = ⊤
+ReadsField limit left (Some f) new (Ok (Some h)) =
+    (text : List ℕ) × (rest : List ℕ) × Line f.bytes text rest × AreAscii text × HeaderLine text h.field h.value × (new ≡ feed_from f rest) × IsSpent limit f.bytes left rest
+ReadsField limit left (Some f) new (Ok None) = (rest : List ℕ) × Line f.bytes [] rest × (new ≡ feed_from f rest) × IsSpent limit f.bytes left rest
+ReadsField limit left (Some f) new (Err e) = IsFaulty limit IsFieldOrEnd f.bytes e
 
 -- these header lines were read
-abbrev pub HasReadFields : Option Feed → Option Feed → List Header → Type 0
-HasReadFields None new hs = ⊤
-HasReadFields (Some f) new hs = (rest : List ℕ) × BeginsWithHeaderLines f.bytes hs rest × (new ≡ feed_from f rest)
+abbrev pub HasReadFields : Option ℕ → Option ℕ → Option Feed → Option Feed → List Header → Type 0
+HasReadFields limit left None new hs = ⊤
+HasReadFields limit left (Some f) new hs = (rest : List ℕ) × BeginsWithHeaderLines f.bytes hs rest × (new ≡ feed_from f rest) × IsSpent limit f.bytes left rest
 
 -- all header lines and the empty line
-abbrev pub ReadsFields : {T : Type 0} → (T → List Header) → Option Feed → Option Feed → Result T HeadFault → Type 0
-ReadsFields items None new r = ⊤
-ReadsFields items (Some f) new (Ok hs) = (empty : List ℕ) × (rest : List ℕ) × BeginsWithHeaderLines f.bytes (items hs) empty × Line empty [] rest × (new ≡ feed_from f rest)
-ReadsFields items (Some f) new (Err e) = (hs : List Header) × (rest : List ℕ) × BeginsWithHeaderLines f.bytes hs rest × IsFaulty IsFieldOrEnd rest e
+abbrev pub ReadsFields : {T : Type 0} → (T → List Header) → Option ℕ → Option ℕ → Option Feed → Option Feed → Result T HeadFault → Type 0
+ReadsFields items limit left None new r = ⊤
+ReadsFields items limit left (Some f) new (Ok hs) =
+    (empty : List ℕ) × (rest : List ℕ) × BeginsWithHeaderLines f.bytes (items hs) empty × Line empty [] rest × (new ≡ feed_from f rest) × IsSpent limit f.bytes left rest
+ReadsFields items limit left (Some f) new (Err e) =
+    (hs : List Header) × (rest : List ℕ) × (now : Option ℕ) × BeginsWithHeaderLines f.bytes hs rest × IsSpent limit f.bytes now rest × IsFaulty now IsFieldOrEnd rest e
 
 abbrev pub message_of : Message → Texted
 message_of m = record { method = m.method; path = m.path; version = m.version; headers = m.headers.items }

@@ -24,6 +24,21 @@ pub enum Profile {
     Strict,
 }
 
+impl Profile {
+    ghost use Rattle.tiny_http_message.specs.Pipeline.{head_limit};
+
+    /// The most bytes that a head may have, the CR LF of its empty line included: 65,536 under `Strict`, and any number under
+    /// `Lenient`.
+    pub fn head_limit(self) -> Option<usize>
+        ensures { result ≡ head_limit self }
+    {
+        match self {
+            Profile::Lenient => None,
+            Profile::Strict => Some(65536),
+        }
+    }
+}
+
 /// Why the framing that a head asks for is refused.
 #[derive(Clone, Copy, Debug, PartialEq, Eq)]
 pub enum FramingFault {

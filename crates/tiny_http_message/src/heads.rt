@@ -1,7 +1,7 @@
 //! The lines of a head.
-ghost use Rattle.std.specs.Prelude.{◌≡◌, None, Err, OnOk, IfErr};
-ghost use Rattle.tiny_http_stream.specs.Source.{GoesOn, IsAtEnd};
-ghost use Rattle.tiny_http_message.specs.HeadReads.{IsBadLine, StartIn, FieldIn, FindsText, ReadsStart, ReadsField, ReadsFields, ReadsMessage, IsCutOff, head_fault};
+ghost use Rattle.std.specs.Prelude.{◌≡◌, ◌≢◌, None, Some, Err, OnOk, IfErr};
+ghost use Rattle.tiny_http_stream.specs.Source.{GoesOn, IsWithin, IsAtEnd};
+ghost use Rattle.tiny_http_message.specs.HeadReads.{IsBadLine, StartIn, FieldIn, FindsText, ReadsStart, ReadsField, ReadsFields, ReadsMessage, IsCutOff, head_fault, left_after};
 
 use std::alloc::Global;
 use tiny_http_stream::source::{FirstLine, LineFault, Source};
@@ -35,26 +35,39 @@ fn head_fault(fault: LineFault) -> HeadFault
 {
     match fault {
         LineFault::NotAscii => HeadFault::NotAscii,
+        LineFault::TooLong => HeadFault::TooLarge,
         LineFault::Memory => HeadFault::Memory,
         _ => HeadFault::Cut,
     }
 }
 
-// The next line: held by the source, or taken off.
+// The next line within the limit: held by the source, or taken off.
 fn find_text_line<R: ReadDevice>(
     alloc: Global,
     source: &mut Source<R>,
+    left: Option<usize>,
 ) -> Result<FirstLine, HeadFault>
-    ensures finds { FindsText source.old.feed source.new.feed source.new.held source.new.skip result }
+    ensures finds { FindsText left source.old.feed source.new.feed source.new.held source.new.skip result }
     ensures goes_on { GoesOn source.old.feed source.new.feed }
     ensures cut { result ≡ Err HeadFault.Cut → IsCutOff source.old source.new }
     ensures lazy { OnOk result (source.new.stop ≡ source.old.stop) }
     ensures standing { source.new.standing ≡ source.old.standing }
-    ensures at_end { IsAtEnd source.old → (result ≡ Err HeadFault.Cut) × (source.new ≡ source.old) }
+    ensures at_end { IsAtEnd source.old → left ≢ Some 0 → (result ≡ Err HeadFault.Cut) × (source.new ≡ source.old) }
 {
-    match source.find_line(alloc) {
+    match source.find_line(alloc, left) {
         Ok(line) => Ok(line),
         Err(fault) => Err(head_fault(fault)),
+    }
+}
+
+// What is left of the limit after a line of so many bytes and its CR LF.
+fn left_after(n: usize, left: Option<usize>) -> Option<usize>
+    requires { IsWithin left n }
+    ensures { result ≡ left_after n left }
+{
+    match left {
+        Some(left) => Some(left - n - 2),
+        None => None,
     }
 }
 
@@ -72,22 +85,27 @@ fn start_in(alloc: Global, text: &[u8]) -> Result<(Method, AsciiString, HTTPVers
     }
 }
 
-// The request line.
+// The request line, within the limit.
 fn read_start<R: ReadDevice>(
     alloc: Global,
     source: &mut Source<R>,
+    left: &mut Option<usize>,
 ) -> Result<(Method, AsciiString, HTTPVersion), HeadFault>
-    ensures reads { ReadsStart source.old.feed source.new.feed result }
+    ensures reads { ReadsStart left.old left.new source.old.feed source.new.feed result }
     ensures goes_on { GoesOn source.old.feed source.new.feed }
     ensures cut { result ≡ Err HeadFault.Cut → IsCutOff source.old source.new }
     ensures lazy { OnOk result (source.new.stop ≡ source.old.stop) }
     ensures passed { IfErr result (λ fault. IsBadLine fault → source.new.stop ≡ source.old.stop) }
     ensures standing { source.new.standing ≡ source.old.standing }
-    ensures at_end { IsAtEnd source.old → (result ≡ Err HeadFault.Cut) × (source.new ≡ source.old) }
+    ensures at_end { IsAtEnd source.old → left.old ≢ Some 0 → (result ≡ Err HeadFault.Cut) × (source.new ≡ source.old) }
 {
-    match find_text_line(alloc, source)? {
-        FirstLine::Taken(text) => start_in(alloc, text.as_slice()),
+    match find_text_line(alloc, source, *left)? {
+        FirstLine::Taken(text) => {
+            *left = left_after(text.len(), *left);
+            start_in(alloc, text.as_slice())
+        }
         FirstLine::Held(n) => {
+            *left = left_after(n, *left);
             let start = start_in(alloc, &source.held()[..n]);
             source.pass_line(n);
             start
@@ -112,21 +130,26 @@ fn field_in(alloc: Global, text: &[u8]) -> Result<Option<Header>, HeadFault>
     }
 }
 
-// The next header, or None at the empty line.
+// The next header, or None at the empty line, within the limit.
 fn read_field<R: ReadDevice>(
     alloc: Global,
     source: &mut Source<R>,
+    left: &mut Option<usize>,
 ) -> Result<Option<Header>, HeadFault>
-    ensures reads { ReadsField source.old.feed source.new.feed result }
+    ensures reads { ReadsField left.old left.new source.old.feed source.new.feed result }
     ensures goes_on { GoesOn source.old.feed source.new.feed }
     ensures cut { result ≡ Err HeadFault.Cut → IsCutOff source.old source.new }
     ensures lazy { OnOk result (source.new.stop ≡ source.old.stop) }
     ensures passed { IfErr result (λ fault. IsBadLine fault → source.new.stop ≡ source.old.stop) }
     ensures standing { source.new.standing ≡ source.old.standing }
 {
-    match find_text_line(alloc, source)? {
-        FirstLine::Taken(text) => field_in(alloc, text.as_slice()),
+    match find_text_line(alloc, source, *left)? {
+        FirstLine::Taken(text) => {
+            *left = left_after(text.len(), *left);
+            field_in(alloc, text.as_slice())
+        }
         FirstLine::Held(n) => {
+            *left = left_after(n, *left);
             let field = field_in(alloc, &source.held()[..n]);
             source.pass_line(n);
             field
@@ -134,12 +157,13 @@ fn read_field<R: ReadDevice>(
     }
 }
 
-// The headers, up to the empty line.
+// The headers, up to the empty line, within the limit.
 fn read_fields<R: ReadDevice>(
     alloc: Global,
     source: &mut Source<R>,
+    left: &mut Option<usize>,
 ) -> Result<Vec<Header>, HeadFault>
-    ensures reads { ReadsFields (λ hs. hs.items) source.old.feed source.new.feed result }
+    ensures reads { ReadsFields (λ hs. hs.items) left.old left.new source.old.feed source.new.feed result }
     ensures goes_on { GoesOn source.old.feed source.new.feed }
     ensures cut { result ≡ Err HeadFault.Cut → IsCutOff source.old source.new }
     ensures lazy { OnOk result (source.new.stop ≡ source.old.stop) }
@@ -148,7 +172,7 @@ fn read_fields<R: ReadDevice>(
 {
     let mut headers = Vec::new(alloc);
     loop {
-        match read_field(alloc, source) {
+        match read_field(alloc, source, left) {
             Ok(Some(header)) => {
                 if headers.push(header).is_err() {
                     return Err(HeadFault::Memory);
@@ -160,24 +184,27 @@ fn read_fields<R: ReadDevice>(
     }
 }
 
-/// Reads a whole head; or answers its fault, under its version if that was read.
+/// Reads a whole head of at most `limit` bytes, its empty line included; or answers its fault, under its version if that was
+/// read.
 pub(crate) fn read_message<R: ReadDevice>(
     alloc: Global,
     source: &mut Source<R>,
+    limit: Option<usize>,
 ) -> Result<Message, (Option<HTTPVersion>, HeadFault)>
-    ensures reads { ReadsMessage None source.old.feed source.new.feed result }
+    ensures reads { ReadsMessage limit source.old.feed source.new.feed result }
     ensures goes_on { GoesOn source.old.feed source.new.feed }
     ensures cut { IfErr result (λ e. e.1 ≡ HeadFault.Cut → IsCutOff source.old source.new) }
     ensures lazy { OnOk result (source.new.stop ≡ source.old.stop) }
     ensures passed { IfErr result (λ e. IsBadLine e.1 → source.new.stop ≡ source.old.stop) }
     ensures standing { source.new.standing ≡ source.old.standing }
-    ensures at_end { IsAtEnd source.old → (result ≡ Err (None, HeadFault.Cut)) × (source.new ≡ source.old) }
+    ensures at_end { IsAtEnd source.old → limit ≢ Some 0 → (result ≡ Err (None, HeadFault.Cut)) × (source.new ≡ source.old) }
 {
-    let (method, path, version) = match read_start(alloc, source) {
+    let mut left = limit;
+    let (method, path, version) = match read_start(alloc, source, &mut left) {
         Ok(start) => start,
         Err(fault) => return Err((None, fault)),
     };
-    match read_fields(alloc, source) {
+    match read_fields(alloc, source, &mut left) {
         Ok(headers) => Ok(Message {
             method,
             path,

@@ -1,6 +1,6 @@
 -- Lines within a limit.
 use Rattle.std.proofs.Common.{◌≡◌, refl, sym, ap, ◌∙◌, subst, ℕ, zero, suc, ◌+◌, ◌-◌, ◌<◌, ◌≤◌, true, false, List, [], ◌∷◌, ◌++◌, length, take, drop, Option, Some, None, Ok, Err, Result, append_assoc, length-append, append-nil, arith}
-use Rattle.std.specs.Prelude.{IfSome, IsSome, OnOk, is_err, ◌≢◌}
+use Rattle.std.specs.Prelude.{IfSome, IsSome, OnOk, is_err}
 use Rattle.std.specs.Option.{option_map}
 use Rattle.std.specs.Str.{IsAscii, IsNotAscii}
 use Rattle.std.proofs.lemmas.List.{take-append-drop, take-append-le, length-take-le, length-drop}
@@ -8,7 +8,7 @@ use Rattle.std.proofs.Math.Seq.{take-append_seam}
 use Rattle.tiny_http_device.specs.Device.{Feed, prepended, StopsBy}
 use Rattle.tiny_http_device.specs.declared.device.Stop.{Stop}
 use Rattle.tiny_http_device.specs.declared.device.Stop.TheVariants.{End}
-use Rattle.tiny_http_text.specs.Lines.{Line, IsUnfinished, has_crlf}
+use Rattle.tiny_http_text.specs.Lines.{IsUnfinished, has_crlf}
 use Rattle.tiny_http_text.proofs.LinesLemmas.{clear-front}
 use Rattle.tiny_http_stream.specs.ToCome.{stopped, to_come}
 use Rattle.tiny_http_stream.proofs.LineEndsScanning.{come-now, line-given}
@@ -19,7 +19,7 @@ use Rattle.tiny_http_stream.specs.declared.source.Input.{Input}
 use Rattle.tiny_http_stream.specs.declared.source.FirstLine.{FirstLine}
 use Rattle.tiny_http_stream.specs.declared.source.FirstLine.TheVariants.{Held, Taken}
 use Rattle.tiny_http_stream.specs.Input.{input_feed}
-use Rattle.tiny_http_stream.specs.Source.{ReadsLine, TakesLine, FindsLine, ReadsWithin, IsWithin, seen_within, IsShort, IsTooLong, line_fault_of}
+use Rattle.tiny_http_stream.specs.Source.{TakesLine, FindsLine, ReadsWithin, IsWithin, seen_within, IsShort, line_fault_of}
 use Rattle.tiny_http_stream.specs.declared.source.LineFault.{LineFault}
 use Rattle.tiny_http_stream.specs.declared.source.LineFault.TheVariants as fault
 

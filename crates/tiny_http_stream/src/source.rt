@@ -580,7 +580,11 @@ impl<R: ReadDevice> Input<R> {
     }
 
     /// Reads the first line within the limit, without its CR LF.
-    pub fn read_line(&mut self, alloc: Global, left: Option<usize>) -> Result<AsciiString, LineFault>
+    pub fn read_line(
+        &mut self,
+        alloc: Global,
+        left: Option<usize>,
+    ) -> Result<AsciiString, LineFault>
         ensures line { ReadsWithin left (input_feed R.feed self.old) (input_feed R.feed self.new) result }
         // After an end or a fault the reader isn't called again.
         ensures once { IsSome (input_stop self.old) → IsSome (input_stop self.new) × (input_reader self.new ≡ input_reader self.old) }

@@ -1,4 +1,4 @@
-use Rattle.std.proofs.Common.{rules, ◌≡◌, ◌∙◌, ap, sym, subst, false, ℕ, List}
+use Rattle.std.proofs.Common.{rules, ◌∙◌, ap, sym, subst, ℕ, List}
 use Rattle.tiny_http_text.specs.Lines.{has_crlf}
 use Rattle.tiny_http_stream.specs.LineEnds.{EndsLine}
 use Rattle.tiny_http_stream.proofs.WithinLines.{none-seen, ends-unseen}

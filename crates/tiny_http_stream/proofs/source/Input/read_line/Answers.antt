@@ -14,7 +14,7 @@ returns-in-Ok-from_ascii-clause-line g c =
     let here = c.match-branch-2 in
     let T : Input g.row.R.Denot → Vec ℕ → Type 0 = λ s t. TakesWithin c.args.left (feed c.args.self.now) (feed s) t.items in
     let taken : T here.self here.text = elim here.branch [
-      in-Taken w ↦ subst (λ s. T s here.text) (sym w.self-is) (subst (λ t. T found t) (sym w.text-is) (taken-of c.args.left _ (feed found) found.held found.skip c.in_ok-text.field-0 w.in-Taken.text line w.in-Taken.is))
+      | in-Taken w ↦ subst (λ s. T s here.text) (sym w.self-is) (subst (λ t. T found t) (sym w.text-is) (taken-of c.args.left _ (feed found) found.held found.skip c.in_ok-text.field-0 w.in-Taken.text line w.in-Taken.is))
       | in-Held+in-Ok w ↦ subst (λ s. T s here.text) (sym w.self-is) (subst (λ t. T w.take_line.new.self t) (sym w.text-is) (held-of g.R.ReadDevice.feed c.args.left _ found w.take_line.new.self c.in_ok-text.field-0 w.in-Held.n w.in-Ok.text line w.in-Held.is w.in-Ok.ensures.text w.in-Ok.ensures.rest))
     ] in
     rw c.in-Ok-from_ascii.ensures.ok (within-ascii c.args.left _ (feed here.self) here.text.items taken c.in-Ok-from_ascii.ensures.ascii)
@@ -27,7 +27,7 @@ returns-clause-line g c =
     let here = c.match-branch-2 in
     let T : Input g.row.R.Denot → Vec ℕ → Type 0 = λ s t. TakesWithin c.args.left (feed c.args.self.now) (feed s) t.items in
     let taken : T here.self here.text = elim here.branch [
-      in-Taken w ↦ subst (λ s. T s here.text) (sym w.self-is) (subst (λ t. T found t) (sym w.text-is) (taken-of c.args.left _ (feed found) found.held found.skip c.in_ok-text.field-0 w.in-Taken.text line w.in-Taken.is))
+      | in-Taken w ↦ subst (λ s. T s here.text) (sym w.self-is) (subst (λ t. T found t) (sym w.text-is) (taken-of c.args.left _ (feed found) found.held found.skip c.in_ok-text.field-0 w.in-Taken.text line w.in-Taken.is))
       | in-Held+in-Ok w ↦ subst (λ s. T s here.text) (sym w.self-is) (subst (λ t. T w.take_line.new.self t) (sym w.text-is) (held-of g.R.ReadDevice.feed c.args.left _ found w.take_line.new.self c.in_ok-text.field-0 w.in-Held.n w.in-Ok.text line w.in-Held.is w.in-Ok.ensures.text w.in-Ok.ensures.rest))
     ] in
     within-not_ascii c.args.left _ (feed here.self) here.text.items taken c.in-Err-from_ascii.ensures.refused

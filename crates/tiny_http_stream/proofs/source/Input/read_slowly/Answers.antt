@@ -1,5 +1,5 @@
 use Rattle.std.specs.Prelude.{Option, IfSome, is_err}
-use Rattle.std.proofs.Common.{rules, ◌≡◌, ◌+◌, ◌++◌, ◌∷◌, [], ap, sym, ◌∙◌, subst, length, length-append, true, false}
+use Rattle.std.proofs.Common.{rules, ◌≡◌, ◌++◌, ◌∷◌, [], ap, sym, ◌∙◌, subst, length, length-append, false}
 use Rattle.tiny_http_device.specs.Device.{Feed, prepended, StopsBy}
 use Rattle.tiny_http_device.proofs.DeviceFeeds.{given-along}
 use Rattle.tiny_http_stream.specs.LineEnds.{held_return, IsRoom}
@@ -34,9 +34,11 @@ returns-in_default-clause-none g c =
     let k = c.line_fault.ensures.in_time in
     let stops = c.in_default.ensures in
     let within = room-short c.args.left c.loop-room.room text c.line_fault.result k.0 c.loop-room.invariant.room (c.is_reached.ensures.below (search rules)) in
-    let S : Option Feed → Type 0 = λ o. IfSome (input_stop c.pop_byte.new.self) (λ s. StopsBy s o) in
-    (short-read-of c.args.left _ (feed c.pop_byte.new.self) text c.line_fault.result (input_stop c.pop_byte.new.self) k (c.loop-room.invariant.feed ∙ ap (λ f. prepended text f) (sym same))
-    (line_ends-line-none c.loop-room.text.items c.loop-room.after_return c.loop-room.invariant.passed) within stops.over.0 c.line_fault.ensures.fault (subst S (sym same) stops.stop), k.1)
+    let S : Option Feed → Type 0 = λ o. IfSome (input_stop c.pop_byte.new.self) (λ s. StopsBy s o) in (
+      short-read-of c.args.left _ (feed c.pop_byte.new.self) text c.line_fault.result (input_stop c.pop_byte.new.self) k (c.loop-room.invariant.feed ∙ ap (λ f. prepended text f) (sym same))
+          (line_ends-line-none c.loop-room.text.items c.loop-room.after_return c.loop-room.invariant.passed) within stops.over.0 c.line_fault.ensures.fault (subst S (sym same) stops.stop),
+      k.1,
+    )
 
 pub returns-clause-none : goal.returns-clause-none
 returns-clause-none g c =
