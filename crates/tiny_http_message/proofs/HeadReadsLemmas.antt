@@ -1,12 +1,12 @@
 -- From lines read to heads read.
-use Rattle.std.proofs.Common.{◌≡◌, refl, sym, ap, ◌∙◌, subst, ℕ, List, [], ◌∷◌, ◌++◌, length, Option, Some, None, Result, Ok, Err, inl, inr, arith}
+use Rattle.std.proofs.Common.{◌≡◌, refl, sym, ap, ◌∙◌, subst, ℕ, ◌+◌, ◌<◌, ◌≤◌, List, [], ◌∷◌, ◌++◌, length, length-append, take, Option, Some, None, Result, Ok, Err, inl, inr, arith}
+use Rattle.std.specs.Prelude.{◌≢◌}
 use Rattle.tiny_http_wire.specs.declared.common.Header.{Header}
 use Rattle.tiny_http_wire.specs.Device.{Feed}
 use Rattle.tiny_http_wire.specs.Bytes.{AreAscii}
 use Rattle.tiny_http_wire.specs.Lines.{Line}
-use Rattle.tiny_http_wire.specs.Heads.{BeginsWithHeaderLines, HeaderLine, IsRequestLine, IsFieldOrEnd}
+use Rattle.tiny_http_wire.specs.Heads.{BeginsWithHeaderLines, BeginsWithRequestLine, BeginsWithRequestHead, HeaderLine, IsRequestLine, IsFieldOrEnd, FaultyLine, FaultyHead, GrammarFault, Cut, NotAscii, Malformed}
 use Rattle.tiny_http_wire.specs.HeadReading as reading
-use Rattle.tiny_http_text.proofs.BytesLemmas.{not-ascii}
 use Rattle.tiny_http_head.proofs.HeadsLemmas.{request-line-is, request-line-one, header-line-is, header-line-one}
 use Rattle.tiny_http_wire.specs.declared.common.Method.{Method}
 use Rattle.tiny_http_wire.specs.declared.common.HTTPVersion.{HTTPVersion}
@@ -15,102 +15,72 @@ use Rattle.tiny_http_stream.specs.declared.source.LineFault.{LineFault}
 use Rattle.tiny_http_stream.specs.declared.source.LineFault.TheVariants as linefault
 use Rattle.tiny_http_message.specs.declared.heads.HeadFault.{HeadFault}
 use Rattle.tiny_http_message.specs.declared.heads.HeadFault.TheVariants as fault
-use Rattle.tiny_http_stream.specs.Source.{ReadsLine, TakesLine, feed_from}
-use Rattle.tiny_http_message.specs.HeadReads.{StartIn, FieldIn, ReadsText, ReadsStart, HasReadFields, ReadsField, ReadsFields, ReadsMessage, IsFaulty, IsFaultyHead, head_fault}
+use Rattle.tiny_http_stream.specs.Source.{ReadsWithin, TakesLine, IsWithin, IsShort, IsTooLong, feed_from}
+use Rattle.tiny_http_message.specs.Pipeline.{head_limit, seen_bytes, BeginsWithin, IsUnfinishedHead, IsTooLarge}
+use Rattle.tiny_http_message.specs.HeadReads.{IsSpent, left_after, StartIn, FieldIn, HasNoLine, ReadsStart, HasReadFields, ReadsField, ReadsFields, ReadsMessage, IsFaulty, IsFaultyHead, head_fault, message_of}
+use Rattle.tiny_http_message.proofs.WithinLemmas.{head-text}
+use Rattle.tiny_http_message.proofs.SeenLemmas.{spent-line, spent-more, spent-none, seen-line, seen-start, seen-headers}
 
-pub text-not-read : (o p : Option Feed) (e : LineFault) → ReadsLine o p (Err e) → ReadsText o p (Err (head_fault e))
-text-not-read None p e h = tt
-text-not-read (Some f) p linefault.NotAscii h = (h.0, h.1, h.2, not-ascii h.0 h.3)
-text-not-read (Some f) p linefault.Memory h = tt
-text-not-read (Some f) p linefault.End h = h.0
-text-not-read (Some f) p linefault.TimedOut h = h.0
-text-not-read (Some f) p (linefault.Broken kind) h = h.0
+-- why there is no line
+pub no-line : (left : Option ℕ) (o p : Option Feed) (e : LineFault) → (e ≡ linefault.NotAscii → ⊥) → ReadsWithin left o p (Err e) → HasNoLine left o (head_fault e)
+no-line left None p e ne h = tt
+no-line left (Some f) p linefault.NotAscii ne h = absurd (ne refl)
+no-line left (Some f) p linefault.TooLong ne h = h.0
+no-line left (Some f) p linefault.Memory ne h = tt
+no-line left (Some f) p linefault.End ne h = (h.0.0, h.1)
+no-line left (Some f) p linefault.TimedOut ne h = (h.0.0, h.1)
+no-line left (Some f) p (linefault.Broken kind) ne h = (h.0.0, h.1)
 
--- a line that isn't read is a fault of each line that had to stand there
-pub text-faulty : (IsGood : List ℕ → Type 0) (f : Feed) (p : Option Feed) (e : HeadFault) → ReadsText (Some f) p (Err e) → IsFaulty IsGood f.bytes e
-text-faulty IsGood f p fault.Cut h = h
-text-faulty IsGood f p fault.NotAscii h = h
-text-faulty IsGood f p fault.Malformed h = absurd h
-text-faulty IsGood f p fault.TooLarge h = absurd h
-text-faulty IsGood f p fault.Memory h = tt
+no-line-faulty : (left : Option ℕ) (IsGood : List ℕ → Type 0) (f : Feed) (e : HeadFault) → HasNoLine left (Some f) e → IsFaulty left IsGood f.bytes e
+no-line-faulty left IsGood f fault.Cut h = h
+no-line-faulty left IsGood f fault.TooLarge h = h
+no-line-faulty left IsGood f fault.NotAscii h = absurd h
+no-line-faulty left IsGood f fault.Malformed h = absurd h
+no-line-faulty left IsGood f fault.Memory h = tt
 
-pub start-err : (o p : Option Feed) (e : HeadFault) → ReadsText o p (Err e) → ReadsStart o p (Err e)
-start-err None p e h = tt
-start-err (Some f) p e h = text-faulty IsRequestLine f p e h
+pub start-err : (limit left : Option ℕ) (o p : Option Feed) (e : HeadFault) → HasNoLine limit o e → ReadsStart limit left o p (Err e)
+start-err limit left None p e h = tt
+start-err limit left (Some f) p e h = no-line-faulty limit IsRequestLine f e h
 
-pub start-read : (o p : Option Feed) (text : List ℕ) (r : Method × List ℕ × HTTPVersion) → ReadsText o p (Ok text) → Some r ≡ reading.request_line text → ReadsStart o p (Ok r)
-start-read None p text r h e = tt
-start-read (Some f) p text r h e = (h.0, (text, h.1, h.2, request-line-is text r (sym e)), h.3)
+pub field-err : (limit left : Option ℕ) (o p : Option Feed) (e : HeadFault) → HasNoLine limit o e → ReadsField limit left o p (Err e)
+field-err limit left None p e h = tt
+field-err limit left (Some f) p e h = no-line-faulty limit IsFieldOrEnd f e h
 
-pub start-malformed : (o p : Option Feed) (text : List ℕ) → ReadsText o p (Ok text) → ◌≡◌ {A = Option (Method × List ℕ × HTTPVersion)} None (reading.request_line text) → ReadsStart o p (Err fault.Malformed)
-start-malformed None p text h e = tt
-start-malformed (Some f) p text h e = (text, h.0, h.1, h.2, λ k. none-some (e ∙ request-line-one text k.0 k.1 k.2 k.3))
+-- a line that was taken off, and what its text is read as
+pub start-taken : (limit left : Option ℕ) (o p : Option Feed) (text : List ℕ) (r : Result (Method × List ℕ × HTTPVersion) HeadFault) → TakesLine o p text → IsWithin limit (length text) → left ≡ left_after (length text) limit → StartIn text r
+    → ReadsStart limit left o p r
+start-taken limit left None p text r h within e k = tt
+start-taken limit left (Some f) p text (Ok r) h within e k = (h.0, (text, h.1, k.0, request-line-is text r k.1), h.2, spent-line limit left f.bytes text h.0 h.1 within e)
+start-taken limit left (Some f) p text (Err fault.NotAscii) h within e k = (text, seen_bytes left h.0, seen-line limit left f.bytes text h.0 h.1 (spent-line limit left f.bytes text h.0 h.1 within e), k)
+start-taken limit left (Some f) p text (Err fault.Malformed) h within e k =
+    (text, seen_bytes left h.0, seen-line limit left f.bytes text h.0 h.1 (spent-line limit left f.bytes text h.0 h.1 within e), k.0, λ good. none-some (sym k.1 ∙ request-line-one text good.0 good.1 good.2 good.3))
   where
     none-some : {r : Method × List ℕ × HTTPVersion} → ◌≡◌ {A = Option (Method × List ℕ × HTTPVersion)} None (Some r) → ⊥
     none-some x = cc
+start-taken limit left (Some f) p text (Err fault.Cut) h within e k = absurd k
+start-taken limit left (Some f) p text (Err fault.TooLarge) h within e k = absurd k
+start-taken limit left (Some f) p text (Err fault.Memory) h within e k = tt
 
-pub field-err : (o p : Option Feed) (e : HeadFault) → ReadsText o p (Err e) → ReadsField o p (Err e)
-field-err None p e h = tt
-field-err (Some f) p e h = text-faulty IsFieldOrEnd f p e h
-
-pub field-read : (o p : Option Feed) (text : List ℕ) (x : Header) → ReadsText o p (Ok text) → Some x ≡ reading.header_line text → ReadsField o p (Ok (Some x))
-field-read None p text x h e = tt
-field-read (Some f) p text x h e = (text, h.0, h.1, h.2, header-line-is text x (sym e), h.3)
-
-pub head_reads-field-malformed : (o p : Option Feed) (text : List ℕ) → ReadsText o p (Ok text) → (length text ≡ 0 → ⊥) → ◌≡◌ {A = Option Header} None (reading.header_line text) → ReadsField o p (Err fault.Malformed)
-head_reads-field-malformed None p text h n e = tt
-head_reads-field-malformed (Some f) p text h n e = (text, h.0, h.1, h.2, no-field)
+pub field-taken : (limit left : Option ℕ) (o p : Option Feed) (text : List ℕ) (r : Result (Option Header) HeadFault) → TakesLine o p text → IsWithin limit (length text) → left ≡ left_after (length text) limit → FieldIn text r
+    → ReadsField limit left o p r
+field-taken limit left None p text r h within e k = tt
+field-taken limit left (Some f) p text (Ok None) h within e k =
+    let L : List ℕ → Type 0 = λ t. Line f.bytes t h.0 in
+    (h.0, subst L k h.1, h.2, spent-line limit left f.bytes text h.0 h.1 within e)
+field-taken limit left (Some f) p text (Ok (Some x)) h within e k = (text, h.0, h.1, k.0, header-line-is text x k.1, h.2, spent-line limit left f.bytes text h.0 h.1 within e)
+field-taken limit left (Some f) p text (Err fault.NotAscii) h within e k = (text, seen_bytes left h.0, seen-line limit left f.bytes text h.0 h.1 (spent-line limit left f.bytes text h.0 h.1 within e), k)
+field-taken limit left (Some f) p text (Err fault.Malformed) h within e k =
+    (text, seen_bytes left h.0, seen-line limit left f.bytes text h.0 h.1 (spent-line limit left f.bytes text h.0 h.1 within e), k.0, no-field)
   where
     none-some : {r : Header} → ◌≡◌ {A = Option Header} None (Some r) → ⊥
     none-some x = cc
 
     no-field : IsFieldOrEnd text → ⊥
-    no-field (inl empty) = n (ap length empty)
-    no-field (inr k) = none-some (e ∙ header-line-one text k.0 k.1 k.2)
-
--- a line that was taken off, and what its text is read as
-text-taken : (o p : Option Feed) (text : List ℕ) → TakesLine o p text → AreAscii text → ReadsText o p (Ok text)
-text-taken None p text h k = tt
-text-taken (Some f) p text h k = (h.0, h.1, k, h.2)
-
-not-text-taken : (o p : Option Feed) (text : List ℕ) → TakesLine o p text → (AreAscii text → ⊥) → ReadsText o p (Err fault.NotAscii)
-not-text-taken None p text h k = tt
-not-text-taken (Some f) p text h k = (text, h.0, h.1, k)
-
-pub start-taken : (o p : Option Feed) (text : List ℕ) (r : Result (Method × List ℕ × HTTPVersion) HeadFault) → TakesLine o p text → StartIn text r → ReadsStart o p r
-start-taken o p text (Ok r) h k = start-read o p text r (text-taken o p text h k.0) (sym k.1)
-start-taken o p text (Err fault.NotAscii) h k = start-err o p fault.NotAscii (not-text-taken o p text h k)
-start-taken o p text (Err fault.Malformed) h k = start-malformed o p text (text-taken o p text h k.0) (sym k.1)
-start-taken o p text (Err fault.Cut) h k = absurd k
-start-taken o p text (Err fault.TooLarge) h k = absurd k
-start-taken o p text (Err fault.Memory) h k = start-err o p fault.Memory (memory-read o p)
-  where
-    memory-read : (o p : Option Feed) → ReadsText o p (Err fault.Memory)
-    memory-read None p = tt
-    memory-read (Some f) p = tt
-
-pub field-taken : (o p : Option Feed) (text : List ℕ) (r : Result (Option Header) HeadFault) → TakesLine o p text → FieldIn text r → ReadsField o p r
-field-taken o p text (Ok None) h k =
-    let P : List ℕ → Type 0 = λ t. TakesLine o p t in
-    nothing-taken o p (subst P k h)
-  where
-    nothing-taken : (o p : Option Feed) → TakesLine o p [] → ReadsField o p (Ok None)
-    nothing-taken None p h = tt
-    nothing-taken (Some f) p h = h
-field-taken o p text (Ok (Some x)) h k = field-read o p text x (text-taken o p text h k.0) (sym k.1)
-field-taken o p text (Err fault.NotAscii) h k = field-err o p fault.NotAscii (not-text-taken o p text h k)
-field-taken o p text (Err fault.Malformed) h k = head_reads-field-malformed o p text (text-taken o p text h k.0) (λ e. k.1 (no-text text e)) (sym k.2)
-  where
-    no-text : (t : List ℕ) → length t ≡ 0 → t ≡ []
-    no-text [] e = refl
-    no-text (b ∷ bs) e = absurd (omega (arith, e))
-field-taken o p text (Err fault.Cut) h k = absurd k
-field-taken o p text (Err fault.TooLarge) h k = absurd k
-field-taken o p text (Err fault.Memory) h k = field-err o p fault.Memory (memory-read o p)
-  where
-    memory-read : (o p : Option Feed) → ReadsText o p (Err fault.Memory)
-    memory-read None p = tt
-    memory-read (Some f) p = tt
+    no-field (inl empty) = k.1 empty
+    no-field (inr good) = none-some (sym k.2 ∙ header-line-one text good.0 good.1 good.2)
+field-taken limit left (Some f) p text (Err fault.Cut) h within e k = absurd k
+field-taken limit left (Some f) p text (Err fault.TooLarge) h within e k = absurd k
+field-taken limit left (Some f) p text (Err fault.Memory) h within e k = tt
 
 Fields-push : (bytes : List ℕ) (hs : List Header) (mid text next : List ℕ) (h : Header) → BeginsWithHeaderLines bytes hs mid → Line mid text next → AreAscii text → HeaderLine text h.field h.value → BeginsWithHeaderLines bytes (hs ++ h ∷ []) next
 Fields-push bytes [] mid text next h here l a k =
@@ -118,60 +88,102 @@ Fields-push bytes [] mid text next h here l a k =
     (text, next, subst P here l, a, k, refl)
 Fields-push bytes (x ∷ hs) mid text next h f l a k = (f.0, f.1, f.2, f.3, f.4, Fields-push f.1 hs mid text next h f.5 l a k)
 
-pub fields-none : (o : Option Feed) → HasReadFields o o []
-fields-none None = tt
-fields-none (Some f) = (f.bytes, refl, refl)
+pub fields-none : (limit : Option ℕ) (o : Option Feed) → HasReadFields limit limit o o []
+fields-none limit None = tt
+fields-none limit (Some f) = (f.bytes, refl, refl, spent-none limit f.bytes)
 
-pub fields-more : (o p q : Option Feed) (hs : List Header) (h : Header) → HasReadFields o p hs → ReadsField p q (Ok (Some h)) → HasReadFields o q (hs ++ h ∷ [])
-fields-more None p q hs h r k = tt
-fields-more (Some f) p q hs h r k =
-    let P : Option Feed → Type 0 = λ x. ReadsField x q (Ok (Some h)) in
+pub fields-more : (limit mid left : Option ℕ) (o p q : Option Feed) (hs : List Header) (h : Header) → HasReadFields limit mid o p hs → ReadsField mid left p q (Ok (Some h)) → HasReadFields limit left o q (hs ++ h ∷ [])
+fields-more limit mid left None p q hs h r k = tt
+fields-more limit mid left (Some f) p q hs h r k =
+    let P : Option Feed → Type 0 = λ x. ReadsField mid left x q (Ok (Some h)) in
     let n = subst P r.2 k in
-    (n.1, Fields-push f.bytes hs r.0 n.0 n.1 h r.1 n.2 n.3 n.4, n.5)
+    (n.1, Fields-push f.bytes hs r.0 n.0 n.1 h r.1 n.2 n.3 n.4, n.5, spent-more limit mid left f.bytes r.0 n.1 r.3 n.6)
 
-pub fields-end : {T : Type 0} (items : T → List Header) (o p q : Option Feed) (hs : T) → HasReadFields o p (items hs) → ReadsField p q (Ok None) → ReadsFields items o q (Ok hs)
-fields-end items None p q hs r k = tt
-fields-end items (Some f) p q hs r k =
-    let P : Option Feed → Type 0 = λ x. ReadsField x q (Ok None) in
+pub fields-end : {T : Type 0} (items : T → List Header) (limit mid left : Option ℕ) (o p q : Option Feed) (hs : T) → HasReadFields limit mid o p (items hs) → ReadsField mid left p q (Ok None) → ReadsFields items limit left o q (Ok hs)
+fields-end items limit mid left None p q hs r k = tt
+fields-end items limit mid left (Some f) p q hs r k =
+    let P : Option Feed → Type 0 = λ x. ReadsField mid left x q (Ok None) in
     let n = subst P r.2 k in
-    (r.0, n.0, r.1, n.1, n.2)
+    (r.0, n.0, r.1, n.1, n.2, spent-more limit mid left f.bytes r.0 n.0 r.3 n.3)
 
-pub fields-err : {T : Type 0} (items : T → List Header) (o p q : Option Feed) (hs : List Header) (e : HeadFault) → HasReadFields o p hs → ReadsField p q (Err e) → ReadsFields items o q (Err e)
-fields-err items None p q hs e r k = tt
-fields-err items (Some f) p q hs e r k =
-    let P : Option Feed → Type 0 = λ x. ReadsField x q (Err e) in
-    (hs, r.0, r.1, subst P r.2 k)
+pub fields-err : {T : Type 0} (items : T → List Header) (limit mid left : Option ℕ) (o p q : Option Feed) (hs : List Header) (e : HeadFault) → HasReadFields limit mid o p hs → ReadsField mid left p q (Err e) → ReadsFields items limit left o q (Err e)
+fields-err items limit mid left None p q hs e r k = tt
+fields-err items limit mid left (Some f) p q hs e r k =
+    let P : Option Feed → Type 0 = λ x. ReadsField mid left x q (Err e) in
+    (hs, r.0, mid, r.1, r.3, subst P r.2 k)
 
-pub fields-memory : {T : Type 0} (items : T → List Header) (o p q : Option Feed) (hs : List Header) → HasReadFields o p hs → ReadsFields items o q (Err fault.Memory)
-fields-memory items None p q hs r = tt
-fields-memory items (Some f) p q hs r = (hs, r.0, r.1, tt)
+pub fields-memory : {T : Type 0} (items : T → List Header) (limit mid left : Option ℕ) (o p q : Option Feed) (hs : List Header) → HasReadFields limit mid o p hs → ReadsFields items limit left o q (Err fault.Memory)
+fields-memory items limit mid left None p q hs r = tt
+fields-memory items limit mid left (Some f) p q hs r = (hs, r.0, mid, r.1, r.3, tt)
 
-pub message-read : {T : Type 0} (items : T → List Header) (o p q : Option Feed) (hs : T) (m : Message) → m.headers.items ≡ items hs → ReadsStart o p (Ok (m.method, m.path, m.version)) → ReadsFields items p q (Ok hs) → ReadsMessage None o q (Ok m)
-message-read items None p q hs m e s k = tt
-message-read items (Some f) p q hs m e s k =
-    let P : Option Feed → Type 0 = λ x. ReadsFields items x q (Ok hs) in
+-- a head that keeps the limit
+within-limit : (limit left : Option ℕ) (f : Feed) (m : Message) (rest : List ℕ) → BeginsWithRequestHead f.bytes (message_of m) rest → IsSpent limit f.bytes left rest → BeginsWithin limit f.bytes (message_of m) rest
+within-limit None left f m rest h spent = h
+within-limit (Some limit) None f m rest h spent = absurd spent
+within-limit (Some limit) (Some left) f m rest h spent =
+    let text = head-text f.bytes (message_of m) rest h in
+    let long : length f.bytes ≡ length text.0 + length rest = ap length text.1 ∙ length-append text.0 rest in
+    (h, text.0, text.1, omega (arith, spent, long))
+
+pub message-read : {T : Type 0} (items : T → List Header) (limit mid left : Option ℕ) (o p q : Option Feed) (hs : T) (m : Message) → m.headers.items ≡ items hs → ReadsStart limit mid o p (Ok (m.method, m.path, m.version)) → ReadsFields items mid left p q (Ok hs)
+    → ReadsMessage limit o q (Ok m)
+message-read items limit mid left None p q hs m e s k = tt
+message-read items limit mid left (Some f) p q hs m e s k =
+    let P : Option Feed → Type 0 = λ x. ReadsFields items mid left x q (Ok hs) in
     let n = subst P s.2 k in
     let Q : List Header → Type 0 = λ x. BeginsWithHeaderLines s.0 x n.0 in
-    (n.1, (s.0, n.0, s.1, subst Q (sym e) n.2, n.3), n.4)
+    (n.1, within-limit limit left f m n.1 (s.0, n.0, s.1, subst Q (sym e) n.2, n.3) (spent-more limit mid left f.bytes s.0 n.1 s.3 n.5), n.4)
 
-pub message-start_err : (o p : Option Feed) (e : HeadFault) → ReadsStart o p (Err e) → ReadsMessage None o p (Err (None, e))
-message-start_err None p e h = tt
-message-start_err (Some f) p fault.Cut h = h
-message-start_err (Some f) p fault.TooLarge h = absurd h
-message-start_err (Some f) p fault.NotAscii h = h
-message-start_err (Some f) p fault.Malformed h = h
-message-start_err (Some f) p fault.Memory h = tt
+-- a request line that is faulty
+cut-start : (limit : Option ℕ) (bytes : List ℕ) → FaultyLine IsRequestLine bytes Cut → IsShort limit bytes → IsUnfinishedHead limit bytes None
+cut-start None bytes h k = h
+cut-start (Some limit) bytes h k = (h, k)
 
-pub message-fields_err : {T : Type 0} (items : T → List Header) (o p q : Option Feed) (method : Method) (path : List ℕ) (v : HTTPVersion) (e : HeadFault)
-    → ReadsStart o p (Ok (method, path, v)) → ReadsFields items p q (Err e) → ReadsMessage None o q (Err (Some v, e))
-message-fields_err items None p q method path v e s k = tt
-message-fields_err items (Some f) p q method path v e s k =
-    let P : Option Feed → Type 0 = λ x. ReadsFields items x q (Err e) in
-    faulty e (subst P s.2 k)
+large-start : (limit : Option ℕ) (bytes : List ℕ) → IsTooLong limit bytes → IsTooLarge limit bytes None
+large-start None bytes h = absurd h
+large-start (Some limit) bytes h = h
+
+pub message-start_err : (limit left : Option ℕ) (o p : Option Feed) (e : HeadFault) → ReadsStart limit left o p (Err e) → ReadsMessage limit o p (Err (None, e))
+message-start_err limit left None p e h = tt
+message-start_err limit left (Some f) p fault.Cut h = cut-start limit f.bytes h.0 h.1
+message-start_err limit left (Some f) p fault.TooLarge h = large-start limit f.bytes h
+message-start_err limit left (Some f) p fault.NotAscii h = h
+message-start_err limit left (Some f) p fault.Malformed h = h
+message-start_err limit left (Some f) p fault.Memory h = tt
+
+-- a later line that is faulty: what stands in front of it is seen as it is
+cut-later : (limit left : Option ℕ) (bytes : List ℕ) (v : HTTPVersion) (rest : List ℕ) → IsSpent limit bytes left rest → FaultyHead bytes (Some v) Cut → IsShort left rest → IsUnfinishedHead limit bytes (Some v)
+cut-later None None bytes v rest spent h k = h
+cut-later (Some limit) (Some left) bytes v rest spent h k = (h, omega (arith, spent, k))
+cut-later None (Some left) bytes v rest spent h k = absurd spent
+cut-later (Some limit) None bytes v rest spent h k = absurd spent
+
+large-later : (limit left : Option ℕ) (bytes : List ℕ) (v : HTTPVersion) (rest : List ℕ) → IsSpent limit bytes left rest → FaultyHead (seen_bytes limit bytes) (Some v) Cut → IsTooLong left rest → IsTooLarge limit bytes (Some v)
+large-later None None bytes v rest spent h k = absurd k
+large-later (Some limit) (Some left) bytes v rest spent h k = (omega (arith, spent, k.0), h)
+large-later None (Some left) bytes v rest spent h k = absurd spent
+large-later (Some limit) None bytes v rest spent h k = absurd spent
+
+unfinished-seen : (left : Option ℕ) (rest : List ℕ) → IsTooLong left rest → FaultyLine IsFieldOrEnd (seen_bytes left rest) Cut
+unfinished-seen None rest h = absurd h
+unfinished-seen (Some left) rest h = h.1
+
+pub message-fields_err : {T : Type 0} (items : T → List Header) (limit mid left : Option ℕ) (o p q : Option Feed) (method : Method) (path : List ℕ) (v : HTTPVersion) (e : HeadFault)
+    → ReadsStart limit mid o p (Ok (method, path, v)) → ReadsFields items mid left p q (Err e) → ReadsMessage limit o q (Err (Some v, e))
+message-fields_err items limit mid left None p q method path v e s k = tt
+message-fields_err items limit mid left (Some f) p q method path v e s k =
+    let P : Option Feed → Type 0 = λ x. ReadsFields items mid left x q (Err e) in
+    let n = subst P s.2 k in
+    let spent = spent-more limit mid n.2 f.bytes s.0 n.1 s.3 n.4 in
+    faulty n.0 n.1 n.2 n.3 n.4 spent e n.5
   where
-    faulty : (e : HeadFault) → ReadsFields items (feed_from f s.0) q (Err e) → IsFaultyHead None f.bytes (Some v) e
-    faulty fault.TooLarge n = absurd n.3
-    faulty fault.Cut n = (method, path, s.0, s.1, n.0, n.1, n.2, n.3)
-    faulty fault.NotAscii n = (method, path, s.0, s.1, n.0, n.1, n.2, n.3)
-    faulty fault.Malformed n = (method, path, s.0, s.1, n.0, n.1, n.2, n.3)
-    faulty fault.Memory n = tt
+    seen : (hs : List Header) (rest : List ℕ) (now : Option ℕ) → BeginsWithHeaderLines s.0 hs rest → IsSpent mid s.0 now rest → (g : GrammarFault) → FaultyLine IsFieldOrEnd (seen_bytes now rest) g → FaultyHead (seen_bytes limit f.bytes) (Some v) g
+    seen hs rest now lines spent g h =
+        (method, path, seen_bytes mid s.0, seen-start limit mid f.bytes method path v s.0 s.1 s.3, hs, seen_bytes now rest, seen-headers mid now s.0 hs rest lines spent, h)
+
+    faulty : (hs : List Header) (rest : List ℕ) (now : Option ℕ) → BeginsWithHeaderLines s.0 hs rest → IsSpent mid s.0 now rest → IsSpent limit f.bytes now rest → (e : HeadFault) → IsFaulty now IsFieldOrEnd rest e → IsFaultyHead limit f.bytes (Some v) e
+    faulty hs rest now lines spent all fault.Cut h = cut-later limit now f.bytes v rest all (method, path, s.0, s.1, hs, rest, lines, h.0) h.1
+    faulty hs rest now lines spent all fault.TooLarge h = large-later limit now f.bytes v rest all (seen hs rest now lines spent Cut (unfinished-seen now rest h)) h
+    faulty hs rest now lines spent all fault.NotAscii h = seen hs rest now lines spent NotAscii h
+    faulty hs rest now lines spent all fault.Malformed h = seen hs rest now lines spent Malformed h
+    faulty hs rest now lines spent all fault.Memory h = tt

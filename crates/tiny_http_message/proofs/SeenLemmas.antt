@@ -7,6 +7,8 @@ use Rattle.tiny_http_wire.specs.declared.common.HTTPVersion.{HTTPVersion}
 use Rattle.tiny_http_wire.specs.Bytes.{crlf}
 use Rattle.tiny_http_wire.specs.Lines.{Line}
 use Rattle.tiny_http_wire.specs.Heads.{BeginsWithHeaderLines, BeginsWithRequestLine}
+use Rattle.std.proofs.lemmas.List.{length-take-le}
+use Rattle.tiny_http_stream.specs.LineEnds.{EndsLine}
 use Rattle.tiny_http_stream.specs.Source.{IsWithin}
 use Rattle.tiny_http_message.specs.Pipeline.{seen_bytes}
 use Rattle.tiny_http_message.specs.HeadReads.{IsSpent, left_after}
@@ -22,12 +24,15 @@ seen-on (Some limit) (Some left) bytes text rest e h =
 seen-on None (Some left) bytes text rest e h = absurd h
 seen-on (Some limit) None bytes text rest e h = absurd h
 
+long-by : (bytes text rest : List ℕ) → bytes ≡ text ++ crlf ++ rest → length bytes ≡ length text + (2 + length rest)
+long-by bytes text rest e = rw e (simp length-append (omega arith))
+
 -- a line takes its bytes of the limit
 pub spent-line : (limit left : Option ℕ) (bytes text rest : List ℕ) → Line bytes text rest → IsWithin limit (length text) → left ≡ left_after (length text) limit → IsSpent limit bytes left rest
 spent-line limit left bytes text rest l within e = let P : Option ℕ → Type 0 = λ x. IsSpent limit bytes x rest in subst P (sym e) (by limit within)
   where
     long : length bytes ≡ length text + (2 + length rest)
-    long = ap length l.joins ∙ length-append text (crlf ++ rest) ∙ ap (λ n. length text + n) (length-append crlf rest)
+    long = long-by bytes text rest l.joins
 
     by : (limit : Option ℕ) → IsWithin limit (length text) → IsSpent limit bytes (left_after (length text) limit) rest
     by None within = tt
@@ -61,3 +66,7 @@ seen-headers limit left bytes headers rest h spent =
     let text = headers-text bytes headers rest h in
     let P : List ℕ → Type 0 = λ x. BeginsWithHeaderLines x headers (seen_bytes left rest) in
     subst P (sym (seen-on limit left bytes text.0 rest text.1 spent)) (text.2 (seen_bytes left rest))
+
+-- a line that is held
+pub held-long : (held : List ℕ) (n : ℕ) → EndsLine held n → length (take n held) ≡ n
+held-long held n h = length-take-le n held (omega (arith, h.within))

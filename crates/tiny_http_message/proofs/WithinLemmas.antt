@@ -29,9 +29,9 @@ headers-text bytes (header ∷ headers) rest h =
       line ++ more.0,
       joined line more.0 rest bytes h.1 (line-text bytes h.0 h.1 h.2) more.1,
       λ x. (
-        let P : List ℕ → Type 0 = λ y. Line y h.0 (more.0 ++ x) in
-        (h.0, more.0 ++ x, subst P (simp append_assoc) (line-before bytes h.0 h.1 (more.0 ++ x) h.2), h.3, h.4, more.2 x)
-      ),
+          let P : List ℕ → Type 0 = λ y. Line y h.0 (more.0 ++ x) in
+          (h.0, more.0 ++ x, subst P (simp append_assoc) (line-before bytes h.0 h.1 (more.0 ++ x) h.2), h.3, h.4, more.2 x)
+          ),
     )
 
 -- a head is a text of its own
@@ -45,14 +45,14 @@ head-text bytes m after h =
       line ++ (headers.0 ++ end),
       joined line (headers.0 ++ end) after bytes h.0 (line-text bytes start.0 h.0 start.1) (joined headers.0 end after h.0 h.1 headers.1 (line-text h.1 [] after h.4)),
       λ x. (
-        let P : List ℕ → Type 0 = λ y. Line y start.0 (headers.0 ++ (end ++ x)) in (
-          headers.0 ++ (end ++ x),
-          end ++ x,
-          (start.0, subst P (simp append_assoc) (line-before bytes start.0 h.0 (headers.0 ++ (end ++ x)) start.1), start.2, start.3),
-          headers.2 (end ++ x),
-          line-before h.1 [] after x h.4,
-        )
-      ),
+          let P : List ℕ → Type 0 = λ y. Line y start.0 (headers.0 ++ (end ++ x)) in (
+            headers.0 ++ (end ++ x),
+            end ++ x,
+            (start.0, subst P (simp append_assoc) (line-before bytes start.0 h.0 (headers.0 ++ (end ++ x)) start.1), start.2, start.3),
+            headers.2 (end ++ x),
+            line-before h.1 [] after x h.4,
+          )
+          ),
     )
 
 -- a head that stands among the first bytes stands in all, and keeps the limit

@@ -482,7 +482,7 @@ fn read_item<R: ReadDevice>(
     if !source.has_byte() {
         return answer_cut(alloc, source.stop(), false, now);
     }
-    let message = match read_message(alloc, source) {
+    let message = match read_message(alloc, source, Profile::Lenient.head_limit()) {
         Ok(message) => message,
         Err((version, fault)) => {
             return answer_fault(alloc, version, fault, source.stop(), now);

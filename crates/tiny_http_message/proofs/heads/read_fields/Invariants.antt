@@ -5,7 +5,7 @@ use Rattle.tiny_http_message.proofs.heads.read_fields.Given as goal
 
 abbrev pub invariant-loop-header : goal.invariant-loop-header
 invariant-loop-header g l = record {
-  fields : HasReadFields l.fn.source.feed l.source.feed l.headers.items;
+  fields : HasReadFields l.fn.left l.left l.fn.source.feed l.source.feed l.headers.items;
   goes_on : GoesOn l.fn.source.feed l.source.feed;
   lazy : l.source.stop ≡ l.fn.source.stop;
   standing : l.source.standing ≡ l.fn.source.standing;
