@@ -4,6 +4,7 @@ pub mod HeadReadsServing
 pub mod BodyRemainsLemmas
 pub mod BytesWords
 pub mod FramingLemmas
+pub mod StrictLemmas
 pub mod OwnAnswerLemmas
 pub mod WithinLemmas
 pub mod SeenLemmas

@@ -45,6 +45,24 @@ strict_length (length ∷ lengths) [] = one_length (length_of length) lengths
 strict_length [] (coding ∷ codings) = if ends_with_chunked coding codings then Ok None else Err Invalid
 strict_length (length ∷ lengths) (coding ∷ codings) = Err Invalid
 
+-- the same, from one element to the next: the length that they are, if it is the one that was found before
+abbrev pub same_length : Option ℕ → Option ℕ → Option ℕ
+same_length None found = None
+same_length (Some m) None = Some m
+same_length (Some m) (Some n) = if m == n then Some m else None
+
+abbrev pub if_length : Option ℕ → (ℕ → Result (Option ℕ) FramingFault) → Result (Option ℕ) FramingFault
+if_length None more = Err Invalid
+if_length (Some n) more = more n
+
+abbrev pub lengths_on : Option ℕ → List (List ℕ) → Result (Option ℕ) FramingFault
+lengths_on found [] = Ok found
+lengths_on found (length ∷ lengths) = if_length (same_length (length_of length) found) (λ n. lengths_on (Some n) lengths)
+
+abbrev pub chunked_on : Bool → List (List ℕ) → Bool
+chunked_on was [] = was
+chunked_on was (coding ∷ codings) = chunked_on (same_name coding (codes "chunked")) codings
+
 -- the length of the body by its headers
 abbrev pub body_length : Profile → List Header → Result (Option ℕ) FramingFault
 body_length Lenient headers = Ok (lenient_length headers)

@@ -468,13 +468,14 @@ pub fn begin_body<R: ReadDevice>(
 fn read_item<R: ReadDevice>(
     alloc: Global,
     source: &mut Source<R>,
+    profile: Profile,
     now: HttpDate,
 ) -> Result<HeadRead, AllocError>
-    ensures reads { ReadsHead Profile.Lenient Standing.Head now source.old.feed source.new.feed result }
+    ensures reads { ReadsHead profile Standing.Head now source.old.feed source.new.feed result }
     ensures goes_on { GoesOn source.old.feed source.new.feed }
     ensures at_end { IsAtEnd source.old → IsOkEnd result × (source.new ≡ source.old) }
     ensures begun { (IsOkEnd result → ⊥) → HasByteOrTimedOut source.old.feed }
-    ensures framed { IfOk result (IsFramedRequest Profile.Lenient now) }
+    ensures framed { IfOk result (IsFramedRequest profile now) }
     ensures lazy { IfOk result (λ read. IsRequest read → source.new.stop ≡ source.old.stop) }
     ensures passed { IfOk result (λ read. IsRefusedUncut read → source.new.stop ≡ source.old.stop) }
     ensures standing { source.new.standing ≡ source.old.standing }
@@ -482,13 +483,13 @@ fn read_item<R: ReadDevice>(
     if !source.has_byte() {
         return answer_cut(alloc, source.stop(), false, now);
     }
-    let message = match read_message(alloc, source, Profile::Lenient.head_limit()) {
+    let message = match read_message(alloc, source, profile.head_limit()) {
         Ok(message) => message,
         Err((version, fault)) => {
             return answer_fault(alloc, version, fault, source.stop(), now);
         }
     };
-    let framing = match framing_of(message.version, message.headers.as_slice()) {
+    let framing = match framing_of(profile, message.version, message.headers.as_slice()) {
         Ok(framing) => framing,
         Err(fault) => return refused_with(alloc, refusal_of(fault), message.version, now),
     };
@@ -535,8 +536,10 @@ fn end_at(standing: Standing, why: EndOfRequests) -> EndOfRequests
 /// Reads one head, and with it a body of up to 1024 bytes (RFC 9112, sections 2 to 6). It answers a request, whose body is then
 /// read from the source; or a head that is refused; or the end, with its reason. A head is refused by 400 for a bad line, by
 /// 408 where the reader timed out, also before its first byte, by 417 for an expectation that can't be met, and by 505 for a
-/// version above 1.1, with a text that says which are served (as tiny_http). The first bad line is judged first, then the
-/// expectation, then a body that is read with its head and cut, then the version. `now` dates the answer to a refused head, and
+/// version above 1.1, with a text that says which are served (as tiny_http). Under `Strict` it is refused by 431, too, where so
+/// many bytes of it came as it may have and it hasn't ended (RFC 6585, section 5), and by 400 where its framing is invalid (RFC
+/// 9112, section 6.3). The first bad line is judged first, then the size, then the framing, then the expectation, then a body
+/// that is read with its head and cut, then the version. `now` dates the answer to a refused head, and
 /// the 500 of a request that is dropped. It is an error where memory was refused.
 ///
 /// After a 505 the next head stands behind the body, which is passed over, unless the head names an upgrade or the body is
@@ -545,12 +548,13 @@ fn end_at(standing: Standing, why: EndOfRequests) -> EndOfRequests
 ///
 /// By `read_head`, `read_body` and `give_up` on one source bytes of a body are never read as a head. Where the body of the
 /// request before was neither read to its end nor given up the answer is `UnreadBody`, and the source ends there.
-pub fn read_head<R: ReadDevice>(
+pub fn read_head_with<R: ReadDevice>(
     alloc: Global,
     source: &mut Source<R>,
+    profile: Profile,
     now: HttpDate,
 ) -> Result<HeadRead, AllocError>
-    ensures reads { IsBeforeHead source.old.standing → ReadsHead Profile.Lenient source.old.standing now source.old.feed source.new.feed result }
+    ensures reads { IsBeforeHead source.old.standing → ReadsHead profile source.old.standing now source.old.feed source.new.feed result }
     ensures ends { IsBeforeHead source.old.standing → EndsUnlessHanded result source.new }
     ensures last { source.old.standing ≡ Standing.Last → (result ≡ Ok (HeadRead.Ended EndOfRequests.LastRequest)) × (source.new ≡ source.old) }
     ensures unread { source.old.standing ≡ Standing.Body → (result ≡ Ok (HeadRead.Ended EndOfRequests.UnreadBody)) × IsAtEnd source.new × (source.new.reader ≡ source.old.reader) }
@@ -560,7 +564,7 @@ pub fn read_head<R: ReadDevice>(
     // Unless it is the end, a byte of a head has come, or the reader timed out: memory isn't refused in place of the end.
     ensures begun { (IsOkEnd result → ⊥) → HasByteOrTimedOut source.old.feed }
     // Whatever the reader states: a request is framed as its version and headers say, and its drop's text is that of its head.
-    ensures framed { IfOk result (IsFramedRequest Profile.Lenient now) }
+    ensures framed { IfOk result (IsFramedRequest profile now) }
     // Nothing is read ahead: where a request was read no end or fault of the reader was met.
     ensures lazy { IfOk result (λ read. IsRequest read → source.new.stop ≡ source.old.stop) }
     ensures standing { source.new.standing ≡ standing_read result source.old.standing }
@@ -574,7 +578,7 @@ pub fn read_head<R: ReadDevice>(
         }
         Standing::Head | Standing::Abandoned | Standing::Broken(_) => {}
     }
-    match read_item(alloc, source, now) {
+    match read_item(alloc, source, profile, now) {
         Ok(HeadRead::Request(exchange)) => {
             source.stand_at(standing_of(&exchange));
             Ok(HeadRead::Request(exchange))
@@ -596,4 +600,24 @@ pub fn read_head<R: ReadDevice>(
             Err(e)
         }
     }
+}
+
+/// `read_head_with` under `Lenient`.
+pub fn read_head<R: ReadDevice>(
+    alloc: Global,
+    source: &mut Source<R>,
+    now: HttpDate,
+) -> Result<HeadRead, AllocError>
+    ensures reads { IsBeforeHead source.old.standing → ReadsHead Profile.Lenient source.old.standing now source.old.feed source.new.feed result }
+    ensures ends { IsBeforeHead source.old.standing → EndsUnlessHanded result source.new }
+    ensures last { source.old.standing ≡ Standing.Last → (result ≡ Ok (HeadRead.Ended EndOfRequests.LastRequest)) × (source.new ≡ source.old) }
+    ensures unread { source.old.standing ≡ Standing.Body → (result ≡ Ok (HeadRead.Ended EndOfRequests.UnreadBody)) × IsAtEnd source.new × (source.new.reader ≡ source.old.reader) }
+    ensures goes_on { GoesOn source.old.feed source.new.feed }
+    ensures at_end { IsAtEnd source.old → IsOkEnd result × (source.new.reader ≡ source.old.reader) }
+    ensures begun { (IsOkEnd result → ⊥) → HasByteOrTimedOut source.old.feed }
+    ensures framed { IfOk result (IsFramedRequest Profile.Lenient now) }
+    ensures lazy { IfOk result (λ read. IsRequest read → source.new.stop ≡ source.old.stop) }
+    ensures standing { source.new.standing ≡ standing_read result source.old.standing }
+{
+    read_head_with(alloc, source, Profile::Lenient, now)
 }

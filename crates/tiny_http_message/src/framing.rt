@@ -1,13 +1,14 @@
 //! How a message is framed, and whether the connection goes on.
-ghost use Rattle.std.specs.Prelude.{◌≡◌, ◌==◌, codes, is_some};
+ghost use Rattle.std.specs.Prelude.{◌≡◌, ◌==◌, false, map, codes, None, is_some};
 ghost use Rattle.std.specs.Option.{option_copied};
 ghost use Rattle.std.specs.List.{starts_with};
-ghost use Rattle.tiny_http_wire.specs.Bytes.{contains_word};
+ghost use Rattle.tiny_http_wire.specs.Bytes.{contains_word, is_blank, trimmed, parts, comma};
 ghost use Rattle.tiny_http_wire.specs.Common.{lowercase};
-ghost use Rattle.tiny_http_wire.specs.Heads.{is_too_new};
-ghost use Rattle.tiny_http_message.specs.Framing.{value_of, mentions, lenient_length, expectation, is_last};
-ghost use Rattle.tiny_http_message.specs.FramingReading.{sized_form, form_by, framing};
+ghost use Rattle.tiny_http_wire.specs.Heads.{is_too_new, length_of};
+ghost use Rattle.tiny_http_message.specs.Framing.{value_of, elements_of, mentions, lenient_length, expectation, is_last};
+ghost use Rattle.tiny_http_message.specs.FramingReading.{same_length, lengths_on, chunked_on, strict_length, body_length, sized_form, form_by, framing};
 
+use tiny_http_text::text::trim;
 use tiny_http_wire::ascii::AsciiString;
 use tiny_http_wire::common::{HTTPVersion, Header};
 use tiny_http_wire::grammar::parse_content_length;
@@ -127,16 +128,130 @@ fn mentions(value: Option<&AsciiString>, word: &str) -> bool
     }
 }
 
-// The length that the headers say; a Transfer-Encoding hides it.
-fn lenient_length(is_coded: bool, headers: &[Header]) -> Option<usize>
-    ensures { is_coded ≡ is_some (value_of (codes "Transfer-Encoding") headers.now) → result ≡ lenient_length headers.now }
+// The length under `Lenient`: that of the first `Content-Length`; a `Transfer-Encoding` hides it.
+fn lenient_length(headers: &[Header]) -> Option<usize>
+    ensures { result ≡ lenient_length headers.now }
 {
-    if is_coded {
+    if value_of(headers, "Transfer-Encoding").is_some() {
         return None;
     }
     match value_of(headers, "Content-Length") {
         Some(value) => parse_content_length(value.as_str()),
         None => None,
+    }
+}
+
+// The length that a text is, of digits alone: without a plus.
+fn digits_length(text: &str) -> Option<usize>
+    ensures { result ≡ length_of text.now }
+{
+    let bytes = text.as_bytes();
+    if !bytes.is_empty() && bytes[0] == b'+' {
+        return None;
+    }
+    parse_content_length(text)
+}
+
+// This length, if it is the one that was found before.
+fn same_length(length: Option<usize>, found: Option<usize>) -> Option<usize>
+    ensures { result ≡ same_length length found }
+{
+    match (length, found) {
+        (Some(length), Some(before)) => {
+            if length == before {
+                return Some(length);
+            }
+            None
+        }
+        (Some(length), None) => Some(length),
+        (None, _) => None,
+    }
+}
+
+// The length that the elements of a value are, if it is the one that was found before.
+fn lengths_in(value: &str, found: Option<usize>) -> Result<Option<usize>, FramingFault>
+    ensures { result ≡ lengths_on found (map (trimmed is_blank) (parts comma value.now)) }
+{
+    let mut found = found;
+    for text in value.split(',') {
+        let Some(length) = same_length(digits_length(trim(text)), found) else {
+            return Err(FramingFault::Invalid);
+        };
+        found = Some(length);
+    }
+    Ok(found)
+}
+
+// The one length that all elements of all `Content-Length` headers are, if there is such a header.
+fn one_length(headers: &[Header]) -> Result<Option<usize>, FramingFault>
+    ensures { result ≡ lengths_on None (elements_of (codes "Content-Length") headers.now) }
+{
+    let mut found = None;
+    for header in headers {
+        if header.field.equiv("Content-Length") {
+            match lengths_in(header.value.as_str(), found) {
+                Ok(length) => found = length,
+                Err(fault) => return Err(fault),
+            }
+        }
+    }
+    Ok(found)
+}
+
+// Whether the last element of a value is `chunked`.
+fn ends_chunked(value: &str) -> bool
+    ensures { result ≡ chunked_on false (map (trimmed is_blank) (parts comma value.now)) }
+{
+    let mut is_chunked = false;
+    for text in value.split(',') {
+        is_chunked = trim(text).eq_ignore_ascii_case("chunked");
+    }
+    is_chunked
+}
+
+// Whether the last element of all `Transfer-Encoding` headers is `chunked`.
+fn is_chunked(headers: &[Header]) -> bool
+    ensures { result ≡ chunked_on false (elements_of (codes "Transfer-Encoding") headers.now) }
+{
+    let mut is_chunked = false;
+    for header in headers {
+        if header.field.equiv("Transfer-Encoding") {
+            is_chunked = ends_chunked(header.value.as_str());
+        }
+    }
+    is_chunked
+}
+
+// Whether a header of that name stands there.
+fn has(headers: &[Header], name: &str) -> bool
+    ensures { result ≡ is_some (value_of name.now headers.now) }
+{
+    value_of(headers, name).is_some()
+}
+
+// The length under `Strict`.
+fn strict_length(headers: &[Header]) -> Result<Option<usize>, FramingFault>
+    ensures { result ≡ strict_length (elements_of (codes "Content-Length") headers.now) (elements_of (codes "Transfer-Encoding") headers.now) }
+{
+    if !has(headers, "Transfer-Encoding") {
+        return one_length(headers);
+    }
+    if has(headers, "Content-Length") {
+        return Err(FramingFault::Invalid);
+    }
+    if is_chunked(headers) {
+        return Ok(None);
+    }
+    Err(FramingFault::Invalid)
+}
+
+// The length that the headers say, if any.
+fn body_length(profile: Profile, headers: &[Header]) -> Result<Option<usize>, FramingFault>
+    ensures { result ≡ body_length profile headers.now }
+{
+    match profile {
+        Profile::Lenient => Ok(lenient_length(headers)),
+        Profile::Strict => strict_length(headers),
     }
 }
 
@@ -182,17 +297,22 @@ fn is_last(version: HTTPVersion, connection: Option<&AsciiString>) -> bool
         || (version.0 == 1 && version.1 == 0 && !mentions(connection, "keep-alive"))
 }
 
-/// The framing that version and headers give under `Lenient`. It is an error where an expectation can't be met.
+/// The framing that version and headers give under this profile. It is an error where it is invalid, which is judged first, or
+/// where an expectation can't be met.
 #[tactic(auto, unfolding(crate::specs::FramingReading::framing))]
-pub fn framing_of(version: HTTPVersion, headers: &[Header]) -> Result<Framing, FramingFault>
-    ensures { result ≡ framing Profile.Lenient version headers.now }
+pub fn framing_of(
+    profile: Profile,
+    version: HTTPVersion,
+    headers: &[Header],
+) -> Result<Framing, FramingFault>
+    ensures { result ≡ framing profile version headers.now }
 {
+    let body_length = body_length(profile, headers)?;
     let Some(owed) = expectation(headers) else {
         return Err(FramingFault::Expectation);
     };
     let connection = value_of(headers, "Connection");
     let is_coded = value_of(headers, "Transfer-Encoding").is_some();
-    let body_length = lenient_length(is_coded, headers);
     Ok(Framing {
         form: form_by(mentions(connection, "upgrade"), is_coded, owed, body_length),
         owes_continue: owed,
