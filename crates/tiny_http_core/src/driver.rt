@@ -24,7 +24,7 @@ use std::alloc::{AllocError, Global};
 use std::io;
 use std::io::ErrorKind;
 use std::marker::Model;
-use tiny_http_message::exchange::{EndOfRequests, Head, HeadRead, read_head};
+use tiny_http_message::exchange::{EndOfRequests, Head, HeadRead, read_head_with};
 use tiny_http_message::framing::Profile;
 use tiny_http_message::own_answer::send_own_quietly;
 use tiny_http_message::upgrading::{UpgradeError, send_upgrade_quietly};
@@ -129,6 +129,7 @@ pub struct RunError<R, W> {
 /// each call is a step of the connection theorem.
 #[derive(Drop)]
 pub struct Connection<R: ReadDevice, W: WriteDevice> {
+    profile: Profile,
     source: Source<R>,
     outlet: Outlet<W>,
     pending: Pending,
@@ -137,11 +138,10 @@ pub struct Connection<R: ReadDevice, W: WriteDevice> {
 
 impl<R: ReadDevice, W: WriteDevice> Model for Connection<R, W> {
     ghost use Rattle.tiny_http_core.specs.Connection.{ConnectionState};
-    ghost use Rattle.tiny_http_message.specs.declared.framing.Profile.TheVariants.{Lenient};
 
     ghost Value = { ConnectionState R W };
 
-    ghost view = { λ c. record { profile = Lenient; marks = c.pending.turns.marks; requests = c.pending.requests; end = c.end; source = c.source; outlet = c.outlet } };
+    ghost view = { λ c. record { profile = c.profile; marks = c.pending.turns.marks; requests = c.pending.requests; end = c.end; source = c.source; outlet = c.outlet } };
 }
 
 impl Reply {
@@ -202,15 +202,26 @@ fn zeros(alloc: Global, count: u16) -> Result<Vec<u8>, AllocError>
 }
 
 impl<R: ReadDevice, W: WriteDevice> Connection<R, W> {
-    /// A connection on which nothing was asked yet. Its theorem is for a writer that has taken nothing and has not ended.
+    /// A connection on which nothing was asked yet, under `Lenient`. Its theorem is for a writer that has taken nothing and has
+    /// not ended.
     pub fn new(alloc: Global, reader: R, writer: W) -> Connection<R, W>
         ensures begins { (client : Feed) → R.feed reader ≡ Some client → IsFresh (W.sink writer) → HasDone Profile.Lenient client (W.sink writer) result [] [] }
         ensures open { (result.end ≡ None) × (result.requests ≡ []) }
-        ensures profile { result.profile ≡ Profile.Lenient }
+        ensures source { (result.source.feed ≡ R.feed reader) × (result.source.standing ≡ Standing.Head) }
+        ensures outlet { result.outlet ≡ record { held = []; ended = false; writer = writer; sink = W.sink writer } }
+    {
+        Connection::new_with(alloc, Profile::Lenient, reader, writer)
+    }
+
+    /// The same under this profile, by which its heads are read.
+    pub fn new_with(alloc: Global, profile: Profile, reader: R, writer: W) -> Connection<R, W>
+        ensures begins { (client : Feed) → R.feed reader ≡ Some client → IsFresh (W.sink writer) → HasDone profile client (W.sink writer) result [] [] }
+        ensures open { (result.end ≡ None) × (result.requests ≡ []) }
         ensures source { (result.source.feed ≡ R.feed reader) × (result.source.standing ≡ Standing.Head) }
         ensures outlet { result.outlet ≡ record { held = []; ended = false; writer = writer; sink = W.sink writer } }
     {
         Connection {
+            profile,
             source: Source::new(reader),
             outlet: Outlet::new(writer),
             pending: Pending::new(alloc),
@@ -248,7 +259,7 @@ impl<R: ReadDevice, W: WriteDevice> Connection<R, W> {
         ensures flushed { self.old.outlet.held ≡ [] → self.new.outlet.held ≡ [] }
         ensures sent_on { SentOn self.old.outlet → SentOn self.new.outlet }
     {
-        match read_head(alloc, &mut self.source, now) {
+        match read_head_with(alloc, &mut self.source, self.profile, now) {
             Ok(HeadRead::Request(exchange)) => {
                 let (head, waiting) = exchange.into_parts();
                 match self.pending.issue(Some(Unfinished::Waiting(waiting))) {
@@ -551,7 +562,7 @@ impl<R: ReadDevice, W: WriteDevice> Connection<R, W> {
     }
 }
 
-/// Runs the steps over a connection, one reply a step. It hands out exactly the requests that the grammar finds in the
+/// Runs the steps over a connection under `Lenient`, one reply a step. It hands out exactly the requests that the grammar finds in the
 /// client's bytes, each body gives its own bytes and reports its end only there, and the output is one segment a request or
 /// refused head, in order, whole up to the first fault.
 pub fn run<R: ReadDevice + Drop, W: WriteDevice + Drop, D: ReadDevice + Drop>(
@@ -577,10 +588,40 @@ pub fn run<R: ReadDevice + Drop, W: WriteDevice + Drop, D: ReadDevice + Drop>(
     ensures sent_on { IfOk result (λ done. HoldsNothing (W.sink writer) → all_sent steps.items done.replies.items true ≡ true → SentOn done.outlet) }
     ensures err { IfErr result (λ e. (e.reader ≡ reader) × (e.writer ≡ writer)) }
 {
+    run_with(alloc, Profile::Lenient, reader, writer, steps)
+}
+
+/// Runs the steps over a connection under this profile, one reply a step. It hands out exactly the requests that the grammar finds in the
+/// client's bytes, each body gives its own bytes and reports its end only there, and the output is one segment a request or
+/// refused head, in order, whole up to the first fault.
+pub fn run_with<R: ReadDevice + Drop, W: WriteDevice + Drop, D: ReadDevice + Drop>(
+    alloc: Global,
+    profile: Profile,
+    reader: R,
+    writer: W,
+    steps: Vec<Timed<D>>,
+) -> Result<Record<R, W>, RunError<R, W>>
+    // THE CONNECTION THEOREM: the reader states its feed; the writer states that it took nothing, has not ended, and its count
+    // can rise; the responses' data state their feeds of fewer than 2^63 bytes.
+    ensures conversation { IfOk result (λ done. (feed : Feed) (dated : List TimedValue) → R.feed reader ≡ Some feed → IsFresh (W.sink writer) → AllZip (IsTimedStep D.feed) steps.items dated
+        → IsConversation profile feed (W.sink writer) dated (map seen done.replies.items) (W.sink (outlet_writer done.outlet)) (outlet_held done.outlet) (outlet_ended done.outlet) done.source.feed) }
+    // What the source still gives is the client's bytes from some place on.
+    ensures source { IfOk result (λ done. GoesOn (R.feed reader) done.source.feed) }
+
+    // Whatever reader, writer and data state.
+    ensures replies { IfOk result (λ done. vec_len done.replies ≡ vec_len steps) }
+    ensures fails_once { IfOk result (λ done. FailsAtMostOnce (W.sink writer) (W.sink (outlet_writer done.outlet))) }
+    ensures honest { IfOk result (λ done. ReportHonestly D.feed (W.sink writer) steps.items done.replies.items (W.sink (outlet_writer done.outlet))) }
+    // Nothing is held, and the writer sent on all that it took, unless a Write stands behind the last Flush and the last
+    // answer.
+    ensures flushed { IfOk result (λ done. all_sent steps.items done.replies.items true ≡ true → outlet_held done.outlet ≡ []) }
+    ensures sent_on { IfOk result (λ done. HoldsNothing (W.sink writer) → all_sent steps.items done.replies.items true ≡ true → SentOn done.outlet) }
+    ensures err { IfErr result (λ e. (e.reader ≡ reader) × (e.writer ≡ writer)) }
+{
     let Ok(mut replies) = Vec::with_capacity(alloc, steps.len()) else {
         return Err(RunError { reader, writer });
     };
-    let mut connection = Connection::new(alloc, reader, writer);
+    let mut connection = Connection::new_with(alloc, profile, reader, writer);
     for timed in steps {
         let reply = connection.step(alloc, timed);
         replies.push_reserved(reply);

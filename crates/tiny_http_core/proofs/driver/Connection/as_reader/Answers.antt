@@ -7,7 +7,6 @@ use Rattle.tiny_http_core.specs.Connection.{Kept, kept}
 use Rattle.tiny_http_stream.proofs.SourceGoesOn.{goes-on_same}
 use Rattle.tiny_http_core.proofs.ConnectionRespond.{no-such, answer-form-some}
 use Rattle.tiny_http_core.proofs.ConnectionContinue.{continue-not_taken, continue-unowed, continue-not_yet, continue-done}
-use Rattle.tiny_http_message.specs.declared.framing.Profile.TheVariants.{Lenient}
 use Rattle.tiny_http_core.proofs.DrivingLemmas.{viewed, takes-as_reader, moves-none}
 use Rattle.tiny_http_core.proofs.driver.Connection.as_reader.Goals as goal
 
@@ -15,7 +14,7 @@ pub returns-in_default : goal.returns-in_default
 returns-in_default g c =
     let n = c.args.number in
     let q = c.self.inside in
-    let old = viewed Lenient q.source q.outlet q.pending q.end in
+    let old = viewed q.profile q.source q.outlet q.pending q.end in
     record {
       step = rw (← c.self.view_is) (takes-as_reader old old c.args.now n NoSuch
           (λ client before s low st. no-such client before (kept old) s c.args.now n (AsReader n) refl (continue-not_taken n) st (sym c.answer_context_at.ensures ∙ c.in_default.is))
@@ -26,7 +25,7 @@ pub returns-then-not-owes_continue : goal.returns-then-not-owes_continue
 returns-then-not-owes_continue g c =
     let n = c.args.number in
     let q = c.self.inside in
-    let old = viewed Lenient q.source q.outlet q.pending q.end in
+    let old = viewed q.profile q.source q.outlet q.pending q.end in
     let w = answer-form-some (slice_get q.pending.requests n) c.in-Some.answer_context (sym c.answer_context_at.ensures ∙ c.in-Some.is) in
     let free : w.0.owes_continue ≡ false = ap owes_continue (sym w.1) ∙ sym c.owes_continue.ensures ∙ c.if-not-owes_continue.true in
     record {
@@ -39,7 +38,7 @@ pub returns-then-not-is_in_turn : goal.returns-then-not-is_in_turn
 returns-then-not-is_in_turn g c =
     let n = c.args.number in
     let q = c.self.inside in
-    let old = viewed Lenient q.source q.outlet q.pending q.end in
+    let old = viewed q.profile q.source q.outlet q.pending q.end in
     let w = answer-form-some (slice_get q.pending.requests n) c.in-Some.answer_context (sym c.answer_context_at.ensures ∙ c.in-Some.is) in
     record {
       step = rw (← c.self.view_is) (takes-as_reader old old c.args.now n NotYet
@@ -54,8 +53,8 @@ returns g c =
     let q = c.self.inside in
     let sent = c.send_own_quietly in
     let left = c.set_continued in
-    let old = viewed Lenient q.source q.outlet q.pending q.end in
-    let new = viewed Lenient q.source sent.new.outlet left.new.self q.end in
+    let old = viewed q.profile q.source q.outlet q.pending q.end in
+    let new = viewed q.profile q.source sent.new.outlet left.new.self q.end in
     let k : Kept = kept old in
     let w = answer-form-some (slice_get k.requests n) c.in-Some.answer_context (sym c.answer_context_at.ensures ∙ c.in-Some.is) in
     let owed : w.0.owes_continue ≡ true = ap owes_continue (sym w.1) ∙ sym c.owes_continue.ensures ∙ c.if-not-owes_continue.false in

@@ -6,7 +6,6 @@ use Rattle.tiny_http_stream.specs.declared.source.Standing.TheVariants as at
 use Rattle.tiny_http_core.specs.Steps.{Ended, NotYet}
 use Rattle.tiny_http_core.specs.Connection.{kept}
 use Rattle.tiny_http_core.proofs.ConnectionAsk.{ask-ended, ask-not_yet}
-use Rattle.tiny_http_message.specs.declared.framing.Profile.TheVariants.{Lenient}
 use Rattle.tiny_http_core.proofs.DrivingLemmas.{viewed, none-of, ask-step, takes-ask, moves-none}
 use Rattle.tiny_http_core.proofs.driver.Connection.ask.Goals.{in-Body, in_default}
 use Rattle.tiny_http_core.proofs.driver.Connection.ask.Goals as goal
@@ -17,7 +16,7 @@ if-some {X = X} P o x e h = let Q : Option X → Type 0 = λ y. IfSome y P in su
 pub returns-then-is_some : goal.returns-then-is_some
 returns-then-is_some g c =
     let q = c.self.inside in
-    let old = viewed Lenient q.source q.outlet q.pending q.end in
+    let old = viewed q.profile q.source q.outlet q.pending q.end in
     let some : is_some q.end ≡ true = sym c.is_some.ensures ∙ c.if-is_some.true in
     record {
       step = rw (← c.self.view_is) (takes-ask old old c.args.now Ended (ask-step old old c.args.now Ended
@@ -28,7 +27,7 @@ returns-then-is_some g c =
 pub returns-then-matches : goal.returns-then-matches
 returns-then-matches g c =
     let q = c.self.inside in
-    let old = viewed Lenient q.source q.outlet q.pending q.end in
+    let old = viewed q.profile q.source q.outlet q.pending q.end in
     let open_is : is_some q.end ≡ false = sym c.is_some.ensures ∙ c.if-is_some.false in
     let here : q.source.standing ≡ at.Body = elim c.match-matches.branch [
       | in-Body w ↦ sym c.standing.ensures ∙ w.in-Body.is

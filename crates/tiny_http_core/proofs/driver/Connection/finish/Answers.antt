@@ -9,7 +9,6 @@ use Rattle.tiny_http_core.specs.Connection.{Kept, kept}
 use Rattle.tiny_http_core.proofs.ConnectionAsk.{StepIsAnswered}
 use Rattle.tiny_http_stream.proofs.SourceGoesOn.{goes-on_same}
 use Rattle.tiny_http_core.proofs.ConnectionWriter.{a-finish, no-writer, finish-done}
-use Rattle.tiny_http_message.specs.declared.framing.Profile.TheVariants.{Lenient}
 use Rattle.tiny_http_core.proofs.DrivingLemmas.{viewed, same-view, takes-finish, driving-reads-on, gives-up-of, gives-up-body}
 use Rattle.tiny_http_core.proofs.driver.Connection.finish.Goals as goal
 
@@ -17,8 +16,8 @@ pub returns-in_default : goal.returns-in_default
 returns-in_default g c =
     let n = c.args.number in
     let q = c.self.inside in
-    let old = viewed Lenient q.source q.outlet q.pending q.end in
-    let new = viewed Lenient q.source q.outlet c.close.new.self q.end in
+    let old = viewed q.profile q.source q.outlet q.pending q.end in
+    let new = viewed q.profile q.source q.outlet c.close.new.self q.end in
     let k : Kept = kept old in
     let none = c.in_default.ensures.none in
     record {
@@ -27,7 +26,7 @@ returns-in_default g c =
           let P : List Mark → List (Option Unfinished) → Type 0 = λ m r. StepIsAnswered client before (record k { marks = m; requests = r }) s date (Finish n) NoSuch in
           let done = no-writer client before k s date n (Finish n) refl (a-finish n) st none.0 in
           subst (λ m. P m c.close.new.self.requests) (ap (λ t. t.marks) (sym c.close.ensures.turns)) (subst (λ r. P k.marks r) (sym none.1) done))
-          (λ no. same-view Lenient q.source q.outlet c.close.new.self q.pending q.end (ap (λ t. t.marks) c.close.ensures.turns) none.1) refl (λ no. elim no [ ]) (driving-reads-on old new refl refl (goes-on_same q.source.feed)) (λ kind e. cc));
+          (λ no. same-view q.profile q.source q.outlet c.close.new.self q.pending q.end (ap (λ t. t.marks) c.close.ensures.turns) none.1) refl (λ no. elim no [ ]) (driving-reads-on old new refl refl (goes-on_same q.source.feed)) (λ kind e. cc));
     }
 
 pub returns : goal.returns
@@ -35,8 +34,8 @@ returns g c =
     let n = c.args.number in
     let q = c.self.inside in
     let source = c.close_body.new.source in
-    let old = viewed Lenient q.source q.outlet q.pending q.end in
-    let new = viewed Lenient source c.leave.new.outlet c.leave.new.self q.end in
+    let old = viewed q.profile q.source q.outlet q.pending q.end in
+    let new = viewed q.profile source c.leave.new.outlet c.leave.new.self q.end in
     let k : Kept = kept old in
     let left = c.leave.new in
     let u = c.in-Some.finished in

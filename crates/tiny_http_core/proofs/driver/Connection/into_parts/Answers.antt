@@ -3,7 +3,6 @@ use Rattle.tiny_http_wire.specs.Device.{Sink}
 use Rattle.tiny_http_core.specs.Conversation.{IsConversation}
 use Rattle.tiny_http_core.specs.Connection.{kept}
 use Rattle.tiny_http_message.specs.declared.framing.Profile.{Profile}
-use Rattle.tiny_http_message.specs.declared.framing.Profile.TheVariants.{Lenient}
 use Rattle.tiny_http_core.proofs.DrivingLemmas.{viewed}
 use Rattle.tiny_http_core.proofs.ConversationRuns.{conversation}
 use Rattle.tiny_http_core.proofs.driver.Connection.into_parts.Goals as goal
@@ -12,6 +11,6 @@ pub returns-clause-conversation : goal.returns-clause-conversation
 returns-clause-conversation g c p client before steps replies =
     let q = c.self.inside in
     let o = q.outlet in
-    let old = viewed Lenient q.source o q.pending q.end in
+    let old = viewed q.profile q.source o q.pending q.end in
     let P : Sink → Type 0 = λ s. IsConversation p client before steps replies s o.held o.ended q.source.feed in
     rw (← c.self.view_is) (λ done. subst P c.facts.ensures.sink (conversation p client before o.sink o.held (kept old) o.ended done.items done.at replies steps done.profile refl refl c.facts.ensures.none c.facts.ensures.begins done.pipeline done.run done.stands))

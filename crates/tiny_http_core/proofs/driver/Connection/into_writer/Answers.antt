@@ -10,7 +10,6 @@ use Rattle.tiny_http_core.proofs.ConnectionBody.{with_reader}
 use Rattle.tiny_http_stream.proofs.SourceGoesOn.{goes-on_same}
 use Rattle.tiny_http_core.proofs.ConnectionRespond.{no-such}
 use Rattle.tiny_http_core.proofs.ConnectionWriter.{into_writer-not_taken, into_writer-done}
-use Rattle.tiny_http_message.specs.declared.framing.Profile.TheVariants.{Lenient}
 use Rattle.tiny_http_core.proofs.DrivingLemmas.{viewed, same-view, takes-into_writer, driving-reads-on, gives-up-of}
 use Rattle.tiny_http_message.proofs.BodyReads.{gives-up}
 use Rattle.tiny_http_core.proofs.driver.Connection.into_writer.Goals as goal
@@ -19,8 +18,8 @@ pub returns-in_default : goal.returns-in_default
 returns-in_default g c =
     let n = c.args.number in
     let q = c.self.inside in
-    let old = viewed Lenient q.source q.outlet q.pending q.end in
-    let new = viewed Lenient q.source q.outlet c.take.new.self q.end in
+    let old = viewed q.profile q.source q.outlet q.pending q.end in
+    let new = viewed q.profile q.source q.outlet c.take.new.self q.end in
     let k : Kept = kept old in
     let none = c.in_default.ensures.none in
     record {
@@ -29,7 +28,7 @@ returns-in_default g c =
           let P : List Mark → List (Option Unfinished) → Type 0 = λ m r. StepIsAnswered client before (record k { marks = m; requests = r }) s date (IntoWriter n) NoSuch in
           let done = no-such client before k s date n (IntoWriter n) refl (into_writer-not_taken n) st none.0 in
           subst (λ m. P m c.take.new.self.requests) (ap (λ t. t.marks) (sym c.take.ensures.turns)) (subst (λ r. P k.marks r) (sym none.1) done))
-          (λ no. same-view Lenient q.source q.outlet c.take.new.self q.pending q.end (ap (λ t. t.marks) c.take.ensures.turns) none.1) refl (refl, ap (λ t. t.marks) c.take.ensures.turns, λ no. elim no [ ]) (driving-reads-on old new refl refl (goes-on_same q.source.feed)) (λ kind e. cc));
+          (λ no. same-view q.profile q.source q.outlet c.take.new.self q.pending q.end (ap (λ t. t.marks) c.take.ensures.turns) none.1) refl (refl, ap (λ t. t.marks) c.take.ensures.turns, λ no. elim no [ ]) (driving-reads-on old new refl refl (goes-on_same q.source.feed)) (λ kind e. cc));
     }
 
 pub returns : goal.returns
@@ -37,8 +36,8 @@ returns g c =
     let n = c.args.number in
     let q = c.self.inside in
     let source = c.give_up.new.source in
-    let old = viewed Lenient q.source q.outlet q.pending q.end in
-    let new = viewed Lenient source q.outlet c.take.new.self q.end in
+    let old = viewed q.profile q.source q.outlet q.pending q.end in
+    let new = viewed q.profile source q.outlet c.take.new.self q.end in
     let k : Kept = kept old in
     let w = c.in-Some.field-0 in
     let some = c.in-Some.ensures.some in

@@ -6,7 +6,6 @@ use Rattle.tiny_http_core.specs.Pending.{LeavesText}
 use Rattle.tiny_http_stream.specs.Outlet.{output_of, outlet_ended}
 use Rattle.tiny_http_core.specs.Connection.{Kept, kept}
 use Rattle.tiny_http_core.proofs.ConnectionDrop.{drop-done}
-use Rattle.tiny_http_message.specs.declared.framing.Profile.TheVariants.{Lenient}
 use Rattle.tiny_http_core.proofs.DrivingLemmas.{viewed, drops-by, gives-up-of}
 use Rattle.tiny_http_message.proofs.BodyReads.{gives-up}
 use Rattle.tiny_http_core.proofs.driver.Connection.let_go.Goals as goal
@@ -16,8 +15,8 @@ returns-clause-drops g c = λ yes now.
     let n = c.args.number in
     let q = c.self.inside in
     let source = c.give_up.new.source in
-    let old = viewed Lenient q.source q.outlet q.pending q.end in
-    let new = viewed Lenient source c.leave.new.outlet c.leave.new.self q.end in
+    let old = viewed q.profile q.source q.outlet q.pending q.end in
+    let new = viewed q.profile source c.leave.new.outlet c.leave.new.self q.end in
     let k : Kept = kept old in
     let left = c.leave.new in
     let w = c.in-Some.waiting in

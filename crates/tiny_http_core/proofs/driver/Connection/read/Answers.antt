@@ -8,7 +8,6 @@ use Rattle.tiny_http_core.specs.Seen.{seen}
 use Rattle.tiny_http_core.proofs.ConnectionAsk.{StepIsAnswered}
 use Rattle.tiny_http_core.proofs.ConnectionBody.{with_reader}
 use Rattle.tiny_http_core.proofs.ConnectionRead.{read-nothing, readable-some, read-none, read-memory, read-done}
-use Rattle.tiny_http_message.specs.declared.framing.Profile.TheVariants.{Lenient}
 use Rattle.tiny_http_core.proofs.DrivingLemmas.{viewed, takes-read, driving-reads-on, moves-none, stands-after}
 use Rattle.tiny_http_core.proofs.driver.Connection.read.Goals.{in-Ok-fill, in-Err}
 use Rattle.tiny_http_core.proofs.driver.Connection.read.Goals as goal
@@ -25,7 +24,7 @@ pub returns-then-not-is_readable : goal.returns-then-not-is_readable
 returns-then-not-is_readable g c =
     let n = c.args.number in
     let q = c.self.inside in
-    let old = viewed Lenient q.source q.outlet q.pending q.end in
+    let old = viewed q.profile q.source q.outlet q.pending q.end in
     record {
       step = λ date. rw (← c.self.view_is) (takes-read old old date n c.args.count NoSuch
           (λ client before s st. read-nothing client before (kept old) s date n c.args.count st (sym c.is_readable.ensures ∙ c.if-not-is_readable.true)) (λ no. refl) refl (refl, refl, inl (refl, refl)) (moves-none old));
@@ -35,7 +34,7 @@ pub returns-then-count-eq0 : goal.returns-then-count-eq0
 returns-then-count-eq0 g c =
     let n = c.args.number in
     let q = c.self.inside in
-    let old = viewed Lenient q.source q.outlet q.pending q.end in
+    let old = viewed q.profile q.source q.outlet q.pending q.end in
     let k : Kept = kept old in
     record {
       step = λ date. rw (← c.self.view_is) (takes-read old old date n c.args.count (Given c.new.result.items)
@@ -49,7 +48,7 @@ pub returns-in_default : goal.returns-in_default
 returns-in_default g c =
     let n = c.args.number in
     let q = c.self.inside in
-    let old = viewed Lenient q.source q.outlet q.pending q.end in
+    let old = viewed q.profile q.source q.outlet q.pending q.end in
     let k : Kept = kept old in
     record {
       step = λ date. rw (← c.self.view_is) (takes-read old old date n c.args.count Memory
@@ -62,8 +61,8 @@ pub returns : goal.returns
 returns g c =
     let n = c.args.number in
     let q = c.self.inside in
-    let old = viewed Lenient q.source q.outlet q.pending q.end in
-    let new = viewed Lenient c.fill.new.source q.outlet c.fill.new.self q.end in
+    let old = viewed q.profile q.source q.outlet q.pending q.end in
+    let new = viewed q.profile c.fill.new.source q.outlet c.fill.new.self q.end in
     let k : Kept = kept old in
     let w = readable-some (slice_get k.requests n) (sym c.is_readable.ensures ∙ c.if-not-is_readable.false) in
     let size : length c.fill.new.buf ≡ c.args.count = search (rules, c.in-Ok.ensures) in

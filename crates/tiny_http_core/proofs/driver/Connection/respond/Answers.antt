@@ -21,7 +21,6 @@ use Rattle.tiny_http_core.proofs.ConnectionOutput.{can-send}
 use Rattle.tiny_http_core.proofs.ConnectionRespond.{no-such, respond-not_taken, answer-form-some, respond-not_yet, respond-done, responds-by, after_number}
 use Rattle.tiny_http_message.proofs.BodyReads.{gives-up}
 use Rattle.tiny_http_sending.proofs.SendingLemmas.{once-append}
-use Rattle.tiny_http_message.specs.declared.framing.Profile.TheVariants.{Lenient}
 use Rattle.tiny_http_core.proofs.DrivingLemmas.{viewed, same-view, takes-respond, driving-reads-on, moves-none, honest-more, gives-up-of}
 use Rattle.tiny_http_core.proofs.driver.Connection.respond.Goals as goal
 
@@ -29,7 +28,7 @@ pub returns-in_default : goal.returns-in_default
 returns-in_default g c =
     let n = c.args.number in
     let q = c.self.inside in
-    let old = viewed Lenient q.source q.outlet q.pending q.end in
+    let old = viewed q.profile q.source q.outlet q.pending q.end in
     record {
       step = rw (← c.self.view_is) (takes-respond g.D.ReadDevice.feed false old old c.args.now n c.args.response NoSuch
           (λ client before s value low is st. no-such client before (kept old) s c.args.now n (Respond n value) refl (respond-not_taken n value) st (sym c.answer_context_at.ensures ∙ c.in_default.is))
@@ -40,8 +39,8 @@ pub returns-then-not-hold : goal.returns-then-not-hold
 returns-then-not-hold g c =
     let n = c.args.number in
     let q = c.self.inside in
-    let old = viewed Lenient q.source q.outlet q.pending q.end in
-    let new = viewed Lenient q.source q.outlet c.hold.new.self q.end in
+    let old = viewed q.profile q.source q.outlet q.pending q.end in
+    let new = viewed q.profile q.source q.outlet c.hold.new.self q.end in
     let k : Kept = kept old in
     record {
       step = rw (← c.self.view_is) (takes-respond g.D.ReadDevice.feed false old new c.args.now n c.args.response NotYet
@@ -53,7 +52,7 @@ returns-then-not-hold g c =
           let P : List Mark → List (Option Unfinished) → Type 0 = λ m r. StepIsAnswered client before (record k { marks = m; requests = r }) s c.args.now (Respond n value) NotYet in
           let done = respond-not_yet client before k s c.args.now n value w.0 st w.1 (λ h. let none : true ≡ false = sym (c.hold.ensures.held.1 h) ∙ late in cc) in
           subst (λ m. P m c.hold.new.self.requests) (sym same) (subst (λ r. P k.marks r) (sym c.hold.ensures.requests) done))
-          (λ no. same-view Lenient q.source q.outlet c.hold.new.self q.pending q.end (c.hold.ensures.not_yet (search rules)) c.hold.ensures.requests) refl (λ no. elim no [ ]) refl (driving-reads-on old new refl refl (goes-on_same q.source.feed)) (λ kind e. cc));
+          (λ no. same-view q.profile q.source q.outlet c.hold.new.self q.pending q.end (c.hold.ensures.not_yet (search rules)) c.hold.ensures.requests) refl (λ no. elim no [ ]) refl (driving-reads-on old new refl refl (goes-on_same q.source.feed)) (λ kind e. cc));
     }
 
 -- what an answer is replied is no refusal of the step
@@ -84,12 +83,12 @@ returns-in-Some-take g c =
     let n = c.args.number in
     let q = c.self.inside in
     let sink = g.W.WriteDevice.sink in
-    let old = viewed Lenient q.source q.outlet q.pending q.end in
+    let old = viewed q.profile q.source q.outlet q.pending q.end in
     let source = c.give_up.new.source in
     let mid = c.answer-reply.new.outlet in
     let last = c.pass.new in
     let taken = c.take.new.self in
-    let new = viewed Lenient source last.outlet taken q.end in
+    let new = viewed q.profile source last.outlet taken q.end in
     let k : Kept = kept old in
     let reply = seen c.answer-reply.result in
     let w0 = c.in-Some-take.field-0 in

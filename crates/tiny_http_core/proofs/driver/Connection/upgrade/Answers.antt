@@ -15,7 +15,6 @@ use Rattle.tiny_http_core.specs.Connection.{Kept, kept}
 use Rattle.tiny_http_stream.proofs.SourceGoesOn.{goes-on_same}
 use Rattle.tiny_http_core.proofs.ConnectionRespond.{no-such, answer-form-some}
 use Rattle.tiny_http_core.proofs.ConnectionUpgrade.{upgrade-not_taken, upgrade-not_yet, upgrade-done}
-use Rattle.tiny_http_message.specs.declared.framing.Profile.TheVariants.{Lenient}
 use Rattle.tiny_http_core.proofs.DrivingLemmas.{viewed, takes-upgrade, moves-none}
 use Rattle.tiny_http_core.proofs.driver.Connection.upgrade.Goals.{else-are_ascii-via-then-are_ascii+else-not-is_in_turn, else-are_ascii-via-else-are_ascii}
 use Rattle.tiny_http_core.proofs.driver.Connection.upgrade.Goals as goal
@@ -24,7 +23,7 @@ pub returns-in_default : goal.returns-in_default
 returns-in_default g c =
     let n = c.args.number in
     let q = c.self.inside in
-    let old = viewed Lenient q.source q.outlet q.pending q.end in
+    let old = viewed q.profile q.source q.outlet q.pending q.end in
     record {
       step = λ named same. rw (← c.self.view_is) (takes-upgrade g.D.ReadDevice.feed false old old c.args.now n named c.args.response NoSuch
           (λ client before s value low answer st. no-such client before (kept old) s c.args.now n (Upgrade n (string_bytes named) value) refl (upgrade-not_taken n (string_bytes named) value) st (sym c.answer_context_at.ensures ∙ c.in_default.is))
@@ -35,7 +34,7 @@ pub returns-then-not-is_in_turn : goal.returns-then-not-is_in_turn
 returns-then-not-is_in_turn g c =
     let n = c.args.number in
     let q = c.self.inside in
-    let old = viewed Lenient q.source q.outlet q.pending q.end in
+    let old = viewed q.profile q.source q.outlet q.pending q.end in
     let w = answer-form-some (slice_get q.pending.requests n) c.in-Some.answer_context (sym c.answer_context_at.ensures ∙ c.in-Some.is) in
     record {
       step = λ named same.
@@ -51,8 +50,8 @@ returns-in-Ok g c =
     let q = c.self.inside in
     let outlet = c.send_upgrade_quietly.new.outlet in
     let left = c.set_upgraded.new.self in
-    let old = viewed Lenient q.source q.outlet q.pending q.end in
-    let new = viewed Lenient q.source outlet left q.end in
+    let old = viewed q.profile q.source q.outlet q.pending q.end in
+    let new = viewed q.profile q.source outlet left q.end in
     let k : Kept = kept old in
     let done = c.in-Ok.ensures in
     let w = answer-form-some (slice_get k.requests n) c.in-Some.answer_context (sym c.answer_context_at.ensures ∙ c.in-Some.is) in
@@ -86,12 +85,12 @@ returns-in-Err-Protocol g c =
     let n = c.args.number in
     let q = c.self.inside in
     let left = c.in-Err-Protocol.ensures in
-    let old = viewed Lenient q.source q.outlet q.pending q.end in
+    let old = viewed q.profile q.source q.outlet q.pending q.end in
     let waits : waiting_answer_context (slice_get q.pending.requests n) ≡ Some c.in-Some.answer_context = sym c.answer_context_at.ensures ∙ c.in-Some.is in
     let gone : IsTrue c.let_go.result = let-go c.let_go.result (λ no. (let none : Some c.in-Some.answer_context ≡ None = sym waits ∙ (c.let_go.ensures.none no).0 in cc)) in
     record {
       step = λ named same.
-          let T : OutletState g.row.W.Denot → Type 0 = λ o. TakesStep (viewed Lenient q.source o q.pending q.end) c.let_go.new.self c.args.now (step.Upgrade n named (stated_response g.D.ReadDevice.feed c.args.response)) Refused in
+          let T : OutletState g.row.W.Denot → Type 0 = λ o. TakesStep (viewed q.profile q.source o q.pending q.end) c.let_go.new.self c.args.now (step.Upgrade n named (stated_response g.D.ReadDevice.feed c.args.response)) Refused in
           let foreign : list_all is_ascii (string_bytes named) ≡ false = ap (list_all is_ascii) same ∙ sym left.ascii in
           rw (← c.self.view_is) (subst T left.refused (c.let_go.ensures.drops gone c.args.now (step.Upgrade n named (stated_response g.D.ReadDevice.feed c.args.response)) Refused (refl, foreign)));
     }

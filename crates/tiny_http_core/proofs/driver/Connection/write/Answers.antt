@@ -10,7 +10,6 @@ use Rattle.tiny_http_stream.proofs.SourceGoesOn.{goes-on_same}
 use Rattle.tiny_http_sending.proofs.SendingLemmas.{once-none}
 use Rattle.tiny_http_core.proofs.ConnectionOutput.{sink-ended}
 use Rattle.tiny_http_core.proofs.ConnectionWriter.{a-write, no-writer, writable-some, writer-not_yet, writes-own, write-done, write-done_reply, write-not_declined, write-honest, write-once}
-use Rattle.tiny_http_message.specs.declared.framing.Profile.TheVariants.{Lenient}
 use Rattle.tiny_http_core.proofs.DrivingLemmas.{viewed, takes-write}
 use Rattle.tiny_http_core.proofs.driver.Connection.write.Goals as goal
 
@@ -18,7 +17,7 @@ pub returns-then-not-is_writable : goal.returns-then-not-is_writable
 returns-then-not-is_writable g c =
     let n = c.args.number in
     let q = c.self.inside in
-    let old = viewed Lenient q.source q.outlet q.pending q.end in
+    let old = viewed q.profile q.source q.outlet q.pending q.end in
     record {
       step = λ date v same. rw (← c.self.view_is) (takes-write old old date n v c.args.bytes.now NoSuch same
           (λ client before s low st. no-writer client before (kept old) s date n (Write n c.args.bytes.now) refl (a-write n c.args.bytes.now) st (sym c.is_writable.ensures ∙ c.if-not-is_writable.true))
@@ -29,7 +28,7 @@ pub returns-then-not-is_in_turn : goal.returns-then-not-is_in_turn
 returns-then-not-is_in_turn g c =
     let n = c.args.number in
     let q = c.self.inside in
-    let old = viewed Lenient q.source q.outlet q.pending q.end in
+    let old = viewed q.profile q.source q.outlet q.pending q.end in
     let w = writable-some (slice_get q.pending.requests n) (sym c.is_writable.ensures ∙ c.if-not-is_writable.false) in
     record {
       step = λ date v same. rw (← c.self.view_is) (takes-write old old date n v c.args.bytes.now NotYet same
@@ -43,8 +42,8 @@ returns g c =
     let n = c.args.number in
     let q = c.self.inside in
     let new_outlet = c.write.new.self in
-    let old = viewed Lenient q.source q.outlet q.pending q.end in
-    let new = viewed Lenient q.source new_outlet q.pending q.end in
+    let old = viewed q.profile q.source q.outlet q.pending q.end in
+    let new = viewed q.profile q.source new_outlet q.pending q.end in
     let k : Kept = kept old in
     let done = c.write.ensures in
     let w = writable-some (slice_get q.pending.requests n) (sym c.is_writable.ensures ∙ c.if-not-is_writable.false) in

@@ -5,32 +5,31 @@ use Rattle.std.proofs.lemmas.Grind.{common_steps}
 use Rattle.tiny_http_wire.specs.Device.{Feed}
 use Rattle.tiny_http_stream.specs.Source.{GoesOn}
 use Rattle.tiny_http_core.specs.Seen.{IsTimedStep, seen, all_sent_after, all_sent}
-use Rattle.tiny_http_message.specs.declared.framing.Profile.TheVariants.{Lenient}
 use Rattle.tiny_http_core.specs.Driving.{stated_step}
 use Rattle.tiny_http_stream.specs.Outlet.{OutletState, output_of, SentOn, outlet_writer}
 use Rattle.tiny_http_sending.specs.Sending.{FailsOnce}
 use Rattle.tiny_http_stream.proofs.SourceGoesOn.{goes-on_same, goes-on_more}
 use Rattle.tiny_http_core.proofs.ConversationRuns.{all-sent-snoc, sent-stated, joins-more, joins-end, fails-step, honest-step, honest-end}
 use Rattle.tiny_http_core.proofs.DrivingLemmas.{done-none, done-step, reports-step}
-use Rattle.tiny_http_core.proofs.driver.run.Goals as goal
+use Rattle.tiny_http_core.proofs.driver.run_with.Goals as goal
 
 pub loop-timed-init : goal.loop-timed-init
 loop-timed-init g c =
     let reader = g.R.ReadDevice.feed c.args.reader in
     let writer = g.W.WriteDevice.sink c.args.writer in
-    let new = c.new-connection.result in
+    let new = c.new_with-connection.result in
     let P : Option Feed → Type 0 = λ x. GoesOn reader x in
     record {
       joins = grind (arith, common_steps);
       counted = grind (arith, common_steps);
       fits = grind (arith, common_steps);
       as_many = rw c.in-Ok.ensures.items refl;
-      follows = λ client dated states fresh stated. rw c.in-Ok.ensures.items (done-none (IsTimedStep g.D.ReadDevice.feed) Lenient client writer new dated (c.new-connection.ensures.begins client states fresh) stated);
-      source = subst P (sym c.new-connection.ensures.source.0) (goes-on_same reader);
-      fails_once = rw c.new-connection.ensures.outlet (inl refl);
-      flushed = λ all. rw c.new-connection.ensures.outlet refl;
-      sent_on = λ none all. rw c.new-connection.ensures.outlet (λ e. none);
-      honest = rw (c.in-Ok.ensures.items, c.new-connection.ensures.outlet) refl;
+      follows = λ client dated states fresh stated. rw c.in-Ok.ensures.items (done-none (IsTimedStep g.D.ReadDevice.feed) c.args.profile client writer new dated (c.new_with-connection.ensures.begins client states fresh) stated);
+      source = subst P (sym c.new_with-connection.ensures.source.0) (goes-on_same reader);
+      fails_once = rw c.new_with-connection.ensures.outlet (inl refl);
+      flushed = λ all. rw c.new_with-connection.ensures.outlet refl;
+      sent_on = λ none all. rw c.new_with-connection.ensures.outlet (λ e. none);
+      honest = rw (c.in-Ok.ensures.items, c.new_with-connection.ensures.outlet) refl;
     }
 
 pub loop-timed-preserved : goal.loop-timed-preserved
@@ -50,7 +49,7 @@ loop-timed-preserved g c =
       fits = grind (arith, common_steps);
       as_many = length-append done (c.in-Some.timed ∷ []) ∙ ap (λ n. n + 1) inv.as_many ∙ sym (length-append replies (c.step-reply.result ∷ [])) ∙ ap length (sym c.push_reserved.ensures.items);
       follows = λ client dated states fresh stated. rw (c.push_reserved.ensures.items, map-append)
-          (done-step g.D.ReadDevice.feed Lenient client writer old new c.in-Some.timed c.loop-timed.yielded (map seen c.loop-timed.replies.items) (seen c.step-reply.result) dated (λ ds t. inv.follows client ds states fresh t) step stated);
+          (done-step g.D.ReadDevice.feed c.args.profile client writer old new c.in-Some.timed c.loop-timed.yielded (map seen c.loop-timed.replies.items) (seen c.step-reply.result) dated (λ ds t. inv.follows client ds states fresh t) step stated);
       source = goes-on_more _ _ _ inv.source step.goes_on;
       fails_once = fails-step writer (output_of old.outlet) (output_of new.outlet) old.outlet.ended new.outlet.ended inv.fails_once step.fails_once;
       flushed = λ e. step.flushed (all_sent c.loop-timed.yielded c.loop-timed.replies.items true) inv.flushed (before e);
@@ -65,7 +64,7 @@ returns-clause-conversation g c feed dated states fresh stated =
     let whole : c.loop-timed.yielded ≡ c.args.steps.items =
     joins-end _ _ _ c.loop-timed.invariant.joins (sym c.loop-timed.timed-iterator.rest.ok.0 ∙ c.in-None.ensures.steps.0) in
     let stated_all : AllZip (IsTimedStep g.D.ReadDevice.feed) c.loop-timed.yielded dated = rw whole stated in
-    c.into_parts-source.ensures.conversation Lenient feed (g.W.WriteDevice.sink c.args.writer) dated (map seen c.loop-timed.replies.items) (c.loop-timed.invariant.follows feed dated states fresh stated_all)
+    c.into_parts-source.ensures.conversation c.args.profile feed (g.W.WriteDevice.sink c.args.writer) dated (map seen c.loop-timed.replies.items) (c.loop-timed.invariant.follows feed dated states fresh stated_all)
 
 pub returns-clause-fails_once : goal.returns-clause-fails_once
 returns-clause-fails_once g c =

@@ -11,9 +11,8 @@ use Rattle.tiny_http_core.specs.declared.driver.Timed.{Timed}
 use Rattle.tiny_http_core.specs.declared.driver.Reply.{Reply}
 use Rattle.tiny_http_core.specs.Connection.{ConnectionState}
 use Rattle.tiny_http_message.specs.declared.framing.Profile.{Profile}
-use Rattle.tiny_http_message.specs.declared.framing.Profile.TheVariants.{Lenient}
 use Rattle.tiny_http_core.specs.Driving.{HasDone}
-use Rattle.tiny_http_core.proofs.driver.run.Given as goal
+use Rattle.tiny_http_core.proofs.driver.run_with.Given as goal
 
 -- what holds before each step
 pub record Goes {R W D : Type 0} (feed : D → Option Feed) (reader : Option Feed) (writer : Sink) (all done rest : List (Timed D)) (replies : List Reply) (profile : Profile) (c : ConnectionState R W) (count room : ℕ) : Type 0 where
@@ -30,4 +29,4 @@ pub record Goes {R W D : Type 0} (feed : D → Option Feed) (reader : Option Fee
 
 abbrev pub invariant-loop-timed : goal.invariant-loop-timed
 invariant-loop-timed g l =
-    Goes g.D.ReadDevice.feed (g.R.ReadDevice.feed l.fn.reader) (g.W.WriteDevice.sink l.fn.writer) l.fn.steps.items l.yielded (into_iter_items l.timed-iterator) l.replies.items Lenient l.connection (vec_len l.replies) (vec_capacity l.replies)
+    Goes g.D.ReadDevice.feed (g.R.ReadDevice.feed l.fn.reader) (g.W.WriteDevice.sink l.fn.writer) l.fn.steps.items l.yielded (into_iter_items l.timed-iterator) l.replies.items l.fn.profile l.connection (vec_len l.replies) (vec_capacity l.replies)
