@@ -10,6 +10,7 @@ use std::sync::atomic::{AtomicBool, Ordering};
 use std::sync::{Arc, Mutex, Wait};
 use std::thread::Threads;
 use std::time::{Clock, Duration};
+use tiny_http_core::framing::Profile;
 use tiny_http_request::client::ClientConnection;
 use tiny_http_socket::connection::{Connection, Listener};
 use tiny_http_socket::refined_tcp_stream::RefinedTcpStream;
@@ -142,6 +143,7 @@ impl<R: Wait + Clock + Copy> Job for Client<R> {
 pub(crate) struct Accepting<R: Wait + Drop> {
     pub rt: R,
     pub alloc: Global,
+    pub profile: Profile,
     pub listener: Listener,
     pub close: Arc<AtomicBool>,
     pub messages: Arc<Messages<R>>,
@@ -184,7 +186,16 @@ impl<R: Wait + Clock + Threads + Copy + Send + 'static> Accepting<R> {
         let messages = Arc::try_clone(&self.messages).ok()?;
         let presence = Presence::enter(self.rt, &self.connections)?;
         let secure = reader.secure();
-        let made = ClientConnection::over(self.rt, self.alloc, writer, reader, remote_addr, secure);
+        let (rt, profile) = (self.rt, self.profile);
+        let made = ClientConnection::over_with(
+            rt,
+            self.alloc,
+            profile,
+            writer,
+            reader,
+            remote_addr,
+            secure,
+        );
         Some(Client {
             rt: self.rt,
             close,

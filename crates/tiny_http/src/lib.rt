@@ -25,6 +25,7 @@ pub mod server;
 pub use crate::server::{
     IncomingRequests, Server, ServerConfig, ServerError, ServerRequest, SslConfig, current_date,
 };
+pub use tiny_http_core::framing::Profile;
 pub use tiny_http_core::{
     answer, custom_stream, driver, equal_reader, exchange, framing, fused_reader, outlet, source,
     turns, upgrading,

@@ -16,6 +16,7 @@ use std::thread::Threads;
 use std::time::{Clock, Duration};
 use std::{io, thread};
 use thiserror::Error;
+use tiny_http_core::framing::Profile;
 use tiny_http_request::request::Request;
 use tiny_http_socket::connection::{ConfigListenAddr, ListenAddr, Listener, SocketFiles};
 use tiny_http_socket::refined_tcp_stream::RefinedTcpStream;
@@ -138,9 +139,10 @@ where
         made
     }
 
-    /// A server over this listening socket, which has to wait for clients: one that doesn't ends accepting by `WouldBlock`. The
-    /// file of a Unix socket is removed where the server is dropped. `Ssl` where it is to encrypt; `Io` where the socket has no
-    /// address, or the system has no thread for the server; `Memory` where memory was refused. Then such a file stays.
+    /// A server over this listening socket, which has to wait for clients: one that doesn't ends accepting by `WouldBlock`. Heads
+    /// are read under `Lenient`. The file of a Unix socket is removed where the server is dropped. `Ssl` where it is to encrypt;
+    /// `Io` where the socket has no address, or the system has no thread for the server; `Memory` where memory was refused. Then
+    /// such a file stays.
     pub fn from_listener(
         rt: R,
         alloc: Global,
@@ -150,14 +152,28 @@ where
         ensures ssl { IsSome ssl → result ≡ Err ServerError.Ssl }
         ensures refused { result ≡ Err ServerError.Ssl → IsSome ssl }
     {
+        Server::from_listener_with(rt, alloc, listener, ssl, Profile::Lenient)
+    }
+
+    /// The same server, that reads the heads of all its clients under this profile.
+    pub fn from_listener_with(
+        rt: R,
+        alloc: Global,
+        listener: Listener,
+        ssl: Option<SslConfig>,
+        profile: Profile,
+    ) -> Result<Server<R>, ServerError>
+        ensures ssl { IsSome ssl → result ≡ Err ServerError.Ssl }
+        ensures refused { result ≡ Err ServerError.Ssl → IsSome ssl }
+    {
         if ssl.is_some() {
             return Err(ServerError::Ssl);
         }
-        Ok(Server::over(rt, alloc, listener)?)
+        Ok(Server::over(rt, alloc, profile, listener)?)
     }
 
     // A server over this listening socket.
-    fn over(rt: R, alloc: Global, listener: Listener) -> io::Result<Server<R>> {
+    fn over(rt: R, alloc: Global, profile: Profile, listener: Listener) -> io::Result<Server<R>> {
         let listening_addr = listener.local_addr()?;
         let close = Arc::new(alloc, AtomicBool::new(false))?;
         let messages = MessagesQueue::with_capacity(alloc, QUEUE_ROOM)?;
@@ -165,6 +181,7 @@ where
         let accepting = Accepting {
             rt,
             alloc,
+            profile,
             listener,
             close: Arc::try_clone(&close)?,
             messages: Arc::try_clone(&messages)?,

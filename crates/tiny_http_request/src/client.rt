@@ -13,7 +13,7 @@ use std::alloc::{AllocError, Global};
 use std::net::SocketAddr;
 use std::sync::Wait;
 use tiny_http_device::device::{ReadDevice, WriteDevice};
-use tiny_http_message::exchange::{Exchange, HeadRead, read_head};
+use tiny_http_message::exchange::{Exchange, HeadRead, read_head_with};
 use tiny_http_message::framing::Profile;
 use tiny_http_socket::refined_tcp_stream::RefinedTcpStream;
 use tiny_http_stream::outlet::Outlet;
@@ -23,6 +23,7 @@ use tiny_http_stream::source::Source;
 #[derive(Drop)]
 pub struct ClientConnection<R: ReadDevice + Drop, W: WriteDevice + Drop, Rt: Wait + Drop> {
     alloc: Global,
+    profile: Profile,
     secure: bool,
     remote_addr: Option<SocketAddr>,
     source: SequentialReaderBuilder<Source<R>, Rt>,
@@ -44,10 +45,10 @@ fn peer_if_known(socket: &RefinedTcpStream) -> Option<SocketAddr>
 impl<Rt: Wait + Copy> ClientConnection<RefinedTcpStream, RefinedTcpStream, Rt> {
     ghost use Rattle.std.specs.Prelude.{◌≡◌, false, IfOk};
     ghost use Rattle.tiny_http_socket.specs.Stream.{MayHavePeer};
-    ghost use Rattle.tiny_http_request.specs.Client.{IsOver, client_secure, client_address};
+    ghost use Rattle.tiny_http_request.specs.Client.{IsOver, client_secure, client_address, client_profile};
 
-    /// A connection over the two halves of a client's socket, on which nothing was read yet. Its requests say the client's
-    /// address; none of a Unix socket, or where the system no longer knows it. An error where memory was refused.
+    /// A connection over the two halves of a client's socket, on which nothing was read yet, under `Lenient`. Its requests say
+    /// the client's address; none of a Unix socket, or where the system no longer knows it. An error where memory was refused.
     pub fn new(
         rt: Rt,
         alloc: Global,
@@ -57,18 +58,35 @@ impl<Rt: Wait + Copy> ClientConnection<RefinedTcpStream, RefinedTcpStream, Rt> {
         ensures secure { IfOk result (λ c. client_secure c ≡ false) }
         ensures address { IfOk result (λ c. MayHavePeer read_socket (client_address c)) }
         ensures open { IfOk result (λ c. IsOver c → ⊥) }
+        ensures profile { IfOk result (λ c. client_profile c ≡ Profile.Lenient) }
     {
-        let remote_addr = peer_if_known(&read_socket);
+        ClientConnection::new_with(rt, alloc, Profile::Lenient, write_socket, read_socket)
+    }
+
+    /// The same under this profile, by which its heads are read.
+    pub fn new_with(
+        rt: Rt,
+        alloc: Global,
+        profile: Profile,
+        write_socket: RefinedTcpStream,
+        read_socket: RefinedTcpStream,
+    ) -> Result<ClientConnection<RefinedTcpStream, RefinedTcpStream, Rt>, AllocError>
+        ensures secure { IfOk result (λ c. client_secure c ≡ false) }
+        ensures address { IfOk result (λ c. MayHavePeer read_socket (client_address c)) }
+        ensures open { IfOk result (λ c. IsOver c → ⊥) }
+        ensures profile { IfOk result (λ c. client_profile c ≡ profile) }
+    {
+        let addr = peer_if_known(&read_socket);
         let secure = read_socket.secure();
-        ClientConnection::over(rt, alloc, write_socket, read_socket, remote_addr, secure)
+        ClientConnection::over_with(rt, alloc, profile, write_socket, read_socket, addr, secure)
     }
 }
 
 impl<R: ReadDevice + Drop, W: WriteDevice + Drop, Rt: Wait + Copy> ClientConnection<R, W, Rt> {
-    ghost use Rattle.tiny_http_request.specs.Client.{IsOver, client_secure, client_address};
+    ghost use Rattle.tiny_http_request.specs.Client.{IsOver, client_secure, client_address, client_profile};
 
-    /// A connection over a writer and a reader, on which nothing was read yet. `remote_addr` and `secure` are what its requests
-    /// say. An error where memory was refused.
+    /// A connection over a writer and a reader, on which nothing was read yet, under `Lenient`. `remote_addr` and `secure` are
+    /// what its requests say. An error where memory was refused.
     pub fn over(
         rt: Rt,
         alloc: Global,
@@ -79,12 +97,32 @@ impl<R: ReadDevice + Drop, W: WriteDevice + Drop, Rt: Wait + Copy> ClientConnect
     ) -> Result<ClientConnection<R, W, Rt>, AllocError>
         ensures client { IfOk result (λ c. (client_secure c ≡ secure) × (client_address c ≡ remote_addr)) }
         ensures open { IfOk result (λ c. IsOver c → ⊥) }
+        ensures profile { IfOk result (λ c. client_profile c ≡ Profile.Lenient) }
+    {
+        let profile = Profile::Lenient;
+        ClientConnection::over_with(rt, alloc, profile, writer, reader, remote_addr, secure)
+    }
+
+    /// The same under this profile, by which its heads are read.
+    pub fn over_with(
+        rt: Rt,
+        alloc: Global,
+        profile: Profile,
+        writer: W,
+        reader: R,
+        remote_addr: Option<SocketAddr>,
+        secure: bool,
+    ) -> Result<ClientConnection<R, W, Rt>, AllocError>
+        ensures client { IfOk result (λ c. (client_secure c ≡ secure) × (client_address c ≡ remote_addr)) }
+        ensures open { IfOk result (λ c. IsOver c → ⊥) }
+        ensures profile { IfOk result (λ c. client_profile c ≡ profile) }
     {
         let mut source = SequentialReaderBuilder::new(rt, alloc, Source::new(reader))?;
         let sink = SequentialWriterBuilder::new(rt, alloc, Outlet::new(writer))?;
         let next_head = Some(source.next()?);
         Ok(ClientConnection {
             alloc,
+            profile,
             secure,
             remote_addr,
             source,
@@ -112,15 +150,15 @@ impl<R: ReadDevice + Drop, W: WriteDevice + Drop, Rt: Wait + Copy> ClientConnect
         ensures last { IfOk result (λ r. IfSome r (λ request. (request_head request).is_last ≡ true → IsOver self.new)) }
         ensures open { IfOk result (λ r. IfSome r (λ request. (request_head request).is_last ≡ false → IsOver self.new → ⊥)) }
         // A request is framed as its version and headers say, and what is kept for its answer is that of its head, on this date.
-        ensures framing { IfOk result (λ r. IfSome r (λ request. let h = request_head request in framing Profile.Lenient h.version h.headers.items ≡ Ok (head_framing h))) }
+        ensures framing { IfOk result (λ r. IfSome r (λ request. let h = request_head request in framing (client_profile self.old) h.version h.headers.items ≡ Ok (head_framing h))) }
         ensures keeps { IfOk result (λ r. IfSome r (λ request. KeepsHead (request_waiting request) (request_head request) now)) }
         ensures client { IfOk result (λ r. IfSome r (λ request. (request_secure request ≡ client_secure self.old) × (request_address request ≡ client_address self.old))) }
-        ensures same { (client_secure self.new ≡ client_secure self.old) × (client_address self.new ≡ client_address self.old) }
+        ensures same { (client_secure self.new ≡ client_secure self.old) × (client_address self.new ≡ client_address self.old) × (client_profile self.new ≡ client_profile self.old) }
     {
         let Some(mut reader) = self.next_head.take() else {
             return Ok(None);
         };
-        match read_request(self.alloc, &mut self.sink, &mut reader, now) {
+        match read_request(self.alloc, self.profile, &mut self.sink, &mut reader, now) {
             Ok(Some(exchange)) => match self.hand_out(reader, exchange) {
                 Ok(request) => Ok(Some(request)),
                 Err(e) => Err(e),
@@ -135,7 +173,7 @@ impl<R: ReadDevice + Drop, W: WriteDevice + Drop, Rt: Wait + Copy> ClientConnect
     /// error where memory was refused.
     pub fn wait_for_answers(&mut self) -> Result<(), AllocError>
         ensures over { IsOver self.old → IsOver self.new }
-        ensures same { (client_secure self.new ≡ client_secure self.old) × (client_address self.new ≡ client_address self.old) }
+        ensures same { (client_secure self.new ≡ client_secure self.old) × (client_address self.new ≡ client_address self.old) × (client_profile self.new ≡ client_profile self.old) }
     {
         let mut writer = self.sink.next()?;
         let _ = writer.hold();
@@ -154,7 +192,7 @@ impl<R: ReadDevice + Drop, W: WriteDevice + Drop, Rt: Wait + Copy> ClientConnect
         ensures last { IfOk result (λ request. (request_head request).is_last ≡ true → IsOver self.new) }
         ensures open { IfOk result (λ request. (request_head request).is_last ≡ false → IsOver self.new → ⊥) }
         ensures client { IfOk result (λ request. (request_secure request ≡ client_secure self.old) × (request_address request ≡ client_address self.old)) }
-        ensures same { (client_secure self.new ≡ client_secure self.old) × (client_address self.new ≡ client_address self.old) }
+        ensures same { (client_secure self.new ≡ client_secure self.old) × (client_address self.new ≡ client_address self.old) × (client_profile self.new ≡ client_profile self.old) }
     {
         let (head, waiting) = exchange.into_parts();
         let writer = self.sink.next()?;
@@ -176,14 +214,15 @@ impl<R: ReadDevice + Drop, W: WriteDevice + Drop, Rt: Wait + Copy> ClientConnect
 // Reads heads up to that of the next request. Refused ones are answered in their turn. `None` where no request comes.
 fn read_request<R: ReadDevice + Drop, W: WriteDevice + Drop, Rt: Wait + Copy>(
     alloc: Global,
+    profile: Profile,
     sink: &mut SequentialWriterBuilder<Outlet<W>, Rt>,
     reader: &mut SequentialReader<Source<R>, Rt>,
     now: HttpDate,
 ) -> Result<Option<Exchange>, AllocError>
-    ensures { IfOk result (λ r. IfSome r (λ exchange. IsFramedRequest Profile.Lenient now (HeadRead.Request exchange))) }
+    ensures { IfOk result (λ r. IfSome r (λ exchange. IsFramedRequest profile now (HeadRead.Request exchange))) }
 {
     for _ in 0..u64::MAX {
-        match read_head(alloc, reader.hold(), now)? {
+        match read_head_with(alloc, reader.hold(), profile, now)? {
             HeadRead::Request(exchange) => return Ok(Some(exchange)),
             HeadRead::Refused { text, last, .. } => {
                 sink.next()?.leave(text);

@@ -394,7 +394,7 @@ pub fn new_request<R: ReadDevice + Drop, W: WriteDevice + Drop, Rt: Wait + Copy>
     ensures cut { IfErr result (λ e. IfCreationIo e (λ fault. CutsShort version headers.items (R.feed source_data) (error_kind fault))) }
     ensures expectation { IfErr result (λ e. is_expectation_failed e ≡ true → framing Profile.Lenient version headers.items ≡ Err FramingFault.Expectation) }
 {
-    let framing = match framing_of(version, headers.as_slice()) {
+    let framing = match framing_of(Profile::Lenient, version, headers.as_slice()) {
         Ok(framing) => framing,
         Err(_) => return Err(RequestCreationError::ExpectationFailed),
     };
