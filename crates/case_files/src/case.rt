@@ -1,5 +1,6 @@
 //! A case: what goes into a connection, and what has to come out of it.
 use std::io::ErrorKind;
+use tiny_http_core::framing::Profile;
 
 /// How many bytes a writer takes, and the kind by which it then fails.
 #[derive(Clone, Copy, Debug, PartialEq, Eq)]
@@ -84,6 +85,8 @@ impl CaseStep {
 #[derive(Drop)]
 pub struct Case {
     pub name: String,
+    /// The profile by which heads are read.
+    pub profile: Profile,
     /// The bytes that the client sends.
     pub client: Vec<u8>,
     /// The reader's fault behind them, in place of an end.

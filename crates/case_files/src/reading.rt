@@ -5,6 +5,7 @@ use crate::kinds::kind_of;
 use crate::text::{add_text, number_in, text_of};
 use replay_script::line::{ScriptLine, text_in};
 use std::alloc::{AllocError, Global};
+use tiny_http_core::framing::Profile;
 use tiny_http_wire::common::{Header, ParseError};
 
 const NO_KIND: LineFault = LineFault::Bad("no such kind of fault");
@@ -23,6 +24,7 @@ fn begin(alloc: Global, cases: &mut Vec<Case>, name: &str) -> Result<(), LineFau
     }
     let case = Case {
         name: String::from_str(alloc, name)?,
+        profile: Profile::Lenient,
         client: Vec::new(alloc),
         stop: None,
         room: None,
@@ -50,6 +52,9 @@ fn lack_of(cases: &[Case]) -> Option<&'static str> {
     }
     if case.varied.is_some_and(|count| count > case.client.len()) {
         return Some("the case in front varies more bytes than its client sends");
+    }
+    if case.varied.is_some() && case.profile == Profile::Strict {
+        return Some("the case in front varies bytes, whose plain reading isn't strict");
     }
     None
 }
@@ -190,6 +195,10 @@ fn add_line(alloc: Global, case: &mut Case, text: &str) -> Result<(), LineFault>
     }
     let (word, words) = text.split_once(' ').unwrap_or((text, ""));
     match word {
+        "profile" if words != "strict" => return Err(LineFault::Bad(
+            "a case names no profile but strict",
+        )),
+        "profile" if case.profile == Profile::Lenient => case.profile = Profile::Strict,
         "client" => add_text(alloc, words, &mut case.client)?,
         "output" => add_text(alloc, words, &mut case.output)?,
         "stop" if case.stop.is_none() => match kind_of(words) {
@@ -204,7 +213,7 @@ fn add_line(alloc: Global, case: &mut Case, text: &str) -> Result<(), LineFault>
             None => return Err(NO_NUMBER),
         },
         "end" if case.end.is_none() => case.end = Some(text_of(alloc, words)?),
-        "stop" | "takes" | "uncut" | "vary" | "end" => return Err(LineFault::Bad(
+        "profile" | "stop" | "takes" | "uncut" | "vary" | "end" => return Err(LineFault::Bad(
             "the case says so already",
         )),
         "answer" => {

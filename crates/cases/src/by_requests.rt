@@ -48,9 +48,10 @@ impl<R: Wait + Copy> Runner for ByRequests<R> {
         let writer = writer.map_err(AllocError::from)?;
         let theirs = Shared::new(self.rt, Arc::try_clone(&writer)?);
         let reader = trial.reader(alloc, case)?;
-        let client = ClientConnection::over(
+        let client = ClientConnection::over_with(
             self.rt,
             alloc,
+            case.profile,
             Metered::new(theirs),
             reader,
             None,

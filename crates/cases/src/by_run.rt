@@ -1,4 +1,4 @@
-//! The cases by `run`.
+//! The cases by `run_with`.
 use case_files::case::Case;
 use case_files::outcome::Outcome;
 use case_files::replies::{end_words, reply_line};
@@ -6,10 +6,10 @@ use case_files::report::Runner;
 use case_files::steps::{StepsFault, steps_of};
 use case_files::trial::Trial;
 use std::alloc::{AllocError, Global};
-use tiny_http_core::driver::{Connection, Reply, run};
+use tiny_http_core::driver::{Connection, Reply, run_with};
 use tiny_http_wire::device::{Metered, WriteDevice};
 
-/// Runs steps by `run`.
+/// Runs steps by `run_with`.
 #[derive(Drop)]
 pub(crate) struct ByRun;
 
@@ -22,14 +22,14 @@ fn lines_of(alloc: Global, replies: &[Reply]) -> Result<Vec<Vec<u8>>, AllocError
     Ok(lines)
 }
 
-// Why no further request comes after the steps, if the case says so: no reply of `run` does.
+// Why no further request comes after the steps, if the case says so: no reply does.
 fn end_of(alloc: Global, case: &Case, trial: Trial) -> Result<Option<Vec<u8>>, StepsFault> {
     if case.end.is_none() {
         return Ok(None);
     }
     let reader = trial.reader(alloc, case)?;
     let writer = Metered::new(trial.writer(alloc, case));
-    let mut connection = Connection::new(alloc, reader, writer);
+    let mut connection = Connection::new_with(alloc, case.profile, reader, writer);
     for timed in steps_of(alloc, case)? {
         drop(connection.step(alloc, timed));
     }
@@ -45,7 +45,7 @@ impl Runner for ByRun {
         true
     }
 
-    /// `run` takes all steps.
+    /// A run takes all steps.
     fn takes(&self, _case: &Case) -> bool {
         true
     }
@@ -54,7 +54,8 @@ impl Runner for ByRun {
     fn run(&mut self, alloc: Global, case: &Case, trial: Trial) -> Result<Outcome, StepsFault> {
         let reader = trial.reader(alloc, case)?;
         let writer = Metered::new(trial.writer(alloc, case));
-        let Ok(record) = run(alloc, reader, writer, steps_of(alloc, case)?) else {
+        let steps = steps_of(alloc, case)?;
+        let Ok(record) = run_with(alloc, case.profile, reader, writer, steps) else {
             return Err(StepsFault::OutOfMemory);
         };
         let replies = lines_of(alloc, record.replies.as_slice())?;

@@ -100,6 +100,21 @@ const BAD: &[(&str, usize, &str)] = &[
     ("case a\nuncut x\n", 2, "nothing stands behind uncut"),
     ("case a\nuncut\nuncut\n", 3, "the case says so already"),
     (
+        "case a\nprofile lenient\n",
+        2,
+        "a case names no profile but strict",
+    ),
+    (
+        "case a\nprofile strict\nprofile strict\n",
+        3,
+        "the case says so already",
+    ),
+    (
+        "case a\nprofile strict\nclient G\nvary 1\nask\n  ended\n",
+        7,
+        "the case in front varies bytes, whose plain reading isn't strict",
+    ),
+    (
         "case a\nclient G\nvary 2\nask\n  ended\n",
         6,
         "the case in front varies more bytes than its client sends",

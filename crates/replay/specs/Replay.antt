@@ -3,14 +3,15 @@ use Rattle.std.specs.Prelude.{◌≡◌, ℕ, Bool, Option, Some, List, ◌++◌
 use Rattle.std.specs.List.{flat_map}
 use Rattle.std.specs.Io.KnownBytes.{Appends}
 use Rattle.tiny_http_wire.specs.Device.{Feed, Sink, whole_feed}
-use Rattle.tiny_http_core.specs.declared.framing.Profile.TheVariants.{Lenient}
+use Rattle.tiny_http_core.specs.declared.framing.Profile.{Profile}
 use Rattle.tiny_http_core.specs.Steps.{ReplyValue}
 use Rattle.tiny_http_core.specs.Conversation.{TimedValue, IsFresh, IsConversation}
 use Rattle.replay_script.specs.Reply.{reply_line}
 use Rattle.replay_script.specs.Script.{IsScript}
 
--- The client sends these bytes and ends: the steps have these replies, and this is the output, all of it taken or held.
-pub record HasRun (client : List ℕ) (steps : List TimedValue) (replies : List ReplyValue) (output : List ℕ) : Type 0 where
+-- The client sends these bytes and ends: under this profile the steps have these replies, and this is the output, all of it taken
+-- or held.
+pub record HasRun (p : Profile) (client : List ℕ) (steps : List TimedValue) (replies : List ReplyValue) (output : List ℕ) : Type 0 where
   pub before : Sink
   pub after : Sink
   pub taken : List ℕ
@@ -18,19 +19,19 @@ pub record HasRun (client : List ℕ) (steps : List TimedValue) (replies : List 
   pub fresh : IsFresh before
   pub ended : Bool
   pub unread : Option Feed
-  pub conversation : IsConversation Lenient (whole_feed client) before steps replies after held ended unread
+  pub conversation : IsConversation p (whole_feed client) before steps replies after held ended unread
   pub no_fault : after.failures ≡ before.failures
   pub took : after.taken ≡ Some taken
   pub output_is : output ≡ taken ++ held
 
--- a replay of a script over a client's bytes has these replies and this output
-abbrev pub IsReplay : List ℕ → List ℕ → List ReplyValue → List ℕ → Type 0
-IsReplay client script replies output = (steps : List TimedValue) × IsScript script steps × HasRun client steps replies output
+-- a replay of a script over a client's bytes, under a profile, has these replies and this output
+abbrev pub IsReplay : Profile → List ℕ → List ℕ → List ReplyValue → List ℕ → Type 0
+IsReplay p client script replies output = (steps : List TimedValue) × IsScript script steps × HasRun p client steps replies output
 
 -- Of such a replay one writer's known bytes grow by the output, and the other's by the lines of the replies.
-pub record WritesReplay (client script : List ℕ) (out_old out_new err_old err_new : Option (List ℕ)) : Type 0 where
+pub record WritesReplay (p : Profile) (client script : List ℕ) (out_old out_new err_old err_new : Option (List ℕ)) : Type 0 where
   pub replies : List ReplyValue
   pub output : List ℕ
-  pub replay : IsReplay client script replies output
+  pub replay : IsReplay p client script replies output
   pub out : Appends out_old out_new output
   pub err : Appends err_old err_new (flat_map reply_line replies)

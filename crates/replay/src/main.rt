@@ -1,6 +1,7 @@
-//! Runs the steps of a script over a client's bytes: `replay BYTES SCRIPT`. The output of the connection goes to standard
-//! output, a line for each step's reply to standard error. It stands on `replay_script`, which reads the script, on
-//! `tiny_http_core`, whose `run` it calls, and on `tiny_http_wire`.
+//! Runs the steps of a script over a client's bytes: `replay [--strict] BYTES SCRIPT`. The output of the connection goes to
+//! standard output, a line for each step's reply to standard error. `--strict` has heads read under the strict profile. The
+//! program stands on `replay_script`, which reads the script, on `tiny_http_core`, whose `run_with` it calls, and on
+//! `tiny_http_wire`.
 #![tactic(auto)]
 
 ghost use Rattle.std.specs.Prelude.{◌≡◌, ◌<◌, ◌≤◌, ◌⊎◌, ℕ, ◌++◌, map, Err, IsErrAnd, IfOk, IfErr, OnOk};
@@ -26,7 +27,8 @@ use std::io::{ErrorKind, Write};
 use std::process::ExitCode;
 use std::rt::{Env, Files};
 use std::{env, fs, io};
-use tiny_http_core::driver::{Reply, Timed, run};
+use tiny_http_core::driver::{Reply, Timed, run_with};
+use tiny_http_core::framing::Profile;
 use tiny_http_wire::device::{Budget, Canned, WriteDevice};
 
 /// What a run left: the writer with what it took, what was held back, and what the steps were answered.
@@ -40,16 +42,17 @@ struct Replayed {
 // Runs the steps over the client's bytes, which then end. The writer is in memory, so only lack of memory makes it fail.
 fn run_steps(
     alloc: Global,
+    profile: Profile,
     bytes: Vec<u8>,
     steps: Vec<Timed<ScriptData>>,
 ) -> Result<Replayed, ReplayFault<'static>>
-    ensures runs { IfOk result (λ o. HasRun bytes.items (map timed_value steps.items) (map seen o.replies.items)
+    ensures runs { IfOk result (λ o. HasRun profile bytes.items (map timed_value steps.items) (map seen o.replies.items)
         (budget_bytes o.writer ++ o.held.items)) }
     ensures memory { IfErr result (λ fault. fault ≡ ReplayFault.OutOfMemory) }
 {
     let reader = Canned::new(bytes, None);
     let writer = Budget::new(alloc, usize::MAX, ErrorKind::OutOfMemory);
-    let Ok(record) = run(alloc, reader, writer, steps) else {
+    let Ok(record) = run_with(alloc, profile, reader, writer, steps) else {
         return Err(ReplayFault::OutOfMemory);
     };
     let outlet = record.outlet;
@@ -90,12 +93,13 @@ fn write_outcome<O: Write, E: Write>(
 // Runs a script and writes what came of it.
 fn replay<O: Write, E: Write>(
     alloc: Global,
+    profile: Profile,
     bytes: Vec<u8>,
     script: &[u8],
     out: &mut O,
     err: &mut E,
 ) -> Result<(), ReplayFault<'static>>
-    ensures runs { OnOk result (WritesReplay bytes.items script.now (O.contents out.old) (O.contents out.new)
+    ensures runs { OnOk result (WritesReplay profile bytes.items script.now (O.contents out.old) (O.contents out.new)
         (E.contents err.old) (E.contents err.new)) }
     // After a bad line nothing is run.
     ensures refused { (n : ℕ) → IsFirstBadLine (script_lines script.now) n
@@ -108,7 +112,7 @@ fn replay<O: Write, E: Write>(
         Err(ScriptFault::BadLine(number)) => return Err(ReplayFault::BadLine(number)),
         Err(ScriptFault::OutOfMemory) => return Err(ReplayFault::OutOfMemory),
     };
-    let outcome = run_steps(alloc, bytes, steps)?;
+    let outcome = run_steps(alloc, profile, bytes, steps)?;
     match write_outcome(&outcome, out, err) {
         Ok(()) => Ok(()),
         Err(_) => Err(ReplayFault::CannotWrite),
@@ -127,24 +131,25 @@ fn report<E: Write>(fault: &ReplayFault<'_>, err: &mut E) -> u8
     }
 }
 
-/// Runs the steps of a script over a client's bytes. Writes the output to `out`, then a line for each reply to `err`, and
-/// gives the exit status: 0, or that of a fault, which is reported by a line on `err`. After a bad line of the script nothing
-/// is run.
+/// Runs the steps of a script over a client's bytes, whose heads are read under this profile. Writes the output to `out`, then
+/// a line for each reply to `err`, and gives the exit status: 0, or that of a fault, which is reported by a line on `err`.
+/// After a bad line of the script nothing is run.
 pub fn replay_on<O: Write, E: Write>(
     alloc: Global,
+    profile: Profile,
     bytes: Vec<u8>,
     script: &[u8],
     out: &mut O,
     err: &mut E,
 ) -> u8
-    ensures runs { result ≡ 0 → WritesReplay bytes.items script.now (O.contents out.old) (O.contents out.new)
+    ensures runs { result ≡ 0 → WritesReplay profile bytes.items script.now (O.contents out.old) (O.contents out.new)
         (E.contents err.old) (E.contents err.new) }
     ensures bound { result ≤ 2 }
     // After a bad line nothing is run.
     ensures refused { (n : ℕ) → IsFirstBadLine (script_lines script.now) n → (0 < result) × (out.new ≡ out.old) }
     ensures two { result ≡ 2 → (n : ℕ) × IsFirstBadLine (script_lines script.now) n }
 {
-    match replay(alloc, bytes, script, out, err) {
+    match replay(alloc, profile, bytes, script, out, err) {
         Ok(()) => 0,
         Err(fault) => report(&fault, err),
     }
@@ -162,17 +167,32 @@ fn read_file<'a, R: Files + AllocGlobal>(
     }
 }
 
-// The bytes of the two files that the words name.
-fn read_files<'a, R: Files + AllocGlobal>(
+// The profile and the names of the two files that the words say. A word that begins with two hyphens names no file.
+fn call_in(words: &[String]) -> Option<(Profile, &str, &str)> {
+    let (profile, bytes, script) = match words {
+        [_, bytes, script] => (Profile::Lenient, bytes, script),
+        [_, option, bytes, script] if option.as_str() == "--strict" => {
+            (Profile::Strict, bytes, script)
+        }
+        _ => return None,
+    };
+    if bytes.starts_with("--") || script.starts_with("--") {
+        return None;
+    }
+    Some((profile, bytes.as_str(), script.as_str()))
+}
+
+// The profile that the words say, and the bytes of the two files that they name.
+fn read_call<'a, R: Files + AllocGlobal>(
     rt: &R,
     words: &'a [String],
-) -> Result<(Vec<u8>, Vec<u8>), ReplayFault<'a>> {
-    let [_, bytes, script] = words else {
+) -> Result<(Profile, Vec<u8>, Vec<u8>), ReplayFault<'a>> {
+    let Some((profile, bytes, script)) = call_in(words) else {
         return Err(ReplayFault::Usage);
     };
-    let bytes = read_file(rt, bytes.as_str())?;
-    let script = read_file(rt, script.as_str())?;
-    Ok((bytes, script))
+    let bytes = read_file(rt, bytes)?;
+    let script = read_file(rt, script)?;
+    Ok((profile, bytes, script))
 }
 
 // The words of the command line, the program's name first. One that isn't UTF-8 can't name a file here.
@@ -194,10 +214,10 @@ fn main(rt: HostRuntime) -> ExitCode {
         Ok(words) => words,
         Err(fault) => return ExitCode::from(report(&fault, &mut err)),
     };
-    let (bytes, script) = match read_files(&rt, words.as_slice()) {
-        Ok(files) => files,
+    let (profile, bytes, script) = match read_call(&rt, words.as_slice()) {
+        Ok(call) => call,
         Err(fault) => return ExitCode::from(report(&fault, &mut err)),
     };
-    let status = replay_on(rt.alloc(), bytes, script.as_slice(), &mut out, &mut err);
-    ExitCode::from(status)
+    let (alloc, script) = (rt.alloc(), script.as_slice());
+    ExitCode::from(replay_on(alloc, profile, bytes, script, &mut out, &mut err))
 }

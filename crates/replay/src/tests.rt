@@ -1,12 +1,13 @@
 //! Scripts as a whole: what is written, and the exit status.
 use crate::fault::ReplayFault;
-use crate::{read_files, replay_on, report};
+use crate::{call_in, read_call, replay_on, report};
 use replay_script::reply::ReplyLine;
 use std::alloc::{AllocError, Global};
 use std::io::ErrorKind;
 use std::process::Abort;
 use std::test::Fail;
 use tiny_http_core::driver::Reply;
+use tiny_http_core::framing::Profile;
 
 /// What a replay wrote, and its exit status.
 #[derive(Drop)]
@@ -20,7 +21,7 @@ fn replayed(alloc: Global, bytes: &str, script: &[u8]) -> Result<Trial, AllocErr
     let bytes = bytes.as_bytes().to_vec(alloc)?;
     let mut out = Vec::new(alloc);
     let mut err = Vec::new(alloc);
-    let status = replay_on(alloc, bytes, script, &mut out, &mut err);
+    let status = replay_on(alloc, Profile::Lenient, bytes, script, &mut out, &mut err);
     Ok(Trial { status, out, err })
 }
 
@@ -243,7 +244,14 @@ fn an_output_that_refuses(rt: HostRuntime) -> Result<(), Fail> {
     let mut err = Vec::new(alloc);
     let request = bytes.as_bytes().to_vec(alloc)?;
     assert_eq!(rt;
-        replay_on(alloc, request, script.as_bytes(), &mut full, &mut err),
+        replay_on(
+            alloc,
+            Profile::Strict,
+            request,
+            script.as_bytes(),
+            &mut full,
+            &mut err
+        ),
         1
     );
     assert_eq!(rt; err.as_slice(), b"replay: cannot write\n".as_slice());
@@ -260,7 +268,14 @@ fn an_error_stream_that_refuses(rt: HostRuntime) -> Result<(), Fail> {
         let mut out = Vec::new(alloc);
         let request = bytes.as_bytes().to_vec(alloc)?;
         assert_eq!(rt;
-            replay_on(alloc, request, script.as_bytes(), &mut out, &mut full),
+            replay_on(
+                alloc,
+                Profile::Lenient,
+                request,
+                script.as_bytes(),
+                &mut out,
+                &mut full
+            ),
             1
         );
     }
@@ -273,7 +288,7 @@ fn faults_are_reported(rt: HostRuntime) -> Result<(), Fail> {
     for (fault, line, status) in [
         (
             ReplayFault::Usage,
-            "replay: usage: replay BYTES SCRIPT\n",
+            "replay: usage: replay [--strict] BYTES SCRIPT\n",
             2,
         ),
         (
@@ -298,13 +313,62 @@ fn the_bytes_are_read_first(rt: HostRuntime) -> Result<(), Fail> {
     let mut words = Vec::new(alloc);
     for word in ["replay", "missing.request", "missing.script"] {
         assert_eq!(rt;
-            read_files(&rt, words.as_slice()).err(),
+            read_call(&rt, words.as_slice()).err(),
             Some(ReplayFault::Usage)
         );
         words.push(String::from_str(alloc, word)?)?;
     }
-    let fault = read_files(&rt, words.as_slice()).err();
+    let fault = read_call(&rt, words.as_slice()).err();
     assert_eq!(rt; fault, Some(ReplayFault::CannotRead("missing.request")));
+    Ok(())
+}
+
+#[test]
+fn the_profile_is_named_first(rt: HostRuntime) -> Result<(), Fail> {
+    let alloc = rt.alloc();
+    for (call, want) in [
+        ("replay a b", Some((Profile::Lenient, "a", "b"))),
+        ("replay --strict a b", Some((Profile::Strict, "a", "b"))),
+        ("replay -strict b", Some((Profile::Lenient, "-strict", "b"))),
+        ("replay --strict a", None),
+        ("replay a --strict", None),
+        ("replay a --strict b", None),
+        ("replay a b --strict", None),
+        ("replay --strict --strict b", None),
+        ("replay --strict --strict a b", None),
+        ("replay --lenient a b", None),
+        ("replay --Strict a b", None),
+        ("replay -strict a b", None),
+        ("replay --strict a b c", None),
+        ("replay --strict", None),
+    ] {
+        let mut words = Vec::new(alloc);
+        for word in call.split(' ') {
+            words.push(String::from_str(alloc, word)?)?;
+        }
+        assert_eq!(rt; call_in(words.as_slice()), want, "{call}");
+    }
+    Ok(())
+}
+
+// A head with two lengths: one of them under the lenient profile, 400 under the strict one.
+#[test]
+fn the_profile_decides(rt: HostRuntime) -> Result<(), Fail> {
+    let alloc = rt.alloc();
+    let client = "POST / HTTP/1.1\r\nContent-Length: 0\r\nContent-Length: 5\r\n\r\n";
+    for (profile, want) in [
+        (Profile::Lenient, "handed 0 POST / 1.1 2 0\n"),
+        (Profile::Strict, "ended\n"),
+    ] {
+        let mut out = Vec::new(alloc);
+        let mut err = Vec::new(alloc);
+        let bytes = client.as_bytes().to_vec(alloc)?;
+        assert_eq!(rt;
+            replay_on(alloc, profile, bytes, b"ask\n", &mut out, &mut err),
+            0
+        );
+        assert_eq!(rt; err.as_slice(), want.as_bytes());
+    }
     Ok(())
 }
 
