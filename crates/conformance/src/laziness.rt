@@ -8,8 +8,9 @@ use std::io;
 use std::io::ErrorKind;
 use std::process::Abort;
 use std::test::Fail;
-use tiny_http_core::driver::run;
+use tiny_http_core::driver::{run, run_with};
 use tiny_http_core::exchange::{HeadRead, read_head};
+use tiny_http_core::framing::Profile;
 use tiny_http_core::source::Source;
 use tiny_http_wire::device::{Metered, ReadDevice};
 
@@ -33,15 +34,17 @@ impl ReadDevice for Client {
     }
 }
 
-// How often these steps call the client.
+// How often these steps call the client, whose heads are read under this profile.
 fn calls_of(
     alloc: Global,
+    profile: Profile,
     pieces: &'static [&'static [u8]],
     deeds: &[Deed<'_>],
 ) -> Result<usize, Fail> {
     let client = Client { pieces, calls: 0 };
     let steps = steps_of(alloc, deeds)?;
-    match run(alloc, client, Metered::new(Vec::new(alloc)), steps) {
+    let writer = Metered::new(Vec::new(alloc));
+    match run_with(alloc, profile, client, writer, steps) {
         Ok(done) => Ok(done.source.into_inner().calls),
         Err(_) => Err("no memory".into()),
     }
@@ -56,7 +59,8 @@ fn assert_calls(
     wanted: &[usize],
 ) -> Result<(), Fail> {
     for (count, want) in wanted.iter().enumerate() {
-        let calls = calls_of(alloc, pieces, &deeds[..count.min(deeds.len())])?;
+        let deeds = &deeds[..count.min(deeds.len())];
+        let calls = calls_of(alloc, Profile::Lenient, pieces, deeds)?;
         assert_same(rt, (count, calls), (count, *want));
     }
     Ok(())
@@ -154,6 +158,25 @@ const NO_REQUESTS: &[&[&[u8]]] = &[
 fn a_head_that_is_no_request_waits_for_no_more(rt: HostRuntime) -> Result<(), Fail> {
     for pieces in NO_REQUESTS {
         assert_calls(&rt, rt.alloc(), pieces, &[Ask, Ask], &[0, 1, 1])?;
+    }
+    Ok(())
+}
+
+// Heads that are refused under the strict profile alone, in one piece; and as many bytes as a head may have, in 64 pieces.
+const STRICT: &[(&[&[u8]], usize)] = &[
+    (
+        &[b"POST / HTTP/1.1\r\nContent-Length: 5\r\nContent-Length: 6\r\n\r\n"],
+        1,
+    ),
+    (&[b"POST / HTTP/1.1\r\nTransfer-Encoding: gzip\r\n\r\n"], 1),
+    (&[BODY; 64], 64),
+];
+
+#[test]
+fn a_strict_refusal_waits_for_no_more(rt: HostRuntime) -> Result<(), Fail> {
+    for (pieces, want) in STRICT {
+        let calls = calls_of(rt.alloc(), Profile::Strict, pieces, &[Ask, Ask])?;
+        assert_same(&rt, calls, *want);
     }
     Ok(())
 }

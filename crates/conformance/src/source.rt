@@ -92,6 +92,63 @@ fn faults_of_the_reader(rt: HostRuntime) -> Result<(), Fail> {
     Ok(())
 }
 
+// What a client sends, the fault behind it, the most bytes of a line with its CR LF, and the first line.
+const WITHIN: &[(&[u8], Option<ErrorKind>, usize, Result<&str, LineFault>)] = &[
+    (b"abc\r\nd", None, 6, Ok("abc")),
+    (b"abc\r\nd", None, 5, Ok("abc")),
+    (b"abc\r\nd", None, 4, Err(LineFault::TooLong)),
+    (b"abc\r\nd", None, 3, Err(LineFault::TooLong)),
+    (b"abc\r\nd", None, 0, Err(LineFault::TooLong)),
+    (b"\r\n", None, 2, Ok("")),
+    (b"\r\n", None, 1, Err(LineFault::TooLong)),
+    (b"", None, 1, Err(LineFault::End)),
+    (b"abc\r", None, 5, Err(LineFault::End)),
+    (b"abc\r", None, 4, Err(LineFault::TooLong)),
+    (
+        b"abc",
+        Some(ErrorKind::TimedOut),
+        4,
+        Err(LineFault::TimedOut),
+    ),
+    (
+        b"abc",
+        Some(ErrorKind::TimedOut),
+        3,
+        Err(LineFault::TooLong),
+    ),
+    (b"a\x80c\r\n", None, 5, Err(LineFault::NotAscii)),
+    (b"a\x80c\r\n", None, 4, Err(LineFault::TooLong)),
+];
+
+// The first line of such a client, whose bytes come in pieces of this size. Behind one that is too long there is none.
+fn assert_within(
+    rt: &impl Abort,
+    alloc: Global,
+    (client, fault): (&[u8], Option<ErrorKind>),
+    (left, most): (usize, usize),
+    wanted: Result<&str, LineFault>,
+) -> Result<(), Fail> {
+    let mut source = source_of(alloc, client, fault, most)?;
+    match source.read_line_within(alloc, left) {
+        Ok(line) => assert_same(rt, Ok(line.as_str()), wanted),
+        Err(fault) => assert_same(rt, Err(fault), wanted),
+    }
+    if wanted == Err(LineFault::TooLong) {
+        assert_line(rt, alloc, &mut source, Err(LineFault::End));
+    }
+    Ok(())
+}
+
+#[test]
+fn lines_within_a_limit(rt: HostRuntime) -> Result<(), Fail> {
+    for (client, fault, left, wanted) in WITHIN {
+        for most in [1, 2, 1024] {
+            assert_within(&rt, rt.alloc(), (client, *fault), (*left, most), *wanted)?;
+        }
+    }
+    Ok(())
+}
+
 // So many letters.
 fn letters(alloc: Global, length: usize) -> Result<String, Fail> {
     let mut text = String::new(alloc);
@@ -108,7 +165,10 @@ fn assert_long(rt: &impl Abort, alloc: Global, text: &str) -> Result<(), Fail> {
     let mut source = source_of(alloc, client.as_slice(), None, 1024)?;
     assert_line(rt, alloc, &mut source, Ok(text));
     assert_line(rt, alloc, &mut source, Ok("next"));
-    Ok(())
+    let (whole, sent) = (text.len().saturating_add(2), (client.as_slice(), None));
+    assert_within(rt, alloc, sent, (whole, 1024), Ok(text))?;
+    let short = (whole.saturating_sub(1), 1024);
+    assert_within(rt, alloc, sent, short, Err(LineFault::TooLong))
 }
 
 #[test]

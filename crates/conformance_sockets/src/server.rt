@@ -1,7 +1,8 @@
 //! The calls of a server.
 use crate::bench::{
-    DATED, Host, TURNS, assert_clients, assert_no_request, one_server_one_client, read_all,
-    read_up_to, receive, send, serve, turn, turns,
+    DATED, Host, TURNS, assert_body, assert_clients, assert_no_request, assert_reads,
+    assert_responds, connect, one_server_one_client, read_all, read_up_to, receive, send,
+    send_body, serve, turn, turns,
 };
 use crate::same::{assert_holds, assert_same, assert_shown};
 use crate::script::{Step, play_each};
@@ -16,6 +17,7 @@ use std::rt::Files;
 use std::time::{Clock, Duration};
 use std::{fs, io, thread};
 use tiny_http::connection::{ConfigListenAddr, Listener};
+use tiny_http::framing::Profile;
 use tiny_http::server::{
     Server, ServerConfig, ServerError, ServerRequest, SslConfig, current_date,
 };
@@ -363,6 +365,86 @@ fn assert_fault_is_reported_once<R: Host>(rt: &R, alloc: Global) {
 #[test]
 fn a_fault_of_accepting_is_reported_once(rt: HostRuntime) {
     assert_fault_is_reported_once(&rt, rt.alloc());
+}
+
+// A server that reads heads under this profile.
+fn serve_with<R: Host>(rt: &R, alloc: Global, profile: Profile) -> Server<R> {
+    let listener = TcpListener::bind(rt, "127.0.0.1:0").expect(rt, "a listener");
+    let listener = Listener::from(listener);
+    let made = Server::from_listener_with(*rt, alloc, listener, None, profile);
+    made.expect(rt, "a server")
+}
+
+const BAD_REQUEST: &[&str] = &[
+    "HTTP/1.1 400 Bad Request\r\n",
+    DATED,
+    "Content-Length: 0\r\n\r\n",
+];
+
+// Header lines on which servers differ, and what stands behind them.
+const DIFFERING: &[&str] = &[
+    "Content-Length: 5\r\nContent-Length: 6\r\n\r\nhello",
+    "Content-Length: 5, 6\r\n\r\nhello",
+    "Content-Length: +5\r\n\r\nhello",
+    "Content-Length: x\r\nExpect: x\r\n\r\n",
+    "Content-Length: 5\r\nTransfer-Encoding: chunked\r\n\r\n0\r\n\r\n",
+    "Transfer-Encoding: chunked\r\nContent-Length: 5\r\n\r\n0\r\n\r\n",
+    "Transfer-Encoding: gzip\r\n\r\n0\r\n\r\n",
+    "Transfer-Encoding: chunked, gzip\r\n\r\n0\r\n\r\n",
+    "Connection: upgrade\r\nContent-Length: 5\r\nContent-Length: 6\r\n\r\nhello",
+];
+
+// A strict server refuses each of them, and closes.
+fn assert_differing_are_refused<R: Host>(rt: &R, alloc: Global, server: &Server<R>) {
+    for head in DIFFERING {
+        let mut client = connect(rt, server);
+        send(rt, &mut client, "POST / HTTP/1.1\r\n");
+        send(rt, &mut client, head);
+        assert_reads(rt, alloc, &mut client, BAD_REQUEST);
+    }
+}
+
+const TOO_LARGE: &[&str] = &[
+    "HTTP/1.1 431 Request Header Fields Too Large\r\n",
+    DATED,
+    "Content-Length: 0\r\n\r\n",
+];
+
+// A strict server refuses a head of which as many bytes came as it may have, though the client sends no more and goes on
+// waiting.
+fn assert_long_is_refused<R: Host>(rt: &R, alloc: Global, server: &Server<R>) {
+    let mut client = connect(rt, server);
+    send_body(rt, alloc, &mut client, 65536);
+    assert_reads(rt, alloc, &mut client, TOO_LARGE);
+}
+
+// A head is handed out, with a body of five bytes, and its client is answered.
+fn assert_is_served<R: Host>(rt: &R, alloc: Global, server: &Server<R>, head: &str) {
+    let mut client = connect(rt, server);
+    send(rt, &mut client, "POST / HTTP/1.1\r\nConnection: close\r\n");
+    send(rt, &mut client, head);
+    let mut request = receive(rt, server);
+    assert_body(rt, alloc, &mut request, b"hello");
+    assert_responds(rt, alloc, request, "a");
+    let answer = &[
+        "HTTP/1.1 200 OK\r\n",
+        DATED,
+        "Content-Type: text/plain; charset=UTF-8\r\nContent-Length: 1\r\n\r\na",
+    ];
+    assert_reads(rt, alloc, &mut client, answer);
+}
+
+#[test]
+fn a_server_has_a_profile(rt: HostRuntime) {
+    let strict = serve_with(&rt, rt.alloc(), Profile::Strict);
+    assert_differing_are_refused(&rt, rt.alloc(), &strict);
+    assert_long_is_refused(&rt, rt.alloc(), &strict);
+    assert_no_request(&rt, &strict);
+    let twice = "Content-Length: 5, 5\r\nContent-Length: 05\r\n\r\nhello";
+    assert_is_served(&rt, rt.alloc(), &strict, twice);
+    let lenient = serve_with(&rt, rt.alloc(), Profile::Lenient);
+    let two = "Content-Length: 5\r\nContent-Length: 6\r\n\r\nhello";
+    assert_is_served(&rt, rt.alloc(), &lenient, two);
 }
 
 // A clock that stands at a time since 1970, or can't be read.
