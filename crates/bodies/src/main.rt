@@ -6,16 +6,13 @@
 
 use std::alloc::Global;
 use std::io::{ErrorKind, Read, Repeat, Take, Write};
-use std::net::{Net, TcpListener, TcpStream};
 use std::sync::Wait;
-use std::thread::Threads;
 use std::time::Clock;
 use std::{env, io, thread};
 use tiny_http::common::{Method, StatusCode};
-use tiny_http::connection::SocketFiles;
 use tiny_http::device::{Metered, ReadDevice};
 use tiny_http::response::Response;
-use tiny_http::server::{Server, ServerRequest, current_date};
+use tiny_http::server::{Server, ServerRequest, ServerRuntime, current_date};
 
 // So many bytes one read of a body asks for.
 const PIECE: usize = 8192;
@@ -100,9 +97,7 @@ fn answer<R: Clock + Wait + Drop>(
 
 // Answers requests until the server has no more, and then has another thread, if one waits, end too. Bodies are read into
 // one buffer.
-fn answer_all<
-    R: Net<Listener = TcpListener, Stream = TcpStream> + SocketFiles + Clock + Wait + Drop,
->(rt: &R, alloc: Global, server: &Server<R>) {
+fn answer_all<R: ServerRuntime>(rt: &R, alloc: Global, server: &Server<R>) {
     let mut buf = [0u8; PIECE];
     let mut requests = server.incoming_requests();
     for _ in rt.forever() {
@@ -115,17 +110,7 @@ fn answer_all<
 }
 
 // Answers all requests of a server, by two threads.
-fn answer_by_two<R>(rt: &R, alloc: Global, server: &Server<R>)
-where
-    R: Net<Listener = TcpListener, Stream = TcpStream>
-        + SocketFiles
-        + Clock
-        + Wait
-        + Threads
-        + Drop
-        + Send
-        + Sync,
-{
+fn answer_by_two<R: ServerRuntime + Sync>(rt: &R, alloc: Global, server: &Server<R>) {
     thread::join(
         rt,
         || answer_all(rt, alloc, server),
@@ -134,17 +119,7 @@ where
 }
 
 // Answers all requests of a server, by four threads.
-fn answer_by_four<R>(rt: &R, alloc: Global, server: &Server<R>)
-where
-    R: Net<Listener = TcpListener, Stream = TcpStream>
-        + SocketFiles
-        + Clock
-        + Wait
-        + Threads
-        + Drop
-        + Send
-        + Sync,
-{
+fn answer_by_four<R: ServerRuntime + Sync>(rt: &R, alloc: Global, server: &Server<R>) {
     thread::join(
         rt,
         || answer_by_two(rt, alloc, server),

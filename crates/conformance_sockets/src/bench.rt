@@ -5,13 +5,11 @@ use std::io::{ErrorKind, Read, Write};
 use std::net::{Net, Shutdown, TcpListener, TcpStream};
 use std::process::Abort;
 use std::sync::Wait;
-use std::thread::Threads;
 use std::time::{Clock, Duration};
 use std::{io, thread};
 use tiny_http::common::StatusCode;
-use tiny_http::connection::SocketFiles;
 use tiny_http::response::Response;
-use tiny_http::server::{Server, ServerRequest, current_date};
+use tiny_http::server::{Server, ServerRequest, ServerRuntime, current_date};
 
 // A wait is for so many turns of 1 ms at most.
 pub const TURNS: u32 = 10_000;
@@ -25,30 +23,9 @@ pub trait Tcp: Net<Listener = TcpListener, Stream = TcpStream> + Abort {}
 impl<R: Net<Listener = TcpListener, Stream = TcpStream> + Abort> Tcp for R {}
 
 /// What a server and its clients need of the system, and an end where something goes wrong.
-pub trait Host: Net<Listener = TcpListener, Stream = TcpStream>
-    + SocketFiles
-    + Clock
-    + Wait
-    + Threads
-    + Abort
-    + Copy
-    + Send
-    + Sync
-    + 'static {}
+pub trait Host: ServerRuntime + Sync + Abort {}
 
-impl<R> Host for R
-where
-    R: Net<Listener = TcpListener, Stream = TcpStream>
-        + SocketFiles
-        + Clock
-        + Wait
-        + Threads
-        + Abort
-        + Copy
-        + Send
-        + Sync
-        + 'static,
-{}
+impl<R: ServerRuntime + Sync + Abort> Host for R {}
 
 /// A short wait.
 pub fn turn<R: Clock>(rt: &R) {

@@ -13,16 +13,13 @@ mod tests;
 use crate::fault::HelloFault;
 use std::alloc::Global;
 use std::io::{ErrorKind, Write};
-use std::net::{Net, TcpListener, TcpStream};
 use std::process::ExitCode;
 use std::rt::Env;
 use std::sync::Wait;
-use std::thread::Threads;
 use std::time::Clock;
 use std::{env, thread};
-use tiny_http::connection::SocketFiles;
 use tiny_http::response::Response;
-use tiny_http::server::{Server, ServerRequest, current_date};
+use tiny_http::server::{Server, ServerRequest, ServerRuntime, current_date};
 
 // Answers a request. One for whose answer there is no memory is dropped. That the client doesn't take its answer is passed over.
 fn answer<R: Clock + Wait + Drop>(rt: &R, alloc: Global, request: ServerRequest<R>) {
@@ -35,9 +32,7 @@ fn answer<R: Clock + Wait + Drop>(rt: &R, alloc: Global, request: ServerRequest<
 }
 
 // Answers requests until the server has no more, and then has another thread, if one waits, end too.
-fn answer_all<
-    R: Net<Listener = TcpListener, Stream = TcpStream> + SocketFiles + Clock + Wait + Drop,
->(rt: &R, alloc: Global, server: &Server<R>) {
+fn answer_all<R: ServerRuntime>(rt: &R, alloc: Global, server: &Server<R>) {
     let mut requests = server.incoming_requests();
     for _ in rt.forever() {
         let Some(request) = requests.next() else {
@@ -49,17 +44,7 @@ fn answer_all<
 }
 
 // Answers all requests of a server, by two threads.
-fn answer_by_two<R>(rt: &R, alloc: Global, server: &Server<R>)
-where
-    R: Net<Listener = TcpListener, Stream = TcpStream>
-        + SocketFiles
-        + Clock
-        + Wait
-        + Threads
-        + Drop
-        + Send
-        + Sync,
-{
+fn answer_by_two<R: ServerRuntime + Sync>(rt: &R, alloc: Global, server: &Server<R>) {
     thread::join(
         rt,
         || answer_all(rt, alloc, server),
@@ -68,17 +53,7 @@ where
 }
 
 // Answers all requests of a server, by four threads.
-fn answer_by_four<R>(rt: &R, alloc: Global, server: &Server<R>)
-where
-    R: Net<Listener = TcpListener, Stream = TcpStream>
-        + SocketFiles
-        + Clock
-        + Wait
-        + Threads
-        + Drop
-        + Send
-        + Sync,
-{
+fn answer_by_four<R: ServerRuntime + Sync>(rt: &R, alloc: Global, server: &Server<R>) {
     thread::join(
         rt,
         || answer_by_two(rt, alloc, server),
@@ -87,23 +62,12 @@ where
 }
 
 // Listens at the address that the one word names, and answers all requests.
-fn hello<'a, R, O: Write>(
+fn hello<'a, R: ServerRuntime + Sync, O: Write>(
     rt: R,
     alloc: Global,
     words: &'a [String],
     out: &mut O,
-) -> Result<(), HelloFault<'a>>
-where
-    R: Net<Listener = TcpListener, Stream = TcpStream>
-        + SocketFiles
-        + Clock
-        + Wait
-        + Threads
-        + Copy
-        + Send
-        + Sync
-        + 'static,
-{
+) -> Result<(), HelloFault<'a>> {
     let [address] = words else {
         return Err(HelloFault::Usage);
     };
@@ -129,24 +93,13 @@ fn report<E: Write>(fault: &HelloFault<'_>, err: &mut E) -> u8
 /// Listens at the address that the one word names, says so on `out`, and answers every request by `hello world` until there
 /// are no more. Gives the exit status: 0; or 2 where there isn't one word, and 1 where it can't listen there, which a line on
 /// `err` says.
-pub fn hello_on<R, O: Write, E: Write>(
+pub fn hello_on<R: ServerRuntime + Sync, O: Write, E: Write>(
     rt: R,
     alloc: Global,
     words: &[String],
     out: &mut O,
     err: &mut E,
-) -> u8
-where
-    R: Net<Listener = TcpListener, Stream = TcpStream>
-        + SocketFiles
-        + Clock
-        + Wait
-        + Threads
-        + Copy
-        + Send
-        + Sync
-        + 'static,
-{
+) -> u8 {
     match hello(rt, alloc, words, out) {
         Ok(()) => 0,
         Err(fault) => report(&fault, err),

@@ -3,40 +3,15 @@ use crate::same::{assert_holds, assert_same};
 use crate::{answer_by_four, hello_on};
 use std::alloc::Global;
 use std::io::{Read, Write};
-use std::net::{Net, TcpListener, TcpStream};
+use std::net::TcpStream;
 use std::process::Abort;
-use std::sync::Wait;
 use std::thread;
-use std::thread::Threads;
-use std::time::Clock;
-use tiny_http::connection::SocketFiles;
-use tiny_http::server::Server;
+use tiny_http::server::{Server, ServerRuntime};
 
 // What `hello` needs of the system, and an end where something goes wrong.
-trait Host: Net<Listener = TcpListener, Stream = TcpStream>
-    + SocketFiles
-    + Clock
-    + Wait
-    + Threads
-    + Abort
-    + Copy
-    + Send
-    + Sync
-    + 'static {}
+trait Host: ServerRuntime + Sync + Abort {}
 
-impl<R> Host for R
-where
-    R: Net<Listener = TcpListener, Stream = TcpStream>
-        + SocketFiles
-        + Clock
-        + Wait
-        + Threads
-        + Abort
-        + Copy
-        + Send
-        + Sync
-        + 'static,
-{}
+impl<R: ServerRuntime + Sync + Abort> Host for R {}
 
 // What a client of the server gets. Then one thread is unblocked.
 fn ask_and_end<R: Host>(rt: &R, alloc: Global, server: &Server<R>) -> Vec<u8> {

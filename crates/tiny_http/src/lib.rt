@@ -23,7 +23,8 @@ pub mod laws;
 pub mod server;
 
 pub use crate::server::{
-    IncomingRequests, Server, ServerConfig, ServerError, ServerRequest, SslConfig, current_date,
+    IncomingRequests, Server, ServerConfig, ServerError, ServerRequest, ServerRuntime, SslConfig,
+    current_date,
 };
 pub use tiny_http_core::framing::Profile;
 pub use tiny_http_core::{

@@ -30,6 +30,29 @@ const QUEUE_ROOM: usize = 8;
 // So many seconds a server that is dropped tries to connect to itself.
 const SELF_CONNECT_SECS: u64 = 1;
 
+/// What a server needs of its runtime: sockets, the files of Unix sockets, a clock, and threads that wait. Any runtime with these
+/// has it. Threads that share a server need `Sync` besides.
+pub trait ServerRuntime: Net<Listener = TcpListener, Stream = TcpStream>
+    + SocketFiles
+    + Clock
+    + Wait
+    + Threads
+    + Copy
+    + Send
+    + 'static {}
+
+impl<R> ServerRuntime for R
+where
+    R: Net<Listener = TcpListener, Stream = TcpStream>
+        + SocketFiles
+        + Clock
+        + Wait
+        + Threads
+        + Copy
+        + Send
+        + 'static,
+{}
+
 /// A request of a server's client.
 pub type ServerRequest<R> = Request<RefinedTcpStream, RefinedTcpStream, R>;
 
@@ -97,17 +120,7 @@ pub struct Server<R: Net + SocketFiles + Wait + Drop> {
     listening_addr: ListenAddr,
 }
 
-impl<R> Server<R>
-where
-    R: Net<Listener = TcpListener, Stream = TcpStream>
-        + SocketFiles
-        + Clock
-        + Wait
-        + Threads
-        + Copy
-        + Send
-        + 'static,
-{
+impl<R: ServerRuntime> Server<R> {
     /// A server at the first of these addresses that can be bound. Errors as `new`, and where a host's name isn't found or the
     /// text is no address.
     pub fn http<A: ToSocketAddrs>(rt: R, alloc: Global, addr: A) -> Result<Server<R>, ServerError> {

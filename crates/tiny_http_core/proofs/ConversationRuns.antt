@@ -35,7 +35,7 @@ use Rattle.tiny_http_core.specs.declared.driver.Step.TheVariants as step
 use Rattle.httpdate.specs.declared.date.HttpDate.{HttpDate}
 use Rattle.tiny_http_core.specs.Seen.{seen, ReportsHonestly, ReportHonestly, MayFail, all_sent_after, all_sent}
 use Rattle.tiny_http_core.specs.Driving.{stated_step}
-use Rattle.tiny_http_sending.specs.Sending.{FailsOnce, FailsOnceUnlessEnded, FailsAtMostOnce}
+use Rattle.tiny_http_sending.specs.Sending.{SinkFailsOnce, FailsOnceUnlessEnded, FailsAtMostOnce}
 use Rattle.tiny_http_device.proofs.DeviceLemmas.{grown-nil}
 use Rattle.tiny_http_stream.proofs.SourceGoesOn.{goes-on_same}
 use Rattle.tiny_http_core.proofs.ConnectionAsk.{pipeline-empty, stated-feed, last-of}
@@ -193,7 +193,7 @@ conversation profile client before sink held k ended items end replies dated pro
     record { items = items; end = end; pipeline = pipeline; run = run; output = output-end before sink held ended end.reached.slots end.flushed end.failure empty begins out; input = subst (λ p. InputAt p end.reached k.feed) profile_is (input-end client before k end st) }
 
 -- the writer's count over the steps
-pub fails-step : (writer old new : Sink) (was ended : Bool) → FailsOnce writer old was → FailsOnceUnlessEnded was old new ended → FailsOnce writer new ended
+pub fails-step : (writer old new : Sink) (was ended : Bool) → SinkFailsOnce writer old was → FailsOnceUnlessEnded was old new ended → SinkFailsOnce writer new ended
 fails-step writer old new true ended (inl e) s = inl (s.0 ∙ e)
 fails-step writer old new true ended (inr h) s = inr (s.0 ∙ h.0, s.1)
 fails-step writer old new false ended (inl e) (inl s) = inl (s ∙ e)

@@ -20,7 +20,7 @@ use Rattle.tiny_http_stream.specs.Outlet.{OutletState, output_of, SentOn}
 use Rattle.tiny_http_sending.specs.ResponseValue.{ResponseValue}
 use Rattle.tiny_http_core.specs.Steps.{StepValue, Ask, AsReader, Read, Respond, IntoWriter, Write, Flush, Upgrade, Finish, Drop, ReplyValue, Handed, Ended, Given, NotYet, Done, Refused, NoSuch, Memory, Fault, Reached, changes, use_in_turn, outcome}
 use Rattle.tiny_http_core.specs.Conversation.{State, TimedValue, IsFresh, start_state}
-use Rattle.tiny_http_sending.specs.Sending.{FailsOnceUnlessEnded, IsHonest}
+use Rattle.tiny_http_sending.specs.Sending.{FailsOnceUnlessEnded, IsHonest, FailsOnce}
 use Rattle.tiny_http_core.specs.Seen.{seen, IsResponse, IsStep, IsTimedStep, MayFail, ReportsHonestly, IsAnswered, IsOfWriter, is_done, all_sent_after}
 use Rattle.tiny_http_message.specs.declared.body.Body.{Body}
 use Rattle.tiny_http_message.specs.Body.{is_streaming, body_standing}
@@ -133,7 +133,7 @@ begins-here profile (Some f) h = ([], f, refl, h)
 pub record Moves {R W : Type 0} (all : Bool) (old new : ConnectionState R W) : Type 0 where
   pub profile : new.profile ≡ old.profile
   pub goes_on : GoesOn old.source.feed new.source.feed
-  pub fails_once : FailsOnceUnlessEnded old.outlet.ended (output_of old.outlet) (output_of new.outlet) new.outlet.ended
+  pub fails_once : FailsOnce old.outlet new.outlet
   pub flushed : (all ≡ false → old.outlet.held ≡ []) → new.outlet.held ≡ []
   pub sent_on : (all ≡ false → SentOn old.outlet) → SentOn new.outlet
 
@@ -156,7 +156,7 @@ moves-none c = driving-reads-on c c refl refl (goes-on_same c.source.feed)
 pub record MovesBy {R W : Type 0} (x : Step (Option Feed)) (reply : ReplyValue) (old new : ConnectionState R W) : Type 0 where
   pub profile : new.profile ≡ old.profile
   pub goes_on : GoesOn old.source.feed new.source.feed
-  pub fails_once : FailsOnceUnlessEnded old.outlet.ended (output_of old.outlet) (output_of new.outlet) new.outlet.ended
+  pub fails_once : FailsOnce old.outlet new.outlet
   pub flushed : (sent : Bool) → (sent ≡ true → old.outlet.held ≡ []) → all_sent_after x reply sent ≡ true → new.outlet.held ≡ []
   pub sent_on : (sent : Bool) → (sent ≡ true → SentOn old.outlet) → all_sent_after x reply sent ≡ true → SentOn new.outlet
 
@@ -408,7 +408,7 @@ takes-flush all old new now n reply answers declined ends leaves done moves hone
 pub takes-write : {R W : Type 0} (old new : ConnectionState R W) (now : HttpDate) (n : ℕ) (v : Vec ℕ) (bytes : List ℕ) (reply : ReplyValue)
     → v.items ≡ bytes → ((client : Feed) (before : Sink) (s : State) → before.failures < 2 ^ 64 - 1 → Stands client before (kept old) s → StepIsAnswered client before (kept new) s now (Write n bytes) reply)
     → (IsDeclined (step.Write n v) reply → new ≡ old) → new.end ≡ old.end → StepLeaves (step.Write n v) old new reply → new.profile ≡ old.profile → GoesOn old.source.feed new.source.feed
-    → FailsOnceUnlessEnded old.outlet.ended (output_of old.outlet) (output_of new.outlet) new.outlet.ended → (is_done reply ≡ false → new.outlet ≡ old.outlet) → ((kind : ErrorKind) → reply ≡ Fault kind → IsOfWriter (output_of old.outlet) (output_of new.outlet) kind)
+    → FailsOnce old.outlet new.outlet → (is_done reply ≡ false → new.outlet ≡ old.outlet) → ((kind : ErrorKind) → reply ≡ Fault kind → IsOfWriter (output_of old.outlet) (output_of new.outlet) kind)
     → TakesStep old new now (step.Write n v) reply
 takes-write {W = W} old new now n v bytes reply same answers declined ends leaves profile_is goes once still honest =
     takes old new now (step.Write n v) reply

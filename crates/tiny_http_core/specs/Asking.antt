@@ -3,9 +3,9 @@ use Rattle.std.specs.Prelude.{◌≡◌, ◌-◌, ◌<◌, ◌^◌, [], None}
 use Rattle.httpdate.specs.declared.date.HttpDate.{HttpDate}
 use Rattle.tiny_http_wire.specs.Device.{Feed, Sink}
 use Rattle.tiny_http_stream.specs.Source.{GoesOn}
-use Rattle.tiny_http_stream.specs.Outlet.{output_of, SentOn}
+use Rattle.tiny_http_stream.specs.Outlet.{SentOn}
 use Rattle.tiny_http_stream.specs.declared.source.Standing.TheVariants as at
-use Rattle.tiny_http_sending.specs.Sending.{FailsOnceUnlessEnded}
+use Rattle.tiny_http_sending.specs.Sending.{FailsOnce}
 use Rattle.tiny_http_core.specs.declared.driver.Step.TheVariants as step
 use Rattle.tiny_http_core.specs.Steps.{Ask, ReplyValue}
 use Rattle.tiny_http_core.specs.Conversation.{State, StepsTo}
@@ -25,7 +25,7 @@ pub record AskStep {R W : Type 0} (old new : ConnectionState R W) (now : HttpDat
   pub ends : AskEnds old new reply
   pub leaves : AskLeaves old new reply
   pub goes_on : GoesOn old.source.feed new.source.feed
-  pub fails_once : FailsOnceUnlessEnded old.outlet.ended (output_of old.outlet) (output_of new.outlet) new.outlet.ended
+  pub fails_once : FailsOnce old.outlet new.outlet
   pub flushed : old.outlet.held ≡ [] → new.outlet.held ≡ []
   pub sent_on : SentOn old.outlet → SentOn new.outlet
 

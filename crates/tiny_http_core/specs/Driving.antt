@@ -24,7 +24,7 @@ use Rattle.tiny_http_core.specs.Steps.{StepValue, ReplyValue, Handed, Ended, Not
 use Rattle.tiny_http_core.specs.Conversation.{State, TimedValue, Run, start_state, IsFresh, IsPassedOver}
 use Rattle.tiny_http_wire.specs.declared.answer_context.AnswerContext.{AnswerContext}
 use Rattle.tiny_http_sending.specs.ResponseValue.{printing_in}
-use Rattle.tiny_http_sending.specs.Sending.{FailsOnceUnlessEnded, IsHonest}
+use Rattle.tiny_http_sending.specs.Sending.{IsHonest, FailsOnce}
 use Rattle.tiny_http_core.specs.Pending.{waiting_answer_context, owes_continue, kept_body, GivesUpBody, with_body}
 use Rattle.tiny_http_message.specs.declared.body.Body.{Body}
 use Rattle.tiny_http_message.specs.declared.waiting.Waiting.{Waiting}
@@ -231,7 +231,7 @@ pub record TakesStep {R W : Type 0} (old new : ConnectionState R W) (now : HttpD
   pub ends : StepEnds step old new reply
   pub leaves : StepLeaves step old new reply
   pub goes_on : GoesOn old.source.feed new.source.feed
-  pub fails_once : FailsOnceUnlessEnded old.outlet.ended (output_of old.outlet) (output_of new.outlet) new.outlet.ended
+  pub fails_once : FailsOnce old.outlet new.outlet
   pub flushed : (sent : Bool) → (sent ≡ true → old.outlet.held ≡ []) → all_sent_after step reply sent ≡ true → new.outlet.held ≡ []
   pub sent_on : (sent : Bool) → (sent ≡ true → SentOn old.outlet) → all_sent_after step reply sent ≡ true → SentOn new.outlet
   pub honest : (kind : ErrorKind) → reply ≡ Fault kind → ReportsFault old new now step kind

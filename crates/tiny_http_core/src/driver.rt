@@ -16,7 +16,7 @@ ghost use Rattle.tiny_http_core.specs.Asking.{CanAsk, AskStep, IsAskBehind};
 ghost use Rattle.tiny_http_sending.specs.ResponseValue.{printing_in};
 ghost use Rattle.tiny_http_core.specs.Seen.{seen, write_reply, Answers, IsAnswered, IsResponse, IsTimedStep, ReportsHonestly, ReportHonestly, all_sent};
 ghost use Rattle.tiny_http_stream.specs.Outlet.{output_of, outlet_ended, outlet_held, outlet_writer, SentOn};
-ghost use Rattle.tiny_http_sending.specs.Sending.{CanSend, FailsOnceUnlessEnded, FailsAtMostOnce, IsHonest};
+ghost use Rattle.tiny_http_sending.specs.Sending.{CanSend, FailsAtMostOnce, IsHonest, FailsOnce};
 
 use crate::pending::{Pending, Unfinished, close_body};
 use httpdate::HttpDate;
@@ -179,7 +179,7 @@ fn answer<W: WriteDevice, D: ReadDevice + Drop>(
     ensures sends { (content : Feed) → D.feed response.data_reader ≡ Some content → length content.bytes < 2 ^ 63
         → outlet_ended outlet.old ≡ false → CanSend (output_of outlet.old)
         → Answers (output_of outlet.old) (output_of outlet.new) (outlet_ended outlet.new) (seen result) response.answer content (printing_in answer_context now) }
-    ensures fails_once { FailsOnceUnlessEnded (outlet_ended outlet.old) (output_of outlet.old) (output_of outlet.new) (outlet_ended outlet.new) }
+    ensures fails_once { FailsOnce outlet.old outlet.new }
     ensures flushed { outlet_held outlet.new ≡ [] }
     ensures sent_on { SentOn outlet.new }
     ensures done { IsAnswered (seen result) }

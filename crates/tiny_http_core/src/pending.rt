@@ -2,7 +2,7 @@
 ghost use Rattle.std.specs.Prelude.{◌≡◌, ◌↔◌, ◌≤◌, ◌<◌, ◌^◌, ◌+◌, ◌++◌, ◌∷◌, true, false, List, [], length, Some, None, IfOk, IfSome, IfNone, OnOk, OnErr, IsTrue, ◌==◌, slice_get, slice_set};
 ghost use Rattle.tiny_http_turns.specs.Turns.{Mark, Open, Held, AreInShape, first_unfinished};
 ghost use Rattle.tiny_http_stream.specs.Outlet.{output_of, outlet_ended, outlet_held, SentOn};
-ghost use Rattle.tiny_http_sending.specs.Sending.{CanSend, IsFlushed, SendsUnlessEnded, FailsOnceUnlessEnded};
+ghost use Rattle.tiny_http_sending.specs.Sending.{CanSend, IsFlushed, FailsOnce, SendsOn};
 ghost use Rattle.tiny_http_message.specs.declared.body.Body.{Body};
 ghost use Rattle.tiny_http_stream.specs.Source.{GoesOn};
 ghost use Rattle.tiny_http_message.specs.Body.{is_streaming, body_standing, FillsFromBody};
@@ -82,7 +82,7 @@ impl Pending {
         ensures requests { OnOk result (self.new.requests ≡ self.old.requests ++ (None ∷ [])) }
         ensures bound { OnOk result (length self.new.requests < 2 ^ 64) }
         ensures err { OnErr result ((self.new.turns ≡ self.old.turns) × (self.new.requests ≡ self.old.requests) × (outlet.new ≡ outlet.old)) }
-        ensures fails_once { FailsOnceUnlessEnded (outlet_ended outlet.old) (output_of outlet.old) (output_of outlet.new) (outlet_ended outlet.new) }
+        ensures fails_once { FailsOnce outlet.old outlet.new }
         ensures flushed { outlet_held outlet.old ≡ [] → outlet_held outlet.new ≡ [] }
         ensures sent_on { SentOn outlet.old → SentOn outlet.new }
     {
@@ -240,7 +240,7 @@ impl Pending {
             → (outlet_ended outlet.old ≡ false → CanSend (output_of outlet.old))
             → SendsLeft rest (outlet_ended outlet.old) (output_of outlet.old) (output_of outlet.new) (outlet_ended outlet.new) }
         ensures requests { self.new.requests ≡ self.old.requests }
-        ensures fails_once { FailsOnceUnlessEnded (outlet_ended outlet.old) (output_of outlet.old) (output_of outlet.new) (outlet_ended outlet.new) }
+        ensures fails_once { FailsOnce outlet.old outlet.new }
         ensures flushed { outlet_held outlet.old ≡ [] → outlet_held outlet.new ≡ [] }
         ensures sent_on { SentOn outlet.old → SentOn outlet.new }
     {
@@ -257,7 +257,7 @@ impl Pending {
             (outlet_ended outlet.old) (output_of outlet.old) (output_of outlet.new) (outlet_ended outlet.new) }
         ensures counts { length self.new.turns.marks ≡ length self.old.turns.marks }
         ensures requests { self.new.requests ≡ self.old.requests }
-        ensures fails_once { FailsOnceUnlessEnded (outlet_ended outlet.old) (output_of outlet.old) (output_of outlet.new) (outlet_ended outlet.new) }
+        ensures fails_once { FailsOnce outlet.old outlet.new }
         ensures flushed { outlet_held outlet.old ≡ [] → outlet_held outlet.new ≡ [] }
         ensures sent_on { SentOn outlet.old → SentOn outlet.new }
     {
@@ -307,10 +307,9 @@ fn write_texts<W: WriteDevice>(
 )
     ensures passes { (front rest : List Mark) → turns.old.marks ≡ front ++ (Held ∷ rest) → length front ≡ number
         → FinishesFront front rest turns.new.marks
-        × ((outlet_ended outlet.old ≡ false → CanSend (output_of outlet.old))
-        → SendsUnlessEnded (outlet_ended outlet.old) (output_of outlet.old) (output_of outlet.new) (outlet_ended outlet.new) (text.items ++ left_text rest)) }
+        × SendsOn outlet.old outlet.new (text.items ++ left_text rest) }
     ensures counts { length turns.new.marks ≡ length turns.old.marks }
-    ensures fails_once { FailsOnceUnlessEnded (outlet_ended outlet.old) (output_of outlet.old) (output_of outlet.new) (outlet_ended outlet.new) }
+    ensures fails_once { FailsOnce outlet.old outlet.new }
 {
     write_quietly(outlet, &text);
     let mut at = number;
@@ -329,10 +328,9 @@ fn write_left<W: WriteDevice>(
 )
     ensures passes { (front rest : List Mark) → turns.old.marks ≡ front ++ (Held ∷ rest) → length front ≡ number
         → FinishesFront front rest turns.new.marks
-        × ((outlet_ended outlet.old ≡ false → CanSend (output_of outlet.old))
-        → SendsUnlessEnded (outlet_ended outlet.old) (output_of outlet.old) (output_of outlet.new) (outlet_ended outlet.new) (text.items ++ left_text rest)) }
+        × SendsOn outlet.old outlet.new (text.items ++ left_text rest) }
     ensures counts { length turns.new.marks ≡ length turns.old.marks }
-    ensures fails_once { FailsOnceUnlessEnded (outlet_ended outlet.old) (output_of outlet.old) (output_of outlet.new) (outlet_ended outlet.new) }
+    ensures fails_once { FailsOnce outlet.old outlet.new }
     ensures flushed { outlet_held outlet.new ≡ [] }
     ensures sent_on { SentOn outlet.new }
     ensures is_flushed { IsFlushed (output_of outlet.new) }

@@ -4,14 +4,14 @@ ghost use Rattle.tiny_http_device.specs.Device.{Puts, CountsFaults};
 ghost use Rattle.tiny_http_encoding.specs.ChunkedPrinting.{printed_chunk, short_chunk};
 ghost use Rattle.tiny_http_encoding.specs.Text.{Prints, chunked_body};
 
-use crate::gather::{PIECE, fill};
+use crate::gather::fill;
 use std::io;
 use std::io::ErrorKind;
 use tiny_http_device::device::{ReadDevice, WriteDevice, put, put_all};
 use tiny_http_text::number::Numeral;
 
-/// How many bytes a full chunk has.
-pub const CHUNK: usize = PIECE;
+/// How many bytes a full chunk has (as tiny_http).
+pub const CHUNK: usize = 8192;
 
 /// Writes some bytes as one chunk: how many they are in lower-case hexadecimal without leading zeros,
 /// CR LF, the bytes, CR LF (RFC 9112, section 7.1). The error is the writer's first fault, after which

@@ -32,7 +32,9 @@ impl<W: WriteDevice> Model for Encoder<W> {
 
     ghost view = { λ e. record { writer = e.inner; sink = W.sink e.inner; held = take e.len e.held; failed = e.failed } };
 
-    ghost invariant = { λ e. e.len < 8192 };
+    ghost use Rattle.tiny_http_encoding.specs.declared.chunks.TheConstants.{CHUNK};
+
+    ghost invariant = { λ e. e.len < CHUNK };
 }
 
 // Copies the first `count` of the bytes to the place `at` of the buffer.
@@ -52,9 +54,9 @@ fn encode<W: WriteDevice>(
     len: &mut usize,
     bytes: &[u8],
 ) -> Result<usize, io::Error>
-    requires { len.old < 8192 }
+    requires { len.old < CHUNK }
     ensures encodes { Encodes (W.sink writer.old) (W.sink writer.new) (take len.old held.old) (take len.new held.new) result bytes.now }
-    ensures bound { len.new < 8192 }
+    ensures bound { len.new < CHUNK }
 {
     if *len == 0 && bytes.len() >= CHUNK {
         put_chunk(writer, &bytes[..CHUNK])?;

@@ -1,11 +1,13 @@
 -- What is still to come of a request's body, and where the input stands after it.
-use Rattle.std.specs.Prelude.{◌≡◌, ℕ, ◌+◌, ◌-◌, ◌^◌, ◌<◌, Bool, true, false, ◌||◌, ◌==◌, nat_lt, List, [], length, take, Option, Some, None, Result, Ok, Err, MatchBool, ⊤}
+use Rattle.std.specs.Prelude.{◌≡◌, ℕ, ◌+◌, ◌-◌, ◌^◌, ◌<◌, ◌≤◌, Bool, true, false, ◌||◌, ◌==◌, nat_lt, List, [], length, take, Option, Some, None, Result, Ok, Err, IfOk, IfErr, OnErr, IfSome, MatchBool, ⊤}
 use Rattle.std.specs.Option.{option_map}
+use Rattle.std.specs.IoError.{error_kind}
+use Rattle.std.specs.declared.io.Error.{Error}
 use Rattle.std.specs.declared.io.ErrorKind.{ErrorKind}
 use Rattle.tiny_http_wire.specs.declared.device.Stop.{Stop}
 use Rattle.tiny_http_wire.specs.declared.device.Stop.TheVariants.{End, Fault}
 use Rattle.tiny_http_wire.specs.Cursor.{cursor_bytes}
-use Rattle.tiny_http_wire.specs.Device.{Feed, whole_feed, prepend}
+use Rattle.tiny_http_wire.specs.Device.{AnswersStop, Feed, whole_feed, prepend}
 use Rattle.tiny_http_wire.specs.Decoding.{Coming, decoding_coming}
 use Rattle.tiny_http_message.specs.declared.body.Body.{Body}
 use Rattle.tiny_http_message.specs.declared.body.Body.TheVariants.{Over, WithHead, Counted, Chunked, Rest}
@@ -13,7 +15,7 @@ use Rattle.tiny_http_message.specs.declared.framing.Form.{Form}
 use Rattle.tiny_http_message.specs.declared.framing.Form.TheVariants as form
 use Rattle.tiny_http_stream.specs.ToCome.{skipped, stopped}
 use Rattle.tiny_http_stream.specs.FeedParts.{feed_front}
-use Rattle.tiny_http_stream.specs.Source.{SourceState, IsAtEnd}
+use Rattle.tiny_http_stream.specs.Source.{SourceState, GoesOn, IsAtEnd}
 use Rattle.tiny_http_stream.specs.declared.source.Standing.{Standing}
 use Rattle.tiny_http_stream.specs.Standing.{after_body, after_fault, after_abandoned}
 
@@ -137,6 +139,31 @@ body_standing (WithHead bytes) standing = after_body standing
 body_standing (Counted n) standing = standing
 body_standing (Chunked decoding) standing = standing
 body_standing Rest standing = standing
+
+-- WHAT A READ GIVES of a body, and what it leaves: the bytes that came are the next of the body, no more than the buffer has
+-- room for; no byte into a buffer with room is the end of the body, and a fault is its own. A counted body is over with its last
+-- byte, and each once its end or fault was reported. After the first fault the source has ended. The input goes on, or stays.
+pub record ReadsRemaining {R : Type 0} (old new : Body) (from to : SourceState R) (r : Result ℕ Error) (buf : List ℕ) : Type 0 where
+  pub bound : IfOk r (λ n. n ≤ length buf)
+  pub bytes : IfOk r (λ n. remaining old from.feed ≡ prepended_body (take n buf) (remaining new to.feed))
+  pub end : IfOk r (λ n. n ≡ 0 → 0 < length buf → BodyStops End (remaining old from.feed))
+  pub fault : IfErr r (λ e. BodyStops (Fault (error_kind e)) (remaining old from.feed))
+  pub again : OnErr r (remaining new to.feed ≡ remaining old from.feed)
+  pub moves : IfOk r (λ n. 0 < length buf → ReadsOn old n (n == 0) new)
+  pub over : IfErr r (λ e. new ≡ Over (Fault (error_kind e)))
+  pub at_end : OnErr r (body_stop old ≡ None → IsAtEnd to)
+  pub goes_on : GoesOn from.feed to.feed
+
+-- ONE READ of a body. Into an empty buffer it changes nothing. A body that isn't read from the source leaves it alone, and one
+-- whose end or fault was reported reports it again. Else the source stands by what is left of the body: at the next head once
+-- that is over.
+pub record ReadsBody {R : Type 0} (old new : Body) (from to : SourceState R) (r : Result ℕ Error) (buf : List ℕ) : Type 0 where
+  pub reads : ReadsRemaining old new from to r buf
+  pub empty : length buf ≡ 0 → (r ≡ Ok 0) × (new ≡ old) × (to ≡ from)
+  pub broken : OnErr r (ReadsOn old 0 true new)
+  pub settled : is_streaming old ≡ false → to ≡ from
+  pub reports_stop : IfSome (body_stop old) (λ stop. 0 < length buf → AnswersStop stop r × (new ≡ old))
+  pub standing : is_streaming old ≡ true → to.standing ≡ body_standing new from.standing
 
 -- A body of which nothing was read is passed over: the bytes of a counted one are skipped before the next head. Else nothing
 -- changes: they were read with the head, or there are none.

@@ -10,13 +10,12 @@ use Rattle.tiny_http_message.specs.declared.body.Body.TheVariants.{Over}
 use Rattle.tiny_http_message.specs.declared.waiting.Waiting.{Waiting}
 use Rattle.tiny_http_message.specs.declared.exchange.Exchange.{Exchange}
 use Rattle.tiny_http_stream.specs.Source.{SourceState}
-use Rattle.tiny_http_stream.specs.declared.source.Standing.{Standing}
 use Rattle.tiny_http_message.specs.Pipeline.{is_head_method}
 use Rattle.tiny_http_sending.specs.ResponseValue.{printing_to, printing_in}
 use Rattle.tiny_http_wire.specs.Coding.{coding_asked}
 use Rattle.tiny_http_wire.specs.Answer.{Printing}
 use Rattle.tiny_http_message.specs.OwnAnswer.{own_text_by}
-use Rattle.tiny_http_message.specs.Body.{Remaining, remaining, body_stop, body_standing, is_streaming, ReadsOn, Fits, GivesUp}
+use Rattle.tiny_http_message.specs.Body.{Remaining, remaining, body_stop, is_streaming, Fits, GivesUp}
 
 -- a request of this head, of which this is kept
 abbrev pub exchange_of : Head → Waiting → Exchange
@@ -29,6 +28,10 @@ exchange_head x = x.head
 -- what is kept of it until it is answered
 abbrev pub exchange_waiting : Exchange → Waiting
 exchange_waiting x = x.waiting
+
+-- how far its body was read
+abbrev pub exchange_body : Exchange → Body
+exchange_body x = x.waiting.body
 
 -- what is still to come of its body, where the input still gives this, and what stands after it
 abbrev pub exchange_left : Exchange → Option Feed → Option Remaining
@@ -45,14 +48,6 @@ exchange_printing x date = printing_in x.waiting.answer_context date
 -- its body is read from the input, which has to stand after it before the next head is read
 abbrev pub exchange_streams : Exchange → Bool
 exchange_streams x = is_streaming x.waiting.body
-
--- where a source stands after a read that left this of the exchange
-abbrev pub exchange_standing : Exchange → Standing → Standing
-exchange_standing x standing = body_standing x.waiting.body standing
-
--- so many bytes of its body were read, and the end or the fault was reported or not
-abbrev pub ExchangeReadsOn : Exchange → ℕ → Bool → Exchange → Type 0
-ExchangeReadsOn x n end_reported new = ReadsOn x.waiting.body n end_reported new.waiting.body
 
 -- a 100 is owed that wasn't sent yet
 abbrev pub exchange_owes_continue : Exchange → Bool

@@ -5,6 +5,7 @@ use Rattle.tiny_http_wire.specs.declared.common.HTTPVersion.{HTTPVersion}
 use Rattle.tiny_http_wire.specs.Common.{same_name, lowercase}
 use Rattle.tiny_http_wire.specs.Bytes.{contains_word, is_blank, trimmed, parts, comma}
 use Rattle.tiny_http_wire.specs.Heads.{length_in, length_of}
+use Rattle.tiny_http_message.specs.declared.framing.TheConstants.{LONGEST_WITH_HEAD}
 use Rattle.tiny_http_message.specs.declared.framing.Profile.{Profile}
 use Rattle.tiny_http_message.specs.declared.framing.Profile.TheVariants.{Lenient, Strict}
 use Rattle.tiny_http_message.specs.declared.framing.FramingFault.{FramingFault}
@@ -74,14 +75,14 @@ names_upgrade headers = mentions (codes "upgrade") (value_of (codes "Connection"
 abbrev pub names_coding : List Header → Bool
 names_coding headers = is_some (value_of (codes "Transfer-Encoding") headers)
 
--- HOW THE BODY IS READ: an upgrade comes before a coding, and a coding before a length. A body of 1 to 1024 bytes is read with
--- its head, unless a 100 is owed.
+-- HOW THE BODY IS READ: an upgrade comes before a coding, and a coding before a length. A body of 1 to `LONGEST_WITH_HEAD` bytes
+-- is read with its head, unless a 100 is owed.
 abbrev pub IsForm : Form → Bool → Bool → Bool → Option ℕ → Type 0
 IsForm Rest upgrade coded owed n = upgrade ≡ true
 IsForm Chunked upgrade coded owed n = (upgrade ≡ false) × (coded ≡ true)
 IsForm Nothing upgrade coded owed n = (upgrade ≡ false) × (coded ≡ false) × ((n ≡ None) ⊎ (n ≡ Some 0))
-IsForm WithHead upgrade coded owed n = (upgrade ≡ false) × (coded ≡ false) × (m : ℕ) × (n ≡ Some m) × (0 < m) × (m ≤ 1024) × (owed ≡ false)
-IsForm Counted upgrade coded owed n = (upgrade ≡ false) × (coded ≡ false) × (m : ℕ) × (n ≡ Some m) × (0 < m) × ((1024 < m) ⊎ (owed ≡ true))
+IsForm WithHead upgrade coded owed n = (upgrade ≡ false) × (coded ≡ false) × (m : ℕ) × (n ≡ Some m) × (0 < m) × (m ≤ LONGEST_WITH_HEAD) × (owed ≡ false)
+IsForm Counted upgrade coded owed n = (upgrade ≡ false) × (coded ≡ false) × (m : ℕ) × (n ≡ Some m) × (0 < m) × ((LONGEST_WITH_HEAD < m) ⊎ (owed ≡ true))
 
 -- whether the connection ends after the request
 abbrev pub is_last : HTTPVersion → Option (List ℕ) → Bool

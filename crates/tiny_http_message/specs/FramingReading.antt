@@ -5,6 +5,7 @@ use Rattle.tiny_http_wire.specs.declared.common.Header.{Header}
 use Rattle.tiny_http_wire.specs.declared.common.HTTPVersion.{HTTPVersion}
 use Rattle.tiny_http_wire.specs.Common.{same_name}
 use Rattle.tiny_http_wire.specs.Heads.{length_of}
+use Rattle.tiny_http_message.specs.declared.framing.TheConstants.{LONGEST_WITH_HEAD}
 use Rattle.tiny_http_message.specs.declared.framing.Profile.{Profile}
 use Rattle.tiny_http_message.specs.declared.framing.Profile.TheVariants.{Lenient, Strict}
 use Rattle.tiny_http_message.specs.declared.framing.FramingFault.{FramingFault}
@@ -16,7 +17,7 @@ use Rattle.tiny_http_message.specs.Framing.{value_of, elements_of, lenient_lengt
 
 abbrev pub sized_form : Bool → Option ℕ → Form
 sized_form owed None = Nothing
-sized_form owed (Some n) = if n == 0 then Nothing else if (nat_le n 1024 && not owed) then WithHead else Counted
+sized_form owed (Some n) = if n == 0 then Nothing else if (nat_le n LONGEST_WITH_HEAD && not owed) then WithHead else Counted
 
 abbrev pub form_by : Bool → Bool → Bool → Option ℕ → Form
 form_by true coded owed n = Rest

@@ -10,6 +10,7 @@ use Rattle.tiny_http_wire.specs.declared.device.Stop.TheVariants.{End, Fault as 
 use Rattle.tiny_http_wire.specs.Device.{Feed}
 use Rattle.tiny_http_wire.specs.Chunks.{WholeChunks, CutChunks}
 use Rattle.tiny_http_wire.specs.Heads.{Message, BeginsWithRequestHead, FaultyHead, Cut, NotAscii, Malformed, version, is_too_new}
+use Rattle.tiny_http_message.specs.declared.framing.TheConstants.{STRICT_HEAD}
 use Rattle.tiny_http_message.specs.declared.framing.Profile.{Profile}
 use Rattle.tiny_http_message.specs.declared.framing.Profile.TheVariants.{Lenient, Strict}
 use Rattle.tiny_http_message.specs.declared.framing.FramingFault.{FramingFault}
@@ -72,7 +73,7 @@ is_head_method _ = false
 -- the most bytes that a head may have, the CR LF of its empty line included; or None: any number
 abbrev pub head_limit : Profile → Option ℕ
 head_limit Lenient = None
-head_limit Strict = Some 65536
+head_limit Strict = Some STRICT_HEAD
 
 -- the bytes among which a head is looked for
 abbrev pub seen_bytes : Option ℕ → List ℕ → List ℕ

@@ -5,7 +5,7 @@ ghost use Rattle.std.specs.IoError.{error_kind};
 ghost use Rattle.tiny_http_wire.specs.Device.{AnswersStop, Feed};
 ghost use Rattle.tiny_http_stream.specs.Source.{GoesOn, IsAtEnd};
 ghost use Rattle.tiny_http_stream.specs.ToCome.{skipped};
-ghost use Rattle.tiny_http_message.specs.Body.{remaining, counted_remaining, prepended_body, BodyStops, is_streaming, body_stop, body_standing, ReadsOn, FillsFromBody, GivesUp};
+ghost use Rattle.tiny_http_message.specs.Body.{remaining, counted_remaining, prepended_body, BodyStops, is_streaming, body_stop, body_standing, ReadsOn, ReadsRemaining, ReadsBody, FillsFromBody, GivesUp};
 
 use std::io;
 use std::io::{Cursor, ErrorKind};
@@ -60,15 +60,7 @@ impl Body {
     ) -> Result<usize, io::Error>
         requires counted { self.old ≡ Body.Counted left }
         requires room { 0 < length buf.old }
-        ensures bound { IfOk result (λ n. n ≤ length buf.new) }
-        ensures bytes { IfOk result (λ n. remaining self.old source.old.feed ≡ prepended_body (take n buf.new) (remaining self.new source.new.feed)) }
-        ensures end { IfOk result (λ n. n ≡ 0 → BodyStops Stop.End (remaining self.old source.old.feed)) }
-        ensures fault { IfErr result (λ e. BodyStops (Stop.Fault (error_kind e)) (remaining self.old source.old.feed)) }
-        ensures again { OnErr result (remaining self.new source.new.feed ≡ remaining self.old source.old.feed) }
-        ensures over { IfErr result (λ e. self.new ≡ Body.Over (Stop.Fault (error_kind e))) }
-        ensures at_end { OnErr result (IsAtEnd source.new) }
-        ensures moves { IfOk result (λ n. ReadsOn self.old n (n == 0) self.new) }
-        ensures goes_on { GoesOn source.old.feed source.new.feed }
+        ensures { ReadsRemaining self.old self.new source.old source.new result buf.new }
     {
         if left == 0 {
             *self = Body::Over(Stop::End);
@@ -101,15 +93,7 @@ impl Body {
     ) -> Result<usize, io::Error>
         requires chunked { self.old ≡ Body.Chunked decoding }
         requires room { 0 < length buf.old }
-        ensures bound { IfOk result (λ n. n ≤ length buf.new) }
-        ensures bytes { IfOk result (λ n. remaining self.old source.old.feed ≡ prepended_body (take n buf.new) (remaining self.new source.new.feed)) }
-        ensures end { IfOk result (λ n. n ≡ 0 → BodyStops Stop.End (remaining self.old source.old.feed)) }
-        ensures fault { IfErr result (λ e. BodyStops (Stop.Fault (error_kind e)) (remaining self.old source.old.feed)) }
-        ensures again { OnErr result (remaining self.new source.new.feed ≡ remaining self.old source.old.feed) }
-        ensures over { IfErr result (λ e. self.new ≡ Body.Over (Stop.Fault (error_kind e))) }
-        ensures at_end { OnErr result (IsAtEnd source.new) }
-        ensures moves { IfOk result (λ n. ReadsOn self.old n (n == 0) self.new) }
-        ensures goes_on { GoesOn source.old.feed source.new.feed }
+        ensures { ReadsRemaining self.old self.new source.old source.new result buf.new }
     {
         let mut decoding = decoding;
         match decoding.read(source, buf) {
@@ -137,15 +121,7 @@ impl Body {
     ) -> Result<usize, io::Error>
         requires rest { self.old ≡ Body.Rest }
         requires room { 0 < length buf.old }
-        ensures bound { IfOk result (λ n. n ≤ length buf.new) }
-        ensures bytes { IfOk result (λ n. remaining self.old source.old.feed ≡ prepended_body (take n buf.new) (remaining self.new source.new.feed)) }
-        ensures end { IfOk result (λ n. n ≡ 0 → BodyStops Stop.End (remaining self.old source.old.feed)) }
-        ensures fault { IfErr result (λ e. BodyStops (Stop.Fault (error_kind e)) (remaining self.old source.old.feed)) }
-        ensures again { OnErr result (remaining self.new source.new.feed ≡ remaining self.old source.old.feed) }
-        ensures over { IfErr result (λ e. self.new ≡ Body.Over (Stop.Fault (error_kind e))) }
-        ensures at_end { OnErr result (IsAtEnd source.new) }
-        ensures moves { IfOk result (λ n. ReadsOn self.old n (n == 0) self.new) }
-        ensures goes_on { GoesOn source.old.feed source.new.feed }
+        ensures { ReadsRemaining self.old self.new source.old source.new result buf.new }
     {
         match source.read_in(buf) {
             Ok(0) => {
@@ -169,19 +145,7 @@ impl Body {
         source: &mut Source<R>,
         buf: &mut [u8],
     ) -> Result<usize, io::Error>
-        ensures bound { IfOk result (λ n. n ≤ length buf.new) }
-        ensures bytes { IfOk result (λ n. remaining self.old source.old.feed ≡ prepended_body (take n buf.new) (remaining self.new source.new.feed)) }
-        ensures end { IfOk result (λ n. n ≡ 0 → 0 < length buf.new → BodyStops Stop.End (remaining self.old source.old.feed)) }
-        ensures fault { IfErr result (λ e. BodyStops (Stop.Fault (error_kind e)) (remaining self.old source.old.feed)) }
-        ensures again { OnErr result (remaining self.new source.new.feed ≡ remaining self.old source.old.feed) }
-        ensures empty { length buf.new ≡ 0 → (result ≡ Ok 0) × (self.new ≡ self.old) × (source.new ≡ source.old) }
-        ensures moves { IfOk result (λ n. 0 < length buf.new → ReadsOn self.old n (n == 0) self.new) }
-        ensures broken { IfErr result (λ e. ReadsOn self.old 0 true self.new × (self.new ≡ Body.Over (Stop.Fault (error_kind e)))) }
-        ensures settled { is_streaming self.old ≡ false → source.new ≡ source.old }
-        ensures at_end { OnErr result (body_stop self.old ≡ None → IsAtEnd source.new) }
-        ensures reports_stop { IfSome (body_stop self.old) (λ stop. 0 < length buf.new → AnswersStop stop result × (self.new ≡ self.old)) }
-        ensures goes_on { GoesOn source.old.feed source.new.feed }
-        ensures standing { is_streaming self.old ≡ true → source.new.standing ≡ body_standing self.new source.old.standing }
+        ensures { ReadsBody self.old self.new source.old source.new result buf.new }
     {
         if buf.is_empty() {
             return Ok(0);
@@ -245,15 +209,7 @@ impl Body {
         ensures bound { IfOk result (λ n. at + n ≤ length buf.new) }
         ensures room { at < length buf.new }
         ensures front { take at buf.new ≡ take at buf.old }
-        ensures bytes { IfOk result (λ n. remaining self.old source.old.feed ≡ prepended_body (take n (drop at buf.new)) (remaining self.new source.new.feed)) }
-        ensures end { IfOk result (λ n. n ≡ 0 → BodyStops Stop.End (remaining self.old source.old.feed)) }
-        ensures fault { IfErr result (λ e. BodyStops (Stop.Fault (error_kind e)) (remaining self.old source.old.feed)) }
-        ensures again { OnErr result (remaining self.new source.new.feed ≡ remaining self.old source.old.feed) }
-        ensures moves { IfOk result (λ n. ReadsOn self.old n (n == 0) self.new) }
-        ensures broken { OnErr result (ReadsOn self.old 0 true self.new) }
-        ensures settled { is_streaming self.old ≡ false → source.new ≡ source.old }
-        ensures goes_on { GoesOn source.old.feed source.new.feed }
-        ensures standing { is_streaming self.old ≡ true → source.new.standing ≡ body_standing self.new source.old.standing }
+        ensures reads { ReadsBody self.old self.new source.old source.new result (drop at buf.new) }
     {
         self.read(source, &mut buf[at..])
     }

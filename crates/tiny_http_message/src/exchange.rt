@@ -7,12 +7,12 @@ ghost use Rattle.tiny_http_sending.specs.ResponseValue.{upgrade_text};
 ghost use Rattle.tiny_http_wire.specs.Device.{AnswersStop};
 ghost use Rattle.tiny_http_stream.specs.Source.{GoesOn, IsAtEnd};
 ghost use Rattle.tiny_http_message.specs.Pipeline.{is_head_method, is_timed_out, ends_too_new, refusal_status, framing_refusal};
-ghost use Rattle.tiny_http_message.specs.Body.{prepended_body, BodyStops, PassesOver};
+ghost use Rattle.tiny_http_message.specs.Body.{ReadsBody, PassesOver};
 ghost use Rattle.tiny_http_message.specs.HeadReads.{ReadsHead, EndsUnlessHanded, RefusesWith, RefusesTooNew, AnswersCut, AnswersFault, HasByteOrTimedOut, Begins, IsCutOff, IsRequest, IsFramedRequest, IsRefusedUncut, IsOkEnd, IsBeforeHead, cut_end, end_at, standing_of, standing_read, message_of, head_message, head_framing};
 ghost use Rattle.tiny_http_message.specs.Exchange.{KeepsHead};
 ghost use Rattle.tiny_http_wire.specs.Device.{Feed};
 ghost use Rattle.tiny_http_stream.specs.Outlet.{output_of, outlet_ended, outlet_held, SentOn};
-ghost use Rattle.tiny_http_sending.specs.Sending.{CanSend, Sends, SendsUnlessEnded, FailsOnceUnlessEnded, IsHonest};
+ghost use Rattle.tiny_http_sending.specs.Sending.{CanSend, Sends, IsHonest, FailsOnce, SendsOn};
 ghost use Rattle.tiny_http_message.specs.OwnAnswer.{own_text_by};
 
 use crate::body::{Body, counted};
@@ -108,7 +108,7 @@ pub enum HeadRead {
 }
 
 impl Exchange {
-    ghost use Rattle.tiny_http_message.specs.Exchange.{exchange_printing, exchange_of, exchange_head, exchange_drop_text, exchange_owes_continue, OwesNoContinue, HasNoDropText, exchange_left, exchange_stop, exchange_streams, exchange_standing, ExchangeReadsOn, GivesUpBody, KeepsButBody, HasNoBodyLeft};
+    ghost use Rattle.tiny_http_message.specs.Exchange.{exchange_printing, exchange_of, exchange_head, exchange_drop_text, exchange_owes_continue, OwesNoContinue, HasNoDropText, exchange_body, exchange_stop, GivesUpBody, KeepsButBody, HasNoBodyLeft};
 
     /// What the request's head says.
     pub fn head(&self) -> &Head
@@ -127,26 +127,8 @@ impl Exchange {
         source: &mut Source<R>,
         buf: &mut [u8],
     ) -> Result<usize, io::Error>
-        ensures bound { IfOk result (λ n. n ≤ length buf.new) }
-        // The bytes that came are the next of the body.
-        ensures bytes { IfOk result (λ n. exchange_left self.old source.old.feed ≡ prepended_body (take n buf.new) (exchange_left self.new source.new.feed)) }
-        ensures end { IfOk result (λ n. n ≡ 0 → 0 < length buf.new → BodyStops Stop.End (exchange_left self.old source.old.feed)) }
-        ensures fault { IfErr result (λ e. BodyStops (Stop.Fault (error_kind e)) (exchange_left self.old source.old.feed)) }
-        ensures again { OnErr result (exchange_left self.new source.new.feed ≡ exchange_left self.old source.old.feed) }
-        ensures empty { length buf.new ≡ 0 → (result ≡ Ok 0) × (self.new ≡ self.old) × (source.new ≡ source.old) }
-        // Whatever the reader states: a body holds the source no more once its end was reported, a counted one with its last
-        // byte. After its first fault the source has ended. A fault is reported again by each later read.
-        ensures moves { IfOk result (λ n. 0 < length buf.new → ExchangeReadsOn self.old n (n == 0) self.new) }
-        ensures ended { IfOk result (λ n. n ≡ 0 → 0 < length buf.new → exchange_streams self.new ≡ false) }
-        ensures settled { exchange_streams self.old ≡ false → (exchange_streams self.new ≡ false) × (source.new ≡ source.old) }
-        ensures at_end { OnErr result (exchange_stop self.old ≡ None → IsAtEnd source.new) }
-        ensures broken { IfErr result (λ e. exchange_stop self.new ≡ Some (Stop.Fault (error_kind e))) }
-        ensures reports_stop { IfSome (exchange_stop self.old) (λ stop. 0 < length buf.new → AnswersStop stop result × (exchange_stop self.new ≡ Some stop) × (source.new ≡ source.old)) }
+        ensures reads { ReadsBody (exchange_body self.old) (exchange_body self.new) source.old source.new result buf.new }
         ensures kept { KeepsButBody self.old self.new }
-        ensures head { exchange_head self.new ≡ exchange_head self.old }
-        ensures goes_on { GoesOn source.old.feed source.new.feed }
-        // The source stands at the next head once the body is over.
-        ensures standing { exchange_streams self.old ≡ true → source.new.standing ≡ exchange_standing self.new source.old.standing }
     {
         self.waiting.body.read(source, buf)
     }
@@ -166,7 +148,7 @@ impl Exchange {
         ensures sends { (content : Feed) → D.feed response.data_reader ≡ Some content → length content.bytes < 2 ^ 63
             → outlet_ended outlet.old ≡ false → CanSend (output_of outlet.old)
             → Sends (output_of outlet.old) (output_of outlet.new) (outlet_ended outlet.new) result response.answer content (exchange_printing self.old now) }
-        ensures fails_once { FailsOnceUnlessEnded (outlet_ended outlet.old) (output_of outlet.old) (output_of outlet.new) (outlet_ended outlet.new) }
+        ensures fails_once { FailsOnce outlet.old outlet.new }
         ensures honest { IfErr result (λ e.
             IsHonest (output_of outlet.old) (output_of outlet.new) response.answer (D.feed response.data_reader) (exchange_printing self.old now) (error_kind e)) }
         ensures ended { OnErr result (outlet_ended outlet.new ≡ true) }
@@ -196,11 +178,9 @@ impl Exchange {
         ensures ascii { is_ok result ≡ list_all is_ascii protocol.now }
         ensures refused { OnErr result ((self.new ≡ self.old) × (outlet.new ≡ outlet.old)) }
         // Whatever the data are.
-        ensures sends { OnOk result ((content : Feed) → (outlet_ended outlet.old ≡ false → CanSend (output_of outlet.old))
-            → SendsUnlessEnded (outlet_ended outlet.old) (output_of outlet.old) (output_of outlet.new) (outlet_ended outlet.new)
-            (upgrade_text (record { answer = response.answer; content = content }) protocol.now (exchange_printing self.old now))) }
+        ensures sends { OnOk result ((content : Feed) → SendsOn outlet.old outlet.new (upgrade_text (record { answer = response.answer; content = content }) protocol.now (exchange_printing self.old now))) }
         ensures once { OnOk result (OwesNoContinue self.old self.new) }
-        ensures fails_once { FailsOnceUnlessEnded (outlet_ended outlet.old) (output_of outlet.old) (output_of outlet.new) (outlet_ended outlet.new) }
+        ensures fails_once { FailsOnce outlet.old outlet.new }
         ensures flushed { OnOk result (outlet_held outlet.new ≡ []) }
         ensures sent_on { OnOk result (SentOn outlet.new) }
     {
@@ -222,10 +202,9 @@ impl Exchange {
         now: HttpDate,
     )
         ensures unowed { exchange_owes_continue self.old ≡ false → (self.new ≡ self.old) × (outlet.new ≡ outlet.old) }
-        ensures sends { exchange_owes_continue self.old ≡ true → (outlet_ended outlet.old ≡ false → CanSend (output_of outlet.old))
-            → SendsUnlessEnded (outlet_ended outlet.old) (output_of outlet.old) (output_of outlet.new) (outlet_ended outlet.new) (own_text_by 100 (exchange_printing self.old now)) }
+        ensures sends { exchange_owes_continue self.old ≡ true → SendsOn outlet.old outlet.new (own_text_by 100 (exchange_printing self.old now)) }
         ensures once { OwesNoContinue self.old self.new }
-        ensures fails_once { FailsOnceUnlessEnded (outlet_ended outlet.old) (output_of outlet.old) (output_of outlet.new) (outlet_ended outlet.new) }
+        ensures fails_once { FailsOnce outlet.old outlet.new }
         ensures sent { exchange_owes_continue self.old ≡ true → (outlet_held outlet.new ≡ []) × SentOn outlet.new }
     {
         if self.waiting.owes_continue {

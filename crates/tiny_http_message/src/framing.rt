@@ -13,6 +13,12 @@ use tiny_http_wire::ascii::AsciiString;
 use tiny_http_wire::common::{HTTPVersion, Header};
 use tiny_http_wire::grammar::parse_content_length;
 
+/// The most bytes of a body that is read with its head (as tiny_http).
+pub const LONGEST_WITH_HEAD: usize = 1024;
+
+/// The most bytes of a head under `Strict`, the CR LF of its empty line included (RFC 6585, section 5, names no number).
+pub const STRICT_HEAD: usize = 65_536;
+
 /// How strictly a head is judged.
 #[derive(Clone, Copy, Debug, PartialEq, Eq)]
 pub enum Profile {
@@ -21,21 +27,21 @@ pub enum Profile {
     Lenient,
     /// For a server behind a proxy. Refused as well are `Content-Length` values that aren't one number, `Content-Length` beside
     /// `Transfer-Encoding`, a `Transfer-Encoding` that doesn't end in `chunked` (RFC 9112, sections 6.1 to 6.3), and a head of
-    /// more than 65,536 bytes (RFC 6585, section 5).
+    /// more than `STRICT_HEAD` bytes (RFC 6585, section 5).
     Strict,
 }
 
 impl Profile {
     ghost use Rattle.tiny_http_message.specs.Pipeline.{head_limit};
 
-    /// The most bytes that a head may have, the CR LF of its empty line included: 65,536 under `Strict`, and any number under
-    /// `Lenient`.
+    /// The most bytes that a head may have, the CR LF of its empty line included: `STRICT_HEAD` under `Strict`, and any number
+    /// under `Lenient`.
     pub fn head_limit(self) -> Option<usize>
         ensures { result ≡ head_limit self }
     {
         match self {
             Profile::Lenient => None,
-            Profile::Strict => Some(65536),
+            Profile::Strict => Some(STRICT_HEAD),
         }
     }
 }
@@ -271,7 +277,7 @@ fn sized_form(owed: bool, length: Option<usize>) -> Form
 {
     match length {
         None | Some(0) => Form::Nothing,
-        Some(n) if n <= 1024 && !owed => Form::WithHead,
+        Some(n) if n <= LONGEST_WITH_HEAD && !owed => Form::WithHead,
         Some(_) => Form::Counted,
     }
 }

@@ -3,8 +3,9 @@
 ghost use Rattle.std.specs.Prelude.{◌≡◌, ◌<◌, ◌≤◌, ◌^◌, false, [], Some, IfOk, length, vec_len, vec_capacity};
 ghost use Rattle.httpdate.specs.Date.{date_text};
 ghost use Rattle.tiny_http_sending.specs.ResponseValue.{printing_to, printing_in};
-ghost use Rattle.tiny_http_sending.specs.Sending.{CanSend, IsFlushed, SendsUnlessEnded, FailsOnceUnlessEnded};
-ghost use Rattle.tiny_http_stream.specs.Outlet.{output_of, outlet_ended, outlet_held, SentOn};
+ghost use Rattle.tiny_http_sending.specs.Sending.{IsFlushed, FailsOnce, SendsOn};
+ghost use Rattle.tiny_http_stream.specs.Outlet.{output_of, outlet_held, SentOn};
+ghost use Rattle.tiny_http_message.specs.declared.own_answer.TheConstants.{OWN_ANSWER};
 ghost use Rattle.tiny_http_message.specs.OwnAnswer.{own_text, own_text_by, refusal_response, refused_text};
 ghost use Rattle.tiny_http_message.specs.Pipeline.{VersionNotSupported};
 ghost use Rattle.tiny_http_wire.specs.Device.{Feed};
@@ -22,8 +23,8 @@ use tiny_http_wire::common::{HTTPVersion, StatusCode};
 use tiny_http_wire::device::{Budget, ReadDevice, WriteDevice};
 use tiny_http_wire::response::Response;
 
-// How many bytes the text has, at most.
-const OWN_ANSWER: usize = 144;
+/// How many bytes are kept for the text of an empty answer of the server's own, which has 138 at most.
+pub const OWN_ANSWER: usize = 144;
 
 // The text of an answer to a head that is refused. An error where there is no memory for it.
 fn refused_text<D: ReadDevice + Drop>(
@@ -86,9 +87,8 @@ pub fn send_own_quietly<W: WriteDevice>(
     context: AnswerContext,
     now: HttpDate,
 )
-    ensures sends { (outlet_ended outlet.old ≡ false → CanSend (output_of outlet.old))
-        → SendsUnlessEnded (outlet_ended outlet.old) (output_of outlet.old) (output_of outlet.new) (outlet_ended outlet.new) (own_text_by status.0 (printing_in context now)) }
-    ensures fails_once { FailsOnceUnlessEnded (outlet_ended outlet.old) (output_of outlet.old) (output_of outlet.new) (outlet_ended outlet.new) }
+    ensures sends { SendsOn outlet.old outlet.new (own_text_by status.0 (printing_in context now)) }
+    ensures fails_once { FailsOnce outlet.old outlet.new }
     ensures flushed { outlet_held outlet.new ≡ [] }
     ensures sent_on { SentOn outlet.new }
     ensures is_flushed { IsFlushed (output_of outlet.new) }
@@ -101,14 +101,14 @@ pub fn send_own_quietly<W: WriteDevice>(
     let _ = send(alloc, outlet, answer, context, now);
 }
 
-// A writer into room that was taken before: it takes 144 bytes, and then each write of a byte fails.
+// A writer into room that was taken before: it takes `OWN_ANSWER` bytes, and then each write of a byte fails.
 #[derive(Drop)]
 struct Page {
     bytes: Vec<u8>,
     failures: u64,
-    ghost room: { 144 ≤ vec_capacity bytes },
-    ghost within: { vec_len bytes ≤ 144 },
-    ghost full: { 0 < failures → 144 ≤ length bytes.items },
+    ghost room: { OWN_ANSWER ≤ vec_capacity bytes },
+    ghost within: { vec_len bytes ≤ OWN_ANSWER },
+    ghost full: { 0 < failures → OWN_ANSWER ≤ length bytes.items },
 }
 
 impl WriteDevice for Page {
@@ -152,7 +152,7 @@ fn date_length(now: HttpDate) -> usize
 // An empty 500, printed into this room. It takes no memory.
 fn print_drop(room: Vec<u8>, context: AnswerContext, now: HttpDate) -> Vec<u8>
     requires empty { (room.items ≡ []) × (vec_len room ≡ 0) }
-    requires room { 144 ≤ vec_capacity room }
+    requires room { OWN_ANSWER ≤ vec_capacity room }
     requires version { (context.version.0 < 256) × (context.version.1 < 256) }
     ensures { result.items ≡ own_text_by 500 (printing_in context now) }
 {
@@ -181,13 +181,15 @@ pub struct DropText {
 
 impl Model for DropText {
     ghost use Rattle.std.specs.Prelude.{◌≡◌, ◌<◌, ◌≤◌, false, [], vec_len, vec_capacity};
+    ghost use Rattle.tiny_http_message.specs.declared.own_answer.TheConstants.{OWN_ANSWER};
     ghost use Rattle.tiny_http_message.specs.TextState.{TextState, drop_text};
 
     ghost Value = { TextState };
 
     ghost view = { λ t. record { items = drop_text t.is_taken t.context t.now } };
 
-    ghost invariant = { λ t. (t.room.items ≡ []) × (vec_len t.room ≡ 0) × (t.is_taken ≡ false → 144 ≤ vec_capacity t.room) × (t.context.version.0 < 256) × (t.context.version.1 < 256) };
+    ghost invariant = { λ t. (t.room.items ≡ []) × (vec_len t.room ≡ 0) × (t.is_taken ≡ false → OWN_ANSWER ≤ vec_capacity t.room)
+        × (t.context.version.0 < 256) × (t.context.version.1 < 256) };
 }
 
 impl DropText {

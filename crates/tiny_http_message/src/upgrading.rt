@@ -4,8 +4,8 @@ ghost use Rattle.std.specs.List.{list_all};
 ghost use Rattle.tiny_http_wire.specs.Bytes.{is_ascii};
 ghost use Rattle.tiny_http_wire.specs.Device.{Feed};
 ghost use Rattle.tiny_http_sending.specs.ResponseValue.{printing_in, upgrade_text};
-ghost use Rattle.tiny_http_sending.specs.Sending.{CanSend, IsFlushed, SendsUnlessEnded, FailsOnceUnlessEnded};
-ghost use Rattle.tiny_http_stream.specs.Outlet.{output_of, outlet_ended, outlet_held, SentOn};
+ghost use Rattle.tiny_http_sending.specs.Sending.{IsFlushed, FailsOnce, SendsOn};
+ghost use Rattle.tiny_http_stream.specs.Outlet.{output_of, outlet_held, SentOn};
 
 use httpdate::HttpDate;
 use std::alloc::Global;
@@ -40,10 +40,8 @@ pub fn send_upgrade_quietly<W: WriteDevice, D: Drop>(
     ensures ascii { is_ok result ≡ list_all is_ascii protocol.now }
     ensures refused { OnErr result (outlet.new ≡ outlet.old) }
     // Whatever the data are.
-    ensures sends { OnOk result ((content : Feed) → (outlet_ended outlet.old ≡ false → CanSend (output_of outlet.old))
-        → SendsUnlessEnded (outlet_ended outlet.old) (output_of outlet.old) (output_of outlet.new) (outlet_ended outlet.new)
-        (upgrade_text (record { answer = response.answer; content = content }) protocol.now (printing_in context now))) }
-    ensures fails_once { FailsOnceUnlessEnded (outlet_ended outlet.old) (output_of outlet.old) (output_of outlet.new) (outlet_ended outlet.new) }
+    ensures sends { OnOk result ((content : Feed) → SendsOn outlet.old outlet.new (upgrade_text (record { answer = response.answer; content = content }) protocol.now (printing_in context now))) }
+    ensures fails_once { FailsOnce outlet.old outlet.new }
     ensures flushed { OnOk result (outlet_held outlet.new ≡ []) }
     ensures sent_on { OnOk result (SentOn outlet.new) }
     ensures is_flushed { OnOk result (IsFlushed (output_of outlet.new)) }

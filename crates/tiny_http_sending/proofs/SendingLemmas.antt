@@ -17,7 +17,7 @@ use Rattle.tiny_http_encoding.specs.Text.{Text, Whole, Broken, Prints, whole, no
 use Rattle.tiny_http_device.proofs.DeviceLemmas.{IsFront-same, IsFront-append, Took-nil}
 use Rattle.tiny_http_wire.proofs.AnswerLemmas.{text-some, head-some}
 use Rattle.tiny_http_stream.specs.Outlet.{holding, EndsOutlet}
-use Rattle.tiny_http_sending.specs.Sending.{CanSend, OutletTook, OutletFailed, Idles, EndsQuietly, DropsHeld, SendsText, Sends, SendsQuietly, IsFlushed, SendsUnlessEnded, FailsOnce, FailsOnceUnlessEnded, BreaksOff, IsHonest}
+use Rattle.tiny_http_sending.specs.Sending.{CanSend, OutletTook, OutletFailed, Idles, EndsQuietly, DropsHeld, SendsText, Sends, SendsQuietly, IsFlushed, SendsUnlessEnded, SinkFailsOnce, FailsOnceUnlessEnded, BreaksOff, IsHonest}
 use Rattle.tiny_http_device.proofs.DeviceFeeds.{append_known-append}
 use Rattle.tiny_http_device.proofs.DeviceLemmas.{grown-nil}
 
@@ -164,20 +164,20 @@ printed-ended T o a b c n ended e ans p content stated few h same m unended low 
     by-cases (inr k) m2 = inr (k.0, broken-ended T a b c ended e (nothing_sent OutOfMemory) unended low (inl (ap Broken (sym k.1.0), subst (λ x. Took a x []) (sym k.1.1) (Took-nil a))) m2 z y (λ none. k.1.1))
 
 -- the writer's count, whatever reader and writer state
-pub flushed-once : {T U : Type 0} (a b c : Sink) (x : U) (r : Result T Error) (ended : Bool) → CountsFaults a b (Ok x) → Puts b c r [] → OnErr r (ended ≡ true) → FailsOnce a c ended
+pub flushed-once : {T U : Type 0} (a b c : Sink) (x : U) (r : Result T Error) (ended : Bool) → CountsFaults a b (Ok x) → Puts b c r [] → OnErr r (ended ≡ true) → SinkFailsOnce a c ended
 flushed-once a b c x (Ok y) ended u p err = inl (p.failures ∙ u.failures)
 flushed-once a b c x (Err e) ended u p err = inr (p.failures ∙ ap next_count u.failures, err)
 
-ended-count : (a b c : Sink) (ended : Bool) → b.failures ≡ a.failures → EndsQuietly b c → ended ≡ true → FailsOnce a c ended
+ended-count : (a b c : Sink) (ended : Bool) → b.failures ≡ a.failures → EndsQuietly b c → ended ≡ true → SinkFailsOnce a c ended
 ended-count a b c ended e (inl s) z = inl (s.failures ∙ e)
 ended-count a b c ended e (inr l) z = inr (l.1.failures ∙ ap next_count e, z)
 
-ended-by : (a b c : Sink) (n : ℕ) (ended t : Bool) → (b.failures == n) ≡ t → n ≡ a.failures → (b.failures ≡ a.failures) ⊎ (b.failures ≡ next_count a.failures) → MatchBool t (EndsQuietly b c) (DropsHeld b c) → ended ≡ true → FailsOnce a c ended
+ended-by : (a b c : Sink) (n : ℕ) (ended t : Bool) → (b.failures == n) ≡ t → n ≡ a.failures → (b.failures ≡ a.failures) ⊎ (b.failures ≡ next_count a.failures) → MatchBool t (EndsQuietly b c) (DropsHeld b c) → ended ≡ true → SinkFailsOnce a c ended
 ended-by a b c n ended true e same u m z = ended-count a b c ended (eqb-true b.failures n e ∙ same) m z
 ended-by a b c n ended false e same (inl u) m z = inl (m.failures ∙ u)
 ended-by a b c n ended false e same (inr u) m z = inr (m.failures ∙ u, z)
 
-pub ended-once : (T : Type 0) (a b c : Sink) (n : ℕ) (e : Error) (ended : Bool) → CountsFaults {T = T} a b (Err e) → n ≡ a.failures → MatchBool (b.failures == n) (EndsQuietly b c) (DropsHeld b c) → ended ≡ true → FailsOnce a c ended
+pub ended-once : (T : Type 0) (a b c : Sink) (n : ℕ) (e : Error) (ended : Bool) → CountsFaults {T = T} a b (Err e) → n ≡ a.failures → MatchBool (b.failures == n) (EndsQuietly b c) (DropsHeld b c) → ended ≡ true → SinkFailsOnce a c ended
 ended-once T a b c n e ended (inl u) same m z = ended-by a b c n ended (b.failures == n) refl same (inl u.failures) m z
 ended-once T a b c n e ended (inr u) same m z = ended-by a b c n ended (b.failures == n) refl same (inr u.failures) m z
 

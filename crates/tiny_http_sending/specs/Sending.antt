@@ -5,6 +5,7 @@ use Rattle.std.specs.declared.io.Error.{Error}
 use Rattle.std.specs.declared.io.ErrorKind.{ErrorKind}
 use Rattle.std.specs.declared.io.ErrorKind.TheVariants.{OutOfMemory, BrokenPipe, ConnectionAborted, ConnectionRefused, ConnectionReset}
 use Rattle.std.specs.Io.KnownBytes.{append_known}
+use Rattle.tiny_http_stream.specs.Outlet.{OutletState, output_of}
 use Rattle.tiny_http_wire.specs.Device.{Feed, Sink, IsFront, BeginsKnown, HoldsNothing, IsKnownFront, StatesKind, next_count}
 use Rattle.tiny_http_wire.specs.Answer.{Answer, Printing, text_of, IsGathered}
 use Rattle.tiny_http_encoding.specs.Text.{Text, Whole, Broken, nothing_sent}
@@ -73,13 +74,23 @@ pub record Idles (old new : Sink) : Type 0 where
 abbrev pub SendsUnlessEnded : Bool → Sink → Sink → Bool → List ℕ → Type 0
 SendsUnlessEnded was old new ended text = MatchBool was (Idles old new × (ended ≡ true)) (SendsQuietly old new ended text)
 
--- whatever reader and writer state: the writer's count is as it was, or it failed once, and the outlet has ended
-abbrev pub FailsOnce : Sink → Sink → Bool → Type 0
-FailsOnce old new ended = (new.failures ≡ old.failures) ⊎ ((new.failures ≡ next_count old.failures) × (ended ≡ true))
+-- A TEXT IS SENT ON AN OUTLET, and no fault is reported: one that had ended sends nothing. Its writer takes bytes, and its
+-- count can rise, unless the outlet had ended.
+abbrev pub SendsOn : {W : Type 0} → OutletState W → OutletState W → List ℕ → Type 0
+SendsOn old new text = (old.ended ≡ false → CanSend (output_of old)) → SendsUnlessEnded old.ended (output_of old) (output_of new) new.ended text
+
+-- the writer's count is as it was, or it failed once, and the outlet has ended
+abbrev pub SinkFailsOnce : Sink → Sink → Bool → Type 0
+SinkFailsOnce old new ended = (new.failures ≡ old.failures) ⊎ ((new.failures ≡ next_count old.failures) × (ended ≡ true))
 
 -- the same for an outlet that may have ended: then the writer isn't used
 abbrev pub FailsOnceUnlessEnded : Bool → Sink → Sink → Bool → Type 0
-FailsOnceUnlessEnded was old new ended = MatchBool was ((new.failures ≡ old.failures) × (ended ≡ true)) (FailsOnce old new ended)
+FailsOnceUnlessEnded was old new ended = MatchBool was ((new.failures ≡ old.failures) × (ended ≡ true)) (SinkFailsOnce old new ended)
+
+-- A CALL THAT USES AN OUTLET, whatever its reader and writer state: the writer failed once at most, and then the outlet has
+-- ended; one that had ended stays so, and doesn't use its writer.
+abbrev pub FailsOnce : {W : Type 0} → OutletState W → OutletState W → Type 0
+FailsOnce old new = FailsOnceUnlessEnded old.ended (output_of old) (output_of new) new.ended
 
 -- the writer failed at most once
 abbrev pub FailsAtMostOnce : Sink → Sink → Type 0

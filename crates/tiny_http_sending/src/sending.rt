@@ -6,7 +6,7 @@ ghost use Rattle.tiny_http_wire.specs.Answer.{text_of};
 ghost use Rattle.tiny_http_wire.specs.Device.{Feed};
 ghost use Rattle.tiny_http_sending.specs.ResponseValue.{printing_in, printing_with, upgrading};
 ghost use Rattle.tiny_http_stream.specs.Outlet.{output_of, outlet_ended, outlet_held, SentOn};
-ghost use Rattle.tiny_http_sending.specs.Sending.{Sends, SendsText, SendsUnlessEnded, EndsQuietly, DropsHeld, CanSend, FailsOnce, FailsOnceUnlessEnded, IsHonest, is_closed_client, reported};
+ghost use Rattle.tiny_http_sending.specs.Sending.{Sends, SendsText, EndsQuietly, DropsHeld, CanSend, SinkFailsOnce, IsHonest, is_closed_client, reported, FailsOnce, SendsOn};
 
 use httpdate::HttpDate;
 use std::alloc::Global;
@@ -46,7 +46,7 @@ fn send_printed<W: WriteDevice, D: ReadDevice + Drop>(
     ensures sends { (content : Feed) → D.feed response.data_reader ≡ Some content → length content.bytes < 2 ^ 63
         → CanSend (output_of outlet.old)
         → Sends (output_of outlet.old) (output_of outlet.new) (outlet_ended outlet.new) result response.answer content (printing_with answer_context (option_copied upgrade.entry) now) }
-    ensures fails_once { FailsOnce (output_of outlet.old) (output_of outlet.new) (outlet_ended outlet.new) }
+    ensures fails_once { SinkFailsOnce (output_of outlet.old) (output_of outlet.new) (outlet_ended outlet.new) }
     ensures honest { IfErr result (λ e.
         IsHonest (output_of outlet.old) (output_of outlet.new) response.answer (D.feed response.data_reader) (printing_with answer_context (option_copied upgrade.entry) now) (error_kind e)) }
     ensures ended { OnErr result (outlet_ended outlet.new ≡ true) }
@@ -74,7 +74,7 @@ pub fn send<W: WriteDevice, D: ReadDevice + Drop>(
     ensures sends { (content : Feed) → D.feed response.data_reader ≡ Some content → length content.bytes < 2 ^ 63
         → CanSend (output_of outlet.old)
         → Sends (output_of outlet.old) (output_of outlet.new) (outlet_ended outlet.new) result response.answer content (printing_in answer_context now) }
-    ensures fails_once { FailsOnce (output_of outlet.old) (output_of outlet.new) (outlet_ended outlet.new) }
+    ensures fails_once { SinkFailsOnce (output_of outlet.old) (output_of outlet.new) (outlet_ended outlet.new) }
     ensures honest { IfErr result (λ e.
         IsHonest (output_of outlet.old) (output_of outlet.new) response.answer (D.feed response.data_reader) (printing_in answer_context now) (error_kind e)) }
     ensures ended { OnErr result (outlet_ended outlet.new ≡ true) }
@@ -97,7 +97,7 @@ pub fn send_unless_ended<W: WriteDevice, D: ReadDevice + Drop>(
     ensures sends { (content : Feed) → D.feed response.data_reader ≡ Some content → length content.bytes < 2 ^ 63
         → outlet_ended outlet.old ≡ false → CanSend (output_of outlet.old)
         → Sends (output_of outlet.old) (output_of outlet.new) (outlet_ended outlet.new) result response.answer content (printing_in answer_context now) }
-    ensures fails_once { FailsOnceUnlessEnded (outlet_ended outlet.old) (output_of outlet.old) (output_of outlet.new) (outlet_ended outlet.new) }
+    ensures fails_once { FailsOnce outlet.old outlet.new }
     ensures honest { IfErr result (λ e.
         IsHonest (output_of outlet.old) (output_of outlet.new) response.answer (D.feed response.data_reader) (printing_in answer_context now) (error_kind e)) }
     ensures ended { OnErr result (outlet_ended outlet.new ≡ true) }
@@ -150,7 +150,7 @@ pub fn send_upgrade<W: WriteDevice, D: Drop>(
     // Whatever the data are.
     ensures sends { (content : Feed) → CanSend (output_of outlet.old)
         → SendsText (output_of outlet.old) (output_of outlet.new) (outlet_ended outlet.new) result (text_of response.answer content (upgrading protocol.now (printing_in answer_context now))) }
-    ensures fails_once { FailsOnce (output_of outlet.old) (output_of outlet.new) (outlet_ended outlet.new) }
+    ensures fails_once { SinkFailsOnce (output_of outlet.old) (output_of outlet.new) (outlet_ended outlet.new) }
     ensures ended { OnErr result (outlet_ended outlet.new ≡ true) }
     ensures flushed { outlet_held outlet.new ≡ [] }
     ensures sent_on { SentOn outlet.new }
@@ -161,18 +161,16 @@ pub fn send_upgrade<W: WriteDevice, D: Drop>(
 
 /// Writes a text. No reply reports a fault that is met there.
 pub fn write_quietly<W: WriteDevice>(outlet: &mut Outlet<W>, text: &[u8])
-    ensures sends { (outlet_ended outlet.old ≡ false → CanSend (output_of outlet.old))
-        → SendsUnlessEnded (outlet_ended outlet.old) (output_of outlet.old) (output_of outlet.new) (outlet_ended outlet.new) text.now }
-    ensures fails_once { FailsOnceUnlessEnded (outlet_ended outlet.old) (output_of outlet.old) (output_of outlet.new) (outlet_ended outlet.new) }
+    ensures sends { SendsOn outlet.old outlet.new text.now }
+    ensures fails_once { FailsOnce outlet.old outlet.new }
 {
     let _ = outlet.write(text);
 }
 
 /// Flushes what was written. No reply reports a fault that is met there.
 pub fn flush_quietly<W: WriteDevice>(outlet: &mut Outlet<W>)
-    ensures sends { (outlet_ended outlet.old ≡ false → CanSend (output_of outlet.old))
-        → SendsUnlessEnded (outlet_ended outlet.old) (output_of outlet.old) (output_of outlet.new) (outlet_ended outlet.new) [] }
-    ensures fails_once { FailsOnceUnlessEnded (outlet_ended outlet.old) (output_of outlet.old) (output_of outlet.new) (outlet_ended outlet.new) }
+    ensures sends { SendsOn outlet.old outlet.new [] }
+    ensures fails_once { FailsOnce outlet.old outlet.new }
     ensures flushed { outlet_held outlet.new ≡ [] }
     ensures sent_on { SentOn outlet.new }
 {

@@ -8,10 +8,10 @@ use std::io;
 use std::marker::Model;
 use tiny_http_device::device::ReadDevice;
 
-/// How many bytes a buffer holds.
+/// How many bytes a buffer holds: that of a source, and that of an outlet (as tiny_http's).
 pub const CAPACITY: usize = 1024;
 
-/// Up to 1024 bytes, put in at the back and taken off at the front.
+/// Up to `CAPACITY` bytes, put in at the back and taken off at the front.
 #[derive(Drop)]
 pub struct Buffer {
     bytes: [u8; CAPACITY],
@@ -20,12 +20,15 @@ pub struct Buffer {
 }
 
 impl Model for Buffer {
+    ghost use Rattle.std.specs.Prelude.{◌≡◌, ◌-◌, ◌≤◌, ℕ, List, take, drop};
+    ghost use Rattle.tiny_http_stream.specs.declared.buffer.TheConstants.{CAPACITY};
+
     ghost Value = { List ℕ };
 
     ghost view = { λ b. take (b.end - b.start) (drop b.start b.bytes) };
 
     // An empty buffer has all its room at the back.
-    ghost invariant = { λ b. (b.start ≤ b.end) × (b.end ≤ 1024) × (b.start ≡ b.end → b.start ≡ 0) };
+    ghost invariant = { λ b. (b.start ≤ b.end) × (b.end ≤ CAPACITY) × (b.start ≡ b.end → b.start ≡ 0) };
 }
 
 impl Buffer {
@@ -47,10 +50,10 @@ impl Buffer {
         self.start == self.end
     }
 
-    /// How many bytes are held, up to 1024.
+    /// How many bytes are held, up to `CAPACITY`.
     pub fn len(&self) -> usize
         ensures len { result ≡ length self.now }
-        ensures bound { length self.now ≤ 1024 }
+        ensures bound { length self.now ≤ CAPACITY }
     {
         self.end - self.start
     }
@@ -58,7 +61,7 @@ impl Buffer {
     /// The bytes that are held, the front first.
     pub fn as_slice(&self) -> &[u8]
         ensures bytes { result.now ≡ self.now }
-        ensures bound { length self.now ≤ 1024 }
+        ensures bound { length self.now ≤ CAPACITY }
     {
         &self.bytes[self.start..self.end]
     }
@@ -125,9 +128,9 @@ impl Buffer {
     /// Puts as many bytes at the back as there is room for, and says how many.
     pub fn append(&mut self, from: &[u8]) -> usize
         ensures count { result ≤ length from.now }
-        ensures room { length self.old ≡ 0 → result ≡ min 1024 (length from.now) }
+        ensures room { length self.old ≡ 0 → result ≡ min CAPACITY (length from.now) }
         ensures bytes { self.new ≡ self.old ++ take result from.now }
-        ensures bound { length self.new ≤ 1024 }
+        ensures bound { length self.new ≤ CAPACITY }
     {
         let n = from.len().min(CAPACITY - self.end);
         let end = self.end + n;

@@ -45,7 +45,7 @@ impl<W: WriteDevice> Outlet<W> {
     /// What is held back: nothing after the end.
     pub fn held(&self) -> &[u8]
         ensures bytes { result.now ≡ outlet_held self.now }
-        ensures bound { length (outlet_held self.now) ≤ 1024 }
+        ensures bound { length (outlet_held self.now) ≤ CAPACITY }
         ensures none { outlet_ended self.now ≡ true → outlet_held self.now ≡ [] }
     {
         self.held.as_slice()

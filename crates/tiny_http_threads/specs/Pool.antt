@@ -1,5 +1,6 @@
 -- A POOL OF WORKERS: jobs that wait for one, and how many workers there are.
 use Rattle.std.specs.Prelude.{◌≡◌, ℕ, ◌+◌, ◌-◌, ◌^◌, ◌<◌, ◌≤◌, ◌⊎◌, Bool, true, false, List, [], ◌∷◌, ◌++◌, length, Option, Some, None}
+use Rattle.tiny_http_threads.specs.declared.task_pool.TheConstants.{MIN_THREADS}
 use Rattle.tiny_http_threads.specs.declared.task_pool.Offered.{Offered}
 use Rattle.tiny_http_threads.specs.declared.task_pool.Offered.TheVariants.{Queued, Start, Back}
 
@@ -46,7 +47,7 @@ module _ {J : Type 0} where
   Wakes old None new = (old.jobs ≡ []) × (new ≡ old)
   Wakes old (Some job) new = (old.jobs ≡ job ∷ new.jobs) × (0 < old.idle) × (new ≡ record old { jobs = new.jobs; idle = old.idle - 1 })
 
-  -- an idle worker ends, where nothing waits, and more than four run or the pool is closed
+  -- an idle worker ends, where nothing waits, and more run than are kept or the pool is closed
   abbrev pub EndsIdle : Pool J → Bool → Pool J → Type 0
-  EndsIdle old true new = (0 < old.idle) × (old.jobs ≡ []) × ((4 < old.running) ⊎ (old.closed ≡ true)) × (new ≡ record old { idle = old.idle - 1; running = old.running - 1 })
-  EndsIdle old false new = (0 < old.idle → old.jobs ≡ [] → (old.running ≤ 4) × (old.closed ≡ false)) × (new ≡ old)
+  EndsIdle old true new = (0 < old.idle) × (old.jobs ≡ []) × ((MIN_THREADS < old.running) ⊎ (old.closed ≡ true)) × (new ≡ record old { idle = old.idle - 1; running = old.running - 1 })
+  EndsIdle old false new = (0 < old.idle → old.jobs ≡ [] → (old.running ≤ MIN_THREADS) × (old.closed ≡ false)) × (new ≡ old)

@@ -12,11 +12,11 @@ use std::thread::Threads;
 use std::time::{Clock, Duration};
 use std::{io, thread};
 
-// How many workers are kept though they are idle.
-const MIN_THREADS: usize = 4;
+/// How many workers a pool keeps though they are idle (as tiny_http).
+pub const MIN_THREADS: usize = 4;
 
-// How long a worker above those is idle before it ends, in milliseconds.
-const IDLE_MILLIS: u64 = 5000;
+/// How long a worker above those is idle before it ends, in milliseconds (as tiny_http).
+pub const IDLE_MILLIS: u64 = 5000;
 
 /// What a worker runs.
 pub trait Job {
@@ -131,8 +131,8 @@ impl<J> PoolState<J> {
         Some(job)
     }
 
-    /// An idle worker ends. False, and nothing has changed, where none is idle, a job waits, or at most 4 run and the pool
-    /// isn't closed.
+    /// An idle worker ends. False, and nothing has changed, where none is idle, a job waits, or at most `MIN_THREADS` run
+    /// and the pool isn't closed.
     pub fn give_up(&mut self) -> bool
         ensures sound { IsSound self.new }
         ensures gives_up { EndsIdle self.old result self.new }

@@ -3,6 +3,7 @@ use Rattle.std.specs.Prelude.{ℕ, Bool, true, false, ◌&&◌, ◌||◌, List, 
 use Rattle.tiny_http_head.specs.declared.common.Header.{Header}
 use Rattle.tiny_http_head.specs.Common.{same_name}
 use Rattle.tiny_http_head.specs.Heads.{length_in}
+use Rattle.tiny_http_wire.specs.declared.response.TheConstants.{THRESHOLD}
 use Rattle.tiny_http_wire.specs.Answer.{Answer, has_header}
 
 -- names of headers that are never added: how the answer is sent is said by the server itself
@@ -52,7 +53,7 @@ with_headers (h ∷ hs) a = with_headers hs (add_header h a)
 
 -- an answer as it is made: these headers are added to none, and the threshold is the first
 abbrev pub first_answer : ℕ → List Header → Option ℕ → Answer
-first_answer status headers length = with_headers headers (record { status = status; headers = []; data_length = length; threshold = 32768 })
+first_answer status headers length = with_headers headers (record { status = status; headers = []; data_length = length; threshold = THRESHOLD })
 
 -- whether one of these headers is put last when they are added one after another
 abbrev pub is_some_put_last : List Header → Answer → Bool

@@ -18,6 +18,7 @@ use Rattle.tiny_http_head.specs.Common.{version_text, same_name, reason_phrase}
 use Rattle.tiny_http_device.specs.Device.{Feed, Sink}
 use Rattle.tiny_http_device.specs.declared.device.Stop.{Stop}
 use Rattle.tiny_http_device.specs.declared.device.Stop.TheVariants.{End, Fault}
+use Rattle.tiny_http_wire.specs.declared.response.TheConstants.{THRESHOLD}
 use Rattle.tiny_http_encoding.specs.Text.{Text, prepend_text, whole, nothing_sent, identity_body, chunked_body, Prints}
 
 -- an answer without its data
@@ -29,7 +30,7 @@ pub record Answer : Type 0 where
 
 -- an answer whose data has so many bytes, with the threshold that holds until another is set
 abbrev pub answer_with : ℕ → List Header → ℕ → Answer
-answer_with status headers length = record { status = status; headers = headers; data_length = Some length; threshold = 32768 }
+answer_with status headers length = record { status = status; headers = headers; data_length = Some length; threshold = THRESHOLD }
 
 -- the header of a plain text
 unfoldable pub text_plain : Header

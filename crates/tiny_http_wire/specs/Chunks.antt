@@ -9,12 +9,15 @@ use Rattle.tiny_http_device.specs.declared.device.Stop.{Stop}
 use Rattle.tiny_http_device.specs.Device.{fault_of}
 use Rattle.tiny_http_text.specs.Bytes.{crlf, HasNo, Trims, IsEmptyOrBegins, semicolon}
 use Rattle.tiny_http_text.specs.Lines.{has_crlf}
+use Rattle.tiny_http_wire.specs.declared.chunked.TheConstants.{LONGEST_LINE, MOST_TRAILERS}
 
+-- the most bytes of a size line or a trailer line, without its CR LF: 8192
 abbrev pub longest_line : ℕ
-longest_line = 8192
+longest_line = LONGEST_LINE
 
+-- the most lines of a trailer section: 128
 abbrev pub most_trailers : ℕ
-most_trailers = 128
+most_trailers = MOST_TRAILERS
 
 -- space or tab
 abbrev pub is_bws : ℕ → Bool

@@ -15,6 +15,12 @@ use std::io;
 use std::io::{ErrorKind, Read};
 use tiny_http_device::device::{ReadDevice, Stop, read_front};
 
+/// How many bytes a size line or a trailer line has at most, without its CR LF. (RFC 9112, section 7.1.1, asks for such a limit.)
+pub const LONGEST_LINE: usize = 8192;
+
+/// How many lines the trailer section has at most, its empty line left out.
+pub const MOST_TRAILERS: usize = 128;
+
 /// What has to come next of a chunked body.
 #[derive(Clone, Copy, Drop)]
 enum Next {
@@ -54,13 +60,13 @@ fn close_chunk<R: ReadDevice>(reader: &mut R) -> Result<(), ErrorKind>
     }
 }
 
-// Takes the trailer part: at most 128 lines, and its empty line.
+// Takes the trailer section: at most `MOST_TRAILERS` lines, and its empty line.
 fn skip_trailers<R: ReadDevice>(reader: &mut R) -> Next
-    ensures comes { comes result (R.feed reader.new) ≡ trails 128 (R.feed reader.old) }
+    ensures comes { comes result (R.feed reader.new) ≡ trails MOST_TRAILERS (R.feed reader.old) }
     ensures ready { IsReady result }
     ensures takes { TakesFront (R.feed reader.old) (R.feed reader.new) }
 {
-    for lines in 0..128_usize {
+    for lines in 0..MOST_TRAILERS {
         match next_line(reader) {
             Err(kind) => return Next::Broken(kind),
             Ok(line) => {

@@ -1,5 +1,6 @@
 //! A writer into a small room of its own, so that many small pieces are handed on as one.
 ghost use Rattle.std.specs.Prelude.{◌≡◌, ◌≤◌, ◌+◌, ◌++◌, [], Some, None, false, length, take};
+ghost use Rattle.tiny_http_wire.specs.declared.page.TheConstants.{ROOM};
 
 use std::io;
 use std::io::ErrorKind;
@@ -8,13 +9,13 @@ use tiny_http_device::device::WriteDevice;
 // How many bytes a page takes.
 const ROOM: usize = 512;
 
-/// Takes 512 bytes, and then each write of a byte fails.
+/// Takes `ROOM` bytes, and then each write of a byte fails.
 #[derive(Drop)]
 pub(crate) struct Page {
-    bytes: [u8; 512],
+    bytes: [u8; ROOM],
     len: usize,
     failures: u64,
-    ghost within: { len ≤ 512 },
+    ghost within: { len ≤ ROOM },
 }
 
 impl Page {
@@ -33,7 +34,7 @@ impl Page {
 
     // Takes these bytes, for which there is room.
     fn append(&mut self, bytes: &[u8])
-        requires room { self.old.len + length bytes.now ≤ 512 }
+        requires room { self.old.len + length bytes.now ≤ ROOM }
         ensures bytes { take self.new.len self.new.bytes ≡ take self.old.len self.old.bytes ++ bytes.now }
         ensures failures { self.new.failures ≡ self.old.failures }
     {

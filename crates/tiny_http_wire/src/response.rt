@@ -56,8 +56,8 @@ impl<R> Model for Response<R> {
     ghost invariant = { λ r. IsResponseHeaders r.headers.items };
 }
 
-// The length in bytes from which data is sent in chunks, until another is set.
-const THRESHOLD: usize = 32768;
+/// The length in bytes from which data is sent in chunks, until another is set (as tiny_http).
+pub const THRESHOLD: usize = 32768;
 
 // The header of a plain text.
 #[tactic(auto, unfolding(crate::specs::Answer::text_plain))]
@@ -75,7 +75,7 @@ impl<F: Read + OpenFile> Response<Metered<F>> {
     pub fn from_file(alloc: Global, file: F) -> Response<Metered<F>>
         ensures status { result.answer.status ≡ 200 }
         ensures headers { result.answer.headers ≡ [] }
-        ensures threshold { result.answer.threshold ≡ 32768 }
+        ensures threshold { result.answer.threshold ≡ THRESHOLD }
         ensures file { metered_inner result.data_reader ≡ file }
     {
         let length = file.metadata().ok().map(|of| of.len() as usize);
@@ -299,7 +299,7 @@ impl<R> Response<R> {
         self.headers.as_slice()
     }
 
-    /// The length in bytes from which data is sent in chunks: 32768, until another is set.
+    /// The length in bytes from which data is sent in chunks: `THRESHOLD`, until another is set.
     pub fn chunked_threshold(&self) -> usize
         ensures { result ≡ self.now.answer.threshold }
     {

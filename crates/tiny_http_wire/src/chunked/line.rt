@@ -4,6 +4,7 @@ ghost use Rattle.tiny_http_device.specs.Device.{prepended};
 ghost use Rattle.tiny_http_wire.specs.ChunkSize.{SizeFits};
 ghost use Rattle.tiny_http_wire.specs.ChunkLine.{scan_step, OneLine, NoLine, CutBy};
 
+use crate::chunked::LONGEST_LINE;
 use crate::chunked::size::Size;
 use std::io::ErrorKind;
 use tiny_http_device::device::ReadDevice;
@@ -68,8 +69,8 @@ pub(crate) fn next_byte<R: ReadDevice>(reader: &mut R) -> Result<u8, ErrorKind>
     }
 }
 
-/// Takes the next line and its CR LF, if one begins at place 0 to 8192. If none begins there, and
-/// at least 8194 bytes follow, it is a fault of kind InvalidData; with fewer the stop is reported.
+/// Takes the next line and its CR LF, if that begins behind at most `LONGEST_LINE` bytes. If none begins there, and two bytes
+/// more than so many follow, it is a fault of kind InvalidData; with fewer the stop is reported.
 pub(crate) fn next_line<R: ReadDevice>(reader: &mut R) -> Result<ChunkLine, ErrorKind>
     ensures line { IfOk result (OneLine (R.feed reader.old) (R.feed reader.new)) }
     ensures none { IfErr result (NoLine (R.feed reader.old) (R.feed reader.new)) }
@@ -78,7 +79,7 @@ pub(crate) fn next_line<R: ReadDevice>(reader: &mut R) -> Result<ChunkLine, Erro
         size: Size::Blank,
         after_return: false,
     };
-    for taken in 0..8194 {
+    for taken in 0..LONGEST_LINE + 2 {
         let b = match next_byte(reader) {
             Ok(b) => b,
             Err(kind) => return Err(kind),

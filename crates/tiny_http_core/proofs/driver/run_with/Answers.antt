@@ -7,7 +7,7 @@ use Rattle.tiny_http_stream.specs.Source.{GoesOn}
 use Rattle.tiny_http_core.specs.Seen.{IsTimedStep, seen, all_sent_after, all_sent}
 use Rattle.tiny_http_core.specs.Driving.{stated_step}
 use Rattle.tiny_http_stream.specs.Outlet.{OutletState, output_of, SentOn, outlet_writer}
-use Rattle.tiny_http_sending.specs.Sending.{FailsOnce}
+use Rattle.tiny_http_sending.specs.Sending.{SinkFailsOnce}
 use Rattle.tiny_http_stream.proofs.SourceGoesOn.{goes-on_same, goes-on_more}
 use Rattle.tiny_http_core.proofs.ConversationRuns.{all-sent-snoc, sent-stated, joins-more, joins-end, fails-step, honest-step, honest-end}
 use Rattle.tiny_http_core.proofs.DrivingLemmas.{done-none, done-step, reports-step}
@@ -68,7 +68,7 @@ returns-clause-conversation g c feed dated states fresh stated =
 
 pub returns-clause-fails_once : goal.returns-clause-fails_once
 returns-clause-fails_once g c =
-    let P : OutletState g.row.W.Denot → Type 0 = λ o. FailsOnce (g.W.WriteDevice.sink c.args.writer) (output_of o) o.ended in
+    let P : OutletState g.row.W.Denot → Type 0 = λ o. SinkFailsOnce (g.W.WriteDevice.sink c.args.writer) (output_of o) o.ended in
     rw (← c.into_parts-source.ensures.sink) (⊎_elim (λ h. inl h) (λ h. inr h.0) (subst P (sym c.into_parts-source.ensures.outlet) c.loop-timed.invariant.fails_once))
 
 pub returns-clause-honest : goal.returns-clause-honest

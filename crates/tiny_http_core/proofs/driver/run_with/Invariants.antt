@@ -5,7 +5,7 @@ use Rattle.tiny_http_wire.specs.Device.{Feed, Sink, HoldsNothing}
 use Rattle.tiny_http_core.specs.Conversation.{IsFresh, TimedValue}
 use Rattle.tiny_http_stream.specs.Source.{GoesOn}
 use Rattle.tiny_http_core.specs.Seen.{IsTimedStep, seen, ReportHonestly, all_sent}
-use Rattle.tiny_http_sending.specs.Sending.{FailsOnce}
+use Rattle.tiny_http_sending.specs.Sending.{SinkFailsOnce}
 use Rattle.tiny_http_stream.specs.Outlet.{output_of, SentOn}
 use Rattle.tiny_http_core.specs.declared.driver.Timed.{Timed}
 use Rattle.tiny_http_core.specs.declared.driver.Reply.{Reply}
@@ -22,7 +22,7 @@ pub record Goes {R W D : Type 0} (feed : D → Option Feed) (reader : Option Fee
   pub fits : length all ≤ room
   pub follows : (client : Feed) (dated : List TimedValue) → reader ≡ Some client → IsFresh writer → AllZip (IsTimedStep feed) done dated → HasDone profile client writer c dated (map seen replies)
   pub source : GoesOn reader c.source.feed
-  pub fails_once : FailsOnce writer (output_of c.outlet) c.outlet.ended
+  pub fails_once : SinkFailsOnce writer (output_of c.outlet) c.outlet.ended
   pub flushed : all_sent done replies true ≡ true → c.outlet.held ≡ []
   pub sent_on : HoldsNothing writer → all_sent done replies true ≡ true → SentOn c.outlet
   pub honest : ReportHonestly feed writer done replies (output_of c.outlet)

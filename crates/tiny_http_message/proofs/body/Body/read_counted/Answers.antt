@@ -1,4 +1,4 @@
-use Rattle.std.proofs.Common.{sym, ap, ◌∙◌, ◌<◌, length, take, arith}
+use Rattle.std.proofs.Common.{rules, sym, ap, ◌∙◌, ◌<◌, length, take, arith}
 use Rattle.std.proofs.lemmas.List.{length-take}
 use Rattle.std.specs.Option.{option_map}
 use Rattle.std.specs.IoError.{error_kind}
@@ -9,48 +9,76 @@ use Rattle.tiny_http_stream.proofs.FeedPartsLemmas.{nothing-given}
 use Rattle.tiny_http_message.proofs.BodyReads.{counted-bytes, counted-none, body-cut-is, cut-stops, taken-stops, read-nothing}
 use Rattle.tiny_http_message.proofs.body.Body.read_counted.Goals as goal
 
-pub returns-then-left-eq0-clause-bytes : goal.returns-then-left-eq0-clause-bytes
-returns-then-left-eq0-clause-bytes g c =
+pub returns-then-left-eq0 : goal.returns-then-left-eq0
+returns-then-left-eq0 g c =
     let o = c.args.source.now.feed in
     let is = ap (λ b. remaining b o) c.requires.counted ∙ ap (λ n. option_map (counted_remaining n) o) c.if-left-eq0.true ∙ counted-none o in
-    read-nothing (remaining c.args.self.now o) (remaining (Over End) o) is
+    record {
+      bound = search rules;
+      bytes = read-nothing (remaining c.args.self.now o) (remaining (Over End) o) is;
+      end = λ z some. taken-stops End o (remaining c.args.self.now o) is;
+      fault = search rules;
+      again = search rules;
+      moves = search rules;
+      over = search rules;
+      at_end = search rules;
+      goes_on = search rules;
+    }
 
-pub returns-then-left-eq0-clause-end : goal.returns-then-left-eq0-clause-end
-returns-then-left-eq0-clause-end g c z =
-    let o = c.args.source.now.feed in
-    taken-stops End o (remaining c.args.self.now o) (ap (λ b. remaining b o) c.requires.counted ∙ ap (λ n. option_map (counted_remaining n) o) c.if-left-eq0.true ∙ counted-none o)
-
-pub returns-in-Ok-eq0-clause-bytes : goal.returns-in-Ok-eq0-clause-bytes
-returns-in-Ok-eq0-clause-bytes g c =
+pub returns-in-Ok-eq0 : goal.returns-in-Ok-eq0
+returns-in-Ok-eq0 g c =
     let o = c.args.source.now.feed in
     let e = c.in-Ok-eq0.ensures in
     let some : 0 < c.args.left = omega (arith, c.if-left-eq0.false) in
     let same = nothing-given o c.read_front.new.reader.feed (take c.in-Ok-eq0.field-0 c.read_front.new.buf) e.bytes (rw length-take (omega (arith, c.in-Ok-eq0.field-0-test))) in
     let room : 0 < length c.read_front.new.buf = omega (arith, c.read_front.ensures.len, c.requires.room) in
     let stops = e.end c.in-Ok-eq0.field-0-test some room in
-    read-nothing (remaining c.args.self.now o) (remaining (Over End) c.end.new.self.feed)
-    (body-cut-is c.args.self.now o c.read_front.new.reader.feed c.end.new.self.feed c.args.left End c.requires.counted some stops same c.end.ensures.feed)
+    record {
+      bound = search rules;
+      bytes = read-nothing (remaining c.args.self.now o) (remaining (Over End) c.end.new.self.feed)
+          (body-cut-is c.args.self.now o c.read_front.new.reader.feed c.end.new.self.feed c.args.left End c.requires.counted some stops same c.end.ensures.feed);
+      end = λ z full. cut-stops c.args.self.now o c.args.left End c.requires.counted some stops;
+      fault = search rules;
+      again = search rules;
+      moves = search rules;
+      over = search rules;
+      at_end = search rules;
+      goes_on = search rules;
+    }
 
-pub returns-in-Ok-eq0-clause-end : goal.returns-in-Ok-eq0-clause-end
-returns-in-Ok-eq0-clause-end g c z =
-    let some : 0 < c.args.left = omega (arith, c.if-left-eq0.false) in
-    let room : 0 < length c.read_front.new.buf = omega (arith, c.read_front.ensures.len, c.requires.room) in
-    cut-stops c.args.self.now c.args.source.now.feed c.args.left End c.requires.counted some (c.in-Ok-eq0.ensures.end c.in-Ok-eq0.field-0-test some room)
-
-pub returns-in-Ok-clause-bytes : goal.returns-in-Ok-clause-bytes
-returns-in-Ok-clause-bytes g c =
+pub returns-in-Ok : goal.returns-in-Ok
+returns-in-Ok g c =
     let o = c.args.source.now.feed in
     let n = c.in-Ok.n in
     let e = c.in-Ok.ensures in
     let p = c.read_front.new.reader.feed in
     let bs = take n c.read_front.new.buf in
-    ap (λ b. remaining b o) c.requires.counted ∙ counted-bytes o p bs c.args.left n e.bytes (rw length-take (omega (arith, e.bound))) e.most ∙ ap (λ r. prepended_body bs r) (sym (c.counted.ensures.remaining p))
+    record {
+      bound = search rules;
+      bytes = ap (λ b. remaining b o) c.requires.counted ∙ counted-bytes o p bs c.args.left n e.bytes (rw length-take (omega (arith, e.bound))) e.most ∙ ap (λ r. prepended_body bs r) (sym (c.counted.ensures.remaining p));
+      end = search rules;
+      fault = search rules;
+      again = search rules;
+      moves = search rules;
+      over = search rules;
+      at_end = search rules;
+      goes_on = search rules;
+    }
 
-pub returns-in-Err-clause-fault : goal.returns-in-Err-clause-fault
-returns-in-Err-clause-fault g c =
-    cut-stops c.args.self.now c.args.source.now.feed c.args.left (Fault (error_kind c.in-Err.e)) c.requires.counted (omega (arith, c.if-left-eq0.false)) c.in-Err.ensures.fault
-
-pub returns-in-Err-clause-again : goal.returns-in-Err-clause-again
-returns-in-Err-clause-again g c =
+pub returns-in-Err : goal.returns-in-Err
+returns-in-Err g c =
     let o = c.args.source.now.feed in
-    rw c.kind.ensures (sym (body-cut-is c.args.self.now o c.read_front.new.reader.feed c.end-in-Err.new.self.feed c.args.left (Fault (error_kind c.in-Err.e)) c.requires.counted (omega (arith, c.if-left-eq0.false)) c.in-Err.ensures.fault c.in-Err.ensures.again c.end-in-Err.ensures.feed))
+    let some : 0 < c.args.left = omega (arith, c.if-left-eq0.false) in
+    let stop = Fault (error_kind c.in-Err.e) in
+    record {
+      bound = search rules;
+      bytes = search rules;
+      end = search rules;
+      fault = cut-stops c.args.self.now o c.args.left stop c.requires.counted some c.in-Err.ensures.fault;
+      again = rw c.kind.ensures
+          (sym (body-cut-is c.args.self.now o c.read_front.new.reader.feed c.end-in-Err.new.self.feed c.args.left stop c.requires.counted some c.in-Err.ensures.fault c.in-Err.ensures.again c.end-in-Err.ensures.feed));
+      moves = search rules;
+      over = search rules;
+      at_end = search rules;
+      goes_on = search rules;
+    }
