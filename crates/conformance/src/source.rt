@@ -94,6 +94,7 @@ fn faults_of_the_reader(rt: HostRuntime) -> Result<(), Fail> {
 
 // What a client sends, the fault behind it, the most bytes of a line with its CR LF, and the first line.
 const WITHIN: &[(&[u8], Option<ErrorKind>, usize, Result<&str, LineFault>)] = &[
+    (b"abc\r\nd", None, usize::MAX, Ok("abc")),
     (b"abc\r\nd", None, 6, Ok("abc")),
     (b"abc\r\nd", None, 5, Ok("abc")),
     (b"abc\r\nd", None, 4, Err(LineFault::TooLong)),

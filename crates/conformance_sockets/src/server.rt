@@ -442,9 +442,10 @@ fn a_server_has_a_profile(rt: HostRuntime) {
     assert_no_request(&rt, &strict);
     let twice = "Content-Length: 5, 5\r\nContent-Length: 05\r\n\r\nhello";
     assert_is_served(&rt, rt.alloc(), &strict, twice);
-    let lenient = serve_with(&rt, rt.alloc(), Profile::Lenient);
     let two = "Content-Length: 5\r\nContent-Length: 6\r\n\r\nhello";
+    let lenient = serve_with(&rt, rt.alloc(), Profile::Lenient);
     assert_is_served(&rt, rt.alloc(), &lenient, two);
+    assert_is_served(&rt, rt.alloc(), &serve(&rt, rt.alloc()), two);
 }
 
 // A clock that stands at a time since 1970, or can't be read.

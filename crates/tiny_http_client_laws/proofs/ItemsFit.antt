@@ -6,9 +6,10 @@ use Rattle.tiny_http_wire.specs.declared.common.HTTPVersion.{HTTPVersion}
 use Rattle.tiny_http_wire.specs.declared.device.Stop.{Stop}
 use Rattle.tiny_http_wire.specs.Device.{Feed}
 use Rattle.tiny_http_wire.specs.Heads.{version, version_of, is_too_new, Message, BeginsWithRequestHead, FaultyHead, GrammarFault, Cut, Malformed}
+use Rattle.tiny_http_core.specs.Source.{seen_within}
 use Rattle.tiny_http_message.specs.declared.framing.Framing.{Framing}
 use Rattle.tiny_http_message.specs.declared.framing.Profile.{Profile}
-use Rattle.tiny_http_message.specs.Pipeline.{Item, Asks, Refuses, Refusal, BadRequest, RequestTimeout, ExpectationFailed, HeaderFieldsTooLarge, VersionNotSupported, Place, is_head_method, head_limit, seen_bytes, BeginsWithin, IsTooLarge, IsRefused, Heading, Silence, Refused, Heads, HeadAt, FoundAt, ends_too_new, Pipeline}
+use Rattle.tiny_http_message.specs.Pipeline.{Item, Asks, Refuses, Refusal, BadRequest, RequestTimeout, ExpectationFailed, HeaderFieldsTooLarge, VersionNotSupported, Place, is_head_method, head_limit, BeginsWithin, IsTooLarge, IsRefused, Heading, Silence, Refused, Heads, HeadAt, FoundAt, ends_too_new, Pipeline}
 use Rattle.tiny_http_client_laws.proofs.StepsAdd.{VersionFits, ItemFits, AllFit}
 
 -- a version that a text names
@@ -50,7 +51,7 @@ large-fits None bytes line h = absurd h
 large-fits (Some limit) bytes line h = line-fits (take limit bytes) line Cut h.1
 
 refused-fits : (p : Profile) (bytes : List ℕ) (stop : Stop) (refusal : Refusal) (v : HTTPVersion) → IsRefused p bytes stop refusal v → VersionFits v
-refused-fits p bytes stop BadRequest v (inl k) = subst VersionFits (sym k.2) (line-fits (seen_bytes (head_limit p) bytes) k.0 Malformed k.1)
+refused-fits p bytes stop BadRequest v (inl k) = subst VersionFits (sym k.2) (line-fits (seen_within (head_limit p) bytes) k.0 Malformed k.1)
 refused-fits p bytes stop BadRequest v (inr k) = subst VersionFits (sym k.3) (within-fits (head_limit p) bytes k.0 k.1 k.2.begins)
 refused-fits p bytes stop RequestTimeout v k = subst VersionFits (sym k.2) first-fits
 refused-fits p bytes stop ExpectationFailed v k = subst VersionFits (sym k.3) (within-fits (head_limit p) bytes k.0 k.1 k.2.begins)

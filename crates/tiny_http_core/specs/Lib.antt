@@ -6,6 +6,7 @@ pub mod Pending
 pub mod Connection
 pub mod Driving
 pub mod Asking
+pub mod Runs
 pub mod ConversationReading
 pub use Rattle.tiny_http_stream.specs.ToCome
 pub use Rattle.tiny_http_stream.specs.Input

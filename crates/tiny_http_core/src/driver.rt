@@ -13,6 +13,7 @@ ghost use Rattle.tiny_http_stream.specs.Source.{GoesOn};
 ghost use Rattle.tiny_http_core.specs.Pending.{waiting_answer_context};
 ghost use Rattle.tiny_http_core.specs.Driving.{HasDone, TakesStep, Drops, stated_response, stated_step};
 ghost use Rattle.tiny_http_core.specs.Asking.{CanAsk, AskStep, IsAskBehind};
+ghost use Rattle.tiny_http_core.specs.Runs.{IsConversationOf, HasRun};
 ghost use Rattle.tiny_http_sending.specs.ResponseValue.{printing_in};
 ghost use Rattle.tiny_http_core.specs.Seen.{seen, write_reply, Answers, IsAnswered, IsResponse, IsTimedStep, ReportsHonestly, ReportHonestly, all_sent};
 ghost use Rattle.tiny_http_stream.specs.Outlet.{output_of, outlet_ended, outlet_held, outlet_writer, SentOn};
@@ -205,6 +206,7 @@ impl<R: ReadDevice, W: WriteDevice> Connection<R, W> {
     /// A connection on which nothing was asked yet, under `Lenient`. Its theorem is for a writer that has taken nothing and has
     /// not ended.
     pub fn new(alloc: Global, reader: R, writer: W) -> Connection<R, W>
+        ensures profile { result.profile ≡ Profile.Lenient }
         ensures begins { (client : Feed) → R.feed reader ≡ Some client → IsFresh (W.sink writer) → HasDone Profile.Lenient client (W.sink writer) result [] [] }
         ensures open { (result.end ≡ None) × (result.requests ≡ []) }
         ensures source { (result.source.feed ≡ R.feed reader) × (result.source.standing ≡ Standing.Head) }
@@ -215,6 +217,7 @@ impl<R: ReadDevice, W: WriteDevice> Connection<R, W> {
 
     /// The same under this profile, by which its heads are read.
     pub fn new_with(alloc: Global, profile: Profile, reader: R, writer: W) -> Connection<R, W>
+        ensures profile { result.profile ≡ profile }
         ensures begins { (client : Feed) → R.feed reader ≡ Some client → IsFresh (W.sink writer) → HasDone profile client (W.sink writer) result [] [] }
         ensures open { (result.end ≡ None) × (result.requests ≡ []) }
         ensures source { (result.source.feed ≡ R.feed reader) × (result.source.standing ≡ Standing.Head) }
@@ -571,21 +574,10 @@ pub fn run<R: ReadDevice + Drop, W: WriteDevice + Drop, D: ReadDevice + Drop>(
     writer: W,
     steps: Vec<Timed<D>>,
 ) -> Result<Record<R, W>, RunError<R, W>>
-    // THE CONNECTION THEOREM: the reader states its feed; the writer states that it took nothing, has not ended, and its count
-    // can rise; the responses' data state their feeds of fewer than 2^63 bytes.
-    ensures conversation { IfOk result (λ done. (feed : Feed) (dated : List TimedValue) → R.feed reader ≡ Some feed → IsFresh (W.sink writer) → AllZip (IsTimedStep D.feed) steps.items dated
-        → IsConversation Profile.Lenient feed (W.sink writer) dated (map seen done.replies.items) (W.sink (outlet_writer done.outlet)) (outlet_held done.outlet) (outlet_ended done.outlet) done.source.feed) }
-    // What the source still gives is the client's bytes from some place on.
-    ensures source { IfOk result (λ done. GoesOn (R.feed reader) done.source.feed) }
-
+    // The connection theorem.
+    ensures conversation { IfOk result (IsConversationOf R.feed W.sink D.feed Profile.Lenient reader writer steps.items) }
     // Whatever reader, writer and data state.
-    ensures replies { IfOk result (λ done. vec_len done.replies ≡ vec_len steps) }
-    ensures fails_once { IfOk result (λ done. FailsAtMostOnce (W.sink writer) (W.sink (outlet_writer done.outlet))) }
-    ensures honest { IfOk result (λ done. ReportHonestly D.feed (W.sink writer) steps.items done.replies.items (W.sink (outlet_writer done.outlet))) }
-    // Nothing is held, and the writer sent on all that it took, unless a Write stands behind the last Flush and the last
-    // answer.
-    ensures flushed { IfOk result (λ done. all_sent steps.items done.replies.items true ≡ true → outlet_held done.outlet ≡ []) }
-    ensures sent_on { IfOk result (λ done. HoldsNothing (W.sink writer) → all_sent steps.items done.replies.items true ≡ true → SentOn done.outlet) }
+    ensures run { IfOk result (HasRun R.feed W.sink D.feed reader writer steps.items) }
     ensures err { IfErr result (λ e. (e.reader ≡ reader) × (e.writer ≡ writer)) }
 {
     run_with(alloc, Profile::Lenient, reader, writer, steps)
@@ -601,21 +593,10 @@ pub fn run_with<R: ReadDevice + Drop, W: WriteDevice + Drop, D: ReadDevice + Dro
     writer: W,
     steps: Vec<Timed<D>>,
 ) -> Result<Record<R, W>, RunError<R, W>>
-    // THE CONNECTION THEOREM: the reader states its feed; the writer states that it took nothing, has not ended, and its count
-    // can rise; the responses' data state their feeds of fewer than 2^63 bytes.
-    ensures conversation { IfOk result (λ done. (feed : Feed) (dated : List TimedValue) → R.feed reader ≡ Some feed → IsFresh (W.sink writer) → AllZip (IsTimedStep D.feed) steps.items dated
-        → IsConversation profile feed (W.sink writer) dated (map seen done.replies.items) (W.sink (outlet_writer done.outlet)) (outlet_held done.outlet) (outlet_ended done.outlet) done.source.feed) }
-    // What the source still gives is the client's bytes from some place on.
-    ensures source { IfOk result (λ done. GoesOn (R.feed reader) done.source.feed) }
-
+    // The connection theorem.
+    ensures conversation { IfOk result (IsConversationOf R.feed W.sink D.feed profile reader writer steps.items) }
     // Whatever reader, writer and data state.
-    ensures replies { IfOk result (λ done. vec_len done.replies ≡ vec_len steps) }
-    ensures fails_once { IfOk result (λ done. FailsAtMostOnce (W.sink writer) (W.sink (outlet_writer done.outlet))) }
-    ensures honest { IfOk result (λ done. ReportHonestly D.feed (W.sink writer) steps.items done.replies.items (W.sink (outlet_writer done.outlet))) }
-    // Nothing is held, and the writer sent on all that it took, unless a Write stands behind the last Flush and the last
-    // answer.
-    ensures flushed { IfOk result (λ done. all_sent steps.items done.replies.items true ≡ true → outlet_held done.outlet ≡ []) }
-    ensures sent_on { IfOk result (λ done. HoldsNothing (W.sink writer) → all_sent steps.items done.replies.items true ≡ true → SentOn done.outlet) }
+    ensures run { IfOk result (HasRun R.feed W.sink D.feed reader writer steps.items) }
     ensures err { IfErr result (λ e. (e.reader ≡ reader) × (e.writer ≡ writer)) }
 {
     let Ok(mut replies) = Vec::with_capacity(alloc, steps.len()) else {

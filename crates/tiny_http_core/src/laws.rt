@@ -3,5 +3,5 @@ pub use tiny_http_answer::laws::{
     fronts_are_unfinished, one_client_answer, one_list_of_client_answers, sent_texts_are_read,
     text_is_read_back,
 };
-pub use tiny_http_message::laws::{one_framing, one_pipeline};
+pub use tiny_http_message::laws::{one_framing, one_pipeline, sizes_of_heads};
 pub use tiny_http_turns::laws::turns_pass_in_order;

@@ -15,8 +15,8 @@ use Rattle.tiny_http_stream.specs.declared.source.LineFault.{LineFault}
 use Rattle.tiny_http_stream.specs.declared.source.LineFault.TheVariants as linefault
 use Rattle.tiny_http_message.specs.declared.heads.HeadFault.{HeadFault}
 use Rattle.tiny_http_message.specs.declared.heads.HeadFault.TheVariants as fault
-use Rattle.tiny_http_stream.specs.Source.{ReadsWithin, TakesLine, IsWithin, IsShort, IsTooLong, feed_from}
-use Rattle.tiny_http_message.specs.Pipeline.{head_limit, seen_bytes, BeginsWithin, IsUnfinishedHead, IsTooLarge}
+use Rattle.tiny_http_stream.specs.Source.{ReadsWithin, TakesLine, IsWithin, IsShort, IsTooLong, feed_from, seen_within}
+use Rattle.tiny_http_message.specs.Pipeline.{head_limit, BeginsWithin, IsUnfinishedHead, IsTooLarge}
 use Rattle.tiny_http_message.specs.HeadReads.{IsSpent, left_after, StartIn, FieldIn, HasNoLine, ReadsStart, HasReadFields, ReadsField, ReadsFields, ReadsMessage, IsFaulty, IsFaultyHead, head_fault, message_of}
 use Rattle.tiny_http_message.proofs.WithinLemmas.{head-text}
 use Rattle.tiny_http_message.proofs.SeenLemmas.{spent-line, spent-more, spent-none, seen-line, seen-start, seen-headers}
@@ -51,9 +51,9 @@ pub start-taken : (limit left : Option ℕ) (o p : Option Feed) (text : List ℕ
     → ReadsStart limit left o p r
 start-taken limit left None p text r h within e k = tt
 start-taken limit left (Some f) p text (Ok r) h within e k = (h.0, (text, h.1, k.0, request-line-is text r k.1), h.2, spent-line limit left f.bytes text h.0 h.1 within e)
-start-taken limit left (Some f) p text (Err fault.NotAscii) h within e k = (text, seen_bytes left h.0, seen-line limit left f.bytes text h.0 h.1 (spent-line limit left f.bytes text h.0 h.1 within e), k)
+start-taken limit left (Some f) p text (Err fault.NotAscii) h within e k = (text, seen_within left h.0, seen-line limit left f.bytes text h.0 h.1 (spent-line limit left f.bytes text h.0 h.1 within e), k)
 start-taken limit left (Some f) p text (Err fault.Malformed) h within e k =
-    (text, seen_bytes left h.0, seen-line limit left f.bytes text h.0 h.1 (spent-line limit left f.bytes text h.0 h.1 within e), k.0, λ good. none-some (sym k.1 ∙ request-line-one text good.0 good.1 good.2 good.3))
+    (text, seen_within left h.0, seen-line limit left f.bytes text h.0 h.1 (spent-line limit left f.bytes text h.0 h.1 within e), k.0, λ good. none-some (sym k.1 ∙ request-line-one text good.0 good.1 good.2 good.3))
   where
     none-some : {r : Method × List ℕ × HTTPVersion} → ◌≡◌ {A = Option (Method × List ℕ × HTTPVersion)} None (Some r) → ⊥
     none-some x = cc
@@ -68,9 +68,9 @@ field-taken limit left (Some f) p text (Ok None) h within e k =
     let L : List ℕ → Type 0 = λ t. Line f.bytes t h.0 in
     (h.0, subst L k h.1, h.2, spent-line limit left f.bytes text h.0 h.1 within e)
 field-taken limit left (Some f) p text (Ok (Some x)) h within e k = (text, h.0, h.1, k.0, header-line-is text x k.1, h.2, spent-line limit left f.bytes text h.0 h.1 within e)
-field-taken limit left (Some f) p text (Err fault.NotAscii) h within e k = (text, seen_bytes left h.0, seen-line limit left f.bytes text h.0 h.1 (spent-line limit left f.bytes text h.0 h.1 within e), k)
+field-taken limit left (Some f) p text (Err fault.NotAscii) h within e k = (text, seen_within left h.0, seen-line limit left f.bytes text h.0 h.1 (spent-line limit left f.bytes text h.0 h.1 within e), k)
 field-taken limit left (Some f) p text (Err fault.Malformed) h within e k =
-    (text, seen_bytes left h.0, seen-line limit left f.bytes text h.0 h.1 (spent-line limit left f.bytes text h.0 h.1 within e), k.0, no-field)
+    (text, seen_within left h.0, seen-line limit left f.bytes text h.0 h.1 (spent-line limit left f.bytes text h.0 h.1 within e), k.0, no-field)
   where
     none-some : {r : Header} → ◌≡◌ {A = Option Header} None (Some r) → ⊥
     none-some x = cc
@@ -158,13 +158,13 @@ cut-later (Some limit) (Some left) bytes v rest spent h k = (h, omega (arith, sp
 cut-later None (Some left) bytes v rest spent h k = absurd spent
 cut-later (Some limit) None bytes v rest spent h k = absurd spent
 
-large-later : (limit left : Option ℕ) (bytes : List ℕ) (v : HTTPVersion) (rest : List ℕ) → IsSpent limit bytes left rest → FaultyHead (seen_bytes limit bytes) (Some v) Cut → IsTooLong left rest → IsTooLarge limit bytes (Some v)
+large-later : (limit left : Option ℕ) (bytes : List ℕ) (v : HTTPVersion) (rest : List ℕ) → IsSpent limit bytes left rest → FaultyHead (seen_within limit bytes) (Some v) Cut → IsTooLong left rest → IsTooLarge limit bytes (Some v)
 large-later None None bytes v rest spent h k = absurd k
 large-later (Some limit) (Some left) bytes v rest spent h k = (omega (arith, spent, k.0), h)
 large-later None (Some left) bytes v rest spent h k = absurd spent
 large-later (Some limit) None bytes v rest spent h k = absurd spent
 
-unfinished-seen : (left : Option ℕ) (rest : List ℕ) → IsTooLong left rest → FaultyLine IsFieldOrEnd (seen_bytes left rest) Cut
+unfinished-seen : (left : Option ℕ) (rest : List ℕ) → IsTooLong left rest → FaultyLine IsFieldOrEnd (seen_within left rest) Cut
 unfinished-seen None rest h = absurd h
 unfinished-seen (Some left) rest h = h.1
 
@@ -177,9 +177,9 @@ message-fields_err items limit mid left (Some f) p q method path v e s k =
     let spent = spent-more limit mid n.2 f.bytes s.0 n.1 s.3 n.4 in
     faulty n.0 n.1 n.2 n.3 n.4 spent e n.5
   where
-    seen : (hs : List Header) (rest : List ℕ) (now : Option ℕ) → BeginsWithHeaderLines s.0 hs rest → IsSpent mid s.0 now rest → (g : GrammarFault) → FaultyLine IsFieldOrEnd (seen_bytes now rest) g → FaultyHead (seen_bytes limit f.bytes) (Some v) g
+    seen : (hs : List Header) (rest : List ℕ) (now : Option ℕ) → BeginsWithHeaderLines s.0 hs rest → IsSpent mid s.0 now rest → (g : GrammarFault) → FaultyLine IsFieldOrEnd (seen_within now rest) g → FaultyHead (seen_within limit f.bytes) (Some v) g
     seen hs rest now lines spent g h =
-        (method, path, seen_bytes mid s.0, seen-start limit mid f.bytes method path v s.0 s.1 s.3, hs, seen_bytes now rest, seen-headers mid now s.0 hs rest lines spent, h)
+        (method, path, seen_within mid s.0, seen-start limit mid f.bytes method path v s.0 s.1 s.3, hs, seen_within now rest, seen-headers mid now s.0 hs rest lines spent, h)
 
     faulty : (hs : List Header) (rest : List ℕ) (now : Option ℕ) → BeginsWithHeaderLines s.0 hs rest → IsSpent mid s.0 now rest → IsSpent limit f.bytes now rest → (e : HeadFault) → IsFaulty now IsFieldOrEnd rest e → IsFaultyHead limit f.bytes (Some v) e
     faulty hs rest now lines spent all fault.Cut h = cut-later limit now f.bytes v rest all (method, path, s.0, s.1, hs, rest, lines, h.0) h.1

@@ -14,6 +14,7 @@ use Rattle.tiny_http_wire.specs.HeadReading.{request_head_read, RequestHeadRead,
 use Rattle.tiny_http_wire.specs.ChunkReading.{decoded}
 use Rattle.tiny_http_head.proofs.HeadsLemmas.{head-is, HeadIs, head-one, head-fault, line-shorter, fields-fewer}
 use Rattle.tiny_http_wire.proofs.ChunksLemmas.{decoded-is, decoded-one, decoded-front}
+use Rattle.tiny_http_stream.specs.Source.{seen_within}
 use Rattle.tiny_http_message.specs.declared.framing.Profile.{Profile}
 use Rattle.tiny_http_message.specs.declared.framing.FramingFault.{FramingFault}
 use Rattle.tiny_http_message.specs.declared.framing.FramingFault.TheVariants.{Invalid, Expectation}
@@ -21,7 +22,7 @@ use Rattle.tiny_http_message.specs.declared.framing.Form.{Form}
 use Rattle.tiny_http_message.specs.declared.framing.Form.TheVariants.{Rest, Nothing, WithHead, Counted, Chunked}
 use Rattle.tiny_http_message.specs.declared.framing.Framing.{Framing}
 use Rattle.tiny_http_message.specs.FramingReading.{framing}
-use Rattle.tiny_http_message.specs.Pipeline.{Refusal, BadRequest, RequestTimeout, ExpectationFailed, HeaderFieldsTooLarge, VersionNotSupported, Item, Refuses, Place, is_timed_out, head_limit, seen_bytes, BeginsWithin, IsUnfinishedHead, IsTooLarge, IsWholeHead, IsCutWithHead, IsCutHead, IsSilent, IsRefused, IsRequestHead, Heading, Silence, Refused, Heads, HeadAt, body_length_or_0, BodyAt, SizedBody, FoundAt, OneHead, item_of, next_place, ends_too_new, Pipeline, place_after}
+use Rattle.tiny_http_message.specs.Pipeline.{Refusal, BadRequest, RequestTimeout, ExpectationFailed, HeaderFieldsTooLarge, VersionNotSupported, Item, Refuses, Place, is_timed_out, head_limit, BeginsWithin, IsUnfinishedHead, IsTooLarge, IsWholeHead, IsCutWithHead, IsCutHead, IsSilent, IsRefused, IsRequestHead, Heading, Silence, Refused, Heads, HeadAt, body_length_or_0, BodyAt, SizedBody, FoundAt, OneHead, item_of, next_place, ends_too_new, Pipeline, place_after}
 use Rattle.tiny_http_message.specs.PipelineReading.{BodyRead, chunked_read, sized_read, body_read, is_cut_with_head, cut_heading, whole_heading, is_full, all_after, faulty, heading, heading_of, items_at, items_from, items_of}
 use Rattle.tiny_http_message.proofs.FramingLemmas.{framing-is, framing-one}
 use Rattle.tiny_http_message.proofs.WithinLemmas.{seen-stands, stands-seen, seen-all}
@@ -66,12 +67,12 @@ framed-is p m after stop bytes (Err Expectation) h = (m, after, h, refl)
 framed-is p m after stop bytes (Ok f) h = pipeline-cut-step p m after stop bytes f h (is_cut_with_head f.form (body_length_or_0 f) after) refl
 
 -- a head that stands among the bytes that are looked at
-seen-within : (limit : Option ℕ) (bytes : List ℕ) (m : Message) (after : List ℕ) → BeginsWithRequestHead (seen_bytes limit bytes) m after → BeginsWithin limit bytes m (all_after limit bytes after)
+seen-within : (limit : Option ℕ) (bytes : List ℕ) (m : Message) (after : List ℕ) → BeginsWithRequestHead (seen_within limit bytes) m after → BeginsWithin limit bytes m (all_after limit bytes after)
 seen-within None bytes m after h = h
 seen-within (Some limit) bytes m after h = seen-stands limit bytes m after h
 
 within-seen : (limit : Option ℕ) (bytes : List ℕ) (m : Message) (after : List ℕ) → BeginsWithin limit bytes m after
-    → (front : List ℕ) × BeginsWithRequestHead (seen_bytes limit bytes) m front × (after ≡ all_after limit bytes front)
+    → (front : List ℕ) × BeginsWithRequestHead (seen_within limit bytes) m front × (after ≡ all_after limit bytes front)
 within-seen None bytes m after h = (after, h, refl)
 within-seen (Some limit) bytes m after h = stands-seen limit bytes m after h.0 h.1 h.2 h.3
 
@@ -80,7 +81,7 @@ abbrev CutOrFull : Option ℕ → List ℕ → Option HTTPVersion → Bool → T
 CutOrFull limit bytes v true = IsTooLarge limit bytes v
 CutOrFull limit bytes v false = IsUnfinishedHead limit bytes v
 
-cut-or-full : (limit : Option ℕ) (bytes : List ℕ) (v : Option HTTPVersion) → FaultyHead (seen_bytes limit bytes) v Cut → CutOrFull limit bytes v (is_full limit bytes)
+cut-or-full : (limit : Option ℕ) (bytes : List ℕ) (v : Option HTTPVersion) → FaultyHead (seen_within limit bytes) v Cut → CutOrFull limit bytes v (is_full limit bytes)
 cut-or-full None bytes v h = h
 cut-or-full (Some limit) bytes v h = by (nat_le limit (length bytes)) refl
   where
@@ -92,7 +93,7 @@ cut-or-full (Some limit) bytes v h = by (nat_le limit (length bytes)) refl
         (subst P (seen-all limit bytes short) h, short)
 
 -- a faulty head
-faulty-is : (p : Profile) (bytes : List ℕ) (stop : Stop) (v : Option HTTPVersion) (fault : GrammarFault) → FaultyHead (seen_bytes (head_limit p) bytes) v fault → HeadAt p bytes stop (faulty (is_full (head_limit p) bytes) v fault stop)
+faulty-is : (p : Profile) (bytes : List ℕ) (stop : Stop) (v : Option HTTPVersion) (fault : GrammarFault) → FaultyHead (seen_within (head_limit p) bytes) v fault → HeadAt p bytes stop (faulty (is_full (head_limit p) bytes) v fault stop)
 faulty-is p bytes stop v NotAscii h = inr (v, h)
 faulty-is p bytes stop v Malformed h = inl (v, h, refl)
 faulty-is p bytes stop v Cut h = by (is_full (head_limit p) bytes) (cut-or-full (head_limit p) bytes v h)
@@ -101,52 +102,52 @@ faulty-is p bytes stop v Cut h = by (is_full (head_limit p) bytes) (cut-or-full 
     by true k = (v, k, refl)
     by false k = cut-heading-is p bytes stop (inl (v, k))
 
-read-is : (p : Profile) (bytes : List ℕ) (stop : Stop) (r : RequestHeadRead) → HeadIs (seen_bytes (head_limit p) bytes) r → HeadAt p bytes stop (heading p bytes stop r)
+read-is : (p : Profile) (bytes : List ℕ) (stop : Stop) (r : RequestHeadRead) → HeadIs (seen_within (head_limit p) bytes) r → HeadAt p bytes stop (heading p bytes stop r)
 read-is p bytes stop (Faulty v fault) h = faulty-is p bytes stop v fault h
 read-is p bytes stop (Whole m after) h =
     framed-is p m (all_after (head_limit p) bytes after) stop bytes (framing p m.version m.headers) (record { begins = seen-within (head_limit p) bytes m after h; frames = framing-is p m.version m.headers })
 
 -- each bytes have a heading
 pub heading-is : (p : Profile) (bytes : List ℕ) (stop : Stop) → HeadAt p bytes stop (heading_of p stop bytes)
-heading-is p bytes stop = read-is p bytes stop (request_head_read (seen_bytes (head_limit p) bytes)) (head-is (seen_bytes (head_limit p) bytes))
+heading-is p bytes stop = read-is p bytes stop (request_head_read (seen_within (head_limit p) bytes)) (head-is (seen_within (head_limit p) bytes))
 
 -- a whole head is read as what it frames
 whole-read : (p : Profile) (bytes : List ℕ) (stop : Stop) (m : Message) (after : List ℕ) (r : Result Framing FramingFault) → IsWholeHead p bytes m after r → heading_of p stop bytes ≡ whole_heading m after stop r
 whole-read p bytes stop m after r h =
     let seen = within-seen (head_limit p) bytes m after h.begins in
-    rw (head-one (seen_bytes (head_limit p) bytes) m seen.0 seen.1, ← seen.2, ← framing-one p m.version m.headers r h.frames) refl
+    rw (head-one (seen_within (head_limit p) bytes) m seen.0 seen.1, ← seen.2, ← framing-one p m.version m.headers r h.frames) refl
 
 -- a head that isn't finished, and one that is too large
-unfinished-read : (limit : Option ℕ) (bytes : List ℕ) (v : Option HTTPVersion) → IsUnfinishedHead limit bytes v → (is_full limit bytes ≡ false) × FaultyHead (seen_bytes limit bytes) v Cut
+unfinished-read : (limit : Option ℕ) (bytes : List ℕ) (v : Option HTTPVersion) → IsUnfinishedHead limit bytes v → (is_full limit bytes ≡ false) × FaultyHead (seen_within limit bytes) v Cut
 unfinished-read None bytes v h = (refl, h)
 unfinished-read (Some limit) bytes v h =
     let P : List ℕ → Type 0 = λ x. FaultyHead x v Cut in
     (lt-leb limit (length bytes) h.1, subst P (sym (seen-all limit bytes h.1)) h.0)
 
-large-read : (limit : Option ℕ) (bytes : List ℕ) (v : Option HTTPVersion) → IsTooLarge limit bytes v → (is_full limit bytes ≡ true) × FaultyHead (seen_bytes limit bytes) v Cut
+large-read : (limit : Option ℕ) (bytes : List ℕ) (v : Option HTTPVersion) → IsTooLarge limit bytes v → (is_full limit bytes ≡ true) × FaultyHead (seen_within limit bytes) v Cut
 large-read None bytes v h = absurd h
 large-read (Some limit) bytes v h = (le-leb limit (length bytes) h.0, h.1)
 
 cut-read : (p : Profile) (bytes : List ℕ) (stop : Stop) → IsCutHead p bytes → heading_of p stop bytes ≡ cut_heading stop
 cut-read p bytes stop (inl k) =
     let u = unfinished-read (head_limit p) bytes k.0 k.1 in
-    rw (head-fault (seen_bytes (head_limit p) bytes) k.0 Cut u.1, u.0) refl
+    rw (head-fault (seen_within (head_limit p) bytes) k.0 Cut u.1, u.0) refl
 cut-read p bytes stop (inr k) = whole-read p bytes stop k.0 k.1 (Ok k.2) k.3 ∙ rw (with_head-cut k.2.form (body_length_or_0 k.2) k.1 k.4) refl
 
 -- and one
 refused-read : (p : Profile) (bytes : List ℕ) (stop : Stop) (refusal : Refusal) (v : HTTPVersion) → IsRefused p bytes stop refusal v → heading_of p stop bytes ≡ Refused refusal v
-refused-read p bytes stop BadRequest v (inl k) = rw (head-fault (seen_bytes (head_limit p) bytes) k.0 Malformed k.1) (ap (Refused BadRequest) (sym k.2))
+refused-read p bytes stop BadRequest v (inl k) = rw (head-fault (seen_within (head_limit p) bytes) k.0 Malformed k.1) (ap (Refused BadRequest) (sym k.2))
 refused-read p bytes stop BadRequest v (inr k) = whole-read p bytes stop k.0 k.1 (Err Invalid) k.2 ∙ ap (Refused BadRequest) (sym k.3)
 refused-read p bytes stop RequestTimeout v k = cut-read p bytes stop k.0 ∙ rw k.1 (ap (Refused RequestTimeout) (sym k.2))
 refused-read p bytes stop ExpectationFailed v k = whole-read p bytes stop k.0 k.1 (Err Expectation) k.2 ∙ ap (Refused ExpectationFailed) (sym k.3)
 refused-read p bytes stop HeaderFieldsTooLarge v k =
     let l = large-read (head_limit p) bytes k.0 k.1 in
-    rw (head-fault (seen_bytes (head_limit p) bytes) k.0 Cut l.1, l.0) (ap (Refused HeaderFieldsTooLarge) (sym k.2))
+    rw (head-fault (seen_within (head_limit p) bytes) k.0 Cut l.1, l.0) (ap (Refused HeaderFieldsTooLarge) (sym k.2))
 refused-read p bytes stop VersionNotSupported v k = absurd k
 
 pub heading-one : (p : Profile) (bytes : List ℕ) (stop : Stop) (h : Heading) → HeadAt p bytes stop h → heading_of p stop bytes ≡ h
 heading-one p bytes stop Silence (inl k) = cut-read p bytes stop k.0 ∙ rw k.1 refl
-heading-one p bytes stop Silence (inr k) = rw (head-fault (seen_bytes (head_limit p) bytes) k.0 NotAscii k.1) refl
+heading-one p bytes stop Silence (inr k) = rw (head-fault (seen_within (head_limit p) bytes) k.0 NotAscii k.1) refl
 heading-one p bytes stop (Refused refusal v) h = refused-read p bytes stop refusal v h
 heading-one p bytes stop (Heads m f after) h =
     whole-read p bytes stop m after (Ok f) h.whole ∙ rw (cut-not f.form (body_length_or_0 f) after (is_cut_with_head f.form (body_length_or_0 f) after) refl h.uncut) refl

@@ -9,13 +9,12 @@ use Rattle.tiny_http_wire.specs.Lines.{Line}
 use Rattle.tiny_http_wire.specs.Heads.{BeginsWithHeaderLines, BeginsWithRequestLine}
 use Rattle.std.proofs.lemmas.List.{length-take-le}
 use Rattle.tiny_http_stream.specs.LineEnds.{EndsLine}
-use Rattle.tiny_http_stream.specs.Source.{IsWithin}
-use Rattle.tiny_http_message.specs.Pipeline.{seen_bytes}
+use Rattle.tiny_http_stream.specs.Source.{IsWithin, seen_within}
 use Rattle.tiny_http_message.specs.HeadReads.{IsSpent, left_after}
 use Rattle.tiny_http_message.proofs.WithinLemmas.{line-text, line-before, headers-text}
 
 -- what is seen of a text and what follows it
-seen-on : (limit left : Option ℕ) (bytes text rest : List ℕ) → bytes ≡ text ++ rest → IsSpent limit bytes left rest → seen_bytes limit bytes ≡ text ++ seen_bytes left rest
+seen-on : (limit left : Option ℕ) (bytes text rest : List ℕ) → bytes ≡ text ++ rest → IsSpent limit bytes left rest → seen_within limit bytes ≡ text ++ seen_within left rest
 seen-on None None bytes text rest e h = e
 seen-on (Some limit) (Some left) bytes text rest e h =
     let long : length bytes ≡ length text + length rest = ap length e ∙ length-append text rest in
@@ -51,21 +50,21 @@ spent-none None x = tt
 spent-none (Some a) x = refl
 
 -- a line, a request line and header lines are seen as they are
-pub seen-line : (limit left : Option ℕ) (bytes text rest : List ℕ) → Line bytes text rest → IsSpent limit bytes left rest → Line (seen_bytes limit bytes) text (seen_bytes left rest)
+pub seen-line : (limit left : Option ℕ) (bytes text rest : List ℕ) → Line bytes text rest → IsSpent limit bytes left rest → Line (seen_within limit bytes) text (seen_within left rest)
 seen-line limit left bytes text rest l h =
-    let P : List ℕ → Type 0 = λ x. Line x text (seen_bytes left rest) in
-    subst P (sym (seen-on limit left bytes (text ++ crlf) rest (line-text bytes text rest l) h)) (line-before bytes text rest (seen_bytes left rest) l)
+    let P : List ℕ → Type 0 = λ x. Line x text (seen_within left rest) in
+    subst P (sym (seen-on limit left bytes (text ++ crlf) rest (line-text bytes text rest l) h)) (line-before bytes text rest (seen_within left rest) l)
 
 pub seen-start : (limit left : Option ℕ) (bytes : List ℕ) (method : Method) (path : List ℕ) (v : HTTPVersion) (rest : List ℕ) → BeginsWithRequestLine bytes method path v rest → IsSpent limit bytes left rest
-    → BeginsWithRequestLine (seen_bytes limit bytes) method path v (seen_bytes left rest)
+    → BeginsWithRequestLine (seen_within limit bytes) method path v (seen_within left rest)
 seen-start limit left bytes method path v rest h spent = (h.0, seen-line limit left bytes h.0 rest h.1 spent, h.2, h.3)
 
 pub seen-headers : (limit left : Option ℕ) (bytes : List ℕ) (headers : List Header) (rest : List ℕ) → BeginsWithHeaderLines bytes headers rest → IsSpent limit bytes left rest
-    → BeginsWithHeaderLines (seen_bytes limit bytes) headers (seen_bytes left rest)
+    → BeginsWithHeaderLines (seen_within limit bytes) headers (seen_within left rest)
 seen-headers limit left bytes headers rest h spent =
     let text = headers-text bytes headers rest h in
-    let P : List ℕ → Type 0 = λ x. BeginsWithHeaderLines x headers (seen_bytes left rest) in
-    subst P (sym (seen-on limit left bytes text.0 rest text.1 spent)) (text.2 (seen_bytes left rest))
+    let P : List ℕ → Type 0 = λ x. BeginsWithHeaderLines x headers (seen_within left rest) in
+    subst P (sym (seen-on limit left bytes text.0 rest text.1 spent)) (text.2 (seen_within left rest))
 
 -- a line that is held
 pub held-long : (held : List ℕ) (n : ℕ) → EndsLine held n → length (take n held) ≡ n

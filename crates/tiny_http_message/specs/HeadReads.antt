@@ -31,8 +31,8 @@ use Rattle.tiny_http_message.specs.declared.heads.HeadFault.TheVariants as fault
 use Rattle.tiny_http_message.specs.declared.body.Body.{Body}
 use Rattle.tiny_http_message.specs.FramingReading.{framing}
 use Rattle.tiny_http_stream.specs.declared.source.FirstLine.{FirstLine}
-use Rattle.tiny_http_stream.specs.Source.{SourceState, feed_from, FindsLine, IsShort, IsTooLong, IsAtEnd}
-use Rattle.tiny_http_message.specs.Pipeline.{Request, Asks, Refuses, Refusal, VersionNotSupported, refusal_status, is_timed_out, Place, seen_bytes, BeginsWithin, IsUnfinishedHead, IsTooLarge, IsCutWithHead, IsCutHead, IsNotAsciiHead, BodyAt, OneHead, body_length_or_0, place_after}
+use Rattle.tiny_http_stream.specs.Source.{SourceState, feed_from, FindsLine, IsShort, IsTooLong, IsAtEnd, seen_within}
+use Rattle.tiny_http_message.specs.Pipeline.{Request, Asks, Refuses, Refusal, VersionNotSupported, refusal_status, is_timed_out, Place, BeginsWithin, IsUnfinishedHead, IsTooLarge, IsCutWithHead, IsCutHead, IsNotAsciiHead, BodyAt, OneHead, body_length_or_0, place_after}
 use Rattle.tiny_http_message.specs.OwnAnswer.{own_text, refusal_response, refused_text}
 use Rattle.tiny_http_message.specs.Body.{Remaining, remaining, Fits}
 use Rattle.tiny_http_message.specs.Exchange.{exchange_head, exchange_waiting, exchange_left, exchange_streams, KeepsHead, KeepsRequest}
@@ -100,8 +100,8 @@ FindsText left old new held skip (Err e) = HasNoLine left old e × (IsBadLine e 
 abbrev pub IsFaulty : Option ℕ → (List ℕ → Type 0) → List ℕ → HeadFault → Type 0
 IsFaulty left IsGood bytes fault.Cut = IsUnfinished bytes × IsShort left bytes
 IsFaulty left IsGood bytes fault.TooLarge = IsTooLong left bytes
-IsFaulty left IsGood bytes fault.NotAscii = FaultyLine IsGood (seen_bytes left bytes) NotAscii
-IsFaulty left IsGood bytes fault.Malformed = FaultyLine IsGood (seen_bytes left bytes) Malformed
+IsFaulty left IsGood bytes fault.NotAscii = FaultyLine IsGood (seen_within left bytes) NotAscii
+IsFaulty left IsGood bytes fault.Malformed = FaultyLine IsGood (seen_within left bytes) Malformed
 IsFaulty left IsGood bytes fault.Memory = ⊤
 
 -- a request line, within this limit, of which so much is left
@@ -149,8 +149,8 @@ request_of h body = record { message = head_message h; framing = head_framing h;
 abbrev pub IsFaultyHead : Option ℕ → List ℕ → Option HTTPVersion → HeadFault → Type 0
 IsFaultyHead limit bytes v fault.Cut = IsUnfinishedHead limit bytes v
 IsFaultyHead limit bytes v fault.TooLarge = IsTooLarge limit bytes v
-IsFaultyHead limit bytes v fault.NotAscii = FaultyHead (seen_bytes limit bytes) v NotAscii
-IsFaultyHead limit bytes v fault.Malformed = FaultyHead (seen_bytes limit bytes) v Malformed
+IsFaultyHead limit bytes v fault.NotAscii = FaultyHead (seen_within limit bytes) v NotAscii
+IsFaultyHead limit bytes v fault.Malformed = FaultyHead (seen_within limit bytes) v Malformed
 IsFaultyHead limit bytes v fault.Memory = ⊤
 
 -- a whole head that keeps this limit, or how it is faulty

@@ -10,6 +10,7 @@ use Rattle.tiny_http_wire.specs.declared.device.Stop.TheVariants.{End, Fault as 
 use Rattle.tiny_http_wire.specs.Device.{Feed}
 use Rattle.tiny_http_wire.specs.Chunks.{WholeChunks, CutChunks}
 use Rattle.tiny_http_wire.specs.Heads.{Message, BeginsWithRequestHead, FaultyHead, Cut, NotAscii, Malformed, version, is_too_new}
+use Rattle.tiny_http_stream.specs.Source.{seen_within}
 use Rattle.tiny_http_message.specs.declared.framing.TheConstants.{STRICT_HEAD}
 use Rattle.tiny_http_message.specs.declared.framing.Profile.{Profile}
 use Rattle.tiny_http_message.specs.declared.framing.Profile.TheVariants.{Lenient, Strict}
@@ -75,11 +76,6 @@ abbrev pub head_limit : Profile → Option ℕ
 head_limit Lenient = None
 head_limit Strict = Some STRICT_HEAD
 
--- the bytes among which a head is looked for
-abbrev pub seen_bytes : Option ℕ → List ℕ → List ℕ
-seen_bytes None bytes = bytes
-seen_bytes (Some limit) bytes = take limit bytes
-
 -- the bytes begin with a head of at most so many bytes; what follows it is after
 abbrev pub BeginsWithin : Option ℕ → List ℕ → Message → List ℕ → Type 0
 BeginsWithin None bytes m after = BeginsWithRequestHead bytes m after
@@ -116,7 +112,7 @@ IsCutHead p bytes =
 
 -- the first faulty line of a head, among the bytes in which it is looked for, isn't ASCII
 abbrev pub IsNotAsciiHead : Profile → List ℕ → Type 0
-IsNotAsciiHead p bytes = (line : Option HTTPVersion) × FaultyHead (seen_bytes (head_limit p) bytes) line NotAscii
+IsNotAsciiHead p bytes = (line : Option HTTPVersion) × FaultyHead (seen_within (head_limit p) bytes) line NotAscii
 
 -- NO ITEM: the head, or a body that is read with it, is cut, and not by a time-out; or its first faulty line isn't ASCII.
 abbrev pub IsSilent : Profile → List ℕ → Stop → Type 0
@@ -126,7 +122,7 @@ IsSilent p bytes stop = (IsCutHead p bytes × (is_timed_out stop ≡ false)) ⊎
 -- too new is judged by `item_of`, since a body follows it.
 abbrev pub IsRefused : Profile → List ℕ → Stop → Refusal → HTTPVersion → Type 0
 IsRefused p bytes stop BadRequest v =
-    ((line : Option HTTPVersion) × FaultyHead (seen_bytes (head_limit p) bytes) line Malformed × (v ≡ unwrap_or line (version 1 1)))
+    ((line : Option HTTPVersion) × FaultyHead (seen_within (head_limit p) bytes) line Malformed × (v ≡ unwrap_or line (version 1 1)))
     ⊎ ((m : Message) × (after : List ℕ) × IsWholeHead p bytes m after (Err Invalid) × (v ≡ m.version))
 IsRefused p bytes stop RequestTimeout v = IsCutHead p bytes × (is_timed_out stop ≡ true) × (v ≡ version 1 1)
 IsRefused p bytes stop ExpectationFailed v = (m : Message) × (after : List ℕ) × IsWholeHead p bytes m after (Err Expectation) × (v ≡ m.version)

@@ -7,13 +7,14 @@ use Rattle.tiny_http_wire.specs.declared.common.HTTPVersion.{HTTPVersion}
 use Rattle.tiny_http_wire.specs.Heads.{Message, GrammarFault, Cut, NotAscii, Malformed, version}
 use Rattle.tiny_http_wire.specs.HeadReading.{request_head_read, RequestHeadRead, Whole, Faulty}
 use Rattle.tiny_http_wire.specs.ChunkReading.{decoded, Decoded}
+use Rattle.tiny_http_stream.specs.Source.{seen_within}
 use Rattle.tiny_http_message.specs.declared.framing.Profile.{Profile}
 use Rattle.tiny_http_message.specs.declared.framing.FramingFault.{FramingFault}
 use Rattle.tiny_http_message.specs.declared.framing.Form.{Form}
 use Rattle.tiny_http_message.specs.declared.framing.Form.TheVariants.{Rest, Nothing, WithHead, Counted, Chunked}
 use Rattle.tiny_http_message.specs.declared.framing.Framing.{Framing}
 use Rattle.tiny_http_message.specs.FramingReading.{framing}
-use Rattle.tiny_http_message.specs.Pipeline.{Item, Refuses, BadRequest, RequestTimeout, HeaderFieldsTooLarge, framing_refusal, Place, is_timed_out, head_limit, seen_bytes, Heading, Silence, Refused, Heads, body_length_or_0, item_of, next_place}
+use Rattle.tiny_http_message.specs.Pipeline.{Item, Refuses, BadRequest, RequestTimeout, HeaderFieldsTooLarge, framing_refusal, Place, is_timed_out, head_limit, Heading, Silence, Refused, Heads, body_length_or_0, item_of, next_place}
 
 -- a body and where the next head begins
 pub record BodyRead : Type 0 where
@@ -73,7 +74,7 @@ heading p bytes stop (Whole m after) = whole_heading m (all_after (head_limit p)
 
 -- the heading at a place
 abbrev pub heading_of : Profile → Stop → List ℕ → Heading
-heading_of p stop bytes = heading p bytes stop (request_head_read (seen_bytes (head_limit p) bytes))
+heading_of p stop bytes = heading p bytes stop (request_head_read (seen_within (head_limit p) bytes))
 
 abbrev pub items_at : (Place → List Item) → Stop → Heading → List Item
 items_at go stop Silence = []

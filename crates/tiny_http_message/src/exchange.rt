@@ -12,7 +12,7 @@ ghost use Rattle.tiny_http_message.specs.HeadReads.{ReadsHead, EndsUnlessHanded,
 ghost use Rattle.tiny_http_message.specs.Exchange.{KeepsHead};
 ghost use Rattle.tiny_http_wire.specs.Device.{Feed};
 ghost use Rattle.tiny_http_stream.specs.Outlet.{output_of, outlet_ended, outlet_held, SentOn};
-ghost use Rattle.tiny_http_sending.specs.Sending.{CanSend, Sends, IsHonest, FailsOnce, SendsOn};
+ghost use Rattle.tiny_http_sending.specs.Sending.{FailsOnce, SendsOn, SendsAnswer};
 ghost use Rattle.tiny_http_message.specs.OwnAnswer.{own_text_by};
 
 use crate::body::{Body, counted};
@@ -144,16 +144,7 @@ impl Exchange {
         response: Response<D>,
         now: HttpDate,
     ) -> Result<(), io::Error>
-        ensures past { outlet_ended outlet.old ≡ true → (outlet.new ≡ outlet.old) × (result ≡ Ok tt) }
-        ensures sends { (content : Feed) → D.feed response.data_reader ≡ Some content → length content.bytes < 2 ^ 63
-            → outlet_ended outlet.old ≡ false → CanSend (output_of outlet.old)
-            → Sends (output_of outlet.old) (output_of outlet.new) (outlet_ended outlet.new) result response.answer content (exchange_printing self.old now) }
-        ensures fails_once { FailsOnce outlet.old outlet.new }
-        ensures honest { IfErr result (λ e.
-            IsHonest (output_of outlet.old) (output_of outlet.new) response.answer (D.feed response.data_reader) (exchange_printing self.old now) (error_kind e)) }
-        ensures ended { OnErr result (outlet_ended outlet.new ≡ true) }
-        ensures flushed { outlet_held outlet.new ≡ [] }
-        ensures sent_on { SentOn outlet.new }
+        ensures answers { SendsAnswer D.feed outlet.old outlet.new result response (exchange_printing self.old now) }
         ensures once { OwesNoContinue self.old self.new }
     {
         self.owe_no_continue();

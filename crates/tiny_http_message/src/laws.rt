@@ -5,8 +5,14 @@ ghost use Rattle.tiny_http_message.specs.Framing.{Frames};
 ghost use Rattle.tiny_http_message.specs.FramingReading.{framing};
 ghost use Rattle.tiny_http_message.specs.Pipeline.{Item, Pipeline};
 
-use crate::framing::{Framing, FramingFault, Profile};
+use crate::framing::{Framing, FramingFault, LONGEST_WITH_HEAD, Profile, STRICT_HEAD};
 use tiny_http_wire::common::{HTTPVersion, Header};
+
+/// The sizes that the definitions of a head and of its framing take from the code.
+pub fn sizes_of_heads()
+    ensures with_head { LONGEST_WITH_HEAD ≡ 1024 }
+    ensures strict { STRICT_HEAD ≡ 65536 }
+{}
 
 /// Under each profile each feed has exactly one pipeline.
 pub fn one_pipeline()

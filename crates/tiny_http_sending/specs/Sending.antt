@@ -1,13 +1,13 @@
 -- What sending an answer makes of an outlet.
-use Rattle.std.specs.Prelude.{◌≡◌, ℕ, ◌-◌, ◌^◌, ◌<◌, ◌⊎◌, ⊤, Bool, true, false, List, [], length, Option, None, Some, Result, Ok, Err, MatchBool, if◌then◌else◌}
+use Rattle.std.specs.Prelude.{◌≡◌, ℕ, ◌-◌, ◌^◌, ◌<◌, ◌⊎◌, ⊤, Bool, true, false, List, [], length, Option, None, Some, Result, Ok, Err, IfErr, OnErr, MatchBool, if◌then◌else◌}
 use Rattle.std.specs.IoError.{error_kind}
 use Rattle.std.specs.declared.io.Error.{Error}
 use Rattle.std.specs.declared.io.ErrorKind.{ErrorKind}
 use Rattle.std.specs.declared.io.ErrorKind.TheVariants.{OutOfMemory, BrokenPipe, ConnectionAborted, ConnectionRefused, ConnectionReset}
 use Rattle.std.specs.Io.KnownBytes.{append_known}
-use Rattle.tiny_http_stream.specs.Outlet.{OutletState, output_of}
+use Rattle.tiny_http_stream.specs.Outlet.{OutletState, output_of, SentOn}
 use Rattle.tiny_http_wire.specs.Device.{Feed, Sink, IsFront, BeginsKnown, HoldsNothing, IsKnownFront, StatesKind, next_count}
-use Rattle.tiny_http_wire.specs.Answer.{Answer, Printing, text_of, IsGathered}
+use Rattle.tiny_http_wire.specs.Answer.{Answer, ResponseState, Printing, text_of, IsGathered}
 use Rattle.tiny_http_encoding.specs.Text.{Text, Whole, Broken, nothing_sent}
 
 -- the writer takes bytes, and its count can rise
@@ -109,6 +109,20 @@ MayBreakOff a (Some f) p kind = length f.bytes < 2 ^ 63 → BreaksOff a f p kind
 -- a fault that an answer reports is the writer's, whose count rose, or its data's
 abbrev pub IsHonest : Sink → Sink → Answer → Option Feed → Printing → ErrorKind → Type 0
 IsHonest old new a feed p kind = (new.failures ≡ next_count old.failures) ⊎ MayBreakOff a feed p kind
+
+-- ONE ANSWER, sent on an outlet and flushed. On one that had ended nothing is sent, and the data aren't read. Else the text of
+-- the answer is sent, if the data state feeds of fewer than 2^63 bytes and the writer takes bytes. And whatever writer and data
+-- state: the writer fails once at most, the fault that is reported was met, after it the outlet has ended, and nothing is held.
+pub record SendsAnswer {W D : Type 0} (stated : D → Option Feed) (old new : OutletState W) (r : Result (Unit {0}) Error) (response : ResponseState D) (p : Printing) : Type 0 where
+  pub past : old.ended ≡ true → (new ≡ old) × (r ≡ Ok tt)
+  pub sends : (content : Feed) → stated response.data_reader ≡ Some content → length content.bytes < 2 ^ 63
+      → old.ended ≡ false → CanSend (output_of old)
+      → Sends (output_of old) (output_of new) new.ended r response.answer content p
+  pub fails_once : FailsOnce old new
+  pub honest : IfErr r (λ e. IsHonest (output_of old) (output_of new) response.answer (stated response.data_reader) p (error_kind e))
+  pub ended : OnErr r (new.ended ≡ true)
+  pub flushed : new.held ≡ []
+  pub sent_on : SentOn new
 
 -- a client that has closed the connection is no fault of an answer
 abbrev pub is_closed_client : ErrorKind → Bool

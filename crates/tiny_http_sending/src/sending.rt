@@ -6,7 +6,7 @@ ghost use Rattle.tiny_http_wire.specs.Answer.{text_of};
 ghost use Rattle.tiny_http_wire.specs.Device.{Feed};
 ghost use Rattle.tiny_http_sending.specs.ResponseValue.{printing_in, printing_with, upgrading};
 ghost use Rattle.tiny_http_stream.specs.Outlet.{output_of, outlet_ended, outlet_held, SentOn};
-ghost use Rattle.tiny_http_sending.specs.Sending.{Sends, SendsText, EndsQuietly, DropsHeld, CanSend, SinkFailsOnce, IsHonest, is_closed_client, reported, FailsOnce, SendsOn};
+ghost use Rattle.tiny_http_sending.specs.Sending.{Sends, SendsText, EndsQuietly, DropsHeld, CanSend, SinkFailsOnce, IsHonest, is_closed_client, reported, FailsOnce, SendsOn, SendsAnswer};
 
 use httpdate::HttpDate;
 use std::alloc::Global;
@@ -93,16 +93,7 @@ pub fn send_unless_ended<W: WriteDevice, D: ReadDevice + Drop>(
     answer_context: AnswerContext,
     now: HttpDate,
 ) -> Result<(), io::Error>
-    ensures past { outlet_ended outlet.old ≡ true → (outlet.new ≡ outlet.old) × (result ≡ Ok tt) }
-    ensures sends { (content : Feed) → D.feed response.data_reader ≡ Some content → length content.bytes < 2 ^ 63
-        → outlet_ended outlet.old ≡ false → CanSend (output_of outlet.old)
-        → Sends (output_of outlet.old) (output_of outlet.new) (outlet_ended outlet.new) result response.answer content (printing_in answer_context now) }
-    ensures fails_once { FailsOnce outlet.old outlet.new }
-    ensures honest { IfErr result (λ e.
-        IsHonest (output_of outlet.old) (output_of outlet.new) response.answer (D.feed response.data_reader) (printing_in answer_context now) (error_kind e)) }
-    ensures ended { OnErr result (outlet_ended outlet.new ≡ true) }
-    ensures flushed { outlet_held outlet.new ≡ [] }
-    ensures sent_on { SentOn outlet.new }
+    ensures { SendsAnswer D.feed outlet.old outlet.new result response (printing_in answer_context now) }
 {
     if outlet.is_ended() {
         outlet.facts();

@@ -8,12 +8,24 @@ ghost use Rattle.tiny_http_wire.specs.Answer.{Answer as AnyAnswer};
 ghost use Rattle.tiny_http_wire.specs.Chunks.{WholeChunks, CutChunks};
 ghost use Rattle.tiny_http_wire.specs.ResponseHeaders.{IsResponseHeaders};
 
+use crate::chunked::{LONGEST_LINE, MOST_TRAILERS};
+use crate::response::THRESHOLD;
+use tiny_http_encoding::chunks::CHUNK;
+
 pub use tiny_http_coding::laws::one_coding_asked;
 pub use tiny_http_head::laws::{
     header_field_equality, header_from_its_text, http_version_order, lines_by_the_grammar,
     method_from_its_name, method_hash, status_code_order,
 };
 pub use tiny_http_text::laws::one_quality_list;
+
+/// The sizes that the definitions of a chunked body and of an answer take from the code.
+pub fn sizes_of_bodies()
+    ensures line { LONGEST_LINE ≡ 8192 }
+    ensures trailers { MOST_TRAILERS ≡ 128 }
+    ensures chunk { CHUNK ≡ 8192 }
+    ensures threshold { THRESHOLD ≡ 32768 }
+{}
 
 /// All bytes with their stop are a chunked body and a rest, or a cut one: one of the two, in one way (RFC 9112, section 7.1).
 pub fn one_chunked_body()

@@ -66,30 +66,21 @@ returns-clause-conversation g c feed dated states fresh stated =
     let stated_all : AllZip (IsTimedStep g.D.ReadDevice.feed) c.loop-timed.yielded dated = rw whole stated in
     c.into_parts-source.ensures.conversation c.args.profile feed (g.W.WriteDevice.sink c.args.writer) dated (map seen c.loop-timed.replies.items) (c.loop-timed.invariant.follows feed dated states fresh stated_all)
 
-pub returns-clause-fails_once : goal.returns-clause-fails_once
-returns-clause-fails_once g c =
-    let P : OutletState g.row.W.Denot → Type 0 = λ o. SinkFailsOnce (g.W.WriteDevice.sink c.args.writer) (output_of o) o.ended in
-    rw (← c.into_parts-source.ensures.sink) (⊎_elim (λ h. inl h) (λ h. inr h.0) (subst P (sym c.into_parts-source.ensures.outlet) c.loop-timed.invariant.fails_once))
-
-pub returns-clause-honest : goal.returns-clause-honest
-returns-clause-honest g c =
-    let whole : c.loop-timed.yielded ≡ c.args.steps.items =
-    joins-end _ _ _ c.loop-timed.invariant.joins (sym c.loop-timed.timed-iterator.rest.ok.0 ∙ c.in-None.ensures.steps.0) in
-    rw (← whole) (honest-end g.D.ReadDevice.feed (g.W.WriteDevice.sink c.args.writer) (output_of c.loop-timed.connection.outlet) (g.W.WriteDevice.sink (outlet_writer c.into_parts-source.result.1)) c.loop-timed.yielded c.loop-timed.replies.items (rw (← c.into_parts-source.ensures.sink, c.into_parts-source.ensures.outlet) refl) c.loop-timed.invariant.honest)
-
-pub returns-clause-source : goal.returns-clause-source
-returns-clause-source g c = rw c.into_parts-source.ensures.source c.loop-timed.invariant.source
-
-pub returns-clause-flushed : goal.returns-clause-flushed
-returns-clause-flushed g c =
-    let whole : c.loop-timed.yielded ≡ c.args.steps.items =
-    joins-end _ _ _ c.loop-timed.invariant.joins (sym c.loop-timed.timed-iterator.rest.ok.0 ∙ c.in-None.ensures.steps.0) in
-    let P : OutletState g.row.W.Denot → Type 0 = λ o. all_sent c.args.steps.items c.loop-timed.replies.items true ≡ true → o.held ≡ [] in
-    subst P (sym c.into_parts-source.ensures.outlet) (rw (← whole) c.loop-timed.invariant.flushed)
-
-pub returns-clause-sent_on : goal.returns-clause-sent_on
-returns-clause-sent_on g c none =
-    let whole : c.loop-timed.yielded ≡ c.args.steps.items =
-    joins-end _ _ _ c.loop-timed.invariant.joins (sym c.loop-timed.timed-iterator.rest.ok.0 ∙ c.in-None.ensures.steps.0) in
-    let P : OutletState g.row.W.Denot → Type 0 = λ o. all_sent c.args.steps.items c.loop-timed.replies.items true ≡ true → SentOn o in
-    subst P (sym c.into_parts-source.ensures.outlet) (rw (← whole) (c.loop-timed.invariant.sent_on none))
+pub returns-clause-run : goal.returns-clause-run
+returns-clause-run g c =
+    let inv = c.loop-timed.invariant in
+    let left = c.into_parts-source.ensures in
+    let whole : c.loop-timed.yielded ≡ c.args.steps.items = joins-end _ _ _ inv.joins (sym c.loop-timed.timed-iterator.rest.ok.0 ∙ c.in-None.ensures.steps.0) in
+    let writer = g.W.WriteDevice.sink c.args.writer in
+    let replies = c.loop-timed.replies.items in
+    let Once : OutletState g.row.W.Denot → Type 0 = λ o. SinkFailsOnce writer (output_of o) o.ended in
+    let Flushed : OutletState g.row.W.Denot → Type 0 = λ o. all_sent c.args.steps.items replies true ≡ true → o.held ≡ [] in
+    let Sent : OutletState g.row.W.Denot → Type 0 = λ o. all_sent c.args.steps.items replies true ≡ true → SentOn o in
+    record {
+      replies = sym inv.as_many ∙ ap length whole;
+      source = rw left.source inv.source;
+      fails_once = rw (← left.sink) (⊎_elim (λ h. inl h) (λ h. inr h.0) (subst Once (sym left.outlet) inv.fails_once));
+      honest = rw (← whole) (honest-end g.D.ReadDevice.feed writer (output_of c.loop-timed.connection.outlet) (g.W.WriteDevice.sink (outlet_writer c.into_parts-source.result.1)) c.loop-timed.yielded replies (rw (← left.sink, left.outlet) refl) inv.honest);
+      flushed = subst Flushed (sym left.outlet) (rw (← whole) inv.flushed);
+      sent_on = λ none. subst Sent (sym left.outlet) (rw (← whole) (inv.sent_on none));
+    }
