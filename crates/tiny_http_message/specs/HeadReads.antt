@@ -1,5 +1,5 @@
 -- What the calls that read a head make of the input.
-use Rattle.std.specs.Prelude.{◌≡◌, ◌≢◌, ℕ, ◌+◌, ◌-◌, ⊤, ◌⊎◌, List, [], length, nat_lt, Option, Some, None, Result, Ok, Err, unwrap_or, Bool, true, false, MatchBool, IfSome, IsErr, if◌then◌else◌}
+use Rattle.std.specs.Prelude.{◌≡◌, ◌≢◌, ℕ, ◌+◌, ◌-◌, ⊤, ◌⊎◌, List, [], length, nat_lt, Option, Some, None, Result, Ok, Err, unwrap_or, Bool, true, false, MatchBool, IfSome, IfOk, IsErr, if◌then◌else◌}
 use Rattle.std.specs.declared.alloc.AllocError.{AllocError}
 use Rattle.httpdate.specs.declared.date.HttpDate.{HttpDate}
 use Rattle.tiny_http_wire.specs.declared.common.Method.{Method}
@@ -31,7 +31,7 @@ use Rattle.tiny_http_message.specs.declared.heads.HeadFault.TheVariants as fault
 use Rattle.tiny_http_message.specs.declared.body.Body.{Body}
 use Rattle.tiny_http_message.specs.FramingReading.{framing}
 use Rattle.tiny_http_stream.specs.declared.source.FirstLine.{FirstLine}
-use Rattle.tiny_http_stream.specs.Source.{SourceState, feed_from, FindsLine, IsShort, IsTooLong, IsAtEnd, seen_within}
+use Rattle.tiny_http_stream.specs.Source.{SourceState, GoesOn, feed_from, FindsLine, IsShort, IsTooLong, IsAtEnd, seen_within}
 use Rattle.tiny_http_message.specs.Pipeline.{Request, Asks, Refuses, Refusal, VersionNotSupported, refusal_status, is_timed_out, Place, BeginsWithin, IsUnfinishedHead, IsTooLarge, IsCutWithHead, IsCutHead, IsNotAsciiHead, BodyAt, OneHead, body_length_or_0, place_after}
 use Rattle.tiny_http_message.specs.OwnAnswer.{own_text, refusal_response, refused_text}
 use Rattle.tiny_http_message.specs.Body.{Remaining, remaining, Fits}
@@ -303,3 +303,20 @@ abbrev pub standing_read : Result HeadRead AllocError → Standing → Standing
 standing_read (Ok (read.Request x)) old = standing_of x
 standing_read (Ok (read.Refused status text false)) old = at.Head
 standing_read _ old = old
+
+-- ONE CALL THAT READS A HEAD. Where one would begin it reads the item that stands there, or why none follows, and after the last
+-- one the source has ended. After the last request's head, within a body and at the end it reads nothing, and says so. Whatever
+-- the reader states: the source goes on, or stays; memory isn't refused in place of the end, but where a byte of a head has come
+-- or the reader timed out; a request is framed as its head says; where one was read no end or fault was met; and the source
+-- stands after it.
+pub record TakesHead {R : Type 0} (p : Profile) (date : HttpDate) (old new : SourceState R) (r : Result HeadRead AllocError) : Type 0 where
+  pub reads : IsBeforeHead old.standing → ReadsHead p old.standing date old.feed new.feed r
+  pub ends : IsBeforeHead old.standing → EndsUnlessHanded r new
+  pub last : old.standing ≡ at.Last → (r ≡ Ok (read.Ended because.LastRequest)) × (new ≡ old)
+  pub unread : old.standing ≡ at.Body → (r ≡ Ok (read.Ended because.UnreadBody)) × IsAtEnd new × (new.reader ≡ old.reader)
+  pub goes_on : GoesOn old.feed new.feed
+  pub at_end : IsAtEnd old → IsOkEnd r × (new.reader ≡ old.reader)
+  pub begun : (IsOkEnd r → ⊥) → HasByteOrTimedOut old.feed
+  pub framed : IfOk r (IsFramedRequest p date)
+  pub lazy : IfOk r (λ x. IsRequest x → new.stop ≡ old.stop)
+  pub standing : new.standing ≡ standing_read r old.standing

@@ -8,7 +8,7 @@ ghost use Rattle.tiny_http_wire.specs.Device.{AnswersStop};
 ghost use Rattle.tiny_http_stream.specs.Source.{GoesOn, IsAtEnd};
 ghost use Rattle.tiny_http_message.specs.Pipeline.{is_head_method, is_timed_out, ends_too_new, refusal_status, framing_refusal};
 ghost use Rattle.tiny_http_message.specs.Body.{ReadsBody, PassesOver};
-ghost use Rattle.tiny_http_message.specs.HeadReads.{ReadsHead, EndsUnlessHanded, RefusesWith, RefusesTooNew, AnswersCut, AnswersFault, HasByteOrTimedOut, Begins, IsCutOff, IsRequest, IsFramedRequest, IsRefusedUncut, IsOkEnd, IsBeforeHead, cut_end, end_at, standing_of, standing_read, message_of, head_message, head_framing};
+ghost use Rattle.tiny_http_message.specs.HeadReads.{ReadsHead, EndsUnlessHanded, RefusesWith, RefusesTooNew, AnswersCut, AnswersFault, TakesHead, HasByteOrTimedOut, Begins, IsCutOff, IsRequest, IsFramedRequest, IsRefusedUncut, IsOkEnd, IsBeforeHead, cut_end, end_at, standing_of, standing_read, message_of, head_message, head_framing};
 ghost use Rattle.tiny_http_message.specs.Exchange.{KeepsHead};
 ghost use Rattle.tiny_http_wire.specs.Device.{Feed};
 ghost use Rattle.tiny_http_stream.specs.Outlet.{output_of, outlet_ended, outlet_held, SentOn};
@@ -524,20 +524,7 @@ pub fn read_head_with<R: ReadDevice>(
     profile: Profile,
     now: HttpDate,
 ) -> Result<HeadRead, AllocError>
-    ensures reads { IsBeforeHead source.old.standing → ReadsHead profile source.old.standing now source.old.feed source.new.feed result }
-    ensures ends { IsBeforeHead source.old.standing → EndsUnlessHanded result source.new }
-    ensures last { source.old.standing ≡ Standing.Last → (result ≡ Ok (HeadRead.Ended EndOfRequests.LastRequest)) × (source.new ≡ source.old) }
-    ensures unread { source.old.standing ≡ Standing.Body → (result ≡ Ok (HeadRead.Ended EndOfRequests.UnreadBody)) × IsAtEnd source.new × (source.new.reader ≡ source.old.reader) }
-    ensures goes_on { GoesOn source.old.feed source.new.feed }
-    // Whatever the reader states: after the end no head follows, and the reader isn't called.
-    ensures at_end { IsAtEnd source.old → IsOkEnd result × (source.new.reader ≡ source.old.reader) }
-    // Unless it is the end, a byte of a head has come, or the reader timed out: memory isn't refused in place of the end.
-    ensures begun { (IsOkEnd result → ⊥) → HasByteOrTimedOut source.old.feed }
-    // Whatever the reader states: a request is framed as its version and headers say, and its drop's text is that of its head.
-    ensures framed { IfOk result (IsFramedRequest profile now) }
-    // Nothing is read ahead: where a request was read no end or fault of the reader was met.
-    ensures lazy { IfOk result (λ read. IsRequest read → source.new.stop ≡ source.old.stop) }
-    ensures standing { source.new.standing ≡ standing_read result source.old.standing }
+    ensures { TakesHead profile now source.old source.new result }
 {
     let standing = source.standing();
     match standing {
@@ -578,16 +565,7 @@ pub fn read_head<R: ReadDevice>(
     source: &mut Source<R>,
     now: HttpDate,
 ) -> Result<HeadRead, AllocError>
-    ensures reads { IsBeforeHead source.old.standing → ReadsHead Profile.Lenient source.old.standing now source.old.feed source.new.feed result }
-    ensures ends { IsBeforeHead source.old.standing → EndsUnlessHanded result source.new }
-    ensures last { source.old.standing ≡ Standing.Last → (result ≡ Ok (HeadRead.Ended EndOfRequests.LastRequest)) × (source.new ≡ source.old) }
-    ensures unread { source.old.standing ≡ Standing.Body → (result ≡ Ok (HeadRead.Ended EndOfRequests.UnreadBody)) × IsAtEnd source.new × (source.new.reader ≡ source.old.reader) }
-    ensures goes_on { GoesOn source.old.feed source.new.feed }
-    ensures at_end { IsAtEnd source.old → IsOkEnd result × (source.new.reader ≡ source.old.reader) }
-    ensures begun { (IsOkEnd result → ⊥) → HasByteOrTimedOut source.old.feed }
-    ensures framed { IfOk result (IsFramedRequest Profile.Lenient now) }
-    ensures lazy { IfOk result (λ read. IsRequest read → source.new.stop ≡ source.old.stop) }
-    ensures standing { source.new.standing ≡ standing_read result source.old.standing }
+    ensures { TakesHead Profile.Lenient now source.old source.new result }
 {
     read_head_with(alloc, source, Profile::Lenient, now)
 }

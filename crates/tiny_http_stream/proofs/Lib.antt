@@ -8,3 +8,4 @@ pub mod WithinLines
 pub mod SourceLines
 pub mod OutletLemmas
 pub mod SourceGoesOn
+pub mod SourceOver

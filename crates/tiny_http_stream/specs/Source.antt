@@ -1,5 +1,8 @@
 -- What a `Source` still gives, and what its calls make of it.
-use Rattle.std.specs.Prelude.{ℕ, ◌+◌, ◌≡◌, ◌≢◌, ◌<◌, ◌≤◌, ◌++◌, length, take, drop, Bool, true, List, ⊤, Option, None, Some, Result, Ok, Err, IsSome, IfOk, IfErr, IfSome}
+use Rattle.std.specs.Prelude.{ℕ, ◌+◌, ◌^◌, ◌≡◌, ◌≢◌, ◌<◌, ◌≤◌, ◌⊎◌, ◌++◌, length, take, drop, Bool, true, false, IsTrue, List, ⊤, Option, None, Some, Result, Ok, Err, IsSome, IfOk, IfErr, OnOk, OnErr, IfSome}
+use Rattle.std.specs.Global.{Vec}
+use Rattle.std.specs.Option.{option_map}
+use Rattle.std.specs.declared.alloc.AllocError.{AllocError}
 use Rattle.std.specs.IoError.{error_kind}
 use Rattle.std.specs.declared.io.Error.{Error}
 use Rattle.std.specs.Str.{IsAscii, IsNotAscii}
@@ -8,7 +11,7 @@ use Rattle.tiny_http_device.specs.Device.{Feed, Reads, AnswersStop}
 use Rattle.tiny_http_device.specs.declared.device.Stop.{Stop}
 use Rattle.tiny_http_device.specs.declared.device.Stop.TheVariants.{End, Fault}
 use Rattle.tiny_http_text.specs.Lines.{Line, IsUnfinished, has_crlf}
-use Rattle.tiny_http_stream.specs.ToCome.{stopped}
+use Rattle.tiny_http_stream.specs.ToCome.{skipped, stopped, HasByte, HasNoByte}
 use Rattle.tiny_http_stream.specs.LineEnds.{EndsLine}
 use Rattle.tiny_http_stream.specs.declared.source.FirstLine.{FirstLine}
 use Rattle.tiny_http_stream.specs.declared.source.FirstLine.TheVariants.{Held, Taken}
@@ -128,3 +131,86 @@ abbrev pub GoesOn : Option Feed → Option Feed → Type 0
 GoesOn None new = ⊤
 GoesOn (Some old) None = ⊥
 GoesOn (Some old) (Some new) = IsRestOf old new
+
+-- THE CALLS OF A SOURCE. Each leaves it where it stands. After an end or a fault the reader isn't called again. Nothing is read
+-- ahead: where a call gave what was asked for no end or fault was met in it, and where that was held the reader isn't called. A
+-- source that is over stays so.
+
+-- whether a byte is still to come
+pub record LooksForByte {R : Type 0} (old new : SourceState R) (found : Bool) : Type 0 where
+  pub some : IsTrue found → HasByte old.feed × (new.stop ≡ old.stop)
+  pub none : found ≡ false → HasNoByte old.feed × (new.is_over ≡ true)
+  pub feed : new.feed ≡ old.feed
+  pub once : IsSome old.stop → IsSome new.stop × (new.reader ≡ old.reader)
+  pub held : old.skip < length old.held → new.reader ≡ old.reader
+  pub holds : IsTrue found → new.skip < length new.held
+  pub stays : old.is_over ≡ true → (found ≡ false) × (new ≡ old)
+  pub standing : new.standing ≡ old.standing
+
+-- so many bytes more are skipped; the reader isn't called, but where 2^64 bytes and more are to be skipped together
+pub record SkipsBytes {R : Type 0} (n : ℕ) (old new : SourceState R) : Type 0 where
+  pub feed : new.feed ≡ option_map (skipped n) old.feed
+  pub alone : old.skip + n < 2 ^ 64 → (new.reader ≡ old.reader) × (new.stop ≡ old.stop)
+  pub adds : old.skip + n < 2 ^ 64 → (new.skip ≡ old.skip + n) × (new.held ≡ old.held)
+  pub once : IsSome old.stop → IsSome new.stop × (new.reader ≡ old.reader)
+  pub standing : new.standing ≡ old.standing
+
+-- what is left of the input is given up, and the reader isn't called
+pub record EndsHere {R : Type 0} (old new : SourceState R) : Type 0 where
+  pub feed : new.feed ≡ option_map (λ _. stopped End) old.feed
+  pub at_end : IsAtEnd new
+  pub reader : new.reader ≡ old.reader
+  pub standing : new.standing ≡ old.standing
+
+-- A line was read, within the limit if there is one; or there is none. After any fault but a line that isn't ASCII the source is
+-- over, by a refusal of memory or the limit at its end. Where as many bytes as the limit are held the reader isn't called.
+pub record ReadsOneLine {R : Type 0} (left : Option ℕ) (old new : SourceState R) (r : Result (List ℕ) LineFault) : Type 0 where
+  pub line : ReadsWithin left old.feed new.feed r
+  pub goes_on : GoesOn old.feed new.feed
+  pub limited : r ≡ Err TooLong → IsSome left
+  pub once : IsSome old.stop → IsSome new.stop × (new.reader ≡ old.reader)
+  pub over : IfErr r (λ fault. fault ≢ NotAscii → (new.is_over ≡ true) × IsSome new.stop)
+  pub ended : IfErr r (λ fault. (fault ≡ Memory) ⊎ (fault ≡ TooLong) → new.stop ≡ Some End)
+  pub stop : IfErr r (λ fault. fault ≢ NotAscii → fault ≢ Memory → fault ≢ TooLong → IfSome new.stop (λ stop. fault ≡ line_fault_of stop))
+  pub stays : old.is_over ≡ true → left ≢ Some 0 → (new ≡ old) × IfSome old.stop (λ stop. r ≡ Err (line_fault_of stop))
+  pub lazy : OnOk r (new.stop ≡ old.stop)
+  pub passed : r ≡ Err NotAscii → new.stop ≡ old.stop
+  pub held : HoldsLine old → new.reader ≡ old.reader
+  pub full : IfSome left (λ n. old.skip + n ≤ length old.held → new.reader ≡ old.reader)
+  pub standing : new.standing ≡ old.standing
+
+-- The same of a line that is found, whatever bytes it has: it is held, or taken off.
+pub record FindsOneLine {R : Type 0} (left : Option ℕ) (old new : SourceState R) (r : Result FirstLine LineFault) : Type 0 where
+  pub line : FindsLine left old.feed new.feed new.held new.skip r
+  pub goes_on : GoesOn old.feed new.feed
+  pub limited : r ≡ Err TooLong → IsSome left
+  pub over : OnErr r ((new.is_over ≡ true) × IsSome new.stop)
+  pub ended : IfErr r (λ fault. (fault ≡ Memory) ⊎ (fault ≡ TooLong) → new.stop ≡ Some End)
+  pub stop : IfErr r (λ fault. fault ≢ Memory → fault ≢ TooLong → IfSome new.stop (λ stop. fault ≡ line_fault_of stop))
+  pub once : IsSome old.stop → IsSome new.stop × (new.reader ≡ old.reader)
+  pub held : HoldsLine old → new.reader ≡ old.reader
+  pub full : IfSome left (λ n. old.skip + n ≤ length old.held → new.reader ≡ old.reader)
+  pub stays : old.is_over ≡ true → left ≢ Some 0 → (new ≡ old) × IfSome old.stop (λ stop. r ≡ Err (line_fault_of stop))
+  pub lazy : OnOk r (new.stop ≡ old.stop)
+  pub standing : new.standing ≡ old.standing
+
+-- a held line of n bytes is taken off, with its CR LF, and the reader isn't called
+pub record PassesLine {R : Type 0} (n : ℕ) (old new : SourceState R) : Type 0 where
+  pub line : TakesLine old.feed new.feed (take n old.held)
+  pub goes_on : GoesOn old.feed new.feed
+  pub rest : (new.held ≡ drop (n + 2) old.held) × (new.skip ≡ 0)
+  pub reader : new.reader ≡ old.reader
+  pub stop : new.stop ≡ old.stop
+  pub standing : new.standing ≡ old.standing
+
+-- n bytes are taken; or fewer are left, all of which are taken, and the source is over; or memory was refused, and nothing has
+-- changed
+pub record TakesBytes {R : Type 0} (n : ℕ) (old new : SourceState R) (r : Result (Option (Vec ℕ)) AllocError) : Type 0 where
+  pub takes : IfOk r (λ body. TakesExactly (λ v. v.items) n old.feed new.feed body)
+  pub over : IfOk r (λ body. body ≡ None → new.is_over ≡ true)
+  pub err : OnErr r (new ≡ old)
+  pub once : IsSome old.stop → IsSome new.stop × (new.reader ≡ old.reader)
+  pub lazy : IfOk r (λ body. IsSome body → new.stop ≡ old.stop)
+  pub held : old.skip + n ≤ length old.held → new.reader ≡ old.reader
+  pub goes_on : GoesOn old.feed new.feed
+  pub standing : new.standing ≡ old.standing

@@ -113,7 +113,7 @@ impl<R: ReadDevice> Model for Source<R> {
 }
 
 impl<R: ReadDevice> Source<R> {
-    ghost use Rattle.tiny_http_stream.specs.Source.{line_fault_of, ReadsLine, ReadsWithin, TakesLine, FindsLine, ReadsSource, TakesExactly, GoesOn, IsAtEnd, HoldsLine};
+    ghost use Rattle.tiny_http_stream.specs.Source.{ReadsLine, ReadsSource, LooksForByte, SkipsBytes, EndsHere, ReadsOneLine, FindsOneLine, PassesLine, TakesBytes};
 
     /// A source over this reader. A head comes first.
     pub fn new(inner: R) -> Source<R>
@@ -153,15 +153,7 @@ impl<R: ReadDevice> Source<R> {
 
     /// Whether a byte is still to come. It waits for one, or for the end or a fault.
     pub fn has_byte(&mut self) -> bool
-        ensures some { IsTrue result → HasByte self.old.feed × (self.new.stop ≡ self.old.stop) }
-        ensures none { result ≡ false → HasNoByte self.old.feed × (self.new.is_over ≡ true) }
-        ensures feed { self.new.feed ≡ self.old.feed }
-        // After an end or a fault the reader isn't called again; nor where a byte is held.
-        ensures once { IsSome self.old.stop → IsSome self.new.stop × (self.new.reader ≡ self.old.reader) }
-        ensures held { self.old.skip < length self.old.held → self.new.reader ≡ self.old.reader }
-        ensures holds { IsTrue result → self.new.skip < length self.new.held }
-        ensures stays { self.old.is_over ≡ true → (result ≡ false) × (self.new ≡ self.old) }
-        ensures standing { self.new.standing ≡ self.old.standing }
+        ensures { LooksForByte self.old self.new result }
     {
         self.input.has_byte()
     }
@@ -176,22 +168,14 @@ impl<R: ReadDevice> Source<R> {
     /// Skips n bytes more, before the next line or read. Where fewer are left the input ends. The reader isn't called, but
     /// where 2^64 bytes and more are to be skipped together.
     pub fn skip(&mut self, n: usize)
-        ensures feed { self.new.feed ≡ option_map (skipped n) self.old.feed }
-        ensures alone { self.old.skip + n < 2 ^ 64 → (self.new.reader ≡ self.old.reader) × (self.new.stop ≡ self.old.stop) }
-        ensures adds { self.old.skip + n < 2 ^ 64 → (self.new.skip ≡ self.old.skip + n) × (self.new.held ≡ self.old.held) }
-        // After an end or a fault the reader isn't called again.
-        ensures once { IsSome self.old.stop → IsSome self.new.stop × (self.new.reader ≡ self.old.reader) }
-        ensures standing { self.new.standing ≡ self.old.standing }
+        ensures { SkipsBytes n self.old self.new }
     {
         self.input.skip(n)
     }
 
     /// Ends the source here: what is left of its input is given up, and the reader isn't called.
     pub fn end(&mut self)
-        ensures feed { self.new.feed ≡ option_map (λ _. stopped Stop.End) self.old.feed }
-        ensures at_end { IsAtEnd self.new }
-        ensures reader { self.new.reader ≡ self.old.reader }
-        ensures standing { self.new.standing ≡ self.old.standing }
+        ensures { EndsHere self.old self.new }
     {
         self.input.end()
     }
@@ -199,22 +183,7 @@ impl<R: ReadDevice> Source<R> {
     /// Reads the first line, without its CR LF (RFC 9112, section 2.2); a lone CR or LF stays in it.
     pub fn read_line(&mut self, alloc: Global) -> Result<AsciiString, LineFault>
         ensures line { ReadsLine self.old.feed self.new.feed result }
-        ensures goes_on { GoesOn self.old.feed self.new.feed }
-
-        // After an end or a fault the reader isn't called again.
-        ensures once { IsSome self.old.stop → IsSome self.new.stop × (self.new.reader ≡ self.old.reader) }
-        // Whatever the reader states: after any fault but a line that isn't ASCII the source is over.
-        ensures over { IfErr result (λ fault. fault ≢ LineFault.NotAscii → (self.new.is_over ≡ true) × IsSome self.new.stop) }
-        ensures memory { IfErr result (λ fault. fault ≡ LineFault.Memory → self.new.stop ≡ Some Stop.End) }
-        ensures stop { IfErr result (λ fault. fault ≢ LineFault.NotAscii → fault ≢ LineFault.Memory → IfSome self.new.stop (λ stop. fault ≡ line_fault_of stop)) }
-        // A source that is over stays so, and each line is its stop.
-        ensures stays { self.old.is_over ≡ true → (self.new ≡ self.old) × IfSome self.old.stop (λ stop. result ≡ Err (line_fault_of stop)) }
-        // Nothing is read ahead: where a line was given, or passed over, no end or fault was met, and where it is held the
-        // reader isn't called.
-        ensures lazy { OnOk result (self.new.stop ≡ self.old.stop) }
-        ensures passed { result ≡ Err LineFault.NotAscii → self.new.stop ≡ self.old.stop }
-        ensures held { HoldsLine self.old → self.new.reader ≡ self.old.reader }
-        ensures standing { self.new.standing ≡ self.old.standing }
+        ensures reads { ReadsOneLine None self.old self.new result }
     {
         self.input.read_line(alloc, None)
     }
@@ -222,24 +191,7 @@ impl<R: ReadDevice> Source<R> {
     /// Reads the first line, if it has ended within `left` bytes, its CR LF included. Else it is `TooLong` as soon as so many
     /// bytes came, and the source ends. It holds no more of them. The other faults are those of `read_line`.
     pub fn read_line_within(&mut self, alloc: Global, left: usize) -> Result<AsciiString, LineFault>
-        ensures line { ReadsWithin (Some left) self.old.feed self.new.feed result }
-        ensures goes_on { GoesOn self.old.feed self.new.feed }
-
-        // After an end or a fault the reader isn't called again.
-        ensures once { IsSome self.old.stop → IsSome self.new.stop × (self.new.reader ≡ self.old.reader) }
-        // Whatever the reader states: after any fault but a line that isn't ASCII the source is over.
-        ensures over { IfErr result (λ fault. fault ≢ LineFault.NotAscii → (self.new.is_over ≡ true) × IsSome self.new.stop) }
-        ensures ended { IfErr result (λ fault. (fault ≡ LineFault.Memory) ⊎ (fault ≡ LineFault.TooLong) → self.new.stop ≡ Some Stop.End) }
-        ensures stop { IfErr result (λ fault. fault ≢ LineFault.NotAscii → fault ≢ LineFault.Memory → fault ≢ LineFault.TooLong → IfSome self.new.stop (λ stop. fault ≡ line_fault_of stop)) }
-        // A source that is over stays so, but for a limit of no byte each line is its stop.
-        ensures stays { self.old.is_over ≡ true → 0 < left → (self.new ≡ self.old) × IfSome self.old.stop (λ stop. result ≡ Err (line_fault_of stop)) }
-        // Nothing is read ahead: where a line was given, or passed over, no end or fault was met, and where it is held, or
-        // as many bytes as it may have, the reader isn't called.
-        ensures lazy { OnOk result (self.new.stop ≡ self.old.stop) }
-        ensures passed { result ≡ Err LineFault.NotAscii → self.new.stop ≡ self.old.stop }
-        ensures held { HoldsLine self.old → self.new.reader ≡ self.old.reader }
-        ensures full { self.old.skip + left ≤ length self.old.held → self.new.reader ≡ self.old.reader }
-        ensures standing { self.new.standing ≡ self.old.standing }
+        ensures { ReadsOneLine (Some left) self.old self.new result }
     {
         self.input.read_line(alloc, Some(left))
     }
@@ -248,19 +200,7 @@ impl<R: ReadDevice> Source<R> {
     /// lies whole in the buffer stays there, to be parsed in its place, and takes no memory. Any other line is taken off. The
     /// faults are those of `read_line_within`.
     pub fn find_line(&mut self, alloc: Global, left: Option<usize>) -> Result<FirstLine, LineFault>
-        ensures line { FindsLine left self.old.feed self.new.feed self.new.held self.new.skip result }
-        ensures goes_on { GoesOn self.old.feed self.new.feed }
-        ensures limited { result ≡ Err LineFault.TooLong → IsSome left }
-        ensures over { OnErr result ((self.new.is_over ≡ true) × IsSome self.new.stop) }
-        ensures ended { IfErr result (λ fault. (fault ≡ LineFault.Memory) ⊎ (fault ≡ LineFault.TooLong) → self.new.stop ≡ Some Stop.End) }
-        ensures stop { IfErr result (λ fault. fault ≢ LineFault.Memory → fault ≢ LineFault.TooLong → IfSome self.new.stop (λ stop. fault ≡ line_fault_of stop)) }
-        // After an end or a fault the reader isn't called again; nor where the line is held, or as many bytes as it may have.
-        ensures once { IsSome self.old.stop → IsSome self.new.stop × (self.new.reader ≡ self.old.reader) }
-        ensures held { HoldsLine self.old → self.new.reader ≡ self.old.reader }
-        ensures full { IfSome left (λ n. self.old.skip + n ≤ length self.old.held → self.new.reader ≡ self.old.reader) }
-        ensures stays { self.old.is_over ≡ true → left ≢ Some 0 → (self.new ≡ self.old) × IfSome self.old.stop (λ stop. result ≡ Err (line_fault_of stop)) }
-        ensures lazy { OnOk result (self.new.stop ≡ self.old.stop) }
-        ensures standing { self.new.standing ≡ self.old.standing }
+        ensures { FindsOneLine left self.old self.new result }
     {
         self.input.find_line(alloc, left)
     }
@@ -277,12 +217,7 @@ impl<R: ReadDevice> Source<R> {
     pub fn pass_line(&mut self, n: usize)
         requires skip { self.old.skip ≡ 0 }
         requires line { EndsLine self.old.held n }
-        ensures line { TakesLine self.old.feed self.new.feed (take n self.old.held) }
-        ensures goes_on { GoesOn self.old.feed self.new.feed }
-        ensures rest { (self.new.held ≡ drop (n + 2) self.old.held) × (self.new.skip ≡ 0) }
-        ensures reader { self.new.reader ≡ self.old.reader }
-        ensures stop { self.new.stop ≡ self.old.stop }
-        ensures standing { self.new.standing ≡ self.old.standing }
+        ensures { PassesLine n self.old self.new }
     {
         self.input.pass_line(n)
     }
@@ -298,15 +233,7 @@ impl<R: ReadDevice> Source<R> {
     /// Takes n bytes; or answers `None` where fewer are left, all of which are taken, and then the source is over. An error
     /// where there is no memory for them; then nothing has changed.
     pub fn take_exactly(&mut self, alloc: Global, n: usize) -> Result<Option<Vec<u8>>, AllocError>
-        ensures takes { IfOk result (λ body. TakesExactly (λ v. v.items) n self.old.feed self.new.feed body) }
-        ensures over { IfOk result (λ body. body ≡ None → self.new.is_over ≡ true) }
-        ensures err { OnErr result (self.new ≡ self.old) }
-        // After an end or a fault the reader isn't called again; nor where the bytes are held. Nothing is read ahead.
-        ensures once { IsSome self.old.stop → IsSome self.new.stop × (self.new.reader ≡ self.old.reader) }
-        ensures lazy { IfOk result (λ body. IsSome body → self.new.stop ≡ self.old.stop) }
-        ensures held { self.old.skip + n ≤ length self.old.held → self.new.reader ≡ self.old.reader }
-        ensures goes_on { GoesOn self.old.feed self.new.feed }
-        ensures standing { self.new.standing ≡ self.old.standing }
+        ensures { TakesBytes n self.old self.new result }
     {
         self.input.take_exactly(alloc, n)
     }

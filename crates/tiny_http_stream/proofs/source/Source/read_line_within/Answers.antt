@@ -1,6 +1,22 @@
-use Rattle.std.proofs.Common.{Some}
+use Rattle.std.proofs.Common.{rules, Some}
 use Rattle.tiny_http_stream.proofs.SourceGoesOn.{within-goes_on}
+use Rattle.tiny_http_stream.proofs.SourceOver.{source-stays}
 use Rattle.tiny_http_stream.proofs.source.Source.read_line_within.Goals as goal
 
-pub returns-clause-goes_on : goal.returns-clause-goes_on
-returns-clause-goes_on g c = rw (← c.self.view_is) (within-goes_on (Some c.args.left) _ _ c.read_line.result c.read_line.ensures.line)
+pub returns : goal.returns
+returns g c =
+    record {
+      line = search rules;
+      goes_on = rw (← c.self.view_is) (within-goes_on (Some c.args.left) _ _ c.read_line.result c.read_line.ensures.line);
+      limited = search rules;
+      once = search rules;
+      over = search rules;
+      ended = search rules;
+      stop = search rules;
+      stays = rw (← c.self.view_is) (source-stays g.R.ReadDevice.feed c.self.inside.standing c.self.inside.input c.read_line.new.self (Some c.args.left) _ c.read_line.ensures.stays);
+      lazy = search rules;
+      passed = search rules;
+      held = search rules;
+      full = search rules;
+      standing = search rules;
+    }
