@@ -370,7 +370,7 @@ fn alone<R: ReadDevice + Drop, Rt: Wait + Copy>(
 
 /// A request of these parts, on a connection of its own: its body is read from `source_data`, and it is answered on `writer`.
 /// A body of up to 1024 bytes is read at once, unless a 100 is owed. `now` dates the 500 that is sent if the request is
-/// dropped. Any version is accepted.
+/// dropped. Any version is accepted, and the framing is judged under `Lenient`.
 #[allow(clippy::too_many_arguments)]
 pub fn new_request<R: ReadDevice + Drop, W: WriteDevice + Drop, Rt: Wait + Copy>(
     rt: Rt,

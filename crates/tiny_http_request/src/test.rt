@@ -187,7 +187,8 @@ impl TestRequest {
     }
 
     /// The request; its answer is thrown away. It has the header `Content-Length` with the body's length behind its others, if it
-    /// has none of that name. `now` dates the 500 that is sent if it is dropped. Errors are those of `new_request`.
+    /// has none of that name. `now` dates the 500 that is sent if it is dropped. It is framed as under
+    /// `Lenient`, also where its handler is a strict server's. Errors are those of `new_request`.
     pub fn into_request<Rt: Wait + Copy>(
         self,
         rt: Rt,

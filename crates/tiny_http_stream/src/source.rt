@@ -198,7 +198,7 @@ impl<R: ReadDevice> Source<R> {
 
     /// Finds the first line, whatever bytes it has, within `left` bytes where that is given; for the crates above. A line that
     /// lies whole in the buffer stays there, to be parsed in its place, and takes no memory. Any other line is taken off. The
-    /// faults are those of `read_line_within`.
+    /// faults are those of `read_line_within`, but `NotAscii`.
     pub fn find_line(&mut self, alloc: Global, left: Option<usize>) -> Result<FirstLine, LineFault>
         ensures { FindsOneLine left self.old self.new result }
     {

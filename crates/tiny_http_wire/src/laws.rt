@@ -10,9 +10,8 @@ ghost use Rattle.tiny_http_wire.specs.ResponseHeaders.{IsResponseHeaders};
 
 use crate::chunked::{LONGEST_LINE, MOST_TRAILERS};
 use crate::response::THRESHOLD;
-use tiny_http_encoding::chunks::CHUNK;
-
 pub use tiny_http_coding::laws::one_coding_asked;
+use tiny_http_encoding::chunks::CHUNK;
 pub use tiny_http_head::laws::{
     header_field_equality, header_from_its_text, http_version_order, lines_by_the_grammar,
     method_from_its_name, method_hash, status_code_order,
