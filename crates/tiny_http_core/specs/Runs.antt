@@ -22,7 +22,7 @@ IsConversationOf client sink stated p reader writer steps done =
 -- Whatever reader, writer and data state: each step has a reply, the source still gives the client's bytes from some place on,
 -- the writer failed at most once, and a fault that is reported was met. Nothing is held, and the writer sent on all that it
 -- took, unless a Write stands behind the last Flush and the last answer.
-pub record HasRun {R W D : Type 0} (client : R → Option Feed) (sink : W → Sink) (stated : D → Option Feed) (reader : R) (writer : W) (steps : List (Timed D)) (done : Record R W) : Type 0 where
+pub record RunsSteps {R W D : Type 0} (client : R → Option Feed) (sink : W → Sink) (stated : D → Option Feed) (reader : R) (writer : W) (steps : List (Timed D)) (done : Record R W) : Type 0 where
   pub replies : length done.replies.items ≡ length steps
   pub source : GoesOn (client reader) done.source.feed
   pub fails_once : FailsAtMostOnce (sink writer) (sink done.outlet.writer)

@@ -13,7 +13,7 @@ ghost use Rattle.tiny_http_stream.specs.Source.{GoesOn};
 ghost use Rattle.tiny_http_core.specs.Pending.{waiting_answer_context};
 ghost use Rattle.tiny_http_core.specs.Driving.{HasDone, TakesStep, Drops, stated_response, stated_step};
 ghost use Rattle.tiny_http_core.specs.Asking.{CanAsk, AskStep, IsAskBehind};
-ghost use Rattle.tiny_http_core.specs.Runs.{IsConversationOf, HasRun};
+ghost use Rattle.tiny_http_core.specs.Runs.{IsConversationOf, RunsSteps};
 ghost use Rattle.tiny_http_sending.specs.ResponseValue.{printing_in};
 ghost use Rattle.tiny_http_core.specs.Seen.{seen, write_reply, Answers, IsAnswered, IsResponse, IsTimedStep, ReportsHonestly, ReportHonestly, all_sent};
 ghost use Rattle.tiny_http_stream.specs.Outlet.{output_of, outlet_ended, outlet_held, outlet_writer, SentOn};
@@ -577,7 +577,7 @@ pub fn run<R: ReadDevice + Drop, W: WriteDevice + Drop, D: ReadDevice + Drop>(
     // The connection theorem.
     ensures conversation { IfOk result (IsConversationOf R.feed W.sink D.feed Profile.Lenient reader writer steps.items) }
     // Whatever reader, writer and data state.
-    ensures run { IfOk result (HasRun R.feed W.sink D.feed reader writer steps.items) }
+    ensures run { IfOk result (RunsSteps R.feed W.sink D.feed reader writer steps.items) }
     ensures err { IfErr result (λ e. (e.reader ≡ reader) × (e.writer ≡ writer)) }
 {
     run_with(alloc, Profile::Lenient, reader, writer, steps)
@@ -596,7 +596,7 @@ pub fn run_with<R: ReadDevice + Drop, W: WriteDevice + Drop, D: ReadDevice + Dro
     // The connection theorem.
     ensures conversation { IfOk result (IsConversationOf R.feed W.sink D.feed profile reader writer steps.items) }
     // Whatever reader, writer and data state.
-    ensures run { IfOk result (HasRun R.feed W.sink D.feed reader writer steps.items) }
+    ensures run { IfOk result (RunsSteps R.feed W.sink D.feed reader writer steps.items) }
     ensures err { IfErr result (λ e. (e.reader ≡ reader) × (e.writer ≡ writer)) }
 {
     let Ok(mut replies) = Vec::with_capacity(alloc, steps.len()) else {
