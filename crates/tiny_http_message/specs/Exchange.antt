@@ -1,7 +1,6 @@
 -- What a contract sees of an `Exchange`.
 use Rattle.std.specs.Prelude.{◌≡◌, ℕ, Bool, false, List, [], Option, unwrap_or}
 use Rattle.httpdate.specs.declared.date.HttpDate.{HttpDate}
-use Rattle.tiny_http_wire.specs.declared.device.Stop.{Stop}
 use Rattle.tiny_http_wire.specs.declared.device.Stop.TheVariants.{End}
 use Rattle.tiny_http_wire.specs.Device.{Feed}
 use Rattle.tiny_http_message.specs.declared.exchange.Head.{Head}
@@ -15,7 +14,7 @@ use Rattle.tiny_http_sending.specs.ResponseValue.{printing_to, printing_in}
 use Rattle.tiny_http_wire.specs.Coding.{coding_asked}
 use Rattle.tiny_http_wire.specs.Answer.{Printing}
 use Rattle.tiny_http_message.specs.OwnAnswer.{own_text_by}
-use Rattle.tiny_http_message.specs.Body.{Remaining, remaining, body_stop, is_streaming, Fits, GivesUp}
+use Rattle.tiny_http_message.specs.Body.{Remaining, remaining, is_streaming, Fits, GivesUp}
 
 -- a request of this head, of which this is kept
 abbrev pub exchange_of : Head → Waiting → Exchange
@@ -36,10 +35,6 @@ exchange_body x = x.waiting.body
 -- what is still to come of its body, where the input still gives this, and what stands after it
 abbrev pub exchange_left : Exchange → Option Feed → Option Remaining
 exchange_left x feed = remaining x.waiting.body feed
-
--- the end or the fault that its body reports from now on, where that is kept
-abbrev pub exchange_stop : Exchange → Option Stop
-exchange_stop x = body_stop x.waiting.body
 
 -- how its answer of this date is printed
 abbrev pub exchange_printing : Exchange → HttpDate → Printing

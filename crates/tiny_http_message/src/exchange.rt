@@ -108,7 +108,7 @@ pub enum HeadRead {
 }
 
 impl Exchange {
-    ghost use Rattle.tiny_http_message.specs.Exchange.{exchange_printing, exchange_of, exchange_head, exchange_drop_text, exchange_owes_continue, OwesNoContinue, HasNoDropText, exchange_body, exchange_stop, GivesUpBody, KeepsButBody, HasNoBodyLeft};
+    ghost use Rattle.tiny_http_message.specs.Exchange.{exchange_printing, exchange_of, exchange_head, exchange_drop_text, exchange_owes_continue, OwesNoContinue, HasNoDropText, exchange_body, GivesUpBody, KeepsButBody, HasNoBodyLeft};
 
     /// What the request's head says.
     pub fn head(&self) -> &Head
@@ -221,10 +221,7 @@ impl Exchange {
     /// skipped before the next head; after a chunked one whose end or fault wasn't reported the source has ended.
     pub fn give_up<R: ReadDevice>(&mut self, source: &mut Source<R>)
         ensures gives_up { GivesUpBody self.old source.old source.new }
-        ensures stop { exchange_stop self.new ≡ Some Stop.End }
-        ensures once { exchange_owes_continue self.new ≡ false }
         ensures kept { HasNoBodyLeft self.old self.new }
-        ensures head { exchange_head self.new ≡ exchange_head self.old }
         ensures goes_on { GoesOn source.old.feed source.new.feed }
     {
         self.waiting.body.give_up(source);
