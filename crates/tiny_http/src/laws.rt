@@ -5,8 +5,10 @@ pub use tiny_http_client_laws::laws::{
 };
 pub use tiny_http_core::laws::{
     fronts_are_unfinished, one_client_answer, one_framing, one_list_of_client_answers,
-    one_pipeline, sent_texts_are_read, sizes_of_heads, text_is_read_back, turns_pass_in_order,
+    one_pipeline, sent_texts_are_read, size_of_buffers, sizes_of_heads, text_is_read_back,
+    turns_pass_in_order,
 };
+pub use tiny_http_threads::laws::numbers_of_pools;
 pub use tiny_http_wire::laws::{
     header_field_equality, header_from_its_text, http_version_order, lines_by_the_grammar,
     method_from_its_name, method_hash, one_chunked_body, one_coding_asked, one_quality_list,

@@ -30,8 +30,8 @@ const QUEUE_ROOM: usize = 8;
 // So many seconds a server that is dropped tries to connect to itself.
 const SELF_CONNECT_SECS: u64 = 1;
 
-/// What a server needs of its runtime: sockets, the files of Unix sockets, a clock, and threads that wait. Any runtime with these
-/// has it. Threads that share a server need `Sync` besides.
+/// What is needed of the runtime to make a server: sockets, the files of Unix sockets, a clock, threads that wait, and that it can
+/// be copied and sent to them. Any runtime with these has it. Threads that share a server need `Sync` besides.
 pub trait ServerRuntime: Net<Listener = TcpListener, Stream = TcpStream>
     + SocketFiles
     + Clock

@@ -1,23 +1,21 @@
 //! A connection driven step by step, or by a list of steps, without threads.
 ghost use Rattle.std.specs.Global.{Global as Heap, Vec};
-ghost use Rattle.std.specs.Prelude.{◌≡◌, ℕ, ◌+◌, ◌-◌, ◌<◌, ◌^◌, true, false, List, [], length, Some, None, map, Ok, IfOk, IfErr, IfSome, IsTrue, vec_len, is_some, slice_get, String, string_bytes};
-ghost use Rattle.std.specs.List.{AllZip};
-ghost use Rattle.tiny_http_wire.specs.Device.{Feed, Sink, HoldsNothing};
+ghost use Rattle.std.specs.Prelude.{◌≡◌, ℕ, ◌+◌, ◌-◌, ◌<◌, ◌^◌, true, false, List, [], length, Some, None, Ok, IfOk, IfErr, IfSome, IsTrue, is_some, slice_get, String, string_bytes};
+ghost use Rattle.tiny_http_wire.specs.Device.{Feed, Sink};
 ghost use Rattle.tiny_http_sending.specs.ResponseValue.{ResponseValue};
 ghost use Rattle.tiny_http_message.specs.Pipeline.{Item, Pipeline};
 ghost use Rattle.tiny_http_core.specs.Conversation.{IsConversation, IsFresh, TimedValue};
 ghost use Rattle.httpdate.specs.declared.date.HttpDate.{HttpDate as Date};
 ghost use Rattle.tiny_http_core.specs.Steps.{ReplyValue, Done, Fault, fault_reply};
 ghost use Rattle.std.specs.declared.io.ErrorKind.{ErrorKind};
-ghost use Rattle.tiny_http_stream.specs.Source.{GoesOn};
 ghost use Rattle.tiny_http_core.specs.Pending.{waiting_answer_context};
 ghost use Rattle.tiny_http_core.specs.Driving.{HasDone, TakesStep, Drops, stated_response, stated_step};
 ghost use Rattle.tiny_http_core.specs.Asking.{CanAsk, AskStep, IsAskBehind};
 ghost use Rattle.tiny_http_core.specs.Runs.{IsConversationOf, RunsSteps};
 ghost use Rattle.tiny_http_sending.specs.ResponseValue.{printing_in};
-ghost use Rattle.tiny_http_core.specs.Seen.{seen, write_reply, Answers, IsAnswered, IsResponse, IsTimedStep, ReportsHonestly, ReportHonestly, all_sent};
+ghost use Rattle.tiny_http_core.specs.Seen.{seen, write_reply, Answers, IsAnswered, IsResponse, ReportsHonestly};
 ghost use Rattle.tiny_http_stream.specs.Outlet.{output_of, outlet_ended, outlet_held, outlet_writer, SentOn};
-ghost use Rattle.tiny_http_sending.specs.Sending.{CanSend, FailsAtMostOnce, IsHonest, FailsOnce};
+ghost use Rattle.tiny_http_sending.specs.Sending.{CanSend, IsHonest, FailsOnce};
 
 use crate::pending::{Pending, Unfinished, close_body};
 use httpdate::HttpDate;

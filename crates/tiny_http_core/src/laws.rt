@@ -4,4 +4,5 @@ pub use tiny_http_answer::laws::{
     text_is_read_back,
 };
 pub use tiny_http_message::laws::{one_framing, one_pipeline, sizes_of_heads};
+pub use tiny_http_stream::laws::size_of_buffers;
 pub use tiny_http_turns::laws::turns_pass_in_order;

@@ -2,7 +2,7 @@
 ghost use Rattle.std.specs.Prelude.{◌≡◌, ◌↔◌, ◌≤◌, ◌<◌, ◌^◌, ◌+◌, ◌++◌, ◌∷◌, true, false, List, [], length, Some, None, IfOk, IfSome, IfNone, OnOk, OnErr, IsTrue, ◌==◌, slice_get, slice_set};
 ghost use Rattle.tiny_http_turns.specs.Turns.{Mark, Open, Held, AreInShape, first_unfinished};
 ghost use Rattle.tiny_http_stream.specs.Outlet.{output_of, outlet_ended, outlet_held, SentOn};
-ghost use Rattle.tiny_http_sending.specs.Sending.{CanSend, IsFlushed, FailsOnce, SendsOn};
+ghost use Rattle.tiny_http_sending.specs.Sending.{CanSend, IsFlushed, FailsOnce, SendsQuietlyOn};
 ghost use Rattle.tiny_http_message.specs.declared.body.Body.{Body};
 ghost use Rattle.tiny_http_stream.specs.Source.{GoesOn};
 ghost use Rattle.tiny_http_message.specs.Body.{is_streaming, body_standing, FillsFromBody};
@@ -307,7 +307,7 @@ fn write_texts<W: WriteDevice>(
 )
     ensures passes { (front rest : List Mark) → turns.old.marks ≡ front ++ (Held ∷ rest) → length front ≡ number
         → FinishesFront front rest turns.new.marks
-        × SendsOn outlet.old outlet.new (text.items ++ left_text rest) }
+        × SendsQuietlyOn outlet.old outlet.new (text.items ++ left_text rest) }
     ensures counts { length turns.new.marks ≡ length turns.old.marks }
     ensures fails_once { FailsOnce outlet.old outlet.new }
 {
@@ -328,7 +328,7 @@ fn write_left<W: WriteDevice>(
 )
     ensures passes { (front rest : List Mark) → turns.old.marks ≡ front ++ (Held ∷ rest) → length front ≡ number
         → FinishesFront front rest turns.new.marks
-        × SendsOn outlet.old outlet.new (text.items ++ left_text rest) }
+        × SendsQuietlyOn outlet.old outlet.new (text.items ++ left_text rest) }
     ensures counts { length turns.new.marks ≡ length turns.old.marks }
     ensures fails_once { FailsOnce outlet.old outlet.new }
     ensures flushed { outlet_held outlet.new ≡ [] }

@@ -142,7 +142,8 @@ body_standing Rest standing = standing
 
 -- WHAT A READ GIVES of a body, and what it leaves: the bytes that came are the next of the body, no more than the buffer has
 -- room for; no byte into a buffer with room is the end of the body, and a fault is its own. A counted body is over with its last
--- byte, and each once its end or fault was reported. After the first fault the source has ended. The input goes on, or stays.
+-- byte, another one that is read from the input once its end or fault was reported. After the first fault the source has ended. The
+-- input goes on, or stays.
 pub record ReadsRemaining {R : Type 0} (old new : Body) (from to : SourceState R) (r : Result ℕ Error) (buf : List ℕ) : Type 0 where
   pub bound : IfOk r (λ n. n ≤ length buf)
   pub bytes : IfOk r (λ n. remaining old from.feed ≡ prepended_body (take n buf) (remaining new to.feed))
@@ -155,8 +156,8 @@ pub record ReadsRemaining {R : Type 0} (old new : Body) (from to : SourceState R
   pub goes_on : GoesOn from.feed to.feed
 
 -- ONE READ of a body. Into an empty buffer it changes nothing. A body that isn't read from the source leaves it alone, and one
--- whose end or fault was reported reports it again. Else the source stands by what is left of the body: at the next head once
--- that is over.
+-- that is over reports its end or fault again. Else the source stands by what is left of the body: at the next head once that is
+-- over.
 pub record ReadsBody {R : Type 0} (old new : Body) (from to : SourceState R) (r : Result ℕ Error) (buf : List ℕ) : Type 0 where
   pub reads : ReadsRemaining old new from to r buf
   pub empty : length buf ≡ 0 → (r ≡ Ok 0) × (new ≡ old) × (to ≡ from)

@@ -304,19 +304,23 @@ standing_read (Ok (read.Request x)) old = standing_of x
 standing_read (Ok (read.Refused status text false)) old = at.Head
 standing_read _ old = old
 
--- ONE CALL THAT READS A HEAD. Where one would begin it reads the item that stands there, or why none follows, and after the last
--- one the source has ended. After the last request's head, within a body and at the end it reads nothing, and says so. Whatever
--- the reader states: the source goes on, or stays; memory isn't refused in place of the end, but where a byte of a head has come
--- or the reader timed out; a request is framed as its head says; where one was read no end or fault was met; and the source
--- stands after it.
+-- ONE CALL THAT READS A HEAD, from wherever the source stands.
 pub record TakesHead {R : Type 0} (p : Profile) (date : HttpDate) (old new : SourceState R) (r : Result HeadRead AllocError) : Type 0 where
+  -- Where a head would begin: the item that stands there, or why none follows. After anything but a request, or a refused head
+  -- behind which the next one stands, the source has ended.
   pub reads : IsBeforeHead old.standing → ReadsHead p old.standing date old.feed new.feed r
   pub ends : IsBeforeHead old.standing → EndsUnlessHanded r new
+  -- after the last request nothing is read; within a body neither, and the source ends there
   pub last : old.standing ≡ at.Last → (r ≡ Ok (read.Ended because.LastRequest)) × (new ≡ old)
   pub unread : old.standing ≡ at.Body → (r ≡ Ok (read.Ended because.UnreadBody)) × IsAtEnd new × (new.reader ≡ old.reader)
+  -- the source goes on, or stays
   pub goes_on : GoesOn old.feed new.feed
+  -- whatever the reader states: after the end no head follows, and the reader isn't called
   pub at_end : IsAtEnd old → IsOkEnd r × (new.reader ≡ old.reader)
+  -- unless it is the end, a byte of a head has come, or the reader timed out: memory isn't refused in place of the end
   pub begun : (IsOkEnd r → ⊥) → HasByteOrTimedOut old.feed
+  -- whatever the reader states: a request is framed as its version and headers say, and its drop's text is that of its head
   pub framed : IfOk r (IsFramedRequest p date)
+  -- nothing is read ahead: where a request was read no end or fault of the reader was met
   pub lazy : IfOk r (λ x. IsRequest x → new.stop ≡ old.stop)
   pub standing : new.standing ≡ standing_read r old.standing

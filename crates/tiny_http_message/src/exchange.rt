@@ -1,18 +1,16 @@
 //! A request without locks: its head, its body on the connection's input, and what becomes of both.
-ghost use Rattle.std.specs.Prelude.{◌≡◌, ◌<◌, ◌≤◌, ◌==◌, ◌^◌, true, false, [], length, take, Some, None, Ok, IfOk, IfErr, IfSome, IsSome, OnOk, OnErr, is_ok};
-ghost use Rattle.std.specs.IoError.{error_kind};
+ghost use Rattle.std.specs.Prelude.{◌≡◌, ◌<◌, true, false, [], length, Some, None, Ok, IfOk, IfSome, IsSome, OnOk, OnErr, is_ok};
 ghost use Rattle.std.specs.List.{list_all};
 ghost use Rattle.tiny_http_wire.specs.Bytes.{is_ascii};
 ghost use Rattle.tiny_http_sending.specs.ResponseValue.{upgrade_text};
-ghost use Rattle.tiny_http_wire.specs.Device.{AnswersStop};
 ghost use Rattle.tiny_http_stream.specs.Source.{GoesOn, IsAtEnd};
 ghost use Rattle.tiny_http_message.specs.Pipeline.{is_head_method, is_timed_out, ends_too_new, refusal_status, framing_refusal};
 ghost use Rattle.tiny_http_message.specs.Body.{ReadsBody, PassesOver};
-ghost use Rattle.tiny_http_message.specs.HeadReads.{ReadsHead, EndsUnlessHanded, RefusesWith, RefusesTooNew, AnswersCut, AnswersFault, TakesHead, HasByteOrTimedOut, Begins, IsCutOff, IsRequest, IsFramedRequest, IsRefusedUncut, IsOkEnd, IsBeforeHead, cut_end, end_at, standing_of, standing_read, message_of, head_message, head_framing};
+ghost use Rattle.tiny_http_message.specs.HeadReads.{ReadsHead, RefusesWith, RefusesTooNew, AnswersCut, AnswersFault, TakesHead, HasByteOrTimedOut, Begins, IsCutOff, IsRequest, IsFramedRequest, IsRefusedUncut, IsOkEnd, cut_end, end_at, standing_of, message_of, head_message, head_framing};
 ghost use Rattle.tiny_http_message.specs.Exchange.{KeepsHead};
 ghost use Rattle.tiny_http_wire.specs.Device.{Feed};
-ghost use Rattle.tiny_http_stream.specs.Outlet.{output_of, outlet_ended, outlet_held, SentOn};
-ghost use Rattle.tiny_http_sending.specs.Sending.{FailsOnce, SendsOn, SendsAnswer};
+ghost use Rattle.tiny_http_stream.specs.Outlet.{outlet_held, SentOn};
+ghost use Rattle.tiny_http_sending.specs.Sending.{FailsOnce, SendsQuietlyOn, SendsAnswer};
 ghost use Rattle.tiny_http_message.specs.OwnAnswer.{own_text_by};
 
 use crate::body::{Body, counted};
@@ -169,7 +167,8 @@ impl Exchange {
         ensures ascii { is_ok result ≡ list_all is_ascii protocol.now }
         ensures refused { OnErr result ((self.new ≡ self.old) × (outlet.new ≡ outlet.old)) }
         // Whatever the data are.
-        ensures sends { OnOk result ((content : Feed) → SendsOn outlet.old outlet.new (upgrade_text (record { answer = response.answer; content = content }) protocol.now (exchange_printing self.old now))) }
+        ensures sends { OnOk result ((content : Feed) → SendsQuietlyOn outlet.old outlet.new
+            (upgrade_text (record { answer = response.answer; content = content }) protocol.now (exchange_printing self.old now))) }
         ensures once { OnOk result (OwesNoContinue self.old self.new) }
         ensures fails_once { FailsOnce outlet.old outlet.new }
         ensures flushed { OnOk result (outlet_held outlet.new ≡ []) }
@@ -193,7 +192,8 @@ impl Exchange {
         now: HttpDate,
     )
         ensures unowed { exchange_owes_continue self.old ≡ false → (self.new ≡ self.old) × (outlet.new ≡ outlet.old) }
-        ensures sends { exchange_owes_continue self.old ≡ true → SendsOn outlet.old outlet.new (own_text_by 100 (exchange_printing self.old now)) }
+        ensures sends { exchange_owes_continue self.old ≡ true
+            → SendsQuietlyOn outlet.old outlet.new (own_text_by 100 (exchange_printing self.old now)) }
         ensures once { OwesNoContinue self.old self.new }
         ensures fails_once { FailsOnce outlet.old outlet.new }
         ensures sent { exchange_owes_continue self.old ≡ true → (outlet_held outlet.new ≡ []) × SentOn outlet.new }

@@ -3,7 +3,7 @@
 ghost use Rattle.std.specs.Prelude.{◌≡◌, ◌<◌, ◌≤◌, ◌^◌, false, [], Some, IfOk, length, vec_len, vec_capacity};
 ghost use Rattle.httpdate.specs.Date.{date_text};
 ghost use Rattle.tiny_http_sending.specs.ResponseValue.{printing_to, printing_in};
-ghost use Rattle.tiny_http_sending.specs.Sending.{IsFlushed, FailsOnce, SendsOn};
+ghost use Rattle.tiny_http_sending.specs.Sending.{IsFlushed, FailsOnce, SendsQuietlyOn};
 ghost use Rattle.tiny_http_stream.specs.Outlet.{output_of, outlet_held, SentOn};
 ghost use Rattle.tiny_http_message.specs.declared.own_answer.TheConstants.{OWN_ANSWER};
 ghost use Rattle.tiny_http_message.specs.OwnAnswer.{own_text, own_text_by, refusal_response, refused_text};
@@ -87,7 +87,7 @@ pub fn send_own_quietly<W: WriteDevice>(
     context: AnswerContext,
     now: HttpDate,
 )
-    ensures sends { SendsOn outlet.old outlet.new (own_text_by status.0 (printing_in context now)) }
+    ensures sends { SendsQuietlyOn outlet.old outlet.new (own_text_by status.0 (printing_in context now)) }
     ensures fails_once { FailsOnce outlet.old outlet.new }
     ensures flushed { outlet_held outlet.new ≡ [] }
     ensures sent_on { SentOn outlet.new }

@@ -1,10 +1,10 @@
 //! Upgrades of a connection to another protocol (RFC 9110, section 7.8).
-ghost use Rattle.std.specs.Prelude.{◌≡◌, ◌↔◌, true, false, [], OnOk, OnErr, IsTrue, is_ok};
+ghost use Rattle.std.specs.Prelude.{◌≡◌, ◌↔◌, true, [], OnOk, OnErr, IsTrue, is_ok};
 ghost use Rattle.std.specs.List.{list_all};
 ghost use Rattle.tiny_http_wire.specs.Bytes.{is_ascii};
 ghost use Rattle.tiny_http_wire.specs.Device.{Feed};
 ghost use Rattle.tiny_http_sending.specs.ResponseValue.{printing_in, upgrade_text};
-ghost use Rattle.tiny_http_sending.specs.Sending.{IsFlushed, FailsOnce, SendsOn};
+ghost use Rattle.tiny_http_sending.specs.Sending.{IsFlushed, FailsOnce, SendsQuietlyOn};
 ghost use Rattle.tiny_http_stream.specs.Outlet.{output_of, outlet_held, SentOn};
 
 use httpdate::HttpDate;
@@ -40,7 +40,8 @@ pub fn send_upgrade_quietly<W: WriteDevice, D: Drop>(
     ensures ascii { is_ok result ≡ list_all is_ascii protocol.now }
     ensures refused { OnErr result (outlet.new ≡ outlet.old) }
     // Whatever the data are.
-    ensures sends { OnOk result ((content : Feed) → SendsOn outlet.old outlet.new (upgrade_text (record { answer = response.answer; content = content }) protocol.now (printing_in context now))) }
+    ensures sends { OnOk result ((content : Feed) → SendsQuietlyOn outlet.old outlet.new
+        (upgrade_text (record { answer = response.answer; content = content }) protocol.now (printing_in context now))) }
     ensures fails_once { FailsOnce outlet.old outlet.new }
     ensures flushed { OnOk result (outlet_held outlet.new ≡ []) }
     ensures sent_on { OnOk result (SentOn outlet.new) }

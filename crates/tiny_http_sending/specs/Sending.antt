@@ -74,10 +74,10 @@ pub record Idles (old new : Sink) : Type 0 where
 abbrev pub SendsUnlessEnded : Bool → Sink → Sink → Bool → List ℕ → Type 0
 SendsUnlessEnded was old new ended text = MatchBool was (Idles old new × (ended ≡ true)) (SendsQuietly old new ended text)
 
--- A TEXT IS SENT ON AN OUTLET, and no fault is reported: one that had ended sends nothing. Its writer takes bytes, and its
--- count can rise, unless the outlet had ended.
-abbrev pub SendsOn : {W : Type 0} → OutletState W → OutletState W → List ℕ → Type 0
-SendsOn old new text = (old.ended ≡ false → CanSend (output_of old)) → SendsUnlessEnded old.ended (output_of old) (output_of new) new.ended text
+-- A TEXT IS SENT ON AN OUTLET, and no fault is reported. One that had ended sends nothing. Of another it is said if its writer takes
+-- bytes and its count can rise.
+abbrev pub SendsQuietlyOn : {W : Type 0} → OutletState W → OutletState W → List ℕ → Type 0
+SendsQuietlyOn old new text = (old.ended ≡ false → CanSend (output_of old)) → SendsUnlessEnded old.ended (output_of old) (output_of new) new.ended text
 
 -- the writer's count is as it was, or it failed once, and the outlet has ended
 abbrev pub SinkFailsOnce : Sink → Sink → Bool → Type 0
@@ -87,8 +87,8 @@ SinkFailsOnce old new ended = (new.failures ≡ old.failures) ⊎ ((new.failures
 abbrev pub FailsOnceUnlessEnded : Bool → Sink → Sink → Bool → Type 0
 FailsOnceUnlessEnded was old new ended = MatchBool was ((new.failures ≡ old.failures) × (ended ≡ true)) (SinkFailsOnce old new ended)
 
--- A CALL THAT USES AN OUTLET, whatever its reader and writer state: the writer failed once at most, and then the outlet has
--- ended; one that had ended stays so, and doesn't use its writer.
+-- A CALL THAT USES AN OUTLET, whatever its reader and writer state: the writer's count rises by one at most, and then the outlet has
+-- ended. One that had ended stays so, and the count stays.
 abbrev pub FailsOnce : {W : Type 0} → OutletState W → OutletState W → Type 0
 FailsOnce old new = FailsOnceUnlessEnded old.ended (output_of old) (output_of new) new.ended
 
@@ -110,14 +110,17 @@ MayBreakOff a (Some f) p kind = length f.bytes < 2 ^ 63 → BreaksOff a f p kind
 abbrev pub IsHonest : Sink → Sink → Answer → Option Feed → Printing → ErrorKind → Type 0
 IsHonest old new a feed p kind = (new.failures ≡ next_count old.failures) ⊎ MayBreakOff a feed p kind
 
--- ONE ANSWER, sent on an outlet and flushed. On one that had ended nothing is sent, and the data aren't read. Else the text of
--- the answer is sent, if the data state feeds of fewer than 2^63 bytes and the writer takes bytes. And whatever writer and data
--- state: the writer fails once at most, the fault that is reported was met, after it the outlet has ended, and nothing is held.
-pub record SendsAnswer {W D : Type 0} (stated : D → Option Feed) (old new : OutletState W) (r : Result (Unit {0}) Error) (response : ResponseState D) (p : Printing) : Type 0 where
+-- ONE ANSWER, sent on an outlet and flushed. One that had ended is left alone, and no fault is reported. On another the text of the
+-- answer is sent, if the data state a feed of fewer than 2^63 bytes, the writer takes bytes, and its count can rise.
+pub record SendsAnswer {W D : Type 0}
+    (stated : D → Option Feed) (old new : OutletState W) (r : Result (Unit {0}) Error) (response : ResponseState D) (p : Printing) : Type 0 where
   pub past : old.ended ≡ true → (new ≡ old) × (r ≡ Ok tt)
   pub sends : (content : Feed) → stated response.data_reader ≡ Some content → length content.bytes < 2 ^ 63
       → old.ended ≡ false → CanSend (output_of old)
       → Sends (output_of old) (output_of new) new.ended r response.answer content p
+  -- Whatever writer and data state: the writer fails once at most. A fault that is reported is the writer's, or that of data that
+  -- state fewer than 2^63 bytes; of other data nothing is said. After a fault the outlet has ended. Nothing is held, and a writer
+  -- that goes on has sent all on.
   pub fails_once : FailsOnce old new
   pub honest : IfErr r (λ e. IsHonest (output_of old) (output_of new) response.answer (stated response.data_reader) p (error_kind e))
   pub ended : OnErr r (new.ended ≡ true)

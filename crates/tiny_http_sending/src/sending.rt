@@ -1,12 +1,12 @@
 //! An answer on its way out: printed, flushed, and what follows a fault.
-ghost use Rattle.std.specs.Prelude.{◌≡◌, ◌<◌, ◌^◌, ◌==◌, true, false, [], length, Some, None, Ok, IfErr, OnErr, MatchBool};
+ghost use Rattle.std.specs.Prelude.{◌≡◌, ◌<◌, ◌^◌, ◌==◌, true, [], length, Some, None, Ok, IfErr, OnErr, MatchBool};
 ghost use Rattle.std.specs.IoError.{error_kind};
 ghost use Rattle.std.specs.Option.{option_copied};
 ghost use Rattle.tiny_http_wire.specs.Answer.{text_of};
 ghost use Rattle.tiny_http_wire.specs.Device.{Feed};
 ghost use Rattle.tiny_http_sending.specs.ResponseValue.{printing_in, printing_with, upgrading};
 ghost use Rattle.tiny_http_stream.specs.Outlet.{output_of, outlet_ended, outlet_held, SentOn};
-ghost use Rattle.tiny_http_sending.specs.Sending.{Sends, SendsText, EndsQuietly, DropsHeld, CanSend, SinkFailsOnce, IsHonest, is_closed_client, reported, FailsOnce, SendsOn, SendsAnswer};
+ghost use Rattle.tiny_http_sending.specs.Sending.{Sends, SendsText, EndsQuietly, DropsHeld, CanSend, SinkFailsOnce, IsHonest, is_closed_client, reported, FailsOnce, SendsQuietlyOn, SendsAnswer};
 
 use httpdate::HttpDate;
 use std::alloc::Global;
@@ -152,7 +152,7 @@ pub fn send_upgrade<W: WriteDevice, D: Drop>(
 
 /// Writes a text. No reply reports a fault that is met there.
 pub fn write_quietly<W: WriteDevice>(outlet: &mut Outlet<W>, text: &[u8])
-    ensures sends { SendsOn outlet.old outlet.new text.now }
+    ensures sends { SendsQuietlyOn outlet.old outlet.new text.now }
     ensures fails_once { FailsOnce outlet.old outlet.new }
 {
     let _ = outlet.write(text);
@@ -160,7 +160,7 @@ pub fn write_quietly<W: WriteDevice>(outlet: &mut Outlet<W>, text: &[u8])
 
 /// Flushes what was written. No reply reports a fault that is met there.
 pub fn flush_quietly<W: WriteDevice>(outlet: &mut Outlet<W>)
-    ensures sends { SendsOn outlet.old outlet.new [] }
+    ensures sends { SendsQuietlyOn outlet.old outlet.new [] }
     ensures fails_once { FailsOnce outlet.old outlet.new }
     ensures flushed { outlet_held outlet.new ≡ [] }
     ensures sent_on { SentOn outlet.new }

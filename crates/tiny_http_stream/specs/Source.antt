@@ -132,11 +132,11 @@ GoesOn None new = ⊤
 GoesOn (Some old) None = ⊥
 GoesOn (Some old) (Some new) = IsRestOf old new
 
--- THE CALLS OF A SOURCE. Each leaves it where it stands. After an end or a fault the reader isn't called again. Nothing is read
--- ahead: where a call gave what was asked for no end or fault was met in it, and where that was held the reader isn't called. A
--- source that is over stays so.
+-- THE CALLS OF A SOURCE. Each leaves it where it stands. After an end or a fault the reader isn't called again (`once`). Nothing is
+-- read ahead: where a call gave what was asked for no end or fault was met in it (`lazy`), and where that was held the reader
+-- isn't called (`held`).
 
--- whether a byte is still to come
+-- whether a byte is still to come; a source that is over stays so
 pub record LooksForByte {R : Type 0} (old new : SourceState R) (found : Bool) : Type 0 where
   pub some : IsTrue found → HasByte old.feed × (new.stop ≡ old.stop)
   pub none : found ≡ false → HasNoByte old.feed × (new.is_over ≡ true)
@@ -163,7 +163,8 @@ pub record EndsHere {R : Type 0} (old new : SourceState R) : Type 0 where
   pub standing : new.standing ≡ old.standing
 
 -- A line was read, within the limit if there is one; or there is none. After any fault but a line that isn't ASCII the source is
--- over, by a refusal of memory or the limit at its end. Where as many bytes as the limit are held the reader isn't called.
+-- over. After a refusal of memory, and after a line that is too long, it is as at its end. Where as many bytes as the limit are held
+-- the reader isn't called (`full`). A source that is over stays so, and each line is its stop, but for a limit of no byte.
 pub record ReadsOneLine {R : Type 0} (left : Option ℕ) (old new : SourceState R) (r : Result (List ℕ) LineFault) : Type 0 where
   pub line : ReadsWithin left old.feed new.feed r
   pub goes_on : GoesOn old.feed new.feed

@@ -6,6 +6,7 @@ mod buffer;
 pub mod custom_stream;
 pub mod equal_reader;
 pub mod fused_reader;
+pub mod laws;
 mod lines;
 pub mod outlet;
 pub mod source;

@@ -3,6 +3,7 @@
 #![tactic(auto)]
 
 pub mod headcount;
+pub mod laws;
 pub mod messages_queue;
 pub mod roster;
 pub mod task_pool;
