@@ -162,8 +162,8 @@ fn a_head_that_is_no_request_waits_for_no_more(rt: HostRuntime) -> Result<(), Fa
     Ok(())
 }
 
-// A request line, and a header line too. 4,096 of them are as many bytes as a strict head may have.
-const LINE: &[u8] = b"A:b c HTTP/1.1\r\n";
+// A request line of 64 bytes, and a header line too. 1,024 of them are as many bytes as a strict head may have.
+const LINE: &[u8] = b"A:b ccccccccccccccccccccccccccccccccccccccccccccccccc HTTP/1.1\r\n";
 
 // Heads that are refused under the strict profile alone, in one piece; and as many bytes as a head may have, within one line, and
 // up to the end of one.
@@ -174,7 +174,7 @@ const STRICT: &[(&[&[u8]], usize)] = &[
     ),
     (&[b"POST / HTTP/1.1\r\nTransfer-Encoding: gzip\r\n\r\n"], 1),
     (&[BODY; 64], 64),
-    (&[LINE; 4096], 4096),
+    (&[LINE; 1024], 1024),
 ];
 
 #[test]
