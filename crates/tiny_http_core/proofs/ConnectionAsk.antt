@@ -20,7 +20,7 @@ use Rattle.tiny_http_message.specs.declared.exchange.HeadRead.TheVariants as rea
 use Rattle.tiny_http_wire.specs.declared.answer_context.AnswerContext.{AnswerContext}
 use Rattle.tiny_http_wire.specs.declared.coding.Coding.{Coding}
 use Rattle.tiny_http_wire.specs.Coding.{coding_asked}
-use Rattle.tiny_http_message.specs.declared.waiting.Waiting.{Waiting}
+use Rattle.tiny_http_message.specs.declared.open_request.OpenRequest.{OpenRequest}
 use Rattle.tiny_http_core.specs.declared.pending.Unfinished.{Unfinished}
 use Rattle.tiny_http_core.specs.declared.pending.Unfinished.TheVariants as still
 use Rattle.tiny_http_message.specs.declared.framing.Profile.{Profile}
@@ -170,8 +170,8 @@ settled-any (body.Chunked d) p content behind h e f = cc
 settled-any body.Rest p content behind h e f = cc
 
 -- what is kept of it
-kept-handed : (profile : Profile) (date : HttpDate) (x : Exchange) (p : Option Feed) (content behind : Feed) → KeepsRequest x date → remaining x.waiting.body p ≡ Some (record { body = content; behind = behind }) → IsFramed profile (request_of x.head content)
-    → IsWaiting (handed_slot date (request_of x.head content)) x.waiting
+kept-handed : (profile : Profile) (date : HttpDate) (x : Exchange) (p : Option Feed) (content behind : Feed) → KeepsRequest x date → remaining x.open_request.body p ≡ Some (record { body = content; behind = behind }) → IsFramed profile (request_of x.head content)
+    → IsWaiting (handed_slot date (request_of x.head content)) x.open_request
 kept-handed profile date x p content behind k left framed = record {
   request = request_of x.head content;
   handed = record { date = date; continued = None; owed = x.head.owes_continue };
@@ -183,10 +183,10 @@ kept-handed profile date x p content behind k left framed = record {
   rest_is_last = λ rest. rest-last profile x.head.version x.head.headers.items (head_framing x.head) framed.framed rest;
   answer_context =
       let F : HTTPVersion → Option Coding → Bool → AnswerContext = λ v a b. record { version = v; asked_coding = a; no_body = b } in
-      ap (λ v. F v x.waiting.answer_context.asked_coding x.waiting.answer_context.no_body) k.answer.version ∙ ap (λ a. F x.head.version a x.waiting.answer_context.no_body) k.answer.asked_coding ∙ ap (F x.head.version (coding_asked x.head.headers.items)) k.answer.no_body;
+      ap (λ v. F v x.open_request.answer_context.asked_coding x.open_request.answer_context.no_body) k.answer.version ∙ ap (λ a. F x.head.version a x.open_request.answer_context.no_body) k.answer.asked_coding ∙ ap (F x.head.version (coding_asked x.head.headers.items)) k.answer.no_body;
   text = k.answer.text ∙ dropped-text date (request_of x.head content);
   fits = k.body;
-  settled = settled-any x.waiting.body p content behind left;
+  settled = settled-any x.open_request.body p content behind left;
 }
 
 pub no-items : (profile : Profile) (stop : Stop) (items : List Item) → Pipeline profile None stop items → items ≡ []
@@ -207,25 +207,25 @@ handed-place profile false stop (Some bytes) more items = items
 abbrev pub with_input : Kept → Option Feed → Option Stop → Bool → Standing → Kept
 with_input k p stop over at = record k { feed = p; stop = stop; is_over = over; standing = at }
 
-abbrev pub after_handed : Kept → Waiting → Option Feed → Option Stop → Bool → Standing → Kept
+abbrev pub after_handed : Kept → OpenRequest Body → Option Feed → Option Stop → Bool → Standing → Kept
 after_handed k w p stop over at = record k { marks = k.marks ++ (Open ∷ []); requests = k.requests ++ (Some (still.Waiting w) ∷ []); feed = p; stop = stop; is_over = over; standing = at }
 
 -- where the input stands after the head of a request
-pub record StandsFor (r : Request) (w : Waiting) (at : Standing) : Type 0 where
+pub record StandsFor (r : Request) (w : OpenRequest Body) (at : Standing) : Type 0 where
   pub past : is_past_last at ≡ r.framing.is_last
   pub within : is_in_body at ≡ (not r.framing.is_last && is_streaming w.body)
 
-pub stands-for : (x : Exchange) (content : Feed) (at : Standing) → at ≡ standing_of x → StandsFor (request_of x.head content) x.waiting at
+pub stands-for : (x : Exchange) (content : Feed) (at : Standing) → at ≡ standing_of x → StandsFor (request_of x.head content) x.open_request at
 stands-for x content at e =
-    let S : Standing → Type 0 = λ y. StandsFor (request_of x.head content) x.waiting y in
-    subst S (sym e) (by x.head.is_last (is_streaming x.waiting.body) refl refl)
+    let S : Standing → Type 0 = λ y. StandsFor (request_of x.head content) x.open_request y in
+    subst S (sym e) (by x.head.is_last (is_streaming x.open_request.body) refl refl)
   where
-    by : (last streaming : Bool) → x.head.is_last ≡ last → is_streaming x.waiting.body ≡ streaming → StandsFor (request_of x.head content) x.waiting (standing_of x)
+    by : (last streaming : Bool) → x.head.is_last ≡ last → is_streaming x.open_request.body ≡ streaming → StandsFor (request_of x.head content) x.open_request (standing_of x)
     by true streaming l t = record { past = rw l refl; within = rw l refl }
     by false true l t = record { past = rw (l, t) refl; within = rw (l, t) refl }
     by false false l t = record { past = rw (l, t) refl; within = rw (l, t) refl }
 
-handed-reader : (client : Feed) (k : Kept) (slots : List Slot) (rest more : List Item) (date : HttpDate) (r : Request) (w : Waiting) (p : Option Feed) (stop : Option Stop) (over : Bool) (at : Standing) (close : Stop) (next : Place) → InputStands client k slots rest → is_streaming_body (last_body k.requests) ≡ false
+handed-reader : (client : Feed) (k : Kept) (slots : List Slot) (rest more : List Item) (date : HttpDate) (r : Request) (w : OpenRequest Body) (p : Option Feed) (stop : Option Stop) (over : Bool) (at : Standing) (close : Stop) (next : Place) → InputStands client k slots rest → is_streaming_body (last_body k.requests) ≡ false
     → remaining w.body p ≡ Some (record { body = r.body; behind = place_feed close next }) → Pipeline k.profile (place_after r.framing.is_last next) close more → GoesOn (Some client) p → StandsFor r w at
     → InputStands client (after_handed k w p stop over at) (slots ++ (handed_slot date r ∷ [])) more
 handed-reader client k slots rest more date r w p stop over at close next old quiet left items source stands =
@@ -254,7 +254,7 @@ handed-reader client k slots rest more date r w p stop over at close next old qu
 
 pub ask-handed : (client : Feed) (before : Sink) (k : Kept) (s : State) (date : HttpDate) (x : Exchange) (from_here : Standing) (p : Option Feed) (stop : Option Stop) (over : Bool) (at : Standing) (n : ℕ) → Stands client before k s → k.asking_ended ≡ false → is_past_last k.standing ≡ false → is_streaming_body (last_body k.requests) ≡ false
     → (InputEnded k → ⊥) → ReadsHead k.profile from_here date k.feed p (Ok (read.Request x)) → GoesOn k.feed p → n ≡ length k.marks → AreInShape (k.marks ++ (Open ∷ [])) → at ≡ standing_of x
-    → StepIsAnswered client before (after_handed k x.waiting p stop over at) s date Ask (Handed n (head_message x.head) (head_framing x.head))
+    → StepIsAnswered client before (after_handed k x.open_request p stop over at) s date Ask (Handed n (head_message x.head) (head_framing x.head))
 ask-handed client before k s date x from_here p stop over at n st e o quiet open_input reads goes number shape stands =
     let g = going client before k s st e o quiet open_input in
     let P : Option Feed → Type 0 = λ y. ReadsHead k.profile from_here date y p (Ok (read.Request x)) in
@@ -273,11 +273,11 @@ ask-handed client before k s date x from_here p stop over at n st e o quiet open
     let waits = kept-handed k.profile date x p found.0 (place_feed g.feed.stop found.1) found.4 found.3 (one-head-framed k.profile g.feed.bytes g.feed.stop r (place_after h.is_last found.1) found.2) in (
       new,
       record {
-        numbers = kept-append s.reached.slots k.marks k.requests (y ∷ []) (Open ∷ []) (Some (still.Waiting x.waiting) ∷ []) st.numbers (waits, tt);
+        numbers = kept-append s.reached.slots k.marks k.requests (y ∷ []) (Open ∷ []) (Some (still.Waiting x.open_request) ∷ []) st.numbers (waits, tt);
         shape = shape;
         in_turn = turn-more s.reached.slots y st.in_turn (refl, λ z. refl);
         asking_ended = sym e;
-        reader = handed-reader client k s.reached.slots s.reached.rest first.0 date r x.waiting p stop over at g.feed.stop found.1 st.reader quiet found.3 first.2 (goes-on_more (Some client) k.feed p st.reader.source goes) (stands-for x found.0 at stands);
+        reader = handed-reader client k s.reached.slots s.reached.rest first.0 date r x.open_request p stop over at g.feed.stop found.1 st.reader quiet found.3 first.2 (goes-on_more (Some client) k.feed p st.reader.source goes) (stands-for x found.0 at stands);
         output = output-waiting before k.sink k.output_ended s.reached.slots date r s.flushed s.failure st.output;
       },
       inl (true, tt, subst G (sym is) (refl, refl, (ap (λ z. Handed z (head_message h) (head_framing h)) end_reported, refl))),

@@ -6,7 +6,8 @@ use Rattle.tiny_http_wire.specs.Bytes.{is_ascii}
 use Rattle.tiny_http_sending.specs.ResponseValue.{ResponseValue}
 use Rattle.httpdate.specs.declared.date.HttpDate.{HttpDate}
 use Rattle.tiny_http_wire.specs.Device.{Feed, Sink}
-use Rattle.tiny_http_message.specs.declared.waiting.Waiting.{Waiting}
+use Rattle.tiny_http_message.specs.declared.body.Body.{Body}
+use Rattle.tiny_http_message.specs.declared.open_request.OpenRequest.{OpenRequest}
 use Rattle.tiny_http_message.specs.Pipeline.{Asks, Request}
 use Rattle.tiny_http_message.specs.Body.{GivesUp}
 use Rattle.tiny_http_sending.specs.Sending.{CanSend}
@@ -34,11 +35,11 @@ drop-not_taken n (Raw w c) owed e = refl
 drop-not_taken n (Upgraded p r d w c) owed e = refl
 
 -- what becomes of a number that waits, if the server answers it
-abbrev pub dropped_slot : (s : Slot) (w : Waiting) → IsWaiting s w → Slot
+abbrev pub dropped_slot : (s : Slot) (w : OpenRequest Body) → IsWaiting s w → Slot
 dropped_slot s w h = dropped h.handed h.request h.given h.end_reported
 
 -- it ends with the text that is kept for a drop
-pub drop-ends : (s : Slot) (w : Waiting) (h : IsWaiting s w) → EndsAs s (dropped_slot s w h) w.dropped.items
+pub drop-ends : (s : Slot) (w : OpenRequest Body) (h : IsWaiting s w) → EndsAs s (dropped_slot s w h) w.dropped.items
 drop-ends s w h = record {
   finished = refl;
   given_up = refl;
@@ -48,14 +49,14 @@ drop-ends s w h = record {
 }
 
 -- the input after it
-pub reader-dropped : {R : Type 0} (client : Feed) (k : Kept) (s : State) (n : ℕ) (w : Waiting) (p : KeptAt s.reached.slots k.marks k.requests n (still.Waiting w)) (old source : SourceState R) → IsInput k old → InputStands client k s.reached.slots s.reached.rest → GivesUp w.body old source
+pub reader-dropped : {R : Type 0} (client : Feed) (k : Kept) (s : State) (n : ℕ) (w : OpenRequest Body) (p : KeptAt s.reached.slots k.marks k.requests n (still.Waiting w)) (old source : SourceState R) → IsInput k old → InputStands client k s.reached.slots s.reached.rest → GivesUp w.body old source
     → InputStands client (with_reader k (p.us ++ (None ∷ p.vs)) source) (p.bs ++ (dropped_slot p.s w p.waiting ∷ p.cs)) s.reached.rest
 reader-dropped client k s n w p old source from reader gives =
     let P : List Slot → Type 0 = λ l. InputStands client k l s.reached.rest in
     reader-given_up client k old source p.bs p.cs p.us p.vs s.reached.rest p.s (Some (still.Waiting w)) None w.body ByServer (open-waiting p.s w p.waiting) refl refl from (subst P p.slots_are reader) p.requests_are (kept-many p.cs p.rs p.vs p.behind) gives
 
 -- The request of a number that waits is dropped, by whatever step.
-pub drop-done : {R : Type 0} (client : Feed) (before : Sink) (k : Kept) (s : State) (date : HttpDate) (n : ℕ) (step : StepValue) (reply : ReplyValue) (w : Waiting) (new : Sink) (ended : Bool) (final : List Mark) (requests : List (Option Unfinished)) (old source : SourceState R)
+pub drop-done : {R : Type 0} (client : Feed) (before : Sink) (k : Kept) (s : State) (date : HttpDate) (n : ℕ) (step : StepValue) (reply : ReplyValue) (w : OpenRequest Body) (new : Sink) (ended : Bool) (final : List Mark) (requests : List (Option Unfinished)) (old source : SourceState R)
     → ((old : Reached) (asked : HandedOut) (r : Request) (given : ℕ) (end_reported : Bool) → slice_get old.slots n ≡ Some (open_slot asked r given end_reported) → outcome true date old step ≡ changes old n (dropped asked r given end_reported) reply (use_in_turn (turn_has_come n old.slots)))
     → Stands client before k s → IsInput k old → GivesUp w.body old source → before.failures < 2 ^ 64 - 1 → slice_get k.requests n ≡ Some (Some (still.Waiting w)) → requests ≡ slice_set k.requests n None
     → ((front rest : List Mark) → k.marks ≡ front ++ (Open ∷ rest) → length front ≡ n → (k.output_ended ≡ false → CanSend k.sink) → LeavesText (n == first_unfinished k.marks) front rest final w.dropped.items k.output_ended k.sink new ended)

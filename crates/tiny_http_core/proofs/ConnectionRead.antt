@@ -10,7 +10,7 @@ use Rattle.httpdate.specs.declared.date.HttpDate.{HttpDate}
 use Rattle.tiny_http_wire.specs.declared.device.Stop.{Stop}
 use Rattle.tiny_http_wire.specs.declared.device.Stop.TheVariants.{End, Fault as Faults}
 use Rattle.tiny_http_wire.specs.Device.{Feed, Sink}
-use Rattle.tiny_http_message.specs.declared.waiting.Waiting.{Waiting}
+use Rattle.tiny_http_message.specs.declared.open_request.OpenRequest.{OpenRequest}
 use Rattle.tiny_http_message.specs.declared.framing.Form.{Form}
 use Rattle.tiny_http_message.specs.declared.framing.Form.TheVariants.{Rest, Nothing, WithHead, Counted, Chunked}
 use Rattle.tiny_http_message.specs.declared.body.Body.{Body}
@@ -277,7 +277,7 @@ pub record IsReadable (s : Slot) (u : Unfinished) (b : Body) : Type 0 where
   goes_on : (c : Body) (old new : Option Feed) (n : ℕ) (reply : ReplyValue) → ReadOn b c old new opened.request opened.given opened.end_reported n reply → IsUnfinished (read_slot s b opened n) (with_body c u)
   has_then : (c : Body) → kept_body (Some (with_body c u)) ≡ Some c
 
-still-waiting : (s : Slot) (w : Waiting) (h : IsWaiting s w) (c : Body) (old new : Option Feed) (n : ℕ) (reply : ReplyValue) → ReadOn w.body c old new h.request h.given h.end_reported n reply → IsWaiting (read_slot s w.body (open-waiting s w h) n) (record w { body = c })
+still-waiting : (s : Slot) (w : OpenRequest Body) (h : IsWaiting s w) (c : Body) (old new : Option Feed) (n : ℕ) (reply : ReplyValue) → ReadOn w.body c old new h.request h.given h.end_reported n reply → IsWaiting (read_slot s w.body (open-waiting s w h) n) (record w { body = c })
 unfolding still-open
 still-waiting s w h c old new n reply k =
     let o = still-open s w.body (open-waiting s w h) c old new n reply k in
@@ -300,7 +300,7 @@ not-false : (b : Bool) → not b ≡ true → b ≡ false
 not-false true e = cc
 not-false false e = refl
 
-readable-waiting : (s : Slot) (w : Waiting) → IsWaiting s w → w.owes_continue ≡ false → IsReadable s (still.Waiting w) w.body
+readable-waiting : (s : Slot) (w : OpenRequest Body) → IsWaiting s w → w.owes_continue ≡ false → IsReadable s (still.Waiting w) w.body
 readable-waiting s w h free = record {
   opened = open-waiting s w h;
   accepts = λ k n. ap not (sym h.owed ∙ free);

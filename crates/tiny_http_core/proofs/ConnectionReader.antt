@@ -5,7 +5,7 @@ use Rattle.std.specs.List.{last_or}
 use Rattle.std.specs.Option.{option_map}
 use Rattle.std.proofs.lemmas.Bool.{ne_eqb}
 use Rattle.tiny_http_wire.specs.Device.{Feed}
-use Rattle.tiny_http_message.specs.declared.waiting.Waiting.{Waiting}
+use Rattle.tiny_http_message.specs.declared.open_request.OpenRequest.{OpenRequest}
 use Rattle.tiny_http_core.specs.declared.pending.Unfinished.{Unfinished}
 use Rattle.tiny_http_core.specs.declared.pending.Unfinished.TheVariants as still
 use Rattle.tiny_http_message.specs.declared.framing.Form.{Form}
@@ -43,7 +43,7 @@ LastKept o b =
     ⊎ ((s : Slot) × (body : Body) × (o ≡ Some s) × (b ≡ Some body) × IsOpen s body))
 
 -- a number that waits has its body
-abbrev pub open-waiting : (s : Slot) (w : Waiting) → IsWaiting s w → IsOpen s w.body
+abbrev pub open-waiting : (s : Slot) (w : OpenRequest Body) → IsWaiting s w → IsOpen s w.body
 open-waiting s w h = record { request = h.request; handed = h.handed; stage = Unanswered; given = h.given; end_reported = h.end_reported; is = h.is; rest_is_last = h.rest_is_last; fits = h.fits; settled = h.settled }
 
 last-unfinished : (s : Slot) (u : Unfinished) → IsUnfinished s u → LastKept (Some s) (kept_body (Some u))

@@ -10,7 +10,8 @@ use Rattle.httpdate.specs.declared.date.HttpDate.{HttpDate}
 use Rattle.tiny_http_wire.specs.Device.{Feed, Sink}
 use Rattle.tiny_http_encoding.specs.Text.{Text, Ending, Whole, Broken}
 use Rattle.tiny_http_wire.specs.declared.answer_context.AnswerContext.{AnswerContext}
-use Rattle.tiny_http_message.specs.declared.waiting.Waiting.{Waiting}
+use Rattle.tiny_http_message.specs.declared.body.Body.{Body}
+use Rattle.tiny_http_message.specs.declared.open_request.OpenRequest.{OpenRequest}
 use Rattle.tiny_http_core.specs.declared.pending.Unfinished.{Unfinished}
 use Rattle.tiny_http_core.specs.declared.pending.Unfinished.TheVariants as still
 use Rattle.tiny_http_core.proofs.ConnectionReader.{open-waiting}
@@ -97,12 +98,27 @@ no-such client before k s date n step at needs st none = not-taken client before
     by x (still.Upgraded b) e h = needs x.stage x.owed (ap (λ (y : Slot). is_unanswered y.stage) h.opened.is ∙ ap is_unanswered h.stage)
 
 -- a number that waits is kept
-pub answer-form-some : (o : Option (Option Unfinished)) (answer_context : AnswerContext) → waiting_answer_context o ≡ Some answer_context → (w : Waiting) × (o ≡ Some (Some (still.Waiting w))) × (w.answer_context ≡ answer_context)
+pub answer-form-some : (o : Option (Option Unfinished)) (answer_context : AnswerContext) → waiting_answer_context o ≡ Some answer_context → (w : OpenRequest Body) × (o ≡ Some (Some (still.Waiting w))) × (w.answer_context ≡ answer_context)
 answer-form-some None answer_context e = cc
 answer-form-some (Some None) answer_context e = cc
 answer-form-some (Some (Some (still.Waiting w))) answer_context e = (w, refl, (let same : w.answer_context ≡ answer_context = cc in same))
 answer-form-some (Some (Some still.Raw)) answer_context e = cc
 answer-form-some (Some (Some (still.Upgraded b))) answer_context e = cc
+
+-- the same by whether it is
+pub waits-some : (o : Option (Option Unfinished)) → is_some (waiting_answer_context o) ≡ true → (w : OpenRequest Body) × (o ≡ Some (Some (still.Waiting w)))
+waits-some None e = cc
+waits-some (Some None) e = cc
+waits-some (Some (Some (still.Waiting w))) e = (w, refl)
+waits-some (Some (Some still.Raw)) e = cc
+waits-some (Some (Some (still.Upgraded b))) e = cc
+
+pub waits-none : (o : Option (Option Unfinished)) → is_some (waiting_answer_context o) ≡ false → waiting_answer_context o ≡ None
+waits-none None e = refl
+waits-none (Some None) e = refl
+waits-none (Some (Some (still.Waiting w))) e = cc
+waits-none (Some (Some still.Raw)) e = refl
+waits-none (Some (Some (still.Upgraded b))) e = refl
 
 -- the place of such a number, in the slots
 pub record SlotAt (slots bs cs : List Slot) (s0 : Slot) (n : ℕ) : Type 0 where
@@ -121,7 +137,7 @@ slot-at slots bs cs s0 n e place =
     }))
 
 -- its turn hasn't come
-pub respond-not_yet : (client : Feed) (before : Sink) (k : Kept) (s : State) (date : HttpDate) (n : ℕ) (v : ResponseValue) (w : Waiting) → Stands client before k s → slice_get k.requests n ≡ Some (Some (still.Waiting w))
+pub respond-not_yet : (client : Feed) (before : Sink) (k : Kept) (s : State) (date : HttpDate) (n : ℕ) (v : ResponseValue) (w : OpenRequest Body) → Stands client before k s → slice_get k.requests n ≡ Some (Some (still.Waiting w))
     → ((slice_get k.marks n ≡ Some Open) × (n ≡ first_unfinished k.marks) → ⊥) → StepIsAnswered client before k s date (Respond n v) NotYet
 respond-not_yet client before k s date n v w st e never =
     let p = place-of s.reached.slots k.marks k.requests n (still.Waiting w) st.numbers e in
@@ -429,7 +445,7 @@ pub record Answerable (k : Kept) (s : State) (n : ℕ) (answer_context : AnswerC
   pub rs : List Mark
   pub us : List (Option Unfinished)
   pub vs : List (Option Unfinished)
-  pub waiting : Waiting
+  pub waiting : OpenRequest Body
   pub slot : Slot
   pub waits : IsWaiting slot waiting
   pub slots_were : s.reached.slots ≡ bs ++ (slot ∷ cs)
@@ -546,7 +562,7 @@ RespondsBy k mid mid_ended reply v answer_context date =
     ⊎ ((k.output_ended ≡ false) × Answers k.sink mid mid_ended reply v.answer v.content (printing_in answer_context date))
 
 pub respond-done : {R : Type 0} (client : Feed) (before : Sink) (k : Kept) (s : State) (date : HttpDate) (n : ℕ) (v : ResponseValue) (answer_context : AnswerContext) (mid new : Sink) (mid_ended ended : Bool) (marks final : List Mark) (requests : List (Option Unfinished)) (old source : SourceState R) (reply : ReplyValue)
-    → Stands client before k s → IsInput k old → ((w : Waiting) → slice_get k.requests n ≡ Some (Some (still.Waiting w)) → GivesUp w.body old source) → before.failures < 2 ^ 64 - 1 → waiting_answer_context (slice_get k.requests n) ≡ Some answer_context → n ≡ first_unfinished k.marks → marks ≡ slice_set k.marks n Held → requests ≡ slice_set k.requests n None
+    → Stands client before k s → IsInput k old → ((w : OpenRequest Body) → slice_get k.requests n ≡ Some (Some (still.Waiting w)) → GivesUp w.body old source) → before.failures < 2 ^ 64 - 1 → waiting_answer_context (slice_get k.requests n) ≡ Some answer_context → n ≡ first_unfinished k.marks → marks ≡ slice_set k.marks n Held → requests ≡ slice_set k.requests n None
     → RespondsBy k mid mid_ended reply v answer_context date
     → ((front rest : List Mark) → marks ≡ front ++ (Held ∷ rest) → length front ≡ n → FinishesFront front rest final)
     → ((front rest : List Mark) → marks ≡ front ++ (Held ∷ rest) → length front ≡ n → (mid_ended ≡ false → CanSend mid) → SendsLeft rest mid_ended mid new ended)

@@ -10,7 +10,8 @@ use Rattle.tiny_http_wire.specs.declared.answer_context.AnswerContext.{AnswerCon
 use Rattle.tiny_http_stream.specs.Source.{SourceState}
 use Rattle.tiny_http_sending.specs.ResponseValue.{ResponseValue, printing_in, upgrade_text}
 use Rattle.tiny_http_sending.specs.Sending.{CanSend, IsFlushed, SendsUnlessEnded}
-use Rattle.tiny_http_message.specs.declared.waiting.Waiting.{Waiting}
+use Rattle.tiny_http_message.specs.declared.body.Body.{Body}
+use Rattle.tiny_http_message.specs.declared.open_request.OpenRequest.{OpenRequest}
 use Rattle.tiny_http_message.specs.Pipeline.{Asks}
 use Rattle.tiny_http_turns.specs.Turns.{Mark, Open, AreInShape, first_unfinished}
 use Rattle.tiny_http_core.specs.declared.pending.Unfinished.{Unfinished}
@@ -37,7 +38,7 @@ upgrade-not_taken n protocol v (Raw w c) owed e = refl
 upgrade-not_taken n protocol v (Upgraded p r d w c) owed e = refl
 
 -- its turn hasn't come
-pub upgrade-not_yet : (client : Feed) (before : Sink) (k : Kept) (s : State) (date : HttpDate) (n : ℕ) (protocol : List ℕ) (v : ResponseValue) (w : Waiting) → Stands client before k s → slice_get k.requests n ≡ Some (Some (still.Waiting w)) → list_all is_ascii protocol ≡ true → (n == first_unfinished k.marks) ≡ false
+pub upgrade-not_yet : (client : Feed) (before : Sink) (k : Kept) (s : State) (date : HttpDate) (n : ℕ) (protocol : List ℕ) (v : ResponseValue) (w : OpenRequest Body) → Stands client before k s → slice_get k.requests n ≡ Some (Some (still.Waiting w)) → list_all is_ascii protocol ≡ true → (n == first_unfinished k.marks) ≡ false
     → StepIsAnswered client before k s date (Upgrade n protocol v) NotYet
 upgrade-not_yet client before k s date n protocol v w st e ascii early =
     let p = place-of s.reached.slots k.marks k.requests n (still.Waiting w) st.numbers e in
@@ -49,10 +50,10 @@ upgrade-not_yet client before k s date n protocol v w st e ascii early =
     step-unchanged client before k s date (Upgrade n protocol v) NotYet st (ap (at_slot true date s.reached n (Upgrade n protocol v)) at.get ∙ ap T p.waiting.is ∙ rw (ascii, at.turn ∙ late) refl)
 
 -- the request that was upgraded
-abbrev upgraded_slot : List ℕ → ResponseValue → HttpDate → (s : Slot) (w : Waiting) → IsWaiting s w → Slot
+abbrev upgraded_slot : List ℕ → ResponseValue → HttpDate → (s : Slot) (w : OpenRequest Body) → IsWaiting s w → Slot
 upgraded_slot protocol v date s w h = record (open_slot h.handed h.request h.given h.end_reported) { stage = Upgraded protocol v date [] false; owed = false }
 
-now-upgraded : (protocol : List ℕ) (v : ResponseValue) (date : HttpDate) (s : Slot) (w : Waiting) (h : IsWaiting s w) → IsUpgraded (upgraded_slot protocol v date s w h) w.body
+now-upgraded : (protocol : List ℕ) (v : ResponseValue) (date : HttpDate) (s : Slot) (w : OpenRequest Body) (h : IsWaiting s w) → IsUpgraded (upgraded_slot protocol v date s w h) w.body
 now-upgraded protocol v date s w h = record {
   opened = record {
     request = h.request;
@@ -72,7 +73,7 @@ now-upgraded protocol v date s w h = record {
   stage = refl;
 }
 
-pub upgrade-done : {R : Type 0} (client : Feed) (before : Sink) (k : Kept) (s : State) (date : HttpDate) (n : ℕ) (protocol : List ℕ) (v : ResponseValue) (w : Waiting) (context : AnswerContext) (new : Sink) (ended : Bool) (final : List Mark) (requests : List (Option Unfinished)) (source : SourceState R) → Stands client before k s → IsInput k source → before.failures < 2 ^ 64 - 1
+pub upgrade-done : {R : Type 0} (client : Feed) (before : Sink) (k : Kept) (s : State) (date : HttpDate) (n : ℕ) (protocol : List ℕ) (v : ResponseValue) (w : OpenRequest Body) (context : AnswerContext) (new : Sink) (ended : Bool) (final : List Mark) (requests : List (Option Unfinished)) (source : SourceState R) → Stands client before k s → IsInput k source → before.failures < 2 ^ 64 - 1
     → slice_get k.requests n ≡ Some (Some (still.Waiting w)) → w.answer_context ≡ context → list_all is_ascii protocol ≡ true → (n == first_unfinished k.marks) ≡ true → final ≡ k.marks → requests ≡ slice_set k.requests n (Some (still.Upgraded w.body))
     → ((k.output_ended ≡ false → CanSend k.sink) → SendsUnlessEnded k.output_ended k.sink new ended (upgrade_text v protocol (printing_in context date))) → IsFlushed new
     → StepIsAnswered client before (after_number k final requests source new ended) s date (Upgrade n protocol v) Done

@@ -14,7 +14,7 @@ use Rattle.tiny_http_sending.specs.Sending.{CanSend, IsFlushed, Idles, OutletToo
 use Rattle.tiny_http_sending.proofs.SendingLemmas.{taken-sent, begins_known}
 use Rattle.tiny_http_stream.specs.Source.{SourceState}
 use Rattle.tiny_http_turns.specs.Turns.{Mark, Open, AreInShape, first_unfinished}
-use Rattle.tiny_http_message.specs.declared.waiting.Waiting.{Waiting}
+use Rattle.tiny_http_message.specs.declared.open_request.OpenRequest.{OpenRequest}
 use Rattle.tiny_http_message.specs.declared.body.Body.{Body}
 use Rattle.tiny_http_message.specs.Body.{GivesUp}
 use Rattle.tiny_http_message.specs.Pipeline.{Item, Asks, Refuses, Request}
@@ -50,10 +50,10 @@ into_writer-not_taken n (Raw w c) owed e = refl
 into_writer-not_taken n (Upgraded p r d w c) owed e = refl
 
 -- the slot whose raw writer was taken
-abbrev raw_slot : (s : Slot) (w : Waiting) → IsWaiting s w → Slot
+abbrev raw_slot : (s : Slot) (w : OpenRequest Body) → IsWaiting s w → Slot
 raw_slot s w h = finished_as (open_slot h.handed h.request h.given h.end_reported) (Raw [] false)
 
-pub into_writer-done : {R : Type 0} (client : Feed) (before : Sink) (k : Kept) (s : State) (date : HttpDate) (n : ℕ) (w : Waiting) (requests : List (Option Unfinished)) (old source : SourceState R) → Stands client before k s → IsInput k old → GivesUp w.body old source → slice_get k.requests n ≡ Some (Some (still.Waiting w))
+pub into_writer-done : {R : Type 0} (client : Feed) (before : Sink) (k : Kept) (s : State) (date : HttpDate) (n : ℕ) (w : OpenRequest Body) (requests : List (Option Unfinished)) (old source : SourceState R) → Stands client before k s → IsInput k old → GivesUp w.body old source → slice_get k.requests n ≡ Some (Some (still.Waiting w))
     → requests ≡ slice_set k.requests n (Some still.Raw) → StepIsAnswered client before (with_reader k requests source) s date (IntoWriter n) Done
 into_writer-done {R = R} client before k s date n w requests old source st from gives e requests_are =
     let L : List (Option Unfinished) → Type 0 = λ l. StepIsAnswered client before (with_reader k l source) s date (IntoWriter n) Done in
@@ -263,7 +263,7 @@ keeps-upgraded bytes s b h =
       alike = alike-by s (written_slot bytes s) o.request (ap (λ (x : Slot). x.item) o.is) refl refl refl refl;
     }
 
-no-writer_waits : {X : Type 0} (w : Waiting) → is_writable (Some (Some (still.Waiting w))) ≡ true → X
+no-writer_waits : {X : Type 0} (w : OpenRequest Body) → is_writable (Some (Some (still.Waiting w))) ≡ true → X
 no-writer_waits w e = cc
 
 pub keeps-written : (bytes : List ℕ) (s : Slot) (u : Unfinished) → IsUnfinished s u → is_writable (Some (Some u)) ≡ true → KeepsOn s (written_slot bytes s) u bytes

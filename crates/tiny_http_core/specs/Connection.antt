@@ -9,7 +9,7 @@ use Rattle.tiny_http_wire.specs.Coding.{coding_asked}
 use Rattle.tiny_http_wire.specs.Device.{Feed, Sink, IsFront, StatesKind, whole_feed}
 use Rattle.tiny_http_message.specs.declared.body.Body.{Body}
 use Rattle.tiny_http_wire.specs.declared.answer_context.AnswerContext.{AnswerContext}
-use Rattle.tiny_http_message.specs.declared.waiting.Waiting.{Waiting}
+use Rattle.tiny_http_message.specs.declared.open_request.OpenRequest.{OpenRequest}
 use Rattle.tiny_http_core.specs.declared.pending.Unfinished.{Unfinished}
 use Rattle.tiny_http_core.specs.declared.pending.Unfinished.TheVariants as still
 use Rattle.tiny_http_message.specs.declared.framing.Profile.{Profile}
@@ -77,7 +77,7 @@ abbrev pub dropped : HandedOut → Request → ℕ → Bool → Slot
 dropped h r given end_reported = finished_as (open_slot h r given end_reported) ByServer
 
 -- a request that was handed out and waits
-pub record IsWaiting (s : Slot) (w : Waiting) : Type 0 where
+pub record IsWaiting (s : Slot) (w : OpenRequest Body) : Type 0 where
   pub request : Request
   pub handed : HandedOut
   pub given : ℕ

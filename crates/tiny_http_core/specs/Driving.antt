@@ -27,7 +27,7 @@ use Rattle.tiny_http_sending.specs.ResponseValue.{printing_in}
 use Rattle.tiny_http_sending.specs.Sending.{IsHonest, FailsOnce}
 use Rattle.tiny_http_core.specs.Pending.{waiting_answer_context, owes_continue, kept_body, GivesUpBody, with_body}
 use Rattle.tiny_http_message.specs.declared.body.Body.{Body}
-use Rattle.tiny_http_message.specs.declared.waiting.Waiting.{Waiting}
+use Rattle.tiny_http_message.specs.declared.open_request.OpenRequest.{OpenRequest}
 use Rattle.tiny_http_core.specs.declared.pending.Unfinished.{Unfinished}
 use Rattle.tiny_http_core.specs.declared.pending.Unfinished.TheVariants as still
 use Rattle.tiny_http_message.specs.Body.{is_streaming, body_standing}
@@ -139,7 +139,7 @@ RefusesHeads n old new = (new.requests ≡ old.requests ++ replicate n None) × 
 -- After the last request, or the end of the source, no head is refused.
 abbrev pub AskLeaves : {R W : Type 0} → ConnectionState R W → ConnectionState R W → ReplyValue → Type 0
 AskLeaves old new (Handed k message framing) =
-    (n : ℕ) × (w : Waiting) × (new.requests ≡ old.requests ++ replicate n None ++ Some (still.Waiting w) ∷ []) × (new.source.standing ≡ after_head framing w.body)
+    (n : ℕ) × (w : OpenRequest Body) × (new.requests ≡ old.requests ++ replicate n None ++ Some (still.Waiting w) ∷ []) × (new.source.standing ≡ after_head framing w.body)
     × (k ≡ length old.marks + n) × (n ≡ 0 → (new.outlet ≡ old.outlet) × (new.source.stop ≡ old.source.stop))
 AskLeaves old new Memory = (n : ℕ) × RefusesHeads n old new
 AskLeaves old new Ended = (n : ℕ) × RefusesHeads n old new × (old.source.standing ≡ at.Last ⊎ IsAtEnd old.source → n ≡ 0)
@@ -155,7 +155,7 @@ StandsAfter was body old new = MatchBool (is_streaming was) (new.standing ≡ bo
 -- owed, and waits for its turn; or no such request waits for an answer.
 abbrev pub SendsContinue : {R W : Type 0} → ℕ → ConnectionState R W → ConnectionState R W → ReplyValue → Type 0
 SendsContinue k old new Done =
-    (w : Waiting) × (slice_get old.requests k ≡ Some (Some (still.Waiting w)))
+    (w : OpenRequest Body) × (slice_get old.requests k ≡ Some (Some (still.Waiting w)))
     × MatchBool w.owes_continue (new.requests ≡ slice_set old.requests k (Some (still.Waiting (record w { owes_continue = false })))) (new ≡ old)
 SendsContinue k old new NotYet = owes_continue (slice_get old.requests k) ≡ true
 SendsContinue k old new NoSuch = waiting_answer_context (slice_get old.requests k) ≡ None
@@ -168,7 +168,7 @@ LeavesAllButOutlet old new = (new.requests ≡ old.requests) × (new.marks ≡ o
 -- What an Upgrade leaves, by the reply: the request was upgraded, and its body is kept; or the request was dropped.
 abbrev pub UpgradeLeaves : {R W : Type 0} → ℕ → ConnectionState R W → ConnectionState R W → ReplyValue → Type 0
 UpgradeLeaves k old new Done =
-    (w : Waiting) × (slice_get old.requests k ≡ Some (Some (still.Waiting w))) × (new.requests ≡ slice_set old.requests k (Some (still.Upgraded w.body)))
+    (w : OpenRequest Body) × (slice_get old.requests k ≡ Some (Some (still.Waiting w))) × (new.requests ≡ slice_set old.requests k (Some (still.Upgraded w.body)))
     × (new.marks ≡ old.marks) × (new.source ≡ old.source)
 UpgradeLeaves k old new Refused = LetsGo k old new
 UpgradeLeaves k old new NotYet = Unit {0}

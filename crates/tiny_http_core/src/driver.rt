@@ -6,7 +6,7 @@ ghost use Rattle.tiny_http_sending.specs.ResponseValue.{ResponseValue};
 ghost use Rattle.tiny_http_message.specs.Pipeline.{Item, Pipeline};
 ghost use Rattle.tiny_http_core.specs.Conversation.{IsConversation, IsFresh, TimedValue};
 ghost use Rattle.httpdate.specs.declared.date.HttpDate.{HttpDate as Date};
-ghost use Rattle.tiny_http_core.specs.Steps.{ReplyValue, Done, Fault, fault_reply};
+ghost use Rattle.tiny_http_core.specs.Steps.{ReplyValue, Done, Fault};
 ghost use Rattle.std.specs.declared.io.ErrorKind.{ErrorKind};
 ghost use Rattle.tiny_http_core.specs.Pending.{waiting_answer_context};
 ghost use Rattle.tiny_http_core.specs.Driving.{HasDone, TakesStep, Drops, stated_response, stated_step};
@@ -23,17 +23,14 @@ use std::alloc::{AllocError, Global};
 use std::io;
 use std::io::ErrorKind;
 use std::marker::Model;
+use tiny_http_message::body::Body;
 use tiny_http_message::exchange::{EndOfRequests, Head, HeadRead, read_head_with};
 use tiny_http_message::framing::Profile;
-use tiny_http_message::own_answer::send_own_quietly;
-use tiny_http_message::upgrading::{UpgradeError, send_upgrade_quietly};
-use tiny_http_message::waiting::Waiting;
-use tiny_http_sending::sending::{is_closed_client, send_unless_ended};
+use tiny_http_message::open_request::OpenRequest;
+use tiny_http_message::upgrading::check_protocol;
+use tiny_http_sending::sending::reported;
 use tiny_http_stream::outlet::Outlet;
 use tiny_http_stream::source::{Source, Standing};
-use tiny_http_text::bytes::are_ascii;
-use tiny_http_wire::answer_context::AnswerContext;
-use tiny_http_wire::common::StatusCode;
 use tiny_http_wire::device::{ReadDevice, WriteDevice};
 use tiny_http_wire::response::Response;
 
@@ -144,17 +141,7 @@ impl<R: ReadDevice, W: WriteDevice> Model for Connection<R, W> {
 }
 
 impl Reply {
-    // How a fault of an answer is reported.
-    fn fault_reply(kind: ErrorKind) -> Reply
-        ensures { seen result ≡ fault_reply kind }
-    {
-        if is_closed_client(kind) {
-            return Reply::Done;
-        }
-        Reply::Fault(kind)
-    }
-
-    // How a call of a raw writer is reported: a fault of the writer by its kind.
+    // How what was reported of an answer, or of a call of a raw writer, is replied: a fault by its kind.
     fn write_reply(written: Result<(), io::Error>) -> Reply
         ensures { seen result ≡ write_reply written }
     {
@@ -165,30 +152,28 @@ impl Reply {
     }
 }
 
-// Sends the answer to a request whose turn has come, and says how that is replied. An output that has ended sends nothing, and
-// the data are left unread.
+// Answers a request whose turn has come, and says how that is replied. An output that has ended sends nothing, and the data
+// are left unread.
 fn answer<W: WriteDevice, D: ReadDevice + Drop>(
     alloc: Global,
+    request: &mut OpenRequest<Body>,
     outlet: &mut Outlet<W>,
     response: Response<D>,
-    answer_context: AnswerContext,
     now: HttpDate,
 ) -> Reply
     ensures past { outlet_ended outlet.old ≡ true → (outlet.new ≡ outlet.old) × (seen result ≡ Done) }
     ensures sends { (content : Feed) → D.feed response.data_reader ≡ Some content → length content.bytes < 2 ^ 63
         → outlet_ended outlet.old ≡ false → CanSend (output_of outlet.old)
-        → Answers (output_of outlet.old) (output_of outlet.new) (outlet_ended outlet.new) (seen result) response.answer content (printing_in answer_context now) }
+        → Answers (output_of outlet.old) (output_of outlet.new) (outlet_ended outlet.new) (seen result) response.answer content (printing_in request.old.answer_context now) }
     ensures fails_once { FailsOnce outlet.old outlet.new }
     ensures flushed { outlet_held outlet.new ≡ [] }
     ensures sent_on { SentOn outlet.new }
+    ensures body { request.new.body ≡ request.old.body }
     ensures done { IsAnswered (seen result) }
     ensures honest { (kind : ErrorKind) → seen result ≡ Fault kind → (outlet_ended outlet.new ≡ true)
-        × IsHonest (output_of outlet.old) (output_of outlet.new) response.answer (D.feed response.data_reader) (printing_in answer_context now) kind }
+        × IsHonest (output_of outlet.old) (output_of outlet.new) response.answer (D.feed response.data_reader) (printing_in request.old.answer_context now) kind }
 {
-    match send_unless_ended(alloc, outlet, response, answer_context, now) {
-        Ok(()) => Reply::Done,
-        Err(fault) => Reply::fault_reply(fault.kind()),
-    }
+    Reply::write_reply(reported(request.respond(alloc, outlet, response, now)))
 }
 
 // So many bytes 0.
@@ -248,7 +233,7 @@ impl<R: ReadDevice, W: WriteDevice> Connection<R, W> {
     pub fn is_open(&self, number: u64) -> bool
         ensures { result ≡ is_some (waiting_answer_context (slice_get self.now.requests number)) }
     {
-        self.pending.answer_context_at(number).is_some()
+        self.pending.is_waiting(number)
     }
 
     // Reads the next head for an `ask`. It answers that, but where the head is refused and the next one stands behind its body.
@@ -262,8 +247,8 @@ impl<R: ReadDevice, W: WriteDevice> Connection<R, W> {
     {
         match read_head_with(alloc, &mut self.source, self.profile, now) {
             Ok(HeadRead::Request(exchange)) => {
-                let (head, waiting) = exchange.into_parts();
-                match self.pending.issue(Some(Unfinished::Waiting(waiting))) {
+                let (head, request) = exchange.into_parts();
+                match self.pending.issue(Some(Unfinished::Waiting(request))) {
                     Ok(number) => Some(Reply::Handed(number, head)),
                     Err(_) => {
                         self.end = Some(EndOfRequests::Memory);
@@ -325,23 +310,17 @@ impl<R: ReadDevice, W: WriteDevice> Connection<R, W> {
     pub fn as_reader(&mut self, alloc: Global, now: HttpDate, number: u64) -> Reply
         ensures step { TakesStep self.old self.new now (Step.AsReader number) (seen result) }
     {
-        let Some(answer_context) = self.pending.answer_context_at(number) else {
+        if !self.pending.is_waiting(number) {
             return Reply::NoSuch;
-        };
+        }
         if !self.pending.owes_continue(number) {
             return Reply::Done;
         }
         if !self.pending.is_in_turn(number) {
             return Reply::NotYet;
         }
-        send_own_quietly(
-            alloc,
-            &mut self.outlet,
-            StatusCode(100),
-            answer_context,
-            now,
-        );
-        self.pending.set_continued(number);
+        self.pending
+            .send_continue(alloc, &mut self.outlet, number, now);
         Reply::Done
     }
 
@@ -390,15 +369,10 @@ impl<R: ReadDevice, W: WriteDevice> Connection<R, W> {
         ensures drops { IsTrue result → Drops number self.old self.new }
         ensures none { result ≡ false → (waiting_answer_context (slice_get self.old.requests number) ≡ None) × (self.new ≡ self.old) }
     {
-        let Some(waiting) = self.pending.take(number, None) else {
+        let Some(request) = self.pending.take(number, None) else {
             return false;
         };
-        let Waiting {
-            dropped,
-            mut body,
-            ..
-        } = waiting;
-        let text = dropped.into_text();
+        let (text, mut body) = request.into_drop_text();
         self.pending.leave(&mut self.outlet, number, text);
         body.give_up(&mut self.source);
         true
@@ -419,17 +393,18 @@ impl<R: ReadDevice, W: WriteDevice> Connection<R, W> {
     ) -> Reply
         ensures step { TakesStep self.old self.new now (Step.Respond number (stated_response D.feed response)) (seen result) }
     {
-        let Some(answer_context) = self.pending.answer_context_at(number) else {
+        if !self.pending.is_waiting(number) {
             return Reply::NoSuch;
-        };
+        }
         if !self.pending.hold(number) {
             return Reply::NotYet;
         }
-        let reply = answer(alloc, &mut self.outlet, response, answer_context, now);
+        let Some(mut request) = self.pending.take(number, None) else {
+            unreachable!()
+        };
+        let reply = answer(alloc, &mut request, &mut self.outlet, response, now);
         self.pending.pass(&mut self.outlet, number);
-        if let Some(Waiting { mut body, .. }) = self.pending.take(number, None) {
-            body.give_up(&mut self.source);
-        }
+        request.give_up(&mut self.source);
         reply
     }
 
@@ -439,10 +414,10 @@ impl<R: ReadDevice, W: WriteDevice> Connection<R, W> {
     pub fn into_writer(&mut self, number: u64) -> Reply
         ensures step { (date : Date) → TakesStep self.old self.new date (Step.IntoWriter number) (seen result) }
     {
-        let Some(Waiting { mut body, .. }) = self.pending.take(number, Some(Unfinished::Raw)) else {
+        let Some(mut request) = self.pending.take(number, Some(Unfinished::Raw)) else {
             return Reply::NoSuch;
         };
-        body.give_up(&mut self.source);
+        request.give_up(&mut self.source);
         Reply::Done
     }
 
@@ -494,23 +469,20 @@ impl<R: ReadDevice, W: WriteDevice> Connection<R, W> {
         ensures step { (named : String Heap) → string_bytes named ≡ protocol.now
             → TakesStep self.old self.new now (Step.Upgrade number named (stated_response D.feed response)) (seen result) }
     {
-        let Some(answer_context) = self.pending.answer_context_at(number) else {
+        if !self.pending.is_waiting(number) {
             return Reply::NoSuch;
-        };
-        if are_ascii(protocol.as_bytes()) && !self.pending.is_in_turn(number) {
+        }
+        if check_protocol(protocol).is_err() {
+            self.let_go(number);
+            return Reply::Refused;
+        }
+        if !self.pending.is_in_turn(number) {
             return Reply::NotYet;
         }
         let outlet = &mut self.outlet;
-        match send_upgrade_quietly(alloc, outlet, response, answer_context, protocol, now) {
-            Ok(()) => {
-                self.pending.set_upgraded(number);
-                Reply::Done
-            }
-            Err(UpgradeError::Protocol) => {
-                self.let_go(number);
-                Reply::Refused
-            }
-        }
+        self.pending
+            .upgrade(alloc, outlet, number, protocol, response, now);
+        Reply::Done
     }
 
     /// Ends the raw writer of this number, or the stream of its upgrade, and gives the body up: `Done`, in its turn or before

@@ -1,30 +1,37 @@
 //! Requests that aren't finished, and texts that wait for their turn.
-ghost use Rattle.std.specs.Prelude.{◌≡◌, ◌↔◌, ◌≤◌, ◌<◌, ◌^◌, ◌+◌, ◌++◌, ◌∷◌, true, false, List, [], length, Some, None, IfOk, IfSome, IfNone, OnOk, OnErr, IsTrue, ◌==◌, slice_get, slice_set};
+ghost use Rattle.std.specs.Prelude.{◌≡◌, ◌↔◌, ◌≤◌, ◌<◌, ◌^◌, ◌+◌, ◌++◌, ◌∷◌, true, false, List, [], length, Some, None, IfOk, IfSome, IfNone, is_some, OnOk, OnErr, IsTrue, ◌==◌, slice_get, slice_set};
 ghost use Rattle.tiny_http_turns.specs.Turns.{Mark, Open, Held, AreInShape, first_unfinished};
 ghost use Rattle.tiny_http_stream.specs.Outlet.{output_of, outlet_ended, outlet_held, SentOn};
 ghost use Rattle.tiny_http_sending.specs.Sending.{CanSend, IsFlushed, FailsOnce, SendsQuietlyOn};
+ghost use Rattle.tiny_http_sending.specs.ResponseValue.{printing_in, upgrade_text};
+ghost use Rattle.tiny_http_wire.specs.Bytes.{is_ascii};
+ghost use Rattle.tiny_http_wire.specs.Device.{Feed};
+ghost use Rattle.std.specs.List.{list_all};
+ghost use Rattle.tiny_http_message.specs.OwnAnswer.{own_text_by};
 ghost use Rattle.tiny_http_message.specs.declared.body.Body.{Body};
+ghost use Rattle.tiny_http_message.specs.declared.open_request.OpenRequest.{OpenRequest};
 ghost use Rattle.tiny_http_stream.specs.Source.{GoesOn};
 ghost use Rattle.tiny_http_message.specs.Body.{is_streaming, body_standing, FillsFromBody};
 ghost use Rattle.tiny_http_core.specs.Pending.{left_text, SendsLeft, FinishesFront, LeavesText, waiting_answer_context, is_readable, is_writable, owes_continue, kept_body, GivesUpBody, with_body};
 
+use httpdate::HttpDate;
 use std::alloc::Global;
 use std::io::ErrorKind;
 use tiny_http_message::body::Body;
-use tiny_http_message::waiting::Waiting;
+use tiny_http_message::open_request::OpenRequest;
 use tiny_http_sending::sending::{flush_quietly, write_quietly};
 use tiny_http_stream::outlet::Outlet;
 use tiny_http_stream::source::Source;
 use tiny_http_turns::by_number::ByNumber;
 use tiny_http_turns::turns::{Finishing, Leaving, Turns, TurnsError};
-use tiny_http_wire::answer_context::AnswerContext;
 use tiny_http_wire::device::{ReadDevice, WriteDevice};
+use tiny_http_wire::response::Response;
 
 /// What is kept of a request that isn't finished.
 #[derive(Drop)]
 pub enum Unfinished {
     /// It waits for its answer.
-    Waiting(Waiting),
+    Waiting(OpenRequest<Body>),
     /// Its raw writer is in use. Its body was given up.
     Raw,
     /// It was upgraded. Its stream reads this body.
@@ -91,14 +98,11 @@ impl Pending {
         Ok(())
     }
 
-    /// How the answer of this number is printed, if it waits for it.
-    pub fn answer_context_at(&self, number: u64) -> Option<AnswerContext>
-        ensures { result ≡ waiting_answer_context (slice_get self.now.requests number) }
+    /// Whether this number waits for its answer.
+    pub fn is_waiting(&self, number: u64) -> bool
+        ensures { result ≡ is_some (waiting_answer_context (slice_get self.now.requests number)) }
     {
-        match self.requests.get(number) {
-            Some(Unfinished::Waiting(waiting)) => Some(waiting.answer_context),
-            _ => None,
-        }
+        matches!(self.requests.get(number), Some(Unfinished::Waiting(_)))
     }
 
     /// Whether the body of this number can be read: it waits for its answer, and no 100 is owed; or it was upgraded.
@@ -106,7 +110,7 @@ impl Pending {
         ensures { result ≡ is_readable (slice_get self.now.requests number) }
     {
         match self.requests.get(number) {
-            Some(Unfinished::Waiting(waiting)) => !waiting.owes_continue,
+            Some(Unfinished::Waiting(request)) => !request.owes_continue,
             Some(Unfinished::Upgraded(_)) => true,
             _ => false,
         }
@@ -127,7 +131,7 @@ impl Pending {
         ensures { result ≡ owes_continue (slice_get self.now.requests number) }
     {
         match self.requests.get(number) {
-            Some(Unfinished::Waiting(waiting)) => waiting.owes_continue,
+            Some(Unfinished::Waiting(request)) => request.owes_continue,
             _ => false,
         }
     }
@@ -139,32 +143,57 @@ impl Pending {
         number == self.turns.first_unfinished()
     }
 
-    /// No 100 is owed to this number any more, if it waits for its answer.
-    pub fn set_continued(&mut self, number: u64)
-        ensures requests { (w : Waiting) → slice_get self.old.requests number ≡ Some (Some (Unfinished.Waiting w))
+    /// Sends the 100 that is owed to this number, if it waits for its answer. None is owed to it any more.
+    pub fn send_continue<W: WriteDevice>(
+        &mut self,
+        alloc: Global,
+        outlet: &mut Outlet<W>,
+        number: u64,
+        now: HttpDate,
+    )
+        ensures requests { (w : OpenRequest Body) → slice_get self.old.requests number ≡ Some (Some (Unfinished.Waiting w))
             → self.new.requests ≡ slice_set self.old.requests number (Some (Unfinished.Waiting (record w { owes_continue = false }))) }
+        ensures sends { (w : OpenRequest Body) → slice_get self.old.requests number ≡ Some (Some (Unfinished.Waiting w)) → w.owes_continue ≡ true
+            → SendsQuietlyOn outlet.old outlet.new (own_text_by 100 (printing_in w.answer_context now))
+            × (outlet_held outlet.new ≡ []) × SentOn outlet.new × IsFlushed (output_of outlet.new) }
+        ensures fails_once { FailsOnce outlet.old outlet.new }
         ensures turns { self.new.turns ≡ self.old.turns }
     {
-        if let Some(mut waiting) = self.take(number, Some(Unfinished::Raw)) {
-            waiting.owes_continue = false;
+        if let Some(mut request) = self.take(number, Some(Unfinished::Raw)) {
+            request.send_continue(alloc, outlet, now);
             drop(
                 self.requests
-                    .replace(number, Some(Unfinished::Waiting(waiting))),
+                    .replace(number, Some(Unfinished::Waiting(request))),
             );
         }
     }
 
-    /// This number was upgraded, if it waits for its answer. Its body is kept.
-    pub fn set_upgraded(&mut self, number: u64)
-        ensures requests { (w : Waiting) → slice_get self.old.requests number ≡ Some (Some (Unfinished.Waiting w))
+    /// Upgrades the connection to this protocol, if this number waits for its answer. Its body is kept.
+    pub fn upgrade<W: WriteDevice, D: Drop>(
+        &mut self,
+        alloc: Global,
+        outlet: &mut Outlet<W>,
+        number: u64,
+        protocol: &str,
+        response: Response<D>,
+        now: HttpDate,
+    )
+        requires { list_all is_ascii protocol.now ≡ true }
+        ensures requests { (w : OpenRequest Body) → slice_get self.old.requests number ≡ Some (Some (Unfinished.Waiting w))
             → self.new.requests ≡ slice_set self.old.requests number (Some (Unfinished.Upgraded w.body)) }
+        // Whatever the data are.
+        ensures sends { (w : OpenRequest Body) → slice_get self.old.requests number ≡ Some (Some (Unfinished.Waiting w))
+            → ((content : Feed) → SendsQuietlyOn outlet.old outlet.new
+            (upgrade_text (record { answer = response.answer; content = content }) protocol.now (printing_in w.answer_context now)))
+            × (outlet_held outlet.new ≡ []) × SentOn outlet.new × IsFlushed (output_of outlet.new) }
+        ensures fails_once { FailsOnce outlet.old outlet.new }
         ensures turns { self.new.turns ≡ self.old.turns }
     {
-        if let Some(waiting) = self.take(number, Some(Unfinished::Raw)) {
-            let Waiting { body, .. } = waiting;
+        if let Some(mut request) = self.take(number, Some(Unfinished::Raw)) {
+            request.upgrade(alloc, outlet, protocol, response, now);
             drop(
                 self.requests
-                    .replace(number, Some(Unfinished::Upgraded(body))),
+                    .replace(number, Some(Unfinished::Upgraded(request.body))),
             );
         }
     }
@@ -193,17 +222,17 @@ impl Pending {
     }
 
     /// What is kept of this number, if it waits for its answer. Then this is kept in its place.
-    pub fn take(&mut self, number: u64, then: Option<Unfinished>) -> Option<Waiting>
+    pub fn take(&mut self, number: u64, then: Option<Unfinished>) -> Option<OpenRequest<Body>>
         ensures some { IfSome result (λ w. (slice_get self.old.requests number ≡ Some (Some (Unfinished.Waiting w)))
             × (self.new.requests ≡ slice_set self.old.requests number then)) }
         ensures none { IfNone result ((waiting_answer_context (slice_get self.old.requests number) ≡ None) × (self.new.requests ≡ self.old.requests)) }
         ensures turns { self.new.turns ≡ self.old.turns }
     {
-        if self.answer_context_at(number).is_none() {
+        if !self.is_waiting(number) {
             return None;
         }
         match self.requests.replace(number, then) {
-            Some(Unfinished::Waiting(waiting)) => Some(waiting),
+            Some(Unfinished::Waiting(request)) => Some(request),
             _ => unreachable!(),
         }
     }
@@ -281,7 +310,7 @@ fn fill_from<R: ReadDevice>(
     ensures goes_on { GoesOn source.old.feed source.new.feed }
 {
     match unfinished {
-        Unfinished::Waiting(waiting) => waiting.body.fill(source, buf),
+        Unfinished::Waiting(request) => request.body.fill(source, buf),
         Unfinished::Upgraded(body) => body.fill(source, buf),
         Unfinished::Raw => Ok(0),
     }
@@ -292,7 +321,7 @@ pub(crate) fn close_body<R: ReadDevice>(finished: Unfinished, source: &mut Sourc
     ensures gives_up { GivesUpBody (kept_body (Some finished)) source.old source.new }
 {
     match finished {
-        Unfinished::Waiting(Waiting { mut body, .. }) => body.give_up(source),
+        Unfinished::Waiting(mut request) => request.give_up(source),
         Unfinished::Raw => {}
         Unfinished::Upgraded(mut body) => body.give_up(source),
     }

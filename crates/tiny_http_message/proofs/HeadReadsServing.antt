@@ -43,7 +43,7 @@ use Rattle.tiny_http_message.proofs.FramingLemmas.{framing-is}
 use Rattle.tiny_http_stream.specs.FeedParts.{feed_front}
 use Rattle.tiny_http_stream.specs.ToCome.{skipped, stopped}
 use Rattle.tiny_http_message.specs.Body.{Remaining, remaining, taken_remaining, counted_remaining, coming_remaining, PassesOver, Fits, IsBodyOver, ReadsOn}
-use Rattle.tiny_http_message.specs.Exchange.{KeepsHead}
+use Rattle.tiny_http_message.specs.OpenRequest.{KeepsHead}
 use Rattle.tiny_http_stream.specs.Source.{TakesExactly, feed_from}
 use Rattle.tiny_http_message.specs.Pipeline.{Asks, Refuses, Refusal, BadRequest, RequestTimeout, ExpectationFailed, HeaderFieldsTooLarge, VersionNotSupported, refusal_status, framing_refusal, is_head_method, ends_too_new, Place, head_limit, BeginsWithin, IsUnfinishedHead, IsWholeHead, IsCutHead, IsRefused, IsRequestHead, Silence, Refused, Heads, IsCutWithHead, is_timed_out, body_length_or_0, BodyAt, OneHead, item_of, next_place, place_after}
 use Rattle.tiny_http_message.specs.HeadReads.{ReadsMessage, ReadsHead, RefusesWith, AnswersCut, AnswersFault, RefusesTooNew, IsBadLine, IsRefusedUncut, IsOkEnd, HasByteOrTimedOut, Begins, ComesWith, IsCutOff, IsBeforeHead, cut_end, end_at, place_feed, message_of, head_message, head_framing}
@@ -286,7 +286,7 @@ IsHanded profile x q b m f =
     (content : Feed) × (next : Place) × OneHead profile x.bytes x.stop (Some (Asks (record { message = m; framing = f; body = content }))) (place_after f.is_last next) × ComesWith (remaining b q) x.stop content next × Fits b f.form (body_length_or_0 f) 0 false
 
 pub head-handed : (profile : Profile) (date : HttpDate) (o p q : Option Feed) (m : Message) (f : Framing) (h : Head) (b : Body) (y : Exchange) → head_message h ≡ message_of m → head_framing h ≡ f → ReadsMessage (head_limit profile) o p (Ok m) → framing profile m.version m.headers.items ≡ Ok f → is_too_new m.version ≡ false
-    → Begins f p q (Some b) → y.head ≡ h → y.waiting.body ≡ b → KeepsHead y.waiting h date → ReadsHead profile at.Head date o q (Ok (read.Request y))
+    → Begins f p q (Some b) → y.head ≡ h → y.open_request.body ≡ b → KeepsHead y.open_request h date → ReadsHead profile at.Head date o q (Ok (read.Request y))
 head-handed profile date None p q m f h b y u v r e t begins heads bodies keeps = tt
 head-handed profile date (Some x) p q m f h b y u v r e t begins heads bodies keeps =
     let P : Option Feed → Type 0 = λ z. Begins f z q (Some b) in
@@ -294,8 +294,8 @@ head-handed profile date (Some x) p q m f h b y u v r e t begins heads bodies ke
     let Q : Texted → Type 0 = λ z. IsHanded profile x q b z f in
     let R : Framing → Type 0 = λ z. IsHanded profile x q b (head_message h) z in
     let S : Body → Type 0 = λ z. IsHanded profile x q z (head_message h) (head_framing h) in
-    let T : Head → Type 0 = λ z. IsHanded profile x q y.waiting.body (head_message z) (head_framing z) in
-    let K : Head → Type 0 = λ z. KeepsHead y.waiting z date in
+    let T : Head → Type 0 = λ z. IsHanded profile x q y.open_request.body (head_message z) (head_framing z) in
+    let K : Head → Type 0 = λ z. KeepsHead y.open_request z date in
     let all = subst T (sym heads) (subst S (sym bodies) (subst R (sym v) (subst Q (sym u) found))) in
     (all.0, all.1, all.2, all.3, record { answer = subst K (sym heads) keeps; body = all.4 })
 

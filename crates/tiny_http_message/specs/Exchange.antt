@@ -6,81 +6,71 @@ use Rattle.tiny_http_wire.specs.Device.{Feed}
 use Rattle.tiny_http_message.specs.declared.exchange.Head.{Head}
 use Rattle.tiny_http_message.specs.declared.body.Body.{Body}
 use Rattle.tiny_http_message.specs.declared.body.Body.TheVariants.{Over}
-use Rattle.tiny_http_message.specs.declared.waiting.Waiting.{Waiting}
+use Rattle.tiny_http_message.specs.declared.open_request.OpenRequest.{OpenRequest}
 use Rattle.tiny_http_message.specs.declared.exchange.Exchange.{Exchange}
 use Rattle.tiny_http_stream.specs.Source.{SourceState}
-use Rattle.tiny_http_message.specs.Pipeline.{is_head_method}
-use Rattle.tiny_http_sending.specs.ResponseValue.{printing_to, printing_in}
-use Rattle.tiny_http_wire.specs.Coding.{coding_asked}
+use Rattle.tiny_http_sending.specs.ResponseValue.{printing_in}
 use Rattle.tiny_http_wire.specs.Answer.{Printing}
-use Rattle.tiny_http_message.specs.OwnAnswer.{own_text_by}
+use Rattle.tiny_http_message.specs.OpenRequest.{KeepsHead}
 use Rattle.tiny_http_message.specs.Body.{Remaining, remaining, is_streaming, Fits, GivesUp}
 
 -- a request of this head, of which this is kept
-abbrev pub exchange_of : Head → Waiting → Exchange
-exchange_of head waiting = record { head = head; waiting = waiting }
+abbrev pub exchange_of : Head → OpenRequest Body → Exchange
+exchange_of head request = record { head = head; open_request = request }
 
 -- what the request's head says
 abbrev pub exchange_head : Exchange → Head
 exchange_head x = x.head
 
 -- what is kept of it until it is answered
-abbrev pub exchange_waiting : Exchange → Waiting
-exchange_waiting x = x.waiting
+abbrev pub exchange_open : Exchange → OpenRequest Body
+exchange_open x = x.open_request
 
 -- how far its body was read
 abbrev pub exchange_body : Exchange → Body
-exchange_body x = x.waiting.body
+exchange_body x = x.open_request.body
 
 -- what is still to come of its body, where the input still gives this, and what stands after it
 abbrev pub exchange_left : Exchange → Option Feed → Option Remaining
-exchange_left x feed = remaining x.waiting.body feed
+exchange_left x feed = remaining x.open_request.body feed
 
 -- how its answer of this date is printed
 abbrev pub exchange_printing : Exchange → HttpDate → Printing
-exchange_printing x date = printing_in x.waiting.answer_context date
+exchange_printing x date = printing_in x.open_request.answer_context date
 
 -- its body is read from the input, which has to stand after it before the next head is read
 abbrev pub exchange_streams : Exchange → Bool
-exchange_streams x = is_streaming x.waiting.body
+exchange_streams x = is_streaming x.open_request.body
 
 -- a 100 is owed that wasn't sent yet
 abbrev pub exchange_owes_continue : Exchange → Bool
-exchange_owes_continue x = x.waiting.owes_continue
+exchange_owes_continue x = x.open_request.owes_continue
 
 -- nothing has changed but that no 100 is owed any more
 abbrev pub OwesNoContinue : Exchange → Exchange → Type 0
-OwesNoContinue old new = new ≡ record old { waiting = record old.waiting { owes_continue = false } }
+OwesNoContinue old new = new ≡ record old { open_request = record old.open_request { owes_continue = false } }
 
 -- the text that answers it if it is dropped; no byte, once that was taken
 abbrev pub exchange_drop_text : Exchange → List ℕ
-exchange_drop_text x = x.waiting.dropped.items
+exchange_drop_text x = x.open_request.dropped.items
 
 -- nothing has changed but that this text was taken, and that no 100 is owed any more
 abbrev pub HasNoDropText : Exchange → Exchange → Type 0
-HasNoDropText old new = new ≡ record old { waiting = record old.waiting { owes_continue = false; dropped = record { items = [] } } }
+HasNoDropText old new = new ≡ record old { open_request = record old.open_request { owes_continue = false; dropped = record { items = [] } } }
 
 -- nothing but how far its body was read has changed
 abbrev pub KeepsButBody : Exchange → Exchange → Type 0
-KeepsButBody old new = (body : Body) × (new ≡ record old { waiting = record old.waiting { body = body } })
+KeepsButBody old new = (body : Body) × (new ≡ record old { open_request = record old.open_request { body = body } })
 
 -- nothing has changed but that its body reports its end from now on, and that no 100 is owed any more
 abbrev pub HasNoBodyLeft : Exchange → Exchange → Type 0
-HasNoBodyLeft old new = new ≡ record old { waiting = record old.waiting { body = Over End; owes_continue = false } }
+HasNoBodyLeft old new = new ≡ record old { open_request = record old.open_request { body = Over End; owes_continue = false } }
 
 -- its body is given up
 abbrev pub GivesUpBody : {R : Type 0} → Exchange → SourceState R → SourceState R → Type 0
-GivesUpBody x old new = GivesUp x.waiting.body old new
-
--- this is kept of a request with this head that was handed out on this date
-pub record KeepsHead (w : Waiting) (h : Head) (date : HttpDate) : Type 0 where
-  pub version : w.answer_context.version ≡ h.version
-  pub asked_coding : w.answer_context.asked_coding ≡ coding_asked h.headers.items
-  pub no_body : w.answer_context.no_body ≡ is_head_method h.method
-  pub owes_continue : w.owes_continue ≡ h.owes_continue
-  pub text : w.dropped.items ≡ own_text_by 500 (printing_to (coding_asked h.headers.items) h.version (is_head_method h.method) date)
+GivesUpBody x old new = GivesUp x.open_request.body old new
 
 -- what is kept of a request that was read on this date, of whose body nothing was read yet
 pub record KeepsRequest (x : Exchange) (date : HttpDate) : Type 0 where
-  pub answer : KeepsHead x.waiting x.head date
-  pub body : Fits x.waiting.body x.head.form (unwrap_or x.head.body_length 0) 0 false
+  pub answer : KeepsHead x.open_request x.head date
+  pub body : Fits x.open_request.body x.head.form (unwrap_or x.head.body_length 0) 0 false

@@ -35,7 +35,8 @@ use Rattle.tiny_http_stream.specs.Source.{SourceState, GoesOn, feed_from, FindsL
 use Rattle.tiny_http_message.specs.Pipeline.{Request, Asks, Refuses, Refusal, VersionNotSupported, refusal_status, is_timed_out, Place, BeginsWithin, IsUnfinishedHead, IsTooLarge, IsCutWithHead, IsCutHead, IsNotAsciiHead, BodyAt, OneHead, body_length_or_0, place_after}
 use Rattle.tiny_http_message.specs.OwnAnswer.{own_text, refusal_response, refused_text}
 use Rattle.tiny_http_message.specs.Body.{Remaining, remaining, Fits}
-use Rattle.tiny_http_message.specs.Exchange.{exchange_head, exchange_waiting, exchange_left, exchange_streams, KeepsHead, KeepsRequest}
+use Rattle.tiny_http_message.specs.Exchange.{exchange_head, exchange_open, exchange_left, exchange_streams, KeepsRequest}
+use Rattle.tiny_http_message.specs.OpenRequest.{KeepsHead}
 
 -- what is wrong with a head whose next line isn't read
 abbrev pub head_fault : LineFault → HeadFault
@@ -291,7 +292,7 @@ IsRefusedUncut _ = ⊥
 -- a request is framed as its version and headers say, and what is kept of it on this date is that of its head
 abbrev pub IsFramedRequest : Profile → HttpDate → HeadRead → Type 0
 IsFramedRequest p date (read.Request x) =
-    (framing p (exchange_head x).version (exchange_head x).headers.items ≡ Ok (head_framing (exchange_head x))) × KeepsHead (exchange_waiting x) (exchange_head x) date
+    (framing p (exchange_head x).version (exchange_head x).headers.items ≡ Ok (head_framing (exchange_head x))) × KeepsHead (exchange_open x) (exchange_head x) date
 IsFramedRequest p date _ = ⊤
 
 -- where a source stands after the head of this request

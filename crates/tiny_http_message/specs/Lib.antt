@@ -7,5 +7,6 @@ pub mod Pipeline
 pub mod PipelineReading
 pub mod Body
 pub mod BodyRemains
+pub mod OpenRequest
 pub mod Exchange
 pub mod HeadReads

@@ -7,7 +7,7 @@ ghost use Rattle.tiny_http_stream.specs.Source.{GoesOn, IsAtEnd};
 ghost use Rattle.tiny_http_message.specs.Pipeline.{is_head_method, is_timed_out, ends_too_new, refusal_status, framing_refusal};
 ghost use Rattle.tiny_http_message.specs.Body.{ReadsBody, PassesOver};
 ghost use Rattle.tiny_http_message.specs.HeadReads.{ReadsHead, RefusesWith, RefusesTooNew, AnswersCut, AnswersFault, TakesHead, HasByteOrTimedOut, Begins, IsCutOff, IsRequest, IsFramedRequest, IsRefusedUncut, IsOkEnd, cut_end, end_at, standing_of, message_of, head_message, head_framing};
-ghost use Rattle.tiny_http_message.specs.Exchange.{KeepsHead};
+ghost use Rattle.tiny_http_message.specs.OpenRequest.{KeepsHead};
 ghost use Rattle.tiny_http_wire.specs.Device.{Feed};
 ghost use Rattle.tiny_http_stream.specs.Outlet.{outlet_held, SentOn};
 ghost use Rattle.tiny_http_sending.specs.Sending.{FailsOnce, SendsQuietlyOn, SendsAnswer};
@@ -17,17 +17,15 @@ use crate::body::{Body, counted};
 pub use crate::framing::Form;
 use crate::framing::{Framing, FramingFault, Profile, framing_of, is_too_new};
 use crate::heads::{HeadFault, Message, read_message};
-use crate::own_answer::{DropText, own_answer, send_own_quietly, too_new_answer};
-use crate::upgrading::{UpgradeError, send_upgrade_quietly};
-use crate::waiting::{Waiting, is_head};
+use crate::open_request::{OpenRequest, is_head};
+use crate::own_answer::{own_answer, too_new_answer};
+use crate::upgrading::{UpgradeError, check_protocol};
 use httpdate::HttpDate;
 use std::alloc::{AllocError, Global};
 use std::io;
 use std::io::{Cursor, ErrorKind};
-use tiny_http_sending::sending::send_unless_ended;
 use tiny_http_stream::outlet::Outlet;
 use tiny_http_stream::source::{Source, Standing};
-use tiny_http_wire::answer_context::AnswerContext;
 use tiny_http_wire::ascii::AsciiString;
 use tiny_http_wire::chunked::Decoding;
 use tiny_http_wire::common::{HTTPVersion, Header, Method, StatusCode};
@@ -59,7 +57,7 @@ pub struct Head {
 #[derive(Drop)]
 pub struct Exchange {
     head: Head,
-    waiting: Waiting,
+    open_request: OpenRequest<Body>,
 }
 
 /// Why no further request comes.
@@ -128,7 +126,7 @@ impl Exchange {
         ensures reads { ReadsBody (exchange_body self.old) (exchange_body self.new) source.old source.new result buf.new }
         ensures kept { KeepsButBody self.old self.new }
     {
-        self.waiting.body.read(source, buf)
+        self.open_request.read(source, buf)
     }
 
     /// Sends the answer to this request, printed for it and dated `now`, and flushes it. No 100 is owed any more. The caller
@@ -145,8 +143,7 @@ impl Exchange {
         ensures answers { SendsAnswer D.feed outlet.old outlet.new result response (exchange_printing self.old now) }
         ensures once { OwesNoContinue self.old self.new }
     {
-        self.owe_no_continue();
-        send_unless_ended(alloc, outlet, response, self.waiting.answer_context, now)
+        self.open_request.respond(alloc, outlet, response, now)
     }
 
     /// Sends the answer that upgrades the connection to this protocol (RFC 9110, section 7.8), printed for this request and
@@ -174,12 +171,9 @@ impl Exchange {
         ensures flushed { OnOk result (outlet_held outlet.new ≡ []) }
         ensures sent_on { OnOk result (SentOn outlet.new) }
     {
-        let context = self.waiting.answer_context;
-        let sent = send_upgrade_quietly(alloc, outlet, response, context, protocol, now);
-        if sent.is_ok() {
-            self.owe_no_continue();
-        }
-        sent
+        check_protocol(protocol)?;
+        self.open_request.upgrade(alloc, outlet, protocol, response, now);
+        Ok(())
     }
 
     /// Sends the 100 that is owed to this request, and flushes (RFC 9110, section 10.1.1). Where none is owed it changes
@@ -198,23 +192,7 @@ impl Exchange {
         ensures fails_once { FailsOnce outlet.old outlet.new }
         ensures sent { exchange_owes_continue self.old ≡ true → (outlet_held outlet.new ≡ []) × SentOn outlet.new }
     {
-        if self.waiting.owes_continue {
-            send_own_quietly(
-                alloc,
-                outlet,
-                StatusCode(100),
-                self.waiting.answer_context,
-                now,
-            );
-            self.owe_no_continue();
-        }
-    }
-
-    // No 100 is owed any more.
-    fn owe_no_continue(&mut self)
-        ensures { OwesNoContinue self.old self.new }
-    {
-        self.waiting.owes_continue = false;
+        self.open_request.send_continue(alloc, outlet, now);
     }
 
     /// Gives the body up: each later read answers 0, and no 100 is owed any more. The rest of a body of a known length is
@@ -224,8 +202,7 @@ impl Exchange {
         ensures kept { HasNoBodyLeft self.old self.new }
         ensures goes_on { GoesOn source.old.feed source.new.feed }
     {
-        self.waiting.body.give_up(source);
-        self.owe_no_continue();
+        self.open_request.give_up(source);
     }
 
     /// Takes the text that answers this request if it is dropped: an empty 500 in its version, printed for its headers and its
@@ -235,15 +212,14 @@ impl Exchange {
         ensures text { result.items ≡ exchange_drop_text self.old }
         ensures once { HasNoDropText self.old self.new }
     {
-        self.owe_no_continue();
-        self.waiting.dropped.take_text()
+        self.open_request.take_drop_text()
     }
 
     /// The head, and what is kept of the request until it is answered, each by itself; for the crates above.
-    pub fn into_parts(self) -> (Head, Waiting)
+    pub fn into_parts(self) -> (Head, OpenRequest<Body>)
         ensures { self ≡ exchange_of result.0 result.1 }
     {
-        (self.head, self.waiting)
+        (self.head, self.open_request)
     }
 }
 
@@ -398,10 +374,10 @@ fn head_of(message: Message, framing: Framing) -> Head
 
 // A request with this body; or no memory is found for the text that is sent if it is dropped.
 fn hand_out(alloc: Global, head: Head, body: Body, now: HttpDate) -> Result<Exchange, AllocError>
-    ensures { IfOk result (λ x. (x.head ≡ head) × (x.waiting.body ≡ body) × KeepsHead x.waiting head now) }
+    ensures { IfOk result (λ x. (x.head ≡ head) × (x.open_request.body ≡ body) × KeepsHead x.open_request head now) }
 {
-    let waiting = Waiting::new(alloc, &head, body, now)?;
-    Ok(Exchange { head, waiting })
+    let open_request = OpenRequest::new(alloc, &head, body, now)?;
+    Ok(Exchange { head, open_request })
 }
 
 /// The body after a head that is so framed. One of up to 1024 bytes is read at once, unless a 100 is owed: `None` where it is
@@ -483,7 +459,7 @@ fn standing_of(exchange: &Exchange) -> Standing
     if exchange.head.is_last {
         return Standing::Last;
     }
-    if exchange.waiting.body.holds_reader() {
+    if exchange.open_request.body.holds_reader() {
         return Standing::Body;
     }
     Standing::Head

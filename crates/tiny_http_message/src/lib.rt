@@ -7,6 +7,6 @@ pub mod exchange;
 pub mod framing;
 mod heads;
 pub mod laws;
+pub mod open_request;
 pub mod own_answer;
 pub mod upgrading;
-pub mod waiting;

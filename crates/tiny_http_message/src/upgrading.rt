@@ -1,5 +1,5 @@
 //! Upgrades of a connection to another protocol (RFC 9110, section 7.8).
-ghost use Rattle.std.specs.Prelude.{◌≡◌, ◌↔◌, true, [], OnOk, OnErr, IsTrue, is_ok};
+ghost use Rattle.std.specs.Prelude.{◌≡◌, true, [], is_ok};
 ghost use Rattle.std.specs.List.{list_all};
 ghost use Rattle.tiny_http_wire.specs.Bytes.{is_ascii};
 ghost use Rattle.tiny_http_wire.specs.Device.{Feed};
@@ -25,35 +25,37 @@ pub enum UpgradeError {
     Protocol,
 }
 
-/// Sends the answer that upgrades a connection to this protocol, and flushes it: its head alone, with `Connection: upgrade`
-/// and `Upgrade: PROTOCOL` in front of the other headers (as tiny_http). Its data are let go unread. An error, and nothing is
-/// sent, where the protocol isn't ASCII. No reply reports a fault of the writer; an outlet that has ended sends nothing. The
-/// call takes no memory.
-pub fn send_upgrade_quietly<W: WriteDevice, D: Drop>(
+/// Whether a connection can be upgraded to a protocol of this name. An error where it isn't ASCII.
+pub fn check_protocol(protocol: &str) -> Result<(), UpgradeError>
+    ensures { is_ok result ≡ list_all is_ascii protocol.now }
+{
+    if !are_ascii(protocol.as_bytes()) {
+        return Err(UpgradeError::Protocol);
+    }
+    Ok(())
+}
+
+// Sends the answer that upgrades a connection to this protocol, and flushes it: its head alone, with `Connection: upgrade`
+// and `Upgrade: PROTOCOL` in front of the other headers (as tiny_http). Its data are let go unread. No reply reports a fault
+// of the writer; an outlet that has ended sends nothing. It takes no memory.
+pub(crate) fn send_upgrade_quietly<W: WriteDevice, D: Drop>(
     alloc: Global,
     outlet: &mut Outlet<W>,
     response: Response<D>,
     context: AnswerContext,
     protocol: &str,
     now: HttpDate,
-) -> Result<(), UpgradeError>
-    ensures ascii { is_ok result ≡ list_all is_ascii protocol.now }
-    ensures refused { OnErr result (outlet.new ≡ outlet.old) }
+)
+    requires { list_all is_ascii protocol.now ≡ true }
     // Whatever the data are.
-    ensures sends { OnOk result ((content : Feed) → SendsQuietlyOn outlet.old outlet.new
-        (upgrade_text (record { answer = response.answer; content = content }) protocol.now (printing_in context now))) }
+    ensures sends { (content : Feed) → SendsQuietlyOn outlet.old outlet.new
+        (upgrade_text (record { answer = response.answer; content = content }) protocol.now (printing_in context now)) }
     ensures fails_once { FailsOnce outlet.old outlet.new }
-    ensures flushed { OnOk result (outlet_held outlet.new ≡ []) }
-    ensures sent_on { OnOk result (SentOn outlet.new) }
-    ensures is_flushed { OnOk result (IsFlushed (output_of outlet.new)) }
+    ensures sent { (outlet_held outlet.new ≡ []) × SentOn outlet.new × IsFlushed (output_of outlet.new) }
 {
-    if !are_ascii(protocol.as_bytes()) {
-        return Err(UpgradeError::Protocol);
-    }
     if outlet.is_ended() {
         outlet.facts();
-        return Ok(());
+        return;
     }
     let _ = send_upgrade(alloc, outlet, response, context, protocol, now);
-    Ok(())
 }

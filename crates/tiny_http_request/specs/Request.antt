@@ -16,7 +16,7 @@ use Rattle.tiny_http_message.specs.declared.framing.Profile.TheVariants.{Lenient
 use Rattle.tiny_http_message.specs.FramingReading.{framing}
 use Rattle.tiny_http_message.specs.HeadReads.{Begins}
 use Rattle.tiny_http_message.specs.Pipeline.{IsCutWithHead, body_length_or_0}
-use Rattle.tiny_http_message.specs.declared.waiting.Waiting.{Waiting}
+use Rattle.tiny_http_message.specs.declared.open_request.OpenRequest.{OpenRequest}
 use Rattle.tiny_http_request.specs.declared.request.Request.{Request}
 use Rattle.tiny_http_request.specs.declared.request.RequestCreationError.{RequestCreationError}
 use Rattle.tiny_http_request.specs.declared.request.RequestCreationError.TheVariants.{ExpectationFailed, CreationIoError, Memory}
@@ -34,8 +34,8 @@ abbrev pub request_address : {R : Type 0} → {W : Type 0} → {Rt : Type 0} →
 request_address r = r.remote_addr
 
 -- what is kept of it until it is answered
-abbrev pub request_waiting : {R : Type 0} → {W : Type 0} → {Rt : Type 0} → Request R W Rt → Waiting
-request_waiting r = record { answer_context = r.answer_context; owes_continue = r.owes_continue; dropped = r.dropped; body = r.body }
+abbrev pub request_open : {R : Type 0} → {W : Type 0} → {Rt : Type 0} → Request R W Rt → OpenRequest Body
+request_open r = r.open_request
 
 -- whether no request is made since its expectation can't be met
 abbrev pub is_expectation_failed : RequestCreationError → Bool

@@ -1,10 +1,11 @@
 //! A connection whose requests threads may hold.
 ghost use Rattle.std.specs.Prelude.{◌≡◌, true, false, Ok, None, Some, IfOk, OnErr, IfSome, IfNone};
-ghost use Rattle.tiny_http_message.specs.Exchange.{exchange_of, KeepsHead};
+ghost use Rattle.tiny_http_message.specs.Exchange.{exchange_of};
+ghost use Rattle.tiny_http_message.specs.OpenRequest.{KeepsHead};
 ghost use Rattle.tiny_http_message.specs.FramingReading.{framing};
 ghost use Rattle.tiny_http_message.specs.HeadReads.{head_framing, IsFramedRequest};
 ghost use Rattle.tiny_http_socket.specs.Stream.{MayHavePeer};
-ghost use Rattle.tiny_http_request.specs.Request.{request_head, request_secure, request_address, request_waiting};
+ghost use Rattle.tiny_http_request.specs.Request.{request_head, request_secure, request_address, request_open};
 
 use crate::request::Request;
 use crate::sequential::{SequentialReader, SequentialReaderBuilder, SequentialWriterBuilder};
@@ -151,7 +152,7 @@ impl<R: ReadDevice + Drop, W: WriteDevice + Drop, Rt: Wait + Copy> ClientConnect
         ensures open { IfOk result (λ r. IfSome r (λ request. (request_head request).is_last ≡ false → IsOver self.new → ⊥)) }
         // A request is framed as its version and headers say, and what is kept for its answer is that of its head, on this date.
         ensures framing { IfOk result (λ r. IfSome r (λ request. let h = request_head request in framing (client_profile self.old) h.version h.headers.items ≡ Ok (head_framing h))) }
-        ensures keeps { IfOk result (λ r. IfSome r (λ request. KeepsHead (request_waiting request) (request_head request) now)) }
+        ensures keeps { IfOk result (λ r. IfSome r (λ request. KeepsHead (request_open request) (request_head request) now)) }
         ensures client { IfOk result (λ r. IfSome r (λ request. (request_secure request ≡ client_secure self.old) × (request_address request ≡ client_address self.old))) }
         ensures same { (client_secure self.new ≡ client_secure self.old) × (client_address self.new ≡ client_address self.old) × (client_profile self.new ≡ client_profile self.old) }
     {
@@ -187,27 +188,27 @@ impl<R: ReadDevice + Drop, W: WriteDevice + Drop, Rt: Wait + Copy> ClientConnect
         exchange: Exchange,
     ) -> Result<Request<R, W, Rt>, AllocError>
         requires { IsOver self.old }
-        ensures exchange { IfOk result (λ request. exchange ≡ exchange_of (request_head request) (request_waiting request)) }
+        ensures exchange { IfOk result (λ request. exchange ≡ exchange_of (request_head request) (request_open request)) }
         ensures err { OnErr result (IsOver self.new) }
         ensures last { IfOk result (λ request. (request_head request).is_last ≡ true → IsOver self.new) }
         ensures open { IfOk result (λ request. (request_head request).is_last ≡ false → IsOver self.new → ⊥) }
         ensures client { IfOk result (λ request. (request_secure request ≡ client_secure self.old) × (request_address request ≡ client_address self.old)) }
         ensures same { (client_secure self.new ≡ client_secure self.old) × (client_address self.new ≡ client_address self.old) × (client_profile self.new ≡ client_profile self.old) }
     {
-        let (head, waiting) = exchange.into_parts();
+        let (head, open_request) = exchange.into_parts();
         let writer = self.sink.next()?;
         let client = (self.secure, self.remote_addr);
-        if !waiting.body.holds_reader() {
+        if !open_request.body.holds_reader() {
             if !head.is_last {
                 self.next_head = Some(reader);
             }
-            return Ok(Request::from_parts(self.alloc, client, head, waiting, None, writer));
+            return Ok(Request::from_parts(self.alloc, client, head, open_request, None, writer));
         }
         if !head.is_last {
             self.next_head = Some(self.source.next()?);
         }
         let reader = Some(reader);
-        Ok(Request::from_parts(self.alloc, client, head, waiting, reader, writer))
+        Ok(Request::from_parts(self.alloc, client, head, open_request, reader, writer))
     }
 }
 

@@ -6,10 +6,10 @@ ghost use Rattle.std.specs.Option.{option_copied};
 ghost use Rattle.tiny_http_wire.specs.Bytes.{is_ascii};
 ghost use Rattle.tiny_http_sending.specs.Sending.{is_closed_client};
 ghost use Rattle.tiny_http_message.specs.FramingReading.{framing};
-ghost use Rattle.tiny_http_message.specs.Exchange.{KeepsHead};
+ghost use Rattle.tiny_http_message.specs.OpenRequest.{KeepsHead};
 ghost use Rattle.tiny_http_message.specs.Body.{is_streaming};
 ghost use Rattle.tiny_http_message.specs.HeadReads.{head_framing, Begins};
-ghost use Rattle.tiny_http_request.specs.Request.{request_head, request_secure, request_address, request_waiting, is_expectation_failed, IfCreationIo, cut_kind, IsCutShort, CutsShort, BeginsWith};
+ghost use Rattle.tiny_http_request.specs.Request.{request_head, request_secure, request_address, request_open, is_expectation_failed, IfCreationIo, cut_kind, IsCutShort, CutsShort, BeginsWith};
 
 pub use crate::body::Body;
 use crate::sequential::{
@@ -26,18 +26,15 @@ use tiny_http_device::device::{ReadDevice, Stop, WriteDevice};
 use tiny_http_message::body::Body as Unread;
 use tiny_http_message::exchange::{Head, begin_body};
 use tiny_http_message::framing::{Framing, FramingFault, Profile, framing_of};
-use tiny_http_message::own_answer::{DropText, send_own_quietly};
+use tiny_http_message::open_request::OpenRequest;
 pub use tiny_http_message::upgrading::UpgradeError;
-use tiny_http_message::upgrading::send_upgrade_quietly;
-use tiny_http_message::waiting::Waiting;
-use tiny_http_sending::sending::{reported, send_unless_ended};
+use tiny_http_message::upgrading::check_protocol;
+use tiny_http_sending::sending::reported;
 use tiny_http_stream::custom_stream::CustomStream;
 use tiny_http_stream::outlet::Outlet;
 use tiny_http_stream::source::Source;
 use tiny_http_text::ascii::AsciiString;
-use tiny_http_text::bytes::are_ascii;
-use tiny_http_wire::answer_context::AnswerContext;
-use tiny_http_wire::common::{HTTPVersion, Header, Method, StatusCode};
+use tiny_http_wire::common::{HTTPVersion, Header, Method};
 use tiny_http_wire::response::Response;
 
 /// Why no request is made of its parts.
@@ -88,10 +85,7 @@ pub struct Request<R: ReadDevice + Drop, W: WriteDevice + Drop, Rt: Wait + Drop>
     secure: bool,
     remote_addr: Option<SocketAddr>,
     head: Head,
-    answer_context: AnswerContext,
-    owes_continue: bool,
-    dropped: DropText,
-    body: Body<R, Rt>,
+    open_request: OpenRequest<Body<R, Rt>>,
     writer: SequentialWriter<Outlet<W>, Rt>,
 }
 
@@ -101,33 +95,49 @@ impl<R: ReadDevice + Drop, W: WriteDevice + Drop, Rt: Wait + Drop> Request<R, W,
         alloc: Global,
         client: (bool, Option<SocketAddr>),
         head: Head,
-        waiting: Waiting,
+        open_request: OpenRequest<Unread>,
         reader: Option<SequentialReader<Source<R>, Rt>>,
         writer: SequentialWriter<Outlet<W>, Rt>,
     ) -> Request<R, W, Rt>
-        requires { is_some reader ≡ is_streaming waiting.body }
+        requires { is_some reader ≡ is_streaming open_request.body }
         ensures head { request_head result ≡ head }
-        ensures waiting { request_waiting result ≡ waiting }
+        ensures open { request_open result ≡ open_request }
         ensures client { (request_secure result ≡ client.0) × (request_address result ≡ client.1) }
     {
         let (secure, remote_addr) = client;
-        let Waiting {
+        let OpenRequest {
             answer_context,
             owes_continue,
             dropped,
             body,
-        } = waiting;
+        } = open_request;
+        let open_request = OpenRequest {
+            answer_context,
+            owes_continue,
+            dropped,
+            body: Body::new(body, reader),
+        };
         Request {
             alloc,
             secure,
             remote_addr,
             head,
-            answer_context,
-            owes_continue,
-            dropped,
-            body: Body::new(body, reader),
+            open_request,
             writer,
         }
+    }
+
+    // What is left of it as it is finished: what it owes, and its turn.
+    fn into_turn(self) -> (OpenRequest<Body<R, Rt>>, SequentialWriter<Outlet<W>, Rt>) {
+        let Self {
+            alloc: _,
+            secure: _,
+            remote_addr: _,
+            head: _,
+            open_request,
+            writer,
+        } = self;
+        (open_request, writer)
     }
 
     /// Whether the connection is encrypted.
@@ -181,30 +191,23 @@ impl<R: ReadDevice + Drop, W: WriteDevice + Drop, Rt: Wait + Drop> Request<R, W,
 
     // Sends the 100 that is owed, if one is, in the turn of the request. None is owed any more.
     fn send_continue(&mut self, now: HttpDate)
-        ensures waiting { request_waiting self.new ≡ record (request_waiting self.old) { owes_continue = false } }
+        ensures open { request_open self.new ≡ record (request_open self.old) { owes_continue = false } }
         ensures head { request_head self.new ≡ request_head self.old }
         ensures client { (request_secure self.new ≡ request_secure self.old) × (request_address self.new ≡ request_address self.old) }
     {
-        if self.owes_continue {
+        if self.open_request.owes_continue {
             let outlet = self.writer.hold();
-            send_own_quietly(
-                self.alloc,
-                outlet,
-                StatusCode(100),
-                self.answer_context,
-                now,
-            );
-            self.owes_continue = false;
+            self.open_request.send_continue(self.alloc, outlet, now);
         }
     }
 
     /// The body. If a 100 is owed it is sent first, dated `now`, in the turn of the request: that waits until the requests
     /// before are finished. A fault of the writer isn't reported there.
     pub fn as_reader(&mut self, now: HttpDate) -> &mut Body<R, Rt>
-        ensures { result.now ≡ (request_waiting self.old).body }
+        ensures { result.now ≡ (request_open self.old).body }
     {
         self.send_continue(now);
-        &mut self.body
+        &mut self.open_request.body
     }
 
     /// Sends the answer, dated `now`, in the turn of the request, and then gives the body up. It waits until the requests
@@ -218,39 +221,19 @@ impl<R: ReadDevice + Drop, W: WriteDevice + Drop, Rt: Wait + Drop> Request<R, W,
     ) -> Result<(), io::Error>
         ensures { IfErr result (λ e. is_closed_client (error_kind e) ≡ false) }
     {
-        let Self {
-            alloc,
-            secure: _,
-            remote_addr: _,
-            head: _,
-            answer_context,
-            owes_continue: _,
-            dropped: _,
-            body,
-            mut writer,
-        } = self;
-        let outlet = writer.hold();
-        let sent = send_unless_ended(alloc, outlet, response, answer_context, now);
+        let alloc = self.alloc;
+        let (mut open_request, mut writer) = self.into_turn();
+        let sent = open_request.respond(alloc, writer.hold(), response, now);
         writer.pass();
-        drop(body);
+        drop(open_request);
         reported(sent)
     }
 
     /// Takes the raw writer in place of an answer, and gives the body up. What is written is all that the client gets for the
     /// request, but for a 100 that was sent before. The turn ends as the writer is dropped.
     pub fn into_writer(self) -> SequentialWriter<Outlet<W>, Rt> {
-        let Self {
-            alloc: _,
-            secure: _,
-            remote_addr: _,
-            head: _,
-            answer_context: _,
-            owes_continue: _,
-            dropped: _,
-            body,
-            writer,
-        } = self;
-        drop(body);
+        let (open_request, writer) = self.into_turn();
+        drop(open_request);
         writer
     }
 
@@ -266,23 +249,11 @@ impl<R: ReadDevice + Drop, W: WriteDevice + Drop, Rt: Wait + Drop> Request<R, W,
     ) -> Result<CustomStream<Body<R, Rt>, SequentialWriter<Outlet<W>, Rt>>, UpgradeError>
         ensures { is_ok result ≡ list_all is_ascii protocol.now }
     {
-        if !are_ascii(protocol.as_bytes()) {
-            return Err(UpgradeError::Protocol);
-        }
-        let Self {
-            alloc,
-            secure: _,
-            remote_addr: _,
-            head: _,
-            answer_context,
-            owes_continue: _,
-            dropped: _,
-            body,
-            mut writer,
-        } = self;
-        let outlet = writer.hold();
-        let _ = send_upgrade_quietly(alloc, outlet, response, answer_context, protocol, now);
-        Ok(CustomStream::new(body, writer))
+        check_protocol(protocol)?;
+        let alloc = self.alloc;
+        let (mut open_request, mut writer) = self.into_turn();
+        open_request.upgrade(alloc, writer.hold(), protocol, response, now);
+        Ok(CustomStream::new(open_request.body, writer))
     }
 
     /// Drops the request: it is answered by an empty 500, in its turn. That waits for nobody's turn.
@@ -294,18 +265,9 @@ impl<R: ReadDevice + Drop, W: WriteDevice + Drop, Rt: Wait + Drop> Request<R, W,
 impl<R: ReadDevice + Drop, W: WriteDevice + Drop, Rt: Wait + Drop> Drop for Request<R, W, Rt> {
     /// Leaves the turn with an empty 500, and then gives the body up.
     fn drop(self) {
-        let Self {
-            alloc: _,
-            secure: _,
-            remote_addr: _,
-            head: _,
-            answer_context: _,
-            owes_continue: _,
-            dropped,
-            body,
-            writer,
-        } = self;
-        writer.leave(dropped.into_text());
+        let (open_request, writer) = self.into_turn();
+        let (text, body) = open_request.into_drop_text();
+        writer.leave(text);
         drop(body);
     }
 }
@@ -387,8 +349,8 @@ pub fn new_request<R: ReadDevice + Drop, W: WriteDevice + Drop, Rt: Wait + Copy>
 ) -> Result<Request<R, W, Rt>, RequestCreationError>
     ensures head { IfOk result (λ r. let h = request_head r in (h.method ≡ method) × (h.path ≡ path) × (h.version ≡ version) × (h.headers ≡ headers)) }
     ensures framing { IfOk result (λ r. framing Profile.Lenient version headers.items ≡ Ok (head_framing (request_head r))) }
-    ensures body { IfOk result (λ r. BeginsWith (head_framing (request_head r)) (R.feed source_data) (request_waiting r).body) }
-    ensures keeps { IfOk result (λ r. KeepsHead (request_waiting r) (request_head r) now) }
+    ensures body { IfOk result (λ r. BeginsWith (head_framing (request_head r)) (R.feed source_data) (request_open r).body) }
+    ensures keeps { IfOk result (λ r. KeepsHead (request_open r) (request_head r) now) }
     ensures client { IfOk result (λ r. (request_secure r ≡ secure) × (request_address r ≡ remote_addr)) }
     ensures refused { framing Profile.Lenient version headers.items ≡ Err FramingFault.Expectation → result ≡ Err RequestCreationError.ExpectationFailed }
     ensures cut { IfErr result (λ e. IfCreationIo e (λ fault. CutsShort version headers.items (R.feed source_data) (error_kind fault))) }
@@ -412,7 +374,7 @@ pub fn new_request<R: ReadDevice + Drop, W: WriteDevice + Drop, Rt: Wait + Copy>
         owes_continue: framing.owes_continue,
         is_last: framing.is_last,
     };
-    let waiting = Waiting::new(alloc, &head, body, now)?;
+    let open_request = OpenRequest::new(alloc, &head, body, now)?;
     let client = (secure, remote_addr);
-    Ok(Request::from_parts(alloc, client, head, waiting, reader, writer))
+    Ok(Request::from_parts(alloc, client, head, open_request, reader, writer))
 }

@@ -5,20 +5,21 @@ use Rattle.tiny_http_stream.specs.Outlet.{output_of, outlet_ended}
 use Rattle.tiny_http_core.specs.Pending.{owes_continue}
 use Rattle.tiny_http_core.specs.Connection.{Kept, kept}
 use Rattle.tiny_http_stream.proofs.SourceGoesOn.{goes-on_same}
-use Rattle.tiny_http_core.proofs.ConnectionRespond.{no-such, answer-form-some}
+use Rattle.tiny_http_core.proofs.ConnectionRespond.{no-such, waits-some, waits-none}
 use Rattle.tiny_http_core.proofs.ConnectionContinue.{continue-not_taken, continue-unowed, continue-not_yet, continue-done}
 use Rattle.tiny_http_core.proofs.DrivingLemmas.{viewed, takes-as_reader, moves-none}
 use Rattle.tiny_http_core.proofs.driver.Connection.as_reader.Goals as goal
 
-pub returns-in_default : goal.returns-in_default
-returns-in_default g c =
+pub returns-then-not-is_waiting : goal.returns-then-not-is_waiting
+returns-then-not-is_waiting g c =
     let n = c.args.number in
     let q = c.self.inside in
     let old = viewed q.profile q.source q.outlet q.pending q.end in
+    let none = waits-none (slice_get q.pending.requests n) (sym c.is_waiting.ensures ∙ c.if-not-is_waiting.true) in
     record {
       step = rw (← c.self.view_is) (takes-as_reader old old c.args.now n NoSuch
-          (λ client before s low st. no-such client before (kept old) s c.args.now n (AsReader n) refl (continue-not_taken n) st (sym c.answer_context_at.ensures ∙ c.in_default.is))
-          (λ no. refl) refl (refl, refl, sym c.answer_context_at.ensures ∙ c.in_default.is) (moves-none old) (λ kind e. cc));
+          (λ client before s low st. no-such client before (kept old) s c.args.now n (AsReader n) refl (continue-not_taken n) st (none))
+          (λ no. refl) refl (refl, refl, none) (moves-none old) (λ kind e. cc));
     }
 
 pub returns-then-not-owes_continue : goal.returns-then-not-owes_continue
@@ -26,7 +27,7 @@ returns-then-not-owes_continue g c =
     let n = c.args.number in
     let q = c.self.inside in
     let old = viewed q.profile q.source q.outlet q.pending q.end in
-    let w = answer-form-some (slice_get q.pending.requests n) c.in-Some.answer_context (sym c.answer_context_at.ensures ∙ c.in-Some.is) in
+    let w = waits-some (slice_get q.pending.requests n) (sym c.is_waiting.ensures ∙ c.if-not-is_waiting.false) in
     let free : w.0.owes_continue ≡ false = ap owes_continue (sym w.1) ∙ sym c.owes_continue.ensures ∙ c.if-not-owes_continue.true in
     record {
       step = rw (← c.self.view_is) (takes-as_reader old old c.args.now n Done
@@ -39,7 +40,7 @@ returns-then-not-is_in_turn g c =
     let n = c.args.number in
     let q = c.self.inside in
     let old = viewed q.profile q.source q.outlet q.pending q.end in
-    let w = answer-form-some (slice_get q.pending.requests n) c.in-Some.answer_context (sym c.answer_context_at.ensures ∙ c.in-Some.is) in
+    let w = waits-some (slice_get q.pending.requests n) (sym c.is_waiting.ensures ∙ c.if-not-is_waiting.false) in
     record {
       step = rw (← c.self.view_is) (takes-as_reader old old c.args.now n NotYet
           (λ client before s low st.
@@ -51,20 +52,20 @@ pub returns : goal.returns
 returns g c =
     let n = c.args.number in
     let q = c.self.inside in
-    let sent = c.send_own_quietly in
-    let left = c.set_continued in
+    let sent = c.send_continue in
     let old = viewed q.profile q.source q.outlet q.pending q.end in
-    let new = viewed q.profile q.source sent.new.outlet left.new.self q.end in
+    let new = viewed q.profile q.source sent.new.outlet sent.new.self q.end in
     let k : Kept = kept old in
-    let w = answer-form-some (slice_get k.requests n) c.in-Some.answer_context (sym c.answer_context_at.ensures ∙ c.in-Some.is) in
+    let w = waits-some (slice_get k.requests n) (sym c.is_waiting.ensures ∙ c.if-not-is_waiting.false) in
     let owed : w.0.owes_continue ≡ true = ap owes_continue (sym w.1) ∙ sym c.owes_continue.ensures ∙ c.if-not-owes_continue.false in
-    let marks = ap (λ t. t.marks) left.ensures.turns in
+    let said = sent.ensures.sends w.0 w.1 owed in
+    let marks = ap (λ t. t.marks) sent.ensures.turns in
     record {
       step = rw (← c.self.view_is) (takes-as_reader old new c.args.now n Done
           (λ client before s low st.
-          continue-done client before k s c.args.now n w.0 c.in-Some.answer_context (output_of sent.new.outlet) (outlet_ended sent.new.outlet) left.new.self.turns.marks left.new.self.requests q.source st
-          (record { feed = refl; stop = refl; ends = refl; standing = refl }) low w.1 w.2 owed (sym c.is_in_turn.ensures ∙ c.if-not-is_in_turn.false) marks (left.ensures.requests w.0 w.1) sent.ensures.sends sent.ensures.is_flushed)
-          (λ no. elim no [ ]) refl (refl, marks, (w.0, w.1, rw owed (left.ensures.requests w.0 w.1)))
-          (record { profile = refl; goes_on = goes-on_same q.source.feed; fails_once = sent.ensures.fails_once; flushed = λ was. sent.ensures.flushed; sent_on = λ was. sent.ensures.sent_on })
+          continue-done client before k s c.args.now n w.0 w.0.answer_context (output_of sent.new.outlet) (outlet_ended sent.new.outlet) sent.new.self.turns.marks sent.new.self.requests q.source st
+          (record { feed = refl; stop = refl; ends = refl; standing = refl }) low w.1 refl owed (sym c.is_in_turn.ensures ∙ c.if-not-is_in_turn.false) marks (sent.ensures.requests w.0 w.1) said.0 said.3)
+          (λ no. elim no [ ]) refl (refl, marks, (w.0, w.1, rw owed (sent.ensures.requests w.0 w.1)))
+          (record { profile = refl; goes_on = goes-on_same q.source.feed; fails_once = sent.ensures.fails_once; flushed = λ was. said.1; sent_on = λ was. said.2 })
           (λ kind e. cc));
     }

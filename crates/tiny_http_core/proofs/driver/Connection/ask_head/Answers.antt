@@ -91,7 +91,7 @@ returns-in-Ok-clause-answers g c = λ can.
     let P : List Mark → List (Option Unfinished) → Type 0 = λ m r.
     StepIsAnswered client before (record k { marks = m; requests = r; standing = source.standing; feed = source.feed; stop = source.stop; is_over = source.is_over }) s c.args.now Ask (Handed c.in-Ok.number (head_message x.head) (head_framing x.head)) in
     subst (λ m. P m c.issue.new.self.requests) (sym e.marks) (subst (λ r. P (k.marks ++ (Open ∷ [])) r) (sym e.requests) done))
-    (λ no. elim no [ ]) (may.0, may.0) (0, x.waiting, e.requests ∙ ap (λ y. y ++ (Some (still.Waiting x.waiting) ∷ [])) (sym (append-nil q.pending.requests)), (let S : Result HeadRead AllocError → Type 0 = λ r. source.standing ≡ standing_read r q.source.standing in subst S is h.standing), e.number ∙ plus-none (length q.pending.turns.marks), λ z. (refl, lazy-of c.read_head_with.result x is h.lazy)) (driving-reads-on old new refl refl h.goes_on))
+    (λ no. elim no [ ]) (may.0, may.0) (0, x.open_request, e.requests ∙ ap (λ y. y ++ (Some (still.Waiting x.open_request) ∷ [])) (sym (append-nil q.pending.requests)), (let S : Result HeadRead AllocError → Type 0 = λ r. source.standing ≡ standing_read r q.source.standing in subst S is h.standing), e.number ∙ plus-none (length q.pending.turns.marks), λ z. (refl, lazy-of c.read_head_with.result x is h.lazy)) (driving-reads-on old new refl refl h.goes_on))
 
 pub returns-in-Err-issue-clause-answers : goal.returns-in-Err-issue-clause-answers
 returns-in-Err-issue-clause-answers g c = λ can.

@@ -39,7 +39,7 @@ returns g c =
     let old = viewed q.profile q.source q.outlet q.pending q.end in
     let new = viewed q.profile source q.outlet c.take.new.self q.end in
     let k : Kept = kept old in
-    let w = c.in-Some.field-0 in
+    let w = c.in-Some.request in
     let some = c.in-Some.ensures.some in
     record {
       step = λ date. rw (← c.self.view_is) (takes-into_writer old new date n Done

@@ -19,7 +19,7 @@ returns-clause-drops g c = λ yes now.
     let new = viewed q.profile source c.leave.new.outlet c.leave.new.self q.end in
     let k : Kept = kept old in
     let left = c.leave.new in
-    let w = c.in-Some.waiting in
+    let w = c.in-Some.request in
     let some = c.in-Some.ensures.some in
     let turns = c.take.ensures.turns in
     let requests = c.leave.ensures.requests ∙ some.1 in
@@ -29,6 +29,6 @@ returns-clause-drops g c = λ yes now.
     (λ front rest e place can.
     let T : List Mark → Type 0 = λ m. LeavesText (n == first_unfinished m) front rest left.self.turns.marks w.dropped.items k.output_ended k.sink (output_of left.outlet) (outlet_ended left.outlet) in
     let L : List ℕ → Type 0 = λ x. LeavesText (n == first_unfinished c.take.new.self.turns.marks) front rest left.self.turns.marks x k.output_ended k.sink (output_of left.outlet) (outlet_ended left.outlet) in
-    subst T (ap (λ t. t.marks) turns) (subst L c.into_text-text.ensures (c.leave.ensures.leaves front rest (ap (λ t. t.marks) turns ∙ e) place can))))
+    subst T (ap (λ t. t.marks) turns) (subst L c.into_drop_text-text.ensures.text (c.leave.ensures.leaves front rest (ap (λ t. t.marks) turns ∙ e) place can))))
     refl (requests, gives-up-of q.source source (slice_get k.requests n) (still.Waiting w) some.0 c.give_up.ensures.gives_up)
     (record { profile = refl; goes_on = gives-up w.body q.source source c.give_up.ensures.gives_up; fails_once = c.leave.ensures.fails_once; flushed = λ was. c.leave.ensures.flushed (was refl); sent_on = λ was. c.leave.ensures.sent_on (was refl) }))

@@ -18,20 +18,22 @@ use Rattle.tiny_http_core.specs.Seen.{seen, Answers}
 use Rattle.tiny_http_core.proofs.ConnectionAsk.{StepIsAnswered}
 use Rattle.tiny_http_stream.proofs.SourceGoesOn.{goes-on_same}
 use Rattle.tiny_http_core.proofs.ConnectionOutput.{can-send}
-use Rattle.tiny_http_core.proofs.ConnectionRespond.{no-such, respond-not_taken, answer-form-some, respond-not_yet, respond-done, responds-by, after_number}
+use Rattle.tiny_http_core.proofs.ConnectionRespond.{no-such, respond-not_taken, waits-some, waits-none, respond-not_yet, respond-done, responds-by}
+use Rattle.tiny_http_message.specs.Body.{GivesUp}
 use Rattle.tiny_http_message.proofs.BodyReads.{gives-up}
 use Rattle.tiny_http_sending.proofs.SendingLemmas.{once-append}
 use Rattle.tiny_http_core.proofs.DrivingLemmas.{viewed, same-view, takes-respond, driving-reads-on, moves-none, honest-more, gives-up-of}
 use Rattle.tiny_http_core.proofs.driver.Connection.respond.Goals as goal
 
-pub returns-in_default : goal.returns-in_default
-returns-in_default g c =
+pub returns-then-not-is_waiting : goal.returns-then-not-is_waiting
+returns-then-not-is_waiting g c =
     let n = c.args.number in
     let q = c.self.inside in
     let old = viewed q.profile q.source q.outlet q.pending q.end in
+    let none = waits-none (slice_get q.pending.requests n) (sym c.is_waiting.ensures ∙ c.if-not-is_waiting.true) in
     record {
       step = rw (← c.self.view_is) (takes-respond g.D.ReadDevice.feed false old old c.args.now n c.args.response NoSuch
-          (λ client before s value low is st. no-such client before (kept old) s c.args.now n (Respond n value) refl (respond-not_taken n value) st (sym c.answer_context_at.ensures ∙ c.in_default.is))
+          (λ client before s value low is st. no-such client before (kept old) s c.args.now n (Respond n value) refl (respond-not_taken n value) st none)
           (λ no. refl) refl (λ no. elim no [ ]) refl (moves-none old) (λ kind e. cc));
     }
 
@@ -45,8 +47,7 @@ returns-then-not-hold g c =
     record {
       step = rw (← c.self.view_is) (takes-respond g.D.ReadDevice.feed false old new c.args.now n c.args.response NotYet
           (λ client before s value low is st.
-          let kept_answer_context : waiting_answer_context (slice_get k.requests n) ≡ Some c.in-Some.answer_context = sym c.answer_context_at.ensures ∙ c.in-Some.is in
-          let w = answer-form-some (slice_get k.requests n) c.in-Some.answer_context kept_answer_context in
+          let w = waits-some (slice_get k.requests n) (sym c.is_waiting.ensures ∙ c.if-not-is_waiting.false) in
           let late : c.hold.result ≡ false = search rules in
           let same = c.hold.ensures.not_yet late in
           let P : List Mark → List (Option Unfinished) → Type 0 = λ m r. StepIsAnswered client before (record k { marks = m; requests = r }) s c.args.now (Respond n value) NotYet in
@@ -78,8 +79,17 @@ answered-done Refused a = elim a [ ]
 answered-done (Given bytes) a = elim a [ ]
 answered-done (Handed k m f) a = elim a [ ]
 
-pub returns-in-Some-take : goal.returns-in-Some-take
-returns-in-Some-take g c =
+-- a number that waits is taken
+pub unreachable : goal.unreachable
+unreachable g c =
+    let n = c.args.number in
+    let q = c.self.inside in
+    let w = waits-some (slice_get q.pending.requests n) (sym c.is_waiting.ensures ∙ c.if-not-is_waiting.false) in
+    let none : waiting_answer_context (slice_get q.pending.requests n) ≡ None = ap (λ l. waiting_answer_context (slice_get l n)) (sym c.hold.ensures.requests) ∙ c.in_default.ensures.none.0 in
+    let no : Some w.0.answer_context ≡ None = sym (ap waiting_answer_context w.1) ∙ none in cc
+
+pub returns : goal.returns
+returns g c =
     let n = c.args.number in
     let q = c.self.inside in
     let sink = g.W.WriteDevice.sink in
@@ -87,41 +97,35 @@ returns-in-Some-take g c =
     let source = c.give_up.new.source in
     let mid = c.answer-reply.new.outlet in
     let last = c.pass.new in
-    let taken = c.take.new.self in
-    let new = viewed q.profile source last.outlet taken q.end in
+    let new = viewed q.profile source last.outlet last.self q.end in
     let k : Kept = kept old in
     let reply = seen c.answer-reply.result in
-    let w0 = c.in-Some-take.field-0 in
+    let w0 = c.in-Some.request in
+    let some = c.in-Some.ensures.some in
+    let got : slice_get k.requests n ≡ Some (Some (still.Waiting w0)) = ap (λ l. slice_get l n) (sym c.hold.ensures.requests) ∙ some.0 in
+    let requests : last.self.requests ≡ slice_set k.requests n None = c.pass.ensures.requests ∙ some.1 ∙ ap (λ l. slice_set l n None) c.hold.ensures.requests in
+    let waits : waiting_answer_context (slice_get k.requests n) ≡ Some w0.answer_context = ap waiting_answer_context got in
+    let given_up : GivesUp w0.body q.source source = subst (λ b. GivesUp b q.source source) c.answer-reply.ensures.body c.give_up.ensures.gives_up in
     record {
       step = rw (← c.self.view_is) (takes-respond g.D.ReadDevice.feed true old new c.args.now n c.args.response reply
           (λ client before s value low is st.
-          let kept_answer_context : waiting_answer_context (slice_get k.requests n) ≡ Some c.in-Some.answer_context = sym c.answer_context_at.ensures ∙ c.in-Some.is in
           let held : IsTrue c.hold.result = search rules in
-          let A : Answer → Type 0 = λ a. Answers k.sink (output_of mid) (outlet_ended mid) reply a value.content (printing_in c.in-Some.answer_context c.args.now) in
-          let same : last.self.requests ≡ k.requests = c.pass.ensures.requests ∙ c.hold.ensures.requests in
-          let some = c.in-Some-take.ensures.some in
-          let got : slice_get k.requests n ≡ Some (Some (still.Waiting w0)) = ap (λ l. slice_get l n) (sym same) ∙ some.0 in
-          let requests : taken.requests ≡ slice_set k.requests n None = some.1 ∙ ap (λ l. slice_set l n None) same in
-          let done = respond-done client before k s c.args.now n value c.in-Some.answer_context (output_of mid) (output_of last.outlet) (outlet_ended mid) (outlet_ended last.outlet) c.hold.new.self.turns.marks last.self.turns.marks taken.requests q.source source reply
-          st (record { feed = refl; stop = refl; ends = refl; standing = refl }) (λ w e. gives-up-of q.source source (slice_get k.requests n) (still.Waiting w0) got c.give_up.ensures.gives_up (still.Waiting w) e) low kept_answer_context (c.hold.ensures.held.0 held).1 (c.hold.ensures.marks held) requests
-          (responds-by k (output_of mid) (outlet_ended mid) reply value c.in-Some.answer_context c.args.now
+          let A : Answer → Type 0 = λ a. Answers k.sink (output_of mid) (outlet_ended mid) reply a value.content (printing_in w0.answer_context c.args.now) in
+          respond-done client before k s c.args.now n value w0.answer_context (output_of mid) (output_of last.outlet) (outlet_ended mid) (outlet_ended last.outlet) c.take.new.self.turns.marks last.self.turns.marks last.self.requests q.source source reply
+          st (record { feed = refl; stop = refl; ends = refl; standing = refl }) (λ w e. gives-up-of q.source source (slice_get k.requests n) (still.Waiting w0) got given_up (still.Waiting w) e) low waits (c.hold.ensures.held.0 held).1 (ap (λ t. t.marks) c.take.ensures.turns ∙ c.hold.ensures.marks held) requests
+          (responds-by k (output_of mid) (outlet_ended mid) reply value w0.answer_context c.args.now
           (λ e. let h = c.answer-reply.ensures.past e in (ap (λ o. output_of o) h.0, ap (λ o. outlet_ended o) h.0, h.1))
           (λ e. subst A (sym is.0) (c.answer-reply.ensures.sends value.content is.1 is.2 e (can-send before k.sink k.output_ended s.reached.slots s.flushed s.failure st.output low e))))
-          c.pass.ensures.passes c.pass.ensures.sends in
-          let P : List Mark → Type 0 = λ m. StepIsAnswered client before (after_number k m taken.requests source (output_of last.outlet) (outlet_ended last.outlet)) s c.args.now (Respond n value) reply in
-          subst P (ap (λ t. t.marks) (sym c.take.ensures.turns)) done)
+          c.pass.ensures.passes c.pass.ensures.sends)
           (λ no. absurd (not-declined n (stated_response g.D.ReadDevice.feed c.args.response) reply c.answer-reply.ensures.done no)) refl
-          (λ done.
-          let same : last.self.requests ≡ k.requests = c.pass.ensures.requests ∙ c.hold.ensures.requests in
-          let some = c.in-Some-take.ensures.some in
-          (some.1 ∙ ap (λ l. slice_set l n None) same, gives-up-of q.source source (slice_get k.requests n) (still.Waiting w0) (ap (λ l. slice_get l n) (sym same) ∙ some.0) c.give_up.ensures.gives_up))
+          (λ done. (requests, gives-up-of q.source source (slice_get k.requests n) (still.Waiting w0) got given_up))
           (answered-done reply c.answer-reply.ensures.done)
           (record {
             profile = refl;
-            goes_on = gives-up w0.body q.source source c.give_up.ensures.gives_up;
+            goes_on = gives-up w0.body q.source source given_up;
             fails_once = once-append (outlet_ended q.outlet) (outlet_ended mid) (outlet_ended last.outlet) k.sink (output_of mid) (output_of last.outlet) c.answer-reply.ensures.fails_once c.pass.ensures.fails_once;
             flushed = λ was. c.pass.ensures.flushed c.answer-reply.ensures.flushed;
             sent_on = λ was. c.pass.ensures.sent_on c.answer-reply.ensures.sent_on;
           })
-          (λ kind e. let h = c.answer-reply.ensures.honest kind e in let p = printing_in c.in-Some.answer_context c.args.now in (c.in-Some.answer_context, sym c.answer_context_at.ensures ∙ c.in-Some.is, honest-more (outlet_ended mid) (outlet_ended last.outlet) k.sink (output_of mid) (output_of last.outlet) c.args.response.answer (g.D.ReadDevice.feed c.args.response.data_reader) p kind h.0 c.pass.ensures.fails_once h.1)));
+          (λ kind e. let h = c.answer-reply.ensures.honest kind e in let p = printing_in w0.answer_context c.args.now in (w0.answer_context, waits, honest-more (outlet_ended mid) (outlet_ended last.outlet) k.sink (output_of mid) (output_of last.outlet) c.args.response.answer (g.D.ReadDevice.feed c.args.response.data_reader) p kind h.0 c.pass.ensures.fails_once h.1)));
     }

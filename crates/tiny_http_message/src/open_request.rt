@@ -1,0 +1,186 @@
+//! A request that was handed out and isn't answered yet: what it owes, how its answer is printed, and how far its body was
+//! read. A connection keeps it under its number, and a request keeps it behind its turn. Each holds the turn, calls one verb
+//! here, and passes the turn.
+ghost use Rattle.std.specs.Prelude.{◌≡◌, true, false, [], IfOk};
+ghost use Rattle.std.specs.List.{list_all};
+ghost use Rattle.tiny_http_wire.specs.Bytes.{is_ascii};
+ghost use Rattle.tiny_http_wire.specs.Device.{Feed};
+ghost use Rattle.tiny_http_stream.specs.Outlet.{output_of, outlet_held, SentOn};
+ghost use Rattle.tiny_http_sending.specs.ResponseValue.{printing_in, upgrade_text};
+ghost use Rattle.tiny_http_sending.specs.Sending.{IsFlushed, FailsOnce, SendsQuietlyOn, SendsAnswer};
+ghost use Rattle.tiny_http_message.specs.OwnAnswer.{own_text_by};
+ghost use Rattle.tiny_http_message.specs.OpenRequest.{KeepsHead, OwesNone, HasNoText};
+ghost use Rattle.tiny_http_message.specs.Pipeline.{is_head_method};
+ghost use Rattle.tiny_http_message.specs.Body.{ReadsBody, GivesUp};
+ghost use Rattle.tiny_http_message.specs.declared.body.Body.TheVariants.{Over};
+ghost use Rattle.tiny_http_wire.specs.declared.device.Stop.TheVariants.{End};
+
+use crate::body::Body;
+use crate::exchange::Head;
+use crate::own_answer::{DropText, send_own_quietly};
+use crate::upgrading::send_upgrade_quietly;
+use httpdate::HttpDate;
+use std::alloc::{AllocError, Global};
+use std::io;
+use tiny_http_sending::sending::send_unless_ended;
+use tiny_http_stream::outlet::Outlet;
+use tiny_http_stream::source::Source;
+use tiny_http_wire::answer_context::AnswerContext;
+use tiny_http_wire::coding::asked_coding;
+use tiny_http_wire::common::{Method, StatusCode};
+use tiny_http_wire::device::{ReadDevice, WriteDevice};
+use tiny_http_wire::response::Response;
+
+/// A request that was handed out and isn't answered yet. Its head is kept beside it, by whoever reads it.
+#[derive(Drop)]
+pub struct OpenRequest<B> {
+    /// How its answer is printed.
+    pub answer_context: AnswerContext,
+    /// Whether a 100 is owed that wasn't sent yet.
+    pub owes_continue: bool,
+    /// What is sent if the request is dropped.
+    pub dropped: DropText,
+    /// Its body, and how far that was read.
+    pub body: B,
+}
+
+impl<B: Drop> OpenRequest<B> {
+    /// A request with this head and this body. `now` dates the 500 that is sent if it is dropped. It is an error where memory
+    /// for that was refused.
+    pub fn new(alloc: Global, head: &Head, body: B, now: HttpDate) -> Result<OpenRequest<B>, AllocError>
+        ensures { IfOk result (λ w. (w.body ≡ body) × KeepsHead w head.now now) }
+    {
+        let answer_context = AnswerContext {
+            version: head.version,
+            asked_coding: asked_coding(head.headers.as_slice()),
+            no_body: is_head(&head.method),
+        };
+        let dropped = DropText::new(alloc, answer_context, now)?;
+        Ok(OpenRequest {
+            answer_context,
+            owes_continue: head.owes_continue,
+            dropped,
+            body,
+        })
+    }
+
+    /// Sends the answer to this request, printed for it and dated `now`, and flushes it. No 100 is owed any more. The caller
+    /// does so in the turn of the request, and then gives the body up. On an outlet that has ended nothing is sent, the data
+    /// aren't read, and the result is `Ok`. The first fault is the error: the data's, or the writer's. Where both fail, either
+    /// may be reported. Then the outlet has ended, and what was held before a fault of the data is sent.
+    pub fn respond<W: WriteDevice, D: ReadDevice + Drop>(
+        &mut self,
+        alloc: Global,
+        outlet: &mut Outlet<W>,
+        response: Response<D>,
+        now: HttpDate,
+    ) -> Result<(), io::Error>
+        ensures answers { SendsAnswer D.feed outlet.old outlet.new result response (printing_in self.old.answer_context now) }
+        ensures once { OwesNone self.old self.new }
+    {
+        self.owes_continue = false;
+        send_unless_ended(alloc, outlet, response, self.answer_context, now)
+    }
+
+    /// Sends the 100 that is owed to this request, and flushes (RFC 9110, section 10.1.1). Where none is owed it changes
+    /// nothing. The caller does so in the turn of the request, before the body is read and before the answer. The call takes
+    /// no memory. A fault of the writer ends the outlet, and isn't reported; on an outlet that has ended nothing is sent.
+    pub fn send_continue<W: WriteDevice>(
+        &mut self,
+        alloc: Global,
+        outlet: &mut Outlet<W>,
+        now: HttpDate,
+    )
+        ensures unowed { self.old.owes_continue ≡ false → (self.new ≡ self.old) × (outlet.new ≡ outlet.old) }
+        ensures sends { self.old.owes_continue ≡ true
+            → SendsQuietlyOn outlet.old outlet.new (own_text_by 100 (printing_in self.old.answer_context now)) }
+        ensures once { OwesNone self.old self.new }
+        ensures fails_once { FailsOnce outlet.old outlet.new }
+        ensures sent { self.old.owes_continue ≡ true → (outlet_held outlet.new ≡ []) × SentOn outlet.new × IsFlushed (output_of outlet.new) }
+    {
+        if self.owes_continue {
+            let context = self.answer_context;
+            send_own_quietly(alloc, outlet, StatusCode(100), context, now);
+            self.owes_continue = false;
+        }
+    }
+
+    /// Sends the answer that upgrades the connection to this protocol (RFC 9110, section 7.8), printed for this request and
+    /// dated `now`, and flushes it: its head alone, with `Connection: upgrade` and `Upgrade: PROTOCOL` in front of the other
+    /// headers (as tiny_http). No 100 is owed any more. The caller has checked the protocol by `check_protocol`, and does so in
+    /// the turn of the request, in the place of an answer; then the output is the protocol's, and what the body gives is its
+    /// input. The data are let go unread. A fault of the writer ends the outlet, and isn't reported. On an outlet that has
+    /// ended nothing is sent. The call takes no memory.
+    pub fn upgrade<W: WriteDevice, D: Drop>(
+        &mut self,
+        alloc: Global,
+        outlet: &mut Outlet<W>,
+        protocol: &str,
+        response: Response<D>,
+        now: HttpDate,
+    )
+        requires { list_all is_ascii protocol.now ≡ true }
+        // Whatever the data are.
+        ensures sends { (content : Feed) → SendsQuietlyOn outlet.old outlet.new
+            (upgrade_text (record { answer = response.answer; content = content }) protocol.now (printing_in self.old.answer_context now)) }
+        ensures once { OwesNone self.old self.new }
+        ensures fails_once { FailsOnce outlet.old outlet.new }
+        ensures sent { (outlet_held outlet.new ≡ []) × SentOn outlet.new × IsFlushed (output_of outlet.new) }
+    {
+        self.owes_continue = false;
+        send_upgrade_quietly(alloc, outlet, response, self.answer_context, protocol, now);
+    }
+
+    /// Takes the text that answers this request if it is dropped: an empty 500 in its version, printed for its headers and its
+    /// method, on the date on which it was read (as tiny_http). No byte of it is left, and no 100 is owed any more. The caller
+    /// sends it in the turn of the request, in the place of an answer, and gives the body up. The call takes no memory.
+    pub fn take_drop_text(&mut self) -> Vec<u8>
+        ensures text { result.items ≡ self.old.dropped.items }
+        ensures once { HasNoText self.old self.new }
+    {
+        self.owes_continue = false;
+        self.dropped.take_text()
+    }
+
+    /// The text that answers this request, as it is dropped, and the body, which the caller gives up once it has left the text
+    /// in the turn of the request.
+    pub fn into_drop_text(self) -> (Vec<u8>, B)
+        ensures text { result.0.items ≡ self.dropped.items }
+        ensures body { result.1 ≡ self.body }
+    {
+        let OpenRequest { dropped, body, .. } = self;
+        (dropped.into_text(), body)
+    }
+}
+
+impl OpenRequest<Body> {
+    /// Reads some bytes of the body into the front of `buf`, and says how many. The source must be the one that the request
+    /// was read from. Errors and ends are those of `Exchange::read_body`. No memory is taken.
+    pub fn read<R: ReadDevice>(
+        &mut self,
+        source: &mut Source<R>,
+        buf: &mut [u8],
+    ) -> Result<usize, io::Error>
+        ensures reads { ReadsBody self.old.body self.new.body source.old source.new result buf.new }
+        ensures kept { self.new ≡ record self.old { body = self.new.body } }
+    {
+        self.body.read(source, buf)
+    }
+
+    /// Gives the body up: each later read answers 0, and no 100 is owed any more. The rest of a body of a known length is
+    /// skipped before the next head; after a chunked one whose end or fault wasn't reported the source has ended.
+    pub fn give_up<R: ReadDevice>(&mut self, source: &mut Source<R>)
+        ensures gives_up { GivesUp self.old.body source.old source.new }
+        ensures kept { self.new ≡ record self.old { body = Over End; owes_continue = false } }
+    {
+        self.owes_continue = false;
+        self.body.give_up(source);
+    }
+}
+
+// Whether only the head is asked for (RFC 9110, section 9.3.2).
+pub(crate) fn is_head(method: &Method) -> bool
+    ensures { result ≡ is_head_method method.now }
+{
+    matches!(method, Method::Head)
+}
