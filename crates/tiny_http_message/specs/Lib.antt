@@ -10,3 +10,4 @@ pub mod BodyRemains
 pub mod OpenRequest
 pub mod Exchange
 pub mod HeadReads
+pub mod NextRequest

@@ -1,5 +1,5 @@
 -- What a contract sees of an `OpenRequest`.
-use Rattle.std.specs.Prelude.{◌≡◌, false, [], ◌×◌}
+use Rattle.std.specs.Prelude.{◌≡◌, false, []}
 use Rattle.httpdate.specs.declared.date.HttpDate.{HttpDate}
 use Rattle.tiny_http_wire.specs.Coding.{coding_asked}
 use Rattle.tiny_http_sending.specs.ResponseValue.{printing_to}

@@ -7,6 +7,7 @@ pub mod exchange;
 pub mod framing;
 mod heads;
 pub mod laws;
+pub mod next_request;
 pub mod open_request;
 pub mod own_answer;
 pub mod upgrading;

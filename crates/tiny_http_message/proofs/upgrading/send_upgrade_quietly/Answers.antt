@@ -10,7 +10,7 @@ use Rattle.tiny_http_message.proofs.upgrading.send_upgrade_quietly.Goals as goal
 pub returns-clause-sends : goal.returns-clause-sends
 returns-clause-sends g c content can =
     let open_is : outlet_ended c.args.outlet.now ≡ false = search (rules, c.if-is_ended.false, c.is_ended.ensures) in
-    let ascii : list_all is_ascii c.args.protocol.now ≡ true = search (rules, c.if-not-are_ascii.false, c.are_ascii.ensures) in
+    let ascii : list_all is_ascii c.args.protocol.now ≡ true = c.requires in
     let p = printing_in c.args.context c.args.now in
     let quiet = upgrade-quietly {T = Unit {0}} _ _ _ c.send_upgrade.result c.args.response.answer content p c.args.protocol.now ascii (c.send_upgrade.ensures.sends content (can open_is)) in
     let P : Bool → Type 0 = λ was. SendsUnlessEnded was (output_of c.args.outlet.now) (output_of c.send_upgrade.new.outlet) (outlet_ended c.send_upgrade.new.outlet) (upgrade_text (record { answer = c.args.response.answer; content = content }) c.args.protocol.now p) in

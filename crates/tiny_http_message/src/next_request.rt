@@ -1,0 +1,79 @@
+//! The next request of a connection. Heads are read up to it, over those that are refused and have another behind them.
+ghost use Rattle.std.specs.Prelude.{ℕ, List, Bool, is_ok};
+ghost use Rattle.tiny_http_message.specs.NextRequest.{FindsHead, FindsNext};
+
+use crate::exchange::{EndOfRequests, Exchange, HeadRead, read_head_with};
+use crate::framing::Profile;
+use httpdate::HttpDate;
+use std::alloc::{AllocError, Global};
+use tiny_http_stream::source::Source;
+use tiny_http_wire::device::ReadDevice;
+
+/// What follows on a connection.
+#[derive(Drop)]
+pub enum NextRequest {
+    /// A request.
+    Request(Exchange),
+    /// No further request, for this reason.
+    Ended(EndOfRequests),
+}
+
+/// A place where the answers to refused heads go, each in the turn of its head. `O` is what is lent for that.
+pub trait RefusalPlace<O> {
+    /// This text was put there; or, where the flag is false, it wasn't.
+    ghost refuses: { Self → O → List ℕ → Bool → Self → O → Type 0 };
+
+    /// Puts the whole text of the answer to a refused head there. It is sent in the turn of the head, and nobody is waited
+    /// for. An error where memory was refused.
+    fn refuse(&mut self, output: &mut O, text: Vec<u8>) -> Result<(), AllocError>
+        ensures { refuses self.old output.old text.items (is_ok result) self.new output.new };
+}
+
+// Reads one head. `None` where it was refused, and the next one stands behind it.
+fn next_head<R: ReadDevice, O, P: RefusalPlace<O>>(
+    alloc: Global,
+    source: &mut Source<R>,
+    profile: Profile,
+    place: &mut P,
+    output: &mut O,
+    now: HttpDate,
+) -> Option<Result<NextRequest, AllocError>>
+    ensures { FindsHead P.refuses profile now source.old place.old output.old result source.new place.new output.new }
+{
+    match read_head_with(alloc, source, profile, now) {
+        Ok(HeadRead::Request(exchange)) => Some(Ok(NextRequest::Request(exchange))),
+        Ok(HeadRead::Ended(why)) => Some(Ok(NextRequest::Ended(why))),
+        Ok(HeadRead::Refused { status, text, last }) => match place.refuse(output, text) {
+            Ok(()) if last => Some(Ok(NextRequest::Ended(EndOfRequests::Refused(status)))),
+            Ok(()) => None,
+            Err(e) => Some(Err(e)),
+        },
+        Err(e) => Some(Err(e)),
+    }
+}
+
+/// Reads heads up to that of the next request. Where one is refused its answer goes to this place. A refused head ends the
+/// requests; but behind a 505 whose body can be passed over the next head is read (RFC 9112, section 2.3; as tiny_http).
+/// `now` dates the answers to refused heads, and the 500 of a request that is dropped. It is an error where memory was
+/// refused, or 2^64 heads were passed.
+pub fn next_request<R: ReadDevice, O, P: RefusalPlace<O>>(
+    alloc: Global,
+    source: &mut Source<R>,
+    profile: Profile,
+    place: &mut P,
+    output: &mut O,
+    now: HttpDate,
+) -> Result<NextRequest, AllocError>
+    ensures { FindsNext P.refuses profile now source.old place.old output.old result source.new place.new output.new }
+{
+    let mut room = u64::MAX;
+    loop {
+        if let Some(found) = next_head(alloc, source, profile, place, output, now) {
+            return found;
+        }
+        match room.checked_sub(1) {
+            Some(left) => room = left,
+            None => return Err(AllocError),
+        }
+    }
+}
