@@ -1,14 +1,16 @@
 -- Numbers whose turn comes, and what is sent as it does.
-use Rattle.std.specs.Prelude.{◌≡◌, ℕ, Bool, true, false, not, List, [], ◌∷◌, ◌++◌, Option, Some, None, MatchBool}
+use Rattle.std.specs.Prelude.{◌≡◌, ◌==◌, ◌<◌, ◌^◌, ◌+◌, ℕ, Bool, true, false, not, List, [], ◌∷◌, ◌++◌, length, Option, Some, None, MatchBool}
 use Rattle.tiny_http_wire.specs.Device.{Sink}
 use Rattle.tiny_http_wire.specs.declared.answer_context.AnswerContext.{AnswerContext}
+use Rattle.tiny_http_core.specs.declared.pending.Pending.{Pending}
 use Rattle.tiny_http_core.specs.declared.pending.Unfinished.{Unfinished}
 use Rattle.tiny_http_core.specs.declared.pending.Unfinished.TheVariants as still
 use Rattle.tiny_http_message.specs.declared.body.Body.{Body}
 use Rattle.tiny_http_message.specs.Body.{is_streaming, GivesUp}
 use Rattle.tiny_http_stream.specs.Source.{SourceState}
-use Rattle.tiny_http_sending.specs.Sending.{SendsUnlessEnded, IsFlushed}
-use Rattle.tiny_http_turns.specs.Turns.{Mark, Open, Held, Left, Finished, AreInShape}
+use Rattle.tiny_http_stream.specs.Outlet.{OutletState, output_of, outlet_ended, outlet_held, SentOn}
+use Rattle.tiny_http_sending.specs.Sending.{CanSend, SendsUnlessEnded, IsFlushed, FailsOnce}
+use Rattle.tiny_http_turns.specs.Turns.{Mark, Open, Held, Left, Finished, AreInShape, first_unfinished}
 
 -- the texts that were left at the front of these numbers
 abbrev pub left_text : List Mark → List ℕ
@@ -109,3 +111,15 @@ last_body (u ∷ v ∷ us) = last_body (v ∷ us)
 abbrev pub is_streaming_body : Option Body → Bool
 is_streaming_body None = false
 is_streaming_body (Some b) = is_streaming b
+
+-- A REFUSED HEAD takes the next number, and its answer is left there; or memory is refused for that, and nothing changes.
+pub record RefusesHead {W : Type 0} (p : Pending) (o : OutletState W) (text : List ℕ) (kept : Bool) (q : Pending) (u : OutletState W) : Type 0 where
+  pub leaves : kept ≡ true → (outlet_ended o ≡ false → CanSend (output_of o))
+      → LeavesText (length p.turns.marks == first_unfinished p.turns.marks) p.turns.marks [] q.turns.marks text (outlet_ended o) (output_of o) (output_of u) (outlet_ended u)
+  pub counts : kept ≡ true → length q.turns.marks ≡ length p.turns.marks + 1
+  pub requests : kept ≡ true → q.requests ≡ p.requests ++ (None ∷ [])
+  pub few : kept ≡ true → length q.requests < 2 ^ 64
+  pub stays : kept ≡ false → (q.turns ≡ p.turns) × (q.requests ≡ p.requests) × (u ≡ o)
+  pub fails_once : FailsOnce o u
+  pub flushed : outlet_held o ≡ [] → outlet_held u ≡ []
+  pub sent_on : SentOn o → SentOn u

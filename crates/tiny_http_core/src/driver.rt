@@ -10,7 +10,6 @@ ghost use Rattle.tiny_http_core.specs.Steps.{ReplyValue, Done, Fault};
 ghost use Rattle.std.specs.declared.io.ErrorKind.{ErrorKind};
 ghost use Rattle.tiny_http_core.specs.Pending.{waiting_answer_context};
 ghost use Rattle.tiny_http_core.specs.Driving.{HasDone, TakesStep, Drops, stated_response, stated_step};
-ghost use Rattle.tiny_http_core.specs.Asking.{CanAsk, AskStep, IsAskBehind};
 ghost use Rattle.tiny_http_core.specs.Runs.{IsConversationOf, RunsSteps};
 ghost use Rattle.tiny_http_sending.specs.ResponseValue.{printing_in};
 ghost use Rattle.tiny_http_core.specs.Seen.{seen, write_reply, Answers, IsAnswered, IsResponse, ReportsHonestly};
@@ -24,8 +23,9 @@ use std::io;
 use std::io::ErrorKind;
 use std::marker::Model;
 use tiny_http_message::body::Body;
-use tiny_http_message::exchange::{EndOfRequests, Head, HeadRead, read_head_with};
+use tiny_http_message::exchange::{EndOfRequests, Head};
 use tiny_http_message::framing::Profile;
+use tiny_http_message::next_request::{NextRequest, next_request};
 use tiny_http_message::open_request::OpenRequest;
 use tiny_http_message::upgrading::check_protocol;
 use tiny_http_sending::sending::reported;
@@ -236,48 +236,6 @@ impl<R: ReadDevice, W: WriteDevice> Connection<R, W> {
         self.pending.is_waiting(number)
     }
 
-    // Reads the next head for an `ask`. It answers that, but where the head is refused and the next one stands behind its body.
-    fn ask_head(&mut self, alloc: Global, now: HttpDate) -> Option<Reply>
-        ensures answers { CanAsk self.old → IfSome result (λ reply. AskStep self.old self.new now (seen reply)) }
-        ensures passes { CanAsk self.old → result ≡ None → CanAsk self.new × IsAskBehind self.old self.new now }
-        ensures counts { result ≡ None → (length self.new.requests ≡ length self.old.requests + 1) × (length self.new.requests < 2 ^ 64) }
-        // The answer to a head that is passed isn't held back while the next one is waited for.
-        ensures flushed { self.old.outlet.held ≡ [] → self.new.outlet.held ≡ [] }
-        ensures sent_on { SentOn self.old.outlet → SentOn self.new.outlet }
-    {
-        match read_head_with(alloc, &mut self.source, self.profile, now) {
-            Ok(HeadRead::Request(exchange)) => {
-                let (head, request) = exchange.into_parts();
-                match self.pending.issue(Some(Unfinished::Waiting(request))) {
-                    Ok(number) => Some(Reply::Handed(number, head)),
-                    Err(_) => {
-                        self.end = Some(EndOfRequests::Memory);
-                        Some(Reply::Memory)
-                    }
-                }
-            }
-            Ok(HeadRead::Refused { status, text, last }) => {
-                if self.pending.refuse(&mut self.outlet, text).is_err() {
-                    self.end = Some(EndOfRequests::Memory);
-                    return Some(Reply::Memory);
-                }
-                if !last {
-                    return None;
-                }
-                self.end = Some(EndOfRequests::Refused(status));
-                Some(Reply::Ended)
-            }
-            Ok(HeadRead::Ended(why)) => {
-                self.end = Some(why);
-                Some(Reply::Ended)
-            }
-            Err(_) => {
-                self.end = Some(EndOfRequests::Memory);
-                Some(Reply::Memory)
-            }
-        }
-    }
-
     /// Goes to the next request, and hands it out with its number: `Handed`. It is `NotYet` while the body of the last request
     /// holds the reader: until that was read to its end or given up. It is `Ended` once the connection has no further request,
     /// from then on, and `end_of_requests` says why. A refused head is answered under a number of its own, in its turn, and
@@ -295,9 +253,25 @@ impl<R: ReadDevice, W: WriteDevice> Connection<R, W> {
         if matches!(self.source.standing(), Standing::Body) {
             return Reply::NotYet;
         }
-        loop {
-            if let Some(reply) = self.ask_head(alloc, now) {
-                return reply;
+        let (source, outlet) = (&mut self.source, &mut self.outlet);
+        match next_request(alloc, source, self.profile, &mut self.pending, outlet, now) {
+            Ok(NextRequest::Request(exchange)) => {
+                let (head, request) = exchange.into_parts();
+                match self.pending.issue(Some(Unfinished::Waiting(request))) {
+                    Ok(number) => Reply::Handed(number, head),
+                    Err(_) => {
+                        self.end = Some(EndOfRequests::Memory);
+                        Reply::Memory
+                    }
+                }
+            }
+            Ok(NextRequest::Ended(why)) => {
+                self.end = Some(why);
+                Reply::Ended
+            }
+            Err(_) => {
+                self.end = Some(EndOfRequests::Memory);
+                Reply::Memory
             }
         }
     }

@@ -15,9 +15,10 @@ ghost use Rattle.tiny_http_message.specs.Body.{is_streaming, body_standing, Fill
 ghost use Rattle.tiny_http_core.specs.Pending.{left_text, SendsLeft, FinishesFront, LeavesText, waiting_answer_context, is_readable, is_writable, owes_continue, kept_body, GivesUpBody, with_body};
 
 use httpdate::HttpDate;
-use std::alloc::Global;
+use std::alloc::{AllocError, Global};
 use std::io::ErrorKind;
 use tiny_http_message::body::Body;
+use tiny_http_message::next_request::RefusalPlace;
 use tiny_http_message::open_request::OpenRequest;
 use tiny_http_sending::sending::{flush_quietly, write_quietly};
 use tiny_http_stream::outlet::Outlet;
@@ -74,28 +75,6 @@ impl Pending {
                 Err(error)
             }
         }
-    }
-
-    /// Gives a refused head the next number, and leaves its answer under it. An error changes nothing.
-    pub fn refuse<W: WriteDevice>(
-        &mut self,
-        outlet: &mut Outlet<W>,
-        text: Vec<u8>,
-    ) -> Result<(), TurnsError>
-        ensures leaves { (outlet_ended outlet.old ≡ false → CanSend (output_of outlet.old))
-            → OnOk result (LeavesText (length self.old.turns.marks == first_unfinished self.old.turns.marks) self.old.turns.marks [] self.new.turns.marks text.items
-            (outlet_ended outlet.old) (output_of outlet.old) (output_of outlet.new) (outlet_ended outlet.new)) }
-        ensures counts { OnOk result (length self.new.turns.marks ≡ length self.old.turns.marks + 1) }
-        ensures requests { OnOk result (self.new.requests ≡ self.old.requests ++ (None ∷ [])) }
-        ensures bound { OnOk result (length self.new.requests < 2 ^ 64) }
-        ensures err { OnErr result ((self.new.turns ≡ self.old.turns) × (self.new.requests ≡ self.old.requests) × (outlet.new ≡ outlet.old)) }
-        ensures fails_once { FailsOnce outlet.old outlet.new }
-        ensures flushed { outlet_held outlet.old ≡ [] → outlet_held outlet.new ≡ [] }
-        ensures sent_on { SentOn outlet.old → SentOn outlet.new }
-    {
-        let number = self.issue(None)?;
-        self.leave(outlet, number, text);
-        Ok(())
     }
 
     /// Whether this number waits for its answer.
@@ -293,6 +272,21 @@ impl Pending {
         if let Leaving::Go((), text) = self.turns.leave(number, text) {
             write_left(&mut self.turns, outlet, number, text);
         }
+    }
+}
+
+impl<W: WriteDevice> RefusalPlace<Outlet<W>> for Pending {
+    ghost use Rattle.tiny_http_core.specs.Pending.{RefusesHead};
+
+    ghost refuses = { RefusesHead };
+
+    /// Gives the head the next number, and leaves its answer under it. An error changes nothing.
+    fn refuse(&mut self, outlet: &mut Outlet<W>, text: Vec<u8>) -> Result<(), AllocError> {
+        let Ok(number) = self.issue(None) else {
+            return Err(AllocError);
+        };
+        self.leave(outlet, number, text);
+        Ok(())
     }
 }
 

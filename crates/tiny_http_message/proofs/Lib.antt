@@ -1,6 +1,7 @@
 pub mod BodyReads
 pub mod HeadReadsLemmas
 pub mod HeadReadsServing
+pub mod NextRequestLemmas
 pub mod BodyRemainsLemmas
 pub mod BytesWords
 pub mod FramingLemmas

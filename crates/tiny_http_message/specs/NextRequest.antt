@@ -52,4 +52,4 @@ pub record FindsNext {R P O : Type 0}
   pub place : P
   pub output : O
   pub passes : PassesHeads refuses profile date passed s p o source place output
-  pub ends : FindsHead refuses profile date source place output (Some r) t q u ⊎ ((passed ≡ 2 ^ 64) × (t ≡ source) × (q ≡ place) × (u ≡ output))
+  pub ends : FindsHead refuses profile date source place output (Some r) t q u ⊎ ((passed ≡ 2 ^ 64) × ((e : AllocError) × (r ≡ Err e)) × (t ≡ source) × (q ≡ place) × (u ≡ output))

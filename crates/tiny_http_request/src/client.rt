@@ -1,9 +1,9 @@
 //! A connection whose requests threads may hold.
-ghost use Rattle.std.specs.Prelude.{◌≡◌, true, false, Ok, None, Some, IfOk, OnErr, IfSome, IfNone};
+ghost use Rattle.std.specs.Prelude.{◌≡◌, ⊤, true, false, Ok, None, Some, IfOk, OnErr, IfSome, IfNone};
 ghost use Rattle.tiny_http_message.specs.Exchange.{exchange_of};
 ghost use Rattle.tiny_http_message.specs.OpenRequest.{KeepsHead};
 ghost use Rattle.tiny_http_message.specs.FramingReading.{framing};
-ghost use Rattle.tiny_http_message.specs.HeadReads.{head_framing, IsFramedRequest};
+ghost use Rattle.tiny_http_message.specs.HeadReads.{head_framing};
 ghost use Rattle.tiny_http_socket.specs.Stream.{MayHavePeer};
 ghost use Rattle.tiny_http_request.specs.Request.{request_head, request_secure, request_address, request_open};
 
@@ -14,8 +14,9 @@ use std::alloc::{AllocError, Global};
 use std::net::SocketAddr;
 use std::sync::Wait;
 use tiny_http_device::device::{ReadDevice, WriteDevice};
-use tiny_http_message::exchange::{Exchange, HeadRead, read_head_with};
+use tiny_http_message::exchange::Exchange;
 use tiny_http_message::framing::Profile;
+use tiny_http_message::next_request::{NextRequest, RefusalPlace, next_request};
 use tiny_http_socket::refined_tcp_stream::RefinedTcpStream;
 use tiny_http_stream::outlet::Outlet;
 use tiny_http_stream::source::Source;
@@ -159,12 +160,13 @@ impl<R: ReadDevice + Drop, W: WriteDevice + Drop, Rt: Wait + Copy> ClientConnect
         let Some(mut reader) = self.next_head.take() else {
             return Ok(None);
         };
-        match read_request(self.alloc, self.profile, &mut self.sink, &mut reader, now) {
-            Ok(Some(exchange)) => match self.hand_out(reader, exchange) {
+        let source = reader.hold();
+        match next_request(self.alloc, source, self.profile, &mut self.sink, &mut (), now) {
+            Ok(NextRequest::Request(exchange)) => match self.hand_out(reader, exchange) {
                 Ok(request) => Ok(Some(request)),
                 Err(e) => Err(e),
             },
-            Ok(None) => Ok(None),
+            Ok(NextRequest::Ended(_)) => Ok(None),
             Err(e) => Err(e),
         }
     }
@@ -212,27 +214,13 @@ impl<R: ReadDevice + Drop, W: WriteDevice + Drop, Rt: Wait + Copy> ClientConnect
     }
 }
 
-// Reads heads up to that of the next request. Refused ones are answered in their turn. `None` where no request comes.
-fn read_request<R: ReadDevice + Drop, W: WriteDevice + Drop, Rt: Wait + Copy>(
-    alloc: Global,
-    profile: Profile,
-    sink: &mut SequentialWriterBuilder<Outlet<W>, Rt>,
-    reader: &mut SequentialReader<Source<R>, Rt>,
-    now: HttpDate,
-) -> Result<Option<Exchange>, AllocError>
-    ensures { IfOk result (λ r. IfSome r (λ exchange. IsFramedRequest profile now (HeadRead.Request exchange))) }
-{
-    for _ in 0..u64::MAX {
-        match read_head_with(alloc, reader.hold(), profile, now)? {
-            HeadRead::Request(exchange) => return Ok(Some(exchange)),
-            HeadRead::Refused { text, last, .. } => {
-                sink.next()?.leave(text);
-                if last {
-                    return Ok(None);
-                }
-            }
-            HeadRead::Ended(_) => return Ok(None),
-        }
+impl<W: WriteDevice + Drop, Rt: Wait + Copy> RefusalPlace<()> for SequentialWriterBuilder<Outlet<W>, Rt> {
+    // Nothing is stated of what goes behind a lock.
+    ghost refuses = { λ _ _ _ _ _ _. ⊤ };
+
+    /// Takes the next turn, and leaves the answer in it. An error where memory was refused, or 2^64 - 1 writers were given out.
+    fn refuse(&mut self, _output: &mut (), text: Vec<u8>) -> Result<(), AllocError> {
+        self.next()?.leave(text);
+        Ok(())
     }
-    Ok(None)
 }

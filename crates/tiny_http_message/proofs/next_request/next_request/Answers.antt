@@ -43,5 +43,5 @@ returns-in-None g c =
       place = place;
       output = output;
       passes = (c.loop-found.source, c.loop-found.place, c.loop-found.output, i.2, subst H c.in_default.is c.next_head.ensures);
-      ends = inr (omega (arith, count, none), refl {a = source}, refl {a = place}, refl {a = output});
+      ends = inr (omega (arith, count, none), (record { }, refl), refl {a = source}, refl {a = place}, refl {a = output});
     }

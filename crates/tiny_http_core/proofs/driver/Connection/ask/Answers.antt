@@ -10,9 +10,6 @@ use Rattle.tiny_http_core.proofs.DrivingLemmas.{viewed, none-of, ask-step, takes
 use Rattle.tiny_http_core.proofs.driver.Connection.ask.Goals.{in-Body, in_default}
 use Rattle.tiny_http_core.proofs.driver.Connection.ask.Goals as goal
 
-if-some : {X : Type 0} (P : X → Type 0) (o : Option X) (x : X) → o ≡ Some x → IfSome o P → P x
-if-some {X = X} P o x e h = let Q : Option X → Type 0 = λ y. IfSome y P in subst Q e h
-
 pub returns-then-is_some : goal.returns-then-is_some
 returns-then-is_some g c =
     let q = c.self.inside in
@@ -39,33 +36,3 @@ returns-then-matches g c =
           (λ no. refl) (none-of q.end open_is, here) tt (moves-none old)));
     }
 
-pub loop-reply-init : goal.loop-reply-init
-loop-reply-init g c =
-    let q = c.self.inside in
-    let none : q.end ≡ None = none-of q.end (sym c.is_some.ensures ∙ c.if-is_some.false) in
-    let outside : q.source.standing ≡ at.Body → ⊥ = elim c.match-matches.branch [
-      | in-Body w ↦ λ e. (let no : true ≡ false = sym w.matches-is ∙ c.if-matches.false in cc)
-      | in_default w ↦ λ e. w.in_default.not-Body (c.standing.ensures ∙ e)
-    ] in
-    let can : CanAsk c.args.self.now = rw (← c.self.view_is) (none, outside) in
-    record { can = can; behind = λ new reply a. a }
-
-pub returns-in-Some : goal.returns-in-Some
-returns-in-Some g c =
-    let i = c.loop-reply.invariant in
-    let reply = seen c.in-Some.reply in
-    let answers = if-some _ c.ask_head.result c.in-Some.reply c.in-Some.is (c.ask_head.ensures.answers i.can) in
-    record { step = takes-ask c.args.self.now c.ask_head.new.self c.args.now reply (i.behind c.ask_head.new.self reply answers) }
-
-pub loop-reply-smaller : goal.loop-reply-smaller
-loop-reply-smaller g c =
-    let h = c.ask_head.ensures.counts c.in_default-ask_head.is in
-    let more = h.0 in
-    let low = h.1 in
-    omega (arith, more, low)
-
-pub loop-reply-preserved : goal.loop-reply-preserved
-loop-reply-preserved g c =
-    let i = c.loop-reply.invariant in
-    let h = c.ask_head.ensures.passes i.can c.in_default-ask_head.is in
-    record { can = h.0; behind = λ new reply a. i.behind new reply (h.1 new reply a) }

@@ -1,0 +1,37 @@
+-- What is found on a connection is what was read of it.
+use Rattle.std.proofs.Common.{◌≡◌, sym, subst, ℕ, List, Bool, true, false, Some, Ok, Err, Result, ⊎_elim}
+use Rattle.std.specs.declared.alloc.AllocError.{AllocError}
+use Rattle.httpdate.specs.declared.date.HttpDate.{HttpDate}
+use Rattle.tiny_http_stream.specs.Source.{SourceState}
+use Rattle.tiny_http_message.specs.declared.exchange.Exchange.{Exchange}
+use Rattle.tiny_http_message.specs.declared.exchange.HeadRead.{HeadRead}
+use Rattle.tiny_http_message.specs.declared.exchange.HeadRead.TheVariants as read
+use Rattle.tiny_http_message.specs.declared.framing.Profile.{Profile}
+use Rattle.tiny_http_message.specs.declared.next_request.NextRequest.TheVariants as next
+use Rattle.tiny_http_message.specs.HeadReads.{TakesHead, IsFramedRequest}
+use Rattle.tiny_http_message.specs.NextRequest.{Follows, FollowsRefusal, FindsHead, FindsNext}
+
+-- a request that is found is framed as its version and headers say, and its drop's text is that of its head
+pub found-framed : {R P O : Type 0} (refuses : P → O → List ℕ → Bool → P → O → Type 0) (profile : Profile) (date : HttpDate) (s t : SourceState R) (p q : P) (o u : O) (x : Exchange)
+    → FindsHead refuses profile date s p o (Some (Ok (next.Request x))) t q u → IsFramedRequest profile date (read.Request x)
+found-framed {R = R} {P = P} {O = O} refuses profile date s t p q o u x found = by found.0 found.1 found.2
+  where
+    by : (r : Result HeadRead AllocError) → TakesHead profile date s t r → Follows refuses r p o (Some (Ok (next.Request x))) q u → IsFramedRequest profile date (read.Request x)
+    by (Ok (read.Request y)) h f =
+        let e = f.0 in
+        let same : y ≡ x = cc in
+        subst (λ z. IsFramedRequest profile date (read.Request z)) same h.framed
+    by (Ok (read.Ended why)) h f = let no = f.0 in cc
+    by (Err e) h f = let no = f.0 in cc
+    by (Ok (read.Refused status text last)) h f = refused last f.0 f.2
+      where
+        refused : (last kept : Bool) → FollowsRefusal status last kept (Some (Ok (next.Request x))) → IsFramedRequest profile date (read.Request x)
+        refused true true g = let no = g in cc
+        refused false true g = let no = g in cc
+        refused true false g = let no = g.1 in cc
+        refused false false g = let no = g.1 in cc
+
+pub next-framed : {R P O : Type 0} (refuses : P → O → List ℕ → Bool → P → O → Type 0) (profile : Profile) (date : HttpDate) (s t : SourceState R) (p q : P) (o u : O) (x : Exchange)
+    → FindsNext refuses profile date s p o (Ok (next.Request x)) t q u → IsFramedRequest profile date (read.Request x)
+next-framed refuses profile date s t p q o u x f =
+    ⊎_elim (λ h. found-framed refuses profile date f.source t f.place q f.output u x h) (λ h. (let no = h.1.1 in cc)) f.ends
