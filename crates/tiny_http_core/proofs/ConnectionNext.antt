@@ -15,13 +15,15 @@ use Rattle.tiny_http_message.specs.declared.exchange.HeadRead.TheVariants as rea
 use Rattle.tiny_http_message.specs.declared.exchange.EndOfRequests.{EndOfRequests}
 use Rattle.tiny_http_message.specs.declared.exchange.EndOfRequests.TheVariants as because
 use Rattle.tiny_http_message.specs.HeadReads.{ReadsHead, IsBeforeHead, IsOkEnd, IsRequest, TakesHead, standing_read, head_message, head_framing}
-use Rattle.tiny_http_message.specs.NextRequest.{Follows, FollowsRefusal, FindsHead, PassesHeads}
+use Rattle.tiny_http_message.specs.NextRequest.{Found, Follows, FollowsRefusal, FindsHead, FindsNext, PassesHeads}
+use Rattle.tiny_http_message.specs.declared.next_request.NextRequest.{NextRequest}
+use Rattle.tiny_http_message.specs.declared.next_request.NextRequest.TheVariants as next
 use Rattle.tiny_http_turns.specs.Turns.{Mark, AreInShape, Open}
 use Rattle.tiny_http_core.specs.declared.pending.Pending.{Pending}
 use Rattle.tiny_http_core.specs.declared.pending.Unfinished.{Unfinished}
 use Rattle.tiny_http_core.specs.declared.pending.Unfinished.TheVariants as still
 use Rattle.tiny_http_core.specs.Pending.{RefusesHead}
-use Rattle.tiny_http_core.specs.Steps.{Ask, Ended, Memory, Handed}
+use Rattle.tiny_http_core.specs.Steps.{ReplyValue, Ask, Ended, Memory, Handed}
 use Rattle.tiny_http_core.specs.Connection.{Kept, ConnectionState, kept}
 use Rattle.tiny_http_core.specs.Asking.{CanAsk, AskStep, IsAskBehind}
 use Rattle.tiny_http_core.proofs.ConnectionAsking.{AskGoesOn, ask-passes}
@@ -47,7 +49,7 @@ before : {R : Type 0} (profile : Profile) (date : HttpDate) (s t : SourceState R
 before profile date s t r h other outside = stands-before s.standing outside (λ e. other (past-last r (h.last e).0))
 
 -- a request was read, and takes a number
-pub finds-request : {R W : Type 0} (profile : Profile) (date : HttpDate) (s t : SourceState R) (o : OutletState W) (p q : Pending) (end : Option EndOfRequests) (x : Exchange) (n : ℕ)
+finds-request : {R W : Type 0} (profile : Profile) (date : HttpDate) (s t : SourceState R) (o : OutletState W) (p q : Pending) (end : Option EndOfRequests) (x : Exchange) (n : ℕ)
     → TakesHead profile date s t (Ok (read.Request x)) → CanAsk (viewed profile s o p end)
     → n ≡ length p.turns.marks → q.turns.marks ≡ p.turns.marks ++ (Open ∷ []) → AreInShape q.turns.marks → q.requests ≡ p.requests ++ (Some (still.Waiting x.open_request) ∷ [])
     → AskStep (viewed profile s o p end) (viewed profile t o q end) date (Handed n (head_message x.head) (head_framing x.head))
@@ -82,7 +84,7 @@ finds-request {R = R} {W = W} profile date s t o p q end x n h can number marks_
     here = before profile date s t (Ok (read.Request x)) h (λ e. elim e [ ]) can.1
 
 -- memory was refused, whatever was read; what had been kept is kept
-pub finds-no-memory : {R W : Type 0} (profile : Profile) (date : HttpDate) (s t : SourceState R) (o u : OutletState W) (p q : Pending) (end : Option EndOfRequests) (r : Result HeadRead AllocError)
+finds-no-memory : {R W : Type 0} (profile : Profile) (date : HttpDate) (s t : SourceState R) (o u : OutletState W) (p q : Pending) (end : Option EndOfRequests) (r : Result HeadRead AllocError)
     → TakesHead profile date s t r → (IsOkEnd r → ⊥) → CanAsk (viewed profile s o p end) → q.turns ≡ p.turns → q.requests ≡ p.requests → u ≡ o
     → AskStep (viewed profile s o p end) (viewed profile t u q (Some because.Memory)) date Memory
 finds-no-memory {R = R} {W = W} profile date s t o u p q end r h other can turns_are requests_are outlet_is = subst O (sym outlet_is) step
@@ -119,7 +121,7 @@ finds-no-memory {R = R} {W = W} profile date s t o u p q end r h other can turns
         (λ no. elim no [ ]) (can.0, refl, here, begins-here profile from.feed (h.begun other)) (0, (requests_are ∙ sym (append-nil p.requests), λ z. (ap (λ t. t.marks) turns_are, refl))) (driving-reads-on old new refl refl h.goes_on)
 
 -- no further request comes
-pub finds-end : {R W : Type 0} (profile : Profile) (date : HttpDate) (s t : SourceState R) (o : OutletState W) (p : Pending) (end : Option EndOfRequests) (why : EndOfRequests)
+finds-end : {R W : Type 0} (profile : Profile) (date : HttpDate) (s t : SourceState R) (o : OutletState W) (p : Pending) (end : Option EndOfRequests) (why : EndOfRequests)
     → TakesHead profile date s t (Ok (read.Ended why)) → CanAsk (viewed profile s o p end)
     → AskStep (viewed profile s o p end) (viewed profile t o p (Some why)) date Ended
 finds-end {R = R} {W = W} profile date s t o p end why h can =
@@ -145,7 +147,7 @@ finds-end {R = R} {W = W} profile date s t o p end why h can =
     open_is = ap is_some can.0
 
 -- the last head was refused
-pub finds-refused : {R W : Type 0} (profile : Profile) (date : HttpDate) (s t : SourceState R) (o u : OutletState W) (p q : Pending) (end : Option EndOfRequests) (status : StatusCode) (text : Vec ℕ)
+finds-refused : {R W : Type 0} (profile : Profile) (date : HttpDate) (s t : SourceState R) (o u : OutletState W) (p q : Pending) (end : Option EndOfRequests) (status : StatusCode) (text : Vec ℕ)
     → TakesHead profile date s t (Ok (read.Refused status text true)) → RefusesHead p o text.items true q u → CanAsk (viewed profile s o p end)
     → AskStep (viewed profile s o p end) (viewed profile t u q (Some (because.Refused status))) date Ended
 finds-refused {R = R} {W = W} profile date s t o u p q end status text h f can =
@@ -232,39 +234,41 @@ finds-another {R = R} {W = W} profile date s t o u p q end status text h f can =
     stands : t.standing ≡ at.Head
     stands = h.standing
 
--- an Ask behind the heads that were passed, as one in front of them
+-- an Ask behind heads that were passed, as one in front of them
 pub record Passed {R W : Type 0} (old new : ConnectionState R W) (date : HttpDate) (n : ℕ) : Type 0 where
   pub can : CanAsk new
   pub behind : IsAskBehind old new date
   pub few : (n ≡ 0) ⊎ (length new.requests < 2 ^ 64)
   pub counts : length new.requests ≡ length old.requests + n
 
--- what an Ask finds where it goes on behind a refused head
-pub passed-one : {R W : Type 0} (profile : Profile) (date : HttpDate) (s t : SourceState R) (o u : OutletState W) (p q : Pending) (end : Option EndOfRequests) → FindsHead RefusesHead profile date s p o None t q u → CanAsk (viewed profile s o p end)
-    → CanAsk (viewed profile t u q end) × IsAskBehind (viewed profile s o p end) (viewed profile t u q end) date × (length q.requests ≡ length p.requests + 1) × (length q.requests < 2 ^ 64)
-passed-one {R = R} {W = W} profile date s t o u p q end found can = by found.0 found.1 found.2
-  where
-    Goal : Type 0
-    Goal = CanAsk (viewed profile t u q end) × IsAskBehind (viewed profile s o p end) (viewed profile t u q end) date × (length q.requests ≡ length p.requests + 1) × (length q.requests < 2 ^ 64)
+none-some : {X : Type 0} (x : X) → ◌≡◌ {A = Option X} None (Some x) → ⊥
+none-some x e = cc
 
-    by : (r : Result HeadRead AllocError) → TakesHead profile date s t r → Follows RefusesHead r p o None q u → Goal
-    by (Ok (read.Request x)) h f = let no = f.0 in cc
-    by (Ok (read.Ended why)) h f = let no = f.0 in cc
-    by (Err e) h f = let no = f.0 in cc
-    by (Ok (read.Refused status text true)) h f = refused f.0 f.2
-      where
-        refused : (kept : Bool) → FollowsRefusal status true kept None → Goal
-        refused true g = let no = g in cc
-        refused false g = let no = g.1 in cc
-    by (Ok (read.Refused status text false)) h f = refused f.0 f.1 f.2
-      where
-        refused : (kept : Bool) → RefusesHead p o text.items kept q u → FollowsRefusal status false kept None → Goal
-        refused true left g =
-            let a = finds-another profile date s t o u p q end status text h left can in
-            (a.0, a.1, ap length (left.requests refl) ∙ length-append p.requests (None ∷ []), left.few refl)
-        refused false left g = let no = g.1 in cc
+ok-err : {X E : Type 0} (x : X) (e : E) → ◌≡◌ {A = Option (Result X E)} (Some (Ok x)) (Some (Err e)) → ⊥
+ok-err x e is = cc
 
-pub passed-heads : {R W : Type 0} (profile : Profile) (date : HttpDate) (s t : SourceState R) (o u : OutletState W) (p q : Pending) (end : Option EndOfRequests) (n : ℕ) → PassesHeads RefusesHead profile date n s p o t q u → CanAsk (viewed profile s o p end)
+request-ended : (x : Exchange) (why : EndOfRequests) → ◌≡◌ {A = Found} (Some (Ok (next.Request x))) (Some (Ok (next.Ended why))) → ⊥
+request-ended x why is = cc
+
+-- one head was refused, and its answer is kept, or isn't
+passes-one : {R W : Type 0} (profile : Profile) (date : HttpDate) (s t : SourceState R) (o u : OutletState W) (p q : Pending) (end : Option EndOfRequests) (status : StatusCode) (text : Vec ℕ) (last kept : Bool)
+    → TakesHead profile date s t (Ok (read.Refused status text last)) → RefusesHead p o text.items kept q u → FollowsRefusal status last kept None → CanAsk (viewed profile s o p end)
+    → Passed (viewed profile s o p end) (viewed profile t u q end) date 1
+passes-one profile date s t o u p q end status text last false h left f can = absurd (none-some (Err f.0) f.1)
+passes-one profile date s t o u p q end status text true true h left f can = absurd (none-some (Ok (next.Ended (because.Refused status))) f)
+passes-one profile date s t o u p q end status text false true h left f can =
+    let a = finds-another profile date s t o u p q end status text h left can in
+    record { can = a.0; behind = a.1; few = inr (left.few refl); counts = ap length (left.requests refl) ∙ length-append p.requests (None ∷ []) }
+
+passed-one : {R W : Type 0} (profile : Profile) (date : HttpDate) (s t : SourceState R) (o u : OutletState W) (p q : Pending) (end : Option EndOfRequests) (r : Result HeadRead AllocError)
+    → TakesHead profile date s t r → Follows RefusesHead r p o None q u → CanAsk (viewed profile s o p end)
+    → Passed (viewed profile s o p end) (viewed profile t u q end) date 1
+passed-one profile date s t o u p q end (Ok (read.Request x)) h f can = absurd (none-some (Ok (next.Request x)) f.0)
+passed-one profile date s t o u p q end (Ok (read.Ended why)) h f can = absurd (none-some (Ok (next.Ended why)) f.0)
+passed-one profile date s t o u p q end (Err e) h f can = absurd (none-some (Err e) f.0)
+passed-one profile date s t o u p q end (Ok (read.Refused status text last)) h f can = passes-one profile date s t o u p q end status text last f.0 h f.1 f.2 can
+
+passed-heads : {R W : Type 0} (profile : Profile) (date : HttpDate) (s t : SourceState R) (o u : OutletState W) (p q : Pending) (end : Option EndOfRequests) (n : ℕ) → PassesHeads RefusesHead profile date n s p o t q u → CanAsk (viewed profile s o p end)
     → Passed (viewed profile s o p end) (viewed profile t u q end) date n
 passed-heads {R = R} {W = W} profile date s t o u p q end zero h can =
     let here : Passed (viewed profile s o p end) (viewed profile s o p end) date 0 = record { can = can; behind = λ new reply a. a; few = inl refl; counts = plus-none (length p.requests) } in
@@ -273,9 +277,119 @@ passed-heads {R = R} {W = W} profile date s t o u p q end zero h can =
     let U : OutletState W → Type 0 = λ u. Passed (viewed profile s o p end) (viewed profile t u q end) date 0 in
     subst U (sym h.2) (subst Q (sym h.1) (subst S (sym h.0) here))
 passed-heads {R = R} {W = W} profile date s t o u p q end (suc n) h can =
-    let place = h.1 in
     let i = passed-heads profile date s h.0 o h.2 p h.1 end n h.3 can in
-    let one = passed-one profile date h.0 t h.2 u h.1 q end h.4 i.can in
-    let more = one.2 in
+    let one = passed-one profile date h.0 t h.2 u h.1 q end h.4.0 h.4.1 h.4.2 i.can in
+    let more = one.counts in
     let counts = i.counts in
-    record { can = one.0; behind = λ new reply a. i.behind new reply (one.1 new reply a); few = inr one.3; counts = omega (arith, more, counts) }
+    record { can = one.can; behind = λ new reply a. i.behind new reply (one.behind new reply a); few = ⊎_elim (λ none. absurd (one-none none)) (λ few. inr few) one.few; counts = omega (arith, more, counts) }
+  where
+    one-none : ◌≡◌ {A = ℕ} 1 0 → ⊥
+    one-none e = cc
+
+-- no 2^64 heads are passed, since each takes a number
+too-many : {R W : Type 0} (old new : ConnectionState R W) (date : HttpDate) (n : ℕ) → Passed old new date n → n ≡ 2 ^ 64 → ⊥
+too-many old new date n p many = ⊎_elim (λ none. omega (arith, none, many)) (λ few. (let counts = p.counts in omega (arith, few, counts, many))) p.few
+
+-- AN ASK finds what stands behind the heads that were passed
+pub asks-next : {R W : Type 0} (profile : Profile) (date : HttpDate) (s t : SourceState R) (o u : OutletState W) (p q : Pending) (end : Option EndOfRequests) (r : Result NextRequest AllocError) (f : FindsNext RefusesHead profile date s p o r t q u) → CanAsk (viewed profile s o p end)
+    → (new : ConnectionState R W) (reply : ReplyValue)
+    → (FindsHead RefusesHead profile date f.source f.place f.output (Some r) t q u → CanAsk (viewed profile f.source f.output f.place end) → AskStep (viewed profile f.source f.output f.place end) new date reply)
+    → AskStep (viewed profile s o p end) new date reply
+asks-next profile date s t o u p q end r f can new reply go =
+    let passed = passed-heads profile date s f.source o f.output p f.place end f.passed f.passes can in
+    ⊎_elim (λ found. passed.behind new reply (go found passed.can)) (λ many. absurd (too-many (viewed profile s o p end) (viewed profile f.source f.output f.place end) date f.passed passed many.0)) f.ends
+
+-- a request is found, and takes a number
+pub found-request : {R W : Type 0} (profile : Profile) (date : HttpDate) (s t : SourceState R) (o u : OutletState W) (p q a : Pending) (end : Option EndOfRequests) (x : Exchange) (n : ℕ)
+    → n ≡ length q.turns.marks → a.turns.marks ≡ q.turns.marks ++ (Open ∷ []) → AreInShape a.turns.marks → a.requests ≡ q.requests ++ (Some (still.Waiting x.open_request) ∷ [])
+    → FindsHead RefusesHead profile date s p o (Some (Ok (next.Request x))) t q u → CanAsk (viewed profile s o p end)
+    → AskStep (viewed profile s o p end) (viewed profile t u a end) date (Handed n (head_message x.head) (head_framing x.head))
+found-request {R = R} {W = W} profile date s t o u p q a end x n number marks_are shape requests_are found can = by found.0 found.1 found.2
+  where
+    U : OutletState W → Type 0
+    U v = AskStep (viewed profile s o p end) (viewed profile t v a end) date (Handed n (head_message x.head) (head_framing x.head))
+
+    refused : (status : StatusCode) (last kept : Bool) → FollowsRefusal status last kept (Some (Ok (next.Request x))) → ⊥
+    refused status true true f = request-ended x (because.Refused status) f
+    refused status false true f = none-some (Ok (next.Request x)) (sym f)
+    refused status last false f = ok-err (next.Request x) f.0 f.1
+
+    by : (r : Result HeadRead AllocError) → TakesHead profile date s t r → Follows RefusesHead r p o (Some (Ok (next.Request x))) q u → U u
+    by (Ok (read.Request y)) h f =
+        let e = f.0 in
+        let same : y ≡ x = cc in
+        let T : Exchange → Type 0 = λ z. TakesHead profile date s t (Ok (read.Request z)) in
+        subst U (sym f.2) (finds-request profile date s t o p a end x n (subst T same h) can
+        (number ∙ ap (λ q. length q.turns.marks) f.1) (marks_are ∙ ap (λ q. q.turns.marks ++ (Open ∷ [])) f.1) shape (requests_are ∙ ap (λ q. q.requests ++ (Some (still.Waiting x.open_request) ∷ [])) f.1))
+    by (Ok (read.Ended why)) h f = absurd (request-ended x why f.0)
+    by (Ok (read.Refused status text last)) h f = absurd (refused status last f.0 f.2)
+    by (Err e) h f = absurd (ok-err (next.Request x) e f.0)
+
+-- a request is found, and memory is refused for its number
+pub found-no-number : {R W : Type 0} (profile : Profile) (date : HttpDate) (s t : SourceState R) (o u : OutletState W) (p q a : Pending) (end : Option EndOfRequests) (x : Exchange)
+    → a.turns ≡ q.turns → a.requests ≡ q.requests
+    → FindsHead RefusesHead profile date s p o (Some (Ok (next.Request x))) t q u → CanAsk (viewed profile s o p end)
+    → AskStep (viewed profile s o p end) (viewed profile t u a (Some because.Memory)) date Memory
+found-no-number {R = R} {W = W} profile date s t o u p q a end x turns_are requests_are found can = by found.0 found.1 found.2
+  where
+    refused : (status : StatusCode) (last kept : Bool) → FollowsRefusal status last kept (Some (Ok (next.Request x))) → ⊥
+    refused status true true f = request-ended x (because.Refused status) f
+    refused status false true f = none-some (Ok (next.Request x)) (sym f)
+    refused status last false f = ok-err (next.Request x) f.0 f.1
+
+    by : (r : Result HeadRead AllocError) → TakesHead profile date s t r → Follows RefusesHead r p o (Some (Ok (next.Request x))) q u → AskStep (viewed profile s o p end) (viewed profile t u a (Some because.Memory)) date Memory
+    by (Ok (read.Request y)) h f = finds-no-memory profile date s t o u p a end (Ok (read.Request y)) h (λ e. elim e [ ]) can (turns_are ∙ ap (λ q. q.turns) f.1) (requests_are ∙ ap (λ q. q.requests) f.1) f.2
+    by (Ok (read.Ended why)) h f = absurd (request-ended x why f.0)
+    by (Ok (read.Refused status text last)) h f = absurd (refused status last f.0 f.2)
+    by (Err e) h f = absurd (ok-err (next.Request x) e f.0)
+
+-- memory is refused
+pub found-no-memory : {R W : Type 0} (profile : Profile) (date : HttpDate) (s t : SourceState R) (o u : OutletState W) (p q : Pending) (end : Option EndOfRequests) (e : AllocError)
+    → FindsHead RefusesHead profile date s p o (Some (Err e)) t q u → CanAsk (viewed profile s o p end)
+    → AskStep (viewed profile s o p end) (viewed profile t u q (Some because.Memory)) date Memory
+found-no-memory {R = R} {W = W} profile date s t o u p q end e found can = by found.0 found.1 found.2
+  where
+    Goal : Type 0
+    Goal = AskStep (viewed profile s o p end) (viewed profile t u q (Some because.Memory)) date Memory
+
+    refused : (status : StatusCode) (text : Vec ℕ) (last kept : Bool) → TakesHead profile date s t (Ok (read.Refused status text last)) → RefusesHead p o text.items kept q u → FollowsRefusal status last kept (Some (Err e)) → Goal
+    refused status text true true h left f = absurd (ok-err (next.Ended (because.Refused status)) e (sym f))
+    refused status text false true h left f = absurd (none-some {X = Result NextRequest AllocError} (Err e) (sym f))
+    refused status text last false h left f = let same = left.stays refl in finds-no-memory profile date s t o u p q end (Ok (read.Refused status text last)) h (λ i. elim i [ ]) can same.0 same.1 same.2
+
+    by : (r : Result HeadRead AllocError) → TakesHead profile date s t r → Follows RefusesHead r p o (Some (Err e)) q u → Goal
+    by (Ok (read.Request y)) h f = absurd (ok-err (next.Request y) e (sym f.0))
+    by (Ok (read.Ended why)) h f = absurd (ok-err (next.Ended why) e (sym f.0))
+    by (Ok (read.Refused status text last)) h f = refused status text last f.0 h f.1 f.2
+    by (Err x) h f = finds-no-memory profile date s t o u p q end (Err x) h (λ i. elim i [ ]) can (ap (λ q. q.turns) f.1) (ap (λ q. q.requests) f.1) f.2
+
+-- the end is found
+pub found-end : {R W : Type 0} (profile : Profile) (date : HttpDate) (s t : SourceState R) (o u : OutletState W) (p q : Pending) (end : Option EndOfRequests) (why : EndOfRequests)
+    → FindsHead RefusesHead profile date s p o (Some (Ok (next.Ended why))) t q u → CanAsk (viewed profile s o p end)
+    → AskStep (viewed profile s o p end) (viewed profile t u q (Some why)) date Ended
+found-end {R = R} {W = W} profile date s t o u p q end why found can = by found.0 found.1 found.2
+  where
+    Goal : EndOfRequests → Type 0
+    Goal w = AskStep (viewed profile s o p end) (viewed profile t u q (Some w)) date Ended
+
+    same-end : (w : EndOfRequests) → ◌≡◌ {A = Found} (Some (Ok (next.Ended why))) (Some (Ok (next.Ended w))) → w ≡ why
+    same-end w is = cc
+
+    refused : (status : StatusCode) (text : Vec ℕ) (last kept : Bool) → TakesHead profile date s t (Ok (read.Refused status text last)) → RefusesHead p o text.items kept q u → FollowsRefusal status last kept (Some (Ok (next.Ended why))) → Goal why
+    refused status text true true h left f = subst Goal (same-end (because.Refused status) f) (finds-refused profile date s t o u p q end status text h left can)
+    refused status text false true h left f = absurd (none-some (Ok (next.Ended why)) (sym f))
+    refused status text last false h left f = absurd (ok-err (next.Ended why) f.0 f.1)
+
+    U : OutletState W → Type 0
+    U v = AskStep (viewed profile s o p end) (viewed profile t v q (Some why)) date Ended
+
+    Q : Pending → Type 0
+    Q a = AskStep (viewed profile s o p end) (viewed profile t o a (Some why)) date Ended
+
+    by : (r : Result HeadRead AllocError) → TakesHead profile date s t r → Follows RefusesHead r p o (Some (Ok (next.Ended why))) q u → Goal why
+    by (Ok (read.Request y)) h f = absurd (request-ended y why (sym f.0))
+    by (Ok (read.Ended w)) h f =
+        let T : EndOfRequests → Type 0 = λ w. TakesHead profile date s t (Ok (read.Ended w)) in
+        subst U (sym f.2) (subst Q (sym f.1) (finds-end profile date s t o p end why (subst T (same-end w f.0) h) can))
+    by (Ok (read.Refused status text last)) h f = refused status text last f.0 h f.1 f.2
+    by (Err x) h f = absurd (ok-err (next.Ended why) x f.0)

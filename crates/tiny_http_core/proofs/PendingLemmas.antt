@@ -13,6 +13,10 @@ use Rattle.tiny_http_turns.specs.declared.turns.Leaving.TheVariants.{Left as IsL
 use Rattle.tiny_http_sending.specs.Sending.{CanSend, IsFlushed, SendsUnlessEnded}
 use Rattle.tiny_http_turns.specs.Turns.{Mark, Open, Held, Left, Finished, AreInShape, first_unfinished, Goes, Passed, Waits, TurnOutcome, Finish, Leave, turn_outcome, turn_answer, marks_after_step, finish_at, pass_to, leave_at}
 use Rattle.tiny_http_turns.specs.TurnsCalls.{Finishes, LeavesTurn}
+use Rattle.tiny_http_message.specs.declared.body.Body.{Body}
+use Rattle.tiny_http_message.specs.declared.open_request.OpenRequest.{OpenRequest}
+use Rattle.tiny_http_core.specs.declared.pending.Unfinished.{Unfinished}
+use Rattle.tiny_http_core.specs.declared.pending.Unfinished.TheVariants as still
 use Rattle.tiny_http_core.specs.Pending.{left_text, with_left_finished, begins_left, SendsLeft, FinishesFront, LeavesText}
 use Rattle.tiny_http_core.proofs.ConnectionKept.{get-at, set-at}
 use Rattle.tiny_http_sending.proofs.SendingLemmas.{sends-append, sends-can}
@@ -343,3 +347,7 @@ put-in-place old mid new n was x v None here is some none =
     let got = ap value_of (ap (λ l. slice_get l n) is ∙ get-set old n (Some was) (Some x) here) in
     let no : Some x ≡ None = sym got ∙ none.0 in
     cc
+
+-- what is kept of a number that waits is one value
+pub waiting-is : (u v : OpenRequest Body) → ◌≡◌ {A = Option (Option Unfinished)} (Some (Some (still.Waiting u))) (Some (Some (still.Waiting v))) → u ≡ v
+waiting-is u v e = cc

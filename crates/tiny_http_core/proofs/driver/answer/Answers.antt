@@ -1,22 +1,26 @@
-use Rattle.std.proofs.Common.{◌≡◌, refl, sym, ap, ◌∙◌, subst, false, true, Bool, append-nil, Result, Ok, Err, Option, Some, None, List, ℕ}
-use Rattle.std.specs.Prelude.{if◌then◌else◌, OnErr, IfErr, ◌×◌}
+use Rattle.std.proofs.Common.{◌≡◌, refl, sym, ap, ◌∙◌, subst, false, true, Bool, append-nil, Result, Ok, Err, Option, Some, None, List, [], ℕ}
+use Rattle.std.specs.Prelude.{if◌then◌else◌, OnErr, IfErr}
 use Rattle.std.specs.declared.io.Error.{Error}
 use Rattle.std.specs.declared.io.ErrorKind.{ErrorKind}
 use Rattle.std.specs.IoError.{error_kind}
 use Rattle.tiny_http_stream.specs.Outlet.{OutletState, output_of, SentOn}
 use Rattle.tiny_http_device.specs.Device.{IsAllKnown, HoldsNothing, grown}
-use Rattle.tiny_http_wire.specs.Device.{append_known}
 use Rattle.tiny_http_core.specs.Steps.{ReplyValue, Done, Fault}
 use Rattle.tiny_http_core.specs.Seen.{seen, write_reply, reply_to, IsAnswered}
+use Rattle.tiny_http_sending.specs.ResponseValue.{printing_in}
 use Rattle.tiny_http_sending.specs.Sending.{IsFlushed, IsHonest, is_closed_client, reported}
 use Rattle.tiny_http_core.proofs.driver.answer.Goals as goal
+
+-- what is reported of a fault, where the client has gone and where it hasn't
+abbrev reported_if : Bool → Error → Result (Unit {0}) Error
+reported_if gone e = if gone then Ok tt else Err e
 
 -- what is reported of an answer is replied as the answer is
 reply-reported : (r : Result (Unit {0}) Error) → write_reply (reported r) ≡ reply_to r
 reply-reported (Ok x) = refl
 reply-reported (Err e) = by (is_closed_client (error_kind e))
   where
-    by : (t : Bool) → write_reply (if t then Ok tt else Err e) ≡ (if t then Done else Fault (error_kind e))
+    by : (t : Bool) → write_reply (reported_if t e) ≡ (if t then Done else Fault (error_kind e))
     by true = refl
     by false = refl
 
@@ -39,7 +43,7 @@ fault-is : (r : Result (Unit {0}) Error) (kind : ErrorKind) (P : ErrorKind → T
 fault-is (Ok x) kind P E is over holds = let no : Done ≡ Fault kind = is in cc
 fault-is (Err e) kind P E is over holds = by (is_closed_client (error_kind e)) is
   where
-    by : (t : Bool) → write_reply (if t then Ok tt else Err e) ≡ Fault kind → E × P kind
+    by : (t : Bool) → write_reply (reported_if t e) ≡ Fault kind → E × P kind
     by true is = let no : Done ≡ Fault kind = is in cc
     by false is = let same : error_kind e ≡ kind = (let h : Fault (error_kind e) ≡ Fault kind = is in cc) in (over, subst P same holds)
 
@@ -57,5 +61,5 @@ returns g c =
       sent_on = a.sent_on;
       body = ap (λ x. x.body) c.respond.ensures.once;
       done = subst IsAnswered (sym replied) (is-answered (reported r));
-      honest = λ kind e. fault-is r kind (λ k. IsHonest (output_of c.args.outlet.now) (output_of c.respond.new.outlet) _ _ _ k) _ (sym replied ∙ e) a.ended a.honest;
+      honest = λ kind e. fault-is r kind (λ k. IsHonest (output_of c.args.outlet.now) (output_of c.respond.new.outlet) c.args.response.answer (g.D.ReadDevice.feed c.args.response.data_reader) (printing_in c.args.request.now.answer_context c.args.now) k) _ (sym replied ∙ e) a.ended a.honest;
     }

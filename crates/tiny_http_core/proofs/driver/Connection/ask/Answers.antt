@@ -1,11 +1,20 @@
-use Rattle.std.proofs.Common.{◌≡◌, refl, sym, ap, ◌∙◌, subst, true, false, Option, Some, None, append-nil, arith}
-use Rattle.std.specs.Prelude.{is_some, IfSome}
-use Rattle.tiny_http_core.specs.Seen.{seen}
-use Rattle.tiny_http_core.specs.Asking.{CanAsk}
+use Rattle.std.proofs.Common.{◌≡◌, refl, sym, ap, ◌∙◌, subst, true, false, Option, Some, None, Result, Ok, Err, append-nil}
+use Rattle.std.specs.Prelude.{is_some}
+use Rattle.std.specs.declared.alloc.AllocError.{AllocError}
+use Rattle.tiny_http_turns.specs.Turns.{AreInShape}
 use Rattle.tiny_http_stream.specs.declared.source.Standing.TheVariants as at
-use Rattle.tiny_http_core.specs.Steps.{Ended, NotYet}
+use Rattle.tiny_http_message.specs.declared.exchange.EndOfRequests.TheVariants as because
+use Rattle.tiny_http_message.specs.declared.next_request.NextRequest.{NextRequest}
+use Rattle.tiny_http_message.specs.declared.next_request.NextRequest.TheVariants as next
+use Rattle.tiny_http_message.specs.Exchange.{exchange_of}
+use Rattle.tiny_http_message.specs.HeadReads.{head_message, head_framing}
+use Rattle.tiny_http_message.specs.NextRequest.{FindsNext}
+use Rattle.tiny_http_core.specs.Asking.{CanAsk}
+use Rattle.tiny_http_core.specs.Pending.{RefusesHead}
+use Rattle.tiny_http_core.specs.Steps.{Ended, NotYet, Memory, Handed}
 use Rattle.tiny_http_core.specs.Connection.{kept}
 use Rattle.tiny_http_core.proofs.ConnectionAsk.{ask-ended, ask-not_yet}
+use Rattle.tiny_http_core.proofs.ConnectionNext.{asks-next, found-request, found-no-number, found-no-memory, found-end}
 use Rattle.tiny_http_core.proofs.DrivingLemmas.{viewed, none-of, ask-step, takes-ask, moves-none}
 use Rattle.tiny_http_core.proofs.driver.Connection.ask.Goals.{in-Body, in_default}
 use Rattle.tiny_http_core.proofs.driver.Connection.ask.Goals as goal
@@ -36,3 +45,82 @@ returns-then-matches g c =
           (λ no. refl) (none-of q.end open_is, here) tt (moves-none old)));
     }
 
+pub returns-in-Ok : goal.returns-in-Ok
+returns-in-Ok g c =
+    let q = c.self.inside in
+    let f = c.next_request.new in
+    let x = exchange_of c.into_parts-head.result.0 c.into_parts-head.result.1 in
+    let e = c.in-Ok.ensures in
+    let old = viewed q.profile q.source q.outlet q.pending q.end in
+    let new = viewed q.profile f.source f.output c.issue.new.self q.end in
+    let outside : q.source.standing ≡ at.Body → ⊥ = elim c.match-matches.branch [
+      | in-Body w ↦ λ e. (let no : true ≡ false = sym w.matches-is ∙ c.if-matches.false in cc)
+      | in_default w ↦ λ e. w.in_default.not-Body (c.standing.ensures ∙ e)
+    ] in
+    let can : CanAsk old = (none-of q.end (sym c.is_some.ensures ∙ c.if-is_some.false), outside) in
+    let N : Result NextRequest AllocError → Type 0 = λ r. FindsNext RefusesHead q.profile c.args.now q.source q.pending q.outlet r f.source f.place f.output in
+    let found : N (Ok (next.Request x)) = subst N (c.in-Ok-Request.is ∙ ap (λ y. Ok y) c.in-Ok-Request.field-0-is ∙ ap (λ y. Ok (next.Request y)) c.into_parts-head.ensures) c.next_request.ensures in
+    let shape : AreInShape c.issue.new.self.turns.marks = e.shape in
+    let reply = Handed c.in-Ok.number (head_message x.head) (head_framing x.head) in
+    record {
+      step = rw (← c.self.view_is) (takes-ask old new c.args.now reply (asks-next q.profile c.args.now q.source f.source q.outlet f.output q.pending f.place q.end (Ok (next.Request x)) found can new reply
+          (λ h may. found-request q.profile c.args.now found.source f.source found.output f.output found.place f.place c.issue.new.self q.end x c.in-Ok.number e.number e.marks shape e.requests h may)));
+    }
+
+pub returns-in-Err-issue : goal.returns-in-Err-issue
+returns-in-Err-issue g c =
+    let q = c.self.inside in
+    let f = c.next_request.new in
+    let x = exchange_of c.into_parts-head.result.0 c.into_parts-head.result.1 in
+    let e = c.in-Err-issue.ensures.err in
+    let old = viewed q.profile q.source q.outlet q.pending q.end in
+    let new = viewed q.profile f.source f.output c.issue.new.self (Some because.Memory) in
+    let outside : q.source.standing ≡ at.Body → ⊥ = elim c.match-matches.branch [
+      | in-Body w ↦ λ e. (let no : true ≡ false = sym w.matches-is ∙ c.if-matches.false in cc)
+      | in_default w ↦ λ e. w.in_default.not-Body (c.standing.ensures ∙ e)
+    ] in
+    let can : CanAsk old = (none-of q.end (sym c.is_some.ensures ∙ c.if-is_some.false), outside) in
+    let N : Result NextRequest AllocError → Type 0 = λ r. FindsNext RefusesHead q.profile c.args.now q.source q.pending q.outlet r f.source f.place f.output in
+    let found : N (Ok (next.Request x)) = subst N (c.in-Ok-Request.is ∙ ap (λ y. Ok y) c.in-Ok-Request.field-0-is ∙ ap (λ y. Ok (next.Request y)) c.into_parts-head.ensures) c.next_request.ensures in
+    record {
+      step = rw (← c.self.view_is) (takes-ask old new c.args.now Memory (asks-next q.profile c.args.now q.source f.source q.outlet f.output q.pending f.place q.end (Ok (next.Request x)) found can new Memory
+          (λ h may. found-no-number q.profile c.args.now found.source f.source found.output f.output found.place f.place c.issue.new.self q.end x e.0 e.1 h may)));
+    }
+
+pub returns-in-Ok-Ended : goal.returns-in-Ok-Ended
+returns-in-Ok-Ended g c =
+    let q = c.self.inside in
+    let f = c.next_request.new in
+    let why = c.in-Ok-Ended.why in
+    let old = viewed q.profile q.source q.outlet q.pending q.end in
+    let new = viewed q.profile f.source f.output f.place (Some why) in
+    let outside : q.source.standing ≡ at.Body → ⊥ = elim c.match-matches.branch [
+      | in-Body w ↦ λ e. (let no : true ≡ false = sym w.matches-is ∙ c.if-matches.false in cc)
+      | in_default w ↦ λ e. w.in_default.not-Body (c.standing.ensures ∙ e)
+    ] in
+    let can : CanAsk old = (none-of q.end (sym c.is_some.ensures ∙ c.if-is_some.false), outside) in
+    let N : Result NextRequest AllocError → Type 0 = λ r. FindsNext RefusesHead q.profile c.args.now q.source q.pending q.outlet r f.source f.place f.output in
+    let found : N (Ok (next.Ended why)) = subst N (c.in-Ok-Ended.is ∙ ap (λ y. Ok y) c.in-Ok-Ended.field-0-is) c.next_request.ensures in
+    record {
+      step = rw (← c.self.view_is) (takes-ask old new c.args.now Ended (asks-next q.profile c.args.now q.source f.source q.outlet f.output q.pending f.place q.end (Ok (next.Ended why)) found can new Ended
+          (λ h may. found-end q.profile c.args.now found.source f.source found.output f.output found.place f.place q.end why h may)));
+    }
+
+pub returns-in-Err : goal.returns-in-Err
+returns-in-Err g c =
+    let q = c.self.inside in
+    let f = c.next_request.new in
+    let error = c.in-Err.field-0 in
+    let old = viewed q.profile q.source q.outlet q.pending q.end in
+    let new = viewed q.profile f.source f.output f.place (Some because.Memory) in
+    let outside : q.source.standing ≡ at.Body → ⊥ = elim c.match-matches.branch [
+      | in-Body w ↦ λ e. (let no : true ≡ false = sym w.matches-is ∙ c.if-matches.false in cc)
+      | in_default w ↦ λ e. w.in_default.not-Body (c.standing.ensures ∙ e)
+    ] in
+    let can : CanAsk old = (none-of q.end (sym c.is_some.ensures ∙ c.if-is_some.false), outside) in
+    let N : Result NextRequest AllocError → Type 0 = λ r. FindsNext RefusesHead q.profile c.args.now q.source q.pending q.outlet r f.source f.place f.output in
+    let found : N (Err error) = subst N c.in-Err.is c.next_request.ensures in
+    record {
+      step = rw (← c.self.view_is) (takes-ask old new c.args.now Memory (asks-next q.profile c.args.now q.source f.source q.outlet f.output q.pending f.place q.end (Err error) found can new Memory
+          (λ h may. found-no-memory q.profile c.args.now found.source f.source found.output f.output found.place f.place q.end error h may)));
+    }

@@ -1,4 +1,4 @@
-use Rattle.std.proofs.Common.{ℕ, refl, ap, ◌∙◌, subst, List}
+use Rattle.std.proofs.Common.{ℕ, ◌≡◌, refl, ap, ◌∙◌, subst, List}
 use Rattle.std.specs.Prelude.{◌==◌, slice_get}
 use Rattle.tiny_http_core.specs.declared.pending.Unfinished.TheVariants as still
 use Rattle.tiny_http_turns.specs.Turns.{Mark, first_unfinished}
@@ -7,6 +7,7 @@ use Rattle.tiny_http_stream.specs.Outlet.{output_of, outlet_ended}
 use Rattle.tiny_http_core.specs.Connection.{Kept, kept}
 use Rattle.tiny_http_core.proofs.ConnectionDrop.{drop-done}
 use Rattle.tiny_http_core.proofs.DrivingLemmas.{viewed, drops-by, gives-up-of}
+use Rattle.tiny_http_message.specs.Body.{GivesUp}
 use Rattle.tiny_http_message.proofs.BodyReads.{gives-up}
 use Rattle.tiny_http_core.proofs.driver.Connection.let_go.Goals as goal
 
@@ -23,12 +24,13 @@ returns-clause-drops g c = λ yes now.
     let some = c.in-Some.ensures.some in
     let turns = c.take.ensures.turns in
     let requests = c.leave.ensures.requests ∙ some.1 in
+    let given_up : GivesUp w.body q.source source = subst (λ b. GivesUp b q.source source) c.into_drop_text-text.ensures.body c.give_up.ensures.gives_up in
     rw (← c.self.view_is) (drops-by n old new now
     (λ client before s asked reply drops low st.
-    drop-done client before k s now n asked reply w (output_of left.outlet) (outlet_ended left.outlet) left.self.turns.marks left.self.requests q.source source drops st (record { feed = refl; stop = refl; ends = refl; standing = refl }) c.give_up.ensures.gives_up low some.0 requests
+    drop-done client before k s now n asked reply w (output_of left.outlet) (outlet_ended left.outlet) left.self.turns.marks left.self.requests q.source source drops st (record { feed = refl; stop = refl; ends = refl; standing = refl }) given_up low some.0 requests
     (λ front rest e place can.
     let T : List Mark → Type 0 = λ m. LeavesText (n == first_unfinished m) front rest left.self.turns.marks w.dropped.items k.output_ended k.sink (output_of left.outlet) (outlet_ended left.outlet) in
     let L : List ℕ → Type 0 = λ x. LeavesText (n == first_unfinished c.take.new.self.turns.marks) front rest left.self.turns.marks x k.output_ended k.sink (output_of left.outlet) (outlet_ended left.outlet) in
     subst T (ap (λ t. t.marks) turns) (subst L c.into_drop_text-text.ensures.text (c.leave.ensures.leaves front rest (ap (λ t. t.marks) turns ∙ e) place can))))
-    refl (requests, gives-up-of q.source source (slice_get k.requests n) (still.Waiting w) some.0 c.give_up.ensures.gives_up)
-    (record { profile = refl; goes_on = gives-up w.body q.source source c.give_up.ensures.gives_up; fails_once = c.leave.ensures.fails_once; flushed = λ was. c.leave.ensures.flushed (was refl); sent_on = λ was. c.leave.ensures.sent_on (was refl) }))
+    refl (requests, gives-up-of q.source source (slice_get k.requests n) (still.Waiting w) some.0 given_up)
+    (record { profile = refl; goes_on = gives-up w.body q.source source given_up; fails_once = c.leave.ensures.fails_once; flushed = λ was. c.leave.ensures.flushed (was refl); sent_on = λ was. c.leave.ensures.sent_on (was refl) }))

@@ -80,8 +80,8 @@ answered-done (Given bytes) a = elim a [ ]
 answered-done (Handed k m f) a = elim a [ ]
 
 -- a number that waits is taken
-pub unreachable : goal.unreachable
-unreachable g c =
+pub unreachable-requires : goal.unreachable-requires
+unreachable-requires g c =
     let n = c.args.number in
     let q = c.self.inside in
     let w = waits-some (slice_get q.pending.requests n) (sym c.is_waiting.ensures ∙ c.if-not-is_waiting.false) in

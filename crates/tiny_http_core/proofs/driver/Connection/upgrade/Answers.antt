@@ -1,5 +1,5 @@
-use Rattle.std.proofs.Common.{ℕ, ◌≡◌, refl, sym, ap, ◌∙◌, subst, Bool, true, false, List, Some, None, IsTrue, Result, Ok, Err}
-use Rattle.std.specs.Prelude.{◌==◌, slice_get, string_bytes, is_ok, is_err}
+use Rattle.std.proofs.Common.{ℕ, ◌≡◌, refl, sym, ap, ◌∙◌, subst, Bool, true, false, List, Option, Some, None, IsTrue, Result, Ok, Err}
+use Rattle.std.specs.Prelude.{◌==◌, slice_get, string_bytes, is_ok, is_err, ⊤}
 use Rattle.std.specs.List.{list_all}
 use Rattle.tiny_http_wire.specs.Answer.{Answer}
 use Rattle.tiny_http_wire.specs.Bytes.{is_ascii}
@@ -12,7 +12,11 @@ use Rattle.tiny_http_core.specs.Steps.{Upgrade, NoSuch, NotYet, Done, Refused}
 use Rattle.tiny_http_core.specs.Pending.{waiting_answer_context}
 use Rattle.tiny_http_core.specs.Driving.{stated_response}
 use Rattle.tiny_http_message.specs.declared.upgrading.UpgradeError.{UpgradeError}
-use Rattle.tiny_http_core.specs.Connection.{Kept, kept}
+use Rattle.tiny_http_core.specs.Connection.{Kept, ConnectionState, kept}
+use Rattle.tiny_http_message.specs.declared.body.Body.{Body}
+use Rattle.tiny_http_message.specs.declared.open_request.OpenRequest.{OpenRequest}
+use Rattle.tiny_http_core.specs.declared.pending.Unfinished.{Unfinished}
+use Rattle.tiny_http_core.specs.declared.pending.Unfinished.TheVariants as still
 use Rattle.tiny_http_stream.proofs.SourceGoesOn.{goes-on_same}
 use Rattle.tiny_http_core.proofs.ConnectionRespond.{no-such, waits-some, waits-none}
 use Rattle.tiny_http_core.proofs.ConnectionUpgrade.{upgrade-not_taken, upgrade-not_yet, upgrade-done}
@@ -45,16 +49,22 @@ accepted : (r : Result ⊤ UpgradeError) → is_err r ≡ false → is_ok r ≡ 
 accepted (Ok x) z = refl
 accepted (Err e) z = cc
 
+view-none : {R W : Type 0} (n : ℕ) (c d : ConnectionState R W) → c ≡ d → waiting_answer_context (slice_get d.requests n) ≡ None → waiting_answer_context (slice_get c.requests n) ≡ None
+view-none {R = R} {W = W} n c d e h = let P : ConnectionState R W → Type 0 = λ y. waiting_answer_context (slice_get y.requests n) ≡ None in subst P (sym e) h
+
+waits-still : (w : OpenRequest Body) (o : Option (Option Unfinished)) → o ≡ Some (Some (still.Waiting w)) → waiting_answer_context o ≡ None → ⊥
+waits-still w o e f = let none : Some w.answer_context ≡ None = sym (ap waiting_answer_context e) ∙ f in cc
+
 pub returns-then-is_err : goal.returns-then-is_err
 returns-then-is_err g c =
     let n = c.args.number in
     let q = c.self.inside in
     let w = waits-some (slice_get q.pending.requests n) (sym c.is_waiting.ensures ∙ c.if-not-is_waiting.false) in
-    let gone : IsTrue c.let_go.result = let-go c.let_go.result (λ no. (let none : Some w.0.answer_context ≡ None = sym (ap waiting_answer_context w.1) ∙ (c.let_go.ensures.none no).0 in cc)) in
+    let gone : IsTrue c.let_go.result = let-go c.let_go.result (λ no. waits-still w.0 (slice_get q.pending.requests n) w.1 (view-none n (viewed q.profile q.source q.outlet q.pending q.end) c.args.self.now c.self.view_is (c.let_go.ensures.none no).0)) in
     record {
       step = λ named same.
-          let foreign : list_all is_ascii (string_bytes named) ≡ false = ap (list_all is_ascii) same ∙ sym c.check_protocol.ensures ∙ refused c.check_protocol.result (sym c.is_err.ensures ∙ c.if-is_err.true) in
-          rw (← c.self.view_is) (c.let_go.ensures.drops gone c.args.now (step.Upgrade n named (stated_response g.D.ReadDevice.feed c.args.response)) Refused (refl, foreign));
+          let foreign : list_all is_ascii (string_bytes named) ≡ false = ap (list_all is_ascii) same ∙ sym c.check_protocol.ensures ∙ refused c.check_protocol.result (sym c.is_err.ensures.value ∙ c.if-is_err.true) in
+          (c.let_go.ensures.drops gone c.args.now (step.Upgrade n named (stated_response g.D.ReadDevice.feed c.args.response)) Refused (refl, foreign));
     }
 
 pub returns-then-not-is_in_turn : goal.returns-then-not-is_in_turn
@@ -65,14 +75,14 @@ returns-then-not-is_in_turn g c =
     let w = waits-some (slice_get q.pending.requests n) (sym c.is_waiting.ensures ∙ c.if-not-is_waiting.false) in
     record {
       step = λ named same.
-          let ascii : list_all is_ascii (string_bytes named) ≡ true = ap (list_all is_ascii) same ∙ sym c.check_protocol.ensures ∙ accepted c.check_protocol.result (sym c.is_err.ensures ∙ c.if-is_err.false) in
+          let ascii : list_all is_ascii (string_bytes named) ≡ true = ap (list_all is_ascii) same ∙ sym c.check_protocol.ensures ∙ accepted c.check_protocol.result (sym c.is_err.ensures.value ∙ c.if-is_err.false) in
           rw (← c.self.view_is) (takes-upgrade g.D.ReadDevice.feed false old old c.args.now n named c.args.response NotYet
           (λ client before s value low answer st. upgrade-not_yet client before (kept old) s c.args.now n (string_bytes named) value w.0 st w.1 ascii (sym c.is_in_turn.ensures ∙ c.if-not-is_in_turn.true))
           (λ no. refl) refl tt refl (moves-none old) (λ kind e. cc));
     }
 
 pub upgrade-requires : goal.upgrade-requires
-upgrade-requires g c = sym c.check_protocol.ensures ∙ accepted c.check_protocol.result (sym c.is_err.ensures ∙ c.if-is_err.false)
+upgrade-requires g c = sym c.check_protocol.ensures ∙ accepted c.check_protocol.result (sym c.is_err.ensures.value ∙ c.if-is_err.false)
 
 pub returns : goal.returns
 returns g c =
@@ -91,7 +101,7 @@ returns g c =
     let come : (n == first_unfinished k.marks) ≡ true = sym c.is_in_turn.ensures ∙ c.if-not-is_in_turn.false in
     record {
       step = λ named same.
-          let ascii : list_all is_ascii (string_bytes named) ≡ true = ap (list_all is_ascii) same ∙ sym c.check_protocol.ensures ∙ accepted c.check_protocol.result (sym c.is_err.ensures ∙ c.if-is_err.false) in
+          let ascii : list_all is_ascii (string_bytes named) ≡ true = ap (list_all is_ascii) same ∙ sym c.check_protocol.ensures ∙ accepted c.check_protocol.result (sym c.is_err.ensures.value ∙ c.if-is_err.false) in
           rw (← c.self.view_is) (takes-upgrade g.D.ReadDevice.feed true old new c.args.now n named c.args.response Done
           (λ client before s value low answer st.
           let T : Answer → List ℕ → Type 0 = λ a t. SendsUnlessEnded k.output_ended k.sink (output_of outlet) (outlet_ended outlet) (upgrade_text (record { answer = a; content = value.content }) t (printing_in w.0.answer_context c.args.now)) in

@@ -6,20 +6,20 @@ use Rattle.tiny_http_sending.specs.ResponseValue.{printing_in}
 use Rattle.tiny_http_sending.specs.Sending.{IsFlushed, SendsQuietlyOn}
 use Rattle.tiny_http_stream.specs.Outlet.{output_of, outlet_held, SentOn}
 use Rattle.tiny_http_core.specs.declared.pending.Unfinished.TheVariants as still
-use Rattle.tiny_http_core.proofs.PendingLemmas.{put-in-place}
+use Rattle.tiny_http_core.proofs.PendingLemmas.{put-in-place, waiting-is}
 use Rattle.tiny_http_core.proofs.pending.Pending.send_continue.Goals as goal
 
 pub returns-in-Some-clause-requests : goal.returns-in-Some-clause-requests
 returns-in-Some-clause-requests g c w here =
     let took = c.in-Some.ensures.some in
-    let same : c.in-Some.request ≡ w = cc in
+    let same : c.in-Some.request ≡ w = waiting-is c.in-Some.request w (sym c.in-Some.ensures.some.0 ∙ here) in
     put-in-place c.args.self.now.requests c.take.new.self.requests c.replace.new.self c.args.number (still.Waiting c.in-Some.request) still.Raw (still.Waiting c.send_continue.new.self) c.replace.result
     took.0 took.1 c.replace.ensures.some c.replace.ensures.none
     ∙ ap (λ (w : OpenRequest Body). slice_set c.args.self.now.requests c.args.number (Some (still.Waiting w))) (c.send_continue.ensures.once ∙ ap (λ (w : OpenRequest Body). record w { owes_continue = false }) same)
 
 pub returns-in-Some-clause-sends : goal.returns-in-Some-clause-sends
 returns-in-Some-clause-sends g c w here owed =
-    let same : c.in-Some.request ≡ w = cc in
+    let same : c.in-Some.request ≡ w = waiting-is c.in-Some.request w (sym c.in-Some.ensures.some.0 ∙ here) in
     let owes : c.in-Some.request.owes_continue ≡ true = ap (λ (w : OpenRequest Body). w.owes_continue) same ∙ owed in
     let e = c.send_continue.ensures in
-    (subst (λ (w : OpenRequest Body). SendsQuietlyOn c.args.outlet.now c.send_continue.new.outlet (own_text_by 100 (printing_in w.answer_context c.args.now))) same (e.sends owes), e.sent owes)
+    (subst (λ (w : OpenRequest Body). SendsQuietlyOn c.args.outlet.now c.send_continue.new.outlet (own_text_by 100 (printing_in w.answer_context c.args.now))) same (e.sends owes), (e.sent owes).0, (e.sent owes).1, (e.sent owes).2)

@@ -1,23 +1,23 @@
-use Rattle.std.proofs.Common.{◌≡◌, ap, ◌∙◌, subst, Some, slice_set}
+use Rattle.std.proofs.Common.{◌≡◌, ap, ◌∙◌, sym, subst, Some, false, slice_set}
 use Rattle.tiny_http_message.specs.declared.body.Body.{Body}
 use Rattle.tiny_http_message.specs.declared.open_request.OpenRequest.{OpenRequest}
 use Rattle.tiny_http_wire.specs.Device.{Feed}
 use Rattle.tiny_http_sending.specs.ResponseValue.{printing_in, upgrade_text}
 use Rattle.tiny_http_sending.specs.Sending.{SendsQuietlyOn}
 use Rattle.tiny_http_core.specs.declared.pending.Unfinished.TheVariants as still
-use Rattle.tiny_http_core.proofs.PendingLemmas.{put-in-place}
+use Rattle.tiny_http_core.proofs.PendingLemmas.{put-in-place, waiting-is}
 use Rattle.tiny_http_core.proofs.pending.Pending.upgrade.Goals as goal
 
 pub returns-in-Some-clause-requests : goal.returns-in-Some-clause-requests
 returns-in-Some-clause-requests g c w here =
     let took = c.in-Some.ensures.some in
-    let same : c.in-Some.request ≡ w = cc in
+    let same : c.in-Some.request ≡ w = waiting-is c.in-Some.request w (sym c.in-Some.ensures.some.0 ∙ here) in
     put-in-place c.args.self.now.requests c.take.new.self.requests c.replace.new.self c.args.number (still.Waiting c.in-Some.request) still.Raw (still.Upgraded c.upgrade.new.self.body) c.replace.result
     took.0 took.1 c.replace.ensures.some c.replace.ensures.none
     ∙ ap (λ (w : OpenRequest Body). slice_set c.args.self.now.requests c.args.number (Some (still.Upgraded w.body))) (c.upgrade.ensures.once ∙ ap (λ (w : OpenRequest Body). record w { owes_continue = false }) same)
 
 pub returns-in-Some-clause-sends : goal.returns-in-Some-clause-sends
 returns-in-Some-clause-sends g c w here =
-    let same : c.in-Some.request ≡ w = cc in
+    let same : c.in-Some.request ≡ w = waiting-is c.in-Some.request w (sym c.in-Some.ensures.some.0 ∙ here) in
     let e = c.upgrade.ensures in
-    (subst (λ (w : OpenRequest Body). (content : Feed) → SendsQuietlyOn c.args.outlet.now c.upgrade.new.outlet (upgrade_text (record { answer = c.args.response.answer; content = content }) c.args.protocol.now (printing_in w.answer_context c.args.now))) same e.sends, e.sent)
+    (subst (λ (w : OpenRequest Body). (content : Feed) → SendsQuietlyOn c.args.outlet.now c.upgrade.new.outlet (upgrade_text (record { answer = c.args.response.answer; content = content }) c.args.protocol.now (printing_in w.answer_context c.args.now))) same e.sends, e.sent.0, e.sent.1, e.sent.2)
