@@ -19,7 +19,7 @@ begins-by f f' feed feed' left b b' same-f same-feed same-b begins =
 
 pub returns-clause-body : goal.returns-clause-body
 returns-clause-body g c =
-    (c.body_of.new.source.feed, begins-by c.in-Ok.framing (head_framing (request_head c.from_parts.result)) c.new-source.result.feed (g.R.ReadDevice.feed c.args.source_data) c.body_of.new.source.feed c.in_ok-body.body c.from_parts.result.body (search rules) (search rules) (search rules) c.in_ok-body.ensures.begins)
+    (c.body_of.new.source.feed, begins-by c.in-Ok.framing (head_framing (request_head c.from_parts.result)) c.new-source.result.feed (g.R.ReadDevice.feed c.args.source_data) c.body_of.new.source.feed c.in_ok-body.body c.from_parts.result.open_request.body (search rules) (search rules) (search rules) c.in_ok-body.ensures.begins)
 
 pub returns-in-Err-clause-expectation : goal.returns-in-Err-clause-expectation
 returns-in-Err-clause-expectation g c failed =
