@@ -5,7 +5,7 @@ ghost use Rattle.std.specs.IoError.{error_kind};
 ghost use Rattle.tiny_http_wire.specs.Device.{AnswersStop, Feed};
 ghost use Rattle.tiny_http_stream.specs.Source.{GoesOn};
 ghost use Rattle.tiny_http_stream.specs.ToCome.{skipped};
-ghost use Rattle.tiny_http_message.specs.Body.{remaining, counted_remaining, prepended_body, BodyStops, is_streaming, body_stop, body_standing, ReadsOn, ReadsRemaining, ReadsBody, FillsFromBody, GivesUp};
+ghost use Rattle.tiny_http_message.specs.Body.{remaining, counted_remaining, prepended_body, BodyStops, is_streaming, body_stop, body_standing, ReadsOn, ReadsRemaining, ReadsBody, ReadsHeld, FillsFromBody, GivesUp};
 
 use std::io;
 use std::io::{Cursor, ErrorKind};
@@ -171,14 +171,7 @@ impl Body {
     pub fn read_held(&mut self, buf: &mut [u8]) -> Result<usize, io::Error>
         requires held { is_streaming self.old ≡ false }
         requires room { 0 < length buf.old }
-        ensures bound { IfOk result (λ n. n ≤ length buf.new) }
-        ensures bytes { (feed : Option Feed) → IfOk result (λ n. remaining self.old feed ≡ prepended_body (take n buf.new) (remaining self.new feed)) }
-        ensures end { (feed : Option Feed) → IfOk result (λ n. n ≡ 0 → 0 < length buf.new → BodyStops Stop.End (remaining self.old feed)) }
-        ensures fault { (feed : Option Feed) → IfErr result (λ e. BodyStops (Stop.Fault (error_kind e)) (remaining self.old feed)) }
-        ensures moves { IfOk result (λ n. ReadsOn self.old n (n == 0) self.new) }
-        ensures broken { IfErr result (λ e. (self.new ≡ self.old) × (self.new ≡ Body.Over (Stop.Fault (error_kind e)))) }
-        ensures reports_stop { IfSome (body_stop self.old) (λ stop. AnswersStop stop result × (self.new ≡ self.old)) }
-        ensures held { is_streaming self.new ≡ false }
+        ensures { ReadsHeld self.old self.new result buf.new }
     {
         match self {
             Body::Over(stop) => report(*stop),

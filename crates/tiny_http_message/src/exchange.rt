@@ -167,9 +167,7 @@ impl Exchange {
         ensures sends { OnOk result ((content : Feed) → SendsQuietlyOn outlet.old outlet.new
             (upgrade_text (record { answer = response.answer; content = content }) protocol.now (exchange_printing self.old now))) }
         ensures once { OnOk result (OwesNoContinue self.old self.new) }
-        ensures fails_once { FailsOnce outlet.old outlet.new }
-        ensures flushed { OnOk result (outlet_held outlet.new ≡ []) }
-        ensures sent_on { OnOk result (SentOn outlet.new) }
+        ensures sent { OnOk result (FailsOnce outlet.old outlet.new × (outlet_held outlet.new ≡ []) × SentOn outlet.new) }
     {
         check_protocol(protocol)?;
         self.open_request.upgrade(alloc, outlet, protocol, response, now);

@@ -1,4 +1,5 @@
 pub mod Sequential
 pub mod Request
+pub mod Body
 pub mod Client
 pub mod Test

@@ -1,5 +1,6 @@
 -- What clauses read of a request, and of why none is made.
-use Rattle.std.specs.Prelude.{◌≡◌, ⊤, Bool, true, false, List, Option, None, Some, Ok}
+use Rattle.std.specs.Prelude.{◌≡◌, ⊤, ℕ, Bool, true, false, List, Option, None, Some, Ok, Err}
+use Rattle.std.specs.IoError.{error_kind}
 use Rattle.std.specs.declared.io.Error.{Error}
 use Rattle.std.specs.declared.io.ErrorKind.{ErrorKind}
 use Rattle.std.specs.declared.io.ErrorKind.TheVariants.{ConnectionAborted}
@@ -9,12 +10,17 @@ use Rattle.tiny_http_device.specs.declared.device.Stop.{Stop}
 use Rattle.tiny_http_device.specs.declared.device.Stop.TheVariants.{End, Fault}
 use Rattle.tiny_http_wire.specs.declared.common.Header.{Header}
 use Rattle.tiny_http_wire.specs.declared.common.HTTPVersion.{HTTPVersion}
+use Rattle.tiny_http_wire.specs.declared.common.Method.{Method}
+use Rattle.httpdate.specs.declared.date.HttpDate.{HttpDate}
 use Rattle.tiny_http_message.specs.declared.body.Body.{Body}
 use Rattle.tiny_http_message.specs.declared.exchange.Head.{Head}
 use Rattle.tiny_http_message.specs.declared.framing.Framing.{Framing}
+use Rattle.tiny_http_message.specs.declared.framing.FramingFault.TheVariants.{Expectation}
+use Rattle.tiny_http_message.specs.declared.framing.Profile.{Profile}
 use Rattle.tiny_http_message.specs.declared.framing.Profile.TheVariants.{Lenient}
 use Rattle.tiny_http_message.specs.FramingReading.{framing}
-use Rattle.tiny_http_message.specs.HeadReads.{Begins}
+use Rattle.tiny_http_message.specs.HeadReads.{Begins, head_framing}
+use Rattle.tiny_http_message.specs.OpenRequest.{KeepsHead}
 use Rattle.tiny_http_message.specs.Pipeline.{IsCutWithHead, body_length_or_0}
 use Rattle.tiny_http_message.specs.declared.open_request.OpenRequest.{OpenRequest}
 use Rattle.tiny_http_request.specs.declared.request.Request.{Request}
@@ -66,3 +72,20 @@ CutsShort v headers feed kind = (f : Framing) × (framing Lenient v headers ≡ 
 -- the body that is so framed begins where the reader gives this
 abbrev pub BeginsWith : Framing → Option Feed → Body → Type 0
 BeginsWith f feed body = (left : Option Feed) × Begins f feed left (Some body)
+
+-- of its client, and of its request line, a request says this
+abbrev pub Says : {R : Type 0} → {W : Type 0} → {Rt : Type 0} → Request R W Rt → Bool → Option SocketAddr → Method → List ℕ → HTTPVersion → Type 0
+Says r secure address method path version =
+    (request_secure r ≡ secure) × (request_address r ≡ address)
+    × ((request_head r).method ≡ method) × ((request_head r).path ≡ path) × ((request_head r).version ≡ version)
+
+-- a request is framed as its version and headers say, and what is kept for its answer is that of its head, on this date
+pub record IsFramed {R W Rt : Type 0} (r : Request R W Rt) (profile : Profile) (date : HttpDate) : Type 0 where
+  pub framing : framing profile (request_head r).version (request_head r).headers.items ≡ Ok (head_framing (request_head r))
+  pub keeps : KeepsHead (request_open r) (request_head r) date
+
+-- Why no request is made of these headers: what they expect can't be met; or a body that is read at once is cut short; or memory was
+-- refused, of which nothing is said.
+abbrev pub FailsBy : RequestCreationError → HTTPVersion → List Header → Option Feed → Type 0
+FailsBy e version headers feed =
+    (is_expectation_failed e ≡ true → framing Lenient version headers ≡ Err Expectation) × IfCreationIo e (λ fault. CutsShort version headers feed (error_kind fault))

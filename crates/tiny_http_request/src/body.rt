@@ -4,6 +4,7 @@ ghost use Rattle.std.specs.IoError.{error_kind};
 ghost use Rattle.tiny_http_device.specs.Device.{AnswersStop, Feed, Reads};
 ghost use Rattle.tiny_http_device.specs.declared.device.Stop.TheVariants.{Fault};
 ghost use Rattle.tiny_http_message.specs.Body.{is_streaming, body_stop, ReadsOn, remaining, prepended_body};
+ghost use Rattle.tiny_http_request.specs.Body.{ReadsUnread};
 
 use crate::sequential::SequentialReader;
 use std::io;
@@ -77,13 +78,7 @@ impl<R: ReadDevice + Drop, Rt: Wait + Drop> ReadDevice for Body<R, Rt> {
     /// each later read answers the same.
     fn read_in(&mut self, buf: &mut [u8]) -> Result<usize, io::Error>
         ensures reads { Reads None None result buf.new }
-        // The bytes of a body that was read with its head are the next of it, whatever the input still gives.
-        ensures held { is_streaming self.old ≡ false → (feed : Option Feed)
-            → IfOk result (λ n. remaining self.old feed ≡ prepended_body (take n buf.new) (remaining self.new feed)) }
-        ensures moves { IfOk result (λ n. 0 < length buf.new → ReadsOn self.old n (n == 0) self.new) }
-        ensures broken { IfErr result (λ e. body_stop self.new ≡ Some (Fault (error_kind e))) }
-        ensures reports_stop { IfSome (body_stop self.old) (λ stop. 0 < length buf.new → AnswersStop stop result × (body_stop self.new ≡ Some stop)) }
-        ensures empty { length buf.new ≡ 0 → (result ≡ Ok 0) × (self.new ≡ self.old) }
+        ensures body { ReadsUnread self.old self.new result buf.new }
     {
         if buf.is_empty() {
             return Ok(0);
@@ -109,12 +104,7 @@ impl<R: ReadDevice + Drop, Rt: Wait + Drop> Read for Body<R, Rt> {
     /// Reads some bytes of the body, as `read_in`.
     fn read(&mut self, buf: &mut [u8]) -> io::Result<usize>
         ensures bound { IfOk result (λ n. n ≤ length buf.new) }
-        ensures held { is_streaming self.old ≡ false → (feed : Option Feed)
-            → IfOk result (λ n. remaining self.old feed ≡ prepended_body (take n buf.new) (remaining self.new feed)) }
-        ensures moves { IfOk result (λ n. 0 < length buf.new → ReadsOn self.old n (n == 0) self.new) }
-        ensures broken { IfErr result (λ e. body_stop self.new ≡ Some (Fault (error_kind e))) }
-        ensures reports_stop { IfSome (body_stop self.old) (λ stop. 0 < length buf.new → AnswersStop stop result × (body_stop self.new ≡ Some stop)) }
-        ensures empty { length buf.new ≡ 0 → (result ≡ Ok 0) × (self.new ≡ self.old) }
+        ensures body { ReadsUnread self.old self.new result buf.new }
     {
         self.read_in(buf)
     }

@@ -1,9 +1,6 @@
 //! A connection whose requests threads may hold.
 ghost use Rattle.std.specs.Prelude.{◌≡◌, ⊤, true, false, Ok, None, Some, IfOk, OnErr, IfSome, IfNone};
 ghost use Rattle.tiny_http_message.specs.Exchange.{exchange_of};
-ghost use Rattle.tiny_http_message.specs.OpenRequest.{KeepsHead};
-ghost use Rattle.tiny_http_message.specs.FramingReading.{framing};
-ghost use Rattle.tiny_http_message.specs.HeadReads.{head_framing};
 ghost use Rattle.tiny_http_socket.specs.Stream.{MayHavePeer};
 ghost use Rattle.tiny_http_request.specs.Request.{request_head, request_secure, request_address, request_open};
 
@@ -47,7 +44,7 @@ fn peer_if_known(socket: &RefinedTcpStream) -> Option<SocketAddr>
 impl<Rt: Wait + Copy> ClientConnection<RefinedTcpStream, RefinedTcpStream, Rt> {
     ghost use Rattle.std.specs.Prelude.{◌≡◌, false, IfOk};
     ghost use Rattle.tiny_http_socket.specs.Stream.{MayHavePeer};
-    ghost use Rattle.tiny_http_request.specs.Client.{IsOver, client_secure, client_address, client_profile};
+    ghost use Rattle.tiny_http_request.specs.Client.{IsOver, HandsOut, client_secure, client_address, client_profile};
 
     /// A connection over the two halves of a client's socket, on which nothing was read yet, under `Lenient`. Its requests say
     /// the client's address; none of a Unix socket, or where the system no longer knows it. An error where memory was refused.
@@ -85,7 +82,7 @@ impl<Rt: Wait + Copy> ClientConnection<RefinedTcpStream, RefinedTcpStream, Rt> {
 }
 
 impl<R: ReadDevice + Drop, W: WriteDevice + Drop, Rt: Wait + Copy> ClientConnection<R, W, Rt> {
-    ghost use Rattle.tiny_http_request.specs.Client.{IsOver, client_secure, client_address, client_profile};
+    ghost use Rattle.tiny_http_request.specs.Client.{IsOver, HandsOut, client_secure, client_address, client_profile};
 
     /// A connection over a writer and a reader, on which nothing was read yet, under `Lenient`. `remote_addr` and `secure` are
     /// what its requests say. An error where memory was refused.
@@ -149,12 +146,7 @@ impl<R: ReadDevice + Drop, W: WriteDevice + Drop, Rt: Wait + Copy> ClientConnect
         ensures over { IsOver self.old → (result ≡ Ok None) × IsOver self.new }
         ensures none { IfOk result (λ r. IfNone r (IsOver self.new)) }
         ensures err { OnErr result (IsOver self.new) }
-        ensures last { IfOk result (λ r. IfSome r (λ request. (request_head request).is_last ≡ true → IsOver self.new)) }
-        ensures open { IfOk result (λ r. IfSome r (λ request. (request_head request).is_last ≡ false → IsOver self.new → ⊥)) }
-        // A request is framed as its version and headers say, and what is kept for its answer is that of its head, on this date.
-        ensures framing { IfOk result (λ r. IfSome r (λ request. let h = request_head request in framing (client_profile self.old) h.version h.headers.items ≡ Ok (head_framing h))) }
-        ensures keeps { IfOk result (λ r. IfSome r (λ request. KeepsHead (request_open request) (request_head request) now)) }
-        ensures client { IfOk result (λ r. IfSome r (λ request. (request_secure request ≡ client_secure self.old) × (request_address request ≡ client_address self.old))) }
+        ensures handed { IfOk result (λ r. IfSome r (HandsOut self.old self.new now)) }
         ensures same { (client_secure self.new ≡ client_secure self.old) × (client_address self.new ≡ client_address self.old) × (client_profile self.new ≡ client_profile self.old) }
     {
         let Some(mut reader) = self.next_head.take() else {

@@ -6,10 +6,9 @@ ghost use Rattle.std.specs.Option.{option_copied};
 ghost use Rattle.tiny_http_wire.specs.Bytes.{is_ascii};
 ghost use Rattle.tiny_http_sending.specs.Sending.{is_closed_client};
 ghost use Rattle.tiny_http_message.specs.FramingReading.{framing};
-ghost use Rattle.tiny_http_message.specs.OpenRequest.{KeepsHead};
 ghost use Rattle.tiny_http_message.specs.Body.{is_streaming};
 ghost use Rattle.tiny_http_message.specs.HeadReads.{head_framing, Begins};
-ghost use Rattle.tiny_http_request.specs.Request.{request_head, request_secure, request_address, request_open, is_expectation_failed, IfCreationIo, cut_kind, IsCutShort, CutsShort, BeginsWith};
+ghost use Rattle.tiny_http_request.specs.Request.{request_head, request_secure, request_address, request_open, is_expectation_failed, IfCreationIo, cut_kind, IsCutShort, BeginsWith, Says, IsFramed, FailsBy};
 
 pub use crate::body::Body;
 use crate::sequential::{
@@ -347,14 +346,11 @@ pub fn new_request<R: ReadDevice + Drop, W: WriteDevice + Drop, Rt: Wait + Copy>
     writer: W,
     now: HttpDate,
 ) -> Result<Request<R, W, Rt>, RequestCreationError>
-    ensures head { IfOk result (λ r. let h = request_head r in (h.method ≡ method) × (h.path ≡ path) × (h.version ≡ version) × (h.headers ≡ headers)) }
-    ensures framing { IfOk result (λ r. framing Profile.Lenient version headers.items ≡ Ok (head_framing (request_head r))) }
+    ensures says { IfOk result (λ r. Says r secure remote_addr method path version × ((request_head r).headers ≡ headers)) }
+    ensures framed { IfOk result (λ r. IsFramed r Profile.Lenient now) }
     ensures body { IfOk result (λ r. BeginsWith (head_framing (request_head r)) (R.feed source_data) (request_open r).body) }
-    ensures keeps { IfOk result (λ r. KeepsHead (request_open r) (request_head r) now) }
-    ensures client { IfOk result (λ r. (request_secure r ≡ secure) × (request_address r ≡ remote_addr)) }
     ensures refused { framing Profile.Lenient version headers.items ≡ Err FramingFault.Expectation → result ≡ Err RequestCreationError.ExpectationFailed }
-    ensures cut { IfErr result (λ e. IfCreationIo e (λ fault. CutsShort version headers.items (R.feed source_data) (error_kind fault))) }
-    ensures expectation { IfErr result (λ e. is_expectation_failed e ≡ true → framing Profile.Lenient version headers.items ≡ Err FramingFault.Expectation) }
+    ensures fails { IfErr result (λ e. FailsBy e version headers.items (R.feed source_data)) }
 {
     let framing = match framing_of(Profile::Lenient, version, headers.as_slice()) {
         Ok(framing) => framing,

@@ -1,14 +1,11 @@
 //! Requests for the tests of a program that answers them.
 ghost use Rattle.std.specs.Prelude.{◌≡◌, ◌++◌, ◌∷◌, [], length, true, false, Some, None, Ok, Err, IfOk, IfErr, IsErrOf, ◌↔◌};
-ghost use Rattle.std.specs.IoError.{error_kind};
 ghost use Rattle.std.specs.Str.{IsAscii};
 ghost use Rattle.std.specs.Net.Socket.{socket_port};
 ghost use Rattle.tiny_http_wire.specs.Heads.{version};
 ghost use Rattle.tiny_http_device.specs.Device.{whole_feed};
-ghost use Rattle.tiny_http_message.specs.FramingReading.{framing};
 ghost use Rattle.tiny_http_message.specs.HeadReads.{head_framing};
-ghost use Rattle.tiny_http_message.specs.OpenRequest.{KeepsHead};
-ghost use Rattle.tiny_http_request.specs.Request.{request_head, request_secure, request_address, request_open, is_expectation_failed, IfCreationIo, CutsShort, BeginsWith};
+ghost use Rattle.tiny_http_request.specs.Request.{request_head, request_secure, request_address, request_open, BeginsWith, Says, IsFramed, FailsBy};
 ghost use Rattle.tiny_http_request.specs.Test.{IsLike, length_header, with_length};
 
 use crate::request::{Request, RequestCreationError, new_request};
@@ -195,14 +192,11 @@ impl TestRequest {
         alloc: Global,
         now: HttpDate,
     ) -> Result<Request<Cursor<Vec<u8>>, Nowhere, Rt>, RequestCreationError>
-        ensures head { IfOk result (λ r. let h = request_head r in (h.method ≡ self.method) × (h.path ≡ self.path) × (h.version ≡ self.version)) }
-        ensures headers { IfOk result (λ r. (request_head r).headers.items ≡ with_length (length self.body.now) self.headers.items) }
-        ensures framing { IfOk result (λ r. framing Profile.Lenient self.version (request_head r).headers.items ≡ Ok (head_framing (request_head r))) }
+        ensures says { IfOk result (λ r. Says r self.secure (Some self.remote_addr) self.method self.path self.version
+            × ((request_head r).headers.items ≡ with_length (length self.body.now) self.headers.items)) }
+        ensures framed { IfOk result (λ r. IsFramed r Profile.Lenient now) }
         ensures body { IfOk result (λ r. BeginsWith (head_framing (request_head r)) (Some (whole_feed self.body.now)) (request_open r).body) }
-        ensures keeps { IfOk result (λ r. KeepsHead (request_open r) (request_head r) now) }
-        ensures client { IfOk result (λ r. (request_secure r ≡ self.secure) × (request_address r ≡ Some self.remote_addr)) }
-        ensures expectation { IfErr result (λ e. is_expectation_failed e ≡ true → framing Profile.Lenient self.version (with_length (length self.body.now) self.headers.items) ≡ Err FramingFault.Expectation) }
-        ensures cut { IfErr result (λ e. IfCreationIo e (λ fault. CutsShort self.version (with_length (length self.body.now) self.headers.items) (Some (whole_feed self.body.now)) (error_kind fault))) }
+        ensures fails { IfErr result (λ e. FailsBy e self.version (with_length (length self.body.now) self.headers.items) (Some (whole_feed self.body.now))) }
     {
         let TestRequest {
             body,

@@ -1,0 +1,17 @@
+-- What a clause says of a read of a request's body.
+use Rattle.std.specs.Prelude.{◌≡◌, ◌<◌, ◌==◌, ℕ, false, List, length, take, Option, Some, Result, Ok, IfOk, IfErr, IfSome}
+use Rattle.std.specs.IoError.{error_kind}
+use Rattle.std.specs.declared.io.Error.{Error}
+use Rattle.tiny_http_device.specs.Device.{AnswersStop, Feed}
+use Rattle.tiny_http_device.specs.declared.device.Stop.TheVariants.{Fault}
+use Rattle.tiny_http_message.specs.declared.body.Body.{Body}
+use Rattle.tiny_http_message.specs.Body.{is_streaming, body_stop, ReadsOn, remaining, prepended_body}
+
+-- ONE READ OF A BODY. The bytes of one that was read with its head are the next of it, whatever the input still gives. After the end or a
+-- fault each read answers the same. A read into no room changes nothing.
+pub record ReadsUnread (old new : Body) (r : Result ℕ Error) (buf : List ℕ) : Type 0 where
+  pub held : is_streaming old ≡ false → (feed : Option Feed) → IfOk r (λ n. remaining old feed ≡ prepended_body (take n buf) (remaining new feed))
+  pub moves : IfOk r (λ n. 0 < length buf → ReadsOn old n (n == 0) new)
+  pub broken : IfErr r (λ e. body_stop new ≡ Some (Fault (error_kind e)))
+  pub reports_stop : IfSome (body_stop old) (λ stop. 0 < length buf → AnswersStop stop r × (body_stop new ≡ Some stop))
+  pub empty : length buf ≡ 0 → (r ≡ Ok 0) × (new ≡ old)
