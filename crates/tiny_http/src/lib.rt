@@ -33,10 +33,10 @@ pub use tiny_http_core::{
 };
 pub use tiny_http_request::request::{ReadWrite, Request};
 pub use tiny_http_request::test::TestRequest;
-pub use tiny_http_request::{client, request, sequential, test};
+pub use tiny_http_request::{client, request, test};
 pub use tiny_http_socket::connection::{ConfigListenAddr, ListenAddr, Listener};
 pub use tiny_http_socket::{connection, refined_tcp_stream};
-pub use tiny_http_threads::{headcount, messages_queue, roster, task_pool};
+pub use tiny_http_threads::{headcount, messages_queue, roster, sequential, task_pool};
 pub use tiny_http_wire::common::{HTTPVersion, Header, HeaderField, Method, StatusCode};
 pub use tiny_http_wire::response::{Response, ResponseBox};
 pub use tiny_http_wire::{

@@ -189,26 +189,28 @@ finds-refused {R = R} {W = W} profile date s t o u p q end status text h f can =
 finds-another : {R W : Type 0} (profile : Profile) (date : HttpDate) (s t : SourceState R) (o u : OutletState W) (p q : Pending) (end : Option EndOfRequests) (status : StatusCode) (text : Vec ℕ)
     → TakesHead profile date s t (Ok (read.Refused status text false)) → RefusesHead p o text.items true q u → CanAsk (viewed profile s o p end)
     → CanAsk (viewed profile t u q end) × IsAskBehind (viewed profile s o p end) (viewed profile t u q end) date
-finds-another {R = R} {W = W} profile date s t o u p q end status text h f can =
-    ((can.0, λ e. not-body t.standing stands e), asks-behind-head old new date (record {
-      does = λ client before s low st.
-          let n = before-head client before k s st open_is here in
-          let done = ask-passes client before k s date from.standing status text t.feed t.stop t.is_over t.standing q.turns.marks (output_of u) (outlet_ended u) st low open_is n.unread n.quiet n.more
-          (λ i. elim (h.at_end i).0 [ ]) reads h.goes_on (f.leaves refl (can-send before k.sink k.output_ended s.reached.slots s.flushed s.failure st.output low)) stands in
-          let P : List (Option Unfinished) → Type 0 = λ r.
-          AskGoesOn client before (record k { marks = q.turns.marks; requests = r; standing = t.standing; feed = t.feed; stop = t.stop; is_over = t.is_over; sink = output_of u; output_ended = outlet_ended u }) s date in
-          subst (λ r. P r) (sym (f.requests refl)) done;
-      was_open = can.0;
-      is_open = can.0;
-      here = here;
-      unended = λ i. elim (h.at_end i).0 [ ];
-      begins = λ begun. begins-behind profile s.standing date s.feed t.feed status text reads begun;
-      stands = stands;
-      ends = λ why ends. end-behind profile s.standing date s.feed t.feed status text why here reads ends;
-      requests = f.requests refl;
-      counts = f.counts refl;
-      moves = record { profile = refl; goes_on = h.goes_on; fails_once = f.fails_once; flushed = λ was. f.flushed (was refl); sent_on = λ was. f.sent_on (was refl) };
-    }))
+finds-another {R = R} {W = W} profile date s t o u p q end status text h f can = (
+  (can.0, λ e. not-body t.standing stands e),
+  asks-behind-head old new date (record {
+    does = λ client before s low st.
+        let n = before-head client before k s st open_is here in
+        let done = ask-passes client before k s date from.standing status text t.feed t.stop t.is_over t.standing q.turns.marks (output_of u) (outlet_ended u) st low open_is n.unread n.quiet n.more
+        (λ i. elim (h.at_end i).0 [ ]) reads h.goes_on (f.leaves refl (can-send before k.sink k.output_ended s.reached.slots s.flushed s.failure st.output low)) stands in
+        let P : List (Option Unfinished) → Type 0 = λ r.
+        AskGoesOn client before (record k { marks = q.turns.marks; requests = r; standing = t.standing; feed = t.feed; stop = t.stop; is_over = t.is_over; sink = output_of u; output_ended = outlet_ended u }) s date in
+        subst (λ r. P r) (sym (f.requests refl)) done;
+    was_open = can.0;
+    is_open = can.0;
+    here = here;
+    unended = λ i. elim (h.at_end i).0 [ ];
+    begins = λ begun. begins-behind profile s.standing date s.feed t.feed status text reads begun;
+    stands = stands;
+    ends = λ why ends. end-behind profile s.standing date s.feed t.feed status text why here reads ends;
+    requests = f.requests refl;
+    counts = f.counts refl;
+    moves = record { profile = refl; goes_on = h.goes_on; fails_once = f.fails_once; flushed = λ was. f.flushed (was refl); sent_on = λ was. f.sent_on (was refl) };
+  }),
+)
   where
     from : SourceState R
     from = s

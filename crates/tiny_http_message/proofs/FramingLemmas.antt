@@ -1,6 +1,6 @@
 -- How a head is framed: there is one way, and a head that names an upgrade is the last.
 use Rattle.std.proofs.Common.{◌≡◌, refl, sym, ap, ◌∙◌, subst, ℕ, zero, suc, T, Bool, true, false, not, ◌&&◌, ◌||◌, inl, inr, List, [], ◌∷◌, ◌++◌, Option, Some, None, Ok, Err, arith, eqb-true, ⊎_elim}
-use Rattle.std.specs.Prelude.{◌==◌, ◌<◌, ◌≤◌, ◌⊎◌, nat_le, is_some, Result, codes, if◌then◌else◌}
+use Rattle.std.specs.Prelude.{◌==◌, ◌<◌, ◌⊎◌, nat_le, Result, codes, if◌then◌else◌}
 use Rattle.std.specs.List.{list_all}
 use Rattle.std.proofs.Math.Dec.{eqb_refl, eqb-suc-zero}
 use Rattle.std.proofs.lemmas.Bool.{and_parts, leb-true, leb-false, le-leb, lt-leb}
@@ -15,7 +15,7 @@ use Rattle.tiny_http_message.specs.declared.framing.FramingFault.TheVariants.{In
 use Rattle.tiny_http_message.specs.declared.framing.Form.{Form}
 use Rattle.tiny_http_message.specs.declared.framing.Form.TheVariants.{Rest, Nothing, WithHead, Counted, Chunked}
 use Rattle.tiny_http_message.specs.declared.framing.Framing.{Framing}
-use Rattle.tiny_http_message.specs.Framing.{mentions, value_of, elements_of, lenient_length, is_last, expectation, names_upgrade, names_coding, EachIs, EndsWithChunked, IsStrictLength, IsBodyLength, IsForm, Frames}
+use Rattle.tiny_http_message.specs.Framing.{mentions, value_of, elements_of, lenient_length, expectation, names_upgrade, names_coding, EachIs, EndsWithChunked, IsStrictLength, IsBodyLength, IsForm, Frames}
 use Rattle.tiny_http_message.specs.FramingReading.{framing, framed_if, framed_by, form_by, sized_form, is_number, is_length, one_length, ends_with_chunked, strict_length, body_length}
 
 -- the length that the headers say

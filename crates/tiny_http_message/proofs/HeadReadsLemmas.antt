@@ -1,12 +1,10 @@
 -- From lines read to heads read.
-use Rattle.std.proofs.Common.{◌≡◌, refl, sym, ap, ◌∙◌, subst, ℕ, ◌+◌, ◌<◌, ◌≤◌, List, [], ◌∷◌, ◌++◌, length, length-append, take, Option, Some, None, Result, Ok, Err, inl, inr, arith}
-use Rattle.std.specs.Prelude.{◌≢◌}
+use Rattle.std.proofs.Common.{◌≡◌, refl, sym, ap, ◌∙◌, subst, ℕ, ◌+◌, List, [], ◌∷◌, ◌++◌, length, length-append, Option, Some, None, Result, Ok, Err, inl, inr, arith}
 use Rattle.tiny_http_wire.specs.declared.common.Header.{Header}
 use Rattle.tiny_http_wire.specs.Device.{Feed}
 use Rattle.tiny_http_wire.specs.Bytes.{AreAscii}
 use Rattle.tiny_http_wire.specs.Lines.{Line}
-use Rattle.tiny_http_wire.specs.Heads.{BeginsWithHeaderLines, BeginsWithRequestLine, BeginsWithRequestHead, HeaderLine, IsRequestLine, IsFieldOrEnd, FaultyLine, FaultyHead, GrammarFault, Cut, NotAscii, Malformed}
-use Rattle.tiny_http_wire.specs.HeadReading as reading
+use Rattle.tiny_http_wire.specs.Heads.{BeginsWithHeaderLines, BeginsWithRequestHead, HeaderLine, IsRequestLine, IsFieldOrEnd, FaultyLine, FaultyHead, GrammarFault, Cut, NotAscii, Malformed}
 use Rattle.tiny_http_head.proofs.HeadsLemmas.{request-line-is, request-line-one, header-line-is, header-line-one}
 use Rattle.tiny_http_wire.specs.declared.common.Method.{Method}
 use Rattle.tiny_http_wire.specs.declared.common.HTTPVersion.{HTTPVersion}
@@ -15,8 +13,8 @@ use Rattle.tiny_http_stream.specs.declared.source.LineFault.{LineFault}
 use Rattle.tiny_http_stream.specs.declared.source.LineFault.TheVariants as linefault
 use Rattle.tiny_http_message.specs.declared.heads.HeadFault.{HeadFault}
 use Rattle.tiny_http_message.specs.declared.heads.HeadFault.TheVariants as fault
-use Rattle.tiny_http_stream.specs.Source.{ReadsWithin, TakesLine, IsWithin, IsShort, IsTooLong, feed_from, seen_within}
-use Rattle.tiny_http_message.specs.Pipeline.{head_limit, BeginsWithin, IsUnfinishedHead, IsTooLarge}
+use Rattle.tiny_http_stream.specs.Source.{ReadsWithin, TakesLine, IsWithin, IsShort, IsTooLong, seen_within}
+use Rattle.tiny_http_message.specs.Pipeline.{BeginsWithin, IsUnfinishedHead, IsTooLarge}
 use Rattle.tiny_http_message.specs.HeadReads.{IsSpent, left_after, StartIn, FieldIn, HasNoLine, ReadsStart, HasReadFields, ReadsField, ReadsFields, ReadsMessage, IsFaulty, IsFaultyHead, head_fault, message_of}
 use Rattle.tiny_http_message.proofs.WithinLemmas.{head-text}
 use Rattle.tiny_http_message.proofs.SeenLemmas.{spent-line, spent-more, spent-none, seen-line, seen-start, seen-headers}

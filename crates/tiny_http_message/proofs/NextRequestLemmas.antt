@@ -1,5 +1,5 @@
 -- What is found on a connection is what was read of it.
-use Rattle.std.proofs.Common.{◌≡◌, sym, subst, ℕ, List, Bool, true, false, Some, Ok, Err, Result, ⊎_elim}
+use Rattle.std.proofs.Common.{◌≡◌, subst, ℕ, List, Bool, true, false, Some, Ok, Err, Result, ⊎_elim}
 use Rattle.std.specs.declared.alloc.AllocError.{AllocError}
 use Rattle.httpdate.specs.declared.date.HttpDate.{HttpDate}
 use Rattle.tiny_http_stream.specs.Source.{SourceState}

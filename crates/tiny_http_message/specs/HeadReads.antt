@@ -11,7 +11,7 @@ use Rattle.tiny_http_wire.specs.Device.{Feed, whole_feed}
 use Rattle.tiny_http_wire.specs.Bytes.{AreAscii}
 use Rattle.tiny_http_wire.specs.Lines.{Line, IsUnfinished}
 use Rattle.tiny_http_wire.specs.HeadReading as reading
-use Rattle.tiny_http_wire.specs.Heads.{Message as Texted, BeginsWithRequestLine, BeginsWithHeaderLines, HeaderLine, FaultyLine, FaultyHead, BeginsWithRequestHead, IsRequestLine, IsFieldOrEnd, Cut, NotAscii, Malformed, version}
+use Rattle.tiny_http_wire.specs.Heads.{Message as Texted, BeginsWithRequestLine, BeginsWithHeaderLines, HeaderLine, FaultyLine, FaultyHead, IsRequestLine, IsFieldOrEnd, NotAscii, Malformed, version}
 use Rattle.tiny_http_message.specs.declared.heads.Message.{Message}
 use Rattle.tiny_http_message.specs.declared.framing.Profile.{Profile}
 use Rattle.tiny_http_message.specs.declared.framing.Framing.{Framing}

@@ -1,5 +1,5 @@
 -- One head after another: those are passed that are refused and have another behind them.
-use Rattle.std.specs.Prelude.{◌≡◌, ℕ, zero, suc, ◌^◌, ◌⊎◌, Bool, true, false, if◌then◌else◌, List, Option, Some, None, Result, Ok, Err}
+use Rattle.std.specs.Prelude.{◌≡◌, ℕ, zero, suc, ◌^◌, ◌⊎◌, Bool, true, false, List, Option, Some, None, Result, Ok, Err}
 use Rattle.std.specs.declared.alloc.AllocError.{AllocError}
 use Rattle.httpdate.specs.declared.date.HttpDate.{HttpDate}
 use Rattle.tiny_http_wire.specs.declared.common.StatusCode.{StatusCode}

@@ -170,7 +170,8 @@ impl Exchange {
         ensures sent { OnOk result (FailsOnce outlet.old outlet.new × (outlet_held outlet.new ≡ []) × SentOn outlet.new) }
     {
         check_protocol(protocol)?;
-        self.open_request.upgrade(alloc, outlet, protocol, response, now);
+        self.open_request
+            .upgrade(alloc, outlet, protocol, response, now);
         Ok(())
     }
 

@@ -47,7 +47,12 @@ pub struct OpenRequest<B> {
 impl<B: Drop> OpenRequest<B> {
     /// A request with this head and this body. `now` dates the 500 that is sent if it is dropped. It is an error where memory
     /// for that was refused.
-    pub fn new(alloc: Global, head: &Head, body: B, now: HttpDate) -> Result<OpenRequest<B>, AllocError>
+    pub fn new(
+        alloc: Global,
+        head: &Head,
+        body: B,
+        now: HttpDate,
+    ) -> Result<OpenRequest<B>, AllocError>
         ensures { IfOk result (λ w. (w.body ≡ body) × KeepsHead w head.now now) }
     {
         let answer_context = AnswerContext {

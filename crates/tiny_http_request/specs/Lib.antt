@@ -1,4 +1,3 @@
-pub mod Sequential
 pub mod Request
 pub mod Body
 pub mod Client

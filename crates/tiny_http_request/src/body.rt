@@ -6,7 +6,6 @@ ghost use Rattle.tiny_http_device.specs.declared.device.Stop.TheVariants.{Fault}
 ghost use Rattle.tiny_http_message.specs.Body.{is_streaming, body_stop, ReadsOn, remaining, prepended_body};
 ghost use Rattle.tiny_http_request.specs.Body.{ReadsUnread};
 
-use crate::sequential::SequentialReader;
 use std::io;
 use std::io::{ErrorKind, Read};
 use std::marker::Model;
@@ -14,6 +13,7 @@ use std::sync::Wait;
 use tiny_http_device::device::ReadDevice;
 use tiny_http_message::body::Body as Unread;
 use tiny_http_stream::source::Source;
+use tiny_http_threads::sequential::SequentialReader;
 
 /// The body of a request. While bytes of it are to be read from the connection it holds the connection's input, and the next
 /// head waits: a counted body gives the input on with its last byte, a chunked one once a read has answered 0. A dropped body

@@ -5,7 +5,6 @@ ghost use Rattle.tiny_http_socket.specs.Stream.{MayHavePeer};
 ghost use Rattle.tiny_http_request.specs.Request.{request_head, request_secure, request_address, request_open};
 
 use crate::request::Request;
-use crate::sequential::{SequentialReader, SequentialReaderBuilder, SequentialWriterBuilder};
 use httpdate::HttpDate;
 use std::alloc::{AllocError, Global};
 use std::net::SocketAddr;
@@ -17,6 +16,9 @@ use tiny_http_message::next_request::{NextRequest, RefusalPlace, next_request};
 use tiny_http_socket::refined_tcp_stream::RefinedTcpStream;
 use tiny_http_stream::outlet::Outlet;
 use tiny_http_stream::source::Source;
+use tiny_http_threads::sequential::{
+    SequentialReader, SequentialReaderBuilder, SequentialWriterBuilder,
+};
 
 /// A connection, whose requests are handed out one after another. Any thread may hold one, also while the next is read.
 #[derive(Drop)]
@@ -152,8 +154,9 @@ impl<R: ReadDevice + Drop, W: WriteDevice + Drop, Rt: Wait + Copy> ClientConnect
         let Some(mut reader) = self.next_head.take() else {
             return Ok(None);
         };
-        let source = reader.hold();
-        match next_request(self.alloc, source, self.profile, &mut self.sink, &mut (), now) {
+        let (alloc, profile) = (self.alloc, self.profile);
+        let (source, sink) = (reader.hold(), &mut self.sink);
+        match next_request(alloc, source, profile, &mut NextWriter, sink, now) {
             Ok(NextRequest::Request(exchange)) => match self.hand_out(reader, exchange) {
                 Ok(request) => Ok(Some(request)),
                 Err(e) => Err(e),
@@ -206,13 +209,22 @@ impl<R: ReadDevice + Drop, W: WriteDevice + Drop, Rt: Wait + Copy> ClientConnect
     }
 }
 
-impl<W: WriteDevice + Drop, Rt: Wait + Copy> RefusalPlace<()> for SequentialWriterBuilder<Outlet<W>, Rt> {
+// Where refused heads are answered: each by the next writer.
+#[derive(Drop)]
+struct NextWriter;
+
+impl<W: WriteDevice + Drop, Rt: Wait + Copy> RefusalPlace<SequentialWriterBuilder<Outlet<W>, Rt>>
+    for NextWriter {
     // Nothing is stated of what goes behind a lock.
     ghost refuses = { λ _ _ _ _ _ _. ⊤ };
 
-    /// Takes the next turn, and leaves the answer in it. An error where memory was refused, or 2^64 - 1 writers were given out.
-    fn refuse(&mut self, _output: &mut (), text: Vec<u8>) -> Result<(), AllocError> {
-        self.next()?.leave(text);
+    // Takes the next turn, and leaves the answer in it. An error where memory was refused, or 2^64 - 1 writers were given out.
+    fn refuse(
+        &mut self,
+        sink: &mut SequentialWriterBuilder<Outlet<W>, Rt>,
+        text: Vec<u8>,
+    ) -> Result<(), AllocError> {
+        sink.next()?.leave(text);
         Ok(())
     }
 }

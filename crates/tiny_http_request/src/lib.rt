@@ -5,7 +5,7 @@
 
 mod body;
 pub mod client;
-mod line;
 pub mod request;
-pub mod sequential;
 pub mod test;
+
+pub use tiny_http_threads::sequential;

@@ -11,9 +11,6 @@ ghost use Rattle.tiny_http_message.specs.HeadReads.{head_framing, Begins};
 ghost use Rattle.tiny_http_request.specs.Request.{request_head, request_secure, request_address, request_open, is_expectation_failed, IfCreationIo, cut_kind, IsCutShort, BeginsWith, Says, IsFramed, FailsBy};
 
 pub use crate::body::Body;
-use crate::sequential::{
-    SequentialReader, SequentialReaderBuilder, SequentialWriter, SequentialWriterBuilder,
-};
 use httpdate::HttpDate;
 use std::alloc::{AllocError, Global};
 use std::io::{ErrorKind, Read, Write};
@@ -33,6 +30,9 @@ use tiny_http_stream::custom_stream::CustomStream;
 use tiny_http_stream::outlet::Outlet;
 use tiny_http_stream::source::Source;
 use tiny_http_text::ascii::AsciiString;
+use tiny_http_threads::sequential::{
+    SequentialReader, SequentialReaderBuilder, SequentialWriter, SequentialWriterBuilder,
+};
 use tiny_http_wire::common::{HTTPVersion, Header, Method};
 use tiny_http_wire::response::Response;
 

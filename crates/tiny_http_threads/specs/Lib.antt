@@ -1,3 +1,4 @@
 pub mod Queue
 pub mod Pool
 pub mod Headcount
+pub mod Sequential

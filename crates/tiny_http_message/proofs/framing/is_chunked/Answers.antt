@@ -1,6 +1,6 @@
-use Rattle.std.proofs.Common.{rules, ◌≡◌, sym, ap, ◌∙◌, subst, Bool, List, ℕ, true, false}
+use Rattle.std.proofs.Common.{rules, sym, ap, ◌∙◌, false}
 use Rattle.std.specs.Prelude.{codes}
-use Rattle.tiny_http_message.specs.FramingReading.{lengths_on, chunked_on}
+use Rattle.tiny_http_message.specs.FramingReading.{chunked_on}
 use Rattle.tiny_http_message.proofs.StrictLemmas.{elements, header-passed, chunked-header}
 use Rattle.tiny_http_message.proofs.framing.is_chunked.Goals.{then-equiv, else-equiv}
 use Rattle.tiny_http_message.proofs.framing.is_chunked.Goals as goal

@@ -1,6 +1,6 @@
-use Rattle.std.proofs.Common.{rules, ◌≡◌, sym, ap, ◌∙◌, subst, Bool, List, ℕ, Option, Result, Ok, Err, true}
+use Rattle.std.proofs.Common.{rules, sym, ap, ◌∙◌, Ok}
 use Rattle.std.specs.Prelude.{codes}
-use Rattle.tiny_http_message.specs.FramingReading.{lengths_on, chunked_on}
+use Rattle.tiny_http_message.specs.FramingReading.{lengths_on}
 use Rattle.tiny_http_message.proofs.StrictLemmas.{elements, header-passed, lengths-header, lengths-header_err}
 use Rattle.tiny_http_message.proofs.framing.one_length.Goals.{then-equiv+in-Ok, else-equiv}
 use Rattle.tiny_http_message.proofs.framing.one_length.Goals as goal

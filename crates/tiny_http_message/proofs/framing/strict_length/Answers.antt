@@ -1,4 +1,4 @@
-use Rattle.std.proofs.Common.{rules, ◌≡◌, ◌∙◌, sym, true, false}
+use Rattle.std.proofs.Common.{◌≡◌, ◌∙◌, sym, true, false}
 use Rattle.std.specs.Prelude.{codes, is_some}
 use Rattle.tiny_http_message.specs.Framing.{value_of, elements_of}
 use Rattle.tiny_http_message.proofs.StrictLemmas.{none-named, some-named, strict-uncoded, strict-both, strict-coded}

@@ -1,4 +1,4 @@
-use Rattle.std.proofs.Common.{rules, ℕ, ◌∙◌, ap, sym, List, Option, Ok, length, take, subst}
+use Rattle.std.proofs.Common.{rules, ℕ, ◌∙◌, ap, sym, List, Option, Ok, take, subst}
 use Rattle.tiny_http_wire.specs.Device.{Feed}
 use Rattle.tiny_http_stream.specs.declared.source.FirstLine.{FirstLine}
 use Rattle.tiny_http_stream.specs.Source.{TakesLine, IsWithin}

@@ -1,5 +1,5 @@
-use Rattle.std.proofs.Common.{rules, ℕ, suc, ◌≡◌, refl, sym, subst, ◌+◌, ◌^◌, ◌<◌, arith, inl, inr, Some, None}
-use Rattle.tiny_http_message.specs.NextRequest.{Found, FindsHead, PassesHeads}
+use Rattle.std.proofs.Common.{suc, refl, subst, arith, inl, inr}
+use Rattle.tiny_http_message.specs.NextRequest.{Found, FindsHead}
 use Rattle.tiny_http_message.proofs.next_request.next_request.Goals as goal
 
 pub loop-found-init : goal.loop-found-init
@@ -43,5 +43,5 @@ returns-in-None g c =
       place = place;
       output = output;
       passes = (c.loop-found.source, c.loop-found.place, c.loop-found.output, i.2, subst H c.in_default.is c.next_head.ensures);
-      ends = inr (omega (arith, count, none), (record { }, refl), refl {a = source}, refl {a = place}, refl {a = output});
+      ends = inr (omega (arith, count, none), (record {}, refl), refl {a = source}, refl {a = place}, refl {a = output});
     }

@@ -22,6 +22,9 @@ returns-clause-body g c =
     (c.body_of.new.source.feed, begins-by c.in-Ok.framing (head_framing (request_head c.from_parts.result)) c.new-source.result.feed (g.R.ReadDevice.feed c.args.source_data) c.body_of.new.source.feed c.in_ok-body.body c.from_parts.result.open_request.body (search rules) (search rules) (search rules) c.in_ok-body.ensures.begins)
 
 pub returns-in-Err-clause-fails : goal.returns-in-Err-clause-fails
-returns-in-Err-clause-fails g c = (λ failed.
-    let e : framing Lenient c.args.version c.args.headers.items ≡ Err c.in-Err.field-0 = search (rules, c.as_slice.ensures.value, c.framing_of.ensures, c.in-Err.is) in
-    e ∙ ap Err (lenient-fault c.args.version c.args.headers.items c.in-Err.field-0 e), tt)
+returns-in-Err-clause-fails g c = (
+  λ failed.
+      let e : framing Lenient c.args.version c.args.headers.items ≡ Err c.in-Err.field-0 = search (rules, c.as_slice.ensures.value, c.framing_of.ensures, c.in-Err.is) in
+      e ∙ ap Err (lenient-fault c.args.version c.args.headers.items c.in-Err.field-0 e),
+  tt,
+)

@@ -43,12 +43,12 @@ pub struct SequentialReader<I: Read + Drop, R: Wait + Drop> {
 
 impl<I: Read + Drop, R: Wait + Drop> SequentialReader<I, R> {
     /// Waits for its turn, and lends the reader.
-    pub(crate) fn hold(&mut self) -> &mut I {
+    pub fn hold(&mut self) -> &mut I {
         self.turn.hold()
     }
 
     /// The reader, if its turn has come and it was used.
-    pub(crate) fn held(&mut self) -> Option<&mut I> {
+    pub fn held(&mut self) -> Option<&mut I> {
         self.turn.held()
     }
 }
@@ -138,18 +138,18 @@ pub struct SequentialWriter<W: Write + Drop, R: Wait + Drop> {
 
 impl<W: Write + Drop, R: Wait + Drop> SequentialWriter<W, R> {
     /// Waits for its turn, and lends the writer.
-    pub(crate) fn hold(&mut self) -> &mut W {
+    pub fn hold(&mut self) -> &mut W {
         self.turn.hold()
     }
 
     /// Ends its turn with a text, which is written once the turn has come. It waits for no turn.
-    pub(crate) fn leave(self, text: Vec<u8>) {
+    pub fn leave(self, text: Vec<u8>) {
         let Self { turn, failures: _ } = self;
         leave_writer(turn, text);
     }
 
     /// Ends its turn. What was written must have been flushed. It waits for no turn.
-    pub(crate) fn pass(self) {
+    pub fn pass(self) {
         let Self { turn, failures: _ } = self;
         let none = Vec::new(turn.alloc());
         if let Some((held, _)) = turn.leave(none) {
@@ -176,7 +176,7 @@ impl<W: Write + Drop, R: Wait + Drop> Write for SequentialWriter<W, R> {
 }
 
 impl<W: Write + Drop, R: Wait + Drop> WriteDevice for SequentialWriter<W, R> {
-    ghost use Rattle.tiny_http_request.specs.Sequential.{writer_sink};
+    ghost use Rattle.tiny_http_threads.specs.Sequential.{writer_sink};
 
     ghost sink = { writer_sink };
 

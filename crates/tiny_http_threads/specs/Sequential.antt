@@ -1,7 +1,7 @@
 -- What clauses read of a sequential writer.
 use Rattle.std.specs.Prelude.{[], None, false}
 use Rattle.tiny_http_device.specs.Device.{Sink}
-use Rattle.tiny_http_request.specs.declared.sequential.SequentialWriter.{SequentialWriter}
+use Rattle.tiny_http_threads.specs.declared.sequential.SequentialWriter.{SequentialWriter}
 
 -- what it states as a writer: its failures, and no bytes
 abbrev pub writer_sink : {W : Type 0} → {R : Type 0} → SequentialWriter W R → Sink
