@@ -9,14 +9,14 @@ use Rattle.tiny_http_message.specs.declared.exchange.HeadRead.TheVariants as rea
 use Rattle.tiny_http_message.specs.declared.framing.Profile.{Profile}
 use Rattle.tiny_http_message.specs.declared.next_request.NextRequest.TheVariants as next
 use Rattle.tiny_http_message.specs.HeadReads.{TakesHead, IsFramedRequest}
-use Rattle.tiny_http_message.specs.NextRequest.{Follows, FollowsRefusal, FindsHead, FindsNext}
+use Rattle.tiny_http_message.specs.NextRequest.{At, Refuses, Follows, FollowsRefusal, FindsHead, FindsNext}
 
 -- a request that is found is framed as its version and headers say, and its drop's text is that of its head
-pub found-framed : {R P O : Type 0} (refuses : P → O → List ℕ → Bool → P → O → Type 0) (profile : Profile) (date : HttpDate) (s t : SourceState R) (p q : P) (o u : O) (x : Exchange)
-    → FindsHead refuses profile date s p o (Some (Ok (next.Request x))) t q u → IsFramedRequest profile date (read.Request x)
-found-framed {R = R} {P = P} {O = O} refuses profile date s t p q o u x found = by found.0 found.1 found.2
+found-framed : {R P O : Type 0} (refuses : Refuses P O) (profile : Profile) (date : HttpDate) (here there : At R P O) (x : Exchange)
+    → FindsHead refuses profile date here (Some (Ok (next.Request x))) there → IsFramedRequest profile date (read.Request x)
+found-framed refuses profile date here there x found = by found.0 found.1 found.2
   where
-    by : (r : Result HeadRead AllocError) → TakesHead profile date s t r → Follows refuses r p o (Some (Ok (next.Request x))) q u → IsFramedRequest profile date (read.Request x)
+    by : (r : Result HeadRead AllocError) → TakesHead profile date here.source there.source r → Follows refuses r here (Some (Ok (next.Request x))) there → IsFramedRequest profile date (read.Request x)
     by (Ok (read.Request y)) h f =
         let e = f.0 in
         let same : y ≡ x = cc in
@@ -31,7 +31,6 @@ found-framed {R = R} {P = P} {O = O} refuses profile date s t p q o u x found = 
         refused true false g = let no = g.1 in cc
         refused false false g = let no = g.1 in cc
 
-pub next-framed : {R P O : Type 0} (refuses : P → O → List ℕ → Bool → P → O → Type 0) (profile : Profile) (date : HttpDate) (s t : SourceState R) (p q : P) (o u : O) (x : Exchange)
-    → FindsNext refuses profile date s p o (Ok (next.Request x)) t q u → IsFramedRequest profile date (read.Request x)
-next-framed refuses profile date s t p q o u x f =
-    ⊎_elim (λ h. found-framed refuses profile date f.source t f.place q f.output u x h) (λ h. (let no = h.1.1 in cc)) f.ends
+pub next-framed : {R P O : Type 0} (refuses : Refuses P O) (profile : Profile) (date : HttpDate) (here there : At R P O) (x : Exchange)
+    → FindsNext refuses profile date here (Ok (next.Request x)) there → IsFramedRequest profile date (read.Request x)
+next-framed refuses profile date here there x f = ⊎_elim (λ h. found-framed refuses profile date f.mid there x h) (λ h. (let no = h.1.1 in cc)) f.ends

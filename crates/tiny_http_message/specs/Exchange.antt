@@ -46,25 +46,17 @@ exchange_streams x = is_streaming x.open_request.body
 abbrev pub exchange_owes_continue : Exchange → Bool
 exchange_owes_continue x = x.open_request.owes_continue
 
--- nothing has changed but that no 100 is owed any more
-abbrev pub OwesNoContinue : Exchange → Exchange → Type 0
-OwesNoContinue old new = new ≡ record old { open_request = record old.open_request { owes_continue = false } }
-
 -- the text that answers it if it is dropped; no byte, once that was taken
 abbrev pub exchange_drop_text : Exchange → List ℕ
 exchange_drop_text x = x.open_request.dropped.items
 
--- nothing has changed but that this text was taken, and that no 100 is owed any more
-abbrev pub HasNoDropText : Exchange → Exchange → Type 0
-HasNoDropText old new = new ≡ record old { open_request = record old.open_request { owes_continue = false; dropped = record { items = [] } } }
+-- its head is the same, and of what is kept of it this has changed
+abbrev pub Changes : (OpenRequest Body → OpenRequest Body → Type 0) → Exchange → Exchange → Type 0
+Changes P old new = (new.head ≡ old.head) × P old.open_request new.open_request
 
 -- nothing but how far its body was read has changed
 abbrev pub KeepsButBody : Exchange → Exchange → Type 0
 KeepsButBody old new = (body : Body) × (new ≡ record old { open_request = record old.open_request { body = body } })
-
--- nothing has changed but that its body reports its end from now on, and that no 100 is owed any more
-abbrev pub HasNoBodyLeft : Exchange → Exchange → Type 0
-HasNoBodyLeft old new = new ≡ record old { open_request = record old.open_request { body = Over End; owes_continue = false } }
 
 -- its body is given up
 abbrev pub GivesUpBody : {R : Type 0} → Exchange → SourceState R → SourceState R → Type 0

@@ -36,6 +36,7 @@ use Rattle.tiny_http_message.specs.Pipeline.{Request, Asks, Refuses, Refusal, Ve
 use Rattle.tiny_http_message.specs.OwnAnswer.{own_text, refusal_response, refused_text}
 use Rattle.tiny_http_message.specs.Body.{Remaining, remaining, Fits}
 use Rattle.tiny_http_message.specs.Exchange.{exchange_head, exchange_open, exchange_left, exchange_streams, KeepsRequest}
+use Rattle.tiny_http_message.specs.declared.open_request.OpenRequest.{OpenRequest}
 use Rattle.tiny_http_message.specs.OpenRequest.{KeepsHead}
 
 -- what is wrong with a head whose next line isn't read
@@ -289,10 +290,14 @@ abbrev pub IsRefusedUncut : HeadRead → Type 0
 IsRefusedUncut (read.Refused status text last) = (status.0 ≢ 408) × (status.0 ≢ 431) × (last ≡ true)
 IsRefusedUncut _ = ⊥
 
--- a request is framed as its version and headers say, and what is kept of it on this date is that of its head
+-- a head is framed as its version and headers say, and this is what is kept of a request with this head, on this date
+abbrev pub IsFramedBy : {B : Type 0} → Profile → HttpDate → Head → OpenRequest B → Type 0
+IsFramedBy p date h kept = (framing p h.version h.headers.items ≡ Ok (head_framing h)) × KeepsHead kept h date
+
+-- the same of a request that was read
 abbrev pub IsFramedRequest : Profile → HttpDate → HeadRead → Type 0
 IsFramedRequest p date (read.Request x) =
-    (framing p (exchange_head x).version (exchange_head x).headers.items ≡ Ok (head_framing (exchange_head x))) × KeepsHead (exchange_open x) (exchange_head x) date
+    IsFramedBy p date (exchange_head x) (exchange_open x)
 IsFramedRequest p date _ = ⊤
 
 -- where a source stands after the head of this request

@@ -12,6 +12,19 @@ use Rattle.tiny_http_message.specs.declared.next_request.NextRequest.{NextReques
 use Rattle.tiny_http_message.specs.declared.next_request.NextRequest.TheVariants as next
 use Rattle.tiny_http_message.specs.HeadReads.{TakesHead}
 
+-- where the reading stands: the source, the place where refusals go, and the output that is lent for that
+pub record At (R P O : Type 0) : Type 0 where
+  pub source : SourceState R
+  pub place : P
+  pub output : O
+
+abbrev pub at : {R P O : Type 0} → SourceState R → P → O → At R P O
+at source place output = record { source = source; place = place; output = output }
+
+-- How a text is put where refusals go: the flag says whether it was. A trait's relation.
+abbrev pub Refuses : Type 0 → Type 0 → Type 1
+Refuses P O = P → O → List ℕ → Bool → P → O → Type 0
+
 -- what is found: a request or the end; or, where there is none, another head stands behind
 abbrev pub Found : Type 0
 Found = Option (Result NextRequest AllocError)
@@ -26,30 +39,36 @@ abbrev pub FollowsRefusal : StatusCode → Bool → Bool → Found → Type 0
 FollowsRefusal status last true found = found ≡ after_refused status last
 FollowsRefusal status last false found = (e : AllocError) × (found ≡ Some (Err e))
 
--- What follows what was read at the place of a head. Only the answer to a refused head goes anywhere.
-abbrev pub Follows : {P O : Type 0} → (P → O → List ℕ → Bool → P → O → Type 0) → Result HeadRead AllocError → P → O → Found → P → O → Type 0
-Follows refuses (Ok (read.Request x)) p o found q u = (found ≡ Some (Ok (next.Request x))) × (q ≡ p) × (u ≡ o)
-Follows refuses (Ok (read.Ended why)) p o found q u = (found ≡ Some (Ok (next.Ended why))) × (q ≡ p) × (u ≡ o)
-Follows refuses (Ok (read.Refused status text last)) p o found q u = (kept : Bool) × refuses p o text.items kept q u × FollowsRefusal status last kept found
-Follows refuses (Err e) p o found q u = (found ≡ Some (Err e)) × (q ≡ p) × (u ≡ o)
+-- place and output are as they were
+abbrev pub Stays : {R P O : Type 0} → At R P O → At R P O → Type 0
+Stays here there = (there.place ≡ here.place) × (there.output ≡ here.output)
 
--- ONE HEAD, from a source and a place where refusals go
-abbrev pub FindsHead : {R P O : Type 0} → (P → O → List ℕ → Bool → P → O → Type 0) → Profile → HttpDate → SourceState R → P → O → Found → SourceState R → P → O → Type 0
-FindsHead refuses profile date s p o found t q u = (r : Result HeadRead AllocError) × TakesHead profile date s t r × Follows refuses r p o found q u
+-- What follows what was read of a head. Place and output change only where the head is refused.
+abbrev pub Follows : {R P O : Type 0} → Refuses P O → Result HeadRead AllocError → At R P O → Found → At R P O → Type 0
+Follows refuses (Ok (read.Request x)) here found there = (found ≡ Some (Ok (next.Request x))) × Stays here there
+Follows refuses (Ok (read.Ended why)) here found there = (found ≡ Some (Ok (next.Ended why))) × Stays here there
+Follows refuses (Ok (read.Refused status text last)) here found there =
+    (kept : Bool) × refuses here.place here.output text.items kept there.place there.output × FollowsRefusal status last kept found
+Follows refuses (Err e) here found there = (found ≡ Some (Err e)) × Stays here there
+
+-- ONE HEAD is read, and this is found
+abbrev pub FindsHead : {R P O : Type 0} → Refuses P O → Profile → HttpDate → At R P O → Found → At R P O → Type 0
+FindsHead refuses profile date here found there =
+    (r : Result HeadRead AllocError) × TakesHead profile date here.source there.source r × Follows refuses r here found there
 
 -- so many heads were refused, and another stands behind each
-abbrev pub PassesHeads : {R P O : Type 0} → (P → O → List ℕ → Bool → P → O → Type 0) → Profile → HttpDate → ℕ → SourceState R → P → O → SourceState R → P → O → Type 0
-PassesHeads refuses profile date zero s p o t q u = (t ≡ s) × (q ≡ p) × (u ≡ o)
-PassesHeads {R = R} {P = P} {O = O} refuses profile date (suc n) s p o t q u =
-    (source : SourceState R) × (place : P) × (output : O) × PassesHeads refuses profile date n s p o source place output × FindsHead refuses profile date source place output None t q u
+abbrev pub PassesHeads : {R P O : Type 0} → Refuses P O → Profile → HttpDate → ℕ → At R P O → At R P O → Type 0
+PassesHeads refuses profile date zero here there = there ≡ here
+PassesHeads {R = R} {P = P} {O = O} refuses profile date (suc n) here there =
+    (mid : At R P O) × PassesHeads refuses profile date n here mid × FindsHead refuses profile date mid None there
 
--- THE NEXT REQUEST, over the heads that are passed before it. After 2^64 of them none is looked for.
-pub record FindsNext {R P O : Type 0}
-    (refuses : P → O → List ℕ → Bool → P → O → Type 0) (profile : Profile) (date : HttpDate) (s : SourceState R) (p : P) (o : O)
-    (r : Result NextRequest AllocError) (t : SourceState R) (q : P) (u : O) : Type 0 where
+-- 2^64 heads were passed, and no further one was looked at
+abbrev pub PassesTooMany : {R P O : Type 0} → ℕ → At R P O → Result NextRequest AllocError → At R P O → Type 0
+PassesTooMany passed here r there = (passed ≡ 2 ^ 64) × ((e : AllocError) × (r ≡ Err e)) × (there ≡ here)
+
+-- THE NEXT REQUEST, over the heads that are passed before it
+pub record FindsNext {R P O : Type 0} (refuses : Refuses P O) (profile : Profile) (date : HttpDate) (here : At R P O) (r : Result NextRequest AllocError) (there : At R P O) : Type 0 where
   pub passed : ℕ
-  pub source : SourceState R
-  pub place : P
-  pub output : O
-  pub passes : PassesHeads refuses profile date passed s p o source place output
-  pub ends : FindsHead refuses profile date source place output (Some r) t q u ⊎ ((passed ≡ 2 ^ 64) × ((e : AllocError) × (r ≡ Err e)) × (t ≡ source) × (q ≡ place) × (u ≡ output))
+  pub mid : At R P O
+  pub passes : PassesHeads refuses profile date passed here mid
+  pub ends : FindsHead refuses profile date mid (Some r) there ⊎ PassesTooMany passed mid r there

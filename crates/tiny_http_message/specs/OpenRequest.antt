@@ -1,20 +1,33 @@
 -- What a contract sees of an `OpenRequest`.
 use Rattle.std.specs.Prelude.{◌≡◌, false, []}
 use Rattle.httpdate.specs.declared.date.HttpDate.{HttpDate}
+use Rattle.tiny_http_wire.specs.declared.device.Stop.TheVariants.{End}
 use Rattle.tiny_http_wire.specs.Coding.{coding_asked}
+use Rattle.tiny_http_stream.specs.Outlet.{OutletState, output_of, outlet_held, SentOn}
 use Rattle.tiny_http_sending.specs.ResponseValue.{printing_to}
+use Rattle.tiny_http_sending.specs.Sending.{IsFlushed}
 use Rattle.tiny_http_message.specs.declared.exchange.Head.{Head}
+use Rattle.tiny_http_message.specs.declared.body.Body.{Body}
+use Rattle.tiny_http_message.specs.declared.body.Body.TheVariants.{Over}
 use Rattle.tiny_http_message.specs.declared.open_request.OpenRequest.{OpenRequest}
 use Rattle.tiny_http_message.specs.OwnAnswer.{own_text_by}
 use Rattle.tiny_http_message.specs.Pipeline.{is_head_method}
 
 -- nothing has changed but that no 100 is owed any more
-abbrev pub OwesNone : {B : Type 0} → OpenRequest B → OpenRequest B → Type 0
-OwesNone old new = new ≡ record old { owes_continue = false }
+abbrev pub OwesNoContinue : {B : Type 0} → OpenRequest B → OpenRequest B → Type 0
+OwesNoContinue old new = new ≡ record old { owes_continue = false }
 
 -- nothing has changed but that the text of its drop was taken, and that no 100 is owed any more
-abbrev pub HasNoText : {B : Type 0} → OpenRequest B → OpenRequest B → Type 0
-HasNoText old new = new ≡ record old { owes_continue = false; dropped = record { items = [] } }
+abbrev pub HasNoDropText : {B : Type 0} → OpenRequest B → OpenRequest B → Type 0
+HasNoDropText old new = new ≡ record old { owes_continue = false; dropped = record { items = [] } }
+
+-- nothing has changed but that its body reports its end from now on, and that no 100 is owed any more
+abbrev pub HasNoBodyLeft : OpenRequest Body → OpenRequest Body → Type 0
+HasNoBodyLeft old new = new ≡ record old { body = Over End; owes_continue = false }
+
+-- the outlet holds nothing back, and all that it took was sent on
+abbrev pub HasSentAll : {W : Type 0} → OutletState W → Type 0
+HasSentAll o = (outlet_held o ≡ []) × SentOn o × IsFlushed (output_of o)
 
 -- this is kept of a request with this head that was handed out on this date
 pub record KeepsHead {B : Type 0} (w : OpenRequest B) (h : Head) (date : HttpDate) : Type 0 where

@@ -4,7 +4,7 @@ ghost use Rattle.std.specs.List.{list_all};
 ghost use Rattle.tiny_http_wire.specs.Bytes.{is_ascii};
 ghost use Rattle.tiny_http_sending.specs.ResponseValue.{upgrade_text};
 ghost use Rattle.tiny_http_stream.specs.Source.{GoesOn, IsAtEnd};
-ghost use Rattle.tiny_http_message.specs.Pipeline.{is_head_method, is_timed_out, ends_too_new, refusal_status, framing_refusal};
+ghost use Rattle.tiny_http_message.specs.Pipeline.{is_timed_out, ends_too_new, refusal_status, framing_refusal};
 ghost use Rattle.tiny_http_message.specs.Body.{ReadsBody, PassesOver};
 ghost use Rattle.tiny_http_message.specs.HeadReads.{ReadsHead, RefusesWith, RefusesTooNew, AnswersCut, AnswersFault, TakesHead, HasByteOrTimedOut, Begins, IsCutOff, IsRequest, IsFramedRequest, IsRefusedUncut, IsOkEnd, cut_end, end_at, standing_of, message_of, head_message, head_framing};
 ghost use Rattle.tiny_http_message.specs.OpenRequest.{KeepsHead};
@@ -104,7 +104,8 @@ pub enum HeadRead {
 }
 
 impl Exchange {
-    ghost use Rattle.tiny_http_message.specs.Exchange.{exchange_printing, exchange_of, exchange_head, exchange_drop_text, exchange_owes_continue, OwesNoContinue, HasNoDropText, exchange_body, GivesUpBody, KeepsButBody, HasNoBodyLeft};
+    ghost use Rattle.tiny_http_message.specs.Exchange.{exchange_printing, exchange_of, exchange_head, exchange_drop_text, exchange_owes_continue, exchange_body, Changes, GivesUpBody, KeepsButBody};
+    ghost use Rattle.tiny_http_message.specs.OpenRequest.{OwesNoContinue, HasNoDropText, HasNoBodyLeft};
 
     /// What the request's head says.
     pub fn head(&self) -> &Head
@@ -141,7 +142,7 @@ impl Exchange {
         now: HttpDate,
     ) -> Result<(), io::Error>
         ensures answers { SendsAnswer D.feed outlet.old outlet.new result response (exchange_printing self.old now) }
-        ensures once { OwesNoContinue self.old self.new }
+        ensures once { Changes OwesNoContinue self.old self.new }
     {
         self.open_request.respond(alloc, outlet, response, now)
     }
@@ -166,7 +167,7 @@ impl Exchange {
         // Whatever the data are.
         ensures sends { OnOk result ((content : Feed) → SendsQuietlyOn outlet.old outlet.new
             (upgrade_text (record { answer = response.answer; content = content }) protocol.now (exchange_printing self.old now))) }
-        ensures once { OnOk result (OwesNoContinue self.old self.new) }
+        ensures once { OnOk result (Changes OwesNoContinue self.old self.new) }
         ensures sent { OnOk result (FailsOnce outlet.old outlet.new × (outlet_held outlet.new ≡ []) × SentOn outlet.new) }
     {
         check_protocol(protocol)?;
@@ -187,7 +188,7 @@ impl Exchange {
         ensures unowed { exchange_owes_continue self.old ≡ false → (self.new ≡ self.old) × (outlet.new ≡ outlet.old) }
         ensures sends { exchange_owes_continue self.old ≡ true
             → SendsQuietlyOn outlet.old outlet.new (own_text_by 100 (exchange_printing self.old now)) }
-        ensures once { OwesNoContinue self.old self.new }
+        ensures once { Changes OwesNoContinue self.old self.new }
         ensures fails_once { FailsOnce outlet.old outlet.new }
         ensures sent { exchange_owes_continue self.old ≡ true → (outlet_held outlet.new ≡ []) × SentOn outlet.new }
     {
@@ -198,7 +199,7 @@ impl Exchange {
     /// skipped before the next head; after a chunked one whose end or fault wasn't reported the source has ended.
     pub fn give_up<R: ReadDevice>(&mut self, source: &mut Source<R>)
         ensures gives_up { GivesUpBody self.old source.old source.new }
-        ensures kept { HasNoBodyLeft self.old self.new }
+        ensures kept { Changes HasNoBodyLeft self.old self.new }
         ensures goes_on { GoesOn source.old.feed source.new.feed }
     {
         self.open_request.give_up(source);
@@ -209,7 +210,7 @@ impl Exchange {
     /// sends it in the turn of the request, in the place of an answer, and gives the body up. The call takes no memory.
     pub fn text_of_drop(&mut self) -> Vec<u8>
         ensures text { result.items ≡ exchange_drop_text self.old }
-        ensures once { HasNoDropText self.old self.new }
+        ensures once { Changes HasNoDropText self.old self.new }
     {
         self.open_request.take_drop_text()
     }

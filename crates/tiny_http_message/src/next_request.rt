@@ -1,6 +1,6 @@
 //! The next request of a connection. Heads are read up to it, over those that are refused and have another behind them.
 ghost use Rattle.std.specs.Prelude.{ℕ, List, Bool, is_ok};
-ghost use Rattle.tiny_http_message.specs.NextRequest.{FindsHead, FindsNext};
+ghost use Rattle.tiny_http_message.specs.NextRequest.{at, FindsHead, FindsNext};
 
 use crate::exchange::{EndOfRequests, Exchange, HeadRead, read_head_with};
 use crate::framing::Profile;
@@ -18,7 +18,7 @@ pub enum NextRequest {
     Ended(EndOfRequests),
 }
 
-/// A place where the answers to refused heads go, each in the turn of its head. `O` is what is lent for that.
+/// A place where the answers to refused heads go, each in the turn of its head. `O` is the output that is lent for that.
 pub trait RefusalPlace<O> {
     /// This text was put there; or, where the flag is false, it wasn't.
     ghost refuses: { Self → O → List ℕ → Bool → Self → O → Type 0 };
@@ -38,7 +38,7 @@ fn next_head<R: ReadDevice, O, P: RefusalPlace<O>>(
     output: &mut O,
     now: HttpDate,
 ) -> Option<Result<NextRequest, AllocError>>
-    ensures { FindsHead P.refuses profile now source.old place.old output.old result source.new place.new output.new }
+    ensures { FindsHead P.refuses profile now (at source.old place.old output.old) result (at source.new place.new output.new) }
 {
     match read_head_with(alloc, source, profile, now) {
         Ok(HeadRead::Request(exchange)) => Some(Ok(NextRequest::Request(exchange))),
@@ -53,7 +53,7 @@ fn next_head<R: ReadDevice, O, P: RefusalPlace<O>>(
 }
 
 /// Reads heads up to that of the next request. Where one is refused its answer goes to this place. A refused head ends the
-/// requests; but behind a 505 whose body can be passed over the next head is read (RFC 9112, section 2.3; as tiny_http).
+/// requests; but behind a 505 the next head is read, unless its head names an upgrade or its body is chunked (as tiny_http).
 /// `now` dates the answers to refused heads, and the 500 of a request that is dropped. It is an error where memory was
 /// refused, or 2^64 heads were passed.
 pub fn next_request<R: ReadDevice, O, P: RefusalPlace<O>>(
@@ -64,7 +64,7 @@ pub fn next_request<R: ReadDevice, O, P: RefusalPlace<O>>(
     output: &mut O,
     now: HttpDate,
 ) -> Result<NextRequest, AllocError>
-    ensures { FindsNext P.refuses profile now source.old place.old output.old result source.new place.new output.new }
+    ensures { FindsNext P.refuses profile now (at source.old place.old output.old) result (at source.new place.new output.new) }
 {
     let mut room = u64::MAX;
     loop {

@@ -1,19 +1,16 @@
-//! A request that was handed out and isn't answered yet: what it owes, how its answer is printed, and how far its body was
-//! read. A connection keeps it under its number, and a request keeps it behind its turn. Each holds the turn, calls one verb
-//! here, and passes the turn.
-ghost use Rattle.std.specs.Prelude.{◌≡◌, true, false, [], IfOk};
+//! A request that was handed out and isn't answered yet: what it owes, how its answer is printed, and its body. A
+//! `Connection` keeps it under its number, a `Request` beside its turn. They see to the turn; what is sent, and what is owed
+//! after it, is decided here.
+ghost use Rattle.std.specs.Prelude.{◌≡◌, true, false, IfOk};
 ghost use Rattle.std.specs.List.{list_all};
 ghost use Rattle.tiny_http_wire.specs.Bytes.{is_ascii};
 ghost use Rattle.tiny_http_wire.specs.Device.{Feed};
-ghost use Rattle.tiny_http_stream.specs.Outlet.{output_of, outlet_held, SentOn};
 ghost use Rattle.tiny_http_sending.specs.ResponseValue.{printing_in, upgrade_text};
-ghost use Rattle.tiny_http_sending.specs.Sending.{IsFlushed, FailsOnce, SendsQuietlyOn, SendsAnswer};
+ghost use Rattle.tiny_http_sending.specs.Sending.{FailsOnce, SendsQuietlyOn, SendsAnswer};
 ghost use Rattle.tiny_http_message.specs.OwnAnswer.{own_text_by};
-ghost use Rattle.tiny_http_message.specs.OpenRequest.{KeepsHead, OwesNone, HasNoText};
+ghost use Rattle.tiny_http_message.specs.OpenRequest.{KeepsHead, OwesNoContinue, HasNoDropText, HasNoBodyLeft, HasSentAll};
 ghost use Rattle.tiny_http_message.specs.Pipeline.{is_head_method};
 ghost use Rattle.tiny_http_message.specs.Body.{ReadsBody, GivesUp};
-ghost use Rattle.tiny_http_message.specs.declared.body.Body.TheVariants.{Over};
-ghost use Rattle.tiny_http_wire.specs.declared.device.Stop.TheVariants.{End};
 
 use crate::body::Body;
 use crate::exchange::Head;
@@ -31,7 +28,7 @@ use tiny_http_wire::common::{Method, StatusCode};
 use tiny_http_wire::device::{ReadDevice, WriteDevice};
 use tiny_http_wire::response::Response;
 
-/// A request that was handed out and isn't answered yet. Its head is kept beside it, by whoever reads it.
+/// A request that was handed out and isn't answered yet. Its head isn't part of it.
 #[derive(Drop)]
 pub struct OpenRequest<B> {
     /// How its answer is printed.
@@ -81,7 +78,7 @@ impl<B: Drop> OpenRequest<B> {
         now: HttpDate,
     ) -> Result<(), io::Error>
         ensures answers { SendsAnswer D.feed outlet.old outlet.new result response (printing_in self.old.answer_context now) }
-        ensures once { OwesNone self.old self.new }
+        ensures once { OwesNoContinue self.old self.new }
     {
         self.owes_continue = false;
         send_unless_ended(alloc, outlet, response, self.answer_context, now)
@@ -99,9 +96,9 @@ impl<B: Drop> OpenRequest<B> {
         ensures unowed { self.old.owes_continue ≡ false → (self.new ≡ self.old) × (outlet.new ≡ outlet.old) }
         ensures sends { self.old.owes_continue ≡ true
             → SendsQuietlyOn outlet.old outlet.new (own_text_by 100 (printing_in self.old.answer_context now)) }
-        ensures once { OwesNone self.old self.new }
+        ensures once { OwesNoContinue self.old self.new }
         ensures fails_once { FailsOnce outlet.old outlet.new }
-        ensures sent { self.old.owes_continue ≡ true → (outlet_held outlet.new ≡ []) × SentOn outlet.new × IsFlushed (output_of outlet.new) }
+        ensures sent { self.old.owes_continue ≡ true → HasSentAll outlet.new }
     {
         if self.owes_continue {
             let context = self.answer_context;
@@ -112,8 +109,8 @@ impl<B: Drop> OpenRequest<B> {
 
     /// Sends the answer that upgrades the connection to this protocol (RFC 9110, section 7.8), printed for this request and
     /// dated `now`, and flushes it: its head alone, with `Connection: upgrade` and `Upgrade: PROTOCOL` in front of the other
-    /// headers (as tiny_http). No 100 is owed any more. The caller has checked the protocol by `check_protocol`, and does so in
-    /// the turn of the request, in the place of an answer; then the output is the protocol's, and what the body gives is its
+    /// headers (as tiny_http). No 100 is owed any more. The caller checks the protocol by `check_protocol` first. It makes this
+    /// call in the turn of the request, in the place of an answer; then the output is the protocol's, and what the body gives is its
     /// input. The data are let go unread. A fault of the writer ends the outlet, and isn't reported. On an outlet that has
     /// ended nothing is sent. The call takes no memory.
     pub fn upgrade<W: WriteDevice, D: Drop>(
@@ -128,9 +125,9 @@ impl<B: Drop> OpenRequest<B> {
         // Whatever the data are.
         ensures sends { (content : Feed) → SendsQuietlyOn outlet.old outlet.new
             (upgrade_text (record { answer = response.answer; content = content }) protocol.now (printing_in self.old.answer_context now)) }
-        ensures once { OwesNone self.old self.new }
+        ensures once { OwesNoContinue self.old self.new }
         ensures fails_once { FailsOnce outlet.old outlet.new }
-        ensures sent { (outlet_held outlet.new ≡ []) × SentOn outlet.new × IsFlushed (output_of outlet.new) }
+        ensures sent { HasSentAll outlet.new }
     {
         self.owes_continue = false;
         send_upgrade_quietly(alloc, outlet, response, self.answer_context, protocol, now);
@@ -141,7 +138,7 @@ impl<B: Drop> OpenRequest<B> {
     /// sends it in the turn of the request, in the place of an answer, and gives the body up. The call takes no memory.
     pub fn take_drop_text(&mut self) -> Vec<u8>
         ensures text { result.items ≡ self.old.dropped.items }
-        ensures once { HasNoText self.old self.new }
+        ensures once { HasNoDropText self.old self.new }
     {
         self.owes_continue = false;
         self.dropped.take_text()
@@ -176,7 +173,7 @@ impl OpenRequest<Body> {
     /// skipped before the next head; after a chunked one whose end or fault wasn't reported the source has ended.
     pub fn give_up<R: ReadDevice>(&mut self, source: &mut Source<R>)
         ensures gives_up { GivesUp self.old.body source.old source.new }
-        ensures kept { self.new ≡ record self.old { body = Over End; owes_continue = false } }
+        ensures kept { HasNoBodyLeft self.old self.new }
     {
         self.owes_continue = false;
         self.body.give_up(source);

@@ -3,8 +3,8 @@
 ghost use Rattle.std.specs.Prelude.{◌≡◌, ◌<◌, ◌≤◌, ◌^◌, false, [], Some, IfOk, length, vec_len, vec_capacity};
 ghost use Rattle.httpdate.specs.Date.{date_text};
 ghost use Rattle.tiny_http_sending.specs.ResponseValue.{printing_to, printing_in};
-ghost use Rattle.tiny_http_sending.specs.Sending.{IsFlushed, FailsOnce, SendsQuietlyOn};
-ghost use Rattle.tiny_http_stream.specs.Outlet.{output_of, outlet_held, SentOn};
+ghost use Rattle.tiny_http_sending.specs.Sending.{FailsOnce, SendsQuietlyOn};
+ghost use Rattle.tiny_http_message.specs.OpenRequest.{HasSentAll};
 ghost use Rattle.tiny_http_message.specs.declared.own_answer.TheConstants.{OWN_ANSWER};
 ghost use Rattle.tiny_http_message.specs.OwnAnswer.{own_text, own_text_by, refusal_response, refused_text};
 ghost use Rattle.tiny_http_message.specs.Pipeline.{VersionNotSupported};
@@ -78,9 +78,9 @@ pub fn too_new_answer(alloc: Global, no_body: bool, now: HttpDate) -> Result<Vec
     refused_text(alloc, answer, HTTPVersion(1, 1), no_body, now)
 }
 
-/// Sends an answer of the server's own to a request, and flushes it: this code, no headers of its own and no data. It takes no
-/// memory. No reply reports a fault that is met there; an outlet that has ended sends nothing.
-pub fn send_own_quietly<W: WriteDevice>(
+// Sends an answer of the server's own to a request, and flushes it: this code, no headers of its own and no data. It takes no
+// memory. No reply reports a fault that is met there; an outlet that has ended sends nothing.
+pub(crate) fn send_own_quietly<W: WriteDevice>(
     alloc: Global,
     outlet: &mut Outlet<W>,
     status: StatusCode,
@@ -89,9 +89,7 @@ pub fn send_own_quietly<W: WriteDevice>(
 )
     ensures sends { SendsQuietlyOn outlet.old outlet.new (own_text_by status.0 (printing_in context now)) }
     ensures fails_once { FailsOnce outlet.old outlet.new }
-    ensures flushed { outlet_held outlet.new ≡ [] }
-    ensures sent_on { SentOn outlet.new }
-    ensures is_flushed { IsFlushed (output_of outlet.new) }
+    ensures sent { HasSentAll outlet.new }
 {
     if outlet.is_ended() {
         outlet.facts();

@@ -1,11 +1,11 @@
 //! Upgrades of a connection to another protocol (RFC 9110, section 7.8).
-ghost use Rattle.std.specs.Prelude.{◌≡◌, true, [], is_ok};
+ghost use Rattle.std.specs.Prelude.{◌≡◌, true, is_ok};
 ghost use Rattle.std.specs.List.{list_all};
 ghost use Rattle.tiny_http_wire.specs.Bytes.{is_ascii};
 ghost use Rattle.tiny_http_wire.specs.Device.{Feed};
 ghost use Rattle.tiny_http_sending.specs.ResponseValue.{printing_in, upgrade_text};
-ghost use Rattle.tiny_http_sending.specs.Sending.{IsFlushed, FailsOnce, SendsQuietlyOn};
-ghost use Rattle.tiny_http_stream.specs.Outlet.{output_of, outlet_held, SentOn};
+ghost use Rattle.tiny_http_sending.specs.Sending.{FailsOnce, SendsQuietlyOn};
+ghost use Rattle.tiny_http_message.specs.OpenRequest.{HasSentAll};
 
 use httpdate::HttpDate;
 use std::alloc::Global;
@@ -51,7 +51,7 @@ pub(crate) fn send_upgrade_quietly<W: WriteDevice, D: Drop>(
     ensures sends { (content : Feed) → SendsQuietlyOn outlet.old outlet.new
         (upgrade_text (record { answer = response.answer; content = content }) protocol.now (printing_in context now)) }
     ensures fails_once { FailsOnce outlet.old outlet.new }
-    ensures sent { (outlet_held outlet.new ≡ []) × SentOn outlet.new × IsFlushed (output_of outlet.new) }
+    ensures sent { HasSentAll outlet.new }
 {
     if outlet.is_ended() {
         outlet.facts();

@@ -1,15 +1,17 @@
-use Rattle.std.proofs.Common.{suc, refl, subst, arith, inl, inr}
-use Rattle.tiny_http_message.specs.NextRequest.{Found, FindsHead}
+use Rattle.std.proofs.Common.{ℕ, suc, ◌≡◌, refl, subst, ◌+◌, ◌^◌, ◌<◌, arith, inl, inr}
+use Rattle.tiny_http_message.specs.NextRequest.{Found, at, FindsHead}
 use Rattle.tiny_http_message.proofs.next_request.next_request.Goals as goal
 
 pub loop-found-init : goal.loop-found-init
-loop-found-init g c = (0, refl, (refl, refl, refl))
+loop-found-init g c = (0, refl, refl)
 
 pub returns-in-Some : goal.returns-in-Some
 returns-in-Some g c =
     let i = c.loop-found.invariant in
-    let H : Found → Type 0 = λ f. FindsHead g.P.RefusalPlace.refuses c.args.profile c.args.now c.loop-found.source c.loop-found.place c.loop-found.output f c.next_head.new.source c.next_head.new.place c.next_head.new.output in
-    record { passed = i.0; source = c.loop-found.source; place = c.loop-found.place; output = c.loop-found.output; passes = i.2; ends = inl (subst H c.in-Some.is c.next_head.ensures) }
+    let mid = at c.loop-found.source c.loop-found.place c.loop-found.output in
+    let there = at c.next_head.new.source c.next_head.new.place c.next_head.new.output in
+    let H : Found → Type 0 = λ f. FindsHead g.P.RefusalPlace.refuses c.args.profile c.args.now mid f there in
+    record { passed = i.0; mid = mid; passes = i.2; ends = inl (subst H c.in-Some.is c.next_head.ensures) }
 
 pub loop-found-smaller : goal.loop-found-smaller
 loop-found-smaller g c =
@@ -25,23 +27,22 @@ loop-found-preserved g c =
     let count = i.1 in
     let some = left.0 in
     let less = left.1 in
-    let H : Found → Type 0 = λ f. FindsHead g.P.RefusalPlace.refuses c.args.profile c.args.now c.loop-found.source c.loop-found.place c.loop-found.output f c.next_head.new.source c.next_head.new.place c.next_head.new.output in
-    (suc i.0, omega (arith, count, some, less), (c.loop-found.source, c.loop-found.place, c.loop-found.output, i.2, subst H c.in_default.is c.next_head.ensures))
+    let mid = at c.loop-found.source c.loop-found.place c.loop-found.output in
+    let there = at c.next_head.new.source c.next_head.new.place c.next_head.new.output in
+    let H : Found → Type 0 = λ f. FindsHead g.P.RefusalPlace.refuses c.args.profile c.args.now mid f there in
+    (suc i.0, omega (arith, count, some, less), (mid, i.2, subst H c.in_default.is c.next_head.ensures))
 
 pub returns-in-None : goal.returns-in-None
 returns-in-None g c =
     let i = c.loop-found.invariant in
     let count = i.1 in
     let none = c.in-None.ensures in
-    let source = c.next_head.new.source in
-    let place = c.next_head.new.place in
-    let output = c.next_head.new.output in
-    let H : Found → Type 0 = λ f. FindsHead g.P.RefusalPlace.refuses c.args.profile c.args.now c.loop-found.source c.loop-found.place c.loop-found.output f c.next_head.new.source c.next_head.new.place c.next_head.new.output in
+    let mid = at c.loop-found.source c.loop-found.place c.loop-found.output in
+    let there = at c.next_head.new.source c.next_head.new.place c.next_head.new.output in
+    let H : Found → Type 0 = λ f. FindsHead g.P.RefusalPlace.refuses c.args.profile c.args.now mid f there in
     record {
       passed = suc i.0;
-      source = source;
-      place = place;
-      output = output;
-      passes = (c.loop-found.source, c.loop-found.place, c.loop-found.output, i.2, subst H c.in_default.is c.next_head.ensures);
-      ends = inr (omega (arith, count, none), (record {}, refl), refl {a = source}, refl {a = place}, refl {a = output});
+      mid = there;
+      passes = (mid, i.2, subst H c.in_default.is c.next_head.ensures);
+      ends = inr (omega (arith, count, none), (record {}, refl), refl {a = there});
     }
