@@ -15,7 +15,7 @@ use Rattle.tiny_http_message.specs.declared.exchange.HeadRead.TheVariants as rea
 use Rattle.tiny_http_message.specs.declared.exchange.EndOfRequests.{EndOfRequests}
 use Rattle.tiny_http_message.specs.declared.exchange.EndOfRequests.TheVariants as because
 use Rattle.tiny_http_message.specs.HeadReads.{ReadsHead, IsBeforeHead, IsOkEnd, IsRequest, TakesHead, standing_read, head_message, head_framing}
-use Rattle.tiny_http_message.specs.NextRequest.{Found, Follows, FollowsRefusal, FindsHead, FindsNext, PassesHeads}
+use Rattle.tiny_http_message.specs.NextRequest.{At, Found, Follows, FollowsRefusal, FindsHead, FindsNext, PassesHeads}
 use Rattle.tiny_http_message.specs.declared.next_request.NextRequest.{NextRequest}
 use Rattle.tiny_http_message.specs.declared.next_request.NextRequest.TheVariants as next
 use Rattle.tiny_http_turns.specs.Turns.{Mark, AreInShape, Open}
@@ -25,7 +25,7 @@ use Rattle.tiny_http_core.specs.declared.pending.Unfinished.TheVariants as still
 use Rattle.tiny_http_core.specs.Pending.{RefusesHead}
 use Rattle.tiny_http_core.specs.Steps.{ReplyValue, Ask, Ended, Memory, Handed}
 use Rattle.tiny_http_core.specs.Connection.{Kept, ConnectionState, kept}
-use Rattle.tiny_http_core.specs.Asking.{CanAsk, AskStep, IsAskBehind}
+use Rattle.tiny_http_core.proofs.Asking.{CanAsk, AskStep, IsAskBehind}
 use Rattle.tiny_http_core.proofs.ConnectionAsking.{AskGoesOn, ask-passes}
 use Rattle.tiny_http_core.proofs.ConnectionAsk.{StepIsAnswered, ask-final, ask-memory, ask-handed, ask-refused, before-head, stands-before}
 use Rattle.tiny_http_core.proofs.ConnectionOutput.{can-send}
@@ -252,35 +252,37 @@ ok-err x e is = cc
 request-ended : (x : Exchange) (why : EndOfRequests) → ◌≡◌ {A = Found} (Some (Ok (next.Request x))) (Some (Ok (next.Ended why))) → ⊥
 request-ended x why is = cc
 
+-- the connection whose reading stands there
+abbrev pub standing_at : {R W : Type 0} → Profile → At R Pending (OutletState W) → Option EndOfRequests → ConnectionState R W
+standing_at profile here end = viewed profile here.source here.output here.place end
+
 -- one head was refused, and its answer is kept, or isn't
-passes-one : {R W : Type 0} (profile : Profile) (date : HttpDate) (s t : SourceState R) (o u : OutletState W) (p q : Pending) (end : Option EndOfRequests) (status : StatusCode) (text : Vec ℕ) (last kept : Bool)
-    → TakesHead profile date s t (Ok (read.Refused status text last)) → RefusesHead p o text.items kept q u → FollowsRefusal status last kept None → CanAsk (viewed profile s o p end)
-    → Passed (viewed profile s o p end) (viewed profile t u q end) date 1
-passes-one profile date s t o u p q end status text last false h left f can = absurd (none-some (Err f.0) f.1)
-passes-one profile date s t o u p q end status text true true h left f can = absurd (none-some (Ok (next.Ended (because.Refused status))) f)
-passes-one profile date s t o u p q end status text false true h left f can =
-    let a = finds-another profile date s t o u p q end status text h left can in
-    record { can = a.0; behind = a.1; few = inr (left.few refl); counts = ap length (left.requests refl) ∙ length-append p.requests (None ∷ []) }
+passes-one : {R W : Type 0} (profile : Profile) (date : HttpDate) (here there : At R Pending (OutletState W)) (end : Option EndOfRequests) (status : StatusCode) (text : Vec ℕ) (last kept : Bool)
+    → TakesHead profile date here.source there.source (Ok (read.Refused status text last)) → RefusesHead here.place here.output text.items kept there.place there.output → FollowsRefusal status last kept None → CanAsk (standing_at profile here end)
+    → Passed (standing_at profile here end) (standing_at profile there end) date 1
+passes-one profile date here there end status text last false h left f can = absurd (none-some (Err f.0) f.1)
+passes-one profile date here there end status text true true h left f can = absurd (none-some (Ok (next.Ended (because.Refused status))) f)
+passes-one profile date here there end status text false true h left f can =
+    let a = finds-another profile date here.source there.source here.output there.output here.place there.place end status text h left can in
+    record { can = a.0; behind = a.1; few = inr (left.bound refl); counts = ap length (left.requests refl) ∙ length-append here.place.requests (None ∷ []) }
 
-passed-one : {R W : Type 0} (profile : Profile) (date : HttpDate) (s t : SourceState R) (o u : OutletState W) (p q : Pending) (end : Option EndOfRequests) (r : Result HeadRead AllocError)
-    → TakesHead profile date s t r → Follows RefusesHead r p o None q u → CanAsk (viewed profile s o p end)
-    → Passed (viewed profile s o p end) (viewed profile t u q end) date 1
-passed-one profile date s t o u p q end (Ok (read.Request x)) h f can = absurd (none-some (Ok (next.Request x)) f.0)
-passed-one profile date s t o u p q end (Ok (read.Ended why)) h f can = absurd (none-some (Ok (next.Ended why)) f.0)
-passed-one profile date s t o u p q end (Err e) h f can = absurd (none-some (Err e) f.0)
-passed-one profile date s t o u p q end (Ok (read.Refused status text last)) h f can = passes-one profile date s t o u p q end status text last f.0 h f.1 f.2 can
+passed-one : {R W : Type 0} (profile : Profile) (date : HttpDate) (here there : At R Pending (OutletState W)) (end : Option EndOfRequests) (r : Result HeadRead AllocError)
+    → TakesHead profile date here.source there.source r → Follows RefusesHead r here None there → CanAsk (standing_at profile here end)
+    → Passed (standing_at profile here end) (standing_at profile there end) date 1
+passed-one profile date here there end (Ok (read.Request x)) h f can = absurd (none-some (Ok (next.Request x)) f.0)
+passed-one profile date here there end (Ok (read.Ended why)) h f can = absurd (none-some (Ok (next.Ended why)) f.0)
+passed-one profile date here there end (Err e) h f can = absurd (none-some (Err e) f.0)
+passed-one profile date here there end (Ok (read.Refused status text last)) h f can = passes-one profile date here there end status text last f.0 h f.1 f.2 can
 
-passed-heads : {R W : Type 0} (profile : Profile) (date : HttpDate) (s t : SourceState R) (o u : OutletState W) (p q : Pending) (end : Option EndOfRequests) (n : ℕ) → PassesHeads RefusesHead profile date n s p o t q u → CanAsk (viewed profile s o p end)
-    → Passed (viewed profile s o p end) (viewed profile t u q end) date n
-passed-heads {R = R} {W = W} profile date s t o u p q end zero h can =
-    let here : Passed (viewed profile s o p end) (viewed profile s o p end) date 0 = record { can = can; behind = λ new reply a. a; few = inl refl; counts = plus-none (length p.requests) } in
-    let S : SourceState R → Type 0 = λ t. Passed (viewed profile s o p end) (viewed profile t o p end) date 0 in
-    let Q : Pending → Type 0 = λ q. Passed (viewed profile s o p end) (viewed profile t o q end) date 0 in
-    let U : OutletState W → Type 0 = λ u. Passed (viewed profile s o p end) (viewed profile t u q end) date 0 in
-    subst U (sym h.2) (subst Q (sym h.1) (subst S (sym h.0) here))
-passed-heads {R = R} {W = W} profile date s t o u p q end (suc n) h can =
-    let i = passed-heads profile date s h.0 o h.2 p h.1 end n h.3 can in
-    let one = passed-one profile date h.0 t h.2 u h.1 q end h.4.0 h.4.1 h.4.2 i.can in
+passed-heads : {R W : Type 0} (profile : Profile) (date : HttpDate) (here there : At R Pending (OutletState W)) (end : Option EndOfRequests) (n : ℕ) → PassesHeads RefusesHead profile date n here there → CanAsk (standing_at profile here end)
+    → Passed (standing_at profile here end) (standing_at profile there end) date n
+passed-heads {R = R} {W = W} profile date here there end zero h can =
+    let none : Passed (standing_at profile here end) (standing_at profile here end) date 0 = record { can = can; behind = λ new reply a. a; few = inl refl; counts = plus-none (length here.place.requests) } in
+    let T : At R Pending (OutletState W) → Type 0 = λ x. Passed (standing_at profile here end) (standing_at profile x end) date 0 in
+    subst T (sym h) none
+passed-heads {R = R} {W = W} profile date here there end (suc n) h can =
+    let i = passed-heads profile date here h.0 end n h.1 can in
+    let one = passed-one profile date h.0 there end h.2.0 h.2.1 h.2.2 i.can in
     let more = one.counts in
     let counts = i.counts in
     record { can = one.can; behind = λ new reply a. i.behind new reply (one.behind new reply a); few = ⊎_elim (λ none. absurd (one-none none)) (λ few. inr few) one.few; counts = omega (arith, more, counts) }
@@ -293,105 +295,107 @@ too-many : {R W : Type 0} (old new : ConnectionState R W) (date : HttpDate) (n :
 too-many old new date n p many = ⊎_elim (λ none. omega (arith, none, many)) (λ few. (let counts = p.counts in omega (arith, few, counts, many))) p.few
 
 -- AN ASK finds what stands behind the heads that were passed
-pub asks-next : {R W : Type 0} (profile : Profile) (date : HttpDate) (s t : SourceState R) (o u : OutletState W) (p q : Pending) (end : Option EndOfRequests) (r : Result NextRequest AllocError) (f : FindsNext RefusesHead profile date s p o r t q u) → CanAsk (viewed profile s o p end)
+pub asks-next : {R W : Type 0} (profile : Profile) (date : HttpDate) (here there : At R Pending (OutletState W)) (end : Option EndOfRequests) (r : Result NextRequest AllocError) (f : FindsNext RefusesHead profile date here r there) → CanAsk (standing_at profile here end)
     → (new : ConnectionState R W) (reply : ReplyValue)
-    → (FindsHead RefusesHead profile date f.source f.place f.output (Some r) t q u → CanAsk (viewed profile f.source f.output f.place end) → AskStep (viewed profile f.source f.output f.place end) new date reply)
-    → AskStep (viewed profile s o p end) new date reply
-asks-next profile date s t o u p q end r f can new reply go =
-    let passed = passed-heads profile date s f.source o f.output p f.place end f.passed f.passes can in
-    ⊎_elim (λ found. passed.behind new reply (go found passed.can)) (λ many. absurd (too-many (viewed profile s o p end) (viewed profile f.source f.output f.place end) date f.passed passed many.0)) f.ends
+    → (FindsHead RefusesHead profile date f.mid (Some r) there → CanAsk (standing_at profile f.mid end) → AskStep (standing_at profile f.mid end) new date reply)
+    → AskStep (standing_at profile here end) new date reply
+asks-next profile date here there end r f can new reply go =
+    let passed = passed-heads profile date here f.mid end f.passed f.passes can in
+    ⊎_elim (λ found. passed.behind new reply (go found passed.can)) (λ many. absurd (too-many (standing_at profile here end) (standing_at profile f.mid end) date f.passed passed many.0)) f.ends
+
+-- a refused head is no request
+refused-request : (x : Exchange) (status : StatusCode) (last kept : Bool) → FollowsRefusal status last kept (Some (Ok (next.Request x))) → ⊥
+refused-request x status true true f = request-ended x (because.Refused status) f
+refused-request x status false true f = none-some (Ok (next.Request x)) (sym f)
+refused-request x status last false f = ok-err (next.Request x) f.0 f.1
 
 -- a request is found, and takes a number
-pub found-request : {R W : Type 0} (profile : Profile) (date : HttpDate) (s t : SourceState R) (o u : OutletState W) (p q a : Pending) (end : Option EndOfRequests) (x : Exchange) (n : ℕ)
-    → n ≡ length q.turns.marks → a.turns.marks ≡ q.turns.marks ++ (Open ∷ []) → AreInShape a.turns.marks → a.requests ≡ q.requests ++ (Some (still.Waiting x.open_request) ∷ [])
-    → FindsHead RefusesHead profile date s p o (Some (Ok (next.Request x))) t q u → CanAsk (viewed profile s o p end)
-    → AskStep (viewed profile s o p end) (viewed profile t u a end) date (Handed n (head_message x.head) (head_framing x.head))
-found-request {R = R} {W = W} profile date s t o u p q a end x n number marks_are shape requests_are found can = by found.0 found.1 found.2
+pub found-request : {R W : Type 0} (profile : Profile) (date : HttpDate) (here there : At R Pending (OutletState W)) (a : Pending) (end : Option EndOfRequests) (x : Exchange) (n : ℕ)
+    → n ≡ length there.place.turns.marks → a.turns.marks ≡ there.place.turns.marks ++ (Open ∷ []) → AreInShape a.turns.marks → a.requests ≡ there.place.requests ++ (Some (still.Waiting x.open_request) ∷ [])
+    → FindsHead RefusesHead profile date here (Some (Ok (next.Request x))) there → CanAsk (standing_at profile here end)
+    → AskStep (standing_at profile here end) (viewed profile there.source there.output a end) date (Handed n (head_message x.head) (head_framing x.head))
+found-request {R = R} {W = W} profile date here there a end x n number marks_are shape requests_are found can = by found.0 found.1 found.2
   where
     U : OutletState W → Type 0
-    U v = AskStep (viewed profile s o p end) (viewed profile t v a end) date (Handed n (head_message x.head) (head_framing x.head))
+    U v = AskStep (standing_at profile here end) (viewed profile there.source v a end) date (Handed n (head_message x.head) (head_framing x.head))
 
-    refused : (status : StatusCode) (last kept : Bool) → FollowsRefusal status last kept (Some (Ok (next.Request x))) → ⊥
-    refused status true true f = request-ended x (because.Refused status) f
-    refused status false true f = none-some (Ok (next.Request x)) (sym f)
-    refused status last false f = ok-err (next.Request x) f.0 f.1
-
-    by : (r : Result HeadRead AllocError) → TakesHead profile date s t r → Follows RefusesHead r p o (Some (Ok (next.Request x))) q u → U u
+    by : (r : Result HeadRead AllocError) → TakesHead profile date here.source there.source r → Follows RefusesHead r here (Some (Ok (next.Request x))) there → U there.output
     by (Ok (read.Request y)) h f =
         let e = f.0 in
         let same : y ≡ x = cc in
-        let T : Exchange → Type 0 = λ z. TakesHead profile date s t (Ok (read.Request z)) in
-        subst U (sym f.2) (finds-request profile date s t o p a end x n (subst T same h) can
-        (number ∙ ap (λ q. length q.turns.marks) f.1) (marks_are ∙ ap (λ q. q.turns.marks ++ (Open ∷ [])) f.1) shape (requests_are ∙ ap (λ q. q.requests ++ (Some (still.Waiting x.open_request) ∷ [])) f.1))
+        let T : Exchange → Type 0 = λ z. TakesHead profile date here.source there.source (Ok (read.Request z)) in
+        subst U (sym f.1.1) (finds-request profile date here.source there.source here.output here.place a end x n (subst T same h) can
+        (number ∙ ap (λ q. length q.turns.marks) f.1.0) (marks_are ∙ ap (λ q. q.turns.marks ++ (Open ∷ [])) f.1.0) shape (requests_are ∙ ap (λ q. q.requests ++ (Some (still.Waiting x.open_request) ∷ [])) f.1.0))
     by (Ok (read.Ended why)) h f = absurd (request-ended x why f.0)
-    by (Ok (read.Refused status text last)) h f = absurd (refused status last f.0 f.2)
+    by (Ok (read.Refused status text last)) h f = absurd (refused-request x status last f.0 f.2)
     by (Err e) h f = absurd (ok-err (next.Request x) e f.0)
 
 -- a request is found, and memory is refused for its number
-pub found-no-number : {R W : Type 0} (profile : Profile) (date : HttpDate) (s t : SourceState R) (o u : OutletState W) (p q a : Pending) (end : Option EndOfRequests) (x : Exchange)
-    → a.turns ≡ q.turns → a.requests ≡ q.requests
-    → FindsHead RefusesHead profile date s p o (Some (Ok (next.Request x))) t q u → CanAsk (viewed profile s o p end)
-    → AskStep (viewed profile s o p end) (viewed profile t u a (Some because.Memory)) date Memory
-found-no-number {R = R} {W = W} profile date s t o u p q a end x turns_are requests_are found can = by found.0 found.1 found.2
+pub found-no-number : {R W : Type 0} (profile : Profile) (date : HttpDate) (here there : At R Pending (OutletState W)) (a : Pending) (end : Option EndOfRequests) (x : Exchange)
+    → a.turns ≡ there.place.turns → a.requests ≡ there.place.requests
+    → FindsHead RefusesHead profile date here (Some (Ok (next.Request x))) there → CanAsk (standing_at profile here end)
+    → AskStep (standing_at profile here end) (viewed profile there.source there.output a (Some because.Memory)) date Memory
+found-no-number {R = R} {W = W} profile date here there a end x turns_are requests_are found can = by found.0 found.1 found.2
   where
-    refused : (status : StatusCode) (last kept : Bool) → FollowsRefusal status last kept (Some (Ok (next.Request x))) → ⊥
-    refused status true true f = request-ended x (because.Refused status) f
-    refused status false true f = none-some (Ok (next.Request x)) (sym f)
-    refused status last false f = ok-err (next.Request x) f.0 f.1
-
-    by : (r : Result HeadRead AllocError) → TakesHead profile date s t r → Follows RefusesHead r p o (Some (Ok (next.Request x))) q u → AskStep (viewed profile s o p end) (viewed profile t u a (Some because.Memory)) date Memory
-    by (Ok (read.Request y)) h f = finds-no-memory profile date s t o u p a end (Ok (read.Request y)) h (λ e. elim e [ ]) can (turns_are ∙ ap (λ q. q.turns) f.1) (requests_are ∙ ap (λ q. q.requests) f.1) f.2
+    by : (r : Result HeadRead AllocError) → TakesHead profile date here.source there.source r → Follows RefusesHead r here (Some (Ok (next.Request x))) there
+        → AskStep (standing_at profile here end) (viewed profile there.source there.output a (Some because.Memory)) date Memory
+    by (Ok (read.Request y)) h f =
+        finds-no-memory profile date here.source there.source here.output there.output here.place a end (Ok (read.Request y)) h (λ e. elim e [ ]) can (turns_are ∙ ap (λ q. q.turns) f.1.0) (requests_are ∙ ap (λ q. q.requests) f.1.0) f.1.1
     by (Ok (read.Ended why)) h f = absurd (request-ended x why f.0)
-    by (Ok (read.Refused status text last)) h f = absurd (refused status last f.0 f.2)
+    by (Ok (read.Refused status text last)) h f = absurd (refused-request x status last f.0 f.2)
     by (Err e) h f = absurd (ok-err (next.Request x) e f.0)
 
 -- memory is refused
-pub found-no-memory : {R W : Type 0} (profile : Profile) (date : HttpDate) (s t : SourceState R) (o u : OutletState W) (p q : Pending) (end : Option EndOfRequests) (e : AllocError)
-    → FindsHead RefusesHead profile date s p o (Some (Err e)) t q u → CanAsk (viewed profile s o p end)
-    → AskStep (viewed profile s o p end) (viewed profile t u q (Some because.Memory)) date Memory
-found-no-memory {R = R} {W = W} profile date s t o u p q end e found can = by found.0 found.1 found.2
+pub found-no-memory : {R W : Type 0} (profile : Profile) (date : HttpDate) (here there : At R Pending (OutletState W)) (end : Option EndOfRequests) (e : AllocError)
+    → FindsHead RefusesHead profile date here (Some (Err e)) there → CanAsk (standing_at profile here end)
+    → AskStep (standing_at profile here end) (standing_at profile there (Some because.Memory)) date Memory
+found-no-memory {R = R} {W = W} profile date here there end e found can = by found.0 found.1 found.2
   where
     Goal : Type 0
-    Goal = AskStep (viewed profile s o p end) (viewed profile t u q (Some because.Memory)) date Memory
+    Goal = AskStep (standing_at profile here end) (standing_at profile there (Some because.Memory)) date Memory
 
-    refused : (status : StatusCode) (text : Vec ℕ) (last kept : Bool) → TakesHead profile date s t (Ok (read.Refused status text last)) → RefusesHead p o text.items kept q u → FollowsRefusal status last kept (Some (Err e)) → Goal
+    refused : (status : StatusCode) (text : Vec ℕ) (last kept : Bool) → TakesHead profile date here.source there.source (Ok (read.Refused status text last)) → RefusesHead here.place here.output text.items kept there.place there.output
+        → FollowsRefusal status last kept (Some (Err e)) → Goal
     refused status text true true h left f = absurd (ok-err (next.Ended (because.Refused status)) e (sym f))
     refused status text false true h left f = absurd (none-some {X = Result NextRequest AllocError} (Err e) (sym f))
-    refused status text last false h left f = let same = left.stays refl in finds-no-memory profile date s t o u p q end (Ok (read.Refused status text last)) h (λ i. elim i [ ]) can same.0 same.1 same.2
+    refused status text last false h left f =
+        let same = left.stays refl in
+        finds-no-memory profile date here.source there.source here.output there.output here.place there.place end (Ok (read.Refused status text last)) h (λ i. elim i [ ]) can same.0 same.1 same.2
 
-    by : (r : Result HeadRead AllocError) → TakesHead profile date s t r → Follows RefusesHead r p o (Some (Err e)) q u → Goal
+    by : (r : Result HeadRead AllocError) → TakesHead profile date here.source there.source r → Follows RefusesHead r here (Some (Err e)) there → Goal
     by (Ok (read.Request y)) h f = absurd (ok-err (next.Request y) e (sym f.0))
     by (Ok (read.Ended why)) h f = absurd (ok-err (next.Ended why) e (sym f.0))
     by (Ok (read.Refused status text last)) h f = refused status text last f.0 h f.1 f.2
-    by (Err x) h f = finds-no-memory profile date s t o u p q end (Err x) h (λ i. elim i [ ]) can (ap (λ q. q.turns) f.1) (ap (λ q. q.requests) f.1) f.2
+    by (Err x) h f = finds-no-memory profile date here.source there.source here.output there.output here.place there.place end (Err x) h (λ i. elim i [ ]) can (ap (λ q. q.turns) f.1.0) (ap (λ q. q.requests) f.1.0) f.1.1
 
 -- the end is found
-pub found-end : {R W : Type 0} (profile : Profile) (date : HttpDate) (s t : SourceState R) (o u : OutletState W) (p q : Pending) (end : Option EndOfRequests) (why : EndOfRequests)
-    → FindsHead RefusesHead profile date s p o (Some (Ok (next.Ended why))) t q u → CanAsk (viewed profile s o p end)
-    → AskStep (viewed profile s o p end) (viewed profile t u q (Some why)) date Ended
-found-end {R = R} {W = W} profile date s t o u p q end why found can = by found.0 found.1 found.2
+pub found-end : {R W : Type 0} (profile : Profile) (date : HttpDate) (here there : At R Pending (OutletState W)) (end : Option EndOfRequests) (why : EndOfRequests)
+    → FindsHead RefusesHead profile date here (Some (Ok (next.Ended why))) there → CanAsk (standing_at profile here end)
+    → AskStep (standing_at profile here end) (standing_at profile there (Some why)) date Ended
+found-end {R = R} {W = W} profile date here there end why found can = by found.0 found.1 found.2
   where
     Goal : EndOfRequests → Type 0
-    Goal w = AskStep (viewed profile s o p end) (viewed profile t u q (Some w)) date Ended
+    Goal w = AskStep (standing_at profile here end) (standing_at profile there (Some w)) date Ended
 
     same-end : (w : EndOfRequests) → ◌≡◌ {A = Found} (Some (Ok (next.Ended why))) (Some (Ok (next.Ended w))) → w ≡ why
     same-end w is = cc
 
-    refused : (status : StatusCode) (text : Vec ℕ) (last kept : Bool) → TakesHead profile date s t (Ok (read.Refused status text last)) → RefusesHead p o text.items kept q u → FollowsRefusal status last kept (Some (Ok (next.Ended why))) → Goal why
-    refused status text true true h left f = subst Goal (same-end (because.Refused status) f) (finds-refused profile date s t o u p q end status text h left can)
+    refused : (status : StatusCode) (text : Vec ℕ) (last kept : Bool) → TakesHead profile date here.source there.source (Ok (read.Refused status text last)) → RefusesHead here.place here.output text.items kept there.place there.output
+        → FollowsRefusal status last kept (Some (Ok (next.Ended why))) → Goal why
+    refused status text true true h left f = subst Goal (same-end (because.Refused status) f) (finds-refused profile date here.source there.source here.output there.output here.place there.place end status text h left can)
     refused status text false true h left f = absurd (none-some (Ok (next.Ended why)) (sym f))
     refused status text last false h left f = absurd (ok-err (next.Ended why) f.0 f.1)
 
     U : OutletState W → Type 0
-    U v = AskStep (viewed profile s o p end) (viewed profile t v q (Some why)) date Ended
+    U v = AskStep (standing_at profile here end) (viewed profile there.source v there.place (Some why)) date Ended
 
     Q : Pending → Type 0
-    Q a = AskStep (viewed profile s o p end) (viewed profile t o a (Some why)) date Ended
+    Q a = AskStep (standing_at profile here end) (viewed profile there.source here.output a (Some why)) date Ended
 
-    by : (r : Result HeadRead AllocError) → TakesHead profile date s t r → Follows RefusesHead r p o (Some (Ok (next.Ended why))) q u → Goal why
+    by : (r : Result HeadRead AllocError) → TakesHead profile date here.source there.source r → Follows RefusesHead r here (Some (Ok (next.Ended why))) there → Goal why
     by (Ok (read.Request y)) h f = absurd (request-ended y why (sym f.0))
     by (Ok (read.Ended w)) h f =
-        let T : EndOfRequests → Type 0 = λ w. TakesHead profile date s t (Ok (read.Ended w)) in
-        subst U (sym f.2) (subst Q (sym f.1) (finds-end profile date s t o p end why (subst T (same-end w f.0) h) can))
+        let T : EndOfRequests → Type 0 = λ w. TakesHead profile date here.source there.source (Ok (read.Ended w)) in
+        subst U (sym f.1.1) (subst Q (sym f.1.0) (finds-end profile date here.source there.source here.output here.place end why (subst T (same-end w f.0) h) can))
     by (Ok (read.Refused status text last)) h f = refused status text last f.0 h f.1 f.2
     by (Err x) h f = absurd (ok-err (next.Ended why) x f.0)

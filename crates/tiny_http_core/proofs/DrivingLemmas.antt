@@ -51,7 +51,7 @@ use Rattle.tiny_http_message.proofs.PipelineLemmas.{feed-pipeline}
 use Rattle.tiny_http_core.proofs.ConversationRuns.{run-more, stands-begun, split}
 use Rattle.tiny_http_message.proofs.BodyReads.{gives-up}
 use Rattle.tiny_http_sending.proofs.SendingLemmas.{once-none, once-append}
-use Rattle.tiny_http_core.specs.Asking.{AskStep, IsAskBehind}
+use Rattle.tiny_http_core.proofs.Asking.{AskStep, IsAskBehind}
 use Rattle.tiny_http_core.proofs.ConnectionAsking.{AskGoesOn}
 
 -- the fields as they are seen

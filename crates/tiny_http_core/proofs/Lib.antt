@@ -7,6 +7,7 @@ pub mod ConnectionTurns
 pub mod ConnectionBody
 pub mod ConnectionAsk
 pub mod ConnectionAsking
+pub mod Asking
 pub mod ConnectionNext
 pub mod ConnectionRespond
 pub mod ConnectionLeaving

@@ -5,7 +5,6 @@ pub mod Seen
 pub mod Pending
 pub mod Connection
 pub mod Driving
-pub mod Asking
 pub mod Runs
 pub mod ConversationReading
 pub use Rattle.tiny_http_stream.specs.ToCome

@@ -1,11 +1,12 @@
 -- Numbers whose turn comes, and what is sent as it does.
-use Rattle.std.specs.Prelude.{◌≡◌, ◌==◌, ◌<◌, ◌^◌, ◌+◌, ℕ, Bool, true, false, not, List, [], ◌∷◌, ◌++◌, length, Option, Some, None, MatchBool}
+use Rattle.std.specs.Prelude.{◌≡◌, ◌==◌, ◌<◌, ◌^◌, ◌+◌, ℕ, Bool, true, false, not, List, [], ◌∷◌, ◌++◌, length, Option, Some, None, MatchBool, slice_get}
 use Rattle.tiny_http_wire.specs.Device.{Sink}
 use Rattle.tiny_http_wire.specs.declared.answer_context.AnswerContext.{AnswerContext}
 use Rattle.tiny_http_core.specs.declared.pending.Pending.{Pending}
 use Rattle.tiny_http_core.specs.declared.pending.Unfinished.{Unfinished}
 use Rattle.tiny_http_core.specs.declared.pending.Unfinished.TheVariants as still
 use Rattle.tiny_http_message.specs.declared.body.Body.{Body}
+use Rattle.tiny_http_message.specs.declared.open_request.OpenRequest.{OpenRequest}
 use Rattle.tiny_http_message.specs.Body.{is_streaming, GivesUp}
 use Rattle.tiny_http_stream.specs.Source.{SourceState}
 use Rattle.tiny_http_stream.specs.Outlet.{OutletState, output_of, outlet_ended, outlet_held, SentOn}
@@ -58,6 +59,10 @@ waiting_answer_context (Some (Some still.Raw)) = None
 waiting_answer_context (Some (Some (still.Upgraded b))) = None
 waiting_answer_context (Some None) = None
 waiting_answer_context None = None
+
+-- this number waits for its answer, and this is kept of it
+abbrev pub WaitsAt : List (Option Unfinished) → ℕ → OpenRequest Body → Type 0
+WaitsAt requests number w = slice_get requests number ≡ Some (Some (still.Waiting w))
 
 -- its body can be read: it waits for its answer, and no 100 is owed; or it was upgraded
 abbrev pub is_readable : Option (Option Unfinished) → Bool
@@ -112,13 +117,14 @@ abbrev pub is_streaming_body : Option Body → Bool
 is_streaming_body None = false
 is_streaming_body (Some b) = is_streaming b
 
--- A REFUSED HEAD takes the next number, and its answer is left there; or memory is refused for that, and nothing changes.
+-- A REFUSED HEAD takes the next number, and its answer is left there; or memory is refused for that, and nothing changes. The answer
+-- isn't held back while the next head is waited for.
 pub record RefusesHead {W : Type 0} (p : Pending) (o : OutletState W) (text : List ℕ) (kept : Bool) (q : Pending) (u : OutletState W) : Type 0 where
   pub leaves : kept ≡ true → (outlet_ended o ≡ false → CanSend (output_of o))
       → LeavesText (length p.turns.marks == first_unfinished p.turns.marks) p.turns.marks [] q.turns.marks text (outlet_ended o) (output_of o) (output_of u) (outlet_ended u)
   pub counts : kept ≡ true → length q.turns.marks ≡ length p.turns.marks + 1
   pub requests : kept ≡ true → q.requests ≡ p.requests ++ (None ∷ [])
-  pub few : kept ≡ true → length q.requests < 2 ^ 64
+  pub bound : kept ≡ true → length q.requests < 2 ^ 64
   pub stays : kept ≡ false → (q.turns ≡ p.turns) × (q.requests ≡ p.requests) × (u ≡ o)
   pub fails_once : FailsOnce o u
   pub flushed : outlet_held o ≡ [] → outlet_held u ≡ []

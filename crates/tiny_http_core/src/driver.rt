@@ -1,6 +1,6 @@
 //! A connection driven step by step, or by a list of steps, without threads.
 ghost use Rattle.std.specs.Global.{Global as Heap, Vec};
-ghost use Rattle.std.specs.Prelude.{◌≡◌, ℕ, ◌+◌, ◌-◌, ◌<◌, ◌^◌, true, false, List, [], length, Some, None, Ok, IfOk, IfErr, IfSome, IsTrue, is_some, slice_get, String, string_bytes};
+ghost use Rattle.std.specs.Prelude.{◌≡◌, ℕ, ◌+◌, ◌-◌, ◌<◌, ◌^◌, true, false, List, [], length, Some, None, Ok, IfOk, IfErr, IsTrue, is_some, slice_get, String, string_bytes};
 ghost use Rattle.tiny_http_wire.specs.Device.{Feed, Sink};
 ghost use Rattle.tiny_http_sending.specs.ResponseValue.{ResponseValue};
 ghost use Rattle.tiny_http_message.specs.Pipeline.{Item, Pipeline};
@@ -141,7 +141,7 @@ impl<R: ReadDevice, W: WriteDevice> Model for Connection<R, W> {
 }
 
 impl Reply {
-    // How what was reported of an answer, or of a call of a raw writer, is replied: a fault by its kind.
+    // The reply for a reported result: `Done`, or the kind of the fault.
     fn write_reply(written: Result<(), io::Error>) -> Reply
         ensures { seen result ≡ write_reply written }
     {

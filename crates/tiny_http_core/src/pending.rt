@@ -8,11 +8,12 @@ ghost use Rattle.tiny_http_wire.specs.Bytes.{is_ascii};
 ghost use Rattle.tiny_http_wire.specs.Device.{Feed};
 ghost use Rattle.std.specs.List.{list_all};
 ghost use Rattle.tiny_http_message.specs.OwnAnswer.{own_text_by};
+ghost use Rattle.tiny_http_message.specs.OpenRequest.{HasSentAll};
 ghost use Rattle.tiny_http_message.specs.declared.body.Body.{Body};
 ghost use Rattle.tiny_http_message.specs.declared.open_request.OpenRequest.{OpenRequest};
 ghost use Rattle.tiny_http_stream.specs.Source.{GoesOn};
 ghost use Rattle.tiny_http_message.specs.Body.{is_streaming, body_standing, FillsFromBody};
-ghost use Rattle.tiny_http_core.specs.Pending.{left_text, SendsLeft, FinishesFront, LeavesText, waiting_answer_context, is_readable, is_writable, owes_continue, kept_body, GivesUpBody, with_body};
+ghost use Rattle.tiny_http_core.specs.Pending.{WaitsAt, left_text, SendsLeft, FinishesFront, LeavesText, waiting_answer_context, is_readable, is_writable, owes_continue, kept_body, GivesUpBody, with_body};
 
 use httpdate::HttpDate;
 use std::alloc::{AllocError, Global};
@@ -130,11 +131,11 @@ impl Pending {
         number: u64,
         now: HttpDate,
     )
-        ensures requests { (w : OpenRequest Body) → slice_get self.old.requests number ≡ Some (Some (Unfinished.Waiting w))
+        ensures requests { (w : OpenRequest Body) → WaitsAt self.old.requests number w
             → self.new.requests ≡ slice_set self.old.requests number (Some (Unfinished.Waiting (record w { owes_continue = false }))) }
-        ensures sends { (w : OpenRequest Body) → slice_get self.old.requests number ≡ Some (Some (Unfinished.Waiting w)) → w.owes_continue ≡ true
+        ensures sends { (w : OpenRequest Body) → WaitsAt self.old.requests number w → w.owes_continue ≡ true
             → SendsQuietlyOn outlet.old outlet.new (own_text_by 100 (printing_in w.answer_context now))
-            × (outlet_held outlet.new ≡ []) × SentOn outlet.new × IsFlushed (output_of outlet.new) }
+            × HasSentAll outlet.new }
         ensures fails_once { FailsOnce outlet.old outlet.new }
         ensures turns { self.new.turns ≡ self.old.turns }
     {
@@ -158,13 +159,13 @@ impl Pending {
         now: HttpDate,
     )
         requires { list_all is_ascii protocol.now ≡ true }
-        ensures requests { (w : OpenRequest Body) → slice_get self.old.requests number ≡ Some (Some (Unfinished.Waiting w))
+        ensures requests { (w : OpenRequest Body) → WaitsAt self.old.requests number w
             → self.new.requests ≡ slice_set self.old.requests number (Some (Unfinished.Upgraded w.body)) }
         // Whatever the data are.
-        ensures sends { (w : OpenRequest Body) → slice_get self.old.requests number ≡ Some (Some (Unfinished.Waiting w))
+        ensures sends { (w : OpenRequest Body) → WaitsAt self.old.requests number w
             → ((content : Feed) → SendsQuietlyOn outlet.old outlet.new
             (upgrade_text (record { answer = response.answer; content = content }) protocol.now (printing_in w.answer_context now)))
-            × (outlet_held outlet.new ≡ []) × SentOn outlet.new × IsFlushed (output_of outlet.new) }
+            × HasSentAll outlet.new }
         ensures fails_once { FailsOnce outlet.old outlet.new }
         ensures turns { self.new.turns ≡ self.old.turns }
     {
@@ -200,9 +201,9 @@ impl Pending {
         filled
     }
 
-    /// What is kept of this number, if it waits for its answer. Then this is kept in its place.
+    /// Takes out the request of this number, if it waits for its answer, and keeps `then` in its place.
     pub fn take(&mut self, number: u64, then: Option<Unfinished>) -> Option<OpenRequest<Body>>
-        ensures some { IfSome result (λ w. (slice_get self.old.requests number ≡ Some (Some (Unfinished.Waiting w)))
+        ensures some { IfSome result (λ w. (WaitsAt self.old.requests number w)
             × (self.new.requests ≡ slice_set self.old.requests number then)) }
         ensures none { IfNone result ((waiting_answer_context (slice_get self.old.requests number) ≡ None) × (self.new.requests ≡ self.old.requests)) }
         ensures turns { self.new.turns ≡ self.old.turns }

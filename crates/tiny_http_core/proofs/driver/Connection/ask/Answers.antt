@@ -8,8 +8,8 @@ use Rattle.tiny_http_message.specs.declared.next_request.NextRequest.{NextReques
 use Rattle.tiny_http_message.specs.declared.next_request.NextRequest.TheVariants as next
 use Rattle.tiny_http_message.specs.Exchange.{exchange_of}
 use Rattle.tiny_http_message.specs.HeadReads.{head_message, head_framing}
-use Rattle.tiny_http_message.specs.NextRequest.{FindsNext}
-use Rattle.tiny_http_core.specs.Asking.{CanAsk}
+use Rattle.tiny_http_message.specs.NextRequest.{FindsNext, at as at-head}
+use Rattle.tiny_http_core.proofs.Asking.{CanAsk}
 use Rattle.tiny_http_core.specs.Pending.{RefusesHead}
 use Rattle.tiny_http_core.specs.Steps.{Ended, NotYet, Memory, Handed}
 use Rattle.tiny_http_core.specs.Connection.{kept}
@@ -58,13 +58,13 @@ returns-in-Ok g c =
       | in_default w ↦ λ e. w.in_default.not-Body (c.standing.ensures ∙ e)
     ] in
     let can : CanAsk old = (none-of q.end (sym c.is_some.ensures ∙ c.if-is_some.false), outside) in
-    let N : Result NextRequest AllocError → Type 0 = λ r. FindsNext RefusesHead q.profile c.args.now q.source q.pending q.outlet r f.source f.place f.output in
+    let N : Result NextRequest AllocError → Type 0 = λ r. FindsNext RefusesHead q.profile c.args.now (at-head q.source q.pending q.outlet) r (at-head f.source f.place f.output) in
     let found : N (Ok (next.Request x)) = subst N (c.in-Ok-Request.is ∙ ap (λ y. Ok y) c.in-Ok-Request.field-0-is ∙ ap (λ y. Ok (next.Request y)) c.into_parts-head.ensures) c.next_request.ensures in
     let shape : AreInShape c.issue.new.self.turns.marks = e.shape in
     let reply = Handed c.in-Ok.number (head_message x.head) (head_framing x.head) in
     record {
-      step = rw (← c.self.view_is) (takes-ask old new c.args.now reply (asks-next q.profile c.args.now q.source f.source q.outlet f.output q.pending f.place q.end (Ok (next.Request x)) found can new reply
-          (λ h may. found-request q.profile c.args.now found.source f.source found.output f.output found.place f.place c.issue.new.self q.end x c.in-Ok.number e.number e.marks shape e.requests h may)));
+      step = rw (← c.self.view_is) (takes-ask old new c.args.now reply (asks-next q.profile c.args.now (at-head q.source q.pending q.outlet) (at-head f.source f.place f.output) q.end (Ok (next.Request x)) found can new reply
+          (λ h may. found-request q.profile c.args.now found.mid (at-head f.source f.place f.output) c.issue.new.self q.end x c.in-Ok.number e.number e.marks shape e.requests h may)));
     }
 
 pub returns-in-Err-issue : goal.returns-in-Err-issue
@@ -80,11 +80,11 @@ returns-in-Err-issue g c =
       | in_default w ↦ λ e. w.in_default.not-Body (c.standing.ensures ∙ e)
     ] in
     let can : CanAsk old = (none-of q.end (sym c.is_some.ensures ∙ c.if-is_some.false), outside) in
-    let N : Result NextRequest AllocError → Type 0 = λ r. FindsNext RefusesHead q.profile c.args.now q.source q.pending q.outlet r f.source f.place f.output in
+    let N : Result NextRequest AllocError → Type 0 = λ r. FindsNext RefusesHead q.profile c.args.now (at-head q.source q.pending q.outlet) r (at-head f.source f.place f.output) in
     let found : N (Ok (next.Request x)) = subst N (c.in-Ok-Request.is ∙ ap (λ y. Ok y) c.in-Ok-Request.field-0-is ∙ ap (λ y. Ok (next.Request y)) c.into_parts-head.ensures) c.next_request.ensures in
     record {
-      step = rw (← c.self.view_is) (takes-ask old new c.args.now Memory (asks-next q.profile c.args.now q.source f.source q.outlet f.output q.pending f.place q.end (Ok (next.Request x)) found can new Memory
-          (λ h may. found-no-number q.profile c.args.now found.source f.source found.output f.output found.place f.place c.issue.new.self q.end x e.0 e.1 h may)));
+      step = rw (← c.self.view_is) (takes-ask old new c.args.now Memory (asks-next q.profile c.args.now (at-head q.source q.pending q.outlet) (at-head f.source f.place f.output) q.end (Ok (next.Request x)) found can new Memory
+          (λ h may. found-no-number q.profile c.args.now found.mid (at-head f.source f.place f.output) c.issue.new.self q.end x e.0 e.1 h may)));
     }
 
 pub returns-in-Ok-Ended : goal.returns-in-Ok-Ended
@@ -99,11 +99,11 @@ returns-in-Ok-Ended g c =
       | in_default w ↦ λ e. w.in_default.not-Body (c.standing.ensures ∙ e)
     ] in
     let can : CanAsk old = (none-of q.end (sym c.is_some.ensures ∙ c.if-is_some.false), outside) in
-    let N : Result NextRequest AllocError → Type 0 = λ r. FindsNext RefusesHead q.profile c.args.now q.source q.pending q.outlet r f.source f.place f.output in
+    let N : Result NextRequest AllocError → Type 0 = λ r. FindsNext RefusesHead q.profile c.args.now (at-head q.source q.pending q.outlet) r (at-head f.source f.place f.output) in
     let found : N (Ok (next.Ended why)) = subst N (c.in-Ok-Ended.is ∙ ap (λ y. Ok y) c.in-Ok-Ended.field-0-is) c.next_request.ensures in
     record {
-      step = rw (← c.self.view_is) (takes-ask old new c.args.now Ended (asks-next q.profile c.args.now q.source f.source q.outlet f.output q.pending f.place q.end (Ok (next.Ended why)) found can new Ended
-          (λ h may. found-end q.profile c.args.now found.source f.source found.output f.output found.place f.place q.end why h may)));
+      step = rw (← c.self.view_is) (takes-ask old new c.args.now Ended (asks-next q.profile c.args.now (at-head q.source q.pending q.outlet) (at-head f.source f.place f.output) q.end (Ok (next.Ended why)) found can new Ended
+          (λ h may. found-end q.profile c.args.now found.mid (at-head f.source f.place f.output) q.end why h may)));
     }
 
 pub returns-in-Err : goal.returns-in-Err
@@ -118,9 +118,9 @@ returns-in-Err g c =
       | in_default w ↦ λ e. w.in_default.not-Body (c.standing.ensures ∙ e)
     ] in
     let can : CanAsk old = (none-of q.end (sym c.is_some.ensures ∙ c.if-is_some.false), outside) in
-    let N : Result NextRequest AllocError → Type 0 = λ r. FindsNext RefusesHead q.profile c.args.now q.source q.pending q.outlet r f.source f.place f.output in
+    let N : Result NextRequest AllocError → Type 0 = λ r. FindsNext RefusesHead q.profile c.args.now (at-head q.source q.pending q.outlet) r (at-head f.source f.place f.output) in
     let found : N (Err error) = subst N c.in-Err.is c.next_request.ensures in
     record {
-      step = rw (← c.self.view_is) (takes-ask old new c.args.now Memory (asks-next q.profile c.args.now q.source f.source q.outlet f.output q.pending f.place q.end (Err error) found can new Memory
-          (λ h may. found-no-memory q.profile c.args.now found.source f.source found.output f.output found.place f.place q.end error h may)));
+      step = rw (← c.self.view_is) (takes-ask old new c.args.now Memory (asks-next q.profile c.args.now (at-head q.source q.pending q.outlet) (at-head f.source f.place f.output) q.end (Err error) found can new Memory
+          (λ h may. found-no-memory q.profile c.args.now found.mid (at-head f.source f.place f.output) q.end error h may)));
     }

@@ -106,8 +106,8 @@ returns g c =
           (λ client before s value low answer st.
           let T : Answer → List ℕ → Type 0 = λ a t. SendsUnlessEnded k.output_ended k.sink (output_of outlet) (outlet_ended outlet) (upgrade_text (record { answer = a; content = value.content }) t (printing_in w.0.answer_context c.args.now)) in
           upgrade-done client before k s c.args.now n (string_bytes named) value w.0 w.0.answer_context (output_of outlet) (outlet_ended outlet) left.turns.marks left.requests q.source st (record { feed = refl; stop = refl; ends = refl; standing = refl }) low w.1 refl ascii come marks requests
-          (λ can. subst (λ t. T value.answer t) (sym same) (subst (λ a. T a c.args.protocol.now) (sym answer) (said.0 value.content can))) said.3)
+          (λ can. subst (λ t. T value.answer t) (sym same) (subst (λ a. T a c.args.protocol.now) (sym answer) (said.0 value.content can))) said.1.2)
           (λ no. elim no [ ]) refl (w.0, w.1, requests, marks, refl) refl
-          (record { profile = refl; goes_on = goes-on_same q.source.feed; fails_once = done.fails_once; flushed = λ was. said.1; sent_on = λ was. said.2 })
+          (record { profile = refl; goes_on = goes-on_same q.source.feed; fails_once = done.fails_once; flushed = λ was. said.1.0; sent_on = λ was. said.1.1 })
           (λ kind e. cc));
     }

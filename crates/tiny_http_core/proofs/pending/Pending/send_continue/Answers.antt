@@ -22,4 +22,4 @@ returns-in-Some-clause-sends g c w here owed =
     let same : c.in-Some.request ≡ w = waiting-is c.in-Some.request w (sym c.in-Some.ensures.some.0 ∙ here) in
     let owes : c.in-Some.request.owes_continue ≡ true = ap (λ (w : OpenRequest Body). w.owes_continue) same ∙ owed in
     let e = c.send_continue.ensures in
-    (subst (λ (w : OpenRequest Body). SendsQuietlyOn c.args.outlet.now c.send_continue.new.outlet (own_text_by 100 (printing_in w.answer_context c.args.now))) same (e.sends owes), (e.sent owes).0, (e.sent owes).1, (e.sent owes).2)
+    (subst (λ (w : OpenRequest Body). SendsQuietlyOn c.args.outlet.now c.send_continue.new.outlet (own_text_by 100 (printing_in w.answer_context c.args.now))) same (e.sends owes), e.sent owes)

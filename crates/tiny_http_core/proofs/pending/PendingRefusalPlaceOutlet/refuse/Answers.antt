@@ -11,7 +11,7 @@ returns g c =
       leaves = λ yes can. leaves-issued c.args.self.now.turns.marks _ _ _ _ _ _ _ _ e.marks e.number (left.leaves c.args.self.now.turns.marks [] e.marks (sym e.number) can);
       counts = λ yes. left.counts ∙ (ap length e.marks ∙ length-append c.args.self.now.turns.marks (Open ∷ []));
       requests = λ yes. left.requests ∙ e.requests;
-      few = λ yes. rw left.requests e.bound;
+      bound = λ yes. rw left.requests e.bound;
       stays = λ no. (let none : true ≡ false = no in cc);
       fails_once = left.fails_once;
       flushed = left.flushed;
