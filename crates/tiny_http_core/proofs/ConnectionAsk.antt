@@ -12,7 +12,7 @@ use Rattle.tiny_http_wire.specs.declared.device.Stop.{Stop}
 use Rattle.tiny_http_wire.specs.Device.{Feed, Sink, whole_feed}
 use Rattle.tiny_http_wire.specs.declared.device.Stop.TheVariants.{End}
 use Rattle.tiny_http_wire.specs.Answer.{text_of}
-use Rattle.tiny_http_wire.specs.Heads.{GrammarFault, Cut, NotAscii, Malformed, version}
+use Rattle.tiny_http_wire.specs.Heads.{version}
 use Rattle.tiny_http_message.specs.declared.exchange.Exchange.{Exchange}
 use Rattle.tiny_http_message.specs.declared.body.Body.{Body}
 use Rattle.tiny_http_message.specs.declared.body.Body.TheVariants as body

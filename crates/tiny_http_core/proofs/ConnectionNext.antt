@@ -1,5 +1,5 @@
 -- An Ask, from what it finds at the place of a head.
-use Rattle.std.proofs.Common.{◌≡◌, refl, sym, ap, ◌∙◌, subst, arith, ℕ, zero, suc, length, ◌+◌, ◌-◌, ◌<◌, ◌^◌, ◌⊎◌, inl, inr, true, false, List, [], ◌∷◌, ◌++◌, Option, Some, None, Result, Ok, Err, Bool, ⊎_elim, append-nil, length-append}
+use Rattle.std.proofs.Common.{◌≡◌, refl, sym, ap, ◌∙◌, subst, arith, ℕ, zero, suc, length, ◌+◌, ◌<◌, ◌^◌, ◌⊎◌, inl, inr, true, false, List, [], ◌∷◌, ◌++◌, Option, Some, None, Result, Ok, Err, Bool, ⊎_elim, append-nil, length-append}
 use Rattle.std.specs.Global.{Vec}
 use Rattle.std.specs.Prelude.{is_some}
 use Rattle.std.specs.declared.alloc.AllocError.{AllocError}
@@ -14,7 +14,7 @@ use Rattle.tiny_http_message.specs.declared.exchange.HeadRead.{HeadRead}
 use Rattle.tiny_http_message.specs.declared.exchange.HeadRead.TheVariants as read
 use Rattle.tiny_http_message.specs.declared.exchange.EndOfRequests.{EndOfRequests}
 use Rattle.tiny_http_message.specs.declared.exchange.EndOfRequests.TheVariants as because
-use Rattle.tiny_http_message.specs.HeadReads.{ReadsHead, IsBeforeHead, IsOkEnd, IsRequest, TakesHead, standing_read, head_message, head_framing}
+use Rattle.tiny_http_message.specs.HeadReads.{ReadsHead, IsBeforeHead, IsOkEnd, TakesHead, head_message, head_framing}
 use Rattle.tiny_http_message.specs.NextRequest.{At, Found, Follows, FollowsRefusal, FindsHead, FindsNext, PassesHeads}
 use Rattle.tiny_http_message.specs.declared.next_request.NextRequest.{NextRequest}
 use Rattle.tiny_http_message.specs.declared.next_request.NextRequest.TheVariants as next

@@ -1,8 +1,7 @@
 -- What is found on a connection is what was read of it.
-use Rattle.std.proofs.Common.{◌≡◌, subst, ℕ, List, Bool, true, false, Some, Ok, Err, Result, ⊎_elim}
+use Rattle.std.proofs.Common.{◌≡◌, subst, Bool, true, false, Some, Ok, Err, Result, ⊎_elim}
 use Rattle.std.specs.declared.alloc.AllocError.{AllocError}
 use Rattle.httpdate.specs.declared.date.HttpDate.{HttpDate}
-use Rattle.tiny_http_stream.specs.Source.{SourceState}
 use Rattle.tiny_http_message.specs.declared.exchange.Exchange.{Exchange}
 use Rattle.tiny_http_message.specs.declared.exchange.HeadRead.{HeadRead}
 use Rattle.tiny_http_message.specs.declared.exchange.HeadRead.TheVariants as read

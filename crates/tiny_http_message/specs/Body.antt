@@ -166,7 +166,7 @@ pub record ReadsBody {R : Type 0} (old new : Body) (from to : SourceState R) (r 
   pub reports_stop : IfSome (body_stop old) (λ stop. 0 < length buf → AnswersStop stop r × (new ≡ old))
   pub standing : is_streaming old ≡ true → to.standing ≡ body_standing new from.standing
 
--- A body that isn't read from the input is read into a buffer that has room, and none of it is read from the input after that.
+-- One read, into a buffer with room, of a body that isn't read from the input. What is left isn't either.
 pub record ReadsHeld (old new : Body) (r : Result ℕ Error) (buf : List ℕ) : Type 0 where
   pub bound : IfOk r (λ n. n ≤ length buf)
   pub bytes : (feed : Option Feed) → IfOk r (λ n. remaining old feed ≡ prepended_body (take n buf) (remaining new feed))
@@ -175,7 +175,7 @@ pub record ReadsHeld (old new : Body) (r : Result ℕ Error) (buf : List ℕ) : 
   pub moves : IfOk r (λ n. ReadsOn old n (n == 0) new)
   pub broken : IfErr r (λ e. (new ≡ old) × (new ≡ Over (Fault (error_kind e))))
   pub reports_stop : IfSome (body_stop old) (λ stop. AnswersStop stop r × (new ≡ old))
-  pub held : is_streaming new ≡ false
+  pub stays_held : is_streaming new ≡ false
 
 -- A body of which nothing was read is passed over: the bytes of a counted one are skipped before the next head. Else nothing
 -- changes: they were read with the head, or there are none.

@@ -7,8 +7,9 @@ use Rattle.tiny_http_device.specs.declared.device.Stop.TheVariants.{Fault}
 use Rattle.tiny_http_message.specs.declared.body.Body.{Body}
 use Rattle.tiny_http_message.specs.Body.{is_streaming, body_stop, ReadsOn, remaining, prepended_body}
 
--- ONE READ OF A BODY. The bytes of one that was read with its head are the next of it, whatever the input still gives. After the end or a
--- fault each read answers the same. A read into no room changes nothing.
+-- ONE READ OF A BODY. The bytes of one that was read with its head are the next of it, whatever the input still gives; of bytes that come
+-- from the input, behind a lock, nothing is stated. After the end or a fault each read answers the same. A read into no room changes
+-- nothing.
 pub record ReadsUnread (old new : Body) (r : Result ℕ Error) (buf : List ℕ) : Type 0 where
   pub held : is_streaming old ≡ false → (feed : Option Feed) → IfOk r (λ n. remaining old feed ≡ prepended_body (take n buf) (remaining new feed))
   pub moves : IfOk r (λ n. 0 < length buf → ReadsOn old n (n == 0) new)

@@ -19,8 +19,7 @@ use Rattle.tiny_http_message.specs.declared.framing.FramingFault.TheVariants.{Ex
 use Rattle.tiny_http_message.specs.declared.framing.Profile.{Profile}
 use Rattle.tiny_http_message.specs.declared.framing.Profile.TheVariants.{Lenient}
 use Rattle.tiny_http_message.specs.FramingReading.{framing}
-use Rattle.tiny_http_message.specs.HeadReads.{Begins, head_framing}
-use Rattle.tiny_http_message.specs.OpenRequest.{KeepsHead}
+use Rattle.tiny_http_message.specs.HeadReads.{Begins, IsFramedBy}
 use Rattle.tiny_http_message.specs.Pipeline.{IsCutWithHead, body_length_or_0}
 use Rattle.tiny_http_message.specs.declared.open_request.OpenRequest.{OpenRequest}
 use Rattle.tiny_http_request.specs.declared.request.Request.{Request}
@@ -80,9 +79,8 @@ Says r secure address method path version =
     × ((request_head r).method ≡ method) × ((request_head r).path ≡ path) × ((request_head r).version ≡ version)
 
 -- a request is framed as its version and headers say, and what is kept for its answer is that of its head, on this date
-pub record IsFramed {R W Rt : Type 0} (r : Request R W Rt) (profile : Profile) (date : HttpDate) : Type 0 where
-  pub framing : framing profile (request_head r).version (request_head r).headers.items ≡ Ok (head_framing (request_head r))
-  pub keeps : KeepsHead (request_open r) (request_head r) date
+abbrev pub IsFramed : {R : Type 0} → {W : Type 0} → {Rt : Type 0} → Request R W Rt → Profile → HttpDate → Type 0
+IsFramed r profile date = IsFramedBy profile date (request_head r) (request_open r)
 
 -- Why no request is made of these headers: what they expect can't be met; or a body that is read at once is cut short; or memory was
 -- refused, of which nothing is said.

@@ -14,6 +14,7 @@ use tiny_http_device::device::ReadDevice;
 use tiny_http_message::body::Body as Unread;
 use tiny_http_stream::source::Source;
 use tiny_http_threads::sequential::SequentialReader;
+use tiny_http_threads::turn::{held_reader, hold_reader};
 
 /// The body of a request. While bytes of it are to be read from the connection it holds the connection's input, and the next
 /// head waits: a counted body gives the input on with its last byte, a chunked one once a read has answered 0. A dropped body
@@ -65,7 +66,7 @@ impl<R: ReadDevice + Drop, Rt: Wait + Drop> Body<R, Rt> {
         let Some(reader) = &mut self.reader else {
             return self.unread.read_held(buf);
         };
-        let read = self.unread.read(reader.hold(), buf);
+        let read = self.unread.read(hold_reader(reader), buf);
         if !self.unread.holds_reader() {
             drop(self.reader.take());
         }
@@ -124,7 +125,7 @@ impl<R: ReadDevice + Drop, Rt: Wait + Drop> Drop for Body<R, Rt> {
             mut reader,
         } = self;
         if let Some(reader) = &mut reader
-            && let Some(source) = reader.held()
+            && let Some(source) = held_reader(reader)
         {
             unread.give_up(source);
         }

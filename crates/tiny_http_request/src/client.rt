@@ -19,6 +19,7 @@ use tiny_http_stream::source::Source;
 use tiny_http_threads::sequential::{
     SequentialReader, SequentialReaderBuilder, SequentialWriterBuilder,
 };
+use tiny_http_threads::turn::{hold_reader, hold_writer, leave_writer};
 
 /// A connection, whose requests are handed out one after another. Any thread may hold one, also while the next is read.
 #[derive(Drop)]
@@ -46,7 +47,7 @@ fn peer_if_known(socket: &RefinedTcpStream) -> Option<SocketAddr>
 impl<Rt: Wait + Copy> ClientConnection<RefinedTcpStream, RefinedTcpStream, Rt> {
     ghost use Rattle.std.specs.Prelude.{◌≡◌, false, IfOk};
     ghost use Rattle.tiny_http_socket.specs.Stream.{MayHavePeer};
-    ghost use Rattle.tiny_http_request.specs.Client.{IsOver, HandsOut, client_secure, client_address, client_profile};
+    ghost use Rattle.tiny_http_request.specs.Client.{IsOver, client_secure, client_address, client_profile};
 
     /// A connection over the two halves of a client's socket, on which nothing was read yet, under `Lenient`. Its requests say
     /// the client's address; none of a Unix socket, or where the system no longer knows it. An error where memory was refused.
@@ -155,7 +156,7 @@ impl<R: ReadDevice + Drop, W: WriteDevice + Drop, Rt: Wait + Copy> ClientConnect
             return Ok(None);
         };
         let (alloc, profile) = (self.alloc, self.profile);
-        let (source, sink) = (reader.hold(), &mut self.sink);
+        let (source, sink) = (hold_reader(&mut reader), &mut self.sink);
         match next_request(alloc, source, profile, &mut NextWriter, sink, now) {
             Ok(NextRequest::Request(exchange)) => match self.hand_out(reader, exchange) {
                 Ok(request) => Ok(Some(request)),
@@ -174,7 +175,7 @@ impl<R: ReadDevice + Drop, W: WriteDevice + Drop, Rt: Wait + Copy> ClientConnect
         ensures same { (client_secure self.new ≡ client_secure self.old) × (client_address self.new ≡ client_address self.old) × (client_profile self.new ≡ client_profile self.old) }
     {
         let mut writer = self.sink.next()?;
-        let _ = writer.hold();
+        let _ = hold_writer(&mut writer);
         Ok(())
     }
 
@@ -224,7 +225,7 @@ impl<W: WriteDevice + Drop, Rt: Wait + Copy> RefusalPlace<SequentialWriterBuilde
         sink: &mut SequentialWriterBuilder<Outlet<W>, Rt>,
         text: Vec<u8>,
     ) -> Result<(), AllocError> {
-        sink.next()?.leave(text);
+        leave_writer(sink.next()?, text);
         Ok(())
     }
 }

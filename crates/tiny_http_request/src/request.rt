@@ -1,5 +1,5 @@
 //! A request that threads may hold: its head, its body on the connection's input, and its turn at the output.
-ghost use Rattle.std.specs.Prelude.{◌≡◌, true, false, Ok, Err, Some, None, IfOk, IfErr, IfSome, is_ok, is_some};
+ghost use Rattle.std.specs.Prelude.{◌≡◌, false, Ok, Err, Some, None, IfOk, IfErr, IfSome, is_ok, is_some};
 ghost use Rattle.std.specs.IoError.{error_kind};
 ghost use Rattle.std.specs.List.{list_all};
 ghost use Rattle.std.specs.Option.{option_copied};
@@ -33,6 +33,7 @@ use tiny_http_text::ascii::AsciiString;
 use tiny_http_threads::sequential::{
     SequentialReader, SequentialReaderBuilder, SequentialWriter, SequentialWriterBuilder,
 };
+use tiny_http_threads::turn::{hold_reader, hold_writer, leave_writer, pass_writer};
 use tiny_http_wire::common::{HTTPVersion, Header, Method};
 use tiny_http_wire::response::Response;
 
@@ -127,7 +128,7 @@ impl<R: ReadDevice + Drop, W: WriteDevice + Drop, Rt: Wait + Drop> Request<R, W,
     }
 
     // What is left of it as it is finished: what it owes, and its turn.
-    fn into_turn(self) -> (OpenRequest<Body<R, Rt>>, SequentialWriter<Outlet<W>, Rt>) {
+    fn into_parts(self) -> (OpenRequest<Body<R, Rt>>, SequentialWriter<Outlet<W>, Rt>) {
         let Self {
             alloc: _,
             secure: _,
@@ -195,7 +196,7 @@ impl<R: ReadDevice + Drop, W: WriteDevice + Drop, Rt: Wait + Drop> Request<R, W,
         ensures client { (request_secure self.new ≡ request_secure self.old) × (request_address self.new ≡ request_address self.old) }
     {
         if self.open_request.owes_continue {
-            let outlet = self.writer.hold();
+            let outlet = hold_writer(&mut self.writer);
             self.open_request.send_continue(self.alloc, outlet, now);
         }
     }
@@ -221,9 +222,9 @@ impl<R: ReadDevice + Drop, W: WriteDevice + Drop, Rt: Wait + Drop> Request<R, W,
         ensures { IfErr result (λ e. is_closed_client (error_kind e) ≡ false) }
     {
         let alloc = self.alloc;
-        let (mut open_request, mut writer) = self.into_turn();
-        let sent = open_request.respond(alloc, writer.hold(), response, now);
-        writer.pass();
+        let (mut open_request, mut writer) = self.into_parts();
+        let sent = open_request.respond(alloc, hold_writer(&mut writer), response, now);
+        pass_writer(writer);
         drop(open_request);
         reported(sent)
     }
@@ -231,7 +232,7 @@ impl<R: ReadDevice + Drop, W: WriteDevice + Drop, Rt: Wait + Drop> Request<R, W,
     /// Takes the raw writer in place of an answer, and gives the body up. What is written is all that the client gets for the
     /// request, but for a 100 that was sent before. The turn ends as the writer is dropped.
     pub fn into_writer(self) -> SequentialWriter<Outlet<W>, Rt> {
-        let (open_request, writer) = self.into_turn();
+        let (open_request, writer) = self.into_parts();
         drop(open_request);
         writer
     }
@@ -250,8 +251,8 @@ impl<R: ReadDevice + Drop, W: WriteDevice + Drop, Rt: Wait + Drop> Request<R, W,
     {
         check_protocol(protocol)?;
         let alloc = self.alloc;
-        let (mut open_request, mut writer) = self.into_turn();
-        open_request.upgrade(alloc, writer.hold(), protocol, response, now);
+        let (mut open_request, mut writer) = self.into_parts();
+        open_request.upgrade(alloc, hold_writer(&mut writer), protocol, response, now);
         Ok(CustomStream::new(open_request.body, writer))
     }
 
@@ -264,9 +265,9 @@ impl<R: ReadDevice + Drop, W: WriteDevice + Drop, Rt: Wait + Drop> Request<R, W,
 impl<R: ReadDevice + Drop, W: WriteDevice + Drop, Rt: Wait + Drop> Drop for Request<R, W, Rt> {
     /// Leaves the turn with an empty 500, and then gives the body up.
     fn drop(self) {
-        let (open_request, writer) = self.into_turn();
+        let (open_request, writer) = self.into_parts();
         let (text, body) = open_request.into_drop_text();
-        writer.leave(text);
+        leave_writer(writer, text);
         drop(body);
     }
 }
@@ -325,7 +326,7 @@ fn alone<R: ReadDevice + Drop, Rt: Wait + Copy>(
         return Ok(None);
     }
     let mut reader = SequentialReaderBuilder::new(rt, alloc, source)?.next()?;
-    let _ = reader.hold();
+    let _ = hold_reader(&mut reader);
     Ok(Some(reader))
 }
 

@@ -1,11 +1,11 @@
 //! Requests for the tests of a program that answers them.
-ghost use Rattle.std.specs.Prelude.{◌≡◌, ◌++◌, ◌∷◌, [], length, true, false, Some, None, Ok, Err, IfOk, IfErr, IsErrOf, ◌↔◌};
+ghost use Rattle.std.specs.Prelude.{◌≡◌, ◌++◌, ◌∷◌, [], length, true, false, Some, Ok, Err, IfOk, IfErr, IsErrOf, ◌↔◌};
 ghost use Rattle.std.specs.Str.{IsAscii};
 ghost use Rattle.std.specs.Net.Socket.{socket_port};
 ghost use Rattle.tiny_http_wire.specs.Heads.{version};
 ghost use Rattle.tiny_http_device.specs.Device.{whole_feed};
 ghost use Rattle.tiny_http_message.specs.HeadReads.{head_framing};
-ghost use Rattle.tiny_http_request.specs.Request.{request_head, request_secure, request_address, request_open, BeginsWith, Says, IsFramed, FailsBy};
+ghost use Rattle.tiny_http_request.specs.Request.{request_head, request_open, BeginsWith, Says, IsFramed, FailsBy};
 ghost use Rattle.tiny_http_request.specs.Test.{IsLike, length_header, with_length};
 
 use crate::request::{Request, RequestCreationError, new_request};

@@ -3,17 +3,17 @@
 //!
 //! Who may touch what:
 //!
-//! - Each shared value stands under one lock, and a function here takes it for a few steps in memory. No function holds two
-//!   locks, and none reads, writes or runs a job under one.
+//! - A value that threads share stands under one lock, and a function here takes it for steps in memory alone. No function
+//!   holds two locks, and none reads, writes or runs a job under one.
 //! - In `line` and `sequential` the lock is over the numbers: whose turn it is, what texts were left, who waits. The reader or
-//!   writer itself goes to the thread that holds the turn, and only that thread touches it. Who leaves or finishes a turn
-//!   waits for nobody's turn.
+//!   writer itself goes to the thread that holds the turn, and only that thread touches it. A thread that leaves or finishes
+//!   a turn waits for nobody's turn.
 //! - In `messages_queue` and `task_pool` the lock is over the list of what waits and the counts beside it. A value or a job
 //!   belongs to the thread that took it out.
-//! - In `roster` the lock is over the number and the book of shares. A `Headcount` has no lock of its own: who shares it locks
-//!   it.
-//! - A thread waits only on a condition of its value, which gives the lock up meanwhile; or, where memory for a condition was
-//!   refused, it lets the lock go and tries again.
+//! - In `roster` the lock is over the number and the book of shares. A `Headcount` is a plain value: who shares it puts it
+//!   under a lock.
+//! - Apart from the locks themselves, a thread waits only on a condition of its value, which gives the lock up meanwhile; or,
+//!   where memory for a condition was refused, it lets the lock go and tries again.
 #![tactic(auto)]
 
 pub mod headcount;
@@ -23,3 +23,4 @@ pub mod messages_queue;
 pub mod roster;
 pub mod sequential;
 pub mod task_pool;
+pub mod turn;

@@ -43,12 +43,12 @@ pub struct SequentialReader<I: Read + Drop, R: Wait + Drop> {
 
 impl<I: Read + Drop, R: Wait + Drop> SequentialReader<I, R> {
     /// Waits for its turn, and lends the reader.
-    pub fn hold(&mut self) -> &mut I {
+    pub(crate) fn hold(&mut self) -> &mut I {
         self.turn.hold()
     }
 
     /// The reader, if its turn has come and it was used.
-    pub fn held(&mut self) -> Option<&mut I> {
+    pub(crate) fn held(&mut self) -> Option<&mut I> {
         self.turn.held()
     }
 }
@@ -138,18 +138,18 @@ pub struct SequentialWriter<W: Write + Drop, R: Wait + Drop> {
 
 impl<W: Write + Drop, R: Wait + Drop> SequentialWriter<W, R> {
     /// Waits for its turn, and lends the writer.
-    pub fn hold(&mut self) -> &mut W {
+    pub(crate) fn hold(&mut self) -> &mut W {
         self.turn.hold()
     }
 
     /// Ends its turn with a text, which is written once the turn has come. It waits for no turn.
-    pub fn leave(self, text: Vec<u8>) {
+    pub(crate) fn leave(self, text: Vec<u8>) {
         let Self { turn, failures: _ } = self;
         leave_writer(turn, text);
     }
 
     /// Ends its turn. What was written must have been flushed. It waits for no turn.
-    pub fn pass(self) {
+    pub(crate) fn pass(self) {
         let Self { turn, failures: _ } = self;
         let none = Vec::new(turn.alloc());
         if let Some((held, _)) = turn.leave(none) {

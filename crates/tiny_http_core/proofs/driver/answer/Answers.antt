@@ -4,8 +4,8 @@ use Rattle.std.specs.declared.io.Error.{Error}
 use Rattle.std.specs.declared.io.ErrorKind.{ErrorKind}
 use Rattle.std.specs.IoError.{error_kind}
 use Rattle.tiny_http_stream.specs.Outlet.{OutletState, output_of, SentOn}
-use Rattle.tiny_http_device.specs.Device.{IsAllKnown, HoldsNothing, grown}
-use Rattle.tiny_http_core.specs.Steps.{ReplyValue, Done, Fault}
+use Rattle.tiny_http_device.specs.Device.{IsAllKnown, grown}
+use Rattle.tiny_http_core.specs.Steps.{Done, Fault}
 use Rattle.tiny_http_core.specs.Seen.{seen, write_reply, reply_to, IsAnswered}
 use Rattle.tiny_http_sending.specs.ResponseValue.{printing_in}
 use Rattle.tiny_http_sending.specs.Sending.{IsFlushed, IsHonest, is_closed_client, reported}

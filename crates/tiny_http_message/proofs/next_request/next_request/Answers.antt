@@ -1,4 +1,4 @@
-use Rattle.std.proofs.Common.{ℕ, suc, ◌≡◌, refl, subst, ◌+◌, ◌^◌, ◌<◌, arith, inl, inr}
+use Rattle.std.proofs.Common.{suc, refl, subst, arith, inl, inr}
 use Rattle.tiny_http_message.specs.NextRequest.{Found, at, FindsHead}
 use Rattle.tiny_http_message.proofs.next_request.next_request.Goals as goal
 

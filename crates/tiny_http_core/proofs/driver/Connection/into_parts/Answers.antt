@@ -2,7 +2,6 @@ use Rattle.std.proofs.Common.{refl, subst}
 use Rattle.tiny_http_wire.specs.Device.{Sink}
 use Rattle.tiny_http_core.specs.Conversation.{IsConversation}
 use Rattle.tiny_http_core.specs.Connection.{kept}
-use Rattle.tiny_http_message.specs.declared.framing.Profile.{Profile}
 use Rattle.tiny_http_core.proofs.DrivingLemmas.{viewed}
 use Rattle.tiny_http_core.proofs.ConversationRuns.{conversation}
 use Rattle.tiny_http_core.proofs.driver.Connection.into_parts.Goals as goal

@@ -1,4 +1,4 @@
-use Rattle.std.proofs.Common.{ℕ, ◌≡◌, refl, ap, ◌∙◌, subst, List}
+use Rattle.std.proofs.Common.{ℕ, refl, ap, ◌∙◌, subst, List}
 use Rattle.std.specs.Prelude.{◌==◌, slice_get}
 use Rattle.tiny_http_core.specs.declared.pending.Unfinished.TheVariants as still
 use Rattle.tiny_http_turns.specs.Turns.{Mark, first_unfinished}

@@ -3,8 +3,7 @@ use Rattle.tiny_http_message.specs.declared.body.Body.{Body}
 use Rattle.tiny_http_message.specs.declared.open_request.OpenRequest.{OpenRequest}
 use Rattle.tiny_http_message.specs.OwnAnswer.{own_text_by}
 use Rattle.tiny_http_sending.specs.ResponseValue.{printing_in}
-use Rattle.tiny_http_sending.specs.Sending.{IsFlushed, SendsQuietlyOn}
-use Rattle.tiny_http_stream.specs.Outlet.{output_of, outlet_held, SentOn}
+use Rattle.tiny_http_sending.specs.Sending.{SendsQuietlyOn}
 use Rattle.tiny_http_core.specs.declared.pending.Unfinished.TheVariants as still
 use Rattle.tiny_http_core.proofs.PendingLemmas.{put-in-place, waiting-is}
 use Rattle.tiny_http_core.proofs.pending.Pending.send_continue.Goals as goal

@@ -1,4 +1,4 @@
-use Rattle.std.proofs.Common.{◌≡◌, true, false, refl, sym, ap, ◌∙◌, subst, [], ◌∷◌, length, length-append, Option, List}
+use Rattle.std.proofs.Common.{◌≡◌, true, false, sym, ap, ◌∙◌, [], ◌∷◌, length, length-append}
 use Rattle.tiny_http_turns.specs.Turns.{Open}
 use Rattle.tiny_http_core.proofs.PendingLemmas.{leaves-issued}
 use Rattle.tiny_http_core.proofs.pending.PendingRefusalPlaceOutlet.refuse.Goals as goal

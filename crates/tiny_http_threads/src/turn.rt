@@ -1,0 +1,34 @@
+//! The turn of a sequential reader or writer, for a request that sees to its own: `tiny_http` doesn't name this module again.
+use crate::sequential::{SequentialReader, SequentialWriter};
+use std::io::{Read, Write};
+use std::sync::Wait;
+
+/// Waits for the turn of this reader, and lends what it reads from.
+pub fn hold_reader<I: Read + Drop, R: Wait + Drop>(reader: &mut SequentialReader<I, R>) -> &mut I {
+    reader.hold()
+}
+
+/// What this reader reads from, if its turn has come and it was used.
+pub fn held_reader<I: Read + Drop, R: Wait + Drop>(
+    reader: &mut SequentialReader<I, R>,
+) -> Option<&mut I> {
+    reader.held()
+}
+
+/// Waits for the turn of this writer, and lends what it writes to.
+pub fn hold_writer<W: Write + Drop, R: Wait + Drop>(writer: &mut SequentialWriter<W, R>) -> &mut W {
+    writer.hold()
+}
+
+/// Ends the turn of this writer with a text, which is written and flushed once the turn has come. It waits for no turn.
+pub fn leave_writer<W: Write + Drop, R: Wait + Drop>(
+    writer: SequentialWriter<W, R>,
+    text: Vec<u8>,
+) {
+    writer.leave(text);
+}
+
+/// Ends the turn of this writer, and flushes nothing: the caller has flushed what it wrote. It waits for no turn.
+pub fn pass_writer<W: Write + Drop, R: Wait + Drop>(writer: SequentialWriter<W, R>) {
+    writer.pass();
+}
