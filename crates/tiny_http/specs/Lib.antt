@@ -8,5 +8,6 @@ pub use Rattle.tiny_http_threads.specs.Pool
 pub use Rattle.tiny_http_threads.specs.Headcount
 pub use Rattle.tiny_http_request.specs.Request
 pub use Rattle.tiny_http_request.specs.Client
-pub use Rattle.tiny_http_request.specs.Sequential
+pub use Rattle.tiny_http_request.specs.Body
+pub use Rattle.tiny_http_threads.specs.Sequential
 pub use Rattle.tiny_http_request.specs.Test
