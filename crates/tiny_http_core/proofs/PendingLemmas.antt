@@ -1,5 +1,5 @@
 -- What the calls on numbers leave, as lists of marks.
-use Rattle.std.proofs.Common.{◌≡◌, refl, sym, ap, ◌∙◌, subst, ℕ, suc, ◌+◌, Bool, true, false, List, [], ◌∷◌, ◌++◌, length, Option, Some, None, append_assoc, append-nil, length-append, IfSome, IfNone}
+use Rattle.std.proofs.Common.{◌≡◌, refl, sym, ap, ◌∙◌, subst, arith, ℕ, suc, ◌+◌, ◌<◌, ◌^◌, ◌⊎◌, inl, inr, ⊎_elim, Bool, true, false, List, [], ◌∷◌, ◌++◌, length, Option, Some, None, append_assoc, append-nil, length-append, IfSome, IfNone}
 use Prim.Native.Nat.{zero}
 use Rattle.tiny_http_turns.specs.ByNumber.{value_of}
 use Rattle.std.proofs.lemmas.List.{length-set}
@@ -10,16 +10,19 @@ use Rattle.tiny_http_turns.specs.declared.turns.Finishing.{Finishing}
 use Rattle.tiny_http_turns.specs.declared.turns.Finishing.TheVariants.{Passed as IsPassed, Go, Strange as IsStrange}
 use Rattle.tiny_http_turns.specs.declared.turns.Leaving.{Leaving}
 use Rattle.tiny_http_turns.specs.declared.turns.Leaving.TheVariants.{Left as IsLeft, Go as LeaveGo, Strange as LeaveStrange}
-use Rattle.tiny_http_sending.specs.Sending.{CanSend, IsFlushed, SendsUnlessEnded}
-use Rattle.tiny_http_turns.specs.Turns.{Mark, Open, Held, Left, Finished, AreInShape, first_unfinished, Goes, Passed, Waits, TurnOutcome, Finish, Leave, turn_outcome, turn_answer, marks_after_step, finish_at, pass_to, leave_at}
+use Rattle.tiny_http_sending.specs.Sending.{CanSend, IsFlushed, FailsOnce, SendsQuietlyOn, SendsUnlessEnded}
+use Rattle.tiny_http_stream.specs.Outlet.{OutletState, output_of}
+use Rattle.tiny_http_turns.specs.Passing.{Holds, WritesTexts, FinishesOne, PassesOn}
+use Rattle.tiny_http_core.specs.declared.pending.HeldNumber.{HeldNumber}
+use Rattle.tiny_http_turns.specs.Turns.{Mark, Open, Held, Left, Finished, AreInShape, TurnsState, first_unfinished, Goes, Passed, Waits, TurnOutcome, Finish, Leave, turn_outcome, turn_answer, marks_after_step, finish_at, pass_to, leave_at}
 use Rattle.tiny_http_turns.specs.TurnsCalls.{Finishes, LeavesTurn}
 use Rattle.tiny_http_message.specs.declared.body.Body.{Body}
 use Rattle.tiny_http_message.specs.declared.open_request.OpenRequest.{OpenRequest}
 use Rattle.tiny_http_core.specs.declared.pending.Unfinished.{Unfinished}
 use Rattle.tiny_http_core.specs.declared.pending.Unfinished.TheVariants as still
-use Rattle.tiny_http_core.specs.Pending.{left_text, with_left_finished, begins_left, SendsLeft, FinishesFront, LeavesText}
+use Rattle.tiny_http_core.specs.Pending.{left_text, with_left_finished, begins_left, SendsLeft, FinishesFront, LeavesText, WritesHeld, FinishesHeld}
 use Rattle.tiny_http_core.proofs.ConnectionKept.{get-at, set-at}
-use Rattle.tiny_http_sending.proofs.SendingLemmas.{sends-append, sends-can}
+use Rattle.tiny_http_sending.proofs.SendingLemmas.{once-append, sends-append, sends-can}
 
 -- the place after a place
 get-next : {X : Type 0} (xs : List X) (x : X) (ys : List X) → slice_get (xs ++ (x ∷ ys)) (suc (length xs)) ≡ slice_get ys 0
@@ -351,3 +354,84 @@ put-in-place old mid new n was x v None here is some none =
 -- what is kept of a number that waits is one value
 pub waiting-is : (u v : OpenRequest Body) → ◌≡◌ {A = Option (Option Unfinished)} (Some (Some (still.Waiting u))) (Some (Some (still.Waiting v))) → u ≡ v
 waiting-is u v e = cc
+
+-- what is known of a number that is held, and of the output, once so many texts are written
+pub record TextsWritten {W : Type 0} (here : Holds HeldNumber (TurnsState (Unit {0})) (OutletState W)) (text : List ℕ) (there : Holds HeldNumber (TurnsState (Unit {0})) (OutletState W)) (n : ℕ) : Type 0 where
+  pub writes : (front rest : List Mark) → here.numbers.marks ≡ front ++ (Held ∷ rest) → length front ≡ here.turn.0
+      → WritesLeft front rest there.numbers.marks there.turn.0 text here.output.ended (output_of here.output) (output_of there.output) there.output.ended
+  pub counts : length there.numbers.marks ≡ length here.numbers.marks
+  pub once : FailsOnce here.output there.output
+  pub place : there.turn.0 ≡ here.turn.0 + n
+  pub few : (n ≡ 0) ⊎ (there.turn.0 < 2 ^ 64)
+
+plus-none : (n : ℕ) → n ≡ n + 0
+plus-none n = omega arith
+
+finishing-reported : (marks new : List Mark) (number : ℕ) (r : Finishing (Unit {0})) (before behind : Option (Unit {0})) → new ≡ marks_after_step (Finish number) marks → Finishes (turn_answer (Finish number) marks) tt before r behind → FinishingReported marks new number r before behind
+finishing-reported marks new number r before behind e f = record { marks_are = e; item = f }
+
+pub texts-written : {W : Type 0} (here : Holds HeldNumber (TurnsState (Unit {0})) (OutletState W)) (text : List ℕ) (there : Holds HeldNumber (TurnsState (Unit {0})) (OutletState W)) (n : ℕ)
+    → WritesTexts WritesHeld FinishesHeld n here text there → TextsWritten here text there n
+texts-written here text there zero h = record {
+  writes = λ front rest e place. writes-first front rest there.numbers.marks there.turn.0 text here.output.ended (output_of here.output) (output_of there.output) there.output.ended (ap (λ t. t.marks) h.1 ∙ e) (place ∙ ap (λ k. k.0) (sym h.0.0)) h.0.1;
+  counts = ap (λ t. length t.marks) h.1;
+  once = h.0.2;
+  place = ap (λ k. k.0) h.0.0 ∙ plus-none here.turn.0;
+  few = inl refl;
+}
+texts-written here text there (suc n) h =
+    let held = h.0 in
+    let left = h.1 in
+    let mid = h.2 in
+    let i = texts-written here text held n h.3 in
+    let f = h.4.0 in
+    let w = h.5 in
+    let next = f.3 in
+    let same = w.0.0 in
+    let number : there.turn.0 ≡ held.turn.0 + 1 = ap (λ k. k.0) same ∙ next.1 in
+    let place = i.place in
+    let was = i.counts in
+    record {
+      writes = λ front rest e at. (let R : ℕ → List Mark → Type 0 = λ k marks. WritesLeft front rest marks k text here.output.ended (output_of here.output) (output_of there.output) there.output.ended in
+          let done = writes-next front rest held.numbers.marks mid.numbers.marks held.turn.0 text here.output.ended (output_of here.output) (output_of held.output) (output_of there.output) held.output.ended there.output.ended
+          f.0 left next.0.0 held.numbers.resting mid.numbers.resting (i.writes front rest e at) (finishing-reported held.numbers.marks mid.numbers.marks held.turn.0 f.0 held.numbers.resting mid.numbers.resting f.1 f.2) next.0.1 (sends-at held.output mid.output there.output left.items h.4.1 w.0.1) in
+          subst (λ k. R k there.numbers.marks) (sym number) (subst (λ marks. R (held.turn.0 + 1) marks) (ap (λ t. t.marks) (sym w.1)) done));
+      counts = ap (λ t. length t.marks) w.1 ∙ (ap length f.1 ∙ (length-finished held.turn.0 held.numbers.marks ∙ was));
+      once = once-append here.output.ended held.output.ended there.output.ended (output_of here.output) (output_of held.output) (output_of there.output) i.once (fails-at held.output mid.output there.output h.4.1 w.0.2);
+      place = omega (arith, number, place);
+      few = inr (rw (same) next.2);
+    }
+  where
+    sends-at : {W : Type 0} (o p u : OutletState W) (t : List ℕ) → p ≡ o → SendsQuietlyOn p u t → SendsQuietlyOn o u t
+    sends-at {W = W} o p u t e s = let P : OutletState W → Type 0 = λ x. SendsQuietlyOn x u t in subst P e s
+
+    fails-at : {W : Type 0} (o p u : OutletState W) → p ≡ o → FailsOnce p u → FailsOnce o u
+    fails-at {W = W} o p u e s = let P : OutletState W → Type 0 = λ x. FailsOnce x u in subst P e s
+
+-- a turn passed on: the texts are written, and the front is finished
+pub passes-on : {W : Type 0} (here : Holds HeldNumber (TurnsState (Unit {0})) (OutletState W)) (text : List ℕ) (there : Holds HeldNumber (TurnsState (Unit {0})) (OutletState W)) → PassesOn WritesHeld FinishesHeld here text there
+    → ((front rest : List Mark) → here.numbers.marks ≡ front ++ (Held ∷ rest) → length front ≡ here.turn.0
+    → FinishesFront front rest there.numbers.marks × SendsQuietlyOn here.output there.output (text ++ left_text rest))
+    × (length there.numbers.marks ≡ length here.numbers.marks) × FailsOnce here.output there.output
+passes-on {W = W} here text there p = ⊎_elim ends (λ many. absurd (none many.0)) p.ends
+  where
+    i : TextsWritten here text p.last p.passed
+    i = texts-written here text p.last p.passed p.texts
+
+    none : p.passed ≡ 2 ^ 64 → ⊥
+    none many = ⊎_elim (λ no. omega (arith, no, many)) (λ few. (let place = i.place in omega (arith, few, place, many))) i.few
+
+    Goal : OutletState W → Type 0
+    Goal o = ((front rest : List Mark) → here.numbers.marks ≡ front ++ (Held ∷ rest) → length front ≡ here.turn.0
+        → FinishesFront front rest there.numbers.marks × SendsQuietlyOn here.output o (text ++ left_text rest))
+        × (length there.numbers.marks ≡ length here.numbers.marks) × FailsOnce here.output o
+
+    ends : FinishesOne FinishesHeld p.last None there → Goal there.output
+    ends f =
+        let g = f.0 in
+        subst Goal (sym f.1) (
+          λ front rest e place. writes-last front rest p.last.numbers.marks there.numbers.marks p.last.turn.0 text here.output.ended (output_of here.output) (output_of p.last.output) p.last.output.ended g.0 p.last.numbers.resting there.numbers.resting (i.writes front rest e place)
+              (finishing-reported p.last.numbers.marks there.numbers.marks p.last.turn.0 g.0 p.last.numbers.resting there.numbers.resting g.1 g.2) g.3,
+          ap length g.1 ∙ (length-finished p.last.turn.0 p.last.numbers.marks ∙ i.counts),
+          i.once,
+        )

@@ -27,8 +27,10 @@ pub use Rattle.tiny_http_message.specs.Pipeline
 pub use Rattle.tiny_http_message.specs.PipelineReading
 pub use Rattle.tiny_http_message.specs.Body
 pub use Rattle.tiny_http_message.specs.BodyRemains
+pub use Rattle.tiny_http_message.specs.OpenRequest
 pub use Rattle.tiny_http_message.specs.Exchange
 pub use Rattle.tiny_http_message.specs.HeadReads
+pub use Rattle.tiny_http_message.specs.NextRequest
 pub use Rattle.tiny_http_turns.specs.Turns
 pub use Rattle.tiny_http_turns.specs.TurnsCalls
 pub use Rattle.tiny_http_turns.specs.TurnsLaw

@@ -2,6 +2,8 @@
 use Rattle.std.specs.Prelude.{◌≡◌, ◌==◌, ◌<◌, ◌^◌, ◌+◌, ℕ, Bool, true, false, not, List, [], ◌∷◌, ◌++◌, length, Option, Some, None, MatchBool, slice_get}
 use Rattle.tiny_http_wire.specs.Device.{Sink}
 use Rattle.tiny_http_wire.specs.declared.answer_context.AnswerContext.{AnswerContext}
+use Rattle.std.specs.Global.{Vec}
+use Rattle.tiny_http_core.specs.declared.pending.HeldNumber.{HeldNumber}
 use Rattle.tiny_http_core.specs.declared.pending.Pending.{Pending}
 use Rattle.tiny_http_core.specs.declared.pending.Unfinished.{Unfinished}
 use Rattle.tiny_http_core.specs.declared.pending.Unfinished.TheVariants as still
@@ -10,8 +12,11 @@ use Rattle.tiny_http_message.specs.declared.open_request.OpenRequest.{OpenReques
 use Rattle.tiny_http_message.specs.Body.{is_streaming, GivesUp}
 use Rattle.tiny_http_stream.specs.Source.{SourceState}
 use Rattle.tiny_http_stream.specs.Outlet.{OutletState, output_of, outlet_ended, outlet_held, SentOn}
-use Rattle.tiny_http_sending.specs.Sending.{CanSend, SendsUnlessEnded, IsFlushed, FailsOnce}
-use Rattle.tiny_http_turns.specs.Turns.{Mark, Open, Held, Left, Finished, AreInShape, first_unfinished}
+use Rattle.tiny_http_sending.specs.Sending.{CanSend, SendsUnlessEnded, SendsQuietlyOn, IsFlushed, FailsOnce}
+use Rattle.tiny_http_turns.specs.Turns.{Mark, Open, Held, Left, Finished, AreInShape, first_unfinished, TurnsState, Finish, marks_after_step, turn_answer}
+use Rattle.tiny_http_turns.specs.TurnsCalls.{Finishes}
+use Rattle.tiny_http_turns.specs.declared.turns.Finishing.{Finishing}
+use Rattle.tiny_http_turns.specs.declared.turns.Finishing.TheVariants.{Go}
 
 -- the texts that were left at the front of these numbers
 abbrev pub left_text : List Mark → List ℕ
@@ -129,3 +134,17 @@ pub record RefusesHead {W : Type 0} (p : Pending) (o : OutletState W) (text : Li
   pub fails_once : FailsOnce o u
   pub flushed : outlet_held o ≡ [] → outlet_held u ≡ []
   pub sent_on : SentOn o → SentOn u
+
+-- a text is written in the turn of a number that is held
+abbrev pub WritesHeld : {W : Type 0} → HeldNumber → OutletState W → List ℕ → HeldNumber → OutletState W → Type 0
+WritesHeld k o text l u = (l ≡ k) × SendsQuietlyOn o u text × FailsOnce o u
+
+-- what finishing says of the next number: it had been left with this text, and is held; or it hadn't
+abbrev pub NextHeld : HeldNumber → Finishing (Unit {0}) → Option (Vec ℕ) → HeldNumber → Type 0
+NextHeld k r None l = ((u : Unit {0}) (next : Vec ℕ) → r ≡ Go u next → ⊥)
+NextHeld k r (Some text) l = ((u : Unit {0}) × (r ≡ Go u text)) × (l.0 ≡ k.0 + 1) × (l.0 < 2 ^ 64)
+
+-- a number that is held is finished, by a step of the turns
+abbrev pub FinishesHeld : HeldNumber → TurnsState (Unit {0}) → Option (Vec ℕ) → HeldNumber → TurnsState (Unit {0}) → Type 0
+FinishesHeld k p left l q =
+    (r : Finishing (Unit {0})) × (q.marks ≡ marks_after_step (Finish k.0) p.marks) × Finishes (turn_answer (Finish k.0) p.marks) tt p.resting r q.resting × NextHeld k r left l

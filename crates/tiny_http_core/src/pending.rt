@@ -25,6 +25,7 @@ use tiny_http_sending::sending::{flush_quietly, write_quietly};
 use tiny_http_stream::outlet::Outlet;
 use tiny_http_stream::source::Source;
 use tiny_http_turns::by_number::ByNumber;
+use tiny_http_turns::passing::{HeldTurn, pass_on};
 use tiny_http_turns::turns::{Finishing, Leaving, Turns, TurnsError};
 use tiny_http_wire::device::{ReadDevice, WriteDevice};
 use tiny_http_wire::response::Response;
@@ -322,6 +323,32 @@ pub(crate) fn close_body<R: ReadDevice>(finished: Unfinished, source: &mut Sourc
     }
 }
 
+// A number that is held.
+#[derive(Drop)]
+struct HeldNumber(u64);
+
+impl<W: WriteDevice> HeldTurn<Turns<()>, Outlet<W>> for HeldNumber {
+    ghost use Rattle.tiny_http_core.specs.Pending.{WritesHeld, FinishesHeld};
+
+    ghost writes = { WritesHeld };
+
+    ghost finishes = { FinishesHeld };
+
+    fn write_text(&mut self, outlet: &mut Outlet<W>, text: &[u8]) {
+        write_quietly(outlet, text);
+    }
+
+    fn finish(&mut self, turns: &mut Turns<()>) -> Option<Vec<u8>> {
+        match turns.finish(self.0, ()) {
+            Finishing::Go((), text) => {
+                self.0 += 1;
+                Some(text)
+            }
+            Finishing::Passed | Finishing::Strange(()) => None,
+        }
+    }
+}
+
 // Writes the text of a number that is held and finishes it, and so each after it that was left.
 fn write_texts<W: WriteDevice>(
     turns: &mut Turns<()>,
@@ -335,12 +362,7 @@ fn write_texts<W: WriteDevice>(
     ensures counts { length turns.new.marks ≡ length turns.old.marks }
     ensures fails_once { FailsOnce outlet.old outlet.new }
 {
-    write_quietly(outlet, &text);
-    let mut at = number;
-    while let Finishing::Go((), text) = turns.finish(at, ()) {
-        write_quietly(outlet, &text);
-        at += 1;
-    }
+    pass_on(&mut HeldNumber(number), turns, outlet, text);
 }
 
 // The same, and flushes.

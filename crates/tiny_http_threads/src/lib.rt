@@ -1,5 +1,6 @@
 //! What the threads of a small HTTP server share: a queue, a pool of workers, two counts, and the line of those who use one
-//! reader or one writer after another. All that locks stands here. `tiny_http` names its modules again.
+//! reader or one writer after another. The locks stand here, but for the one over the `Headcount` that the tasks of a server
+//! share. `tiny_http` names its modules again.
 //!
 //! Who may touch what:
 //!

@@ -1,5 +1,5 @@
 //! A reader or a writer that its holders use one after another, in the order in which they were made.
-ghost use Rattle.std.specs.Prelude.{◌≡◌, [], length, Ok, None, OnOk, false};
+ghost use Rattle.std.specs.Prelude.{◌≡◌, ⊤, [], length, Ok, None, OnOk, false};
 ghost use Rattle.tiny_http_device.specs.Device.{Reads, Puts, PutsFront, HoldsNothing, next_count};
 
 use crate::line::{Held, Line, Turn};
@@ -8,6 +8,7 @@ use std::io;
 use std::io::{ErrorKind, Read, Write};
 use std::sync::{Arc, Wait};
 use tiny_http_device::device::WriteDevice;
+use tiny_http_turns::passing::{HeldTurn, pass_on};
 
 /// Gives out readers, each of which reads once those before it are dropped.
 #[derive(Drop)]
@@ -64,14 +65,8 @@ impl<I: Read + Drop, R: Wait + Drop> Drop for SequentialReader<I, R> {
     fn drop(self) {
         let Self { turn } = self;
         let none = Vec::new(turn.alloc());
-        let Some((mut held, _)) = turn.leave(none) else {
-            return;
-        };
-        for _ in 0..u64::MAX {
-            let Some((next, _)) = held.finish() else {
-                return;
-            };
-            held = next;
+        if let Some((held, text)) = turn.leave(none) {
+            pass_on(&mut Reading { held: Some(held) }, &mut (), &mut (), text);
         }
     }
 }
@@ -102,30 +97,61 @@ impl<W: Write + Drop, R: Wait + Copy> SequentialWriterBuilder<W, R> {
     }
 }
 
-// Finishes a number that is held, and writes the texts of those after it that were left. What they meet isn't reported.
-fn pass_writer<W: Write + Drop, R: Wait + Drop>(held: Held<W, R>) {
-    let mut held = held;
-    for _ in 0..u64::MAX {
-        let Some((next, text)) = held.finish() else {
-            return;
-        };
-        held = next;
-        write_text(held.item(), &text);
+// Finishes a number that is held. If the next one was left, that one is held, and this is its text.
+fn finish_held<T: Drop, R: Wait + Drop>(held: &mut Option<Held<T, R>>) -> Option<Vec<u8>> {
+    let (next, text) = held.take()?.finish()?;
+    *held = Some(next);
+    Some(text)
+}
+
+// A number of a reader that is held. Nothing is written in its turn.
+#[derive(Drop)]
+struct Reading<I, R: Wait> {
+    held: Option<Held<I, R>>,
+}
+
+impl<I: Read + Drop, R: Wait + Drop> HeldTurn<(), ()> for Reading<I, R> {
+    ghost writes = { λ _ _ _ _ _. ⊤ };
+
+    ghost finishes = { λ _ _ _ _ _. ⊤ };
+
+    fn write_text(&mut self, _output: &mut (), _text: &[u8]) {}
+
+    fn finish(&mut self, _numbers: &mut ()) -> Option<Vec<u8>> {
+        finish_held(&mut self.held)
+    }
+}
+
+// A number of a writer that is held. Each text is flushed before its number is finished, since another thread may write from
+// then on.
+#[derive(Drop)]
+struct Writing<W, R: Wait> {
+    held: Option<Held<W, R>>,
+}
+
+impl<W: Write + Drop, R: Wait + Drop> HeldTurn<(), ()> for Writing<W, R> {
+    // Nothing is stated of what is written behind a lock.
+    ghost writes = { λ _ _ _ _ _. ⊤ };
+
+    ghost finishes = { λ _ _ _ _ _. ⊤ };
+
+    fn write_text(&mut self, _output: &mut (), text: &[u8]) {
+        if let Some(held) = &mut self.held {
+            let _ = held.item().write_all(text);
+            let _ = held.item().flush();
+        }
+    }
+
+    fn finish(&mut self, _numbers: &mut ()) -> Option<Vec<u8>> {
+        finish_held(&mut self.held)
     }
 }
 
 // Ends a turn with a text.
 fn leave_writer<W: Write + Drop, R: Wait + Drop>(turn: Turn<W, R>, text: Vec<u8>) {
-    if let Some((mut held, text)) = turn.leave(text) {
-        write_text(held.item(), &text);
-        pass_writer(held);
+    if let Some((held, text)) = turn.leave(text) {
+        pass_on(&mut Writing { held: Some(held) }, &mut (), &mut (), text);
     }
-}
-
-// Writes a text and flushes.
-fn write_text<W: Write>(writer: &mut W, text: &[u8]) {
-    let _ = writer.write_all(text);
-    let _ = writer.flush();
 }
 
 /// Writes in its turn: its first write or flush waits until those before it are dropped. Dropping it flushes and finishes its
@@ -153,7 +179,10 @@ impl<W: Write + Drop, R: Wait + Drop> SequentialWriter<W, R> {
         let Self { turn, failures: _ } = self;
         let none = Vec::new(turn.alloc());
         if let Some((held, _)) = turn.leave(none) {
-            pass_writer(held);
+            let mut writing = Writing { held: Some(held) };
+            if let Some(text) = writing.finish(&mut ()) {
+                pass_on(&mut writing, &mut (), &mut (), text);
+            }
         }
     }
 }

@@ -4,4 +4,5 @@
 
 pub mod by_number;
 pub mod laws;
+pub mod passing;
 pub mod turns;
