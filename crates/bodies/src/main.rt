@@ -135,9 +135,9 @@ fn main(rt: HostRuntime) -> io::Result<()> {
     let Ok(server) = Server::http(rt, rt.alloc(), address.as_str()) else {
         return Err(ErrorKind::AddrNotAvailable.into());
     };
-    let bound = server.server_addr();
+    let listens_at = server.server_addr();
     let mut out = rt.stdout();
-    writeln!(out, "listening on {bound}")?;
+    writeln!(out, "listening on {listens_at}")?;
     out.flush()?;
     answer_by_four(&rt, rt.alloc(), &server);
     Ok(())

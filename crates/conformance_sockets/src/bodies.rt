@@ -3,7 +3,7 @@ use crate::bench::{
     DATED, Host, assert_body, assert_reads, assert_reads_next, end_sending, one_server_one_client,
     receive, send,
 };
-use crate::script::{Step, play_each};
+use crate::script::{Step, play_both};
 use std::alloc::Global;
 use std::net::TcpStream;
 use std::process::Abort;
@@ -123,5 +123,5 @@ const HEADS: [&[Step]; 5] = [
 
 #[test]
 fn an_answer_waits_for_no_body(rt: HostRuntime) {
-    play_each(&rt, rt.alloc(), &HEADS);
+    play_both(&rt, rt.alloc(), &HEADS);
 }

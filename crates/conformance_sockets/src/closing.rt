@@ -4,7 +4,7 @@ use crate::bench::{
     send, send_body, serve, turn, turns,
 };
 use crate::same::assert_holds;
-use crate::script::{Step, play, play_each};
+use crate::script::{Step, Way, play, play_each};
 use std::alloc::Global;
 use std::io::{ErrorKind, Read, Write};
 use std::net::{SocketAddr, TcpListener, TcpStream};
@@ -114,7 +114,7 @@ const WAITING: [&[Step]; 2] = [
 
 #[test]
 fn a_waiting_request_is_dropped_with_its_server(rt: HostRuntime) {
-    play_each(&rt, rt.alloc(), &WAITING);
+    play_each(&rt, rt.alloc(), Way::Recv, &WAITING);
 }
 
 const LAST: &str = "GET / HTTP/1.1\r\nConnection: close\r\n\r\n";
@@ -159,7 +159,7 @@ const LAST_ANSWERS: [&[Step]; 3] = [
 
 #[test]
 fn connections_close_in_stages(rt: HostRuntime) {
-    play_each(&rt, rt.alloc(), &LAST_ANSWERS);
+    play_each(&rt, rt.alloc(), Way::Recv, &LAST_ANSWERS);
 }
 
 // Whether a client can send so much: 256 MiB.
@@ -213,7 +213,7 @@ const LATE: [Step; 4] = [
 
 #[test]
 fn a_late_request_is_dropped(rt: HostRuntime) {
-    play(&rt, rt.alloc(), &LATE);
+    play(&rt, rt.alloc(), Way::Recv, &LATE);
 }
 
 // Whether nobody listens at this address: else it can't be bound.

@@ -6,7 +6,13 @@ mod bench;
 #[cfg(test)]
 mod bodies;
 #[cfg(test)]
+mod by_path;
+#[cfg(test)]
 mod closing;
+#[cfg(test)]
+mod corked;
+#[cfg(test)]
+mod leaving;
 #[cfg(test)]
 mod network;
 #[cfg(test)]
@@ -19,5 +25,7 @@ mod same;
 mod script;
 #[cfg(test)]
 mod server;
+#[cfg(test)]
+mod serving;
 #[cfg(test)]
 mod sockets;

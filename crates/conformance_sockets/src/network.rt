@@ -4,7 +4,7 @@ use crate::bench::{
     send, turns,
 };
 use crate::same::{assert_holds, assert_same};
-use crate::script::{Step, play_each};
+use crate::script::{Step, play_both};
 use std::alloc::Global;
 use std::os::unix::net::UnixStream;
 use std::path::{Path, PathBuf};
@@ -191,7 +191,7 @@ const ROWS: [&[Step]; 16] = [
 
 #[test]
 fn clients_get_their_answers(rt: HostRuntime) {
-    play_each(&rt, rt.alloc(), &ROWS);
+    play_both(&rt, rt.alloc(), &ROWS);
 }
 
 // The second request is answered before the first.

@@ -1,6 +1,6 @@
 //! Requests that a client sends one after another, without waiting for an answer.
 use crate::bench::{DATED, Host};
-use crate::script::{Step, act_all, stage_of};
+use crate::script::{Step, Way, act_all, stage_of};
 use std::alloc::Global;
 
 // A form of requests: what the client sends behind the first lines of the head, and how many bytes their bodies have.
@@ -59,9 +59,9 @@ const ANSWERED: [Step; 6] = [
 ];
 
 // Five requests of a form are read, and then answered.
-fn assert_five_are_read<R: Host>(rt: &R, alloc: Global, form: Form) {
+fn assert_five_are_read<R: Host>(rt: &R, alloc: Global, way: Way, form: Form) {
     let (sent, length) = form;
-    let mut stage = stage_of(rt, alloc);
+    let mut stage = stage_of(rt, alloc, way);
     for (head, _) in FIVE {
         act_all(rt, alloc, &mut stage, &[Step::Send(head)]);
         act_all(rt, alloc, &mut stage, sent);
@@ -78,7 +78,8 @@ fn assert_five_are_read<R: Host>(rt: &R, alloc: Global, form: Form) {
 // one after another.
 fn assert_each_form_is_read<R: Host>(rt: &R, alloc: Global) {
     for form in FORMS {
-        assert_five_are_read(rt, alloc, form);
+        assert_five_are_read(rt, alloc, Way::Recv, form);
+        assert_five_are_read(rt, alloc, Way::Keep, form);
     }
 }
 

@@ -4,11 +4,12 @@ use crate::bench::{
     assert_reads_next, assert_responds, assert_responds_empty, connect, end_sending, receive, send,
     send_body, serve, turns,
 };
+use crate::by_path::{Kept, serve_by_path};
 use crate::same::{assert_holds, assert_same};
 use std::alloc::Global;
 use std::collections::VecDeque;
 use std::net::{Net, TcpStream};
-use std::sync::Wait;
+use std::sync::{Arc, Wait};
 use tiny_http::common::{Header, Method};
 use tiny_http::connection::SocketFiles;
 use tiny_http::response::Response;
@@ -63,28 +64,82 @@ pub enum Step {
     Close,
 }
 
+/// How a stage gets its requests.
+#[derive(Clone, Copy, PartialEq, Eq)]
+pub enum Way {
+    /// By `recv`.
+    Recv,
+    /// By a handler that keeps each of them.
+    Keep,
+    /// By a handler that answers by the path, and keeps those for `/keep`.
+    Handle,
+}
+
 /// A server, its clients, and its requests that aren't answered yet.
 #[derive(Drop)]
 pub struct Stage<R: Net + SocketFiles + Wait + Drop> {
-    server: Option<Server<R>>,
+    server: Option<Arc<Server<R>>>,
+    // Those that a handler has kept, where the server serves.
+    kept: Option<Arc<Kept<R>>>,
     clients: VecDeque<TcpStream>,
     requests: VecDeque<ServerRequest<R>>,
 }
 
 /// A server and a client of it.
-pub fn stage_of<R: Host>(rt: &R, alloc: Global) -> Stage<R> {
+pub fn stage_of<R: Host>(rt: &R, alloc: Global, way: Way) -> Stage<R> {
+    let server = Arc::new(alloc, serve(rt, alloc)).ok();
+    let server = server.expect(rt, "memory");
+    let kept = if way == Way::Recv {
+        None
+    } else {
+        Some(serve_by_path(rt, alloc, &server, way == Way::Keep))
+    };
     let mut stage = Stage {
-        server: Some(serve(rt, alloc)),
+        server: Some(server),
+        kept,
         clients: VecDeque::new(alloc),
         requests: VecDeque::new(alloc),
     };
+    if stage.kept.is_some() {
+        wait_until_served(rt, alloc, &mut stage);
+    }
     come(rt, &mut stage);
     stage
+}
+
+// Waits until the server serves: a client's request is handed to the handler, answered, and the client has gone.
+fn wait_until_served<R: Host>(rt: &R, alloc: Global, stage: &mut Stage<R>) {
+    let steps = [
+        Step::Come,
+        Step::Send("GET /keep HTTP/1.1\r\nConnection: close\r\n\r\n"),
+        Step::Receive("/keep"),
+        Step::RespondEmpty(200),
+        Step::Leave,
+        Step::Clients(0),
+    ];
+    act_all(rt, alloc, stage, &steps);
 }
 
 // The server.
 fn server_of<'a, R: Host>(rt: &R, stage: &'a Stage<R>) -> &'a Server<R> {
     stage.server.as_ref().expect(rt, "a server")
+}
+
+// The next request.
+fn receive_in<R: Host>(rt: &R, stage: &Stage<R>) -> ServerRequest<R> {
+    match &stage.kept {
+        None => receive(rt, server_of(rt, stage)),
+        Some(kept) => kept.pop(rt).expect(rt, "a request"),
+    }
+}
+
+// Lets the server go. One that serves ends to.
+fn close<R: Host>(stage: &mut Stage<R>) {
+    if let Some(server) = stage.server.take()
+        && stage.kept.is_some()
+    {
+        let _ = server.unblock();
+    }
 }
 
 // The client that stands first.
@@ -116,7 +171,7 @@ fn rotate<R: Host>(rt: &R, stage: &mut Stage<R>) {
 
 // A request for this path is received.
 fn keep_request<R: Host>(rt: &R, stage: &mut Stage<R>, path: &str) {
-    let request = receive(rt, server_of(rt, stage));
+    let request = receive_in(rt, stage);
     assert_same(rt, request.url(), path);
     stage.requests.push_back(request).ok().expect(rt, "memory");
 }
@@ -168,7 +223,7 @@ fn act<R: Host>(rt: &R, alloc: Global, stage: &mut Stage<R>, step: Step) {
         Step::RespondJson => respond_json(rt, alloc, take_request(rt, stage)),
         Step::Drop => drop(take_request(rt, stage)),
         Step::NoRequest => assert_no_request(rt, server_of(rt, stage)),
-        Step::Close => stage.server = None,
+        Step::Close => close(stage),
     }
 }
 
@@ -180,14 +235,21 @@ pub fn act_all<R: Host>(rt: &R, alloc: Global, stage: &mut Stage<R>, steps: &[St
 }
 
 /// These steps of a server and a client of it.
-pub fn play<R: Host>(rt: &R, alloc: Global, steps: &[Step]) {
-    let mut stage = stage_of(rt, alloc);
+pub fn play<R: Host>(rt: &R, alloc: Global, way: Way, steps: &[Step]) {
+    let mut stage = stage_of(rt, alloc, way);
     act_all(rt, alloc, &mut stage, steps);
+    close(&mut stage);
+}
+
+/// The same rows by `recv`, and by a handler that keeps each request.
+pub fn play_both<R: Host>(rt: &R, alloc: Global, rows: &[&[Step]]) {
+    play_each(rt, alloc, Way::Recv, rows);
+    play_each(rt, alloc, Way::Keep, rows);
 }
 
 /// Each row of steps, of a server of its own.
-pub fn play_each<R: Host>(rt: &R, alloc: Global, rows: &[&[Step]]) {
+pub fn play_each<R: Host>(rt: &R, alloc: Global, way: Way, rows: &[&[Step]]) {
     for steps in rows {
-        play(rt, alloc, steps);
+        play(rt, alloc, way, steps);
     }
 }

@@ -5,7 +5,7 @@ use crate::bench::{
     send_body, serve, turn, turns,
 };
 use crate::same::{assert_holds, assert_same, assert_shown};
-use crate::script::{Step, play_each};
+use crate::script::{Step, Way, play_each};
 use httpdate::HttpDate;
 use std::alloc::Global;
 use std::io::{ErrorKind, Write};
@@ -320,7 +320,7 @@ const CLIENTS: [&[Step]; 2] = [
 
 #[test]
 fn clients_are_counted(rt: HostRuntime) {
-    play_each(&rt, rt.alloc(), &CLIENTS);
+    play_each(&rt, rt.alloc(), Way::Recv, &CLIENTS);
 }
 
 // A server whose socket doesn't wait: it has no client to give.

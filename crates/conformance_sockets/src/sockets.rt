@@ -1,5 +1,5 @@
 //! Halves of a connection.
-use crate::bench::{DATED, Host, Tcp, assert_reads, assert_responds, send};
+use crate::bench::{DATED, Host, Tcp, assert_reads, send, text};
 use crate::same::{assert_holds, assert_same, assert_shown};
 use std::alloc::Global;
 use std::io;
@@ -12,13 +12,17 @@ use tiny_http::client::ClientConnection;
 use tiny_http::connection::{ConfigListenAddr, Connection, ListenAddr, Listener};
 use tiny_http::device::{ReadDevice, WriteDevice};
 use tiny_http::refined_tcp_stream::RefinedTcpStream;
-use tiny_http::server::{Server, ServerRequest, current_date};
+use tiny_http::request::Request;
+use tiny_http::server::{Server, current_date};
 
 // The reading and the writing half of a connection.
 type Halves = (RefinedTcpStream, RefinedTcpStream);
 
 // A connection over two halves.
 type Client<R> = ClientConnection<RefinedTcpStream, RefinedTcpStream, R>;
+
+// A request of it.
+type ClientRequest<R> = Request<RefinedTcpStream, RefinedTcpStream, R>;
 
 // The halves of this connection.
 fn halves_of<C>(rt: &impl Abort, alloc: Global, connection: C) -> Halves
@@ -199,7 +203,7 @@ where
 }
 
 // The next request of a connection, if it has one.
-fn next_of<R: Host>(rt: &R, client: &mut Client<R>) -> Option<ServerRequest<R>> {
+fn next_of<R: Host>(rt: &R, client: &mut Client<R>) -> Option<ClientRequest<R>> {
     client.next(current_date(rt)).expect(rt, "memory")
 }
 
@@ -267,7 +271,7 @@ fn addresses_of_tcp(rt: HostRuntime) {
 }
 
 // The connection has one request, for `/a` and of no address.
-fn assert_one_request<R: Host>(rt: &R, client: &mut Client<R>) -> ServerRequest<R> {
+fn assert_one_request<R: Host>(rt: &R, client: &mut Client<R>) -> ClientRequest<R> {
     assert_holds(rt, "it is without TLS", !client.secure());
     let request = next_of(rt, client).expect(rt, "a request");
     assert_same(rt, request.url(), "/a");
@@ -287,7 +291,9 @@ fn assert_client_over_halves<R: Host>(rt: &R, alloc: Global) {
     let mut client = client_over(rt, alloc, ours);
     let request = assert_one_request(rt, &mut client);
     drop(client);
-    assert_responds(rt, alloc, request, "a");
+    let answer = text(alloc, "a").expect(rt, "memory");
+    let sent = request.respond(answer, current_date(rt));
+    sent.expect(rt, "it is sent");
     let rest = "Content-Type: text/plain; charset=UTF-8\r\nContent-Length: 1\r\n\r\na";
     let wanted = ["HTTP/1.1 200 OK\r\n", DATED, rest];
     assert_reads(rt, alloc, &mut theirs, &wanted);

@@ -2,12 +2,15 @@
 use Rattle.std.specs.Prelude.{Option, Some, None, Result, Ok, Err}
 use Rattle.std.specs.declared.io.Error.{Error as IoError}
 use Rattle.tiny_http_socket.specs.declared.refined_tcp_stream.RefinedTcpStream.{RefinedTcpStream}
+use Rattle.tiny_http_corked.specs.declared.cork.CorkedReader.{CorkedReader}
+use Rattle.tiny_http_corked.specs.declared.cork.CorkedWriter.{CorkedWriter}
 use Rattle.tiny_http_request.specs.declared.request.Request.{Request}
 use Rattle.tiny_http.specs.declared.accepting.Message.{Message}
-use Rattle.tiny_http.specs.declared.accepting.Message.TheVariants.{Error, NewRequest}
+use Rattle.tiny_http.specs.declared.accepting.Message.TheVariants.{Error, NewRequest, NewClient}
 
--- the request or the fault that was popped; nothing of a mark, or of an empty queue
-abbrev pub received : {R : Type 0} → Option (Message R) → Result (Option (Request RefinedTcpStream RefinedTcpStream R)) IoError
+-- the request or the fault that was popped; nothing of a mark, of an empty queue, or of a client that is to be served
+abbrev pub received : {R : Type 0} → Option (Message R) → Result (Option (Request (CorkedReader RefinedTcpStream RefinedTcpStream) (CorkedWriter RefinedTcpStream R) R)) IoError
 received (Some (Error fault)) = Err fault
 received (Some (NewRequest request)) = Ok (Some request)
+received (Some (NewClient client)) = Ok None
 received None = Ok None

@@ -1,8 +1,10 @@
-//! Accepting of clients. Each is a job of the pool of workers, which reads its requests and puts them into the server's queue.
+//! Accepting of clients. Each is a job of the pool of workers, which reads its requests and puts them into the server's queue. Once
+//! the server serves by a handler, clients go into the queue themselves, and `serve` takes them out.
 ghost use Rattle.std.specs.Prelude.{◌≡◌};
 ghost use Rattle.tiny_http.specs.Message.{received};
 
-use crate::server::{ServerRequest, current_date};
+use crate::server::{ServerReader, ServerRequest, ServerWriter, current_date};
+use crate::serving::Handler;
 use std::alloc::Global;
 use std::io;
 use std::net::{Shutdown, SocketAddr};
@@ -11,6 +13,7 @@ use std::sync::{Arc, Mutex, Wait};
 use std::thread::Threads;
 use std::time::{Clock, Duration};
 use tiny_http_core::framing::Profile;
+use tiny_http_corked::cork::{Cork, corked};
 use tiny_http_request::client::ClientConnection;
 use tiny_http_socket::connection::{Connection, Listener};
 use tiny_http_socket::refined_tcp_stream::RefinedTcpStream;
@@ -33,16 +36,27 @@ pub(crate) enum Message<R: Wait + Drop> {
     Error(io::Error),
     /// A request that was read.
     NewRequest(ServerRequest<R>),
+    /// A client that is to be served.
+    NewClient(Arrival<R>),
 }
 
 impl<R: Wait + Drop> Message<R> {
-    /// What a pop of the queue is reported as: the request, or the fault. None where nothing but a mark was popped.
-    pub fn received(popped: Option<Message<R>>) -> io::Result<Option<ServerRequest<R>>>
+    /// What a pop of the queue is reported as: the request, or the fault. None where nothing but a mark was popped. A client that
+    /// is to be served goes back into the queue, and there is no request either; it is closed where the queue has no room.
+    pub fn received(
+        messages: &Messages<R>,
+        rt: &R,
+        popped: Option<Message<R>>,
+    ) -> io::Result<Option<ServerRequest<R>>>
         ensures { result ≡ received popped }
     {
         match popped {
             Some(Message::Error(fault)) => Err(fault),
             Some(Message::NewRequest(request)) => Ok(Some(request)),
+            Some(Message::NewClient(arrival)) => {
+                let _ = messages.push(rt, Message::NewClient(arrival));
+                Ok(None)
+            }
             None => Ok(None),
         }
     }
@@ -101,8 +115,9 @@ fn close_in_stages(socket: &Connection) {
 pub(crate) struct Client<R: Wait + Drop> {
     rt: R,
     close: Arc<AtomicBool>,
-    messages: Arc<Messages<R>>,
-    connection: ClientConnection<RefinedTcpStream, RefinedTcpStream, R>,
+    connection: ClientConnection<ServerReader, ServerWriter<R>, R>,
+    // What its two halves share.
+    cork: Arc<Cork<RefinedTcpStream>>,
     // To close it by.
     socket: Arc<Connection>,
     // It counts until the connection is let go.
@@ -110,30 +125,116 @@ pub(crate) struct Client<R: Wait + Drop> {
 }
 
 impl<R: Wait + Clock + Copy> Client<R> {
-    // Puts its requests into the queue, until it has no further one. One for which the queue has no room is dropped. Once the
-    // server was dropped nobody takes them, so whoever puts one there then empties the queue.
-    fn read_requests(&mut self) {
+    // Puts its requests into the queue, until it has no further one, or the server serves: then the request that came is given.
+    // One for which the queue has no room is dropped. Once the server was dropped nobody takes them, so whoever puts one there
+    // then empties the queue.
+    fn read_requests(
+        &mut self,
+        messages: &Messages<R>,
+        serving: &AtomicBool,
+    ) -> Option<ServerRequest<R>> {
+        let rt = self.rt;
+        for _ in rt.forever() {
+            let now = current_date(&rt);
+            let Ok(Some(request)) = self.connection.next(now) else {
+                return None;
+            };
+            if serving.load(Ordering::SeqCst) {
+                return Some(request);
+            }
+            let _ = messages.push(&rt, Message::NewRequest(request));
+            if self.close.load(Ordering::SeqCst) {
+                messages.clear(&rt);
+                return None;
+            }
+        }
+        None
+    }
+
+    // Hands its requests to a handler, until it has no further one. Answers leave together. Once the server was dropped the next
+    // request is dropped, and is the last.
+    fn answer_requests<H: Handler<R, ServerRequest<R>>>(&mut self, alloc: Global, handler: &H) {
+        let Ok(flush_policy) = Arc::try_clone(self.cork.flush_policy()) else {
+            return;
+        };
+        self.connection.set_flush_policy(flush_policy);
         let rt = self.rt;
         for _ in rt.forever() {
             let now = current_date(&rt);
             let Ok(Some(request)) = self.connection.next(now) else {
                 return;
             };
-            let _ = self.messages.push(&rt, Message::NewRequest(request));
             if self.close.load(Ordering::SeqCst) {
-                self.messages.clear(&rt);
                 return;
             }
+            self.cork.send_unless_left();
+            let _ = handler.handle(&rt, alloc, request);
+        }
+    }
+
+    // Waits until all its requests are answered, and closes the connection.
+    fn close(&mut self) {
+        self.cork.send();
+        if self.connection.wait_for_answers().is_ok() {
+            close_in_stages(&self.socket);
         }
     }
 }
 
-impl<R: Wait + Clock + Copy> Job for Client<R> {
-    /// Puts its requests into the queue, waits until all are answered, and closes the connection.
+/// A client that is to be served, and its next request, if that was read already.
+#[derive(Drop)]
+pub(crate) struct Arrival<R: Wait + Drop> {
+    client: Client<R>,
+    next: Option<ServerRequest<R>>,
+}
+
+impl<R: Wait + Clock + Copy> Arrival<R> {
+    // Puts it into the queue. Once the server was dropped nobody takes it, and the queue is emptied then.
+    fn put(self, rt: &R, messages: &Messages<R>, close: &AtomicBool) {
+        let _ = messages.push(rt, Message::NewClient(self));
+        if close.load(Ordering::SeqCst) {
+            messages.clear(rt);
+        }
+    }
+
+    /// Hands its requests to a handler, waits until all are answered, and closes the connection. Once the server was dropped the
+    /// next request is dropped, and is the last.
+    pub fn answer_by<H: Handler<R, ServerRequest<R>>>(&mut self, alloc: Global, handler: &H) {
+        let next = self.next.take();
+        if !self.client.close.load(Ordering::SeqCst) {
+            if let Some(request) = next {
+                let _ = handler.handle(&self.client.rt, alloc, request);
+            }
+            self.client.answer_requests(alloc, handler);
+        }
+        self.client.close();
+    }
+}
+
+/// A client whose requests are put into the queue.
+#[derive(Drop)]
+pub(crate) struct Reading<R: Wait + Drop> {
+    // None once that is done.
+    client: Option<Client<R>>,
+    messages: Arc<Messages<R>>,
+    serving: Arc<AtomicBool>,
+}
+
+impl<R: Wait + Clock + Copy> Job for Reading<R> {
+    /// Puts the client's requests into the queue, waits until all are answered, and closes the connection. Where the server serves
+    /// by then the client is put there itself, to be served.
     fn run(&mut self) {
-        self.read_requests();
-        if self.connection.wait_for_answers().is_ok() {
-            close_in_stages(&self.socket);
+        let Some(mut client) = self.client.take() else {
+            return;
+        };
+        let Some(request) = client.read_requests(&self.messages, &self.serving) else {
+            client.close();
+            return;
+        };
+        let rt = client.rt;
+        if let Ok(close) = Arc::try_clone(&client.close) {
+            let next = Some(request);
+            Arrival { client, next }.put(&rt, &self.messages, &close);
         }
     }
 }
@@ -146,9 +247,11 @@ pub(crate) struct Accepting<R: Wait + Drop> {
     pub profile: Profile,
     pub listener: Listener,
     pub close: Arc<AtomicBool>,
+    // Set once the server serves.
+    pub serving: Arc<AtomicBool>,
     pub messages: Arc<Messages<R>>,
     pub connections: Arc<Mutex<Headcount>>,
-    pub pool: TaskPool<Client<R>, R>,
+    pub pool: TaskPool<Reading<R>, R>,
 }
 
 impl<R: Wait + Clock + Threads + Copy + Send + 'static> Accepting<R> {
@@ -169,10 +272,27 @@ impl<R: Wait + Clock + Threads + Copy + Send + 'static> Accepting<R> {
         }
     }
 
-    // Has a worker read this client's requests. Where that can't be, the client is closed.
+    // Has a worker read this client's requests, or has it served. Where that can't be, the client is closed.
     fn begin(&self, connection: Connection, remote_addr: Option<SocketAddr>) {
-        if let Some(client) = self.client(connection, remote_addr) {
-            let _ = self.pool.spawn(&self.rt, self.alloc, client);
+        let Some(client) = self.client(connection, remote_addr) else {
+            return;
+        };
+        if self.serving.load(Ordering::SeqCst) {
+            let arrival = Arrival { client, next: None };
+            arrival.put(&self.rt, &self.messages, &self.close);
+            return;
+        }
+        if let (Ok(messages), Ok(serving)) = (
+            Arc::try_clone(&self.messages),
+            Arc::try_clone(&self.serving),
+        ) {
+            let client = Some(client);
+            let reading = Reading {
+                client,
+                messages,
+                serving,
+            };
+            let _ = self.pool.spawn(&self.rt, self.alloc, reading);
         }
     }
 
@@ -183,10 +303,11 @@ impl<R: Wait + Clock + Threads + Copy + Send + 'static> Accepting<R> {
         let (reader, writer) = RefinedTcpStream::new(self.alloc, connection).ok()?;
         let socket = Arc::try_clone(reader.connection()).ok()?;
         let close = Arc::try_clone(&self.close).ok()?;
-        let messages = Arc::try_clone(&self.messages).ok()?;
         let presence = Presence::enter(self.rt, &self.connections)?;
         let secure = reader.secure();
         let (rt, profile) = (self.rt, self.profile);
+        let (reader, writer) = corked(rt, self.alloc, reader, writer).ok()?;
+        let cork = Arc::try_clone(writer.cork()).ok()?;
         let made = ClientConnection::over_with(
             rt,
             self.alloc,
@@ -199,8 +320,8 @@ impl<R: Wait + Clock + Threads + Copy + Send + 'static> Accepting<R> {
         Some(Client {
             rt: self.rt,
             close,
-            messages,
             connection: made.ok()?,
+            cork,
             socket,
             presence,
         })

@@ -14,6 +14,9 @@
 //! }
 //! ```
 //!
+//! `Server::serve` hands the requests to a `Handler` instead: the worker of each connection answers that connection's requests
+//! itself.
+//!
 //! Calls are passed the runtime, which locks, waits and opens sockets, and the allocator: none is taken silently. The crate names
 //! the modules of the crates beneath again, so a program lists this crate, and `httpdate` where it makes dates of its own.
 #![tactic(auto)]
@@ -21,16 +24,19 @@
 mod accepting;
 pub mod laws;
 pub mod server;
+pub mod serving;
 
 pub use crate::server::{
-    IncomingRequests, Server, ServerConfig, ServerError, ServerRequest, ServerRuntime, SslConfig,
-    current_date,
+    IncomingRequests, Server, ServerConfig, ServerError, ServerReader, ServerRequest,
+    ServerRuntime, ServerWriter, SslConfig, current_date,
 };
+pub use crate::serving::Handler;
 pub use tiny_http_core::framing::Profile;
 pub use tiny_http_core::{
     answer, custom_stream, driver, equal_reader, exchange, framing, fused_reader, outlet, source,
     turns, upgrading,
 };
+pub use tiny_http_corked::{cork, corked, read_ahead, write_both};
 pub use tiny_http_request::request::{ReadWrite, Request};
 pub use tiny_http_request::test::TestRequest;
 pub use tiny_http_request::{client, request, test};

@@ -17,6 +17,7 @@ use std::time::{Clock, Duration};
 use std::{io, thread};
 use thiserror::Error;
 use tiny_http_core::framing::Profile;
+use tiny_http_corked::cork::{CorkedReader, CorkedWriter};
 use tiny_http_request::request::Request;
 use tiny_http_socket::connection::{ConfigListenAddr, ListenAddr, Listener, SocketFiles};
 use tiny_http_socket::refined_tcp_stream::RefinedTcpStream;
@@ -53,8 +54,14 @@ where
         + 'static,
 {}
 
+/// What a server reads a client by.
+pub type ServerReader = CorkedReader<RefinedTcpStream, RefinedTcpStream>;
+
+/// What a server writes to a client by.
+pub type ServerWriter<R> = CorkedWriter<RefinedTcpStream, R>;
+
 /// A request of a server's client.
-pub type ServerRequest<R> = Request<RefinedTcpStream, RefinedTcpStream, R>;
+pub type ServerRequest<R> = Request<ServerReader, ServerWriter<R>, R>;
 
 /// Why no server is made.
 #[derive(Debug, Drop, Error)]
@@ -112,10 +119,12 @@ pub struct SslConfig {
 /// A request's date, that of its 500 if it is dropped, is read before the wait for its head: on a connection that was idle
 /// it is older than the request.
 pub struct Server<R: Net + SocketFiles + Wait + Drop> {
-    rt: R,
+    pub(crate) rt: R,
     // Set where the server is dropped.
     close: Arc<AtomicBool>,
-    messages: Arc<Messages<R>>,
+    // Set once it serves.
+    pub(crate) serving: Arc<AtomicBool>,
+    pub(crate) messages: Arc<Messages<R>>,
     connections: Arc<Mutex<Headcount>>,
     listening_addr: ListenAddr,
 }
@@ -189,6 +198,7 @@ impl<R: ServerRuntime> Server<R> {
     fn over(rt: R, alloc: Global, profile: Profile, listener: Listener) -> io::Result<Server<R>> {
         let listening_addr = listener.local_addr()?;
         let close = Arc::new(alloc, AtomicBool::new(false))?;
+        let serving = Arc::new(alloc, AtomicBool::new(false))?;
         let messages = MessagesQueue::with_capacity(alloc, QUEUE_ROOM)?;
         let connections = Arc::new(alloc, Mutex::new(Headcount::new()))?;
         let accepting = Accepting {
@@ -197,6 +207,7 @@ impl<R: ServerRuntime> Server<R> {
             profile,
             listener,
             close: Arc::try_clone(&close)?,
+            serving: Arc::try_clone(&serving)?,
             messages: Arc::try_clone(&messages)?,
             connections: Arc::try_clone(&connections)?,
             pool: TaskPool::new(rt, alloc)?,
@@ -207,6 +218,7 @@ impl<R: ServerRuntime> Server<R> {
         Ok(Server {
             rt,
             close,
+            serving,
             messages,
             connections,
             listening_addr,
@@ -236,17 +248,22 @@ impl<R: Net + SocketFiles + Wait + Drop> Server<R> {
 
     /// Waits for a request. An error is the fault by which accepting ended, which one call reports, or of kind `Other` where
     /// `unblock` was called. After such a fault no further client is accepted, and requests come only from those that were.
+    ///
+    /// A server that serves by a handler has none to give, but those of clients that came before. Where a client waits for `serve` to
+    /// be called again the error is at once of kind `Other`, as if `unblock` had been called.
     pub fn recv(&self) -> io::Result<ServerRequest<R>> {
-        match Message::received(self.messages.pop(&self.rt))? {
+        let popped = self.messages.pop(&self.rt);
+        match Message::received(&self.messages, &self.rt, popped)? {
             Some(request) => Ok(request),
             None => Err(ErrorKind::Other.into()),
         }
     }
 
-    /// A request, if one has come; it waits for none. None too where `unblock` was called. An error is the fault by which
-    /// accepting ended, which one call reports.
+    /// A request, if one has come; it waits for none. None too where `recv` reports an error of kind `Other`. An error is the fault
+    /// by which accepting ended, which one call reports.
     pub fn try_recv(&self) -> io::Result<Option<ServerRequest<R>>> {
-        Message::received(self.messages.try_pop(&self.rt))
+        let popped = self.messages.try_pop(&self.rt);
+        Message::received(&self.messages, &self.rt, popped)
     }
 
     /// Has one call that waits for a request, now or later, go on without one. An error where memory was refused.
@@ -259,7 +276,8 @@ impl<R: Net + SocketFiles + Wait + Clock + Drop> Server<R> {
     /// Waits for a request, for so long at most, and then reports none; less than a millisecond counts as nothing. Else as
     /// `try_recv`.
     pub fn recv_timeout(&self, timeout: Duration) -> io::Result<Option<ServerRequest<R>>> {
-        Message::received(self.messages.pop_timeout(&self.rt, timeout))
+        let popped = self.messages.pop_timeout(&self.rt, timeout);
+        Message::received(&self.messages, &self.rt, popped)
     }
 }
 
@@ -270,6 +288,7 @@ impl<R: Net + SocketFiles + Wait + Drop> Drop for Server<R> {
         let Server {
             rt,
             close,
+            serving: _,
             messages,
             connections: _,
             listening_addr,
@@ -298,8 +317,8 @@ pub struct IncomingRequests<'a, R: Net + SocketFiles + Wait + Drop> {
 }
 
 impl<R: Net + SocketFiles + Wait + Drop> IncomingRequests<'_, R> {
-    /// Waits for the next request. None where `recv` reports an error: once for the fault by which accepting ended, and once for
-    /// each `unblock`. A later call waits again.
+    /// Waits for the next request. None where `recv` reports an error: once for the fault by which accepting ended, once for
+    /// each `unblock`, and where a client waits for `serve`. A later call waits again.
     pub fn next(&mut self) -> Option<ServerRequest<R>> {
         self.server.recv().ok()
     }

@@ -1,5 +1,5 @@
 //! A connection whose requests threads may hold.
-ghost use Rattle.std.specs.Prelude.{◌≡◌, ⊤, true, false, Ok, None, Some, IfOk, OnErr, IfSome, IfNone};
+ghost use Rattle.std.specs.Prelude.{◌≡◌, ◌↔◌, ⊤, true, false, Ok, None, Some, IfOk, OnErr, IfSome, IfNone};
 ghost use Rattle.tiny_http_message.specs.Exchange.{exchange_of};
 ghost use Rattle.tiny_http_socket.specs.Stream.{MayHavePeer};
 ghost use Rattle.tiny_http_request.specs.Request.{request_head, request_secure, request_address, request_open};
@@ -8,7 +8,8 @@ use crate::request::Request;
 use httpdate::HttpDate;
 use std::alloc::{AllocError, Global};
 use std::net::SocketAddr;
-use std::sync::Wait;
+use std::sync::{Arc, Wait};
+use tiny_http_corked::cork::FlushPolicy;
 use tiny_http_device::device::{ReadDevice, WriteDevice};
 use tiny_http_message::exchange::Exchange;
 use tiny_http_message::framing::Profile;
@@ -19,7 +20,7 @@ use tiny_http_stream::source::Source;
 use tiny_http_threads::sequential::{
     SequentialReader, SequentialReaderBuilder, SequentialWriterBuilder,
 };
-use tiny_http_threads::turn::{hold_reader, hold_writer, leave_writer};
+use tiny_http_threads::turn::{hold_reader, hold_writer, is_next_writer, leave_writer};
 
 /// A connection, whose requests are handed out one after another. Any thread may hold one, also while the next is read.
 #[derive(Drop)]
@@ -28,6 +29,8 @@ pub struct ClientConnection<R: ReadDevice + Drop, W: WriteDevice + Drop, Rt: Wai
     profile: Profile,
     secure: bool,
     remote_addr: Option<SocketAddr>,
+    // Whether flushes may leave their bytes, where they ever may.
+    flush_policy: Option<Arc<FlushPolicy>>,
     source: SequentialReaderBuilder<Source<R>, Rt>,
     sink: SequentialWriterBuilder<Outlet<W>, Rt>,
     // None once the connection has no further request.
@@ -127,6 +130,7 @@ impl<R: ReadDevice + Drop, W: WriteDevice + Drop, Rt: Wait + Copy> ClientConnect
             profile,
             secure,
             remote_addr,
+            flush_policy: None,
             source,
             sink,
             next_head,
@@ -138,6 +142,17 @@ impl<R: ReadDevice + Drop, W: WriteDevice + Drop, Rt: Wait + Copy> ClientConnect
         ensures { result ≡ client_secure self.now }
     {
         self.secure
+    }
+
+    /// Has answers leave together: flushes leave their bytes where this lets them. It does for a request whose turn has come as it is
+    /// handed out, and whose body isn't read from the connection; else it doesn't, from the moment at which the request is handed
+    /// out. A raw writer, an upgrade and a 100 end it too. The caller has what was left sent by the `Cork` of this policy: by
+    /// `send_unless_left` behind each `next`, and by `send` at the end.
+    pub fn set_flush_policy(&mut self, flush_policy: Arc<FlushPolicy>)
+        ensures over { IsOver self.new ↔ IsOver self.old }
+        ensures same { (client_secure self.new ≡ client_secure self.old) × (client_address self.new ≡ client_address self.old) × (client_profile self.new ≡ client_profile self.old) }
+    {
+        self.flush_policy = Some(flush_policy);
     }
 
     /// Goes to the next request, and hands it out; `None` once the connection has no further one, from then on. It waits for
@@ -195,19 +210,47 @@ impl<R: ReadDevice + Drop, W: WriteDevice + Drop, Rt: Wait + Copy> ClientConnect
     {
         let (head, open_request) = exchange.into_parts();
         let writer = self.sink.next()?;
+        let holds_reader = open_request.body.holds_reader();
+        let may_leave = !holds_reader && is_next_writer(&writer);
+        let flush_policy = set_policy(&self.flush_policy, may_leave)?;
         let client = (self.secure, self.remote_addr);
-        if !open_request.body.holds_reader() {
-            if !head.is_last {
-                self.next_head = Some(reader);
-            }
-            return Ok(Request::from_parts(self.alloc, client, head, open_request, None, writer));
-        }
+        let (reader, next_head) = if holds_reader {
+            (Some(reader), None)
+        } else {
+            (None, Some(reader))
+        };
         if !head.is_last {
-            self.next_head = Some(self.source.next()?);
+            self.next_head = match next_head {
+                Some(reader) => Some(reader),
+                None => Some(self.source.next()?),
+            };
         }
-        let reader = Some(reader);
-        Ok(Request::from_parts(self.alloc, client, head, open_request, reader, writer))
+        Ok(Request::from_parts(
+            self.alloc,
+            client,
+            head,
+            open_request,
+            reader,
+            writer,
+            flush_policy,
+        ))
     }
+}
+
+// Sets this policy, if there is one, and gives another handle of it, for a request. An error where no handle is left.
+fn set_policy(
+    flush_policy: &Option<Arc<FlushPolicy>>,
+    may_leave: bool,
+) -> Result<Option<Arc<FlushPolicy>>, AllocError> {
+    let Some(flush_policy) = flush_policy else {
+        return Ok(None);
+    };
+    if may_leave {
+        flush_policy.leave();
+    } else {
+        flush_policy.send();
+    }
+    Ok(Some(Arc::try_clone(flush_policy)?))
 }
 
 // Where refused heads are answered: each by the next writer.

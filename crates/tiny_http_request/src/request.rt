@@ -15,9 +15,10 @@ use httpdate::HttpDate;
 use std::alloc::{AllocError, Global};
 use std::io::{ErrorKind, Read, Write};
 use std::net::SocketAddr;
-use std::sync::Wait;
+use std::sync::{Arc, Wait};
 use std::{fmt, io};
 use thiserror::Error;
+use tiny_http_corked::cork::FlushPolicy;
 use tiny_http_device::device::{ReadDevice, Stop, WriteDevice};
 use tiny_http_message::body::Body as Unread;
 use tiny_http_message::exchange::{Head, begin_body};
@@ -85,6 +86,8 @@ pub struct Request<R: ReadDevice + Drop, W: WriteDevice + Drop, Rt: Wait + Drop>
     secure: bool,
     remote_addr: Option<SocketAddr>,
     head: Head,
+    // Whether its connection's flushes may leave their bytes, where they ever may.
+    flush_policy: Option<Arc<FlushPolicy>>,
     open_request: OpenRequest<Body<R, Rt>>,
     writer: SequentialWriter<Outlet<W>, Rt>,
 }
@@ -98,6 +101,7 @@ impl<R: ReadDevice + Drop, W: WriteDevice + Drop, Rt: Wait + Drop> Request<R, W,
         open_request: OpenRequest<Unread>,
         reader: Option<SequentialReader<Source<R>, Rt>>,
         writer: SequentialWriter<Outlet<W>, Rt>,
+        flush_policy: Option<Arc<FlushPolicy>>,
     ) -> Request<R, W, Rt>
         requires { is_some reader ≡ is_streaming open_request.body }
         ensures head { request_head result ≡ head }
@@ -122,6 +126,7 @@ impl<R: ReadDevice + Drop, W: WriteDevice + Drop, Rt: Wait + Drop> Request<R, W,
             secure,
             remote_addr,
             head,
+            flush_policy,
             open_request,
             writer,
         }
@@ -134,6 +139,7 @@ impl<R: ReadDevice + Drop, W: WriteDevice + Drop, Rt: Wait + Drop> Request<R, W,
             secure: _,
             remote_addr: _,
             head: _,
+            flush_policy: _,
             open_request,
             writer,
         } = self;
@@ -189,6 +195,13 @@ impl<R: ReadDevice + Drop, W: WriteDevice + Drop, Rt: Wait + Drop> Request<R, W,
         self.remote_addr.as_ref()
     }
 
+    // Has each later flush of the connection send: a program's own isn't to leave its bytes.
+    fn send_at_flush(&self) {
+        if let Some(flush_policy) = &self.flush_policy {
+            flush_policy.send();
+        }
+    }
+
     // Sends the 100 that is owed, if one is, in the turn of the request. None is owed any more.
     fn send_continue(&mut self, now: HttpDate)
         ensures open { request_open self.new ≡ record (request_open self.old) { owes_continue = false } }
@@ -196,6 +209,7 @@ impl<R: ReadDevice + Drop, W: WriteDevice + Drop, Rt: Wait + Drop> Request<R, W,
         ensures client { (request_secure self.new ≡ request_secure self.old) × (request_address self.new ≡ request_address self.old) }
     {
         if self.open_request.owes_continue {
+            self.send_at_flush();
             let outlet = hold_writer(&mut self.writer);
             self.open_request.send_continue(self.alloc, outlet, now);
         }
@@ -232,6 +246,7 @@ impl<R: ReadDevice + Drop, W: WriteDevice + Drop, Rt: Wait + Drop> Request<R, W,
     /// Takes the raw writer in place of an answer, and gives the body up. What is written is all that the client gets for the
     /// request, but for a 100 that was sent before. The turn ends as the writer is dropped.
     pub fn into_writer(self) -> SequentialWriter<Outlet<W>, Rt> {
+        self.send_at_flush();
         let (open_request, writer) = self.into_parts();
         drop(open_request);
         writer
@@ -250,6 +265,7 @@ impl<R: ReadDevice + Drop, W: WriteDevice + Drop, Rt: Wait + Drop> Request<R, W,
         ensures { is_ok result ≡ list_all is_ascii protocol.now }
     {
         check_protocol(protocol)?;
+        self.send_at_flush();
         let alloc = self.alloc;
         let (mut open_request, mut writer) = self.into_parts();
         open_request.upgrade(alloc, hold_writer(&mut writer), protocol, response, now);
@@ -373,5 +389,5 @@ pub fn new_request<R: ReadDevice + Drop, W: WriteDevice + Drop, Rt: Wait + Copy>
     };
     let open_request = OpenRequest::new(alloc, &head, body, now)?;
     let client = (secure, remote_addr);
-    Ok(Request::from_parts(alloc, client, head, open_request, reader, writer))
+    Ok(Request::from_parts(alloc, client, head, open_request, reader, writer, None))
 }

@@ -1,9 +1,9 @@
 //! TCP and Unix sockets under one name, and their addresses.
-ghost use Rattle.std.specs.Prelude.{◌≡◌, ◌≤◌, length, IfOk};
+ghost use Rattle.std.specs.Prelude.{◌≡◌, ◌≤◌, ◌++◌, length, IfOk};
 ghost use Rattle.tiny_http_socket.specs.Connection.{IsBoundAs, HasAddressOf, IsAcceptedBy, HasPeerOf, IsSameKind, IsCopyOf, ip_of, unix_of};
 
 use std::alloc::{AllocError, Global};
-use std::io::{Read, Write};
+use std::io::{IoSlice, Read, Write};
 use std::net::{Net, Shutdown, SocketAddr, TcpListener, TcpStream, ToSocketAddrs};
 use std::os::unix::net as unix_net;
 use std::path::{Path, PathBuf};
@@ -211,6 +211,19 @@ impl Connection {
         match self {
             Connection::Tcp(stream) => write_by(stream, buf),
             Connection::Unix(stream) => write_by(stream, buf),
+        }
+    }
+}
+
+impl Connection {
+    /// Writes once from the front of two texts, one behind the other, by one call of the system.
+    pub fn write_both_shared(&self, front: &[u8], back: &[u8]) -> io::Result<usize>
+        ensures { IfOk result (λ n. n ≤ length (front.now ++ back.now)) }
+    {
+        let texts = [IoSlice::new(front), IoSlice::new(back)];
+        match self {
+            Connection::Tcp(stream) => stream.write_vectored(&texts),
+            Connection::Unix(stream) => stream.write_vectored(&texts),
         }
     }
 }

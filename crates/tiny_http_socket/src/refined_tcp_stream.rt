@@ -1,5 +1,5 @@
 //! The two halves of a client's connection. A half that is dropped shuts its direction down.
-ghost use Rattle.std.specs.Prelude.{◌≡◌, ◌<◌, ◌≤◌, [], length, Ok, None, Some, OnOk, IfOk, IfErr, false, IsOk};
+ghost use Rattle.std.specs.Prelude.{◌≡◌, ◌<◌, ◌≤◌, ◌++◌, [], length, Ok, None, Some, OnOk, IfOk, IfErr, false, IsOk};
 ghost use Rattle.std.specs.IoError.{error_kind};
 ghost use Rattle.tiny_http_device.specs.Device.{next_count};
 ghost use Rattle.tiny_http_socket.specs.Stream.{shutdown_of};
@@ -95,6 +95,21 @@ impl RefinedTcpStream {
         self.connection.peer_addr()
     }
 
+    // What a write is reported as, and counted if it is a fault. That it took no byte is one.
+    fn report(&mut self, written: io::Result<usize>) -> io::Result<usize>
+        ensures taken { IfOk result (λ n. (0 < n) × (written ≡ Ok n) × (self.new ≡ self.old)) }
+        ensures fault { IfErr result (λ e. self.new ≡ record self.old { failures = next_count self.old.failures; last = Some (error_kind e) }) }
+    {
+        let written = match written {
+            Ok(0) => Err(ErrorKind::WriteZero.into()),
+            written => written,
+        };
+        if let Err(e) = &written {
+            self.count(e.kind());
+        }
+        written
+    }
+
     // Counts a failure of this kind.
     fn count(&mut self, kind: ErrorKind)
         ensures { self.new ≡ record self.old { failures = next_count self.old.failures; last = Some kind } }
@@ -141,6 +156,36 @@ fn write_once(connection: &Connection, buf: &[u8]) -> io::Result<usize>
         }
     }
     Err(ErrorKind::Interrupted.into())
+}
+
+// Writes two texts once, one behind the other. A call that a signal interrupts is made again.
+fn write_both_once(connection: &Connection, front: &[u8], back: &[u8]) -> io::Result<usize>
+    ensures { IfOk result (λ n. n ≤ length (front.now ++ back.now)) }
+{
+    for _ in 0..u64::MAX {
+        match connection.write_both_shared(front, back) {
+            Err(fault) if fault.kind() == ErrorKind::Interrupted => {}
+            written => return written,
+        }
+    }
+    Err(ErrorKind::Interrupted.into())
+}
+
+impl RefinedTcpStream {
+    ghost use Rattle.tiny_http_device.specs.Device.{PutsFront};
+    ghost use Rattle.tiny_http_socket.specs.Stream.{stream_sink};
+
+    /// Writes once to the client from the front of two texts, one behind the other, and not at all where both are empty. Else as
+    /// `write_out`.
+    pub fn write_both(&mut self, front: &[u8], back: &[u8]) -> Result<usize, io::Error>
+        ensures puts { PutsFront (stream_sink self.old) (stream_sink self.new) result (front.now ++ back.now) }
+    {
+        if front.is_empty() && back.is_empty() {
+            return Ok(0);
+        }
+        let written = write_both_once(&self.connection, front, back);
+        self.report(written)
+    }
 }
 
 impl Read for RefinedTcpStream {
@@ -193,14 +238,8 @@ impl WriteDevice for RefinedTcpStream {
         if buf.is_empty() {
             return Ok(0);
         }
-        let written = match write_once(&self.connection, buf) {
-            Ok(0) => Err(ErrorKind::WriteZero.into()),
-            written => written,
-        };
-        if let Err(e) = &written {
-            self.count(e.kind());
-        }
-        written
+        let written = write_once(&self.connection, buf);
+        self.report(written)
     }
 
     /// Nothing is held back.

@@ -1,6 +1,6 @@
 //! What the threads of a small HTTP server share: a queue, a pool of workers, two counts, and the line of those who use one
-//! reader or one writer after another. The locks stand here, but for the one over the `Headcount` that the tasks of a server
-//! share. `tiny_http` names its modules again.
+//! reader or one writer after another. Locks stand elsewhere in two places: over the `Headcount` that a server's tasks share,
+//! and over the bytes that wait in `tiny_http_corked`. `tiny_http` names the modules again.
 //!
 //! Who may touch what:
 //!

@@ -89,10 +89,11 @@ impl<T: Drop> Line<T> {
         Ok(Arc::new(alloc, line)?)
     }
 
-    /// The next number. An error where memory was refused, or no number is left.
-    pub fn issue<R: Wait>(&self, rt: &R) -> Result<u64, AllocError> {
-        match self.queue.lock(rt).turns.issue() {
-            Ok(number) => Ok(number),
+    /// The next number, and whether its turn has come. An error where memory was refused, or no number is left.
+    pub fn issue<R: Wait>(&self, rt: &R) -> Result<(u64, bool), AllocError> {
+        let mut queue = self.queue.lock(rt);
+        match queue.turns.issue() {
+            Ok(number) => Ok((number, queue.turns.first_unfinished() == number)),
             Err(_) => Err(AllocError),
         }
     }
@@ -147,6 +148,8 @@ pub(crate) struct Turn<T, R: Wait> {
     alloc: Global,
     line: Arc<Line<T>>,
     number: u64,
+    // Its turn had come as the number was issued.
+    is_next: bool,
     item: Option<Box<T>>,
 }
 
@@ -154,12 +157,13 @@ impl<T: Drop, R: Wait + Drop> Turn<T, R> {
     /// The next number of this line. An error where memory was refused, or no number is left.
     pub fn new(rt: R, alloc: Global, line: &Arc<Line<T>>) -> Result<Turn<T, R>, AllocError> {
         let line = Arc::try_clone(line)?;
-        let number = line.issue(&rt)?;
+        let (number, is_next) = line.issue(&rt)?;
         Ok(Turn {
             rt,
             alloc,
             line,
             number,
+            is_next,
             item: None,
         })
     }
@@ -167,6 +171,11 @@ impl<T: Drop, R: Wait + Drop> Turn<T, R> {
     /// The allocator that it was made with.
     pub fn alloc(&self) -> Global {
         self.alloc
+    }
+
+    /// Whether its turn had come as the number was issued: it comes without a wait.
+    pub fn is_next(&self) -> bool {
+        self.is_next
     }
 
     /// Waits for the turn unless it is held, holds it, and lends the item.
@@ -196,6 +205,7 @@ impl<T: Drop, R: Wait + Drop> Turn<T, R> {
             alloc: _,
             line,
             number,
+            is_next: _,
             item,
         } = self;
         let (item, text) = match item {

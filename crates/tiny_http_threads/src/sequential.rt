@@ -163,6 +163,11 @@ pub struct SequentialWriter<W: Write + Drop, R: Wait + Drop> {
 }
 
 impl<W: Write + Drop, R: Wait + Drop> SequentialWriter<W, R> {
+    /// Whether its turn had come as it was given out.
+    pub(crate) fn is_next(&self) -> bool {
+        self.turn.is_next()
+    }
+
     /// Waits for its turn, and lends the writer.
     pub(crate) fn hold(&mut self) -> &mut W {
         self.turn.hold()

@@ -15,6 +15,11 @@ pub fn held_reader<I: Read + Drop, R: Wait + Drop>(
     reader.held()
 }
 
+/// Whether the turn of this writer had come as it was given out: those before it were finished.
+pub fn is_next_writer<W: Write + Drop, R: Wait + Drop>(writer: &SequentialWriter<W, R>) -> bool {
+    writer.is_next()
+}
+
 /// Waits for the turn of this writer, and lends what it writes to.
 pub fn hold_writer<W: Write + Drop, R: Wait + Drop>(writer: &mut SequentialWriter<W, R>) -> &mut W {
     writer.hold()

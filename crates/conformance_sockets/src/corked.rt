@@ -1,0 +1,112 @@
+//! What waits in front of a writer, and what is read ahead of a reader.
+ghost use Rattle.std.specs.Prelude.{⊤};
+
+use crate::same::assert_same;
+use std::alloc::Global;
+use std::io::ErrorKind;
+use std::process::Abort;
+use tiny_http::corked::Corked;
+use tiny_http::device::{Budget, ByPieces, Canned, WriteDevice};
+use tiny_http::read_ahead::{BeforeRead, ReadAhead};
+
+// A writer that takes so many bytes, with nothing in front of it.
+fn corked_of(rt: &impl Abort, alloc: Global, room: usize) -> Corked<Budget> {
+    let writer = Budget::new(alloc, room, ErrorKind::BrokenPipe);
+    Corked::new(alloc, writer).expect(rt, "memory")
+}
+
+// These bytes are taken, all at once.
+fn assert_takes(rt: &impl Abort, corked: &mut Corked<Budget>, bytes: &[u8]) {
+    let taken = corked.write_out(bytes).expect(rt, "they are taken");
+    assert_same(rt, taken, bytes.len());
+}
+
+// What fits waits, and a flush sends it.
+fn assert_waits(rt: &impl Abort, alloc: Global) {
+    let mut corked = corked_of(rt, alloc, 100);
+    assert_takes(rt, &mut corked, b"ab");
+    assert_takes(rt, &mut corked, b"c");
+    assert_same(rt, corked.waiting(), b"abc".as_slice());
+    corked.flush_out().expect(rt, "it is sent");
+    assert_same(rt, corked.waiting(), b"".as_slice());
+    assert_same(rt, corked.into_inner().bytes(), b"abc".as_slice());
+}
+
+// A large piece goes past what waits, behind it.
+fn assert_goes_past(rt: &impl Abort, alloc: Global) {
+    let mut corked = corked_of(rt, alloc, 100_000);
+    assert_takes(rt, &mut corked, b"ab");
+    let piece = vec![in alloc; b'A'; 20_000].expect(rt, "memory");
+    assert_takes(rt, &mut corked, &piece);
+    assert_same(rt, corked.waiting(), b"".as_slice());
+    let sent = corked.into_inner().into_bytes();
+    assert_same(rt, sent.len(), 20_002);
+    assert_same(rt, sent.get(..3), Some(b"abA".as_slice()));
+}
+
+// The kind of the fault of a write of one byte, if it fails.
+fn fault_of(corked: &mut Corked<Budget>) -> Option<ErrorKind> {
+    corked.write_out(b"x").err().map(|fault| fault.kind())
+}
+
+// A fault that is met as what waits is sent is told by the next call, once.
+fn assert_tells_once(rt: &impl Abort, alloc: Global) {
+    let mut corked = corked_of(rt, alloc, 3);
+    assert_takes(rt, &mut corked, b"abcd");
+    corked.send_waiting();
+    assert_same(rt, corked.failures(), 0);
+    assert_same(rt, fault_of(&mut corked), Some(ErrorKind::BrokenPipe));
+    assert_same(rt, fault_of(&mut corked), None);
+    assert_same(rt, corked.failures(), 1);
+    assert_same(rt, corked.into_inner().bytes(), b"abc".as_slice());
+}
+
+#[test]
+fn what_is_written_waits(rt: HostRuntime) {
+    assert_waits(&rt, rt.alloc());
+    assert_goes_past(&rt, rt.alloc());
+    assert_tells_once(&rt, rt.alloc());
+}
+
+// How often a reader was called.
+#[derive(Drop)]
+struct Calls(u32);
+
+impl BeforeRead for Calls {
+    // The tests say how often.
+    ghost does = { λ _ _. ⊤ };
+
+    fn before_read(&mut self) {
+        self.0 = self.0.saturating_add(1);
+    }
+}
+
+// The next bytes are these, and the reader has been called so often by then.
+fn assert_next(
+    rt: &impl Abort,
+    ahead: &mut ReadAhead<ByPieces<Canned>>,
+    calls: &mut Calls,
+    row: (&[u8], u32),
+) {
+    let (wanted, count) = row;
+    let mut buf = [0u8; 2];
+    let n = ahead.read_after(calls, &mut buf).expect(rt, "it reads");
+    assert_same(rt, (buf.get(..n), calls.0), (Some(wanted), count));
+}
+
+// A reader that gives three bytes a call is called where none of them is left.
+fn assert_reads_ahead(rt: &impl Abort, alloc: Global) {
+    let bytes = b"abcdef".to_vec(alloc).expect(rt, "memory");
+    let reader = ByPieces::new(Canned::new(bytes, None), 3);
+    let mut ahead = ReadAhead::new(alloc, reader).expect(rt, "memory");
+    let mut calls = Calls(0);
+    let rows: [(&[u8], u32); 5] = [(b"ab", 1), (b"c", 1), (b"de", 2), (b"f", 2), (b"", 3)];
+    for row in rows {
+        assert_next(rt, &mut ahead, &mut calls, row);
+    }
+}
+
+#[test]
+fn what_is_read_ahead_is_given_first(rt: HostRuntime) {
+    assert_reads_ahead(&rt, rt.alloc());
+}

@@ -1,0 +1,94 @@
+//! Serving by a handler. The worker of each connection answers that connection's requests itself, one after another: no queue and
+//! no other thread stands between, and answers that follow each other leave together.
+use crate::accepting::{Arrival, Message};
+use crate::server::{Server, ServerRequest, ServerRuntime};
+use std::alloc::Global;
+use std::io;
+use std::sync::atomic::Ordering;
+use std::sync::{Arc, Wait};
+use std::time::Clock;
+use tiny_http_threads::task_pool::{Job, TaskPool};
+
+/// What answers the requests of a server that serves: `Q` is `ServerRequest<R>`. Many threads call it at once. (The request's type is
+/// a parameter, since no generated proof covers an implementation whose trait names that type itself.)
+pub trait Handler<R, Q> {
+    /// Answers a request. It may keep it too, and answer it later from any thread: the requests behind it are handed out
+    /// meanwhile, once its body was read or given up, and their answers wait for its answer. A request that is dropped is answered
+    /// by an empty 500, also where this call drops it as it fails; the server passes the error over.
+    ///
+    /// While this call runs, answers to earlier requests of the connection may wait to be sent with the answer to this one. A
+    /// handler that is to take long, or waits for something else that this client does, takes a raw writer or gives the request to
+    /// another thread and returns.
+    fn handle(&self, rt: &R, alloc: Global, request: Q) -> io::Result<()>;
+}
+
+// What a worker does by a handler.
+#[derive(Drop)]
+enum Work<R: Wait + Drop> {
+    // It answers the requests of a client, and closes its connection.
+    Client(Arrival<R>),
+    // It answers a request that was in the queue before the server served. None once it has.
+    Request(R, Option<ServerRequest<R>>),
+}
+
+// Work, and what it is done by.
+#[derive(Drop)]
+struct Service<H, R: Wait + Drop> {
+    alloc: Global,
+    handler: Arc<H>,
+    work: Work<R>,
+}
+
+impl<H: Handler<R, ServerRequest<R>> + Drop, R: Wait + Clock + Copy> Job for Service<H, R> {
+    /// Does the work.
+    fn run(&mut self) {
+        let handler = &*self.handler;
+        match &mut self.work {
+            Work::Client(arrival) => arrival.answer_by(self.alloc, handler),
+            Work::Request(rt, request) => {
+                if let Some(request) = request.take() {
+                    let _ = handler.handle(rt, self.alloc, request);
+                }
+            }
+        }
+    }
+}
+
+impl<R: ServerRuntime> Server<R> {
+    /// Serves by this handler, until `unblock` is called or accepting ends, whose fault is the error. It is also an error where
+    /// memory or threads for its first workers are refused; a client for which no worker is found later is closed. Each client has a
+    /// worker, which hands its requests to the handler one after another. Requests that came before this call are handed to it by
+    /// further workers.
+    ///
+    /// Answers wait for each other in a buffer of the connection, of 16,384 bytes, so a fault of the socket may be reported by a later
+    /// answer. What waits is sent before the connection is read, where more comes than there is room for, where a request is to wait
+    /// for another one or its body is read from the connection, and at the end. A flush of a raw writer or of an upgraded stream
+    /// sends it too, and so does a 100.
+    ///
+    /// From this call on the server serves, also where it has returned: clients that come then wait for the next call of it. The
+    /// clients that it has begun with are served on, until they or the server end.
+    pub fn serve<H: Handler<R, ServerRequest<R>> + Send + Sync + Drop + 'static>(
+        &self,
+        alloc: Global,
+        handler: &Arc<H>,
+    ) -> io::Result<()> {
+        let rt = self.rt;
+        let pool = TaskPool::new(rt, alloc)?;
+        self.serving.store(true, Ordering::SeqCst);
+        for _ in rt.forever() {
+            let work = match self.messages.pop(&rt) {
+                Some(Message::NewClient(arrival)) => Work::Client(arrival),
+                Some(Message::NewRequest(request)) => Work::Request(rt, Some(request)),
+                Some(Message::Error(fault)) => return Err(fault),
+                None => return Ok(()),
+            };
+            let service = Service {
+                alloc,
+                handler: Arc::try_clone(handler)?,
+                work,
+            };
+            let _ = pool.spawn(&rt, alloc, service);
+        }
+        Ok(())
+    }
+}

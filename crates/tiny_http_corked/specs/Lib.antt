@@ -1,0 +1,3 @@
+pub mod Corked
+pub mod ReadAhead
+pub mod Cork
