@@ -313,19 +313,22 @@ pub fn try_file<'a, F: Runner, O: Write>(
     Ok(places)
 }
 
-/// Tries the cases of all files in the first way, and those that did not differ in the second, where a case with a wrong reply
-/// might wait for ever. Whether no run differed.
+/// Tries the cases of all files in the first way, and those that did not differ in each of the others, where a case with a wrong
+/// reply might wait for ever. Whether no run differed.
 pub fn try_files<'a, F: Runner, G: Runner, O: Write>(
     alloc: Global,
-    (first, second): (&mut F, &mut G),
+    (first, others): (&mut F, &mut [G]),
     out: &mut O,
     files: &[CaseFile<'a>],
 ) -> Result<bool, FilesFault<'a>> {
     let mut is_same = true;
     for file in files {
         let one = try_file(alloc, first, out, file, &[])?;
-        let other = try_file(alloc, second, out, file, one.as_slice())?;
-        is_same = is_same && one.is_empty() && other.is_empty();
+        is_same = is_same && one.is_empty();
+        for way in others.iter_mut() {
+            let other = try_file(alloc, way, out, file, one.as_slice())?;
+            is_same = is_same && other.is_empty();
+        }
     }
     if out.flush().is_err() {
         return Err(FilesFault::CannotWrite);

@@ -1,27 +1,34 @@
 //! A connection, and what the program holds of its requests.
-use crate::shared::Shared;
+use crate::shared::Client;
 use case_files::devices::Reader;
+use httpdate::HttpDate;
 use std::alloc::{AllocError, Global};
 use std::io::Write;
-use std::sync::Wait;
+use std::sync::{Arc, Wait};
 use tiny_http_core::custom_stream::CustomStream;
 use tiny_http_core::outlet::Outlet;
+use tiny_http_corked::cork::{Cork, CorkedReader, CorkedWriter};
 use tiny_http_request::client::ClientConnection;
 use tiny_http_request::request::{Body, Request};
 use tiny_http_request::sequential::SequentialWriter;
-use tiny_http_wire::device::Metered;
 
 /// The writer below a connection's outlet.
-pub(crate) type Below<R> = Metered<Shared<R>>;
+pub(crate) type Below<R> = CorkedWriter<Client<R>, R>;
+
+/// The reader below a connection's input.
+pub(crate) type Input<R> = CorkedReader<Reader, Client<R>>;
+
+/// A connection.
+pub(crate) type Connected<R> = ClientConnection<Input<R>, Below<R>, R>;
 
 /// A request of these connections.
-pub(crate) type Asked<R> = Request<Reader, Below<R>, R>;
+pub(crate) type Asked<R> = Request<Input<R>, Below<R>, R>;
 
 /// A raw writer of these connections.
 pub(crate) type RawWriter<R> = SequentialWriter<Outlet<Below<R>>, R>;
 
 /// The stream of an upgrade.
-pub(crate) type Stream<R> = CustomStream<Body<Reader, R>, RawWriter<R>>;
+pub(crate) type Stream<R> = CustomStream<Body<Input<R>, R>, RawWriter<R>>;
 
 /// What is held under a number.
 #[derive(Drop)]
@@ -42,17 +49,30 @@ struct Numbered<R: Wait + Copy> {
 /// A connection, and what is held of its requests.
 #[derive(Drop)]
 pub(crate) struct Holding<R: Wait + Copy> {
-    pub(crate) client: ClientConnection<Reader, Below<R>, R>,
+    client: Connected<R>,
+    cork: Arc<Cork<Client<R>>>,
     items: Vec<Numbered<R>>,
 }
 
 impl<R: Wait + Copy> Holding<R> {
-    /// Holds nothing of this connection.
-    pub(crate) fn new(alloc: Global, client: ClientConnection<Reader, Below<R>, R>) -> Holding<R> {
+    /// Holds nothing of this connection, whose halves share this cork.
+    pub(crate) fn new(
+        alloc: Global,
+        client: Connected<R>,
+        cork: Arc<Cork<Client<R>>>,
+    ) -> Holding<R> {
         Holding {
             client,
+            cork,
             items: Vec::new(alloc),
         }
+    }
+
+    /// Goes to the next request. Answers that were left are sent before it, unless its answer may leave with them.
+    pub(crate) fn next(&mut self, now: HttpDate) -> Result<Option<Asked<R>>, AllocError> {
+        let next = self.client.next(now);
+        self.cork.send_unless_left();
+        next
     }
 
     /// Takes out what is held under a number, and whether it has written what may not have been sent yet.
@@ -81,7 +101,7 @@ impl<R: Wait + Copy> Holding<R> {
         self.items.push(item).map_err(AllocError::from)
     }
 
-    /// Sends what raw writers and streams have written.
+    /// Sends what raw writers and streams have written, and the answers that were left.
     pub(crate) fn send_held(&mut self) {
         for item in self.items.iter_mut() {
             if item.has_written {
@@ -92,5 +112,6 @@ impl<R: Wait + Copy> Holding<R> {
                 }
             }
         }
+        self.cork.send();
     }
 }

@@ -1,5 +1,5 @@
 //! Runs the cases of files: `cases FILE..`. Each case is run by `run_with`, and by requests behind locks in one thread if no call
-//! would have to wait there. It is tried by four readers, and with each call of its writer failing. docs/CASES.md describes
+//! would have to wait there: with answers that leave one by one, and with answers that leave together. It is tried by four readers, and with each call of its writer failing. docs/CASES.md describes
 //! the files.
 #![tactic(auto)]
 
@@ -9,7 +9,7 @@ mod holding;
 mod shared;
 mod treating;
 
-use crate::by_requests::ByRequests;
+use crate::by_requests::{ByRequests, Leaving};
 use crate::by_run::ByRun;
 use case_files::fault::FilesFault;
 use case_files::program::{Checker, NamedFile, run_program};
@@ -19,13 +19,13 @@ use std::io::Write;
 use std::process::ExitCode;
 use std::sync::Wait;
 
-// Tries the cases of files in both ways.
+// Tries the cases of files in the three ways.
 #[derive(Drop)]
-struct BothWays<R> {
+struct EachWay<R> {
     rt: R,
 }
 
-impl<R: Wait + Copy> Checker for BothWays<R> {
+impl<R: Wait + Copy> Checker for EachWay<R> {
     fn check<'a, O: Write>(
         &mut self,
         alloc: Global,
@@ -33,7 +33,9 @@ impl<R: Wait + Copy> Checker for BothWays<R> {
         out: &mut O,
     ) -> Result<bool, FilesFault<'a>> {
         let files = files_of(alloc, files)?;
-        let mut by_requests = ByRequests::new(self.rt);
+        let mut by_requests = [Leaving::Alone, Leaving::Together].map(|leaving| ByRequests::new(
+            self.rt, leaving,
+        ));
         try_files(alloc, (&mut ByRun, &mut by_requests), out, files.as_slice())
     }
 }
@@ -41,6 +43,6 @@ impl<R: Wait + Copy> Checker for BothWays<R> {
 fn main(rt: HostRuntime) -> ExitCode {
     let mut out = rt.stdout();
     let mut err = rt.stderr();
-    let mut both_ways = BothWays { rt };
-    ExitCode::from(run_program(&rt, "cases", &mut both_ways, &mut out, &mut err))
+    let mut each_way = EachWay { rt };
+    ExitCode::from(run_program(&rt, "cases", &mut each_way, &mut out, &mut err))
 }

@@ -3,6 +3,8 @@ use case_files::devices::Trier;
 use std::io;
 use std::io::Write;
 use std::sync::{Arc, Mutex, Wait};
+use tiny_http_corked::write_both::WriteBoth;
+use tiny_http_wire::device::{Metered, WriteDevice};
 
 /// Writes to the writer behind a lock.
 #[derive(Drop)]
@@ -24,5 +26,45 @@ impl<R: Wait> Write for Shared<R> {
 
     fn flush(&mut self) -> io::Result<()> {
         self.writer.lock(&self.rt).flush()
+    }
+}
+
+/// The writer of a trial in the place of a socket. Of two texts it takes one a call.
+#[derive(Drop)]
+pub(crate) struct Client<R> {
+    writer: Metered<Shared<R>>,
+}
+
+impl<R> Client<R> {
+    pub(crate) fn new(writer: Shared<R>) -> Client<R> {
+        let writer = Metered::new(writer);
+        Client { writer }
+    }
+}
+
+impl<R: Wait> WriteDevice for Client<R> {
+    ghost use Rattle.tiny_http_device.specs.Metered.{metered_sink};
+
+    ghost sink = { λ c. metered_sink c.writer };
+
+    fn failures(&self) -> u64 {
+        self.writer.failures()
+    }
+
+    fn write_out(&mut self, buf: &[u8]) -> io::Result<usize> {
+        self.writer.write_out(buf)
+    }
+
+    fn flush_out(&mut self) -> io::Result<()> {
+        self.writer.flush_out()
+    }
+}
+
+impl<R: Wait> WriteBoth for Client<R> {
+    fn write_both(&mut self, front: &[u8], back: &[u8]) -> io::Result<usize> {
+        if front.is_empty() {
+            return self.writer.write_out(back);
+        }
+        self.writer.write_out(front)
     }
 }

@@ -38,7 +38,7 @@ fn ask<R: Wait + Copy>(
     now: HttpDate,
     wanted: &[u8],
 ) -> Result<Vec<u8>, AllocError> {
-    let Ok(next) = holding.client.next(now) else {
+    let Ok(next) = holding.next(now) else {
         return word(alloc, "memory");
     };
     let Some(request) = next else {

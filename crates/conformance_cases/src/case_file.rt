@@ -601,8 +601,8 @@ fn assert_report(
         found: one,
         once: one,
     };
-    let mut second = Fixed { found: other, once };
-    let Ok(_) = try_files(alloc, (&mut first, &mut second), &mut out, files.as_slice()) else {
+    let mut others = [Fixed { found: other, once }];
+    let Ok(_) = try_files(alloc, (&mut first, &mut others), &mut out, files.as_slice()) else {
         return Err("no report".into());
     };
     assert_same(rt, str::from_utf8(out.as_slice())?, wanted);

@@ -70,6 +70,13 @@ pub fn send<S: Write>(rt: &impl Abort, stream: &mut S, text: &str) {
     send_bytes(rt, stream, text.as_bytes());
 }
 
+/// Sends this text so many times.
+pub fn send_often<S: Write>(rt: &impl Abort, stream: &mut S, text: &str, count: u16) {
+    for _ in 0..count {
+        send(rt, stream, text);
+    }
+}
+
 /// Sends so many bytes of a body.
 pub fn send_body<S: Write>(rt: &impl Abort, alloc: Global, stream: &mut S, length: usize) {
     let body = vec![in alloc; b'A'; length].expect(rt, "memory");

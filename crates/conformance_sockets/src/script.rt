@@ -2,7 +2,7 @@
 use crate::bench::{
     Host, assert_body, assert_body_of, assert_clients, assert_no_request, assert_reads,
     assert_reads_next, assert_responds, assert_responds_empty, connect, end_sending, receive, send,
-    send_body, serve, turns,
+    send_body, send_often, serve, turns,
 };
 use crate::by_path::{Kept, serve_by_path};
 use crate::same::{assert_holds, assert_same};
@@ -20,6 +20,8 @@ use tiny_http::server::{Server, ServerRequest, current_date};
 pub enum Step {
     /// The client sends this text.
     Send(&'static str),
+    /// It sends this text so many times.
+    SendOften(&'static str, u16),
     /// It sends so many bytes of a body.
     SendBody(usize),
     /// It sends no more.
@@ -199,6 +201,7 @@ fn respond_json<R: Host>(rt: &R, alloc: Global, request: ServerRequest<R>) {
 fn act<R: Host>(rt: &R, alloc: Global, stage: &mut Stage<R>, step: Step) {
     match step {
         Step::Send(text) => send(rt, client_of(rt, stage), text),
+        Step::SendOften(text, count) => send_often(rt, client_of(rt, stage), text, count),
         Step::SendBody(length) => send_body(rt, alloc, client_of(rt, stage), length),
         Step::End => end_sending(rt, client_of(rt, stage)),
         Step::NoDelay => client_of(rt, stage)

@@ -86,8 +86,37 @@ const EACH_THIRD: &[Step] = &[
     ]),
 ];
 
+const LAST: &str = "GET /b HTTP/1.1\r\nConnection: close\r\n\r\n";
+
+// A client goes while most of its answers are unread, which resets the connection. The next one is served.
+const RESET: &[Step] = &[
+    Step::SendOften("GET /a HTTP/1.1\r\n\r\n", 1000),
+    Step::Next(&[OK, DATED, ONE, "/a"]),
+    Step::Leave,
+    Step::Clients(0),
+    Step::Come,
+    Step::Send(LAST),
+    Step::Rest(&[OK, DATED, ONE, "/b"]),
+];
+
+// A client goes while 1,000 answers wait for one that was kept.
+const RESET_KEPT: &[Step] = &[
+    Step::Send("GET /keep HTTP/1.1\r\n\r\n"),
+    Step::SendOften("GET /a HTTP/1.1\r\n\r\n", 1000),
+    Step::Receive("/keep"),
+    Step::Leave,
+    Step::Turns(5),
+    Step::Drop,
+    Step::Clients(0),
+    Step::Come,
+    Step::Send(LAST),
+    Step::Rest(&[OK, DATED, ONE, "/b"]),
+];
+
 #[test]
 fn a_handler_answers(rt: HostRuntime) {
-    let rows = [KEPT, KEPT_BODY, HALF, OWED, UPGRADED, EACH_THIRD];
+    let rows = [
+        KEPT, KEPT_BODY, HALF, OWED, UPGRADED, EACH_THIRD, RESET, RESET_KEPT,
+    ];
     play_each(&rt, rt.alloc(), Way::Handle, &rows);
 }
