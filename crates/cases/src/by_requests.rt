@@ -1,6 +1,6 @@
 //! The cases by the calls of a connection and of its requests behind locks, in one thread.
 use crate::holding::{Below, Connected, Holding, Input};
-use crate::shared::{Client, Shared};
+use crate::shared::{Shared, TrialSocket};
 use crate::treating::treat;
 use case_files::case::Case;
 use case_files::outcome::Outcome;
@@ -9,7 +9,7 @@ use case_files::steps::{StepsFault, steps_of};
 use case_files::trial::Trial;
 use std::alloc::{AllocError, Global};
 use std::sync::{Arc, Mutex, Wait};
-use tiny_http_corked::cork::corked;
+use tiny_http_corked::cork::halves;
 use tiny_http_request::client::ClientConnection;
 
 /// When answers leave.
@@ -89,10 +89,10 @@ impl<R: Wait + Copy> Runner for ByRequests<R> {
     fn run(&mut self, alloc: Global, case: &Case, trial: Trial) -> Result<Outcome, StepsFault> {
         let writer = Arc::new(alloc, Mutex::new(trial.writer(alloc, case)));
         let writer = writer.map_err(AllocError::from)?;
-        let theirs = Client::new(Shared::new(self.rt, Arc::try_clone(&writer)?));
+        let theirs = TrialSocket::new(Shared::new(self.rt, Arc::try_clone(&writer)?));
         let reader = trial.reader(alloc, case)?;
-        let halves = corked(self.rt, alloc, reader, theirs)?;
-        let mut holding = self.connected(alloc, case, halves)?;
+        let both = halves(self.rt, alloc, reader, theirs)?;
+        let mut holding = self.connected(alloc, case, both)?;
         let mut replies = Vec::new(alloc);
         let mut wanted = case.steps.iter().filter(|step| !step.is_date());
         for timed in steps_of(alloc, case)? {

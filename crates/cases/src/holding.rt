@@ -1,5 +1,5 @@
 //! A connection, and what the program holds of its requests.
-use crate::shared::Client;
+use crate::shared::TrialSocket;
 use case_files::devices::Reader;
 use httpdate::HttpDate;
 use std::alloc::{AllocError, Global};
@@ -13,10 +13,10 @@ use tiny_http_request::request::{Body, Request};
 use tiny_http_request::sequential::SequentialWriter;
 
 /// The writer below a connection's outlet.
-pub(crate) type Below<R> = CorkedWriter<Client<R>, R>;
+pub(crate) type Below<R> = CorkedWriter<TrialSocket<R>, R>;
 
 /// The reader below a connection's input.
-pub(crate) type Input<R> = CorkedReader<Reader, Client<R>>;
+pub(crate) type Input<R> = CorkedReader<Reader, TrialSocket<R>>;
 
 /// A connection.
 pub(crate) type Connected<R> = ClientConnection<Input<R>, Below<R>, R>;
@@ -50,7 +50,7 @@ struct Numbered<R: Wait + Copy> {
 #[derive(Drop)]
 pub(crate) struct Holding<R: Wait + Copy> {
     client: Connected<R>,
-    cork: Arc<Cork<Client<R>>>,
+    cork: Arc<Cork<TrialSocket<R>>>,
     items: Vec<Numbered<R>>,
 }
 
@@ -59,7 +59,7 @@ impl<R: Wait + Copy> Holding<R> {
     pub(crate) fn new(
         alloc: Global,
         client: Connected<R>,
-        cork: Arc<Cork<Client<R>>>,
+        cork: Arc<Cork<TrialSocket<R>>>,
     ) -> Holding<R> {
         Holding {
             client,
@@ -71,7 +71,7 @@ impl<R: Wait + Copy> Holding<R> {
     /// Goes to the next request. Answers that were left are sent before it, unless its answer may leave with them.
     pub(crate) fn next(&mut self, now: HttpDate) -> Result<Option<Asked<R>>, AllocError> {
         let next = self.client.next(now);
-        self.cork.send_unless_left();
+        self.cork.send_unless_leaving();
         next
     }
 

@@ -31,18 +31,18 @@ impl<R: Wait> Write for Shared<R> {
 
 /// The writer of a trial in the place of a socket. Of two texts it takes one a call.
 #[derive(Drop)]
-pub(crate) struct Client<R> {
+pub(crate) struct TrialSocket<R> {
     writer: Metered<Shared<R>>,
 }
 
-impl<R> Client<R> {
-    pub(crate) fn new(writer: Shared<R>) -> Client<R> {
+impl<R> TrialSocket<R> {
+    pub(crate) fn new(writer: Shared<R>) -> TrialSocket<R> {
         let writer = Metered::new(writer);
-        Client { writer }
+        TrialSocket { writer }
     }
 }
 
-impl<R: Wait> WriteDevice for Client<R> {
+impl<R: Wait> WriteDevice for TrialSocket<R> {
     ghost use Rattle.tiny_http_device.specs.Metered.{metered_sink};
 
     ghost sink = { λ c. metered_sink c.writer };
@@ -60,7 +60,7 @@ impl<R: Wait> WriteDevice for Client<R> {
     }
 }
 
-impl<R: Wait> WriteBoth for Client<R> {
+impl<R: Wait> WriteBoth for TrialSocket<R> {
     fn write_both(&mut self, front: &[u8], back: &[u8]) -> io::Result<usize> {
         if front.is_empty() {
             return self.writer.write_out(back);

@@ -8,7 +8,7 @@ use std::sync::{Arc, Barrier, Wait};
 use std::thread;
 use std::time::Duration;
 use tiny_http::connection::Connection;
-use tiny_http::cork::{Cork, corked};
+use tiny_http::cork::{Cork, halves};
 use tiny_http::device::{WriteDevice, put};
 use tiny_http::refined_tcp_stream::RefinedTcpStream;
 use tiny_http::server::ServerWriter;
@@ -41,7 +41,7 @@ fn assert_round<R: Host>(
     cork: &Cork<RefinedTcpStream>,
     barrier: &Barrier,
 ) {
-    cork.flush_policy().leave();
+    cork.flush_policy().leave_at_flush();
     barrier.wait(rt);
     barrier.wait(rt);
     cork.send();
@@ -56,10 +56,10 @@ fn assert_sends_what_is_left<R: Host>(rt: &R, alloc: Global) {
     let (ours, mut peer) = UnixStream::pair(rt).expect(rt, "a pair");
     let timed = peer.set_read_timeout(Some(Duration::from_secs(5)));
     timed.expect(rt, "reads that wait for 5 s");
-    let halves = RefinedTcpStream::new(alloc, Connection::from(ours));
-    let (reader, writer) = halves.expect(rt, "memory");
-    let halves = corked(*rt, alloc, reader, writer);
-    let (reader, writer) = halves.expect(rt, "memory");
+    let both = RefinedTcpStream::new(alloc, Connection::from(ours));
+    let (reader, writer) = both.expect(rt, "memory");
+    let both = halves(*rt, alloc, reader, writer);
+    let (reader, writer) = both.expect(rt, "memory");
     let cork = Arc::try_clone(writer.cork()).ok().expect(rt, "memory");
     let barrier = Arc::new(alloc, Barrier::new(2)).ok();
     let barrier = barrier.expect(rt, "memory");

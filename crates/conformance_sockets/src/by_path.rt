@@ -2,7 +2,8 @@
 use crate::bench::{Host, text};
 use std::alloc::Global;
 use std::io::{Read, Write};
-use std::sync::Arc;
+use std::sync::{Arc, Wait};
+use std::thread::JoinHandle;
 use std::{io, thread};
 use tiny_http::common::StatusCode;
 use tiny_http::messages_queue::MessagesQueue;
@@ -66,13 +67,21 @@ impl<R: ServerRuntime> Handler<R, ServerRequest<R>> for ByPath<R> {
     }
 }
 
-/// Has a thread serve so until the server is unblocked. What its handler keeps.
+/// A thread that serves, and what its handler keeps.
+#[derive(Drop)]
+pub struct Serving<R: Wait + Drop> {
+    pub kept: Arc<Kept<R>>,
+    // Whether it ended well.
+    pub thread: JoinHandle<bool>,
+}
+
+/// Has a thread serve so until the server is unblocked.
 pub fn serve_by_path<R: Host>(
     rt: &R,
     alloc: Global,
     server: &Arc<Server<R>>,
     keeps_all: bool,
-) -> Arc<Kept<R>> {
+) -> Serving<R> {
     let kept = MessagesQueue::with_capacity(alloc, 8).expect(rt, "memory");
     let theirs = Arc::try_clone(&kept).ok().expect(rt, "memory");
     let by_path = ByPath {
@@ -81,9 +90,7 @@ pub fn serve_by_path<R: Host>(
     };
     let handler = Arc::new(alloc, by_path).ok().expect(rt, "memory");
     let served = Arc::try_clone(server).ok().expect(rt, "memory");
-    let started = thread::spawn(rt, move || {
-        let _ = served.serve(alloc, &handler);
-    });
-    started.ok().expect(rt, "a thread");
-    kept
+    let started = thread::spawn(rt, move || served.serve(alloc, &handler).is_ok());
+    let thread = started.ok().expect(rt, "a thread");
+    Serving { kept, thread }
 }

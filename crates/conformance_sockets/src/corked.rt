@@ -49,7 +49,7 @@ fn fault_of(corked: &mut Corked<Budget>) -> Option<ErrorKind> {
     corked.write_out(b"x").err().map(|fault| fault.kind())
 }
 
-// A fault that is met as what waits is sent is told by the next call, once.
+// A fault that is met as what waits is sent is reported by the next call, once.
 fn assert_tells_once(rt: &impl Abort, alloc: Global) {
     let mut corked = corked_of(rt, alloc, 3);
     assert_takes(rt, &mut corked, b"abcd");

@@ -4,7 +4,7 @@ use crate::bench::{
     assert_reads_next, assert_responds, assert_responds_empty, connect, end_sending, receive, send,
     send_body, send_often, serve, turns,
 };
-use crate::by_path::{Kept, serve_by_path};
+use crate::by_path::{Serving, serve_by_path};
 use crate::same::{assert_holds, assert_same};
 use std::alloc::Global;
 use std::collections::VecDeque;
@@ -62,6 +62,10 @@ pub enum Step {
     Drop,
     /// No request is left.
     NoRequest,
+    /// The server begins to serve by the path.
+    Serve,
+    /// Whoever serves is unblocked, and ends to.
+    EndServing,
     /// The server is dropped.
     Close,
 }
@@ -81,8 +85,8 @@ pub enum Way {
 #[derive(Drop)]
 pub struct Stage<R: Net + SocketFiles + Wait + Drop> {
     server: Option<Arc<Server<R>>>,
-    // Those that a handler has kept, where the server serves.
-    kept: Option<Arc<Kept<R>>>,
+    // Who serves, where the server does.
+    serving: Option<Serving<R>>,
     clients: VecDeque<TcpStream>,
     requests: VecDeque<ServerRequest<R>>,
 }
@@ -91,18 +95,18 @@ pub struct Stage<R: Net + SocketFiles + Wait + Drop> {
 pub fn stage_of<R: Host>(rt: &R, alloc: Global, way: Way) -> Stage<R> {
     let server = Arc::new(alloc, serve(rt, alloc)).ok();
     let server = server.expect(rt, "memory");
-    let kept = if way == Way::Recv {
+    let serving = if way == Way::Recv {
         None
     } else {
         Some(serve_by_path(rt, alloc, &server, way == Way::Keep))
     };
     let mut stage = Stage {
         server: Some(server),
-        kept,
+        serving,
         clients: VecDeque::new(alloc),
         requests: VecDeque::new(alloc),
     };
-    if stage.kept.is_some() {
+    if stage.serving.is_some() {
         wait_until_served(rt, alloc, &mut stage);
     }
     come(rt, &mut stage);
@@ -129,19 +133,34 @@ fn server_of<'a, R: Host>(rt: &R, stage: &'a Stage<R>) -> &'a Server<R> {
 
 // The next request.
 fn receive_in<R: Host>(rt: &R, stage: &Stage<R>) -> ServerRequest<R> {
-    match &stage.kept {
+    match &stage.serving {
         None => receive(rt, server_of(rt, stage)),
-        Some(kept) => kept.pop(rt).expect(rt, "a request"),
+        Some(serving) => serving.kept.pop(rt).expect(rt, "a request"),
     }
 }
 
-// Lets the server go. One that serves ends to.
-fn close<R: Host>(stage: &mut Stage<R>) {
-    if let Some(server) = stage.server.take()
-        && stage.kept.is_some()
-    {
-        let _ = server.unblock();
+// Lets the server go. One that serves ends to, and has gone then.
+fn close<R: Host>(rt: &R, stage: &mut Stage<R>) {
+    let server = stage.server.take();
+    if let Some(serving) = stage.serving.take() {
+        let unblocked = server.map(|server| server.unblock().is_ok());
+        assert_same(rt, unblocked, Some(true));
+        assert_holds(rt, "serving ends well", serving.thread.join(rt));
     }
+}
+
+// The server begins to serve by the path.
+fn begin_to_serve<R: Host>(rt: &R, alloc: Global, stage: &mut Stage<R>) {
+    let server = stage.server.as_ref().expect(rt, "a server");
+    stage.serving = Some(serve_by_path(rt, alloc, server, false));
+}
+
+// Whoever serves is unblocked, and ends to.
+fn end_serving<R: Host>(rt: &R, stage: &mut Stage<R>) {
+    let serving = stage.serving.take().expect(rt, "one who serves");
+    let unblocked = server_of(rt, stage).unblock();
+    unblocked.ok().expect(rt, "memory");
+    assert_holds(rt, "serving ends well", serving.thread.join(rt));
 }
 
 // The client that stands first.
@@ -226,7 +245,9 @@ fn act<R: Host>(rt: &R, alloc: Global, stage: &mut Stage<R>, step: Step) {
         Step::RespondJson => respond_json(rt, alloc, take_request(rt, stage)),
         Step::Drop => drop(take_request(rt, stage)),
         Step::NoRequest => assert_no_request(rt, server_of(rt, stage)),
-        Step::Close => close(stage),
+        Step::Serve => begin_to_serve(rt, alloc, stage),
+        Step::EndServing => end_serving(rt, stage),
+        Step::Close => close(rt, stage),
     }
 }
 
@@ -241,7 +262,7 @@ pub fn act_all<R: Host>(rt: &R, alloc: Global, stage: &mut Stage<R>, steps: &[St
 pub fn play<R: Host>(rt: &R, alloc: Global, way: Way, steps: &[Step]) {
     let mut stage = stage_of(rt, alloc, way);
     act_all(rt, alloc, &mut stage, steps);
-    close(&mut stage);
+    close(rt, &mut stage);
 }
 
 /// The same rows by `recv`, and by a handler that keeps each request.

@@ -99,7 +99,7 @@ const RESET: &[Step] = &[
     Step::Rest(&[OK, DATED, ONE, "/b"]),
 ];
 
-// A client goes while 1,000 answers wait for one that was kept.
+// A client goes while an answer waits for one that was kept, and 999 requests stand behind it.
 const RESET_KEPT: &[Step] = &[
     Step::Send("GET /keep HTTP/1.1\r\n\r\n"),
     Step::SendOften("GET /a HTTP/1.1\r\n\r\n", 1000),
@@ -112,6 +112,45 @@ const RESET_KEPT: &[Step] = &[
     Step::Send(LAST),
     Step::Rest(&[OK, DATED, ONE, "/b"]),
 ];
+
+// The server is dropped while a client is served: its next request is dropped, and is the last.
+const DROPPED_SERVER: &[Step] = &[
+    Step::Send("GET /a HTTP/1.1\r\n\r\n"),
+    Step::Next(&[OK, DATED, ONE, "/a"]),
+    Step::Close,
+    Step::Send("GET /b HTTP/1.1\r\n\r\n"),
+    Step::Rest(&[DROPPED, DATED, NOTHING]),
+];
+
+// A client comes while nobody serves. No request comes of it, and the next one who serves does so.
+const WAITING_CLIENT: &[Step] = &[
+    Step::Leave,
+    Step::Clients(0),
+    Step::EndServing,
+    Step::Come,
+    Step::Send(LAST),
+    Step::Clients(1),
+    Step::NoRequest,
+    Step::Serve,
+    Step::Rest(&[OK, DATED, ONE, "/b"]),
+];
+
+// A request came before the server serves, and a further one of that client comes then.
+const BEFORE: &[Step] = &[
+    Step::Send("GET /a HTTP/1.1\r\n\r\n"),
+    Step::Turns(20),
+    Step::Serve,
+    Step::Next(&[OK, DATED, ONE, "/a"]),
+    Step::Send(LAST),
+    Step::Rest(&[OK, DATED, ONE, "/b"]),
+];
+
+#[test]
+fn clients_are_handed_over(rt: HostRuntime) {
+    play_each(&rt, rt.alloc(), Way::Recv, &[BEFORE]);
+    let rows = [DROPPED_SERVER, WAITING_CLIENT];
+    play_each(&rt, rt.alloc(), Way::Handle, &rows);
+}
 
 #[test]
 fn a_handler_answers(rt: HostRuntime) {

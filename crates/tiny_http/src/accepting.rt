@@ -13,7 +13,7 @@ use std::sync::{Arc, Mutex, Wait};
 use std::thread::Threads;
 use std::time::{Clock, Duration};
 use tiny_http_core::framing::Profile;
-use tiny_http_corked::cork::{Cork, corked};
+use tiny_http_corked::cork::{Cork, halves};
 use tiny_http_request::client::ClientConnection;
 use tiny_http_socket::connection::{Connection, Listener};
 use tiny_http_socket::refined_tcp_stream::RefinedTcpStream;
@@ -167,7 +167,7 @@ impl<R: Wait + Clock + Copy> Client<R> {
             if self.close.load(Ordering::SeqCst) {
                 return;
             }
-            self.cork.send_unless_left();
+            self.cork.send_unless_leaving();
             let _ = handler.handle(&rt, alloc, request);
         }
     }
@@ -201,7 +201,10 @@ impl<R: Wait + Clock + Copy> Arrival<R> {
     /// next request is dropped, and is the last.
     pub fn answer_by<H: Handler<R, ServerRequest<R>>>(&mut self, alloc: Global, handler: &H) {
         let next = self.next.take();
-        if !self.client.close.load(Ordering::SeqCst) {
+        if self.client.close.load(Ordering::SeqCst) {
+            // A request that is held would be waited for.
+            drop(next);
+        } else {
             if let Some(request) = next {
                 let _ = handler.handle(&self.client.rt, alloc, request);
             }
@@ -306,7 +309,7 @@ impl<R: Wait + Clock + Threads + Copy + Send + 'static> Accepting<R> {
         let presence = Presence::enter(self.rt, &self.connections)?;
         let secure = reader.secure();
         let (rt, profile) = (self.rt, self.profile);
-        let (reader, writer) = corked(rt, self.alloc, reader, writer).ok()?;
+        let (reader, writer) = halves(rt, self.alloc, reader, writer).ok()?;
         let cork = Arc::try_clone(writer.cork()).ok()?;
         let made = ClientConnection::over_with(
             rt,

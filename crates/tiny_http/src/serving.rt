@@ -12,13 +12,14 @@ use tiny_http_threads::task_pool::{Job, TaskPool};
 /// What answers the requests of a server that serves: `Q` is `ServerRequest<R>`. Many threads call it at once. (The request's type is
 /// a parameter, since no generated proof covers an implementation whose trait names that type itself.)
 pub trait Handler<R, Q> {
-    /// Answers a request. It may keep it too, and answer it later from any thread: the requests behind it are handed out
-    /// meanwhile, once its body was read or given up, and their answers wait for its answer. A request that is dropped is answered
-    /// by an empty 500, also where this call drops it as it fails; the server passes the error over.
+    /// Answers a request. It may keep it too, and answer it later from any thread: the next request is handed out meanwhile, once
+    /// the body of the kept one was read or given up. To respond to that one then waits for the kept one's answer, in this call, and
+    /// no further request of the connection is handed out meanwhile. A request that is dropped is answered by an empty 500, also
+    /// where this call drops it as it fails; the server passes the error over.
     ///
-    /// While this call runs, answers to earlier requests of the connection may wait to be sent with the answer to this one. A
-    /// handler that is to take long, or waits for something else that this client does, takes a raw writer or gives the request to
-    /// another thread and returns.
+    /// What this call writes may wait to be sent until it has returned, up to 16,384 bytes, and so may answers to earlier requests
+    /// of the connection. A handler that has more to do behind its answer, whose data come slowly, or that waits for something else
+    /// that this client does, gives the request to another thread and returns; or it takes a raw writer, and flushes that.
     fn handle(&self, rt: &R, alloc: Global, request: Q) -> io::Result<()>;
 }
 
@@ -65,8 +66,11 @@ impl<R: ServerRuntime> Server<R> {
     /// for another one or its body is read from the connection, and at the end. A flush of a raw writer or of an upgraded stream
     /// sends it too, and so does a 100.
     ///
-    /// From this call on the server serves, also where it has returned: clients that come then wait for the next call of it. The
-    /// clients that it has begun with are served on, until they or the server end.
+    /// Once the first workers are there the server serves, also where this call has returned: clients that come then wait for the
+    /// next call of it. The clients that it has begun with are served on, until they or the server end.
+    ///
+    /// A client that reads no answer stops its worker once the socket takes no more, and its further requests aren't read then: one
+    /// that sends many requests has to read meanwhile.
     pub fn serve<H: Handler<R, ServerRequest<R>> + Send + Sync + Drop + 'static>(
         &self,
         alloc: Global,

@@ -16,8 +16,8 @@ use tiny_http_device::device::{ReadDevice, WriteDevice};
 #[derive(Drop)]
 pub struct FlushPolicy {
     may_leave: AtomicBool,
-    // A flush has left bytes since `stop_and_take` was last called.
-    has_left: AtomicBool,
+    // Bytes may have been left since `stop_and_take` was last called.
+    may_wait: AtomicBool,
 }
 
 impl FlushPolicy {
@@ -25,17 +25,17 @@ impl FlushPolicy {
     fn new() -> FlushPolicy {
         FlushPolicy {
             may_leave: AtomicBool::new(false),
-            has_left: AtomicBool::new(false),
+            may_wait: AtomicBool::new(false),
         }
     }
 
     /// From now on a flush leaves its bytes.
-    pub fn leave(&self) {
+    pub fn leave_at_flush(&self) {
         self.may_leave.store(true, Ordering::SeqCst);
     }
 
     /// From now on each flush sends, what waits included.
-    pub fn send(&self) {
+    pub fn send_at_flush(&self) {
         self.may_leave.store(false, Ordering::SeqCst);
     }
 
@@ -44,18 +44,19 @@ impl FlushPolicy {
         self.may_leave.load(Ordering::SeqCst)
     }
 
-    // From now on each flush sends. Whether one has left bytes since this was last asked.
+    // From now on each flush sends. Whether bytes may have been left since this was last asked.
     fn stop_and_take(&self) -> bool {
-        self.send();
-        self.has_left.swap(false, Ordering::SeqCst)
+        self.send_at_flush();
+        self.may_wait.swap(false, Ordering::SeqCst)
     }
 
-    // Whether a flush leaves its bytes. It is asked again once they count as left, since `stop_and_take` may have come between.
+    // Whether bytes that are written or flushed now are left. It is asked again once they count as left, since `stop_and_take` may
+    // have come between.
     fn leaves(&self) -> bool {
         if !self.may_leave() {
             return false;
         }
-        self.has_left.store(true, Ordering::SeqCst);
+        self.may_wait.store(true, Ordering::SeqCst);
         self.may_leave()
     }
 }
@@ -87,7 +88,7 @@ impl<W: WriteBoth + Drop> Cork<W> {
         &self.flush_policy
     }
 
-    /// From now on each flush sends; and what a flush has left is sent. It waits for no other thread, though it may wait for the
+    /// From now on each flush sends; and what was left is sent. It waits for no other thread, though it may wait for the
     /// socket: where another thread has the lock, that one is asked to send it. A fault is reported by the next write, or by the
     /// next flush that sends.
     pub fn send(&self) {
@@ -103,7 +104,7 @@ impl<W: WriteBoth + Drop> Cork<W> {
     }
 
     /// The same, where a flush may not leave its bytes. Where it may, nothing is done.
-    pub fn send_unless_left(&self) {
+    pub fn send_unless_leaving(&self) {
         if !self.flush_policy.may_leave() {
             self.send();
         }
@@ -131,9 +132,8 @@ impl<W: WriteBoth + Drop> Cork<W> {
     fn write<Rt: Wait>(&self, rt: &Rt, buf: &[u8]) -> io::Result<usize>
         ensures { IfOk result (λ n. (n ≤ length buf.now) × (0 < length buf.now → 0 < n)) }
     {
-        let may_wait = self.flush_policy.may_leave();
         let mut corked = self.corked.lock(rt);
-        let written = if may_wait {
+        let written = if self.flush_policy.leaves() {
             corked.write_out(buf)
         } else {
             corked.write_past(buf)
@@ -242,7 +242,7 @@ impl<R: ReadDevice + Drop, W: WriteBoth + Drop> ReadDevice for CorkedReader<R, W
 }
 
 /// The two halves of a connection over this reader and this writer. An error where memory was refused.
-pub fn corked<R: ReadDevice + Drop, W: WriteBoth + Drop, Rt: Wait + Drop>(
+pub fn halves<R: ReadDevice + Drop, W: WriteBoth + Drop, Rt: Wait + Drop>(
     rt: Rt,
     alloc: Global,
     reader: R,

@@ -1,5 +1,5 @@
 //! A writer in front of which bytes wait.
-ghost use Rattle.std.specs.Prelude.{◌≡◌, ◌≢◌, ◌≤◌, ◌++◌, false, [], length, vec_len, None, Some, Ok, IfOk, IfErr, IfSome, OnOk, IsOk};
+ghost use Rattle.std.specs.Prelude.{◌≡◌, ◌≢◌, ◌≤◌, ◌++◌, false, [], length, vec_len, None, Some, Ok, IfOk, IfErr, IfSome, OnOk, OnErr, IsOk};
 ghost use Rattle.std.specs.IoError.{error_kind};
 ghost use Rattle.tiny_http_device.specs.Device.{BeginsKnown, Failed, Puts, PutsFront, HoldsNothing, next_count};
 ghost use Rattle.tiny_http_corked.specs.declared.corked.TheConstants.{ROOM};
@@ -26,8 +26,8 @@ enum State {
     Ended,
 }
 
-/// A writer in front of which up to 16,384 bytes wait. They are sent where more come than there is room for, by a flush, and by
-/// `send_waiting`. After its first fault it sends nothing; the call that meets the fault reports it, or the next one where
+/// A writer in front of which up to 16,384 bytes wait. They are sent where more come than there is room for, by a flush, by
+/// `write_past`, and by `send_waiting`. After its first fault it sends nothing; the call that meets the fault reports it, or the next one where
 /// `send_waiting` met it. From then on it takes nothing, and answers `Ok`.
 #[derive(Drop)]
 pub struct Corked<W: WriteBoth> {
@@ -112,6 +112,7 @@ impl<W: WriteBoth> Corked<W> {
         sent?;
         self.writer.flush_out()
     }
+
     // Hands what waits to the writer, with these bytes behind it, and says how many of these it took.
     fn pass(&mut self, buf: &[u8]) -> Result<usize, io::Error>
         ensures puts { PassesBehind self.old.sink self.new.sink self.old.waiting result buf.now }
@@ -144,6 +145,7 @@ impl<W: WriteBoth> Corked<W> {
         ensures puts { PutsFront (corked_sink self.old) (corked_sink self.new) result buf.now }
         ensures fault { IfErr result (λ e. Failed self.old.sink self.new.sink (self.old.waiting ++ buf.now) (error_kind e)) }
         ensures none { self.new.waiting ≡ [] }
+        ensures ends { OnErr result (self.new.state ≡ Ended) }
     {
         match self.pass(buf) {
             Ok(n) => Ok(n),
@@ -156,6 +158,7 @@ impl<W: WriteBoth> Corked<W> {
         requires open { self.old.state ≡ Open }
         ensures puts { PutsFront (corked_sink self.old) (corked_sink self.new) result buf.now }
         ensures fault { IfErr result (λ e. Failed self.old.sink self.new.sink (self.old.waiting ++ buf.now) (error_kind e)) }
+        ensures ends { OnErr result (self.new.state ≡ Ended) }
     {
         let room = ROOM.saturating_sub(self.waiting.len());
         if buf.len() <= room && self.waiting.extend_from_slice(buf).is_ok() {
@@ -171,6 +174,7 @@ impl<W: WriteBoth> Corked<W> {
         ensures puts { Puts (corked_sink self.old) (corked_sink self.new) result [] }
         ensures sent { OnOk result ((corked_sink self.new).has_ended ≡ false → HoldsNothing (corked_sink self.new)) }
         ensures none { self.new.waiting ≡ [] }
+        ensures ends { OnErr result (self.new.state ≡ Ended) }
     {
         match self.send() {
             Ok(()) => Ok(()),
@@ -184,6 +188,8 @@ impl<W: WriteBoth> Corked<W> {
         ensures none { self.new.waiting ≡ [] }
         ensures fault { self.old.state ≡ Open → IfErr result (λ e. Failed self.old.sink self.new.sink (self.old.waiting ++ buf.now) (error_kind e)) }
         ensures reported { IfSome (unreported self.old) (λ kind. ReportsFault self.old self.new result kind) }
+        // After a fault nothing more is taken.
+        ensures ends { OnErr result (self.new.state ≡ Ended) }
         ensures ended { self.old.state ≡ Ended → (result ≡ Ok (length buf.now)) × (self.new ≡ self.old) }
     {
         match self.state {
@@ -228,6 +234,8 @@ impl<W: WriteBoth> WriteDevice for Corked<W> {
         ensures puts { PutsFront (corked_sink self.old) (corked_sink self.new) result buf.now }
         ensures fault { self.old.state ≡ Open → IfErr result (λ e. Failed self.old.sink self.new.sink (self.old.waiting ++ buf.now) (error_kind e)) }
         ensures reported { IfSome (unreported self.old) (λ kind. ReportsFault self.old self.new result kind) }
+        // After a fault nothing more is taken.
+        ensures ends { OnErr result (self.new.state ≡ Ended) }
         ensures ended { self.old.state ≡ Ended → (result ≡ Ok (length buf.now)) × (self.new ≡ self.old) }
     {
         match self.state {
@@ -244,6 +252,7 @@ impl<W: WriteBoth> WriteDevice for Corked<W> {
         ensures none { self.new.waiting ≡ [] }
         ensures fault { self.old.state ≡ Open → IfErr result (λ e. Failed self.old.sink self.new.sink self.old.waiting (error_kind e)) }
         ensures reported { IfSome (unreported self.old) (λ kind. ReportsFault self.old self.new result kind) }
+        ensures ends { OnErr result (self.new.state ≡ Ended) }
         ensures ended { self.old.state ≡ Ended → IsOk result × (self.new ≡ self.old) }
     {
         match self.state {

@@ -147,7 +147,7 @@ impl<R: ReadDevice + Drop, W: WriteDevice + Drop, Rt: Wait + Copy> ClientConnect
     /// Has answers leave together: flushes leave their bytes where this lets them. It does for a request whose turn has come as it is
     /// handed out, and whose body isn't read from the connection; else it doesn't, from the moment at which the request is handed
     /// out. A raw writer, an upgrade and a 100 end it too. The caller has what was left sent by the `Cork` of this policy: by
-    /// `send_unless_left` behind each `next`, and by `send` at the end.
+    /// `send_unless_leaving` after each `next`, and by `send` at the end.
     pub fn set_flush_policy(&mut self, flush_policy: Arc<FlushPolicy>)
         ensures over { IsOver self.new ↔ IsOver self.old }
         ensures same { (client_secure self.new ≡ client_secure self.old) × (client_address self.new ≡ client_address self.old) × (client_profile self.new ≡ client_profile self.old) }
@@ -246,9 +246,9 @@ fn set_policy(
         return Ok(None);
     };
     if may_leave {
-        flush_policy.leave();
+        flush_policy.leave_at_flush();
     } else {
-        flush_policy.send();
+        flush_policy.send_at_flush();
     }
     Ok(Some(Arc::try_clone(flush_policy)?))
 }

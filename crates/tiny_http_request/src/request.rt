@@ -198,7 +198,7 @@ impl<R: ReadDevice + Drop, W: WriteDevice + Drop, Rt: Wait + Drop> Request<R, W,
     // Has each later flush of the connection send: a program's own isn't to leave its bytes.
     fn send_at_flush(&self) {
         if let Some(flush_policy) = &self.flush_policy {
-            flush_policy.send();
+            flush_policy.send_at_flush();
         }
     }
 
