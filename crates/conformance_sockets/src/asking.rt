@@ -19,13 +19,16 @@ const ROUNDS: usize = 1_000;
 // So many bytes the second piece has.
 const LENGTH: usize = 8_000;
 
-// Writes a byte, which a flush leaves, and a long piece while the other thread has the byte sent. Then all is sent.
+// Writes a byte, which is left, and a long piece while the other thread has the byte sent. Then all is sent. In every other round
+// a flush leaves the byte too.
 fn write_rounds<R: Host>(rt: &R, mut writer: ServerWriter<R>, barrier: &Barrier) {
     let piece = [b'b'; LENGTH];
-    for _ in 0..ROUNDS {
+    for round in 0..ROUNDS {
         barrier.wait(rt);
         let _ = put(&mut writer, b"a");
-        let _ = writer.flush_out();
+        if round % 2 == 0 {
+            let _ = writer.flush_out();
+        }
         barrier.wait(rt);
         let _ = put(&mut writer, &piece);
         barrier.wait(rt);
