@@ -92,12 +92,17 @@ static int listen_at(char *address) {
 }
 
 int main(int count, char **words) {
-    int listener = count == 3 ? listen_at(words[2]) : -1, epolls[4], next = 0;
-    while (listener >= 0 && build <= EPOLL && strcmp(words[1], BUILDS[build]) != 0)
+    int epolls[4], next = 0;
+    while (count == 3 && build <= EPOLL && strcmp(words[1], BUILDS[build]) != 0)
         build++;
-    if (listener < 0 || build > EPOLL) {
+    if (count != 3 || build > EPOLL) {
         fprintf(stderr, "usage: floor threads|yields|looks|epoll ADDRESS\n");
         return 2;
+    }
+    int listener = listen_at(words[2]);
+    if (listener < 0) {
+        fprintf(stderr, "floor: cannot listen\n");
+        return 1;
     }
     for (int i = 0; build == EPOLL && i < 4; i++)
         start(serve_all, epolls[i] = epoll_create1(0));
