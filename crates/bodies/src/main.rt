@@ -1,39 +1,44 @@
-//! Reads the bodies of requests and sends long ones: `bodies ADDRESS`. It stands on `tiny_http`.
+//! Reads the bodies of requests and sends long ones: `bodies recv|serve ADDRESS FILE`. It stands on `tiny_http`. By `recv` four
+//! threads receive requests; by `serve` each connection's worker answers its own.
 //!
-//! A `PUT` or a `POST` is answered by the length of its body. `GET /identity` is answered by 1 MiB of `x`, and `GET /chunked`
-//! by the same in chunks. Any other request is answered 404.
+//! A `PUT` or a `POST` is answered by the length of its body. `GET /identity` is answered by the bytes that the file had at the
+//! start, from memory, and `GET /chunked` by the same in chunks; `GET /file` and `GET /file/chunked` by those of the file. Any other
+//! request is answered 404.
 #![tactic(auto)]
 
 use std::alloc::Global;
-use std::io::{ErrorKind, Read, Repeat, Take, Write};
-use std::sync::Wait;
+use std::fs::{File, Files};
+use std::io::{ErrorKind, Read, Write};
+use std::sync::{Arc, Wait};
 use std::time::Clock;
-use std::{env, io, thread};
+use std::{env, fs, io, thread};
 use tiny_http::common::{Method, StatusCode};
 use tiny_http::device::{Metered, ReadDevice};
 use tiny_http::response::Response;
 use tiny_http::server::{Server, ServerRequest, ServerRuntime, current_date};
+use tiny_http::serving::Handler;
 
 // So many bytes one read of a body asks for.
 const PIECE: usize = 8192;
 
-// So many bytes a long answer has: 1 MiB.
-const LONG: usize = 1 << 20;
+// What opens a file to be sent. Any runtime with files does.
+trait DataFiles {
+    // Opens the file of this name. The system's fault where it can't.
+    fn open_data(&self, name: &str) -> io::Result<File>;
+}
 
-// Sends an answer. That the client doesn't take it is passed over.
-fn send<R: Clock + Wait + Drop, D: ReadDevice + Drop>(
-    rt: &R,
-    request: ServerRequest<R>,
-    response: Response<D>,
-) {
-    let _ = request.respond(response, current_date(rt));
+impl<R: Files<File = File>> DataFiles for R {
+    fn open_data(&self, name: &str) -> io::Result<File> {
+        File::open(self, name)
+    }
 }
 
 // Reads a body to its end, piece by piece, and gives its length.
-fn length_of<D: ReadDevice>(body: &mut D, buf: &mut [u8]) -> io::Result<u64> {
+fn length_of<D: ReadDevice>(body: &mut D) -> io::Result<u64> {
+    let mut buf = [0u8; PIECE];
     let mut count = 0u64;
     for _ in 0..u64::MAX {
-        let n = body.read_in(buf)?;
+        let n = body.read_in(&mut buf)?;
         if n == 0 {
             return Ok(count);
         }
@@ -50,95 +55,139 @@ fn is_cut(length: Option<usize>, count: u64) -> bool {
     }
 }
 
-// Answers a request by the length of its body. One whose body is cut or broken, or for whose answer there is no memory, is
-// dropped.
+// Answers a request by the length of its body. One whose body is cut or broken is dropped.
 fn answer_length<R: Clock + Wait + Drop>(
     rt: &R,
     alloc: Global,
-    buf: &mut [u8],
     mut request: ServerRequest<R>,
-) {
-    let Ok(count) = length_of(request.as_reader(current_date(rt)), buf) else {
-        return;
-    };
+) -> io::Result<()> {
+    let count = length_of(request.as_reader(current_date(rt)))?;
     if is_cut(request.body_length(), count) {
-        return;
+        return Err(ErrorKind::UnexpectedEof.into());
     }
-    let Ok(text) = format!(in alloc; "{count}") else {
-        return;
-    };
-    if let Ok(response) = Response::from_string(alloc, text) {
-        send(rt, request, response);
+    let text = format!(in alloc; "{count}")?;
+    let response = Response::from_string(alloc, text)?;
+    request.respond(response, current_date(rt))
+}
+
+// A file that is sent, and its bytes.
+#[derive(Drop)]
+struct Data {
+    name: String,
+    bytes: Vec<u8>,
+}
+
+impl Data {
+    // Answers by the bytes in memory, in chunks if the threshold is at most their number.
+    fn answer_from_memory<R: Clock + Wait + Drop>(
+        &self,
+        rt: &R,
+        alloc: Global,
+        request: ServerRequest<R>,
+        threshold: usize,
+    ) -> io::Result<()> {
+        let data = Metered::new(self.bytes.as_slice());
+        let response = Response::empty(alloc, StatusCode(200))
+            .with_data(data, Some(self.bytes.len()))
+            .with_chunked_threshold(threshold);
+        request.respond(response, current_date(rt))
+    }
+
+    // The same, from the file.
+    fn answer_from_file<R: DataFiles + Clock + Wait + Drop>(
+        &self,
+        rt: &R,
+        alloc: Global,
+        request: ServerRequest<R>,
+        threshold: usize,
+    ) -> io::Result<()> {
+        let file = rt.open_data(self.name.as_str())?;
+        let response = Response::from_file(alloc, file).with_chunked_threshold(threshold);
+        request.respond(response, current_date(rt))
     }
 }
 
-// An answer of 1 MiB of `x`, sent in chunks if the threshold is at most so long.
-fn long_answer(alloc: Global, threshold: usize) -> Response<Metered<Take<Repeat>>> {
-    let data = Metered::new(io::repeat(b'x').take(LONG as u64));
-    Response::empty(alloc, StatusCode(200))
-        .with_data(data, Some(LONG))
-        .with_chunked_threshold(threshold)
+impl<R: DataFiles + Clock + Wait + Drop> Handler<R, ServerRequest<R>> for Data {
+    /// Answers the request. One whose body is cut or broken, or for whose answer there is no memory or no file, is dropped.
+    fn handle(&self, rt: &R, alloc: Global, request: ServerRequest<R>) -> io::Result<()> {
+        match (request.method(), request.url()) {
+            (Method::Put | Method::Post, _) => answer_length(rt, alloc, request),
+            (Method::Get, "/identity") => self.answer_from_memory(rt, alloc, request, usize::MAX),
+            (Method::Get, "/chunked") => self.answer_from_memory(rt, alloc, request, 0),
+            (Method::Get, "/file") => self.answer_from_file(rt, alloc, request, usize::MAX),
+            (Method::Get, "/file/chunked") => self.answer_from_file(rt, alloc, request, 0),
+            _ => request.respond(Response::empty(alloc, StatusCode(404)), current_date(rt)),
+        }
+    }
 }
 
-// Answers a request.
-fn answer<R: Clock + Wait + Drop>(
+// Answers requests until the server has no more, and then has another thread, if one waits, end too.
+fn answer_all<R: ServerRuntime + DataFiles>(
     rt: &R,
     alloc: Global,
-    buf: &mut [u8],
-    request: ServerRequest<R>,
+    server: &Server<R>,
+    data: &Data,
 ) {
-    match (request.method(), request.url()) {
-        (Method::Put | Method::Post, _) => answer_length(rt, alloc, buf, request),
-        (Method::Get, "/identity") => send(rt, request, long_answer(alloc, usize::MAX)),
-        (Method::Get, "/chunked") => send(rt, request, long_answer(alloc, 0)),
-        _ => send(rt, request, Response::empty(alloc, StatusCode(404))),
-    }
-}
-
-// Answers requests until the server has no more, and then has another thread, if one waits, end too. Bodies are read into
-// one buffer.
-fn answer_all<R: ServerRuntime>(rt: &R, alloc: Global, server: &Server<R>) {
-    let mut buf = [0u8; PIECE];
     let mut requests = server.incoming_requests();
     for _ in rt.forever() {
         let Some(request) = requests.next() else {
             let _ = server.unblock();
             return;
         };
-        answer(rt, alloc, &mut buf, request);
+        let _ = data.handle(rt, alloc, request);
     }
 }
 
 // Answers all requests of a server, by two threads.
-fn answer_by_two<R: ServerRuntime + Sync>(rt: &R, alloc: Global, server: &Server<R>) {
+fn answer_by_two<R: ServerRuntime + DataFiles + Sync>(
+    rt: &R,
+    alloc: Global,
+    server: &Server<R>,
+    data: &Data,
+) {
     thread::join(
         rt,
-        || answer_all(rt, alloc, server),
-        || answer_all(rt, alloc, server),
+        || answer_all(rt, alloc, server, data),
+        || answer_all(rt, alloc, server, data),
     );
 }
 
 // Answers all requests of a server, by four threads.
-fn answer_by_four<R: ServerRuntime + Sync>(rt: &R, alloc: Global, server: &Server<R>) {
+fn answer_by_four<R: ServerRuntime + DataFiles + Sync>(
+    rt: &R,
+    alloc: Global,
+    server: &Server<R>,
+    data: &Data,
+) {
     thread::join(
         rt,
-        || answer_by_two(rt, alloc, server),
-        || answer_by_two(rt, alloc, server),
+        || answer_by_two(rt, alloc, server, data),
+        || answer_by_two(rt, alloc, server, data),
     );
 }
 
 fn main(rt: HostRuntime) -> io::Result<()> {
-    let words: Vec<String> = env::args(&rt)?.collect(rt.alloc())?;
-    let [_, address] = words.as_slice() else {
+    let alloc = rt.alloc();
+    let words: Vec<String> = env::args(&rt)?.collect(alloc)?;
+    let [_, how, address, name] = words.as_slice() else {
         return Err(ErrorKind::InvalidInput.into());
     };
-    let Ok(server) = Server::http(rt, rt.alloc(), address.as_str()) else {
+    let bytes = fs::read(&rt, name.as_str())?;
+    let name = String::from_str(alloc, name.as_str())?;
+    let data = Data { name, bytes };
+    let Ok(server) = Server::http(rt, alloc, address.as_str()) else {
         return Err(ErrorKind::AddrNotAvailable.into());
     };
     let listens_at = server.server_addr();
     let mut out = rt.stdout();
     writeln!(out, "listening on {listens_at}")?;
     out.flush()?;
-    answer_by_four(&rt, rt.alloc(), &server);
-    Ok(())
+    match how.as_str() {
+        "recv" => {
+            answer_by_four(&rt, alloc, &server, &data);
+            Ok(())
+        }
+        "serve" => server.serve(alloc, &Arc::new(alloc, data)?),
+        _ => Err(ErrorKind::InvalidInput.into()),
+    }
 }
