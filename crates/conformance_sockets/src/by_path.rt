@@ -4,11 +4,12 @@ use std::alloc::Global;
 use std::io::{Read, Write};
 use std::sync::{Arc, Wait};
 use std::thread::JoinHandle;
+use std::time::Clock;
 use std::{io, thread};
 use tiny_http::common::StatusCode;
 use tiny_http::messages_queue::MessagesQueue;
 use tiny_http::response::Response;
-use tiny_http::server::{Server, ServerRequest, ServerRuntime, current_date};
+use tiny_http::server::{Server, ServerRequest, current_date};
 use tiny_http::serving::Handler;
 
 /// Requests that a handler has kept.
@@ -16,13 +17,17 @@ pub type Kept<R> = MessagesQueue<ServerRequest<R>>;
 
 // Answers by the path of a request.
 #[derive(Drop)]
-struct ByPath<R: ServerRuntime + Drop> {
+struct ByPath<R: Wait + Drop> {
     kept: Arc<Kept<R>>,
     keeps_all: bool,
 }
 
 // Answers by the body of the request.
-fn echo<R: ServerRuntime>(rt: &R, alloc: Global, request: ServerRequest<R>) -> io::Result<()> {
+fn echo<R: Wait + Clock + Drop>(
+    rt: &R,
+    alloc: Global,
+    request: ServerRequest<R>,
+) -> io::Result<()> {
     let mut request = request;
     let mut body = Vec::new(alloc);
     request.as_reader(current_date(rt)).read_to_end(&mut body)?;
@@ -30,7 +35,11 @@ fn echo<R: ServerRuntime>(rt: &R, alloc: Global, request: ServerRequest<R>) -> i
 }
 
 // Upgrades to a protocol that sends `hello` and no more.
-fn greet<R: ServerRuntime>(rt: &R, alloc: Global, request: ServerRequest<R>) -> io::Result<()> {
+fn greet<R: Wait + Clock + Drop>(
+    rt: &R,
+    alloc: Global,
+    request: ServerRequest<R>,
+) -> io::Result<()> {
     let response = Response::empty(alloc, StatusCode(101));
     let Ok(mut stream) = request.upgrade("greet", response, current_date(rt)) else {
         return Ok(());
@@ -40,7 +49,7 @@ fn greet<R: ServerRuntime>(rt: &R, alloc: Global, request: ServerRequest<R>) -> 
 }
 
 // Answers by the path itself.
-fn answer_path<R: ServerRuntime>(
+fn answer_path<R: Wait + Clock + Drop>(
     rt: &R,
     alloc: Global,
     request: ServerRequest<R>,
@@ -49,7 +58,7 @@ fn answer_path<R: ServerRuntime>(
     request.respond(response, current_date(rt))
 }
 
-impl<R: ServerRuntime> Handler<R, ServerRequest<R>> for ByPath<R> {
+impl<R: Wait + Clock + Drop> Handler<R, ServerRequest<R>> for ByPath<R> {
     /// Keeps a request for `/keep`, drops one for `/drop`, answers one for `/echo` by its body, upgrades one for `/greet`, and
     /// answers each other one by its path.
     fn handle(&self, rt: &R, alloc: Global, request: ServerRequest<R>) -> io::Result<()> {
