@@ -14,7 +14,7 @@ use crate::by_run::ByRun;
 use case_files::fault::FilesFault;
 use case_files::program::{Checker, NamedFile, run_program};
 use case_files::report::{files_of, try_files};
-use std::alloc::Global;
+use std::alloc::{AllocError, Global};
 use std::io::Write;
 use std::process::ExitCode;
 use std::sync::Wait;
@@ -33,10 +33,14 @@ impl<R: Wait + Copy> Checker for EachWay<R> {
         out: &mut O,
     ) -> Result<bool, FilesFault<'a>> {
         let files = files_of(alloc, files)?;
-        let mut by_requests = [Leaving::Alone, Leaving::Together].map(|leaving| ByRequests::new(
-            self.rt, leaving,
-        ));
-        try_files(alloc, (&mut ByRun, &mut by_requests), out, files.as_slice())
+        let mut by_requests = Vec::new(alloc);
+        for leaving in [Leaving::Alone, Leaving::Together] {
+            by_requests
+                .push(ByRequests::new(self.rt, leaving))
+                .map_err(AllocError::from)?;
+        }
+        let ways = (&mut ByRun, by_requests.as_mut_slice());
+        try_files(alloc, ways, out, files.as_slice())
     }
 }
 
