@@ -1,5 +1,6 @@
 //! One thread has what waits sent while another one writes.
 use crate::bench::Host;
+use crate::leaving::{Ends, ends_of};
 use std::alloc::Global;
 use std::io::Read;
 use std::os::unix::net::UnixStream;
@@ -7,8 +8,7 @@ use std::process::Abort;
 use std::sync::{Arc, Barrier, Wait};
 use std::thread;
 use std::time::Duration;
-use tiny_http::connection::Connection;
-use tiny_http::cork::{Cork, halves};
+use tiny_http::cork::Cork;
 use tiny_http::device::{WriteDevice, put};
 use tiny_http::refined_tcp_stream::RefinedTcpStream;
 use tiny_http::server::ServerWriter;
@@ -56,14 +56,12 @@ fn assert_round<R: Host>(
 
 // A byte that was left isn't forgotten, whichever thread has the lock.
 fn assert_sends_what_is_left<R: Host>(rt: &R, alloc: Global) {
-    let (ours, mut peer) = UnixStream::pair(rt).expect(rt, "a pair");
-    let timed = peer.set_read_timeout(Some(Duration::from_secs(5)));
-    timed.expect(rt, "reads that wait for 5 s");
-    let both = RefinedTcpStream::new(alloc, Connection::from(ours));
-    let (reader, writer) = both.expect(rt, "memory");
-    let both = halves(*rt, alloc, reader, writer);
-    let (reader, writer) = both.expect(rt, "memory");
-    let cork = Arc::try_clone(writer.cork()).ok().expect(rt, "memory");
+    let Ends {
+        mut peer,
+        cork,
+        reader,
+        writer,
+    } = ends_of(rt, alloc, Duration::from_secs(5));
     let barrier = Arc::new(alloc, Barrier::new(2)).ok();
     let barrier = barrier.expect(rt, "memory");
     let theirs = Arc::try_clone(&barrier).ok().expect(rt, "memory");

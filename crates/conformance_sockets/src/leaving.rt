@@ -23,23 +23,47 @@ struct Pair<R: Wait + Drop> {
     client: ClientConnection<ServerReader, ServerWriter<R>, R>,
 }
 
-// A connection and its client, each read of whom waits for 1 ms.
-fn pair_of<R: Host>(rt: &R, alloc: Global) -> Pair<R> {
+// The two halves of a connection whose answers leave together, and its client.
+#[derive(Drop)]
+pub struct Ends<R: Wait + Drop> {
+    pub peer: UnixStream,
+    pub cork: Arc<Cork<RefinedTcpStream>>,
+    pub reader: ServerReader,
+    pub writer: ServerWriter<R>,
+}
+
+// A connection's halves and its client, each read of whom waits so long at most.
+pub fn ends_of<R: Host>(rt: &R, alloc: Global, wait: Duration) -> Ends<R> {
     let (ours, peer) = UnixStream::pair(rt).expect(rt, "a pair");
-    let timed = peer.set_read_timeout(Some(Duration::from_millis(1)));
-    timed.expect(rt, "reads that wait for 1 ms");
+    let timed = peer.set_read_timeout(Some(wait));
+    timed.expect(rt, "reads that wait so long");
     let both = RefinedTcpStream::new(alloc, Connection::from(ours));
     let (reader, writer) = both.expect(rt, "memory");
     let both = halves(*rt, alloc, reader, writer);
     let (reader, writer) = both.expect(rt, "memory");
     let cork = Arc::try_clone(writer.cork()).ok().expect(rt, "memory");
-    let policy = Arc::try_clone(cork.flush_policy())
+    Ends {
+        peer,
+        cork,
+        reader,
+        writer,
+    }
+}
+
+// A connection and its client, each read of whom waits for 1 ms.
+fn pair_of<R: Host>(rt: &R, alloc: Global) -> Pair<R> {
+    let ends = ends_of(rt, alloc, Duration::from_millis(1));
+    let policy = Arc::try_clone(ends.cork.flush_policy())
         .ok()
         .expect(rt, "memory");
-    let made = ClientConnection::over(*rt, alloc, writer, reader, None, false);
+    let made = ClientConnection::over(*rt, alloc, ends.writer, ends.reader, None, false);
     let mut client = made.expect(rt, "memory");
     client.set_flush_policy(policy);
-    Pair { peer, cork, client }
+    Pair {
+        peer: ends.peer,
+        cork: ends.cork,
+        client,
+    }
 }
 
 // The next request, as a worker that serves takes it.

@@ -145,9 +145,20 @@ const BEFORE: &[Step] = &[
     Step::Rest(&[OK, DATED, ONE, "/b"]),
 ];
 
+// A client waits while nobody asks for requests. The server is dropped, and the client's request with it.
+const LEFT_OVER: &[Step] = &[
+    Step::Serve,
+    Step::Turns(20),
+    Step::EndServing,
+    Step::Send("GET /a HTTP/1.1\r\n\r\n"),
+    Step::Turns(20),
+    Step::Close,
+    Step::Rest(&[DROPPED, DATED, NOTHING]),
+];
+
 #[test]
 fn clients_are_handed_over(rt: HostRuntime) {
-    play_each(&rt, rt.alloc(), Way::Recv, &[BEFORE]);
+    play_each(&rt, rt.alloc(), Way::Recv, &[BEFORE, LEFT_OVER]);
     let rows = [DROPPED_SERVER, WAITING_CLIENT];
     play_each(&rt, rt.alloc(), Way::Handle, &rows);
 }

@@ -29,7 +29,7 @@ impl FlushPolicy {
         }
     }
 
-    /// From now on a flush leaves its bytes.
+    /// From now on a flush leaves its bytes, and a write may leave what it was given.
     pub fn leave_at_flush(&self) {
         self.may_leave.store(true, Ordering::SeqCst);
     }

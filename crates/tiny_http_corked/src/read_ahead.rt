@@ -8,21 +8,10 @@ ghost use Rattle.tiny_http_corked.specs.declared.read_ahead.TheConstants.{PIECE}
 use std::alloc::{AllocError, Global};
 use std::io;
 use std::marker::Model;
-use tiny_http_device::device::ReadDevice;
+use tiny_http_device::device::{ReadDevice, copy_front};
 
 /// So many bytes are asked for at once.
 pub const PIECE: usize = 16_384;
-
-// Copies as many bytes as both have, and says how many.
-fn copy_front(from: &[u8], to: &mut [u8]) -> usize
-    ensures count { result ≡ min (length from.now) (length to.old) }
-    ensures len { length to.new ≡ length to.old }
-    ensures copied { take result to.new ≡ take result from.now }
-{
-    let n = from.len().min(to.len());
-    to[..n].copy_from_slice(&from[..n]);
-    n
-}
 
 /// What is done each time before a reader is called.
 pub trait BeforeRead {

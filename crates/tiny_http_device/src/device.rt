@@ -53,8 +53,8 @@ pub trait WriteDevice {
         ensures sent { OnOk result ((sink self.new).has_ended ≡ false → HoldsNothing (sink self.new)) };
 }
 
-// Copies as many bytes as both have, and says how many.
-fn copy_front(from: &[u8], to: &mut [u8]) -> usize
+/// Copies bytes from the front of `from` to that of `to`, as many as both have, and says how many.
+pub fn copy_front(from: &[u8], to: &mut [u8]) -> usize
     ensures count { result ≡ min (length from.now) (length to.old) }
     ensures len { length to.new ≡ length to.old }
     ensures copied { take result to.new ≡ take result from.now }
