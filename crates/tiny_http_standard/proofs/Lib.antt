@@ -1,0 +1,3 @@
+pub mod HostsLemmas
+pub mod LinesLemmas
+pub mod NumbersLemmas

@@ -1,0 +1,61 @@
+-- Hosts and their ports (RFC 3986, section 3.2; RFC 9112, section 3.2).
+use Rattle.std.specs.Prelude.{◌≡◌, ◌≢◌, ℕ, ◌⊎◌, Bool, true, false, ◌&&◌, ◌||◌, ◌==◌, nat_lt, List, [], ◌∷◌, ◌++◌, Option, Some, None, IsTrue, codes}
+use Rattle.std.specs.List.{list_all, list_any}
+use Rattle.std.specs.Char.{is_ascii_alphanumeric, is_ascii_digit, is_ascii_hexdigit}
+use Rattle.tiny_http_text.specs.Bytes.{colon, point}
+use Rattle.tiny_http_head.specs.Heads.{length_of}
+
+abbrev pub percent : ℕ
+percent = 37
+
+abbrev pub slash : ℕ
+slash = 47
+
+-- two hexadecimal digits stand in front
+abbrev pub begins_with_two_hexadecimal_digits : List ℕ → Bool
+begins_with_two_hexadecimal_digits [] = false
+begins_with_two_hexadecimal_digits (a ∷ []) = false
+begins_with_two_hexadecimal_digits (a ∷ b ∷ bs) = is_ascii_hexdigit a && is_ascii_hexdigit b
+
+-- a byte of a registered name that stands for itself
+abbrev pub is_registered_name_byte : ℕ → Bool
+is_registered_name_byte b = is_ascii_alphanumeric b || list_any (λ c. c == b) (codes "-._~!$&'()*+,;=")
+
+-- reg-name: such bytes, and percent signs, each with two hexadecimal digits behind it
+abbrev pub is_registered_name : List ℕ → Bool
+is_registered_name [] = true
+is_registered_name (b ∷ bs) = (is_registered_name_byte b || (b == percent && begins_with_two_hexadecimal_digits bs)) && is_registered_name bs
+
+-- a byte of an address
+abbrev pub is_address_byte : ℕ → Bool
+is_address_byte b = is_ascii_hexdigit b || (b == colon || b == point)
+
+-- IP-literal: hexadecimal digits, colons and points in brackets. The address itself isn't judged.
+pub record IsIpLiteral (text : List ℕ) : Type 0 where
+  pub address : List ℕ
+  pub joins : text ≡ codes "[" ++ address ++ codes "]"
+  pub not_empty : address ≢ []
+  pub bytes : IsTrue (list_all is_address_byte address)
+
+-- uri-host, which may not be empty: an address in brackets, or a name
+abbrev pub IsHost : List ℕ → Type 0
+IsHost text = IsIpLiteral text ⊎ ((text ≢ []) × IsTrue (is_registered_name text))
+
+-- uri-host ":" port, whose digits may be none
+pub record HostAndPort (text host port : List ℕ) : Type 0 where
+  pub joins : text ≡ host ++ colon ∷ port
+  pub is_host : IsHost host
+  pub digits : IsTrue (list_all is_ascii_digit port)
+
+-- the value of a Host header: empty, or a host with or without a port
+abbrev pub IsHostValue : List ℕ → Type 0
+IsHostValue value = (value ≡ []) ⊎ (IsHost value ⊎ ((host : List ℕ) × (port : List ℕ) × HostAndPort value host port))
+
+-- a number is there, and is 1 to 65535
+abbrev pub is_port_number : Option ℕ → Bool
+is_port_number None = false
+is_port_number (Some n) = nat_lt 0 n && nat_lt n 65536
+
+-- authority-form, the target of a CONNECT: a host, and a port from 1 to 65535
+abbrev pub IsAuthority : List ℕ → Type 0
+IsAuthority target = (host : List ℕ) × (port : List ℕ) × HostAndPort target host port × IsTrue (is_port_number (length_of port))

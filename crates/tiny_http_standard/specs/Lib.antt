@@ -1,0 +1,5 @@
+pub mod Hosts
+pub mod Lines
+pub mod Lists
+pub mod Judging
+pub mod JudgingReading

@@ -1,0 +1,29 @@
+-- The lists that headers are (RFC 9110, sections 5.3 and 5.6.1). `TE` is read where the coding of an answer is chosen.
+use Rattle.std.specs.Prelude.{ℕ, Bool, List, [], ◌∷◌, ◌++◌, map, if◌then◌else◌}
+use Rattle.std.specs.List.{list_any}
+use Rattle.httparse.specs.Grammar.{is_ows}
+use Rattle.tiny_http_text.specs.Bytes.{trimmed, parts, comma}
+use Rattle.tiny_http_head.specs.declared.common.Header.{Header}
+use Rattle.tiny_http_head.specs.Common.{same_name}
+
+-- the values of all headers of that name, in their order
+abbrev pub values_of : List ℕ → List Header → List (List ℕ)
+values_of name [] = []
+values_of name (h ∷ hs) = if same_name h.field name then h.value ∷ values_of name hs else values_of name hs
+
+-- what stands between the commas of a value, without white space (space and tab) round it
+abbrev pub between_commas : List ℕ → List (List ℕ)
+between_commas value = map (trimmed is_ows) (parts comma value)
+
+-- the elements of all headers of that name, the empty ones too
+abbrev pub elements_of : List ℕ → List Header → List (List ℕ)
+elements_of name [] = []
+elements_of name (h ∷ hs) = if same_name h.field name then between_commas h.value ++ elements_of name hs else elements_of name hs
+
+-- some element of the headers of that name passes the test
+abbrev pub has_element_that : List ℕ → (List ℕ → Bool) → List Header → Bool
+has_element_that name test headers = list_any test (elements_of name headers)
+
+-- the word is an element of the headers of that name, without case
+abbrev pub has_element : List ℕ → List ℕ → List Header → Bool
+has_element name word headers = has_element_that name (λ element. same_name element word) headers

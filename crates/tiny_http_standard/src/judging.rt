@@ -1,0 +1,326 @@
+//! What a whole head says, and why it is refused (RFC 9112, sections 3.2, 6 and 9.3; RFC 9110, sections 7.8, 10.1.1 and 15).
+ghost use Rattle.std.specs.Prelude.{◌≡◌, ◌↔◌, IsTrue, codes, None};
+ghost use Rattle.std.specs.List.{list_any};
+ghost use Rattle.httparse.specs.Grammar.{is_ows};
+ghost use Rattle.tiny_http_text.specs.Bytes.{trimmed};
+ghost use Rattle.tiny_http_standard.specs.Lists.{values_of, between_commas, elements_of, has_element_that};
+ghost use Rattle.tiny_http_standard.specs.Judging.{HasValidHost, is_1_0, is_protocol, has_body, is_connect, is_last, asks_upgrade, Judges};
+ghost use Rattle.tiny_http_standard.specs.JudgingReading.{is_wanted, same_length, lengths_on, coding_after, codings_on, body_by};
+ghost use Rattle.tiny_http_standard.specs.declared.judging.Codings.TheVariants.{Absent};
+
+use crate::hosts::is_host_value;
+use crate::lines::{trim_end, trim_front};
+use crate::numbers::number_in;
+use httparse::is_token;
+use tiny_http_head::common::{HTTPVersion, Header, Method};
+use tiny_http_text::bytes::cut;
+
+/// What a head says of its body, and of the connection.
+#[derive(Clone, Copy, Debug, PartialEq, Eq)]
+pub struct HeadSummary {
+    /// The length that `Content-Length` says. There is no body where it is `Some(0)`, or `None` without chunks.
+    pub body_length: Option<usize>,
+    /// Whether the body comes in chunks.
+    pub is_chunked: bool,
+    /// Whether a 100 is owed before the body.
+    pub owes_continue: bool,
+    /// Whether the head asks for another protocol.
+    pub asks_upgrade: bool,
+    /// Whether the head alone makes its request the connection's last.
+    pub is_last: bool,
+}
+
+/// Why a head of good lines is refused.
+#[derive(Clone, Copy, Debug, PartialEq, Eq)]
+pub enum Refusal {
+    /// Its major version isn't 1: 505 (RFC 9110, section 15.6.6).
+    UnsupportedVersion,
+    /// Its host is missing or invalid, or there is a second one, or what frames its body is invalid: 400 (RFC 9112, sections 3.2
+    /// and 6).
+    InvalidHead,
+    /// Codings are named in front of a last `chunked`, in version 1.1 or later and without a length: 501 (RFC 9112, section 6.1).
+    UnknownCoding,
+    /// It expects something else than a 100: 417 (RFC 9110, section 10.1.1).
+    UnknownExpectation,
+}
+
+// What an element of a list is looked at for.
+#[derive(Clone, Copy)]
+enum Wanted {
+    Close,
+    KeepAlive,
+    Upgrade,
+    Continue,
+    Protocol,
+    UnknownExpectation,
+}
+
+// What the elements of `Transfer-Encoding` are so far.
+#[derive(Clone, Copy, PartialEq, Eq)]
+enum Codings {
+    // None came.
+    Absent,
+    // Others than `chunked` came.
+    Others,
+    // `chunked` alone came.
+    Chunked,
+    // `chunked` came behind others.
+    Behind,
+    // An empty one came, or one behind `chunked`.
+    Bad,
+}
+
+// The text without spaces and tabs at its ends.
+fn trim(text: &str) -> &[u8]
+    ensures { result.now ≡ trimmed is_ows text.now }
+{
+    trim_end(trim_front(text.as_bytes()))
+}
+
+// Whether this is a protocol's name, with or without a version.
+fn is_protocol(text: &[u8]) -> bool
+    ensures { result ≡ is_protocol text.now }
+{
+    if text.contains(&b'%') {
+        return false;
+    }
+    let Some((name, version)) = cut(text, b'/') else {
+        return is_token(text);
+    };
+    cut(version, b'/').is_none() && is_token(name) && is_token(version)
+}
+
+// Whether an element is what is wanted.
+fn is_wanted(wanted: Wanted, element: &[u8]) -> bool
+    ensures { result ≡ is_wanted wanted element.now }
+{
+    match wanted {
+        Wanted::Close => element.eq_ignore_ascii_case(b"close"),
+        Wanted::KeepAlive => element.eq_ignore_ascii_case(b"keep-alive"),
+        Wanted::Upgrade => element.eq_ignore_ascii_case(b"upgrade"),
+        Wanted::Continue => element.eq_ignore_ascii_case(b"100-continue"),
+        Wanted::Protocol => is_protocol(element),
+        Wanted::UnknownExpectation => !element.is_empty()
+            && !element.eq_ignore_ascii_case(b"100-continue"),
+    }
+}
+
+// Whether an element of the value is what is wanted.
+fn has_in(value: &str, wanted: Wanted) -> bool
+    ensures { result ≡ list_any (is_wanted wanted) (between_commas value.now) }
+{
+    for text in value.split(',') {
+        if is_wanted(wanted, trim(text)) {
+            return true;
+        }
+    }
+    false
+}
+
+// Whether an element of the headers of that name is what is wanted.
+fn has(headers: &[Header], name: &str, wanted: Wanted) -> bool
+    ensures { result ≡ has_element_that name.now (is_wanted wanted) headers.now }
+{
+    for header in headers {
+        if header.field.equiv(name) && has_in(header.value.as_str(), wanted) {
+            return true;
+        }
+    }
+    false
+}
+
+// Whether the hosts are as the version asks: one, or in 1.0 none.
+fn has_valid_host(version: HTTPVersion, headers: &[Header]) -> bool
+    ensures { IsTrue result ↔ HasValidHost version (values_of (codes "Host") headers.now) }
+{
+    let mut has_one = false;
+    for header in headers {
+        if header.field.equiv("Host") {
+            if has_one || !is_host_value(header.value.as_str().as_bytes()) {
+                return false;
+            }
+            has_one = true;
+        }
+    }
+    has_one || is_1_0(version)
+}
+
+// This length, if it is the one that was found before.
+fn same_length(length: Option<usize>, found: Option<usize>) -> Option<usize>
+    ensures { result ≡ same_length length found }
+{
+    match (length, found) {
+        (Some(length), Some(before)) => {
+            if length == before {
+                return Some(length);
+            }
+            None
+        }
+        (Some(length), None) => Some(length),
+        (None, _) => None,
+    }
+}
+
+// The length that the elements of a value are, if it is the one that was found before.
+fn lengths_in(value: &str, found: Option<usize>) -> Result<Option<usize>, Refusal>
+    ensures { result ≡ lengths_on found (between_commas value.now) }
+{
+    let mut found = found;
+    for text in value.split(',') {
+        let Some(length) = same_length(number_in(trim(text)), found) else {
+            return Err(Refusal::InvalidHead);
+        };
+        found = Some(length);
+    }
+    Ok(found)
+}
+
+// The one length that all elements of all `Content-Length` headers are, if there is such a header.
+fn one_length(headers: &[Header]) -> Result<Option<usize>, Refusal>
+    ensures { result ≡ lengths_on None (elements_of (codes "Content-Length") headers.now) }
+{
+    let mut found = None;
+    for header in headers {
+        if header.field.equiv("Content-Length") {
+            match lengths_in(header.value.as_str(), found) {
+                Ok(length) => found = length,
+                Err(fault) => return Err(fault),
+            }
+        }
+    }
+    Ok(found)
+}
+
+// What the codings are after a further one.
+fn coding_after(was: Codings, coding: &[u8]) -> Codings
+    ensures { result ≡ coding_after was coding.now }
+{
+    let is_chunked = coding.eq_ignore_ascii_case(b"chunked");
+    match was {
+        Codings::Absent if is_chunked => Codings::Chunked,
+        Codings::Others if is_chunked => Codings::Behind,
+        Codings::Absent | Codings::Others if !coding.is_empty() => Codings::Others,
+        _ => Codings::Bad,
+    }
+}
+
+// What the codings are after those of a value.
+fn codings_in(value: &str, was: Codings) -> Codings
+    ensures { result ≡ codings_on was (between_commas value.now) }
+{
+    let mut codings = was;
+    for text in value.split(',') {
+        codings = coding_after(codings, trim(text));
+    }
+    codings
+}
+
+// What the elements of all `Transfer-Encoding` headers are.
+fn codings_of(headers: &[Header]) -> Codings
+    ensures { result ≡ codings_on Absent (elements_of (codes "Transfer-Encoding") headers.now) }
+{
+    let mut codings = Codings::Absent;
+    for header in headers {
+        if header.field.equiv("Transfer-Encoding") {
+            codings = codings_in(header.value.as_str(), codings);
+        }
+    }
+    codings
+}
+
+// The body by the codings and the length: its length, and whether it comes in chunks.
+fn body_of(version: HTTPVersion, headers: &[Header]) -> Result<(Option<usize>, bool), Refusal>
+    ensures { result ≡ body_by version (codings_on Absent (elements_of (codes "Transfer-Encoding") headers.now)) (lengths_on None (elements_of (codes "Content-Length") headers.now)) }
+{
+    let length = one_length(headers)?;
+    let codings = codings_of(headers);
+    if codings == Codings::Absent {
+        return Ok((length, false));
+    }
+    if is_1_0(version) || length.is_some() {
+        return Err(Refusal::InvalidHead);
+    }
+    match codings {
+        Codings::Chunked => Ok((None, true)),
+        Codings::Behind => Err(Refusal::UnknownCoding),
+        _ => Err(Refusal::InvalidHead),
+    }
+}
+
+// Whether the version is 1.0.
+fn is_1_0(version: HTTPVersion) -> bool
+    ensures { result ≡ is_1_0 version }
+{
+    version.0 == 1 && version.1 == 0
+}
+
+// Whether a body follows.
+fn has_body(length: Option<usize>, is_chunked: bool) -> bool
+    ensures { result ≡ has_body length is_chunked }
+{
+    match length {
+        Some(n) => n > 0,
+        None => is_chunked,
+    }
+}
+
+// Whether the head asks for another protocol.
+fn asks_upgrade(version: HTTPVersion, headers: &[Header]) -> bool
+    ensures { result ≡ asks_upgrade version headers.now }
+{
+    !is_1_0(version)
+        && has(headers, "Connection", Wanted::Upgrade)
+        && has(headers, "Upgrade", Wanted::Protocol)
+}
+
+// Whether the connection ends after the request, by its head.
+fn is_last(version: HTTPVersion, method: &Method, headers: &[Header]) -> bool
+    ensures { result ≡ is_last version method.now headers.now }
+{
+    if has(headers, "Connection", Wanted::Close) {
+        return true;
+    }
+    if is_1_0(version) && !has(headers, "Connection", Wanted::KeepAlive) {
+        return true;
+    }
+    method.as_str() == "CONNECT"
+}
+
+/// Judges a head whose lines are good, in this order. Each minor version after 1.0 counts as 1.1.
+///
+/// - Another major version than 1 is `UnsupportedVersion`.
+/// - `InvalidHead`: no `Host` in 1.1, two of them, or one whose value is neither empty nor a host; elements of `Content-Length`
+///   that aren't one number, the empty one too; a `Transfer-Encoding` in 1.0, or beside a `Content-Length`, or whose last element
+///   isn't `chunked`, or with another one that is empty or `chunked`.
+/// - Codings in front of `chunked` are `UnknownCoding`.
+/// - An element of `Expect` that isn't empty or `100-continue` is `UnknownExpectation`. A 100 is owed in 1.1 where a body follows.
+///
+/// A head asks for an upgrade in 1.1, if `Connection` has `upgrade`, and `Upgrade` has a protocol: a token, or two with a slash
+/// between, without `%`, which may stand for a byte from 128 on. The head makes its request the last by `close`, in 1.0 without
+/// `keep-alive`, and by the method `CONNECT`.
+pub fn judge(
+    version: HTTPVersion,
+    method: &Method,
+    headers: &[Header],
+) -> Result<HeadSummary, Refusal>
+    ensures { Judges version method.now headers.now result }
+{
+    if version.0 != 1 {
+        return Err(Refusal::UnsupportedVersion);
+    }
+    if !has_valid_host(version, headers) {
+        return Err(Refusal::InvalidHead);
+    }
+    let (body_length, is_chunked) = body_of(version, headers)?;
+    if has(headers, "Expect", Wanted::UnknownExpectation) {
+        return Err(Refusal::UnknownExpectation);
+    }
+    let expects = has(headers, "Expect", Wanted::Continue);
+    Ok(HeadSummary {
+        body_length,
+        is_chunked,
+        owes_continue: !is_1_0(version) && has_body(body_length, is_chunked) && expects,
+        asks_upgrade: asks_upgrade(version, headers),
+        is_last: is_last(version, method, headers),
+    })
+}

@@ -1,0 +1,8 @@
+//! The head of a request by the standard (RFC 9110 and RFC 9112): its lines, the hosts in them, and what its headers say. It
+//! stands on `tiny_http_text` and `tiny_http_head`, and judges bytes by the crate `httparse`.
+#![tactic(auto)]
+
+pub mod hosts;
+pub mod judging;
+pub mod lines;
+mod numbers;
