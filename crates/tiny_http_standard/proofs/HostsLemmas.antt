@@ -86,9 +86,9 @@ pub value-port : (text host port : List ℕ) → (text ≡ [] → ⊥) → (IsHo
 value-port text host port some unlike joins last v = elim v [
   | inl empty ↦ absurd (some empty)
   | inr rest ↦ elim rest [
-      | inl is ↦ absurd (unlike is)
-      | inr w ↦ let r = one-port text host port joins last w.0 w.1 w.2 in (r.0, r.1)
-    ]
+    | inl is ↦ absurd (unlike is)
+    | inr w ↦ let r = one-port text host port joins last w.0 w.1 w.2 in (r.0, r.1)
+  ]
 ]
 
 -- without a colon there is no port
@@ -108,6 +108,7 @@ number-digits port h = by (nat_lt 0 (length port)) (all_ascii_digits port) refl 
     all-digits : (ds : List ℕ) → all_ascii_digits ds ≡ list_all is_ascii_digit ds
     all-digits [] = refl
     all-digits (d ∷ ds) = ap (λ (x : Bool). is_ascii_digit d && x) (all-digits ds)
+
     by : (some digits : Bool) → nat_lt 0 (length port) ≡ some → all_ascii_digits port ≡ digits → list_all is_ascii_digit port ≡ true
     by true true n d = sym (all-digits port) ∙ d
     by true false n d = contrary false (rw (n, d) at h) refl

@@ -1,10 +1,10 @@
 -- The lines of a head by the standard (RFC 9112, sections 2.3, 3 and 5; RFC 9110, sections 5.5 and 5.6.2), each a joining of
 -- named parts. A token, a byte of a value and optional white space are those of the crate `httparse`.
-use Rattle.std.specs.Prelude.{◌≡◌, ℕ, ◌+◌, ◌<◌, ◌⊎◌, Bool, false, not, ◌&&◌, ◌||◌, ◌==◌, nat_lt, ◌/◌, ◌%◌, List, [], ◌∷◌, ◌++◌, length, take, drop, IsTrue, codes, MatchBool, if◌then◌else◌}
-use Rattle.std.specs.List.{list_all, flat_map}
+use Rattle.std.specs.Prelude.{◌≡◌, ℕ, ◌+◌, ◌<◌, Bool, false, not, ◌&&◌, ◌||◌, ◌==◌, nat_lt, ◌/◌, ◌%◌, List, [], ◌∷◌, ◌++◌, length, take, drop, IsTrue, codes, MatchBool, if◌then◌else◌}
+use Rattle.std.specs.List.{list_all, flat_map, starts_with}
 use Rattle.std.specs.Str.{bytes_eq}
 use Rattle.std.specs.Char.{is_ascii_graphic}
-use Rattle.httparse.specs.Grammar.{IsToken, is_value_byte, is_ows}
+use Rattle.httparse.specs.Grammar.{is_token, is_value_byte, is_ows}
 use Rattle.tiny_http_text.specs.Bytes.{is_ascii, AreAscii, Trims, space, colon, point}
 use Rattle.tiny_http_head.specs.declared.common.HTTPVersion.{HTTPVersion}
 use Rattle.tiny_http_head.specs.declared.common.Method.{Method}
@@ -42,29 +42,29 @@ abbrev pub has_scheme : List ℕ → List ℕ → Bool
 has_scheme scheme target = same_name (take (length scheme) target) scheme && begins_authority (drop (length scheme) target)
 
 -- absolute-form: http:// or https://, and an authority, which isn't judged itself
-abbrev pub IsAbsolute : List ℕ → Type 0
-IsAbsolute target = IsTrue (has_scheme (codes "http://") target || has_scheme (codes "https://") target)
+abbrev pub is_absolute : List ℕ → Bool
+is_absolute target = has_scheme (codes "http://") target || has_scheme (codes "https://") target
 
 -- origin-form: it begins with a slash
-abbrev pub IsOrigin : List ℕ → Type 0
-IsOrigin target = (path : List ℕ) × (target ≡ codes "/" ++ path)
+abbrev pub is_origin : List ℕ → Bool
+is_origin target = starts_with ◌==◌ target (codes "/")
 
 -- asterisk-form: the target of an OPTIONS alone
-abbrev pub IsAsterisk : List ℕ → List ℕ → Type 0
-IsAsterisk method target = (method ≡ codes "OPTIONS") × (target ≡ codes "*")
+abbrev pub is_asterisk : List ℕ → List ℕ → Bool
+is_asterisk method target = bytes_eq target (codes "*") && bytes_eq method (codes "OPTIONS")
 
 -- request-target: of the bytes 33 to 126. That of a CONNECT is in authority-form, and that of another method in one of the other
 -- three forms.
 abbrev pub IsTarget : List ℕ → List ℕ → Type 0
 IsTarget method target =
     IsTrue (list_all is_ascii_graphic target)
-    × MatchBool (bytes_eq method (codes "CONNECT")) (IsAuthority target) (IsOrigin target ⊎ (IsAsterisk method target ⊎ IsAbsolute target))
+    × MatchBool (bytes_eq method (codes "CONNECT")) (IsAuthority target) (IsTrue (is_origin target || (is_asterisk method target || is_absolute target)))
 
 -- request-line = method SP request-target SP HTTP-version
 pub record RequestLine (text method target : List ℕ) (v : HTTPVersion) : Type 0 where
   pub version_text : List ℕ
-  pub joins : text ≡ method ++ space ∷ target ++ space ∷ version_text
-  pub method_is : IsToken method
+  pub joins : text ≡ method ++ space ∷ (target ++ space ∷ version_text)
+  pub method_is : IsTrue (is_token method)
   pub target_is : IsTarget method target
   pub version_is : IsVersion version_text v
 
@@ -84,7 +84,7 @@ must_be_ascii field = same_name field (codes "Host") || same_name field (codes "
 pub record FieldLine (text field value : List ℕ) : Type 0 where
   pub padded : List ℕ
   pub joins : text ≡ field ++ colon ∷ padded
-  pub field_is : IsToken field
+  pub field_is : IsTrue (is_token field)
   pub bytes : IsTrue (list_all is_value_byte padded)
   pub trims : Trims is_ows padded value
   pub judged : IsTrue (must_be_ascii field) → AreAscii value

@@ -1,9 +1,11 @@
 //! The lines of a head by the standard (RFC 9112, sections 2.3, 3 and 5).
 ghost use Rattle.std.specs.Prelude.{◌≡◌, ◌↔◌, ◌<◌, ◌++◌, IsTrue, IfOk, OnOk, OnErr, IfSome, IfNone, None, Ok};
+ghost use Rattle.std.specs.List.{list_all};
+ghost use Rattle.std.specs.Char.{is_ascii_graphic};
 ghost use Rattle.httparse.specs.Grammar.{is_ows};
 ghost use Rattle.tiny_http_text.specs.Bytes.{AreAscii, skip_while, skip_end_while};
 ghost use Rattle.tiny_http_head.specs.Heads.{method_of};
-ghost use Rattle.tiny_http_standard.specs.Lines.{IsVersion, IsNoVersion, begins_authority, has_scheme, IsAbsolute, IsTarget, ReadsRequestLine, IsNoRequestLine, must_be_ascii, uppercase_hexadecimal_digit, percent_encoded_byte, percent_encoded, ReadsFieldLine, IsNoFieldLine};
+ghost use Rattle.tiny_http_standard.specs.Lines.{IsVersion, IsNoVersion, begins_authority, has_scheme, is_absolute, is_asterisk, IsTarget, RequestLine, ReadsRequestLine, IsNoRequestLine, must_be_ascii, uppercase_hexadecimal_digit, percent_encoded_byte, percent_encoded, FieldLine, ReadsFieldLine, IsNoFieldLine};
 
 use crate::hosts::is_authority;
 use httparse::{is_header_value, is_space_or_tab, is_token};
@@ -42,30 +44,44 @@ fn has_scheme(scheme: &[u8], target: &[u8]) -> bool
     ensures { result ≡ has_scheme scheme.now target.now }
 {
     let n = scheme.len();
-    target.len() > n && target[..n].eq_ignore_ascii_case(scheme) && begins_authority(&target[n..])
+    if target.len() <= n {
+        return false;
+    }
+    target[..n].eq_ignore_ascii_case(scheme) && begins_authority(&target[n..])
 }
 
 // Whether the target is in absolute-form.
 fn is_absolute(target: &[u8]) -> bool
-    ensures { IsTrue result ↔ IsAbsolute target.now }
+    ensures { result ≡ is_absolute target.now }
 {
     has_scheme(b"http://", target) || has_scheme(b"https://", target)
+}
+
+// Whether the target is in asterisk-form.
+fn is_asterisk(method: &[u8], target: &[u8]) -> bool
+    ensures { result ≡ is_asterisk method.now target.now }
+{
+    is(target, "*") && is(method, "OPTIONS")
+}
+
+// Whether the bytes are visible.
+fn are_visible(target: &[u8]) -> bool
+    ensures { result ≡ list_all is_ascii_graphic target.now }
+{
+    target.iter().all(|b| b.is_ascii_graphic())
 }
 
 // Whether the text is a target for this method.
 fn is_target(method: &[u8], target: &[u8]) -> bool
     ensures { IsTrue result ↔ IsTarget method.now target.now }
 {
-    if !target.iter().all(|b| b.is_ascii_graphic()) {
+    if !are_visible(target) {
         return false;
     }
     if is(method, "CONNECT") {
         return is_authority(target);
     }
-    if target.first() == Some(&b'/') {
-        return true;
-    }
-    (is(target, "*") && is(method, "OPTIONS")) || is_absolute(target)
+    target.starts_with(b"/") || is_asterisk(method, target) || is_absolute(target)
 }
 
 // The method that a token names.
@@ -78,6 +94,26 @@ fn method_of(alloc: Global, token: &[u8]) -> Result<Method, AllocError>
         Ok(method) => Ok(method),
         Err(_) => Err(AllocError),
     }
+}
+
+// The method, the target and the version of a request line.
+fn split_request_line(text: &[u8]) -> Option<(&[u8], &[u8], HTTPVersion)>
+    ensures some { IfSome result (λ r. RequestLine text.now r.0.now r.1.now r.2) }
+    ensures none { IfNone result (IsNoRequestLine text.now) }
+{
+    let Some((method, rest)) = cut(text, b' ') else {
+        return None;
+    };
+    let Some((target, version)) = cut(rest, b' ') else {
+        return None;
+    };
+    let Some(version) = version_in(version) else {
+        return None;
+    };
+    if !is_token(method) || !is_target(method, target) {
+        return None;
+    }
+    Some((method, target, version))
 }
 
 /// Reads a request line: a token, a space, the target, a space and the version, and nothing else (RFC 9112, section 3). The
@@ -93,18 +129,9 @@ pub fn parse_request_line(
     ensures none { result ≡ Ok None → IsNoRequestLine text.now }
     ensures judged { OnErr result (IsNoRequestLine text.now → ⊥) }
 {
-    let Some((method, rest)) = cut(text, b' ') else {
+    let Some((method, target, version)) = split_request_line(text) else {
         return Ok(None);
     };
-    let Some((target, version)) = cut(rest, b' ') else {
-        return Ok(None);
-    };
-    let Some(version) = version_in(version) else {
-        return Ok(None);
-    };
-    if !is_token(method) || !is_target(method, target) {
-        return Ok(None);
-    }
     let method = method_of(alloc, method)?;
     let target = owned(alloc, target)?;
     Ok(Some((method, target, version)))
@@ -175,6 +202,24 @@ fn must_be_ascii(field: &[u8]) -> bool
     field.eq_ignore_ascii_case(b"Host") || field.eq_ignore_ascii_case(b"Transfer-Encoding")
 }
 
+// The name and the value of a field line.
+fn split_field_line(text: &[u8]) -> Option<(&[u8], &[u8])>
+    ensures some { IfSome result (λ r. FieldLine text.now r.0.now r.1.now) }
+    ensures none { IfNone result (IsNoFieldLine text.now) }
+{
+    let Some((field, padded)) = cut(text, b':') else {
+        return None;
+    };
+    if !is_token(field) || !is_header_value(padded) {
+        return None;
+    }
+    let value = trim_end(trim_front(padded));
+    if must_be_ascii(field) && !are_ascii(value) {
+        return None;
+    }
+    Some((field, value))
+}
+
 /// Reads a field line: a token, a colon at once, and the value, round which spaces and tabs are left out (RFC 9112, section 5).
 /// The value has no byte 0 to 8, 10 to 31 or 127. A byte from 128 on is handed out as `%` and two hexadecimal digits, in
 /// capitals, so the byte 233 and the three bytes `%E9` give the same text. In a `Host` and a `Transfer-Encoding` such a byte isn't
@@ -185,16 +230,9 @@ pub fn parse_field_line(alloc: Global, text: &[u8]) -> Result<Option<Header>, Al
     ensures none { result ≡ Ok None → IsNoFieldLine text.now }
     ensures judged { OnErr result (IsNoFieldLine text.now → ⊥) }
 {
-    let Some((field, padded)) = cut(text, b':') else {
+    let Some((field, value)) = split_field_line(text) else {
         return Ok(None);
     };
-    if !is_token(field) || !is_header_value(padded) {
-        return Ok(None);
-    }
-    let value = trim_end(trim_front(padded));
-    if must_be_ascii(field) && !are_ascii(value) {
-        return Ok(None);
-    }
     let field = HeaderField::from_text(owned(alloc, field)?);
     let value = percent_encoded(alloc, value)?;
     Ok(Some(Header { field, value }))

@@ -8,5 +8,5 @@ abbrev pub invariant-loop-digit : goal.invariant-loop-digit
 invariant-loop-digit l = record {
   number : l.number ≡ digits_value 10 (take l.digit-index l.text);
   within : l.number < 2 ^ 64;
-  digits : all_ascii_digits (take l.digit-index l.text) ≡ true
+  digits : all_ascii_digits (take l.digit-index l.text) ≡ true;
 }
