@@ -1,10 +1,11 @@
 //! What a whole head says, and why it is refused (RFC 9112, sections 3.2, 6 and 9.3; RFC 9110, sections 7.8, 10.1.1 and 15).
-ghost use Rattle.std.specs.Prelude.{◌≡◌, ◌↔◌, IsTrue, codes, None};
-ghost use Rattle.std.specs.List.{list_any};
+ghost use Rattle.std.specs.Prelude.{◌≡◌, ◌↔◌, ◌==◌, not, IsTrue, codes, None};
+ghost use Rattle.std.specs.List.{list_all, list_any};
 ghost use Rattle.httparse.specs.Grammar.{is_ows};
-ghost use Rattle.tiny_http_text.specs.Bytes.{trimmed};
+ghost use Rattle.tiny_http_text.specs.Bytes.{trimmed, parts};
+ghost use Rattle.tiny_http_standard.specs.Hosts.{percent, slash};
 ghost use Rattle.tiny_http_standard.specs.Lists.{values_of, between_commas, elements_of, has_element_that};
-ghost use Rattle.tiny_http_standard.specs.Judging.{HasValidHost, is_1_0, is_protocol, has_body, is_connect, is_last, asks_upgrade, Judges};
+ghost use Rattle.tiny_http_standard.specs.Judging.{HasValidHost, is_1_0, is_one_or_two_tokens, is_protocol, has_body, is_connect, is_last, asks_upgrade, Judges};
 ghost use Rattle.tiny_http_standard.specs.JudgingReading.{is_wanted, same_length, lengths_on, coding_after, codings_on, body_by};
 ghost use Rattle.tiny_http_standard.specs.declared.judging.Codings.TheVariants.{Absent};
 
@@ -77,17 +78,28 @@ fn trim(text: &str) -> &[u8]
     trim_end(trim_front(text.as_bytes()))
 }
 
+// Whether this is a token, or two with a slash between.
+fn is_one_or_two_tokens(text: &[u8]) -> bool
+    ensures { result ≡ is_one_or_two_tokens (parts slash text.now) }
+{
+    let Some((name, version)) = cut(text, b'/') else {
+        return is_token(text);
+    };
+    is_token(name) && is_token(version)
+}
+
+// Whether no percent sign stands in the text.
+fn has_no_percent(text: &[u8]) -> bool
+    ensures { result ≡ list_all (λ b. not (b == percent)) text.now }
+{
+    text.iter().all(|b| *b != b'%')
+}
+
 // Whether this is a protocol's name, with or without a version.
 fn is_protocol(text: &[u8]) -> bool
     ensures { result ≡ is_protocol text.now }
 {
-    if text.contains(&b'%') {
-        return false;
-    }
-    let Some((name, version)) = cut(text, b'/') else {
-        return is_token(text);
-    };
-    cut(version, b'/').is_none() && is_token(name) && is_token(version)
+    is_one_or_two_tokens(text) && has_no_percent(text)
 }
 
 // Whether an element is what is wanted.
