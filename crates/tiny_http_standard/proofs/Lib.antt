@@ -3,3 +3,4 @@ pub mod LinesLemmas
 pub mod NumbersLemmas
 pub mod ListsLemmas
 pub mod JudgingLemmas
+pub mod FoldLemmas
