@@ -4,3 +4,4 @@ pub mod NumbersLemmas
 pub mod ListsLemmas
 pub mod JudgingLemmas
 pub mod FoldLemmas
+pub mod BodyLemmas
