@@ -55,6 +55,7 @@ some-length t ts o e = by (length_of t) refl (sym (first-length t ts) ∙ e)
     all : (m : ℕ) → length_of t ≡ Some m → (b : Bool) → list_all (is_length m) ts ≡ b → (if b then Ok (Some m) else Err InvalidHead) ≡ Ok o → (m : ℕ) × (o ≡ Some m) × IsTrue (list_all (is_length m) (t ∷ ts))
     all m is true h k = (m, cc, rw (is, same-number m, h) refl)
     all m is false h k = let never : ◌≡◌ {A = Result (Option ℕ) Refusal} (Err InvalidHead) (Ok o) = k in cc
+
     by : (l : Option ℕ) → length_of t ≡ l → if_length l (λ n. AllAre n ts) ≡ Ok o → (m : ℕ) × (o ≡ Some m) × IsTrue (list_all (is_length m) (t ∷ ts))
     by None is k = let never : ◌≡◌ {A = Result (Option ℕ) Refusal} (Err InvalidHead) (Ok o) = k in cc
     by (Some m) is k = all m is (list_all (is_length m) ts) refl k
@@ -100,10 +101,12 @@ from-others (x ∷ xs) = by (is_chunked x) (bytes_eq x []) refl refl xs (from-ot
     ended : (ys : List (List ℕ)) → is_chunked x ≡ true → codings_on (coding_after Others x) ys ≡ codings_on Behind ys → FromOthers (x ∷ ys)
     ended [] a e = Ends e (record { others = []; last = x; joins = refl; named = refl; chunked = a })
     ended (y ∷ ys) a e = Fails (e ∙ bad-stays ys)
+
     further : (ys : List (List ℕ)) → is_unknown_coding x ≡ true → codings_on (coding_after Others x) ys ≡ codings_on Others ys → FromOthers ys → FromOthers (x ∷ ys)
     further ys u e (Named h) = Named (e ∙ h)
     further ys u e (Ends h s) = Ends (e ∙ h) (record { others = x ∷ s.others; last = s.last; joins = ap (λ (r : List (List ℕ)). x ∷ r) s.joins; named = rw (u, s.named) refl; chunked = s.chunked })
     further ys u e (Fails h) = Fails (e ∙ h)
+
     by : (a b : Bool) → is_chunked x ≡ a → bytes_eq x [] ≡ b → (ys : List (List ℕ)) → FromOthers ys → FromOthers (x ∷ ys)
     by true b ea eb ys f = ended ys ea (rw ea refl)
     by false true ea eb ys f = Fails (rw (ea, eb) (bad-stays ys))
@@ -142,11 +145,13 @@ from-absent (x ∷ xs) = by (is_chunked x) (bytes_eq x []) refl refl xs (from-ot
     alone : (ys : List (List ℕ)) → is_chunked x ≡ true → codings_on Absent (x ∷ ys) ≡ codings_on Chunked ys → FromAbsent (x ∷ ys)
     alone [] a e = Alone x refl a e
     alone (y ∷ ys) a e = Unfit Bad (inr refl) (e ∙ bad-stays ys)
+
     further : (ys : List (List ℕ)) → is_unknown_coding x ≡ true → codings_on Absent (x ∷ ys) ≡ codings_on Others ys → FromOthers ys → FromAbsent (x ∷ ys)
     further ys u e (Named h) = Unfit Others (inl refl) (e ∙ h)
     further ys u e (Ends h s) =
         Split (record { others = x ∷ s.others; last = s.last; joins = ap (λ (r : List (List ℕ)). x ∷ r) s.joins; named = rw (u, s.named) refl; chunked = s.chunked }) (some-others x s.others) (e ∙ h)
     further ys u e (Fails h) = Unfit Bad (inr refl) (e ∙ h)
+
     by : (a b : Bool) → is_chunked x ≡ a → bytes_eq x [] ≡ b → (ys : List (List ℕ)) → FromOthers ys → FromAbsent (x ∷ ys)
     by true b ea eb ys f = alone ys ea (rw ea refl)
     by false true ea eb ys f = Unfit Bad (inr refl) (rw (ea, eb) (bad-stays ys))
@@ -240,7 +245,7 @@ unknown v lengths codings (Ok n) is (Split s some o) h =
       joins = s.joins;
       not_empty = some;
       named = s.named;
-      chunked = s.chunked
+      chunked = s.chunked;
     }
 unknown v lengths codings (Ok n) is (Unfit x (inl w) o) h =
     invalid-no_unknown (coded-unknown (is_1_0 v) n (Err InvalidHead) (with_codings v codings n Others (Err UnknownCoding) (o ∙ w) h)).2
@@ -276,7 +281,7 @@ pub body-invalid : (v : HTTPVersion) (lengths codings : List (List ℕ)) → bod
     → (HasUnknownCodings v lengths codings → ⊥) × ((n : Option ℕ) (chunked : Bool) → IsBodyFraming v lengths codings n chunked → ⊥)
 body-invalid v lengths codings h = (
   (λ u. invalid-no_unknown (sym h ∙ unknown-reads v lengths codings u)),
-  (λ n chunked b. ok-no_err (n, chunked) InvalidHead (sym (framed-reads v lengths codings n chunked b) ∙ h))
+  (λ n chunked b. ok-no_err (n, chunked) InvalidHead (sym (framed-reads v lengths codings n chunked b) ∙ h)),
 )
 
 same-refusal : (x e : Refusal) → ◌≡◌ {A = Read} (Err x) (Err e) → e ≡ x

@@ -63,7 +63,7 @@ value-here : (all : List (List ℕ)) (has_one : Bool) (name : List ℕ) (headers
 value-here all has_one name headers i h t within is named so_far =
     let G : List Header → List (List ℕ) = λ x. values_of name x in
     let here : values_of name (drop i headers) ≡ (if t then h.value ∷ values_of name (drop (i + 1) headers) else values_of name (drop (i + 1) headers)) =
-      at_drop_more G headers i h within ∙ ap (λ x. G (x ∷ drop (i + 1) headers)) (sym is) ∙ ap (λ (b : Bool). if b then h.value ∷ values_of name (drop (i + 1) headers) else values_of name (drop (i + 1) headers)) named in
+    at_drop_more G headers i h within ∙ ap (λ x. G (x ∷ drop (i + 1) headers)) (sym is) ∙ ap (λ (b : Bool). if b then h.value ∷ values_of name (drop (i + 1) headers) else values_of name (drop (i + 1) headers)) named in
     subst (HostsSoFar has_one all) here so_far
 
 pub host-passed : (all : List (List ℕ)) (has_one : Bool) (name : List ℕ) (headers : List Header) (i : ℕ) (h : Header) → i < length headers → h ≡ get_or headers i h → same_name h.field name ≡ false

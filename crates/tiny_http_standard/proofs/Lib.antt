@@ -5,3 +5,4 @@ pub mod ListsLemmas
 pub mod JudgingLemmas
 pub mod FoldLemmas
 pub mod BodyLemmas
+pub mod JudgeLemmas

@@ -140,10 +140,11 @@ pub field-parts : (text f padded : List ℕ) → text ≡ f ++ 58 ∷ padded →
     → IsTrue (is_token f) × IsTrue (list_all is_value_byte padded) × (IsTrue (must_be_ascii f) → AreAscii (trimmed is_ows padded))
 field-parts text f padded joins without field value l =
     let a = one-first 58 field f l.padded padded (all-without is_token_byte 58 field colon-no_token (token-bytes field l.field_is)) without (sym l.joins ∙ joins) in
-    let same : value ≡ trimmed is_ows padded = sym (trims-one is_ows l.padded value l.trims) ∙ ap (trimmed is_ows) a.1 in
-    (subst (λ (x : List ℕ). IsTrue (is_token x)) a.0 l.field_is,
+    let same : value ≡ trimmed is_ows padded = sym (trims-one is_ows l.padded value l.trims) ∙ ap (trimmed is_ows) a.1 in (
+      subst (λ (x : List ℕ). IsTrue (is_token x)) a.0 l.field_is,
       subst (λ (x : List ℕ). IsTrue (list_all is_value_byte x)) a.1 l.bytes,
-      λ judged. subst AreAscii same (l.judged (subst (λ (x : List ℕ). IsTrue (must_be_ascii x)) (sym a.0) judged)))
+      λ judged. subst AreAscii same (l.judged (subst (λ (x : List ℕ). IsTrue (must_be_ascii x)) (sym a.0) judged)),
+    )
 
 -- a token is ASCII
 token-below : (b : ℕ) → is_token_byte b ≡ true → is_ascii b ≡ true

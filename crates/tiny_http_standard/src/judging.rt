@@ -5,7 +5,7 @@ ghost use Rattle.httparse.specs.Grammar.{is_ows};
 ghost use Rattle.tiny_http_text.specs.Bytes.{trimmed, parts};
 ghost use Rattle.tiny_http_standard.specs.Hosts.{percent, slash};
 ghost use Rattle.tiny_http_standard.specs.Lists.{values_of, between_commas, elements_of, has_element_that};
-ghost use Rattle.tiny_http_standard.specs.Judging.{HasValidHost, is_1_0, is_one_or_two_tokens, is_protocol, has_body, is_connect, is_last, asks_upgrade, Judges};
+ghost use Rattle.tiny_http_standard.specs.Judging.{HasValidHost, is_1_0, is_one_or_two_tokens, is_protocol, has_body, owes_continue, is_connect, is_last, asks_upgrade, Judges};
 ghost use Rattle.tiny_http_standard.specs.JudgingReading.{is_wanted, same_length, lengths_on, coding_after, codings_on, body_by};
 ghost use Rattle.tiny_http_standard.specs.declared.judging.Codings.TheVariants.{Absent};
 
@@ -276,6 +276,18 @@ fn has_body(length: Option<usize>, is_chunked: bool) -> bool
     }
 }
 
+// Whether a 100 is owed.
+fn owes_continue(
+    version: HTTPVersion,
+    headers: &[Header],
+    length: Option<usize>,
+    is_chunked: bool,
+) -> bool
+    ensures { result ≡ owes_continue version headers.now length is_chunked }
+{
+    !is_1_0(version) && has_body(length, is_chunked) && has(headers, "Expect", Wanted::Continue)
+}
+
 // Whether the head asks for another protocol.
 fn asks_upgrade(version: HTTPVersion, headers: &[Header]) -> bool
     ensures { result ≡ asks_upgrade version headers.now }
@@ -323,15 +335,17 @@ pub fn judge(
     if !has_valid_host(version, headers) {
         return Err(Refusal::InvalidHead);
     }
-    let (body_length, is_chunked) = body_of(version, headers)?;
+    let (body_length, is_chunked) = match body_of(version, headers) {
+        Ok(body) => body,
+        Err(refusal) => return Err(refusal),
+    };
     if has(headers, "Expect", Wanted::UnknownExpectation) {
         return Err(Refusal::UnknownExpectation);
     }
-    let expects = has(headers, "Expect", Wanted::Continue);
     Ok(HeadSummary {
         body_length,
         is_chunked,
-        owes_continue: !is_1_0(version) && has_body(body_length, is_chunked) && expects,
+        owes_continue: owes_continue(version, headers, body_length, is_chunked),
         asks_upgrade: asks_upgrade(version, headers),
         is_last: is_last(version, method, headers),
     })
