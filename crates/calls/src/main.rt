@@ -9,6 +9,7 @@ mod naming;
 mod parts;
 mod reading;
 mod row;
+mod standard;
 mod texts;
 mod trying;
 mod words;

@@ -70,6 +70,12 @@ fn choice(words: &str) -> Result<Choice, LineFault> {
     })
 }
 
+// The version and the method of a head that is judged.
+fn judged(alloc: Global, words: &str) -> Result<Call, LineFault> {
+    let (version_word, name) = split(words);
+    Ok(Call::Judge(version(version_word)?, method(alloc, name)?))
+}
+
 // The call of this name that takes parts alone.
 fn bare_call(name: &str) -> Option<Call> {
     match name {
@@ -78,6 +84,9 @@ fn bare_call(name: &str) -> Option<Call> {
         "put_chunked" => Some(Call::PutChunked),
         "asked_coding" => Some(Call::AskedCoding),
         "add_header" => Some(Call::AddHeader),
+        "lines::parse_request_line" => Some(Call::StandardRequestLine),
+        "lines::parse_field_line" => Some(Call::StandardFieldLine),
+        "hosts" => Some(Call::Host),
         _ => None,
     }
 }
@@ -91,6 +100,7 @@ fn worded_call(alloc: Global, name: &str, words: &str) -> Result<Call, LineFault
         "raw_print" => Ok(Call::RawPrint(status(words)?)),
         "default_reason_phrase" => Ok(Call::Phrase(status(words)?)),
         "HTTPVersion" => Ok(Call::Version(version(words)?)),
+        "judge" => judged(alloc, words),
         "Numeral" => Ok(Call::Numeral(number(words)? as u64)),
         _ => Err(LineFault::Bad("no call has this name")),
     }

@@ -35,7 +35,8 @@ fn parts_of(call: &Call) -> &'static [&'static str] {
         Call::PutChunk => &["data", "series"],
         Call::PutChunked => &["data", "series", "stop", "rooms"],
         Call::Encoder(_) => &["data", "series", "flushes", "open", "rooms"],
-        Call::AskedCoding => &["request"],
+        Call::AskedCoding | Call::Judge(_, _) => &["request"],
+        Call::StandardRequestLine | Call::StandardFieldLine | Call::Host => &["data"],
         Call::RawPrint(_) => &[
             "data",
             "series",

@@ -66,6 +66,14 @@ pub enum Call {
     Version(HTTPVersion),
     /// A number is written in both bases, by `Numeral`.
     Numeral(u64),
+    /// A request line is read by the standard.
+    StandardRequestLine,
+    /// A field line is read by the standard.
+    StandardFieldLine,
+    /// A text is judged as a host, as the value of a `Host` and as the target of a `CONNECT`.
+    Host,
+    /// A head of this version and method is judged by the standard.
+    Judge(HTTPVersion, Method),
 }
 
 /// Writers with too little room.
@@ -126,10 +134,14 @@ pub struct Row {
 }
 
 // What a finding is, where a row has to say so if it is there.
-const STATED: [&str; 23] = [
+const STATED: [&str; 31] = [
     "answer",
+    "asks-upgrade",
+    "authority",
     "body",
+    "chunked",
     "coding",
+    "continue",
     "data",
     "decimal",
     "element",
@@ -137,7 +149,10 @@ const STATED: [&str; 23] = [
     "failed",
     "fault",
     "hexadecimal",
+    "host",
+    "host-value",
     "kept",
+    "last",
     "later",
     "length",
     "malformed",
@@ -147,6 +162,7 @@ const STATED: [&str; 23] = [
     "output",
     "phrase",
     "refused",
+    "served",
     "target",
     "unfinished",
     "value",

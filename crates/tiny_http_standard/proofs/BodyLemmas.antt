@@ -9,9 +9,9 @@ use Rattle.tiny_http_head.specs.declared.common.HTTPVersion.{HTTPVersion}
 use Rattle.tiny_http_standard.specs.declared.judging.Codings.{Codings}
 use Rattle.tiny_http_standard.specs.declared.judging.Codings.TheVariants.{Absent, Others, Chunked, Behind, Bad}
 use Rattle.tiny_http_standard.specs.declared.judging.Refusal.{Refusal}
-use Rattle.tiny_http_standard.specs.declared.judging.Refusal.TheVariants.{UnsupportedVersion, InvalidHead, UnknownCoding, UnknownExpectation}
+use Rattle.tiny_http_standard.specs.declared.judging.Refusal.TheVariants.{InvalidHead, UnknownCoding}
 use Rattle.tiny_http_standard.specs.Judging.{is_number, is_length, is_chunked, is_unknown_coding, is_1_0, IsBodyFraming, HasUnknownCodings}
-use Rattle.tiny_http_standard.specs.JudgingReading.{coding_after, codings_on, same_length, if_length, lengths_on, body_with, body_by}
+use Rattle.tiny_http_standard.specs.JudgingReading.{coding_after, codings_on, same_length, if_length, lengths_on, body_by}
 use Rattle.tiny_http_standard.proofs.HostsLemmas.{contrary}
 
 not-true : (b : Bool) → not b ≡ true → b ≡ false
@@ -253,7 +253,7 @@ unknown v lengths codings (Ok n) is (Unfit x (inr w) o) h =
     invalid-no_unknown (coded-unknown (is_1_0 v) n (Err InvalidHead) (with_codings v codings n Bad (Err UnknownCoding) (o ∙ w) h)).2
 
 -- and the other way round
-framed-reads : (v : HTTPVersion) (lengths codings : List (List ℕ)) (n : Option ℕ) (chunked : Bool) → IsBodyFraming v lengths codings n chunked → body_by v (codings_on Absent codings) (lengths_on None lengths) ≡ Ok (n, chunked)
+pub framed-reads : (v : HTTPVersion) (lengths codings : List (List ℕ)) (n : Option ℕ) (chunked : Bool) → IsBodyFraming v lengths codings n chunked → body_by v (codings_on Absent codings) (lengths_on None lengths) ≡ Ok (n, chunked)
 framed-reads v [] [] n chunked b = rw (b.0, b.1) refl
 framed-reads v (t ∷ ts) [] n chunked b = rw (lengths-some b.0 t ts b.2, b.1, b.3) refl
 framed-reads v [] (x ∷ xs) n chunked b = rw (b.2, b.1, not-true (is_1_0 v) b.0, b.3, b.4) refl
@@ -265,7 +265,7 @@ split-reads (x ∷ xs) last some h c =
     let k = and_parts (is_unknown_coding x) (list_all is_unknown_coding xs) h in
     ap (λ (o : Codings). codings_on o (xs ++ last ∷ [])) (first-unknown x k.0) ∙ behind-of xs last k.1 c
 
-unknown-reads : (v : HTTPVersion) (lengths codings : List (List ℕ)) → HasUnknownCodings v lengths codings → body_by v (codings_on Absent codings) (lengths_on None lengths) ≡ Err UnknownCoding
+pub unknown-reads : (v : HTTPVersion) (lengths codings : List (List ℕ)) → HasUnknownCodings v lengths codings → body_by v (codings_on Absent codings) (lengths_on None lengths) ≡ Err UnknownCoding
 unknown-reads v lengths codings u =
     let behind : codings_on Absent codings ≡ Behind = ap (codings_on Absent) u.joins ∙ split-reads u.others u.last u.not_empty u.named u.chunked in
     ap (λ (ls : List (List ℕ)). body_by v (codings_on Absent codings) (lengths_on None ls)) u.no_length ∙ rw (behind, not-true (is_1_0 v) u.later) refl

@@ -1,5 +1,5 @@
 -- Codings and lengths, from element to element.
-use Rattle.std.proofs.Common.{◌≡◌, refl, sym, ap, ◌∙◌, ℕ, ◌+◌, ◌<◌, ◌≤◌, true, List, [], ◌∷◌, ◌++◌, length, drop, get_or, Option, Some, None, Result, Ok, Err}
+use Rattle.std.proofs.Common.{◌≡◌, refl, sym, ap, ◌∙◌, ℕ, ◌+◌, ◌<◌, true, List, [], ◌∷◌, ◌++◌, length, drop, get_or, Option, Some, None, Result, Ok, Err}
 use Rattle.httparse.specs.Grammar.{is_ows}
 use Rattle.tiny_http_text.specs.Bytes.{trimmed}
 use Rattle.tiny_http_head.specs.declared.common.Header.{Header}
@@ -10,7 +10,7 @@ use Rattle.tiny_http_standard.specs.declared.judging.Refusal.{Refusal}
 use Rattle.tiny_http_standard.specs.declared.judging.Refusal.TheVariants.{InvalidHead}
 use Rattle.tiny_http_standard.specs.Lists.{between_commas, elements_of}
 use Rattle.tiny_http_standard.specs.JudgingReading.{coding_after, codings_on, same_length, if_length, lengths_on}
-use Rattle.tiny_http_standard.proofs.ListsLemmas.{IsAt, from_here, element-here, elements-end, header-added}
+use Rattle.tiny_http_standard.proofs.ListsLemmas.{IsAt, from_here, element-here, header-added}
 
 -- one coding more
 pub codings-step : (was : Codings) (texts : List (List ℕ)) (i : ℕ) (text : List ℕ) → IsAt texts i text → codings_on (coding_after was (trimmed is_ows text)) (from_here texts (i + 1)) ≡ codings_on was (from_here texts i)

@@ -1,13 +1,13 @@
 -- Where the port stands in a host with one.
-use Rattle.std.proofs.Common.{◌≡◌, refl, sym, ap, ◌∙◌, subst, ℕ, zero, suc, ◌<◌, Bool, true, false, not, ◌&&◌, ◌||◌, List, [], ◌∷◌, ◌++◌, length, take, drop, inl, inr, arith, get_or, length-append, ◌+◌, ◌-◌, ◌≤◌}
-use Rattle.std.specs.Prelude.{◌==◌, ◌≢◌, nat_lt, slice_range, IsTrue}
+use Rattle.std.proofs.Common.{◌≡◌, refl, sym, ap, ◌∙◌, subst, ℕ, suc, Bool, true, false, not, ◌&&◌, List, [], ◌∷◌, ◌++◌, length, take, drop, inl, inr, arith, get_or, length-append, ◌+◌, ◌-◌, ◌≤◌}
+use Rattle.std.specs.Prelude.{◌==◌, nat_lt, slice_range, IsTrue}
 use Rattle.std.specs.List.{list_all}
 use Rattle.std.specs.Char.{is_ascii_digit}
 use Rattle.std.specs.Str.{all_ascii_digits}
 use Rattle.tiny_http_head.specs.Heads.{length_of}
 use Rattle.std.proofs.lemmas.Bool.{and_parts}
 use Rattle.tiny_http_text.specs.Bytes.{HasNo, colon}
-use Rattle.std.proofs.lemmas.List.{take-append-drop, drop_all}
+use Rattle.std.proofs.lemmas.List.{drop_all}
 use Rattle.std.proofs.Math.Seq.{take-append_seam}
 use Rattle.tiny_http_text.proofs.BytesTrimming.{cut-at}
 use Rattle.tiny_http_standard.specs.Hosts.{is_address_byte, IsIpLiteral, IsHost, HostAndPort, IsHostValue, IsAuthority, is_port_number}

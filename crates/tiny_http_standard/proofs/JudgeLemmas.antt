@@ -1,15 +1,14 @@
 -- A head that is refused for its body, and one that is served.
-use Rattle.std.proofs.Common.{◌≡◌, refl, sym, ◌∙◌, subst, ℕ, Bool, List, Option, None, Result, Ok, Err, inl, inr}
+use Rattle.std.proofs.Common.{◌≡◌, refl, sym, subst, ℕ, Bool, List, Option, None, Result, Ok, Err, inl, inr}
 use Rattle.std.specs.Prelude.{codes}
 use Rattle.tiny_http_head.specs.declared.common.Header.{Header}
 use Rattle.tiny_http_head.specs.declared.common.HTTPVersion.{HTTPVersion}
 use Rattle.tiny_http_head.specs.declared.common.Method.{Method}
 use Rattle.tiny_http_standard.specs.declared.judging.Codings.TheVariants.{Absent}
-use Rattle.tiny_http_standard.specs.declared.judging.HeadSummary.{HeadSummary}
 use Rattle.tiny_http_standard.specs.declared.judging.Refusal.{Refusal}
-use Rattle.tiny_http_standard.specs.declared.judging.Refusal.TheVariants.{InvalidHead, UnknownCoding}
+use Rattle.tiny_http_standard.specs.declared.judging.Refusal.TheVariants.{InvalidHead}
 use Rattle.tiny_http_standard.specs.Lists.{values_of, elements_of}
-use Rattle.tiny_http_standard.specs.Judging.{HasValidHost, IsServed, IsValid, NamesUnknownCodings, Judges}
+use Rattle.tiny_http_standard.specs.Judging.{HasValidHost, IsServed, Judges}
 use Rattle.tiny_http_standard.specs.JudgingReading.{codings_on, lengths_on, body_by}
 use Rattle.tiny_http_standard.proofs.BodyLemmas.{body-framed, body-unknown, body-invalid, body-fails}
 

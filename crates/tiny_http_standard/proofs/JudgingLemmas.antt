@@ -1,13 +1,9 @@
 -- What a head says, computed, is what the definitions say.
-use Rattle.std.proofs.Common.{◌≡◌, ◌≢◌, refl, sym, ap, ◌∙◌, subst, ℕ, ◌+◌, ◌<◌, ◌≤◌, Bool, true, false, not, ◌&&◌, ◌||◌, List, [], ◌∷◌, ◌++◌, map, length, drop, get_or, Option, Some, None, Result, Ok, Err, eqb-true, inl, inr}
-use Rattle.std.specs.Prelude.{◌==◌, is_some, IsTrue, if◌then◌else◌}
-use Rattle.std.specs.List.{list_all}
-use Rattle.std.specs.Str.{bytes_eq}
-use Rattle.std.proofs.lemmas.Bool.{and_parts}
+use Rattle.std.proofs.Common.{◌≡◌, refl, sym, ap, ◌∙◌, subst, ℕ, ◌+◌, ◌<◌, ◌≤◌, Bool, true, false, ◌&&◌, ◌||◌, List, [], ◌∷◌, ◌++◌, length, drop, get_or, inl, inr}
+use Rattle.std.specs.Prelude.{IsTrue, if◌then◌else◌}
 use Rattle.httparse.specs.Grammar.{is_token, is_token_byte}
-use Rattle.tiny_http_text.specs.Bytes.{HasNo, parts, comma, trimmed}
+use Rattle.tiny_http_text.specs.Bytes.{HasNo, parts}
 use Rattle.tiny_http_text.proofs.BytesLemmas.{ArePartsOf, parts-are, parts-word, parts-last}
-use Rattle.tiny_http_head.specs.Heads.{length_of}
 use Rattle.tiny_http_head.specs.declared.common.Header.{Header}
 use Rattle.tiny_http_head.specs.declared.common.HTTPVersion.{HTTPVersion}
 use Rattle.tiny_http_head.specs.Common.{same_name}
@@ -16,7 +12,6 @@ use Rattle.tiny_http_standard.specs.Lists.{values_of}
 use Rattle.tiny_http_standard.specs.Hosts.{slash, IsHostValue}
 use Rattle.tiny_http_standard.specs.Judging.{is_one_or_two_tokens, HasValidHost, is_1_0}
 use Rattle.tiny_http_standard.proofs.LinesLemmas.{all-without, token-bytes}
-use Rattle.tiny_http_standard.proofs.HostsLemmas.{contrary}
 
 slash-no_token : is_token_byte 47 ≡ false
 unfolding is_token_byte

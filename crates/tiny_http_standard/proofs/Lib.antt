@@ -6,3 +6,4 @@ pub mod JudgingLemmas
 pub mod FoldLemmas
 pub mod BodyLemmas
 pub mod JudgeLemmas
+pub mod LawsLemmas

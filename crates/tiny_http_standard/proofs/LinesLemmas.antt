@@ -1,10 +1,10 @@
 -- What lines are handed out as.
-use Rattle.std.proofs.Common.{◌≡◌, refl, sym, ap, ◌∙◌, subst, ℕ, suc, not, eqb-true, ◌+◌, ◌/◌, ◌%◌, ◌-◌, ◌<◌, ◌≤◌, Bool, true, false, ◌&&◌, List, [], ◌∷◌, ◌++◌, length, drop, get_or, append-nil, arith}
+use Rattle.std.proofs.Common.{◌≡◌, refl, sym, ap, ◌∙◌, subst, ℕ, suc, not, eqb-true, ◌+◌, ◌/◌, ◌%◌, ◌-◌, ◌<◌, ◌≤◌, Bool, true, false, List, [], ◌∷◌, ◌++◌, length, drop, get_or, append-nil, arith}
 use Rattle.std.specs.Prelude.{◌==◌, nat_lt, IsTrue, if◌then◌else◌}
 use Rattle.std.specs.Char.{is_ascii_alphanumeric, is_ascii_digit, is_ascii_graphic}
 use Rattle.httparse.specs.Grammar.{is_token_byte, is_token, is_value_byte, is_ows}
 use Rattle.std.proofs.lemmas.Bool.Decides.{nat_tests}
-use Rattle.std.specs.List.{list_all, flat_map}
+use Rattle.std.specs.List.{list_all}
 use Rattle.std.proofs.lemmas.Bool.{and_parts}
 use Rattle.std.proofs.lemmas.List.{drop_all}
 use Rattle.std.proofs.lemmas.List.Folds.{list_all-append}
@@ -100,16 +100,16 @@ one-first c (u ∷ a) (v ∷ b) x y ha hb e =
     let r = one-first c a b x y (and_parts (not (u == c)) (list_all (λ z. not (z == c)) a) ha).1 (and_parts (not (v == c)) (list_all (λ z. not (z == c)) b) hb).1 rest in
     (rw (first, r.0) refl, r.1)
 
-space-no_token : is_token_byte 32 ≡ false
+pub space-no_token : is_token_byte 32 ≡ false
 unfolding is_token_byte
 space-no_token = refl
 
 -- the method and the rest of a request line
-method-rest : (text m rest method target : List ℕ) (v : HTTPVersion) → text ≡ m ++ 32 ∷ rest → HasNo 32 m → (r : RequestLine text method target v) → (method ≡ m) × (target ++ 32 ∷ r.version_text ≡ rest)
+pub method-rest : (text m rest method target : List ℕ) (v : HTTPVersion) → text ≡ m ++ 32 ∷ rest → HasNo 32 m → (r : RequestLine text method target v) → (method ≡ m) × (target ++ 32 ∷ r.version_text ≡ rest)
 method-rest text m rest method target v joins without r =
     one-first 32 method m (target ++ 32 ∷ r.version_text) rest (all-without is_token_byte 32 method space-no_token (token-bytes method r.method_is)) without (sym r.joins ∙ joins)
 
-target-version : (text rest t vt method target : List ℕ) (v : HTTPVersion) (r : RequestLine text method target v) → target ++ 32 ∷ r.version_text ≡ rest → rest ≡ t ++ 32 ∷ vt → HasNo 32 t → (target ≡ t) × (r.version_text ≡ vt)
+pub target-version : (text rest t vt method target : List ℕ) (v : HTTPVersion) (r : RequestLine text method target v) → target ++ 32 ∷ r.version_text ≡ rest → rest ≡ t ++ 32 ∷ vt → HasNo 32 t → (target ≡ t) × (r.version_text ≡ vt)
 target-version text rest t vt method target v r same joins without =
     one-first 32 target t r.version_text vt (all-without is_ascii_graphic 32 target refl r.target_is.0) without (same ∙ joins)
 
@@ -128,7 +128,7 @@ line-parts text m rest t vt joins without more no_more method target v r =
     let b = target-version text rest t vt method target v r a.1 more no_more in
     (subst (λ (x : List ℕ). IsTrue (is_token x)) a.0 r.method_is, subst (λ (x : List ℕ). IsTarget x t) a.0 (subst (IsTarget method) b.0 r.target_is), subst (λ (x : List ℕ). IsVersion x v) b.1 r.version_is)
 
-colon-no_token : is_token_byte 58 ≡ false
+pub colon-no_token : is_token_byte 58 ≡ false
 unfolding is_token_byte
 colon-no_token = refl
 

@@ -1,14 +1,14 @@
 -- The elements of headers, one after the other.
-use Rattle.std.proofs.Common.{◌≡◌, refl, sym, ap, ◌∙◌, ℕ, ◌+◌, ◌<◌, ◌≤◌, Bool, true, false, ◌||◌, List, [], ◌∷◌, ◌++◌, map, length, drop, get_or}
+use Rattle.std.proofs.Common.{◌≡◌, sym, ap, ◌∙◌, ℕ, ◌+◌, ◌<◌, ◌≤◌, Bool, true, false, ◌||◌, List, [], ◌∷◌, ◌++◌, map, length, drop, get_or}
 use Rattle.std.specs.Prelude.{if◌then◌else◌}
 use Rattle.std.specs.List.{list_any}
 use Rattle.std.proofs.lemmas.List.{at_drop_more, at_drop_all}
 use Rattle.std.proofs.lemmas.List.Folds.{list_any-append}
 use Rattle.httparse.specs.Grammar.{is_ows}
-use Rattle.tiny_http_text.specs.Bytes.{trimmed, parts, comma}
+use Rattle.tiny_http_text.specs.Bytes.{trimmed}
 use Rattle.tiny_http_head.specs.declared.common.Header.{Header}
 use Rattle.tiny_http_head.specs.Common.{same_name}
-use Rattle.tiny_http_standard.specs.Lists.{values_of, between_commas, elements_of, has_element_that}
+use Rattle.tiny_http_standard.specs.Lists.{between_commas, elements_of}
 
 -- one element more
 abbrev pub IsAt : List (List ℕ) → ℕ → List ℕ → Type 0

@@ -4,5 +4,6 @@
 
 pub mod hosts;
 pub mod judging;
+pub mod laws;
 pub mod lines;
 mod numbers;

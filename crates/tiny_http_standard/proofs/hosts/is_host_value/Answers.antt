@@ -1,5 +1,4 @@
-use Rattle.std.proofs.Common.{rules, arith, inl, inr, sym, ◌∙◌}
-use Rattle.tiny_http_standard.specs.Hosts.{IsHostValue}
+use Rattle.std.proofs.Common.{rules, inr, sym, ◌∙◌}
 use Rattle.tiny_http_standard.proofs.HostsLemmas.{value-port, contrary}
 use Rattle.tiny_http_standard.proofs.hosts.is_host_value.Goals as goal
 

@@ -1,4 +1,4 @@
-use Rattle.std.proofs.Common.{◌≡◌, drop, length}
+use Rattle.std.proofs.Common.{◌≡◌, length}
 use Rattle.std.specs.List.{list_any}
 use Rattle.tiny_http_text.specs.Bytes.{parts, comma}
 use Rattle.tiny_http_standard.specs.Lists.{between_commas}

@@ -1,4 +1,4 @@
-use Rattle.std.proofs.Common.{rules, Bool, ◌&&◌, sym, ap, ◌∙◌}
+use Rattle.std.proofs.Common.{Bool, ◌&&◌, sym, ap, ◌∙◌}
 use Rattle.httparse.specs.Grammar.{is_token}
 use Rattle.tiny_http_standard.proofs.JudgingLemmas.{one-token, two-tokens}
 use Rattle.tiny_http_standard.proofs.judging.is_one_or_two_tokens.Goals as goal

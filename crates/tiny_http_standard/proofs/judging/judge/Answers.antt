@@ -1,4 +1,4 @@
-use Rattle.std.proofs.Common.{rules, ◌≡◌, ap, sym, ◌∙◌}
+use Rattle.std.proofs.Common.{sym, ◌∙◌}
 use Rattle.tiny_http_standard.proofs.JudgeLemmas.{judge-served, judge-fails}
 use Rattle.tiny_http_standard.proofs.judging.judge.Goals as goal
 

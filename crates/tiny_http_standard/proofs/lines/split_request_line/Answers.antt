@@ -1,4 +1,4 @@
-use Rattle.std.proofs.Common.{rules, sym, ◌∙◌}
+use Rattle.std.proofs.Common.{◌∙◌}
 use Rattle.tiny_http_standard.proofs.HostsLemmas.{contrary}
 use Rattle.tiny_http_standard.proofs.LinesLemmas.{one-space, line-parts}
 use Rattle.tiny_http_standard.proofs.lines.split_request_line.Goals.{then-not-is_token-via-then-not-is_token, then-not-is_token-via-else-not-is_token+then-not-is_target}

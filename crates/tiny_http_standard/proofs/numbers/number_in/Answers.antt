@@ -1,4 +1,4 @@
-use Rattle.std.proofs.Common.{rules, ◌≡◌, ℕ, ◌+◌, ◌-◌, ◌*◌, ◌≤◌, sym, ap, ◌∙◌, take, get_or, None, arith}
+use Rattle.std.proofs.Common.{rules, ℕ, ◌+◌, ◌-◌, ◌*◌, ◌≤◌, sym, ap, ◌∙◌, take, get_or}
 use Rattle.std.specs.Prelude.{◌^◌}
 use Rattle.std.specs.Str.Parse.{digits_value}
 use Rattle.tiny_http_standard.proofs.NumbersLemmas.{one-digit, more-digits, other-byte, no-digits, too-large, has-number}

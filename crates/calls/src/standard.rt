@@ -1,0 +1,86 @@
+//! Calls that read a head by the standard.
+use crate::findings::{add, add_shown};
+use crate::row::Finding;
+use std::alloc::{AllocError, Global};
+use tiny_http_standard::hosts::{is_authority, is_host, is_host_value};
+use tiny_http_standard::judging::{HeadSummary, Refusal, judge};
+use tiny_http_standard::lines::{parse_field_line, parse_request_line};
+use tiny_http_wire::common::{HTTPVersion, Header, Method};
+
+/// A request line.
+pub fn read_request_line(
+    alloc: Global,
+    line: &[u8],
+    to: &mut Vec<Finding>,
+) -> Result<(), AllocError> {
+    let Some((method, target, version)) = parse_request_line(alloc, line)? else {
+        return add(alloc, to, "refused", b"");
+    };
+    add(alloc, to, "method", method.as_str().as_bytes())?;
+    add(alloc, to, "target", target.as_str().as_bytes())?;
+    add_shown(alloc, to, "version", &version)
+}
+
+/// A field line.
+pub fn read_field_line(
+    alloc: Global,
+    line: &[u8],
+    to: &mut Vec<Finding>,
+) -> Result<(), AllocError> {
+    let Some(header) = parse_field_line(alloc, line)? else {
+        return add(alloc, to, "refused", b"");
+    };
+    let name = header.field.as_str();
+    add(alloc, to, "name", name.as_str().as_bytes())?;
+    add(alloc, to, "value", header.value.as_str().as_bytes())
+}
+
+// Something that holds.
+fn add_if(
+    alloc: Global,
+    to: &mut Vec<Finding>,
+    word: &'static str,
+    holds: bool,
+) -> Result<(), AllocError> {
+    if holds {
+        return add(alloc, to, word, b"");
+    }
+    Ok(())
+}
+
+/// Which of a host, the value of a `Host` and the target of a `CONNECT` a text is; `refused` where it is none.
+pub fn judge_host(alloc: Global, text: &[u8], to: &mut Vec<Finding>) -> Result<(), AllocError> {
+    add_if(alloc, to, "host", is_host(text))?;
+    add_if(alloc, to, "host-value", is_host_value(text))?;
+    add_if(alloc, to, "authority", is_authority(text))?;
+    add_if(alloc, to, "refused", to.is_empty())
+}
+
+// What a head says.
+fn add_head(alloc: Global, to: &mut Vec<Finding>, head: HeadSummary) -> Result<(), AllocError> {
+    add(alloc, to, "served", b"")?;
+    if let Some(length) = head.body_length {
+        add_shown(alloc, to, "length", &length)?;
+    }
+    add_if(alloc, to, "chunked", head.is_chunked)?;
+    add_if(alloc, to, "continue", head.owes_continue)?;
+    add_if(alloc, to, "asks-upgrade", head.asks_upgrade)?;
+    add_if(alloc, to, "last", head.is_last)
+}
+
+/// What a head of this version, method and headers says, or the status by which it is refused.
+pub fn judge_head(
+    alloc: Global,
+    version: HTTPVersion,
+    method: &Method,
+    headers: &[Header],
+    to: &mut Vec<Finding>,
+) -> Result<(), AllocError> {
+    match judge(version, method, headers) {
+        Ok(head) => add_head(alloc, to, head),
+        Err(Refusal::UnsupportedVersion) => add(alloc, to, "refused", b"505"),
+        Err(Refusal::InvalidHead) => add(alloc, to, "refused", b"400"),
+        Err(Refusal::UnknownCoding) => add(alloc, to, "refused", b"501"),
+        Err(Refusal::UnknownExpectation) => add(alloc, to, "refused", b"417"),
+    }
+}

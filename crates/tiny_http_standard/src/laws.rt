@@ -1,0 +1,24 @@
+//! The laws of a head by the standard: each text has one reading, and each head one judgement.
+ghost use Rattle.std.specs.Prelude.{◌≡◌, ℕ, List, Result};
+ghost use Rattle.tiny_http_head.specs.declared.common.Method.{Method};
+ghost use Rattle.tiny_http_head.specs.declared.common.HTTPVersion.{HTTPVersion};
+ghost use Rattle.tiny_http_head.specs.declared.common.Header.{Header};
+ghost use Rattle.tiny_http_standard.specs.declared.judging.HeadSummary.{HeadSummary};
+ghost use Rattle.tiny_http_standard.specs.declared.judging.Refusal.{Refusal};
+ghost use Rattle.tiny_http_standard.specs.Lines.{RequestLine, FieldLine};
+ghost use Rattle.tiny_http_standard.specs.Judging.{Judges};
+
+/// A text is one request line at most: one method, one target and one version.
+pub fn one_request_line()
+    ensures { (text m t m' t' : List ℕ) (v v' : HTTPVersion) → RequestLine text m t v → RequestLine text m' t' v' → (m ≡ m') × (t ≡ t') × (v ≡ v') }
+{}
+
+/// A text is one field line at most: one name and one value.
+pub fn one_field_line()
+    ensures { (text field value field' value' : List ℕ) → FieldLine text field value → FieldLine text field' value' → (field ≡ field') × (value ≡ value') }
+{}
+
+/// A head has one judgement.
+pub fn one_judgement()
+    ensures { (v : HTTPVersion) (method : Method) (headers : List Header) (r r' : Result HeadSummary Refusal) → Judges v method headers r → Judges v method headers r' → r ≡ r' }
+{}
