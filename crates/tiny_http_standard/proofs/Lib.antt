@@ -7,3 +7,4 @@ pub mod FoldLemmas
 pub mod BodyLemmas
 pub mod JudgeLemmas
 pub mod LawsLemmas
+pub mod HeadsLemmas

@@ -3,3 +3,5 @@ pub mod Lines
 pub mod Lists
 pub mod Judging
 pub mod JudgingReading
+pub mod Heads
+pub mod HeadParts

@@ -2,6 +2,7 @@
 //! stands on `tiny_http_text` and `tiny_http_head`, and judges bytes by the crate `httparse`.
 #![tactic(auto)]
 
+pub mod heads;
 pub mod hosts;
 pub mod judging;
 pub mod laws;

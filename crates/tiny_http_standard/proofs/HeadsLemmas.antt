@@ -1,0 +1,57 @@
+-- Lines of a head, found and joined.
+use Rattle.std.proofs.Common.{◌≡◌, ◌≢◌, refl, sym, ap, ◌∙◌, subst, ℕ, zero, suc, ◌+◌, ◌-◌, ◌<◌, ◌≤◌, ◌⊎◌, Bool, true, false, not, List, [], ◌∷◌, ◌++◌, length, take, drop, get_or, inl, inr, append_assoc, length-append, arith}
+use Rattle.std.specs.Prelude.{◌==◌}
+use Rattle.std.specs.List.{list_all}
+use Rattle.std.proofs.lemmas.Bool.{and_parts}
+use Rattle.std.proofs.lemmas.List.{take-append-drop, take_all, drop_all}
+use Rattle.std.proofs.lemmas.List.Folds.{list_all-append}
+use Rattle.tiny_http_text.specs.Bytes.{HasNo, has_bare_end}
+use Rattle.tiny_http_text.proofs.BytesTrimming.{cut-at}
+use Rattle.tiny_http_head.specs.declared.common.Header.{Header}
+use Rattle.tiny_http_standard.specs.Lines.{ReadsFieldLine}
+use Rattle.tiny_http_standard.specs.Heads.{line_feed, is_carriage_return, Line, BeginsWithBareLine, BeginsWithFieldLines}
+
+front-without : (n : ℕ) (text : List ℕ) → HasNo line_feed text → HasNo line_feed (take n text)
+front-without n text h =
+    let whole : HasNo line_feed (take n text ++ drop n text) = subst (HasNo line_feed) (sym (take-append-drop n text)) h in
+    (and_parts (list_all (λ b. not (b == line_feed)) (take n text)) (list_all (λ b. not (b == line_feed)) (drop n text)) (sym (list_all-append (λ b. not (b == line_feed)) (take n text) (drop n text)) ∙ whole)).0
+
+-- a line that ends with CR, in front of an LF
+pub ended-line : (bytes line rest : List ℕ) → bytes ≡ line ++ line_feed ∷ rest → HasNo line_feed line → 0 < length line → get_or line (length line - 1) 0 ≡ 13 → Line bytes (take (length line - 1) line) rest
+ended-line bytes line rest joins first some last =
+    let n = length line - 1 in
+    let cut : line ≡ take n line ++ 13 ∷ drop (n + 1) line = cut-at 13 line n (omega (arith, some)) last in
+    let none : drop (n + 1) line ≡ [] = drop_all (n + 1) line (omega (arith, some)) in
+    let whole : line ≡ take n line ++ 13 ∷ [] = cut ∙ ap (λ (r : List ℕ). take n line ++ 13 ∷ r) none in
+    record {
+      joins = joins ∙ (ap (λ (l : List ℕ). l ++ line_feed ∷ rest) whole ∙ append_assoc (take n line) (13 ∷ []) (line_feed ∷ rest));
+      first = front-without n line first;
+    }
+
+bare-last : (x : ℕ) (xs : List ℕ) → is_carriage_return (get_or (x ∷ xs) (length xs) 0) ≡ false → has_bare_end is_carriage_return (x ∷ xs) ≡ true
+bare-last x [] e = rw e refl
+bare-last x (y ∷ ys) e = bare-last y ys e
+
+pub bare-line : (bytes line rest : List ℕ) → bytes ≡ line ++ line_feed ∷ rest → HasNo line_feed line → (length line ≡ 0) ⊎ (get_or line (length line - 1) 0 ≢ 13) → BeginsWithBareLine bytes
+bare-line bytes line rest joins first bare = record { text = line; rest = rest; joins = joins; first = first; bare = by line bare }
+  where
+    other : (b : ℕ) → b ≢ 13 → is_carriage_return b ≡ false
+    other b ne = grind (arith, ne)
+    by : (line : List ℕ) → (length line ≡ 0) ⊎ (get_or line (length line - 1) 0 ≢ 13) → has_bare_end is_carriage_return line ≡ true
+    by [] bare = refl
+    by (x ∷ xs) (inl none) = absurd (omega (arith, none))
+    by (x ∷ xs) (inr ne) =
+      let at : suc (length xs) - 1 ≡ length xs = omega arith in
+      let last : get_or (x ∷ xs) (length xs) 0 ≢ 13 = λ e. ne (ap (λ (i : ℕ). get_or (x ∷ xs) i 0) at ∙ e) in
+      bare-last x xs (other (get_or (x ∷ xs) (length xs) 0) last)
+
+-- one field line more
+pub more-fields : (bytes : List ℕ) (hs : List Header) (h : Header) (mid text next : List ℕ) → BeginsWithFieldLines bytes hs mid → Line mid text next → ReadsFieldLine text h → BeginsWithFieldLines bytes (hs ++ h ∷ []) next
+more-fields bytes [] h mid text next b line reads = (text, next, subst (λ (x : List ℕ). Line x text next) b line, reads, refl)
+more-fields bytes (k ∷ ks) h mid text next b line reads = (b.0, b.1, b.2, b.3, more-fields b.1 ks h mid text next b.4 line reads)
+
+-- what follows a line is shorter
+pub line-shorter : (bytes text rest : List ℕ) → Line bytes text rest → length rest < length bytes
+line-shorter bytes text rest l =
+    let n : length bytes ≡ length text + suc (suc (length rest)) = ap length l.joins ∙ length-append text (13 ∷ line_feed ∷ rest) in
+    omega (arith, n)
