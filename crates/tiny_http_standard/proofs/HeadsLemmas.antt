@@ -1,15 +1,20 @@
 -- Lines of a head, found and joined.
 use Rattle.std.proofs.Common.{◌≡◌, ◌≢◌, refl, sym, ap, ◌∙◌, subst, ℕ, zero, suc, ◌+◌, ◌-◌, ◌<◌, ◌≤◌, ◌⊎◌, Bool, true, false, not, List, [], ◌∷◌, ◌++◌, length, take, drop, get_or, inl, inr, append_assoc, length-append, arith}
-use Rattle.std.specs.Prelude.{◌==◌}
+use Rattle.std.specs.Prelude.{◌==◌, ◌&&◌, if◌then◌else◌}
 use Rattle.std.specs.List.{list_all}
 use Rattle.std.proofs.lemmas.Bool.{and_parts}
 use Rattle.std.proofs.lemmas.List.{take-append-drop, take_all, drop_all}
 use Rattle.std.proofs.lemmas.List.Folds.{list_all-append}
 use Rattle.tiny_http_text.specs.Bytes.{HasNo, has_bare_end}
 use Rattle.tiny_http_text.proofs.BytesTrimming.{cut-at}
+use Rattle.tiny_http_head.specs.declared.common.Method.{Method}
+use Rattle.tiny_http_head.specs.declared.common.HTTPVersion.{HTTPVersion}
 use Rattle.tiny_http_head.specs.declared.common.Header.{Header}
+use Rattle.tiny_http_standard.specs.declared.heads.Stop.{Stop}
+use Rattle.tiny_http_standard.specs.declared.heads.Stop.TheVariants as stop
+use Rattle.tiny_http_standard.specs.HeadParts.{StopsFields, EndsFields, StopsHead}
 use Rattle.tiny_http_standard.specs.Lines.{ReadsFieldLine}
-use Rattle.tiny_http_standard.specs.Heads.{line_feed, is_carriage_return, Line, BeginsWithBareLine, BeginsWithFieldLines}
+use Rattle.tiny_http_standard.specs.Heads.{line_feed, is_carriage_return, Line, BeginsWithBareLine, behind_empty_line, BeginsWithRequestLine, BeginsWithFieldLines, BeginsWithHead, ComesToField}
 
 front-without : (n : ℕ) (text : List ℕ) → HasNo line_feed text → HasNo line_feed (take n text)
 front-without n text h =
@@ -55,3 +60,42 @@ pub line-shorter : (bytes text rest : List ℕ) → Line bytes text rest → len
 line-shorter bytes text rest l =
     let n : length bytes ≡ length text + suc (suc (length rest)) = ap length l.joins ∙ length-append text (13 ∷ line_feed ∷ rest) in
     omega (arith, n)
+
+behind-shorter : (bytes : List ℕ) → length (behind_empty_line bytes) ≤ length bytes
+behind-shorter [] = omega arith
+behind-shorter (a ∷ []) = omega arith
+behind-shorter (a ∷ b ∷ bs) = by (a == 13 && b == line_feed)
+  where
+    by : (t : Bool) → length (if t then bs else a ∷ b ∷ bs) ≤ suc (suc (length bs))
+    by true = omega arith
+    by false = omega arith
+
+fields-shorter : (bytes : List ℕ) (hs : List Header) (rest : List ℕ) → BeginsWithFieldLines bytes hs rest → length rest ≤ length bytes
+fields-shorter bytes [] rest b = let same : length rest ≡ length bytes = ap length b in omega (arith, same)
+fields-shorter bytes (h ∷ hs) rest b =
+    let more = fields-shorter b.1 hs rest b.4 in
+    let line = line-shorter bytes b.0 b.1 b.2 in
+    omega (arith, more, line)
+
+-- a head is no longer than the bytes that it begins
+pub head-shorter : (bytes : List ℕ) (method : Method) (target : List ℕ) (v : HTTPVersion) (fields : List ℕ) (hs : List Header) (after : List ℕ) → BeginsWithRequestLine bytes method target v fields → EndsFields fields hs after → length after ≤ length bytes
+head-shorter bytes method target v fields hs after r e =
+    let start = behind-shorter bytes in
+    let line = line-shorter (behind_empty_line bytes) r.text fields r.line in
+    let lines = fields-shorter fields hs e.0 e.1 in
+    let end = line-shorter e.0 [] after e.2 in
+    omega (arith, start, line, lines, end)
+
+pub whole-head : (bytes : List ℕ) (method : Method) (target : List ℕ) (v : HTTPVersion) (fields : List ℕ) (hs : List Header) (after : List ℕ) → BeginsWithRequestLine bytes method target v fields → EndsFields fields hs after
+    → BeginsWithHead bytes (record { method = method; path = target; version = v; headers = hs }) after
+whole-head bytes method target v fields hs after r e = record { fields = fields; empty = e.0; request = r; headers = e.1; end = e.2 }
+
+comes : (bytes : List ℕ) (method : Method) (target : List ℕ) (v : HTTPVersion) (fields : List ℕ) (hs : List Header) (rest : List ℕ) → BeginsWithRequestLine bytes method target v fields → BeginsWithFieldLines fields hs rest → ComesToField bytes rest
+comes bytes method target v fields hs rest r b = record { method = method; target = target; version = v; fields = fields; headers = hs; request = r; lines = b }
+
+-- a head that stops behind its request line
+pub fields-stop : (bytes : List ℕ) (method : Method) (target : List ℕ) (v : HTTPVersion) (fields : List ℕ) (why : Stop) → BeginsWithRequestLine bytes method target v fields → StopsFields fields why → StopsHead bytes why
+fields-stop bytes method target v fields stop.Bad r s = inr (s.1, comes bytes method target v fields s.0 s.1 r s.2, s.3)
+fields-stop bytes method target v fields stop.OpenRequest r s = absurd s
+fields-stop bytes method target v fields stop.OpenField r s = (s.1, comes bytes method target v fields s.0 s.1 r s.2, s.3)
+fields-stop bytes method target v fields stop.Memory r s = tt
