@@ -1,8 +1,8 @@
 -- Lines of a head, found and joined.
 use Rattle.std.proofs.Common.{◌≡◌, ◌≢◌, refl, sym, ap, ◌∙◌, subst, ℕ, zero, suc, ◌+◌, ◌-◌, ◌<◌, ◌≤◌, ◌⊎◌, Bool, true, false, not, List, [], ◌∷◌, ◌++◌, length, take, drop, get_or, inl, inr, append_assoc, length-append, arith}
-use Rattle.std.specs.Prelude.{◌==◌, ◌&&◌, if◌then◌else◌}
+use Rattle.std.specs.Prelude.{◌==◌, ◌&&◌, min, if◌then◌else◌}
 use Rattle.std.specs.List.{list_all}
-use Rattle.std.proofs.lemmas.Bool.{and_parts}
+use Rattle.std.proofs.lemmas.Bool.{and_parts, cases_lt}
 use Rattle.std.proofs.lemmas.List.{take-append-drop, take_all, drop_all}
 use Rattle.std.proofs.lemmas.List.Folds.{list_all-append}
 use Rattle.tiny_http_text.specs.Bytes.{HasNo, has_bare_end}
@@ -10,11 +10,14 @@ use Rattle.tiny_http_text.proofs.BytesTrimming.{cut-at}
 use Rattle.tiny_http_head.specs.declared.common.Method.{Method}
 use Rattle.tiny_http_head.specs.declared.common.HTTPVersion.{HTTPVersion}
 use Rattle.tiny_http_head.specs.declared.common.Header.{Header}
+use Rattle.tiny_http_standard.specs.declared.heads.HeadFault.TheVariants.{BadLine, TargetTooLong, TooLarge, Judged}
+use Rattle.tiny_http_standard.specs.declared.heads.HeadRead.{HeadRead}
+use Rattle.tiny_http_standard.specs.declared.heads.HeadRead.TheVariants.{Whole, Refused, Unfinished}
 use Rattle.tiny_http_standard.specs.declared.heads.Stop.{Stop}
 use Rattle.tiny_http_standard.specs.declared.heads.Stop.TheVariants as stop
-use Rattle.tiny_http_standard.specs.HeadParts.{StopsFields, EndsFields, StopsHead}
+use Rattle.tiny_http_standard.specs.HeadParts.{StopsFields, EndsFields, StopsHead, ReadsWhole}
 use Rattle.tiny_http_standard.specs.Lines.{ReadsFieldLine}
-use Rattle.tiny_http_standard.specs.Heads.{line_feed, is_carriage_return, Line, BeginsWithBareLine, behind_empty_line, BeginsWithRequestLine, BeginsWithFieldLines, BeginsWithHead, ComesToField}
+use Rattle.tiny_http_standard.specs.Heads.{line_feed, is_carriage_return, Line, BeginsWithBareLine, behind_empty_line, BeginsWithRequestLine, BeginsWithFieldLines, BeginsWithHead, ComesToField, HasOpenRequestLine, HasOpenField, is_begun, Reads}
 
 front-without : (n : ℕ) (text : List ℕ) → HasNo line_feed text → HasNo line_feed (take n text)
 front-without n text h =
@@ -42,13 +45,14 @@ bare-line bytes line rest joins first bare = record { text = line; rest = rest; 
   where
     other : (b : ℕ) → b ≢ 13 → is_carriage_return b ≡ false
     other b ne = grind (arith, ne)
+
     by : (line : List ℕ) → (length line ≡ 0) ⊎ (get_or line (length line - 1) 0 ≢ 13) → has_bare_end is_carriage_return line ≡ true
     by [] bare = refl
     by (x ∷ xs) (inl none) = absurd (omega (arith, none))
     by (x ∷ xs) (inr ne) =
-      let at : suc (length xs) - 1 ≡ length xs = omega arith in
-      let last : get_or (x ∷ xs) (length xs) 0 ≢ 13 = λ e. ne (ap (λ (i : ℕ). get_or (x ∷ xs) i 0) at ∙ e) in
-      bare-last x xs (other (get_or (x ∷ xs) (length xs) 0) last)
+        let at : suc (length xs) - 1 ≡ length xs = omega arith in
+        let last : get_or (x ∷ xs) (length xs) 0 ≢ 13 = λ e. ne (ap (λ (i : ℕ). get_or (x ∷ xs) i 0) at ∙ e) in
+        bare-last x xs (other (get_or (x ∷ xs) (length xs) 0) last)
 
 -- one field line more
 pub more-fields : (bytes : List ℕ) (hs : List Header) (h : Header) (mid text next : List ℕ) → BeginsWithFieldLines bytes hs mid → Line mid text next → ReadsFieldLine text h → BeginsWithFieldLines bytes (hs ++ h ∷ []) next
@@ -99,3 +103,32 @@ fields-stop bytes method target v fields stop.Bad r s = inr (s.1, comes bytes me
 fields-stop bytes method target v fields stop.OpenRequest r s = absurd s
 fields-stop bytes method target v fields stop.OpenField r s = (s.1, comes bytes method target v fields s.0 s.1 r s.2, s.3)
 fields-stop bytes method target v fields stop.Memory r s = tt
+
+-- WHERE A HEAD HASN'T ENDED
+pub open-request : (limit : ℕ) (bytes : List ℕ) (r : HeadRead) → HasOpenRequestLine (take limit bytes) → (limit ≤ length bytes → r ≡ Refused TargetTooLong) → (length bytes < limit → r ≡ Unfinished (is_begun bytes)) → Reads limit bytes r
+open-request limit bytes r h full open_ = elim (cases_lt (length bytes) limit) [
+  | inl lt ↦ subst (Reads limit bytes) (sym (open_ lt)) (lt, inl (subst HasOpenRequestLine (take_all limit bytes (omega (arith, lt))) h), refl)
+  | inr le ↦ subst (Reads limit bytes) (sym (full le)) (le, h)
+]
+
+pub open-field : (limit : ℕ) (bytes : List ℕ) (r : HeadRead) → HasOpenField (take limit bytes) → (limit ≤ length bytes → r ≡ Refused TooLarge) → (length bytes < limit → r ≡ Unfinished (is_begun bytes)) → Reads limit bytes r
+open-field limit bytes r h full open_ = elim (cases_lt (length bytes) limit) [
+  | inl lt ↦ subst (Reads limit bytes) (sym (open_ lt)) (lt, inr (subst HasOpenField (take_all limit bytes (omega (arith, lt))) h), refl)
+  | inr le ↦ subst (Reads limit bytes) (sym (full le)) (le, h)
+]
+
+-- a head that has come whole
+pub reads-whole : (limit : ℕ) (bytes : List ℕ) (r : HeadRead) → ReadsWhole (take limit bytes) r → Reads limit bytes r
+reads-whole limit bytes (Whole h) w = w
+reads-whole limit bytes (Refused (Judged e)) w = w
+reads-whole limit bytes (Refused BadLine) w = absurd w
+reads-whole limit bytes (Refused TargetTooLong) w = absurd w
+reads-whole limit bytes (Refused TooLarge) w = absurd w
+reads-whole limit bytes (Unfinished b) w = absurd w
+
+-- the bytes that count
+pub seen-is : (limit : ℕ) (bytes : List ℕ) (n : ℕ) → n ≡ min (length bytes) limit → take n bytes ≡ take limit bytes
+seen-is limit bytes n e = elim (cases_lt (length bytes) limit) [
+  | inl lt ↦ let whole : n ≡ length bytes = omega (arith, e, lt) in ap (λ (k : ℕ). take k bytes) whole ∙ (take_all (length bytes) bytes (omega arith) ∙ sym (take_all limit bytes (omega (arith, lt))))
+  | inr le ↦ let cut : n ≡ limit = omega (arith, e, le) in ap (λ (k : ℕ). take k bytes) cut
+]

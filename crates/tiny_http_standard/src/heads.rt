@@ -1,5 +1,5 @@
 //! Whole heads by the standard, read from bytes (RFC 9112, sections 2.2, 3 and 5).
-ghost use Rattle.std.specs.Prelude.{◌≡◌, IfOk, IfErr, length, min, take};
+ghost use Rattle.std.specs.Prelude.{◌≡◌, ◌<◌, ◌≤◌, IfOk, IfErr, length};
 ghost use Rattle.tiny_http_standard.specs.Heads.{Line, behind_empty_line, is_begun, BeginsWithRequestLine, Reads, status_of};
 ghost use Rattle.tiny_http_standard.specs.HeadParts.{HasNoLine, StopsRequest, StopsFields, EndsFields, ReadsWhole, StopsHead};
 
@@ -186,6 +186,17 @@ fn read_whole(alloc: Global, bytes: &[u8]) -> Result<HeadRead, Stop>
     }
 }
 
+// What a head is that hasn't ended: refused so where it has to, or unfinished.
+fn not_ended(bytes: &[u8], limit: usize, fault: HeadFault) -> HeadRead
+    ensures full { limit ≤ length bytes.now → result ≡ HeadRead.Refused fault }
+    ensures open { length bytes.now < limit → result ≡ HeadRead.Unfinished (is_begun bytes.now) }
+{
+    if bytes.len() >= limit {
+        return HeadRead::Refused(fault);
+    }
+    HeadRead::Unfinished(!behind_empty_line(bytes).is_empty())
+}
+
 /// Reads the head at the front of `bytes`, which are the first that a client sends, or follow what was read of it before. A head
 /// has at most `limit` bytes, its empty lines included.
 ///
@@ -197,16 +208,11 @@ pub fn read_head(alloc: Global, bytes: &[u8], limit: usize) -> Result<HeadRead, 
     ensures { IfOk result (λ read. Reads limit bytes.now read) }
 {
     let seen = &bytes[..bytes.len().min(limit)];
-    let fault = match read_whole(alloc, seen) {
-        Ok(read) => return Ok(read),
-        Err(Stop::Bad) => return Ok(HeadRead::Refused(HeadFault::BadLine)),
-        Err(Stop::Memory) => return Err(AllocError),
-        Err(Stop::OpenRequest) => HeadFault::TargetTooLong,
-        Err(Stop::OpenField) => HeadFault::TooLarge,
-    };
-    if bytes.len() >= limit {
-        return Ok(HeadRead::Refused(fault));
+    match read_whole(alloc, seen) {
+        Ok(read) => Ok(read),
+        Err(Stop::Bad) => Ok(HeadRead::Refused(HeadFault::BadLine)),
+        Err(Stop::OpenRequest) => Ok(not_ended(bytes, limit, HeadFault::TargetTooLong)),
+        Err(Stop::OpenField) => Ok(not_ended(bytes, limit, HeadFault::TooLarge)),
+        Err(Stop::Memory) => Err(AllocError),
     }
-    let has_begun = !behind_empty_line(bytes).is_empty();
-    Ok(HeadRead::Unfinished(has_begun))
 }

@@ -22,18 +22,20 @@ returns-in-Ok-judge-clause-some c =
     let r = c.in-Ok.request in
     let f = c.in-Ok-read_fields.fields in
     let short : length f.1.now ≤ length c.args.bytes.now = head-shorter c.args.bytes.now r.0 r.1 r.2 r.3.now f.0.items f.1.now c.in-Ok.ensures.some c.in-Ok-read_fields.ensures.some in
-    let judged = subst (λ (hs : List Header). Judges r.2 r.0 hs c.judge.result) c.as_slice.ensures.value c.judge.ensures in
-    (f.1.now,
+    let judged = subst (λ (hs : List Header). Judges r.2 r.0 hs c.judge.result) c.as_slice.ensures.value c.judge.ensures in (
+      f.1.now,
       whole-head c.args.bytes.now r.0 r.1 r.2 r.3.now f.0.items f.1.now c.in-Ok.ensures.some c.in-Ok-read_fields.ensures.some,
       omega (arith, short),
-      subst (λ (j : Result HeadSummary Refusal). Judges r.2 r.0 f.0.items j) c.in-Ok-judge.is judged)
+      subst (λ (j : Result HeadSummary Refusal). Judges r.2 r.0 f.0.items j) c.in-Ok-judge.is judged,
+    )
 
 pub returns-in-Err-judge-clause-some : goal.returns-in-Err-judge-clause-some
 returns-in-Err-judge-clause-some c =
     let r = c.in-Ok.request in
     let f = c.in-Ok-read_fields.fields in
-    let judged = subst (λ (hs : List Header). Judges r.2 r.0 hs c.judge.result) c.as_slice.ensures.value c.judge.ensures in
-    (record { method = r.0; path = r.1; version = r.2; headers = f.0.items },
+    let judged = subst (λ (hs : List Header). Judges r.2 r.0 hs c.judge.result) c.as_slice.ensures.value c.judge.ensures in (
+      record { method = r.0; path = r.1; version = r.2; headers = f.0.items },
       f.1.now,
       whole-head c.args.bytes.now r.0 r.1 r.2 r.3.now f.0.items f.1.now c.in-Ok.ensures.some c.in-Ok-read_fields.ensures.some,
-      subst (λ (j : Result HeadSummary Refusal). Judges r.2 r.0 f.0.items j) c.in-Err-judge.is judged)
+      subst (λ (j : Result HeadSummary Refusal). Judges r.2 r.0 f.0.items j) c.in-Err-judge.is judged,
+    )
