@@ -101,6 +101,7 @@ fn worded_call(alloc: Global, name: &str, words: &str) -> Result<Call, LineFault
         "default_reason_phrase" => Ok(Call::Phrase(status(words)?)),
         "HTTPVersion" => Ok(Call::Version(version(words)?)),
         "judge" => judged(alloc, words),
+        "heads::read_head" => Ok(Call::ReadHead(number(words)?)),
         "Numeral" => Ok(Call::Numeral(number(words)? as u64)),
         _ => Err(LineFault::Bad("no call has this name")),
     }

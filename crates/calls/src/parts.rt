@@ -37,6 +37,7 @@ fn parts_of(call: &Call) -> &'static [&'static str] {
         Call::Encoder(_) => &["data", "series", "flushes", "open", "rooms"],
         Call::AskedCoding | Call::Judge(_, _) => &["request"],
         Call::StandardRequestLine | Call::StandardFieldLine | Call::Host => &["data"],
+        Call::ReadHead(_) => &["data", "series"],
         Call::RawPrint(_) => &[
             "data",
             "series",

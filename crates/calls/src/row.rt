@@ -74,6 +74,8 @@ pub enum Call {
     Host,
     /// A head of this version and method is judged by the standard.
     Judge(HTTPVersion, Method),
+    /// The head at the front of bytes is read by the standard, where one has at most so many bytes.
+    ReadHead(usize),
 }
 
 /// Writers with too little room.

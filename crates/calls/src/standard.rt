@@ -2,8 +2,9 @@
 use crate::findings::{add, add_shown};
 use crate::row::Finding;
 use std::alloc::{AllocError, Global};
+use tiny_http_standard::heads::{HeadFault, HeadRead, read_head};
 use tiny_http_standard::hosts::{is_authority, is_host, is_host_value};
-use tiny_http_standard::judging::{HeadSummary, Refusal, judge};
+use tiny_http_standard::judging::{HeadSummary, judge};
 use tiny_http_standard::lines::{parse_field_line, parse_request_line};
 use tiny_http_wire::common::{HTTPVersion, Header, Method};
 
@@ -78,9 +79,31 @@ pub fn judge_head(
 ) -> Result<(), AllocError> {
     match judge(version, method, headers) {
         Ok(head) => add_head(alloc, to, head),
-        Err(Refusal::UnsupportedVersion) => add(alloc, to, "refused", b"505"),
-        Err(Refusal::InvalidHead) => add(alloc, to, "refused", b"400"),
-        Err(Refusal::UnknownCoding) => add(alloc, to, "refused", b"501"),
-        Err(Refusal::UnknownExpectation) => add(alloc, to, "refused", b"417"),
+        Err(refusal) => add_shown(alloc, to, "refused", &HeadFault::Judged(refusal).status()),
     }
+}
+
+/// What is read of the first bytes of a client, where a head has at most so many: a whole head, how many bytes it has and what it
+/// says; or the status by which it is refused; or that it is unfinished, and whether it has begun.
+pub fn read_front(
+    alloc: Global,
+    limit: usize,
+    bytes: &[u8],
+    to: &mut Vec<Finding>,
+) -> Result<(), AllocError> {
+    let head = match read_head(alloc, bytes, limit)? {
+        HeadRead::Whole(head) => head,
+        HeadRead::Refused(fault) => return add_shown(alloc, to, "refused", &fault.status()),
+        HeadRead::Unfinished(true) => return add(alloc, to, "unfinished", b"begun"),
+        HeadRead::Unfinished(false) => return add(alloc, to, "unfinished", b""),
+    };
+    add_shown(alloc, to, "taken", &head.length)?;
+    add(alloc, to, "method", head.method.as_str().as_bytes())?;
+    add(alloc, to, "target", head.target.as_str().as_bytes())?;
+    add_shown(alloc, to, "version", &head.version)?;
+    for header in &head.headers {
+        add(alloc, to, "name", header.field.as_str().as_str().as_bytes())?;
+        add(alloc, to, "value", header.value.as_str().as_bytes())?;
+    }
+    add_head(alloc, to, head.summary)
 }

@@ -8,3 +8,4 @@ pub mod BodyLemmas
 pub mod JudgeLemmas
 pub mod LawsLemmas
 pub mod HeadsLemmas
+pub mod ReadingLemmas

@@ -1,6 +1,6 @@
 -- A whole head by the standard (RFC 9112, sections 2.2, 3 and 5), and what is read of the first bytes that a client sends.
-use Rattle.std.specs.Prelude.{◌≡◌, ◌≢◌, ℕ, ◌+◌, ◌<◌, ◌≤◌, ◌⊎◌, Bool, true, false, not, ◌&&◌, ◌==◌, List, [], ◌∷◌, ◌++◌, length, take, Result, Ok, Err, IsTrue, if◌then◌else◌}
-use Rattle.tiny_http_text.specs.Bytes.{HasNo, has_bare_end, crlf}
+use Rattle.std.specs.Prelude.{◌≡◌, ◌≢◌, ℕ, ◌+◌, ◌<◌, ◌≤◌, ◌⊎◌, Bool, not, ◌&&◌, ◌==◌, List, [], ◌∷◌, ◌++◌, length, take, Ok, Err, IsTrue, if◌then◌else◌}
+use Rattle.tiny_http_text.specs.Bytes.{HasNo, has_bare_end}
 use Rattle.tiny_http_head.specs.declared.common.Method.{Method}
 use Rattle.tiny_http_head.specs.declared.common.HTTPVersion.{HTTPVersion}
 use Rattle.tiny_http_head.specs.declared.common.Header.{Header}
@@ -113,3 +113,10 @@ Reads limit bytes (Refused (Judged refusal)) = (m : Message) × (after : List �
 Reads limit bytes (Refused TargetTooLong) = (limit ≤ length bytes) × HasOpenRequestLine (take limit bytes)
 Reads limit bytes (Refused TooLarge) = (limit ≤ length bytes) × HasOpenField (take limit bytes)
 Reads limit bytes (Unfinished has_begun) = (length bytes < limit) × (HasOpenRequestLine bytes ⊎ HasOpenField bytes) × (has_begun ≡ is_begun bytes)
+
+-- Two readings say the same: the same head, of the same length and judged alike; the same fault; or unfinished, begun alike.
+abbrev pub IsSameRead : HeadRead → HeadRead → Type 0
+IsSameRead (Whole h) (Whole k) = (message_of h ≡ message_of k) × (h.length ≡ k.length) × (h.summary ≡ k.summary)
+IsSameRead (Refused e) (Refused f) = e ≡ f
+IsSameRead (Unfinished b) (Unfinished c) = b ≡ c
+IsSameRead _ _ = ⊥

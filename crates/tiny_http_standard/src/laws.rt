@@ -5,6 +5,8 @@ ghost use Rattle.tiny_http_head.specs.declared.common.HTTPVersion.{HTTPVersion};
 ghost use Rattle.tiny_http_head.specs.declared.common.Header.{Header};
 ghost use Rattle.tiny_http_standard.specs.declared.judging.HeadSummary.{HeadSummary};
 ghost use Rattle.tiny_http_standard.specs.declared.judging.Refusal.{Refusal};
+ghost use Rattle.tiny_http_standard.specs.declared.heads.HeadRead.{HeadRead};
+ghost use Rattle.tiny_http_standard.specs.Heads.{Reads, IsSameRead};
 ghost use Rattle.tiny_http_standard.specs.Lines.{RequestLine, FieldLine};
 ghost use Rattle.tiny_http_standard.specs.Judging.{Judges};
 
@@ -21,4 +23,10 @@ pub fn one_field_line()
 /// A head has one judgement.
 pub fn one_judgement()
     ensures { (v : HTTPVersion) (method : Method) (headers : List Header) (r r' : Result HeadSummary Refusal) → Judges v method headers r → Judges v method headers r' → r ≡ r' }
+{}
+
+/// The first bytes of a client are read in one way: they are a whole head, a refused one, or one that hasn't ended, and no two of
+/// these.
+pub fn one_reading()
+    ensures { (limit : ℕ) (bytes : List ℕ) (r r' : HeadRead) → Reads limit bytes r → Reads limit bytes r' → IsSameRead r r' }
 {}

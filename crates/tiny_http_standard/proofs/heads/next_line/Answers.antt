@@ -1,5 +1,5 @@
-use Rattle.std.proofs.Common.{rules, inl, inr}
-use Rattle.tiny_http_standard.proofs.HeadsLemmas.{bare-line, ended-line}
+use Rattle.std.proofs.Common.{inl, inr}
+use Rattle.tiny_http_standard.proofs.HeadsLemmas.{bare-line}
 use Rattle.tiny_http_standard.proofs.heads.next_line.Goals.{then-n-eq0-via-then-n-eq0, then-n-eq0-via-else-n-eq0+then-line-n-ne13}
 use Rattle.tiny_http_standard.proofs.heads.next_line.Goals as goal
 

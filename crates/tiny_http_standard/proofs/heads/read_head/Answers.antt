@@ -1,4 +1,4 @@
-use Rattle.std.proofs.Common.{rules, List, ℕ, take, subst}
+use Rattle.std.proofs.Common.{take, subst}
 use Rattle.tiny_http_standard.specs.declared.heads.Stop.{Stop}
 use Rattle.tiny_http_standard.specs.Heads.{HasOpenField}
 use Rattle.tiny_http_standard.specs.HeadParts.{StopsHead}

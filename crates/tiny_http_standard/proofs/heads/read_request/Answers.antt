@@ -1,4 +1,4 @@
-use Rattle.std.proofs.Common.{rules, ◌≡◌, ℕ, List, inl, inr, subst, ap, ◌∙◌, Ok}
+use Rattle.std.proofs.Common.{ℕ, List, inr, subst, ap, ◌∙◌, Ok}
 use Rattle.tiny_http_standard.specs.Lines.{IsNoRequestLine}
 use Rattle.tiny_http_standard.specs.Heads.{BeginsWithBadLine}
 use Rattle.tiny_http_standard.proofs.heads.read_request.Goals as goal
