@@ -9,3 +9,5 @@ pub mod JudgeLemmas
 pub mod LawsLemmas
 pub mod HeadsLemmas
 pub mod ReadingLemmas
+pub mod Deciding
+pub mod Existing

@@ -83,17 +83,17 @@ no-empty_field h a = by h.field a.1.padded a.1.joins
     by (x ∷ xs) p e = cc
 
 -- how the field lines end
-data Ending : Type 0 where
+pub data Ending : Type 0 where
   Finished : (after : List ℕ) → Ending
   Bad : Ending
   Open : Ending
 
-abbrev EndsAs : List ℕ → Ending → Type 0
+abbrev pub EndsAs : List ℕ → Ending → Type 0
 EndsAs rest (Finished after) = Line rest [] after
 EndsAs rest Bad = BeginsWithBadLine IsNoFieldOrEnd rest
 EndsAs rest Open = HasNo line_feed rest
 
-abbrev AreFields : List ℕ → List Header → Ending → Type 0
+abbrev pub AreFields : List ℕ → List Header → Ending → Type 0
 AreFields bytes hs e = (rest : List ℕ) × BeginsWithFieldLines bytes hs rest × EndsAs rest e
 
 ends-once : (rest : List ℕ) (e f : Ending) → EndsAs rest e → EndsAs rest f → e ≡ f

@@ -1,12 +1,13 @@
 //! The laws of a head by the standard: each text has one reading, and each head one judgement.
-ghost use Rattle.std.specs.Prelude.{◌≡◌, ℕ, List, Result};
+ghost use Rattle.std.specs.Prelude.{◌≡◌, ◌⊎◌, ℕ, List, Result};
 ghost use Rattle.tiny_http_head.specs.declared.common.Method.{Method};
 ghost use Rattle.tiny_http_head.specs.declared.common.HTTPVersion.{HTTPVersion};
 ghost use Rattle.tiny_http_head.specs.declared.common.Header.{Header};
+ghost use Rattle.tiny_http_head.specs.Heads.{Message};
 ghost use Rattle.tiny_http_standard.specs.declared.judging.HeadSummary.{HeadSummary};
 ghost use Rattle.tiny_http_standard.specs.declared.judging.Refusal.{Refusal};
 ghost use Rattle.tiny_http_standard.specs.declared.heads.HeadRead.{HeadRead};
-ghost use Rattle.tiny_http_standard.specs.Heads.{Reads, IsSameRead};
+ghost use Rattle.tiny_http_standard.specs.Heads.{BeginsWithHead, HasBadLine, HasOpenRequestLine, HasOpenField, Reads, IsSameRead};
 ghost use Rattle.tiny_http_standard.specs.Lines.{RequestLine, FieldLine};
 ghost use Rattle.tiny_http_standard.specs.Judging.{Judges};
 
@@ -20,13 +21,15 @@ pub fn one_field_line()
     ensures { (text field value field' value' : List ℕ) → FieldLine text field value → FieldLine text field' value' → (field ≡ field') × (value ≡ value') }
 {}
 
-/// A head has one judgement.
+/// A head has a judgement, and one.
 pub fn one_judgement()
-    ensures { (v : HTTPVersion) (method : Method) (headers : List Header) (r r' : Result HeadSummary Refusal) → Judges v method headers r → Judges v method headers r' → r ≡ r' }
+    ensures some { (v : HTTPVersion) (method : Method) (headers : List Header) → (r : Result HeadSummary Refusal) × Judges v method headers r }
+    ensures one { (v : HTTPVersion) (method : Method) (headers : List Header) (r r' : Result HeadSummary Refusal) → Judges v method headers r → Judges v method headers r' → r ≡ r' }
 {}
 
-/// The first bytes of a client are read in one way: they are a whole head, a refused one, or one that hasn't ended, and no two of
-/// these.
+/// The first bytes of a client are read in one way: they are a whole head, which is judged, or they have a bad line, or one that
+/// hasn't ended; and no two of these.
 pub fn one_reading()
-    ensures { (limit : ℕ) (bytes : List ℕ) (r r' : HeadRead) → Reads limit bytes r → Reads limit bytes r' → IsSameRead r r' }
+    ensures some { (bytes : List ℕ) → ((m : Message) × (after : List ℕ) × BeginsWithHead bytes m after) ⊎ (HasBadLine bytes ⊎ (HasOpenRequestLine bytes ⊎ HasOpenField bytes)) }
+    ensures one { (limit : ℕ) (bytes : List ℕ) (r r' : HeadRead) → Reads limit bytes r → Reads limit bytes r' → IsSameRead r r' }
 {}
