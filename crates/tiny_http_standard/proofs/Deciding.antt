@@ -12,8 +12,8 @@ use Rattle.tiny_http_text.specs.Bytes.{HasNo, AreAscii, is_ascii, trimmed, colon
 use Rattle.tiny_http_text.proofs.BytesLemmas.{trims-is}
 use Rattle.tiny_http_head.specs.Heads.{length_of}
 use Rattle.tiny_http_head.specs.declared.common.HTTPVersion.{HTTPVersion}
-use Rattle.tiny_http_standard.specs.Hosts.{IsIpLiteral, is_registered_name, is_address_byte, IsHost, IsHostValue, IsAuthority, is_port_number}
-use Rattle.tiny_http_standard.specs.Lines.{IsVersion, IsTarget, is_origin, is_asterisk, is_absolute, RequestLine, IsNoRequestLine, must_be_ascii, FieldLine, IsNoFieldLine}
+use Rattle.tiny_http_standard.specs.Hosts.{IsBracketedAddress, is_registered_name, is_address_byte, IsHost, IsHostValue, IsAuthority, is_port_number}
+use Rattle.tiny_http_standard.specs.Lines.{IsVersion, IsTarget, is_origin_form, is_asterisk_form, is_absolute_form, RequestLine, IsNoRequestLine, must_be_ascii, FieldLine, IsNoFieldLine}
 use Rattle.tiny_http_standard.proofs.HostsLemmas.{contrary, inside, literal-is, one-port, no-port, value-port, authority-port, number-digits}
 use Rattle.tiny_http_standard.proofs.LinesLemmas.{version-is, no-space, one-space, line-parts, no-colon, field-parts}
 
@@ -61,7 +61,7 @@ dec-not_empty (x ∷ xs) = inl (λ e. nothing x xs e)
     nothing x xs e = cc
 
 -- an address in brackets has three bytes at least, and its brackets
-literal-ends : (text : List ℕ) → IsIpLiteral text → (3 ≤ length text) × (get_or text 0 0 ≡ 91) × (get_or text (length text - 1) 0 ≡ 93)
+literal-ends : (text : List ℕ) → IsBracketedAddress text → (3 ≤ length text) × (get_or text 0 0 ≡ 91) × (get_or text (length text - 1) 0 ≡ 93)
 literal-ends text l =
     let whole : text ≡ 91 ∷ (l.address ++ 93 ∷ []) = l.joins in
     let n : length (l.address ++ 93 ∷ []) ≡ length l.address + 1 = length-append l.address (93 ∷ []) in
@@ -81,18 +81,18 @@ dec-number a b = by (a == b) refl
     by true e = inl (eqb-true a b e)
     by false e = inr (λ same. grind (arith, e, same))
 
-dec-literal : (text : List ℕ) → Decided (IsIpLiteral text)
+dec-literal : (text : List ℕ) → Decided (IsBracketedAddress text)
 dec-literal text = elim (cases_lt (length text) 3) [
   | inl short ↦ inr (λ l. let e = (literal-ends text l).0 in absurd (omega (arith, short, e)))
   | inr long ↦ elim (dec-number (get_or text 0 0) 91) [
-      | inr other ↦ inr (λ l. other (literal-ends text l).1)
-      | inl first ↦ elim (dec-number (get_or text (length text - 1) 0) 93) [
-          | inr other ↦ inr (λ l. other (literal-ends text l).2)
-          | inl last ↦
-              let is = literal-is text long first last (list_all is_address_byte (inside text)) refl in
-              elim (dec-true (list_all is_address_byte (inside text))) [ inl good ↦ inl (is.0 good) | inr bad ↦ inr (λ l. bad (is.1 l)) ]
-        ]
+    | inr other ↦ inr (λ l. other (literal-ends text l).1)
+    | inl first ↦ elim (dec-number (get_or text (length text - 1) 0) 93) [
+      | inr other ↦ inr (λ l. other (literal-ends text l).2)
+      | inl last ↦
+          let is = literal-is text long first last (list_all is_address_byte (inside text)) refl in
+          elim (dec-true (list_all is_address_byte (inside text))) [ inl good ↦ inl (is.0 good) | inr bad ↦ inr (λ l. bad (is.1 l)) ]
     ]
+  ]
 ]
 
 pub dec-host : (text : List ℕ) → Decided (IsHost text)
@@ -109,24 +109,24 @@ pub dec-host_value : (text : List ℕ) → Decided (IsHostValue text)
 dec-host_value text = elim (dec-empty text) [
   | inl empty ↦ inl (inl empty)
   | inr some ↦ elim (dec-host text) [
-      | inl host ↦ inl (inr (inl host))
-      | inr unlike ↦ elim (cut-last colon text) [
-          | inl none ↦ inr (λ v. elim v [ inl e ↦ some e | inr r ↦ elim r [ inl h ↦ unlike h | inr w ↦ no-port text none w.0 w.1 w.2 ] ])
-          | inr w ↦ elim (dec-both (dec-host w.0) (dec-true (list_all is_ascii_digit w.1))) [
-              | inl good ↦ inl (inr (inr (w.0, w.1, record { joins = w.2; is_host = good.0; digits = good.1 })))
-              | inr bad ↦ inr (λ v. bad (value-port text w.0 w.1 some unlike w.2 w.3 v))
-            ]
-        ]
+    | inl host ↦ inl (inr (inl host))
+    | inr unlike ↦ elim (cut-last colon text) [
+      | inl none ↦ inr (λ v. elim v [ inl e ↦ some e | inr r ↦ elim r [ inl h ↦ unlike h | inr w ↦ no-port text none w.0 w.1 w.2 ] ])
+      | inr w ↦ elim (dec-both (dec-host w.0) (dec-true (list_all is_ascii_digit w.1))) [
+        | inl good ↦ inl (inr (inr (w.0, w.1, record { joins = w.2; is_host = good.0; digits = good.1 })))
+        | inr bad ↦ inr (λ v. bad (value-port text w.0 w.1 some unlike w.2 w.3 v))
+      ]
     ]
+  ]
 ]
 
 pub dec-authority : (text : List ℕ) → Decided (IsAuthority text)
 dec-authority text = elim (cut-last colon text) [
   | inl none ↦ inr (λ a. no-port text none a.0 a.1 a.2)
   | inr w ↦ elim (dec-both (dec-host w.0) (dec-true (is_port_number (length_of w.1)))) [
-      | inl good ↦ inl (w.0, w.1, record { joins = w.2; is_host = good.0; digits = number-digits w.1 good.1 }, good.1)
-      | inr bad ↦ inr (λ a. bad (authority-port text w.0 w.1 w.2 w.3 a))
-    ]
+    | inl good ↦ inl (w.0, w.1, record { joins = w.2; is_host = good.0; digits = number-digits w.1 good.1 }, good.1)
+    | inr bad ↦ inr (λ a. bad (authority-port text w.0 w.1 w.2 w.3 a))
+  ]
 ]
 
 dec-match : {A B : Type 0} (b : Bool) → Decided A → Decided B → Decided (MatchBool b A B)
@@ -136,7 +136,7 @@ dec-match false a b = b
 pub dec-target : (method target : List ℕ) → Decided (IsTarget method target)
 dec-target method target =
     dec-both (dec-true (list_all is_ascii_graphic target))
-    (dec-match (bytes_eq method (codes "CONNECT")) (dec-authority target) (dec-true (is_origin target || (is_asterisk method target || is_absolute target))))
+    (dec-match (bytes_eq method (codes "CONNECT")) (dec-authority target) (dec-true (is_origin_form target || (is_asterisk_form method target || is_absolute_form target))))
 
 -- the bytes of a version
 abbrev AreVersionBytes : List ℕ → Type 0
@@ -164,9 +164,9 @@ pub dec-version : (text : List ℕ) → ((v : HTTPVersion) × IsVersion text v) 
 dec-version t = elim (dec-number (length t) 8) [
   | inr other ↦ inr (λ v i. other (ap length i.joins))
   | inl long ↦ elim (dec-version_bytes t) [
-      | inl good ↦ inl ((get_or t 5 0 - 48, get_or t 7 0 - 48), version-made t long good)
-      | inr bad ↦ inr (λ v i. bad (version-bytes t v i))
-    ]
+    | inl good ↦ inl ((get_or t 5 0 - 48, get_or t 7 0 - 48), version-made t long good)
+    | inr bad ↦ inr (λ v i. bad (version-bytes t v i))
+  ]
 ]
 
 -- EACH TEXT IS A REQUEST LINE, OR ISN'T
@@ -174,15 +174,15 @@ pub dec-request_line : (text : List ℕ) → ((method : List ℕ) × (target : L
 dec-request_line text = elim (cut-first 32 text) [
   | inl none ↦ inr (no-space text none)
   | inr a ↦ elim (cut-first 32 a.1) [
-      | inl none ↦ inr (one-space text a.0 a.1 a.2 a.3 none)
-      | inr b ↦ elim (dec-version b.1) [
-          | inr no_version ↦ inr (λ method target v r. no_version v (line-parts text a.0 a.1 b.0 b.1 a.2 a.3 b.2 b.3 method target v r).2)
-          | inl v ↦ elim (dec-both (dec-true (is_token a.0)) (dec-target a.0 b.0)) [
-              | inl good ↦ inl (a.0, b.0, v.0, record { version_text = b.1; joins = a.2 ∙ ap (λ (x : List ℕ). a.0 ++ 32 ∷ x) b.2; method_is = good.0; target_is = good.1; version_is = v.1 })
-              | inr bad ↦ inr (λ method target w r. let p = line-parts text a.0 a.1 b.0 b.1 a.2 a.3 b.2 b.3 method target w r in bad (p.0, p.1))
-            ]
-        ]
+    | inl none ↦ inr (one-space text a.0 a.1 a.2 a.3 none)
+    | inr b ↦ elim (dec-version b.1) [
+      | inr no_version ↦ inr (λ method target v r. no_version v (line-parts text a.0 a.1 b.0 b.1 a.2 a.3 b.2 b.3 method target v r).2)
+      | inl v ↦ elim (dec-both (dec-true (is_token a.0)) (dec-target a.0 b.0)) [
+        | inl good ↦ inl (a.0, b.0, v.0, record { version_text = b.1; joins = a.2 ∙ ap (λ (x : List ℕ). a.0 ++ 32 ∷ x) b.2; method_is = good.0; target_is = good.1; version_is = v.1 })
+        | inr bad ↦ inr (λ method target w r. let p = line-parts text a.0 a.1 b.0 b.1 a.2 a.3 b.2 b.3 method target w r in bad (p.0, p.1))
+      ]
     ]
+  ]
 ]
 
 -- EACH TEXT IS A FIELD LINE, OR ISN'T
@@ -190,12 +190,12 @@ pub dec-field_line : (text : List ℕ) → ((field : List ℕ) × (value : List 
 dec-field_line text = elim (cut-first 58 text) [
   | inl none ↦ inr (no-colon text none)
   | inr a ↦ elim (dec-both (dec-true (is_token a.0)) (dec-true (list_all is_value_byte a.1))) [
-      | inr bad ↦ inr (λ field value l. let p = field-parts text a.0 a.1 a.2 a.3 field value l in bad (p.0, p.1))
-      | inl good ↦ elim (dec-judged (must_be_ascii a.0) (list_all is_ascii (trimmed is_ows a.1))) [
-          | inl judged ↦ inl (a.0, trimmed is_ows a.1, record { padded = a.1; joins = a.2; field_is = good.0; bytes = good.1; trims = trims-is is_ows a.1; judged = judged })
-          | inr bad ↦ inr (λ field value l. bad (field-parts text a.0 a.1 a.2 a.3 field value l).2)
-        ]
+    | inr bad ↦ inr (λ field value l. let p = field-parts text a.0 a.1 a.2 a.3 field value l in bad (p.0, p.1))
+    | inl good ↦ elim (dec-judged (must_be_ascii a.0) (list_all is_ascii (trimmed is_ows a.1))) [
+      | inl judged ↦ inl (a.0, trimmed is_ows a.1, record { padded = a.1; joins = a.2; field_is = good.0; bytes = good.1; trims = trims-is is_ows a.1; ascii = judged })
+      | inr bad ↦ inr (λ field value l. bad (field-parts text a.0 a.1 a.2 a.3 field value l).2)
     ]
+  ]
 ]
   where
     dec-judged : (judged ascii : Bool) → Decided (IsTrue judged → IsTrue ascii)

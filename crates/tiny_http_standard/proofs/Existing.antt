@@ -15,7 +15,7 @@ use Rattle.tiny_http_standard.specs.declared.judging.Refusal.TheVariants.{Unsupp
 use Rattle.tiny_http_standard.specs.Hosts.{IsHostValue}
 use Rattle.tiny_http_standard.specs.Lines.{percent_encoded, IsNoRequestLine, ReadsFieldLine}
 use Rattle.tiny_http_standard.specs.Lists.{values_of, has_element_that}
-use Rattle.tiny_http_standard.specs.Judging.{is_1_0, HasValidHost, IsServed, Judges, owes_continue, asks_upgrade, is_last, is_unknown_expectation}
+use Rattle.tiny_http_standard.specs.Judging.{is_1_0, HasValidHost, IsFramedRequest, Judges, owes_continue, asks_upgrade, is_last, is_unknown_expectation}
 use Rattle.tiny_http_standard.specs.Heads.{line_feed, is_carriage_return, Line, BeginsWithBareLine, behind_empty_line, BeginsWithRequestLine, BeginsWithFieldLines, BeginsWithHead, IsNoFieldOrEnd, ComesToField, HasBadLine, HasOpenRequestLine, HasOpenField}
 use Rattle.tiny_http_standard.proofs.HostsLemmas.{contrary}
 use Rattle.tiny_http_standard.proofs.HeadsLemmas.{line-shorter}
@@ -30,6 +30,7 @@ ends-with-return (x ∷ []) e = ([], ap (λ (y : ℕ). y ∷ []) (is x e))
     is-true : (b : Bool) → not b ≡ false → b ≡ true
     is-true true h = refl
     is-true false h = contrary true refl h
+
     is : (x : ℕ) → not (is_carriage_return x) ≡ false → x ≡ 13
     is x h = eqb-true x 13 (is-true (x == 13) h)
 ends-with-return (x ∷ y ∷ ys) e = let w = ends-with-return (y ∷ ys) e in (x ∷ w.0, ap (λ (r : List ℕ). x ∷ r) w.1)
@@ -44,8 +45,9 @@ find-line bytes = elim (cut-first line_feed bytes) [
     made : (text rest b : List ℕ) → bytes ≡ text ++ line_feed ∷ rest → HasNo line_feed text → text ≡ b ++ 13 ∷ [] → Line bytes b rest
     made text rest b joins first ends = record {
       joins = joins ∙ ap (λ (x : List ℕ). x ++ line_feed ∷ rest) ends ∙ append_assoc b (13 ∷ []) (line_feed ∷ rest);
-      first = (and_parts (list_all (λ x. not (x == line_feed)) b) (list_all (λ x. not (x == line_feed)) (13 ∷ [])) (sym (list_all-append (λ x. not (x == line_feed)) b (13 ∷ [])) ∙ subst (HasNo line_feed) ends first)).0
+      first = (and_parts (list_all (λ x. not (x == line_feed)) b) (list_all (λ x. not (x == line_feed)) (13 ∷ [])) (sym (list_all-append (λ x. not (x == line_feed)) b (13 ∷ [])) ∙ subst (HasNo line_feed) ends first)).0;
     }
+
     by : (text rest : List ℕ) → bytes ≡ text ++ line_feed ∷ rest → HasNo line_feed text → (t : Bool) → has_bare_end is_carriage_return text ≡ t → ((t : List ℕ) × (r : List ℕ) × Line bytes t r) ⊎ (BeginsWithBareLine bytes ⊎ HasNo line_feed bytes)
     by text rest joins first true e = inr (inl (record { text = text; rest = rest; joins = joins; first = first; bare = e }))
     by text rest joins first false e = let w = ends-with-return text e in inl (w.0, rest, made text rest w.0 joins first w.1)
@@ -64,16 +66,16 @@ pub data Step (bytes : List ℕ) : Type 0 where
 step : (bytes : List ℕ) → Step bytes
 step bytes = elim (find-line bytes) [
   | inr no_line ↦ elim no_line [
-      | inl bare ↦ Ends Bad (inl bare)
-      | inr open_ ↦ Ends Open open_
-    ]
+    | inl bare ↦ Ends Bad (inl bare)
+    | inr open_ ↦ Ends Open open_
+  ]
   | inl l ↦ elim (dec-empty l.0) [
-      | inl empty ↦ Ends (Finished l.1) (subst (λ (x : List ℕ). Line bytes x l.1) empty l.2)
-      | inr some ↦ elim (dec-field_line l.0) [
-          | inr none ↦ Ends Bad (inr (l.0, l.1, l.2, (some, none)))
-          | inl f ↦ Goes l.0 l.1 l.2 (record { field = f.0; value = percent_encoded f.1 }) (f.1, f.2, refl)
-        ]
+    | inl empty ↦ Ends (Finished l.1) (subst (λ (x : List ℕ). Line bytes x l.1) empty l.2)
+    | inr some ↦ elim (dec-field_line l.0) [
+      | inr none ↦ Ends Bad (inr (l.0, l.1, l.2, (some, none)))
+      | inl f ↦ Goes l.0 l.1 l.2 (record { field = f.0; value = percent_encoded f.1 }) (f.1, f.2, refl)
     ]
+  ]
 ]
 
 find-fields : (n : ℕ) (bytes : List ℕ) → length bytes ≤ n → HasFields bytes
@@ -104,13 +106,13 @@ with-fields bytes method target v fields r f = by f.1 f.2
 pub some-head : (bytes : List ℕ) → IsSomeHead bytes
 some-head bytes = elim (find-line (behind_empty_line bytes)) [
   | inr no_line ↦ elim no_line [
-      | inl bare ↦ inr (inl (inl (inl bare)))
-      | inr open_ ↦ inr (inr (inl open_))
-    ]
+    | inl bare ↦ inr (inl (inl (inl bare)))
+    | inr open_ ↦ inr (inr (inl open_))
+  ]
   | inl l ↦ elim (dec-request_line l.0) [
-      | inr none ↦ inr (inl (inl (inr (l.0, l.1, l.2, none))))
-      | inl r ↦ with-fields bytes (method_of r.0) r.1 r.2 l.1 (record { text = l.0; line = l.2; reads = (r.0, r.3, refl) }) (find-fields (length l.1) l.1 (omega arith))
-    ]
+    | inr none ↦ inr (inl (inl (inr (l.0, l.1, l.2, none))))
+    | inl r ↦ with-fields bytes (method_of r.0) r.1 r.2 l.1 (record { text = l.0; line = l.2; reads = (r.0, r.3, refl) }) (find-fields (length l.1) l.1 (omega arith))
+  ]
 ]
 
 dec-hosted : (v : HTTPVersion) (values : List (List ℕ)) → Decided (HasValidHost v values)
@@ -130,16 +132,18 @@ pub some-judgement : (v : HTTPVersion) (method : Method) (headers : List Header)
 some-judgement v method headers = elim (dec-one v.0) [
   | inr other ↦ (Err UnsupportedVersion, other)
   | inl one ↦ elim (dec-hosted v (values_of (codes "Host") headers)) [
-      | inr bad ↦ (Err InvalidHead, (one, λ valid. bad valid.0))
-      | inl host ↦ by one host (body_read v headers) refl
-    ]
+    | inr bad ↦ (Err InvalidHead, (one, λ valid. bad valid.0))
+    | inl host ↦ by one host (body_read v headers) refl
+  ]
 ]
   where
     served : (one : v.0 ≡ 1) → HasValidHost v (values_of (codes "Host") headers) → (k : Option ℕ × Bool) → body_read v headers ≡ Ok k → (t : Bool) → has_element_that (codes "Expect") is_unknown_expectation headers ≡ t → (r : Result HeadSummary Refusal) × Judges v method headers r
     served one host k is true e = (Err UnknownExpectation, (k.0, k.1, judge-served v headers k.0 k.1 one host is, e))
-    served one host k is false e =
-        (Ok (record { body_length = k.0; is_chunked = k.1; owes_continue = owes_continue v headers k.0 k.1; asks_upgrade = asks_upgrade v headers; is_last = is_last v method headers }),
-          (judge-served v headers k.0 k.1 one host is, e, refl, refl, refl))
+    served one host k is false e = (
+      Ok (record { body_length = k.0; is_chunked = k.1; owes_continue = owes_continue v headers k.0 k.1; asks_upgrade = asks_upgrade v headers; is_last = is_last v method headers }),
+      (judge-served v headers k.0 k.1 one host is, e, refl, refl, refl),
+    )
+
     by : (one : v.0 ≡ 1) → HasValidHost v (values_of (codes "Host") headers) → (r : Result (Option ℕ × Bool) Refusal) → body_read v headers ≡ r → (r : Result HeadSummary Refusal) × Judges v method headers r
     by one host (Err fault) is = (Err fault, judge-fails v method headers fault one host is)
     by one host (Ok k) is = served one host k is (has_element_that (codes "Expect") is_unknown_expectation headers) refl

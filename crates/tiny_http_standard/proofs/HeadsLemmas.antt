@@ -10,7 +10,7 @@ use Rattle.tiny_http_text.proofs.BytesTrimming.{cut-at}
 use Rattle.tiny_http_head.specs.declared.common.Method.{Method}
 use Rattle.tiny_http_head.specs.declared.common.HTTPVersion.{HTTPVersion}
 use Rattle.tiny_http_head.specs.declared.common.Header.{Header}
-use Rattle.tiny_http_standard.specs.declared.heads.HeadFault.TheVariants.{BadLine, TargetTooLong, TooLarge, Judged}
+use Rattle.tiny_http_standard.specs.declared.heads.HeadFault.TheVariants.{BadLine, RequestLineTooLong, HeaderFieldsTooLarge, Judged}
 use Rattle.tiny_http_standard.specs.declared.heads.HeadRead.{HeadRead}
 use Rattle.tiny_http_standard.specs.declared.heads.HeadRead.TheVariants.{Whole, Refused, Unfinished}
 use Rattle.tiny_http_standard.specs.declared.heads.Stop.{Stop}
@@ -102,16 +102,16 @@ pub fields-stop : (bytes : List ℕ) (method : Method) (target : List ℕ) (v : 
 fields-stop bytes method target v fields stop.Bad r s = inr (s.1, comes bytes method target v fields s.0 s.1 r s.2, s.3)
 fields-stop bytes method target v fields stop.OpenRequest r s = absurd s
 fields-stop bytes method target v fields stop.OpenField r s = (s.1, comes bytes method target v fields s.0 s.1 r s.2, s.3)
-fields-stop bytes method target v fields stop.Memory r s = tt
+fields-stop bytes method target v fields stop.Memory r s = record { text = r.text; rest = fields; line = r.line; good = λ none. none r.reads.0 target v r.reads.1 }
 
 -- WHERE A HEAD HASN'T ENDED
-pub open-request : (limit : ℕ) (bytes : List ℕ) (r : HeadRead) → HasOpenRequestLine (take limit bytes) → (limit ≤ length bytes → r ≡ Refused TargetTooLong) → (length bytes < limit → r ≡ Unfinished (is_begun bytes)) → Reads limit bytes r
+pub open-request : (limit : ℕ) (bytes : List ℕ) (r : HeadRead) → HasOpenRequestLine (take limit bytes) → (limit ≤ length bytes → r ≡ Refused RequestLineTooLong) → (length bytes < limit → r ≡ Unfinished (is_begun bytes)) → Reads limit bytes r
 open-request limit bytes r h full open_ = elim (cases_lt (length bytes) limit) [
   | inl lt ↦ subst (Reads limit bytes) (sym (open_ lt)) (lt, inl (subst HasOpenRequestLine (take_all limit bytes (omega (arith, lt))) h), refl)
   | inr le ↦ subst (Reads limit bytes) (sym (full le)) (le, h)
 ]
 
-pub open-field : (limit : ℕ) (bytes : List ℕ) (r : HeadRead) → HasOpenField (take limit bytes) → (limit ≤ length bytes → r ≡ Refused TooLarge) → (length bytes < limit → r ≡ Unfinished (is_begun bytes)) → Reads limit bytes r
+pub open-field : (limit : ℕ) (bytes : List ℕ) (r : HeadRead) → HasOpenField (take limit bytes) → (limit ≤ length bytes → r ≡ Refused HeaderFieldsTooLarge) → (length bytes < limit → r ≡ Unfinished (is_begun bytes)) → Reads limit bytes r
 open-field limit bytes r h full open_ = elim (cases_lt (length bytes) limit) [
   | inl lt ↦ subst (Reads limit bytes) (sym (open_ lt)) (lt, inr (subst HasOpenField (take_all limit bytes (omega (arith, lt))) h), refl)
   | inr le ↦ subst (Reads limit bytes) (sym (full le)) (le, h)
@@ -122,8 +122,8 @@ pub reads-whole : (limit : ℕ) (bytes : List ℕ) (r : HeadRead) → ReadsWhole
 reads-whole limit bytes (Whole h) w = w
 reads-whole limit bytes (Refused (Judged e)) w = w
 reads-whole limit bytes (Refused BadLine) w = absurd w
-reads-whole limit bytes (Refused TargetTooLong) w = absurd w
-reads-whole limit bytes (Refused TooLarge) w = absurd w
+reads-whole limit bytes (Refused RequestLineTooLong) w = absurd w
+reads-whole limit bytes (Refused HeaderFieldsTooLarge) w = absurd w
 reads-whole limit bytes (Unfinished b) w = absurd w
 
 -- the bytes that count

@@ -10,7 +10,7 @@ use Rattle.tiny_http_text.specs.Bytes.{HasNo, colon}
 use Rattle.std.proofs.lemmas.List.{drop_all}
 use Rattle.std.proofs.Math.Seq.{take-append_seam}
 use Rattle.tiny_http_text.proofs.BytesTrimming.{cut-at}
-use Rattle.tiny_http_standard.specs.Hosts.{is_address_byte, IsIpLiteral, IsHost, HostAndPort, IsHostValue, IsAuthority, is_port_number}
+use Rattle.tiny_http_standard.specs.Hosts.{is_address_byte, IsBracketedAddress, IsHost, HostAndPort, IsHostValue, IsAuthority, is_port_number}
 
 pub contrary : {G : Type 0} (b : Bool) → b ≡ true → b ≡ false → G
 contrary true t f = cc
@@ -60,12 +60,12 @@ in-brackets (b ∷ c ∷ cs) n first last =
     let whole : c ∷ cs ≡ take (length cs) (c ∷ cs) ++ 93 ∷ [] = cut ∙ ap (λ (r : List ℕ). take (length cs) (c ∷ cs) ++ 93 ∷ r) none in
     ap (λ (x : ℕ). x ∷ c ∷ cs) is ∙ ap (λ (r : List ℕ). 91 ∷ r) (whole ∙ ap (λ (m : ℕ). take m (c ∷ cs) ++ 93 ∷ []) (sym k))
 
-literal-address : (text : List ℕ) (l : IsIpLiteral text) → inside text ≡ l.address
+literal-address : (text : List ℕ) (l : IsBracketedAddress text) → inside text ≡ l.address
 literal-address text l = ap inside l.joins ∙ inside-brackets l.address
 
 -- an address in brackets, by its first and last byte
 pub literal-is : (text : List ℕ) → 3 ≤ length text → get_or text 0 0 ≡ 91 → get_or text (length text - 1) 0 ≡ 93 → (result : Bool) → result ≡ list_all is_address_byte (inside text)
-    → (IsTrue result → IsIpLiteral text) × (IsIpLiteral text → IsTrue result)
+    → (IsTrue result → IsBracketedAddress text) × (IsBracketedAddress text → IsTrue result)
 literal-is text n first last result is = (
   (λ yes. record {
     address = inside text;

@@ -8,14 +8,14 @@ use Rattle.tiny_http_standard.specs.declared.judging.Codings.TheVariants.{Absent
 use Rattle.tiny_http_standard.specs.declared.judging.Refusal.{Refusal}
 use Rattle.tiny_http_standard.specs.declared.judging.Refusal.TheVariants.{InvalidHead}
 use Rattle.tiny_http_standard.specs.Lists.{values_of, elements_of}
-use Rattle.tiny_http_standard.specs.Judging.{HasValidHost, IsServed, Judges}
+use Rattle.tiny_http_standard.specs.Judging.{HasValidHost, IsFramedRequest, Judges}
 use Rattle.tiny_http_standard.specs.JudgingReading.{codings_on, lengths_on, body_by}
 use Rattle.tiny_http_standard.proofs.BodyLemmas.{body-framed, body-unknown, body-invalid, body-fails}
 
 abbrev pub body_read : HTTPVersion → List Header → Result (Option ℕ × Bool) Refusal
 body_read v headers = body_by v (codings_on Absent (elements_of (codes "Transfer-Encoding") headers)) (lengths_on None (elements_of (codes "Content-Length") headers))
 
-pub judge-served : (v : HTTPVersion) (headers : List Header) (n : Option ℕ) (chunked : Bool) → v.0 ≡ 1 → HasValidHost v (values_of (codes "Host") headers) → body_read v headers ≡ Ok (n, chunked) → IsServed v headers n chunked
+pub judge-served : (v : HTTPVersion) (headers : List Header) (n : Option ℕ) (chunked : Bool) → v.0 ≡ 1 → HasValidHost v (values_of (codes "Host") headers) → body_read v headers ≡ Ok (n, chunked) → IsFramedRequest v headers n chunked
 judge-served v headers n chunked one host h = record {
   version = one;
   host = host;

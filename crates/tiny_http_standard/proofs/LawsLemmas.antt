@@ -13,7 +13,7 @@ use Rattle.tiny_http_standard.specs.declared.judging.Refusal.{Refusal}
 use Rattle.tiny_http_standard.specs.declared.judging.Refusal.TheVariants.{UnsupportedVersion, InvalidHead, UnknownCoding, UnknownExpectation}
 use Rattle.tiny_http_standard.specs.Lines.{IsVersion, RequestLine, FieldLine}
 use Rattle.tiny_http_standard.specs.Lists.{elements_of, has_element_that}
-use Rattle.tiny_http_standard.specs.Judging.{IsServed, IsValid, NamesUnknownCodings, Judges, owes_continue, is_unknown_expectation}
+use Rattle.tiny_http_standard.specs.Judging.{IsFramedRequest, IsValid, NamesUnknownCodings, Judges, owes_continue, is_unknown_expectation}
 use Rattle.tiny_http_standard.proofs.HostsLemmas.{contrary}
 use Rattle.tiny_http_standard.proofs.LinesLemmas.{all-without, token-bytes, one-first, method-rest, space-no_token, colon-no_token}
 use Rattle.tiny_http_standard.proofs.BodyLemmas.{framed-reads, unknown-reads}
@@ -41,10 +41,10 @@ field-line-once text f v g w a b =
     let name = one-first 58 f g a.padded b.padded (all-without is_token_byte 58 f colon-no_token (token-bytes f a.field_is)) (all-without is_token_byte 58 g colon-no_token (token-bytes g b.field_is)) (sym a.joins ∙ b.joins) in
     (name.0, sym (trims-one is_ows a.padded v a.trims) ∙ ap (trimmed is_ows) name.1 ∙ trims-one is_ows b.padded w b.trims)
 
-served-reads : (v : HTTPVersion) (headers : List Header) (n : Option ℕ) (chunked : Bool) → IsServed v headers n chunked → body_read v headers ≡ Ok (n, chunked)
+served-reads : (v : HTTPVersion) (headers : List Header) (n : Option ℕ) (chunked : Bool) → IsFramedRequest v headers n chunked → body_read v headers ≡ Ok (n, chunked)
 served-reads v headers n chunked s = framed-reads v (elements_of (codes "Content-Length") headers) (elements_of (codes "Transfer-Encoding") headers) n chunked s.body
 
-served-known : (v : HTTPVersion) (headers : List Header) (n : Option ℕ) (chunked : Bool) → IsServed v headers n chunked → NamesUnknownCodings v headers → ⊥
+served-known : (v : HTTPVersion) (headers : List Header) (n : Option ℕ) (chunked : Bool) → IsFramedRequest v headers n chunked → NamesUnknownCodings v headers → ⊥
 served-known v headers n chunked s u =
     let never : ◌≡◌ {A = Result (Option ℕ × Bool) Refusal} (Ok (n, chunked)) (Err UnknownCoding) =
     sym (served-reads v headers n chunked s) ∙ unknown-reads v (elements_of (codes "Content-Length") headers) (elements_of (codes "Transfer-Encoding") headers) u in
@@ -53,7 +53,7 @@ served-known v headers n chunked s u =
     no-both : ◌≡◌ {A = Result (Option ℕ × Bool) Refusal} (Ok (n, chunked)) (Err UnknownCoding) → ⊥
     no-both e = cc
 
-served-valid : (v : HTTPVersion) (headers : List Header) (n : Option ℕ) (chunked : Bool) → IsServed v headers n chunked → IsValid v headers
+served-valid : (v : HTTPVersion) (headers : List Header) (n : Option ℕ) (chunked : Bool) → IsFramedRequest v headers n chunked → IsValid v headers
 served-valid v headers n chunked s = (s.host, inr (n, chunked, s))
 
 same-pair : (n m : Option ℕ) (b c : Bool) → ◌≡◌ {A = Result (Option ℕ × Bool) Refusal} (Ok (n, b)) (Ok (m, c)) → (n ≡ m) × (b ≡ c)

@@ -56,7 +56,7 @@ version-is t le lt h u w p s point major minor =
 digit-ascii : (d : ℕ) → d < 16 → is_ascii (uppercase_hexadecimal_digit d) ≡ true
 digit-ascii d lt = by (nat_lt d 10) refl
   where
-    by : (t : Bool) → nat_lt d 10 ≡ t → is_ascii (if t then 48 + d else 55 + d) ≡ true
+    by : (t : Bool) → nat_lt d 10 ≡ t → is_ascii (if t then 48 + d else 65 + (d - 10)) ≡ true
     by true e = grind (nat_tests, arith, lt)
     by false e = grind (nat_tests, arith, lt)
 
@@ -143,7 +143,7 @@ field-parts text f padded joins without field value l =
     let same : value ≡ trimmed is_ows padded = sym (trims-one is_ows l.padded value l.trims) ∙ ap (trimmed is_ows) a.1 in (
       subst (λ (x : List ℕ). IsTrue (is_token x)) a.0 l.field_is,
       subst (λ (x : List ℕ). IsTrue (list_all is_value_byte x)) a.1 l.bytes,
-      λ judged. subst AreAscii same (l.judged (subst (λ (x : List ℕ). IsTrue (must_be_ascii x)) (sym a.0) judged)),
+      λ judged. subst AreAscii same (l.ascii (subst (λ (x : List ℕ). IsTrue (must_be_ascii x)) (sym a.0) judged)),
     )
 
 -- a token is ASCII

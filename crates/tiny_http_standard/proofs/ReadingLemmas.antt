@@ -10,7 +10,7 @@ use Rattle.tiny_http_head.specs.declared.common.Header.{Header}
 use Rattle.tiny_http_head.specs.Heads.{Message, method_of}
 use Rattle.tiny_http_standard.specs.declared.judging.HeadSummary.{HeadSummary}
 use Rattle.tiny_http_standard.specs.declared.judging.Refusal.{Refusal}
-use Rattle.tiny_http_standard.specs.declared.heads.HeadFault.TheVariants.{BadLine, TargetTooLong, TooLarge, Judged}
+use Rattle.tiny_http_standard.specs.declared.heads.HeadFault.TheVariants.{BadLine, RequestLineTooLong, HeaderFieldsTooLarge, Judged}
 use Rattle.tiny_http_standard.specs.declared.heads.HeadRead.{HeadRead}
 use Rattle.tiny_http_standard.specs.declared.heads.HeadRead.TheVariants.{Whole, Refused, Unfinished}
 use Rattle.tiny_http_standard.specs.Lines.{percent_encoded, ReadsFieldLine, ReadsRequestLine, IsNoRequestLine}
@@ -173,10 +173,10 @@ IsOpenAs limit bytes refused r = ((limit ≤ length bytes) × (r ≡ refused)) �
 
 abbrev Matches : ℕ → List ℕ → Point → HeadRead → Type 0
 Matches limit bytes AtBad r = r ≡ Refused BadLine
-Matches limit bytes AtOpen r = IsOpenAs limit bytes (Refused TargetTooLong) r
+Matches limit bytes AtOpen r = IsOpenAs limit bytes (Refused RequestLineTooLong) r
 Matches limit bytes (Behind m (Finished after)) r = IsJudged limit bytes m after r
 Matches limit bytes (Behind m Bad) r = r ≡ Refused BadLine
-Matches limit bytes (Behind m Open) r = IsOpenAs limit bytes (Refused TooLarge) r
+Matches limit bytes (Behind m Open) r = IsOpenAs limit bytes (Refused HeaderFieldsTooLarge) r
 
 abbrev View : ℕ → List ℕ → HeadRead → Type 0
 View limit bytes r = (p : Point) × IsPoint (take limit bytes) p × Matches limit bytes p r
@@ -192,8 +192,8 @@ view limit bytes (Whole h) w = (Behind (message_of h) (Finished w.0), of-head (t
 view limit bytes (Refused BadLine) (inl bad) = (AtBad, bad, refl)
 view limit bytes (Refused BadLine) (inr w) = (Behind (record { method = w.1.method; path = w.1.target; version = w.1.version; headers = w.1.headers }) Bad, of-field (take limit bytes) w.0 Bad w.1 w.2, refl)
 view limit bytes (Refused (Judged e)) w = (Behind w.0 (Finished w.1), of-head (take limit bytes) w.0 w.1 w.2, w.3)
-view limit bytes (Refused TargetTooLong) w = (AtOpen, w.1, inl (w.0, refl))
-view limit bytes (Refused TooLarge) w = (Behind (record { method = w.1.1.method; path = w.1.1.target; version = w.1.1.version; headers = w.1.1.headers }) Open, of-field (take limit bytes) w.1.0 Open w.1.1 w.1.2, inl (w.0, refl))
+view limit bytes (Refused RequestLineTooLong) w = (AtOpen, w.1, inl (w.0, refl))
+view limit bytes (Refused HeaderFieldsTooLarge) w = (Behind (record { method = w.1.1.method; path = w.1.1.target; version = w.1.1.version; headers = w.1.1.headers }) Open, of-field (take limit bytes) w.1.0 Open w.1.1 w.1.2, inl (w.0, refl))
 view limit bytes (Unfinished b) w = by w.1
   where
     all : take limit bytes ≡ bytes
@@ -227,26 +227,26 @@ same-judged limit bytes m after (Whole h) (Whole k) a b =
     (a.0 ∙ sym b.0, omega (arith, a.1, b.1), ok-summary h.summary k.summary (judged-once m.version m.method m.headers (Ok h.summary) (Ok k.summary) a.2 b.2))
 same-judged limit bytes m after (Whole h) (Refused (Judged e)) a b = ok-no_err h.summary e (judged-once m.version m.method m.headers (Ok h.summary) (Err e) a.2 b)
 same-judged limit bytes m after (Whole h) (Refused BadLine) a b = absurd b
-same-judged limit bytes m after (Whole h) (Refused TargetTooLong) a b = absurd b
-same-judged limit bytes m after (Whole h) (Refused TooLarge) a b = absurd b
+same-judged limit bytes m after (Whole h) (Refused RequestLineTooLong) a b = absurd b
+same-judged limit bytes m after (Whole h) (Refused HeaderFieldsTooLarge) a b = absurd b
 same-judged limit bytes m after (Whole h) (Unfinished x) a b = absurd b
 same-judged limit bytes m after (Refused (Judged e)) (Whole k) a b = ok-no_err k.summary e (judged-once m.version m.method m.headers (Ok k.summary) (Err e) b.2 a)
 same-judged limit bytes m after (Refused (Judged d)) (Refused (Judged e)) a b = ap Judged (err-refusal d e (judged-once m.version m.method m.headers (Err d) (Err e) a b))
 same-judged limit bytes m after (Refused (Judged d)) (Refused BadLine) a b = absurd b
-same-judged limit bytes m after (Refused (Judged d)) (Refused TargetTooLong) a b = absurd b
-same-judged limit bytes m after (Refused (Judged d)) (Refused TooLarge) a b = absurd b
+same-judged limit bytes m after (Refused (Judged d)) (Refused RequestLineTooLong) a b = absurd b
+same-judged limit bytes m after (Refused (Judged d)) (Refused HeaderFieldsTooLarge) a b = absurd b
 same-judged limit bytes m after (Refused (Judged d)) (Unfinished x) a b = absurd b
 same-judged limit bytes m after (Refused BadLine) s a b = absurd a
-same-judged limit bytes m after (Refused TargetTooLong) s a b = absurd a
-same-judged limit bytes m after (Refused TooLarge) s a b = absurd a
+same-judged limit bytes m after (Refused RequestLineTooLong) s a b = absurd a
+same-judged limit bytes m after (Refused HeaderFieldsTooLarge) s a b = absurd a
 same-judged limit bytes m after (Unfinished x) s a b = absurd a
 
 same-at : (limit : ℕ) (bytes : List ℕ) (p : Point) (r s : HeadRead) → Matches limit bytes p r → Matches limit bytes p s → IsSameRead r s
 same-at limit bytes AtBad r s a b = same-self r s (Refused BadLine) a b refl
-same-at limit bytes AtOpen r s a b = same-open limit bytes (Refused TargetTooLong) r s refl a b
+same-at limit bytes AtOpen r s a b = same-open limit bytes (Refused RequestLineTooLong) r s refl a b
 same-at limit bytes (Behind m (Finished after)) r s a b = same-judged limit bytes m after r s a b
 same-at limit bytes (Behind m Bad) r s a b = same-self r s (Refused BadLine) a b refl
-same-at limit bytes (Behind m Open) r s a b = same-open limit bytes (Refused TooLarge) r s refl a b
+same-at limit bytes (Behind m Open) r s a b = same-open limit bytes (Refused HeaderFieldsTooLarge) r s refl a b
 
 pub reading-once : (limit : ℕ) (bytes : List ℕ) (r s : HeadRead) → Reads limit bytes r → Reads limit bytes s → IsSameRead r s
 reading-once limit bytes r s a b =

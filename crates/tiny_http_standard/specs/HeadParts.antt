@@ -11,7 +11,7 @@ use Rattle.tiny_http_standard.specs.declared.heads.NoLine.TheVariants as no
 use Rattle.tiny_http_standard.specs.declared.heads.Stop.{Stop}
 use Rattle.tiny_http_standard.specs.declared.heads.Stop.TheVariants as stop
 use Rattle.tiny_http_standard.specs.Lines.{IsNoRequestLine}
-use Rattle.tiny_http_standard.specs.Heads.{Line, line_feed, BeginsWithBareLine, behind_empty_line, BeginsWithFieldLines, BeginsWithBadLine, IsNoFieldOrEnd, HasBadLine, HasOpenRequestLine, HasOpenField, BeginsWithHead, message_of}
+use Rattle.tiny_http_standard.specs.Heads.{Line, line_feed, BeginsWithBareLine, behind_empty_line, BeginsWithFieldLines, BeginsWithBadLine, IsNoFieldOrEnd, HasBadLine, HasOpenRequestLine, HasOpenField, BeginsWithHead, HasGoodRequestLine, message_of}
 use Rattle.tiny_http_standard.specs.Judging.{Judges}
 
 -- why the bytes don't begin with a line
@@ -24,7 +24,7 @@ abbrev pub StopsRequest : List ℕ → Stop → Type 0
 StopsRequest bytes stop.Bad = BeginsWithBadLine IsNoRequestLine (behind_empty_line bytes)
 StopsRequest bytes stop.OpenRequest = HasNo line_feed (behind_empty_line bytes)
 StopsRequest bytes stop.OpenField = ⊥
-StopsRequest bytes stop.Memory = ⊤
+StopsRequest bytes stop.Memory = HasGoodRequestLine bytes
 
 -- why they don't begin with field lines and an empty line
 abbrev pub StopsFields : List ℕ → Stop → Type 0
@@ -42,7 +42,7 @@ abbrev pub StopsHead : List ℕ → Stop → Type 0
 StopsHead bytes stop.Bad = HasBadLine bytes
 StopsHead bytes stop.OpenRequest = HasOpenRequestLine bytes
 StopsHead bytes stop.OpenField = HasOpenField bytes
-StopsHead bytes stop.Memory = ⊤
+StopsHead bytes stop.Memory = HasGoodRequestLine bytes
 
 -- a head that has come whole: how many bytes it has, and how it is judged
 abbrev pub ReadsWhole : List ℕ → HeadRead → Type 0

@@ -7,7 +7,7 @@ use Rattle.tiny_http_head.specs.declared.common.Header.{Header}
 use Rattle.tiny_http_head.specs.Heads.{Message}
 use Rattle.tiny_http_standard.specs.declared.heads.Head.{Head}
 use Rattle.tiny_http_standard.specs.declared.heads.HeadFault.{HeadFault}
-use Rattle.tiny_http_standard.specs.declared.heads.HeadFault.TheVariants.{BadLine, TargetTooLong, TooLarge, Judged}
+use Rattle.tiny_http_standard.specs.declared.heads.HeadFault.TheVariants.{BadLine, RequestLineTooLong, HeaderFieldsTooLarge, Judged}
 use Rattle.tiny_http_standard.specs.declared.heads.HeadRead.{HeadRead}
 use Rattle.tiny_http_standard.specs.declared.heads.HeadRead.TheVariants.{Whole, Refused, Unfinished}
 use Rattle.tiny_http_standard.specs.declared.judging.Refusal.TheVariants.{UnsupportedVersion, InvalidHead, UnknownCoding, UnknownExpectation}
@@ -17,12 +17,15 @@ use Rattle.tiny_http_standard.specs.Judging.{Judges}
 abbrev pub line_feed : ℕ
 line_feed = 10
 
+abbrev pub carriage_return : ℕ
+carriage_return = 13
+
 abbrev pub is_carriage_return : ℕ → Bool
-is_carriage_return b = b == 13
+is_carriage_return b = b == carriage_return
 
 -- the bytes begin with a line, in which no LF stands, and its CR LF; the rest follows
 pub record Line (bytes text rest : List ℕ) : Type 0 where
-  pub joins : bytes ≡ text ++ (13 ∷ line_feed ∷ rest)
+  pub joins : bytes ≡ text ++ (carriage_return ∷ line_feed ∷ rest)
   pub first : HasNo line_feed text
 
 -- the first LF of the bytes has no CR in front
@@ -37,7 +40,7 @@ pub record BeginsWithBareLine (bytes : List ℕ) : Type 0 where
 abbrev pub behind_empty_line : List ℕ → List ℕ
 behind_empty_line [] = []
 behind_empty_line (a ∷ []) = a ∷ []
-behind_empty_line (a ∷ b ∷ bs) = if (a == 13 && b == line_feed) then bs else a ∷ b ∷ bs
+behind_empty_line (a ∷ b ∷ bs) = if (a == carriage_return && b == line_feed) then bs else a ∷ b ∷ bs
 
 -- the bytes begin with a request line, in front of which one empty line is passed over; the field lines follow
 pub record BeginsWithRequestLine (bytes : List ℕ) (method : Method) (target : List ℕ) (v : HTTPVersion) (fields : List ℕ) : Type 0 where
@@ -57,6 +60,13 @@ pub record BeginsWithHead (bytes : List ℕ) (m : Message) (after : List ℕ) : 
   pub request : BeginsWithRequestLine bytes m.method m.path m.version fields
   pub headers : BeginsWithFieldLines fields m.headers empty
   pub end : Line empty [] after
+
+-- a good request line has ended, behind an empty line if there is one
+pub record HasGoodRequestLine (bytes : List ℕ) : Type 0 where
+  pub text : List ℕ
+  pub rest : List ℕ
+  pub line : Line (behind_empty_line bytes) text rest
+  pub good : IsNoRequestLine text → ⊥
 
 -- A LINE THAT IS NO GOOD: no CR stands in front of its LF, or it isn't what has to stand there.
 abbrev pub BeginsWithBadLine : (List ℕ → Type 0) → List ℕ → Type 0
@@ -90,8 +100,8 @@ HasOpenField bytes = (rest : List ℕ) × ComesToField bytes rest × HasNo line_
 -- the status of a fault
 abbrev pub status_of : HeadFault → ℕ
 status_of BadLine = 400
-status_of TargetTooLong = 414
-status_of TooLarge = 431
+status_of RequestLineTooLong = 414
+status_of HeaderFieldsTooLarge = 431
 status_of (Judged UnsupportedVersion) = 505
 status_of (Judged InvalidHead) = 400
 status_of (Judged UnknownCoding) = 501
@@ -110,8 +120,8 @@ Reads limit bytes (Whole h) =
     (after : List ℕ) × BeginsWithHead (take limit bytes) (message_of h) after × (h.length + length after ≡ length (take limit bytes)) × Judges h.version h.method h.headers.items (Ok h.summary)
 Reads limit bytes (Refused BadLine) = HasBadLine (take limit bytes)
 Reads limit bytes (Refused (Judged refusal)) = (m : Message) × (after : List ℕ) × BeginsWithHead (take limit bytes) m after × Judges m.version m.method m.headers (Err refusal)
-Reads limit bytes (Refused TargetTooLong) = (limit ≤ length bytes) × HasOpenRequestLine (take limit bytes)
-Reads limit bytes (Refused TooLarge) = (limit ≤ length bytes) × HasOpenField (take limit bytes)
+Reads limit bytes (Refused RequestLineTooLong) = (limit ≤ length bytes) × HasOpenRequestLine (take limit bytes)
+Reads limit bytes (Refused HeaderFieldsTooLarge) = (limit ≤ length bytes) × HasOpenField (take limit bytes)
 Reads limit bytes (Unfinished has_begun) = (length bytes < limit) × (HasOpenRequestLine bytes ⊎ HasOpenField bytes) × (has_begun ≡ is_begun bytes)
 
 -- Two readings say the same: the same head, of the same length and judged alike; the same fault; or unfinished, begun alike.

@@ -30,8 +30,8 @@ is_registered_name (b ∷ bs) = (is_registered_name_byte b || (b == percent && b
 abbrev pub is_address_byte : ℕ → Bool
 is_address_byte b = is_ascii_hexdigit b || (b == colon || b == point)
 
--- IP-literal: hexadecimal digits, colons and points in brackets. The address itself isn't judged.
-pub record IsIpLiteral (text : List ℕ) : Type 0 where
+-- In place of an IP-literal: hexadecimal digits, colons and points in brackets. The address isn't judged.
+pub record IsBracketedAddress (text : List ℕ) : Type 0 where
   pub address : List ℕ
   pub joins : text ≡ codes "[" ++ address ++ codes "]"
   pub not_empty : address ≢ []
@@ -39,7 +39,7 @@ pub record IsIpLiteral (text : List ℕ) : Type 0 where
 
 -- uri-host, which may not be empty: an address in brackets, or a name
 abbrev pub IsHost : List ℕ → Type 0
-IsHost text = IsIpLiteral text ⊎ ((text ≢ []) × IsTrue (is_registered_name text))
+IsHost text = IsBracketedAddress text ⊎ ((text ≢ []) × IsTrue (is_registered_name text))
 
 -- uri-host ":" port, whose digits may be none
 pub record HostAndPort (text host port : List ℕ) : Type 0 where

@@ -16,7 +16,7 @@ use Rattle.tiny_http_standard.specs.declared.judging.Refusal.TheVariants.{Unsupp
 use Rattle.tiny_http_standard.specs.Hosts.{percent, slash, IsHostValue}
 use Rattle.tiny_http_standard.specs.Lists.{values_of, elements_of, has_element_that, has_element}
 
--- version 1.0. Each later minor version counts as 1.1.
+-- version 1.0. Each later minor version counts as 1.1, and below 1.1 stands for all of them.
 abbrev pub is_1_0 : HTTPVersion → Bool
 is_1_0 v = v.0 == 1 && v.1 == 0
 
@@ -100,8 +100,8 @@ is_last v method headers =
     has_element (codes "Connection") (codes "close") headers
     || ((is_1_0 v && not (has_element (codes "Connection") (codes "keep-alive") headers)) || is_connect method)
 
--- the head is served, with this length and coding of its body, if its expectations are met
-pub record IsServed (v : HTTPVersion) (headers : List Header) (n : Option ℕ) (chunked : Bool) : Type 0 where
+-- the version, the host and what frames the body are good: the body has this length, or comes in chunks
+pub record IsFramedRequest (v : HTTPVersion) (headers : List Header) (n : Option ℕ) (chunked : Bool) : Type 0 where
   pub version : v.0 ≡ 1
   pub host : HasValidHost v (values_of (codes "Host") headers)
   pub body : IsBodyFraming v (elements_of (codes "Content-Length") headers) (elements_of (codes "Transfer-Encoding") headers) n chunked
@@ -112,7 +112,7 @@ NamesUnknownCodings v headers = HasUnknownCodings v (elements_of (codes "Content
 
 -- the host is valid, and the body is framed, or would be if its codings were understood
 abbrev pub IsValid : HTTPVersion → List Header → Type 0
-IsValid v headers = HasValidHost v (values_of (codes "Host") headers) × (NamesUnknownCodings v headers ⊎ ((n : Option ℕ) × (chunked : Bool) × IsServed v headers n chunked))
+IsValid v headers = HasValidHost v (values_of (codes "Host") headers) × (NamesUnknownCodings v headers ⊎ ((n : Option ℕ) × (chunked : Bool) × IsFramedRequest v headers n chunked))
 
 -- THE ORDER OF JUDGEMENT: the version, host and body, codings, expectations
 abbrev pub Judges : HTTPVersion → Method → List Header → Result HeadSummary Refusal → Type 0
@@ -120,8 +120,8 @@ Judges v method headers (Err UnsupportedVersion) = v.0 ≢ 1
 Judges v method headers (Err InvalidHead) = (v.0 ≡ 1) × (IsValid v headers → ⊥)
 Judges v method headers (Err UnknownCoding) = (v.0 ≡ 1) × HasValidHost v (values_of (codes "Host") headers) × NamesUnknownCodings v headers
 Judges v method headers (Err UnknownExpectation) =
-    (n : Option ℕ) × (chunked : Bool) × IsServed v headers n chunked × IsTrue (has_element_that (codes "Expect") is_unknown_expectation headers)
+    (n : Option ℕ) × (chunked : Bool) × IsFramedRequest v headers n chunked × IsTrue (has_element_that (codes "Expect") is_unknown_expectation headers)
 Judges v method headers (Ok head) =
-    IsServed v headers head.body_length head.is_chunked × IsFalse (has_element_that (codes "Expect") is_unknown_expectation headers)
+    IsFramedRequest v headers head.body_length head.is_chunked × IsFalse (has_element_that (codes "Expect") is_unknown_expectation headers)
     × (head.owes_continue ≡ owes_continue v headers head.body_length head.is_chunked)
     × (head.asks_upgrade ≡ asks_upgrade v headers) × (head.is_last ≡ is_last v method headers)

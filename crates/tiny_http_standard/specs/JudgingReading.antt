@@ -21,7 +21,7 @@ is_wanted Continue element = same_name element (codes "100-continue")
 is_wanted Protocol element = is_protocol element
 is_wanted UnknownExpectation element = is_unknown_expectation element
 
--- the length that a text is, if it is the one that was found before
+-- the length that a text is, if none was found before, or the same
 abbrev pub same_length : Option ℕ → Option ℕ → Option ℕ
 same_length None found = None
 same_length (Some m) None = Some m

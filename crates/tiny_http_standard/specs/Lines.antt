@@ -1,6 +1,6 @@
 -- The lines of a head by the standard (RFC 9112, sections 2.3, 3 and 5; RFC 9110, sections 5.5 and 5.6.2), each a joining of
 -- named parts. A token, a byte of a value and optional white space are those of the crate `httparse`.
-use Rattle.std.specs.Prelude.{◌≡◌, ℕ, ◌+◌, ◌<◌, Bool, false, not, ◌&&◌, ◌||◌, ◌==◌, nat_lt, ◌/◌, ◌%◌, List, [], ◌∷◌, ◌++◌, length, take, drop, IsTrue, codes, MatchBool, if◌then◌else◌}
+use Rattle.std.specs.Prelude.{◌≡◌, ℕ, ◌+◌, ◌-◌, ◌<◌, Bool, false, not, ◌&&◌, ◌||◌, ◌==◌, nat_lt, ◌/◌, ◌%◌, List, [], ◌∷◌, ◌++◌, length, take, drop, IsTrue, codes, MatchBool, if◌then◌else◌}
 use Rattle.std.specs.List.{list_all, flat_map, starts_with}
 use Rattle.std.specs.Str.{bytes_eq}
 use Rattle.std.specs.Char.{is_ascii_graphic}
@@ -22,6 +22,9 @@ number_sign = 35
 abbrev pub digit_zero : ℕ
 digit_zero = 48
 
+abbrev pub capital_a : ℕ
+capital_a = 65
+
 -- HTTP-version = "HTTP/" DIGIT "." DIGIT
 pub record IsVersion (text : List ℕ) (v : HTTPVersion) : Type 0 where
   pub joins : text ≡ codes "HTTP/" ++ (digit_zero + v.0) ∷ point ∷ (digit_zero + v.1) ∷ []
@@ -41,24 +44,24 @@ begins_authority (b ∷ bs) = not (b == slash || (b == question_mark || b == num
 abbrev pub has_scheme : List ℕ → List ℕ → Bool
 has_scheme scheme target = same_name (take (length scheme) target) scheme && begins_authority (drop (length scheme) target)
 
--- absolute-form: http:// or https://, and an authority, which isn't judged itself
-abbrev pub is_absolute : List ℕ → Bool
-is_absolute target = has_scheme (codes "http://") target || has_scheme (codes "https://") target
+-- In place of absolute-form: http:// or https://, and a byte that begins an authority, which isn't judged.
+abbrev pub is_absolute_form : List ℕ → Bool
+is_absolute_form target = has_scheme (codes "http://") target || has_scheme (codes "https://") target
 
--- origin-form: it begins with a slash
-abbrev pub is_origin : List ℕ → Bool
-is_origin target = starts_with ◌==◌ target (codes "/")
+-- In place of origin-form: it begins with a slash. What follows isn't judged.
+abbrev pub is_origin_form : List ℕ → Bool
+is_origin_form target = starts_with ◌==◌ target (codes "/")
 
 -- asterisk-form: the target of an OPTIONS alone
-abbrev pub is_asterisk : List ℕ → List ℕ → Bool
-is_asterisk method target = bytes_eq target (codes "*") && bytes_eq method (codes "OPTIONS")
+abbrev pub is_asterisk_form : List ℕ → List ℕ → Bool
+is_asterisk_form method target = bytes_eq target (codes "*") && bytes_eq method (codes "OPTIONS")
 
 -- request-target: of the bytes 33 to 126. That of a CONNECT is in authority-form, and that of another method in one of the other
 -- three forms.
 abbrev pub IsTarget : List ℕ → List ℕ → Type 0
 IsTarget method target =
     IsTrue (list_all is_ascii_graphic target)
-    × MatchBool (bytes_eq method (codes "CONNECT")) (IsAuthority target) (IsTrue (is_origin target || (is_asterisk method target || is_absolute target)))
+    × MatchBool (bytes_eq method (codes "CONNECT")) (IsAuthority target) (IsTrue (is_origin_form target || (is_asterisk_form method target || is_absolute_form target)))
 
 -- request-line = method SP request-target SP HTTP-version
 pub record RequestLine (text method target : List ℕ) (v : HTTPVersion) : Type 0 where
@@ -87,11 +90,11 @@ pub record FieldLine (text field value : List ℕ) : Type 0 where
   pub field_is : IsTrue (is_token field)
   pub bytes : IsTrue (list_all is_value_byte padded)
   pub trims : Trims is_ows padded value
-  pub judged : IsTrue (must_be_ascii field) → AreAscii value
+  pub ascii : IsTrue (must_be_ascii field) → AreAscii value
 
 -- a hexadecimal digit, with a capital letter
 abbrev pub uppercase_hexadecimal_digit : ℕ → ℕ
-uppercase_hexadecimal_digit d = if nat_lt d 10 then digit_zero + d else 55 + d
+uppercase_hexadecimal_digit d = if nat_lt d 10 then digit_zero + d else capital_a + (d - 10)
 
 -- a byte of a value as it is handed out: one from 128 on as a percent sign and its two hexadecimal digits
 abbrev pub percent_encoded_byte : ℕ → List ℕ

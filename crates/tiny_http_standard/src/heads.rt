@@ -1,6 +1,6 @@
 //! Whole heads by the standard, read from bytes (RFC 9112, sections 2.2, 3 and 5).
-ghost use Rattle.std.specs.Prelude.{◌≡◌, ◌<◌, ◌≤◌, IfOk, IfErr, length};
-ghost use Rattle.tiny_http_standard.specs.Heads.{Line, behind_empty_line, is_begun, BeginsWithRequestLine, Reads, status_of};
+ghost use Rattle.std.specs.Prelude.{◌≡◌, ◌<◌, ◌≤◌, IfOk, IfErr, OnErr, length, take};
+ghost use Rattle.tiny_http_standard.specs.Heads.{Line, behind_empty_line, is_begun, BeginsWithRequestLine, HasGoodRequestLine, Reads, status_of};
 ghost use Rattle.tiny_http_standard.specs.HeadParts.{HasNoLine, StopsRequest, StopsFields, EndsFields, ReadsWhole, StopsHead};
 
 use crate::judging::{HeadSummary, Refusal, judge};
@@ -15,7 +15,7 @@ use tiny_http_text::bytes::cut;
 pub struct Head {
     /// The method.
     pub method: Method,
-    /// The target, in one of its four forms.
+    /// The target, as it came.
     pub target: AsciiString,
     /// The version, `HTTP/1.x`.
     pub version: HTTPVersion,
@@ -32,10 +32,10 @@ pub struct Head {
 pub enum HeadFault {
     /// A line isn't one of the grammar, or no CR stands in front of its LF.
     BadLine,
-    /// The request line hasn't ended where a head has to.
-    TargetTooLong,
-    /// The headers haven't ended where a head has to.
-    TooLarge,
+    /// As many bytes came as a head may have, and its request line hasn't ended.
+    RequestLineTooLong,
+    /// As many bytes came as a head may have, and it hasn't ended behind its request line.
+    HeaderFieldsTooLarge,
     /// Its lines are good, and it is refused.
     Judged(Refusal),
 }
@@ -47,8 +47,8 @@ impl HeadFault {
     {
         match self {
             HeadFault::BadLine | HeadFault::Judged(Refusal::InvalidHead) => 400,
-            HeadFault::TargetTooLong => 414,
-            HeadFault::TooLarge => 431,
+            HeadFault::RequestLineTooLong => 414,
+            HeadFault::HeaderFieldsTooLarge => 431,
             HeadFault::Judged(Refusal::UnsupportedVersion) => 505,
             HeadFault::Judged(Refusal::UnknownCoding) => 501,
             HeadFault::Judged(Refusal::UnknownExpectation) => 417,
@@ -63,8 +63,12 @@ pub enum HeadRead {
     Whole(Head),
     /// A head that is refused.
     Refused(HeadFault),
-    /// More bytes are needed; whether one of a head has come.
-    Unfinished(bool),
+    /// More bytes are needed.
+    Unfinished {
+        /// Whether a byte of a head has come. A lone CR has begun one, and the LF behind it makes both an empty line, so the last
+        /// answer counts.
+        has_begun: bool,
+    },
 }
 
 // Why there is no line.
@@ -186,7 +190,7 @@ fn read_whole(alloc: Global, bytes: &[u8]) -> Result<HeadRead, Stop>
     }
 }
 
-// What a head is that hasn't ended: refused so where it has to, or unfinished.
+// What comes of a head that hasn't ended: this fault, where as many bytes came as it may have; else more are needed.
 fn not_ended(bytes: &[u8], limit: usize, fault: HeadFault) -> HeadRead
     ensures full { limit ≤ length bytes.now → result ≡ HeadRead.Refused fault }
     ensures open { length bytes.now < limit → result ≡ HeadRead.Unfinished (is_begun bytes.now) }
@@ -194,25 +198,29 @@ fn not_ended(bytes: &[u8], limit: usize, fault: HeadFault) -> HeadRead
     if bytes.len() >= limit {
         return HeadRead::Refused(fault);
     }
-    HeadRead::Unfinished(!behind_empty_line(bytes).is_empty())
+    HeadRead::Unfinished {
+        has_begun: !behind_empty_line(bytes).is_empty(),
+    }
 }
 
-/// Reads the head at the front of `bytes`, which are the first that a client sends, or follow what was read of it before. A head
-/// has at most `limit` bytes, its empty lines included.
+/// Reads the head that begins where `bytes` do. A head has at most `limit` bytes, its empty lines included.
 ///
 /// A line ends at its first LF, in front of which a CR has to stand. One empty line in front of the request line is passed over.
-/// The first bad line is refused, whatever follows. Where `limit` bytes have come and the head hasn't ended, it is
-/// `TargetTooLong` in its request line, and else `TooLarge`. A whole head is judged by `judging::judge`. While fewer bytes have
-/// come, more are needed: `Unfinished` says whether one of a head has. An error where there is no memory for what is read.
+/// The first bad line is refused, whatever follows. Where `limit` bytes have come and the head hasn't ended, the fault is
+/// `RequestLineTooLong` in its request line, and else `HeaderFieldsTooLarge`; a limit below 3 so refuses where no byte of a head
+/// has come. A whole head is judged by `judging::judge`. While fewer bytes have come, more are needed: call again with the same
+/// bytes and those that came since. Each call reads them from the start, so a head that comes byte by byte wants a reader that
+/// keeps its lines. An error where there is no memory for what is read, which is so only behind a good request line.
 pub fn read_head(alloc: Global, bytes: &[u8], limit: usize) -> Result<HeadRead, AllocError>
-    ensures { IfOk result (λ read. Reads limit bytes.now read) }
+    ensures reads { IfOk result (λ read. Reads limit bytes.now read) }
+    ensures begun { OnErr result (HasGoodRequestLine (take limit bytes.now)) }
 {
     let seen = &bytes[..bytes.len().min(limit)];
     match read_whole(alloc, seen) {
         Ok(read) => Ok(read),
         Err(Stop::Bad) => Ok(HeadRead::Refused(HeadFault::BadLine)),
-        Err(Stop::OpenRequest) => Ok(not_ended(bytes, limit, HeadFault::TargetTooLong)),
-        Err(Stop::OpenField) => Ok(not_ended(bytes, limit, HeadFault::TooLarge)),
+        Err(Stop::OpenRequest) => Ok(not_ended(bytes, limit, HeadFault::RequestLineTooLong)),
+        Err(Stop::OpenField) => Ok(not_ended(bytes, limit, HeadFault::HeaderFieldsTooLarge)),
         Err(Stop::Memory) => Err(AllocError),
     }
 }

@@ -3,7 +3,7 @@ ghost use Rattle.std.specs.Prelude.{◌≡◌, ◌≤◌, ◌<◌, ◌↔◌, �
 ghost use Rattle.std.specs.List.{list_all};
 ghost use Rattle.std.specs.Char.{is_ascii_digit};
 ghost use Rattle.tiny_http_text.specs.Bytes.{HasNo};
-ghost use Rattle.tiny_http_standard.specs.Hosts.{begins_with_two_hexadecimal_digits, is_registered_name_byte, is_registered_name, is_address_byte, IsIpLiteral, IsHost, IsHostValue, IsAuthority, is_port_number};
+ghost use Rattle.tiny_http_standard.specs.Hosts.{begins_with_two_hexadecimal_digits, is_registered_name_byte, is_registered_name, is_address_byte, IsBracketedAddress, IsHost, IsHostValue, IsAuthority, is_port_number};
 
 use crate::numbers::number_in;
 
@@ -50,8 +50,8 @@ fn are_address_bytes(text: &[u8]) -> bool
 }
 
 // Whether this is an address in brackets.
-fn is_ip_literal(text: &[u8]) -> bool
-    ensures { IsTrue result ↔ IsIpLiteral text.now }
+fn is_bracketed_address(text: &[u8]) -> bool
+    ensures { IsTrue result ↔ IsBracketedAddress text.now }
 {
     let n = text.len();
     if n < 3 || text[0] != b'[' || text[n - 1] != b']' {
@@ -69,7 +69,7 @@ pub fn is_host(text: &[u8]) -> bool
         return false;
     }
     if text[0] == b'[' {
-        return is_ip_literal(text);
+        return is_bracketed_address(text);
     }
     is_registered_name(text)
 }

@@ -141,7 +141,7 @@ fn has(headers: &[Header], name: &str, wanted: Wanted) -> bool
     false
 }
 
-// Whether the hosts are as the version asks: one, or in 1.0 none.
+// Whether the hosts are as the version asks: one, and in 1.0 one at most.
 fn has_valid_host(version: HTTPVersion, headers: &[Header]) -> bool
     ensures { IsTrue result ↔ HasValidHost version (values_of (codes "Host") headers.now) }
 {
@@ -157,7 +157,7 @@ fn has_valid_host(version: HTTPVersion, headers: &[Header]) -> bool
     has_one || is_1_0(version)
 }
 
-// This length, if it is the one that was found before.
+// This length, if none was found before, or the same.
 fn same_length(length: Option<usize>, found: Option<usize>) -> Option<usize>
     ensures { result ≡ same_length length found }
 {
@@ -173,7 +173,7 @@ fn same_length(length: Option<usize>, found: Option<usize>) -> Option<usize>
     }
 }
 
-// The length that the elements of a value are, if it is the one that was found before.
+// The length that the elements of a value are, if none was found before, or the same.
 fn lengths_in(value: &str, found: Option<usize>) -> Result<Option<usize>, Refusal>
     ensures { result ≡ lengths_on found (between_commas value.now) }
 {
@@ -317,7 +317,8 @@ fn is_last(version: HTTPVersion, method: &Method, headers: &[Header]) -> bool
 ///   that aren't one number, the empty one too; a `Transfer-Encoding` in 1.0, or beside a `Content-Length`, or whose last element
 ///   isn't `chunked`, or with another one that is empty or `chunked`.
 /// - Codings in front of `chunked` are `UnknownCoding`.
-/// - An element of `Expect` that isn't empty or `100-continue` is `UnknownExpectation`. A 100 is owed in 1.1 where a body follows.
+/// - An element of `Expect` that isn't empty or `100-continue` is `UnknownExpectation`. A 100 is owed in 1.1, where a body follows
+///   and `Expect` has `100-continue`.
 ///
 /// A head asks for an upgrade in 1.1, if `Connection` has `upgrade`, and `Upgrade` has a protocol: a token, or two with a slash
 /// between, without `%`, which may stand for a byte from 128 on. The head makes its request the last by `close`, in 1.0 without

@@ -1,4 +1,4 @@
-//! The laws of a head by the standard: each text has one reading, and each head one judgement.
+//! The laws of heads by the standard: a text has one reading at most, all bytes have one, and a head has one judgement.
 ghost use Rattle.std.specs.Prelude.{◌≡◌, ◌⊎◌, ℕ, List, Result};
 ghost use Rattle.tiny_http_head.specs.declared.common.Method.{Method};
 ghost use Rattle.tiny_http_head.specs.declared.common.HTTPVersion.{HTTPVersion};

@@ -5,7 +5,7 @@ ghost use Rattle.std.specs.Char.{is_ascii_graphic};
 ghost use Rattle.httparse.specs.Grammar.{is_ows};
 ghost use Rattle.tiny_http_text.specs.Bytes.{AreAscii, skip_while, skip_end_while};
 ghost use Rattle.tiny_http_head.specs.Heads.{method_of};
-ghost use Rattle.tiny_http_standard.specs.Lines.{IsVersion, IsNoVersion, begins_authority, has_scheme, is_absolute, is_asterisk, IsTarget, RequestLine, ReadsRequestLine, IsNoRequestLine, must_be_ascii, uppercase_hexadecimal_digit, percent_encoded_byte, percent_encoded, FieldLine, ReadsFieldLine, IsNoFieldLine};
+ghost use Rattle.tiny_http_standard.specs.Lines.{IsVersion, IsNoVersion, begins_authority, has_scheme, is_absolute_form, is_asterisk_form, IsTarget, RequestLine, ReadsRequestLine, IsNoRequestLine, must_be_ascii, uppercase_hexadecimal_digit, percent_encoded_byte, percent_encoded, FieldLine, ReadsFieldLine, IsNoFieldLine};
 
 use crate::hosts::is_authority;
 use httparse::{is_header_value, is_space_or_tab, is_token};
@@ -50,16 +50,16 @@ fn has_scheme(scheme: &[u8], target: &[u8]) -> bool
     target[..n].eq_ignore_ascii_case(scheme) && begins_authority(&target[n..])
 }
 
-// Whether the target is in absolute-form.
-fn is_absolute(target: &[u8]) -> bool
-    ensures { result ≡ is_absolute target.now }
+// Whether the target stands for absolute-form.
+fn is_absolute_form(target: &[u8]) -> bool
+    ensures { result ≡ is_absolute_form target.now }
 {
     has_scheme(b"http://", target) || has_scheme(b"https://", target)
 }
 
 // Whether the target is in asterisk-form.
-fn is_asterisk(method: &[u8], target: &[u8]) -> bool
-    ensures { result ≡ is_asterisk method.now target.now }
+fn is_asterisk_form(method: &[u8], target: &[u8]) -> bool
+    ensures { result ≡ is_asterisk_form method.now target.now }
 {
     is(target, "*") && is(method, "OPTIONS")
 }
@@ -81,7 +81,7 @@ fn is_target(method: &[u8], target: &[u8]) -> bool
     if is(method, "CONNECT") {
         return is_authority(target);
     }
-    target.starts_with(b"/") || is_asterisk(method, target) || is_absolute(target)
+    target.starts_with(b"/") || is_asterisk_form(method, target) || is_absolute_form(target)
 }
 
 // The method that a token names.

@@ -5,8 +5,8 @@ use Rattle.tiny_http_standard.specs.HeadParts.{StopsHead}
 use Rattle.tiny_http_standard.proofs.HeadsLemmas.{open-field, seen-is}
 use Rattle.tiny_http_standard.proofs.heads.read_head.Goals as goal
 
-pub returns-in-Err-OpenField : goal.returns-in-Err-OpenField
-returns-in-Err-OpenField c =
+pub returns-in-Err-OpenField-clause-reads : goal.returns-in-Err-OpenField-clause-reads
+returns-in-Err-OpenField-clause-reads c =
     let bytes = c.args.bytes.now in
     let stops = subst (λ (why : Stop). StopsHead (take c.min.result bytes) why) c.in-Err-OpenField.field-0-is c.in-Err-OpenField.ensures.none in
     open-field c.args.limit bytes c.not_ended-in-Err-OpenField.result (subst HasOpenField (seen-is c.args.limit bytes c.min.result c.min.ensures) stops) c.not_ended-in-Err-OpenField.ensures.full c.not_ended-in-Err-OpenField.ensures.open
