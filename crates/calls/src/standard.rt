@@ -85,7 +85,7 @@ pub fn judge_head(
 
 /// What is read of the first bytes of a client, where a head has at most so many: a whole head, how many bytes it has and what it
 /// says; or the status by which it is refused; or that it is unfinished, and whether it has begun.
-pub fn read_front(
+pub fn read_first_head(
     alloc: Global,
     limit: usize,
     bytes: &[u8],
@@ -94,8 +94,8 @@ pub fn read_front(
     let head = match read_head(alloc, bytes, limit)? {
         HeadRead::Whole(head) => head,
         HeadRead::Refused(fault) => return add_shown(alloc, to, "refused", &fault.status()),
-        HeadRead::Unfinished(true) => return add(alloc, to, "unfinished", b"begun"),
-        HeadRead::Unfinished(false) => return add(alloc, to, "unfinished", b""),
+        HeadRead::Unfinished { has_begun: true } => return add(alloc, to, "unfinished", b"begun"),
+        HeadRead::Unfinished { has_begun: false } => return add(alloc, to, "unfinished", b""),
     };
     add_shown(alloc, to, "taken", &head.length)?;
     add(alloc, to, "method", head.method.as_str().as_bytes())?;

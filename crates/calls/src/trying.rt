@@ -4,7 +4,9 @@ use crate::findings::{add, add_some};
 use crate::headers::add_to_answer;
 use crate::reading::RowFile;
 use crate::row::{Call, Finding, Rooms, Row, is_asked};
-use crate::standard::{judge_head, judge_host, read_field_line, read_front, read_request_line};
+use crate::standard::{
+    judge_head, judge_host, read_field_line, read_first_head, read_request_line,
+};
 use crate::texts::{ask, choose_by, phrase, read_text, show, write_number};
 use crate::written::{encode, print, write_chunk, write_chunked};
 use case_files::case::Room;
@@ -58,7 +60,7 @@ fn make_call(
         Call::Numeral(number) => write_number(alloc, *number, to),
         Call::StandardRequestLine => read_request_line(alloc, input.bytes.as_slice(), to),
         Call::StandardFieldLine => read_field_line(alloc, input.bytes.as_slice(), to),
-        Call::ReadHead(limit) => read_front(alloc, *limit, input.bytes.as_slice(), to),
+        Call::ReadHead(limit) => read_first_head(alloc, *limit, input.bytes.as_slice(), to),
         Call::Host => judge_host(alloc, input.bytes.as_slice(), to),
         Call::Judge(version, method) => {
             judge_head(alloc, *version, method, input.request.as_slice(), to)
