@@ -124,6 +124,7 @@ const DROPPED_SERVER: &[Step] = &[
 
 // A client comes while nobody serves. No request comes of it, and the next one who serves does so.
 const WAITING_CLIENT: &[Step] = &[
+    Step::Clients(1),
     Step::Leave,
     Step::Clients(0),
     Step::EndServing,
