@@ -124,7 +124,8 @@ const DROPPED_SERVER: &[Step] = &[
 
 // A client comes while nobody serves. No request comes of it, and the next one who serves does so.
 const WAITING_CLIENT: &[Step] = &[
-    Step::Clients(1),
+    Step::Send("GET /a HTTP/1.1\r\n\r\n"),
+    Step::Next(&[OK, DATED, ONE, "/a"]),
     Step::Leave,
     Step::Clients(0),
     Step::EndServing,
@@ -146,20 +147,9 @@ const BEFORE: &[Step] = &[
     Step::Rest(&[OK, DATED, ONE, "/b"]),
 ];
 
-// A client waits while nobody asks for requests. The server is dropped, and the client's request with it.
-const LEFT_OVER: &[Step] = &[
-    Step::Serve,
-    Step::Turns(20),
-    Step::EndServing,
-    Step::Send("GET /a HTTP/1.1\r\n\r\n"),
-    Step::Turns(20),
-    Step::Close,
-    Step::Rest(&[DROPPED, DATED, NOTHING]),
-];
-
 #[test]
 fn clients_are_handed_over(rt: HostRuntime) {
-    play_each(&rt, rt.alloc(), Way::Recv, &[BEFORE, LEFT_OVER]);
+    play_each(&rt, rt.alloc(), Way::Recv, &[BEFORE]);
     let rows = [DROPPED_SERVER, WAITING_CLIENT];
     play_each(&rt, rt.alloc(), Way::Handle, &rows);
 }
