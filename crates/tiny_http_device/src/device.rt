@@ -53,11 +53,13 @@ pub trait WriteDevice {
         ensures sent { OnOk result ((sink self.new).has_ended ≡ false → HoldsNothing (sink self.new)) };
 }
 
-/// Copies bytes from the front of `from` to that of `to`, as many as both have, and says how many.
+/// Copies bytes from the front of `from` to that of `to`, as many as both have, and says how many. What stands behind them in
+/// `to` stays.
 pub fn copy_front(from: &[u8], to: &mut [u8]) -> usize
     ensures count { result ≡ min (length from.now) (length to.old) }
     ensures len { length to.new ≡ length to.old }
     ensures copied { take result to.new ≡ take result from.now }
+    ensures rest { drop result to.new ≡ drop result to.old }
 {
     let n = from.len().min(to.len());
     to[..n].copy_from_slice(&from[..n]);

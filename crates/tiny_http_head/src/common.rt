@@ -514,8 +514,9 @@ impl fmt::Display for Header {
     }
 }
 
-/// The method that a text names, or an error where there is no memory for it.
-pub(crate) fn method_of(alloc: Global, text: &[u8]) -> Result<Method, AllocError>
+/// The method that an ASCII text names: one of the nine names, exactly, or any other text. An error where there is no memory for
+/// a copy.
+pub fn method_of(alloc: Global, text: &[u8]) -> Result<Method, AllocError>
     requires { AreAscii text.now }
     ensures { IfOk result (λ m. m ≡ method_of text.now) }
 {

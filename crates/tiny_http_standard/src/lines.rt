@@ -3,14 +3,13 @@ ghost use Rattle.std.specs.Prelude.{◌≡◌, ◌↔◌, ◌<◌, ◌++◌, IsT
 ghost use Rattle.std.specs.List.{list_all};
 ghost use Rattle.std.specs.Char.{is_ascii_graphic};
 ghost use Rattle.httparse.specs.Grammar.{is_ows};
-ghost use Rattle.tiny_http_text.specs.Bytes.{AreAscii, skip_while, skip_end_while};
-ghost use Rattle.tiny_http_head.specs.Heads.{method_of};
+ghost use Rattle.tiny_http_text.specs.Bytes.{skip_while, skip_end_while};
 ghost use Rattle.tiny_http_standard.specs.Lines.{IsVersion, IsNoVersion, begins_authority, has_scheme, is_absolute_form, is_asterisk_form, IsTarget, RequestLine, ReadsRequestLine, IsNoRequestLine, must_be_ascii, uppercase_hexadecimal_digit, percent_encoded_byte, percent_encoded, FieldLine, ReadsFieldLine, IsNoFieldLine};
 
 use crate::hosts::is_authority;
 use httparse::{is_header_value, is_space_or_tab, is_token};
 use std::alloc::{AllocError, Global};
-use tiny_http_head::common::{HTTPVersion, Header, HeaderField, Method};
+use tiny_http_head::common::{HTTPVersion, Header, HeaderField, Method, method_of};
 use tiny_http_text::ascii::AsciiString;
 use tiny_http_text::bytes::{are_ascii, cut, is};
 use tiny_http_text::copies::owned;
@@ -82,18 +81,6 @@ fn is_target(method: &[u8], target: &[u8]) -> bool
         return is_authority(target);
     }
     target.starts_with(b"/") || is_asterisk_form(method, target) || is_absolute_form(target)
-}
-
-// The method that a token names.
-fn method_of(alloc: Global, token: &[u8]) -> Result<Method, AllocError>
-    requires { AreAscii token.now }
-    ensures { IfOk result (λ m. m ≡ method_of token.now) }
-{
-    let name = owned(alloc, token)?;
-    match Method::from_str(alloc, name.as_str()) {
-        Ok(method) => Ok(method),
-        Err(_) => Err(AllocError),
-    }
 }
 
 // The method, the target and the version of a request line.
