@@ -40,19 +40,19 @@ bare-last : (x : ℕ) (xs : List ℕ) → is_carriage_return (get_or (x ∷ xs) 
 bare-last x [] e = rw e refl
 bare-last x (y ∷ ys) e = bare-last y ys e
 
-pub bare-line : (bytes line rest : List ℕ) → bytes ≡ line ++ line_feed ∷ rest → HasNo line_feed line → (length line ≡ 0) ⊎ (get_or line (length line - 1) 0 ≢ 13) → BeginsWithBareLine bytes
-bare-line bytes line rest joins first bare = record { text = line; rest = rest; joins = joins; first = first; bare = by line bare }
+pub bare-end : (line : List ℕ) → (length line ≡ 0) ⊎ (get_or line (length line - 1) 0 ≢ 13) → has_bare_end is_carriage_return line ≡ true
+bare-end [] bare = refl
+bare-end (x ∷ xs) (inl none) = absurd (omega (arith, none))
+bare-end (x ∷ xs) (inr ne) =
+    let at : suc (length xs) - 1 ≡ length xs = omega arith in
+    let last : get_or (x ∷ xs) (length xs) 0 ≢ 13 = λ e. ne (ap (λ (i : ℕ). get_or (x ∷ xs) i 0) at ∙ e) in
+    bare-last x xs (other (get_or (x ∷ xs) (length xs) 0) last)
   where
     other : (b : ℕ) → b ≢ 13 → is_carriage_return b ≡ false
     other b ne = grind (arith, ne)
 
-    by : (line : List ℕ) → (length line ≡ 0) ⊎ (get_or line (length line - 1) 0 ≢ 13) → has_bare_end is_carriage_return line ≡ true
-    by [] bare = refl
-    by (x ∷ xs) (inl none) = absurd (omega (arith, none))
-    by (x ∷ xs) (inr ne) =
-        let at : suc (length xs) - 1 ≡ length xs = omega arith in
-        let last : get_or (x ∷ xs) (length xs) 0 ≢ 13 = λ e. ne (ap (λ (i : ℕ). get_or (x ∷ xs) i 0) at ∙ e) in
-        bare-last x xs (other (get_or (x ∷ xs) (length xs) 0) last)
+pub bare-line : (bytes line rest : List ℕ) → bytes ≡ line ++ line_feed ∷ rest → HasNo line_feed line → (length line ≡ 0) ⊎ (get_or line (length line - 1) 0 ≢ 13) → BeginsWithBareLine bytes
+bare-line bytes line rest joins first bare = record { text = line; rest = rest; joins = joins; first = first; bare = bare-end line bare }
 
 -- one field line more
 pub more-fields : (bytes : List ℕ) (hs : List Header) (h : Header) (mid text next : List ℕ) → BeginsWithFieldLines bytes hs mid → Line mid text next → ReadsFieldLine text h → BeginsWithFieldLines bytes (hs ++ h ∷ []) next

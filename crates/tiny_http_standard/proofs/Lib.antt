@@ -11,3 +11,6 @@ pub mod HeadsLemmas
 pub mod ReadingLemmas
 pub mod Deciding
 pub mod Existing
+pub mod SourceLinesLemmas
+pub mod SourceHeadsLemmas
+pub mod SourceJoining

@@ -5,3 +5,5 @@ pub mod Judging
 pub mod JudgingReading
 pub mod Heads
 pub mod HeadParts
+pub mod SourceLines
+pub mod SourceHeads

@@ -8,3 +8,5 @@ pub mod judging;
 pub mod laws;
 pub mod lines;
 mod numbers;
+pub mod source_heads;
+mod source_lines;

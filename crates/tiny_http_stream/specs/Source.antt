@@ -7,7 +7,7 @@ use Rattle.std.specs.IoError.{error_kind}
 use Rattle.std.specs.declared.io.Error.{Error}
 use Rattle.std.specs.Str.{IsAscii, IsNotAscii}
 use Rattle.std.specs.declared.io.ErrorKind.TheVariants.{TimedOut}
-use Rattle.tiny_http_device.specs.Device.{Feed, Reads, AnswersStop}
+use Rattle.tiny_http_device.specs.Device.{Feed, prepended, Reads, AnswersStop}
 use Rattle.tiny_http_device.specs.declared.device.Stop.{Stop}
 use Rattle.tiny_http_device.specs.declared.device.Stop.TheVariants.{End, Fault}
 use Rattle.tiny_http_text.specs.Lines.{Line, IsUnfinished, has_crlf}
@@ -144,6 +144,7 @@ pub record LooksForByte {R : Type 0} (old new : SourceState R) (found : Bool) : 
   pub once : IsSome old.stop → IsSome new.stop × (new.reader ≡ old.reader)
   pub held : old.skip < length old.held → new.reader ≡ old.reader
   pub holds : IsTrue found → new.skip < length new.held
+  pub skipped : IsTrue found → new.skip ≡ 0
   pub stays : old.is_over ≡ true → (found ≡ false) × (new ≡ old)
   pub standing : new.standing ≡ old.standing
 
@@ -200,6 +201,15 @@ pub record PassesLine {R : Type 0} (n : ℕ) (old new : SourceState R) : Type 0 
   pub line : TakesLine old.feed new.feed (take n old.held)
   pub goes_on : GoesOn old.feed new.feed
   pub rest : (new.held ≡ drop (n + 2) old.held) × (new.skip ≡ 0)
+  pub reader : new.reader ≡ old.reader
+  pub stop : new.stop ≡ old.stop
+  pub standing : new.standing ≡ old.standing
+
+-- n bytes that are held are taken off, and the reader isn't called
+pub record TakesHeld {R : Type 0} (n : ℕ) (old new : SourceState R) : Type 0 where
+  pub feed : old.feed ≡ prepended (take n old.held) new.feed
+  pub goes_on : GoesOn old.feed new.feed
+  pub rest : (new.held ≡ drop n old.held) × (new.skip ≡ 0)
   pub reader : new.reader ≡ old.reader
   pub stop : new.stop ≡ old.stop
   pub standing : new.standing ≡ old.standing

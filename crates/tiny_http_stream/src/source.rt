@@ -113,7 +113,7 @@ impl<R: ReadDevice> Model for Source<R> {
 }
 
 impl<R: ReadDevice> Source<R> {
-    ghost use Rattle.tiny_http_stream.specs.Source.{ReadsLine, ReadsSource, LooksForByte, SkipsBytes, EndsHere, ReadsOneLine, FindsOneLine, PassesLine, TakesBytes};
+    ghost use Rattle.tiny_http_stream.specs.Source.{ReadsLine, ReadsSource, LooksForByte, SkipsBytes, EndsHere, ReadsOneLine, FindsOneLine, PassesLine, TakesHeld, TakesBytes};
 
     /// A source over this reader. A head comes first.
     pub fn new(inner: R) -> Source<R>
@@ -222,6 +222,15 @@ impl<R: ReadDevice> Source<R> {
         self.input.pass_line(n)
     }
 
+    /// Takes n bytes off that are in the buffer; for the crates above. The reader isn't called.
+    pub fn consume(&mut self, n: usize)
+        requires skip { self.old.skip ≡ 0 }
+        requires held { n ≤ length self.old.held }
+        ensures { TakesHeld n self.old self.new }
+    {
+        self.input.consume(n)
+    }
+
     /// Reads some bytes. After them each call answers how the reader stopped. Where no byte is held or to be skipped, a read
     /// into 1024 bytes or more goes straight to the reader.
     pub fn read(&mut self, buf: &mut [u8]) -> Result<usize, io::Error>
@@ -320,6 +329,7 @@ impl<R: ReadDevice> Input<R> {
         ensures once { IsSome (input_stop self.old) → IsSome (input_stop self.new) × (input_reader self.new ≡ input_reader self.old) }
         ensures held { input_skip self.old < length (input_held self.old) → input_reader self.new ≡ input_reader self.old }
         ensures holds { IsTrue result → input_skip self.new < length (input_held self.new) }
+        ensures skipped { IsTrue result → input_skip self.new ≡ 0 }
         ensures stays { IsInputOver self.old → (result ≡ false) × (self.new ≡ self.old) }
     {
         self.fill();
@@ -443,6 +453,18 @@ impl<R: ReadDevice> Input<R> {
     {
         self.held.consume(n);
         self.held.consume(2);
+    }
+
+    /// Takes n bytes off that are held.
+    pub fn consume(&mut self, n: usize)
+        requires skip { input_skip self.old ≡ 0 }
+        requires held { n ≤ length (input_held self.old) }
+        ensures feed { input_feed R.feed self.old ≡ prepended (take n (input_held self.old)) (input_feed R.feed self.new) }
+        ensures rest { (input_held self.new ≡ drop n (input_held self.old)) × (input_skip self.new ≡ 0) }
+        ensures reader { input_reader self.new ≡ input_reader self.old }
+        ensures stop { input_stop self.new ≡ input_stop self.old }
+    {
+        self.held.consume(n);
     }
 
     // Takes n bytes off that are held, and the CR LF after them.
