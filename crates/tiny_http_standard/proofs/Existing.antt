@@ -16,7 +16,7 @@ use Rattle.tiny_http_standard.specs.Hosts.{IsHostValue}
 use Rattle.tiny_http_standard.specs.Lines.{percent_encoded, IsNoRequestLine, ReadsFieldLine}
 use Rattle.tiny_http_standard.specs.Lists.{values_of, has_element_that}
 use Rattle.tiny_http_standard.specs.Judging.{is_1_0, HasValidHost, IsFramedRequest, Judges, owes_continue, asks_upgrade, is_last, is_unknown_expectation}
-use Rattle.tiny_http_standard.specs.Heads.{line_feed, is_carriage_return, Line, BeginsWithBareLine, behind_empty_line, BeginsWithRequestLine, BeginsWithFieldLines, BeginsWithHead, IsNoFieldOrEnd, ComesToField, HasBadLine, HasOpenRequestLine, HasOpenField}
+use Rattle.tiny_http_standard.specs.Heads.{line_feed, is_carriage_return, Line, BeginsWithBareLine, behind_empty_line, BeginsWithRequestLine, BeginsWithFieldLines, BeginsWithHead, IsNoFieldOrEnd, ComesToField, HasBadLine, HasOpenRequestLine, HasOpenField, Reading, ReadWhole, ReadBad, ReadOpen, AreReadAs}
 use Rattle.tiny_http_standard.proofs.HostsLemmas.{contrary}
 use Rattle.tiny_http_standard.proofs.HeadsLemmas.{line-shorter}
 use Rattle.tiny_http_standard.proofs.JudgeLemmas.{body_read, judge-served, judge-fails}
@@ -147,3 +147,16 @@ some-judgement v method headers = elim (dec-one v.0) [
     by : (one : v.0 ≡ 1) → HasValidHost v (values_of (codes "Host") headers) → (r : Result (Option ℕ × Bool) Refusal) → body_read v headers ≡ r → (r : Result HeadSummary Refusal) × Judges v method headers r
     by one host (Err fault) is = (Err fault, judge-fails v method headers fault one host is)
     by one host (Ok k) is = served one host k is (has_element_that (codes "Expect") is_unknown_expectation headers) refl
+
+-- ALL BYTES ARE READ AS SOMETHING
+pub some-reading : (bytes : List ℕ) → (r : Reading) × AreReadAs bytes r
+some-reading bytes = elim (some-head bytes) [
+  | inl h ↦ (let m : Message = h.0 in let j = some-judgement m.version m.method m.headers in (ReadWhole m h.1 j.0, (h.2, j.1)))
+  | inr none ↦ elim none [
+    | inl bad ↦ (ReadBad, bad)
+    | inr open_ ↦ elim open_ [
+      | inl request ↦ (ReadOpen false, request)
+      | inr field ↦ (ReadOpen true, field)
+    ]
+  ]
+]

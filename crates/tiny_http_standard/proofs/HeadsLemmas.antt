@@ -10,6 +10,7 @@ use Rattle.tiny_http_text.proofs.BytesTrimming.{cut-at}
 use Rattle.tiny_http_head.specs.declared.common.Method.{Method}
 use Rattle.tiny_http_head.specs.declared.common.HTTPVersion.{HTTPVersion}
 use Rattle.tiny_http_head.specs.declared.common.Header.{Header}
+use Rattle.tiny_http_head.specs.Heads.{Message}
 use Rattle.tiny_http_standard.specs.declared.heads.HeadFault.TheVariants.{BadLine, RequestLineTooLong, HeaderFieldsTooLarge, Judged}
 use Rattle.tiny_http_standard.specs.declared.heads.HeadRead.{HeadRead}
 use Rattle.tiny_http_standard.specs.declared.heads.HeadRead.TheVariants.{Whole, Refused, Unfinished}
@@ -88,6 +89,14 @@ head-shorter bytes method target v fields hs after r e =
     let line = line-shorter (behind_empty_line bytes) r.text fields r.line in
     let lines = fields-shorter fields hs e.0 e.1 in
     let end = line-shorter e.0 [] after e.2 in
+    omega (arith, start, line, lines, end)
+
+pub whole-shorter : (bytes : List ℕ) (m : Message) (after : List ℕ) → BeginsWithHead bytes m after → length after < length bytes
+whole-shorter bytes m after h =
+    let start = behind-shorter bytes in
+    let line = line-shorter (behind_empty_line bytes) h.request.text h.fields h.request.line in
+    let lines = fields-shorter h.fields m.headers h.empty h.headers in
+    let end = line-shorter h.empty [] after h.end in
     omega (arith, start, line, lines, end)
 
 pub whole-head : (bytes : List ℕ) (method : Method) (target : List ℕ) (v : HTTPVersion) (fields : List ℕ) (hs : List Header) (after : List ℕ) → BeginsWithRequestLine bytes method target v fields → EndsFields fields hs after

@@ -1,5 +1,5 @@
 -- The first bytes of a client are read in one way.
-use Rattle.std.proofs.Common.{◌≡◌, refl, sym, ap, ◌∙◌, subst, ℕ, ◌+◌, ◌<◌, ◌≤◌, ◌⊎◌, false, not, List, [], ◌∷◌, ◌++◌, length, take, inl, inr, Result, Ok, Err, append_assoc, arith}
+use Rattle.std.proofs.Common.{◌≡◌, refl, sym, ap, ◌∙◌, subst, ℕ, ◌+◌, ◌<◌, ◌≤◌, ◌⊎◌, not, List, [], ◌∷◌, ◌++◌, length, take, inl, inr, Result, Ok, Err, append_assoc, arith, true, false}
 use Rattle.std.specs.Prelude.{◌==◌}
 use Rattle.std.proofs.lemmas.List.{take_all}
 use Rattle.std.proofs.lemmas.List.Folds.{list_all-append}
@@ -15,7 +15,7 @@ use Rattle.tiny_http_standard.specs.declared.heads.HeadRead.{HeadRead}
 use Rattle.tiny_http_standard.specs.declared.heads.HeadRead.TheVariants.{Whole, Refused, Unfinished}
 use Rattle.tiny_http_standard.specs.Lines.{percent_encoded, ReadsFieldLine, ReadsRequestLine, IsNoRequestLine}
 use Rattle.tiny_http_standard.specs.Judging.{Judges}
-use Rattle.tiny_http_standard.specs.Heads.{line_feed, is_carriage_return, Line, BeginsWithBareLine, behind_empty_line, BeginsWithRequestLine, BeginsWithFieldLines, BeginsWithHead, BeginsWithBadLine, IsNoFieldOrEnd, ComesToField, HasOpenRequestLine, HasOpenField, message_of, is_begun, Reads, IsSameRead}
+use Rattle.tiny_http_standard.specs.Heads.{line_feed, is_carriage_return, Line, BeginsWithBareLine, behind_empty_line, BeginsWithRequestLine, BeginsWithFieldLines, BeginsWithHead, BeginsWithBadLine, IsNoFieldOrEnd, ComesToField, HasOpenRequestLine, HasOpenField, message_of, is_begun, Reads, IsSameRead, Reading, ReadWhole, ReadBad, ReadOpen, AreReadAs}
 use Rattle.tiny_http_standard.proofs.HostsLemmas.{contrary, not-without, one-last}
 use Rattle.tiny_http_standard.proofs.LinesLemmas.{one-first}
 use Rattle.tiny_http_standard.proofs.LawsLemmas.{request-line-once, field-line-once, judged-once}
@@ -254,3 +254,31 @@ reading-once limit bytes r s a b =
     let y = view limit bytes s b in
     let same : x.0 ≡ y.0 = point-once (take limit bytes) x.0 y.0 x.1 y.1 in
     same-at limit bytes y.0 r s (subst (λ (p : Point). Matches limit bytes p r) same x.2) y.2
+
+-- what bytes are read as stands at a point
+abbrev Shows : Point → Reading → Type 0
+Shows AtBad r = r ≡ ReadBad
+Shows AtOpen r = r ≡ ReadOpen false
+Shows (Behind m (Finished after)) r = (j : Result HeadSummary Refusal) × (r ≡ ReadWhole m after j) × Judges m.version m.method m.headers j
+Shows (Behind m Bad) r = r ≡ ReadBad
+Shows (Behind m Open) r = r ≡ ReadOpen true
+
+shown : (bytes : List ℕ) (r : Reading) → AreReadAs bytes r → (p : Point) × IsPoint bytes p × Shows p r
+shown bytes (ReadWhole m after j) a = (Behind m (Finished after), of-head bytes m after a.0, (j, refl, a.1))
+shown bytes ReadBad (inl bad) = (AtBad, bad, refl)
+shown bytes ReadBad (inr w) = (Behind (record { method = w.1.method; path = w.1.target; version = w.1.version; headers = w.1.headers }) Bad, of-field bytes w.0 Bad w.1 w.2, refl)
+shown bytes (ReadOpen false) a = (AtOpen, a, refl)
+shown bytes (ReadOpen true) a = (Behind (record { method = a.1.method; path = a.1.target; version = a.1.version; headers = a.1.headers }) Open, of-field bytes a.0 Open a.1 a.2, refl)
+
+shows-once : (p : Point) (r s : Reading) → Shows p r → Shows p s → r ≡ s
+shows-once AtBad r s a b = a ∙ sym b
+shows-once AtOpen r s a b = a ∙ sym b
+shows-once (Behind m (Finished after)) r s a b = a.1 ∙ ap (ReadWhole m after) (judged-once m.version m.method m.headers a.0 b.0 a.2 b.2) ∙ sym b.1
+shows-once (Behind m Bad) r s a b = a ∙ sym b
+shows-once (Behind m Open) r s a b = a ∙ sym b
+
+pub read-once : (bytes : List ℕ) (r s : Reading) → AreReadAs bytes r → AreReadAs bytes s → r ≡ s
+read-once bytes r s a b =
+    let x = shown bytes r a in
+    let y = shown bytes s b in
+    shows-once y.0 r s (subst (λ (p : Point). Shows p r) (point-once bytes x.0 y.0 x.1 y.1) x.2) y.2

@@ -1,5 +1,5 @@
 -- A whole head by the standard (RFC 9112, sections 2.2, 3 and 5), and what is read of the first bytes that a client sends.
-use Rattle.std.specs.Prelude.{◌≡◌, ◌≢◌, ℕ, ◌+◌, ◌<◌, ◌≤◌, ◌⊎◌, Bool, not, ◌&&◌, ◌==◌, List, [], ◌∷◌, ◌++◌, length, take, Ok, Err, IsTrue, if◌then◌else◌}
+use Rattle.std.specs.Prelude.{◌≡◌, ◌≢◌, ℕ, ◌+◌, ◌<◌, ◌≤◌, ◌⊎◌, Bool, not, ◌&&◌, ◌==◌, List, [], ◌∷◌, ◌++◌, length, take, true, false, Result, Ok, Err, IsTrue, if◌then◌else◌}
 use Rattle.tiny_http_text.specs.Bytes.{HasNo, has_bare_end}
 use Rattle.tiny_http_head.specs.declared.common.Method.{Method}
 use Rattle.tiny_http_head.specs.declared.common.HTTPVersion.{HTTPVersion}
@@ -10,6 +10,8 @@ use Rattle.tiny_http_standard.specs.declared.heads.HeadFault.{HeadFault}
 use Rattle.tiny_http_standard.specs.declared.heads.HeadFault.TheVariants.{BadLine, RequestLineTooLong, HeaderFieldsTooLarge, Judged}
 use Rattle.tiny_http_standard.specs.declared.heads.HeadRead.{HeadRead}
 use Rattle.tiny_http_standard.specs.declared.heads.HeadRead.TheVariants.{Whole, Refused, Unfinished}
+use Rattle.tiny_http_standard.specs.declared.judging.HeadSummary.{HeadSummary}
+use Rattle.tiny_http_standard.specs.declared.judging.Refusal.{Refusal}
 use Rattle.tiny_http_standard.specs.declared.judging.Refusal.TheVariants.{UnsupportedVersion, InvalidHead, UnknownCoding, UnknownExpectation}
 use Rattle.tiny_http_standard.specs.Lines.{ReadsRequestLine, IsNoRequestLine, ReadsFieldLine, IsNoFieldLine}
 use Rattle.tiny_http_standard.specs.Judging.{Judges}
@@ -96,6 +98,20 @@ HasOpenRequestLine bytes = HasNo line_feed (behind_empty_line bytes)
 
 abbrev pub HasOpenField : List ℕ → Type 0
 HasOpenField bytes = (rest : List ℕ) × ComesToField bytes rest × HasNo line_feed rest
+
+-- what bytes are read as: a whole head, with what follows it and how it is judged; a bad line; or a line that hasn't ended, the
+-- request line or one behind it
+pub data Reading : Type 0 where
+  ReadWhole : (message : Message) (after : List ℕ) (judged : Result HeadSummary Refusal) → Reading
+  ReadBad : Reading
+  ReadOpen : (behind_request_line : Bool) → Reading
+
+-- WHAT BYTES ARE READ AS
+abbrev pub AreReadAs : List ℕ → Reading → Type 0
+AreReadAs bytes (ReadWhole m after judged) = BeginsWithHead bytes m after × Judges m.version m.method m.headers judged
+AreReadAs bytes ReadBad = HasBadLine bytes
+AreReadAs bytes (ReadOpen false) = HasOpenRequestLine bytes
+AreReadAs bytes (ReadOpen true) = HasOpenField bytes
 
 -- the status of a fault
 abbrev pub status_of : HeadFault → ℕ

@@ -1,13 +1,12 @@
 //! The laws of heads by the standard: a text has one reading at most, all bytes have one, and a head has one judgement.
-ghost use Rattle.std.specs.Prelude.{◌≡◌, ◌⊎◌, ℕ, List, Result};
+ghost use Rattle.std.specs.Prelude.{◌≡◌, ℕ, List, Result};
 ghost use Rattle.tiny_http_head.specs.declared.common.Method.{Method};
 ghost use Rattle.tiny_http_head.specs.declared.common.HTTPVersion.{HTTPVersion};
 ghost use Rattle.tiny_http_head.specs.declared.common.Header.{Header};
-ghost use Rattle.tiny_http_head.specs.Heads.{Message};
 ghost use Rattle.tiny_http_standard.specs.declared.judging.HeadSummary.{HeadSummary};
 ghost use Rattle.tiny_http_standard.specs.declared.judging.Refusal.{Refusal};
 ghost use Rattle.tiny_http_standard.specs.declared.heads.HeadRead.{HeadRead};
-ghost use Rattle.tiny_http_standard.specs.Heads.{BeginsWithHead, HasBadLine, HasOpenRequestLine, HasOpenField, Reads, IsSameRead};
+ghost use Rattle.tiny_http_standard.specs.Heads.{Reading, AreReadAs, Reads, IsSameRead};
 ghost use Rattle.tiny_http_standard.specs.Lines.{RequestLine, FieldLine};
 ghost use Rattle.tiny_http_standard.specs.Judging.{Judges};
 
@@ -30,6 +29,7 @@ pub fn one_judgement()
 /// The first bytes of a client are read in one way: they are a whole head, which is judged, or they have a bad line, or one that
 /// hasn't ended; and no two of these.
 pub fn one_reading()
-    ensures some { (bytes : List ℕ) → ((m : Message) × (after : List ℕ) × BeginsWithHead bytes m after) ⊎ (HasBadLine bytes ⊎ (HasOpenRequestLine bytes ⊎ HasOpenField bytes)) }
+    ensures some { (bytes : List ℕ) → (r : Reading) × AreReadAs bytes r }
+    ensures read { (bytes : List ℕ) (r r' : Reading) → AreReadAs bytes r → AreReadAs bytes r' → r ≡ r' }
     ensures one { (limit : ℕ) (bytes : List ℕ) (r r' : HeadRead) → Reads limit bytes r → Reads limit bytes r' → IsSameRead r r' }
 {}
