@@ -53,8 +53,8 @@ fn lack_of(cases: &[Case]) -> Option<&'static str> {
     if case.varied.is_some_and(|count| count > case.client.len()) {
         return Some("the case in front varies more bytes than its client sends");
     }
-    if case.varied.is_some() && case.profile == Profile::Strict {
-        return Some("the case in front varies bytes, whose plain reading isn't strict");
+    if case.varied.is_some() && case.profile != Profile::Lenient {
+        return Some("the case in front varies bytes, whose plain reading is lenient");
     }
     None
 }
@@ -195,10 +195,11 @@ fn add_line(alloc: Global, case: &mut Case, text: &str) -> Result<(), LineFault>
     }
     let (word, words) = text.split_once(' ').unwrap_or((text, ""));
     match word {
-        "profile" if words != "strict" => return Err(LineFault::Bad(
-            "a case names no profile but strict",
-        )),
-        "profile" if case.profile == Profile::Lenient => case.profile = Profile::Strict,
+        "profile" if case.profile == Profile::Lenient => match words {
+            "strict" => case.profile = Profile::Strict,
+            "standard" => case.profile = Profile::Standard,
+            _ => return Err(LineFault::Bad("a case names no profile but strict and standard")),
+        },
         "client" => add_text(alloc, words, &mut case.client)?,
         "output" => add_text(alloc, words, &mut case.output)?,
         "stop" if case.stop.is_none() => match kind_of(words) {

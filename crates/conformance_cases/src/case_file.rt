@@ -102,7 +102,7 @@ const BAD: &[(&str, usize, &str)] = &[
     (
         "case a\nprofile lenient\n",
         2,
-        "a case names no profile but strict",
+        "a case names no profile but strict and standard",
     ),
     (
         "case a\nprofile strict\nprofile strict\n",
@@ -112,7 +112,7 @@ const BAD: &[(&str, usize, &str)] = &[
     (
         "case a\nprofile strict\nclient G\nvary 1\nask\n  ended\n",
         7,
-        "the case in front varies bytes, whose plain reading isn't strict",
+        "the case in front varies bytes, whose plain reading is lenient",
     ),
     (
         "case a\nclient G\nvary 2\nask\n  ended\n",

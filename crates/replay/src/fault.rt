@@ -34,7 +34,7 @@ impl ReplayFault<'_> {
 impl fmt::Display for ReplayFault<'_> {
     fn fmt<W: fmt::Write>(&self, f: &mut fmt::Formatter<W>) -> fmt::Result {
         match self {
-            ReplayFault::Usage => write!(f, "usage: replay [--strict] BYTES SCRIPT"),
+            ReplayFault::Usage => write!(f, "usage: replay [--strict | --standard] BYTES SCRIPT"),
             ReplayFault::CannotRead(name) => write!(f, "cannot read {name}"),
             ReplayFault::BadLine(number) => write!(f, "bad line {number}"),
             ReplayFault::OutOfMemory => write!(f, "out of memory"),

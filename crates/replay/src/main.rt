@@ -1,5 +1,5 @@
-//! Runs the steps of a script over a client's bytes: `replay [--strict] BYTES SCRIPT`. The output of the connection goes to
-//! standard output, a line for each step's reply to standard error. `--strict` has heads read under the strict profile. The
+//! Runs the steps of a script over a client's bytes: `replay [--strict | --standard] BYTES SCRIPT`. The output of the connection goes to
+//! standard output, a line for each step's reply to standard error. `--strict` and `--standard` have heads read under these profiles. The
 //! program stands on `replay_script`, which reads the script, on `tiny_http_core`, whose `run_with` it calls, and on
 //! `tiny_http_wire`.
 #![tactic(auto)]
@@ -173,6 +173,9 @@ fn call_in(words: &[String]) -> Option<(Profile, &str, &str)> {
         [_, bytes, script] => (Profile::Lenient, bytes, script),
         [_, option, bytes, script] if option.as_str() == "--strict" => {
             (Profile::Strict, bytes, script)
+        }
+        [_, option, bytes, script] if option.as_str() == "--standard" => {
+            (Profile::Standard, bytes, script)
         }
         _ => return None,
     };

@@ -288,7 +288,7 @@ fn faults_are_reported(rt: HostRuntime) -> Result<(), Fail> {
     for (fault, line, status) in [
         (
             ReplayFault::Usage,
-            "replay: usage: replay [--strict] BYTES SCRIPT\n",
+            "replay: usage: replay [--strict | --standard] BYTES SCRIPT\n",
             2,
         ),
         (
@@ -329,6 +329,8 @@ fn the_profile_is_named_first(rt: HostRuntime) -> Result<(), Fail> {
     for (call, want) in [
         ("replay a b", Some((Profile::Lenient, "a", "b"))),
         ("replay --strict a b", Some((Profile::Strict, "a", "b"))),
+        ("replay --standard a b", Some((Profile::Standard, "a", "b"))),
+        ("replay --standard --strict b", None),
         ("replay -strict b", Some((Profile::Lenient, "-strict", "b"))),
         ("replay --strict a", None),
         ("replay a --strict", None),

@@ -6,7 +6,7 @@ use Rattle.tiny_http_wire.specs.Device.{Feed, Sink}
 use Rattle.tiny_http_message.specs.declared.framing.Profile.{Profile}
 use Rattle.tiny_http_core.specs.Slots.{is_finished}
 use Rattle.tiny_http_core.specs.Steps.{ReplyValue}
-use Rattle.tiny_http_core.specs.Conversation.{State, TimedValue, start_state, IsConversation}
+use Rattle.tiny_http_core.specs.Conversation.{TimedValue, start_state, IsConversation}
 use Rattle.tiny_http_answer.specs.ClientAnswer.{ClientAnswer, ReadsAnswers}
 use Rattle.tiny_http_answer.specs.SentTexts.{methods, whole_answers, remains}
 use Rattle.tiny_http_client_laws.specs.ClientReads.{IsOutputOf, HaveAnswers, ReadsNumbers, sent_texts}

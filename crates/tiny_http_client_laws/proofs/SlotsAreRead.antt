@@ -10,7 +10,7 @@ use Rattle.tiny_http_wire.specs.declared.common.Method.TheVariants.{Get, Head}
 use Rattle.tiny_http_wire.specs.Device.{IsFront}
 use Rattle.tiny_http_wire.specs.Text.{Ending, Whole, Broken}
 use Rattle.tiny_http_wire.specs.Answer.{Printing, text_plain}
-use Rattle.tiny_http_message.specs.Pipeline.{Item, Asks, Refuses, Refusal, BadRequest, RequestTimeout, ExpectationFailed, HeaderFieldsTooLarge, VersionNotSupported, is_head_method}
+use Rattle.tiny_http_message.specs.Pipeline.{Item, Asks, Refuses, Refusal, BadRequest, RequestTimeout, ExpectationFailed, HeaderFieldsTooLarge, VersionNotSupported, RequestLineTooLong, CodingNotImplemented, MajorVersionNotSupported, is_head_method}
 use Rattle.tiny_http_message.specs.OwnAnswer.{refusal_response}
 use Rattle.tiny_http_sending.specs.ResponseValue.{ResponseValue, response_text}
 use Rattle.tiny_http_core.specs.Slots.{Slot, Stage, Unanswered, Answered, ByServer, Raw, Upgraded, drop_response, continue_response, printing_for, server_response, text_if, stage_text, opening, segment, is_broken, is_slot_broken, is_stage_finished, is_finished, joined, is_output_broken}
@@ -112,6 +112,9 @@ empty-can_be_read VersionNotSupported = record {
   no_coding = refl;
   no_length = refl;
 }
+empty-can_be_read RequestLineTooLong = record { final = omega arith; readable = tt; status_fits = omega arith; length_fits = omega arith; no_coding = refl; no_length = refl }
+empty-can_be_read CodingNotImplemented = record { final = omega arith; readable = tt; status_fits = omega arith; length_fits = omega arith; no_coding = refl; no_length = refl }
+empty-can_be_read MajorVersionNotSupported = record { final = omega arith; readable = tt; status_fits = omega arith; length_fits = omega arith; no_coding = refl; no_length = refl }
 
 server-can_be_read : (item : Item) → CanBeRead (server_response item)
 server-can_be_read (Asks q) = drop-can_be_read

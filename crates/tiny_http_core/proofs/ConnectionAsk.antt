@@ -9,7 +9,7 @@ use Rattle.std.specs.Option.{option_map}
 use Rattle.httpdate.specs.declared.date.HttpDate.{HttpDate}
 use Rattle.tiny_http_wire.specs.declared.common.HTTPVersion.{HTTPVersion}
 use Rattle.tiny_http_wire.specs.declared.device.Stop.{Stop}
-use Rattle.tiny_http_wire.specs.Device.{Feed, Sink, whole_feed}
+use Rattle.tiny_http_wire.specs.Device.{Feed, Sink}
 use Rattle.tiny_http_wire.specs.declared.device.Stop.TheVariants.{End}
 use Rattle.tiny_http_wire.specs.Answer.{text_of}
 use Rattle.tiny_http_wire.specs.Heads.{version}
@@ -24,10 +24,8 @@ use Rattle.tiny_http_message.specs.declared.open_request.OpenRequest.{OpenReques
 use Rattle.tiny_http_core.specs.declared.pending.Unfinished.{Unfinished}
 use Rattle.tiny_http_core.specs.declared.pending.Unfinished.TheVariants as still
 use Rattle.tiny_http_message.specs.declared.framing.Profile.{Profile}
-use Rattle.tiny_http_message.specs.declared.framing.Profile.TheVariants.{Lenient, Strict}
-use Rattle.tiny_http_message.specs.Framing.{Frames}
+use Rattle.tiny_http_message.specs.declared.framing.Form.TheVariants.{Rest}
 use Rattle.tiny_http_wire.specs.Heads.{version, is_too_new}
-use Rattle.tiny_http_message.proofs.FramingLemmas.{rest-last}
 use Rattle.tiny_http_stream.specs.Source.{GoesOn}
 use Rattle.tiny_http_message.specs.Pipeline.{Item, Asks, Refuses, VersionNotSupported, Refusal, Request, Place, Heading, HeadAt, Silence, Refused, Heads, OneHead, FoundAt, ends_too_new, is_head_method, Pipeline, place_after}
 use Rattle.tiny_http_message.specs.HeadReads.{ReadsHead, IsBeforeHead, standing_of, place_feed, request_of, head_message, head_framing}
@@ -48,7 +46,7 @@ use Rattle.tiny_http_turns.specs.Turns.{Mark, Open, Left, Finished, AreInShape, 
 use Rattle.tiny_http_core.specs.Pending.{LeavesText, last_body, is_streaming_body}
 use Rattle.tiny_http_core.specs.Connection.{Kept, dropped, IsWaiting, AreKept, OutputAt, behind_body, GivesRest, InputEnded, is_past_last, is_in_body, NextHead, InputStands, Stands, HandedOut}
 use Rattle.tiny_http_stream.proofs.SourceGoesOn.{goes-on_more}
-use Rattle.tiny_http_message.proofs.PipelineLemmas.{pipeline-first, pipeline-none, feed-pipeline}
+use Rattle.tiny_http_message.proofs.PipelineLemmas.{pipeline-first, pipeline-none, heads-rest_last, empty-pipeline}
 use Rattle.tiny_http_core.proofs.ConnectionReader.{LastKept, last-kept, last-snoc, body-snoc, settled-snoc, and-false, held-by, behind-settled, gives-settled}
 use Rattle.tiny_http_message.proofs.OwnAnswerLemmas.{own-whole, refusal-whole}
 use Rattle.tiny_http_core.proofs.SlotsLemmas.{joined-waits, joined-hidden, breaks-waits, breaks-hidden}
@@ -85,7 +83,7 @@ ask-goes date old e h l = rw (e, h, l) refl
 
 -- the request is framed by its head
 record IsFramed (profile : Profile) (r : Request) : Type 0 where
-  pub framed : Frames profile r.message.version r.message.headers (Ok r.framing)
+  pub framed : r.framing.form ≡ Rest → r.framing.is_last ≡ true
 
 found-framed : (profile : Profile) (bytes : List ℕ) (stop : Stop) (heading : Heading) (r : Request) (next : Place) → HeadAt profile bytes stop heading → FoundAt stop heading (Some (Asks r)) next → IsFramed profile r
 found-framed profile bytes stop Silence r next at h = let no : Some (Asks r) ≡ None = h.0 in cc
@@ -97,7 +95,7 @@ found-framed profile bytes stop (Heads m f after) r next at h = by-version (is_t
     by-version false b =
         let item : Some (Asks r) ≡ Some (Asks (record { message = m; framing = f; body = h.0 })) = h.3 ∙ rw b refl in
         let same : r ≡ record { message = m; framing = f; body = h.0 } = cc in
-        subst (IsFramed profile) (sym same) (record { framed = at.whole.frames })
+        subst (IsFramed profile) (sym same) (record { framed = heads-rest_last profile bytes stop m f after at })
 
 one-head-framed : (profile : Profile) (bytes : List ℕ) (stop : Stop) (r : Request) (next : Place) → OneHead profile bytes stop (Some (Asks r)) next → IsFramed profile r
 one-head-framed profile bytes stop r next h = found-framed profile bytes stop h.0 r next h.1 h.2
@@ -180,7 +178,7 @@ kept-handed profile date x p content behind k left framed = record {
   is = refl;
   owed = k.answer.owes_continue;
   unsent = λ owed. refl;
-  rest_is_last = λ rest. rest-last profile x.head.version x.head.headers.items (head_framing x.head) framed.framed rest;
+  rest_is_last = framed.framed;
   answer_context =
       let F : HTTPVersion → Option Coding → Bool → AnswerContext = λ v a b. record { version = v; asked_coding = a; no_body = b } in
       ap (λ v. F v x.open_request.answer_context.asked_coding x.open_request.answer_context.no_body) k.answer.version ∙ ap (λ a. F x.head.version a x.open_request.answer_context.no_body) k.answer.asked_coding ∙ ap (F x.head.version (coding_asked x.head.headers.items)) k.answer.no_body;
@@ -193,14 +191,9 @@ pub no-items : (profile : Profile) (stop : Stop) (items : List Item) → Pipelin
 no-items profile stop [] h = refl
 no-items profile stop (x ∷ xs) h = elim h [ ]
 
--- no head stands in front of no byte
-pub pipeline-empty : (profile : Profile) → Pipeline profile (Some []) End []
-pipeline-empty Lenient = feed-pipeline Lenient (whole_feed [])
-pipeline-empty Strict = feed-pipeline Strict (whole_feed [])
-
 pub handed-place : (profile : Profile) (last : Bool) (stop : Stop) (next : Place) (more : List Item) → Pipeline profile (place_after last next) stop more → PlaceAt profile last (Some (place_feed stop next)) more
 handed-place profile true stop next more items = no-items profile stop more items
-handed-place profile false stop None more items = let P : List Item → Type 0 = λ x. Pipeline profile (Some []) End x in subst P (sym (no-items profile stop more items)) (pipeline-empty profile)
+handed-place profile false stop None more items = let P : List Item → Type 0 = λ x. Pipeline profile (Some []) End x in subst P (sym (no-items profile stop more items)) (empty-pipeline profile)
 handed-place profile false stop (Some bytes) more items = items
 
 -- the input as it stands now

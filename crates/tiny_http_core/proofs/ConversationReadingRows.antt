@@ -15,7 +15,7 @@ use Rattle.tiny_http_wire.specs.Common.{reason_phrase}
 use Rattle.tiny_http_message.specs.declared.framing.Form.{Form}
 use Rattle.tiny_http_message.specs.declared.framing.Form.TheVariants.{Nothing, WithHead, Chunked}
 use Rattle.tiny_http_message.specs.declared.framing.Framing.{Framing}
-use Rattle.tiny_http_message.specs.declared.framing.Profile.TheVariants.{Lenient, Strict}
+use Rattle.tiny_http_message.specs.declared.framing.HeadRules.TheVariants.{Lenient, Strict}
 use Rattle.tiny_http_message.specs.FramingReading.{framing}
 use Rattle.tiny_http_sending.specs.ResponseValue.{ResponseValue, response_of}
 use Rattle.tiny_http_core.specs.Steps.{StepValue, Ask, Respond, Drop, ReplyValue, Handed, Ended, NotYet, Done}

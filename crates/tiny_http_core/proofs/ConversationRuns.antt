@@ -38,7 +38,8 @@ use Rattle.tiny_http_core.specs.Driving.{stated_step}
 use Rattle.tiny_http_sending.specs.Sending.{SinkFailsOnce, FailsOnceUnlessEnded, FailsAtMostOnce}
 use Rattle.tiny_http_device.proofs.DeviceLemmas.{grown-nil}
 use Rattle.tiny_http_stream.proofs.SourceGoesOn.{goes-on_same}
-use Rattle.tiny_http_core.proofs.ConnectionAsk.{pipeline-empty, stated-feed, last-of}
+use Rattle.tiny_http_core.proofs.ConnectionAsk.{stated-feed, last-of}
+use Rattle.tiny_http_message.proofs.PipelineLemmas.{empty-pipeline}
 
 pub run-more : (a mid new : State) (xs : List TimedValue) (rs : List ReplyValue) (d : TimedValue) (r : ReplyValue) → Run a xs rs mid → StepsTo mid d.0 d.1 r new → Run a (xs ++ d ∷ []) (rs ++ r ∷ []) new
 run-more a mid new [] [] d r run step = (new, (let P : State → Type 0 = λ s. StepsTo s d.0 d.1 r new in subst P run step), refl)
@@ -98,7 +99,7 @@ stands-begun profile client feed is_over sink items e fresh h =
 -- what the bytes still ask from a place on
 place-pipeline : (profile : Profile) (last : Bool) (stop : Stop) (next : Place) (rest : List Item) → PlaceAt profile last (Some (place_feed stop next)) rest → Pipeline profile (place_after last next) stop rest
 place-pipeline profile true stop next rest h = let P : List Item → Type 0 = λ x. Pipeline profile None stop x in subst P (sym h) tt
-place-pipeline profile false stop None rest h = let P : List Item → Type 0 = λ x. Pipeline profile None stop x in subst P (sym (pipeline-none profile [] End rest (pipeline-empty profile) h)) tt
+place-pipeline profile false stop None rest h = let P : List Item → Type 0 = λ x. Pipeline profile None stop x in subst P (sym (pipeline-none profile [] End rest (empty-pipeline profile) h)) tt
 place-pipeline profile false stop (Some bytes) rest h = h
 
 -- the input within the last body

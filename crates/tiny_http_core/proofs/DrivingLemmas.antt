@@ -46,8 +46,7 @@ use Rattle.tiny_http_message.specs.HeadReads.{ReadsHead, EndsAt, IsBeforeHead, H
 use Rattle.tiny_http_message.specs.declared.framing.Profile.{Profile}
 use Rattle.tiny_http_message.specs.Pipeline.{OneHead, Request, Item, Refuses, Place}
 use Rattle.tiny_http_core.specs.Driving.{IsRefusal, EndsRequestsAt, EndsThere, ArePassedOver, HasByteBehind, standing_behind}
-use Rattle.tiny_http_message.specs.PipelineReading.{items_of}
-use Rattle.tiny_http_message.proofs.PipelineLemmas.{feed-pipeline}
+use Rattle.tiny_http_message.proofs.PipelineLemmas.{has-pipeline}
 use Rattle.tiny_http_core.proofs.ConversationRuns.{run-more, stands-begun, split}
 use Rattle.tiny_http_message.proofs.BodyReads.{gives-up}
 use Rattle.tiny_http_sending.proofs.SendingLemmas.{once-none, once-append}
@@ -483,16 +482,17 @@ pub begins : {R W : Type 0} (client : Feed) (before : Sink) (writer : W) (c : Co
 begins {W = W} client before writer c m r o e feed stop outlet fresh =
     let K : List Mark → List (Option Unfinished) → Standing → Option EndOfRequests → Option Stop → OutletState W → Kept = λ m r o e s w.
     record { profile = c.profile; marks = m; requests = r; standing = o; asking_ended = is_some e; feed = c.source.feed; stop = s; is_over = c.source.is_over; sink = output_of w; output_ended = w.ended } in
-    let S : Kept → Type 0 = λ k. Stands client before k (start_state (items_of c.profile client)) in
+    let has = has-pipeline c.profile client in
+    let S : Kept → Type 0 = λ k. Stands client before k (start_state has.0) in
     let none : OutletState W = record { held = []; ended = false; writer = writer; sink = before } in
-    let st = stands-begun c.profile client c.source.feed c.source.is_over before (items_of c.profile client) feed fresh (feed-pipeline c.profile client) in
+    let st = stands-begun c.profile client c.source.feed c.source.is_over before has.0 feed fresh has.1 in
     let st1 = subst (λ w. S (K [] [] place.Head None None w)) (sym outlet) st in
     let st2 = subst (λ s. S (K [] [] place.Head None s c.outlet)) (sym stop) st1 in
     let st3 = subst (λ x. S (K [] [] place.Head x c.source.stop c.outlet)) (sym e) st2 in
     let st4 = subst (λ x. S (K [] [] x c.end c.source.stop c.outlet)) (sym o) st3 in
     let st5 = subst (λ x. S (K [] x c.source.standing c.end c.source.stop c.outlet)) (sym r) st4 in
     let st6 = subst (λ x. S (K x c.requests c.source.standing c.end c.source.stop c.outlet)) (sym m) st5 in
-    record { profile = refl; fresh = fresh; items = items_of c.profile client; pipeline = feed-pipeline c.profile client; at = start_state (items_of c.profile client); run = refl; stands = st6 }
+    record { profile = refl; fresh = fresh; items = has.0; pipeline = has.1; at = start_state has.0; run = refl; stands = st6 }
 
 pub honest-more : (mid ended : Bool) (a b c : Sink) (x : Answer) (feed : Option Feed) (p : Printing) (kind : ErrorKind) → mid ≡ true → FailsOnceUnlessEnded mid b c ended → IsHonest a b x feed p kind → IsHonest a c x feed p kind
 honest-more true ended a b c x feed p kind e k (inl h) = inl (k.0 ∙ h)

@@ -1,9 +1,9 @@
--- A run over a feed, computed for a writer that takes all: one plain reading, by which the definitions are tried out.
+-- A run over a feed by the rules of tiny_http, computed for a writer that takes all: one plain reading, by which the definitions are tried out.
 use Rattle.std.specs.Prelude.{ℕ, Bool, true, List, [], ◌∷◌, if◌then◌else◌}
 use Rattle.std.specs.Prelude.{false}
 use Rattle.tiny_http_wire.specs.Device.{Feed}
-use Rattle.tiny_http_message.specs.declared.framing.Profile.{Profile}
-use Rattle.tiny_http_message.specs.PipelineReading.{items_of}
+use Rattle.tiny_http_message.specs.declared.framing.HeadRules.{HeadRules}
+use Rattle.tiny_http_message.specs.PipelineReading.{heading_of, items_of}
 use Rattle.tiny_http_core.specs.Slots.{joined, is_output_broken}
 use Rattle.tiny_http_core.specs.Steps.{ReplyValue, WriterUse, Reached, outcome}
 use Rattle.tiny_http_core.specs.Conversation.{TimedValue, Well, reply_in, reached_by}
@@ -29,7 +29,7 @@ pub record Conversed : Type 0 where
   pub replies : List ReplyValue
   pub output : List ℕ
 
-abbrev pub conversed : Profile → Feed → List TimedValue → Conversed
+abbrev pub conversed : HeadRules → Feed → List TimedValue → Conversed
 conversed p feed steps =
-    let r = run_from (record { slots = []; rest = items_of p feed; asking_ended = false }) steps in
+    let r = run_from (record { slots = []; rest = items_of (heading_of p) feed; asking_ended = false }) steps in
     record { replies = r.replies; output = joined r.end.slots }

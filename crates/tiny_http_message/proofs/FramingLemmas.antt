@@ -8,8 +8,8 @@ use Rattle.tiny_http_wire.specs.Common.{same_name}
 use Rattle.tiny_http_wire.specs.Heads.{length_of}
 use Rattle.tiny_http_wire.specs.declared.common.Header.{Header}
 use Rattle.tiny_http_wire.specs.declared.common.HTTPVersion.{HTTPVersion}
-use Rattle.tiny_http_message.specs.declared.framing.Profile.{Profile}
-use Rattle.tiny_http_message.specs.declared.framing.Profile.TheVariants.{Lenient, Strict}
+use Rattle.tiny_http_message.specs.declared.framing.HeadRules.{HeadRules}
+use Rattle.tiny_http_message.specs.declared.framing.HeadRules.TheVariants.{Lenient, Strict}
 use Rattle.tiny_http_message.specs.declared.framing.FramingFault.{FramingFault}
 use Rattle.tiny_http_message.specs.declared.framing.FramingFault.TheVariants.{Invalid, Expectation}
 use Rattle.tiny_http_message.specs.declared.framing.Form.{Form}
@@ -80,11 +80,11 @@ once-one (text ∷ texts) [] n h = rw (h.2.0, each-one h.0 texts h.2.1) (ap Ok (
 once-one [] (coding ∷ codings) n h = rw (ends-one h.1.0 h.1.1 coding codings h.1.2 h.1.3) (ap Ok (sym h.0))
 once-one (text ∷ texts) (coding ∷ codings) n h = absurd h
 
-said-is : (p : Profile) (headers : List Header) (n : Option ℕ) → body_length p headers ≡ Ok n → IsBodyLength p headers n
+said-is : (p : HeadRules) (headers : List Header) (n : Option ℕ) → body_length p headers ≡ Ok n → IsBodyLength p headers n
 said-is Lenient headers n h = sym (same-length h)
 said-is Strict headers n h = once-is (elements_of (codes "Content-Length") headers) (elements_of (codes "Transfer-Encoding") headers) n h
 
-said-one : (p : Profile) (headers : List Header) (n : Option ℕ) → IsBodyLength p headers n → body_length p headers ≡ Ok n
+said-one : (p : HeadRules) (headers : List Header) (n : Option ℕ) → IsBodyLength p headers n → body_length p headers ≡ Ok n
 said-one Lenient headers n h = ap Ok (sym h)
 said-one Strict headers n h = once-one (elements_of (codes "Content-Length") headers) (elements_of (codes "Transfer-Encoding") headers) n h
 
@@ -143,15 +143,15 @@ form-one Counted upgrade coded owed n h = rw (h.0, h.1, h.3, zero-or-more h.2 h.
 
 -- the framing that is computed is one by the cases
 
-none-said : (p : Profile) (headers : List Header) (fault : FramingFault) → body_length p headers ≡ Err fault → (n : Option ℕ) → IsBodyLength p headers n → ⊥
+none-said : (p : HeadRules) (headers : List Header) (fault : FramingFault) → body_length p headers ≡ Err fault → (n : Option ℕ) → IsBodyLength p headers n → ⊥
 none-said p headers fault e n h = let no : ◌≡◌ {A = Result (Option ℕ) FramingFault} (Err fault) (Ok n) = sym e ∙ said-one p headers n h in cc
 
-framed-is : (p : Profile) (v : HTTPVersion) (headers : List Header) (n : Option ℕ) → IsBodyLength p headers n → (o : Option Bool) → expectation (value_of (codes "Expect") headers) ≡ o → Frames p v headers (framed_by v headers n o)
+framed-is : (p : HeadRules) (v : HTTPVersion) (headers : List Header) (n : Option ℕ) → IsBodyLength p headers n → (o : Option Bool) → expectation (value_of (codes "Expect") headers) ≡ o → Frames p v headers (framed_by v headers n o)
 framed-is p v headers n h None e = (n, h, e)
 framed-is p v headers n h (Some owed) e = (h, e, form-is (names_upgrade headers) (names_coding headers) owed n, refl)
 
 -- only an invalid length is an error of its own
-only-invalid : (p : Profile) (headers : List Header) (fault : FramingFault) → body_length p headers ≡ Err fault → fault ≡ Invalid
+only-invalid : (p : HeadRules) (headers : List Header) (fault : FramingFault) → body_length p headers ≡ Err fault → fault ≡ Invalid
 only-invalid Lenient headers fault e = let no : ◌≡◌ {A = Result (Option ℕ) FramingFault} (Ok _) (Err fault) = e in cc
 only-invalid Strict headers fault e = by (elements_of (codes "Content-Length") headers) (elements_of (codes "Transfer-Encoding") headers) e
   where
@@ -172,13 +172,13 @@ only-invalid Strict headers fault e = by (elements_of (codes "Content-Length") h
     by [] (coding ∷ codings) e = chosen (ends_with_chunked coding codings) None e
     by (length ∷ lengths) (coding ∷ codings) e = same-fault e
 
-framed-if-is : (p : Profile) (v : HTTPVersion) (headers : List Header) (r : Result (Option ℕ) FramingFault) → body_length p headers ≡ r → Frames p v headers (framed_if v headers r)
+framed-if-is : (p : HeadRules) (v : HTTPVersion) (headers : List Header) (r : Result (Option ℕ) FramingFault) → body_length p headers ≡ r → Frames p v headers (framed_if v headers r)
 framed-if-is p v headers (Err fault) e =
     let F : FramingFault → Type 0 = λ x. Frames p v headers (Err x) in
     subst F (sym (only-invalid p headers fault e)) (none-said p headers fault e)
 framed-if-is p v headers (Ok n) e = framed-is p v headers n (said-is p headers n e) (expectation (value_of (codes "Expect") headers)) refl
 
-pub framing-is : (p : Profile) (v : HTTPVersion) (headers : List Header) → Frames p v headers (framing p v headers)
+pub framing-is : (p : HeadRules) (v : HTTPVersion) (headers : List Header) → Frames p v headers (framing p v headers)
 unfolding framing
 framing-is p v headers = framed-if-is p v headers (body_length p headers) refl
 
@@ -190,7 +190,7 @@ framing-eq f form owed n last a b c d =
     let g : Form → Bool → Option ℕ → Bool → Framing = λ w x y z. record { form = w; owes_continue = x; body_length = y; is_last = z } in
     ap (λ w. g w f.owes_continue f.body_length f.is_last) a ∙ ap (λ x. g form x f.body_length f.is_last) b ∙ ap (λ y. g form owed y f.is_last) c ∙ ap (g form owed n) d
 
-pub framing-one : (p : Profile) (v : HTTPVersion) (headers : List Header) (r : Result Framing FramingFault) → Frames p v headers r → r ≡ framing p v headers
+pub framing-one : (p : HeadRules) (v : HTTPVersion) (headers : List Header) (r : Result Framing FramingFault) → Frames p v headers r → r ≡ framing p v headers
 unfolding framing
 framing-one p v headers (Err Invalid) h = by (body_length p headers) refl
   where
@@ -210,7 +210,7 @@ last-named false true old e = refl
 last-named false false old e = cc
 
 -- the body is the rest of the stream only where an upgrade is named
-pub rest-last : (p : Profile) (v : HTTPVersion) (headers : List Header) (f : Framing) → Frames p v headers (Ok f) → f.form ≡ Rest → f.is_last ≡ true
+pub rest-last : (p : HeadRules) (v : HTTPVersion) (headers : List Header) (f : Framing) → Frames p v headers (Ok f) → f.form ≡ Rest → f.is_last ≡ true
 rest-last p v headers f h rest =
     let F : Form → Type 0 = λ x. IsForm x (names_upgrade headers) (names_coding headers) f.owes_continue f.body_length in
     h.3 ∙ last-named (mentions (codes "close") (value_of (codes "Connection") headers)) (names_upgrade headers) _ (subst F rest h.2)

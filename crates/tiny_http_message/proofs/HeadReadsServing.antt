@@ -1,6 +1,6 @@
 -- From a head read to the item that stands there.
 use Rattle.std.proofs.Common.{◌≡◌, refl, sym, ap, ◌∙◌, subst, ℕ, ◌-◌, ◌<◌, ◌≤◌, Bool, true, false, List, [], ◌∷◌, ◌++◌, ◌+◌, length, take, drop, length-append, Option, Some, None, Result, Ok, Err, inl, inr, arith}
-use Rattle.std.specs.Prelude.{nat_lt, unwrap_or, MatchResult, MatchBool, ◌==◌}
+use Rattle.std.specs.Prelude.{nat_lt, unwrap_or, MatchResult, MatchBool, ◌==◌, ⊤}
 use Rattle.std.specs.Option.{option_map}
 use Rattle.std.specs.Global.{Vec}
 use Rattle.std.specs.declared.alloc.AllocError.{AllocError}
@@ -22,7 +22,8 @@ use Rattle.tiny_http_wire.proofs.ChunksLemmas.{decoded-is}
 use Rattle.tiny_http_wire.specs.Heads.{Message as Texted, BeginsWithRequestHead, FaultyHead, Cut, version, is_too_new}
 use Rattle.tiny_http_message.specs.declared.heads.Message.{Message}
 use Rattle.tiny_http_message.specs.declared.framing.Profile.{Profile}
-use Rattle.tiny_http_message.specs.declared.framing.Profile.TheVariants.{Lenient, Strict}
+use Rattle.tiny_http_message.specs.declared.framing.HeadRules.{HeadRules}
+use Rattle.tiny_http_message.specs.declared.framing.HeadRules.TheVariants as rule
 use Rattle.tiny_http_message.specs.declared.framing.FramingFault.{FramingFault}
 use Rattle.tiny_http_message.specs.declared.framing.FramingFault.TheVariants.{Invalid, Expectation}
 use Rattle.tiny_http_message.specs.declared.framing.Form.{Form}
@@ -44,10 +45,11 @@ use Rattle.tiny_http_stream.specs.FeedParts.{feed_front}
 use Rattle.tiny_http_stream.specs.ToCome.{skipped, stopped}
 use Rattle.tiny_http_message.specs.Body.{Remaining, remaining, taken_remaining, counted_remaining, coming_remaining, PassesOver, Fits, IsBodyOver, ReadsOn}
 use Rattle.tiny_http_message.specs.OpenRequest.{KeepsHead}
-use Rattle.tiny_http_stream.specs.Source.{TakesExactly, feed_from}
-use Rattle.tiny_http_message.specs.Pipeline.{Asks, Refusal, BadRequest, RequestTimeout, ExpectationFailed, HeaderFieldsTooLarge, VersionNotSupported, refusal_status, framing_refusal, is_head_method, ends_too_new, Place, head_limit, BeginsWithin, IsUnfinishedHead, IsWholeHead, IsCutHead, IsRefused, IsRequestHead, Silence, Refused, Heads, IsCutWithHead, is_timed_out, body_length_or_0, BodyAt, OneHead, item_of, next_place, place_after}
-use Rattle.tiny_http_message.specs.HeadReads.{ReadsMessage, ReadsHead, RefusesWith, AnswersCut, AnswersFault, RefusesTooNew, IsBadLine, IsRefusedUncut, IsOkEnd, HasByteOrTimedOut, Begins, ComesWith, IsCutOff, IsBeforeHead, cut_end, end_at, place_feed, message_of, head_message, head_framing}
+use Rattle.tiny_http_stream.specs.Source.{TakesExactly, feed_from, IsCutOff}
+use Rattle.tiny_http_message.specs.Pipeline.{Asks, Refusal, BadRequest, RequestTimeout, ExpectationFailed, HeaderFieldsTooLarge, VersionNotSupported, refusal_status, framing_refusal, is_head_method, ends_too_new, Place, head_limit, BeginsWithin, IsUnfinishedHead, IsCutHead, IsRequestHead, Heading, RulesHeadAt, HeadAt, profile_of, Silence, Refused, Heads, IsCutWithHead, is_timed_out, body_length_or_0, BodyAt, OneHead, item_of, next_place, place_after}
+use Rattle.tiny_http_message.specs.HeadReads.{ReadsMessage, ReadsHead, RefusesWith, AnswersCut, AnswersFault, RefusesTooNew, IsBadLine, IsRefusedUncut, IsOkEnd, HasByteOrTimedOut, Begins, ComesWith, IsBeforeHead, RulesEndBy, EndsBy, cut_end, end_at, place_feed, message_of, head_message, head_framing}
 use Rattle.tiny_http_message.specs.declared.exchange.EndOfRequests.{EndOfRequests}
+use Rattle.tiny_http_message.specs.declared.exchange.EndOfRequests.TheVariants as because
 use Rattle.tiny_http_stream.specs.declared.source.Standing.{Standing}
 use Rattle.tiny_http_stream.specs.declared.source.Standing.TheVariants as at
 use Rattle.tiny_http_stream.specs.Source.{SourceState}
@@ -60,9 +62,18 @@ use Rattle.tiny_http_sending.specs.ResponseValue.{response_of}
 use Rattle.tiny_http_message.specs.OwnAnswer.{refusal_response, refused_text}
 use Rattle.tiny_http_message.proofs.PipelineLemmas.{pipeline-sized-is}
 
+-- what stands there by the rules of tiny_http
+pub head-by : (rules : HeadRules) (bytes : List ℕ) (stop : Stop) (heading : Heading) → RulesHeadAt rules bytes stop heading → HeadAt (profile_of rules) bytes stop heading
+head-by rule.Lenient bytes stop heading h = h
+head-by rule.Strict bytes stop heading h = h
+
+end-by : (rules : HeadRules) (bytes : List ℕ) (stop : Stop) (why : EndOfRequests) → RulesEndBy rules bytes stop why → EndsBy (profile_of rules) bytes stop why
+end-by rule.Lenient bytes stop why h = h
+end-by rule.Strict bytes stop why h = h
+
 -- a head that is refused with an empty answer
-refused-at : (profile : Profile) (date : HttpDate) (f : Feed) (p : Option Feed) (refusal : Refusal) (v : HTTPVersion) (r : Result HeadRead AllocError) → refusal_response refusal ≡ response_of (refusal_status refusal) [] []
-    → IsRefused profile f.bytes f.stop refusal v → RefusesWith (refusal_status refusal) v date r → ReadsHead profile at.Head date (Some f) p r
+pub refused-at : (profile : Profile) (date : HttpDate) (f : Feed) (p : Option Feed) (refusal : Refusal) (v : HTTPVersion) (r : Result HeadRead AllocError) → refusal_response refusal ≡ response_of (refusal_status refusal) [] []
+    → HeadAt profile f.bytes f.stop (Refused refusal v) → RefusesWith (refusal_status refusal) v date r → ReadsHead profile at.Head date (Some f) p r
 refused-at profile date f p refusal v (Err x) s h k = tt
 refused-at profile date f p refusal v (Ok (read.Refused status text true)) s h k =
     (refusal, v, false, None, (Refused refusal v, h, (refl, refl)), k.1 ∙ sym (ap (λ x. refused_text x v false date) s), k.0, refl)
@@ -71,15 +82,15 @@ refused-at profile date f p refusal v (Ok (read.Ended why)) s h k = absurd k
 refused-at profile date f p refusal v (Ok (read.Request x)) s h k = absurd k
 
 -- a head that is cut: a 408 where the reader timed out
-cut-head : (profile : Profile) (date : HttpDate) (f : Feed) (p : Option Feed) (begun : Bool) (r : Result HeadRead AllocError) → IsCutHead profile f.bytes → begun ≡ nat_lt 0 (length f.bytes)
-    → AnswersCut f.stop begun date r → ReadsHead profile at.Head date (Some f) p r
-cut-head profile date f p begun r c b k = by (is_timed_out f.stop) refl k
+cut-head : (rules : HeadRules) (date : HttpDate) (f : Feed) (p : Option Feed) (begun : Bool) (r : Result HeadRead AllocError) → IsCutHead rules f.bytes → begun ≡ nat_lt 0 (length f.bytes)
+    → AnswersCut f.stop begun date r → ReadsHead (profile_of rules) at.Head date (Some f) p r
+cut-head rules date f p begun r c b k = by (is_timed_out f.stop) refl k
   where
-    by : (t : Bool) → is_timed_out f.stop ≡ t → MatchBool t (RefusesWith 408 (version 1 1) date r) (r ≡ Ok (read.Ended (cut_end f.stop begun))) → ReadsHead profile at.Head date (Some f) p r
-    by true e k = refused-at profile date f p RequestTimeout (version 1 1) r refl (c, e, refl) k
+    by : (t : Bool) → is_timed_out f.stop ≡ t → MatchBool t (RefusesWith 408 (version 1 1) date r) (r ≡ Ok (read.Ended (cut_end f.stop begun))) → ReadsHead (profile_of rules) at.Head date (Some f) p r
+    by true e k = refused-at (profile_of rules) date f p RequestTimeout (version 1 1) r refl (head-by rules f.bytes f.stop (Refused RequestTimeout (version 1 1)) (c, e, refl)) k
     by false e k =
-        let P : Result HeadRead AllocError → Type 0 = λ x. ReadsHead profile at.Head date (Some f) p x in
-        subst P (sym k) ((Silence, inl (c, e), (refl, refl)), inl (c, e, ap (cut_end f.stop) b))
+        let P : Result HeadRead AllocError → Type 0 = λ x. ReadsHead (profile_of rules) at.Head date (Some f) p x in
+        subst P (sym k) ((Silence, head-by rules f.bytes f.stop Silence (inl (c, e)), (refl, refl)), end-by rules f.bytes f.stop (cut_end f.stop begun) (inl (c, e, ap (cut_end f.stop) b)))
 
 -- memory for a line was refused
 without-memory : (profile : Profile) (date : HttpDate) (f : Feed) (p : Option Feed) (r : Result HeadRead AllocError) → IsErr r → ReadsHead profile at.Head date (Some f) p r
@@ -87,30 +98,30 @@ without-memory profile date f p (Ok x) k = let no : false ≡ true = k in cc
 without-memory profile date f p (Err x) k = tt
 
 -- a faulty head; where it is cut, the input stopped so
-pub head-refused : (profile : Profile) (date : HttpDate) (o p : Option Feed) (v : Option HTTPVersion) (e : HeadFault) (stop : Option Stop) (r : Result HeadRead AllocError) → ReadsMessage (head_limit profile) o p (Err (v, e)) → AnswersFault v e stop date r
-    → ((f : Feed) → o ≡ Some f → e ≡ fault.Cut → (stop ≡ Some f.stop) × (true ≡ nat_lt 0 (length f.bytes))) → ReadsHead profile at.Head date o p r
-head-refused profile date None p v e stop r h k why = tt
-head-refused profile date (Some f) p v fault.Cut stop r h k why =
+pub head-refused : (rules : HeadRules) (date : HttpDate) (o p : Option Feed) (v : Option HTTPVersion) (e : HeadFault) (stop : Option Stop) (r : Result HeadRead AllocError) → ReadsMessage (head_limit rules) o p (Err (v, e)) → AnswersFault v e stop date r
+    → ((f : Feed) → o ≡ Some f → e ≡ fault.Cut → (stop ≡ Some f.stop) × (true ≡ nat_lt 0 (length f.bytes))) → ReadsHead (profile_of rules) at.Head date o p r
+head-refused rules date None p v e stop r h k why = tt
+head-refused rules date (Some f) p v fault.Cut stop r h k why =
     let w = why f refl refl in
     let P : Option Stop → Type 0 = λ o. IfSome o (λ s. AnswersCut s true date r) in
-    cut-head profile date f p true r (inl (v, h)) w.1 (subst P w.0 k)
-head-refused profile date (Some f) p v fault.TooLarge stop r h k why = refused-at profile date f p HeaderFieldsTooLarge (unwrap_or v (version 1 1)) r refl (v, h, refl) k
-head-refused profile date (Some f) p v fault.NotAscii stop r h k why =
-    let P : Result HeadRead AllocError → Type 0 = λ x. ReadsHead profile at.Head date (Some f) p x in
-    subst P (sym k) ((Silence, inr (v, h), (refl, refl)), inr ((v, h), refl))
-head-refused profile date (Some f) p v fault.Malformed stop r h k why = refused-at profile date f p BadRequest (unwrap_or v (version 1 1)) r refl (inl (v, h, refl)) k
-head-refused profile date (Some f) p v fault.Memory stop r h k why = without-memory profile date f p r k
+    cut-head rules date f p true r (inl (v, h)) w.1 (subst P w.0 k)
+head-refused rules date (Some f) p v fault.TooLarge stop r h k why = refused-at (profile_of rules) date f p HeaderFieldsTooLarge (unwrap_or v (version 1 1)) r refl (head-by rules f.bytes f.stop (Refused HeaderFieldsTooLarge (unwrap_or v (version 1 1))) (v, h, refl)) k
+head-refused rules date (Some f) p v fault.NotAscii stop r h k why =
+    let P : Result HeadRead AllocError → Type 0 = λ x. ReadsHead (profile_of rules) at.Head date (Some f) p x in
+    subst P (sym k) ((Silence, head-by rules f.bytes f.stop Silence (inr (v, h)), (refl, refl)), end-by rules f.bytes f.stop because.NotAscii (inr ((v, h), refl)))
+head-refused rules date (Some f) p v fault.Malformed stop r h k why = refused-at (profile_of rules) date f p BadRequest (unwrap_or v (version 1 1)) r refl (head-by rules f.bytes f.stop (Refused BadRequest (unwrap_or v (version 1 1))) (inl (v, h, refl))) k
+head-refused rules date (Some f) p v fault.Memory stop r h k why = without-memory (profile_of rules) date f p r k
 
 -- the framing that is computed is the one by the cases
-framed-as : (profile : Profile) (v : HTTPVersion) (headers : List Header) (r : Result Framing FramingFault) → framing profile v headers ≡ r → Frames profile v headers r
-framed-as profile v headers r e = let F : Result Framing FramingFault → Type 0 = λ x. Frames profile v headers x in subst F e (framing-is profile v headers)
+framed-as : (rules : HeadRules) (v : HTTPVersion) (headers : List Header) (r : Result Framing FramingFault) → framing rules v headers ≡ r → Frames rules v headers r
+framed-as rules v headers r e = let F : Result Framing FramingFault → Type 0 = λ x. Frames rules v headers x in subst F e (framing-is rules v headers)
 
 -- an invalid framing, or an expectation that can't be met
-pub head-unframed : (profile : Profile) (date : HttpDate) (o p : Option Feed) (m : Message) (e : FramingFault) (r : Result HeadRead AllocError) → ReadsMessage (head_limit profile) o p (Ok m) → framing profile m.version m.headers.items ≡ Err e
-    → RefusesWith (refusal_status (framing_refusal e)) m.version date r → ReadsHead profile at.Head date o p r
-head-unframed profile date None p m e r h is k = tt
-head-unframed profile date (Some f) p m Invalid r h is k = refused-at profile date f p BadRequest m.version r refl (inr (message_of m, h.0, record { begins = h.1; frames = framed-as profile m.version m.headers.items (Err _) is }, refl)) k
-head-unframed profile date (Some f) p m Expectation r h is k = refused-at profile date f p ExpectationFailed m.version r refl (message_of m, h.0, record { begins = h.1; frames = framed-as profile m.version m.headers.items (Err _) is }, refl) k
+pub head-unframed : (rules : HeadRules) (date : HttpDate) (o p : Option Feed) (m : Message) (e : FramingFault) (r : Result HeadRead AllocError) → ReadsMessage (head_limit rules) o p (Ok m) → framing rules m.version m.headers.items ≡ Err e
+    → RefusesWith (refusal_status (framing_refusal e)) m.version date r → ReadsHead (profile_of rules) at.Head date o p r
+head-unframed rules date None p m e r h is k = tt
+head-unframed rules date (Some f) p m Invalid r h is k = refused-at (profile_of rules) date f p BadRequest m.version r refl (head-by rules f.bytes f.stop (Refused BadRequest m.version) (inr (message_of m, h.0, record { begins = h.1; frames = framed-as rules m.version m.headers.items (Err _) is }, refl))) k
+head-unframed rules date (Some f) p m Expectation r h is k = refused-at (profile_of rules) date f p ExpectationFailed m.version r refl (head-by rules f.bytes f.stop (Refused ExpectationFailed m.version) (message_of m, h.0, record { begins = h.1; frames = framed-as rules m.version m.headers.items (Err _) is }, refl)) k
 
 -- a body that is passed over: the next head stands behind it
 same-remaining : (x y : Remaining) → Some x ≡ Some y → x ≡ y
@@ -136,28 +147,28 @@ ok-map (Ok x) P Q f h = f h
 ok-map (Err e) P Q f h = tt
 
 -- a version that is too new
-abbrev TooNewAt : Profile → HttpDate → Feed → Option Feed → Texted → Framing → List ℕ → Feed → Place → Result HeadRead AllocError → Type 0
-TooNewAt profile date x q m f after content next r =
-    IsRequestHead profile x.bytes m f after → BodyAt f.form (body_length_or_0 f) after x.stop content next → is_too_new m.version ≡ true → RefusesTooNew (ends_too_new f.form) (is_head_method m.method) date r
-    → OnOk r (ends_too_new f.form ≡ false → q ≡ Some (place_feed x.stop next)) → ReadsHead profile at.Head date (Some x) q r
+abbrev TooNewAt : HeadRules → HttpDate → Feed → Option Feed → Texted → Framing → List ℕ → Feed → Place → Result HeadRead AllocError → Type 0
+TooNewAt rules date x q m f after content next r =
+    IsRequestHead rules x.bytes m f after → BodyAt f.form (body_length_or_0 f) after x.stop content next → is_too_new m.version ≡ true → RefusesTooNew (ends_too_new f.form) (is_head_method m.method) date r
+    → OnOk r (ends_too_new f.form ≡ false → q ≡ Some (place_feed x.stop next)) → ReadsHead (profile_of rules) at.Head date (Some x) q r
 
-too-new-at : (profile : Profile) (date : HttpDate) (x : Feed) (q : Option Feed) (m : Texted) (f : Framing) (after : List ℕ) (content : Feed) (next : Place) (r : Result HeadRead AllocError) → TooNewAt profile date x q m f after content next r
-too-new-at profile date x q m f after content next (Err e) h body new k goes = tt
-too-new-at profile date x q m f after content next (Ok (read.Ended why)) h body new k goes = absurd k
-too-new-at profile date x q m f after content next (Ok (read.Request y)) h body new k goes = absurd k
-too-new-at profile date x q m f after content next (Ok (read.Refused status text true)) h body new k goes =
-    (VersionNotSupported, version 1 1, is_head_method m.method, None, (Heads m f after, h, (content, next, body, rw (new, ← k.2) refl, rw (new, ← k.2) refl)), k.1, k.0, refl)
-too-new-at profile date x q m f after content next (Ok (read.Refused status text false)) h body new k goes =
-    (VersionNotSupported, version 1 1, is_head_method m.method, next, (Heads m f after, h, (content, next, body, rw (new, ← k.2) refl, rw (new, ← k.2) refl)), k.1, k.0, goes (sym k.2))
+too-new-at : (rules : HeadRules) (date : HttpDate) (x : Feed) (q : Option Feed) (m : Texted) (f : Framing) (after : List ℕ) (content : Feed) (next : Place) (r : Result HeadRead AllocError) → TooNewAt rules date x q m f after content next r
+too-new-at rules date x q m f after content next (Err e) h body new k goes = tt
+too-new-at rules date x q m f after content next (Ok (read.Ended why)) h body new k goes = absurd k
+too-new-at rules date x q m f after content next (Ok (read.Request y)) h body new k goes = absurd k
+too-new-at rules date x q m f after content next (Ok (read.Refused status text true)) h body new k goes =
+    (VersionNotSupported, version 1 1, is_head_method m.method, None, (Heads m f after, head-by rules x.bytes x.stop (Heads m f after) h, (content, next, body, rw (new, ← k.2) refl, rw (new, ← k.2) refl)), k.1, k.0, refl)
+too-new-at rules date x q m f after content next (Ok (read.Refused status text false)) h body new k goes =
+    (VersionNotSupported, version 1 1, is_head_method m.method, next, (Heads m f after, head-by rules x.bytes x.stop (Heads m f after) h, (content, next, body, rw (new, ← k.2) refl, rw (new, ← k.2) refl)), k.1, k.0, goes (sym k.2))
 
-pub head-too_new : {R : Type 0} (profile : Profile) (date : HttpDate) (o p : Option Feed) (old new : SourceState R) (m : Message) (f : Framing) (b : Body) (r : Result HeadRead AllocError) → ReadsMessage (head_limit profile) o p (Ok m) → framing profile m.version m.headers.items ≡ Ok f
-    → Begins f p old.feed (Some b) → is_too_new m.version ≡ true → RefusesTooNew (ends_too_new f.form) (is_head_method m.method) date r → OnOk r (ends_too_new f.form ≡ false → PassesOver b old new) → ReadsHead profile at.Head date o new.feed r
-head-too_new profile date None p old new m f y r h e begins is k goes = tt
-head-too_new profile date (Some x) p old new m f y r h e begins is k goes =
+pub head-too_new : {R : Type 0} (rules : HeadRules) (date : HttpDate) (o p : Option Feed) (old new : SourceState R) (m : Message) (f : Framing) (b : Body) (r : Result HeadRead AllocError) → ReadsMessage (head_limit rules) o p (Ok m) → framing rules m.version m.headers.items ≡ Ok f
+    → Begins f p old.feed (Some b) → is_too_new m.version ≡ true → RefusesTooNew (ends_too_new f.form) (is_head_method m.method) date r → OnOk r (ends_too_new f.form ≡ false → PassesOver b old new) → ReadsHead (profile_of rules) at.Head date o new.feed r
+head-too_new rules date None p old new m f y r h e begins is k goes = tt
+head-too_new rules date (Some x) p old new m f y r h e begins is k goes =
     let B : Option Feed → Type 0 = λ z. Begins f z old.feed (Some y) in
     let started = subst B h.2 begins in
     let left : Remaining = record { body = started.1; behind = place_feed x.stop started.2 } in
-    too-new-at profile date x new.feed (message_of m) f h.0 started.1 started.2 r (record { whole = record { begins = h.1; frames = framed-as profile m.version m.headers.items (Ok f) e }; uncut = started.0 }) started.3 is k
+    too-new-at rules date x new.feed (message_of m) f h.0 started.1 started.2 r (record { whole = record { begins = h.1; frames = framed-as rules m.version m.headers.items (Ok f) e }; uncut = started.0 }) started.3 is k
     (ok-map r (ends_too_new f.form ≡ false → PassesOver y old new) (ends_too_new f.form ≡ false → new.feed ≡ Some (place_feed x.stop started.2)) (λ g ends. passed-over old new y f.form (body_length_or_0 f) left started.5 ends started.4 (g ends)) goes)
 
 -- the body that begins in front of some bytes
@@ -269,28 +280,34 @@ begins-cut f (Some x) new n e is h =
     let P : Form → Type 0 = λ y. IsCutWithHead y (body_length_or_0 f) x.bytes in
     subst P (sym e) (omega (arith, h.0, is))
 
--- a head with its body
-head-whole : (profile : Profile) (x : Feed) (q : Option Feed) (m : Texted) (f : Framing) (after : List ℕ) (b : Body) → IsWholeHead profile x.bytes m after (Ok f) → is_too_new m.version ≡ false → Begins f (feed_from x after) q (Some b)
-    → (content : Feed) × (next : Place) × OneHead profile x.bytes x.stop (Some (Asks (record { message = m; framing = f; body = content }))) (place_after f.is_last next) × ComesWith (remaining b q) x.stop content next × Fits b f.form (body_length_or_0 f) 0 false
-head-whole profile x q m f after b h version_is begins =
-    let k = begins in
-    let content = k.1 in
-    let next = k.2 in
-    let item : Some (Asks (record { message = m; framing = f; body = content })) ≡ Some (item_of m f content) = rw version_is refl in
-    let place : place_after f.is_last next ≡ next_place m f next = rw version_is refl in
-    (content, next, (Heads m f after, record { whole = h; uncut = k.0 }, (content, next, k.3, item, place)), k.4, k.5)
-
 -- the request under a message and a framing that are those of a head
 abbrev IsHanded : Profile → Feed → Option Feed → Body → Texted → Framing → Type 0
 IsHanded profile x q b m f =
     (content : Feed) × (next : Place) × OneHead profile x.bytes x.stop (Some (Asks (record { message = m; framing = f; body = content }))) (place_after f.is_last next) × ComesWith (remaining b q) x.stop content next × Fits b f.form (body_length_or_0 f) 0 false
 
-pub head-handed : (profile : Profile) (date : HttpDate) (o p q : Option Feed) (m : Message) (f : Framing) (h : Head) (b : Body) (y : Exchange) → head_message h ≡ message_of m → head_framing h ≡ f → ReadsMessage (head_limit profile) o p (Ok m) → framing profile m.version m.headers.items ≡ Ok f → is_too_new m.version ≡ false
+-- a head with its body
+head-whole : (profile : Profile) (x : Feed) (q : Option Feed) (m : Texted) (f : Framing) (after : List ℕ) (b : Body) → ((IsCutWithHead f.form (body_length_or_0 f) after → ⊥) → HeadAt profile x.bytes x.stop (Heads m f after)) → is_too_new m.version ≡ false
+    → Begins f (feed_from x after) q (Some b) → IsHanded profile x q b m f
+head-whole profile x q m f after b at version_is begins =
+    let k = begins in
+    let content = k.1 in
+    let next = k.2 in
+    let item : Some (Asks (record { message = m; framing = f; body = content })) ≡ Some (item_of m f content) = rw version_is refl in
+    let place : place_after f.is_last next ≡ next_place m f next = rw version_is refl in
+    (content, next, (Heads m f after, at k.0, (content, next, k.3, item, place)), k.4, k.5)
+
+-- a head at a place, if what is to come is stated, and what follows it
+abbrev pub HeadsAt : Profile → Option Feed → Option Feed → Texted → Framing → Type 0
+HeadsAt profile None p m f = ⊤
+HeadsAt profile (Some x) p m f = (after : List ℕ) × (p ≡ feed_from x after) × ((IsCutWithHead f.form (body_length_or_0 f) after → ⊥) → HeadAt profile x.bytes x.stop (Heads m f after))
+
+-- it is handed out with its body
+pub handed-out : (profile : Profile) (date : HttpDate) (o p q : Option Feed) (m : Texted) (f : Framing) (h : Head) (b : Body) (y : Exchange) → head_message h ≡ m → head_framing h ≡ f → HeadsAt profile o p m f → is_too_new m.version ≡ false
     → Begins f p q (Some b) → y.head ≡ h → y.open_request.body ≡ b → KeepsHead y.open_request h date → ReadsHead profile at.Head date o q (Ok (read.Request y))
-head-handed profile date None p q m f h b y u v r e t begins heads bodies keeps = tt
-head-handed profile date (Some x) p q m f h b y u v r e t begins heads bodies keeps =
+handed-out profile date None p q m f h b y u v r t begins heads bodies keeps = tt
+handed-out profile date (Some x) p q m f h b y u v r t begins heads bodies keeps =
     let P : Option Feed → Type 0 = λ z. Begins f z q (Some b) in
-    let found = head-whole profile x q (message_of m) f r.0 b (record { begins = r.1; frames = framed-as profile m.version m.headers.items (Ok f) e }) t (subst P r.2 begins) in
+    let found = head-whole profile x q m f r.0 b r.2 t (subst P r.1 begins) in
     let Q : Texted → Type 0 = λ z. IsHanded profile x q b z f in
     let R : Framing → Type 0 = λ z. IsHanded profile x q b (head_message h) z in
     let S : Body → Type 0 = λ z. IsHanded profile x q z (head_message h) (head_framing h) in
@@ -299,20 +316,29 @@ head-handed profile date (Some x) p q m f h b y u v r e t begins heads bodies ke
     let all = subst T (sym heads) (subst S (sym bodies) (subst R (sym v) (subst Q (sym u) found))) in
     (all.0, all.1, all.2, all.3, record { answer = subst K (sym heads) keeps; body = all.4 })
 
+rules-head : (rules : HeadRules) (o p : Option Feed) (m : Message) (f : Framing) → ReadsMessage (head_limit rules) o p (Ok m) → framing rules m.version m.headers.items ≡ Ok f → HeadsAt (profile_of rules) o p (message_of m) f
+rules-head rules None p m f r e = tt
+rules-head rules (Some x) p m f r e =
+    (r.0, r.2, λ uncut. head-by rules x.bytes x.stop (Heads (message_of m) f r.0) (record { whole = record { begins = r.1; frames = framed-as rules m.version m.headers.items (Ok f) e }; uncut = uncut }))
+
+pub head-handed : (rules : HeadRules) (date : HttpDate) (o p q : Option Feed) (m : Message) (f : Framing) (h : Head) (b : Body) (y : Exchange) → head_message h ≡ message_of m → head_framing h ≡ f → ReadsMessage (head_limit rules) o p (Ok m) → framing rules m.version m.headers.items ≡ Ok f
+    → is_too_new m.version ≡ false → Begins f p q (Some b) → y.head ≡ h → y.open_request.body ≡ b → KeepsHead y.open_request h date → ReadsHead (profile_of rules) at.Head date o q (Ok (read.Request y))
+head-handed rules date o p q m f h b y u v r e t begins heads bodies keeps = handed-out (profile_of rules) date o p q (message_of m) f h b y u v (rules-head rules o p m f r e) t begins heads bodies keeps
+
 line-some : (text rest : List ℕ) → 0 < length (text ++ crlf ++ rest)
 line-some [] rest = omega arith
 line-some (b ∷ bs) rest = omega arith
 
 -- a body that is read with its head, and cut, where the input stopped so
-pub head-cut : (profile : Profile) (date : HttpDate) (o p q : Option Feed) (m : Message) (f : Framing) (stop : Option Stop) (r : Result HeadRead AllocError) → ReadsMessage (head_limit profile) o p (Ok m) → framing profile m.version m.headers.items ≡ Ok f → Begins f p q None
-    → ((x : Feed) → p ≡ Some x → stop ≡ Some x.stop) → IfSome stop (λ s. AnswersCut s true date r) → ReadsHead profile at.Head date o q r
-head-cut profile date None p q m f stop r h e t ends k = tt
-head-cut profile date (Some x) p q m f stop r h e t ends k =
+pub head-cut : (rules : HeadRules) (date : HttpDate) (o p q : Option Feed) (m : Message) (f : Framing) (stop : Option Stop) (r : Result HeadRead AllocError) → ReadsMessage (head_limit rules) o p (Ok m) → framing rules m.version m.headers.items ≡ Ok f → Begins f p q None
+    → ((x : Feed) → p ≡ Some x → stop ≡ Some x.stop) → IfSome stop (λ s. AnswersCut s true date r) → ReadsHead (profile_of rules) at.Head date o q r
+head-cut rules date None p q m f stop r h e t ends k = tt
+head-cut rules date (Some x) p q m f stop r h e t ends k =
     let P : Option Feed → Type 0 = λ y. Begins f y q None in
     let S : Option Stop → Type 0 = λ y. IfSome y (λ s. AnswersCut s true date r) in
     let cut = subst P h.2 t in
-    let begun : true ≡ nat_lt 0 (length x.bytes) = sym (lt-ltb 0 (length x.bytes) (within-some (head_limit profile) x.bytes (message_of m) h.0 h.1)) in
-    cut-head profile date x q true r (inr (message_of m, h.0, f, record { begins = h.1; frames = framed-as profile m.version m.headers.items (Ok f) e }, cut)) begun (subst S (ends (record { bytes = h.0; stop = x.stop }) h.2) k)
+    let begun : true ≡ nat_lt 0 (length x.bytes) = sym (lt-ltb 0 (length x.bytes) (within-some (head_limit rules) x.bytes (message_of m) h.0 h.1)) in
+    cut-head rules date x q true r (inr (message_of m, h.0, f, record { begins = h.1; frames = framed-as rules m.version m.headers.items (Ok f) e }, cut)) begun (subst S (ends (record { bytes = h.0; stop = x.stop }) h.2) k)
   where
     head-some : (bytes : List ℕ) (m : Texted) (after : List ℕ) → BeginsWithRequestHead bytes m after → 0 < length bytes
     head-some bytes m after t = let P : List ℕ → Type 0 = λ x. 0 < length x in let line = t.2.1 in subst P (sym line.joins) (line-some t.2.0 t.0)
@@ -330,20 +356,20 @@ cut-stop old new (Some stop) f e cut over =
     ap Some (sym stops.1)
 
 -- no byte of a head has come
-closed-short : (profile : Profile) (bytes : List ℕ) → bytes ≡ [] → IsUnfinishedHead (head_limit profile) bytes None
-closed-short Lenient bytes e = let Q : List ℕ → Type 0 = λ x. FaultyHead x None Cut in subst Q (sym e) refl
-closed-short Strict bytes e = let Q : List ℕ → Type 0 = λ x. FaultyHead x None Cut × (length x < 65536) in subst Q (sym e) (refl, omega arith)
+closed-short : (rules : HeadRules) (bytes : List ℕ) → bytes ≡ [] → IsUnfinishedHead (head_limit rules) bytes None
+closed-short rule.Lenient bytes e = let Q : List ℕ → Type 0 = λ x. FaultyHead x None Cut in subst Q (sym e) refl
+closed-short rule.Strict bytes e = let Q : List ℕ → Type 0 = λ x. FaultyHead x None Cut × (length x < 65536) in subst Q (sym e) (refl, omega arith)
 
-pub head-closed : {R : Type 0} (profile : Profile) (date : HttpDate) (o : Option Feed) (new : SourceState R) (stop : Option Stop) (r : Result HeadRead AllocError) → HasNoByte o → new.feed ≡ o → new.is_over ≡ true → (new.is_over ≡ true → IsSome stop × IfSome stop (λ s. StopsBy s new.feed))
-    → IfSome stop (λ s. AnswersCut s false date r) → ReadsHead profile at.Head date o new.feed r
-head-closed profile date None new stop r none same is over h = tt
-head-closed profile date (Some f) new None r none same is over h = let no : false ≡ true = (over is).0 in cc
-head-closed profile date (Some f) new (Some stop) r none same is over h =
+pub head-closed : {R : Type 0} (rules : HeadRules) (date : HttpDate) (o : Option Feed) (new : SourceState R) (stop : Option Stop) (r : Result HeadRead AllocError) → HasNoByte o → new.feed ≡ o → new.is_over ≡ true → (new.is_over ≡ true → IsSome stop × IfSome stop (λ s. StopsBy s new.feed))
+    → IfSome stop (λ s. AnswersCut s false date r) → ReadsHead (profile_of rules) at.Head date o new.feed r
+head-closed rules date None new stop r none same is over h = tt
+head-closed rules date (Some f) new None r none same is over h = let no : false ≡ true = (over is).0 in cc
+head-closed rules date (Some f) new (Some stop) r none same is over h =
     let P : Option Feed → Type 0 = λ x. StopsBy stop x in
     let stops = subst P same (over is).1 in
     let S : Stop → Type 0 = λ s. AnswersCut s false date r in
     let begun : false ≡ nat_lt 0 (length f.bytes) = sym (ap (λ (x : List ℕ). nat_lt 0 (length x)) none) in
-    cut-head profile date f new.feed false r (inl (None, closed-short profile f.bytes none)) begun (subst S (sym stops.1) h)
+    cut-head rules date f new.feed false r (inl (None, closed-short rules f.bytes none)) begun (subst S (sym stops.1) h)
 
 -- after the end of a source nothing is answered
 pub end-unanswered : (date : HttpDate) (stop : Option Stop) (begun : Bool) (r : Result HeadRead AllocError) → stop ≡ Some End → IfSome stop (λ s. AnswersCut s begun date r) → IsOkEnd r

@@ -1,6 +1,7 @@
 pub mod BodyReads
 pub mod HeadReadsLemmas
 pub mod HeadReadsServing
+pub mod StandardServing
 pub mod NextRequestLemmas
 pub mod BodyRemainsLemmas
 pub mod BytesWords
@@ -9,4 +10,5 @@ pub mod StrictLemmas
 pub mod OwnAnswerLemmas
 pub mod WithinLemmas
 pub mod SeenLemmas
+pub mod StandardLemmas
 pub mod PipelineLemmas

@@ -28,7 +28,7 @@ use Rattle.tiny_http_wire.specs.Answer.{text_plain}
 use Rattle.std.specs.Prelude.{◌∷◌}
 use Rattle.std.proofs.lemmas.Bool.{le-leb}
 use Rattle.tiny_http_sending.specs.ResponseValue.{response_of, response_text}
-use Rattle.tiny_http_message.specs.Pipeline.{Refusal, BadRequest, RequestTimeout, ExpectationFailed, HeaderFieldsTooLarge, VersionNotSupported}
+use Rattle.tiny_http_message.specs.Pipeline.{Refusal, BadRequest, RequestTimeout, ExpectationFailed, HeaderFieldsTooLarge, VersionNotSupported, RequestLineTooLong, CodingNotImplemented, MajorVersionNotSupported}
 use Rattle.std.specs.Prelude.{◌^◌, IfOk}
 use Rattle.std.specs.declared.alloc.AllocError.{AllocError}
 use Rattle.tiny_http_wire.specs.Heads.{version}
@@ -162,6 +162,9 @@ refusal-whole RequestTimeout v no_body date = response-whole 408 [] [] v no_body
 refusal-whole ExpectationFailed v no_body date = response-whole 417 [] [] v no_body date
 refusal-whole HeaderFieldsTooLarge v no_body date = response-whole 431 [] [] v no_body date
 refusal-whole VersionNotSupported v no_body date = response-whole 505 (text_plain ∷ []) too_new_text v no_body date
+refusal-whole RequestLineTooLong v no_body date = response-whole 414 [] [] v no_body date
+refusal-whole CodingNotImplemented v no_body date = response-whole 501 [] [] v no_body date
+refusal-whole MajorVersionNotSupported v no_body date = response-whole 505 [] [] v no_body date
 
 -- what is printed to a version that is too new
 pub too-new-printed : {T : Type 0} (r : Result T AllocError) (items : T → List ℕ) (a : Answer) (o : Option Feed) (no_body : Bool) (date : HttpDate) → a ≡ answer_with 505 (text_plain ∷ []) 51 → o ≡ Some (whole_feed too_new_text)

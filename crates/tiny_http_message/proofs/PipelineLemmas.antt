@@ -1,6 +1,6 @@
 -- Each feed has one pipeline.
 use Rattle.std.proofs.Common.{◌≡◌, refl, sym, ap, ◌∙◌, subst, ℕ, zero, suc, ◌+◌, ◌<◌, ◌≤◌, Bool, true, false, inl, inr, List, [], ◌∷◌, ◌++◌, length, take, drop, Option, Some, None, Ok, Err, arith, length-append, ⊎_elim}
-use Rattle.std.specs.Prelude.{MatchResult, nat_lt, nat_le, Result, if◌then◌else◌}
+use Rattle.std.specs.Prelude.{MatchResult, nat_lt, nat_le, ◌==◌, ◌&&◌, not, Result, if◌then◌else◌}
 use Rattle.std.proofs.lemmas.Grind.{common_steps}
 use Rattle.std.proofs.lemmas.Bool.{ltb-true, ltb-false, lt-ltb, le-ltb, leb-true, leb-false, le-leb, lt-leb}
 use Rattle.std.specs.declared.io.ErrorKind.{ErrorKind}
@@ -15,16 +15,26 @@ use Rattle.tiny_http_wire.specs.ChunkReading.{decoded}
 use Rattle.tiny_http_head.proofs.HeadsLemmas.{head-is, HeadIs, head-one, head-fault, line-shorter, fields-fewer}
 use Rattle.tiny_http_wire.proofs.ChunksLemmas.{decoded-is, decoded-one, decoded-front}
 use Rattle.tiny_http_stream.specs.Source.{seen_within}
+use Rattle.std.proofs.lemmas.List.{take-append-drop}
+use Rattle.tiny_http_standard.specs.Heads.{ReadOpen}
+use Rattle.tiny_http_standard.proofs.HeadsLemmas.{whole-shorter}
+use Rattle.tiny_http_standard.proofs.Existing.{some-reading}
+use Rattle.tiny_http_standard.proofs.ReadingLemmas.{read-once}
+use Rattle.tiny_http_message.specs.declared.framing.TheConstants.{STANDARD_HEAD, LONGEST_WITH_HEAD}
 use Rattle.tiny_http_message.specs.declared.framing.Profile.{Profile}
+use Rattle.tiny_http_message.specs.declared.framing.Profile.TheVariants as under
+use Rattle.tiny_http_message.specs.declared.framing.HeadRules.{HeadRules}
+use Rattle.tiny_http_message.specs.declared.framing.HeadRules.TheVariants as rule
 use Rattle.tiny_http_message.specs.declared.framing.FramingFault.{FramingFault}
 use Rattle.tiny_http_message.specs.declared.framing.FramingFault.TheVariants.{Invalid, Expectation}
 use Rattle.tiny_http_message.specs.declared.framing.Form.{Form}
 use Rattle.tiny_http_message.specs.declared.framing.Form.TheVariants.{Rest, Nothing, WithHead, Counted, Chunked}
 use Rattle.tiny_http_message.specs.declared.framing.Framing.{Framing}
 use Rattle.tiny_http_message.specs.FramingReading.{framing}
-use Rattle.tiny_http_message.specs.Pipeline.{Refusal, BadRequest, RequestTimeout, ExpectationFailed, HeaderFieldsTooLarge, VersionNotSupported, Item, Refuses, Place, is_timed_out, head_limit, BeginsWithin, IsUnfinishedHead, IsTooLarge, IsWholeHead, IsCutWithHead, IsCutHead, IsSilent, IsRefused, IsRequestHead, Heading, Silence, Refused, Heads, HeadAt, body_length_or_0, BodyAt, SizedBody, FoundAt, OneHead, item_of, next_place, ends_too_new, Pipeline, place_after}
-use Rattle.tiny_http_message.specs.PipelineReading.{BodyRead, chunked_read, sized_read, body_read, is_cut_with_head, cut_heading, whole_heading, is_full, all_after, faulty, heading, heading_of, items_at, items_from, items_of}
-use Rattle.tiny_http_message.proofs.FramingLemmas.{framing-is, framing-one}
+use Rattle.tiny_http_message.specs.Pipeline.{is_cut_with_head, RulesHeadAt, standard_front, standard_form, standard_heading, Refusal, BadRequest, RequestTimeout, ExpectationFailed, HeaderFieldsTooLarge, VersionNotSupported, RequestLineTooLong, CodingNotImplemented, MajorVersionNotSupported, Item, Refuses, Place, is_timed_out, head_limit, BeginsWithin, IsUnfinishedHead, IsTooLarge, IsWholeHead, IsCutWithHead, IsCutHead, IsRefused, IsRequestHead, Heading, Silence, Refused, Heads, HeadAt, body_length_or_0, BodyAt, SizedBody, FoundAt, OneHead, item_of, next_place, ends_too_new, Pipeline, place_after}
+use Rattle.tiny_http_message.specs.PipelineReading.{BodyRead, Headings, chunked_read, sized_read, body_read, cut_heading, whole_heading, is_full, all_after, faulty, heading, heading_of, items_at, items_from, items_of}
+use Rattle.tiny_http_message.proofs.FramingLemmas.{framing-is, framing-one, rest-last}
+use Rattle.tiny_http_message.proofs.StandardLemmas.{IsStandardHeads, standard-parts}
 use Rattle.tiny_http_message.proofs.WithinLemmas.{seen-stands, stands-seen, seen-all}
 
 pub cut-with_head : (form : Form) (n : ℕ) (after : List ℕ) → is_cut_with_head form n after ≡ true → IsCutWithHead form n after
@@ -49,19 +59,19 @@ cut-not form n after true e h = absurd (h (cut-with_head form n after e))
 cut-not form n after false e h = refl
 
 -- what is cut is answered at a time-out alone
-cut-heading-is : (p : Profile) (bytes : List ℕ) (stop : Stop) → IsCutHead p bytes → HeadAt p bytes stop (cut_heading stop)
+cut-heading-is : (p : HeadRules) (bytes : List ℕ) (stop : Stop) → IsCutHead p bytes → RulesHeadAt p bytes stop (cut_heading stop)
 cut-heading-is p bytes stop h = by (is_timed_out stop) refl
   where
-    by : (t : Bool) → is_timed_out stop ≡ t → HeadAt p bytes stop (if t then Refused RequestTimeout (version 1 1) else Silence)
+    by : (t : Bool) → is_timed_out stop ≡ t → RulesHeadAt p bytes stop (if t then Refused RequestTimeout (version 1 1) else Silence)
     by true e = (h, e, refl)
     by false e = inl (h, e)
 
-pipeline-cut-step : (p : Profile) (m : Message) (after : List ℕ) (stop : Stop) (bytes : List ℕ) (f : Framing) → IsWholeHead p bytes m after (Ok f) → (t : Bool) → is_cut_with_head f.form (body_length_or_0 f) after ≡ t
-    → HeadAt p bytes stop (if t then cut_heading stop else Heads m f after)
+pipeline-cut-step : (p : HeadRules) (m : Message) (after : List ℕ) (stop : Stop) (bytes : List ℕ) (f : Framing) → IsWholeHead p bytes m after (Ok f) → (t : Bool) → is_cut_with_head f.form (body_length_or_0 f) after ≡ t
+    → RulesHeadAt p bytes stop (if t then cut_heading stop else Heads m f after)
 pipeline-cut-step p m after stop bytes f h true c = cut-heading-is p bytes stop (inr (m, after, f, h, cut-with_head f.form (body_length_or_0 f) after c))
 pipeline-cut-step p m after stop bytes f h false c = record { whole = h; uncut = not-cut f.form (body_length_or_0 f) after c }
 
-framed-is : (p : Profile) (m : Message) (after : List ℕ) (stop : Stop) (bytes : List ℕ) (r : Result Framing FramingFault) → IsWholeHead p bytes m after r → HeadAt p bytes stop (whole_heading m after stop r)
+framed-is : (p : HeadRules) (m : Message) (after : List ℕ) (stop : Stop) (bytes : List ℕ) (r : Result Framing FramingFault) → IsWholeHead p bytes m after r → RulesHeadAt p bytes stop (whole_heading m after stop r)
 framed-is p m after stop bytes (Err Invalid) h = inr (m, after, h, refl)
 framed-is p m after stop bytes (Err Expectation) h = (m, after, h, refl)
 framed-is p m after stop bytes (Ok f) h = pipeline-cut-step p m after stop bytes f h (is_cut_with_head f.form (body_length_or_0 f) after) refl
@@ -93,26 +103,26 @@ cut-or-full (Some limit) bytes v h = by (nat_le limit (length bytes)) refl
         (subst P (seen-all limit bytes short) h, short)
 
 -- a faulty head
-faulty-is : (p : Profile) (bytes : List ℕ) (stop : Stop) (v : Option HTTPVersion) (fault : GrammarFault) → FaultyHead (seen_within (head_limit p) bytes) v fault → HeadAt p bytes stop (faulty (is_full (head_limit p) bytes) v fault stop)
+faulty-is : (p : HeadRules) (bytes : List ℕ) (stop : Stop) (v : Option HTTPVersion) (fault : GrammarFault) → FaultyHead (seen_within (head_limit p) bytes) v fault → RulesHeadAt p bytes stop (faulty (is_full (head_limit p) bytes) v fault stop)
 faulty-is p bytes stop v NotAscii h = inr (v, h)
 faulty-is p bytes stop v Malformed h = inl (v, h, refl)
 faulty-is p bytes stop v Cut h = by (is_full (head_limit p) bytes) (cut-or-full (head_limit p) bytes v h)
   where
-    by : (t : Bool) → CutOrFull (head_limit p) bytes v t → HeadAt p bytes stop (faulty t v Cut stop)
+    by : (t : Bool) → CutOrFull (head_limit p) bytes v t → RulesHeadAt p bytes stop (faulty t v Cut stop)
     by true k = (v, k, refl)
     by false k = cut-heading-is p bytes stop (inl (v, k))
 
-read-is : (p : Profile) (bytes : List ℕ) (stop : Stop) (r : RequestHeadRead) → HeadIs (seen_within (head_limit p) bytes) r → HeadAt p bytes stop (heading p bytes stop r)
+read-is : (p : HeadRules) (bytes : List ℕ) (stop : Stop) (r : RequestHeadRead) → HeadIs (seen_within (head_limit p) bytes) r → RulesHeadAt p bytes stop (heading p bytes stop r)
 read-is p bytes stop (Faulty v fault) h = faulty-is p bytes stop v fault h
 read-is p bytes stop (Whole m after) h =
     framed-is p m (all_after (head_limit p) bytes after) stop bytes (framing p m.version m.headers) (record { begins = seen-within (head_limit p) bytes m after h; frames = framing-is p m.version m.headers })
 
 -- each bytes have a heading
-pub heading-is : (p : Profile) (bytes : List ℕ) (stop : Stop) → HeadAt p bytes stop (heading_of p stop bytes)
+pub heading-is : (p : HeadRules) (bytes : List ℕ) (stop : Stop) → RulesHeadAt p bytes stop (heading_of p stop bytes)
 heading-is p bytes stop = read-is p bytes stop (request_head_read (seen_within (head_limit p) bytes)) (head-is (seen_within (head_limit p) bytes))
 
 -- a whole head is read as what it frames
-whole-read : (p : Profile) (bytes : List ℕ) (stop : Stop) (m : Message) (after : List ℕ) (r : Result Framing FramingFault) → IsWholeHead p bytes m after r → heading_of p stop bytes ≡ whole_heading m after stop r
+whole-read : (p : HeadRules) (bytes : List ℕ) (stop : Stop) (m : Message) (after : List ℕ) (r : Result Framing FramingFault) → IsWholeHead p bytes m after r → heading_of p stop bytes ≡ whole_heading m after stop r
 whole-read p bytes stop m after r h =
     let seen = within-seen (head_limit p) bytes m after h.begins in
     rw (head-one (seen_within (head_limit p) bytes) m seen.0 seen.1, ← seen.2, ← framing-one p m.version m.headers r h.frames) refl
@@ -128,14 +138,14 @@ large-read : (limit : Option ℕ) (bytes : List ℕ) (v : Option HTTPVersion) �
 large-read None bytes v h = absurd h
 large-read (Some limit) bytes v h = (le-leb limit (length bytes) h.0, h.1)
 
-cut-read : (p : Profile) (bytes : List ℕ) (stop : Stop) → IsCutHead p bytes → heading_of p stop bytes ≡ cut_heading stop
+cut-read : (p : HeadRules) (bytes : List ℕ) (stop : Stop) → IsCutHead p bytes → heading_of p stop bytes ≡ cut_heading stop
 cut-read p bytes stop (inl k) =
     let u = unfinished-read (head_limit p) bytes k.0 k.1 in
     rw (head-fault (seen_within (head_limit p) bytes) k.0 Cut u.1, u.0) refl
 cut-read p bytes stop (inr k) = whole-read p bytes stop k.0 k.1 (Ok k.2) k.3 ∙ rw (with_head-cut k.2.form (body_length_or_0 k.2) k.1 k.4) refl
 
 -- and one
-refused-read : (p : Profile) (bytes : List ℕ) (stop : Stop) (refusal : Refusal) (v : HTTPVersion) → IsRefused p bytes stop refusal v → heading_of p stop bytes ≡ Refused refusal v
+refused-read : (p : HeadRules) (bytes : List ℕ) (stop : Stop) (refusal : Refusal) (v : HTTPVersion) → IsRefused p bytes stop refusal v → heading_of p stop bytes ≡ Refused refusal v
 refused-read p bytes stop BadRequest v (inl k) = rw (head-fault (seen_within (head_limit p) bytes) k.0 Malformed k.1) (ap (Refused BadRequest) (sym k.2))
 refused-read p bytes stop BadRequest v (inr k) = whole-read p bytes stop k.0 k.1 (Err Invalid) k.2 ∙ ap (Refused BadRequest) (sym k.3)
 refused-read p bytes stop RequestTimeout v k = cut-read p bytes stop k.0 ∙ rw k.1 (ap (Refused RequestTimeout) (sym k.2))
@@ -144,13 +154,30 @@ refused-read p bytes stop HeaderFieldsTooLarge v k =
     let l = large-read (head_limit p) bytes k.0 k.1 in
     rw (head-fault (seen_within (head_limit p) bytes) k.0 Cut l.1, l.0) (ap (Refused HeaderFieldsTooLarge) (sym k.2))
 refused-read p bytes stop VersionNotSupported v k = absurd k
+refused-read p bytes stop RequestLineTooLong v k = absurd k
+refused-read p bytes stop CodingNotImplemented v k = absurd k
+refused-read p bytes stop MajorVersionNotSupported v k = absurd k
 
-pub heading-one : (p : Profile) (bytes : List ℕ) (stop : Stop) (h : Heading) → HeadAt p bytes stop h → heading_of p stop bytes ≡ h
+pub heading-one : (p : HeadRules) (bytes : List ℕ) (stop : Stop) (h : Heading) → RulesHeadAt p bytes stop h → heading_of p stop bytes ≡ h
 heading-one p bytes stop Silence (inl k) = cut-read p bytes stop k.0 ∙ rw k.1 refl
 heading-one p bytes stop Silence (inr k) = rw (head-fault (seen_within (head_limit p) bytes) k.0 NotAscii k.1) refl
 heading-one p bytes stop (Refused refusal v) h = refused-read p bytes stop refusal v h
 heading-one p bytes stop (Heads m f after) h =
     whole-read p bytes stop m after (Ok f) h.whole ∙ rw (cut-not f.form (body_length_or_0 f) after (is_cut_with_head f.form (body_length_or_0 f) after) refl h.uncut) refl
+
+-- EACH PROFILE has one heading at each place
+pub heading-some : (p : Profile) (bytes : List ℕ) (stop : Stop) → (h : Heading) × HeadAt p bytes stop h
+heading-some under.Lenient bytes stop = (heading_of rule.Lenient stop bytes, heading-is rule.Lenient bytes stop)
+heading-some under.Strict bytes stop = (heading_of rule.Strict stop bytes, heading-is rule.Strict bytes stop)
+heading-some under.Standard bytes stop = let r = some-reading (standard_front bytes) in (standard_heading r.0 bytes stop, (r.0, r.1, refl))
+
+heading-same : (p : Profile) (bytes : List ℕ) (stop : Stop) (h k : Heading) → HeadAt p bytes stop h → HeadAt p bytes stop k → h ≡ k
+heading-same under.Lenient bytes stop h k a b = sym (heading-one rule.Lenient bytes stop h a) ∙ heading-one rule.Lenient bytes stop k b
+heading-same under.Strict bytes stop h k a b = sym (heading-one rule.Strict bytes stop h a) ∙ heading-one rule.Strict bytes stop k b
+heading-same under.Standard bytes stop h k a b = a.2 ∙ ap (λ r. standard_heading r bytes stop) (read-once (standard_front bytes) a.0 b.0 a.1 b.1) ∙ sym b.2
+
+abbrev pub heading_at : Profile → Headings
+heading_at p stop bytes = (heading-some p bytes stop).0
 
 chunked-is : (n : ℕ) (after : List ℕ) (stop : Stop) (body : List ℕ) (e : Result (List ℕ) ErrorKind) → MatchResult e (λ rest. WholeChunks after body rest) (λ kind. CutChunks after stop body kind)
     → BodyAt Chunked n after stop (chunked_read (record { body = body; ends = e })).body (chunked_read (record { body = body; ends = e })).next
@@ -216,9 +243,6 @@ found_in stop (Refused refusal v) = (Some (Refuses refusal v false true), None)
 found_in stop (Heads m f after) =
     let b = body_read f.form (body_length_or_0 f) after stop in (Some (item_of m f b.body), next_place m f b.next)
 
-abbrev found : Profile → Stop → List ℕ → Found
-found p stop bytes = found_in stop (heading_of p stop bytes)
-
 pair-eq : (a b : Option Item) (p q : Place) → a ≡ b → p ≡ q → ◌≡◌ {A = Found} (a, p) (b, q)
 pair-eq a b p q e f = let g : Option Item → Place → Found = λ x y. (x, y) in ap (λ x. g x p) e ∙ ap (g b) f
 
@@ -227,10 +251,6 @@ found-one stop Silence item next k = pair-eq None item None next (sym k.0) (sym 
 found-one stop (Refused refusal v) item next k = pair-eq (Some (Refuses refusal v false true)) item None next (sym k.0) (sym k.1)
 found-one stop (Heads m f after) item next k =
     rw (body-one f.form (body_length_or_0 f) after stop k.0 k.1 k.2) (pair-eq _ _ _ _ (sym k.3) (sym k.4))
-
--- one head has one item and one place after it
-one-head-one : (p : Profile) (bytes : List ℕ) (stop : Stop) (item : Option Item) (next : Place) → OneHead p bytes stop item next → found p stop bytes ≡ (item, next)
-one-head-one p bytes stop item next h = ap (λ x. found_in stop x) (heading-one p bytes stop h.0 h.1) ∙ found-one stop h.0 item next h.2
 
 one-found : (i j : Option Item) (p q : Place) (f : Found) → f ≡ (i, p) → f ≡ (j, q) → (i ≡ j) × (p ≡ q)
 one-found i j p q f e g =
@@ -249,7 +269,8 @@ cons-eq x y xs ys e f = cc
 
 -- two ways to read one head are the same
 pub one-head : (p : Profile) (bytes : List ℕ) (stop : Stop) (i j : Option Item) (a b : Place) → OneHead p bytes stop i a → OneHead p bytes stop j b → (i ≡ j) × (a ≡ b)
-one-head p bytes stop i j a b h k = one-found i j a b (found p stop bytes) (one-head-one p bytes stop i a h) (one-head-one p bytes stop j b k)
+one-head p bytes stop i j a b h k =
+    one-found i j a b (found_in stop h.0) (found-one stop h.0 i a h.2) (ap (found_in stop) (heading-same p bytes stop h.0 k.0 h.1 k.1) ∙ found-one stop k.0 j b k.2)
 
 -- each feed has at most one pipeline
 pub pipeline-one : (p : Profile) (place : Place) (stop : Stop) (xs ys : List Item) → Pipeline p place stop xs → Pipeline p place stop ys → xs ≡ ys
@@ -313,38 +334,76 @@ within-shorter : (limit : Option ℕ) (bytes : List ℕ) (m : Message) (after : 
 within-shorter None bytes m after h = head-shorter bytes m after h
 within-shorter (Some limit) bytes m after h = head-shorter bytes m after h.0
 
+-- what stands behind a head is shorter, and its short body has come
+pub record IsHeads (bytes : List ℕ) (f : Framing) (after : List ℕ) : Type 0 where
+  pub shorter : length after < length bytes
+  pub uncut : IsCutWithHead f.form (body_length_or_0 f) after → ⊥
+
+rules-heads : (p : HeadRules) (bytes : List ℕ) (m : Message) (f : Framing) (after : List ℕ) → IsRequestHead p bytes m f after → IsHeads bytes f after
+rules-heads p bytes m f after h = record { shorter = within-shorter (head_limit p) bytes m after h.whole.begins; uncut = h.uncut }
+
+standard-heads : (bytes : List ℕ) (m : Message) (f : Framing) (after : List ℕ) (stop : Stop) → IsStandardHeads bytes m f after → IsHeads bytes f after
+standard-heads bytes m f after stop h =
+    let short = whole-shorter (standard_front bytes) h.message h.front h.begins in
+    let all : length (standard_front bytes) + length (drop STANDARD_HEAD bytes) ≡ length bytes = sym (length-append (standard_front bytes) (drop STANDARD_HEAD bytes)) ∙ ap length (take-append-drop STANDARD_HEAD bytes) in
+    let long : length after ≡ length h.front + length (drop STANDARD_HEAD bytes) = ap length h.behind ∙ length-append h.front (drop STANDARD_HEAD bytes) in
+    record { shorter = omega (arith, short, all, long); uncut = h.uncut }
+
+heads-at : (p : Profile) (bytes : List ℕ) (stop : Stop) (m : Message) (f : Framing) (after : List ℕ) → HeadAt p bytes stop (Heads m f after) → IsHeads bytes f after
+heads-at under.Lenient bytes stop m f after h = rules-heads rule.Lenient bytes m f after h
+heads-at under.Strict bytes stop m f after h = rules-heads rule.Strict bytes m f after h
+heads-at under.Standard bytes stop m f after h = standard-heads bytes m f after stop (standard-parts bytes stop m f after h)
+
 -- the pipeline that is read is the pipeline
-ends-is : (p : Profile) (bytes : List ℕ) (stop : Stop) (go : Place → List Item) → IsSilent p bytes stop → Pipeline p (Some bytes) stop (items_at go stop Silence)
-ends-is p bytes stop go h = (Silence, h, (refl, refl))
-
-refused-is : (p : Profile) (bytes : List ℕ) (stop : Stop) (go : Place → List Item) (refusal : Refusal) (v : HTTPVersion) → IsRefused p bytes stop refusal v → Pipeline p (Some bytes) stop (items_at go stop (Refused refusal v))
-refused-is p bytes stop go refusal v h = (None, (Refused refusal v, h, (refl, refl)), tt)
-
-heads-is : (p : Profile) (fuel : ℕ) (stop : Stop) (bytes : List ℕ) → ((place : Place) → place_len place < length bytes → Pipeline p place stop (items_from p fuel stop place))
-    → (m : Message) (f : Framing) (after : List ℕ) → IsRequestHead p bytes m f after → Pipeline p (Some bytes) stop (items_at (items_from p fuel stop) stop (Heads m f after))
-heads-is p fuel stop bytes go m f after h =
+heads-is : (p : Profile) (at : Headings) (fuel : ℕ) (stop : Stop) (bytes : List ℕ) → ((place : Place) → place_len place < length bytes → Pipeline p place stop (items_from at fuel stop place))
+    → (m : Message) (f : Framing) (after : List ℕ) → HeadAt p bytes stop (Heads m f after) → Pipeline p (Some bytes) stop (items_at (items_from at fuel stop) stop (Heads m f after))
+heads-is p at fuel stop bytes go m f after h =
+    let here = heads-at p bytes stop m f after h in
     let r = body_read f.form (body_length_or_0 f) after stop in
-    let k = body-is f.form (body_length_or_0 f) after stop h.uncut in
+    let k = body-is f.form (body_length_or_0 f) after stop here.uncut in
     let n = body-shorter f.form (body_length_or_0 f) after stop r.body r.next k in
     let g = goes-shorter m f r.next in
-    let s = within-shorter (head_limit p) bytes m after h.whole.begins in
-    (next_place m f r.next, (Heads m f after, h, (r.body, r.next, k, refl, refl)), go (next_place m f r.next) (omega arith))
+    (next_place m f r.next, (Heads m f after, h, (r.body, r.next, k, refl, refl)), go (next_place m f r.next) (omega (arith, n, g, here.shorter)))
 
-one-is : (p : Profile) (fuel : ℕ) (stop : Stop) (bytes : List ℕ) → ((place : Place) → place_len place < length bytes → Pipeline p place stop (items_from p fuel stop place))
-    → (h : Heading) → HeadAt p bytes stop h → Pipeline p (Some bytes) stop (items_at (items_from p fuel stop) stop h)
-one-is p fuel stop bytes go Silence h = ends-is p bytes stop (items_from p fuel stop) h
-one-is p fuel stop bytes go (Refused refusal v) h = refused-is p bytes stop (items_from p fuel stop) refusal v h
-one-is p fuel stop bytes go (Heads m f after) h = heads-is p fuel stop bytes go m f after h
+one-is : (p : Profile) (at : Headings) (fuel : ℕ) (stop : Stop) (bytes : List ℕ) → ((place : Place) → place_len place < length bytes → Pipeline p place stop (items_from at fuel stop place))
+    → (h : Heading) → HeadAt p bytes stop h → Pipeline p (Some bytes) stop (items_at (items_from at fuel stop) stop h)
+one-is p at fuel stop bytes go Silence h = (Silence, h, (refl, refl))
+one-is p at fuel stop bytes go (Refused refusal v) h = (None, (Refused refusal v, h, (refl, refl)), tt)
+one-is p at fuel stop bytes go (Heads m f after) h = heads-is p at fuel stop bytes go m f after h
 
-items-are : (p : Profile) (fuel : ℕ) (place : Place) (stop : Stop) → place_len place < fuel → Pipeline p place stop (items_from p fuel stop place)
+items-are : (p : Profile) (fuel : ℕ) (place : Place) (stop : Stop) → place_len place < fuel → Pipeline p place stop (items_from (heading_at p) fuel stop place)
 items-are p zero place stop lt = absurd (omega arith)
 items-are p (suc fuel) None stop lt = tt
 items-are p (suc fuel) (Some bytes) stop lt =
-    one-is p fuel stop bytes (λ place less. items-are p fuel place stop (omega arith)) (heading_of p stop bytes) (heading-is p bytes stop)
+    one-is p (heading_at p) fuel stop bytes (λ place less. items-are p fuel place stop (omega arith)) (heading_at p stop bytes) (heading-some p bytes stop).1
 
 -- each feed has a pipeline
-pub feed-pipeline : (p : Profile) (feed : Feed) → Pipeline p (Some feed.bytes) feed.stop (items_of p feed)
+pub feed-pipeline : (p : Profile) (feed : Feed) → Pipeline p (Some feed.bytes) feed.stop (items_of (heading_at p) feed)
 feed-pipeline p feed = items-are p (length feed.bytes + 1) (Some feed.bytes) feed.stop (omega arith)
 
 pub has-pipeline : (p : Profile) (feed : Feed) → (items : List Item) × Pipeline p (Some feed.bytes) feed.stop items
-has-pipeline p feed = (items_of p feed, feed-pipeline p feed)
+has-pipeline p feed = (items_of (heading_at p) feed, feed-pipeline p feed)
+
+-- a body that is all the rest is the connection's last
+no-rest : (chunked owed : Bool) (n : Option ℕ) → standard_form chunked owed n ≡ Rest → ⊥
+no-rest true owed n e = cc
+no-rest false owed None e = cc
+no-rest false owed (Some n) e = by (n == 0) (nat_le n LONGEST_WITH_HEAD && not owed) e
+  where
+    by : (s t : Bool) → (if s then Nothing else if t then WithHead else Counted) ≡ Rest → ⊥
+    by true t e = cc
+    by false true e = cc
+    by false false e = cc
+
+pub heads-rest_last : (p : Profile) (bytes : List ℕ) (stop : Stop) (m : Message) (f : Framing) (after : List ℕ) → HeadAt p bytes stop (Heads m f after) → f.form ≡ Rest → f.is_last ≡ true
+heads-rest_last under.Lenient bytes stop m f after h = rest-last rule.Lenient m.version m.headers f h.whole.frames
+heads-rest_last under.Strict bytes stop m f after h = rest-last rule.Strict m.version m.headers f h.whole.frames
+heads-rest_last under.Standard bytes stop m f after h =
+    let k = standard-parts bytes stop m f after h in
+    λ rest. absurd (no-rest k.summary.is_chunked k.summary.owes_continue k.summary.body_length (sym (ap (λ (x : Framing). x.form) k.framed) ∙ rest))
+
+-- no head stands in front of no byte
+pub empty-pipeline : (p : Profile) → Pipeline p (Some []) End []
+empty-pipeline under.Lenient = (Silence, heading-is rule.Lenient [] End, (refl, refl))
+empty-pipeline under.Strict = (Silence, heading-is rule.Strict [] End, (refl, refl))
+empty-pipeline under.Standard = (Silence, (ReadOpen false, refl, refl), (refl, refl))

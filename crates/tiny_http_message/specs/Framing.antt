@@ -6,8 +6,8 @@ use Rattle.tiny_http_wire.specs.Common.{same_name, lowercase}
 use Rattle.tiny_http_wire.specs.Bytes.{contains_word, is_blank, trimmed, parts, comma}
 use Rattle.tiny_http_wire.specs.Heads.{length_in, length_of}
 use Rattle.tiny_http_message.specs.declared.framing.TheConstants.{LONGEST_WITH_HEAD}
-use Rattle.tiny_http_message.specs.declared.framing.Profile.{Profile}
-use Rattle.tiny_http_message.specs.declared.framing.Profile.TheVariants.{Lenient, Strict}
+use Rattle.tiny_http_message.specs.declared.framing.HeadRules.{HeadRules}
+use Rattle.tiny_http_message.specs.declared.framing.HeadRules.TheVariants.{Lenient, Strict}
 use Rattle.tiny_http_message.specs.declared.framing.FramingFault.{FramingFault}
 use Rattle.tiny_http_message.specs.declared.framing.FramingFault.TheVariants.{Invalid, Expectation}
 use Rattle.tiny_http_message.specs.declared.framing.Form.{Form}
@@ -58,7 +58,7 @@ IsStrictLength [] (coding ∷ codings) n = (n ≡ None) × EndsWithChunked (codi
 IsStrictLength (length ∷ lengths) (coding ∷ codings) n = ⊥
 
 -- the length of the body by its headers, or that they give none
-abbrev pub IsBodyLength : Profile → List Header → Option ℕ → Type 0
+abbrev pub IsBodyLength : HeadRules → List Header → Option ℕ → Type 0
 IsBodyLength Lenient headers n = n ≡ lenient_length headers
 IsBodyLength Strict headers n = IsStrictLength (elements_of (codes "Content-Length") headers) (elements_of (codes "Transfer-Encoding") headers) n
 
@@ -92,7 +92,7 @@ is_last v connection =
 
 -- HOW A HEAD FRAMES ITS MESSAGE, or why it is refused: its framing is invalid, which is judged first, or it expects what can't be
 -- met.
-abbrev pub Frames : Profile → HTTPVersion → List Header → Result Framing FramingFault → Type 0
+abbrev pub Frames : HeadRules → HTTPVersion → List Header → Result Framing FramingFault → Type 0
 Frames p v headers (Err Invalid) = (n : Option ℕ) → IsBodyLength p headers n → ⊥
 Frames p v headers (Err Expectation) = (n : Option ℕ) × IsBodyLength p headers n × (expectation (value_of (codes "Expect") headers) ≡ None)
 Frames p v headers (Ok f) =

@@ -6,8 +6,8 @@ use Rattle.tiny_http_wire.specs.declared.common.HTTPVersion.{HTTPVersion}
 use Rattle.tiny_http_wire.specs.Common.{same_name}
 use Rattle.tiny_http_wire.specs.Heads.{length_of}
 use Rattle.tiny_http_message.specs.declared.framing.TheConstants.{LONGEST_WITH_HEAD}
-use Rattle.tiny_http_message.specs.declared.framing.Profile.{Profile}
-use Rattle.tiny_http_message.specs.declared.framing.Profile.TheVariants.{Lenient, Strict}
+use Rattle.tiny_http_message.specs.declared.framing.HeadRules.{HeadRules}
+use Rattle.tiny_http_message.specs.declared.framing.HeadRules.TheVariants.{Lenient, Strict}
 use Rattle.tiny_http_message.specs.declared.framing.FramingFault.{FramingFault}
 use Rattle.tiny_http_message.specs.declared.framing.FramingFault.TheVariants.{Invalid, Expectation}
 use Rattle.tiny_http_message.specs.declared.framing.Form.{Form}
@@ -65,7 +65,7 @@ chunked_on was [] = was
 chunked_on was (coding ∷ codings) = chunked_on (same_name coding (codes "chunked")) codings
 
 -- the length of the body by its headers
-abbrev pub body_length : Profile → List Header → Result (Option ℕ) FramingFault
+abbrev pub body_length : HeadRules → List Header → Result (Option ℕ) FramingFault
 body_length Lenient headers = Ok (lenient_length headers)
 body_length Strict headers = strict_length (elements_of (codes "Content-Length") headers) (elements_of (codes "Transfer-Encoding") headers)
 
@@ -79,5 +79,5 @@ framed_if v headers (Err fault) = Err fault
 framed_if v headers (Ok n) = framed_by v headers n (expectation (value_of (codes "Expect") headers))
 
 -- the framing that version and headers give, or why the head is refused
-unfoldable pub framing : Profile → HTTPVersion → List Header → Result Framing FramingFault
+unfoldable pub framing : HeadRules → HTTPVersion → List Header → Result Framing FramingFault
 framing p v headers = framed_if v headers (body_length p headers)

@@ -14,6 +14,12 @@ use Rattle.tiny_http_wire.specs.HeadReading as reading
 use Rattle.tiny_http_wire.specs.Heads.{Message as Texted, BeginsWithRequestLine, BeginsWithHeaderLines, HeaderLine, FaultyLine, FaultyHead, IsRequestLine, IsFieldOrEnd, NotAscii, Malformed, version}
 use Rattle.tiny_http_message.specs.declared.heads.Message.{Message}
 use Rattle.tiny_http_message.specs.declared.framing.Profile.{Profile}
+use Rattle.tiny_http_message.specs.declared.framing.Profile.TheVariants as under
+use Rattle.tiny_http_message.specs.declared.framing.HeadRules.{HeadRules}
+use Rattle.tiny_http_message.specs.declared.framing.HeadRules.TheVariants as rules
+use Rattle.tiny_http_standard.specs.declared.judging.HeadSummary.{HeadSummary}
+use Rattle.tiny_http_standard.specs.Judging.{Judges}
+use Rattle.tiny_http_standard.specs.Heads.{is_begun}
 use Rattle.tiny_http_message.specs.declared.framing.Framing.{Framing}
 use Rattle.tiny_http_message.specs.declared.exchange.Head.{Head}
 use Rattle.tiny_http_message.specs.declared.exchange.Exchange.{Exchange}
@@ -21,7 +27,7 @@ use Rattle.tiny_http_message.specs.declared.exchange.EndOfRequests.{EndOfRequest
 use Rattle.tiny_http_message.specs.declared.exchange.EndOfRequests.TheVariants as because
 use Rattle.tiny_http_stream.specs.declared.source.Standing.{Standing}
 use Rattle.tiny_http_stream.specs.declared.source.Standing.TheVariants as at
-use Rattle.tiny_http_stream.specs.ToCome.{stopped, HasByte}
+use Rattle.tiny_http_stream.specs.ToCome.{HasByte}
 use Rattle.tiny_http_message.specs.declared.exchange.HeadRead.{HeadRead}
 use Rattle.tiny_http_message.specs.declared.exchange.HeadRead.TheVariants as read
 use Rattle.tiny_http_stream.specs.declared.source.LineFault.{LineFault}
@@ -32,7 +38,7 @@ use Rattle.tiny_http_message.specs.declared.body.Body.{Body}
 use Rattle.tiny_http_message.specs.FramingReading.{framing}
 use Rattle.tiny_http_stream.specs.declared.source.FirstLine.{FirstLine}
 use Rattle.tiny_http_stream.specs.Source.{SourceState, GoesOn, feed_from, FindsLine, IsShort, IsTooLong, IsAtEnd, seen_within}
-use Rattle.tiny_http_message.specs.Pipeline.{Request, Asks, Refuses, Refusal, VersionNotSupported, refusal_status, is_timed_out, Place, BeginsWithin, IsUnfinishedHead, IsTooLarge, IsCutWithHead, IsCutHead, IsNotAsciiHead, BodyAt, OneHead, body_length_or_0, place_after}
+use Rattle.tiny_http_message.specs.Pipeline.{Request, Asks, Refuses, Refusal, VersionNotSupported, refusal_status, is_timed_out, Place, BeginsWithin, IsUnfinishedHead, IsTooLarge, IsCutWithHead, IsCutHead, IsNotAsciiHead, BodyAt, OneHead, body_length_or_0, place_after, served_version, standard_framing}
 use Rattle.tiny_http_message.specs.OwnAnswer.{own_text, refusal_response, refused_text}
 use Rattle.tiny_http_message.specs.Body.{Remaining, remaining, Fits}
 use Rattle.tiny_http_message.specs.Exchange.{exchange_head, exchange_open, exchange_left, exchange_streams, KeepsRequest}
@@ -161,11 +167,6 @@ ReadsMessage limit None new r = ⊤
 ReadsMessage limit (Some f) new (Ok m) = (rest : List ℕ) × BeginsWithin limit f.bytes (message_of m) rest × (new ≡ feed_from f rest)
 ReadsMessage limit (Some f) new (Err e) = IsFaultyHead limit f.bytes e.0 e.1
 
--- nothing is left of the input, and it stopped as its feed does
-pub record IsCutOff {R : Type 0} (old new : SourceState R) : Type 0 where
-  pub over : new.is_over ≡ true
-  pub remains : (f : Feed) → old.feed ≡ Some f → new.feed ≡ Some (stopped f.stop)
-
 -- why no request comes where the input stopped so, in front of a head or after bytes of one
 abbrev pub cut_end : Stop → Bool → EndOfRequests
 cut_end (Fault kind) has_begun = because.Fault kind
@@ -174,9 +175,15 @@ cut_end End false = because.Closed
 
 -- WHY NO REQUEST comes from these bytes, which are answered by nothing: the head is cut, and not by a time-out; or a line of
 -- it isn't ASCII.
-abbrev pub EndsBy : Profile → List ℕ → Stop → EndOfRequests → Type 0
-EndsBy p bytes stop why =
+abbrev pub RulesEndBy : HeadRules → List ℕ → Stop → EndOfRequests → Type 0
+RulesEndBy p bytes stop why =
     (IsCutHead p bytes × (is_timed_out stop ≡ false) × (why ≡ cut_end stop (nat_lt 0 (length bytes)))) ⊎ (IsNotAsciiHead p bytes × (why ≡ because.NotAscii))
+
+-- By the standard it is cut; a time-out before it has begun is no reason to answer.
+abbrev pub EndsBy : Profile → List ℕ → Stop → EndOfRequests → Type 0
+EndsBy under.Lenient bytes stop why = RulesEndBy rules.Lenient bytes stop why
+EndsBy under.Strict bytes stop why = RulesEndBy rules.Strict bytes stop why
+EndsBy under.Standard bytes stop why = why ≡ cut_end stop (is_begun bytes)
 
 -- the same at a place: after a body that was given up, or broke off, that is the reason
 abbrev pub EndsAt : Profile → Standing → List ℕ → Stop → EndOfRequests → Type 0
@@ -285,14 +292,21 @@ abbrev pub IsRequest : HeadRead → Type 0
 IsRequest (read.Request x) = ⊤
 IsRequest _ = ⊥
 
--- a head was refused, was read to its end or its first bad line (not by a 408 or a 431), and no head follows
+-- a head was refused, was read to its end or its first bad line (not by a 408, a 414 or a 431), and no head follows
 abbrev pub IsRefusedUncut : HeadRead → Type 0
 IsRefusedUncut (read.Refused status text last) = (status.0 ≢ 408) × (status.0 ≢ 431) × (last ≡ true)
 IsRefusedUncut _ = ⊥
 
--- a head is framed as its version and headers say, and this is what is kept of a request with this head, on this date
+-- a head is framed as its version and headers say; by the standard it is judged so, in a version that counts as its own
+abbrev pub IsFramedHead : Profile → Head → Type 0
+IsFramedHead under.Lenient h = framing rules.Lenient h.version h.headers.items ≡ Ok (head_framing h)
+IsFramedHead under.Strict h = framing rules.Strict h.version h.headers.items ≡ Ok (head_framing h)
+IsFramedHead under.Standard h =
+    (v : HTTPVersion) × (s : HeadSummary) × Judges v h.method h.headers.items (Ok s) × (h.version ≡ served_version v) × (head_framing h ≡ standard_framing s)
+
+-- and this is what is kept of a request with this head, on this date
 abbrev pub IsFramedBy : {B : Type 0} → Profile → HttpDate → Head → OpenRequest B → Type 0
-IsFramedBy p date h kept = (framing p h.version h.headers.items ≡ Ok (head_framing h)) × KeepsHead kept h date
+IsFramedBy p date h kept = IsFramedHead p h × KeepsHead kept h date
 
 -- the same of a request that was read
 abbrev pub IsFramedRequest : Profile → HttpDate → HeadRead → Type 0

@@ -1,5 +1,5 @@
 -- What a connection's bytes ask: requests with their bodies, and heads that are refused.
-use Rattle.std.specs.Prelude.{◌≡◌, ℕ, ◌<◌, ◌≤◌, ◌⊎◌, ⊤, Bool, true, false, List, [], ◌∷◌, ◌++◌, length, take, Option, Some, None, Result, Ok, Err, unwrap_or, if◌then◌else◌}
+use Rattle.std.specs.Prelude.{◌≡◌, ℕ, ◌<◌, ◌≤◌, ◌⊎◌, ⊤, Bool, true, false, ◌&&◌, nat_lt, List, [], ◌∷◌, ◌++◌, length, take, drop, Option, Some, None, Result, Ok, Err, unwrap_or, if◌then◌else◌}
 use Rattle.std.specs.declared.io.ErrorKind.{ErrorKind}
 use Rattle.std.specs.declared.io.ErrorKind.TheVariants.{TimedOut}
 use Rattle.tiny_http_wire.specs.declared.common.Method.{Method}
@@ -11,15 +11,23 @@ use Rattle.tiny_http_wire.specs.Device.{Feed}
 use Rattle.tiny_http_wire.specs.Chunks.{WholeChunks, CutChunks}
 use Rattle.tiny_http_wire.specs.Heads.{Message, BeginsWithRequestHead, FaultyHead, Cut, NotAscii, Malformed, version, is_too_new}
 use Rattle.tiny_http_stream.specs.Source.{seen_within}
-use Rattle.tiny_http_message.specs.declared.framing.TheConstants.{STRICT_HEAD}
+use Rattle.tiny_http_standard.specs.declared.judging.HeadSummary.{HeadSummary}
+use Rattle.tiny_http_standard.specs.declared.judging.Refusal.{Refusal as Judgement}
+use Rattle.tiny_http_standard.specs.declared.judging.Refusal.TheVariants as judged
+use Rattle.tiny_http_standard.specs.Judging.{is_1_0}
+use Rattle.tiny_http_standard.specs.Heads.{is_begun, Reading, ReadWhole, ReadBad, ReadOpen, AreReadAs}
+use Rattle.tiny_http_message.specs.declared.framing.TheConstants.{STRICT_HEAD, STANDARD_HEAD}
+use Rattle.tiny_http_message.specs.declared.framing.HeadRules.{HeadRules}
+use Rattle.tiny_http_message.specs.declared.framing.HeadRules.TheVariants as rules
 use Rattle.tiny_http_message.specs.declared.framing.Profile.{Profile}
-use Rattle.tiny_http_message.specs.declared.framing.Profile.TheVariants.{Lenient, Strict}
+use Rattle.tiny_http_message.specs.declared.framing.Profile.TheVariants.{Lenient, Strict, Standard}
 use Rattle.tiny_http_message.specs.declared.framing.FramingFault.{FramingFault}
 use Rattle.tiny_http_message.specs.declared.framing.FramingFault.TheVariants.{Invalid, Expectation}
 use Rattle.tiny_http_message.specs.declared.framing.Form.{Form}
 use Rattle.tiny_http_message.specs.declared.framing.Form.TheVariants.{Rest, Nothing, WithHead, Counted, Chunked}
 use Rattle.tiny_http_message.specs.declared.framing.Framing.{Framing}
 use Rattle.tiny_http_message.specs.Framing.{Frames}
+use Rattle.tiny_http_message.specs.FramingReading.{sized_form}
 
 -- a request that is handed out: its head, its framing, and what its body reader gives and how that closes
 pub record Request : Type 0 where
@@ -39,14 +47,23 @@ pub data Refusal : Type 0 where
   HeaderFieldsTooLarge : Refusal
   -- its version is above 1.1
   VersionNotSupported : Refusal
+  -- it is larger than the standard profile allows, in its request line
+  RequestLineTooLong : Refusal
+  -- its codings aren't understood
+  CodingNotImplemented : Refusal
+  -- its major version isn't 1, by the standard
+  MajorVersionNotSupported : Refusal
 
--- the status that says so (RFC 9110, sections 15.5.1, 15.5.9, 15.5.18 and 15.6.6; RFC 6585, section 5)
+-- the status that says so (RFC 9110, sections 15.5.1, 15.5.9, 15.5.15, 15.5.18, 15.6.2 and 15.6.6; RFC 6585, section 5)
 abbrev pub refusal_status : Refusal → ℕ
 refusal_status BadRequest = 400
 refusal_status RequestTimeout = 408
 refusal_status ExpectationFailed = 417
 refusal_status HeaderFieldsTooLarge = 431
 refusal_status VersionNotSupported = 505
+refusal_status RequestLineTooLong = 414
+refusal_status CodingNotImplemented = 501
+refusal_status MajorVersionNotSupported = 505
 
 -- how a head is refused whose framing is
 abbrev pub framing_refusal : FramingFault → Refusal
@@ -71,10 +88,10 @@ abbrev pub is_head_method : Method → Bool
 is_head_method Head = true
 is_head_method _ = false
 
--- the most bytes that a head may have, the CR LF of its empty line included; or None: any number
-abbrev pub head_limit : Profile → Option ℕ
-head_limit Lenient = None
-head_limit Strict = Some STRICT_HEAD
+-- BY THE RULES OF TINY_HTTP: the most bytes that a head may have, the CR LF of its empty line included; or None: any number
+abbrev pub head_limit : HeadRules → Option ℕ
+head_limit rules.Lenient = None
+head_limit rules.Strict = Some STRICT_HEAD
 
 -- the bytes begin with a head of at most so many bytes; what follows it is after
 abbrev pub BeginsWithin : Option ℕ → List ℕ → Message → List ℕ → Type 0
@@ -92,7 +109,7 @@ IsTooLarge None bytes v = ⊥
 IsTooLarge (Some limit) bytes v = (limit ≤ length bytes) × FaultyHead (take limit bytes) v Cut
 
 -- the bytes begin with a whole head, and this is how it is framed, or why it isn't
-pub record IsWholeHead (p : Profile) (bytes : List ℕ) (m : Message) (after : List ℕ) (framed : Result Framing FramingFault) : Type 0 where
+pub record IsWholeHead (p : HeadRules) (bytes : List ℕ) (m : Message) (after : List ℕ) (framed : Result Framing FramingFault) : Type 0 where
   pub begins : BeginsWithin (head_limit p) bytes m after
   pub frames : Frames p m.version m.headers framed
 
@@ -104,23 +121,30 @@ abbrev pub IsCutWithHead : Form → ℕ → List ℕ → Type 0
 IsCutWithHead WithHead n after = length after < n
 IsCutWithHead _ n after = ⊥
 
+abbrev pub is_cut_with_head : Form → ℕ → List ℕ → Bool
+is_cut_with_head WithHead n after = nat_lt (length after) n
+is_cut_with_head Nothing n after = false
+is_cut_with_head Counted n after = false
+is_cut_with_head Rest n after = false
+is_cut_with_head Chunked n after = false
+
 -- the head, or a body that is read with it, is cut
-abbrev pub IsCutHead : Profile → List ℕ → Type 0
+abbrev pub IsCutHead : HeadRules → List ℕ → Type 0
 IsCutHead p bytes =
     ((line : Option HTTPVersion) × IsUnfinishedHead (head_limit p) bytes line)
     ⊎ ((m : Message) × (after : List ℕ) × (f : Framing) × IsWholeHead p bytes m after (Ok f) × IsCutWithHead f.form (body_length_or_0 f) after)
 
 -- the first faulty line of a head, among the bytes in which it is looked for, isn't ASCII
-abbrev pub IsNotAsciiHead : Profile → List ℕ → Type 0
+abbrev pub IsNotAsciiHead : HeadRules → List ℕ → Type 0
 IsNotAsciiHead p bytes = (line : Option HTTPVersion) × FaultyHead (seen_within (head_limit p) bytes) line NotAscii
 
 -- NO ITEM: the head, or a body that is read with it, is cut, and not by a time-out; or its first faulty line isn't ASCII.
-abbrev pub IsSilent : Profile → List ℕ → Stop → Type 0
+abbrev pub IsSilent : HeadRules → List ℕ → Stop → Type 0
 IsSilent p bytes stop = (IsCutHead p bytes × (is_timed_out stop ≡ false)) ⊎ IsNotAsciiHead p bytes
 
 -- A REFUSAL in this version: that of the request line, or 1.1 where that hasn't ended; a 408 is always in 1.1. A version that is
 -- too new is judged by `item_of`, since a body follows it.
-abbrev pub IsRefused : Profile → List ℕ → Stop → Refusal → HTTPVersion → Type 0
+abbrev pub IsRefused : HeadRules → List ℕ → Stop → Refusal → HTTPVersion → Type 0
 IsRefused p bytes stop BadRequest v =
     ((line : Option HTTPVersion) × FaultyHead (seen_within (head_limit p) bytes) line Malformed × (v ≡ unwrap_or line (version 1 1)))
     ⊎ ((m : Message) × (after : List ℕ) × IsWholeHead p bytes m after (Err Invalid) × (v ≡ m.version))
@@ -128,11 +152,45 @@ IsRefused p bytes stop RequestTimeout v = IsCutHead p bytes × (is_timed_out sto
 IsRefused p bytes stop ExpectationFailed v = (m : Message) × (after : List ℕ) × IsWholeHead p bytes m after (Err Expectation) × (v ≡ m.version)
 IsRefused p bytes stop HeaderFieldsTooLarge v = (line : Option HTTPVersion) × IsTooLarge (head_limit p) bytes line × (v ≡ unwrap_or line (version 1 1))
 IsRefused p bytes stop VersionNotSupported v = ⊥
+IsRefused p bytes stop RequestLineTooLong v = ⊥
+IsRefused p bytes stop CodingNotImplemented v = ⊥
+IsRefused p bytes stop MajorVersionNotSupported v = ⊥
 
 -- A REQUEST's head, framed so: a body that is read with it has come.
-pub record IsRequestHead (p : Profile) (bytes : List ℕ) (m : Message) (f : Framing) (after : List ℕ) : Type 0 where
+pub record IsRequestHead (p : HeadRules) (bytes : List ℕ) (m : Message) (f : Framing) (after : List ℕ) : Type 0 where
   pub whole : IsWholeHead p bytes m after (Ok f)
   pub uncut : IsCutWithHead f.form (body_length_or_0 f) after → ⊥
+
+-- BY THE STANDARD the first bytes are read, as many as a head may have.
+abbrev pub standard_front : List ℕ → List ℕ
+standard_front bytes = take STANDARD_HEAD bytes
+
+-- version 1.0 stays, and each later one counts as 1.1
+abbrev pub served_version : HTTPVersion → HTTPVersion
+served_version v = if is_1_0 v then version 1 0 else version 1 1
+
+abbrev pub served_message : Message → Message
+served_message m = record { method = m.method; path = m.path; version = served_version m.version; headers = m.headers }
+
+-- how a head frames its message: an upgrade frames nothing
+abbrev pub standard_form : Bool → Bool → Option ℕ → Form
+standard_form true owed n = Chunked
+standard_form false owed n = sized_form owed n
+
+abbrev pub standard_framing : HeadSummary → Framing
+standard_framing s = record { form = standard_form s.is_chunked s.owes_continue s.body_length; owes_continue = s.owes_continue; body_length = s.body_length; is_last = s.is_last }
+
+-- how a head is refused by its judgement
+abbrev pub standard_refusal : Judgement → Refusal
+standard_refusal judged.UnsupportedVersion = MajorVersionNotSupported
+standard_refusal judged.InvalidHead = BadRequest
+standard_refusal judged.UnknownCoding = CodingNotImplemented
+standard_refusal judged.UnknownExpectation = ExpectationFailed
+
+-- as many bytes came as a head may have, and it hasn't ended: in its request line, or behind it
+abbrev pub long_refusal : Bool → Refusal
+long_refusal false = RequestLineTooLong
+long_refusal true = HeaderFieldsTooLarge
 
 -- what the bytes at a head's place are
 pub data Heading : Type 0 where
@@ -140,10 +198,45 @@ pub data Heading : Type 0 where
   Refused : (refusal : Refusal) (version : HTTPVersion) → Heading
   Heads : (message : Message) (framing : Framing) (after : List ℕ) → Heading
 
+-- WHAT STANDS THERE by the rules of tiny_http
+abbrev pub RulesHeadAt : HeadRules → List ℕ → Stop → Heading → Type 0
+RulesHeadAt p bytes stop Silence = IsSilent p bytes stop
+RulesHeadAt p bytes stop (Refused refusal v) = IsRefused p bytes stop refusal v
+RulesHeadAt p bytes stop (Heads m f after) = IsRequestHead p bytes m f after
+
+-- a head, or a body that is read with it, is cut: it is answered where it has begun and the reader timed out
+abbrev pub standard_cut : Bool → Stop → Heading
+standard_cut has_begun stop = if (has_begun && is_timed_out stop) then Refused RequestTimeout (version 1 1) else Silence
+
+-- a head that hasn't ended
+abbrev pub standard_open : Bool → List ℕ → Stop → Heading
+standard_open behind_request_line bytes stop =
+    if nat_lt (length bytes) STANDARD_HEAD then standard_cut (is_begun bytes) stop else Refused (long_refusal behind_request_line) (version 1 1)
+
+-- a whole head that is framed so; a short body of a known length is read with it
+abbrev pub standard_heads : Message → Framing → List ℕ → Stop → Heading
+standard_heads m f after stop = if is_cut_with_head f.form (body_length_or_0 f) after then standard_cut true stop else Heads m f after
+
+-- WHAT STANDS THERE by the standard, by what the first bytes are read as. All refusals are in version 1.1.
+abbrev pub standard_heading : Reading → List ℕ → Stop → Heading
+standard_heading ReadBad bytes stop = Refused BadRequest (version 1 1)
+standard_heading (ReadOpen behind_request_line) bytes stop = standard_open behind_request_line bytes stop
+standard_heading (ReadWhole m after (Err refusal)) bytes stop = Refused (standard_refusal refusal) (version 1 1)
+standard_heading (ReadWhole m after (Ok s)) bytes stop = standard_heads (served_message m) (standard_framing s) (after ++ drop STANDARD_HEAD bytes) stop
+
+abbrev pub StandardHeadAt : List ℕ → Stop → Heading → Type 0
+StandardHeadAt bytes stop h = (r : Reading) × AreReadAs (standard_front bytes) r × (h ≡ standard_heading r bytes stop)
+
+-- WHAT STANDS at a head's place
 abbrev pub HeadAt : Profile → List ℕ → Stop → Heading → Type 0
-HeadAt p bytes stop Silence = IsSilent p bytes stop
-HeadAt p bytes stop (Refused refusal v) = IsRefused p bytes stop refusal v
-HeadAt p bytes stop (Heads m f after) = IsRequestHead p bytes m f after
+HeadAt Lenient bytes stop h = RulesHeadAt rules.Lenient bytes stop h
+HeadAt Strict bytes stop h = RulesHeadAt rules.Strict bytes stop h
+HeadAt Standard bytes stop h = StandardHeadAt bytes stop h
+
+-- the profile that reads by these rules
+abbrev pub profile_of : HeadRules → Profile
+profile_of rules.Lenient = Lenient
+profile_of rules.Strict = Strict
 
 -- the bytes begin with a body of n bytes
 abbrev pub SizedBody : ℕ → List ℕ → Feed → Place → Type 0

@@ -1,4 +1,5 @@
--- The pipeline of a feed, computed: one plain reading, by which its law is proved.
+-- The pipeline of a feed, computed from what stands at each place; and that, by the rules of tiny_http: one plain reading, by which
+-- the law of pipelines is proved.
 use Rattle.std.specs.Prelude.{ℕ, zero, suc, ◌+◌, Bool, true, false, nat_lt, nat_le, List, [], ◌∷◌, ◌++◌, length, take, drop, Option, Some, None, unwrap_or, Result, Ok, Err, if◌then◌else◌}
 use Rattle.tiny_http_wire.specs.declared.device.Stop.{Stop}
 use Rattle.tiny_http_wire.specs.declared.device.Stop.TheVariants.{End, Fault as Faults}
@@ -8,13 +9,13 @@ use Rattle.tiny_http_wire.specs.Heads.{Message, GrammarFault, Cut, NotAscii, Mal
 use Rattle.tiny_http_wire.specs.HeadReading.{request_head_read, RequestHeadRead, Whole, Faulty}
 use Rattle.tiny_http_wire.specs.ChunkReading.{decoded, Decoded}
 use Rattle.tiny_http_stream.specs.Source.{seen_within}
-use Rattle.tiny_http_message.specs.declared.framing.Profile.{Profile}
+use Rattle.tiny_http_message.specs.declared.framing.HeadRules.{HeadRules}
 use Rattle.tiny_http_message.specs.declared.framing.FramingFault.{FramingFault}
 use Rattle.tiny_http_message.specs.declared.framing.Form.{Form}
 use Rattle.tiny_http_message.specs.declared.framing.Form.TheVariants.{Rest, Nothing, WithHead, Counted, Chunked}
 use Rattle.tiny_http_message.specs.declared.framing.Framing.{Framing}
 use Rattle.tiny_http_message.specs.FramingReading.{framing}
-use Rattle.tiny_http_message.specs.Pipeline.{Item, Refuses, BadRequest, RequestTimeout, HeaderFieldsTooLarge, framing_refusal, Place, is_timed_out, head_limit, Heading, Silence, Refused, Heads, body_length_or_0, item_of, next_place}
+use Rattle.tiny_http_message.specs.Pipeline.{Item, Refuses, BadRequest, RequestTimeout, HeaderFieldsTooLarge, framing_refusal, Place, is_timed_out, is_cut_with_head, head_limit, Heading, Silence, Refused, Heads, body_length_or_0, item_of, next_place}
 
 -- a body and where the next head begins
 pub record BodyRead : Type 0 where
@@ -36,13 +37,6 @@ body_read WithHead n after stop = sized_read n after stop
 body_read Counted n after stop = sized_read n after stop
 body_read Rest n after stop = record { body = record { bytes = after; stop = stop }; next = None }
 body_read Chunked n after stop = chunked_read (decoded (length after + 1) stop after)
-
-abbrev pub is_cut_with_head : Form → ℕ → List ℕ → Bool
-is_cut_with_head WithHead n after = nat_lt (length after) n
-is_cut_with_head Nothing n after = false
-is_cut_with_head Counted n after = false
-is_cut_with_head Rest n after = false
-is_cut_with_head Chunked n after = false
 
 -- the head, or a body that is read with it, is cut
 abbrev pub cut_heading : Stop → Heading
@@ -68,12 +62,12 @@ faulty full v Cut stop = if full then Refused HeaderFieldsTooLarge (unwrap_or v 
 faulty full v NotAscii stop = Silence
 faulty full v Malformed stop = Refused BadRequest (unwrap_or v (version 1 1))
 
-abbrev pub heading : Profile → List ℕ → Stop → RequestHeadRead → Heading
+abbrev pub heading : HeadRules → List ℕ → Stop → RequestHeadRead → Heading
 heading p bytes stop (Faulty v fault) = faulty (is_full (head_limit p) bytes) v fault stop
 heading p bytes stop (Whole m after) = whole_heading m (all_after (head_limit p) bytes after) stop (framing p m.version m.headers)
 
--- the heading at a place
-abbrev pub heading_of : Profile → Stop → List ℕ → Heading
+-- the heading at a place, by the rules of tiny_http
+abbrev pub heading_of : HeadRules → Stop → List ℕ → Heading
 heading_of p stop bytes = heading p bytes stop (request_head_read (seen_within (head_limit p) bytes))
 
 abbrev pub items_at : (Place → List Item) → Stop → Heading → List Item
@@ -83,10 +77,14 @@ items_at go stop (Heads m f after) =
     let b = body_read f.form (body_length_or_0 f) after stop in
     item_of m f b.body ∷ go (next_place m f b.next)
 
-abbrev pub items_from : Profile → ℕ → Stop → Place → List Item
-items_from p zero stop place = []
-items_from p (suc fuel) stop place = elim place [ None ↦ [] | Some bytes ↦ items_at (items_from p fuel stop) stop (heading_of p stop bytes) ]
+-- what stands at each place, for each stop of the feed
+abbrev pub Headings : Type 0
+Headings = Stop → List ℕ → Heading
 
--- the pipeline of a feed
-abbrev pub items_of : Profile → Feed → List Item
-items_of p feed = items_from p (length feed.bytes + 1) feed.stop (Some feed.bytes)
+abbrev pub items_from : Headings → ℕ → Stop → Place → List Item
+items_from at zero stop place = []
+items_from at (suc fuel) stop place = elim place [ None ↦ [] | Some bytes ↦ items_at (items_from at fuel stop) stop (at stop bytes) ]
+
+-- the pipeline of a feed, by what stands at each place
+abbrev pub items_of : Headings → Feed → List Item
+items_of at feed = items_from at (length feed.bytes + 1) feed.stop (Some feed.bytes)

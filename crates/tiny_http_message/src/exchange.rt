@@ -3,10 +3,10 @@ ghost use Rattle.std.specs.Prelude.{◌≡◌, ◌<◌, true, false, [], length,
 ghost use Rattle.std.specs.List.{list_all};
 ghost use Rattle.tiny_http_wire.specs.Bytes.{is_ascii};
 ghost use Rattle.tiny_http_sending.specs.ResponseValue.{upgrade_text};
-ghost use Rattle.tiny_http_stream.specs.Source.{GoesOn, IsAtEnd};
-ghost use Rattle.tiny_http_message.specs.Pipeline.{is_timed_out, ends_too_new, refusal_status, framing_refusal};
+ghost use Rattle.tiny_http_stream.specs.Source.{GoesOn, IsAtEnd, IsCutOff};
+ghost use Rattle.tiny_http_message.specs.Pipeline.{profile_of, is_timed_out, ends_too_new, refusal_status, framing_refusal};
 ghost use Rattle.tiny_http_message.specs.Body.{ReadsBody, PassesOver};
-ghost use Rattle.tiny_http_message.specs.HeadReads.{ReadsHead, RefusesWith, RefusesTooNew, AnswersCut, AnswersFault, TakesHead, HasByteOrTimedOut, Begins, IsCutOff, IsRequest, IsFramedRequest, IsRefusedUncut, IsOkEnd, cut_end, end_at, standing_of, message_of, head_message, head_framing};
+ghost use Rattle.tiny_http_message.specs.HeadReads.{ReadsHead, RefusesWith, RefusesTooNew, AnswersCut, AnswersFault, TakesHead, HasByteOrTimedOut, Begins, IsRequest, IsFramedRequest, IsRefusedUncut, IsOkEnd, cut_end, end_at, standing_of, message_of, head_message, head_framing};
 ghost use Rattle.tiny_http_message.specs.OpenRequest.{KeepsHead};
 ghost use Rattle.tiny_http_wire.specs.Device.{Feed};
 ghost use Rattle.tiny_http_stream.specs.Outlet.{outlet_held, SentOn};
@@ -15,10 +15,11 @@ ghost use Rattle.tiny_http_message.specs.OwnAnswer.{own_text_by};
 
 use crate::body::{Body, counted};
 pub use crate::framing::Form;
-use crate::framing::{Framing, FramingFault, Profile, framing_of, is_too_new};
+use crate::framing::{Framing, FramingFault, HeadRules, Profile, framing_of, is_too_new};
 use crate::heads::{HeadFault, Message, read_message};
 use crate::open_request::{OpenRequest, is_head};
 use crate::own_answer::{own_answer, too_new_answer};
+use crate::standard::read_standard;
 use crate::upgrading::{UpgradeError, check_protocol};
 use httpdate::HttpDate;
 use std::alloc::{AllocError, Global};
@@ -224,7 +225,7 @@ impl Exchange {
 }
 
 // Why no request comes from a source that stopped so before the head, or a body that is read with it, had come.
-fn cut_end(stop: Option<Stop>, has_begun: bool) -> EndOfRequests
+pub(crate) fn cut_end(stop: Option<Stop>, has_begun: bool) -> EndOfRequests
     ensures { IfSome stop (λ stop. result ≡ cut_end stop has_begun) }
 {
     match stop {
@@ -235,14 +236,14 @@ fn cut_end(stop: Option<Stop>, has_begun: bool) -> EndOfRequests
 }
 
 // Whether the input stopped by a time-out.
-fn is_timed_out(stop: Option<Stop>) -> bool
+pub(crate) fn is_timed_out(stop: Option<Stop>) -> bool
     ensures { IfSome stop (λ stop. result ≡ is_timed_out stop) }
 {
     matches!(stop, Some(Stop::Fault(ErrorKind::TimedOut)))
 }
 
 // Refuses a head by this status, in this version: the answer is empty, and no head follows.
-fn refused_with(
+pub(crate) fn refused_with(
     alloc: Global,
     status: StatusCode,
     version: HTTPVersion,
@@ -316,7 +317,7 @@ fn refuse_too_new<R: ReadDevice>(
 }
 
 // What a head is answered from a source that stopped so before it, or a body that is read with it, had come.
-fn answer_cut(
+pub(crate) fn answer_cut(
     alloc: Global,
     stop: Option<Stop>,
     has_begun: bool,
@@ -373,7 +374,12 @@ fn head_of(message: Message, framing: Framing) -> Head
 }
 
 // A request with this body; or no memory is found for the text that is sent if it is dropped.
-fn hand_out(alloc: Global, head: Head, body: Body, now: HttpDate) -> Result<Exchange, AllocError>
+pub(crate) fn hand_out(
+    alloc: Global,
+    head: Head,
+    body: Body,
+    now: HttpDate,
+) -> Result<Exchange, AllocError>
     ensures { IfOk result (λ x. (x.head ≡ head) × (x.open_request.body ≡ body) × KeepsHead x.open_request head now) }
 {
     let open_request = OpenRequest::new(alloc, &head, body, now)?;
@@ -407,18 +413,19 @@ pub fn begin_body<R: ReadDevice>(
     }
 }
 
-// What stands at the source's standing. After anything but a request the source may stand within a head or its body.
-fn read_item<R: ReadDevice>(
+// What stands at the source's standing, by the rules of tiny_http. After anything but a request the source may stand within a head
+// or its body.
+fn read_by_rules<R: ReadDevice>(
     alloc: Global,
     source: &mut Source<R>,
-    profile: Profile,
+    rules: HeadRules,
     now: HttpDate,
 ) -> Result<HeadRead, AllocError>
-    ensures reads { ReadsHead profile Standing.Head now source.old.feed source.new.feed result }
+    ensures reads { ReadsHead (profile_of rules) Standing.Head now source.old.feed source.new.feed result }
     ensures goes_on { GoesOn source.old.feed source.new.feed }
     ensures at_end { IsAtEnd source.old → IsOkEnd result × (source.new ≡ source.old) }
     ensures begun { (IsOkEnd result → ⊥) → HasByteOrTimedOut source.old.feed }
-    ensures framed { IfOk result (IsFramedRequest profile now) }
+    ensures framed { IfOk result (IsFramedRequest (profile_of rules) now) }
     ensures lazy { IfOk result (λ read. IsRequest read → source.new.stop ≡ source.old.stop) }
     ensures passed { IfOk result (λ read. IsRefusedUncut read → source.new.stop ≡ source.old.stop) }
     ensures standing { source.new.standing ≡ source.old.standing }
@@ -426,13 +433,13 @@ fn read_item<R: ReadDevice>(
     if !source.has_byte() {
         return answer_cut(alloc, source.stop(), false, now);
     }
-    let message = match read_message(alloc, source, profile.head_limit()) {
+    let message = match read_message(alloc, source, rules.head_limit()) {
         Ok(message) => message,
         Err((version, fault)) => {
             return answer_fault(alloc, version, fault, source.stop(), now);
         }
     };
-    let framing = match framing_of(profile, message.version, message.headers.as_slice()) {
+    let framing = match framing_of(rules, message.version, message.headers.as_slice()) {
         Ok(framing) => framing,
         Err(fault) => return refused_with(alloc, refusal_of(fault), message.version, now),
     };
@@ -449,6 +456,29 @@ fn read_item<R: ReadDevice>(
         }
         Ok(None) => answer_cut(alloc, source.stop(), true, now),
         Err(e) => Err(e),
+    }
+}
+
+// What stands at the source's standing. After anything but a request the source may stand within a head or its body.
+fn read_item<R: ReadDevice>(
+    alloc: Global,
+    source: &mut Source<R>,
+    profile: Profile,
+    now: HttpDate,
+) -> Result<HeadRead, AllocError>
+    ensures reads { ReadsHead profile Standing.Head now source.old.feed source.new.feed result }
+    ensures goes_on { GoesOn source.old.feed source.new.feed }
+    ensures at_end { IsAtEnd source.old → IsOkEnd result × (source.new ≡ source.old) }
+    ensures begun { (IsOkEnd result → ⊥) → HasByteOrTimedOut source.old.feed }
+    ensures framed { IfOk result (IsFramedRequest profile now) }
+    ensures lazy { IfOk result (λ read. IsRequest read → source.new.stop ≡ source.old.stop) }
+    ensures passed { IfOk result (λ read. IsRefusedUncut read → source.new.stop ≡ source.old.stop) }
+    ensures standing { source.new.standing ≡ source.old.standing }
+{
+    match profile {
+        Profile::Lenient => read_by_rules(alloc, source, HeadRules::Lenient, now),
+        Profile::Strict => read_by_rules(alloc, source, HeadRules::Strict, now),
+        Profile::Standard => read_standard(alloc, source, now),
     }
 }
 

@@ -19,6 +19,10 @@ pub const LONGEST_WITH_HEAD: usize = 1024;
 /// The most bytes of a head under `Strict`, the CR LF of its empty line included (RFC 6585, section 5, names no number).
 pub const STRICT_HEAD: usize = 65_536;
 
+/// The most bytes of a head under `Standard`, its empty lines included (RFC 9112, section 3, and RFC 6585, section 5, name no
+/// number).
+pub const STANDARD_HEAD: usize = 65_536;
+
 /// How strictly a head is judged.
 #[derive(Clone, Copy, Debug, PartialEq, Eq)]
 pub enum Profile {
@@ -29,9 +33,22 @@ pub enum Profile {
     /// `Transfer-Encoding`, a `Transfer-Encoding` that doesn't end in `chunked` (RFC 9112, sections 6.1 to 6.3), and a head of
     /// more than `STRICT_HEAD` bytes (RFC 6585, section 5).
     Strict,
+    /// By the standard (RFC 9110 and RFC 9112): a head has its grammar, and is judged by `tiny_http_standard`. All that `Strict`
+    /// refuses is refused, but for codings: `chunked` alone is served. A minor version above 1 counts as 1.1. No head is answered
+    /// by silence for a byte from 128 on, and no client by a 408 before it has begun a head.
+    Standard,
 }
 
-impl Profile {
+/// How a head is read that isn't read by the standard: by the grammar of tiny_http.
+#[derive(Clone, Copy, Debug, PartialEq, Eq)]
+pub enum HeadRules {
+    /// As `Profile::Lenient`.
+    Lenient,
+    /// As `Profile::Strict`.
+    Strict,
+}
+
+impl HeadRules {
     ghost use Rattle.tiny_http_message.specs.Pipeline.{head_limit};
 
     /// The most bytes that a head may have, the CR LF of its empty line included: `STRICT_HEAD` under `Strict`, and any number
@@ -40,8 +57,8 @@ impl Profile {
         ensures { result ≡ head_limit self }
     {
         match self {
-            Profile::Lenient => None,
-            Profile::Strict => Some(STRICT_HEAD),
+            HeadRules::Lenient => None,
+            HeadRules::Strict => Some(STRICT_HEAD),
         }
     }
 }
@@ -252,12 +269,12 @@ fn strict_length(headers: &[Header]) -> Result<Option<usize>, FramingFault>
 }
 
 // The length that the headers say, if any.
-fn body_length(profile: Profile, headers: &[Header]) -> Result<Option<usize>, FramingFault>
-    ensures { result ≡ body_length profile headers.now }
+fn body_length(rules: HeadRules, headers: &[Header]) -> Result<Option<usize>, FramingFault>
+    ensures { result ≡ body_length rules headers.now }
 {
-    match profile {
-        Profile::Lenient => Ok(lenient_length(headers)),
-        Profile::Strict => strict_length(headers),
+    match rules {
+        HeadRules::Lenient => Ok(lenient_length(headers)),
+        HeadRules::Strict => strict_length(headers),
     }
 }
 
@@ -272,7 +289,7 @@ fn expectation(headers: &[Header]) -> Option<bool>
     }
 }
 
-fn sized_form(owed: bool, length: Option<usize>) -> Form
+pub(crate) fn sized_form(owed: bool, length: Option<usize>) -> Form
     ensures { result ≡ sized_form owed length }
 {
     match length {
@@ -303,17 +320,17 @@ fn is_last(version: HTTPVersion, connection: Option<&AsciiString>) -> bool
         || (version.0 == 1 && version.1 == 0 && !mentions(connection, "keep-alive"))
 }
 
-/// The framing that version and headers give under this profile. It is an error where it is invalid, which is judged first, or
+/// The framing that version and headers give by these rules. It is an error where it is invalid, which is judged first, or
 /// where an expectation can't be met.
 #[tactic(auto, unfolding(crate::specs::FramingReading::framing))]
 pub fn framing_of(
-    profile: Profile,
+    rules: HeadRules,
     version: HTTPVersion,
     headers: &[Header],
 ) -> Result<Framing, FramingFault>
-    ensures { result ≡ framing profile version headers.now }
+    ensures { result ≡ framing rules version headers.now }
 {
-    let body_length = body_length(profile, headers)?;
+    let body_length = body_length(rules, headers)?;
     let Some(owed) = expectation(headers) else {
         return Err(FramingFault::Expectation);
     };

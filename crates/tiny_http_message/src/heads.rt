@@ -1,7 +1,7 @@
 //! The lines of a head.
 ghost use Rattle.std.specs.Prelude.{◌≡◌, ◌≢◌, None, Some, Err, OnOk, IfErr};
-ghost use Rattle.tiny_http_stream.specs.Source.{GoesOn, IsWithin, IsAtEnd};
-ghost use Rattle.tiny_http_message.specs.HeadReads.{IsBadLine, StartIn, FieldIn, FindsText, ReadsStart, ReadsField, ReadsFields, ReadsMessage, IsCutOff, head_fault, left_after};
+ghost use Rattle.tiny_http_stream.specs.Source.{GoesOn, IsWithin, IsAtEnd, IsCutOff};
+ghost use Rattle.tiny_http_message.specs.HeadReads.{IsBadLine, StartIn, FieldIn, FindsText, ReadsStart, ReadsField, ReadsFields, ReadsMessage, head_fault, left_after};
 
 use std::alloc::Global;
 use tiny_http_stream::source::{FirstLine, LineFault, Source};

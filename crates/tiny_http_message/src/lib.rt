@@ -10,4 +10,5 @@ pub mod laws;
 pub mod next_request;
 pub mod open_request;
 pub mod own_answer;
+mod standard;
 pub mod upgrading;

@@ -17,7 +17,7 @@ use Rattle.tiny_http_message.specs.declared.exchange.Head.{Head}
 use Rattle.tiny_http_message.specs.declared.framing.Framing.{Framing}
 use Rattle.tiny_http_message.specs.declared.framing.FramingFault.TheVariants.{Expectation}
 use Rattle.tiny_http_message.specs.declared.framing.Profile.{Profile}
-use Rattle.tiny_http_message.specs.declared.framing.Profile.TheVariants.{Lenient}
+use Rattle.tiny_http_message.specs.declared.framing.HeadRules.TheVariants.{Lenient}
 use Rattle.tiny_http_message.specs.FramingReading.{framing}
 use Rattle.tiny_http_message.specs.HeadReads.{Begins, IsFramedBy}
 use Rattle.tiny_http_message.specs.Pipeline.{IsCutWithHead, body_length_or_0}

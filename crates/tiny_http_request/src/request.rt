@@ -22,7 +22,7 @@ use tiny_http_corked::cork::FlushPolicy;
 use tiny_http_device::device::{ReadDevice, Stop, WriteDevice};
 use tiny_http_message::body::Body as Unread;
 use tiny_http_message::exchange::{Head, begin_body};
-use tiny_http_message::framing::{Framing, FramingFault, Profile, framing_of};
+use tiny_http_message::framing::{Framing, FramingFault, HeadRules, Profile, framing_of};
 use tiny_http_message::open_request::OpenRequest;
 pub use tiny_http_message::upgrading::UpgradeError;
 use tiny_http_message::upgrading::check_protocol;
@@ -366,10 +366,10 @@ pub fn new_request<R: ReadDevice + Drop, W: WriteDevice + Drop, Rt: Wait + Copy>
     ensures says { IfOk result (λ r. Says r secure remote_addr method path version × ((request_head r).headers ≡ headers)) }
     ensures framed { IfOk result (λ r. IsFramed r Profile.Lenient now) }
     ensures body { IfOk result (λ r. BeginsWith (head_framing (request_head r)) (R.feed source_data) (request_open r).body) }
-    ensures refused { framing Profile.Lenient version headers.items ≡ Err FramingFault.Expectation → result ≡ Err RequestCreationError.ExpectationFailed }
+    ensures refused { framing HeadRules.Lenient version headers.items ≡ Err FramingFault.Expectation → result ≡ Err RequestCreationError.ExpectationFailed }
     ensures fails { IfErr result (λ e. FailsBy e version headers.items (R.feed source_data)) }
 {
-    let framing = match framing_of(Profile::Lenient, version, headers.as_slice()) {
+    let framing = match framing_of(HeadRules::Lenient, version, headers.as_slice()) {
         Ok(framing) => framing,
         Err(_) => return Err(RequestCreationError::ExpectationFailed),
     };

@@ -1,20 +1,20 @@
 -- Each text is a line or isn't, and each head has a judgement.
-use Rattle.std.proofs.Common.{◌≡◌, ◌≢◌, refl, sym, ap, ◌∙◌, subst, ℕ, zero, suc, ◌+◌, ◌-◌, ◌<◌, ◌≤◌, ◌⊎◌, Bool, true, false, not, ◌&&◌, ◌||◌, List, [], ◌∷◌, ◌++◌, length, take, get_or, inl, inr, Option, Some, None, Result, Ok, Err, eqb-true, length-append, arith}
-use Rattle.std.specs.Prelude.{◌==◌, IsTrue, IsFalse, MatchBool, codes}
+use Rattle.std.proofs.Common.{◌≡◌, ◌≢◌, refl, sym, ap, ◌∙◌, subst, ℕ, suc, ◌+◌, ◌-◌, ◌<◌, ◌≤◌, ◌⊎◌, Bool, true, false, ◌||◌, List, [], ◌∷◌, ◌++◌, length, get_or, inl, inr, eqb-true, length-append, arith}
+use Rattle.std.specs.Prelude.{◌==◌, IsTrue, MatchBool, codes}
 use Rattle.std.specs.List.{list_all}
 use Rattle.std.specs.Str.{bytes_eq}
 use Rattle.std.specs.Char.{is_ascii_digit, is_ascii_graphic}
-use Rattle.std.proofs.lemmas.Bool.{and_parts, cases_lt}
+use Rattle.std.proofs.lemmas.Bool.{cases_lt}
 use Rattle.std.proofs.lemmas.Bool.Decides.{nat_tests}
 use Rattle.std.proofs.Math.Seq.{get_or-append_seam}
 use Rattle.httparse.specs.Grammar.{is_token, is_value_byte, is_ows}
-use Rattle.tiny_http_text.specs.Bytes.{HasNo, AreAscii, is_ascii, trimmed, colon}
+use Rattle.tiny_http_text.specs.Bytes.{HasNo, is_ascii, trimmed, colon}
 use Rattle.tiny_http_text.proofs.BytesLemmas.{trims-is}
 use Rattle.tiny_http_head.specs.Heads.{length_of}
 use Rattle.tiny_http_head.specs.declared.common.HTTPVersion.{HTTPVersion}
 use Rattle.tiny_http_standard.specs.Hosts.{IsBracketedAddress, is_registered_name, is_address_byte, IsHost, IsHostValue, IsAuthority, is_port_number}
 use Rattle.tiny_http_standard.specs.Lines.{IsVersion, IsTarget, is_origin_form, is_asterisk_form, is_absolute_form, RequestLine, IsNoRequestLine, must_be_ascii, FieldLine, IsNoFieldLine}
-use Rattle.tiny_http_standard.proofs.HostsLemmas.{contrary, inside, literal-is, one-port, no-port, value-port, authority-port, number-digits}
+use Rattle.tiny_http_standard.proofs.HostsLemmas.{contrary, inside, literal-is, no-port, value-port, authority-port, number-digits}
 use Rattle.tiny_http_standard.proofs.LinesLemmas.{version-is, no-space, one-space, line-parts, no-colon, field-parts}
 
 abbrev pub Decided : Type 0 → Type 0

@@ -1,6 +1,6 @@
 -- All bytes have a reading, and each head a judgement.
-use Rattle.std.proofs.Common.{◌≡◌, ◌≢◌, refl, sym, ap, ◌∙◌, subst, ℕ, zero, suc, ◌<◌, ◌≤◌, ◌⊎◌, Bool, true, false, not, ◌||◌, List, [], ◌∷◌, ◌++◌, length, inl, inr, Result, Ok, Err, Option, eqb-true, append_assoc, arith}
-use Rattle.std.specs.Prelude.{◌==◌, IsTrue, IsFalse, codes}
+use Rattle.std.proofs.Common.{◌≡◌, refl, sym, ap, ◌∙◌, subst, ℕ, zero, suc, ◌≤◌, ◌⊎◌, Bool, true, false, not, List, [], ◌∷◌, ◌++◌, length, inl, inr, Result, Ok, Err, Option, eqb-true, append_assoc, arith}
+use Rattle.std.specs.Prelude.{◌==◌, codes}
 use Rattle.std.specs.List.{list_all}
 use Rattle.std.proofs.lemmas.Bool.{and_parts}
 use Rattle.std.proofs.lemmas.List.Folds.{list_all-append}
@@ -12,11 +12,10 @@ use Rattle.tiny_http_head.specs.Heads.{Message, method_of}
 use Rattle.tiny_http_standard.specs.declared.judging.HeadSummary.{HeadSummary}
 use Rattle.tiny_http_standard.specs.declared.judging.Refusal.{Refusal}
 use Rattle.tiny_http_standard.specs.declared.judging.Refusal.TheVariants.{UnsupportedVersion, InvalidHead, UnknownExpectation}
-use Rattle.tiny_http_standard.specs.Hosts.{IsHostValue}
-use Rattle.tiny_http_standard.specs.Lines.{percent_encoded, IsNoRequestLine, ReadsFieldLine}
+use Rattle.tiny_http_standard.specs.Lines.{percent_encoded, ReadsFieldLine}
 use Rattle.tiny_http_standard.specs.Lists.{values_of, has_element_that}
-use Rattle.tiny_http_standard.specs.Judging.{is_1_0, HasValidHost, IsFramedRequest, Judges, owes_continue, asks_upgrade, is_last, is_unknown_expectation}
-use Rattle.tiny_http_standard.specs.Heads.{line_feed, is_carriage_return, Line, BeginsWithBareLine, behind_empty_line, BeginsWithRequestLine, BeginsWithFieldLines, BeginsWithHead, IsNoFieldOrEnd, ComesToField, HasBadLine, HasOpenRequestLine, HasOpenField, Reading, ReadWhole, ReadBad, ReadOpen, AreReadAs}
+use Rattle.tiny_http_standard.specs.Judging.{is_1_0, HasValidHost, Judges, owes_continue, asks_upgrade, is_last, is_unknown_expectation}
+use Rattle.tiny_http_standard.specs.Heads.{line_feed, is_carriage_return, Line, BeginsWithBareLine, behind_empty_line, BeginsWithRequestLine, BeginsWithFieldLines, BeginsWithHead, ComesToField, HasBadLine, HasOpenRequestLine, HasOpenField, Reading, ReadWhole, ReadBad, ReadOpen, AreReadAs}
 use Rattle.tiny_http_standard.proofs.HostsLemmas.{contrary}
 use Rattle.tiny_http_standard.proofs.HeadsLemmas.{line-shorter}
 use Rattle.tiny_http_standard.proofs.JudgeLemmas.{body_read, judge-served, judge-fails}

@@ -1,29 +1,24 @@
 -- From the lines of a source to a head.
-use Rattle.std.proofs.Common.{◌≡◌, ◌≢◌, refl, sym, ap, ◌∙◌, subst, ℕ, zero, suc, ◌+◌, ◌-◌, ◌<◌, ◌≤◌, ◌⊎◌, inl, inr, Bool, true, false, not, List, [], ◌∷◌, ◌++◌, length, take, drop, Option, Some, None, Result, Ok, Err, append_assoc, append-nil, length-append, take_all, length-take, length-take-le, arith, eqb-true}
-use Rattle.std.specs.Prelude.{◌==◌, ◌&&◌, ◌||◌, IfSome, IsErr, IfErr, IfOk}
+use Rattle.std.proofs.Common.{◌≡◌, refl, sym, ap, ◌∙◌, subst, ℕ, suc, ◌+◌, ◌-◌, ◌<◌, inl, inr, Bool, true, false, not, List, [], ◌∷◌, ◌++◌, length, take, Option, Some, None, Result, Ok, Err, append_assoc, append-nil, length-append, take_all, length-take-le, arith}
+use Rattle.std.specs.Prelude.{◌==◌, ◌||◌}
 use Rattle.std.specs.List.{list_all}
-use Rattle.std.specs.Global.{Vec}
-use Rattle.std.specs.declared.alloc.AllocError.{AllocError}
 use Rattle.std.proofs.lemmas.Bool.{and_parts}
 use Rattle.std.proofs.lemmas.List.{take-append-le}
 use Rattle.std.proofs.lemmas.List.Folds.{list_all-append}
-use Rattle.tiny_http_text.specs.Bytes.{HasNo, has_bare_end}
+use Rattle.tiny_http_text.specs.Bytes.{HasNo}
 use Rattle.tiny_http_device.specs.Device.{Feed, prepend, prepended}
-use Rattle.tiny_http_stream.specs.Source.{SourceState, GoesOn, feed_from}
-use Rattle.tiny_http_stream.specs.ToCome.{HasNoByte, stopped}
+use Rattle.tiny_http_stream.specs.Source.{feed_from}
 use Rattle.tiny_http_head.specs.declared.common.Method.{Method}
 use Rattle.tiny_http_head.specs.declared.common.HTTPVersion.{HTTPVersion}
 use Rattle.tiny_http_head.specs.declared.common.Header.{Header}
-use Rattle.tiny_http_standard.specs.declared.heads.HeadFault.{HeadFault}
 use Rattle.tiny_http_standard.specs.declared.heads.HeadFault.TheVariants.{BadLine, RequestLineTooLong, HeaderFieldsTooLarge, Judged}
 use Rattle.tiny_http_standard.specs.declared.source_lines.NoLine.{NoLine}
 use Rattle.tiny_http_standard.specs.declared.source_lines.NoLine.TheVariants as no_line
 use Rattle.tiny_http_standard.specs.declared.source_heads.NoHead.{NoHead}
 use Rattle.tiny_http_standard.specs.declared.source_heads.NoHead.TheVariants.{Refused, Unfinished, Memory}
-use Rattle.tiny_http_standard.specs.Lines.{ReadsRequestLine, IsNoRequestLine, ReadsFieldLine}
-use Rattle.tiny_http_standard.specs.SourceLines.{EndsLine, Passes, TakesLine, HasNoLine}
-use Rattle.tiny_http_standard.specs.Heads.{line_feed, carriage_return, is_carriage_return, Line, BeginsWithBareLine, behind_empty_line, BeginsWithRequestLine, BeginsWithFieldLines, BeginsWithBadLine, IsNoFieldOrEnd}
-use Rattle.tiny_http_standard.specs.SourceHeads.{IsBadLine, IsNoRequestOrEmpty, RequestIn, FieldIn, no_head, IsSpent, TakesText, IsLong, IsShort, ReadsRequest, ReadsField}
+use Rattle.tiny_http_standard.specs.SourceLines.{EndsLine, TakesLine, HasNoLine}
+use Rattle.tiny_http_standard.specs.Heads.{line_feed, carriage_return, Line, BeginsWithBadLine, IsNoFieldOrEnd}
+use Rattle.tiny_http_standard.specs.SourceHeads.{IsBadLine, IsNoRequestOrEmpty, RequestIn, FieldIn, no_head, IsSpent, TakesText, IsLong, ReadsRequest, ReadsField}
 
 -- what a limit lets through of a line and what is behind it
 window : (limit left : ℕ) (line rest : List ℕ) → length line + 1 + left ≡ limit → take limit (line ++ line_feed ∷ rest) ≡ line ++ line_feed ∷ take left rest

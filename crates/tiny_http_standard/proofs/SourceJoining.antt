@@ -1,20 +1,18 @@
 -- The parts of a head that are read from a source, joined.
-use Rattle.std.proofs.Common.{◌≡◌, ◌≢◌, refl, sym, ap, ◌∙◌, subst, ℕ, zero, suc, ◌+◌, ◌-◌, ◌<◌, ◌≤◌, ◌⊎◌, inl, inr, Bool, true, false, not, List, [], ◌∷◌, ◌++◌, length, take, drop, length-take, Option, Some, None, Result, Ok, Err, length-append, take_all, arith, eqb-true}
+use Rattle.std.proofs.Common.{◌≡◌, ◌≢◌, refl, sym, ap, ◌∙◌, subst, ℕ, ◌+◌, ◌-◌, ◌<◌, ◌≤◌, inl, inr, Bool, true, false, not, List, [], ◌∷◌, ◌++◌, length, take, drop, length-take, Option, Some, None, Result, Ok, Err, length-append, take_all, arith, eqb-true}
 use Rattle.std.proofs.Math.Seq.{drop-append_seam}
-use Rattle.std.specs.Prelude.{◌==◌, ◌&&◌, IsErr, IfOk, IsTrue, if◌then◌else◌}
+use Rattle.std.specs.Prelude.{◌==◌, IfOk, IsTrue}
 use Rattle.std.specs.Global.{Vec}
 use Rattle.std.specs.declared.alloc.AllocError.{AllocError}
 use Rattle.std.proofs.lemmas.Bool.{and_parts}
 use Rattle.tiny_http_text.specs.Bytes.{HasNo, has_bare_end}
 use Rattle.tiny_http_device.specs.Device.{Feed}
-use Rattle.tiny_http_stream.specs.Source.{SourceState, GoesOn, feed_from}
-use Rattle.tiny_http_stream.specs.ToCome.{stopped}
+use Rattle.tiny_http_stream.specs.Source.{SourceState, GoesOn, IsCutOff, feed_from}
 use Rattle.tiny_http_head.specs.declared.common.Method.{Method}
 use Rattle.tiny_http_head.specs.declared.common.HTTPVersion.{HTTPVersion}
 use Rattle.tiny_http_head.specs.declared.common.Header.{Header}
 use Rattle.tiny_http_head.specs.Heads.{Message}
 use Rattle.tiny_http_standard.specs.declared.heads.Head.{Head}
-use Rattle.tiny_http_standard.specs.declared.heads.HeadFault.{HeadFault}
 use Rattle.tiny_http_standard.specs.declared.heads.HeadFault.TheVariants.{BadLine, RequestLineTooLong, HeaderFieldsTooLarge, Judged}
 use Rattle.tiny_http_standard.specs.declared.heads.HeadRead.{HeadRead}
 use Rattle.tiny_http_standard.specs.declared.heads.HeadRead.TheVariants as read
@@ -22,13 +20,11 @@ use Rattle.tiny_http_standard.specs.declared.judging.Refusal.{Refusal}
 use Rattle.tiny_http_standard.specs.declared.heads.Stop.TheVariants as stop
 use Rattle.tiny_http_standard.specs.declared.source_heads.NoHead.{NoHead}
 use Rattle.tiny_http_standard.specs.declared.source_heads.NoHead.TheVariants.{Refused, Unfinished, Memory}
-use Rattle.tiny_http_standard.specs.Lines.{RequestLine, ReadsRequestLine, IsNoRequestLine, ReadsFieldLine}
+use Rattle.tiny_http_standard.specs.Lines.{ReadsRequestLine, IsNoRequestLine}
 use Rattle.tiny_http_standard.specs.Judging.{Judges}
-use Rattle.tiny_http_standard.specs.SourceLines.{IsCutOff}
-use Rattle.tiny_http_standard.specs.Heads.{line_feed, carriage_return, is_carriage_return, Line, BeginsWithBareLine, behind_empty_line, BeginsWithRequestLine, BeginsWithFieldLines, BeginsWithBadLine, IsNoFieldOrEnd, HasOpenRequestLine, HasOpenField, BeginsWithHead, is_begun, message_of, Reads}
-use Rattle.tiny_http_standard.specs.HeadParts.{StopsFields, EndsFields}
-use Rattle.tiny_http_standard.specs.SourceHeads.{IsNoRequestOrEmpty, IsSpent, TakesText, IsShort, ReadsRequest, ReadsField, ReadsStart, HasReadFields, ReadsFields, IsWithoutHead, LeavesBehind, ReadsFrom, IsUnfinished, IsUnfinishedRead}
-use Rattle.tiny_http_standard.proofs.HeadsLemmas.{more-fields, whole-head, fields-stop, open-request, open-field}
+use Rattle.tiny_http_standard.specs.Heads.{line_feed, carriage_return, is_carriage_return, Line, BeginsWithBareLine, behind_empty_line, BeginsWithRequestLine, BeginsWithFieldLines, BeginsWithBadLine, HasOpenRequestLine, HasOpenField, BeginsWithHead, is_begun, message_of}
+use Rattle.tiny_http_standard.specs.SourceHeads.{IsNoRequestOrEmpty, IsSpent, TakesText, ReadsRequest, ReadsField, ReadsStart, HasReadFields, ReadsFields, IsWithoutHead, ReadsFrom}
+use Rattle.tiny_http_standard.proofs.HeadsLemmas.{more-fields, whole-head, fields-stop}
 
 -- bytes that don't begin with an empty line
 kept : (w : List ℕ) → ((bs : List ℕ) → w ≡ 13 ∷ 10 ∷ bs → ⊥) → behind_empty_line w ≡ w

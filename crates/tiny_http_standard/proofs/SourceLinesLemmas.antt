@@ -1,15 +1,13 @@
 -- Lines of a source, found and joined.
-use Rattle.std.proofs.Common.{◌≡◌, refl, sym, ap, ◌∙◌, subst, ℕ, zero, suc, ◌+◌, ◌-◌, ◌<◌, ◌≤◌, Bool, true, false, not, List, [], ◌∷◌, ◌++◌, length, take, drop, slice_index_or, Option, Some, None, append_assoc, append-nil, length-append, take-take, take_all, length-take, length-take-le, arith, eqb-true}
+use Rattle.std.proofs.Common.{◌≡◌, refl, sym, ap, ◌∙◌, subst, ℕ, zero, suc, ◌+◌, ◌<◌, ◌≤◌, Bool, true, false, not, List, [], ◌∷◌, ◌++◌, length, take, slice_index_or, Option, Some, None, take-take, take_all, length-take, arith, eqb-true}
 use Rattle.std.specs.Prelude.{◌==◌, ◌&&◌, IfSome, IfNone}
 use Rattle.std.specs.List.{list_all}
 use Rattle.std.proofs.Math.Seq.{take-suc}
 use Rattle.std.proofs.lemmas.List.Folds.{list_all-append}
 use Rattle.memchr.specs.Find.{IsFirstByte, is_byte}
 use Rattle.tiny_http_text.specs.Bytes.{HasNo}
-use Rattle.tiny_http_device.specs.Device.{Feed, prepended}
-use Rattle.tiny_http_device.proofs.DeviceFeeds.{given-along}
 use Rattle.tiny_http_standard.specs.Heads.{line_feed}
-use Rattle.tiny_http_standard.specs.SourceLines.{EndsLine, Passes, TakesLine}
+use Rattle.tiny_http_standard.specs.SourceLines.{EndsLine}
 
 -- no LF stands among so many bytes
 front-has_no : (n : ℕ) (bytes : List ℕ) → n ≤ length bytes → ((i : ℕ) → i < n → (slice_index_or bytes i 0 == line_feed) ≡ true → ⊥) → HasNo line_feed (take n bytes)
@@ -51,13 +49,13 @@ joined-has_no a b h k = list_all-append (λ x. not (x == line_feed)) a b ∙ rw 
 -- a line among the bytes that a limit lets through
 pub line-within : (limit n : ℕ) (held : List ℕ) → EndsLine (take limit held) n → EndsLine held n × (n < limit)
 line-within limit n held e = (
-      record {
-        within = omega (arith, e.within, short);
-        ends = sym (take-take (n + 1) limit held low) ∙ e.ends ∙ ap (λ (x : List ℕ). x ++ line_feed ∷ []) (take-take n limit held (omega (arith, low)));
-        first = subst (HasNo line_feed) (take-take n limit held (omega (arith, low))) e.first;
-      },
-      omega (arith, low),
-    )
+  record {
+    within = omega (arith, e.within, short);
+    ends = sym (take-take (n + 1) limit held low) ∙ e.ends ∙ ap (λ (x : List ℕ). x ++ line_feed ∷ []) (take-take n limit held (omega (arith, low)));
+    first = subst (HasNo line_feed) (take-take n limit held (omega (arith, low))) e.first;
+  },
+  omega (arith, low),
+)
   where
     short : length (take limit held) ≤ length held
     short = grind (arith, length-take)

@@ -9,15 +9,16 @@ use Rattle.tiny_http_head.specs.declared.common.Method.{Method}
 use Rattle.tiny_http_head.specs.declared.common.HTTPVersion.{HTTPVersion}
 use Rattle.tiny_http_head.specs.declared.common.Header.{Header}
 use Rattle.tiny_http_standard.specs.declared.heads.HeadFault.{HeadFault}
-use Rattle.tiny_http_standard.specs.declared.heads.HeadFault.TheVariants.{BadLine, RequestLineTooLong, HeaderFieldsTooLarge, Judged}
+use Rattle.tiny_http_standard.specs.declared.heads.HeadFault.TheVariants.{BadLine, RequestLineTooLong, HeaderFieldsTooLarge}
 use Rattle.tiny_http_standard.specs.declared.heads.HeadRead.{HeadRead}
 use Rattle.tiny_http_standard.specs.declared.heads.HeadRead.TheVariants as read
 use Rattle.tiny_http_standard.specs.declared.source_lines.NoLine.{NoLine}
 use Rattle.tiny_http_standard.specs.declared.source_lines.NoLine.TheVariants as no_line
 use Rattle.tiny_http_standard.specs.declared.source_heads.NoHead.{NoHead}
 use Rattle.tiny_http_standard.specs.declared.source_heads.NoHead.TheVariants.{Refused, Unfinished, Memory}
-use Rattle.tiny_http_standard.specs.Lines.{ReadsRequestLine, IsNoRequestLine, ReadsFieldLine, IsNoFieldLine}
+use Rattle.tiny_http_standard.specs.Lines.{ReadsRequestLine, IsNoRequestLine, ReadsFieldLine}
 use Rattle.tiny_http_standard.specs.declared.heads.Stop.TheVariants as stop
+use Rattle.tiny_http_standard.specs.Judging.{Judges}
 use Rattle.tiny_http_standard.specs.HeadParts.{StopsFields, EndsFields}
 use Rattle.tiny_http_standard.specs.Heads.{line_feed, carriage_return, is_carriage_return, Line, behind_empty_line, BeginsWithRequestLine, BeginsWithFieldLines, BeginsWithBadLine, IsNoFieldOrEnd, HasOpenRequestLine, is_begun, Reads}
 
@@ -144,3 +145,8 @@ LeavesBehind f new _ = ⊤
 abbrev pub ReadsFrom : ℕ → Option Feed → Option Feed → HeadRead → Type 0
 ReadsFrom limit None new r = ⊤
 ReadsFrom limit (Some f) new r = Reads limit f.bytes r × LeavesBehind f new r
+
+-- whatever the source states: a whole head is judged as it says
+abbrev pub IsJudged : HeadRead → Type 0
+IsJudged (read.Whole h) = Judges h.version h.method h.headers.items (Ok h.summary)
+IsJudged _ = ⊤

@@ -1,9 +1,8 @@
 -- A line of the bytes that a source still gives: up to its first LF, and within a limit.
-use Rattle.std.specs.Prelude.{◌≡◌, ℕ, ◌+◌, ◌<◌, ◌≤◌, ⊤, ◌==◌, not, true, Some, List, [], ◌∷◌, ◌++◌, length, take, Option}
+use Rattle.std.specs.Prelude.{◌≡◌, ℕ, ◌+◌, ◌<◌, ◌≤◌, ⊤, ◌==◌, not, List, [], ◌∷◌, ◌++◌, length, take, Option}
 use Rattle.tiny_http_text.specs.Bytes.{HasNo}
 use Rattle.tiny_http_device.specs.Device.{Feed, prepended, TakesFront}
-use Rattle.tiny_http_stream.specs.ToCome.{HasNoByte, stopped}
-use Rattle.tiny_http_stream.specs.Source.{SourceState}
+use Rattle.tiny_http_stream.specs.ToCome.{HasNoByte}
 use Rattle.tiny_http_standard.specs.declared.source_lines.FoundLine.{FoundLine}
 use Rattle.tiny_http_standard.specs.declared.source_lines.FoundLine.TheVariants.{Held, Taken}
 use Rattle.tiny_http_standard.specs.declared.source_lines.NoLine.{NoLine}
@@ -36,11 +35,6 @@ FindsLine limit old new held skip (Taken line) = TakesLine limit old new line.it
 abbrev pub IsCut : NoLine → Type 0
 IsCut (Cut has_begun) = ⊤
 IsCut _ = ⊥
-
--- nothing is left of the input, and it stopped as its feed does
-pub record IsCutOff {R : Type 0} (old new : SourceState R) : Type 0 where
-  pub over : new.is_over ≡ true
-  pub remains : (f : Feed) → old.feed ≡ Some f → new.feed ≡ Some (stopped f.stop)
 
 -- why there is no line within the limit
 abbrev pub HasNoLine : ℕ → Option Feed → Option Feed → NoLine → Type 0

@@ -1,10 +1,9 @@
 //! Whole heads by the standard, read from a source (RFC 9112, sections 2.2, 3 and 5).
 ghost use Rattle.std.specs.Prelude.{◌≡◌, ◌<◌, ◌≤◌, ◌++◌, ◌∷◌, [], IsTrue, IfSome, IfNone, IfOk, IfErr, OnOk};
 ghost use Rattle.tiny_http_text.specs.Bytes.{has_bare_end};
-ghost use Rattle.tiny_http_stream.specs.Source.{GoesOn};
+ghost use Rattle.tiny_http_stream.specs.Source.{GoesOn, IsCutOff};
 ghost use Rattle.tiny_http_standard.specs.Heads.{carriage_return, is_carriage_return};
-ghost use Rattle.tiny_http_standard.specs.SourceLines.{IsCutOff};
-ghost use Rattle.tiny_http_standard.specs.SourceHeads.{RequestIn, FieldIn, ReadsRequest, ReadsField, ReadsStart, ReadsFields, ReadsFrom, no_head, IsWithoutHead, IsUnfinished, IsUnfinishedRead};
+ghost use Rattle.tiny_http_standard.specs.SourceHeads.{RequestIn, FieldIn, ReadsRequest, ReadsField, ReadsStart, ReadsFields, ReadsFrom, IsJudged, no_head, IsWithoutHead, IsUnfinished, IsUnfinishedRead};
 
 use crate::heads::{Head, HeadFault, HeadRead};
 use crate::judging::judge;
@@ -223,6 +222,7 @@ pub fn read_head_from<R: ReadDevice>(
     limit: usize,
 ) -> Result<HeadRead, AllocError>
     ensures reads { IfOk result (λ read. ReadsFrom limit source.old.feed source.new.feed read) }
+    ensures judged { IfOk result IsJudged }
     ensures goes_on { GoesOn source.old.feed source.new.feed }
     ensures cut { IfOk result (λ read. IsUnfinishedRead read → IsCutOff source.old source.new) }
     ensures lazy { IfOk result (λ read. (IsUnfinishedRead read → ⊥) → source.new.stop ≡ source.old.stop) }

@@ -1,9 +1,9 @@
 //! Lines of the bytes that a source still gives, each up to its first LF (RFC 9112, section 2.2).
 ghost use Rattle.std.specs.Prelude.{◌≡◌, IfSome, IfNone, IfOk, IfErr, OnOk, true, take};
 ghost use Rattle.tiny_http_text.specs.Bytes.{HasNo};
-ghost use Rattle.tiny_http_stream.specs.Source.{GoesOn};
+ghost use Rattle.tiny_http_stream.specs.Source.{GoesOn, IsCutOff};
 ghost use Rattle.tiny_http_standard.specs.Heads.{line_feed};
-ghost use Rattle.tiny_http_standard.specs.SourceLines.{EndsLine, TakesLine, FindsLine, HasNoLine, IsCut, IsCutOff};
+ghost use Rattle.tiny_http_standard.specs.SourceLines.{EndsLine, TakesLine, FindsLine, HasNoLine, IsCut};
 
 use memchr::memchr;
 use std::alloc::Global;

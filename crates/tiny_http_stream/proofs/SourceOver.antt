@@ -1,6 +1,6 @@
 -- A source that is over: its input is, and stays so.
 use Rattle.std.proofs.Common.{◌≡◌, ◌≢◌, refl, ap, true, ℕ, List, [], ◌∷◌, Option, Some, length, arith}
-use Rattle.std.specs.Prelude.{◌&&◌, ◌==◌, is_some, IfSome, IsSome}
+use Rattle.std.specs.Prelude.{◌&&◌, ◌==◌, is_some, IfSome}
 use Rattle.std.proofs.lemmas.Bool.{and_parts, eqb-true}
 use Rattle.tiny_http_device.specs.Device.{Feed}
 use Rattle.tiny_http_device.specs.declared.device.Stop.{Stop}

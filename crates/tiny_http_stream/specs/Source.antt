@@ -132,6 +132,11 @@ GoesOn None new = ⊤
 GoesOn (Some old) None = ⊥
 GoesOn (Some old) (Some new) = IsRestOf old new
 
+-- nothing is left of the input, and it stopped as its feed does
+pub record IsCutOff {R : Type 0} (old new : SourceState R) : Type 0 where
+  pub over : new.is_over ≡ true
+  pub remains : (f : Feed) → old.feed ≡ Some f → new.feed ≡ Some (stopped f.stop)
+
 -- THE CALLS OF A SOURCE. Each leaves it where it stands. After an end or a fault the reader isn't called again (`once`). Nothing is
 -- read ahead: where a call gave what was asked for no end or fault was met in it (`lazy`), and where that was held the reader
 -- isn't called (`held`).

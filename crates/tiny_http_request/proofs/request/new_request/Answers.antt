@@ -1,7 +1,7 @@
 use Rattle.std.proofs.Common.{rules, ◌≡◌, sym, ap, ◌∙◌, subst, Option, Some, Err}
 use Rattle.tiny_http_device.specs.Device.{Feed}
 use Rattle.tiny_http_message.specs.declared.body.Body.{Body}
-use Rattle.tiny_http_message.specs.declared.framing.Profile.TheVariants.{Lenient}
+use Rattle.tiny_http_message.specs.declared.framing.HeadRules.TheVariants.{Lenient}
 use Rattle.tiny_http_message.specs.declared.framing.Framing.{Framing}
 use Rattle.tiny_http_message.specs.FramingReading.{framing}
 use Rattle.tiny_http_message.proofs.FramingLemmas.{lenient-fault}

@@ -3,7 +3,7 @@ use Rattle.std.specs.Result.{is_ok}
 use Rattle.tiny_http_head.specs.declared.common.Header.{Header}
 use Rattle.tiny_http_stream.proofs.SourceGoesOn.{goes-on_same, goes-on_more}
 use Rattle.tiny_http_standard.specs.SourceHeads.{HasReadFields}
-use Rattle.tiny_http_standard.proofs.SourceJoining.{fields-none, fields-more, fields-end, fields-err, fields-memory, cut-behind, fields-go}
+use Rattle.tiny_http_standard.proofs.SourceJoining.{fields-none, fields-more}
 use Rattle.tiny_http_standard.proofs.source_heads.read_fields.Goals as goal
 
 pub loop-header-init : goal.loop-header-init

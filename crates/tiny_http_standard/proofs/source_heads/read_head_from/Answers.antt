@@ -1,10 +1,10 @@
-use Rattle.std.proofs.Common.{rules, refl, sym, subst, List, Result, Err, Ok}
+use Rattle.std.proofs.Common.{rules, refl, subst, List, Result}
 use Rattle.tiny_http_head.specs.declared.common.Header.{Header}
 use Rattle.tiny_http_stream.proofs.SourceGoesOn.{goes-on_more}
 use Rattle.tiny_http_standard.specs.declared.judging.HeadSummary.{HeadSummary}
 use Rattle.tiny_http_standard.specs.declared.judging.Refusal.{Refusal}
 use Rattle.tiny_http_standard.specs.Judging.{Judges}
-use Rattle.tiny_http_standard.proofs.SourceJoining.{reads-start_err, fields-err-read, reads-whole_head, reads-refused_head, cut-behind, start-goes}
+use Rattle.tiny_http_standard.proofs.SourceJoining.{fields-err-read, reads-whole_head, reads-refused_head}
 use Rattle.tiny_http_standard.proofs.source_heads.read_head_from.Goals as goal
 
 pub returns-in-Err-read_fields-clause-goes_on : goal.returns-in-Err-read_fields-clause-goes_on

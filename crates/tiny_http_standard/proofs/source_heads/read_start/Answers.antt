@@ -1,6 +1,5 @@
-use Rattle.std.proofs.Common.{rules}
 use Rattle.tiny_http_stream.proofs.SourceGoesOn.{goes-on_more}
-use Rattle.tiny_http_standard.proofs.SourceJoining.{first-some, first-err, then-some, then-err, then-empty, cut-behind, empty-goes}
+use Rattle.tiny_http_standard.proofs.SourceJoining.{first-some, first-err, then-empty}
 use Rattle.tiny_http_standard.proofs.source_heads.read_start.Goals as goal
 
 pub returns-in-Ok-Some-read_request-clause-goes_on : goal.returns-in-Ok-Some-read_request-clause-goes_on

@@ -1,4 +1,4 @@
-use Rattle.std.proofs.Common.{◌≡◌, ◌∙◌, refl, sym, ap, subst, ℕ, List, take, drop}
+use Rattle.std.proofs.Common.{◌≡◌, refl, sym, subst, ℕ, List, take, drop}
 use Rattle.tiny_http_device.specs.Device.{prepended}
 use Rattle.tiny_http_stream.specs.ToCome.{behind_held, to_come}
 use Rattle.tiny_http_stream.proofs.LineEndsScanning.{held-line}

@@ -4,15 +4,15 @@ use Rattle.tiny_http_stream.specs.Source.{GoesOn}
 use Rattle.tiny_http_stream.specs.declared.source.Standing.TheVariants as at
 use Rattle.tiny_http_message.specs.declared.exchange.HeadRead.TheVariants as read
 use Rattle.tiny_http_message.specs.HeadReads.{ReadsHead, ReadsMessage, RefusesWith, RefusesTooNew}
-use Rattle.tiny_http_message.specs.Pipeline.{ends_too_new}
+use Rattle.tiny_http_message.specs.Pipeline.{ends_too_new, profile_of}
 use Rattle.tiny_http_message.proofs.HeadReadsServing.{head-closed, head-refused, head-unframed, head-too_new, passed-on, head-cut, head-handed, cut-stop, begun-is, end-unanswered, timed-out, cut-passed, fault-passed}
 use Rattle.tiny_http_stream.proofs.SourceGoesOn.{goes-on_more}
-use Rattle.tiny_http_message.proofs.exchange.read_item.Goals as goal
+use Rattle.tiny_http_message.proofs.exchange.read_by_rules.Goals as goal
 
 pub returns-then-not-has_byte-clause-reads : goal.returns-then-not-has_byte-clause-reads
 returns-then-not-has_byte-clause-reads g c =
     let first = c.if-not-has_byte.ensures in
-    head-closed c.args.profile c.args.now c.args.source.now.feed c.has_byte.new.self c.stop.result c.answer_cut.result (first.none refl).0 first.feed (first.none refl).1 c.stop.ensures.over c.answer_cut.ensures
+    head-closed c.args.rules c.args.now c.args.source.now.feed c.has_byte.new.self c.stop.result c.answer_cut.result (first.none refl).0 first.feed (first.none refl).1 c.stop.ensures.over c.answer_cut.ensures
 
 pub returns-then-not-has_byte-clause-at_end : goal.returns-then-not-has_byte-clause-at_end
 returns-then-not-has_byte-clause-at_end g c end =
@@ -33,9 +33,9 @@ returns-in-Err-clause-reads g c =
     let first = c.has_byte in
     let mid = first.new.self in
     let new = c.read_message.new.source in
-    let P : Option Feed → Type 0 = λ o. ReadsHead c.args.profile at.Head c.args.now o new.feed c.answer_fault.result in
+    let P : Option Feed → Type 0 = λ o. ReadsHead (profile_of c.args.rules) at.Head c.args.now o new.feed c.answer_fault.result in
     subst P first.ensures.feed
-    (head-refused c.args.profile c.args.now mid.feed new.feed c.in-Err.version c.in-Err.fault c.stop-in-Err.result c.answer_fault.result (subst (λ l. ReadsMessage l mid.feed new.feed (Err (c.in-Err.version, c.in-Err.fault))) c.head_limit.ensures c.in-Err.ensures.reads) c.answer_fault.ensures
+    (head-refused c.args.rules c.args.now mid.feed new.feed c.in-Err.version c.in-Err.fault c.stop-in-Err.result c.answer_fault.result (subst (λ l. ReadsMessage l mid.feed new.feed (Err (c.in-Err.version, c.in-Err.fault))) c.head_limit.ensures c.in-Err.ensures.reads) c.answer_fault.ensures
     (λ f e cut. (cut-stop mid new c.stop-in-Err.result f e (c.in-Err.ensures.cut cut) c.stop-in-Err.ensures.over, begun-is c.args.source.now.feed f (sym first.ensures.feed ∙ e) (c.if-not-has_byte.ensures.some refl).0)))
 
 pub returns-in-Err-clause-passed : goal.returns-in-Err-clause-passed
@@ -46,19 +46,19 @@ returns-in-Err-clause-passed g c =
 pub returns-in-Err-framing_of-clause-reads : goal.returns-in-Err-framing_of-clause-reads
 returns-in-Err-framing_of-clause-reads g c =
     let fault = c.in-Err-framing_of.fault in
-    let P : Option Feed → Type 0 = λ o. ReadsHead c.args.profile at.Head c.args.now o c.read_message.new.source.feed c.refused_with.result in
+    let P : Option Feed → Type 0 = λ o. ReadsHead (profile_of c.args.rules) at.Head c.args.now o c.read_message.new.source.feed c.refused_with.result in
     let R : ℕ → Type 0 = λ n. RefusesWith n c.in-Ok.message.version c.args.now c.refused_with.result in
     subst P c.has_byte.ensures.feed
-    (head-unframed c.args.profile _ _ _ c.in-Ok.message fault c.refused_with.result (subst (λ l. ReadsMessage l c.has_byte.new.self.feed c.read_message.new.source.feed (Ok c.in-Ok.message)) c.head_limit.ensures c.in-Ok.ensures.reads) (search (rules, c.as_slice.ensures.value, c.in-Err-framing_of.ensures)) (subst R c.refusal_of.ensures c.refused_with.ensures))
+    (head-unframed c.args.rules _ _ _ c.in-Ok.message fault c.refused_with.result (subst (λ l. ReadsMessage l c.has_byte.new.self.feed c.read_message.new.source.feed (Ok c.in-Ok.message)) c.head_limit.ensures c.in-Ok.ensures.reads) (search (rules, c.as_slice.ensures.value, c.in-Err-framing_of.ensures)) (subst R c.refusal_of.ensures c.refused_with.ensures))
 
 pub returns-then-is_too_new-clause-reads : goal.returns-then-is_too_new-clause-reads
 returns-then-is_too_new-clause-reads g c =
     let taken = rw c.in-Ok-Some.field-0-is at c.in-Ok-Some.ensures in
     let refused = c.refuse_too_new in
-    let P : Option Feed → Type 0 = λ o. ReadsHead c.args.profile at.Head c.args.now o refused.new.source.feed refused.result in
+    let P : Option Feed → Type 0 = λ o. ReadsHead (profile_of c.args.rules) at.Head c.args.now o refused.new.source.feed refused.result in
     let R : Bool → Type 0 = λ y. RefusesTooNew (ends_too_new c.in-Ok-framing_of.framing.form) y c.args.now refused.result in
     subst P c.has_byte.ensures.feed
-    (head-too_new c.args.profile c.args.now _ _ c.begin_body.new.source refused.new.source c.in-Ok.message c.in-Ok-framing_of.framing c.in-Ok-Some.body refused.result (subst (λ l. ReadsMessage l c.has_byte.new.self.feed c.read_message.new.source.feed (Ok c.in-Ok.message)) c.head_limit.ensures c.in-Ok.ensures.reads) (search (rules, c.as_slice.ensures.value, c.in-Ok-framing_of.ensures)) taken.begins
+    (head-too_new c.args.rules c.args.now _ _ c.begin_body.new.source refused.new.source c.in-Ok.message c.in-Ok-framing_of.framing c.in-Ok-Some.body refused.result (subst (λ l. ReadsMessage l c.has_byte.new.self.feed c.read_message.new.source.feed (Ok c.in-Ok.message)) c.head_limit.ensures c.in-Ok.ensures.reads) (search (rules, c.as_slice.ensures.value, c.in-Ok-framing_of.ensures)) taken.begins
     (search (rules, c.if-is_too_new.ensures)) (subst R c.is_head-no_body.ensures refused.ensures.refuses) refused.ensures.passes)
 
 pub returns-then-is_too_new-clause-passed : goal.returns-then-is_too_new-clause-passed
@@ -76,17 +76,17 @@ pub returns-in-Ok-hand_out-clause-reads : goal.returns-in-Ok-hand_out-clause-rea
 returns-in-Ok-hand_out-clause-reads g c =
     let taken = rw c.in-Ok-Some.field-0-is at c.in-Ok-Some.ensures in
     let y = c.in-Ok-hand_out.ensures in
-    let P : Option Feed → Type 0 = λ o. ReadsHead c.args.profile at.Head c.args.now o c.begin_body.new.source.feed (Ok (read.Request c.in-Ok-hand_out.exchange)) in
+    let P : Option Feed → Type 0 = λ o. ReadsHead (profile_of c.args.rules) at.Head c.args.now o c.begin_body.new.source.feed (Ok (read.Request c.in-Ok-hand_out.exchange)) in
     subst P c.has_byte.ensures.feed
-    (head-handed c.args.profile _ _ _ _ c.in-Ok.message c.in-Ok-framing_of.framing c.head_of.result c.in-Ok-Some.body c.in-Ok-hand_out.exchange c.head_of.ensures.message c.head_of.ensures.framing (subst (λ l. ReadsMessage l c.has_byte.new.self.feed c.read_message.new.source.feed (Ok c.in-Ok.message)) c.head_limit.ensures c.in-Ok.ensures.reads)
+    (head-handed c.args.rules _ _ _ _ c.in-Ok.message c.in-Ok-framing_of.framing c.head_of.result c.in-Ok-Some.body c.in-Ok-hand_out.exchange c.head_of.ensures.message c.head_of.ensures.framing (subst (λ l. ReadsMessage l c.has_byte.new.self.feed c.read_message.new.source.feed (Ok c.in-Ok.message)) c.head_limit.ensures c.in-Ok.ensures.reads)
     (search (rules, c.as_slice.ensures.value, c.in-Ok-framing_of.ensures)) (search (rules, c.if-is_too_new.ensures)) taken.begins y.0 y.1 y.2)
 
 pub returns-in-Ok-None-clause-reads : goal.returns-in-Ok-None-clause-reads
 returns-in-Ok-None-clause-reads g c =
     let taken = rw c.in-Ok-None.field-0-is at c.in-Ok-None.ensures in
-    let P : Option Feed → Type 0 = λ o. ReadsHead c.args.profile at.Head c.args.now o c.begin_body.new.source.feed c.answer_cut-in-Ok-None.result in
+    let P : Option Feed → Type 0 = λ o. ReadsHead (profile_of c.args.rules) at.Head c.args.now o c.begin_body.new.source.feed c.answer_cut-in-Ok-None.result in
     subst P c.has_byte.ensures.feed
-    (head-cut c.args.profile _ _ _ _ c.in-Ok.message c.in-Ok-framing_of.framing c.stop-in-Ok-None.result c.answer_cut-in-Ok-None.result (subst (λ l. ReadsMessage l c.has_byte.new.self.feed c.read_message.new.source.feed (Ok c.in-Ok.message)) c.head_limit.ensures c.in-Ok.ensures.reads) (search (rules, c.as_slice.ensures.value, c.in-Ok-framing_of.ensures)) taken.begins
+    (head-cut c.args.rules _ _ _ _ c.in-Ok.message c.in-Ok-framing_of.framing c.stop-in-Ok-None.result c.answer_cut-in-Ok-None.result (subst (λ l. ReadsMessage l c.has_byte.new.self.feed c.read_message.new.source.feed (Ok c.in-Ok.message)) c.head_limit.ensures c.in-Ok.ensures.reads) (search (rules, c.as_slice.ensures.value, c.in-Ok-framing_of.ensures)) taken.begins
     (λ x e. cut-stop c.read_message.new.source c.begin_body.new.source c.stop-in-Ok-None.result x e (taken.cut refl) c.stop-in-Ok-None.ensures.over) c.answer_cut-in-Ok-None.ensures)
 
 pub returns-in-Ok-None-clause-passed : goal.returns-in-Ok-None-clause-passed

@@ -1,0 +1,133 @@
+//! Heads by the standard: what `tiny_http_standard` reads of a source, answered or handed out.
+ghost use Rattle.std.specs.Prelude.{◌≡◌, IfOk, IfSome};
+ghost use Rattle.tiny_http_stream.specs.Source.{GoesOn, IsAtEnd};
+ghost use Rattle.tiny_http_wire.specs.Heads.{version};
+ghost use Rattle.tiny_http_standard.specs.Heads.{status_of};
+ghost use Rattle.tiny_http_message.specs.Pipeline.{served_version, standard_form, standard_framing, standard_heads};
+ghost use Rattle.tiny_http_message.specs.HeadReads.{ReadsHead, RefusesWith, IsRequest, IsFramedRequest, IsRefusedUncut, IsOkEnd, HasByteOrTimedOut, head_framing};
+ghost use Rattle.tiny_http_message.specs.StandardReads.{AnswersStandardCut, IsHeadOf};
+
+use crate::exchange::{Head, HeadRead, answer_cut, begin_body, cut_end, hand_out, refused_with};
+use crate::framing::{Form, Framing, Profile, STANDARD_HEAD, sized_form};
+use httpdate::HttpDate;
+use std::alloc::{AllocError, Global};
+use tiny_http_standard::heads::{Head as StandardHead, HeadFault, HeadRead as StandardRead};
+use tiny_http_standard::judging::HeadSummary;
+use tiny_http_standard::source_heads::read_head_from;
+use tiny_http_stream::source::{Source, Standing};
+use tiny_http_wire::common::{HTTPVersion, StatusCode};
+use tiny_http_wire::device::{ReadDevice, Stop};
+
+// The version in which a request is served: each one after 1.0 counts as 1.1.
+fn served_version(version: HTTPVersion) -> HTTPVersion
+    ensures { result ≡ served_version version }
+{
+    if version.0 == 1 && version.1 == 0 {
+        return HTTPVersion(1, 0);
+    }
+    HTTPVersion(1, 1)
+}
+
+// How the body is read: an upgrade frames nothing.
+fn form_of(is_chunked: bool, owed: bool, length: Option<usize>) -> Form
+    ensures { result ≡ standard_form is_chunked owed length }
+{
+    if is_chunked {
+        return Form::Chunked;
+    }
+    sized_form(owed, length)
+}
+
+// How a head frames its message.
+fn framing_of(summary: HeadSummary) -> Framing
+    ensures { result ≡ standard_framing summary }
+{
+    Framing {
+        form: form_of(
+            summary.is_chunked,
+            summary.owes_continue,
+            summary.body_length,
+        ),
+        owes_continue: summary.owes_continue,
+        body_length: summary.body_length,
+        is_last: summary.is_last,
+    }
+}
+
+// The head that is handed out.
+fn head_of(head: StandardHead, framing: Framing) -> Head
+    ensures message { IsHeadOf head result }
+    ensures framing { head_framing result ≡ framing }
+{
+    Head {
+        method: head.method,
+        path: head.target,
+        version: served_version(head.version),
+        headers: head.headers,
+        body_length: framing.body_length,
+        form: framing.form,
+        owes_continue: framing.owes_continue,
+        is_last: framing.is_last,
+    }
+}
+
+// What a head is answered that is cut, or a body that is read with it: nothing, where it hasn't begun.
+fn answer_standard_cut(
+    alloc: Global,
+    stop: Option<Stop>,
+    has_begun: bool,
+    now: HttpDate,
+) -> Result<HeadRead, AllocError>
+    ensures { IfSome stop (λ stop. AnswersStandardCut stop has_begun now result) }
+{
+    if has_begun {
+        return answer_cut(alloc, stop, true, now);
+    }
+    Ok(HeadRead::Ended(cut_end(stop, false)))
+}
+
+// Refuses a head by the status of its fault, in version 1.1: the answer is empty, and no head follows.
+fn refuse(alloc: Global, fault: HeadFault, now: HttpDate) -> Result<HeadRead, AllocError>
+    ensures { RefusesWith (status_of fault) (version 1 1) now result }
+{
+    let status = StatusCode(fault.status());
+    refused_with(alloc, status, HTTPVersion(1, 1), now)
+}
+
+/// What stands at the source's standing, by the standard. After anything but a request the source may stand within a head or its
+/// body.
+pub(crate) fn read_standard<R: ReadDevice>(
+    alloc: Global,
+    source: &mut Source<R>,
+    now: HttpDate,
+) -> Result<HeadRead, AllocError>
+    ensures reads { ReadsHead Profile.Standard Standing.Head now source.old.feed source.new.feed result }
+    ensures goes_on { GoesOn source.old.feed source.new.feed }
+    ensures at_end { IsAtEnd source.old → IsOkEnd result × (source.new ≡ source.old) }
+    ensures begun { (IsOkEnd result → ⊥) → HasByteOrTimedOut source.old.feed }
+    ensures framed { IfOk result (IsFramedRequest Profile.Standard now) }
+    ensures lazy { IfOk result (λ read. IsRequest read → source.new.stop ≡ source.old.stop) }
+    ensures passed { IfOk result (λ read. IsRefusedUncut read → source.new.stop ≡ source.old.stop) }
+    ensures standing { source.new.standing ≡ source.old.standing }
+{
+    if !source.has_byte() {
+        return answer_standard_cut(alloc, source.stop(), false, now);
+    }
+    let head = match read_head_from(alloc, source, STANDARD_HEAD) {
+        Ok(StandardRead::Whole(head)) => head,
+        Ok(StandardRead::Refused(fault)) => return refuse(alloc, fault, now),
+        Ok(StandardRead::Unfinished { has_begun }) => {
+            return answer_standard_cut(alloc, source.stop(), has_begun, now);
+        }
+        Err(e) => return Err(e),
+    };
+    let framing = framing_of(head.summary);
+    match begin_body(alloc, source, framing) {
+        Ok(Some(body)) => match hand_out(alloc, head_of(head, framing), body, now) {
+            Ok(exchange) => Ok(HeadRead::Request(exchange)),
+            Err(e) => Err(e),
+        },
+        Ok(None) => answer_cut(alloc, source.stop(), true, now),
+        Err(e) => Err(e),
+    }
+}
