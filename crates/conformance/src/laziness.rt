@@ -186,6 +186,25 @@ fn a_strict_refusal_waits_for_no_more(rt: HostRuntime) -> Result<(), Fail> {
     Ok(())
 }
 
+// Heads that are refused under the standard profile, in one piece; and as many bytes as a head may have, within one line.
+const STANDARD: &[(&[&[u8]], usize)] = &[
+    (&[b"\n"], 1),
+    (&[b"GET / HTTP/1.1\n"], 1),
+    (&[b"GET / HTTP/2.0\r\n\r\n"], 1),
+    (&[b"GET / HTTP/1.1\r\n\r\n"], 1),
+    (&[LINE; 1024], 1),
+    (&[BODY; 64], 64),
+];
+
+#[test]
+fn a_standard_refusal_waits_for_no_more(rt: HostRuntime) -> Result<(), Fail> {
+    for (pieces, want) in STANDARD {
+        let calls = calls_of(rt.alloc(), Profile::Standard, pieces, &[Ask, Ask])?;
+        assert_same(&rt, calls, *want);
+    }
+    Ok(())
+}
+
 // Behind a head of version 2.0 the same ask waits for the next one, and for no byte more.
 #[test]
 fn a_version_above_1_1_is_passed_for_one_head(rt: HostRuntime) -> Result<(), Fail> {

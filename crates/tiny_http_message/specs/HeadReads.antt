@@ -292,7 +292,7 @@ abbrev pub IsRequest : HeadRead → Type 0
 IsRequest (read.Request x) = ⊤
 IsRequest _ = ⊥
 
--- a head was refused, was read to its end or its first bad line (not by a 408, a 414 or a 431), and no head follows
+-- a head was refused, was read to its end or its first bad line (not by a 408 or a 431), and no head follows
 abbrev pub IsRefusedUncut : HeadRead → Type 0
 IsRefusedUncut (read.Refused status text last) = (status.0 ≢ 408) × (status.0 ≢ 431) × (last ≡ true)
 IsRefusedUncut _ = ⊥

@@ -37,7 +37,7 @@ pub record Request : Type 0 where
 
 -- why a head is refused
 pub data Refusal : Type 0 where
-  -- it is no head by the grammar, or its framing is invalid
+  -- it is no head by the grammar, or its framing or its host is invalid
   BadRequest : Refusal
   -- the reader timed out before it had come
   RequestTimeout : Refusal

@@ -40,7 +40,7 @@ pub struct Head {
     pub method: Method,
     /// The request's target, as it was sent; it may be empty.
     pub path: AsciiString,
-    /// The version of the request line.
+    /// The version of the request line; under `Standard` 1.1 for each later one with major version 1.
     pub version: HTTPVersion,
     /// The headers, in their order.
     pub headers: Vec<Header>,
@@ -48,7 +48,8 @@ pub struct Head {
     pub body_length: Option<usize>,
     /// How the body is read.
     pub form: Form,
-    /// Whether the head expects a 100 before the body (RFC 9110, section 10.1.1), in any version and with or without a body.
+    /// Whether the head expects a 100 before the body (RFC 9110, section 10.1.1): in any version and with or without a body; under
+    /// `Standard` in version 1.1, where a body follows.
     pub owes_continue: bool,
     /// Whether the connection ends after this request (RFC 9112, section 9.3).
     pub is_last: bool,
@@ -64,7 +65,8 @@ pub struct Exchange {
 /// Why no further request comes.
 #[derive(Clone, Copy, Debug, PartialEq, Eq)]
 pub enum EndOfRequests {
-    /// The last request was read: its version or its `Connection` header ends the connection after it.
+    /// The last request was read: its version or its `Connection` header ends the connection after it; under `Standard` its method
+    /// `CONNECT` does, too.
     LastRequest,
     /// The client's bytes ended, and no byte of a further head had come. So it is too where they ended within a body of a known
     /// length, or, by an end or a fault, within what was left of one that was given up or passed over.
@@ -75,8 +77,8 @@ pub enum EndOfRequests {
     NotAscii,
     /// A head was refused with this status, and ended the requests.
     Refused(StatusCode),
-    /// The reader failed so before the head, and a body that is read with it, had come: by another fault than a time-out, which
-    /// is `Refused` with 408.
+    /// The reader failed so before the head, and a body that is read with it, had come. A time-out is `Refused` with 408 in its
+    /// place; under `Standard` only where a byte of the head had come.
     Fault(ErrorKind),
     /// The body before was read to this fault, the reader's or the body's own.
     BrokenBody(ErrorKind),
@@ -515,7 +517,12 @@ fn end_at(standing: Standing, why: EndOfRequests) -> EndOfRequests
 /// that is read with its head and cut, then the version. `now` dates the answer to a refused head, and
 /// the 500 of a request that is dropped. It is an error where memory was refused.
 ///
-/// After a 505 the next head stands behind the body, which is passed over, unless the head names an upgrade or the body is
+/// Under `Standard` a head is read by `tiny_http_standard`. It is refused by 400, 408, 414, 417, 431, 501 or 505, each with an empty
+/// answer in version 1.1 after which no head follows. A client that times out before a byte of a head isn't answered. The order is:
+/// the first bad line, the size, the version, the host and what frames the body, its coding, the expectation, and a body that is
+/// read with its head and cut.
+///
+/// By the other profiles, after a 505 the next head stands behind the body, which is passed over, unless the head names an upgrade or the body is
 /// chunked. After anything else but a request the source has ended, but after the last request: then nothing is read, and its
 /// body can be read on.
 ///

@@ -33,9 +33,9 @@ pub enum Profile {
     /// `Transfer-Encoding`, a `Transfer-Encoding` that doesn't end in `chunked` (RFC 9112, sections 6.1 to 6.3), and a head of
     /// more than `STRICT_HEAD` bytes (RFC 6585, section 5).
     Strict,
-    /// By the standard (RFC 9110 and RFC 9112): a head has its grammar, and is judged by `tiny_http_standard`. All that `Strict`
-    /// refuses is refused, but for codings: `chunked` alone is served. A minor version above 1 counts as 1.1. No head is answered
-    /// by silence for a byte from 128 on, and no client by a 408 before it has begun a head.
+    /// By the standard (RFC 9110 and RFC 9112): heads have its grammar, and are judged by `tiny_http_standard`. Lengths and sizes
+    /// are refused as under `Strict`, and of codings only `chunked` is served. Not whole yet: bodies, upgrades and answers are
+    /// still those of `Strict`, but that no body is the rest of the stream.
     Standard,
 }
 
@@ -66,8 +66,8 @@ impl HeadRules {
 /// Why the framing that a head asks for is refused.
 #[derive(Clone, Copy, Debug, PartialEq, Eq)]
 pub enum FramingFault {
-    /// It is invalid: lengths that aren't one number, a length beside a coding, or codings that don't end in `chunked`. Only
-    /// `Strict` refuses such a head, by 400 (RFC 9112, section 6.3).
+    /// It is invalid: lengths that aren't one number, a length beside a coding, or codings that don't end in `chunked`. Of these
+    /// rules only `Strict` refuses such a head, by 400 (RFC 9112, section 6.3).
     Invalid,
     /// The head expects what can't be met: 417 (RFC 9110, section 10.1.1).
     Expectation,

@@ -53,7 +53,8 @@ fn next_head<R: ReadDevice, O, P: RefusalPlace<O>>(
 }
 
 /// Reads heads up to that of the next request. Where one is refused its answer goes to this place. A refused head ends the
-/// requests; but behind a 505 the next head is read, unless its head names an upgrade or its body is chunked (as tiny_http).
+/// requests; but behind a 505 the next head is read, unless its head names an upgrade or its body is chunked (as tiny_http), or the
+/// profile is `Standard`.
 /// `now` dates the answers to refused heads, and the 500 of a request that is dropped. It is an error where memory was
 /// refused, or 2^64 heads were passed.
 pub fn next_request<R: ReadDevice, O, P: RefusalPlace<O>>(

@@ -71,7 +71,7 @@ fn head_of(head: StandardHead, framing: Framing) -> Head
     }
 }
 
-// What a head is answered that is cut, or a body that is read with it: nothing, where it hasn't begun.
+// What a head is answered that is cut: nothing, where it hasn't begun.
 fn answer_standard_cut(
     alloc: Global,
     stop: Option<Stop>,
