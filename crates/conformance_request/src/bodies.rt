@@ -1,11 +1,16 @@
 //! Bodies that are cut, broken or waited for, read by the calls of requests.
-use crate::bench::{AMPLE, Bench, client, connect, gated, is_about_to_call, is_reached, next, now};
+use crate::bench::{
+    AMPLE, Bench, client, connect, connect_standard, gated, is_about_to_call, is_reached, next, now, text,
+};
 use httpdate::HttpDate;
+use std::alloc::Global;
 use std::io::{ErrorKind, Read};
+use std::process::Abort;
 use std::sync::atomic::{AtomicU64, Ordering};
 use std::sync::{Arc, Wait};
 use std::test::Fail;
 use std::thread;
+use std::thread::Threads;
 use std::time::Clock;
 
 // The kind of a read's fault; None where it met none.
@@ -104,4 +109,44 @@ fn the_next_head_waits_for_the_body(rt: HostRuntime) -> Result<(), Fail> {
     assert!(rt; is_reached(&rt, &handed, 1));
     assert!(rt; asks.join(&rt));
     Ok(())
+}
+
+// Requests that ask for an upgrade, without a body and with one, and a request after each.
+const ASKED: &[u8] =
+    b"GET / HTTP/1.1\r\nHost: h\r\nConnection: upgrade\r\nUpgrade: h2c\r\n\r\nGET /b HTTP/1.1\r\nHost: h\r\n\r\n";
+const ASKED_BY_CHUNKS: &[u8] =
+    b"POST / HTTP/1.1\r\nHost: h\r\nConnection: upgrade\r\nUpgrade: h2c\r\nTransfer-Encoding: chunked\r\n\r\n5\r\nhello\r\n0\r\n\r\nGET /b HTTP/1.1\r\nHost: h\r\n\r\n";
+
+// The first request's body is read to its end. The next one comes once the first is answered, and not before.
+fn waits_for_the_answer<R: Threads + Wait + Clock + Copy + Abort + Send + Sync + 'static>(
+    rt: R,
+    alloc: Global,
+    client: &[u8],
+    body: &str,
+) -> Result<(), Fail> {
+    let mut bench = connect_standard(rt, alloc, client)?;
+    let mut request = next(&mut bench)?;
+    let mut given = String::new(alloc);
+    request.as_reader(now()?).read_to_string(&mut given)?;
+    assert_eq!(rt; given.as_str(), body);
+    let handed = Arc::new(alloc, AtomicU64::new(0))?;
+    let begun = Arc::new(alloc, AtomicU64::new(0))?;
+    let entered = Arc::try_clone(&begun)?;
+    let counted = Arc::try_clone(&handed)?;
+    let date = now()?;
+    let asks = thread::spawn(&rt, move || take_next(&mut bench, date, &entered, &counted));
+    let asks = asks.map_err(|_| "no thread")?;
+    assert!(rt; is_about_to_call(&rt, &begun));
+    assert_eq!(rt; handed.load(Ordering::SeqCst), 0);
+    request.respond(text(alloc, "a")?, now()?)?;
+    assert!(rt; is_reached(&rt, &handed, 1));
+    assert!(rt; asks.join(&rt));
+    Ok(())
+}
+
+// While a request that asks for an upgrade waits for its answer, the next head is waited for.
+#[test]
+fn the_next_head_waits_for_an_asked_upgrade(rt: HostRuntime) -> Result<(), Fail> {
+    waits_for_the_answer(rt, rt.alloc(), ASKED, "")?;
+    waits_for_the_answer(rt, rt.alloc(), ASKED_BY_CHUNKS, "hello")
 }

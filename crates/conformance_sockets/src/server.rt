@@ -369,9 +369,7 @@ fn a_fault_of_accepting_is_reported_once(rt: HostRuntime) {
 
 // A server that reads heads under this profile.
 fn serve_with<R: Host>(rt: &R, alloc: Global, profile: Profile) -> Server<R> {
-    let listener = TcpListener::bind(rt, "127.0.0.1:0").expect(rt, "a listener");
-    let listener = Listener::from(listener);
-    let made = Server::from_listener_with(*rt, alloc, listener, None, profile);
+    let made = Server::http_with(*rt, alloc, "127.0.0.1:0", profile);
     made.expect(rt, "a server")
 }
 

@@ -1,5 +1,6 @@
-//! Answers every request by `hello world`: `guarded ADDRESS`. It answers as `hello`, by a handler: each connection's worker answers
-//! that connection's requests itself.
+//! Answers every request by `hello world`: `guarded [--lenient|--strict|--standard] ADDRESS`. It answers as `hello`, by a handler:
+//! each connection's worker answers that connection's requests itself. Heads are read under the profile that is named, or else
+//! under `Lenient`.
 #![tactic(auto)]
 
 ghost use Rattle.std.specs.Prelude.{◌≡◌};
@@ -12,6 +13,7 @@ use std::sync::{Arc, Wait};
 use std::time::Clock;
 use std::{env, io};
 use thiserror::Error;
+use tiny_http::Profile;
 use tiny_http::response::Response;
 use tiny_http::server::{Server, ServerError, ServerRequest, ServerRuntime, current_date};
 use tiny_http::serving::Handler;
@@ -19,8 +21,8 @@ use tiny_http::serving::Handler;
 /// Why nothing is served, or no longer.
 #[derive(Debug, Drop, Error)]
 pub enum GuardedFault {
-    /// There isn't one word that names an address.
-    #[error("usage: guarded ADDRESS")]
+    /// The words aren't an address, or a profile and an address.
+    #[error("usage: guarded [--lenient|--strict|--standard] ADDRESS")]
     Usage,
     /// It can't listen there.
     #[error("cannot listen: {0}")]
@@ -76,17 +78,37 @@ impl<R: Wait + Clock + Drop> Handler<R, ServerRequest<R>> for Hello {
     }
 }
 
-// Listens at the address that the one word names, and answers all requests.
+// The profile that a word names.
+fn profile_of(word: &str) -> Option<Profile> {
+    match word {
+        "--lenient" => Some(Profile::Lenient),
+        "--strict" => Some(Profile::Strict),
+        "--standard" => Some(Profile::Standard),
+        _ => None,
+    }
+}
+
+// The profile and the address that the words name: `Lenient` where no profile is named.
+fn asked(words: &[String]) -> Result<(Profile, &str), GuardedFault> {
+    match words {
+        [address] => Ok((Profile::Lenient, address.as_str())),
+        [word, address] => match profile_of(word.as_str()) {
+            Some(profile) => Ok((profile, address.as_str())),
+            None => Err(GuardedFault::Usage),
+        },
+        _ => Err(GuardedFault::Usage),
+    }
+}
+
+// Listens at the address that the words name, and answers all requests.
 fn serve<R: ServerRuntime, O: Write>(
     rt: R,
     alloc: Global,
     words: &[String],
     out: &mut O,
 ) -> Result<(), GuardedFault> {
-    let [address] = words else {
-        return Err(GuardedFault::Usage);
-    };
-    let server = Server::http(rt, alloc, address.as_str())?;
+    let (profile, address) = asked(words)?;
+    let server = Server::http_with(rt, alloc, address, profile)?;
     let listens_at = server.server_addr();
     let _ = writeln!(out, "listening on {listens_at}");
     let _ = out.flush();
@@ -104,9 +126,9 @@ fn report<E: Write>(fault: &GuardedFault, err: &mut E) -> u8 {
     1
 }
 
-/// Listens at the address that the one word names, says so on `out`, and answers every request by `hello world` until there
-/// are no more. Gives the exit status: 0; or 2 where there isn't one word, and 1 where it can't listen there or serving ends by a
-/// fault, which a line on `err` says.
+/// Listens at the address that the words name, says so on `out`, and answers every request by `hello world` until there are no
+/// more. Gives the exit status: 0; or 2 where the words aren't `[--lenient|--strict|--standard] ADDRESS`, and 1 where it can't
+/// listen there or serving ends by a fault, which a line on `err` says.
 pub fn guarded_on<R: ServerRuntime, O: Write, E: Write>(
     rt: R,
     alloc: Global,

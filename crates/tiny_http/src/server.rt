@@ -133,8 +133,18 @@ impl<R: ServerRuntime> Server<R> {
     /// A server at the first of these addresses that can be bound. Errors as `new`, and where a host's name isn't found or the
     /// text is no address.
     pub fn http<A: ToSocketAddrs>(rt: R, alloc: Global, addr: A) -> Result<Server<R>, ServerError> {
+        Server::http_with(rt, alloc, addr, Profile::Lenient)
+    }
+
+    /// The same server, that reads the heads of all its clients under this profile.
+    pub fn http_with<A: ToSocketAddrs>(
+        rt: R,
+        alloc: Global,
+        addr: A,
+        profile: Profile,
+    ) -> Result<Server<R>, ServerError> {
         let addr = ConfigListenAddr::from_socket_addrs(&rt, alloc, addr)?;
-        Server::new(rt, alloc, ServerConfig { addr, ssl: None })
+        Server::new_with(rt, alloc, ServerConfig { addr, ssl: None }, profile)
     }
 
     /// A server at this path, at which it makes a file. Errors as `new`.
@@ -150,9 +160,22 @@ impl<R: ServerRuntime> Server<R> {
         ensures ssl { IsSome config.ssl → IsErr result }
         ensures refused { result ≡ Err ServerError.Ssl → IsSome config.ssl }
     {
+        Server::new_with(rt, alloc, config, Profile::Lenient)
+    }
+
+    /// The same server, that reads the heads of all its clients under this profile.
+    pub fn new_with(
+        rt: R,
+        alloc: Global,
+        config: ServerConfig,
+        profile: Profile,
+    ) -> Result<Server<R>, ServerError>
+        ensures ssl { IsSome config.ssl → IsErr result }
+        ensures refused { result ≡ Err ServerError.Ssl → IsSome config.ssl }
+    {
         let ServerConfig { addr, ssl } = config;
         let listener = addr.bind(&rt)?;
-        let made = Server::from_listener(rt, alloc, listener, ssl);
+        let made = Server::from_listener_with(rt, alloc, listener, ssl, profile);
         if made.is_err()
             && let ConfigListenAddr::Unix(path) = &addr
         {

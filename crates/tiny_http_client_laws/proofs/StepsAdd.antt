@@ -10,7 +10,7 @@ use Rattle.tiny_http_wire.specs.Device.{IsFront}
 use Rattle.tiny_http_message.specs.Pipeline.{Item, Asks, Refuses, Request}
 use Rattle.tiny_http_sending.specs.ResponseValue.{ResponseValue, response_text}
 use Rattle.tiny_http_core.specs.Slots.{Slot, Stage, Unanswered, Answered, ByServer, Raw, Upgraded, printing_for, to_request, text_if, stage_text, opening, segment, is_stage_finished, turn_has_come, joined, is_output_broken, rest_of}
-use Rattle.tiny_http_core.specs.Steps.{StepValue, Ask, AsReader, Read, Respond, IntoWriter, Write, Flush, Upgrade, Finish, Drop, ReplyValue, Given, Done, Refused, NoSuch, WriterUse, Unused, Unreported, Reported, Outcome, Reached, unchanged, changes, read_reply, finished_as, written_to, stage_closed, fault_in, fault_reply, Fault, accepts_step, needs_turn, use_in_turn, effect}
+use Rattle.tiny_http_core.specs.Steps.{StepValue, Ask, AsReader, Read, Respond, IntoWriter, Write, Flush, Upgrade, Finish, Drop, ReplyValue, Given, Done, Refused, NoSuch, WriterUse, Unused, Unreported, Reported, Outcome, Reached, unchanged, changes, takes_stream, read_reply, finished_as, written_to, stage_closed, fault_in, fault_reply, Fault, accepts_step, needs_turn, use_in_turn, effect}
 use Rattle.tiny_http_client_laws.proofs.JoinedGrows.{SendsMore, set-grows, set-own, AddsOwn, Adds, in-turn-ownless, taken-unfinished}
 
 -- the version of an item fits its bytes
@@ -68,6 +68,10 @@ keeps-all old reply h = record { adds = record { front = ([], sym (append-nil (j
 pub keeps-if : (old : Reached) (b : Bool) (x y : Outcome) → (b ≡ true → Keeps old x) → (b ≡ false → Keeps old y) → Keeps old (if b then x else y)
 keeps-if old true x y h k = h refl
 keeps-if old false x y h k = k refl
+
+-- whether the asking ends doesn't matter
+keeps-taken : (old : Reached) (r : Request) (o : Outcome) → Keeps old o → Keeps old (takes_stream r o)
+keeps-taken old r o h = record { adds = record { front = h.adds.front; own = h.adds.own }; slots = h.slots; rest = h.rest }
 
 -- one number is changed
 module _ (old : Reached) (holds : Holds old) (k : ℕ) (s : Slot) (here : slice_get old.slots k ≡ Some s) where
@@ -202,7 +206,7 @@ effect-keeps found date old r s turn (Respond k response) h here is takes comes 
 effect-keeps found date old r s turn (IntoWriter k) h here is takes comes =
     let i = all-get old.slots k s h.slots here in
     let t : Slot = record s { stage = Raw [] false; given_up = true; owed = false } in
-    quiet old h k s here t [] Done Unused (unanswered-sends s t [] (by-writer s.stage s.owed k takes) refl) (settled s t i refl refl) tt
+    keeps-taken old r (changes old k t Done Unused) (quiet old h k s here t [] Done Unused (unanswered-sends s t [] (by-writer s.stage s.owed k takes) refl) (settled s t i refl refl) tt)
 effect-keeps found date old r s turn (Write k bytes) h here is takes comes =
     let i = all-get old.slots k s h.slots here in
     let t : Slot = record s { stage = written_to bytes s.stage } in
@@ -222,8 +226,8 @@ effect-keeps found date old r s turn (Upgrade k protocol response) h here is tak
     let own = (stage_text s.item s.date (Upgraded protocol response date [] false)).bytes in
     let d = finished_as s ByServer in
     let text = (stage_text s.item s.date ByServer).bytes in
-    keeps-if old (list_all is_ascii protocol) (changes old k t Done Unreported) (changes old k d Refused (use_in_turn turn))
-    (λ o. quiet old h k s here t own Done Unreported (unanswered-sends s t own u refl) (settled s t i refl refl) tt)
+    keeps-if old (list_all is_ascii protocol) (takes_stream r (changes old k t Done Unreported)) (changes old k d Refused (use_in_turn turn))
+    (λ o. keeps-taken old r (changes old k t Done Unreported) (quiet old h k s here t own Done Unreported (unanswered-sends s t own u refl) (settled s t i refl refl) tt))
     (λ o. quiet old h k s here d text Refused (use_in_turn turn) (unanswered-sends s d text u refl) (settled s d i refl refl) (in-turn-ownless turn old.slots (slice_set old.slots k d)))
 effect-keeps found date old r s turn (Finish k) h here is takes comes =
     let i = all-get old.slots k s h.slots here in

@@ -1,5 +1,6 @@
 -- An Ask: from where the connection stands to where it stands after it.
 use Rattle.std.proofs.Common.{◌≡◌, refl, sym, ap, ◌∙◌, subst, ℕ, ◌-◌, ◌<◌, ◌^◌, inl, inr, Bool, true, false, not, ◌&&◌, List, [], ◌∷◌, ◌++◌, length, Option, Some, None, Ok, append-nil, arith, eq-eqb, ⊎_elim}
+use Rattle.std.proofs.Math.Bool.{or-true}
 use Rattle.std.proofs.lemmas.Bool.{ne_eqb}
 use Rattle.std.proofs.lemmas.List.{take_all}
 use Rattle.std.specs.Prelude.{◌==◌, if◌then◌else◌}
@@ -35,7 +36,7 @@ use Rattle.tiny_http_stream.specs.declared.source.Standing.TheVariants as in_pla
 use Rattle.tiny_http_wire.specs.declared.common.StatusCode.{StatusCode}
 use Rattle.tiny_http_message.specs.Exchange.{KeepsRequest}
 use Rattle.tiny_http_message.specs.Body.{Remaining, remaining, taken_remaining, is_streaming}
-use Rattle.tiny_http_core.specs.Slots.{Slot, is_finished, is_broken, is_slot_broken, segment, new_slot, turn_has_come, is_chunked, last_slot, last_holds_reader, last_was_abandoned, is_last_slot, stage_text, ByServer}
+use Rattle.tiny_http_core.specs.Slots.{Slot, is_finished, is_broken, is_slot_broken, segment, new_slot, turn_has_come, is_chunked, last_slot, last_is_open, last_awaits_answer, last_holds_reader, last_was_abandoned, is_last_slot, stage_text, ByServer}
 use Rattle.tiny_http_sending.specs.ResponseValue.{printing_to}
 use Rattle.tiny_http_message.specs.OwnAnswer.{own_text_by, refusal_response, refused_text}
 use Rattle.tiny_http_core.specs.Steps.{StepValue, Ask, ReplyValue, Handed, Ended, NotYet, Memory, Unused, Unreported, Outcome, Reached, unchanged, ask, asks_from, outcome}
@@ -43,11 +44,11 @@ use Rattle.tiny_http_core.specs.Conversation.{Failure, State, PlaceAt, WriterPar
 use Rattle.tiny_http_core.proofs.ConversationWriting.{unreported, flushed-is}
 use Rattle.tiny_http_sending.specs.Sending.{IsFlushed, SendsUnlessEnded}
 use Rattle.tiny_http_turns.specs.Turns.{Mark, Open, Left, Finished, AreInShape, first_unfinished}
-use Rattle.tiny_http_core.specs.Pending.{LeavesText, last_body, is_streaming_body}
+use Rattle.tiny_http_core.specs.Pending.{LeavesText, last_holds_next, last_body, is_streaming_body}
 use Rattle.tiny_http_core.specs.Connection.{Kept, dropped, IsWaiting, AreKept, OutputAt, behind_body, GivesRest, InputEnded, is_past_last, is_in_body, NextHead, InputStands, Stands, HandedOut}
 use Rattle.tiny_http_stream.proofs.SourceGoesOn.{goes-on_more}
 use Rattle.tiny_http_message.proofs.PipelineLemmas.{pipeline-first, pipeline-none, heads-rest_last, empty-pipeline}
-use Rattle.tiny_http_core.proofs.ConnectionReader.{LastKept, last-kept, last-snoc, body-snoc, settled-snoc, and-false, held-by, behind-settled, gives-settled}
+use Rattle.tiny_http_core.proofs.ConnectionReader.{LastKept, last-kept, last-awaits, last-awaits-none, last-snoc, body-snoc, settled-snoc, and-false, held-by, behind-settled, gives-settled}
 use Rattle.tiny_http_message.proofs.OwnAnswerLemmas.{own-whole, refusal-whole}
 use Rattle.tiny_http_core.proofs.SlotsLemmas.{joined-waits, joined-hidden, breaks-waits, breaks-hidden}
 use Rattle.tiny_http_core.proofs.ConnectionKept.{kept-append, kept-length, shape-issued, InTurn, OutOfTurn, turn-at}
@@ -115,15 +116,21 @@ stated-feed client (Some f) h = (f, refl)
 pub last-of : (client : Feed) (before : Sink) (k : Kept) (s : State) → Stands client before k s → LastKept (last_slot s.reached.slots) (last_body k.requests)
 last-of client before k s h = last-kept s.reached.slots k.marks k.requests h.numbers
 
-unheld : (client : Feed) (before : Sink) (k : Kept) (s : State) → Stands client before k s → is_streaming_body (last_body k.requests) ≡ false → last_holds_reader (last_slot s.reached.slots) ≡ false
-unheld client before k s h quiet = held-by (last_slot s.reached.slots) (last_body k.requests) (last-of client before k s h) ∙ rw quiet (and-false (not (is_last_slot (last_slot s.reached.slots))))
+-- the last body isn't read from the input, and the next head waits for no answer
+abbrev pub IsQuiet : List (Option Unfinished) → Type 0
+IsQuiet us = (is_streaming_body (last_body us) ≡ false) × (last_holds_next us ≡ false)
 
-pub going : (client : Feed) (before : Sink) (k : Kept) (s : State) → Stands client before k s → k.asking_ended ≡ false → is_past_last k.standing ≡ false → is_streaming_body (last_body k.requests) ≡ false → (InputEnded k → ⊥) → Going k s
+unheld : (client : Feed) (before : Sink) (k : Kept) (s : State) → Stands client before k s → IsQuiet k.requests → last_holds_reader (last_slot s.reached.slots) ≡ false
+unheld client before k s h quiet =
+    held-by (last_slot s.reached.slots) (last_body k.requests) (last-of client before k s h)
+    ∙ rw (quiet.0, and-false (not (is_last_slot (last_slot s.reached.slots))), last-awaits s.reached.slots k.marks k.requests h.numbers) quiet.1
+
+pub going : (client : Feed) (before : Sink) (k : Kept) (s : State) → Stands client before k s → k.asking_ended ≡ false → is_past_last k.standing ≡ false → IsQuiet k.requests → (InputEnded k → ⊥) → Going k s
 going client before k s h e o quiet open_input =
     let f = stated-feed client k.feed h.reader.source in
     let next = h.reader.next e in
     let kept : last_was_abandoned (last_slot s.reached.slots) ≡ false = by next (last_was_abandoned (last_slot s.reached.slots)) refl in
-    let here : behind_body (last_body k.requests) k.feed ≡ Some f.0 = ap (behind_body (last_body k.requests)) f.1 ∙ behind-settled (last_slot s.reached.slots) (last_body k.requests) f.0 (last-of client before k s h) quiet in
+    let here : behind_body (last_body k.requests) k.feed ≡ Some f.0 = ap (behind_body (last_body k.requests)) f.1 ∙ behind-settled (last_slot s.reached.slots) (last_body k.requests) f.0 (last-of client before k s h) quiet.0 in
     let P : Bool → Type 0 = λ x. PlaceAt k.profile x (behind_body (last_body k.requests) k.feed) s.reached.rest in
     let Q : Option Feed → Type 0 = λ x. PlaceAt k.profile false x s.reached.rest in
     record { feed = f.0; stated = f.1; unheld = unheld client before k s h quiet; kept = kept; pipeline = subst Q here (subst P o (next.place kept)) }
@@ -177,6 +184,7 @@ kept-handed profile date x p content behind k left framed = record {
   end_reported = false;
   is = refl;
   owed = k.answer.owes_continue;
+  holds = k.answer.holds_next_head;
   unsent = λ owed. refl;
   rest_is_last = framed.framed;
   answer_context =
@@ -245,7 +253,7 @@ handed-reader client k slots rest more date r w p stop over at close next old qu
       source = source;
     }
 
-pub ask-handed : (client : Feed) (before : Sink) (k : Kept) (s : State) (date : HttpDate) (x : Exchange) (from_here : Standing) (p : Option Feed) (stop : Option Stop) (over : Bool) (at : Standing) (n : ℕ) → Stands client before k s → k.asking_ended ≡ false → is_past_last k.standing ≡ false → is_streaming_body (last_body k.requests) ≡ false
+pub ask-handed : (client : Feed) (before : Sink) (k : Kept) (s : State) (date : HttpDate) (x : Exchange) (from_here : Standing) (p : Option Feed) (stop : Option Stop) (over : Bool) (at : Standing) (n : ℕ) → Stands client before k s → k.asking_ended ≡ false → is_past_last k.standing ≡ false → IsQuiet k.requests
     → (InputEnded k → ⊥) → ReadsHead k.profile from_here date k.feed p (Ok (read.Request x)) → GoesOn k.feed p → n ≡ length k.marks → AreInShape (k.marks ++ (Open ∷ [])) → at ≡ standing_of x
     → StepIsAnswered client before (after_handed k x.open_request p stop over at) s date Ask (Handed n (head_message x.head) (head_framing x.head))
 ask-handed client before k s date x from_here p stop over at n st e o quiet open_input reads goes number shape stands =
@@ -270,7 +278,7 @@ ask-handed client before k s date x from_here p stop over at n st e o quiet open
         shape = shape;
         in_turn = turn-more s.reached.slots y st.in_turn (refl, λ z. refl);
         asking_ended = sym e;
-        reader = handed-reader client k s.reached.slots s.reached.rest first.0 date r x.open_request p stop over at g.feed.stop found.1 st.reader quiet found.3 first.2 (goes-on_more (Some client) k.feed p st.reader.source goes) (stands-for x found.0 at stands);
+        reader = handed-reader client k s.reached.slots s.reached.rest first.0 date r x.open_request p stop over at g.feed.stop found.1 st.reader quiet.0 found.3 first.2 (goes-on_more (Some client) k.feed p st.reader.source goes) (stands-for x found.0 at stands);
         output = output-waiting before k.sink k.output_ended s.reached.slots date r s.flushed s.failure st.output;
       },
       inl (true, tt, subst G (sym is) (refl, refl, (ap (λ z. Handed z (head_message h) (head_framing h)) end_reported, refl))),
@@ -280,23 +288,32 @@ ask-handed client before k s date x from_here p stop over at n st e o quiet open
 pub ask-not_yet : (client : Feed) (before : Sink) (k : Kept) (s : State) (date : HttpDate) → Stands client before k s → k.asking_ended ≡ false → k.standing ≡ in_place.Body → StepIsAnswered client before k s date Ask NotYet
 ask-not_yet client before k s date st e held =
     let slots = s.reached.slots in
-    let is : last_holds_reader (last_slot slots) ≡ true = held-by (last_slot slots) (last_body k.requests) (last-of client before k s st) ∙ sym (st.reader.next e).within ∙ ap is_in_body held in
+    let within : (not (is_last_slot (last_slot slots)) && is_streaming_body (last_body k.requests)) ≡ true = sym (st.reader.next e).within ∙ ap is_in_body held in
+    let is : last_holds_reader (last_slot slots) ≡ true = held-by (last_slot slots) (last_body k.requests) (last-of client before k s st) ∙ rw within refl in
+    step-unchanged client before k s date Ask NotYet st (ask-held date s.reached (st.asking_ended ∙ e) is)
+
+-- the next head waits for the answer to the last request
+pub ask-waits : (client : Feed) (before : Sink) (k : Kept) (s : State) (date : HttpDate) → Stands client before k s → k.asking_ended ≡ false → last_holds_next k.requests ≡ true → StepIsAnswered client before k s date Ask NotYet
+ask-waits client before k s date st e held =
+    let slots = s.reached.slots in
+    let awaits : last_awaits_answer (last_slot slots) ≡ true = last-awaits slots k.marks k.requests st.numbers ∙ held in
+    let is : last_holds_reader (last_slot slots) ≡ true = rw awaits (or-true (not (is_last_slot (last_slot slots)) && last_is_open (last_slot slots))) in
     step-unchanged client before k s date Ask NotYet st (ask-held date s.reached (st.asking_ended ∙ e) is)
 
 -- in front of a head the last body isn't read from the input, and the last head wasn't read
 pub record BeforeHead (k : Kept) (s : State) : Type 0 where
   pub unread : is_past_last k.standing ≡ false
   pub more : is_last_slot (last_slot s.reached.slots) ≡ false
-  pub quiet : is_streaming_body (last_body k.requests) ≡ false
+  pub quiet : IsQuiet k.requests
 
-pub before-head : (client : Feed) (before : Sink) (k : Kept) (s : State) → Stands client before k s → k.asking_ended ≡ false → IsBeforeHead k.standing → BeforeHead k s
-before-head client before k s st e here =
+pub before-head : (client : Feed) (before : Sink) (k : Kept) (s : State) → Stands client before k s → k.asking_ended ≡ false → IsBeforeHead k.standing → last_holds_next k.requests ≡ false → BeforeHead k s
+before-head client before k s st e here free =
     let n = st.reader.next e in
     let past = not-past k.standing here in
     let last : is_last_slot (last_slot s.reached.slots) ≡ false = sym n.is_last ∙ past in
     let within : (not (is_last_slot (last_slot s.reached.slots)) && is_streaming_body (last_body k.requests)) ≡ false = sym n.within ∙ not-within k.standing here in
     let U : Bool → Bool = λ x. not x && is_streaming_body (last_body k.requests) in
-    record { unread = past; more = last; quiet = ap U (sym last) ∙ within }
+    record { unread = past; more = last; quiet = (ap U (sym last) ∙ within, free) }
   where
     not-past : (x : Standing) → IsBeforeHead x → is_past_last x ≡ false
     not-past in_place.Head h = refl
@@ -320,13 +337,13 @@ abbrev pub after_end : Kept → Option Feed → Option Stop → Bool → Standin
 after_end k p stop over at = record k { asking_ended = true; feed = p; stop = stop; is_over = over; standing = at }
 
 -- the input was read, and the last body isn't read from it
-end-reader : (client : Feed) (before : Sink) (k : Kept) (s : State) (p : Option Feed) (stop : Option Stop) (over : Bool) (at : Standing) (rest : List Item) → Stands client before k s → is_streaming_body (last_body k.requests) ≡ false → GoesOn k.feed p
+end-reader : (client : Feed) (before : Sink) (k : Kept) (s : State) (p : Option Feed) (stop : Option Stop) (over : Bool) (at : Standing) (rest : List Item) → Stands client before k s → IsQuiet k.requests → GoesOn k.feed p
     → InputStands client (after_end k p stop over at) s.reached.slots rest
 end-reader client before k s p stop over at rest st quiet goes =
     let source = goes-on_more (Some client) k.feed p st.reader.source goes in
     let f = stated-feed client p source in
     let P : Option Feed → Type 0 = λ y. GivesRest (last_body k.requests) (last_slot s.reached.slots) y in
-    record { settled = st.reader.settled; gives = subst P (sym f.1) (gives-settled (last_slot s.reached.slots) (last_body k.requests) f.0 (last-of client before k s st) quiet); next = λ e. cc; source = source }
+    record { settled = st.reader.settled; gives = subst P (sym f.1) (gives-settled (last_slot s.reached.slots) (last_body k.requests) f.0 (last-of client before k s st) quiet.0); next = λ e. cc; source = source }
 
 pub ask-over : (client : Feed) (before : Sink) (k : Kept) (s : State) (date : HttpDate) → Stands client before k s → k.asking_ended ≡ false → is_past_last k.standing ≡ true
     → StepIsAnswered client before (after_end k k.feed k.stop k.is_over k.standing) s date Ask Ended
@@ -341,7 +358,7 @@ ask-over client before k s date st e o = by (last_was_abandoned (last_slot s.rea
     unheld_now : last_holds_reader (last_slot slots) ≡ false
     unheld_now =
         let last : is_last_slot (last_slot slots) ≡ true = sym next.is_last ∙ o in
-        held-by (last_slot slots) (last_body k.requests) (last-of client before k s st) ∙ rw last refl
+        held-by (last_slot slots) (last_body k.requests) (last-of client before k s st) ∙ rw last (last-awaits-none (last_slot slots) last)
 
     ended_reader : (rest : List Item) → InputStands client (after_end k k.feed k.stop k.is_over k.standing) slots rest
     ended_reader rest = record { settled = st.reader.settled; gives = st.reader.gives; next = λ z. cc; source = st.reader.source }
@@ -367,7 +384,7 @@ ask-over client before k s date st e o = by (last_was_abandoned (last_slot s.rea
         )
 
 -- no head follows
-pub ask-none : (client : Feed) (before : Sink) (k : Kept) (s : State) (date : HttpDate) (from_here : Standing) (why : EndOfRequests) (p : Option Feed) (stop : Option Stop) (over : Bool) (at : Standing) → Stands client before k s → k.asking_ended ≡ false → is_past_last k.standing ≡ false → is_streaming_body (last_body k.requests) ≡ false
+pub ask-none : (client : Feed) (before : Sink) (k : Kept) (s : State) (date : HttpDate) (from_here : Standing) (why : EndOfRequests) (p : Option Feed) (stop : Option Stop) (over : Bool) (at : Standing) → Stands client before k s → k.asking_ended ≡ false → is_past_last k.standing ≡ false → IsQuiet k.requests
     → ReadsHead k.profile from_here date k.feed p (Ok (read.Ended why)) → GoesOn k.feed p
     → StepIsAnswered client before (after_end k p stop over at) s date Ask Ended
 ask-none client before k s date from_here why p stop over at st e o quiet reads goes = by (last_was_abandoned (last_slot s.reached.slots)) refl
@@ -388,7 +405,7 @@ ask-none client before k s date from_here why p stop over at st e o quiet reads 
         )
     by false l =
         let f = stated-feed client k.feed st.reader.source in
-        let here : behind_body (last_body k.requests) k.feed ≡ Some f.0 = ap (behind_body (last_body k.requests)) f.1 ∙ behind-settled (last_slot slots) (last_body k.requests) f.0 (last-of client before k s st) quiet in
+        let here : behind_body (last_body k.requests) k.feed ≡ Some f.0 = ap (behind_body (last_body k.requests)) f.1 ∙ behind-settled (last_slot slots) (last_body k.requests) f.0 (last-of client before k s st) quiet.0 in
         let P : Bool → Type 0 = λ x. PlaceAt k.profile x (behind_body (last_body k.requests) k.feed) s.reached.rest in
         let Q : Option Feed → Type 0 = λ x. PlaceAt k.profile false x s.reached.rest in
         let R : Option Feed → Type 0 = λ x. ReadsHead k.profile from_here date x p (Ok (read.Ended why)) in
@@ -403,7 +420,7 @@ ask-none client before k s date from_here why p stop over at st e o quiet reads 
         )
 
 -- no memory was found
-pub ask-memory : (client : Feed) (before : Sink) (k : Kept) (s : State) (date : HttpDate) (p : Option Feed) (stop : Option Stop) (over : Bool) (at : Standing) → Stands client before k s → k.asking_ended ≡ false → is_past_last k.standing ≡ false → is_streaming_body (last_body k.requests) ≡ false → is_last_slot (last_slot s.reached.slots) ≡ false → (InputEnded k → ⊥) → GoesOn k.feed p
+pub ask-memory : (client : Feed) (before : Sink) (k : Kept) (s : State) (date : HttpDate) (p : Option Feed) (stop : Option Stop) (over : Bool) (at : Standing) → Stands client before k s → k.asking_ended ≡ false → is_past_last k.standing ≡ false → IsQuiet k.requests → is_last_slot (last_slot s.reached.slots) ≡ false → (InputEnded k → ⊥) → GoesOn k.feed p
     → StepIsAnswered client before (after_end k p stop over at) s date Ask Memory
 ask-memory client before k s date p stop over at st e o quiet more open_input goes =
     let g = going client before k s st e o quiet open_input in
@@ -486,7 +503,7 @@ refuses before sink new e ended s marks final requests n text h kept shape over 
     (turn-at slots marks requests [] kept (shape-issued marks shape))
 
 pub ask-refused : (client : Feed) (before : Sink) (k : Kept) (s : State) (date : HttpDate) (from_here : Standing) (status : StatusCode) (text : Vec ℕ) (p : Option Feed) (stop : Option Stop) (over : Bool) (at : Standing) (marks : List Mark) (sink : Sink) (ended : Bool) → Stands client before k s → before.failures < 2 ^ 64 - 1
-    → k.asking_ended ≡ false → is_past_last k.standing ≡ false → is_streaming_body (last_body k.requests) ≡ false → (InputEnded k → ⊥) → ReadsHead k.profile from_here date k.feed p (Ok (read.Refused status text true)) → GoesOn k.feed p
+    → k.asking_ended ≡ false → is_past_last k.standing ≡ false → IsQuiet k.requests → (InputEnded k → ⊥) → ReadsHead k.profile from_here date k.feed p (Ok (read.Refused status text true)) → GoesOn k.feed p
     → LeavesText (length k.marks == first_unfinished k.marks) k.marks [] marks text.items k.output_ended k.sink sink ended
     → StepIsAnswered client before (after_refused k marks p stop over at sink ended) s date Ask Ended
 ask-refused client before k s date from_here status text p stop over at marks sink ended st low e o quiet open_input reads goes leaves =
@@ -515,7 +532,7 @@ ask-refused client before k s date from_here status text p stop over at marks si
         in_turn = turn-more s.reached.slots n st.in_turn (refl, λ z. (let no : true ≡ false = z in cc));
         asking_ended = refl;
         reader = record {
-          settled = settled-snoc k.requests None st.reader.settled quiet;
+          settled = settled-snoc k.requests None st.reader.settled quiet.0;
           gives = subst B (sym (body-snoc k.requests None)) tt;
           next = λ z. cc;
           source = goes-on_more (Some client) k.feed p st.reader.source goes;
@@ -529,14 +546,14 @@ pub ask-ended : (client : Feed) (before : Sink) (k : Kept) (s : State) (date : H
 ask-ended client before k s date st e = step-unchanged client before k s date Ask Ended st (ask-ends date s.reached (st.asking_ended ∙ e))
 
 -- no request follows: the last one was read, or none stands in front of the input
-pub ask-final : (client : Feed) (before : Sink) (k : Kept) (s : State) (date : HttpDate) (why : EndOfRequests) (p : Option Feed) (stop : Option Stop) (over : Bool) (at : Standing) → Stands client before k s → k.asking_ended ≡ false → (k.standing ≡ in_place.Body → ⊥)
+pub ask-final : (client : Feed) (before : Sink) (k : Kept) (s : State) (date : HttpDate) (why : EndOfRequests) (p : Option Feed) (stop : Option Stop) (over : Bool) (at : Standing) → Stands client before k s → k.asking_ended ≡ false → (k.standing ≡ in_place.Body → ⊥) → last_holds_next k.requests ≡ false
     → (k.standing ≡ in_place.Last → (p ≡ k.feed) × (stop ≡ k.stop) × (over ≡ k.is_over) × (at ≡ k.standing)) → (IsBeforeHead k.standing → ReadsHead k.profile k.standing date k.feed p (Ok (read.Ended why))) → GoesOn k.feed p
     → StepIsAnswered client before (after_end k p stop over at) s date Ask Ended
-ask-final client before k s date why p stop over at st e outside left reads goes = by k.standing refl
+ask-final client before k s date why p stop over at st e outside free left reads goes = by k.standing refl
   where
     none : IsBeforeHead k.standing → StepIsAnswered client before (after_end k p stop over at) s date Ask Ended
     none here =
-        let h = before-head client before k s st e here in
+        let h = before-head client before k s st e here free in
         ask-none client before k s date k.standing why p stop over at st e h.unread h.quiet (reads here) goes
 
     by : (x : Standing) → k.standing ≡ x → StepIsAnswered client before (after_end k p stop over at) s date Ask Ended

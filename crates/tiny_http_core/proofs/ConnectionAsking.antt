@@ -25,7 +25,7 @@ use Rattle.tiny_http_core.specs.Pending.{LeavesText, last_body, is_streaming_bod
 use Rattle.tiny_http_core.specs.Connection.{Kept, OutputAt, behind_body, GivesRest, InputEnded, is_past_last, is_in_body, InputStands, Stands}
 use Rattle.tiny_http_core.proofs.SlotsLemmas.{joined-waits}
 use Rattle.tiny_http_core.proofs.ConversationWriting.{unreported, flushed-is}
-use Rattle.tiny_http_core.proofs.ConnectionAsk.{StepIsAnswered, going, ask-goes, handed-place, turn-next, refused-whole, refused-text, refuses}
+use Rattle.tiny_http_core.proofs.ConnectionAsk.{StepIsAnswered, IsQuiet, going, ask-goes, handed-place, turn-next, refused-whole, refused-text, refuses}
 use Rattle.tiny_http_core.proofs.ConnectionReader.{last-snoc, body-snoc, settled-snoc}
 use Rattle.tiny_http_core.proofs.ConnectionTurns.{turn-more}
 
@@ -389,7 +389,7 @@ ask-from-behind client before later s m date item rest t reply p turn passed rea
 
 -- a head is refused, and the next one stands behind its body
 pub ask-passes : (client : Feed) (before : Sink) (k : Kept) (s : State) (date : HttpDate) (from_here : Standing) (status : StatusCode) (text : Vec ℕ) (p : Option Feed) (stop : Option Stop) (over : Bool) (at : Standing) (marks : List Mark) (sink : Sink) (ended : Bool) → Stands client before k s → before.failures < 2 ^ 64 - 1
-    → k.asking_ended ≡ false → is_past_last k.standing ≡ false → is_streaming_body (last_body k.requests) ≡ false → is_last_slot (last_slot s.reached.slots) ≡ false → (InputEnded k → ⊥) → ReadsHead k.profile from_here date k.feed p (Ok (read.Refused status text false)) → GoesOn k.feed p
+    → k.asking_ended ≡ false → is_past_last k.standing ≡ false → IsQuiet k.requests → is_last_slot (last_slot s.reached.slots) ≡ false → (InputEnded k → ⊥) → ReadsHead k.profile from_here date k.feed p (Ok (read.Refused status text false)) → GoesOn k.feed p
     → LeavesText (length k.marks == first_unfinished k.marks) k.marks [] marks text.items k.output_ended k.sink sink ended → at ≡ in_place.Head
     → AskGoesOn client before (after_passed k marks p stop over at sink ended) s date
 ask-passes client before k s date from_here status text p stop over at marks sink ended st low e o quiet more open_input reads goes leaves head =
@@ -424,7 +424,7 @@ ask-passes client before k s date from_here status text p stop over at marks sin
         shape = out.shape;
         in_turn = turn-more s.reached.slots n st.in_turn (refl, λ z. (let no : true ≡ false = z in cc));
         asking_ended = sym e;
-        reader = passed-reader client k s.reached.slots s.reached.rest first.0 n p stop over at marks sink ended g.feed.stop found.3 st.reader quiet refl refl found.7 first.2 (goes-on_more (Some client) k.feed p st.reader.source goes) head;
+        reader = passed-reader client k s.reached.slots s.reached.rest first.0 n p stop over at marks sink ended g.feed.stop found.3 st.reader quiet.0 refl refl found.7 first.2 (goes-on_more (Some client) k.feed p st.reader.source goes) head;
         output = out.output;
       };
       asks = λ later reply a. ask-from-behind client before later s mid date item first.0 t reply passes refl refl refl first.1 (st.asking_ended ∙ e) more g.unheld g.kept is a;

@@ -75,6 +75,7 @@ still-waiting date s w h = record {
   end_reported = h.end_reported;
   is = refl;
   owed = refl;
+  holds = h.holds;
   unsent = λ owed. (let no : false ≡ true = owed in cc);
   rest_is_last = h.rest_is_last;
   answer_context = h.answer_context;

@@ -22,13 +22,14 @@ use Rattle.tiny_http_turns.specs.Turns.{Mark, AreInShape, Open}
 use Rattle.tiny_http_core.specs.declared.pending.Pending.{Pending}
 use Rattle.tiny_http_core.specs.declared.pending.Unfinished.{Unfinished}
 use Rattle.tiny_http_core.specs.declared.pending.Unfinished.TheVariants as still
-use Rattle.tiny_http_core.specs.Pending.{RefusesHead}
+use Rattle.tiny_http_core.specs.Pending.{RefusesHead, last_holds_next}
 use Rattle.tiny_http_core.specs.Steps.{ReplyValue, Ask, Ended, Memory, Handed}
 use Rattle.tiny_http_core.specs.Connection.{Kept, ConnectionState, kept}
 use Rattle.tiny_http_core.proofs.Asking.{CanAsk, AskStep, IsAskBehind}
 use Rattle.tiny_http_core.proofs.ConnectionAsking.{AskGoesOn, ask-passes}
 use Rattle.tiny_http_core.proofs.ConnectionAsk.{StepIsAnswered, ask-final, ask-memory, ask-handed, ask-refused, before-head, stands-before}
 use Rattle.tiny_http_core.proofs.ConnectionOutput.{can-send}
+use Rattle.tiny_http_core.proofs.ConnectionReader.{holds-snoc}
 use Rattle.tiny_http_core.proofs.DrivingLemmas.{viewed, end-refused, end-final, ask-step, asks-behind-head, end-behind, begins-behind, begins-here, not-body, driving-reads-on}
 
 plus-none : (n : ℕ) → n ≡ n + 0
@@ -56,7 +57,7 @@ finds-request : {R W : Type 0} (profile : Profile) (date : HttpDate) (s t : Sour
 finds-request {R = R} {W = W} profile date s t o p q end x n h can number marks_are shape_is requests_are =
     ask-step old new date (Handed n (head_message x.head) (head_framing x.head))
     (λ client before s low st.
-    let f = before-head client before k s st open_is here in
+    let f = before-head client before k s st open_is here can.2 in
     let shape : AreInShape (k.marks ++ (Open ∷ [])) = subst (λ m. AreInShape m) marks_are shape_is in
     let done = ask-handed client before k s date x from.standing t.feed t.stop t.is_over t.standing n st open_is f.unread f.quiet
     (λ i. elim (h.at_end i).0 [ ]) (h.reads here) h.goes_on number shape h.standing in
@@ -113,7 +114,7 @@ finds-no-memory {R = R} {W = W} profile date s t o u p q end r h other can turns
     step : AskStep old new date Memory
     step = ask-step old new date Memory
         (λ client before s low st.
-        let f = before-head client before k s st open_is here in
+        let f = before-head client before k s st open_is here can.2 in
         let P : List Mark → List (Option Unfinished) → Type 0 = λ m r. StepIsAnswered client before (record k { marks = m; requests = r; asking_ended = true; standing = t.standing; feed = t.feed; stop = t.stop; is_over = t.is_over }) s date Ask Memory in
         let done = ask-memory client before k s date t.feed t.stop t.is_over t.standing st open_is f.unread f.quiet f.more
         (λ i. other (h.at_end i).0) h.goes_on in
@@ -127,7 +128,7 @@ finds-end : {R W : Type 0} (profile : Profile) (date : HttpDate) (s t : SourceSt
 finds-end {R = R} {W = W} profile date s t o p end why h can =
     ask-step old new date Ended
     (λ client before s low st.
-    ask-final client before k s date why t.feed t.stop t.is_over t.standing st open_is can.1
+    ask-final client before k s date why t.feed t.stop t.is_over t.standing st open_is can.1 can.2
     (λ i. (let same = (h.last i).1 in (ap (λ y. y.feed) same, ap (λ y. y.stop) same, ap (λ y. y.is_over) same, ap (λ y. y.standing) same)))
     (λ here. h.reads here) h.goes_on)
     (λ no. elim no [ ])
@@ -153,7 +154,7 @@ finds-refused : {R W : Type 0} (profile : Profile) (date : HttpDate) (s t : Sour
 finds-refused {R = R} {W = W} profile date s t o u p q end status text h f can =
     ask-step old new date Ended
     (λ client before s low st.
-    let n = before-head client before k s st open_is here in
+    let n = before-head client before k s st open_is here can.2 in
     let done = ask-refused client before k s date from.standing status text t.feed t.stop t.is_over t.standing q.turns.marks (output_of u) (outlet_ended u) st low open_is n.unread n.quiet
     (λ i. elim (h.at_end i).0 [ ]) reads h.goes_on (f.leaves refl (can-send before k.sink k.output_ended s.reached.slots s.flushed s.failure st.output low)) in
     let P : List (Option Unfinished) → Type 0 = λ r.
@@ -190,10 +191,10 @@ finds-another : {R W : Type 0} (profile : Profile) (date : HttpDate) (s t : Sour
     → TakesHead profile date s t (Ok (read.Refused status text false)) → RefusesHead p o text.items true q u → CanAsk (viewed profile s o p end)
     → CanAsk (viewed profile t u q end) × IsAskBehind (viewed profile s o p end) (viewed profile t u q end) date
 finds-another {R = R} {W = W} profile date s t o u p q end status text h f can = (
-  (can.0, λ e. not-body t.standing stands e),
+  (can.0, λ e. not-body t.standing stands e, subst F (sym (f.requests refl)) (holds-snoc p.requests None)),
   asks-behind-head old new date (record {
     does = λ client before s low st.
-        let n = before-head client before k s st open_is here in
+        let n = before-head client before k s st open_is here can.2 in
         let done = ask-passes client before k s date from.standing status text t.feed t.stop t.is_over t.standing q.turns.marks (output_of u) (outlet_ended u) st low open_is n.unread n.quiet n.more
         (λ i. elim (h.at_end i).0 [ ]) reads h.goes_on (f.leaves refl (can-send before k.sink k.output_ended s.reached.slots s.flushed s.failure st.output low)) stands in
         let P : List (Option Unfinished) → Type 0 = λ r.
@@ -235,6 +236,9 @@ finds-another {R = R} {W = W} profile date s t o u p q end status text h f can =
 
     stands : t.standing ≡ at.Head
     stands = h.standing
+
+    F : List (Option Unfinished) → Type 0
+    F us = last_holds_next us ≡ false
 
 -- an Ask behind heads that were passed, as one in front of them
 pub record Passed {R W : Type 0} (old new : ConnectionState R W) (date : HttpDate) (n : ℕ) : Type 0 where

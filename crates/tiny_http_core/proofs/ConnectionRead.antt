@@ -288,6 +288,7 @@ still-waiting s w h c old new n reply k =
       end_reported = end_now_reported h.request h.given h.end_reported n;
       is = refl;
       owed = h.owed;
+      holds = h.holds;
       unsent = h.unsent;
       rest_is_last = h.rest_is_last;
       answer_context = h.answer_context;

@@ -12,28 +12,21 @@ use Rattle.tiny_http_message.specs.declared.framing.Form.{Form}
 use Rattle.tiny_http_message.specs.declared.body.Body.{Body}
 use Rattle.tiny_http_message.specs.declared.body.Body.TheVariants as body
 use Rattle.tiny_http_message.specs.Pipeline.{Item, Asks, Refuses, body_length_or_0}
-use Rattle.tiny_http_core.specs.Slots.{Slot, Unanswered, is_form_streamed, is_chunked, is_body_finished, body_is_open, last_slot, last_is_open, last_holds_reader, last_was_abandoned, is_last_slot}
+use Rattle.tiny_http_core.specs.Slots.{Slot, Stage, Unanswered, Answered, ByServer, Raw, Upgraded, is_finished, is_stage_finished, is_unanswered, is_form_streamed, is_chunked, is_body_finished, body_is_open, is_last_item, holds_next_head, awaits_answer, last_slot, last_is_open, last_awaits_answer, last_holds_reader, last_was_abandoned, is_last_slot}
 use Rattle.tiny_http_message.specs.Body.{body_finished}
 use Rattle.tiny_http_turns.specs.Turns.{Mark, Open, Held, Left, Finished}
 use Rattle.tiny_http_message.specs.Body.{Remaining, remaining, is_streaming, Fits}
-use Rattle.tiny_http_core.specs.Pending.{kept_body, last_body, is_streaming_body}
+use Rattle.tiny_http_core.specs.Pending.{holds_next, last_holds_next, kept_body, last_body, is_streaming_body}
 use Rattle.tiny_http_core.specs.Connection.{IsWaiting, IsOpen, IsUnfinished, IsKept, AreKept, IsSettled, AreSettled, behind_body, slot_rest, GivesRest}
 use Rattle.std.proofs.Math.Bool.{or-true}
 
--- the body at a place is read from the input
-abbrev pub held_at : Option (Option Unfinished) → Bool
-held_at None = false
-held_at (Some u) = is_streaming_body (kept_body u)
+pub and-false : (f : Bool) → (f && false) ≡ false
+and-false true = refl
+and-false false = refl
 
-pub held-last : (ws : List (Option Unfinished)) → held_at (slice_get ws (length ws - 1)) ≡ is_streaming_body (last_body ws)
-held-last [] = refl
-held-last (w ∷ []) = refl
-held-last (w ∷ v ∷ ws) =
-    let less : length (w ∷ v ∷ ws) - 1 ≡ suc (length (v ∷ ws) - 1) = omega arith in
-    ap (λ n. held_at (slice_get (w ∷ v ∷ ws) n)) less ∙ held-last (v ∷ ws)
-
-pub reader-held-is : (ws l : List (Option Unfinished)) (o : Option (Option Unfinished)) → l ≡ ws → o ≡ slice_get l (length l - 1) → held_at o ≡ is_streaming_body (last_body ws)
-reader-held-is ws l o e at = ap held_at at ∙ held-last l ∙ ap (λ x. is_streaming_body (last_body x)) e
+and-true : (f : Bool) → (f && true) ≡ f
+and-true true = refl
+and-true false = refl
 
 -- the last of some, and what is kept of it
 abbrev pub LastKept : Option Slot → Option Body → Type 0
@@ -77,7 +70,71 @@ last-kept (t ∷ ss) [] us k = absurd k
 last-kept (t ∷ ss) (n ∷ ms) [] k = absurd k
 last-kept (t ∷ ss) (n ∷ ms) (v ∷ us) k = last-from t n v ss ms us k.0 k.1
 
+-- whether the next head waits for the answer to the last of some, by its slot and by what is kept of it
+
+is-answered : (stage : Stage) → is_stage_finished stage ≡ true → is_unanswered stage ≡ false
+is-answered Unanswered d = cc
+is-answered (Answered response date found) d = refl
+is-answered ByServer d = refl
+is-answered (Raw written closed) d = refl
+is-answered (Upgraded protocol response date written closed) d = refl
+
+done-awaits : (s : Slot) → is_finished s ≡ true → last_awaits_answer (Some s) ≡ false
+done-awaits s d = by s.item
+  where
+    by : (item : Item) → awaits_answer s item ≡ false
+    by (Asks r) = rw (is-answered s.stage d) (and-false (holds_next_head r))
+    by (Refuses a b c e) = refl
+
+awaits-unfinished : (s : Slot) (u : Unfinished) → IsUnfinished s u → last_awaits_answer (Some s) ≡ holds_next (Some (Some u))
+awaits-unfinished s (still.Waiting w) h =
+    let P : Slot → Type 0 = λ x. last_awaits_answer (Some x) ≡ w.holds_next_head in
+    subst P (sym h.is) (and-true (holds_next_head h.request) ∙ sym h.holds)
+awaits-unfinished s still.Raw h = rw (h.item, h.stage) (and-false (holds_next_head h.request))
+awaits-unfinished s (still.Upgraded b) h =
+    let P : Slot → Type 0 = λ x. last_awaits_answer (Some x) ≡ false in
+    subst P (sym h.opened.is) (rw h.stage (and-false (holds_next_head h.opened.request)))
+
+awaits-one : (s : Slot) (m : Mark) (u : Option Unfinished) → IsKept s m u → last_awaits_answer (Some s) ≡ holds_next (Some u)
+awaits-one s Open None h = absurd h
+awaits-one s Open (Some w) h = awaits-unfinished s w h
+awaits-one s Held None h = absurd h
+awaits-one s Held (Some w) h = absurd h
+awaits-one s (Left text) None h = done-awaits s h.done.finished
+awaits-one s (Left text) (Some w) h = absurd h
+awaits-one s Finished None h = done-awaits s h.finished
+awaits-one s Finished (Some w) h = absurd h
+
+awaits-from : (s : Slot) (m : Mark) (u : Option Unfinished) (ss : List Slot) (ms : List Mark) (us : List (Option Unfinished)) → IsKept s m u → AreKept ss ms us → last_awaits_answer (last_or (Some s) ss) ≡ last_holds_next (u ∷ us)
+awaits-from s m u [] [] [] h k = awaits-one s m u h
+awaits-from s m u [] [] (v ∷ us) h k = absurd k
+awaits-from s m u [] (n ∷ ms) us h k = absurd k
+awaits-from s m u (t ∷ ss) [] us h k = absurd k
+awaits-from s m u (t ∷ ss) (n ∷ ms) [] h k = absurd k
+awaits-from s m u (t ∷ ss) (n ∷ ms) (v ∷ us) h k = awaits-from t n v ss ms us k.0 k.1
+
+pub last-awaits : (slots : List Slot) (marks : List Mark) (requests : List (Option Unfinished)) → AreKept slots marks requests → last_awaits_answer (last_slot slots) ≡ last_holds_next requests
+last-awaits [] [] [] k = refl
+last-awaits [] [] (v ∷ us) k = absurd k
+last-awaits [] (n ∷ ms) us k = absurd k
+last-awaits (t ∷ ss) [] us k = absurd k
+last-awaits (t ∷ ss) (n ∷ ms) [] k = absurd k
+last-awaits (t ∷ ss) (n ∷ ms) (v ∷ us) k = awaits-from t n v ss ms us k.0 k.1
+
 -- one more at the end
+pub holds-snoc : (us : List (Option Unfinished)) (u : Option Unfinished) → last_holds_next (us ++ (u ∷ [])) ≡ holds_next (Some u)
+holds-snoc [] u = refl
+holds-snoc (v ∷ []) u = refl
+holds-snoc (v ∷ (w ∷ us)) u = holds-snoc (w ∷ us) u
+
+-- the last of some stands at their end
+pub holds-at : (us : List (Option Unfinished)) → holds_next (slice_get us (length us - 1)) ≡ last_holds_next us
+holds-at [] = refl
+holds-at (u ∷ []) = refl
+holds-at (u ∷ v ∷ us) =
+    let less : length (u ∷ v ∷ us) - 1 ≡ suc (length (v ∷ us) - 1) = omega arith in
+    ap (λ n. holds_next (slice_get (u ∷ v ∷ us) n)) less ∙ holds-at (v ∷ us)
+
 pub last-snoc : {X : Type 0} (o : Option X) (xs : List X) (x : X) → last_or o (xs ++ (x ∷ [])) ≡ Some x
 last-snoc o [] x = refl
 last-snoc o (y ∷ ys) x = last-snoc (Some y) ys x
@@ -116,9 +173,6 @@ settled-set (y ∷ []) u x vs h k = (h.0, settled-set [] u x vs h.1 k)
 settled-set (y ∷ (z ∷ us)) u x vs h k = (h.0, settled-set (z ∷ us) u x vs h.1 k)
 
 -- whether a body is read from the input, by its form
-pub and-false : (f : Bool) → (f && false) ≡ false
-and-false true = refl
-and-false false = refl
 
 pub fits-streams : (b : Body) (form : Form) (n given : ℕ) (end_reported : Bool) → Fits b form n given end_reported → (is_form_streamed form && not (body_finished form n given end_reported || false)) ≡ is_streaming b
 fits-streams (body.Over stop) form n given end_reported h = rw h (and-false (is_form_streamed form))
@@ -149,8 +203,17 @@ open-by o b (inr (inl h)) = rw (h.1, h.2, done-open h.0 h.3) refl
 open-by o b (inr (inr h)) = rw (h.2, h.3) (waiting-open h.0 h.1 h.4)
 
 -- whether the last body holds the reader
-pub held-by : (o : Option Slot) (b : Option Body) → LastKept o b → last_holds_reader o ≡ (not (is_last_slot o) && is_streaming_body b)
-held-by o b h = ap (λ t. not (is_last_slot o) && t) (open-by o b h)
+pub held-by : (o : Option Slot) (b : Option Body) → LastKept o b → last_holds_reader o ≡ ((not (is_last_slot o) && is_streaming_body b) || last_awaits_answer o)
+held-by o b h = ap (λ t. (not (is_last_slot o) && t) || last_awaits_answer o) (open-by o b h)
+
+-- the connection's last request holds no next head
+pub last-awaits-none : (o : Option Slot) → is_last_slot o ≡ true → last_awaits_answer o ≡ false
+last-awaits-none None e = refl
+last-awaits-none (Some s) e = by s.item e
+  where
+    by : (item : Item) → is_last_item item ≡ true → awaits_answer s item ≡ false
+    by (Asks r) l = rw (l, and-false r.framing.asks_upgrade) refl
+    by (Refuses a b c d) l = refl
 
 -- after a body that isn't read from the input the input stands
 pub behind-settled : (o : Option Slot) (b : Option Body) (f : Feed) → LastKept o b → is_streaming_body b ≡ false → behind_body b (Some f) ≡ Some f

@@ -516,6 +516,18 @@ pub reader-after : {R : Type 0} (client : Feed) (k : Kept) (marks : List Mark) (
 reader-after client k marks requests source sink ended slots rest r =
     record { settled = r.settled; gives = r.gives; next = λ e. next-same (with_reader k requests source) (after_number k marks requests source sink ended) (last_slot slots) (last_slot slots) rest refl refl refl refl refl refl refl refl (r.next e); source = r.source }
 
+-- the asking ends where a number gets the connection's stream and held the next head
+abbrev pub with_asking_ended : Bool → Kept → Kept
+with_asking_ended holds k = record k { asking_ended = k.asking_ended || holds }
+
+pub reader-ended : (client : Feed) (k : Kept) (holds : Bool) (slots : List Slot) (rest : List Item) → InputStands client k slots rest → InputStands client (with_asking_ended holds k) slots rest
+reader-ended client k holds slots rest r =
+    record { settled = r.settled; gives = r.gives; next = λ e. next-same k (with_asking_ended holds k) (last_slot slots) (last_slot slots) rest refl refl refl refl refl refl refl refl (r.next (neither k.asking_ended e)); source = r.source }
+  where
+    neither : (a : Bool) → (a || holds) ≡ false → a ≡ false
+    neither true e = let no : true ≡ false = e in cc
+    neither false e = refl
+
 respond-stands : {R : Type 0} (client : Feed) (before : Sink) (k : Kept) (s : State) (date : HttpDate) (n : ℕ) (v : ResponseValue) (answer_context : AnswerContext) (found : Bool) (mid new : Sink) (mid_ended ended : Bool) (final : List Mark) (requests : List (Option Unfinished)) (source : SourceState R) (reply : ReplyValue)
     → Stands client before k s → before.failures < 2 ^ 64 - 1 → (a : Answerable k s n answer_context) → (found ≡ true) ⊎ IsGathered v.answer (to_request a.waits.request date) → requests ≡ slice_set k.requests n None → InputStands client (with_reader k (a.us ++ (None ∷ a.vs)) source) (a.bs ++ (answered_slot a.waits.handed a.waits.request a.waits.given a.waits.end_reported v date found ∷ a.cs)) s.reached.rest → FinishesFront a.fs a.rs final
     → OwnSaid before mid k.output_ended mid_ended s.reached.slots a.bs (answered_slot a.waits.handed a.waits.request a.waits.given a.waits.end_reported v date found) (response_sent found v a.waits.request date) s.flushed s.failure reply → SendsLeft a.rs mid_ended mid new ended

@@ -1,5 +1,5 @@
 -- The calls of a `Connection`, as steps.
-use Rattle.std.proofs.Common.{◌≡◌, refl, sym, ap, ◌∙◌, subst, arith, length, ℕ, suc, ◌+◌, ◌-◌, ◌<◌, ◌^◌, inl, inr, ⊎_elim, Bool, true, false, not, ◌&&◌, ◌||◌, List, [], ◌∷◌, ◌++◌, Option, Some, None, Ok, append_assoc}
+use Rattle.std.proofs.Common.{◌≡◌, refl, sym, ap, ◌∙◌, subst, arith, length, ℕ, suc, ◌+◌, ◌-◌, ◌<◌, ◌^◌, ◌⊎◌, inl, inr, ⊎_elim, Bool, true, false, not, ◌&&◌, ◌||◌, List, [], ◌∷◌, ◌++◌, Option, Some, None, Ok, append_assoc}
 use Rattle.std.proofs.Math.Bool.{or-false}
 use Rattle.std.specs.declared.io.ErrorKind.{ErrorKind}
 use Rattle.httpdate.specs.declared.date.HttpDate.{HttpDate}
@@ -8,7 +8,7 @@ use Rattle.tiny_http_wire.specs.Answer.{Answer, Printing, ResponseState}
 use Rattle.tiny_http_wire.specs.declared.device.Stop.{Stop}
 use Rattle.tiny_http_core.specs.declared.pending.Unfinished.{Unfinished}
 use Rattle.tiny_http_core.specs.declared.pending.Unfinished.TheVariants as still
-use Rattle.tiny_http_core.specs.Pending.{kept_body, GivesUpBody}
+use Rattle.tiny_http_core.specs.Pending.{holds_next, last_holds_next, kept_body, GivesUpBody}
 use Rattle.std.specs.List.{AllZip}
 use Rattle.tiny_http_core.specs.declared.driver.Timed.{Timed}
 use Rattle.tiny_http_core.specs.declared.driver.Reply.{Reply}
@@ -29,8 +29,9 @@ use Rattle.tiny_http_core.specs.Connection.{Kept, ConnectionState, kept, Stands,
 use Rattle.tiny_http_core.specs.Slots.{turn_has_come}
 use Rattle.tiny_http_core.proofs.ConnectionDrop.{at-drop, at-refused}
 use Rattle.std.specs.Prelude.{String, string_bytes, slice_get}
-use Rattle.tiny_http_core.specs.Driving.{HasDone, TakesStep, AskEnds, StepEnds, IsDeclined, stated_response, stated_step, StepLeaves, AskLeaves, LetsGo, StandsAfter, ReportsFault, UpgradeLeaves, IsDropping, RefusesHeads}
+use Rattle.tiny_http_core.specs.Driving.{HasDone, TakesStep, AskEnds, StepEnds, EndsBehind, ends_behind, IsDeclined, stated_response, stated_step, StepLeaves, AskLeaves, LetsGo, StandsAfter, ReportsFault, UpgradeLeaves, IsDropping, RefusesHeads}
 use Rattle.tiny_http_core.proofs.ConnectionAsk.{StepIsAnswered}
+use Rattle.tiny_http_core.proofs.ConnectionReader.{holds-snoc}
 use Rattle.tiny_http_stream.proofs.SourceGoesOn.{goes-on_same, goes-on_more}
 use Rattle.tiny_http_core.proofs.SeenLemmas.{is-ask, is-as_reader, is-read, is-respond, is-into_writer, is-write, is-flush, is-upgrade, is-finish, is-drop, step-ask, step-as_reader, step-read, step-respond, step-into_writer, step-write, step-flush, step-upgrade, step-finish, step-drop}
 use Rattle.tiny_http_turns.specs.Turns.{Mark}
@@ -225,6 +226,13 @@ stands-after was body old new same moves = by (is_streaming was) same moves
 abbrev pub ReportsNoFault : ReplyValue → Type 0
 ReportsNoFault reply = (kind : ErrorKind) → reply ≡ Fault kind → ⊥
 
+-- whether the requests end behind a number that gets the connection's stream
+pub ends-some : (holds : Bool) (end : Option EndOfRequests) → is_some (ends_behind holds end) ≡ (is_some end || holds)
+ends-some false None = refl
+ends-some false (Some why) = refl
+ends-some true None = refl
+ends-some true (Some why) = refl
+
 -- an Ask reports no fault
 ask-reports-none : {R W : Type 0} (old new : ConnectionState R W) (reply : ReplyValue) → AskEnds old new reply → ReportsNoFault reply
 ask-reports-none old new (Handed k message framing) h kind e = cc
@@ -303,6 +311,12 @@ leaves-behind old mid new Done e count here unended h = elim h [ ]
 leaves-behind old mid new Refused e count here unended h = elim h [ ]
 leaves-behind old mid new NoSuch e count here unended h = elim h [ ]
 
+-- behind a refused head no body and no answer is waited for
+never-waits : {R W : Type 0} (old mid : ConnectionState R W) (now : HttpDate) → PassesHead old mid now → (mid.source.standing ≡ place.Body ⊎ last_holds_next mid.requests ≡ true) → ⊥
+never-waits old mid now p h =
+    ⊎_elim (not-body mid.source.standing p.stands)
+    (λ waits. (let no : false ≡ true = sym (ap last_holds_next p.requests ∙ holds-snoc old.requests None) ∙ waits in cc)) h
+
 ends-behind : {R W : Type 0} (old mid new : ConnectionState R W) (now : HttpDate) (reply : ReplyValue) → PassesHead old mid now → AskEnds mid new reply → AskEnds old new reply
 ends-behind old mid new now (Handed k message framing) p h = (p.was_open, h.1)
 ends-behind old mid new now Ended p h = (
@@ -314,29 +328,29 @@ ends-behind old mid new now Ended p h = (
       (x.0, x.1, p.ends x.0 (subst E p.stands x.2)),
 )
 ends-behind old mid new now Memory p h = (p.was_open, h.1, p.here, p.begins h.3)
-ends-behind old mid new now NotYet p h = absurd (not-body mid.source.standing p.stands h.1)
+ends-behind old mid new now NotYet p h = absurd (never-waits old mid now p h.1)
 ends-behind old mid new now (Given bytes) p h = elim h [ ]
 ends-behind old mid new now (Fault x) p h = elim h [ ]
 ends-behind old mid new now Done p h = elim h [ ]
 ends-behind old mid new now Refused p h = elim h [ ]
 ends-behind old mid new now NoSuch p h = elim h [ ]
 
-never-declined : {R W : Type 0} (mid new : ConnectionState R W) (reply : ReplyValue) → mid.source.standing ≡ place.Head → AskEnds mid new reply → IsDeclined step.Ask reply → ⊥
-never-declined mid new (Handed k message framing) e h was = elim was [ ]
-never-declined mid new Ended e h was = elim was [ ]
-never-declined mid new Memory e h was = elim was [ ]
-never-declined mid new NotYet e h was = not-body mid.source.standing e h.1
-never-declined mid new (Given bytes) e h was = elim h [ ]
-never-declined mid new (Fault x) e h was = elim h [ ]
-never-declined mid new Done e h was = elim h [ ]
-never-declined mid new Refused e h was = elim h [ ]
-never-declined mid new NoSuch e h was = elim h [ ]
+never-declined : {R W : Type 0} (old mid new : ConnectionState R W) (now : HttpDate) (reply : ReplyValue) → PassesHead old mid now → AskEnds mid new reply → IsDeclined step.Ask reply → ⊥
+never-declined old mid new now (Handed k message framing) e h was = elim was [ ]
+never-declined old mid new now Ended e h was = elim was [ ]
+never-declined old mid new now Memory e h was = elim was [ ]
+never-declined old mid new now NotYet e h was = never-waits old mid now e h.1
+never-declined old mid new now (Given bytes) e h was = elim h [ ]
+never-declined old mid new now (Fault x) e h was = elim h [ ]
+never-declined old mid new now Done e h was = elim h [ ]
+never-declined old mid new now Refused e h was = elim h [ ]
+never-declined old mid new now NoSuch e h was = elim h [ ]
 
 pub asks-behind-head : {R W : Type 0} (old mid : ConnectionState R W) (now : HttpDate) → PassesHead old mid now → IsAskBehind old mid now
 asks-behind-head old mid now p = λ new reply a. record {
   does = λ client before s low st. (let g = p.does client before s low st in g.asks (kept new) reply (a.does client before g.mid low g.stands));
   profile = a.profile ∙ p.moves.profile;
-  declined = λ was. absurd (never-declined mid new reply p.stands a.ends was);
+  declined = λ was. absurd (never-declined old mid new now reply p a.ends was);
   ends = ends-behind old mid new now reply p a.ends;
   leaves = leaves-behind old mid new reply p.requests p.counts p.here p.unended a.leaves;
   goes_on = goes-on_more old.source.feed mid.source.feed new.source.feed p.moves.goes_on a.goes_on;
@@ -380,7 +394,7 @@ takes-respond feed all old new now n r reply answers declined ends leaves done m
 
 pub takes-into_writer : {R W : Type 0} (old new : ConnectionState R W) (now : HttpDate) (n : ℕ) (reply : ReplyValue)
     → ((client : Feed) (before : Sink) (s : State) → before.failures < 2 ^ 64 - 1 → Stands client before (kept old) s → StepIsAnswered client before (kept new) s now (IntoWriter n) reply)
-    → (IsDeclined (step.IntoWriter n) reply → new ≡ old) → new.end ≡ old.end → StepLeaves (step.IntoWriter n) old new reply → Moves false old new → ReportsNoFault reply → TakesStep old new now (step.IntoWriter n) reply
+    → (IsDeclined (step.IntoWriter n) reply → new ≡ old) → EndsBehind n old new reply → StepLeaves (step.IntoWriter n) old new reply → Moves false old new → ReportsNoFault reply → TakesStep old new now (step.IntoWriter n) reply
 takes-into_writer old new now n reply answers declined ends leaves moves none =
     takes old new now (step.IntoWriter n) reply
     (λ client before s asked low is st. step-into_writer {D = Option Feed} (λ f. f) client before (kept new) s (now, asked) (step.IntoWriter n) n reply refl is (answers client before s low st))
@@ -430,7 +444,7 @@ takes-write {W = W} old new now n v bytes reply same answers declined ends leave
 
 pub takes-upgrade : {R W D : Type 0} (feed : D → Option Feed) (all : Bool) (old new : ConnectionState R W) (now : HttpDate) (n : ℕ) (p : String Global) (r : ResponseState D) (reply : ReplyValue)
     → ((client : Feed) (before : Sink) (s : State) (value : ResponseValue) → before.failures < 2 ^ 64 - 1 → value.answer ≡ r.answer → Stands client before (kept old) s → StepIsAnswered client before (kept new) s now (Upgrade n (string_bytes p) value) reply)
-    → (IsDeclined (step.Upgrade n p (stated_response feed r)) reply → new ≡ old) → new.end ≡ old.end → UpgradeLeaves n old new reply → is_done reply ≡ all → Moves all old new → ReportsNoFault reply → TakesStep old new now (step.Upgrade n p (stated_response feed r)) reply
+    → (IsDeclined (step.Upgrade n p (stated_response feed r)) reply → new ≡ old) → EndsBehind n old new reply → UpgradeLeaves n old new reply → is_done reply ≡ all → Moves all old new → ReportsNoFault reply → TakesStep old new now (step.Upgrade n p (stated_response feed r)) reply
 takes-upgrade feed all old new now n p r reply answers declined ends leaves done moves none =
     takes old new now (step.Upgrade n p (stated_response feed r)) reply
     (λ client before s asked low is st. step-upgrade {D = Option Feed} (λ f. f) client before (kept new) s (now, asked) (step.Upgrade n p (stated_response feed r)) n p (stated_response feed r) reply refl is (λ v same. answers client before s v low same st))

@@ -25,7 +25,7 @@ use Rattle.tiny_http_core.specs.Conversation.{State, TimedValue, Run, start_stat
 use Rattle.tiny_http_wire.specs.declared.answer_context.AnswerContext.{AnswerContext}
 use Rattle.tiny_http_sending.specs.ResponseValue.{printing_in}
 use Rattle.tiny_http_sending.specs.Sending.{IsHonest, FailsOnce}
-use Rattle.tiny_http_core.specs.Pending.{waiting_answer_context, owes_continue, kept_body, GivesUpBody, with_body}
+use Rattle.tiny_http_core.specs.Pending.{waiting_answer_context, owes_continue, holds_next, last_holds_next, kept_body, GivesUpBody, with_body}
 use Rattle.tiny_http_message.specs.declared.body.Body.{Body}
 use Rattle.tiny_http_message.specs.declared.open_request.OpenRequest.{OpenRequest}
 use Rattle.tiny_http_core.specs.declared.pending.Unfinished.{Unfinished}
@@ -97,12 +97,23 @@ EndsRequestsAt p standing feed why =
 -- where memory for a head was refused; after the end it changes nothing, and after the last request the source is left alone.
 abbrev pub AskEnds : {R W : Type 0} → ConnectionState R W → ConnectionState R W → ReplyValue → Type 0
 AskEnds old new (Handed k message framing) = (old.end ≡ None) × (new.end ≡ None)
-AskEnds old new NotYet = (old.end ≡ None) × (old.source.standing ≡ at.Body)
+AskEnds old new NotYet = (old.end ≡ None) × (old.source.standing ≡ at.Body ⊎ last_holds_next old.requests ≡ true)
 AskEnds old new Ended =
     (IsSome old.end → new ≡ old) × (old.source.standing ≡ at.Last → new.source ≡ old.source)
     × (old.end ≡ None → (why : EndOfRequests) × (new.end ≡ Some why) × EndsRequestsAt old.profile old.source.standing old.source.feed why)
 AskEnds old new Memory = (old.end ≡ None) × (new.end ≡ Some because.Memory) × IsBeforeHead old.source.standing × HasByteBehind old.profile old.source.feed
 AskEnds old new _ = ⊥
+
+-- why the requests end, where nothing is read behind a request that holds the next head
+abbrev pub ends_behind : Bool → Option EndOfRequests → Option EndOfRequests
+ends_behind false end = end
+ends_behind true None = Some because.LastRequest
+ends_behind true (Some why) = Some why
+
+-- a number got the connection's stream: where it held the next head the requests end
+abbrev pub EndsBehind : {R W : Type 0} → ℕ → ConnectionState R W → ConnectionState R W → ReplyValue → Type 0
+EndsBehind k old new Done = new.end ≡ ends_behind (holds_next (slice_get old.requests k)) old.end
+EndsBehind k old new _ = new.end ≡ old.end
 
 -- what a step says of the end of the requests
 abbrev pub StepEnds : {R W : Type 0} → Step (Option Feed) → ConnectionState R W → ConnectionState R W → ReplyValue → Type 0
@@ -110,10 +121,10 @@ StepEnds step.Ask old new reply = AskEnds old new reply
 StepEnds (step.AsReader k) old new reply = new.end ≡ old.end
 StepEnds (step.Read k n) old new reply = new.end ≡ old.end
 StepEnds (step.Respond k r) old new reply = new.end ≡ old.end
-StepEnds (step.IntoWriter k) old new reply = new.end ≡ old.end
+StepEnds (step.IntoWriter k) old new reply = EndsBehind k old new reply
 StepEnds (step.Write k bytes) old new reply = new.end ≡ old.end
 StepEnds (step.Flush k) old new reply = new.end ≡ old.end
-StepEnds (step.Upgrade k p r) old new reply = new.end ≡ old.end
+StepEnds (step.Upgrade k p r) old new reply = EndsBehind k old new reply
 StepEnds (step.Finish k) old new reply = new.end ≡ old.end
 StepEnds (step.Drop k) old new reply = new.end ≡ old.end
 

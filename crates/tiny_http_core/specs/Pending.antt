@@ -93,6 +93,20 @@ owes_continue (Some (Some (still.Upgraded b))) = false
 owes_continue (Some None) = false
 owes_continue None = false
 
+-- the next head isn't read before it is answered
+abbrev pub holds_next : Option (Option Unfinished) → Bool
+holds_next (Some (Some (still.Waiting w))) = w.holds_next_head
+holds_next (Some (Some still.Raw)) = false
+holds_next (Some (Some (still.Upgraded b))) = false
+holds_next (Some None) = false
+holds_next None = false
+
+-- the next head isn't read before the last of these is answered
+abbrev pub last_holds_next : List (Option Unfinished) → Bool
+last_holds_next [] = false
+last_holds_next (u ∷ []) = holds_next (Some u)
+last_holds_next (u ∷ v ∷ us) = last_holds_next (v ∷ us)
+
 -- the body that is kept of a number, if any
 abbrev pub kept_body : Option Unfinished → Option Body
 kept_body None = None

@@ -155,6 +155,19 @@ abbrev pub is_chunked : Form → Bool
 is_chunked Chunked = true
 is_chunked _ = false
 
+abbrev pub is_unanswered : Stage → Bool
+is_unanswered Unanswered = true
+is_unanswered _ = false
+
+-- it asks for an upgrade, and isn't the last: what follows it may be bytes of the other protocol
+abbrev pub holds_next_head : Request → Bool
+holds_next_head r = r.framing.asks_upgrade && not r.framing.is_last
+
+-- the next head isn't read before this number is answered
+abbrev pub awaits_answer : Slot → Item → Bool
+awaits_answer s (Asks r) = holds_next_head r && is_unanswered s.stage
+awaits_answer s (Refuses refusal version no_body last) = false
+
 -- a chunked body was given up before its end was reported: where the next head begins isn't known
 abbrev pub body_was_abandoned : Slot → Item → Bool
 body_was_abandoned s (Asks r) = is_chunked r.framing.form && (s.given_up && not s.end_reported)
@@ -171,9 +184,13 @@ abbrev pub last_is_open : Option Slot → Bool
 last_is_open None = false
 last_is_open (Some s) = body_is_open s s.item
 
--- the last body holds the reader: the next head can't be read yet
+abbrev pub last_awaits_answer : Option Slot → Bool
+last_awaits_answer None = false
+last_awaits_answer (Some s) = awaits_answer s s.item
+
+-- the last request holds the reader: the next head can't be read yet
 abbrev pub last_holds_reader : Option Slot → Bool
-last_holds_reader last = not (is_last_slot last) && last_is_open last
+last_holds_reader last = (not (is_last_slot last) && last_is_open last) || last_awaits_answer last
 
 abbrev pub last_was_abandoned : Option Slot → Bool
 last_was_abandoned None = false

@@ -9,7 +9,7 @@ ghost use Rattle.httpdate.specs.declared.date.HttpDate.{HttpDate as Date};
 ghost use Rattle.tiny_http_core.specs.Steps.{ReplyValue, Done, Fault};
 ghost use Rattle.std.specs.declared.io.ErrorKind.{ErrorKind};
 ghost use Rattle.tiny_http_core.specs.Pending.{waiting_answer_context};
-ghost use Rattle.tiny_http_core.specs.Driving.{HasDone, TakesStep, Drops, stated_response, stated_step};
+ghost use Rattle.tiny_http_core.specs.Driving.{HasDone, TakesStep, Drops, ends_behind, stated_response, stated_step};
 ghost use Rattle.tiny_http_core.specs.Runs.{IsConversationOf, RunsSteps};
 ghost use Rattle.tiny_http_sending.specs.ResponseValue.{printing_in};
 ghost use Rattle.tiny_http_core.specs.Seen.{seen, write_reply, Answers, IsAnswered, IsResponse, ReportsHonestly};
@@ -39,7 +39,8 @@ use tiny_http_wire::response::Response;
 pub enum Step<D> {
     /// Reads the next head and hands it out. It is `NotYet` while the body of the last request that was handed out holds the
     /// reader: one that is counted or chunked, neither read to its end nor given up, of a request that isn't the
-    /// connection's last. After a chunked body that was given up before its end was reported no head follows.
+    /// connection's last. Under `Standard` it is `NotYet`, too, while a request that asks for an upgrade waits for its answer. After
+    /// a chunked body that was given up before its end was reported no head follows.
     Ask,
     /// Sends the 100 that is owed to the request of this number. Before its turn it is `NotYet`.
     AsReader(u64),
@@ -85,7 +86,8 @@ pub enum Reply {
     Given(Vec<u8>),
     /// The body ends by this fault; or the writer or the response's data failed so.
     Fault(ErrorKind),
-    /// The step has to wait: an `Ask` for the last body to be read or given up; a `Respond`, a `Write`, a `Flush`, an `Upgrade`
+    /// The step has to wait: an `Ask` for the last body to be read or given up, or for the answer to a request that asks for an
+    /// upgrade; a `Respond`, a `Write`, a `Flush`, an `Upgrade`
     /// to a protocol that is ASCII, or an `AsReader` that has a 100 to send, for its turn. Nothing has changed.
     NotYet,
     /// The step was done, and met no fault that is reported.
@@ -176,6 +178,16 @@ fn answer<W: WriteDevice, D: ReadDevice + Drop>(
     Reply::write_reply(reported(request.respond(alloc, outlet, response, now)))
 }
 
+// Why the requests end, once a request gets the connection's stream: no head is read behind one that holds the next head.
+fn ends_behind(holds_next_head: bool, end: Option<EndOfRequests>) -> Option<EndOfRequests>
+    ensures { result ≡ ends_behind holds_next_head end }
+{
+    match end {
+        None if holds_next_head => Some(EndOfRequests::LastRequest),
+        _ => end,
+    }
+}
+
 // So many bytes 0.
 fn zeros(alloc: Global, count: u16) -> Result<Vec<u8>, AllocError>
     ensures { IfOk result (λ v. length v.items ≡ count) }
@@ -237,7 +249,9 @@ impl<R: ReadDevice, W: WriteDevice> Connection<R, W> {
     }
 
     /// Goes to the next request, and hands it out with its number: `Handed`. It is `NotYet` while the body of the last request
-    /// holds the reader: until that was read to its end or given up. It is `Ended` once the connection has no further request,
+    /// holds the reader: until that was read to its end or given up. It is so, too, while the last request waits for its answer
+    /// and its head says `asks_upgrade`, unless it is the connection's last: what follows it may be bytes of the other protocol
+    /// (RFC 9110, section 7.8). If that request's raw writer is taken, or it is upgraded, it is the last. It is `Ended` once the connection has no further request,
     /// from then on, and `end_of_requests` says why. A refused head is answered under a number of its own, in its turn, and
     /// ends the asking; but a 505 does so only where its head names an upgrade or its body is chunked. After any other 505 the
     /// same call reads the next head. `Memory` ends the asking too, and so does a chunked body that was given up before its
@@ -251,6 +265,9 @@ impl<R: ReadDevice, W: WriteDevice> Connection<R, W> {
             return Reply::Ended;
         }
         if matches!(self.source.standing(), Standing::Body) {
+            return Reply::NotYet;
+        }
+        if self.pending.last_holds_next_head() {
             return Reply::NotYet;
         }
         let (source, outlet) = (&mut self.source, &mut self.outlet);
@@ -384,13 +401,15 @@ impl<R: ReadDevice, W: WriteDevice> Connection<R, W> {
 
     /// Takes the raw writer of the request of this number in place of an answer, and gives its body up: `Done`, in its turn or
     /// before it, or `NoSuch` for a number that doesn't wait for an answer. Nothing is sent: after a 100 that was sent before,
-    /// the bytes that `write` writes are all that the client gets for the request. A 100 that is owed isn't sent any more.
+    /// the bytes that `write` writes are all that the client gets for the request. A 100 that is owed isn't sent any more. No
+    /// request follows one whose head says `asks_upgrade`.
     pub fn into_writer(&mut self, number: u64) -> Reply
         ensures step { (date : Date) → TakesStep self.old self.new date (Step.IntoWriter number) (seen result) }
     {
         let Some(mut request) = self.pending.take(number, Some(Unfinished::Raw)) else {
             return Reply::NoSuch;
         };
+        self.end = ends_behind(request.holds_next_head, self.end);
         request.give_up(&mut self.source);
         Reply::Done
     }
@@ -453,6 +472,7 @@ impl<R: ReadDevice, W: WriteDevice> Connection<R, W> {
         if !self.pending.is_in_turn(number) {
             return Reply::NotYet;
         }
+        self.end = ends_behind(self.pending.holds_next_head(number), self.end);
         let outlet = &mut self.outlet;
         self.pending
             .upgrade(alloc, outlet, number, protocol, response, now);

@@ -13,7 +13,7 @@ ghost use Rattle.tiny_http_message.specs.declared.body.Body.{Body};
 ghost use Rattle.tiny_http_message.specs.declared.open_request.OpenRequest.{OpenRequest};
 ghost use Rattle.tiny_http_stream.specs.Source.{GoesOn};
 ghost use Rattle.tiny_http_message.specs.Body.{is_streaming, body_standing, FillsFromBody};
-ghost use Rattle.tiny_http_core.specs.Pending.{WaitsAt, left_text, SendsLeft, FinishesFront, LeavesText, waiting_answer_context, is_readable, is_writable, owes_continue, kept_body, GivesUpBody, with_body};
+ghost use Rattle.tiny_http_core.specs.Pending.{WaitsAt, left_text, SendsLeft, FinishesFront, LeavesText, waiting_answer_context, is_readable, is_writable, owes_continue, holds_next, last_holds_next, kept_body, GivesUpBody, with_body};
 
 use httpdate::HttpDate;
 use std::alloc::{AllocError, Global};
@@ -114,6 +114,26 @@ impl Pending {
         match self.requests.get(number) {
             Some(Unfinished::Waiting(request)) => request.owes_continue,
             _ => false,
+        }
+    }
+
+    /// Whether this number waits for its answer, and the next head isn't read before it.
+    pub fn holds_next_head(&self, number: u64) -> bool
+        ensures { result ≡ holds_next (slice_get self.now.requests number) }
+    {
+        match self.requests.get(number) {
+            Some(Unfinished::Waiting(request)) => request.holds_next_head,
+            _ => false,
+        }
+    }
+
+    /// Whether the last number waits for its answer, and the next head isn't read before it.
+    pub fn last_holds_next_head(&self) -> bool
+        ensures { result ≡ last_holds_next self.now.requests }
+    {
+        match self.requests.len().checked_sub(1) {
+            Some(number) => self.holds_next_head(number),
+            None => false,
         }
     }
 

@@ -1,5 +1,5 @@
 -- What a contract sees of an `OpenRequest`.
-use Rattle.std.specs.Prelude.{◌≡◌, false, []}
+use Rattle.std.specs.Prelude.{◌≡◌, ◌&&◌, false, not, []}
 use Rattle.httpdate.specs.declared.date.HttpDate.{HttpDate}
 use Rattle.tiny_http_wire.specs.declared.device.Stop.TheVariants.{End}
 use Rattle.tiny_http_wire.specs.Coding.{coding_asked}
@@ -35,4 +35,5 @@ pub record KeepsHead {B : Type 0} (w : OpenRequest B) (h : Head) (date : HttpDat
   pub asked_coding : w.answer_context.asked_coding ≡ coding_asked h.headers.items
   pub no_body : w.answer_context.no_body ≡ is_head_method h.method
   pub owes_continue : w.owes_continue ≡ h.owes_continue
+  pub holds_next_head : w.holds_next_head ≡ (h.asks_upgrade && not h.is_last)
   pub text : w.dropped.items ≡ own_text_by 500 (printing_to (coding_asked h.headers.items) h.version (is_head_method h.method) date)

@@ -51,6 +51,9 @@ pub struct Head {
     /// Whether the head expects a 100 before the body (RFC 9110, section 10.1.1): in any version and with or without a body; under
     /// `Standard` in version 1.1, where a body follows.
     pub owes_continue: bool,
+    /// Whether the head asks for an upgrade (RFC 9110, section 7.8); it is told under `Standard` alone: in version 1.1, by a
+    /// `Connection` with the element `upgrade` and an `Upgrade` that names a protocol.
+    pub asks_upgrade: bool,
     /// Whether the connection ends after this request (RFC 9112, section 9.3).
     pub is_last: bool,
 }
@@ -66,7 +69,7 @@ pub struct Exchange {
 #[derive(Clone, Copy, Debug, PartialEq, Eq)]
 pub enum EndOfRequests {
     /// The last request was read: its version or its `Connection` header ends the connection after it; under `Standard` its method
-    /// `CONNECT` does, too.
+    /// `CONNECT` does, too, and so do its raw writer and its upgrade, if it asked for an upgrade.
     LastRequest,
     /// The client's bytes ended, and no byte of a further head had come. So it is too where they ended within a body of a known
     /// length, or, by an end or a fault, within what was left of one that was given up or passed over.
@@ -371,6 +374,7 @@ fn head_of(message: Message, framing: Framing) -> Head
         body_length: framing.body_length,
         form: framing.form,
         owes_continue: framing.owes_continue,
+        asks_upgrade: framing.asks_upgrade,
         is_last: framing.is_last,
     }
 }

@@ -88,8 +88,8 @@ pub enum Form {
     Chunked,
 }
 
-/// How a message is framed: its body's form, whether a 100 is owed, the length that it says, and whether the connection
-/// ends after it.
+/// How a message is framed: its body's form, whether a 100 is owed, the length that it says, whether it asks for an upgrade, and
+/// whether the connection ends after it.
 #[derive(Clone, Copy, Debug, PartialEq, Eq)]
 pub struct Framing {
     /// How the body is read.
@@ -98,6 +98,8 @@ pub struct Framing {
     pub owes_continue: bool,
     /// The length that `Content-Length` says, where it can be read and no `Transfer-Encoding` hides it.
     pub body_length: Option<usize>,
+    /// Whether the head asks for an upgrade (RFC 9110, section 7.8); it is told under `Standard` alone.
+    pub asks_upgrade: bool,
     /// Whether the connection ends after the message.
     pub is_last: bool,
 }
@@ -340,6 +342,7 @@ pub fn framing_of(
         form: form_by(mentions(connection, "upgrade"), is_coded, owed, body_length),
         owes_continue: owed,
         body_length,
+        asks_upgrade: false,
         is_last: is_last(version, connection),
     })
 }

@@ -35,6 +35,9 @@ pub struct OpenRequest<B> {
     pub answer_context: AnswerContext,
     /// Whether a 100 is owed that wasn't sent yet.
     pub owes_continue: bool,
+    /// Whether the next head isn't read before the answer: the request asks for an upgrade, and isn't its connection's last. What
+    /// follows it may be bytes of the other protocol (RFC 9110, section 7.8).
+    pub holds_next_head: bool,
     /// What is sent if the request is dropped.
     pub dropped: DropText,
     /// Its body, and how far that was read.
@@ -61,6 +64,7 @@ impl<B: Drop> OpenRequest<B> {
         Ok(OpenRequest {
             answer_context,
             owes_continue: head.owes_continue,
+            holds_next_head: head.asks_upgrade && !head.is_last,
             dropped,
             body,
         })

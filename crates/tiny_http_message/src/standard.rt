@@ -50,6 +50,7 @@ fn framing_of(summary: HeadSummary) -> Framing
         ),
         owes_continue: summary.owes_continue,
         body_length: summary.body_length,
+        asks_upgrade: summary.asks_upgrade,
         is_last: summary.is_last,
     }
 }
@@ -67,6 +68,7 @@ fn head_of(head: StandardHead, framing: Framing) -> Head
         body_length: framing.body_length,
         form: framing.form,
         owes_continue: framing.owes_continue,
+        asks_upgrade: framing.asks_upgrade,
         is_last: framing.is_last,
     }
 }

@@ -1,11 +1,19 @@
 -- What a clause says of a read of a request's body.
-use Rattle.std.specs.Prelude.{◌≡◌, ◌<◌, ◌==◌, ℕ, false, List, length, take, Option, Some, Result, Ok, IfOk, IfErr, IfSome}
+use Rattle.std.specs.Prelude.{◌≡◌, ◌<◌, ◌==◌, ℕ, Bool, true, false, List, length, take, Option, Some, Result, Ok, IfOk, IfErr, IfSome}
 use Rattle.std.specs.IoError.{error_kind}
 use Rattle.std.specs.declared.io.Error.{Error}
 use Rattle.tiny_http_device.specs.Device.{AnswersStop, Feed}
 use Rattle.tiny_http_device.specs.declared.device.Stop.TheVariants.{Fault}
 use Rattle.tiny_http_message.specs.declared.body.Body.{Body}
+use Rattle.tiny_http_request.specs.declared.body.NextHead.{NextHead}
+use Rattle.tiny_http_request.specs.declared.body.NextHead.TheVariants.{AfterBody, AfterAnswer, Never}
 use Rattle.tiny_http_message.specs.Body.{is_streaming, body_stop, ReadsOn, remaining, prepended_body}
+
+-- the input isn't given on to the next head as the body ends
+abbrev pub is_held : NextHead → Bool
+is_held AfterBody = false
+is_held AfterAnswer = true
+is_held Never = true
 
 -- ONE READ OF A BODY. The bytes of one that was read with its head are the next of it, whatever the input still gives; of bytes that come
 -- from the input, behind a lock, nothing is stated. After the end or a fault each read answers the same. A read into no room changes

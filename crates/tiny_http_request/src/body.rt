@@ -1,10 +1,10 @@
 //! The body of a request that a thread may read, while the connection reads on.
-ghost use Rattle.std.specs.Prelude.{◌≡◌, ◌≤◌, ◌<◌, ◌==◌, false, length, take, Option, is_some, Ok, Some, None, IfOk, IfErr, IfSome};
+ghost use Rattle.std.specs.Prelude.{◌≡◌, ◌≤◌, ◌<◌, ◌==◌, ◌||◌, false, length, take, Option, is_some, Ok, Some, None, IfOk, IfErr, IfSome};
 ghost use Rattle.std.specs.IoError.{error_kind};
 ghost use Rattle.tiny_http_device.specs.Device.{AnswersStop, Feed, Reads};
 ghost use Rattle.tiny_http_device.specs.declared.device.Stop.TheVariants.{Fault};
 ghost use Rattle.tiny_http_message.specs.Body.{is_streaming, body_stop, ReadsOn, remaining, prepended_body};
-ghost use Rattle.tiny_http_request.specs.Body.{ReadsUnread};
+ghost use Rattle.tiny_http_request.specs.Body.{ReadsUnread, is_held};
 
 use std::io;
 use std::io::{ErrorKind, Read};
@@ -12,13 +12,25 @@ use std::marker::Model;
 use std::sync::Wait;
 use tiny_http_device::device::ReadDevice;
 use tiny_http_message::body::Body as Unread;
-use tiny_http_stream::source::Source;
+use tiny_http_stream::source::{Source, Standing};
 use tiny_http_threads::sequential::SequentialReader;
 use tiny_http_threads::turn::{held_reader, hold_reader};
 
+// When the connection's input is given on to the next head.
+#[derive(Drop)]
+pub(crate) enum NextHead {
+    // Once the body was read to its end or given up.
+    AfterBody,
+    // Once the request was answered: it asks for an upgrade.
+    AfterAnswer,
+    // Never: the request asked for an upgrade, and its raw writer was taken or it was upgraded.
+    Never,
+}
+
 /// The body of a request. While bytes of it are to be read from the connection it holds the connection's input, and the next
 /// head waits: a counted body gives the input on with its last byte, a chunked one once a read has answered 0. A dropped body
-/// gives it on too; but after a chunked one whose end wasn't reported, and after one that is cut or broken, no head follows.
+/// gives it on too; but after a chunked one whose end wasn't reported, and after one that is cut or broken, no head follows. The
+/// body of a request that asks for an upgrade under `Standard` holds the input until the request is answered.
 ///
 /// After its end each read answers 0. A fault, the client's or the body's own, is answered by each read from then on, and so is
 /// one of kind `Interrupted`. The standard library's `read_to_end` and `read_to_string` try again after that kind, without an
@@ -26,31 +38,47 @@ use tiny_http_threads::turn::{held_reader, hold_reader};
 pub struct Body<R: ReadDevice + Drop, Rt: Wait + Drop> {
     unread: Unread,
     reader: Option<SequentialReader<Source<R>, Rt>>,
+    next_head: NextHead,
 }
 
 impl<R: ReadDevice + Drop, Rt: Wait + Drop> Model for Body<R, Rt> {
-    ghost use Rattle.std.specs.Prelude.{◌≡◌, is_some};
+    ghost use Rattle.std.specs.Prelude.{◌≡◌, ◌||◌, is_some};
     ghost use Rattle.tiny_http_message.specs.declared.body.Body.{Body as Unread};
     ghost use Rattle.tiny_http_message.specs.Body.{is_streaming};
+    ghost use Rattle.tiny_http_request.specs.Body.{is_held};
 
     ghost Value = { Unread };
 
     ghost view = { λ b. b.unread };
 
-    // It holds the input exactly while it is read from there.
-    ghost invariant = { λ b. is_some b.reader ≡ is_streaming b.unread };
+    // It holds the input exactly while it is read from there, or the next head waits for the answer.
+    ghost invariant = { λ b. is_some b.reader ≡ (is_streaming b.unread || is_held b.next_head) };
 }
 
 impl<R: ReadDevice + Drop, Rt: Wait + Drop> Body<R, Rt> {
-    /// A body that is read by this reader, if it is read from the input.
+    /// A body with the reader of the input, if it is read from there or the next head waits for the answer.
     pub(crate) fn new(
         unread: Unread,
         reader: Option<SequentialReader<Source<R>, Rt>>,
+        next_head: NextHead,
     ) -> Body<R, Rt>
-        requires { is_some reader ≡ is_streaming unread }
+        requires { is_some reader ≡ (is_streaming unread || is_held next_head) }
         ensures { result ≡ unread }
     {
-        Body { unread, reader }
+        Body {
+            unread,
+            reader,
+            next_head,
+        }
+    }
+
+    /// Has no head follow a request that asks for an upgrade: it gets the connection's stream.
+    pub(crate) fn end_requests(&mut self)
+        ensures { self.new ≡ self.old }
+    {
+        if matches!(self.next_head, NextHead::AfterAnswer) {
+            self.next_head = NextHead::Never;
+        }
     }
 
     // Reads some bytes into a buffer that has room.
@@ -63,11 +91,14 @@ impl<R: ReadDevice + Drop, Rt: Wait + Drop> Body<R, Rt> {
         ensures broken { IfErr result (λ e. body_stop self.new ≡ Some (Fault (error_kind e))) }
         ensures reports_stop { IfSome (body_stop self.old) (λ stop. AnswersStop stop result × (body_stop self.new ≡ Some stop)) }
     {
-        let Some(reader) = &mut self.reader else {
+        if !self.unread.holds_reader() {
             return self.unread.read_held(buf);
+        }
+        let Some(reader) = &mut self.reader else {
+            unreachable!()
         };
         let read = self.unread.read(hold_reader(reader), buf);
-        if !self.unread.holds_reader() {
+        if !self.unread.holds_reader() && matches!(self.next_head, NextHead::AfterBody) {
             drop(self.reader.take());
         }
         read
@@ -123,11 +154,15 @@ impl<R: ReadDevice + Drop, Rt: Wait + Drop> Drop for Body<R, Rt> {
         let Self {
             mut unread,
             mut reader,
+            next_head,
         } = self;
         if let Some(reader) = &mut reader
             && let Some(source) = held_reader(reader)
         {
             unread.give_up(source);
+            if matches!(next_head, NextHead::Never) {
+                source.stand_at(Standing::Last);
+            }
         }
         drop(reader);
     }

@@ -156,7 +156,9 @@ impl<R: ReadDevice + Drop, W: WriteDevice + Drop, Rt: Wait + Copy> ClientConnect
     }
 
     /// Goes to the next request, and hands it out; `None` once the connection has no further one, from then on. It waits for
-    /// the client, and while the last request's body holds the input: until that was read to its end or given up. Refused heads
+    /// the client, and while the last request's body holds the input: until that was read to its end or given up. Under `Standard`
+    /// it waits, too, until a request that asks for an upgrade is answered; where its raw writer was taken, or it was upgraded, no
+    /// request follows. So a program answers such a request before it makes this call on the same thread. Refused heads
     /// are answered in their turn, without waiting for it, and end the requests; but behind one of a version above 1.1 the next
     /// head is read, unless it names an upgrade or its body is chunked. An error where memory was refused; then each later call
     /// answers `None`. `now` dates the answers to refused heads, and the 500 of this request if it is dropped.
@@ -194,7 +196,8 @@ impl<R: ReadDevice + Drop, W: WriteDevice + Drop, Rt: Wait + Copy> ClientConnect
         Ok(())
     }
 
-    // Hands out a request that was read by this reader. The reader goes with a body that is read from it.
+    // Hands out a request that was read by this reader. The reader goes with a body that is read from it, and with a request
+    // before whose answer the next head isn't read.
     fn hand_out(
         &mut self,
         reader: SequentialReader<Source<R>, Rt>,
@@ -210,7 +213,7 @@ impl<R: ReadDevice + Drop, W: WriteDevice + Drop, Rt: Wait + Copy> ClientConnect
     {
         let (head, open_request) = exchange.into_parts();
         let writer = self.sink.next()?;
-        let holds_reader = open_request.body.holds_reader();
+        let holds_reader = open_request.body.holds_reader() || open_request.holds_next_head;
         let may_leave = !holds_reader && is_next_writer(&writer);
         let flush_policy = set_policy(&self.flush_policy, may_leave)?;
         let client = (self.secure, self.remote_addr);

@@ -1,5 +1,5 @@
 //! A request that threads may hold: its head, its body on the connection's input, and its turn at the output.
-ghost use Rattle.std.specs.Prelude.{◌≡◌, false, Ok, Err, Some, None, IfOk, IfErr, IfSome, is_ok, is_some};
+ghost use Rattle.std.specs.Prelude.{◌≡◌, ◌||◌, false, Ok, Err, Some, None, IfOk, IfErr, IfSome, is_ok, is_some};
 ghost use Rattle.std.specs.IoError.{error_kind};
 ghost use Rattle.std.specs.List.{list_all};
 ghost use Rattle.std.specs.Option.{option_copied};
@@ -11,6 +11,7 @@ ghost use Rattle.tiny_http_message.specs.HeadReads.{head_framing, Begins};
 ghost use Rattle.tiny_http_request.specs.Request.{request_head, request_secure, request_address, request_open, is_expectation_failed, IfCreationIo, cut_kind, IsCutShort, BeginsWith, Says, IsFramed, FailsBy};
 
 pub use crate::body::Body;
+use crate::body::NextHead;
 use httpdate::HttpDate;
 use std::alloc::{AllocError, Global};
 use std::io::{ErrorKind, Read, Write};
@@ -103,7 +104,7 @@ impl<R: ReadDevice + Drop, W: WriteDevice + Drop, Rt: Wait + Drop> Request<R, W,
         writer: SequentialWriter<Outlet<W>, Rt>,
         flush_policy: Option<Arc<FlushPolicy>>,
     ) -> Request<R, W, Rt>
-        requires { is_some reader ≡ is_streaming open_request.body }
+        requires { is_some reader ≡ (is_streaming open_request.body || open_request.holds_next_head) }
         ensures head { request_head result ≡ head }
         ensures open { request_open result ≡ open_request }
         ensures client { (request_secure result ≡ client.0) × (request_address result ≡ client.1) }
@@ -112,14 +113,21 @@ impl<R: ReadDevice + Drop, W: WriteDevice + Drop, Rt: Wait + Drop> Request<R, W,
         let OpenRequest {
             answer_context,
             owes_continue,
+            holds_next_head,
             dropped,
             body,
         } = open_request;
+        let next_head = if holds_next_head {
+            NextHead::AfterAnswer
+        } else {
+            NextHead::AfterBody
+        };
         let open_request = OpenRequest {
             answer_context,
             owes_continue,
+            holds_next_head,
             dropped,
-            body: Body::new(body, reader),
+            body: Body::new(body, reader, next_head),
         };
         Request {
             alloc,
@@ -244,10 +252,12 @@ impl<R: ReadDevice + Drop, W: WriteDevice + Drop, Rt: Wait + Drop> Request<R, W,
     }
 
     /// Takes the raw writer in place of an answer, and gives the body up. What is written is all that the client gets for the
-    /// request, but for a 100 that was sent before. The turn ends as the writer is dropped.
+    /// request, but for a 100 that was sent before. The turn ends as the writer is dropped. No request follows one that asks for an
+    /// upgrade under `Standard`.
     pub fn into_writer(self) -> SequentialWriter<Outlet<W>, Rt> {
         self.send_at_flush();
-        let (open_request, writer) = self.into_parts();
+        let (mut open_request, writer) = self.into_parts();
+        open_request.body.end_requests();
         drop(open_request);
         writer
     }
@@ -269,6 +279,7 @@ impl<R: ReadDevice + Drop, W: WriteDevice + Drop, Rt: Wait + Drop> Request<R, W,
         let alloc = self.alloc;
         let (mut open_request, mut writer) = self.into_parts();
         open_request.upgrade(alloc, hold_writer(&mut writer), protocol, response, now);
+        open_request.body.end_requests();
         Ok(CustomStream::new(open_request.body, writer))
     }
 
@@ -385,6 +396,7 @@ pub fn new_request<R: ReadDevice + Drop, W: WriteDevice + Drop, Rt: Wait + Copy>
         body_length: framing.body_length,
         form: framing.form,
         owes_continue: framing.owes_continue,
+        asks_upgrade: framing.asks_upgrade,
         is_last: framing.is_last,
     };
     let open_request = OpenRequest::new(alloc, &head, body, now)?;

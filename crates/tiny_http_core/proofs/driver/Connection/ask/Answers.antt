@@ -1,4 +1,4 @@
-use Rattle.std.proofs.Common.{◌≡◌, refl, sym, ap, ◌∙◌, subst, true, false, Some, Result, Ok, Err, append-nil}
+use Rattle.std.proofs.Common.{◌≡◌, refl, sym, ap, ◌∙◌, subst, inl, inr, true, false, Some, Result, Ok, Err, append-nil}
 use Rattle.std.specs.Prelude.{is_some}
 use Rattle.std.specs.declared.alloc.AllocError.{AllocError}
 use Rattle.tiny_http_turns.specs.Turns.{AreInShape}
@@ -13,7 +13,7 @@ use Rattle.tiny_http_core.proofs.Asking.{CanAsk}
 use Rattle.tiny_http_core.specs.Pending.{RefusesHead}
 use Rattle.tiny_http_core.specs.Steps.{Ended, NotYet, Memory, Handed}
 use Rattle.tiny_http_core.specs.Connection.{kept}
-use Rattle.tiny_http_core.proofs.ConnectionAsk.{ask-ended, ask-not_yet}
+use Rattle.tiny_http_core.proofs.ConnectionAsk.{ask-ended, ask-not_yet, ask-waits}
 use Rattle.tiny_http_core.proofs.ConnectionNext.{asks-next, found-request, found-no-number, found-no-memory, found-end}
 use Rattle.tiny_http_core.proofs.DrivingLemmas.{viewed, none-of, ask-step, takes-ask, moves-none}
 use Rattle.tiny_http_core.proofs.driver.Connection.ask.Goals.{in-Body, in_default}
@@ -42,7 +42,19 @@ returns-then-matches g c =
     record {
       step = rw (← c.self.view_is) (takes-ask old old c.args.now NotYet (ask-step old old c.args.now NotYet
           (λ client before s low st. ask-not_yet client before (kept old) s c.args.now st open_is here)
-          (λ no. refl) (none-of q.end open_is, here) tt (moves-none old)));
+          (λ no. refl) (none-of q.end open_is, inl here) tt (moves-none old)));
+    }
+
+pub returns-then-last_holds_next_head : goal.returns-then-last_holds_next_head
+returns-then-last_holds_next_head g c =
+    let q = c.self.inside in
+    let old = viewed q.profile q.source q.outlet q.pending q.end in
+    let open_is : is_some q.end ≡ false = sym c.is_some.ensures ∙ c.if-is_some.false in
+    let holds = sym c.last_holds_next_head.ensures ∙ c.if-last_holds_next_head.true in
+    record {
+      step = rw (← c.self.view_is) (takes-ask old old c.args.now NotYet (ask-step old old c.args.now NotYet
+          (λ client before s low st. ask-waits client before (kept old) s c.args.now st open_is holds)
+          (λ no. refl) (none-of q.end open_is, inr holds) tt (moves-none old)));
     }
 
 pub returns-in-Ok : goal.returns-in-Ok
@@ -57,7 +69,7 @@ returns-in-Ok g c =
       | in-Body w ↦ λ e. (let no : true ≡ false = sym w.matches-is ∙ c.if-matches.false in cc)
       | in_default w ↦ λ e. w.in_default.not-Body (c.standing.ensures ∙ e)
     ] in
-    let can : CanAsk old = (none-of q.end (sym c.is_some.ensures ∙ c.if-is_some.false), outside) in
+    let can : CanAsk old = (none-of q.end (sym c.is_some.ensures ∙ c.if-is_some.false), outside, sym c.last_holds_next_head.ensures ∙ c.if-last_holds_next_head.false) in
     let N : Result NextRequest AllocError → Type 0 = λ r. FindsNext RefusesHead q.profile c.args.now (at-head q.source q.pending q.outlet) r (at-head f.source f.place f.output) in
     let found : N (Ok (next.Request x)) = subst N (c.in-Ok-Request.is ∙ ap (λ y. Ok y) c.in-Ok-Request.field-0-is ∙ ap (λ y. Ok (next.Request y)) c.into_parts-head.ensures) c.next_request.ensures in
     let shape : AreInShape c.issue.new.self.turns.marks = e.shape in
@@ -79,7 +91,7 @@ returns-in-Err-issue g c =
       | in-Body w ↦ λ e. (let no : true ≡ false = sym w.matches-is ∙ c.if-matches.false in cc)
       | in_default w ↦ λ e. w.in_default.not-Body (c.standing.ensures ∙ e)
     ] in
-    let can : CanAsk old = (none-of q.end (sym c.is_some.ensures ∙ c.if-is_some.false), outside) in
+    let can : CanAsk old = (none-of q.end (sym c.is_some.ensures ∙ c.if-is_some.false), outside, sym c.last_holds_next_head.ensures ∙ c.if-last_holds_next_head.false) in
     let N : Result NextRequest AllocError → Type 0 = λ r. FindsNext RefusesHead q.profile c.args.now (at-head q.source q.pending q.outlet) r (at-head f.source f.place f.output) in
     let found : N (Ok (next.Request x)) = subst N (c.in-Ok-Request.is ∙ ap (λ y. Ok y) c.in-Ok-Request.field-0-is ∙ ap (λ y. Ok (next.Request y)) c.into_parts-head.ensures) c.next_request.ensures in
     record {
@@ -98,7 +110,7 @@ returns-in-Ok-Ended g c =
       | in-Body w ↦ λ e. (let no : true ≡ false = sym w.matches-is ∙ c.if-matches.false in cc)
       | in_default w ↦ λ e. w.in_default.not-Body (c.standing.ensures ∙ e)
     ] in
-    let can : CanAsk old = (none-of q.end (sym c.is_some.ensures ∙ c.if-is_some.false), outside) in
+    let can : CanAsk old = (none-of q.end (sym c.is_some.ensures ∙ c.if-is_some.false), outside, sym c.last_holds_next_head.ensures ∙ c.if-last_holds_next_head.false) in
     let N : Result NextRequest AllocError → Type 0 = λ r. FindsNext RefusesHead q.profile c.args.now (at-head q.source q.pending q.outlet) r (at-head f.source f.place f.output) in
     let found : N (Ok (next.Ended why)) = subst N (c.in-Ok-Ended.is ∙ ap (λ y. Ok y) c.in-Ok-Ended.field-0-is) c.next_request.ensures in
     record {
@@ -117,7 +129,7 @@ returns-in-Err g c =
       | in-Body w ↦ λ e. (let no : true ≡ false = sym w.matches-is ∙ c.if-matches.false in cc)
       | in_default w ↦ λ e. w.in_default.not-Body (c.standing.ensures ∙ e)
     ] in
-    let can : CanAsk old = (none-of q.end (sym c.is_some.ensures ∙ c.if-is_some.false), outside) in
+    let can : CanAsk old = (none-of q.end (sym c.is_some.ensures ∙ c.if-is_some.false), outside, sym c.last_holds_next_head.ensures ∙ c.if-last_holds_next_head.false) in
     let N : Result NextRequest AllocError → Type 0 = λ r. FindsNext RefusesHead q.profile c.args.now (at-head q.source q.pending q.outlet) r (at-head f.source f.place f.output) in
     let found : N (Err error) = subst N c.in-Err.is c.next_request.ensures in
     record {

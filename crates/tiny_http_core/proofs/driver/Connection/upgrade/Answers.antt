@@ -1,5 +1,5 @@
-use Rattle.std.proofs.Common.{ℕ, ◌≡◌, refl, sym, ap, ◌∙◌, subst, Bool, true, false, List, Option, Some, None, IsTrue, Result, Ok, Err}
-use Rattle.std.specs.Prelude.{◌==◌, slice_get, string_bytes, is_ok, is_err, ⊤}
+use Rattle.std.proofs.Common.{ℕ, ◌≡◌, refl, sym, ap, ◌∙◌, subst, Bool, true, false, ◌||◌, List, Option, Some, None, IsTrue, Result, Ok, Err}
+use Rattle.std.specs.Prelude.{◌==◌, slice_get, string_bytes, is_ok, is_err, is_some, ⊤}
 use Rattle.std.specs.List.{list_all}
 use Rattle.tiny_http_wire.specs.Answer.{Answer}
 use Rattle.tiny_http_wire.specs.Bytes.{is_ascii}
@@ -9,8 +9,9 @@ use Rattle.tiny_http_sending.specs.ResponseValue.{printing_in, upgrade_text}
 use Rattle.tiny_http_sending.specs.Sending.{SendsUnlessEnded}
 use Rattle.tiny_http_core.specs.declared.driver.Step.TheVariants as step
 use Rattle.tiny_http_core.specs.Steps.{Upgrade, NoSuch, NotYet, Done, Refused}
-use Rattle.tiny_http_core.specs.Pending.{waiting_answer_context}
-use Rattle.tiny_http_core.specs.Driving.{stated_response}
+use Rattle.tiny_http_core.specs.Pending.{waiting_answer_context, holds_next}
+use Rattle.tiny_http_core.specs.Driving.{ends_behind, stated_response}
+use Rattle.tiny_http_core.proofs.ConnectionAsk.{StepIsAnswered}
 use Rattle.tiny_http_message.specs.declared.upgrading.UpgradeError.{UpgradeError}
 use Rattle.tiny_http_core.specs.Connection.{Kept, ConnectionState, kept}
 use Rattle.tiny_http_message.specs.declared.body.Body.{Body}
@@ -20,7 +21,7 @@ use Rattle.tiny_http_core.specs.declared.pending.Unfinished.TheVariants as still
 use Rattle.tiny_http_stream.proofs.SourceGoesOn.{goes-on_same}
 use Rattle.tiny_http_core.proofs.ConnectionRespond.{no-such, waits-some, waits-none}
 use Rattle.tiny_http_core.proofs.ConnectionUpgrade.{upgrade-not_taken, upgrade-not_yet, upgrade-done}
-use Rattle.tiny_http_core.proofs.DrivingLemmas.{viewed, takes-upgrade, moves-none}
+use Rattle.tiny_http_core.proofs.DrivingLemmas.{viewed, ends-some, takes-upgrade, moves-none}
 use Rattle.tiny_http_core.proofs.driver.Connection.upgrade.Goals as goal
 
 pub returns-then-not-is_waiting : goal.returns-then-not-is_waiting
@@ -91,13 +92,16 @@ returns g c =
     let outlet = c.upgrade.new.outlet in
     let left = c.upgrade.new.self in
     let old = viewed q.profile q.source q.outlet q.pending q.end in
-    let new = viewed q.profile q.source outlet left q.end in
+    let end = c.ends_behind-self-inside.result in
+    let new = viewed q.profile q.source outlet left end in
     let k : Kept = kept old in
     let done = c.upgrade.ensures in
     let w = waits-some (slice_get k.requests n) (sym c.is_waiting.ensures ∙ c.if-not-is_waiting.false) in
     let said = done.sends w.0 w.1 in
     let marks = ap (λ t. t.marks) done.turns in
     let requests = done.requests w.0 w.1 in
+    let holds : c.holds_next_head.result ≡ w.0.holds_next_head = c.holds_next_head.ensures ∙ ap holds_next w.1 in
+    let ended : is_some end ≡ (is_some q.end || w.0.holds_next_head) = ap is_some c.ends_behind-self-inside.ensures ∙ ends-some c.holds_next_head.result q.end ∙ ap (λ b. is_some q.end || b) holds in
     let come : (n == first_unfinished k.marks) ≡ true = sym c.is_in_turn.ensures ∙ c.if-not-is_in_turn.false in
     record {
       step = λ named same.
@@ -105,9 +109,10 @@ returns g c =
           rw (← c.self.view_is) (takes-upgrade g.D.ReadDevice.feed true old new c.args.now n named c.args.response Done
           (λ client before s value low answer st.
           let T : Answer → List ℕ → Type 0 = λ a t. SendsUnlessEnded k.output_ended k.sink (output_of outlet) (outlet_ended outlet) (upgrade_text (record { answer = a; content = value.content }) t (printing_in w.0.answer_context c.args.now)) in
-          upgrade-done client before k s c.args.now n (string_bytes named) value w.0 w.0.answer_context (output_of outlet) (outlet_ended outlet) left.turns.marks left.requests q.source st (record { feed = refl; stop = refl; ends = refl; standing = refl }) low w.1 refl ascii come marks requests
-          (λ can. subst (λ t. T value.answer t) (sym same) (subst (λ a. T a c.args.protocol.now) (sym answer) (said.0 value.content can))) said.1.2)
-          (λ no. elim no [ ]) refl (w.0, w.1, requests, marks, refl) refl
+          let E : Bool → Type 0 = λ e. StepIsAnswered client before (record (kept new) { asking_ended = e }) s c.args.now (Upgrade n (string_bytes named) value) Done in
+          subst E (sym ended) (upgrade-done client before k s c.args.now n (string_bytes named) value w.0 w.0.answer_context (output_of outlet) (outlet_ended outlet) left.turns.marks left.requests q.source st (record { feed = refl; stop = refl; ends = refl; standing = refl }) low w.1 refl ascii come marks requests
+          (λ can. subst (λ t. T value.answer t) (sym same) (subst (λ a. T a c.args.protocol.now) (sym answer) (said.0 value.content can))) said.1.2))
+          (λ no. elim no [ ]) (c.ends_behind-self-inside.ensures ∙ ap (λ b. ends_behind b q.end) c.holds_next_head.ensures) (w.0, w.1, requests, marks, refl) refl
           (record { profile = refl; goes_on = goes-on_same q.source.feed; fails_once = done.fails_once; flushed = λ was. said.1.0; sent_on = λ was. said.1.1 })
           (λ kind e. cc));
     }
