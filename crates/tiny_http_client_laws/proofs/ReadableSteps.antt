@@ -7,8 +7,8 @@ use Rattle.tiny_http_wire.specs.Bytes.{is_ascii}
 use Rattle.tiny_http_wire.specs.Device.{Feed, Sink}
 use Rattle.tiny_http_message.specs.Pipeline.{Item, Asks, Refuses, Request}
 use Rattle.tiny_http_message.specs.declared.framing.Profile.{Profile}
-use Rattle.tiny_http_core.specs.Slots.{Slot, Stage, Unanswered, Answered, ByServer, Raw, Upgraded, new_slot, turn_has_come, rest_of, last_slot, last_holds_reader, last_was_abandoned}
-use Rattle.tiny_http_core.specs.Steps.{StepValue, Ask, AsReader, Read, Respond, IntoWriter, Write, Flush, Upgrade, Finish, Drop, ReplyValue, Ended, Given, Done, Refused, NoSuch, NotYet, WriterUse, Unused, Unreported, Outcome, Reached, unchanged, changes, takes_stream, read_reply, finished_as, written_to, stage_closed, accepts_step, needs_turn, use_in_turn, effect, at_item, at_slot, at_number, asks_from, ask, outcome}
+use Rattle.tiny_http_core.specs.Slots.{lacks_continue, Slot, Stage, Unanswered, Answered, ByServer, Raw, Upgraded, new_slot, turn_has_come, rest_of, last_slot, last_holds_reader, last_was_abandoned}
+use Rattle.tiny_http_core.specs.Steps.{StepValue, Ask, AsReader, Read, Respond, IntoWriter, Write, Flush, Upgrade, Finish, Drop, ReplyValue, Ended, Given, Done, Refused, NoSuch, NotYet, WriterUse, Unused, Unreported, Outcome, Reached, unchanged, changes, ends_asking, ends_with_stream, read_reply, finished_as, written_to, stage_closed, accepts_step, needs_turn, use_in_turn, effect, at_item, at_slot, at_number, asks_from, ask, outcome}
 use Rattle.tiny_http_core.specs.Conversation.{Failure, State, HasOutcome, FindsNoMemory, StepsTo, TimedValue, Run, start_state, IsOutput, IsConversation}
 use Rattle.tiny_http_client_laws.specs.ClientReads.{IsReadableStage, CanBeReadAt, IsReadableStep, AreReadable}
 use Rattle.tiny_http_client_laws.proofs.StepsAdd.{all-append, number_of}
@@ -69,7 +69,7 @@ effect-readable found date old r s turn (Flush k) c h here = all-set old.slots k
 effect-readable found date old r s turn (Upgrade k protocol response) c h here =
     let t : Slot = record s { stage = Upgraded protocol response date [] false; owed = false } in
     let d = finished_as s ByServer in
-    readable-if (list_all is_ascii protocol) (takes_stream r (changes old k t Done Unreported)) (changes old k d Refused (use_in_turn turn)) (λ e. never (sym c ∙ e)) (λ e. all-set old.slots k d h tt)
+    readable-if (list_all is_ascii protocol) (ends_asking (ends_with_stream r s.owed) (changes old k t Done Unreported)) (ends_asking (lacks_continue r s.owed) (changes old k d Refused (use_in_turn turn))) (λ e. never (sym c ∙ e)) (λ e. all-set old.slots k d h tt)
 effect-readable found date old r s turn (Finish k) c h here = all-set old.slots k (finished_as s (stage_closed s.stage)) h (closed-readable s.stage here)
 effect-readable found date old r s turn (Drop k) c h here = all-set old.slots k (finished_as s ByServer) h tt
 

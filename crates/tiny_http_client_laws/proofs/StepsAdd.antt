@@ -9,8 +9,8 @@ use Rattle.tiny_http_wire.specs.Bytes.{is_ascii}
 use Rattle.tiny_http_wire.specs.Device.{IsFront}
 use Rattle.tiny_http_message.specs.Pipeline.{Item, Asks, Refuses, Request}
 use Rattle.tiny_http_sending.specs.ResponseValue.{ResponseValue, response_text}
-use Rattle.tiny_http_core.specs.Slots.{Slot, Stage, Unanswered, Answered, ByServer, Raw, Upgraded, printing_for, to_request, text_if, stage_text, opening, segment, is_stage_finished, turn_has_come, joined, is_output_broken, rest_of}
-use Rattle.tiny_http_core.specs.Steps.{StepValue, Ask, AsReader, Read, Respond, IntoWriter, Write, Flush, Upgrade, Finish, Drop, ReplyValue, Given, Done, Refused, NoSuch, WriterUse, Unused, Unreported, Reported, Outcome, Reached, unchanged, changes, takes_stream, read_reply, finished_as, written_to, stage_closed, fault_in, fault_reply, Fault, accepts_step, needs_turn, use_in_turn, effect}
+use Rattle.tiny_http_core.specs.Slots.{lacks_continue, Slot, Stage, Unanswered, Answered, ByServer, Raw, Upgraded, printing_for, to_request, text_if, stage_text, opening, segment, is_stage_finished, turn_has_come, joined, is_output_broken, rest_of}
+use Rattle.tiny_http_core.specs.Steps.{StepValue, Ask, AsReader, Read, Respond, IntoWriter, Write, Flush, Upgrade, Finish, Drop, ReplyValue, Given, Done, Refused, NoSuch, WriterUse, Unused, Unreported, Reported, Outcome, Reached, unchanged, changes, ends_asking, ends_with_stream, read_reply, finished_as, written_to, stage_closed, fault_in, fault_reply, Fault, accepts_step, needs_turn, use_in_turn, effect}
 use Rattle.tiny_http_client_laws.proofs.JoinedGrows.{SendsMore, set-grows, set-own, AddsOwn, Adds, in-turn-ownless, taken-unfinished}
 
 -- the version of an item fits its bytes
@@ -70,8 +70,8 @@ keeps-if old true x y h k = h refl
 keeps-if old false x y h k = k refl
 
 -- whether the asking ends doesn't matter
-keeps-taken : (old : Reached) (r : Request) (o : Outcome) → Keeps old o → Keeps old (takes_stream r o)
-keeps-taken old r o h = record { adds = record { front = h.adds.front; own = h.adds.own }; slots = h.slots; rest = h.rest }
+keeps-ended : (old : Reached) (ends : Bool) (o : Outcome) → Keeps old o → Keeps old (ends_asking ends o)
+keeps-ended old ends o h = record { adds = record { front = h.adds.front; own = h.adds.own }; slots = h.slots; rest = h.rest }
 
 -- one number is changed
 module _ (old : Reached) (holds : Holds old) (k : ℕ) (s : Slot) (here : slice_get old.slots k ≡ Some s) where
@@ -202,11 +202,12 @@ effect-keeps found date old r s turn (Respond k response) h here is takes comes 
     let t = finished_as s (Answered response date found) in
     let own-is : (stage_text s.item s.date (Answered response date found)).bytes ≡ text.bytes = ap (λ (x : Item). (text_if found response (printing_for x date)).bytes) is in
     let more = unanswered-sends s t text.bytes (by-respond s.stage s.owed k response takes) (ap (λ x. opening s.item s.continued ++ x) own-is) in
-    quiet old h k s here t text.bytes Done (Reported text.bytes (fault_in text.ending) true fault_reply) more (settled s t i refl refl) (λ none. own-text old h k s here t text.bytes more (comes refl) none)
+    keeps-ended old (lacks_continue r s.owed) (changes old k t Done (Reported text.bytes (fault_in text.ending) true fault_reply))
+    (quiet old h k s here t text.bytes Done (Reported text.bytes (fault_in text.ending) true fault_reply) more (settled s t i refl refl) (λ none. own-text old h k s here t text.bytes more (comes refl) none))
 effect-keeps found date old r s turn (IntoWriter k) h here is takes comes =
     let i = all-get old.slots k s h.slots here in
     let t : Slot = record s { stage = Raw [] false; given_up = true; owed = false } in
-    keeps-taken old r (changes old k t Done Unused) (quiet old h k s here t [] Done Unused (unanswered-sends s t [] (by-writer s.stage s.owed k takes) refl) (settled s t i refl refl) tt)
+    keeps-ended old (ends_with_stream r s.owed) (changes old k t Done Unused) (quiet old h k s here t [] Done Unused (unanswered-sends s t [] (by-writer s.stage s.owed k takes) refl) (settled s t i refl refl) tt)
 effect-keeps found date old r s turn (Write k bytes) h here is takes comes =
     let i = all-get old.slots k s h.slots here in
     let t : Slot = record s { stage = written_to bytes s.stage } in
@@ -226,9 +227,9 @@ effect-keeps found date old r s turn (Upgrade k protocol response) h here is tak
     let own = (stage_text s.item s.date (Upgraded protocol response date [] false)).bytes in
     let d = finished_as s ByServer in
     let text = (stage_text s.item s.date ByServer).bytes in
-    keeps-if old (list_all is_ascii protocol) (takes_stream r (changes old k t Done Unreported)) (changes old k d Refused (use_in_turn turn))
-    (λ o. keeps-taken old r (changes old k t Done Unreported) (quiet old h k s here t own Done Unreported (unanswered-sends s t own u refl) (settled s t i refl refl) tt))
-    (λ o. quiet old h k s here d text Refused (use_in_turn turn) (unanswered-sends s d text u refl) (settled s d i refl refl) (in-turn-ownless turn old.slots (slice_set old.slots k d)))
+    keeps-if old (list_all is_ascii protocol) (ends_asking (ends_with_stream r s.owed) (changes old k t Done Unreported)) (ends_asking (lacks_continue r s.owed) (changes old k d Refused (use_in_turn turn)))
+    (λ o. keeps-ended old (ends_with_stream r s.owed) (changes old k t Done Unreported) (quiet old h k s here t own Done Unreported (unanswered-sends s t own u refl) (settled s t i refl refl) tt))
+    (λ o. keeps-ended old (lacks_continue r s.owed) (changes old k d Refused (use_in_turn turn)) (quiet old h k s here d text Refused (use_in_turn turn) (unanswered-sends s d text u refl) (settled s d i refl refl) (in-turn-ownless turn old.slots (slice_set old.slots k d))))
 effect-keeps found date old r s turn (Finish k) h here is takes comes =
     let i = all-get old.slots k s h.slots here in
     let t = finished_as s (stage_closed s.stage) in
@@ -238,4 +239,5 @@ effect-keeps found date old r s turn (Drop k) h here is takes comes =
     let i = all-get old.slots k s h.slots here in
     let d = finished_as s ByServer in
     let text = (stage_text s.item s.date ByServer).bytes in
-    quiet old h k s here d text Done (use_in_turn turn) (unanswered-sends s d text (by-drop s.stage s.owed k takes) refl) (settled s d i refl refl) (in-turn-ownless turn old.slots (slice_set old.slots k d))
+    keeps-ended old (lacks_continue r s.owed) (changes old k d Done (use_in_turn turn))
+    (quiet old h k s here d text Done (use_in_turn turn) (unanswered-sends s d text (by-drop s.stage s.owed k takes) refl) (settled s d i refl refl) (in-turn-ownless turn old.slots (slice_set old.slots k d)))

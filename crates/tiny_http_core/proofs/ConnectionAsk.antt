@@ -185,6 +185,7 @@ kept-handed profile date x p content behind k left framed = record {
   is = refl;
   owed = k.answer.owes_continue;
   holds = k.answer.holds_next_head;
+  standard = k.answer.by_standard;
   unsent = λ owed. refl;
   rest_is_last = framed.framed;
   answer_context =

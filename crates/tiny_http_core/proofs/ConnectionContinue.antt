@@ -76,6 +76,7 @@ still-waiting date s w h = record {
   is = refl;
   owed = refl;
   holds = h.holds;
+  standard = h.standard;
   unsent = λ owed. (let no : false ≡ true = owed in cc);
   rest_is_last = h.rest_is_last;
   answer_context = h.answer_context;

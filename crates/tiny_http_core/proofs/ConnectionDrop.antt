@@ -1,5 +1,5 @@
 -- A Drop: from where the connection stands to where it stands after it.
-use Rattle.std.proofs.Common.{◌≡◌, refl, sym, ap, ◌∙◌, subst, ℕ, ◌-◌, ◌<◌, ◌^◌, Bool, true, false, List, ◌∷◌, ◌++◌, length, Option, Some, None, append-nil}
+use Rattle.std.proofs.Common.{◌≡◌, refl, sym, ap, ◌∙◌, subst, ℕ, ◌-◌, ◌<◌, ◌^◌, Bool, true, false, ◌&&◌, ◌||◌, List, ◌∷◌, ◌++◌, length, Option, Some, None, append-nil}
 use Rattle.std.specs.Prelude.{◌==◌, slice_get, slice_set}
 use Rattle.std.specs.List.{list_all}
 use Rattle.tiny_http_wire.specs.Bytes.{is_ascii}
@@ -15,8 +15,8 @@ use Rattle.tiny_http_stream.specs.Source.{SourceState}
 use Rattle.tiny_http_turns.specs.Turns.{Mark, Open, first_unfinished}
 use Rattle.tiny_http_core.specs.declared.pending.Unfinished.{Unfinished}
 use Rattle.tiny_http_core.specs.declared.pending.Unfinished.TheVariants as still
-use Rattle.tiny_http_core.specs.Slots.{Slot, Unanswered, Answered as AnsweredBy, ByServer, Raw, Upgraded, opening, segment, turn_has_come}
-use Rattle.tiny_http_core.specs.Steps.{StepValue, ReplyValue, Upgrade, Drop, Done, Refused, Reached, changes, use_in_turn, at_slot, outcome}
+use Rattle.tiny_http_core.specs.Slots.{Slot, Unanswered, Answered as AnsweredBy, ByServer, Raw, Upgraded, opening, segment, lacks_continue, turn_has_come}
+use Rattle.tiny_http_core.specs.Steps.{StepValue, ReplyValue, Upgrade, Drop, Done, Refused, Reached, changes, ends_asking, use_in_turn, at_slot, outcome}
 use Rattle.tiny_http_core.specs.Conversation.{State}
 use Rattle.tiny_http_core.specs.Pending.{LeavesText}
 use Rattle.tiny_http_core.specs.Connection.{Kept, HandedOut, open_slot, dropped, IsWaiting, InputStands, Stands}
@@ -25,7 +25,7 @@ use Rattle.tiny_http_core.proofs.ConnectionBody.{IsInput, with_reader, reader-gi
 use Rattle.tiny_http_core.proofs.ConnectionKept.{kept-many, KeptAt, place-of}
 use Rattle.tiny_http_core.proofs.ConnectionLeaving.{EndsAs, leave-done}
 use Rattle.tiny_http_core.proofs.ConnectionReader.{open-waiting}
-use Rattle.tiny_http_core.proofs.ConnectionRespond.{NeedsWaiting, slot-at, after_number}
+use Rattle.tiny_http_core.proofs.ConnectionRespond.{NeedsWaiting, slot-at, after_number, with_asking_ended, neither, both-end, lacks-same}
 
 pub drop-not_taken : (n : ℕ) → NeedsWaiting (Drop n)
 drop-not_taken n Unanswered owed e = cc
@@ -57,12 +57,13 @@ reader-dropped client k s n w p old source from reader gives =
 
 -- The request of a number that waits is dropped, by whatever step.
 pub drop-done : {R : Type 0} (client : Feed) (before : Sink) (k : Kept) (s : State) (date : HttpDate) (n : ℕ) (step : StepValue) (reply : ReplyValue) (w : OpenRequest Body) (new : Sink) (ended : Bool) (final : List Mark) (requests : List (Option Unfinished)) (old source : SourceState R)
-    → ((old : Reached) (asked : HandedOut) (r : Request) (given : ℕ) (end_reported : Bool) → slice_get old.slots n ≡ Some (open_slot asked r given end_reported) → outcome true date old step ≡ changes old n (dropped asked r given end_reported) reply (use_in_turn (turn_has_come n old.slots)))
+    → ((old : Reached) (asked : HandedOut) (r : Request) (given : ℕ) (end_reported : Bool) → slice_get old.slots n ≡ Some (open_slot asked r given end_reported) → outcome true date old step ≡ ends_asking (lacks_continue r asked.owed) (changes old n (dropped asked r given end_reported) reply (use_in_turn (turn_has_come n old.slots))))
     → Stands client before k s → IsInput k old → GivesUp w.body old source → before.failures < 2 ^ 64 - 1 → slice_get k.requests n ≡ Some (Some (still.Waiting w)) → requests ≡ slice_set k.requests n None
     → ((front rest : List Mark) → k.marks ≡ front ++ (Open ∷ rest) → length front ≡ n → (k.output_ended ≡ false → CanSend k.sink) → LeavesText (n == first_unfinished k.marks) front rest final w.dropped.items k.output_ended k.sink new ended)
-    → StepIsAnswered client before (after_number k final requests source new ended) s date step reply
+    → StepIsAnswered client before (with_asking_ended (w.by_standard && w.owes_continue) (after_number k final requests source new ended)) s date step reply
 drop-done {R = R} client before k s date n step reply w new ended final requests old source drops st from gives low e requests_are leaves =
-    leave-done client before k s date n (still.Waiting w) p s1 step reply w.dropped.items new ended final requests source st low (drop-ends p.s w p.waiting) is requests_are (reader-dropped client k s n w p old source from st.reader gives) leaves
+    leave-done client before k s date n (still.Waiting w) p s1 step reply w.dropped.items (s.reached.asking_ended || lacks) (k.asking_ended || kept_lacks) new ended final requests source st low (drop-ends p.s w p.waiting) is
+    (both-end s.reached.asking_ended k.asking_ended lacks kept_lacks st.asking_ended (lacks-same p.s w p.waiting)) (neither k.asking_ended kept_lacks) requests_are (reader-dropped client k s n w p old source from st.reader gives) leaves
   where
     p : KeptAt s.reached.slots k.marks k.requests n (still.Waiting w)
     p = place-of s.reached.slots k.marks k.requests n (still.Waiting w) st.numbers e
@@ -70,7 +71,13 @@ drop-done {R = R} client before k s date n step reply w new ended final requests
     s1 : Slot
     s1 = dropped_slot p.s w p.waiting
 
-    is : outcome true date s.reached step ≡ changes s.reached n s1 reply (use_in_turn (turn_has_come n s.reached.slots))
+    lacks : Bool
+    lacks = lacks_continue p.waiting.request p.waiting.handed.owed
+
+    kept_lacks : Bool
+    kept_lacks = w.by_standard && w.owes_continue
+
+    is : outcome true date s.reached step ≡ ends_asking lacks (changes s.reached n s1 reply (use_in_turn (turn_has_come n s.reached.slots)))
     is =
         let at = slot-at s.reached.slots p.bs p.cs p.s n p.slots_are p.slots_before in
         let h = p.waiting in
@@ -78,9 +85,9 @@ drop-done {R = R} client before k s date n step reply w new ended final requests
 
 -- a Drop, and an Upgrade whose protocol isn't ASCII
 pub at-drop : (date : HttpDate) (n : ℕ) (old : Reached) (asked : HandedOut) (r : Request) (given : ℕ) (end_reported : Bool) → slice_get old.slots n ≡ Some (open_slot asked r given end_reported)
-    → outcome true date old (Drop n) ≡ changes old n (dropped asked r given end_reported) Done (use_in_turn (turn_has_come n old.slots))
+    → outcome true date old (Drop n) ≡ ends_asking (lacks_continue r asked.owed) (changes old n (dropped asked r given end_reported) Done (use_in_turn (turn_has_come n old.slots)))
 at-drop date n old asked r given end_reported e = ap (at_slot true date old n (Drop n)) e
 
 pub at-refused : (date : HttpDate) (n : ℕ) (protocol : List ℕ) (v : ResponseValue) → list_all is_ascii protocol ≡ false → (old : Reached) (asked : HandedOut) (r : Request) (given : ℕ) (end_reported : Bool) → slice_get old.slots n ≡ Some (open_slot asked r given end_reported)
-    → outcome true date old (Upgrade n protocol v) ≡ changes old n (dropped asked r given end_reported) Refused (use_in_turn (turn_has_come n old.slots))
+    → outcome true date old (Upgrade n protocol v) ≡ ends_asking (lacks_continue r asked.owed) (changes old n (dropped asked r given end_reported) Refused (use_in_turn (turn_has_come n old.slots)))
 at-refused date n protocol v foreign old asked r given end_reported e = ap (at_slot true date old n (Upgrade n protocol v)) e ∙ rw foreign refl

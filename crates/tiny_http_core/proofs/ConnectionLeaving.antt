@@ -22,7 +22,7 @@ use Rattle.tiny_http_core.proofs.SlotsLemmas.{joined-hidden, breaks-hidden, brea
 use Rattle.tiny_http_core.proofs.ConnectionTurns.{turn-set, behind-turn, early-turn}
 use Rattle.tiny_http_core.proofs.ConnectionKept.{kept-append, kept-passed, KeptAt, unfinished-is, unfinished-whole, InTurn, OutOfTurn, turn-at}
 use Rattle.tiny_http_core.proofs.ConnectionOutput.{joined_behind, ended-is, output-same, can-send, More, output-more, longer-at}
-use Rattle.tiny_http_core.proofs.ConnectionRespond.{slot-at, set-place, after_number, reader-after}
+use Rattle.tiny_http_core.proofs.ConnectionRespond.{slot-at, set-place, after_number, reader-after, with_ended, reader-ended}
 
 -- one slot ends as the other, after this text more
 pub record EndsAs (s t : Slot) (text : List ℕ) : Type 0 where
@@ -46,12 +46,12 @@ record EndSaid (before new : Sink) (ended : Bool) (slots : List Slot) (old : Sta
   in_turn : AreSentInTurn slots
 
 -- A number ends with this text: in its turn it is sent, with the texts behind it; else it waits.
-pub leave-done : {R : Type 0} (client : Feed) (before : Sink) (k : Kept) (s : State) (date : HttpDate) (n : ℕ) (u : Unfinished) (p : KeptAt s.reached.slots k.marks k.requests n u) (s1 : Slot) (step : StepValue) (reply : ReplyValue) (text : List ℕ) (new : Sink) (ended : Bool) (final : List Mark) (requests : List (Option Unfinished))
-    (source : SourceState R) → Stands client before k s → before.failures < 2 ^ 64 - 1 → EndsAs p.s s1 text → outcome true date s.reached step ≡ changes s.reached n s1 reply (use_in_turn (turn_has_come n s.reached.slots))
-    → requests ≡ slice_set k.requests n None → InputStands client (with_reader k (p.us ++ (None ∷ p.vs)) source) (p.bs ++ (s1 ∷ p.cs)) s.reached.rest
+pub leave-done : {R : Type 0} (client : Feed) (before : Sink) (k : Kept) (s : State) (date : HttpDate) (n : ℕ) (u : Unfinished) (p : KeptAt s.reached.slots k.marks k.requests n u) (s1 : Slot) (step : StepValue) (reply : ReplyValue) (text : List ℕ) (asked_last kept_last : Bool) (new : Sink) (ended : Bool) (final : List Mark) (requests : List (Option Unfinished))
+    (source : SourceState R) → Stands client before k s → before.failures < 2 ^ 64 - 1 → EndsAs p.s s1 text → outcome true date s.reached step ≡ record (changes s.reached n s1 reply (use_in_turn (turn_has_come n s.reached.slots))) { asking_ended = asked_last }
+    → asked_last ≡ kept_last → (kept_last ≡ false → k.asking_ended ≡ false) → requests ≡ slice_set k.requests n None → InputStands client (with_reader k (p.us ++ (None ∷ p.vs)) source) (p.bs ++ (s1 ∷ p.cs)) s.reached.rest
     → ((front rest : List Mark) → k.marks ≡ front ++ (Open ∷ rest) → length front ≡ n → (k.output_ended ≡ false → CanSend k.sink) → LeavesText (n == first_unfinished k.marks) front rest final text k.output_ended k.sink new ended)
-    → StepIsAnswered client before (after_number k final requests source new ended) s date step reply
-leave-done {R = R} client before k s date n u p s1 step reply text new ended final requests source st low e is requests_are reader leaves = ⊎_elim in-turn out-of-turn (turn-at p.bs p.fs p.us p.rs p.before (subst S p.marks_are st.shape))
+    → StepIsAnswered client before (with_ended kept_last (after_number k final requests source new ended)) s date step reply
+leave-done {R = R} client before k s date n u p s1 step reply text asked_last kept_last new ended final requests source st low e is same_last stays requests_are reader leaves = ⊎_elim in-turn out-of-turn (turn-at p.bs p.fs p.us p.rs p.before (subst S p.marks_are st.shape))
   where
     S : List Mark → Type 0
     S m = AreInShape m
@@ -83,12 +83,12 @@ leave-done {R = R} client before k s date n u p s1 step reply text new ended fin
         let Q : List (Option Unfinished) → Type 0 = λ y. AreKept slots (p.fs ++ (m ∷ rs)) y in
         subst M (sym f) (subst Q (sym requests_now) h)
 
-    ends : (t : Bool) → list_all is_finished p.bs ≡ t → EndSaid before new ended slots s t reply final requests → StepIsAnswered client before (after_number k final requests source new ended) s date step reply
+    ends : (t : Bool) → list_all is_finished p.bs ≡ t → EndSaid before new ended slots s t reply final requests → StepIsAnswered client before (with_ended kept_last (after_number k final requests source new ended)) s date step reply
     ends t turn said =
         let at = slot-at s.reached.slots p.bs p.cs s0 n p.slots_are p.slots_before in
-        let is_now : outcome true date s.reached step ≡ changes s.reached n s1 reply (use_in_turn t) = is ∙ ap (λ b. changes s.reached n s1 reply (use_in_turn b)) (at.turn ∙ turn) in
-        let new_state : State = record { reached = record { slots = slots; rest = s.reached.rest; asking_ended = s.reached.asking_ended }; flushed = flushed_after (use_in_turn t) s slots; failure = said.failure } in
-        let L : List Slot → Reached = λ l. record { slots = l; rest = s.reached.rest; asking_ended = s.reached.asking_ended } in
+        let is_now : outcome true date s.reached step ≡ record (changes s.reached n s1 reply (use_in_turn t)) { asking_ended = asked_last } = is ∙ ap (λ b. record (changes s.reached n s1 reply (use_in_turn b)) { asking_ended = asked_last }) (at.turn ∙ turn) in
+        let new_state : State = record { reached = record { slots = slots; rest = s.reached.rest; asking_ended = asked_last }; flushed = flushed_after (use_in_turn t) s slots; failure = said.failure } in
+        let L : List Slot → Reached = λ l. record { slots = l; rest = s.reached.rest; asking_ended = asked_last } in
         let W : List Slot → Type 0 = λ l. WriterPart (use_in_turn t) s reply l reply said.failure in
         let G : Outcome → Type 0 = λ x. HasOutcome x s reply new_state in
         let Q : List (Option Unfinished) → Type 0 = λ q. InputStands client (with_reader k q source) slots s.reached.rest in (
@@ -97,14 +97,14 @@ leave-done {R = R} client before k s date n u p s1 step reply text new ended fin
             numbers = said.numbers;
             shape = said.shape;
             in_turn = said.in_turn;
-            asking_ended = st.asking_ended;
-            reader = reader-after client k final requests source new ended slots s.reached.rest (subst Q (sym requests_now) reader);
+            asking_ended = same_last;
+            reader = reader-ended client (after_number k final requests source new ended) kept_last slots s.reached.rest stays (reader-after client k final requests source new ended slots s.reached.rest (subst Q (sym requests_now) reader));
             output = said.output;
           },
           inl (true, tt, subst G (sym is_now) (ap L (sym (at.set s1)), ap (flushed_after (use_in_turn t) s) (sym (at.set s1)), subst W (sym (at.set s1)) said.writes)),
         )
 
-    in-turn : InTurn p.bs p.fs p.rs → StepIsAnswered client before (after_number k final requests source new ended) s date step reply
+    in-turn : InTurn p.bs p.fs p.rs → StepIsAnswered client before (with_ended kept_last (after_number k final requests source new ended)) s date step reply
     in-turn t =
         let come : (n == first_unfinished k.marks) ≡ true = eq-eqb n (first_unfinished k.marks) (sym p.marks_before ∙ t.turn ∙ ap first_unfinished (sym p.marks_are)) in
         let l = subst (λ (b : Bool). LeavesText b p.fs p.rs final text k.output_ended k.sink new ended) come left in
@@ -130,7 +130,7 @@ leave-done {R = R} client before k s date n u p s1 step reply text new ended fin
           in_turn = in_turn_now;
         })
 
-    out-of-turn : OutOfTurn p.bs p.fs p.rs → StepIsAnswered client before (after_number k final requests source new ended) s date step reply
+    out-of-turn : OutOfTurn p.bs p.fs p.rs → StepIsAnswered client before (with_ended kept_last (after_number k final requests source new ended)) s date step reply
     out-of-turn t =
         let come : (n == first_unfinished k.marks) ≡ false = ne_eqb n (first_unfinished k.marks) (λ x. t.turn (p.marks_before ∙ x ∙ ap first_unfinished p.marks_are)) in
         let l = subst (λ (b : Bool). LeavesText b p.fs p.rs final text k.output_ended k.sink new ended) come left in

@@ -289,6 +289,7 @@ still-waiting s w h c old new n reply k =
       is = refl;
       owed = h.owed;
       holds = h.holds;
+      standard = h.standard;
       unsent = h.unsent;
       rest_is_last = h.rest_is_last;
       answer_context = h.answer_context;

@@ -18,15 +18,15 @@ use Rattle.tiny_http_core.proofs.ConnectionReader.{open-waiting}
 use Rattle.tiny_http_message.specs.Pipeline.{Item, Asks, Refuses, Request}
 use Rattle.tiny_http_sending.specs.ResponseValue.{ResponseValue}
 use Rattle.tiny_http_wire.specs.Answer.{IsGathered}
-use Rattle.tiny_http_core.specs.Slots.{Slot, Stage, Unanswered, Answered as AnsweredBy, ByServer, Raw, Upgraded, is_stage_finished, is_finished, is_broken, is_slot_broken, segment, stage_text, opening, joined, is_output_broken, last_slot, turn_has_come, to_request, text_if}
-use Rattle.tiny_http_core.specs.Steps.{StepValue, outcome, Respond, ReplyValue, Done, NoSuch, NotYet, Outcome, Reached, unchanged, changes, finished_as, accepts_step, fault_in, fault_reply, at_item, at_slot, at_number}
+use Rattle.tiny_http_core.specs.Slots.{Slot, Stage, Unanswered, Answered as AnsweredBy, ByServer, Raw, Upgraded, is_stage_finished, is_finished, is_broken, is_slot_broken, segment, stage_text, opening, joined, is_output_broken, lacks_continue, last_slot, turn_has_come, to_request, text_if}
+use Rattle.tiny_http_core.specs.Steps.{StepValue, outcome, Respond, ReplyValue, Done, NoSuch, NotYet, Outcome, Reached, unchanged, changes, ends_asking, ends_with_stream, finished_as, accepts_step, fault_in, fault_reply, at_item, at_slot, at_number}
 use Rattle.tiny_http_core.specs.Conversation.{Failure, State, has_output_ended, finished_front, flushed_after, CanMeet, WriterPart, HasOutcome, GathersAt, MayLack}
 use Rattle.tiny_http_core.proofs.ConversationWriting.{FailsBetween, FailsReported, FailsBehind, broken_reply, used, WritesIf, flushed_if, reported, flushed-is}
 use Rattle.tiny_http_sending.specs.ResponseValue.{printing_in}
 use Rattle.tiny_http_core.specs.Seen.{Answers, reply_to}
 use Rattle.tiny_http_sending.specs.Sending.{CanSend, OutletTook, OutletFailed, IsFlushed, SendsText, SendsUnlessEnded}
 use Rattle.tiny_http_turns.specs.Turns.{Mark, Open, Held, Finished, AreInShape, first_unfinished}
-use Rattle.tiny_http_core.specs.Pending.{left_text, with_left_finished, begins_left, SendsLeft, FinishesFront, waiting_answer_context}
+use Rattle.tiny_http_core.specs.Pending.{lacks_continue as kept_lacks, left_text, with_left_finished, begins_left, SendsLeft, FinishesFront, waiting_answer_context}
 use Rattle.tiny_http_core.specs.Connection.{Kept, answer_context_of, HandedOut, open_slot, IsWaiting, IsUnfinished, HasSentNothing, AreSentInTurn, AreKept, OutputAt, InputStands, Stands}
 use Rattle.tiny_http_stream.specs.Source.{SourceState}
 use Rattle.tiny_http_message.specs.Body.{GivesUp}
@@ -157,7 +157,7 @@ abbrev pub response_sent : Bool → ResponseValue → Request → HttpDate → T
 response_sent found v r date = text_if found v (to_request r date)
 
 at-turn : (date : HttpDate) (asked : HandedOut) (old : Reached) (n : ℕ) (v : ResponseValue) (r : Request) (given : ℕ) (end_reported found : Bool) → slice_get old.slots n ≡ Some (open_slot asked r given end_reported) → turn_has_come n old.slots ≡ true
-    → at_number found date old n (Respond n v) ≡ changes old n (answered_slot asked r given end_reported v date found) Done (used (response_sent found v r date))
+    → at_number found date old n (Respond n v) ≡ ends_asking (lacks_continue r asked.owed) (changes old n (answered_slot asked r given end_reported v date found) Done (used (response_sent found v r date)))
 at-turn date asked old n v r given end_reported found e t = ap (at_slot found date old n (Respond n v)) e ∙ rw t refl
 
 -- how the response is printed
@@ -516,22 +516,36 @@ pub reader-after : {R : Type 0} (client : Feed) (k : Kept) (marks : List Mark) (
 reader-after client k marks requests source sink ended slots rest r =
     record { settled = r.settled; gives = r.gives; next = λ e. next-same (with_reader k requests source) (after_number k marks requests source sink ended) (last_slot slots) (last_slot slots) rest refl refl refl refl refl refl refl refl (r.next e); source = r.source }
 
--- the asking ends where a number gets the connection's stream and held the next head
-abbrev pub with_asking_ended : Bool → Kept → Kept
-with_asking_ended holds k = record k { asking_ended = k.asking_ended || holds }
+-- whether the asking has ended after a step
+abbrev pub with_ended : Bool → Kept → Kept
+with_ended ended k = record k { asking_ended = ended }
 
-pub reader-ended : (client : Feed) (k : Kept) (holds : Bool) (slots : List Slot) (rest : List Item) → InputStands client k slots rest → InputStands client (with_asking_ended holds k) slots rest
-reader-ended client k holds slots rest r =
-    record { settled = r.settled; gives = r.gives; next = λ e. next-same k (with_asking_ended holds k) (last_slot slots) (last_slot slots) rest refl refl refl refl refl refl refl refl (r.next (neither k.asking_ended e)); source = r.source }
-  where
-    neither : (a : Bool) → (a || holds) ≡ false → a ≡ false
-    neither true e = let no : true ≡ false = e in cc
-    neither false e = refl
+-- it has if it had, or if it ends behind the number of the step
+abbrev pub with_asking_ended : Bool → Kept → Kept
+with_asking_ended ends k = with_ended (k.asking_ended || ends) k
+
+pub neither : (a b : Bool) → (a || b) ≡ false → a ≡ false
+neither true b e = let no : true ≡ false = e in cc
+neither false b e = refl
+
+pub reader-ended : (client : Feed) (k : Kept) (ended : Bool) (slots : List Slot) (rest : List Item) → (ended ≡ false → k.asking_ended ≡ false) → InputStands client k slots rest → InputStands client (with_ended ended k) slots rest
+reader-ended client k ended slots rest stays r =
+    record { settled = r.settled; gives = r.gives; next = λ e. next-same k (with_ended ended k) (last_slot slots) (last_slot slots) rest refl refl refl refl refl refl refl refl (r.next (stays e)); source = r.source }
+
+-- whether the asking ends behind a number that waits, by what is kept of it
+pub lacks-same : (s : Slot) (w : OpenRequest Body) (h : IsWaiting s w) → lacks_continue h.request h.handed.owed ≡ (w.by_standard && w.owes_continue)
+lacks-same s w h = ap (λ x. x && h.handed.owed) (sym h.standard) ∙ ap (λ x. w.by_standard && x) (sym h.owed)
+
+pub stream-same : (s : Slot) (w : OpenRequest Body) (h : IsWaiting s w) → ends_with_stream h.request h.handed.owed ≡ (w.holds_next_head || (w.by_standard && w.owes_continue))
+stream-same s w h = ap (λ x. x || lacks_continue h.request h.handed.owed) (sym h.holds) ∙ ap (λ x. w.holds_next_head || x) (lacks-same s w h)
+
+pub both-end : (a b x y : Bool) → a ≡ b → x ≡ y → (a || x) ≡ (b || y)
+both-end a b x y e f = ap (λ z. z || x) e ∙ ap (λ z. b || z) f
 
 respond-stands : {R : Type 0} (client : Feed) (before : Sink) (k : Kept) (s : State) (date : HttpDate) (n : ℕ) (v : ResponseValue) (answer_context : AnswerContext) (found : Bool) (mid new : Sink) (mid_ended ended : Bool) (final : List Mark) (requests : List (Option Unfinished)) (source : SourceState R) (reply : ReplyValue)
     → Stands client before k s → before.failures < 2 ^ 64 - 1 → (a : Answerable k s n answer_context) → (found ≡ true) ⊎ IsGathered v.answer (to_request a.waits.request date) → requests ≡ slice_set k.requests n None → InputStands client (with_reader k (a.us ++ (None ∷ a.vs)) source) (a.bs ++ (answered_slot a.waits.handed a.waits.request a.waits.given a.waits.end_reported v date found ∷ a.cs)) s.reached.rest → FinishesFront a.fs a.rs final
     → OwnSaid before mid k.output_ended mid_ended s.reached.slots a.bs (answered_slot a.waits.handed a.waits.request a.waits.given a.waits.end_reported v date found) (response_sent found v a.waits.request date) s.flushed s.failure reply → SendsLeft a.rs mid_ended mid new ended
-    → StepIsAnswered client before (after_number k final requests source new ended) s date (Respond n v) reply
+    → StepIsAnswered client before (with_asking_ended (kept_lacks (slice_get k.requests n)) (after_number k final requests source new ended)) s date (Respond n v) reply
 respond-stands client before k s date n v answer_context found mid new mid_ended ended final requests source reply st low a lack requests_are reader passes own sends =
     let s0 = open_slot a.waits.handed a.waits.request a.waits.given a.waits.end_reported in
     let s1 = answered_slot a.waits.handed a.waits.request a.waits.given a.waits.end_reported v date found in
@@ -542,8 +556,9 @@ respond-stands client before k s date n v answer_context found mid new mid_ended
     let said = respond-left before mid new k.output_ended mid_ended ended a.bs s0 s1 a.cs a.fs a.rs a.vs s text reply a.slots_are (ended-is before k.sink k.output_ended s.reached.slots s.flushed s.failure st.output) a.turn.finished refl refl refl l own a.turn (behind-turn a.bs a.cs s0 a.turn.finished refl turns) a.behind low sends in
     let is = at-turn date a.waits.handed s.reached n v a.waits.request a.waits.given a.waits.end_reported found a.at.get (a.at.turn ∙ a.turn.finished) in
     let slots = a.bs ++ (s1 ∷ a.cs) in
-    let new_state : State = record { reached = record { slots = slots; rest = s.reached.rest; asking_ended = s.reached.asking_ended }; flushed = flushed_after (used text) s slots; failure = said.failure } in
-    let R : List Slot → Reached = λ l. record { slots = l; rest = s.reached.rest; asking_ended = s.reached.asking_ended } in
+    let last = lacks_continue a.waits.request a.waits.handed.owed in
+    let new_state : State = record { reached = record { slots = slots; rest = s.reached.rest; asking_ended = s.reached.asking_ended || last }; flushed = flushed_after (used text) s slots; failure = said.failure } in
+    let R : List Slot → Reached = λ l. record { slots = l; rest = s.reached.rest; asking_ended = s.reached.asking_ended || last } in
     let W : List Slot → Type 0 = λ l. WriterPart (used text) s Done l reply said.failure in
     let G : Outcome → Type 0 = λ x. HasOutcome x s reply new_state in
     let has = subst G (sym is) (ap R (sym (a.at.set s1)), ap (flushed_after (used text) s) (sym (a.at.set s1)), subst W (sym (a.at.set s1)) said.writes) in
@@ -555,8 +570,9 @@ respond-stands client before k s date n v answer_context found mid new mid_ended
         numbers = subst M (sym passes) (subst Q (sym (requests_are ∙ a.requests_set)) (kept-append a.bs a.fs a.us (s1 ∷ a.cs) (Finished ∷ with_left_finished a.rs) (None ∷ a.vs) a.before (record { finished = refl; given_up = refl }, kept-passed a.cs a.rs a.vs a.behind)));
         shape = subst K (sym passes) a.turn.shape;
         in_turn = turn-set a.bs a.cs s0 s1 (λ q. (q.0, λ z. (let no : true ≡ false = z in cc))) (λ none. refl) turns;
-        asking_ended = st.asking_ended;
-        reader = reader-after client k final requests source new ended slots s.reached.rest (subst (λ q. InputStands client (with_reader k q source) slots s.reached.rest) (sym (requests_are ∙ a.requests_set)) reader);
+        asking_ended = both-end s.reached.asking_ended k.asking_ended last (kept_lacks (slice_get k.requests n)) st.asking_ended (lacks-same a.slot a.waiting a.waits ∙ sym (ap kept_lacks a.kept));
+        reader = reader-ended client (after_number k final requests source new ended) (k.asking_ended || kept_lacks (slice_get k.requests n)) slots s.reached.rest (neither k.asking_ended (kept_lacks (slice_get k.requests n)))
+            (reader-after client k final requests source new ended slots s.reached.rest (subst (λ q. InputStands client (with_reader k q source) slots s.reached.rest) (sym (requests_are ∙ a.requests_set)) reader));
         output = said.output;
       },
       inl (found, lacks found lack a.at.get, has),
@@ -578,7 +594,7 @@ pub respond-done : {R : Type 0} (client : Feed) (before : Sink) (k : Kept) (s : 
     → RespondsBy k mid mid_ended reply v answer_context date
     → ((front rest : List Mark) → marks ≡ front ++ (Held ∷ rest) → length front ≡ n → FinishesFront front rest final)
     → ((front rest : List Mark) → marks ≡ front ++ (Held ∷ rest) → length front ≡ n → (mid_ended ≡ false → CanSend mid) → SendsLeft rest mid_ended mid new ended)
-    → StepIsAnswered client before (after_number k final requests source new ended) s date (Respond n v) reply
+    → StepIsAnswered client before (with_asking_ended (kept_lacks (slice_get k.requests n)) (after_number k final requests source new ended)) s date (Respond n v) reply
 unfolding RespondsBy
 respond-done {R = R} client before k s date n v answer_context mid new mid_ended ended marks final requests old source reply st from gives low e first marks_are requests_are own passes sends = by-own own
   where
@@ -597,12 +613,12 @@ respond-done {R = R} client before k s date n v answer_context mid new mid_ended
         reader-given_up client k old source a.bs a.cs a.us a.vs s.reached.rest a.slot (Some (still.Waiting a.waiting)) None a.waiting.body (AnsweredBy v date found) (open-waiting a.slot a.waiting a.waits) refl refl from (subst P a.slots_were st.reader) a.requests_are a.as_many (gives a.waiting a.kept)
 
     answered : (found : Bool) → (found ≡ true) ⊎ IsGathered v.answer (to_request a.waits.request date) → OwnSaid before mid k.output_ended mid_ended s.reached.slots a.bs (answered_slot a.waits.handed a.waits.request a.waits.given a.waits.end_reported v date found) (response_sent found v a.waits.request date) s.flushed s.failure reply
-        → StepIsAnswered client before (after_number k final requests source new ended) s date (Respond n v) reply
+        → StepIsAnswered client before (with_asking_ended (kept_lacks (slice_get k.requests n)) (after_number k final requests source new ended)) s date (Respond n v) reply
     answered found lack o =
         respond-stands client before k s date n v answer_context found mid new mid_ended ended final requests source reply st low a lack requests_are (reader found) (passes a.fs a.rs held a.place) o
         (sends a.fs a.rs held a.place (can-send before mid mid_ended (a.bs ++ (answered_slot a.waits.handed a.waits.request a.waits.given a.waits.end_reported v date found ∷ [])) (flushed_if k.output_ended s.flushed (a.bs ++ (answered_slot a.waits.handed a.waits.request a.waits.given a.waits.end_reported v date found ∷ []))) o.failure o.output low))
 
-    by-own : RespondsBy k mid mid_ended reply v answer_context date → StepIsAnswered client before (after_number k final requests source new ended) s date (Respond n v) reply
+    by-own : RespondsBy k mid mid_ended reply v answer_context date → StepIsAnswered client before (with_asking_ended (kept_lacks (slice_get k.requests n)) (after_number k final requests source new ended)) s date (Respond n v) reply
     by-own (inl h) =
         let s1 = answered_slot a.waits.handed a.waits.request a.waits.given a.waits.end_reported v date true in
         let o = own-past before k.sink k.output_ended s.reached.slots a.bs s1 (response_sent true v a.waits.request date) s.flushed s.failure st.output (longer_by true) a.turn.finished h.0 in

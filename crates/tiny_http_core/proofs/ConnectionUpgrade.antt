@@ -1,5 +1,5 @@
 -- An Upgrade: from where the connection stands to where it stands after it.
-use Rattle.std.proofs.Common.{◌≡◌, refl, sym, ap, ◌∙◌, subst, ℕ, ◌-◌, ◌<◌, ◌^◌, inl, ⊎_elim, Bool, true, false, ◌||◌, List, [], ◌∷◌, ◌++◌, Option, Some, append-nil, eq-eqb}
+use Rattle.std.proofs.Common.{◌≡◌, refl, sym, ap, ◌∙◌, subst, ℕ, ◌-◌, ◌<◌, ◌^◌, inl, ⊎_elim, Bool, true, false, ◌&&◌, ◌||◌, List, [], ◌∷◌, ◌++◌, Option, Some, append-nil, eq-eqb}
 use Rattle.std.proofs.lemmas.Bool.{eqb-true}
 use Rattle.std.specs.Prelude.{◌==◌, slice_get, slice_set}
 use Rattle.std.specs.List.{list_all}
@@ -16,8 +16,8 @@ use Rattle.tiny_http_message.specs.Pipeline.{Asks}
 use Rattle.tiny_http_turns.specs.Turns.{Mark, Open, AreInShape, first_unfinished}
 use Rattle.tiny_http_core.specs.declared.pending.Unfinished.{Unfinished}
 use Rattle.tiny_http_core.specs.declared.pending.Unfinished.TheVariants as still
-use Rattle.tiny_http_core.specs.Slots.{Slot, Unanswered, Answered as AnsweredBy, ByServer, Raw, Upgraded, is_chunked, is_finished, segment, opening, joined, holds_next_head, is_last_slot, to_request}
-use Rattle.tiny_http_core.specs.Steps.{Upgrade, Done, NotYet, Unreported, Outcome, Reached, takes_stream, changes, at_slot, at_number}
+use Rattle.tiny_http_core.specs.Slots.{Slot, Unanswered, Answered as AnsweredBy, ByServer, Raw, Upgraded, is_chunked, is_finished, segment, opening, joined, is_last_slot, to_request}
+use Rattle.tiny_http_core.specs.Steps.{Upgrade, Done, NotYet, Unreported, Outcome, Reached, ends_asking, ends_with_stream, changes, at_slot, at_number}
 use Rattle.tiny_http_core.specs.Conversation.{State, flushed_after, WriterPart, HasOutcome}
 use Rattle.tiny_http_core.specs.Connection.{Kept, open_slot, IsWaiting, IsUpgraded, AreSentInTurn, AreKept, OutputAt, slot_rest, InputStands, Stands}
 use Rattle.tiny_http_core.proofs.SlotsLemmas.{breaks-waits}
@@ -28,7 +28,7 @@ use Rattle.tiny_http_core.proofs.ConnectionReader.{open-waiting, waiting-kept, a
 use Rattle.tiny_http_core.proofs.ConnectionKept.{kept-append, kept-many, KeptAt, place-of, InTurn, OutOfTurn, turn-at}
 use Rattle.tiny_http_core.proofs.ConnectionOutput.{ended-is, can-send, More, output-more, longer-at}
 use Rattle.tiny_http_core.proofs.ConnectionTurns.{turn-continued}
-use Rattle.tiny_http_core.proofs.ConnectionRespond.{NeedsWaiting, slot-at, set-place, after_number, reader-after, with_asking_ended, reader-ended}
+use Rattle.tiny_http_core.proofs.ConnectionRespond.{NeedsWaiting, slot-at, set-place, after_number, reader-after, with_asking_ended, reader-ended, neither, both-end, stream-same}
 
 pub upgrade-not_taken : (n : ℕ) (protocol : List ℕ) (v : ResponseValue) → NeedsWaiting (Upgrade n protocol v)
 upgrade-not_taken n protocol v Unanswered owed e = cc
@@ -76,7 +76,7 @@ now-upgraded protocol v date s w h = record {
 pub upgrade-done : {R : Type 0} (client : Feed) (before : Sink) (k : Kept) (s : State) (date : HttpDate) (n : ℕ) (protocol : List ℕ) (v : ResponseValue) (w : OpenRequest Body) (context : AnswerContext) (new : Sink) (ended : Bool) (final : List Mark) (requests : List (Option Unfinished)) (source : SourceState R) → Stands client before k s → IsInput k source → before.failures < 2 ^ 64 - 1
     → slice_get k.requests n ≡ Some (Some (still.Waiting w)) → w.answer_context ≡ context → list_all is_ascii protocol ≡ true → (n == first_unfinished k.marks) ≡ true → final ≡ k.marks → requests ≡ slice_set k.requests n (Some (still.Upgraded w.body))
     → ((k.output_ended ≡ false → CanSend k.sink) → SendsUnlessEnded k.output_ended k.sink new ended (upgrade_text v protocol (printing_in context date))) → IsFlushed new
-    → StepIsAnswered client before (with_asking_ended w.holds_next_head (after_number k final requests source new ended)) s date (Upgrade n protocol v) Done
+    → StepIsAnswered client before (with_asking_ended (w.holds_next_head || (w.by_standard && w.owes_continue)) (after_number k final requests source new ended)) s date (Upgrade n protocol v) Done
 upgrade-done {R = R} client before k s date n protocol v w context new ended final requests source st from low e context_is ascii come final_is requests_are sends firm =
     ⊎_elim in-turn (λ (t : OutOfTurn p.bs p.fs p.rs). absurd (t.turn (p.marks_before ∙ eqb-true n (first_unfinished k.marks) come ∙ ap first_unfinished p.marks_are))) (turn-at p.bs p.fs p.us p.rs p.before (subst S p.marks_are st.shape))
   where
@@ -88,6 +88,9 @@ upgrade-done {R = R} client before k s date n protocol v w context new ended fin
 
     h : IsWaiting p.s w
     h = p.waiting
+
+    ends : Bool
+    ends = w.holds_next_head || (w.by_standard && w.owes_continue)
 
     s0 : Slot
     s0 = open_slot h.handed h.request h.given h.end_reported
@@ -126,7 +129,7 @@ upgrade-done {R = R} client before k s date n protocol v w context new ended fin
     own : segment s1 ≡ segment s0 ++ text
     own = ap (λ y. opening (Asks h.request) h.handed.continued ++ y) (append-nil text) ∙ ap (λ y. y ++ text) (sym (append-nil (opening (Asks h.request) h.handed.continued)))
 
-    in-turn : InTurn p.bs p.fs p.rs → StepIsAnswered client before (with_asking_ended w.holds_next_head (after_number k final requests source new ended)) s date (Upgrade n protocol v) Done
+    in-turn : InTurn p.bs p.fs p.rs → StepIsAnswered client before (with_asking_ended (w.holds_next_head || (w.by_standard && w.owes_continue)) (after_number k final requests source new ended)) s date (Upgrade n protocol v) Done
     in-turn t =
         let long = longer-at s.reached.slots p.bs p.cs s0 s1 text slots_are t.finished refl refl own in
         let m : More s.reached.slots slots text = record {
@@ -139,11 +142,11 @@ upgrade-done {R = R} client before k s date n protocol v w context new ended fin
         let go = output-more before k.sink new k.output_ended ended s.reached.slots slots text s.flushed s.failure st.output m low sent firm in
         let over = ended-is before k.sink k.output_ended s.reached.slots s.flushed s.failure st.output in
         let at = slot-at s.reached.slots p.bs p.cs s0 n slots_are p.slots_before in
-        let is : at_number true date s.reached n (Upgrade n protocol v) ≡ takes_stream h.request (changes s.reached n s1 Done Unreported) =
+        let is : at_number true date s.reached n (Upgrade n protocol v) ≡ ends_asking (ends_with_stream h.request h.handed.owed) (changes s.reached n s1 Done Unreported) =
         ap (at_slot true date s.reached n (Upgrade n protocol v)) at.get ∙ rw (ascii, at.turn ∙ t.finished) refl in
         let C : List Slot → Type 0 = λ x. AreSentInTurn x in
-        let new_state : State = record { reached = record { slots = slots; rest = s.reached.rest; asking_ended = s.reached.asking_ended || holds_next_head h.request }; flushed = flushed_after Unreported s slots; failure = go.failure } in
-        let L : List Slot → Reached = λ l. record { slots = l; rest = s.reached.rest; asking_ended = s.reached.asking_ended || holds_next_head h.request } in
+        let new_state : State = record { reached = record { slots = slots; rest = s.reached.rest; asking_ended = s.reached.asking_ended || ends_with_stream h.request h.handed.owed }; flushed = flushed_after Unreported s slots; failure = go.failure } in
+        let L : List Slot → Reached = λ l. record { slots = l; rest = s.reached.rest; asking_ended = s.reached.asking_ended || ends_with_stream h.request h.handed.owed } in
         let W : List Slot → Type 0 = λ l. WriterPart Unreported s Done l Done go.failure in
         let G : Outcome → Type 0 = λ x. HasOutcome x s Done new_state in
         let M : List Mark → Type 0 = λ y. AreKept slots y requests in
@@ -155,8 +158,8 @@ upgrade-done {R = R} client before k s date n protocol v w context new ended fin
             numbers = subst M (sym (final_is ∙ p.marks_are)) (subst Q (sym requests_now) (kept-append p.bs p.fs p.us (s1 ∷ p.cs) (Open ∷ p.rs) (Some (still.Upgraded w.body) ∷ p.vs) p.before (now-upgraded protocol v date p.s w h, p.behind)));
             shape = subst K (sym final_is) st.shape;
             in_turn = turn-continued p.bs p.cs s0 s1 t.finished refl refl (subst C slots_are st.in_turn);
-            asking_ended = ap (λ x. x || holds_next_head h.request) st.asking_ended ∙ ap (λ x. k.asking_ended || x) (sym h.holds);
-            reader = reader-ended client (after_number k final requests source new ended) w.holds_next_head slots s.reached.rest (reader-after client k final requests source new ended slots s.reached.rest reader);
+            asking_ended = both-end s.reached.asking_ended k.asking_ended (ends_with_stream h.request h.handed.owed) ends st.asking_ended (stream-same p.s w h);
+            reader = reader-ended client (after_number k final requests source new ended) (k.asking_ended || ends) slots s.reached.rest (neither k.asking_ended ends) (reader-after client k final requests source new ended slots s.reached.rest reader);
             output = subst F (sym (flushed-is s k.output_ended slots over)) go.output;
           },
           inl (true, tt, subst G (sym is) (ap L (sym (at.set s1)), ap (flushed_after Unreported s) (sym (at.set s1)), subst W (sym (at.set s1)) (unreported s k.output_ended Done slots go.failure over go.writes))),

@@ -22,8 +22,8 @@ use Rattle.tiny_http_encoding.specs.Text.{Whole}
 use Rattle.tiny_http_sending.specs.ResponseValue.{ResponseValue}
 use Rattle.tiny_http_core.specs.declared.pending.Unfinished.{Unfinished}
 use Rattle.tiny_http_core.specs.declared.pending.Unfinished.TheVariants as still
-use Rattle.tiny_http_core.specs.Slots.{Slot, Stage, Unanswered, Answered as AnsweredBy, ByServer, Raw, Upgraded, is_stage_finished, is_finished, is_broken, is_slot_broken, opening, stage_text, segment, joined, is_output_broken, is_last_item, holds_next_head, body_was_abandoned, turn_has_come}
-use Rattle.tiny_http_core.specs.Steps.{StepValue, IntoWriter, Write, Flush, Finish, ReplyValue, Done, Fault, NotYet, NoSuch, WriterUse, Unused, Reported, Outcome, Reached, unchanged, changes, takes_stream, finished_as, written_to, stage_closed, accepts_step, needs_turn, effect, at_item, at_slot, at_number, outcome}
+use Rattle.tiny_http_core.specs.Slots.{Slot, Stage, Unanswered, Answered as AnsweredBy, ByServer, Raw, Upgraded, is_stage_finished, is_finished, is_broken, is_slot_broken, opening, stage_text, segment, joined, is_output_broken, is_last_item, body_was_abandoned, turn_has_come}
+use Rattle.tiny_http_core.specs.Steps.{StepValue, IntoWriter, Write, Flush, Finish, ReplyValue, Done, Fault, NotYet, NoSuch, WriterUse, Unused, Reported, Outcome, Reached, unchanged, changes, ends_asking, ends_with_stream, finished_as, written_to, stage_closed, accepts_step, needs_turn, effect, at_item, at_slot, at_number, outcome}
 use Rattle.tiny_http_core.specs.Seen.{write_reply, is_done, IsOfWriter}
 use Rattle.tiny_http_core.specs.Driving.{IsDeclined}
 use Rattle.tiny_http_core.specs.declared.driver.Step.TheVariants as step
@@ -38,7 +38,7 @@ use Rattle.tiny_http_core.proofs.ConnectionKept.{kept-append, kept-many, KeptAt,
 use Rattle.tiny_http_core.proofs.ConnectionLeaving.{EndsAs, leave-done}
 use Rattle.tiny_http_core.proofs.ConnectionOutput.{ended-is, output-same, lost-output, all-firm, More, longer-at, more-ended}
 use Rattle.tiny_http_core.proofs.ConnectionReader.{open-waiting}
-use Rattle.tiny_http_core.proofs.ConnectionRespond.{TakesNone, NeedsWaiting, not-taken, SlotAt, slot-at, set-place, after_number, reader-after, with_asking_ended, reader-ended}
+use Rattle.tiny_http_core.proofs.ConnectionRespond.{TakesNone, NeedsWaiting, not-taken, SlotAt, slot-at, set-place, after_number, reader-after, with_asking_ended, reader-ended, neither, both-end, stream-same}
 use Rattle.tiny_http_core.proofs.ConnectionTurns.{turn-set, turn-continued}
 use Rattle.tiny_http_core.proofs.SlotsLemmas.{joined-alike, breaks-waits}
 
@@ -54,17 +54,17 @@ abbrev raw_slot : (s : Slot) (w : OpenRequest Body) → IsWaiting s w → Slot
 raw_slot s w h = finished_as (open_slot h.handed h.request h.given h.end_reported) (Raw [] false)
 
 pub into_writer-done : {R : Type 0} (client : Feed) (before : Sink) (k : Kept) (s : State) (date : HttpDate) (n : ℕ) (w : OpenRequest Body) (requests : List (Option Unfinished)) (old source : SourceState R) → Stands client before k s → IsInput k old → GivesUp w.body old source → slice_get k.requests n ≡ Some (Some (still.Waiting w))
-    → requests ≡ slice_set k.requests n (Some still.Raw) → StepIsAnswered client before (with_asking_ended w.holds_next_head (with_reader k requests source)) s date (IntoWriter n) Done
+    → requests ≡ slice_set k.requests n (Some still.Raw) → StepIsAnswered client before (with_asking_ended (w.holds_next_head || (w.by_standard && w.owes_continue)) (with_reader k requests source)) s date (IntoWriter n) Done
 into_writer-done {R = R} client before k s date n w requests old source st from gives e requests_are =
-    let L : List (Option Unfinished) → Type 0 = λ l. StepIsAnswered client before (with_asking_ended w.holds_next_head (with_reader k l source)) s date (IntoWriter n) Done in
+    let L : List (Option Unfinished) → Type 0 = λ l. StepIsAnswered client before (with_asking_ended (w.holds_next_head || (w.by_standard && w.owes_continue)) (with_reader k l source)) s date (IntoWriter n) Done in
     subst L (sym set) (
       state,
       record {
         numbers = subst M (sym p.marks_are) (kept-append p.bs p.fs p.us (s1 ∷ p.cs) (Open ∷ p.rs) (Some still.Raw ∷ p.vs) p.before (record { request = h.request; item = refl; written = []; stage = refl; given_up = refl }, p.behind));
         shape = st.shape;
         in_turn = turn-set p.bs p.cs s0 s1 (λ q. (q.0, λ z. refl)) (λ done. done) (subst T open_is st.in_turn);
-        asking_ended = ap (λ x. x || holds_next_head h.request) st.asking_ended ∙ ap (λ x. k.asking_ended || x) (sym h.holds);
-        reader = reader-ended client (with_reader k (p.us ++ (Some still.Raw ∷ p.vs)) source) w.holds_next_head slots s.reached.rest
+        asking_ended = both-end s.reached.asking_ended k.asking_ended (ends_with_stream h.request h.handed.owed) ends st.asking_ended (stream-same p.s w h);
+        reader = reader-ended client (with_reader k (p.us ++ (Some still.Raw ∷ p.vs)) source) (k.asking_ended || ends) slots s.reached.rest (neither k.asking_ended ends)
             (reader-given_up client k old source p.bs p.cs p.us p.vs s.reached.rest p.s (Some (still.Waiting w)) (Some still.Raw) w.body (Raw [] false) (open-waiting p.s w h) refl refl from (subst P p.slots_are st.reader) p.requests_are (kept-many p.cs p.rs p.vs p.behind) gives);
         output = output-same before k.sink k.output_ended s.reached.slots slots s.flushed s.failure joined_same breaks_same st.output;
       },
@@ -76,6 +76,9 @@ into_writer-done {R = R} client before k s date n w requests old source st from 
 
     h : IsWaiting p.s w
     h = p.waiting
+
+    ends : Bool
+    ends = w.holds_next_head || (w.by_standard && w.owes_continue)
 
     s0 : Slot
     s0 = open_slot h.handed h.request h.given h.end_reported
@@ -111,15 +114,15 @@ into_writer-done {R = R} client before k s date n w requests old source st from 
     breaks_same = ap is_output_broken open_is ∙ breaks-waits p.bs s0 p.cs refl refl ∙ sym (breaks-waits p.bs s1 p.cs refl refl)
 
     state : State
-    state = record { reached = record { slots = slots; rest = s.reached.rest; asking_ended = s.reached.asking_ended || holds_next_head h.request }; flushed = s.flushed; failure = s.failure }
+    state = record { reached = record { slots = slots; rest = s.reached.rest; asking_ended = s.reached.asking_ended || ends_with_stream h.request h.handed.owed }; flushed = s.flushed; failure = s.failure }
 
     A : List Slot → Reached
-    A l = record { slots = l; rest = s.reached.rest; asking_ended = s.reached.asking_ended || holds_next_head h.request }
+    A l = record { slots = l; rest = s.reached.rest; asking_ended = s.reached.asking_ended || ends_with_stream h.request h.handed.owed }
 
     G : Outcome → Type 0
     G o = HasOutcome o s Done state
 
-    is : at_number true date s.reached n (IntoWriter n) ≡ takes_stream h.request (changes s.reached n s1 Done Unused)
+    is : at_number true date s.reached n (IntoWriter n) ≡ ends_asking (ends_with_stream h.request h.handed.owed) (changes s.reached n s1 Done Unused)
     is =
         let B : Slot → Outcome = λ x. at_slot true date s.reached n (IntoWriter n) (Some x) in
         ap (at_slot true date s.reached n (IntoWriter n)) at.get ∙ ap B h.is
@@ -482,8 +485,8 @@ finish-done {R = R} client before k s date n u new ended final requests old sour
     let at = slot-at s.reached.slots p.bs p.cs p.s n p.slots_are p.slots_before in
     let q = unfinished-asks p.s u p.waiting in
     let P : List Slot → Type 0 = λ l. InputStands client k l s.reached.rest in
-    leave-done client before k s date n u p (closed_slot p.s) (Finish n) Done [] new ended final requests source st low (closes p.s u p.waiting writable)
-    (at-accepted date s.reached n (Finish n) p.s q.0 (turn_has_come n s.reached.slots) at.get q.1 (fit (Finish n) (a-finish n) p.s u p.waiting writable) refl) requests_are
+    leave-done client before k s date n u p (closed_slot p.s) (Finish n) Done [] s.reached.asking_ended k.asking_ended new ended final requests source st low (closes p.s u p.waiting writable)
+    (at-accepted date s.reached n (Finish n) p.s q.0 (turn_has_come n s.reached.slots) at.get q.1 (fit (Finish n) (a-finish n) p.s u p.waiting writable) refl) st.asking_ended (λ e. e) requests_are
     (reader-closed client k p.bs p.cs p.us p.vs s.reached.rest p.s u old source p.waiting writable from (subst P p.slots_are st.reader) p.requests_are (kept-many p.cs p.rs p.vs p.behind) gives) leaves
 
 -- a Write or a Flush that was done, and what it reports

@@ -47,7 +47,7 @@ abbrev message : Method → List ℕ → ℕ → ℕ → List Header → Message
 message m path major minor headers = record { method = m; path = path; version = version major minor; headers = headers }
 
 abbrev framed : Form → Option ℕ → Bool → Framing
-framed form length last = record { form = form; owes_continue = false; body_length = length; asks_upgrade = false; is_last = last }
+framed form length last = record { form = form; owes_continue = false; body_length = length; asks_upgrade = false; by_standard = false; is_last = last }
 
 abbrev plain : Framing
 plain = framed Nothing None false

@@ -8,7 +8,7 @@ use Rattle.tiny_http_wire.specs.Answer.{Answer, Printing, ResponseState}
 use Rattle.tiny_http_wire.specs.declared.device.Stop.{Stop}
 use Rattle.tiny_http_core.specs.declared.pending.Unfinished.{Unfinished}
 use Rattle.tiny_http_core.specs.declared.pending.Unfinished.TheVariants as still
-use Rattle.tiny_http_core.specs.Pending.{holds_next, last_holds_next, kept_body, GivesUpBody}
+use Rattle.tiny_http_core.specs.Pending.{holds_next, lacks_continue as kept_lacks, ends_with_stream, last_holds_next, kept_body, GivesUpBody}
 use Rattle.std.specs.List.{AllZip}
 use Rattle.tiny_http_core.specs.declared.driver.Timed.{Timed}
 use Rattle.tiny_http_core.specs.declared.driver.Reply.{Reply}
@@ -18,7 +18,7 @@ use Rattle.tiny_http_core.specs.declared.pending.Pending.{Pending}
 use Rattle.tiny_http_stream.specs.Source.{SourceState, GoesOn, IsAtEnd}
 use Rattle.tiny_http_stream.specs.Outlet.{OutletState, output_of, SentOn}
 use Rattle.tiny_http_sending.specs.ResponseValue.{ResponseValue}
-use Rattle.tiny_http_core.specs.Steps.{StepValue, Ask, AsReader, Read, Respond, IntoWriter, Write, Flush, Upgrade, Finish, Drop, ReplyValue, Handed, Ended, Given, NotYet, Done, Refused, NoSuch, Memory, Fault, Reached, changes, use_in_turn, outcome}
+use Rattle.tiny_http_core.specs.Steps.{StepValue, Ask, AsReader, Read, Respond, IntoWriter, Write, Flush, Upgrade, Finish, Drop, ReplyValue, Handed, Ended, Given, NotYet, Done, Refused, NoSuch, Memory, Fault, Reached, changes, ends_asking, use_in_turn, outcome}
 use Rattle.tiny_http_core.specs.Conversation.{State, TimedValue, IsFresh, start_state}
 use Rattle.tiny_http_sending.specs.Sending.{FailsOnceUnlessEnded, IsHonest, FailsOnce}
 use Rattle.tiny_http_core.specs.Seen.{seen, IsResponse, IsStep, IsTimedStep, MayFail, ReportsHonestly, IsAnswered, IsOfWriter, is_done, all_sent_after}
@@ -26,10 +26,10 @@ use Rattle.tiny_http_message.specs.declared.body.Body.{Body}
 use Rattle.tiny_http_message.specs.Body.{is_streaming, body_standing}
 use Rattle.std.specs.Prelude.{MatchBool}
 use Rattle.tiny_http_core.specs.Connection.{Kept, ConnectionState, kept, Stands, HandedOut, open_slot, dropped}
-use Rattle.tiny_http_core.specs.Slots.{turn_has_come}
+use Rattle.tiny_http_core.specs.Slots.{lacks_continue, turn_has_come}
 use Rattle.tiny_http_core.proofs.ConnectionDrop.{at-drop, at-refused}
 use Rattle.std.specs.Prelude.{String, string_bytes, slice_get}
-use Rattle.tiny_http_core.specs.Driving.{HasDone, TakesStep, AskEnds, StepEnds, EndsBehind, ends_behind, IsDeclined, stated_response, stated_step, StepLeaves, AskLeaves, LetsGo, StandsAfter, ReportsFault, UpgradeLeaves, IsDropping, RefusesHeads}
+use Rattle.tiny_http_core.specs.Driving.{HasDone, TakesStep, AskEnds, StepEnds, EndsBehind, UpgradeEnds, ends_behind, IsDeclined, stated_response, stated_step, StepLeaves, AskLeaves, LetsGo, StandsAfter, ReportsFault, UpgradeLeaves, IsDropping, RefusesHeads}
 use Rattle.tiny_http_core.proofs.ConnectionAsk.{StepIsAnswered}
 use Rattle.tiny_http_core.proofs.ConnectionReader.{holds-snoc}
 use Rattle.tiny_http_stream.proofs.SourceGoesOn.{goes-on_same, goes-on_more}
@@ -369,7 +369,7 @@ takes-as_reader old new now n reply answers declined ends leaves moves none =
 
 pub takes-drop : {R W : Type 0} (old new : ConnectionState R W) (now : HttpDate) (n : ℕ) (reply : ReplyValue)
     → ((client : Feed) (before : Sink) (s : State) → before.failures < 2 ^ 64 - 1 → Stands client before (kept old) s → StepIsAnswered client before (kept new) s now (Drop n) reply)
-    → (IsDeclined (step.Drop n) reply → new ≡ old) → new.end ≡ old.end → (IsAnswered reply → LetsGo n old new) → Moves false old new → ReportsNoFault reply → TakesStep old new now (step.Drop n) reply
+    → (IsDeclined (step.Drop n) reply → new ≡ old) → EndsBehind (kept_lacks (slice_get old.requests n)) old new reply → (IsAnswered reply → LetsGo n old new) → Moves false old new → ReportsNoFault reply → TakesStep old new now (step.Drop n) reply
 takes-drop old new now n reply answers declined ends leaves moves none =
     takes old new now (step.Drop n) reply
     (λ client before s asked low is st. step-drop {D = Option Feed} (λ f. f) client before (kept new) s (now, asked) (step.Drop n) n reply refl is (answers client before s low st))
@@ -385,7 +385,7 @@ takes-read old new now n m reply answers declined ends leaves moves =
 
 pub takes-respond : {R W D : Type 0} (feed : D → Option Feed) (all : Bool) (old new : ConnectionState R W) (now : HttpDate) (n : ℕ) (r : ResponseState D) (reply : ReplyValue)
     → ((client : Feed) (before : Sink) (s : State) (value : ResponseValue) → before.failures < 2 ^ 64 - 1 → IsResponse feed r value → Stands client before (kept old) s → StepIsAnswered client before (kept new) s now (Respond n value) reply)
-    → (IsDeclined (step.Respond n (stated_response feed r)) reply → new ≡ old) → new.end ≡ old.end → (IsAnswered reply → LetsGo n old new) → is_done reply ≡ all → Moves all old new → ((kind : ErrorKind) → reply ≡ Fault kind → ReportsFault old new now (step.Respond n (stated_response feed r)) kind)
+    → (IsDeclined (step.Respond n (stated_response feed r)) reply → new ≡ old) → EndsBehind (kept_lacks (slice_get old.requests n)) old new reply → (IsAnswered reply → LetsGo n old new) → is_done reply ≡ all → Moves all old new → ((kind : ErrorKind) → reply ≡ Fault kind → ReportsFault old new now (step.Respond n (stated_response feed r)) kind)
     → TakesStep old new now (step.Respond n (stated_response feed r)) reply
 takes-respond feed all old new now n r reply answers declined ends leaves done moves honest =
     takes old new now (step.Respond n (stated_response feed r)) reply
@@ -394,7 +394,7 @@ takes-respond feed all old new now n r reply answers declined ends leaves done m
 
 pub takes-into_writer : {R W : Type 0} (old new : ConnectionState R W) (now : HttpDate) (n : ℕ) (reply : ReplyValue)
     → ((client : Feed) (before : Sink) (s : State) → before.failures < 2 ^ 64 - 1 → Stands client before (kept old) s → StepIsAnswered client before (kept new) s now (IntoWriter n) reply)
-    → (IsDeclined (step.IntoWriter n) reply → new ≡ old) → EndsBehind n old new reply → StepLeaves (step.IntoWriter n) old new reply → Moves false old new → ReportsNoFault reply → TakesStep old new now (step.IntoWriter n) reply
+    → (IsDeclined (step.IntoWriter n) reply → new ≡ old) → EndsBehind (ends_with_stream (slice_get old.requests n)) old new reply → StepLeaves (step.IntoWriter n) old new reply → Moves false old new → ReportsNoFault reply → TakesStep old new now (step.IntoWriter n) reply
 takes-into_writer old new now n reply answers declined ends leaves moves none =
     takes old new now (step.IntoWriter n) reply
     (λ client before s asked low is st. step-into_writer {D = Option Feed} (λ f. f) client before (kept new) s (now, asked) (step.IntoWriter n) n reply refl is (answers client before s low st))
@@ -444,7 +444,7 @@ takes-write {W = W} old new now n v bytes reply same answers declined ends leave
 
 pub takes-upgrade : {R W D : Type 0} (feed : D → Option Feed) (all : Bool) (old new : ConnectionState R W) (now : HttpDate) (n : ℕ) (p : String Global) (r : ResponseState D) (reply : ReplyValue)
     → ((client : Feed) (before : Sink) (s : State) (value : ResponseValue) → before.failures < 2 ^ 64 - 1 → value.answer ≡ r.answer → Stands client before (kept old) s → StepIsAnswered client before (kept new) s now (Upgrade n (string_bytes p) value) reply)
-    → (IsDeclined (step.Upgrade n p (stated_response feed r)) reply → new ≡ old) → EndsBehind n old new reply → UpgradeLeaves n old new reply → is_done reply ≡ all → Moves all old new → ReportsNoFault reply → TakesStep old new now (step.Upgrade n p (stated_response feed r)) reply
+    → (IsDeclined (step.Upgrade n p (stated_response feed r)) reply → new ≡ old) → UpgradeEnds n old new reply → UpgradeLeaves n old new reply → is_done reply ≡ all → Moves all old new → ReportsNoFault reply → TakesStep old new now (step.Upgrade n p (stated_response feed r)) reply
 takes-upgrade feed all old new now n p r reply answers declined ends leaves done moves none =
     takes old new now (step.Upgrade n p (stated_response feed r)) reply
     (λ client before s asked low is st. step-upgrade {D = Option Feed} (λ f. f) client before (kept new) s (now, asked) (step.Upgrade n p (stated_response feed r)) n p (stated_response feed r) reply refl is (λ v same. answers client before s v low same st))
@@ -453,9 +453,9 @@ takes-upgrade feed all old new now n p r reply answers declined ends leaves done
 -- a step that drops a request
 pub drops-by : {R W : Type 0} (n : ℕ) (old new : ConnectionState R W) (now : HttpDate)
     → ((client : Feed) (before : Sink) (s : State) (asked : StepValue) (reply : ReplyValue)
-    → ((was : Reached) (by : HandedOut) (r : Request) (given : ℕ) (end_reported : Bool) → slice_get was.slots n ≡ Some (open_slot by r given end_reported) → outcome true now was asked ≡ changes was n (dropped by r given end_reported) reply (use_in_turn (turn_has_come n was.slots)))
+    → ((was : Reached) (by : HandedOut) (r : Request) (given : ℕ) (end_reported : Bool) → slice_get was.slots n ≡ Some (open_slot by r given end_reported) → outcome true now was asked ≡ ends_asking (lacks_continue r by.owed) (changes was n (dropped by r given end_reported) reply (use_in_turn (turn_has_come n was.slots))))
     → before.failures < 2 ^ 64 - 1 → Stands client before (kept old) s → StepIsAnswered client before (kept new) s now asked reply)
-    → new.end ≡ old.end → LetsGo n old new → Moves false old new → (x : Step (Option Feed)) (reply : ReplyValue) → IsDropping n x reply → TakesStep old new now x reply
+    → new.end ≡ ends_behind (kept_lacks (slice_get old.requests n)) old.end → LetsGo n old new → Moves false old new → (x : Step (Option Feed)) (reply : ReplyValue) → IsDropping n x reply → TakesStep old new now x reply
 drops-by n old new now answers ends leaves moves = by
   where
     by : (x : Step (Option Feed)) (reply : ReplyValue) → IsDropping n x reply → TakesStep old new now x reply

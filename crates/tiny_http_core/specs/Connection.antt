@@ -85,6 +85,7 @@ pub record IsWaiting (s : Slot) (w : OpenRequest Body) : Type 0 where
   pub is : s ≡ open_slot handed request given end_reported
   pub owed : w.owes_continue ≡ handed.owed
   pub holds : w.holds_next_head ≡ holds_next_head request
+  pub standard : w.by_standard ≡ request.framing.by_standard
   pub unsent : handed.owed ≡ true → handed.continued ≡ None
   pub rest_is_last : request.framing.form ≡ Rest → request.framing.is_last ≡ true
   pub answer_context : w.answer_context ≡ answer_context_of request

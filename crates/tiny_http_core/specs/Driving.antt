@@ -25,7 +25,7 @@ use Rattle.tiny_http_core.specs.Conversation.{State, TimedValue, Run, start_stat
 use Rattle.tiny_http_wire.specs.declared.answer_context.AnswerContext.{AnswerContext}
 use Rattle.tiny_http_sending.specs.ResponseValue.{printing_in}
 use Rattle.tiny_http_sending.specs.Sending.{IsHonest, FailsOnce}
-use Rattle.tiny_http_core.specs.Pending.{waiting_answer_context, owes_continue, holds_next, last_holds_next, kept_body, GivesUpBody, with_body}
+use Rattle.tiny_http_core.specs.Pending.{waiting_answer_context, owes_continue, holds_next, lacks_continue, ends_with_stream, last_holds_next, kept_body, GivesUpBody, with_body}
 use Rattle.tiny_http_message.specs.declared.body.Body.{Body}
 use Rattle.tiny_http_message.specs.declared.open_request.OpenRequest.{OpenRequest}
 use Rattle.tiny_http_core.specs.declared.pending.Unfinished.{Unfinished}
@@ -104,29 +104,35 @@ AskEnds old new Ended =
 AskEnds old new Memory = (old.end ≡ None) × (new.end ≡ Some because.Memory) × IsBeforeHead old.source.standing × HasByteBehind old.profile old.source.feed
 AskEnds old new _ = ⊥
 
--- why the requests end, where nothing is read behind a request that holds the next head
+-- why the requests end, where no head is read behind a request that is finished or gets the connection's stream
 abbrev pub ends_behind : Bool → Option EndOfRequests → Option EndOfRequests
 ends_behind false end = end
 ends_behind true None = Some because.LastRequest
 ends_behind true (Some why) = Some why
 
--- a number got the connection's stream: where it held the next head the requests end
-abbrev pub EndsBehind : {R W : Type 0} → ℕ → ConnectionState R W → ConnectionState R W → ReplyValue → Type 0
-EndsBehind k old new Done = new.end ≡ ends_behind (holds_next (slice_get old.requests k)) old.end
-EndsBehind k old new _ = new.end ≡ old.end
+-- a step of a number was done, behind which the requests end, if this holds; or it was not done
+abbrev pub EndsBehind : {R W : Type 0} → Bool → ConnectionState R W → ConnectionState R W → ReplyValue → Type 0
+EndsBehind ends old new NotYet = new.end ≡ old.end
+EndsBehind ends old new NoSuch = new.end ≡ old.end
+EndsBehind ends old new _ = new.end ≡ ends_behind ends old.end
+
+-- the same of an Upgrade: it gives the number the connection's stream, or drops it
+abbrev pub UpgradeEnds : {R W : Type 0} → ℕ → ConnectionState R W → ConnectionState R W → ReplyValue → Type 0
+UpgradeEnds k old new Refused = new.end ≡ ends_behind (lacks_continue (slice_get old.requests k)) old.end
+UpgradeEnds k old new reply = EndsBehind (ends_with_stream (slice_get old.requests k)) old new reply
 
 -- what a step says of the end of the requests
 abbrev pub StepEnds : {R W : Type 0} → Step (Option Feed) → ConnectionState R W → ConnectionState R W → ReplyValue → Type 0
 StepEnds step.Ask old new reply = AskEnds old new reply
 StepEnds (step.AsReader k) old new reply = new.end ≡ old.end
 StepEnds (step.Read k n) old new reply = new.end ≡ old.end
-StepEnds (step.Respond k r) old new reply = new.end ≡ old.end
-StepEnds (step.IntoWriter k) old new reply = EndsBehind k old new reply
+StepEnds (step.Respond k r) old new reply = EndsBehind (lacks_continue (slice_get old.requests k)) old new reply
+StepEnds (step.IntoWriter k) old new reply = EndsBehind (ends_with_stream (slice_get old.requests k)) old new reply
 StepEnds (step.Write k bytes) old new reply = new.end ≡ old.end
 StepEnds (step.Flush k) old new reply = new.end ≡ old.end
-StepEnds (step.Upgrade k p r) old new reply = EndsBehind k old new reply
+StepEnds (step.Upgrade k p r) old new reply = UpgradeEnds k old new reply
 StepEnds (step.Finish k) old new reply = new.end ≡ old.end
-StepEnds (step.Drop k) old new reply = new.end ≡ old.end
+StepEnds (step.Drop k) old new reply = EndsBehind (lacks_continue (slice_get old.requests k)) old new reply
 
 -- the body that is kept of this number was given up
 abbrev pub GivesUpKept : {R W : Type 0} → ℕ → ConnectionState R W → ConnectionState R W → Type 0

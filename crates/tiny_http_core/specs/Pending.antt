@@ -1,5 +1,5 @@
 -- Numbers whose turn comes, and what is sent as it does.
-use Rattle.std.specs.Prelude.{◌≡◌, ◌==◌, ◌<◌, ◌^◌, ◌+◌, ℕ, Bool, true, false, not, List, [], ◌∷◌, ◌++◌, length, Option, Some, None, MatchBool, slice_get}
+use Rattle.std.specs.Prelude.{◌≡◌, ◌==◌, ◌<◌, ◌^◌, ◌+◌, ℕ, Bool, true, false, not, ◌&&◌, ◌||◌, List, [], ◌∷◌, ◌++◌, length, Option, Some, None, MatchBool, slice_get}
 use Rattle.tiny_http_wire.specs.Device.{Sink}
 use Rattle.tiny_http_wire.specs.declared.answer_context.AnswerContext.{AnswerContext}
 use Rattle.std.specs.Global.{Vec}
@@ -100,6 +100,18 @@ holds_next (Some (Some still.Raw)) = false
 holds_next (Some (Some (still.Upgraded b))) = false
 holds_next (Some None) = false
 holds_next None = false
+
+-- its 100 wasn't sent, and no head is read behind it once it is finished
+abbrev pub lacks_continue : Option (Option Unfinished) → Bool
+lacks_continue (Some (Some (still.Waiting w))) = w.by_standard && w.owes_continue
+lacks_continue (Some (Some still.Raw)) = false
+lacks_continue (Some (Some (still.Upgraded b))) = false
+lacks_continue (Some None) = false
+lacks_continue None = false
+
+-- no head is read behind it once it gets the connection's stream
+abbrev pub ends_with_stream : Option (Option Unfinished) → Bool
+ends_with_stream o = holds_next o || lacks_continue o
 
 -- the next head isn't read before the last of these is answered
 abbrev pub last_holds_next : List (Option Unfinished) → Bool

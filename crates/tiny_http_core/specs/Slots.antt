@@ -163,6 +163,11 @@ is_unanswered _ = false
 abbrev pub holds_next_head : Request → Bool
 holds_next_head r = r.framing.asks_upgrade && not r.framing.is_last
 
+-- Its 100 wasn't sent, and it was read by the standard: the client may leave the body out, or send it, so that no head is read behind
+-- it once it is finished.
+abbrev pub lacks_continue : Request → Bool → Bool
+lacks_continue r owed = r.framing.by_standard && owed
+
 -- the next head isn't read before this number is answered
 abbrev pub awaits_answer : Slot → Item → Bool
 awaits_answer s (Asks r) = holds_next_head r && is_unanswered s.stage

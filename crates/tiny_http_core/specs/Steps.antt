@@ -12,7 +12,7 @@ use Rattle.tiny_http_message.specs.declared.framing.Framing.{Framing}
 use Rattle.tiny_http_message.specs.Pipeline.{Item, Asks, Refuses, Request}
 use Rattle.tiny_http_sending.specs.ResponseValue.{ResponseValue}
 use Rattle.tiny_http_sending.specs.Sending.{is_closed_client}
-use Rattle.tiny_http_core.specs.Slots.{Slot, Stage, Unanswered, Answered, ByServer, Raw, Upgraded, turn_has_come, to_request, text_if, new_slot, rest_of, last_slot, holds_next_head, last_holds_reader, last_was_abandoned}
+use Rattle.tiny_http_core.specs.Slots.{Slot, Stage, Unanswered, Answered, ByServer, Raw, Upgraded, turn_has_come, to_request, text_if, new_slot, rest_of, last_slot, holds_next_head, lacks_continue, last_holds_reader, last_was_abandoned}
 
 -- a step, with its response as a value
 pub data StepValue : Type 0 where
@@ -152,9 +152,13 @@ abbrev pub use_in_turn : Bool → WriterUse
 use_in_turn true = Unreported
 use_in_turn false = Unused
 
--- the asking ends too where the connection goes to the protocol that the request asked for
-abbrev pub takes_stream : Request → Outcome → Outcome
-takes_stream r o = record o { asking_ended = o.asking_ended || holds_next_head r }
+-- no head is read behind the number, if this holds
+abbrev pub ends_asking : Bool → Outcome → Outcome
+ends_asking ends o = record o { asking_ended = o.asking_ended || ends }
+
+-- none is once it gets the connection's stream: what follows may be bytes of the protocol that it asked for, or its 100 wasn't sent
+abbrev pub ends_with_stream : Request → Bool → Bool
+ends_with_stream r owed = holds_next_head r || lacks_continue r owed
 
 -- a step that the number of a request takes, in its time
 abbrev pub effect : Bool → HttpDate → Reached → Request → Slot → Bool → StepValue → Outcome
@@ -166,16 +170,16 @@ effect found date old r s turn (Read k n) =
     (read_reply n (rest_of r s.given).bytes r.body.stop) Unused
 effect found date old r s turn (Respond k response) =
     let text = text_if found response (to_request r date) in
-    changes old k (finished_as s (Answered response date found)) Done (Reported text.bytes (fault_in text.ending) true fault_reply)
-effect found date old r s turn (IntoWriter k) = takes_stream r (changes old k (record s { stage = Raw [] false; given_up = true; owed = false }) Done Unused)
+    ends_asking (lacks_continue r s.owed) (changes old k (finished_as s (Answered response date found)) Done (Reported text.bytes (fault_in text.ending) true fault_reply))
+effect found date old r s turn (IntoWriter k) = ends_asking (ends_with_stream r s.owed) (changes old k (record s { stage = Raw [] false; given_up = true; owed = false }) Done Unused)
 effect found date old r s turn (Write k bytes) = changes old k (record s { stage = written_to bytes s.stage }) Done (Reported bytes None false Fault)
 effect found date old r s turn (Flush k) = changes old k s Done (Reported [] None true Fault)
 effect found date old r s turn (Upgrade k protocol response) =
     if list_all is_ascii protocol
-    then takes_stream r (changes old k (record s { stage = Upgraded protocol response date [] false; owed = false }) Done Unreported)
-    else changes old k (finished_as s ByServer) Refused (use_in_turn turn)
+    then ends_asking (ends_with_stream r s.owed) (changes old k (record s { stage = Upgraded protocol response date [] false; owed = false }) Done Unreported)
+    else ends_asking (lacks_continue r s.owed) (changes old k (finished_as s ByServer) Refused (use_in_turn turn))
 effect found date old r s turn (Finish k) = changes old k (finished_as s (stage_closed s.stage)) Done (use_in_turn turn)
-effect found date old r s turn (Drop k) = changes old k (finished_as s ByServer) Done (use_in_turn turn)
+effect found date old r s turn (Drop k) = ends_asking (lacks_continue r s.owed) (changes old k (finished_as s ByServer) Done (use_in_turn turn))
 effect found date old r s turn Ask = unchanged old NoSuch
 
 abbrev pub at_item : Bool → HttpDate → Reached → ℕ → StepValue → Slot → Item → Outcome

@@ -178,12 +178,12 @@ fn answer<W: WriteDevice, D: ReadDevice + Drop>(
     Reply::write_reply(reported(request.respond(alloc, outlet, response, now)))
 }
 
-// Why the requests end, once a request gets the connection's stream: no head is read behind one that holds the next head.
-fn ends_behind(holds_next_head: bool, end: Option<EndOfRequests>) -> Option<EndOfRequests>
-    ensures { result ≡ ends_behind holds_next_head end }
+// Why the requests end, where no head is read behind a request, if this holds.
+fn ends_behind(ends: bool, end: Option<EndOfRequests>) -> Option<EndOfRequests>
+    ensures { result ≡ ends_behind ends end }
 {
     match end {
-        None if holds_next_head => Some(EndOfRequests::LastRequest),
+        None if ends => Some(EndOfRequests::LastRequest),
         _ => end,
     }
 }
@@ -363,6 +363,7 @@ impl<R: ReadDevice, W: WriteDevice> Connection<R, W> {
         let Some(request) = self.pending.take(number, None) else {
             return false;
         };
+        self.end = ends_behind(request.lacks_continue(), self.end);
         let (text, mut body) = request.into_drop_text();
         self.pending.leave(&mut self.outlet, number, text);
         body.give_up(&mut self.source);
@@ -393,6 +394,7 @@ impl<R: ReadDevice, W: WriteDevice> Connection<R, W> {
         let Some(mut request) = self.pending.take(number, None) else {
             unreachable!()
         };
+        self.end = ends_behind(request.lacks_continue(), self.end);
         let reply = answer(alloc, &mut request, &mut self.outlet, response, now);
         self.pending.pass(&mut self.outlet, number);
         request.give_up(&mut self.source);
@@ -409,7 +411,7 @@ impl<R: ReadDevice, W: WriteDevice> Connection<R, W> {
         let Some(mut request) = self.pending.take(number, Some(Unfinished::Raw)) else {
             return Reply::NoSuch;
         };
-        self.end = ends_behind(request.holds_next_head, self.end);
+        self.end = ends_behind(request.ends_with_stream(), self.end);
         request.give_up(&mut self.source);
         Reply::Done
     }
@@ -472,7 +474,7 @@ impl<R: ReadDevice, W: WriteDevice> Connection<R, W> {
         if !self.pending.is_in_turn(number) {
             return Reply::NotYet;
         }
-        self.end = ends_behind(self.pending.holds_next_head(number), self.end);
+        self.end = ends_behind(self.pending.ends_with_stream(number), self.end);
         let outlet = &mut self.outlet;
         self.pending
             .upgrade(alloc, outlet, number, protocol, response, now);

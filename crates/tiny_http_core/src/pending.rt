@@ -13,7 +13,7 @@ ghost use Rattle.tiny_http_message.specs.declared.body.Body.{Body};
 ghost use Rattle.tiny_http_message.specs.declared.open_request.OpenRequest.{OpenRequest};
 ghost use Rattle.tiny_http_stream.specs.Source.{GoesOn};
 ghost use Rattle.tiny_http_message.specs.Body.{is_streaming, body_standing, FillsFromBody};
-ghost use Rattle.tiny_http_core.specs.Pending.{WaitsAt, left_text, SendsLeft, FinishesFront, LeavesText, waiting_answer_context, is_readable, is_writable, owes_continue, holds_next, last_holds_next, kept_body, GivesUpBody, with_body};
+ghost use Rattle.tiny_http_core.specs.Pending.{WaitsAt, left_text, SendsLeft, FinishesFront, LeavesText, waiting_answer_context, is_readable, is_writable, owes_continue, holds_next, ends_with_stream, last_holds_next, kept_body, GivesUpBody, with_body};
 
 use httpdate::HttpDate;
 use std::alloc::{AllocError, Global};
@@ -123,6 +123,17 @@ impl Pending {
     {
         match self.requests.get(number) {
             Some(Unfinished::Waiting(request)) => request.holds_next_head,
+            _ => false,
+        }
+    }
+
+    /// Whether this number waits for its answer, and no head is read behind it once it gets the connection's stream: it holds the
+    /// next head, or lacks its 100.
+    pub fn ends_with_stream(&self, number: u64) -> bool
+        ensures { result ≡ ends_with_stream (slice_get self.now.requests number) }
+    {
+        match self.requests.get(number) {
+            Some(Unfinished::Waiting(request)) => request.ends_with_stream(),
             _ => false,
         }
     }

@@ -148,7 +148,7 @@ none-said p headers fault e n h = let no : ◌≡◌ {A = Result (Option ℕ) Fr
 
 framed-is : (p : HeadRules) (v : HTTPVersion) (headers : List Header) (n : Option ℕ) → IsBodyLength p headers n → (o : Option Bool) → expectation (value_of (codes "Expect") headers) ≡ o → Frames p v headers (framed_by v headers n o)
 framed-is p v headers n h None e = (n, h, e)
-framed-is p v headers n h (Some owed) e = (h, e, form-is (names_upgrade headers) (names_coding headers) owed n, refl, refl)
+framed-is p v headers n h (Some owed) e = (h, e, form-is (names_upgrade headers) (names_coding headers) owed n, refl, refl, refl)
 
 -- only an invalid length is an error of its own
 only-invalid : (p : HeadRules) (headers : List Header) (fault : FramingFault) → body_length p headers ≡ Err fault → fault ≡ Invalid
@@ -184,12 +184,17 @@ framing-is p v headers = framed-if-is p v headers (body_length p headers) refl
 
 -- and the only one
 
-framing-eq : (f : Framing) (form : Form) (owed : Bool) (n : Option ℕ) (last : Bool) → f.form ≡ form → f.owes_continue ≡ owed → f.body_length ≡ n → f.is_last ≡ last → f.asks_upgrade ≡ false
-    → f ≡ record { form = form; owes_continue = owed; body_length = n; asks_upgrade = false; is_last = last }
-framing-eq f form owed n last a b c d e =
-    let g : Form → Bool → Option ℕ → Bool → Bool → Framing = λ w x y u z. record { form = w; owes_continue = x; body_length = y; asks_upgrade = u; is_last = z } in
-    ap (λ w. g w f.owes_continue f.body_length f.asks_upgrade f.is_last) a ∙ ap (λ x. g form x f.body_length f.asks_upgrade f.is_last) b
-    ∙ ap (λ y. g form owed y f.asks_upgrade f.is_last) c ∙ ap (λ u. g form owed n u f.is_last) e ∙ ap (g form owed n false) d
+framing-eq : (f : Framing) (form : Form) (owed : Bool) (n : Option ℕ) (last : Bool) → f.form ≡ form → f.owes_continue ≡ owed → f.body_length ≡ n → f.is_last ≡ last → f.asks_upgrade ≡ false → f.by_standard ≡ false
+    → f ≡ record { form = form; owes_continue = owed; body_length = n; asks_upgrade = false; by_standard = false; is_last = last }
+framing-eq f form owed n last a b c d e h =
+    let g : Form → Bool → Option ℕ → Bool → Bool → Bool → Framing =
+    λ w x y u v z. record { form = w; owes_continue = x; body_length = y; asks_upgrade = u; by_standard = v; is_last = z } in
+    ap (λ w. g w f.owes_continue f.body_length f.asks_upgrade f.by_standard f.is_last) a
+    ∙ ap (λ x. g form x f.body_length f.asks_upgrade f.by_standard f.is_last) b
+    ∙ ap (λ y. g form owed y f.asks_upgrade f.by_standard f.is_last) c
+    ∙ ap (λ u. g form owed n u f.by_standard f.is_last) e
+    ∙ ap (λ v. g form owed n false v f.is_last) h
+    ∙ ap (g form owed n false false) d
 
 pub framing-one : (p : HeadRules) (v : HTTPVersion) (headers : List Header) (r : Result Framing FramingFault) → Frames p v headers r → r ≡ framing p v headers
 unfolding framing
@@ -201,7 +206,13 @@ framing-one p v headers (Err Invalid) h = by (body_length p headers) refl
 framing-one p v headers (Err Expectation) h = rw (said-one p headers h.0 h.1, h.2) refl
 framing-one p v headers (Ok f) h =
     rw (said-one p headers f.body_length h.0, h.1)
-    (ap Ok (framing-eq f _ f.owes_continue f.body_length _ (form-one f.form (names_upgrade headers) (names_coding headers) f.owes_continue f.body_length h.2) refl refl h.3 h.4))
+    (ap Ok (framing-eq f _ f.owes_continue f.body_length _ (form-one f.form (names_upgrade headers) (names_coding headers) f.owes_continue f.body_length h.2) refl refl h.3 h.4 h.5))
+
+-- by the rules of tiny_http no head asks for an upgrade
+pub asks-none : (p : HeadRules) (v : HTTPVersion) (headers : List Header) (f : Framing) → framing p v headers ≡ Ok f → f.asks_upgrade ≡ false
+asks-none p v headers f e =
+    let F : Result Framing FramingFault → Type 0 = λ r. Frames p v headers r in
+    (subst F e (framing-is p v headers)).4
 
 -- a head that names an upgrade is the last
 

@@ -98,4 +98,4 @@ Frames p v headers (Err Expectation) = (n : Option ℕ) × IsBodyLength p header
 Frames p v headers (Ok f) =
     IsBodyLength p headers f.body_length × (expectation (value_of (codes "Expect") headers) ≡ Some f.owes_continue)
     × IsForm f.form (names_upgrade headers) (names_coding headers) f.owes_continue f.body_length × (f.is_last ≡ is_last v (value_of (codes "Connection") headers))
-    × (f.asks_upgrade ≡ false)
+    × (f.asks_upgrade ≡ false) × (f.by_standard ≡ false)

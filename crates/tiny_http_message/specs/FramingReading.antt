@@ -72,7 +72,7 @@ body_length Strict headers = strict_length (elements_of (codes "Content-Length")
 abbrev pub framed_by : HTTPVersion → List Header → Option ℕ → Option Bool → Result Framing FramingFault
 framed_by v headers n None = Err Expectation
 framed_by v headers n (Some owed) =
-    Ok (record { form = form_by (names_upgrade headers) (names_coding headers) owed n; owes_continue = owed; body_length = n; asks_upgrade = false; is_last = is_last v (value_of (codes "Connection") headers) })
+    Ok (record { form = form_by (names_upgrade headers) (names_coding headers) owed n; owes_continue = owed; body_length = n; asks_upgrade = false; by_standard = false; is_last = is_last v (value_of (codes "Connection") headers) })
 
 abbrev pub framed_if : HTTPVersion → List Header → Result (Option ℕ) FramingFault → Result Framing FramingFault
 framed_if v headers (Err fault) = Err fault

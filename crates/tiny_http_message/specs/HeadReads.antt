@@ -147,7 +147,7 @@ abbrev pub head_message : Head → Texted
 head_message h = record { method = h.method; path = h.path; version = h.version; headers = h.headers.items }
 
 abbrev pub head_framing : Head → Framing
-head_framing h = record { form = h.form; owes_continue = h.owes_continue; body_length = h.body_length; asks_upgrade = h.asks_upgrade; is_last = h.is_last }
+head_framing h = record { form = h.form; owes_continue = h.owes_continue; body_length = h.body_length; asks_upgrade = h.asks_upgrade; by_standard = h.by_standard; is_last = h.is_last }
 
 -- the request of a head, with its body
 abbrev pub request_of : Head → Feed → Request

@@ -36,4 +36,5 @@ pub record KeepsHead {B : Type 0} (w : OpenRequest B) (h : Head) (date : HttpDat
   pub no_body : w.answer_context.no_body ≡ is_head_method h.method
   pub owes_continue : w.owes_continue ≡ h.owes_continue
   pub holds_next_head : w.holds_next_head ≡ (h.asks_upgrade && not h.is_last)
+  pub by_standard : w.by_standard ≡ h.by_standard
   pub text : w.dropped.items ≡ own_text_by 500 (printing_to (coding_asked h.headers.items) h.version (is_head_method h.method) date)

@@ -178,7 +178,7 @@ standard_form true owed n = Chunked
 standard_form false owed n = sized_form owed n
 
 abbrev pub standard_framing : HeadSummary → Framing
-standard_framing s = record { form = standard_form s.is_chunked s.owes_continue s.body_length; owes_continue = s.owes_continue; body_length = s.body_length; asks_upgrade = s.asks_upgrade; is_last = s.is_last }
+standard_framing s = record { form = standard_form s.is_chunked s.owes_continue s.body_length; owes_continue = s.owes_continue; body_length = s.body_length; asks_upgrade = s.asks_upgrade; by_standard = true; is_last = s.is_last }
 
 -- how a head is refused by its judgement
 abbrev pub standard_refusal : Judgement → Refusal

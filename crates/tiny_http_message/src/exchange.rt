@@ -54,6 +54,8 @@ pub struct Head {
     /// Whether the head asks for an upgrade (RFC 9110, section 7.8); it is told under `Standard` alone: in version 1.1, by a
     /// `Connection` with the element `upgrade` and an `Upgrade` that names a protocol.
     pub asks_upgrade: bool,
+    /// Whether it was read under `Standard`: no request follows one that is answered or dropped while its 100 is owed.
+    pub by_standard: bool,
     /// Whether the connection ends after this request (RFC 9112, section 9.3).
     pub is_last: bool,
 }
@@ -375,6 +377,7 @@ fn head_of(message: Message, framing: Framing) -> Head
         form: framing.form,
         owes_continue: framing.owes_continue,
         asks_upgrade: framing.asks_upgrade,
+        by_standard: framing.by_standard,
         is_last: framing.is_last,
     }
 }

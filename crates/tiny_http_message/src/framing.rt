@@ -100,6 +100,8 @@ pub struct Framing {
     pub body_length: Option<usize>,
     /// Whether the head asks for an upgrade (RFC 9110, section 7.8); it is told under `Standard` alone.
     pub asks_upgrade: bool,
+    /// Whether the head was read under `Standard`.
+    pub by_standard: bool,
     /// Whether the connection ends after the message.
     pub is_last: bool,
 }
@@ -343,6 +345,7 @@ pub fn framing_of(
         owes_continue: owed,
         body_length,
         asks_upgrade: false,
+        by_standard: false,
         is_last: is_last(version, connection),
     })
 }

@@ -1,7 +1,7 @@
 //! A request that was handed out and isn't answered yet: what it owes, how its answer is printed, and its body. A
 //! `Connection` keeps it under its number, a `Request` beside its turn. They see to the turn; what is sent, and what is owed
 //! after it, is decided here.
-ghost use Rattle.std.specs.Prelude.{◌≡◌, true, false, IfOk};
+ghost use Rattle.std.specs.Prelude.{◌≡◌, ◌&&◌, ◌||◌, true, false, IfOk};
 ghost use Rattle.std.specs.List.{list_all};
 ghost use Rattle.tiny_http_wire.specs.Bytes.{is_ascii};
 ghost use Rattle.tiny_http_wire.specs.Device.{Feed};
@@ -38,6 +38,8 @@ pub struct OpenRequest<B> {
     /// Whether the next head isn't read before the answer: the request asks for an upgrade, and isn't its connection's last. What
     /// follows it may be bytes of the other protocol (RFC 9110, section 7.8).
     pub holds_next_head: bool,
+    /// Whether its head was read under `Standard`.
+    pub by_standard: bool,
     /// What is sent if the request is dropped.
     pub dropped: DropText,
     /// Its body, and how far that was read.
@@ -65,9 +67,26 @@ impl<B: Drop> OpenRequest<B> {
             answer_context,
             owes_continue: head.owes_continue,
             holds_next_head: head.asks_upgrade && !head.is_last,
+            by_standard: head.by_standard,
             dropped,
             body,
         })
+    }
+
+    /// Whether no head is read behind this request if it is answered now, or dropped, or its raw writer taken: by the standard, while
+    /// its 100 is owed. The client may leave the body out, or send it, and both are right (RFC 9110, section 10.1.1).
+    pub fn lacks_continue(&self) -> bool
+        ensures { result ≡ (self.now.by_standard && self.now.owes_continue) }
+    {
+        self.by_standard && self.owes_continue
+    }
+
+    /// Whether no head is read behind this request once it gets the connection's stream, by its raw writer or an upgrade: it holds
+    /// the next head, or lacks its 100.
+    pub fn ends_with_stream(&self) -> bool
+        ensures { result ≡ (self.now.holds_next_head || (self.now.by_standard && self.now.owes_continue)) }
+    {
+        self.holds_next_head || self.lacks_continue()
     }
 
     /// Sends the answer to this request, printed for it and dated `now`, and flushes it. No 100 is owed any more. The caller

@@ -51,6 +51,7 @@ fn framing_of(summary: HeadSummary) -> Framing
         owes_continue: summary.owes_continue,
         body_length: summary.body_length,
         asks_upgrade: summary.asks_upgrade,
+        by_standard: true,
         is_last: summary.is_last,
     }
 }
@@ -69,6 +70,7 @@ fn head_of(head: StandardHead, framing: Framing) -> Head
         form: framing.form,
         owes_continue: framing.owes_continue,
         asks_upgrade: framing.asks_upgrade,
+        by_standard: framing.by_standard,
         is_last: framing.is_last,
     }
 }

@@ -23,14 +23,15 @@ pub(crate) enum NextHead {
     AfterBody,
     // Once the request was answered: it asks for an upgrade.
     AfterAnswer,
-    // Never: the request asked for an upgrade, and its raw writer was taken or it was upgraded.
+    // Never: no head follows.
     Never,
 }
 
 /// The body of a request. While bytes of it are to be read from the connection it holds the connection's input, and the next
 /// head waits: a counted body gives the input on with its last byte, a chunked one once a read has answered 0. A dropped body
 /// gives it on too; but after a chunked one whose end wasn't reported, and after one that is cut or broken, no head follows. The
-/// body of a request that asks for an upgrade under `Standard` holds the input until the request is answered.
+/// body of a request that asks for an upgrade under `Standard` holds the input until the request is answered. Under `Standard` no head
+/// follows, too, where the request is answered or dropped while its 100 is owed.
 ///
 /// After its end each read answers 0. A fault, the client's or the body's own, is answered by each read from then on, and so is
 /// one of kind `Interrupted`. The standard library's `read_to_end` and `read_to_string` try again after that kind, without an
@@ -72,11 +73,11 @@ impl<R: ReadDevice + Drop, Rt: Wait + Drop> Body<R, Rt> {
         }
     }
 
-    /// Has no head follow a request that asks for an upgrade: it gets the connection's stream.
+    /// Has no head follow, if this body holds the input.
     pub(crate) fn end_requests(&mut self)
         ensures { self.new ≡ self.old }
     {
-        if matches!(self.next_head, NextHead::AfterAnswer) {
+        if self.reader.is_some() {
             self.next_head = NextHead::Never;
         }
     }

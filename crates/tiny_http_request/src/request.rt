@@ -114,6 +114,7 @@ impl<R: ReadDevice + Drop, W: WriteDevice + Drop, Rt: Wait + Drop> Request<R, W,
             answer_context,
             owes_continue,
             holds_next_head,
+            by_standard,
             dropped,
             body,
         } = open_request;
@@ -126,6 +127,7 @@ impl<R: ReadDevice + Drop, W: WriteDevice + Drop, Rt: Wait + Drop> Request<R, W,
             answer_context,
             owes_continue,
             holds_next_head,
+            by_standard,
             dropped,
             body: Body::new(body, reader, next_head),
         };
@@ -245,6 +247,9 @@ impl<R: ReadDevice + Drop, W: WriteDevice + Drop, Rt: Wait + Drop> Request<R, W,
     {
         let alloc = self.alloc;
         let (mut open_request, mut writer) = self.into_parts();
+        if open_request.lacks_continue() {
+            open_request.body.end_requests();
+        }
         let sent = open_request.respond(alloc, hold_writer(&mut writer), response, now);
         pass_writer(writer);
         drop(open_request);
@@ -252,12 +257,14 @@ impl<R: ReadDevice + Drop, W: WriteDevice + Drop, Rt: Wait + Drop> Request<R, W,
     }
 
     /// Takes the raw writer in place of an answer, and gives the body up. What is written is all that the client gets for the
-    /// request, but for a 100 that was sent before. The turn ends as the writer is dropped. No request follows one that asks for an
-    /// upgrade under `Standard`.
+    /// request, but for a 100 that was sent before. The turn ends as the writer is dropped. Under `Standard` no request follows one
+    /// that asks for an upgrade, or whose 100 is owed.
     pub fn into_writer(self) -> SequentialWriter<Outlet<W>, Rt> {
         self.send_at_flush();
         let (mut open_request, writer) = self.into_parts();
-        open_request.body.end_requests();
+        if open_request.ends_with_stream() {
+            open_request.body.end_requests();
+        }
         drop(open_request);
         writer
     }
@@ -278,8 +285,10 @@ impl<R: ReadDevice + Drop, W: WriteDevice + Drop, Rt: Wait + Drop> Request<R, W,
         self.send_at_flush();
         let alloc = self.alloc;
         let (mut open_request, mut writer) = self.into_parts();
+        if open_request.ends_with_stream() {
+            open_request.body.end_requests();
+        }
         open_request.upgrade(alloc, hold_writer(&mut writer), protocol, response, now);
-        open_request.body.end_requests();
         Ok(CustomStream::new(open_request.body, writer))
     }
 
@@ -292,7 +301,10 @@ impl<R: ReadDevice + Drop, W: WriteDevice + Drop, Rt: Wait + Drop> Request<R, W,
 impl<R: ReadDevice + Drop, W: WriteDevice + Drop, Rt: Wait + Drop> Drop for Request<R, W, Rt> {
     /// Leaves the turn with an empty 500, and then gives the body up.
     fn drop(self) {
-        let (open_request, writer) = self.into_parts();
+        let (mut open_request, writer) = self.into_parts();
+        if open_request.lacks_continue() {
+            open_request.body.end_requests();
+        }
         let (text, body) = open_request.into_drop_text();
         leave_writer(writer, text);
         drop(body);
@@ -397,6 +409,7 @@ pub fn new_request<R: ReadDevice + Drop, W: WriteDevice + Drop, Rt: Wait + Copy>
         form: framing.form,
         owes_continue: framing.owes_continue,
         asks_upgrade: framing.asks_upgrade,
+        by_standard: framing.by_standard,
         is_last: framing.is_last,
     };
     let open_request = OpenRequest::new(alloc, &head, body, now)?;

@@ -1,11 +1,13 @@
-use Rattle.std.proofs.Common.{rules, ◌≡◌, sym, ap, ◌∙◌, subst, Option, Some, Err}
+use Rattle.std.proofs.Common.{rules, ◌≡◌, sym, ap, ◌∙◌, subst, Bool, false, not, ◌&&◌, Option, Some, Ok, Err}
 use Rattle.tiny_http_device.specs.Device.{Feed}
 use Rattle.tiny_http_message.specs.declared.body.Body.{Body}
 use Rattle.tiny_http_message.specs.declared.framing.HeadRules.TheVariants.{Lenient}
 use Rattle.tiny_http_message.specs.declared.framing.Framing.{Framing}
 use Rattle.tiny_http_message.specs.FramingReading.{framing}
-use Rattle.tiny_http_message.proofs.FramingLemmas.{lenient-fault}
+use Rattle.tiny_http_message.proofs.FramingLemmas.{lenient-fault, asks-none}
+use Rattle.tiny_http_message.specs.Body.{is_streaming}
 use Rattle.tiny_http_message.specs.HeadReads.{Begins, head_framing}
+use Rattle.std.proofs.Math.Bool.{or-false}
 use Rattle.tiny_http_request.specs.Request.{request_head}
 use Rattle.tiny_http_request.proofs.request.new_request.Goals as goal
 
@@ -16,6 +18,15 @@ begins-by f f' feed feed' left b b' same-f same-feed same-b begins =
     let O : Option Feed → Type 0 = λ x. Begins f x left (Some b') in
     let B : Body → Type 0 = λ x. Begins f feed left (Some x) in
     subst F (sym same-f) (subst O (sym same-feed) (subst B (sym same-b) begins))
+
+pub from_parts-requires : goal.from_parts-requires
+from_parts-requires g c =
+    let w = c.in_ok-open_request.open_request in
+    let kept = c.in_ok-open_request.ensures in
+    let framed : framing Lenient c.args.version c.args.headers.items ≡ Ok c.in-Ok.framing = search (rules, c.as_slice.ensures.value, c.framing_of.ensures, c.in-Ok.is) in
+    let asks = asks-none Lenient c.args.version c.args.headers.items c.in-Ok.framing framed in
+    let holds : w.holds_next_head ≡ false = kept.1.holds_next_head ∙ ap (λ b. b && not c.in-Ok.framing.is_last) asks in
+    c.in_ok-reader.ensures ∙ ap is_streaming (sym kept.0) ∙ sym (rw holds (or-false (is_streaming w.body)))
 
 pub returns-clause-body : goal.returns-clause-body
 returns-clause-body g c =

@@ -1,18 +1,18 @@
-use Rattle.std.proofs.Common.{rules, ℕ, ◌≡◌, refl, sym, ap, ◌∙◌, subst, true, false, List, Option, Some, None}
-use Rattle.std.specs.Prelude.{slice_get, slice_set, IsTrue}
+use Rattle.std.proofs.Common.{rules, ℕ, ◌≡◌, refl, sym, ap, ◌∙◌, subst, Bool, true, false, ◌||◌, List, Option, Some, None}
+use Rattle.std.specs.Prelude.{is_some, slice_get, slice_set, IsTrue}
 use Rattle.tiny_http_wire.specs.Answer.{Answer}
 use Rattle.tiny_http_core.specs.declared.pending.Unfinished.{Unfinished}
 use Rattle.tiny_http_core.specs.declared.pending.Unfinished.TheVariants as still
 use Rattle.tiny_http_core.specs.Steps.{ReplyValue, Handed, Ended, Given, Fault, Done, Refused, Memory, Respond, NotYet, NoSuch}
-use Rattle.tiny_http_core.specs.Driving.{IsDeclined, stated_response}
+use Rattle.tiny_http_core.specs.Driving.{IsDeclined, EndsBehind, ends_behind, stated_response}
 use Rattle.tiny_http_core.specs.Seen.{IsAnswered, is_done}
 use Rattle.tiny_http_core.specs.declared.driver.Step.TheVariants as step
 use Rattle.tiny_http_wire.specs.Answer.{ResponseState}
 use Rattle.tiny_http_wire.specs.Device.{Feed}
 use Rattle.tiny_http_turns.specs.Turns.{Mark}
-use Rattle.tiny_http_core.specs.Pending.{waiting_answer_context}
+use Rattle.tiny_http_core.specs.Pending.{waiting_answer_context, lacks_continue as kept_lacks}
 use Rattle.tiny_http_stream.specs.Outlet.{output_of, outlet_ended}
-use Rattle.tiny_http_core.specs.Connection.{Kept, kept}
+use Rattle.tiny_http_core.specs.Connection.{Kept, ConnectionState, kept}
 use Rattle.tiny_http_sending.specs.ResponseValue.{printing_in}
 use Rattle.tiny_http_core.specs.Seen.{seen, Answers}
 use Rattle.tiny_http_core.proofs.ConnectionAsk.{StepIsAnswered}
@@ -22,7 +22,7 @@ use Rattle.tiny_http_core.proofs.ConnectionRespond.{no-such, respond-not_taken, 
 use Rattle.tiny_http_message.specs.Body.{GivesUp}
 use Rattle.tiny_http_message.proofs.BodyReads.{gives-up}
 use Rattle.tiny_http_sending.proofs.SendingLemmas.{once-append}
-use Rattle.tiny_http_core.proofs.DrivingLemmas.{viewed, same-view, takes-respond, driving-reads-on, moves-none, honest-more, gives-up-of}
+use Rattle.tiny_http_core.proofs.DrivingLemmas.{viewed, ends-some, same-view, takes-respond, driving-reads-on, moves-none, honest-more, gives-up-of}
 use Rattle.tiny_http_core.proofs.driver.Connection.respond.Goals as goal
 
 pub returns-then-not-is_waiting : goal.returns-then-not-is_waiting
@@ -79,6 +79,18 @@ answered-done Refused a = elim a [ ]
 answered-done (Given bytes) a = elim a [ ]
 answered-done (Handed k m f) a = elim a [ ]
 
+-- what an answer says of the end of the requests
+answered-ends : {R W : Type 0} (lacks : Bool) (old new : ConnectionState R W) (reply : ReplyValue) → IsAnswered reply → new.end ≡ ends_behind lacks old.end → EndsBehind lacks old new reply
+answered-ends lacks old new Done a e = e
+answered-ends lacks old new (Fault kind) a e = e
+answered-ends lacks old new NotYet a e = elim a [ ]
+answered-ends lacks old new NoSuch a e = elim a [ ]
+answered-ends lacks old new Memory a e = elim a [ ]
+answered-ends lacks old new Ended a e = elim a [ ]
+answered-ends lacks old new Refused a e = elim a [ ]
+answered-ends lacks old new (Given bytes) a e = elim a [ ]
+answered-ends lacks old new (Handed k m f) a e = elim a [ ]
+
 -- a number that waits is taken
 pub unreachable-requires : goal.unreachable-requires
 unreachable-requires g c =
@@ -97,12 +109,16 @@ returns g c =
     let source = c.give_up.new.source in
     let mid = c.answer-reply.new.outlet in
     let last = c.pass.new in
-    let new = viewed q.profile source last.outlet last.self q.end in
+    let end = c.ends_behind-self-inside.result in
+    let new = viewed q.profile source last.outlet last.self end in
     let k : Kept = kept old in
     let reply = seen c.answer-reply.result in
     let w0 = c.in-Some.request in
     let some = c.in-Some.ensures.some in
     let got : slice_get k.requests n ≡ Some (Some (still.Waiting w0)) = ap (λ l. slice_get l n) (sym c.hold.ensures.requests) ∙ some.0 in
+    let lacks = kept_lacks (slice_get k.requests n) in
+    let end_is : end ≡ ends_behind lacks q.end = c.ends_behind-self-inside.ensures ∙ ap (λ b. ends_behind b q.end) (c.lacks_continue.ensures ∙ sym (ap kept_lacks got)) in
+    let ended : is_some end ≡ (is_some q.end || lacks) = ap is_some end_is ∙ ends-some lacks q.end in
     let requests : last.self.requests ≡ slice_set k.requests n None = c.pass.ensures.requests ∙ some.1 ∙ ap (λ l. slice_set l n None) c.hold.ensures.requests in
     let waits : waiting_answer_context (slice_get k.requests n) ≡ Some w0.answer_context = ap waiting_answer_context got in
     let given_up : GivesUp w0.body q.source source = subst (λ b. GivesUp b q.source source) c.answer-reply.ensures.body c.give_up.ensures.gives_up in
@@ -111,13 +127,14 @@ returns g c =
           (λ client before s value low is st.
           let held : IsTrue c.hold.result = search rules in
           let A : Answer → Type 0 = λ a. Answers k.sink (output_of mid) (outlet_ended mid) reply a value.content (printing_in w0.answer_context c.args.now) in
-          respond-done client before k s c.args.now n value w0.answer_context (output_of mid) (output_of last.outlet) (outlet_ended mid) (outlet_ended last.outlet) c.take.new.self.turns.marks last.self.turns.marks last.self.requests q.source source reply
+          let E : Bool → Type 0 = λ e. StepIsAnswered client before (record (kept new) { asking_ended = e }) s c.args.now (Respond n value) reply in
+          subst E (sym ended) (respond-done client before k s c.args.now n value w0.answer_context (output_of mid) (output_of last.outlet) (outlet_ended mid) (outlet_ended last.outlet) c.take.new.self.turns.marks last.self.turns.marks last.self.requests q.source source reply
           st (record { feed = refl; stop = refl; ends = refl; standing = refl }) (λ w e. gives-up-of q.source source (slice_get k.requests n) (still.Waiting w0) got given_up (still.Waiting w) e) low waits (c.hold.ensures.held.0 held).1 (ap (λ t. t.marks) c.take.ensures.turns ∙ c.hold.ensures.marks held) requests
           (responds-by k (output_of mid) (outlet_ended mid) reply value w0.answer_context c.args.now
           (λ e. let h = c.answer-reply.ensures.past e in (ap (λ o. output_of o) h.0, ap (λ o. outlet_ended o) h.0, h.1))
           (λ e. subst A (sym is.0) (c.answer-reply.ensures.sends value.content is.1 is.2 e (can-send before k.sink k.output_ended s.reached.slots s.flushed s.failure st.output low e))))
-          c.pass.ensures.passes c.pass.ensures.sends)
-          (λ no. absurd (not-declined n (stated_response g.D.ReadDevice.feed c.args.response) reply c.answer-reply.ensures.done no)) refl
+          c.pass.ensures.passes c.pass.ensures.sends))
+          (λ no. absurd (not-declined n (stated_response g.D.ReadDevice.feed c.args.response) reply c.answer-reply.ensures.done no)) (answered-ends lacks old new reply c.answer-reply.ensures.done end_is)
           (λ done. (requests, gives-up-of q.source source (slice_get k.requests n) (still.Waiting w0) got given_up))
           (answered-done reply c.answer-reply.ensures.done)
           (record {

@@ -1,4 +1,4 @@
-use Rattle.std.proofs.Common.{ℕ, ◌≡◌, refl, sym, ap, ◌∙◌, subst, Bool, true, false, ◌||◌, List, Option, Some, None, IsTrue, Result, Ok, Err}
+use Rattle.std.proofs.Common.{ℕ, ◌≡◌, refl, sym, ap, ◌∙◌, subst, Bool, true, false, ◌&&◌, ◌||◌, List, Option, Some, None, IsTrue, Result, Ok, Err}
 use Rattle.std.specs.Prelude.{◌==◌, slice_get, string_bytes, is_ok, is_err, is_some, ⊤}
 use Rattle.std.specs.List.{list_all}
 use Rattle.tiny_http_wire.specs.Answer.{Answer}
@@ -9,7 +9,7 @@ use Rattle.tiny_http_sending.specs.ResponseValue.{printing_in, upgrade_text}
 use Rattle.tiny_http_sending.specs.Sending.{SendsUnlessEnded}
 use Rattle.tiny_http_core.specs.declared.driver.Step.TheVariants as step
 use Rattle.tiny_http_core.specs.Steps.{Upgrade, NoSuch, NotYet, Done, Refused}
-use Rattle.tiny_http_core.specs.Pending.{waiting_answer_context, holds_next}
+use Rattle.tiny_http_core.specs.Pending.{waiting_answer_context, ends_with_stream}
 use Rattle.tiny_http_core.specs.Driving.{ends_behind, stated_response}
 use Rattle.tiny_http_core.proofs.ConnectionAsk.{StepIsAnswered}
 use Rattle.tiny_http_message.specs.declared.upgrading.UpgradeError.{UpgradeError}
@@ -100,8 +100,9 @@ returns g c =
     let said = done.sends w.0 w.1 in
     let marks = ap (λ t. t.marks) done.turns in
     let requests = done.requests w.0 w.1 in
-    let holds : c.holds_next_head.result ≡ w.0.holds_next_head = c.holds_next_head.ensures ∙ ap holds_next w.1 in
-    let ended : is_some end ≡ (is_some q.end || w.0.holds_next_head) = ap is_some c.ends_behind-self-inside.ensures ∙ ends-some c.holds_next_head.result q.end ∙ ap (λ b. is_some q.end || b) holds in
+    let ends = w.0.holds_next_head || (w.0.by_standard && w.0.owes_continue) in
+    let end_is = c.ends_behind-self-inside.ensures ∙ ap (λ b. ends_behind b q.end) c.ends_with_stream.ensures in
+    let ended : is_some end ≡ (is_some q.end || ends) = ap is_some (end_is ∙ ap (λ o. ends_behind (ends_with_stream o) q.end) w.1) ∙ ends-some ends q.end in
     let come : (n == first_unfinished k.marks) ≡ true = sym c.is_in_turn.ensures ∙ c.if-not-is_in_turn.false in
     record {
       step = λ named same.
@@ -112,7 +113,7 @@ returns g c =
           let E : Bool → Type 0 = λ e. StepIsAnswered client before (record (kept new) { asking_ended = e }) s c.args.now (Upgrade n (string_bytes named) value) Done in
           subst E (sym ended) (upgrade-done client before k s c.args.now n (string_bytes named) value w.0 w.0.answer_context (output_of outlet) (outlet_ended outlet) left.turns.marks left.requests q.source st (record { feed = refl; stop = refl; ends = refl; standing = refl }) low w.1 refl ascii come marks requests
           (λ can. subst (λ t. T value.answer t) (sym same) (subst (λ a. T a c.args.protocol.now) (sym answer) (said.0 value.content can))) said.1.2))
-          (λ no. elim no [ ]) (c.ends_behind-self-inside.ensures ∙ ap (λ b. ends_behind b q.end) c.holds_next_head.ensures) (w.0, w.1, requests, marks, refl) refl
+          (λ no. elim no [ ]) end_is (w.0, w.1, requests, marks, refl) refl
           (record { profile = refl; goes_on = goes-on_same q.source.feed; fails_once = done.fails_once; flushed = λ was. said.1.0; sent_on = λ was. said.1.1 })
           (λ kind e. cc));
     }
