@@ -2,13 +2,11 @@ import java.net.URI;
 import java.net.http.HttpClient;
 import java.net.http.HttpRequest;
 import java.net.http.HttpResponse;
-import java.time.Duration;
 
 /** Posts five bytes by the JDK's client as it stands: it offers HTTP/2 by `Connection: Upgrade, HTTP2-Settings`. */
 public class Post {
     public static void main(String[] words) throws Exception {
         HttpRequest request = HttpRequest.newBuilder(URI.create(words[0]))
-            .timeout(Duration.ofSeconds(4))
             .POST(HttpRequest.BodyPublishers.ofString("hello"))
             .build();
         HttpResponse<String> answer = HttpClient.newHttpClient().send(request, HttpResponse.BodyHandlers.ofString());

@@ -2,7 +2,7 @@
 """run.py GUARDED: tries clients on the program `guarded` under each profile, and compares what they meet with what is known.
 
 It needs curl, ab (Debian's apache2-utils) and a JDK; a client that isn't installed is left out. A cell is what the client met:
-the statuses that it was answered, or `hangs` after five seconds, or `fails` with its exit status. `run.py` ends by 1 where a
+the statuses that it was answered, or `hangs` after eight seconds, or `fails` with its exit status. `run.py` ends by 1 where a
 cell isn't the one that stands here.
 """
 import http.client
@@ -21,7 +21,7 @@ MARK = "-w %{http_code},"
 def met(words, good):
     """What a command met: `good` makes a cell of its output where it ended by 0."""
     try:
-        done = subprocess.run(words, capture_output=True, timeout=5)
+        done = subprocess.run(words, capture_output=True, timeout=8)
     except subprocess.TimeoutExpired:
         return "hangs"
     if done.returncode != 0:
@@ -107,6 +107,11 @@ CLIENTS = [
     ("an upgrade and a request behind it", "python3",
      raw(b"GET / HTTP/1.1\r\nHost: h\r\nConnection: upgrade\r\nUpgrade: h2c\r\n\r\nGET / HTTP/1.1\r\nHost: h\r\n\r\n"),
      ("200 closed", "200 closed", "200 200 open")),
+    ("two lengths", "python3", raw(b"POST / HTTP/1.1\r\nHost: h\r\nContent-Length: 5\r\nContent-Length: 6\r\n\r\nhello"),
+     ("200 open", "400 closed", "400 closed")),
+    ("a 100 that isn't sent, and a request behind the body", "python3",
+     raw(b"POST / HTTP/1.1\r\nHost: h\r\nExpect: 100-continue\r\nContent-Length: 5\r\n\r\nhelloGET / HTTP/1.1\r\nHost: h\r\n\r\n"),
+     ("200 200 open", "200 200 open", "200 closed")),
 ]
 
 
@@ -122,7 +127,7 @@ def main():
     differing = 0
     for name, needs, run, known in CLIENTS:
         if shutil.which(needs) is None:
-            print("%-36s left out: %s isn't installed" % (name, needs))
+            print("%-52s left out: %s isn't installed" % (name, needs))
             continue
         cells = []
         for profile, want in zip(PROFILES, known):
@@ -134,7 +139,7 @@ def main():
                 differing += 1
                 cell += " (known: %s)" % want
             cells.append("%s: %s" % (profile, cell))
-        print("%-36s %s" % (name, "; ".join(cells)), flush=True)
+        print("%-52s %s" % (name, "; ".join(cells)), flush=True)
     print("%d cells differ" % differing)
     sys.exit(1 if differing else 0)
 

@@ -6,7 +6,7 @@ use httpdate::HttpDate;
 use replay_script::script_data::ScriptData;
 use std::alloc::{AllocError, Global};
 use std::io;
-use std::io::{Read, Write};
+use std::io::{ErrorKind, Read, Write};
 use std::sync::Wait;
 use tiny_http_core::driver::{Step, Timed};
 use tiny_http_wire::response::Response;
@@ -155,7 +155,10 @@ fn treat_request<R: Wait + Copy>(
     now: HttpDate,
 ) -> Result<Vec<u8>, AllocError> {
     match step {
-        Step::Respond(_, response) => line_of(alloc, request.respond(response, now)),
+        Step::Respond(_, response) => match request.respond(response, now) {
+            Err(fault) if fault.kind() == ErrorKind::InvalidInput => word(alloc, "refused"),
+            done => line_of(alloc, done),
+        },
         Step::IntoWriter(_) => {
             holding.put(number, Held::Writer(request.into_writer()), false)?;
             word(alloc, "done")

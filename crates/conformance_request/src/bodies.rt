@@ -1,6 +1,7 @@
 //! Bodies that are cut, broken or waited for, read by the calls of requests.
 use crate::bench::{
-    AMPLE, Bench, client, connect, connect_standard, gated, is_about_to_call, is_reached, next, now, text,
+    AMPLE, Bench, client, connect, connect_standard, gated, is_about_to_call, is_reached, next,
+    now, text,
 };
 use httpdate::HttpDate;
 use std::alloc::Global;
@@ -114,6 +115,7 @@ fn the_next_head_waits_for_the_body(rt: HostRuntime) -> Result<(), Fail> {
 // Requests that ask for an upgrade, without a body and with one, and a request after each.
 const ASKED: &[u8] =
     b"GET / HTTP/1.1\r\nHost: h\r\nConnection: upgrade\r\nUpgrade: h2c\r\n\r\nGET /b HTTP/1.1\r\nHost: h\r\n\r\n";
+
 const ASKED_BY_CHUNKS: &[u8] =
     b"POST / HTTP/1.1\r\nHost: h\r\nConnection: upgrade\r\nUpgrade: h2c\r\nTransfer-Encoding: chunked\r\n\r\n5\r\nhello\r\n0\r\n\r\nGET /b HTTP/1.1\r\nHost: h\r\n\r\n";
 

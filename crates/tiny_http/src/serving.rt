@@ -13,7 +13,8 @@ use tiny_http_threads::task_pool::{Job, TaskPool};
 /// a parameter, since no generated proof covers an implementation whose trait names that type itself.)
 pub trait Handler<R, Q> {
     /// Answers a request. It may keep it too, and answer it later from any thread: the next request is handed out meanwhile, once
-    /// the body of the kept one was read or given up. To respond to that one then waits for the kept one's answer, in this call, and
+    /// the body of the kept one was read or given up; but not before the answer to a kept one that asks for an upgrade under
+    /// `Standard`. To respond to that one then waits for the kept one's answer, in this call, and
     /// no further request of the connection is handed out meanwhile. A request that is dropped is answered by an empty 500, also
     /// where this call drops it as it fails; the server passes the error over.
     ///
@@ -63,7 +64,7 @@ impl<R: ServerRuntime> Server<R> {
     ///
     /// Answers wait for each other in a buffer of the connection, of 16,384 bytes, so a fault of the socket may be reported by a later
     /// answer. What waits is sent before the connection is read, where more comes than there is room for, where a request is to wait
-    /// for another one or its body is read from the connection, and at the end. A flush of a raw writer or of an upgraded stream
+    /// for another one, its body is read from the connection or it asks for an upgrade under `Standard`, and at the end. A flush of a raw writer or of an upgraded stream
     /// sends it too, and so does a 100.
     ///
     /// Once the first workers are there the server serves, also where this call has returned: clients that come then wait for the

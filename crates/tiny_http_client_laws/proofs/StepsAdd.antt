@@ -1,6 +1,6 @@
 -- What holds of the numbers of a conversation: an owed 100 wasn't sent, and each version fits its bytes. Each step keeps it,
 -- and only adds to the joined output.
-use Rattle.std.proofs.Common.{◌≡◌, refl, sym, ap, ◌∙◌, subst, ℕ, zero, suc, ◌+◌, ◌≤◌, Bool, true, false, ◌||◌, List, [], ◌∷◌, ◌++◌, take, length, Some, None, append_assoc, append-nil}
+use Rattle.std.proofs.Common.{◌≡◌, refl, sym, ap, ◌∙◌, subst, ℕ, zero, suc, ◌+◌, ◌≤◌, Bool, true, false, not, ◌||◌, List, [], ◌∷◌, ◌++◌, take, length, Some, None, append_assoc, append-nil}
 use Rattle.std.specs.Prelude.{if◌then◌else◌, slice_get, slice_set, ◌==◌, nat_lt}
 use Rattle.std.specs.List.{list_all, AllByRecursion}
 use Rattle.httpdate.specs.declared.date.HttpDate.{HttpDate}
@@ -9,8 +9,8 @@ use Rattle.tiny_http_wire.specs.Bytes.{is_ascii}
 use Rattle.tiny_http_wire.specs.Device.{IsFront}
 use Rattle.tiny_http_message.specs.Pipeline.{Item, Asks, Refuses, Request}
 use Rattle.tiny_http_sending.specs.ResponseValue.{ResponseValue, response_text}
-use Rattle.tiny_http_core.specs.Slots.{lacks_continue, Slot, Stage, Unanswered, Answered, ByServer, Raw, Upgraded, printing_for, to_request, text_if, stage_text, opening, segment, is_stage_finished, turn_has_come, joined, is_output_broken, rest_of}
-use Rattle.tiny_http_core.specs.Steps.{StepValue, Ask, AsReader, Read, Respond, IntoWriter, Write, Flush, Upgrade, Finish, Drop, ReplyValue, Given, Done, Refused, NoSuch, WriterUse, Unused, Unreported, Reported, Outcome, Reached, unchanged, changes, ends_asking, ends_with_stream, read_reply, finished_as, written_to, stage_closed, fault_in, fault_reply, Fault, accepts_step, needs_turn, use_in_turn, effect}
+use Rattle.tiny_http_core.specs.Slots.{is_last_without_continue, refuses_response, Slot, Stage, Unanswered, Answered, ByServer, Raw, Upgraded, printing_for, to_request, text_if, stage_text, opening, segment, is_stage_finished, turn_has_come, joined, is_output_broken, rest_of}
+use Rattle.tiny_http_core.specs.Steps.{StepValue, Ask, AsReader, Read, Respond, IntoWriter, Write, Flush, Upgrade, Finish, Drop, ReplyValue, Given, Done, Refused, NoSuch, WriterUse, Unused, Unreported, Reported, Outcome, Reached, unchanged, changes, ends_asking, is_last_with_stream, read_reply, finished_as, written_to, stage_closed, fault_in, fault_reply, Fault, accepts_step, needs_turn, use_in_turn, effect}
 use Rattle.tiny_http_client_laws.proofs.JoinedGrows.{SendsMore, set-grows, set-own, AddsOwn, Adds, in-turn-ownless, taken-unfinished}
 
 -- the version of an item fits its bytes
@@ -174,7 +174,7 @@ number_of (Drop k) = k
 
 -- a step that a number takes in its time
 pub effect-keeps : (found : Bool) (date : HttpDate) (old : Reached) (r : Request) (s : Slot) (turn : Bool) (step : StepValue) → Holds old → slice_get old.slots (number_of step) ≡ Some s → s.item ≡ Asks r
-    → accepts_step s.stage s.owed step ≡ true → (needs_turn s.owed step ≡ true → turn_has_come (number_of step) old.slots ≡ true) → Keeps old (effect found date old r s turn step)
+    → accepts_step s.stage s.owed step ≡ true → (needs_turn r s.owed step ≡ true → turn_has_come (number_of step) old.slots ≡ true) → Keeps old (effect found date old r s turn step)
 effect-keeps found date old r s turn Ask h here is takes comes = keeps-all old NoSuch h
 effect-keeps found date old r s turn (AsReader k) h here is takes comes =
     let i = all-get old.slots k s h.slots here in
@@ -198,16 +198,21 @@ effect-keeps found date old r s turn (Read k n) h here is takes comes =
     (λ o. quiet old h k s here t [] (read_reply n left r.body.stop) Unused (same-sends s t (taken-unfinished s.stage s.owed (Read k n) takes) refl) (record { unsent = i.unsent; fits = i.fits }) tt)
 effect-keeps found date old r s turn (Respond k response) h here is takes comes =
     let i = all-get old.slots k s h.slots here in
+    let u = by-respond s.stage s.owed k response takes in
     let text = text_if found response (to_request r date) in
     let t = finished_as s (Answered response date found) in
+    let d = finished_as s ByServer in
+    let dropped = (stage_text s.item s.date ByServer).bytes in
+    let writer = Reported text.bytes (fault_in text.ending) true fault_reply in
     let own-is : (stage_text s.item s.date (Answered response date found)).bytes ≡ text.bytes = ap (λ (x : Item). (text_if found response (printing_for x date)).bytes) is in
-    let more = unanswered-sends s t text.bytes (by-respond s.stage s.owed k response takes) (ap (λ x. opening s.item s.continued ++ x) own-is) in
-    keeps-ended old (lacks_continue r s.owed) (changes old k t Done (Reported text.bytes (fault_in text.ending) true fault_reply))
-    (quiet old h k s here t text.bytes Done (Reported text.bytes (fault_in text.ending) true fault_reply) more (settled s t i refl refl) (λ none. own-text old h k s here t text.bytes more (comes refl) none))
+    let more = unanswered-sends s t text.bytes u (ap (λ x. opening s.item s.continued ++ x) own-is) in
+    keeps-if old (refuses_response r response) (ends_asking (is_last_without_continue r s.owed) (changes old k d Refused (use_in_turn turn))) (ends_asking (is_last_without_continue r s.owed) (changes old k t Done writer))
+    (λ o. keeps-ended old (is_last_without_continue r s.owed) (changes old k d Refused (use_in_turn turn)) (quiet old h k s here d dropped Refused (use_in_turn turn) (unanswered-sends s d dropped u refl) (settled s d i refl refl) (in-turn-ownless turn old.slots (slice_set old.slots k d))))
+    (λ o. keeps-ended old (is_last_without_continue r s.owed) (changes old k t Done writer) (quiet old h k s here t text.bytes Done writer more (settled s t i refl refl) (λ none. own-text old h k s here t text.bytes more (comes (ap not o)) none)))
 effect-keeps found date old r s turn (IntoWriter k) h here is takes comes =
     let i = all-get old.slots k s h.slots here in
     let t : Slot = record s { stage = Raw [] false; given_up = true; owed = false } in
-    keeps-ended old (ends_with_stream r s.owed) (changes old k t Done Unused) (quiet old h k s here t [] Done Unused (unanswered-sends s t [] (by-writer s.stage s.owed k takes) refl) (settled s t i refl refl) tt)
+    keeps-ended old (is_last_with_stream r s.owed) (changes old k t Done Unused) (quiet old h k s here t [] Done Unused (unanswered-sends s t [] (by-writer s.stage s.owed k takes) refl) (settled s t i refl refl) tt)
 effect-keeps found date old r s turn (Write k bytes) h here is takes comes =
     let i = all-get old.slots k s h.slots here in
     let t : Slot = record s { stage = written_to bytes s.stage } in
@@ -227,9 +232,9 @@ effect-keeps found date old r s turn (Upgrade k protocol response) h here is tak
     let own = (stage_text s.item s.date (Upgraded protocol response date [] false)).bytes in
     let d = finished_as s ByServer in
     let text = (stage_text s.item s.date ByServer).bytes in
-    keeps-if old (list_all is_ascii protocol) (ends_asking (ends_with_stream r s.owed) (changes old k t Done Unreported)) (ends_asking (lacks_continue r s.owed) (changes old k d Refused (use_in_turn turn)))
-    (λ o. keeps-ended old (ends_with_stream r s.owed) (changes old k t Done Unreported) (quiet old h k s here t own Done Unreported (unanswered-sends s t own u refl) (settled s t i refl refl) tt))
-    (λ o. keeps-ended old (lacks_continue r s.owed) (changes old k d Refused (use_in_turn turn)) (quiet old h k s here d text Refused (use_in_turn turn) (unanswered-sends s d text u refl) (settled s d i refl refl) (in-turn-ownless turn old.slots (slice_set old.slots k d))))
+    keeps-if old (list_all is_ascii protocol) (ends_asking (is_last_with_stream r s.owed) (changes old k t Done Unreported)) (ends_asking (is_last_without_continue r s.owed) (changes old k d Refused (use_in_turn turn)))
+    (λ o. keeps-ended old (is_last_with_stream r s.owed) (changes old k t Done Unreported) (quiet old h k s here t own Done Unreported (unanswered-sends s t own u refl) (settled s t i refl refl) tt))
+    (λ o. keeps-ended old (is_last_without_continue r s.owed) (changes old k d Refused (use_in_turn turn)) (quiet old h k s here d text Refused (use_in_turn turn) (unanswered-sends s d text u refl) (settled s d i refl refl) (in-turn-ownless turn old.slots (slice_set old.slots k d))))
 effect-keeps found date old r s turn (Finish k) h here is takes comes =
     let i = all-get old.slots k s h.slots here in
     let t = finished_as s (stage_closed s.stage) in
@@ -239,5 +244,5 @@ effect-keeps found date old r s turn (Drop k) h here is takes comes =
     let i = all-get old.slots k s h.slots here in
     let d = finished_as s ByServer in
     let text = (stage_text s.item s.date ByServer).bytes in
-    keeps-ended old (lacks_continue r s.owed) (changes old k d Done (use_in_turn turn))
+    keeps-ended old (is_last_without_continue r s.owed) (changes old k d Done (use_in_turn turn))
     (quiet old h k s here d text Done (use_in_turn turn) (unanswered-sends s d text (by-drop s.stage s.owed k takes) refl) (settled s d i refl refl) (in-turn-ownless turn old.slots (slice_set old.slots k d)))

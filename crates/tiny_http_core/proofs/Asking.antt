@@ -7,7 +7,7 @@ use Rattle.tiny_http_stream.specs.Outlet.{SentOn}
 use Rattle.tiny_http_stream.specs.declared.source.Standing.TheVariants as at
 use Rattle.tiny_http_sending.specs.Sending.{FailsOnce}
 use Rattle.tiny_http_core.specs.declared.driver.Step.TheVariants as step
-use Rattle.tiny_http_core.specs.Pending.{last_holds_next}
+use Rattle.tiny_http_core.specs.Pending.{last_holds_next_head}
 use Rattle.tiny_http_core.specs.Steps.{Ask, ReplyValue}
 use Rattle.tiny_http_core.specs.Conversation.{State, StepsTo}
 use Rattle.tiny_http_core.specs.Connection.{ConnectionState, kept, Stands}
@@ -15,7 +15,7 @@ use Rattle.tiny_http_core.specs.Driving.{AskEnds, AskLeaves, IsDeclined}
 
 -- the asking hasn't ended, no body holds the reader, and the next head waits for no answer
 abbrev pub CanAsk : {R W : Type 0} → ConnectionState R W → Type 0
-CanAsk c = (c.end ≡ None) × (c.source.standing ≡ at.Body → ⊥) × (last_holds_next c.requests ≡ false)
+CanAsk c = (c.end ≡ None) × (c.source.standing ≡ at.Body → ⊥) × (last_holds_next_head c.requests ≡ false)
 
 -- An Ask leads from one connection to another with this reply: what `TakesStep` says of it, from wherever a run stands.
 pub record AskStep {R W : Type 0} (old new : ConnectionState R W) (now : HttpDate) (reply : ReplyValue) : Type 0 where

@@ -36,7 +36,7 @@ use Rattle.tiny_http_stream.specs.declared.source.Standing.TheVariants as in_pla
 use Rattle.tiny_http_wire.specs.declared.common.StatusCode.{StatusCode}
 use Rattle.tiny_http_message.specs.Exchange.{KeepsRequest}
 use Rattle.tiny_http_message.specs.Body.{Remaining, remaining, taken_remaining, is_streaming}
-use Rattle.tiny_http_core.specs.Slots.{Slot, is_finished, is_broken, is_slot_broken, segment, new_slot, turn_has_come, is_chunked, last_slot, last_is_open, last_awaits_answer, last_holds_reader, last_was_abandoned, is_last_slot, stage_text, ByServer}
+use Rattle.tiny_http_core.specs.Slots.{Slot, is_finished, is_broken, is_slot_broken, segment, new_slot, turn_has_come, is_chunked, last_slot, last_is_open, last_is_holding, last_holds_reader, last_was_abandoned, is_last_slot, stage_text, ByServer}
 use Rattle.tiny_http_sending.specs.ResponseValue.{printing_to}
 use Rattle.tiny_http_message.specs.OwnAnswer.{own_text_by, refusal_response, refused_text}
 use Rattle.tiny_http_core.specs.Steps.{StepValue, Ask, ReplyValue, Handed, Ended, NotYet, Memory, Unused, Unreported, Outcome, Reached, unchanged, ask, asks_from, outcome}
@@ -44,7 +44,7 @@ use Rattle.tiny_http_core.specs.Conversation.{Failure, State, PlaceAt, WriterPar
 use Rattle.tiny_http_core.proofs.ConversationWriting.{unreported, flushed-is}
 use Rattle.tiny_http_sending.specs.Sending.{IsFlushed, SendsUnlessEnded}
 use Rattle.tiny_http_turns.specs.Turns.{Mark, Open, Left, Finished, AreInShape, first_unfinished}
-use Rattle.tiny_http_core.specs.Pending.{LeavesText, last_holds_next, last_body, is_streaming_body}
+use Rattle.tiny_http_core.specs.Pending.{LeavesText, last_holds_next_head, last_body, is_streaming_body}
 use Rattle.tiny_http_core.specs.Connection.{Kept, dropped, IsWaiting, AreKept, OutputAt, behind_body, GivesRest, InputEnded, is_past_last, is_in_body, NextHead, InputStands, Stands, HandedOut}
 use Rattle.tiny_http_stream.proofs.SourceGoesOn.{goes-on_more}
 use Rattle.tiny_http_message.proofs.PipelineLemmas.{pipeline-first, pipeline-none, heads-rest_last, empty-pipeline}
@@ -118,7 +118,7 @@ last-of client before k s h = last-kept s.reached.slots k.marks k.requests h.num
 
 -- the last body isn't read from the input, and the next head waits for no answer
 abbrev pub IsQuiet : List (Option Unfinished) → Type 0
-IsQuiet us = (is_streaming_body (last_body us) ≡ false) × (last_holds_next us ≡ false)
+IsQuiet us = (is_streaming_body (last_body us) ≡ false) × (last_holds_next_head us ≡ false)
 
 unheld : (client : Feed) (before : Sink) (k : Kept) (s : State) → Stands client before k s → IsQuiet k.requests → last_holds_reader (last_slot s.reached.slots) ≡ false
 unheld client before k s h quiet =
@@ -186,6 +186,7 @@ kept-handed profile date x p content behind k left framed = record {
   owed = k.answer.owes_continue;
   holds = k.answer.holds_next_head;
   standard = k.answer.by_standard;
+  connect = k.answer.is_connect;
   unsent = λ owed. refl;
   rest_is_last = framed.framed;
   answer_context =
@@ -294,10 +295,10 @@ ask-not_yet client before k s date st e held =
     step-unchanged client before k s date Ask NotYet st (ask-held date s.reached (st.asking_ended ∙ e) is)
 
 -- the next head waits for the answer to the last request
-pub ask-waits : (client : Feed) (before : Sink) (k : Kept) (s : State) (date : HttpDate) → Stands client before k s → k.asking_ended ≡ false → last_holds_next k.requests ≡ true → StepIsAnswered client before k s date Ask NotYet
+pub ask-waits : (client : Feed) (before : Sink) (k : Kept) (s : State) (date : HttpDate) → Stands client before k s → k.asking_ended ≡ false → last_holds_next_head k.requests ≡ true → StepIsAnswered client before k s date Ask NotYet
 ask-waits client before k s date st e held =
     let slots = s.reached.slots in
-    let awaits : last_awaits_answer (last_slot slots) ≡ true = last-awaits slots k.marks k.requests st.numbers ∙ held in
+    let awaits : last_is_holding (last_slot slots) ≡ true = last-awaits slots k.marks k.requests st.numbers ∙ held in
     let is : last_holds_reader (last_slot slots) ≡ true = rw awaits (or-true (not (is_last_slot (last_slot slots)) && last_is_open (last_slot slots))) in
     step-unchanged client before k s date Ask NotYet st (ask-held date s.reached (st.asking_ended ∙ e) is)
 
@@ -307,7 +308,7 @@ pub record BeforeHead (k : Kept) (s : State) : Type 0 where
   pub more : is_last_slot (last_slot s.reached.slots) ≡ false
   pub quiet : IsQuiet k.requests
 
-pub before-head : (client : Feed) (before : Sink) (k : Kept) (s : State) → Stands client before k s → k.asking_ended ≡ false → IsBeforeHead k.standing → last_holds_next k.requests ≡ false → BeforeHead k s
+pub before-head : (client : Feed) (before : Sink) (k : Kept) (s : State) → Stands client before k s → k.asking_ended ≡ false → IsBeforeHead k.standing → last_holds_next_head k.requests ≡ false → BeforeHead k s
 before-head client before k s st e here free =
     let n = st.reader.next e in
     let past = not-past k.standing here in
@@ -547,7 +548,7 @@ pub ask-ended : (client : Feed) (before : Sink) (k : Kept) (s : State) (date : H
 ask-ended client before k s date st e = step-unchanged client before k s date Ask Ended st (ask-ends date s.reached (st.asking_ended ∙ e))
 
 -- no request follows: the last one was read, or none stands in front of the input
-pub ask-final : (client : Feed) (before : Sink) (k : Kept) (s : State) (date : HttpDate) (why : EndOfRequests) (p : Option Feed) (stop : Option Stop) (over : Bool) (at : Standing) → Stands client before k s → k.asking_ended ≡ false → (k.standing ≡ in_place.Body → ⊥) → last_holds_next k.requests ≡ false
+pub ask-final : (client : Feed) (before : Sink) (k : Kept) (s : State) (date : HttpDate) (why : EndOfRequests) (p : Option Feed) (stop : Option Stop) (over : Bool) (at : Standing) → Stands client before k s → k.asking_ended ≡ false → (k.standing ≡ in_place.Body → ⊥) → last_holds_next_head k.requests ≡ false
     → (k.standing ≡ in_place.Last → (p ≡ k.feed) × (stop ≡ k.stop) × (over ≡ k.is_over) × (at ≡ k.standing)) → (IsBeforeHead k.standing → ReadsHead k.profile k.standing date k.feed p (Ok (read.Ended why))) → GoesOn k.feed p
     → StepIsAnswered client before (after_end k p stop over at) s date Ask Ended
 ask-final client before k s date why p stop over at st e outside free left reads goes = by k.standing refl

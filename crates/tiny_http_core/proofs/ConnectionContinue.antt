@@ -77,6 +77,7 @@ still-waiting date s w h = record {
   owed = refl;
   holds = h.holds;
   standard = h.standard;
+  connect = h.connect;
   unsent = λ owed. (let no : false ≡ true = owed in cc);
   rest_is_last = h.rest_is_last;
   answer_context = h.answer_context;

@@ -8,15 +8,16 @@ use Rattle.httpdate.specs.declared.date.HttpDate.{HttpDate}
 use Rattle.tiny_http_wire.specs.Device.{Feed, Sink}
 use Rattle.tiny_http_message.specs.declared.body.Body.{Body}
 use Rattle.tiny_http_message.specs.declared.open_request.OpenRequest.{OpenRequest}
-use Rattle.tiny_http_message.specs.Pipeline.{Asks, Request}
+use Rattle.tiny_http_message.specs.Pipeline.{Asks, Request, is_connect_method}
+use Rattle.tiny_http_message.specs.OpenRequest.{refuses_code}
 use Rattle.tiny_http_message.specs.Body.{GivesUp}
 use Rattle.tiny_http_sending.specs.Sending.{CanSend}
 use Rattle.tiny_http_stream.specs.Source.{SourceState}
 use Rattle.tiny_http_turns.specs.Turns.{Mark, Open, first_unfinished}
 use Rattle.tiny_http_core.specs.declared.pending.Unfinished.{Unfinished}
 use Rattle.tiny_http_core.specs.declared.pending.Unfinished.TheVariants as still
-use Rattle.tiny_http_core.specs.Slots.{Slot, Unanswered, Answered as AnsweredBy, ByServer, Raw, Upgraded, opening, segment, lacks_continue, turn_has_come}
-use Rattle.tiny_http_core.specs.Steps.{StepValue, ReplyValue, Upgrade, Drop, Done, Refused, Reached, changes, ends_asking, use_in_turn, at_slot, outcome}
+use Rattle.tiny_http_core.specs.Slots.{Slot, Unanswered, Answered as AnsweredBy, ByServer, Raw, Upgraded, opening, segment, is_last_without_continue, refuses_response, turn_has_come}
+use Rattle.tiny_http_core.specs.Steps.{StepValue, ReplyValue, Respond, Upgrade, Drop, Done, Refused, Reached, changes, ends_asking, use_in_turn, at_slot, outcome}
 use Rattle.tiny_http_core.specs.Conversation.{State}
 use Rattle.tiny_http_core.specs.Pending.{LeavesText}
 use Rattle.tiny_http_core.specs.Connection.{Kept, HandedOut, open_slot, dropped, IsWaiting, InputStands, Stands}
@@ -55,9 +56,13 @@ reader-dropped client k s n w p old source from reader gives =
     let P : List Slot → Type 0 = λ l. InputStands client k l s.reached.rest in
     reader-given_up client k old source p.bs p.cs p.us p.vs s.reached.rest p.s (Some (still.Waiting w)) None w.body ByServer (open-waiting p.s w p.waiting) refl refl from (subst P p.slots_are reader) p.requests_are (kept-many p.cs p.rs p.vs p.behind) gives
 
+-- what tells whether an answer to a request is refused
+abbrev pub IsKeptOf : OpenRequest Body → Request → Type 0
+IsKeptOf w r = (w.by_standard ≡ r.framing.by_standard) × (w.is_connect ≡ is_connect_method r.message.method)
+
 -- The request of a number that waits is dropped, by whatever step.
 pub drop-done : {R : Type 0} (client : Feed) (before : Sink) (k : Kept) (s : State) (date : HttpDate) (n : ℕ) (step : StepValue) (reply : ReplyValue) (w : OpenRequest Body) (new : Sink) (ended : Bool) (final : List Mark) (requests : List (Option Unfinished)) (old source : SourceState R)
-    → ((old : Reached) (asked : HandedOut) (r : Request) (given : ℕ) (end_reported : Bool) → slice_get old.slots n ≡ Some (open_slot asked r given end_reported) → outcome true date old step ≡ ends_asking (lacks_continue r asked.owed) (changes old n (dropped asked r given end_reported) reply (use_in_turn (turn_has_come n old.slots))))
+    → ((old : Reached) (asked : HandedOut) (r : Request) (given : ℕ) (end_reported : Bool) → IsKeptOf w r → slice_get old.slots n ≡ Some (open_slot asked r given end_reported) → outcome true date old step ≡ ends_asking (is_last_without_continue r asked.owed) (changes old n (dropped asked r given end_reported) reply (use_in_turn (turn_has_come n old.slots))))
     → Stands client before k s → IsInput k old → GivesUp w.body old source → before.failures < 2 ^ 64 - 1 → slice_get k.requests n ≡ Some (Some (still.Waiting w)) → requests ≡ slice_set k.requests n None
     → ((front rest : List Mark) → k.marks ≡ front ++ (Open ∷ rest) → length front ≡ n → (k.output_ended ≡ false → CanSend k.sink) → LeavesText (n == first_unfinished k.marks) front rest final w.dropped.items k.output_ended k.sink new ended)
     → StepIsAnswered client before (with_asking_ended (w.by_standard && w.owes_continue) (after_number k final requests source new ended)) s date step reply
@@ -72,7 +77,7 @@ drop-done {R = R} client before k s date n step reply w new ended final requests
     s1 = dropped_slot p.s w p.waiting
 
     lacks : Bool
-    lacks = lacks_continue p.waiting.request p.waiting.handed.owed
+    lacks = is_last_without_continue p.waiting.request p.waiting.handed.owed
 
     kept_lacks : Bool
     kept_lacks = w.by_standard && w.owes_continue
@@ -81,13 +86,21 @@ drop-done {R = R} client before k s date n step reply w new ended final requests
     is =
         let at = slot-at s.reached.slots p.bs p.cs p.s n p.slots_are p.slots_before in
         let h = p.waiting in
-        drops s.reached h.handed h.request h.given h.end_reported (at.get ∙ ap Some h.is)
+        drops s.reached h.handed h.request h.given h.end_reported (h.standard, h.connect) (at.get ∙ ap Some h.is)
 
 -- a Drop, and an Upgrade whose protocol isn't ASCII
 pub at-drop : (date : HttpDate) (n : ℕ) (old : Reached) (asked : HandedOut) (r : Request) (given : ℕ) (end_reported : Bool) → slice_get old.slots n ≡ Some (open_slot asked r given end_reported)
-    → outcome true date old (Drop n) ≡ ends_asking (lacks_continue r asked.owed) (changes old n (dropped asked r given end_reported) Done (use_in_turn (turn_has_come n old.slots)))
+    → outcome true date old (Drop n) ≡ ends_asking (is_last_without_continue r asked.owed) (changes old n (dropped asked r given end_reported) Done (use_in_turn (turn_has_come n old.slots)))
 at-drop date n old asked r given end_reported e = ap (at_slot true date old n (Drop n)) e
 
+pub at-unanswerable : (date : HttpDate) (n : ℕ) (v : ResponseValue) (w : OpenRequest Body) → refuses_code w.by_standard w.is_connect v.answer.status ≡ true
+    → (old : Reached) (asked : HandedOut) (r : Request) (given : ℕ) (end_reported : Bool) → IsKeptOf w r → slice_get old.slots n ≡ Some (open_slot asked r given end_reported)
+    → outcome true date old (Respond n v) ≡ ends_asking (is_last_without_continue r asked.owed) (changes old n (dropped asked r given end_reported) Refused (use_in_turn (turn_has_come n old.slots)))
+at-unanswerable date n v w refused old asked r given end_reported kept e =
+    let code = v.answer.status in
+    let is : refuses_response r v ≡ true = ap (λ b. refuses_code b (is_connect_method r.message.method) code) (sym kept.0) ∙ ap (λ b. refuses_code w.by_standard b code) (sym kept.1) ∙ refused in
+    ap (at_slot true date old n (Respond n v)) e ∙ rw is refl
+
 pub at-refused : (date : HttpDate) (n : ℕ) (protocol : List ℕ) (v : ResponseValue) → list_all is_ascii protocol ≡ false → (old : Reached) (asked : HandedOut) (r : Request) (given : ℕ) (end_reported : Bool) → slice_get old.slots n ≡ Some (open_slot asked r given end_reported)
-    → outcome true date old (Upgrade n protocol v) ≡ ends_asking (lacks_continue r asked.owed) (changes old n (dropped asked r given end_reported) Refused (use_in_turn (turn_has_come n old.slots)))
+    → outcome true date old (Upgrade n protocol v) ≡ ends_asking (is_last_without_continue r asked.owed) (changes old n (dropped asked r given end_reported) Refused (use_in_turn (turn_has_come n old.slots)))
 at-refused date n protocol v foreign old asked r given end_reported e = ap (at_slot true date old n (Upgrade n protocol v)) e ∙ rw foreign refl

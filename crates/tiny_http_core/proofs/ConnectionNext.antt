@@ -22,7 +22,7 @@ use Rattle.tiny_http_turns.specs.Turns.{Mark, AreInShape, Open}
 use Rattle.tiny_http_core.specs.declared.pending.Pending.{Pending}
 use Rattle.tiny_http_core.specs.declared.pending.Unfinished.{Unfinished}
 use Rattle.tiny_http_core.specs.declared.pending.Unfinished.TheVariants as still
-use Rattle.tiny_http_core.specs.Pending.{RefusesHead, last_holds_next}
+use Rattle.tiny_http_core.specs.Pending.{RefusesHead, last_holds_next_head}
 use Rattle.tiny_http_core.specs.Steps.{ReplyValue, Ask, Ended, Memory, Handed}
 use Rattle.tiny_http_core.specs.Connection.{Kept, ConnectionState, kept}
 use Rattle.tiny_http_core.proofs.Asking.{CanAsk, AskStep, IsAskBehind}
@@ -238,7 +238,7 @@ finds-another {R = R} {W = W} profile date s t o u p q end status text h f can =
     stands = h.standing
 
     F : List (Option Unfinished) → Type 0
-    F us = last_holds_next us ≡ false
+    F us = last_holds_next_head us ≡ false
 
 -- an Ask behind heads that were passed, as one in front of them
 pub record Passed {R W : Type 0} (old new : ConnectionState R W) (date : HttpDate) (n : ℕ) : Type 0 where

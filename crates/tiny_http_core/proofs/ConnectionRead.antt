@@ -290,6 +290,7 @@ still-waiting s w h c old new n reply k =
       owed = h.owed;
       holds = h.holds;
       standard = h.standard;
+      connect = h.connect;
       unsent = h.unsent;
       rest_is_last = h.rest_is_last;
       answer_context = h.answer_context;

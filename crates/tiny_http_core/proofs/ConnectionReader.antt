@@ -12,11 +12,11 @@ use Rattle.tiny_http_message.specs.declared.framing.Form.{Form}
 use Rattle.tiny_http_message.specs.declared.body.Body.{Body}
 use Rattle.tiny_http_message.specs.declared.body.Body.TheVariants as body
 use Rattle.tiny_http_message.specs.Pipeline.{Item, Asks, Refuses, body_length_or_0}
-use Rattle.tiny_http_core.specs.Slots.{Slot, Stage, Unanswered, Answered, ByServer, Raw, Upgraded, is_finished, is_stage_finished, is_unanswered, is_form_streamed, is_chunked, is_body_finished, body_is_open, is_last_item, holds_next_head, awaits_answer, last_slot, last_is_open, last_awaits_answer, last_holds_reader, last_was_abandoned, is_last_slot}
+use Rattle.tiny_http_core.specs.Slots.{Slot, Stage, Unanswered, Answered, ByServer, Raw, Upgraded, is_finished, is_stage_finished, is_unanswered, is_form_streamed, is_chunked, is_body_finished, body_is_open, is_last_item, holds_next_head, is_holding, last_slot, last_is_open, last_is_holding, last_holds_reader, last_was_abandoned, is_last_slot}
 use Rattle.tiny_http_message.specs.Body.{body_finished}
 use Rattle.tiny_http_turns.specs.Turns.{Mark, Open, Held, Left, Finished}
 use Rattle.tiny_http_message.specs.Body.{Remaining, remaining, is_streaming, Fits}
-use Rattle.tiny_http_core.specs.Pending.{holds_next, last_holds_next, kept_body, last_body, is_streaming_body}
+use Rattle.tiny_http_core.specs.Pending.{holds_next_head_at, last_holds_next_head, kept_body, last_body, is_streaming_body}
 use Rattle.tiny_http_core.specs.Connection.{IsWaiting, IsOpen, IsUnfinished, IsKept, AreKept, IsSettled, AreSettled, behind_body, slot_rest, GivesRest}
 use Rattle.std.proofs.Math.Bool.{or-true}
 
@@ -79,23 +79,23 @@ is-answered ByServer d = refl
 is-answered (Raw written closed) d = refl
 is-answered (Upgraded protocol response date written closed) d = refl
 
-done-awaits : (s : Slot) → is_finished s ≡ true → last_awaits_answer (Some s) ≡ false
+done-awaits : (s : Slot) → is_finished s ≡ true → last_is_holding (Some s) ≡ false
 done-awaits s d = by s.item
   where
-    by : (item : Item) → awaits_answer s item ≡ false
+    by : (item : Item) → is_holding s item ≡ false
     by (Asks r) = rw (is-answered s.stage d) (and-false (holds_next_head r))
     by (Refuses a b c e) = refl
 
-awaits-unfinished : (s : Slot) (u : Unfinished) → IsUnfinished s u → last_awaits_answer (Some s) ≡ holds_next (Some (Some u))
+awaits-unfinished : (s : Slot) (u : Unfinished) → IsUnfinished s u → last_is_holding (Some s) ≡ holds_next_head_at (Some (Some u))
 awaits-unfinished s (still.Waiting w) h =
-    let P : Slot → Type 0 = λ x. last_awaits_answer (Some x) ≡ w.holds_next_head in
+    let P : Slot → Type 0 = λ x. last_is_holding (Some x) ≡ w.holds_next_head in
     subst P (sym h.is) (and-true (holds_next_head h.request) ∙ sym h.holds)
 awaits-unfinished s still.Raw h = rw (h.item, h.stage) (and-false (holds_next_head h.request))
 awaits-unfinished s (still.Upgraded b) h =
-    let P : Slot → Type 0 = λ x. last_awaits_answer (Some x) ≡ false in
+    let P : Slot → Type 0 = λ x. last_is_holding (Some x) ≡ false in
     subst P (sym h.opened.is) (rw h.stage (and-false (holds_next_head h.opened.request)))
 
-awaits-one : (s : Slot) (m : Mark) (u : Option Unfinished) → IsKept s m u → last_awaits_answer (Some s) ≡ holds_next (Some u)
+awaits-one : (s : Slot) (m : Mark) (u : Option Unfinished) → IsKept s m u → last_is_holding (Some s) ≡ holds_next_head_at (Some u)
 awaits-one s Open None h = absurd h
 awaits-one s Open (Some w) h = awaits-unfinished s w h
 awaits-one s Held None h = absurd h
@@ -105,7 +105,7 @@ awaits-one s (Left text) (Some w) h = absurd h
 awaits-one s Finished None h = done-awaits s h.finished
 awaits-one s Finished (Some w) h = absurd h
 
-awaits-from : (s : Slot) (m : Mark) (u : Option Unfinished) (ss : List Slot) (ms : List Mark) (us : List (Option Unfinished)) → IsKept s m u → AreKept ss ms us → last_awaits_answer (last_or (Some s) ss) ≡ last_holds_next (u ∷ us)
+awaits-from : (s : Slot) (m : Mark) (u : Option Unfinished) (ss : List Slot) (ms : List Mark) (us : List (Option Unfinished)) → IsKept s m u → AreKept ss ms us → last_is_holding (last_or (Some s) ss) ≡ last_holds_next_head (u ∷ us)
 awaits-from s m u [] [] [] h k = awaits-one s m u h
 awaits-from s m u [] [] (v ∷ us) h k = absurd k
 awaits-from s m u [] (n ∷ ms) us h k = absurd k
@@ -113,7 +113,7 @@ awaits-from s m u (t ∷ ss) [] us h k = absurd k
 awaits-from s m u (t ∷ ss) (n ∷ ms) [] h k = absurd k
 awaits-from s m u (t ∷ ss) (n ∷ ms) (v ∷ us) h k = awaits-from t n v ss ms us k.0 k.1
 
-pub last-awaits : (slots : List Slot) (marks : List Mark) (requests : List (Option Unfinished)) → AreKept slots marks requests → last_awaits_answer (last_slot slots) ≡ last_holds_next requests
+pub last-awaits : (slots : List Slot) (marks : List Mark) (requests : List (Option Unfinished)) → AreKept slots marks requests → last_is_holding (last_slot slots) ≡ last_holds_next_head requests
 last-awaits [] [] [] k = refl
 last-awaits [] [] (v ∷ us) k = absurd k
 last-awaits [] (n ∷ ms) us k = absurd k
@@ -122,18 +122,18 @@ last-awaits (t ∷ ss) (n ∷ ms) [] k = absurd k
 last-awaits (t ∷ ss) (n ∷ ms) (v ∷ us) k = awaits-from t n v ss ms us k.0 k.1
 
 -- one more at the end
-pub holds-snoc : (us : List (Option Unfinished)) (u : Option Unfinished) → last_holds_next (us ++ (u ∷ [])) ≡ holds_next (Some u)
+pub holds-snoc : (us : List (Option Unfinished)) (u : Option Unfinished) → last_holds_next_head (us ++ (u ∷ [])) ≡ holds_next_head_at (Some u)
 holds-snoc [] u = refl
 holds-snoc (v ∷ []) u = refl
 holds-snoc (v ∷ (w ∷ us)) u = holds-snoc (w ∷ us) u
 
 -- the last of some stands at their end
-pub holds-at : (us : List (Option Unfinished)) → holds_next (slice_get us (length us - 1)) ≡ last_holds_next us
+pub holds-at : (us : List (Option Unfinished)) → holds_next_head_at (slice_get us (length us - 1)) ≡ last_holds_next_head us
 holds-at [] = refl
 holds-at (u ∷ []) = refl
 holds-at (u ∷ v ∷ us) =
     let less : length (u ∷ v ∷ us) - 1 ≡ suc (length (v ∷ us) - 1) = omega arith in
-    ap (λ n. holds_next (slice_get (u ∷ v ∷ us) n)) less ∙ holds-at (v ∷ us)
+    ap (λ n. holds_next_head_at (slice_get (u ∷ v ∷ us) n)) less ∙ holds-at (v ∷ us)
 
 pub last-snoc : {X : Type 0} (o : Option X) (xs : List X) (x : X) → last_or o (xs ++ (x ∷ [])) ≡ Some x
 last-snoc o [] x = refl
@@ -203,15 +203,15 @@ open-by o b (inr (inl h)) = rw (h.1, h.2, done-open h.0 h.3) refl
 open-by o b (inr (inr h)) = rw (h.2, h.3) (waiting-open h.0 h.1 h.4)
 
 -- whether the last body holds the reader
-pub held-by : (o : Option Slot) (b : Option Body) → LastKept o b → last_holds_reader o ≡ ((not (is_last_slot o) && is_streaming_body b) || last_awaits_answer o)
-held-by o b h = ap (λ t. (not (is_last_slot o) && t) || last_awaits_answer o) (open-by o b h)
+pub held-by : (o : Option Slot) (b : Option Body) → LastKept o b → last_holds_reader o ≡ ((not (is_last_slot o) && is_streaming_body b) || last_is_holding o)
+held-by o b h = ap (λ t. (not (is_last_slot o) && t) || last_is_holding o) (open-by o b h)
 
 -- the connection's last request holds no next head
-pub last-awaits-none : (o : Option Slot) → is_last_slot o ≡ true → last_awaits_answer o ≡ false
+pub last-awaits-none : (o : Option Slot) → is_last_slot o ≡ true → last_is_holding o ≡ false
 last-awaits-none None e = refl
 last-awaits-none (Some s) e = by s.item e
   where
-    by : (item : Item) → is_last_item item ≡ true → awaits_answer s item ≡ false
+    by : (item : Item) → is_last_item item ≡ true → is_holding s item ≡ false
     by (Asks r) l = rw (l, and-false r.framing.asks_upgrade) refl
     by (Refuses a b c d) l = refl
 

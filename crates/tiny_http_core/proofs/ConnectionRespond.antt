@@ -15,18 +15,19 @@ use Rattle.tiny_http_message.specs.declared.open_request.OpenRequest.{OpenReques
 use Rattle.tiny_http_core.specs.declared.pending.Unfinished.{Unfinished}
 use Rattle.tiny_http_core.specs.declared.pending.Unfinished.TheVariants as still
 use Rattle.tiny_http_core.proofs.ConnectionReader.{open-waiting}
-use Rattle.tiny_http_message.specs.Pipeline.{Item, Asks, Refuses, Request}
+use Rattle.tiny_http_message.specs.Pipeline.{Item, Asks, Refuses, Request, is_connect_method}
+use Rattle.tiny_http_message.specs.OpenRequest.{refuses_code}
 use Rattle.tiny_http_sending.specs.ResponseValue.{ResponseValue}
 use Rattle.tiny_http_wire.specs.Answer.{IsGathered}
-use Rattle.tiny_http_core.specs.Slots.{Slot, Stage, Unanswered, Answered as AnsweredBy, ByServer, Raw, Upgraded, is_stage_finished, is_finished, is_broken, is_slot_broken, segment, stage_text, opening, joined, is_output_broken, lacks_continue, last_slot, turn_has_come, to_request, text_if}
-use Rattle.tiny_http_core.specs.Steps.{StepValue, outcome, Respond, ReplyValue, Done, NoSuch, NotYet, Outcome, Reached, unchanged, changes, ends_asking, ends_with_stream, finished_as, accepts_step, fault_in, fault_reply, at_item, at_slot, at_number}
+use Rattle.tiny_http_core.specs.Slots.{Slot, Stage, Unanswered, Answered as AnsweredBy, ByServer, Raw, Upgraded, is_stage_finished, is_finished, is_broken, is_slot_broken, segment, stage_text, opening, joined, is_output_broken, is_last_without_continue, refuses_response, last_slot, turn_has_come, to_request, text_if}
+use Rattle.tiny_http_core.specs.Steps.{StepValue, outcome, Respond, ReplyValue, Done, NoSuch, NotYet, Outcome, Reached, unchanged, changes, ends_asking, is_last_with_stream, finished_as, accepts_step, fault_in, fault_reply, at_item, at_slot, at_number}
 use Rattle.tiny_http_core.specs.Conversation.{Failure, State, has_output_ended, finished_front, flushed_after, CanMeet, WriterPart, HasOutcome, GathersAt, MayLack}
 use Rattle.tiny_http_core.proofs.ConversationWriting.{FailsBetween, FailsReported, FailsBehind, broken_reply, used, WritesIf, flushed_if, reported, flushed-is}
 use Rattle.tiny_http_sending.specs.ResponseValue.{printing_in}
 use Rattle.tiny_http_core.specs.Seen.{Answers, reply_to}
 use Rattle.tiny_http_sending.specs.Sending.{CanSend, OutletTook, OutletFailed, IsFlushed, SendsText, SendsUnlessEnded}
 use Rattle.tiny_http_turns.specs.Turns.{Mark, Open, Held, Finished, AreInShape, first_unfinished}
-use Rattle.tiny_http_core.specs.Pending.{lacks_continue as kept_lacks, left_text, with_left_finished, begins_left, SendsLeft, FinishesFront, waiting_answer_context}
+use Rattle.tiny_http_core.specs.Pending.{is_last_without_continue_at as kept_lacks, refuses_at, left_text, with_left_finished, begins_left, SendsLeft, FinishesFront, waiting_answer_context}
 use Rattle.tiny_http_core.specs.Connection.{Kept, answer_context_of, HandedOut, open_slot, IsWaiting, IsUnfinished, HasSentNothing, AreSentInTurn, AreKept, OutputAt, InputStands, Stands}
 use Rattle.tiny_http_stream.specs.Source.{SourceState}
 use Rattle.tiny_http_message.specs.Body.{GivesUp}
@@ -137,16 +138,22 @@ slot-at slots bs cs s0 n e place =
     }))
 
 -- its turn hasn't come
-pub respond-not_yet : (client : Feed) (before : Sink) (k : Kept) (s : State) (date : HttpDate) (n : ℕ) (v : ResponseValue) (w : OpenRequest Body) → Stands client before k s → slice_get k.requests n ≡ Some (Some (still.Waiting w))
+-- whether an answer is refused, by what is kept of the request
+pub refuses-same : (s : Slot) (w : OpenRequest Body) (h : IsWaiting s w) (v : ResponseValue) → refuses_response h.request v ≡ refuses_code w.by_standard w.is_connect v.answer.status
+refuses-same s w h v =
+    ap (λ b. refuses_code b (is_connect_method h.request.message.method) v.answer.status) (sym h.standard) ∙ ap (λ b. refuses_code w.by_standard b v.answer.status) (sym h.connect)
+
+pub respond-not_yet : (client : Feed) (before : Sink) (k : Kept) (s : State) (date : HttpDate) (n : ℕ) (v : ResponseValue) (w : OpenRequest Body) → Stands client before k s → slice_get k.requests n ≡ Some (Some (still.Waiting w)) → refuses_at v.answer.status (slice_get k.requests n) ≡ false
     → ((slice_get k.marks n ≡ Some Open) × (n ≡ first_unfinished k.marks) → ⊥) → StepIsAnswered client before k s date (Respond n v) NotYet
-respond-not_yet client before k s date n v w st e never =
+respond-not_yet client before k s date n v w st e good never =
     let p = place-of s.reached.slots k.marks k.requests n (still.Waiting w) st.numbers e in
     let at = slot-at s.reached.slots p.bs p.cs p.s n p.slots_are p.slots_before in
     let S : List Mark → Type 0 = λ m. AreInShape m in
     let early : (t : InTurn p.bs p.fs p.rs) → ⊥ = λ t. never (ap (λ m. slice_get m n) p.marks_are ∙ ap (λ x. slice_get (p.fs ++ (Open ∷ p.rs)) x) (sym p.marks_before) ∙ get-at p.fs Open p.rs, sym p.marks_before ∙ t.turn ∙ ap first_unfinished (sym p.marks_are)) in
     let late : list_all is_finished p.bs ≡ false = ⊎_elim (λ (t : InTurn p.bs p.fs p.rs). absurd (early t)) (λ (t : OutOfTurn p.bs p.fs p.rs). t.unfinished) (turn-at p.bs p.fs p.us p.rs p.before (subst S p.marks_are st.shape)) in
     let T : Slot → Type 0 = λ x. at_slot true date s.reached n (Respond n v) (Some x) ≡ unchanged s.reached NotYet in
-    let is = subst T (sym p.waiting.is) (rw (at.turn ∙ late) refl) in
+    let takes = refuses-same p.s w p.waiting v ∙ ap (refuses_at v.answer.status) (sym e) ∙ good in
+    let is = subst T (sym p.waiting.is) (rw (takes, at.turn ∙ late) refl) in
     step-unchanged client before k s date (Respond n v) NotYet st (ap (at_slot true date s.reached n (Respond n v)) at.get ∙ is)
 
 -- the slot after the response
@@ -156,9 +163,9 @@ answered_slot asked r given end_reported v date found = finished_as (open_slot a
 abbrev pub response_sent : Bool → ResponseValue → Request → HttpDate → Text
 response_sent found v r date = text_if found v (to_request r date)
 
-at-turn : (date : HttpDate) (asked : HandedOut) (old : Reached) (n : ℕ) (v : ResponseValue) (r : Request) (given : ℕ) (end_reported found : Bool) → slice_get old.slots n ≡ Some (open_slot asked r given end_reported) → turn_has_come n old.slots ≡ true
-    → at_number found date old n (Respond n v) ≡ ends_asking (lacks_continue r asked.owed) (changes old n (answered_slot asked r given end_reported v date found) Done (used (response_sent found v r date)))
-at-turn date asked old n v r given end_reported found e t = ap (at_slot found date old n (Respond n v)) e ∙ rw t refl
+at-turn : (date : HttpDate) (asked : HandedOut) (old : Reached) (n : ℕ) (v : ResponseValue) (r : Request) (given : ℕ) (end_reported found : Bool) → slice_get old.slots n ≡ Some (open_slot asked r given end_reported) → refuses_response r v ≡ false → turn_has_come n old.slots ≡ true
+    → at_number found date old n (Respond n v) ≡ ends_asking (is_last_without_continue r asked.owed) (changes old n (answered_slot asked r given end_reported v date found) Done (used (response_sent found v r date)))
+at-turn date asked old n v r given end_reported found e takes t = ap (at_slot found date old n (Respond n v)) e ∙ rw (takes, t) refl
 
 -- how the response is printed
 printed-for : (r : Request) (answer_context : AnswerContext) (date : HttpDate) → answer_context ≡ answer_context_of r → printing_in answer_context date ≡ to_request r date
@@ -533,20 +540,20 @@ reader-ended client k ended slots rest stays r =
     record { settled = r.settled; gives = r.gives; next = λ e. next-same k (with_ended ended k) (last_slot slots) (last_slot slots) rest refl refl refl refl refl refl refl refl (r.next (stays e)); source = r.source }
 
 -- whether the asking ends behind a number that waits, by what is kept of it
-pub lacks-same : (s : Slot) (w : OpenRequest Body) (h : IsWaiting s w) → lacks_continue h.request h.handed.owed ≡ (w.by_standard && w.owes_continue)
+pub lacks-same : (s : Slot) (w : OpenRequest Body) (h : IsWaiting s w) → is_last_without_continue h.request h.handed.owed ≡ (w.by_standard && w.owes_continue)
 lacks-same s w h = ap (λ x. x && h.handed.owed) (sym h.standard) ∙ ap (λ x. w.by_standard && x) (sym h.owed)
 
-pub stream-same : (s : Slot) (w : OpenRequest Body) (h : IsWaiting s w) → ends_with_stream h.request h.handed.owed ≡ (w.holds_next_head || (w.by_standard && w.owes_continue))
-stream-same s w h = ap (λ x. x || lacks_continue h.request h.handed.owed) (sym h.holds) ∙ ap (λ x. w.holds_next_head || x) (lacks-same s w h)
+pub stream-same : (s : Slot) (w : OpenRequest Body) (h : IsWaiting s w) → is_last_with_stream h.request h.handed.owed ≡ (w.holds_next_head || (w.by_standard && w.owes_continue))
+stream-same s w h = ap (λ x. x || is_last_without_continue h.request h.handed.owed) (sym h.holds) ∙ ap (λ x. w.holds_next_head || x) (lacks-same s w h)
 
 pub both-end : (a b x y : Bool) → a ≡ b → x ≡ y → (a || x) ≡ (b || y)
 both-end a b x y e f = ap (λ z. z || x) e ∙ ap (λ z. b || z) f
 
 respond-stands : {R : Type 0} (client : Feed) (before : Sink) (k : Kept) (s : State) (date : HttpDate) (n : ℕ) (v : ResponseValue) (answer_context : AnswerContext) (found : Bool) (mid new : Sink) (mid_ended ended : Bool) (final : List Mark) (requests : List (Option Unfinished)) (source : SourceState R) (reply : ReplyValue)
-    → Stands client before k s → before.failures < 2 ^ 64 - 1 → (a : Answerable k s n answer_context) → (found ≡ true) ⊎ IsGathered v.answer (to_request a.waits.request date) → requests ≡ slice_set k.requests n None → InputStands client (with_reader k (a.us ++ (None ∷ a.vs)) source) (a.bs ++ (answered_slot a.waits.handed a.waits.request a.waits.given a.waits.end_reported v date found ∷ a.cs)) s.reached.rest → FinishesFront a.fs a.rs final
+    → Stands client before k s → before.failures < 2 ^ 64 - 1 → (a : Answerable k s n answer_context) → refuses_at v.answer.status (slice_get k.requests n) ≡ false → (found ≡ true) ⊎ IsGathered v.answer (to_request a.waits.request date) → requests ≡ slice_set k.requests n None → InputStands client (with_reader k (a.us ++ (None ∷ a.vs)) source) (a.bs ++ (answered_slot a.waits.handed a.waits.request a.waits.given a.waits.end_reported v date found ∷ a.cs)) s.reached.rest → FinishesFront a.fs a.rs final
     → OwnSaid before mid k.output_ended mid_ended s.reached.slots a.bs (answered_slot a.waits.handed a.waits.request a.waits.given a.waits.end_reported v date found) (response_sent found v a.waits.request date) s.flushed s.failure reply → SendsLeft a.rs mid_ended mid new ended
     → StepIsAnswered client before (with_asking_ended (kept_lacks (slice_get k.requests n)) (after_number k final requests source new ended)) s date (Respond n v) reply
-respond-stands client before k s date n v answer_context found mid new mid_ended ended final requests source reply st low a lack requests_are reader passes own sends =
+respond-stands client before k s date n v answer_context found mid new mid_ended ended final requests source reply st low a good lack requests_are reader passes own sends =
     let s0 = open_slot a.waits.handed a.waits.request a.waits.given a.waits.end_reported in
     let s1 = answered_slot a.waits.handed a.waits.request a.waits.given a.waits.end_reported v date found in
     let text = response_sent found v a.waits.request date in
@@ -554,9 +561,10 @@ respond-stands client before k s date n v answer_context found mid new mid_ended
     let T : List Slot → Type 0 = λ x. AreSentInTurn x in
     let turns = subst T a.slots_are st.in_turn in
     let said = respond-left before mid new k.output_ended mid_ended ended a.bs s0 s1 a.cs a.fs a.rs a.vs s text reply a.slots_are (ended-is before k.sink k.output_ended s.reached.slots s.flushed s.failure st.output) a.turn.finished refl refl refl l own a.turn (behind-turn a.bs a.cs s0 a.turn.finished refl turns) a.behind low sends in
-    let is = at-turn date a.waits.handed s.reached n v a.waits.request a.waits.given a.waits.end_reported found a.at.get (a.at.turn ∙ a.turn.finished) in
+    let takes = refuses-same a.slot a.waiting a.waits v ∙ ap (refuses_at v.answer.status) (sym a.kept) ∙ good in
+    let is = at-turn date a.waits.handed s.reached n v a.waits.request a.waits.given a.waits.end_reported found a.at.get takes (a.at.turn ∙ a.turn.finished) in
     let slots = a.bs ++ (s1 ∷ a.cs) in
-    let last = lacks_continue a.waits.request a.waits.handed.owed in
+    let last = is_last_without_continue a.waits.request a.waits.handed.owed in
     let new_state : State = record { reached = record { slots = slots; rest = s.reached.rest; asking_ended = s.reached.asking_ended || last }; flushed = flushed_after (used text) s slots; failure = said.failure } in
     let R : List Slot → Reached = λ l. record { slots = l; rest = s.reached.rest; asking_ended = s.reached.asking_ended || last } in
     let W : List Slot → Type 0 = λ l. WriterPart (used text) s Done l reply said.failure in
@@ -590,13 +598,13 @@ RespondsBy k mid mid_ended reply v answer_context date =
     ⊎ ((k.output_ended ≡ false) × Answers k.sink mid mid_ended reply v.answer v.content (printing_in answer_context date))
 
 pub respond-done : {R : Type 0} (client : Feed) (before : Sink) (k : Kept) (s : State) (date : HttpDate) (n : ℕ) (v : ResponseValue) (answer_context : AnswerContext) (mid new : Sink) (mid_ended ended : Bool) (marks final : List Mark) (requests : List (Option Unfinished)) (old source : SourceState R) (reply : ReplyValue)
-    → Stands client before k s → IsInput k old → ((w : OpenRequest Body) → slice_get k.requests n ≡ Some (Some (still.Waiting w)) → GivesUp w.body old source) → before.failures < 2 ^ 64 - 1 → waiting_answer_context (slice_get k.requests n) ≡ Some answer_context → n ≡ first_unfinished k.marks → marks ≡ slice_set k.marks n Held → requests ≡ slice_set k.requests n None
+    → Stands client before k s → IsInput k old → ((w : OpenRequest Body) → slice_get k.requests n ≡ Some (Some (still.Waiting w)) → GivesUp w.body old source) → before.failures < 2 ^ 64 - 1 → waiting_answer_context (slice_get k.requests n) ≡ Some answer_context → refuses_at v.answer.status (slice_get k.requests n) ≡ false → n ≡ first_unfinished k.marks → marks ≡ slice_set k.marks n Held → requests ≡ slice_set k.requests n None
     → RespondsBy k mid mid_ended reply v answer_context date
     → ((front rest : List Mark) → marks ≡ front ++ (Held ∷ rest) → length front ≡ n → FinishesFront front rest final)
     → ((front rest : List Mark) → marks ≡ front ++ (Held ∷ rest) → length front ≡ n → (mid_ended ≡ false → CanSend mid) → SendsLeft rest mid_ended mid new ended)
     → StepIsAnswered client before (with_asking_ended (kept_lacks (slice_get k.requests n)) (after_number k final requests source new ended)) s date (Respond n v) reply
 unfolding RespondsBy
-respond-done {R = R} client before k s date n v answer_context mid new mid_ended ended marks final requests old source reply st from gives low e first marks_are requests_are own passes sends = by-own own
+respond-done {R = R} client before k s date n v answer_context mid new mid_ended ended marks final requests old source reply st from gives low e good first marks_are requests_are own passes sends = by-own own
   where
     a : Answerable k s n answer_context
     a = answerable client before k s n answer_context st e first
@@ -615,7 +623,7 @@ respond-done {R = R} client before k s date n v answer_context mid new mid_ended
     answered : (found : Bool) → (found ≡ true) ⊎ IsGathered v.answer (to_request a.waits.request date) → OwnSaid before mid k.output_ended mid_ended s.reached.slots a.bs (answered_slot a.waits.handed a.waits.request a.waits.given a.waits.end_reported v date found) (response_sent found v a.waits.request date) s.flushed s.failure reply
         → StepIsAnswered client before (with_asking_ended (kept_lacks (slice_get k.requests n)) (after_number k final requests source new ended)) s date (Respond n v) reply
     answered found lack o =
-        respond-stands client before k s date n v answer_context found mid new mid_ended ended final requests source reply st low a lack requests_are (reader found) (passes a.fs a.rs held a.place) o
+        respond-stands client before k s date n v answer_context found mid new mid_ended ended final requests source reply st low a good lack requests_are (reader found) (passes a.fs a.rs held a.place) o
         (sends a.fs a.rs held a.place (can-send before mid mid_ended (a.bs ++ (answered_slot a.waits.handed a.waits.request a.waits.given a.waits.end_reported v date found ∷ [])) (flushed_if k.output_ended s.flushed (a.bs ++ (answered_slot a.waits.handed a.waits.request a.waits.given a.waits.end_reported v date found ∷ []))) o.failure o.output low))
 
     by-own : RespondsBy k mid mid_ended reply v answer_context date → StepIsAnswered client before (with_asking_ended (kept_lacks (slice_get k.requests n)) (after_number k final requests source new ended)) s date (Respond n v) reply

@@ -17,7 +17,7 @@ use Rattle.tiny_http_turns.specs.Turns.{Mark, Open, AreInShape, first_unfinished
 use Rattle.tiny_http_core.specs.declared.pending.Unfinished.{Unfinished}
 use Rattle.tiny_http_core.specs.declared.pending.Unfinished.TheVariants as still
 use Rattle.tiny_http_core.specs.Slots.{Slot, Unanswered, Answered as AnsweredBy, ByServer, Raw, Upgraded, is_chunked, is_finished, segment, opening, joined, is_last_slot, to_request}
-use Rattle.tiny_http_core.specs.Steps.{Upgrade, Done, NotYet, Unreported, Outcome, Reached, ends_asking, ends_with_stream, changes, at_slot, at_number}
+use Rattle.tiny_http_core.specs.Steps.{Upgrade, Done, NotYet, Unreported, Outcome, Reached, ends_asking, is_last_with_stream, changes, at_slot, at_number}
 use Rattle.tiny_http_core.specs.Conversation.{State, flushed_after, WriterPart, HasOutcome}
 use Rattle.tiny_http_core.specs.Connection.{Kept, open_slot, IsWaiting, IsUpgraded, AreSentInTurn, AreKept, OutputAt, slot_rest, InputStands, Stands}
 use Rattle.tiny_http_core.proofs.SlotsLemmas.{breaks-waits}
@@ -142,11 +142,11 @@ upgrade-done {R = R} client before k s date n protocol v w context new ended fin
         let go = output-more before k.sink new k.output_ended ended s.reached.slots slots text s.flushed s.failure st.output m low sent firm in
         let over = ended-is before k.sink k.output_ended s.reached.slots s.flushed s.failure st.output in
         let at = slot-at s.reached.slots p.bs p.cs s0 n slots_are p.slots_before in
-        let is : at_number true date s.reached n (Upgrade n protocol v) ≡ ends_asking (ends_with_stream h.request h.handed.owed) (changes s.reached n s1 Done Unreported) =
+        let is : at_number true date s.reached n (Upgrade n protocol v) ≡ ends_asking (is_last_with_stream h.request h.handed.owed) (changes s.reached n s1 Done Unreported) =
         ap (at_slot true date s.reached n (Upgrade n protocol v)) at.get ∙ rw (ascii, at.turn ∙ t.finished) refl in
         let C : List Slot → Type 0 = λ x. AreSentInTurn x in
-        let new_state : State = record { reached = record { slots = slots; rest = s.reached.rest; asking_ended = s.reached.asking_ended || ends_with_stream h.request h.handed.owed }; flushed = flushed_after Unreported s slots; failure = go.failure } in
-        let L : List Slot → Reached = λ l. record { slots = l; rest = s.reached.rest; asking_ended = s.reached.asking_ended || ends_with_stream h.request h.handed.owed } in
+        let new_state : State = record { reached = record { slots = slots; rest = s.reached.rest; asking_ended = s.reached.asking_ended || is_last_with_stream h.request h.handed.owed }; flushed = flushed_after Unreported s slots; failure = go.failure } in
+        let L : List Slot → Reached = λ l. record { slots = l; rest = s.reached.rest; asking_ended = s.reached.asking_ended || is_last_with_stream h.request h.handed.owed } in
         let W : List Slot → Type 0 = λ l. WriterPart Unreported s Done l Done go.failure in
         let G : Outcome → Type 0 = λ x. HasOutcome x s Done new_state in
         let M : List Mark → Type 0 = λ y. AreKept slots y requests in
@@ -158,7 +158,7 @@ upgrade-done {R = R} client before k s date n protocol v w context new ended fin
             numbers = subst M (sym (final_is ∙ p.marks_are)) (subst Q (sym requests_now) (kept-append p.bs p.fs p.us (s1 ∷ p.cs) (Open ∷ p.rs) (Some (still.Upgraded w.body) ∷ p.vs) p.before (now-upgraded protocol v date p.s w h, p.behind)));
             shape = subst K (sym final_is) st.shape;
             in_turn = turn-continued p.bs p.cs s0 s1 t.finished refl refl (subst C slots_are st.in_turn);
-            asking_ended = both-end s.reached.asking_ended k.asking_ended (ends_with_stream h.request h.handed.owed) ends st.asking_ended (stream-same p.s w h);
+            asking_ended = both-end s.reached.asking_ended k.asking_ended (is_last_with_stream h.request h.handed.owed) ends st.asking_ended (stream-same p.s w h);
             reader = reader-ended client (after_number k final requests source new ended) (k.asking_ended || ends) slots s.reached.rest (neither k.asking_ended ends) (reader-after client k final requests source new ended slots s.reached.rest reader);
             output = subst F (sym (flushed-is s k.output_ended slots over)) go.output;
           },

@@ -23,7 +23,7 @@ use Rattle.tiny_http_sending.specs.ResponseValue.{ResponseValue}
 use Rattle.tiny_http_core.specs.declared.pending.Unfinished.{Unfinished}
 use Rattle.tiny_http_core.specs.declared.pending.Unfinished.TheVariants as still
 use Rattle.tiny_http_core.specs.Slots.{Slot, Stage, Unanswered, Answered as AnsweredBy, ByServer, Raw, Upgraded, is_stage_finished, is_finished, is_broken, is_slot_broken, opening, stage_text, segment, joined, is_output_broken, is_last_item, body_was_abandoned, turn_has_come}
-use Rattle.tiny_http_core.specs.Steps.{StepValue, IntoWriter, Write, Flush, Finish, ReplyValue, Done, Fault, NotYet, NoSuch, WriterUse, Unused, Reported, Outcome, Reached, unchanged, changes, ends_asking, ends_with_stream, finished_as, written_to, stage_closed, accepts_step, needs_turn, effect, at_item, at_slot, at_number, outcome}
+use Rattle.tiny_http_core.specs.Steps.{StepValue, IntoWriter, Write, Flush, Finish, ReplyValue, Done, Fault, NotYet, NoSuch, WriterUse, Unused, Reported, Outcome, Reached, unchanged, changes, ends_asking, is_last_with_stream, finished_as, written_to, stage_closed, accepts_step, needs_turn, effect, at_item, at_slot, at_number, outcome}
 use Rattle.tiny_http_core.specs.Seen.{write_reply, is_done, IsOfWriter}
 use Rattle.tiny_http_core.specs.Driving.{IsDeclined}
 use Rattle.tiny_http_core.specs.declared.driver.Step.TheVariants as step
@@ -63,7 +63,7 @@ into_writer-done {R = R} client before k s date n w requests old source st from 
         numbers = subst M (sym p.marks_are) (kept-append p.bs p.fs p.us (s1 ∷ p.cs) (Open ∷ p.rs) (Some still.Raw ∷ p.vs) p.before (record { request = h.request; item = refl; written = []; stage = refl; given_up = refl }, p.behind));
         shape = st.shape;
         in_turn = turn-set p.bs p.cs s0 s1 (λ q. (q.0, λ z. refl)) (λ done. done) (subst T open_is st.in_turn);
-        asking_ended = both-end s.reached.asking_ended k.asking_ended (ends_with_stream h.request h.handed.owed) ends st.asking_ended (stream-same p.s w h);
+        asking_ended = both-end s.reached.asking_ended k.asking_ended (is_last_with_stream h.request h.handed.owed) ends st.asking_ended (stream-same p.s w h);
         reader = reader-ended client (with_reader k (p.us ++ (Some still.Raw ∷ p.vs)) source) (k.asking_ended || ends) slots s.reached.rest (neither k.asking_ended ends)
             (reader-given_up client k old source p.bs p.cs p.us p.vs s.reached.rest p.s (Some (still.Waiting w)) (Some still.Raw) w.body (Raw [] false) (open-waiting p.s w h) refl refl from (subst P p.slots_are st.reader) p.requests_are (kept-many p.cs p.rs p.vs p.behind) gives);
         output = output-same before k.sink k.output_ended s.reached.slots slots s.flushed s.failure joined_same breaks_same st.output;
@@ -114,15 +114,15 @@ into_writer-done {R = R} client before k s date n w requests old source st from 
     breaks_same = ap is_output_broken open_is ∙ breaks-waits p.bs s0 p.cs refl refl ∙ sym (breaks-waits p.bs s1 p.cs refl refl)
 
     state : State
-    state = record { reached = record { slots = slots; rest = s.reached.rest; asking_ended = s.reached.asking_ended || ends_with_stream h.request h.handed.owed }; flushed = s.flushed; failure = s.failure }
+    state = record { reached = record { slots = slots; rest = s.reached.rest; asking_ended = s.reached.asking_ended || is_last_with_stream h.request h.handed.owed }; flushed = s.flushed; failure = s.failure }
 
     A : List Slot → Reached
-    A l = record { slots = l; rest = s.reached.rest; asking_ended = s.reached.asking_ended || ends_with_stream h.request h.handed.owed }
+    A l = record { slots = l; rest = s.reached.rest; asking_ended = s.reached.asking_ended || is_last_with_stream h.request h.handed.owed }
 
     G : Outcome → Type 0
     G o = HasOutcome o s Done state
 
-    is : at_number true date s.reached n (IntoWriter n) ≡ ends_asking (ends_with_stream h.request h.handed.owed) (changes s.reached n s1 Done Unused)
+    is : at_number true date s.reached n (IntoWriter n) ≡ ends_asking (is_last_with_stream h.request h.handed.owed) (changes s.reached n s1 Done Unused)
     is =
         let B : Slot → Outcome = λ x. at_slot true date s.reached n (IntoWriter n) (Some x) in
         ap (at_slot true date s.reached n (IntoWriter n)) at.get ∙ ap B h.is
@@ -191,13 +191,13 @@ writable-some (Some (Some (still.Upgraded b))) e = (still.Upgraded b, refl, refl
 
 -- the step of a number of which this is kept, where it is accepted
 at-accepted : (date : HttpDate) (old : Reached) (n : ℕ) (step : StepValue) (x : Slot) (r : Request) (t : Bool) → slice_get old.slots n ≡ Some x → x.item ≡ Asks r → accepts_step x.stage x.owed step ≡ true → turn_has_come n old.slots ≡ t
-    → at_number true date old n step ≡ (if (needs_turn x.owed step && not t) then unchanged old NotYet else effect true date old r x t step)
+    → at_number true date old n step ≡ (if (needs_turn r x.owed step && not t) then unchanged old NotYet else effect true date old r x t step)
 at-accepted date old n step x r t get item accepts turn =
     let I : Item → Outcome = λ i. at_item true date old n step x i in
     ap (at_slot true date old n step) get ∙ ap I item ∙ rw (accepts, turn) refl
 
 -- its turn hasn't come
-pub writer-not_yet : (client : Feed) (before : Sink) (k : Kept) (s : State) (date : HttpDate) (n : ℕ) (step : StepValue) (u : Unfinished) → outcome true date s.reached step ≡ at_number true date s.reached n step → OfWriter step → ((owed : Bool) → needs_turn owed step ≡ true) → Stands client before k s
+pub writer-not_yet : (client : Feed) (before : Sink) (k : Kept) (s : State) (date : HttpDate) (n : ℕ) (step : StepValue) (u : Unfinished) → outcome true date s.reached step ≡ at_number true date s.reached n step → OfWriter step → ((r : Request) (owed : Bool) → needs_turn r owed step ≡ true) → Stands client before k s
     → slice_get k.requests n ≡ Some (Some u) → is_writable (Some (Some u)) ≡ true → (n == first_unfinished k.marks) ≡ false → StepIsAnswered client before k s date step NotYet
 writer-not_yet client before k s date n step u is o needs st e writable early =
     let p = place-of s.reached.slots k.marks k.requests n u st.numbers e in
@@ -207,7 +207,7 @@ writer-not_yet client before k s date n step u is o needs st e writable early =
     let late : list_all is_finished p.bs ≡ false = ⊎_elim (λ (t : InTurn p.bs p.fs p.rs). absurd (never t)) (λ (t : OutOfTurn p.bs p.fs p.rs). t.unfinished) (turn-at p.bs p.fs p.us p.rs p.before (subst S p.marks_are st.shape)) in
     let r = unfinished-asks p.s u p.waiting in
     step-unchanged client before k s date step NotYet st
-    (is ∙ at-accepted date s.reached n step p.s r.0 false at.get r.1 (fit step o p.s u p.waiting writable) (at.turn ∙ late) ∙ rw (needs p.s.owed) refl)
+    (is ∙ at-accepted date s.reached n step p.s r.0 false at.get r.1 (fit step o p.s u p.waiting writable) (at.turn ∙ late) ∙ rw (needs r.0 p.s.owed) refl)
 
 -- slots of one request, alike in what was read of its body
 alike-by : (s t : Slot) (r : Request) → s.item ≡ Asks r → t.item ≡ s.item → t.given ≡ s.given → t.end_reported ≡ s.end_reported → t.given_up ≡ s.given_up → Alike s t

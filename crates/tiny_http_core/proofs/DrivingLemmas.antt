@@ -8,7 +8,7 @@ use Rattle.tiny_http_wire.specs.Answer.{Answer, Printing, ResponseState}
 use Rattle.tiny_http_wire.specs.declared.device.Stop.{Stop}
 use Rattle.tiny_http_core.specs.declared.pending.Unfinished.{Unfinished}
 use Rattle.tiny_http_core.specs.declared.pending.Unfinished.TheVariants as still
-use Rattle.tiny_http_core.specs.Pending.{holds_next, lacks_continue as kept_lacks, ends_with_stream, last_holds_next, kept_body, GivesUpBody}
+use Rattle.tiny_http_core.specs.Pending.{is_last_without_continue_at as kept_lacks, refuses_at, is_last_with_stream_at, last_holds_next_head, kept_body, GivesUpBody}
 use Rattle.std.specs.List.{AllZip}
 use Rattle.tiny_http_core.specs.declared.driver.Timed.{Timed}
 use Rattle.tiny_http_core.specs.declared.driver.Reply.{Reply}
@@ -23,13 +23,15 @@ use Rattle.tiny_http_core.specs.Conversation.{State, TimedValue, IsFresh, start_
 use Rattle.tiny_http_sending.specs.Sending.{FailsOnceUnlessEnded, IsHonest, FailsOnce}
 use Rattle.tiny_http_core.specs.Seen.{seen, IsResponse, IsStep, IsTimedStep, MayFail, ReportsHonestly, IsAnswered, IsOfWriter, is_done, all_sent_after}
 use Rattle.tiny_http_message.specs.declared.body.Body.{Body}
+use Rattle.tiny_http_message.specs.declared.open_request.OpenRequest.{OpenRequest}
+use Rattle.tiny_http_message.specs.OpenRequest.{refuses_code}
 use Rattle.tiny_http_message.specs.Body.{is_streaming, body_standing}
 use Rattle.std.specs.Prelude.{MatchBool}
 use Rattle.tiny_http_core.specs.Connection.{Kept, ConnectionState, kept, Stands, HandedOut, open_slot, dropped}
-use Rattle.tiny_http_core.specs.Slots.{lacks_continue, turn_has_come}
-use Rattle.tiny_http_core.proofs.ConnectionDrop.{at-drop, at-refused}
+use Rattle.tiny_http_core.specs.Slots.{is_last_without_continue, turn_has_come}
+use Rattle.tiny_http_core.proofs.ConnectionDrop.{IsKeptOf, at-drop, at-unanswerable, at-refused}
 use Rattle.std.specs.Prelude.{String, string_bytes, slice_get}
-use Rattle.tiny_http_core.specs.Driving.{HasDone, TakesStep, AskEnds, StepEnds, EndsBehind, UpgradeEnds, ends_behind, IsDeclined, stated_response, stated_step, StepLeaves, AskLeaves, LetsGo, StandsAfter, ReportsFault, UpgradeLeaves, IsDropping, RefusesHeads}
+use Rattle.tiny_http_core.specs.Driving.{HasDone, TakesStep, AskEnds, StepEnds, EndsBehind, UpgradeEnds, ends_behind, IsDeclined, stated_response, stated_step, StepLeaves, AskLeaves, LetsGo, StandsAfter, ReportsFault, AnswerLeaves, UpgradeLeaves, IsDropping, RefusesHeads}
 use Rattle.tiny_http_core.proofs.ConnectionAsk.{StepIsAnswered}
 use Rattle.tiny_http_core.proofs.ConnectionReader.{holds-snoc}
 use Rattle.tiny_http_stream.proofs.SourceGoesOn.{goes-on_same, goes-on_more}
@@ -312,10 +314,10 @@ leaves-behind old mid new Refused e count here unended h = elim h [ ]
 leaves-behind old mid new NoSuch e count here unended h = elim h [ ]
 
 -- behind a refused head no body and no answer is waited for
-never-waits : {R W : Type 0} (old mid : ConnectionState R W) (now : HttpDate) → PassesHead old mid now → (mid.source.standing ≡ place.Body ⊎ last_holds_next mid.requests ≡ true) → ⊥
+never-waits : {R W : Type 0} (old mid : ConnectionState R W) (now : HttpDate) → PassesHead old mid now → (mid.source.standing ≡ place.Body ⊎ last_holds_next_head mid.requests ≡ true) → ⊥
 never-waits old mid now p h =
     ⊎_elim (not-body mid.source.standing p.stands)
-    (λ waits. (let no : false ≡ true = sym (ap last_holds_next p.requests ∙ holds-snoc old.requests None) ∙ waits in cc)) h
+    (λ waits. (let no : false ≡ true = sym (ap last_holds_next_head p.requests ∙ holds-snoc old.requests None) ∙ waits in cc)) h
 
 ends-behind : {R W : Type 0} (old mid new : ConnectionState R W) (now : HttpDate) (reply : ReplyValue) → PassesHead old mid now → AskEnds mid new reply → AskEnds old new reply
 ends-behind old mid new now (Handed k message framing) p h = (p.was_open, h.1)
@@ -385,7 +387,7 @@ takes-read old new now n m reply answers declined ends leaves moves =
 
 pub takes-respond : {R W D : Type 0} (feed : D → Option Feed) (all : Bool) (old new : ConnectionState R W) (now : HttpDate) (n : ℕ) (r : ResponseState D) (reply : ReplyValue)
     → ((client : Feed) (before : Sink) (s : State) (value : ResponseValue) → before.failures < 2 ^ 64 - 1 → IsResponse feed r value → Stands client before (kept old) s → StepIsAnswered client before (kept new) s now (Respond n value) reply)
-    → (IsDeclined (step.Respond n (stated_response feed r)) reply → new ≡ old) → EndsBehind (kept_lacks (slice_get old.requests n)) old new reply → (IsAnswered reply → LetsGo n old new) → is_done reply ≡ all → Moves all old new → ((kind : ErrorKind) → reply ≡ Fault kind → ReportsFault old new now (step.Respond n (stated_response feed r)) kind)
+    → (IsDeclined (step.Respond n (stated_response feed r)) reply → new ≡ old) → EndsBehind (kept_lacks (slice_get old.requests n)) old new reply → AnswerLeaves n old new reply → is_done reply ≡ all → Moves all old new → ((kind : ErrorKind) → reply ≡ Fault kind → ReportsFault old new now (step.Respond n (stated_response feed r)) kind)
     → TakesStep old new now (step.Respond n (stated_response feed r)) reply
 takes-respond feed all old new now n r reply answers declined ends leaves done moves honest =
     takes old new now (step.Respond n (stated_response feed r)) reply
@@ -394,7 +396,7 @@ takes-respond feed all old new now n r reply answers declined ends leaves done m
 
 pub takes-into_writer : {R W : Type 0} (old new : ConnectionState R W) (now : HttpDate) (n : ℕ) (reply : ReplyValue)
     → ((client : Feed) (before : Sink) (s : State) → before.failures < 2 ^ 64 - 1 → Stands client before (kept old) s → StepIsAnswered client before (kept new) s now (IntoWriter n) reply)
-    → (IsDeclined (step.IntoWriter n) reply → new ≡ old) → EndsBehind (ends_with_stream (slice_get old.requests n)) old new reply → StepLeaves (step.IntoWriter n) old new reply → Moves false old new → ReportsNoFault reply → TakesStep old new now (step.IntoWriter n) reply
+    → (IsDeclined (step.IntoWriter n) reply → new ≡ old) → EndsBehind (is_last_with_stream_at (slice_get old.requests n)) old new reply → StepLeaves (step.IntoWriter n) old new reply → Moves false old new → ReportsNoFault reply → TakesStep old new now (step.IntoWriter n) reply
 takes-into_writer old new now n reply answers declined ends leaves moves none =
     takes old new now (step.IntoWriter n) reply
     (λ client before s asked low is st. step-into_writer {D = Option Feed} (λ f. f) client before (kept new) s (now, asked) (step.IntoWriter n) n reply refl is (answers client before s low st))
@@ -451,18 +453,32 @@ takes-upgrade feed all old new now n p r reply answers declined ends leaves done
     declined ends leaves (moves-sent (step.Upgrade n p (stated_response feed r)) reply all old new (λ sent. refl) done moves) (λ kind e. absurd (none kind e))
 
 -- a step that drops a request
-pub drops-by : {R W : Type 0} (n : ℕ) (old new : ConnectionState R W) (now : HttpDate)
+pub drops-by : {R W : Type 0} (n : ℕ) (w : OpenRequest Body) (old new : ConnectionState R W) (now : HttpDate) → slice_get old.requests n ≡ Some (Some (still.Waiting w))
     → ((client : Feed) (before : Sink) (s : State) (asked : StepValue) (reply : ReplyValue)
-    → ((was : Reached) (by : HandedOut) (r : Request) (given : ℕ) (end_reported : Bool) → slice_get was.slots n ≡ Some (open_slot by r given end_reported) → outcome true now was asked ≡ ends_asking (lacks_continue r by.owed) (changes was n (dropped by r given end_reported) reply (use_in_turn (turn_has_come n was.slots))))
+    → ((was : Reached) (by : HandedOut) (r : Request) (given : ℕ) (end_reported : Bool) → IsKeptOf w r → slice_get was.slots n ≡ Some (open_slot by r given end_reported) → outcome true now was asked ≡ ends_asking (is_last_without_continue r by.owed) (changes was n (dropped by r given end_reported) reply (use_in_turn (turn_has_come n was.slots))))
     → before.failures < 2 ^ 64 - 1 → Stands client before (kept old) s → StepIsAnswered client before (kept new) s now asked reply)
-    → new.end ≡ ends_behind (kept_lacks (slice_get old.requests n)) old.end → LetsGo n old new → Moves false old new → (x : Step (Option Feed)) (reply : ReplyValue) → IsDropping n x reply → TakesStep old new now x reply
-drops-by n old new now answers ends leaves moves = by
+    → new.end ≡ ends_behind (kept_lacks (slice_get old.requests n)) old.end → LetsGo n old new → Moves false old new → (x : Step (Option Feed)) (reply : ReplyValue) → IsDropping old.requests n x reply → TakesStep old new now x reply
+drops-by n w old new now kept answers ends leaves moves = by
   where
-    by : (x : Step (Option Feed)) (reply : ReplyValue) → IsDropping n x reply → TakesStep old new now x reply
+    by : (x : Step (Option Feed)) (reply : ReplyValue) → IsDropping old.requests n x reply → TakesStep old new now x reply
     by step.Ask reply is = elim is [ ]
     by (step.AsReader k) reply is = elim is [ ]
     by (step.Read k m) reply is = elim is [ ]
-    by (step.Respond k r) reply is = elim is [ ]
+    by (step.Respond k r) (Handed a b c) is = elim is [ ]
+    by (step.Respond k r) Ended is = elim is [ ]
+    by (step.Respond k r) (Given b) is = elim is [ ]
+    by (step.Respond k r) (Fault kind) is = elim is [ ]
+    by (step.Respond k r) NotYet is = elim is [ ]
+    by (step.Respond k r) Done is = elim is [ ]
+    by (step.Respond k r) Refused is =
+        let T : ℕ → Type 0 = λ m. TakesStep old new now (step.Respond m r) Refused in
+        let refused = ap (refuses_at r.answer.status) (sym kept) ∙ is.1 in
+        subst T (sym is.0) (takes-respond {D = Option Feed} (λ f. f) false old new now n r Refused
+        (λ client before s v low same st.
+        let A : Answer → Type 0 = λ a. refuses_code w.by_standard w.is_connect a.status ≡ true in
+        answers client before s (Respond n v) Refused (at-unanswerable now n v w (subst A (sym same.0) refused)) low st) (λ no. elim no [ ]) ends leaves refl moves (λ kind e. cc))
+    by (step.Respond k r) NoSuch is = elim is [ ]
+    by (step.Respond k r) Memory is = elim is [ ]
     by (step.IntoWriter k) reply is = elim is [ ]
     by (step.Write k v) reply is = elim is [ ]
     by (step.Flush k) reply is = elim is [ ]
@@ -474,7 +490,7 @@ drops-by n old new now answers ends leaves moves = by
     by (step.Drop k) NotYet is = elim is [ ]
     by (step.Drop k) Done is =
         let T : ℕ → Type 0 = λ m. TakesStep old new now (step.Drop m) Done in
-        subst T (sym is) (takes-drop old new now n Done (λ client before s low st. answers client before s (Drop n) Done (at-drop now n) low st) (λ no. elim no [ ]) ends (λ done. leaves) moves (λ kind e. cc))
+        subst T (sym is) (takes-drop old new now n Done (λ client before s low st. answers client before s (Drop n) Done (λ was by r given end_reported same. at-drop now n was by r given end_reported) low st) (λ no. elim no [ ]) ends (λ done. leaves) moves (λ kind e. cc))
     by (step.Drop k) Refused is = elim is [ ]
     by (step.Drop k) NoSuch is = elim is [ ]
     by (step.Drop k) Memory is = elim is [ ]
@@ -486,7 +502,7 @@ drops-by n old new now answers ends leaves moves = by
     by (step.Upgrade k p r) Done is = elim is [ ]
     by (step.Upgrade k p r) Refused is =
         let T : ℕ → Type 0 = λ m. TakesStep old new now (step.Upgrade m p r) Refused in
-        subst T (sym is.0) (takes-upgrade {D = Option Feed} (λ f. f) false old new now n p r Refused (λ client before s v low same st. answers client before s (Upgrade n (string_bytes p) v) Refused (at-refused now n (string_bytes p) v is.1) low st) (λ no. elim no [ ]) ends leaves refl moves (λ kind e. cc))
+        subst T (sym is.0) (takes-upgrade {D = Option Feed} (λ f. f) false old new now n p r Refused (λ client before s v low same st. answers client before s (Upgrade n (string_bytes p) v) Refused (λ was by r given end_reported same. at-refused now n (string_bytes p) v is.1 was by r given end_reported) low st) (λ no. elim no [ ]) ends leaves refl moves (λ kind e. cc))
     by (step.Upgrade k p r) NoSuch is = elim is [ ]
     by (step.Upgrade k p r) Memory is = elim is [ ]
 

@@ -22,7 +22,7 @@ use Rattle.tiny_http_message.specs.declared.exchange.EndOfRequests.{EndOfRequest
 use Rattle.tiny_http_stream.specs.declared.source.Standing.{Standing}
 use Rattle.tiny_http_stream.specs.declared.source.Standing.TheVariants as at
 use Rattle.tiny_http_stream.specs.Outlet.{OutletState, output_of}
-use Rattle.tiny_http_message.specs.Pipeline.{Item, Asks, Refuses, Request, is_head_method, body_length_or_0}
+use Rattle.tiny_http_message.specs.Pipeline.{Item, Asks, Refuses, Request, is_head_method, is_connect_method, body_length_or_0}
 use Rattle.tiny_http_core.specs.Slots.{Slot, Stage, ByServer, Raw, Upgraded, is_finished, is_slot_broken, segment, stage_text, joined, is_output_broken, new_slot, holds_next_head, last_slot, is_last_slot, last_was_abandoned, rest_of}
 use Rattle.tiny_http_core.specs.Steps.{finished_as}
 use Rattle.tiny_http_sending.specs.ResponseValue.{ResponseValue}
@@ -86,6 +86,7 @@ pub record IsWaiting (s : Slot) (w : OpenRequest Body) : Type 0 where
   pub owed : w.owes_continue ≡ handed.owed
   pub holds : w.holds_next_head ≡ holds_next_head request
   pub standard : w.by_standard ≡ request.framing.by_standard
+  pub connect : w.is_connect ≡ is_connect_method request.message.method
   pub unsent : handed.owed ≡ true → handed.continued ≡ None
   pub rest_is_last : request.framing.form ≡ Rest → request.framing.is_last ≡ true
   pub answer_context : w.answer_context ≡ answer_context_of request

@@ -25,7 +25,7 @@ use Rattle.tiny_http_core.specs.Conversation.{State, TimedValue, Run, start_stat
 use Rattle.tiny_http_wire.specs.declared.answer_context.AnswerContext.{AnswerContext}
 use Rattle.tiny_http_sending.specs.ResponseValue.{printing_in}
 use Rattle.tiny_http_sending.specs.Sending.{IsHonest, FailsOnce}
-use Rattle.tiny_http_core.specs.Pending.{waiting_answer_context, owes_continue, holds_next, lacks_continue, ends_with_stream, last_holds_next, kept_body, GivesUpBody, with_body}
+use Rattle.tiny_http_core.specs.Pending.{waiting_answer_context, owes_continue, is_last_without_continue_at, refuses_at, is_last_with_stream_at, last_holds_next_head, kept_body, GivesUpBody, with_body}
 use Rattle.tiny_http_message.specs.declared.body.Body.{Body}
 use Rattle.tiny_http_message.specs.declared.open_request.OpenRequest.{OpenRequest}
 use Rattle.tiny_http_core.specs.declared.pending.Unfinished.{Unfinished}
@@ -97,7 +97,7 @@ EndsRequestsAt p standing feed why =
 -- where memory for a head was refused; after the end it changes nothing, and after the last request the source is left alone.
 abbrev pub AskEnds : {R W : Type 0} → ConnectionState R W → ConnectionState R W → ReplyValue → Type 0
 AskEnds old new (Handed k message framing) = (old.end ≡ None) × (new.end ≡ None)
-AskEnds old new NotYet = (old.end ≡ None) × (old.source.standing ≡ at.Body ⊎ last_holds_next old.requests ≡ true)
+AskEnds old new NotYet = (old.end ≡ None) × (old.source.standing ≡ at.Body ⊎ last_holds_next_head old.requests ≡ true)
 AskEnds old new Ended =
     (IsSome old.end → new ≡ old) × (old.source.standing ≡ at.Last → new.source ≡ old.source)
     × (old.end ≡ None → (why : EndOfRequests) × (new.end ≡ Some why) × EndsRequestsAt old.profile old.source.standing old.source.feed why)
@@ -110,7 +110,7 @@ ends_behind false end = end
 ends_behind true None = Some because.LastRequest
 ends_behind true (Some why) = Some why
 
--- a step of a number was done, behind which the requests end, if this holds; or it was not done
+-- Where the step was done, the requests end behind its number, if this holds; else nothing has changed.
 abbrev pub EndsBehind : {R W : Type 0} → Bool → ConnectionState R W → ConnectionState R W → ReplyValue → Type 0
 EndsBehind ends old new NotYet = new.end ≡ old.end
 EndsBehind ends old new NoSuch = new.end ≡ old.end
@@ -118,21 +118,21 @@ EndsBehind ends old new _ = new.end ≡ ends_behind ends old.end
 
 -- the same of an Upgrade: it gives the number the connection's stream, or drops it
 abbrev pub UpgradeEnds : {R W : Type 0} → ℕ → ConnectionState R W → ConnectionState R W → ReplyValue → Type 0
-UpgradeEnds k old new Refused = new.end ≡ ends_behind (lacks_continue (slice_get old.requests k)) old.end
-UpgradeEnds k old new reply = EndsBehind (ends_with_stream (slice_get old.requests k)) old new reply
+UpgradeEnds k old new Refused = new.end ≡ ends_behind (is_last_without_continue_at (slice_get old.requests k)) old.end
+UpgradeEnds k old new reply = EndsBehind (is_last_with_stream_at (slice_get old.requests k)) old new reply
 
 -- what a step says of the end of the requests
 abbrev pub StepEnds : {R W : Type 0} → Step (Option Feed) → ConnectionState R W → ConnectionState R W → ReplyValue → Type 0
 StepEnds step.Ask old new reply = AskEnds old new reply
 StepEnds (step.AsReader k) old new reply = new.end ≡ old.end
 StepEnds (step.Read k n) old new reply = new.end ≡ old.end
-StepEnds (step.Respond k r) old new reply = EndsBehind (lacks_continue (slice_get old.requests k)) old new reply
-StepEnds (step.IntoWriter k) old new reply = EndsBehind (ends_with_stream (slice_get old.requests k)) old new reply
+StepEnds (step.Respond k r) old new reply = EndsBehind (is_last_without_continue_at (slice_get old.requests k)) old new reply
+StepEnds (step.IntoWriter k) old new reply = EndsBehind (is_last_with_stream_at (slice_get old.requests k)) old new reply
 StepEnds (step.Write k bytes) old new reply = new.end ≡ old.end
 StepEnds (step.Flush k) old new reply = new.end ≡ old.end
 StepEnds (step.Upgrade k p r) old new reply = UpgradeEnds k old new reply
 StepEnds (step.Finish k) old new reply = new.end ≡ old.end
-StepEnds (step.Drop k) old new reply = EndsBehind (lacks_continue (slice_get old.requests k)) old new reply
+StepEnds (step.Drop k) old new reply = EndsBehind (is_last_without_continue_at (slice_get old.requests k)) old new reply
 
 -- the body that is kept of this number was given up
 abbrev pub GivesUpKept : {R W : Type 0} → ℕ → ConnectionState R W → ConnectionState R W → Type 0
@@ -182,6 +182,11 @@ SendsContinue k old new _ = ⊥
 abbrev pub LeavesAllButOutlet : {R W : Type 0} → ConnectionState R W → ConnectionState R W → Type 0
 LeavesAllButOutlet old new = (new.requests ≡ old.requests) × (new.marks ≡ old.marks) × (new.source ≡ old.source)
 
+-- what an answer leaves, by the reply: the request was answered, or dropped
+abbrev pub AnswerLeaves : {R W : Type 0} → ℕ → ConnectionState R W → ConnectionState R W → ReplyValue → Type 0
+AnswerLeaves k old new Refused = LetsGo k old new
+AnswerLeaves k old new reply = IsAnswered reply → LetsGo k old new
+
 -- What an Upgrade leaves, by the reply: the request was upgraded, and its body is kept; or the request was dropped.
 abbrev pub UpgradeLeaves : {R W : Type 0} → ℕ → ConnectionState R W → ConnectionState R W → ReplyValue → Type 0
 UpgradeLeaves k old new Done =
@@ -203,7 +208,7 @@ StepLeaves (step.Read k n) old new reply =
     × (((new.requests ≡ old.requests) × (new.source ≡ old.source))
     ⊎ ((u : Unfinished) × (was : Body) × (body : Body) × (slice_get old.requests k ≡ Some (Some u)) × (kept_body (Some u) ≡ Some was)
     × (new.requests ≡ slice_set old.requests k (Some (with_body body u))) × StandsAfter was body old.source new.source))
-StepLeaves (step.Respond k r) old new reply = IsAnswered reply → LetsGo k old new
+StepLeaves (step.Respond k r) old new reply = AnswerLeaves k old new reply
 StepLeaves (step.IntoWriter k) old new reply =
     (new.outlet ≡ old.outlet) × (new.marks ≡ old.marks) × (IsAnswered reply → (new.requests ≡ slice_set old.requests k (Some still.Raw)) × GivesUpKept k old new)
 StepLeaves (step.Write k bytes) old new reply = LeavesAllButOutlet old new
@@ -253,12 +258,14 @@ pub record TakesStep {R W : Type 0} (old new : ConnectionState R W) (now : HttpD
   pub sent_on : (sent : Bool) → (sent ≡ true → SentOn old.outlet) → all_sent_after step reply sent ≡ true → SentOn new.outlet
   pub honest : (kind : ErrorKind) → reply ≡ Fault kind → ReportsFault old new now step kind
 
--- a step that drops the request of this number, and its reply: a Drop, or an Upgrade whose protocol isn't ASCII
-abbrev pub IsDropping : ℕ → Step (Option Feed) → ReplyValue → Type 0
-IsDropping n (step.Drop k) Done = k ≡ n
-IsDropping n (step.Upgrade k p r) Refused = (k ≡ n) × (list_all is_ascii (string_bytes p) ≡ false)
-IsDropping _ _ _ = ⊥
+-- a step that drops the request of this number, and its reply: a Drop, an answer that is refused, or an Upgrade whose protocol isn't
+-- ASCII
+abbrev pub IsDropping : List (Option Unfinished) → ℕ → Step (Option Feed) → ReplyValue → Type 0
+IsDropping requests n (step.Drop k) Done = k ≡ n
+IsDropping requests n (step.Respond k r) Refused = (k ≡ n) × (refuses_at r.answer.status (slice_get requests n) ≡ true)
+IsDropping requests n (step.Upgrade k p r) Refused = (k ≡ n) × (list_all is_ascii (string_bytes p) ≡ false)
+IsDropping _ _ _ _ = ⊥
 
 -- the request of this number was dropped
 abbrev pub Drops : {R W : Type 0} → ℕ → ConnectionState R W → ConnectionState R W → Type 0
-Drops n old new = (now : HttpDate) (x : Step (Option Feed)) (reply : ReplyValue) → IsDropping n x reply → TakesStep old new now x reply
+Drops n old new = (now : HttpDate) (x : Step (Option Feed)) (reply : ReplyValue) → IsDropping old.requests n x reply → TakesStep old new now x reply

@@ -1,5 +1,5 @@
 -- Numbers whose turn comes, and what is sent as it does.
-use Rattle.std.specs.Prelude.{◌≡◌, ◌==◌, ◌<◌, ◌^◌, ◌+◌, ℕ, Bool, true, false, not, ◌&&◌, ◌||◌, List, [], ◌∷◌, ◌++◌, length, Option, Some, None, MatchBool, slice_get}
+use Rattle.std.specs.Prelude.{◌≡◌, ◌==◌, ◌<◌, ◌^◌, ◌+◌, ℕ, Bool, true, false, not, ◌||◌, List, [], ◌∷◌, ◌++◌, length, Option, Some, None, MatchBool, slice_get}
 use Rattle.tiny_http_wire.specs.Device.{Sink}
 use Rattle.tiny_http_wire.specs.declared.answer_context.AnswerContext.{AnswerContext}
 use Rattle.std.specs.Global.{Vec}
@@ -10,6 +10,7 @@ use Rattle.tiny_http_core.specs.declared.pending.Unfinished.TheVariants as still
 use Rattle.tiny_http_message.specs.declared.body.Body.{Body}
 use Rattle.tiny_http_message.specs.declared.open_request.OpenRequest.{OpenRequest}
 use Rattle.tiny_http_message.specs.Body.{is_streaming, GivesUp}
+use Rattle.tiny_http_message.specs.OpenRequest.{is_last_without_continue, refuses_code}
 use Rattle.tiny_http_stream.specs.Source.{SourceState}
 use Rattle.tiny_http_stream.specs.Outlet.{OutletState, output_of, outlet_ended, outlet_held, SentOn}
 use Rattle.tiny_http_sending.specs.Sending.{CanSend, SendsUnlessEnded, SendsQuietlyOn, IsFlushed, FailsOnce}
@@ -94,30 +95,38 @@ owes_continue (Some None) = false
 owes_continue None = false
 
 -- the next head isn't read before it is answered
-abbrev pub holds_next : Option (Option Unfinished) → Bool
-holds_next (Some (Some (still.Waiting w))) = w.holds_next_head
-holds_next (Some (Some still.Raw)) = false
-holds_next (Some (Some (still.Upgraded b))) = false
-holds_next (Some None) = false
-holds_next None = false
+abbrev pub holds_next_head_at : Option (Option Unfinished) → Bool
+holds_next_head_at (Some (Some (still.Waiting w))) = w.holds_next_head
+holds_next_head_at (Some (Some still.Raw)) = false
+holds_next_head_at (Some (Some (still.Upgraded b))) = false
+holds_next_head_at (Some None) = false
+holds_next_head_at None = false
 
 -- its 100 wasn't sent, and no head is read behind it once it is finished
-abbrev pub lacks_continue : Option (Option Unfinished) → Bool
-lacks_continue (Some (Some (still.Waiting w))) = w.by_standard && w.owes_continue
-lacks_continue (Some (Some still.Raw)) = false
-lacks_continue (Some (Some (still.Upgraded b))) = false
-lacks_continue (Some None) = false
-lacks_continue None = false
+abbrev pub is_last_without_continue_at : Option (Option Unfinished) → Bool
+is_last_without_continue_at (Some (Some (still.Waiting w))) = is_last_without_continue w
+is_last_without_continue_at (Some (Some still.Raw)) = false
+is_last_without_continue_at (Some (Some (still.Upgraded b))) = false
+is_last_without_continue_at (Some None) = false
+is_last_without_continue_at None = false
+
+-- it waits for its answer, and one with this code is refused
+abbrev pub refuses_at : ℕ → Option (Option Unfinished) → Bool
+refuses_at code (Some (Some (still.Waiting w))) = refuses_code w.by_standard w.is_connect code
+refuses_at code (Some (Some still.Raw)) = false
+refuses_at code (Some (Some (still.Upgraded b))) = false
+refuses_at code (Some None) = false
+refuses_at code None = false
 
 -- no head is read behind it once it gets the connection's stream
-abbrev pub ends_with_stream : Option (Option Unfinished) → Bool
-ends_with_stream o = holds_next o || lacks_continue o
+abbrev pub is_last_with_stream_at : Option (Option Unfinished) → Bool
+is_last_with_stream_at o = holds_next_head_at o || is_last_without_continue_at o
 
 -- the next head isn't read before the last of these is answered
-abbrev pub last_holds_next : List (Option Unfinished) → Bool
-last_holds_next [] = false
-last_holds_next (u ∷ []) = holds_next (Some u)
-last_holds_next (u ∷ v ∷ us) = last_holds_next (v ∷ us)
+abbrev pub last_holds_next_head : List (Option Unfinished) → Bool
+last_holds_next_head [] = false
+last_holds_next_head (u ∷ []) = holds_next_head_at (Some u)
+last_holds_next_head (u ∷ v ∷ us) = last_holds_next_head (v ∷ us)
 
 -- the body that is kept of a number, if any
 abbrev pub kept_body : Option Unfinished → Option Body

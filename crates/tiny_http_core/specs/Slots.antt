@@ -9,7 +9,8 @@ use Rattle.tiny_http_wire.specs.Answer.{Printing}
 use Rattle.tiny_http_encoding.specs.Text.{Text, Ending, Whole, Broken, prepend_text, whole, nothing_sent}
 use Rattle.tiny_http_message.specs.declared.framing.Form.{Form}
 use Rattle.tiny_http_message.specs.declared.framing.Form.TheVariants.{Rest, Nothing, WithHead, Counted, Chunked}
-use Rattle.tiny_http_message.specs.Pipeline.{Item, Asks, Refuses, Request, is_head_method, body_length_or_0}
+use Rattle.tiny_http_message.specs.Pipeline.{Item, Asks, Refuses, Request, is_head_method, is_connect_method, body_length_or_0}
+use Rattle.tiny_http_message.specs.OpenRequest.{refuses_code}
 use Rattle.tiny_http_sending.specs.ResponseValue.{ResponseValue, response_of, response_text, printing_to}
 use Rattle.tiny_http_message.specs.OwnAnswer.{own_printing, refusal_response}
 use Rattle.tiny_http_message.specs.Body.{body_finished}
@@ -165,13 +166,17 @@ holds_next_head r = r.framing.asks_upgrade && not r.framing.is_last
 
 -- Its 100 wasn't sent, and it was read by the standard: the client may leave the body out, or send it, so that no head is read behind
 -- it once it is finished.
-abbrev pub lacks_continue : Request → Bool → Bool
-lacks_continue r owed = r.framing.by_standard && owed
+abbrev pub is_last_without_continue : Request → Bool → Bool
+is_last_without_continue r owed = r.framing.by_standard && owed
+
+-- the request isn't answered by this response
+abbrev pub refuses_response : Request → ResponseValue → Bool
+refuses_response r response = refuses_code r.framing.by_standard (is_connect_method r.message.method) response.answer.status
 
 -- the next head isn't read before this number is answered
-abbrev pub awaits_answer : Slot → Item → Bool
-awaits_answer s (Asks r) = holds_next_head r && is_unanswered s.stage
-awaits_answer s (Refuses refusal version no_body last) = false
+abbrev pub is_holding : Slot → Item → Bool
+is_holding s (Asks r) = holds_next_head r && is_unanswered s.stage
+is_holding s (Refuses refusal version no_body last) = false
 
 -- a chunked body was given up before its end was reported: where the next head begins isn't known
 abbrev pub body_was_abandoned : Slot → Item → Bool
@@ -189,13 +194,13 @@ abbrev pub last_is_open : Option Slot → Bool
 last_is_open None = false
 last_is_open (Some s) = body_is_open s s.item
 
-abbrev pub last_awaits_answer : Option Slot → Bool
-last_awaits_answer None = false
-last_awaits_answer (Some s) = awaits_answer s s.item
+abbrev pub last_is_holding : Option Slot → Bool
+last_is_holding None = false
+last_is_holding (Some s) = is_holding s s.item
 
 -- the last request holds the reader: the next head can't be read yet
 abbrev pub last_holds_reader : Option Slot → Bool
-last_holds_reader last = (not (is_last_slot last) && last_is_open last) || last_awaits_answer last
+last_holds_reader last = (not (is_last_slot last) && last_is_open last) || last_is_holding last
 
 abbrev pub last_was_abandoned : Option Slot → Bool
 last_was_abandoned None = false

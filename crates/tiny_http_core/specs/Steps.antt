@@ -12,7 +12,7 @@ use Rattle.tiny_http_message.specs.declared.framing.Framing.{Framing}
 use Rattle.tiny_http_message.specs.Pipeline.{Item, Asks, Refuses, Request}
 use Rattle.tiny_http_sending.specs.ResponseValue.{ResponseValue}
 use Rattle.tiny_http_sending.specs.Sending.{is_closed_client}
-use Rattle.tiny_http_core.specs.Slots.{Slot, Stage, Unanswered, Answered, ByServer, Raw, Upgraded, turn_has_come, to_request, text_if, new_slot, rest_of, last_slot, holds_next_head, lacks_continue, last_holds_reader, last_was_abandoned}
+use Rattle.tiny_http_core.specs.Slots.{Slot, Stage, Unanswered, Answered, ByServer, Raw, Upgraded, turn_has_come, to_request, text_if, new_slot, rest_of, last_slot, holds_next_head, is_last_without_continue, refuses_response, last_holds_reader, last_was_abandoned}
 
 -- a step, with its response as a value
 pub data StepValue : Type 0 where
@@ -139,13 +139,13 @@ accepts_step (Answered response date found) owed _ = false
 accepts_step ByServer owed _ = false
 
 -- whether a step waits for its number's turn
-abbrev pub needs_turn : Bool → StepValue → Bool
-needs_turn owed (AsReader k) = owed
-needs_turn owed (Respond k response) = true
-needs_turn owed (Write k bytes) = true
-needs_turn owed (Flush k) = true
-needs_turn owed (Upgrade k protocol response) = list_all is_ascii protocol
-needs_turn owed _ = false
+abbrev pub needs_turn : Request → Bool → StepValue → Bool
+needs_turn r owed (AsReader k) = owed
+needs_turn r owed (Respond k response) = not (refuses_response r response)
+needs_turn r owed (Write k bytes) = true
+needs_turn r owed (Flush k) = true
+needs_turn r owed (Upgrade k protocol response) = list_all is_ascii protocol
+needs_turn r owed _ = false
 
 -- a text of the server's own is written in its turn alone
 abbrev pub use_in_turn : Bool → WriterUse
@@ -156,9 +156,9 @@ use_in_turn false = Unused
 abbrev pub ends_asking : Bool → Outcome → Outcome
 ends_asking ends o = record o { asking_ended = o.asking_ended || ends }
 
--- none is once it gets the connection's stream: what follows may be bytes of the protocol that it asked for, or its 100 wasn't sent
-abbrev pub ends_with_stream : Request → Bool → Bool
-ends_with_stream r owed = holds_next_head r || lacks_continue r owed
+-- No head is read behind a request that gets the connection's stream, if it holds the next head or its 100 wasn't sent.
+abbrev pub is_last_with_stream : Request → Bool → Bool
+is_last_with_stream r owed = holds_next_head r || is_last_without_continue r owed
 
 -- a step that the number of a request takes, in its time
 abbrev pub effect : Bool → HttpDate → Reached → Request → Slot → Bool → StepValue → Outcome
@@ -170,23 +170,24 @@ effect found date old r s turn (Read k n) =
     (read_reply n (rest_of r s.given).bytes r.body.stop) Unused
 effect found date old r s turn (Respond k response) =
     let text = text_if found response (to_request r date) in
-    ends_asking (lacks_continue r s.owed) (changes old k (finished_as s (Answered response date found)) Done (Reported text.bytes (fault_in text.ending) true fault_reply))
-effect found date old r s turn (IntoWriter k) = ends_asking (ends_with_stream r s.owed) (changes old k (record s { stage = Raw [] false; given_up = true; owed = false }) Done Unused)
+    if refuses_response r response then ends_asking (is_last_without_continue r s.owed) (changes old k (finished_as s ByServer) Refused (use_in_turn turn)) else
+    ends_asking (is_last_without_continue r s.owed) (changes old k (finished_as s (Answered response date found)) Done (Reported text.bytes (fault_in text.ending) true fault_reply))
+effect found date old r s turn (IntoWriter k) = ends_asking (is_last_with_stream r s.owed) (changes old k (record s { stage = Raw [] false; given_up = true; owed = false }) Done Unused)
 effect found date old r s turn (Write k bytes) = changes old k (record s { stage = written_to bytes s.stage }) Done (Reported bytes None false Fault)
 effect found date old r s turn (Flush k) = changes old k s Done (Reported [] None true Fault)
 effect found date old r s turn (Upgrade k protocol response) =
     if list_all is_ascii protocol
-    then ends_asking (ends_with_stream r s.owed) (changes old k (record s { stage = Upgraded protocol response date [] false; owed = false }) Done Unreported)
-    else ends_asking (lacks_continue r s.owed) (changes old k (finished_as s ByServer) Refused (use_in_turn turn))
+    then ends_asking (is_last_with_stream r s.owed) (changes old k (record s { stage = Upgraded protocol response date [] false; owed = false }) Done Unreported)
+    else ends_asking (is_last_without_continue r s.owed) (changes old k (finished_as s ByServer) Refused (use_in_turn turn))
 effect found date old r s turn (Finish k) = changes old k (finished_as s (stage_closed s.stage)) Done (use_in_turn turn)
-effect found date old r s turn (Drop k) = ends_asking (lacks_continue r s.owed) (changes old k (finished_as s ByServer) Done (use_in_turn turn))
+effect found date old r s turn (Drop k) = ends_asking (is_last_without_continue r s.owed) (changes old k (finished_as s ByServer) Done (use_in_turn turn))
 effect found date old r s turn Ask = unchanged old NoSuch
 
 abbrev pub at_item : Bool → HttpDate → Reached → ℕ → StepValue → Slot → Item → Outcome
 at_item found date old k step s (Refuses refusal version no_body last) = unchanged old NoSuch
 at_item found date old k step s (Asks r) =
     if not (accepts_step s.stage s.owed step) then unchanged old NoSuch else
-    if (needs_turn s.owed step && not (turn_has_come k old.slots)) then unchanged old NotYet else
+    if (needs_turn r s.owed step && not (turn_has_come k old.slots)) then unchanged old NotYet else
     effect found date old r s (turn_has_come k old.slots) step
 
 abbrev pub at_slot : Bool → HttpDate → Reached → ℕ → StepValue → Option Slot → Outcome

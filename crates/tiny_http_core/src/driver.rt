@@ -92,7 +92,7 @@ pub enum Reply {
     NotYet,
     /// The step was done, and met no fault that is reported.
     Done,
-    /// An upgrade was refused, as its protocol isn't ASCII, and the request was dropped.
+    /// An upgrade was refused, as its protocol isn't ASCII, or an answer under `Standard`, by its code; and the request was dropped.
     Refused,
     /// No request of this number takes the step; nothing has changed.
     NoSuch,
@@ -227,7 +227,8 @@ impl<R: ReadDevice, W: WriteDevice> Connection<R, W> {
         }
     }
 
-    /// Why no further request is handed out, once an `ask` was answered `Ended` or `Memory`.
+    /// Why no further request is handed out, once an `ask` was answered `Ended` or `Memory`, or a request was finished, upgraded or its
+    /// raw writer taken, behind which none is read.
     pub fn end_of_requests(&self) -> Option<EndOfRequests>
         ensures { result ≡ self.now.end }
     {
@@ -251,11 +252,13 @@ impl<R: ReadDevice, W: WriteDevice> Connection<R, W> {
     /// Goes to the next request, and hands it out with its number: `Handed`. It is `NotYet` while the body of the last request
     /// holds the reader: until that was read to its end or given up. It is so, too, while the last request waits for its answer
     /// and its head says `asks_upgrade`, unless it is the connection's last: what follows it may be bytes of the other protocol
-    /// (RFC 9110, section 7.8). If that request's raw writer is taken, or it is upgraded, it is the last. It is `Ended` once the connection has no further request,
-    /// from then on, and `end_of_requests` says why. A refused head is answered under a number of its own, in its turn, and
+    /// (RFC 9110, section 7.8). The reply is `Ended` once the connection has no further request, from then on, and
+    /// `end_of_requests` says why. A refused head is answered under a number of its own, in its turn, and
     /// ends the asking; but a 505 does so only where its head names an upgrade or its body is chunked. After any other 505 the
     /// same call reads the next head. `Memory` ends the asking too, and so does a chunked body that was given up before its
-    /// end. The call waits for the client only until the head and a body of up to 1024 bytes have come, or the head alone where
+    /// end. Under `Standard` each 505 ends it; so does a request that asked for an upgrade, once its raw writer is taken or it is
+    /// upgraded, and one that is answered, dropped, upgraded or gives its raw writer while its 100 is owed. The call waits for the
+    /// client only until the head and a body of up to 1024 bytes have come, or the head alone where
     /// it expects a 100, and before them the rest of a counted body that was given up or passed over. After the last request
     /// the reader isn't called. `now` dates the answers to refused heads, and the 500 of this request if it is dropped.
     pub fn ask(&mut self, alloc: Global, now: HttpDate) -> Reply
@@ -345,7 +348,8 @@ impl<R: ReadDevice, W: WriteDevice> Connection<R, W> {
 
     /// Drops the request of this number, and gives its body up: an empty 500 is its answer, on the date of its `ask`. It is
     /// sent now, or by the call that finishes the last number before it; it is never `NotYet`. `Done`, or `NoSuch` for a number
-    /// that doesn't wait for an answer. It takes no memory, and no reply reports a fault of the writer.
+    /// that doesn't wait for an answer. It takes no memory, and no reply reports a fault of the writer. Under `Standard` no request
+    /// follows one that is dropped, answered or upgraded while its 100 is owed.
     pub fn drop_request(&mut self, number: u64) -> Reply
         ensures step { (date : Date) → TakesStep self.old self.new date (Step.Drop number) (seen result) }
     {
@@ -363,7 +367,7 @@ impl<R: ReadDevice, W: WriteDevice> Connection<R, W> {
         let Some(request) = self.pending.take(number, None) else {
             return false;
         };
-        self.end = ends_behind(request.lacks_continue(), self.end);
+        self.end = ends_behind(request.is_last_without_continue(), self.end);
         let (text, mut body) = request.into_drop_text();
         self.pending.leave(&mut self.outlet, number, text);
         body.give_up(&mut self.source);
@@ -375,7 +379,8 @@ impl<R: ReadDevice, W: WriteDevice> Connection<R, W> {
     /// unsent. A fault by which the client has gone is `Done` too, and data of unknown length for which there is no memory are
     /// a fault of kind `OutOfMemory`. `now` is the answer's `Date`.
     /// `NotYet` while a number before it isn't finished, and `NoSuch` for a number that doesn't wait for an answer: then the
-    /// response is let go, and nothing has changed.
+    /// response is let go, and nothing has changed. Under `Standard` it is `Refused`, in its turn or before it, where the code is
+    /// below 200 or above 999, or a 2xx to `CONNECT`: then the request is dropped.
     pub fn respond<D: ReadDevice + Drop>(
         &mut self,
         alloc: Global,
@@ -388,13 +393,17 @@ impl<R: ReadDevice, W: WriteDevice> Connection<R, W> {
         if !self.pending.is_waiting(number) {
             return Reply::NoSuch;
         }
+        if self.pending.refuses(number, response.status_code()) {
+            self.let_go(number);
+            return Reply::Refused;
+        }
         if !self.pending.hold(number) {
             return Reply::NotYet;
         }
         let Some(mut request) = self.pending.take(number, None) else {
             unreachable!()
         };
-        self.end = ends_behind(request.lacks_continue(), self.end);
+        self.end = ends_behind(request.is_last_without_continue(), self.end);
         let reply = answer(alloc, &mut request, &mut self.outlet, response, now);
         self.pending.pass(&mut self.outlet, number);
         request.give_up(&mut self.source);
@@ -403,15 +412,15 @@ impl<R: ReadDevice, W: WriteDevice> Connection<R, W> {
 
     /// Takes the raw writer of the request of this number in place of an answer, and gives its body up: `Done`, in its turn or
     /// before it, or `NoSuch` for a number that doesn't wait for an answer. Nothing is sent: after a 100 that was sent before,
-    /// the bytes that `write` writes are all that the client gets for the request. A 100 that is owed isn't sent any more. No
-    /// request follows one whose head says `asks_upgrade`.
+    /// the bytes that `write` writes are all that the client gets for the request. A 100 that is owed isn't sent any more. Under
+    /// `Standard` no request follows one whose head says `asks_upgrade`, or whose 100 is owed.
     pub fn into_writer(&mut self, number: u64) -> Reply
         ensures step { (date : Date) → TakesStep self.old self.new date (Step.IntoWriter number) (seen result) }
     {
         let Some(mut request) = self.pending.take(number, Some(Unfinished::Raw)) else {
             return Reply::NoSuch;
         };
-        self.end = ends_behind(request.ends_with_stream(), self.end);
+        self.end = ends_behind(request.is_last_with_stream(), self.end);
         request.give_up(&mut self.source);
         Reply::Done
     }
@@ -450,7 +459,7 @@ impl<R: ReadDevice, W: WriteDevice> Connection<R, W> {
     /// Answers the request of this number by a response that upgrades the connection to this protocol (RFC 9110, section
     /// 7.8): `Done`. The response's head is sent and flushed, with `Connection: upgrade` and `Upgrade: PROTOCOL`, and its data
     /// are let go unread. From then on `read` gives what is left of the request's body. That is all that follows where its head
-    /// names an upgrade. Bytes are written by `write`, `flush` and `finish`, as by a raw writer. It is `Refused` where the
+    /// names an upgrade, but under `Standard`. Bytes are written by `write`, `flush` and `finish`, as by a raw writer. It is `Refused` where the
     /// protocol isn't ASCII, in its turn or before it: then the request is dropped. `NotYet` and `NoSuch` are as for `respond`.
     /// It takes no memory, and no reply reports a fault of the writer. `now` is the answer's `Date`.
     pub fn upgrade<D: ReadDevice + Drop>(
@@ -474,7 +483,7 @@ impl<R: ReadDevice, W: WriteDevice> Connection<R, W> {
         if !self.pending.is_in_turn(number) {
             return Reply::NotYet;
         }
-        self.end = ends_behind(self.pending.ends_with_stream(number), self.end);
+        self.end = ends_behind(self.pending.is_last_with_stream(number), self.end);
         let outlet = &mut self.outlet;
         self.pending
             .upgrade(alloc, outlet, number, protocol, response, now);

@@ -13,7 +13,7 @@ ghost use Rattle.tiny_http_message.specs.declared.body.Body.{Body};
 ghost use Rattle.tiny_http_message.specs.declared.open_request.OpenRequest.{OpenRequest};
 ghost use Rattle.tiny_http_stream.specs.Source.{GoesOn};
 ghost use Rattle.tiny_http_message.specs.Body.{is_streaming, body_standing, FillsFromBody};
-ghost use Rattle.tiny_http_core.specs.Pending.{WaitsAt, left_text, SendsLeft, FinishesFront, LeavesText, waiting_answer_context, is_readable, is_writable, owes_continue, holds_next, ends_with_stream, last_holds_next, kept_body, GivesUpBody, with_body};
+ghost use Rattle.tiny_http_core.specs.Pending.{WaitsAt, left_text, SendsLeft, FinishesFront, LeavesText, waiting_answer_context, is_readable, is_writable, owes_continue, holds_next_head_at, refuses_at, is_last_with_stream_at, last_holds_next_head, kept_body, GivesUpBody, with_body};
 
 use httpdate::HttpDate;
 use std::alloc::{AllocError, Global};
@@ -27,6 +27,7 @@ use tiny_http_stream::source::Source;
 use tiny_http_turns::by_number::ByNumber;
 use tiny_http_turns::passing::{HeldTurn, pass_on};
 use tiny_http_turns::turns::{Finishing, Leaving, Turns, TurnsError};
+use tiny_http_wire::common::StatusCode;
 use tiny_http_wire::device::{ReadDevice, WriteDevice};
 use tiny_http_wire::response::Response;
 
@@ -119,7 +120,7 @@ impl Pending {
 
     /// Whether this number waits for its answer, and the next head isn't read before it.
     pub fn holds_next_head(&self, number: u64) -> bool
-        ensures { result ≡ holds_next (slice_get self.now.requests number) }
+        ensures { result ≡ holds_next_head_at (slice_get self.now.requests number) }
     {
         match self.requests.get(number) {
             Some(Unfinished::Waiting(request)) => request.holds_next_head,
@@ -127,20 +128,30 @@ impl Pending {
         }
     }
 
-    /// Whether this number waits for its answer, and no head is read behind it once it gets the connection's stream: it holds the
-    /// next head, or lacks its 100.
-    pub fn ends_with_stream(&self, number: u64) -> bool
-        ensures { result ≡ ends_with_stream (slice_get self.now.requests number) }
+    /// Whether this number waits for its answer, and one with this code is refused.
+    pub fn refuses(&self, number: u64, status: StatusCode) -> bool
+        ensures { result ≡ refuses_at status.0 (slice_get self.now.requests number) }
     {
         match self.requests.get(number) {
-            Some(Unfinished::Waiting(request)) => request.ends_with_stream(),
+            Some(Unfinished::Waiting(request)) => request.refuses(status),
+            _ => false,
+        }
+    }
+
+    /// Whether this number waits for its answer, and no head is read behind it once it gets the connection's stream: it holds the
+    /// next head, or lacks its 100.
+    pub fn is_last_with_stream(&self, number: u64) -> bool
+        ensures { result ≡ is_last_with_stream_at (slice_get self.now.requests number) }
+    {
+        match self.requests.get(number) {
+            Some(Unfinished::Waiting(request)) => request.is_last_with_stream(),
             _ => false,
         }
     }
 
     /// Whether the last number waits for its answer, and the next head isn't read before it.
     pub fn last_holds_next_head(&self) -> bool
-        ensures { result ≡ last_holds_next self.now.requests }
+        ensures { result ≡ last_holds_next_head self.now.requests }
     {
         match self.requests.len().checked_sub(1) {
             Some(number) => self.holds_next_head(number),

@@ -1,5 +1,5 @@
 -- What a contract sees of an `OpenRequest`.
-use Rattle.std.specs.Prelude.{◌≡◌, ◌&&◌, false, not, []}
+use Rattle.std.specs.Prelude.{◌≡◌, ◌&&◌, ◌||◌, ℕ, Bool, false, not, nat_lt, []}
 use Rattle.httpdate.specs.declared.date.HttpDate.{HttpDate}
 use Rattle.tiny_http_wire.specs.declared.device.Stop.TheVariants.{End}
 use Rattle.tiny_http_wire.specs.Coding.{coding_asked}
@@ -11,7 +11,23 @@ use Rattle.tiny_http_message.specs.declared.body.Body.{Body}
 use Rattle.tiny_http_message.specs.declared.body.Body.TheVariants.{Over}
 use Rattle.tiny_http_message.specs.declared.open_request.OpenRequest.{OpenRequest}
 use Rattle.tiny_http_message.specs.OwnAnswer.{own_text_by}
-use Rattle.tiny_http_message.specs.Pipeline.{is_head_method}
+use Rattle.tiny_http_message.specs.Pipeline.{is_head_method, is_connect_method}
+
+-- a final answer has a code of three digits, and no 1xx (RFC 9110, section 15)
+abbrev pub is_final : ℕ → Bool
+is_final code = not (nat_lt code 200) && nat_lt code 1000
+
+-- an answer with this code is refused: by the standard it has to be final, and one to CONNECT is no 2xx, which would open a tunnel
+abbrev pub refuses_code : Bool → Bool → ℕ → Bool
+refuses_code by_standard is_connect code = by_standard && (not (is_final code) || (is_connect && nat_lt code 300))
+
+-- no head is read behind a request that is finished now: its 100 is owed by the standard
+abbrev pub is_last_without_continue : {B : Type 0} → OpenRequest B → Bool
+is_last_without_continue w = w.by_standard && w.owes_continue
+
+-- none is read behind a request that gets the connection's stream now
+abbrev pub is_last_with_stream : {B : Type 0} → OpenRequest B → Bool
+is_last_with_stream w = w.holds_next_head || is_last_without_continue w
 
 -- nothing has changed but that no 100 is owed any more
 abbrev pub OwesNoContinue : {B : Type 0} → OpenRequest B → OpenRequest B → Type 0
@@ -37,4 +53,5 @@ pub record KeepsHead {B : Type 0} (w : OpenRequest B) (h : Head) (date : HttpDat
   pub owes_continue : w.owes_continue ≡ h.owes_continue
   pub holds_next_head : w.holds_next_head ≡ (h.asks_upgrade && not h.is_last)
   pub by_standard : w.by_standard ≡ h.by_standard
+  pub is_connect : w.is_connect ≡ is_connect_method h.method
   pub text : w.dropped.items ≡ own_text_by 500 (printing_to (coding_asked h.headers.items) h.version (is_head_method h.method) date)

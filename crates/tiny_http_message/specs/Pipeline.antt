@@ -3,7 +3,7 @@ use Rattle.std.specs.Prelude.{◌≡◌, ℕ, ◌<◌, ◌≤◌, ◌⊎◌, ⊤
 use Rattle.std.specs.declared.io.ErrorKind.{ErrorKind}
 use Rattle.std.specs.declared.io.ErrorKind.TheVariants.{TimedOut}
 use Rattle.tiny_http_wire.specs.declared.common.Method.{Method}
-use Rattle.tiny_http_wire.specs.declared.common.Method.TheVariants.{Head}
+use Rattle.tiny_http_wire.specs.declared.common.Method.TheVariants.{Head, Connect}
 use Rattle.tiny_http_wire.specs.declared.common.HTTPVersion.{HTTPVersion}
 use Rattle.tiny_http_wire.specs.declared.device.Stop.{Stop}
 use Rattle.tiny_http_wire.specs.declared.device.Stop.TheVariants.{End, Fault as Faults}
@@ -87,6 +87,10 @@ is_timed_out _ = false
 abbrev pub is_head_method : Method → Bool
 is_head_method Head = true
 is_head_method _ = false
+
+abbrev pub is_connect_method : Method → Bool
+is_connect_method Connect = true
+is_connect_method _ = false
 
 -- BY THE RULES OF TINY_HTTP: the most bytes that a head may have, the CR LF of its empty line included; or None: any number
 abbrev pub head_limit : HeadRules → Option ℕ

@@ -70,8 +70,9 @@ pub struct Exchange {
 /// Why no further request comes.
 #[derive(Clone, Copy, Debug, PartialEq, Eq)]
 pub enum EndOfRequests {
-    /// The last request was read: its version or its `Connection` header ends the connection after it; under `Standard` its method
-    /// `CONNECT` does, too, and so do its raw writer and its upgrade, if it asked for an upgrade.
+    /// The last request was read: its version or its `Connection` header ends the connection after it. Under `Standard` its method
+    /// `CONNECT` does, too, as does whatever finished it while its 100 was owed, and, if it asked for an upgrade, its raw writer or its
+    /// upgrade.
     LastRequest,
     /// The client's bytes ended, and no byte of a further head had come. So it is too where they ended within a body of a known
     /// length, or, by an end or a fault, within what was left of one that was given up or passed over.
@@ -139,8 +140,8 @@ impl Exchange {
     }
 
     /// Sends the answer to this request, printed for it and dated `now`, and flushes it. No 100 is owed any more. The caller
-    /// answers each request once, in the order of the requests, and gives the body up. On an outlet that has ended nothing is
-    /// sent, the data aren't read, and the result is `Ok`. The first fault is the error: the data's, or the writer's. Where
+    /// answers each request once, in the order of the requests, and gives the body up. Under `Standard` the caller reads no head
+    /// behind a request that is finished while its 100 is owed. On an outlet that has ended nothing is sent, the data aren't read, and the result is `Ok`. The first fault is the error: the data's, or the writer's. Where
     /// both fail, either may be reported. Then the outlet has ended, and what was held before a fault of the data is sent.
     pub fn respond_on<W: WriteDevice, D: ReadDevice + Drop>(
         &mut self,
@@ -532,6 +533,9 @@ fn end_at(standing: Standing, why: EndOfRequests) -> EndOfRequests
 /// By the other profiles, after a 505 the next head stands behind the body, which is passed over, unless the head names an upgrade or the body is
 /// chunked. After anything else but a request the source has ended, but after the last request: then nothing is read, and its
 /// body can be read on.
+///
+/// Under `Standard` the caller reads no head before a request that asks for an upgrade is answered or dropped, none behind its upgrade
+/// or raw writer, and none behind a request that was finished while its 100 was owed: `Connection` sees to that.
 ///
 /// By `read_head`, `read_body` and `give_up` on one source bytes of a body are never read as a head. Where the body of the
 /// request before was neither read to its end nor given up the answer is `UnreadBody`, and the source ends there.

@@ -34,8 +34,9 @@ pub enum Profile {
     /// more than `STRICT_HEAD` bytes (RFC 6585, section 5).
     Strict,
     /// By the standard (RFC 9110 and RFC 9112): heads have its grammar, and are judged by `tiny_http_standard`. Lengths and sizes
-    /// are refused as under `Strict`, and of codings only `chunked` is served. Not whole yet: bodies, upgrades and answers are
-    /// still those of `Strict`, but that no body is the rest of the stream.
+    /// are refused as under `Strict`, and of codings only `chunked` is served. Not whole yet: the lines of chunked bodies, bodies that
+    /// are cut, the stream of an upgrade and what an answer prints are still those of `Strict`, but that no body is the rest of the
+    /// stream.
     Standard,
 }
 
@@ -88,8 +89,8 @@ pub enum Form {
     Chunked,
 }
 
-/// How a message is framed: its body's form, whether a 100 is owed, the length that it says, whether it asks for an upgrade, and
-/// whether the connection ends after it.
+/// How a message is framed: its body's form, whether a 100 is owed, the length that it says, whether it asks for an upgrade, by which
+/// rules that was judged, and whether the connection ends after it.
 #[derive(Clone, Copy, Debug, PartialEq, Eq)]
 pub struct Framing {
     /// How the body is read.

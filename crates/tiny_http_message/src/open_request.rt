@@ -1,14 +1,14 @@
 //! A request that was handed out and isn't answered yet: what it owes, how its answer is printed, and its body. A
 //! `Connection` keeps it under its number, a `Request` beside its turn. They see to the turn; what is sent, and what is owed
 //! after it, is decided here.
-ghost use Rattle.std.specs.Prelude.{◌≡◌, ◌&&◌, ◌||◌, true, false, IfOk};
+ghost use Rattle.std.specs.Prelude.{◌≡◌, true, false, IfOk};
 ghost use Rattle.std.specs.List.{list_all};
 ghost use Rattle.tiny_http_wire.specs.Bytes.{is_ascii};
 ghost use Rattle.tiny_http_wire.specs.Device.{Feed};
 ghost use Rattle.tiny_http_sending.specs.ResponseValue.{printing_in, upgrade_text};
 ghost use Rattle.tiny_http_sending.specs.Sending.{FailsOnce, SendsQuietlyOn, SendsAnswer};
 ghost use Rattle.tiny_http_message.specs.OwnAnswer.{own_text_by};
-ghost use Rattle.tiny_http_message.specs.OpenRequest.{KeepsHead, OwesNoContinue, HasNoDropText, HasNoBodyLeft, HasSentAll};
+ghost use Rattle.tiny_http_message.specs.OpenRequest.{KeepsHead, OwesNoContinue, HasNoDropText, HasNoBodyLeft, HasSentAll, is_last_without_continue, is_last_with_stream, refuses_code};
 ghost use Rattle.tiny_http_message.specs.Pipeline.{is_head_method};
 ghost use Rattle.tiny_http_message.specs.Body.{ReadsBody, GivesUp};
 
@@ -40,6 +40,8 @@ pub struct OpenRequest<B> {
     pub holds_next_head: bool,
     /// Whether its head was read under `Standard`.
     pub by_standard: bool,
+    /// Whether its method is `CONNECT`.
+    pub is_connect: bool,
     /// What is sent if the request is dropped.
     pub dropped: DropText,
     /// Its body, and how far that was read.
@@ -68,25 +70,36 @@ impl<B: Drop> OpenRequest<B> {
             owes_continue: head.owes_continue,
             holds_next_head: head.asks_upgrade && !head.is_last,
             by_standard: head.by_standard,
+            is_connect: matches!(head.method, Method::Connect),
             dropped,
             body,
         })
     }
 
-    /// Whether no head is read behind this request if it is answered now, or dropped, or its raw writer taken: by the standard, while
-    /// its 100 is owed. The client may leave the body out, or send it, and both are right (RFC 9110, section 10.1.1).
-    pub fn lacks_continue(&self) -> bool
-        ensures { result ≡ (self.now.by_standard && self.now.owes_continue) }
+    /// Whether no head is read behind this request if it is answered now, dropped or upgraded, or its raw writer taken: by the
+    /// standard, while its 100 is owed. Then its body is read from the source. The client may leave the body out, or send it, and both are right (RFC 9110, section 10.1.1).
+    pub fn is_last_without_continue(&self) -> bool
+        ensures { result ≡ is_last_without_continue self.now }
     {
         self.by_standard && self.owes_continue
     }
 
     /// Whether no head is read behind this request once it gets the connection's stream, by its raw writer or an upgrade: it holds
     /// the next head, or lacks its 100.
-    pub fn ends_with_stream(&self) -> bool
-        ensures { result ≡ (self.now.holds_next_head || (self.now.by_standard && self.now.owes_continue)) }
+    pub fn is_last_with_stream(&self) -> bool
+        ensures { result ≡ is_last_with_stream self.now }
     {
-        self.holds_next_head || self.lacks_continue()
+        self.holds_next_head || self.is_last_without_continue()
+    }
+
+    /// Whether an answer with this code is refused: by the standard, one that isn't final, since the client would take a later answer
+    /// for this request's (RFC 9110, section 15.2), or whose code hasn't three digits; and a 2xx to `CONNECT`, since it would open a
+    /// tunnel (section 9.3.6).
+    pub fn refuses(&self, status: StatusCode) -> bool
+        ensures { result ≡ refuses_code self.now.by_standard self.now.is_connect status.0 }
+    {
+        let is_final = status.0 >= 200 && status.0 < 1000;
+        self.by_standard && (!is_final || (self.is_connect && status.0 < 300))
     }
 
     /// Sends the answer to this request, printed for it and dated `now`, and flushes it. No 100 is owed any more. The caller
@@ -134,7 +147,7 @@ impl<B: Drop> OpenRequest<B> {
     /// dated `now`, and flushes it: its head alone, with `Connection: upgrade` and `Upgrade: PROTOCOL` in front of the other
     /// headers (as tiny_http). No 100 is owed any more. The caller checks the protocol by `check_protocol` first. It makes this
     /// call in the turn of the request, in the place of an answer; then the output is the protocol's, and what the body gives is its
-    /// input. The data are let go unread. A fault of the writer ends the outlet, and isn't reported. On an outlet that has
+    /// input, but under `Standard`, where the body gives the request's own bytes. The data are let go unread. A fault of the writer ends the outlet, and isn't reported. On an outlet that has
     /// ended nothing is sent. The call takes no memory.
     pub fn upgrade<W: WriteDevice, D: Drop>(
         &mut self,

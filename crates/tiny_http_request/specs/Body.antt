@@ -5,15 +5,15 @@ use Rattle.std.specs.declared.io.Error.{Error}
 use Rattle.tiny_http_device.specs.Device.{AnswersStop, Feed}
 use Rattle.tiny_http_device.specs.declared.device.Stop.TheVariants.{Fault}
 use Rattle.tiny_http_message.specs.declared.body.Body.{Body}
-use Rattle.tiny_http_request.specs.declared.body.NextHead.{NextHead}
-use Rattle.tiny_http_request.specs.declared.body.NextHead.TheVariants.{AfterBody, AfterAnswer, Never}
+use Rattle.tiny_http_request.specs.declared.body.GivesOn.{GivesOn}
+use Rattle.tiny_http_request.specs.declared.body.GivesOn.TheVariants.{AfterBody, AfterAnswer, Never}
 use Rattle.tiny_http_message.specs.Body.{is_streaming, body_stop, ReadsOn, remaining, prepended_body}
 
--- the input isn't given on to the next head as the body ends
-abbrev pub is_held : NextHead → Bool
-is_held AfterBody = false
-is_held AfterAnswer = true
-is_held Never = true
+-- the input isn't given on as the body ends
+abbrev pub outlasts_body : GivesOn → Bool
+outlasts_body AfterBody = false
+outlasts_body AfterAnswer = true
+outlasts_body Never = false
 
 -- ONE READ OF A BODY. The bytes of one that was read with its head are the next of it, whatever the input still gives; of bytes that come
 -- from the input, behind a lock, nothing is stated. After the end or a fault each read answers the same. A read into no room changes

@@ -1,10 +1,10 @@
 //! The body of a request that a thread may read, while the connection reads on.
-ghost use Rattle.std.specs.Prelude.{◌≡◌, ◌≤◌, ◌<◌, ◌==◌, ◌||◌, false, length, take, Option, is_some, Ok, Some, None, IfOk, IfErr, IfSome};
+ghost use Rattle.std.specs.Prelude.{◌≡◌, ◌≤◌, ◌<◌, ◌==◌, ◌&&◌, ◌||◌, false, length, take, Option, is_some, Ok, Some, None, IfOk, IfErr, IfSome};
 ghost use Rattle.std.specs.IoError.{error_kind};
 ghost use Rattle.tiny_http_device.specs.Device.{AnswersStop, Feed, Reads};
 ghost use Rattle.tiny_http_device.specs.declared.device.Stop.TheVariants.{Fault};
 ghost use Rattle.tiny_http_message.specs.Body.{is_streaming, body_stop, ReadsOn, remaining, prepended_body};
-ghost use Rattle.tiny_http_request.specs.Body.{ReadsUnread, is_held};
+ghost use Rattle.tiny_http_request.specs.Body.{ReadsUnread, outlasts_body};
 
 use std::io;
 use std::io::{ErrorKind, Read};
@@ -18,20 +18,31 @@ use tiny_http_threads::turn::{held_reader, hold_reader};
 
 // When the connection's input is given on to the next head.
 #[derive(Drop)]
-pub(crate) enum NextHead {
+pub(crate) enum GivesOn {
     // Once the body was read to its end or given up.
     AfterBody,
-    // Once the request was answered: it asks for an upgrade.
+    // Once the request was answered or dropped: it asks for an upgrade.
     AfterAnswer,
-    // Never: no head follows.
+    // Once the body was read to its end or given up; but no head follows.
     Never,
+}
+
+// Has no head read behind this reader, if it is one, and drops it.
+fn end_behind<R: ReadDevice + Drop, Rt: Wait + Drop>(
+    reader: Option<SequentialReader<Source<R>, Rt>>,
+) {
+    if let Some(mut reader) = reader
+        && let Some(source) = held_reader(&mut reader)
+    {
+        source.stand_at(Standing::Last);
+    }
 }
 
 /// The body of a request. While bytes of it are to be read from the connection it holds the connection's input, and the next
 /// head waits: a counted body gives the input on with its last byte, a chunked one once a read has answered 0. A dropped body
-/// gives it on too; but after a chunked one whose end wasn't reported, and after one that is cut or broken, no head follows. The
-/// body of a request that asks for an upgrade under `Standard` holds the input until the request is answered. Under `Standard` no head
-/// follows, too, where the request is answered or dropped while its 100 is owed.
+/// gives it on too; but after a chunked one whose end wasn't reported, and after one that is cut or broken, no head follows. Under
+/// `Standard` the body of a request that asks for an upgrade holds the input until the request is answered or dropped, and no head
+/// follows if its raw writer is taken or it is upgraded, or where a request is finished while its 100 is owed.
 ///
 /// After its end each read answers 0. A fault, the client's or the body's own, is answered by each read from then on, and so is
 /// one of kind `Interrupted`. The standard library's `read_to_end` and `read_to_string` try again after that kind, without an
@@ -39,21 +50,39 @@ pub(crate) enum NextHead {
 pub struct Body<R: ReadDevice + Drop, Rt: Wait + Drop> {
     unread: Unread,
     reader: Option<SequentialReader<Source<R>, Rt>>,
-    next_head: NextHead,
+    gives_on: GivesOn,
+}
+
+// Gives the input on, where the body isn't read from it any more and no answer is waited for.
+fn give_on<R: ReadDevice + Drop, Rt: Wait + Drop>(
+    reader: &mut Option<SequentialReader<Source<R>, Rt>>,
+    is_read: bool,
+    gives_on: &GivesOn,
+)
+    ensures { is_some reader.new ≡ (is_some reader.old && (is_read || outlasts_body gives_on.now)) }
+{
+    if is_read {
+        return;
+    }
+    match gives_on {
+        GivesOn::AfterBody => drop(reader.take()),
+        GivesOn::AfterAnswer => {}
+        GivesOn::Never => end_behind(reader.take()),
+    }
 }
 
 impl<R: ReadDevice + Drop, Rt: Wait + Drop> Model for Body<R, Rt> {
     ghost use Rattle.std.specs.Prelude.{◌≡◌, ◌||◌, is_some};
     ghost use Rattle.tiny_http_message.specs.declared.body.Body.{Body as Unread};
     ghost use Rattle.tiny_http_message.specs.Body.{is_streaming};
-    ghost use Rattle.tiny_http_request.specs.Body.{is_held};
+    ghost use Rattle.tiny_http_request.specs.Body.{outlasts_body};
 
     ghost Value = { Unread };
 
     ghost view = { λ b. b.unread };
 
     // It holds the input exactly while it is read from there, or the next head waits for the answer.
-    ghost invariant = { λ b. is_some b.reader ≡ (is_streaming b.unread || is_held b.next_head) };
+    ghost invariant = { λ b. is_some b.reader ≡ (is_streaming b.unread || outlasts_body b.gives_on) };
 }
 
 impl<R: ReadDevice + Drop, Rt: Wait + Drop> Body<R, Rt> {
@@ -61,24 +90,28 @@ impl<R: ReadDevice + Drop, Rt: Wait + Drop> Body<R, Rt> {
     pub(crate) fn new(
         unread: Unread,
         reader: Option<SequentialReader<Source<R>, Rt>>,
-        next_head: NextHead,
+        gives_on: GivesOn,
     ) -> Body<R, Rt>
-        requires { is_some reader ≡ (is_streaming unread || is_held next_head) }
+        requires { is_some reader ≡ (is_streaming unread || outlasts_body gives_on) }
         ensures { result ≡ unread }
     {
         Body {
             unread,
             reader,
-            next_head,
+            gives_on,
         }
     }
 
-    /// Has no head follow, if this body holds the input.
+    /// Has no head follow this request, which asks for an upgrade or owes a 100, so that its body holds the input. Where the body isn't
+    /// read from there any more, the input is given on at once.
     pub(crate) fn end_requests(&mut self)
         ensures { self.new ≡ self.old }
     {
-        if self.reader.is_some() {
-            self.next_head = NextHead::Never;
+        if self.unread.holds_reader() {
+            self.gives_on = GivesOn::Never;
+        } else {
+            self.gives_on = GivesOn::AfterBody;
+            end_behind(self.reader.take());
         }
     }
 
@@ -99,9 +132,7 @@ impl<R: ReadDevice + Drop, Rt: Wait + Drop> Body<R, Rt> {
             unreachable!()
         };
         let read = self.unread.read(hold_reader(reader), buf);
-        if !self.unread.holds_reader() && matches!(self.next_head, NextHead::AfterBody) {
-            drop(self.reader.take());
-        }
+        give_on(&mut self.reader, self.unread.holds_reader(), &self.gives_on);
         read
     }
 }
@@ -155,13 +186,13 @@ impl<R: ReadDevice + Drop, Rt: Wait + Drop> Drop for Body<R, Rt> {
         let Self {
             mut unread,
             mut reader,
-            next_head,
+            gives_on,
         } = self;
         if let Some(reader) = &mut reader
             && let Some(source) = held_reader(reader)
         {
             unread.give_up(source);
-            if matches!(next_head, NextHead::Never) {
+            if matches!(gives_on, GivesOn::Never) {
                 source.stand_at(Standing::Last);
             }
         }

@@ -11,7 +11,7 @@ ghost use Rattle.tiny_http_message.specs.HeadReads.{head_framing, Begins};
 ghost use Rattle.tiny_http_request.specs.Request.{request_head, request_secure, request_address, request_open, is_expectation_failed, IfCreationIo, cut_kind, IsCutShort, BeginsWith, Says, IsFramed, FailsBy};
 
 pub use crate::body::Body;
-use crate::body::NextHead;
+use crate::body::GivesOn;
 use httpdate::HttpDate;
 use std::alloc::{AllocError, Global};
 use std::io::{ErrorKind, Read, Write};
@@ -115,21 +115,23 @@ impl<R: ReadDevice + Drop, W: WriteDevice + Drop, Rt: Wait + Drop> Request<R, W,
             owes_continue,
             holds_next_head,
             by_standard,
+            is_connect,
             dropped,
             body,
         } = open_request;
-        let next_head = if holds_next_head {
-            NextHead::AfterAnswer
+        let gives_on = if holds_next_head {
+            GivesOn::AfterAnswer
         } else {
-            NextHead::AfterBody
+            GivesOn::AfterBody
         };
         let open_request = OpenRequest {
             answer_context,
             owes_continue,
             holds_next_head,
             by_standard,
+            is_connect,
             dropped,
-            body: Body::new(body, reader, next_head),
+            body: Body::new(body, reader, gives_on),
         };
         Request {
             alloc,
@@ -237,7 +239,8 @@ impl<R: ReadDevice + Drop, W: WriteDevice + Drop, Rt: Wait + Drop> Request<R, W,
     /// Sends the answer, dated `now`, in the turn of the request, and then gives the body up. It waits until the requests
     /// before are finished. The first fault is the error: the data's, or the writer's; after it nothing more is sent on the
     /// connection. One of kind `BrokenPipe`, `ConnectionAborted`, `ConnectionRefused` or `ConnectionReset` isn't reported, also one
-    /// of the data.
+    /// of the data. Under `Standard` a code below 200 or above 999, or a 2xx to `CONNECT`, is an error of kind `InvalidInput`, and the
+    /// request is dropped; and no request follows one that is answered or dropped while its 100 is owed.
     pub fn respond<D: ReadDevice + Drop>(
         self,
         response: Response<D>,
@@ -245,9 +248,12 @@ impl<R: ReadDevice + Drop, W: WriteDevice + Drop, Rt: Wait + Drop> Request<R, W,
     ) -> Result<(), io::Error>
         ensures { IfErr result (λ e. is_closed_client (error_kind e) ≡ false) }
     {
+        if self.open_request.refuses(response.status_code()) {
+            return Err(ErrorKind::InvalidInput.into());
+        }
         let alloc = self.alloc;
         let (mut open_request, mut writer) = self.into_parts();
-        if open_request.lacks_continue() {
+        if open_request.is_last_without_continue() {
             open_request.body.end_requests();
         }
         let sent = open_request.respond(alloc, hold_writer(&mut writer), response, now);
@@ -262,7 +268,7 @@ impl<R: ReadDevice + Drop, W: WriteDevice + Drop, Rt: Wait + Drop> Request<R, W,
     pub fn into_writer(self) -> SequentialWriter<Outlet<W>, Rt> {
         self.send_at_flush();
         let (mut open_request, writer) = self.into_parts();
-        if open_request.ends_with_stream() {
+        if open_request.is_last_with_stream() {
             open_request.body.end_requests();
         }
         drop(open_request);
@@ -285,7 +291,7 @@ impl<R: ReadDevice + Drop, W: WriteDevice + Drop, Rt: Wait + Drop> Request<R, W,
         self.send_at_flush();
         let alloc = self.alloc;
         let (mut open_request, mut writer) = self.into_parts();
-        if open_request.ends_with_stream() {
+        if open_request.is_last_with_stream() {
             open_request.body.end_requests();
         }
         open_request.upgrade(alloc, hold_writer(&mut writer), protocol, response, now);
@@ -302,7 +308,7 @@ impl<R: ReadDevice + Drop, W: WriteDevice + Drop, Rt: Wait + Drop> Drop for Requ
     /// Leaves the turn with an empty 500, and then gives the body up.
     fn drop(self) {
         let (mut open_request, writer) = self.into_parts();
-        if open_request.lacks_continue() {
+        if open_request.is_last_without_continue() {
             open_request.body.end_requests();
         }
         let (text, body) = open_request.into_drop_text();

@@ -1,4 +1,4 @@
-use Rattle.std.proofs.Common.{rules, ◌≡◌, sym, ap, ◌∙◌, subst, Bool, false, not, ◌&&◌, Option, Some, Ok, Err}
+use Rattle.std.proofs.Common.{rules, ◌≡◌, sym, ap, ◌∙◌, subst, false, not, ◌&&◌, Option, Some, Ok, Err}
 use Rattle.tiny_http_device.specs.Device.{Feed}
 use Rattle.tiny_http_message.specs.declared.body.Body.{Body}
 use Rattle.tiny_http_message.specs.declared.framing.HeadRules.TheVariants.{Lenient}

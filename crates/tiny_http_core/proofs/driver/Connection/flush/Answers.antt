@@ -33,7 +33,7 @@ returns-then-not-is_in_turn g c =
     record {
       step = λ date. rw (← c.self.view_is) (takes-flush false old old date n NotYet
           (λ client before s low st.
-          writer-not_yet client before (kept old) s date n (Flush n) w.0 refl (a-flush n) (λ owed. refl) st w.1 w.2 (sym c.is_in_turn.ensures ∙ c.if-not-is_in_turn.true))
+          writer-not_yet client before (kept old) s date n (Flush n) w.0 refl (a-flush n) (λ r owed. refl) st w.1 w.2 (sym c.is_in_turn.ensures ∙ c.if-not-is_in_turn.true))
           (λ no. refl) refl (refl, refl, refl) refl (moves-none old) (λ kind e. cc));
     }
 

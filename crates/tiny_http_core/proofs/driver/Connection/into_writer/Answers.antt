@@ -3,7 +3,7 @@ use Rattle.std.specs.Prelude.{is_some, slice_get}
 use Rattle.tiny_http_turns.specs.Turns.{Mark}
 use Rattle.tiny_http_core.specs.declared.pending.Unfinished.{Unfinished}
 use Rattle.tiny_http_core.specs.declared.pending.Unfinished.TheVariants as still
-use Rattle.tiny_http_core.specs.Pending.{ends_with_stream}
+use Rattle.tiny_http_core.specs.Pending.{is_last_with_stream_at}
 use Rattle.tiny_http_core.specs.Driving.{ends_behind}
 use Rattle.tiny_http_core.specs.Steps.{IntoWriter, NoSuch, Done}
 use Rattle.tiny_http_core.specs.Connection.{Kept, kept}
@@ -45,7 +45,7 @@ returns g c =
     let w = c.in-Some.request in
     let some = c.in-Some.ensures.some in
     let ends = w.holds_next_head || (w.by_standard && w.owes_continue) in
-    let end_is : end ≡ ends_behind ends q.end = c.ends_behind-self-inside.ensures ∙ ap (λ b. ends_behind b q.end) c.ends_with_stream.ensures in
+    let end_is : end ≡ ends_behind ends q.end = c.ends_behind-self-inside.ensures ∙ ap (λ b. ends_behind b q.end) c.is_last_with_stream.ensures in
     let ended : is_some end ≡ (is_some q.end || ends) = ap is_some end_is ∙ ends-some ends q.end in
     record {
       step = λ date. rw (← c.self.view_is) (takes-into_writer old new date n Done
@@ -53,7 +53,7 @@ returns g c =
           let P : Bool → List Mark → Type 0 = λ e m. StepIsAnswered client before (record (with_reader k c.take.new.self.requests source) { marks = m; asking_ended = e }) s date (IntoWriter n) Done in
           let done = into_writer-done client before k s date n w c.take.new.self.requests q.source source st (record { feed = refl; stop = refl; ends = refl; standing = refl }) c.give_up.ensures.gives_up some.0 some.1 in
           subst (λ e. P e c.take.new.self.turns.marks) (sym ended) (subst (P (is_some q.end || ends)) (ap (λ t. t.marks) (sym c.take.ensures.turns)) done))
-          (λ no. elim no [ ]) (end_is ∙ ap (λ b. ends_behind b q.end) (sym (ap ends_with_stream some.0)))
+          (λ no. elim no [ ]) (end_is ∙ ap (λ b. ends_behind b q.end) (sym (ap is_last_with_stream_at some.0)))
           (refl, ap (λ t. t.marks) c.take.ensures.turns, λ done. (some.1, gives-up-of q.source source (slice_get k.requests n) (still.Waiting w) some.0 c.give_up.ensures.gives_up))
           (driving-reads-on old new refl refl (gives-up w.body q.source source c.give_up.ensures.gives_up)) (λ kind e. cc));
     }

@@ -2,7 +2,7 @@ use Rattle.std.proofs.Common.{ℕ, ◌≡◌, refl, sym, ap, ◌∙◌, subst, B
 use Rattle.std.specs.Prelude.{◌==◌, is_some, slice_get}
 use Rattle.tiny_http_core.specs.declared.pending.Unfinished.TheVariants as still
 use Rattle.tiny_http_turns.specs.Turns.{Mark, first_unfinished}
-use Rattle.tiny_http_core.specs.Pending.{LeavesText, lacks_continue as kept_lacks}
+use Rattle.tiny_http_core.specs.Pending.{LeavesText, is_last_without_continue_at as kept_lacks}
 use Rattle.tiny_http_core.specs.Driving.{ends_behind}
 use Rattle.tiny_http_core.proofs.ConnectionAsk.{StepIsAnswered}
 use Rattle.tiny_http_stream.specs.Outlet.{output_of, outlet_ended}
@@ -26,12 +26,12 @@ returns-clause-drops g c = λ yes now.
     let w = c.in-Some.request in
     let some = c.in-Some.ensures.some in
     let lacks = w.by_standard && w.owes_continue in
-    let end_is : end ≡ ends_behind lacks q.end = c.ends_behind-self-inside.ensures ∙ ap (λ b. ends_behind b q.end) c.lacks_continue.ensures in
+    let end_is : end ≡ ends_behind lacks q.end = c.ends_behind-self-inside.ensures ∙ ap (λ b. ends_behind b q.end) c.is_last_without_continue.ensures in
     let ended : is_some end ≡ (is_some q.end || lacks) = ap is_some end_is ∙ ends-some lacks q.end in
     let turns = c.take.ensures.turns in
     let requests = c.leave.ensures.requests ∙ some.1 in
     let given_up : GivesUp w.body q.source source = subst (λ b. GivesUp b q.source source) c.into_drop_text-text.ensures.body c.give_up.ensures.gives_up in
-    rw (← c.self.view_is) (drops-by n old new now
+    rw (← c.self.view_is) (drops-by n w old new now some.0
     (λ client before s asked reply drops low st.
     let E : Bool → Type 0 = λ e. StepIsAnswered client before (record (kept new) { asking_ended = e }) s now asked reply in
     subst E (sym ended) (drop-done client before k s now n asked reply w (output_of left.outlet) (outlet_ended left.outlet) left.self.turns.marks left.self.requests q.source source drops st (record { feed = refl; stop = refl; ends = refl; standing = refl }) given_up low some.0 requests

@@ -4,13 +4,13 @@ use Rattle.tiny_http_wire.specs.Answer.{Answer}
 use Rattle.tiny_http_core.specs.declared.pending.Unfinished.{Unfinished}
 use Rattle.tiny_http_core.specs.declared.pending.Unfinished.TheVariants as still
 use Rattle.tiny_http_core.specs.Steps.{ReplyValue, Handed, Ended, Given, Fault, Done, Refused, Memory, Respond, NotYet, NoSuch}
-use Rattle.tiny_http_core.specs.Driving.{IsDeclined, EndsBehind, ends_behind, stated_response}
+use Rattle.tiny_http_core.specs.Driving.{IsDeclined, EndsBehind, LetsGo, AnswerLeaves, ends_behind, stated_response}
 use Rattle.tiny_http_core.specs.Seen.{IsAnswered, is_done}
 use Rattle.tiny_http_core.specs.declared.driver.Step.TheVariants as step
 use Rattle.tiny_http_wire.specs.Answer.{ResponseState}
 use Rattle.tiny_http_wire.specs.Device.{Feed}
 use Rattle.tiny_http_turns.specs.Turns.{Mark}
-use Rattle.tiny_http_core.specs.Pending.{waiting_answer_context, lacks_continue as kept_lacks}
+use Rattle.tiny_http_core.specs.Pending.{waiting_answer_context, is_last_without_continue_at as kept_lacks, refuses_at}
 use Rattle.tiny_http_stream.specs.Outlet.{output_of, outlet_ended}
 use Rattle.tiny_http_core.specs.Connection.{Kept, ConnectionState, kept}
 use Rattle.tiny_http_sending.specs.ResponseValue.{printing_in}
@@ -19,6 +19,8 @@ use Rattle.tiny_http_core.proofs.ConnectionAsk.{StepIsAnswered}
 use Rattle.tiny_http_stream.proofs.SourceGoesOn.{goes-on_same}
 use Rattle.tiny_http_core.proofs.ConnectionOutput.{can-send}
 use Rattle.tiny_http_core.proofs.ConnectionRespond.{no-such, respond-not_taken, waits-some, waits-none, respond-not_yet, respond-done, responds-by}
+use Rattle.tiny_http_message.specs.declared.body.Body.{Body}
+use Rattle.tiny_http_message.specs.declared.open_request.OpenRequest.{OpenRequest}
 use Rattle.tiny_http_message.specs.Body.{GivesUp}
 use Rattle.tiny_http_message.proofs.BodyReads.{gives-up}
 use Rattle.tiny_http_sending.proofs.SendingLemmas.{once-append}
@@ -37,6 +39,10 @@ returns-then-not-is_waiting g c =
           (λ no. refl) refl (λ no. elim no [ ]) refl (moves-none old) (λ kind e. cc));
     }
 
+-- the code of the response
+answered-code : (code status : ℕ) (o : Option (Option Unfinished)) → status ≡ code → refuses_at code o ≡ refuses_at status o
+answered-code code status o e = ap (λ c. refuses_at c o) (sym e)
+
 pub returns-then-not-hold : goal.returns-then-not-hold
 returns-then-not-hold g c =
     let n = c.args.number in
@@ -51,7 +57,8 @@ returns-then-not-hold g c =
           let late : c.hold.result ≡ false = search rules in
           let same = c.hold.ensures.not_yet late in
           let P : List Mark → List (Option Unfinished) → Type 0 = λ m r. StepIsAnswered client before (record k { marks = m; requests = r }) s c.args.now (Respond n value) NotYet in
-          let done = respond-not_yet client before k s c.args.now n value w.0 st w.1 (λ h. let none : true ≡ false = sym (c.hold.ensures.held.1 h) ∙ late in cc) in
+          let good = ap (λ a. refuses_at a.status (slice_get k.requests n)) is.0 ∙ answered-code c.args.response.answer.status c.status_code.result.0 (slice_get k.requests n) c.status_code.ensures ∙ sym c.refuses.ensures ∙ c.if-refuses.false in
+          let done = respond-not_yet client before k s c.args.now n value w.0 st w.1 good (λ h. let none : true ≡ false = sym (c.hold.ensures.held.1 h) ∙ late in cc) in
           subst (λ m. P m c.hold.new.self.requests) (sym same) (subst (λ r. P k.marks r) (sym c.hold.ensures.requests) done))
           (λ no. same-view q.profile q.source q.outlet c.hold.new.self q.pending q.end (c.hold.ensures.not_yet (search rules)) c.hold.ensures.requests) refl (λ no. elim no [ ]) refl (driving-reads-on old new refl refl (goes-on_same q.source.feed)) (λ kind e. cc));
     }
@@ -91,6 +98,41 @@ answered-ends lacks old new Refused a e = elim a [ ]
 answered-ends lacks old new (Given bytes) a e = elim a [ ]
 answered-ends lacks old new (Handed k m f) a e = elim a [ ]
 
+-- what it leaves
+answered-leaves : {R W : Type 0} (n : ℕ) (old new : ConnectionState R W) (reply : ReplyValue) → IsAnswered reply → LetsGo n old new → AnswerLeaves n old new reply
+answered-leaves n old new Done a l = λ z. l
+answered-leaves n old new (Fault kind) a l = λ z. l
+answered-leaves n old new NotYet a l = λ z. l
+answered-leaves n old new NoSuch a l = λ z. l
+answered-leaves n old new Memory a l = λ z. l
+answered-leaves n old new Ended a l = λ z. l
+answered-leaves n old new Refused a l = l
+answered-leaves n old new (Given bytes) a l = λ z. l
+answered-leaves n old new (Handed k m f) a l = λ z. l
+
+-- a request that waits was let go
+let-go : (r : Bool) → (r ≡ false → ⊥) → IsTrue r
+let-go true f = refl
+let-go false f = absurd (f refl)
+
+waits-still : {R W : Type 0} (n : ℕ) (w : OpenRequest Body) (c d : ConnectionState R W) → c ≡ d → slice_get c.requests n ≡ Some (Some (still.Waiting w)) → waiting_answer_context (slice_get d.requests n) ≡ None → ⊥
+waits-still {R = R} {W = W} n w c d same e f =
+    let P : ConnectionState R W → Type 0 = λ y. waiting_answer_context (slice_get y.requests n) ≡ None in
+    let none : Some w.answer_context ≡ None = sym (ap waiting_answer_context e) ∙ subst P (sym same) f in cc
+
+pub returns-then-refuses : goal.returns-then-refuses
+returns-then-refuses g c =
+    let n = c.args.number in
+    let q = c.self.inside in
+    let w = waits-some (slice_get q.pending.requests n) (sym c.is_waiting.ensures ∙ c.if-not-is_waiting.false) in
+    let old = viewed q.profile q.source q.outlet q.pending q.end in
+    let gone : IsTrue c.let_go.result = let-go c.let_go.result (λ no. waits-still n w.0 old c.args.self.now c.self.view_is w.1 (c.let_go.ensures.none no).0) in
+    let refused : refuses_at c.args.response.answer.status (slice_get q.pending.requests n) ≡ true = answered-code c.args.response.answer.status c.status_code.result.0 (slice_get q.pending.requests n) c.status_code.ensures ∙ sym c.refuses.ensures ∙ c.if-refuses.true in
+    let D : List (Option Unfinished) → Type 0 = λ l. refuses_at c.args.response.answer.status (slice_get l n) ≡ true in
+    record {
+      step = c.let_go.ensures.drops gone c.args.now (step.Respond n (stated_response g.D.ReadDevice.feed c.args.response)) Refused (refl, subst D (ap (λ y. y.requests) c.self.view_is) refused);
+    }
+
 -- a number that waits is taken
 pub unreachable-requires : goal.unreachable-requires
 unreachable-requires g c =
@@ -117,7 +159,7 @@ returns g c =
     let some = c.in-Some.ensures.some in
     let got : slice_get k.requests n ≡ Some (Some (still.Waiting w0)) = ap (λ l. slice_get l n) (sym c.hold.ensures.requests) ∙ some.0 in
     let lacks = kept_lacks (slice_get k.requests n) in
-    let end_is : end ≡ ends_behind lacks q.end = c.ends_behind-self-inside.ensures ∙ ap (λ b. ends_behind b q.end) (c.lacks_continue.ensures ∙ sym (ap kept_lacks got)) in
+    let end_is : end ≡ ends_behind lacks q.end = c.ends_behind-self-inside.ensures ∙ ap (λ b. ends_behind b q.end) (c.is_last_without_continue.ensures ∙ sym (ap kept_lacks got)) in
     let ended : is_some end ≡ (is_some q.end || lacks) = ap is_some end_is ∙ ends-some lacks q.end in
     let requests : last.self.requests ≡ slice_set k.requests n None = c.pass.ensures.requests ∙ some.1 ∙ ap (λ l. slice_set l n None) c.hold.ensures.requests in
     let waits : waiting_answer_context (slice_get k.requests n) ≡ Some w0.answer_context = ap waiting_answer_context got in
@@ -129,13 +171,13 @@ returns g c =
           let A : Answer → Type 0 = λ a. Answers k.sink (output_of mid) (outlet_ended mid) reply a value.content (printing_in w0.answer_context c.args.now) in
           let E : Bool → Type 0 = λ e. StepIsAnswered client before (record (kept new) { asking_ended = e }) s c.args.now (Respond n value) reply in
           subst E (sym ended) (respond-done client before k s c.args.now n value w0.answer_context (output_of mid) (output_of last.outlet) (outlet_ended mid) (outlet_ended last.outlet) c.take.new.self.turns.marks last.self.turns.marks last.self.requests q.source source reply
-          st (record { feed = refl; stop = refl; ends = refl; standing = refl }) (λ w e. gives-up-of q.source source (slice_get k.requests n) (still.Waiting w0) got given_up (still.Waiting w) e) low waits (c.hold.ensures.held.0 held).1 (ap (λ t. t.marks) c.take.ensures.turns ∙ c.hold.ensures.marks held) requests
+          st (record { feed = refl; stop = refl; ends = refl; standing = refl }) (λ w e. gives-up-of q.source source (slice_get k.requests n) (still.Waiting w0) got given_up (still.Waiting w) e) low waits (ap (λ a. refuses_at a.status (slice_get k.requests n)) is.0 ∙ answered-code c.args.response.answer.status c.status_code.result.0 (slice_get k.requests n) c.status_code.ensures ∙ sym c.refuses.ensures ∙ c.if-refuses.false) (c.hold.ensures.held.0 held).1 (ap (λ t. t.marks) c.take.ensures.turns ∙ c.hold.ensures.marks held) requests
           (responds-by k (output_of mid) (outlet_ended mid) reply value w0.answer_context c.args.now
           (λ e. let h = c.answer-reply.ensures.past e in (ap (λ o. output_of o) h.0, ap (λ o. outlet_ended o) h.0, h.1))
           (λ e. subst A (sym is.0) (c.answer-reply.ensures.sends value.content is.1 is.2 e (can-send before k.sink k.output_ended s.reached.slots s.flushed s.failure st.output low e))))
           c.pass.ensures.passes c.pass.ensures.sends))
           (λ no. absurd (not-declined n (stated_response g.D.ReadDevice.feed c.args.response) reply c.answer-reply.ensures.done no)) (answered-ends lacks old new reply c.answer-reply.ensures.done end_is)
-          (λ done. (requests, gives-up-of q.source source (slice_get k.requests n) (still.Waiting w0) got given_up))
+          (answered-leaves n old new reply c.answer-reply.ensures.done (requests, gives-up-of q.source source (slice_get k.requests n) (still.Waiting w0) got given_up))
           (answered-done reply c.answer-reply.ensures.done)
           (record {
             profile = refl;

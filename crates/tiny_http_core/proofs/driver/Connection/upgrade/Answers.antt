@@ -9,7 +9,7 @@ use Rattle.tiny_http_sending.specs.ResponseValue.{printing_in, upgrade_text}
 use Rattle.tiny_http_sending.specs.Sending.{SendsUnlessEnded}
 use Rattle.tiny_http_core.specs.declared.driver.Step.TheVariants as step
 use Rattle.tiny_http_core.specs.Steps.{Upgrade, NoSuch, NotYet, Done, Refused}
-use Rattle.tiny_http_core.specs.Pending.{waiting_answer_context, ends_with_stream}
+use Rattle.tiny_http_core.specs.Pending.{waiting_answer_context, is_last_with_stream_at}
 use Rattle.tiny_http_core.specs.Driving.{ends_behind, stated_response}
 use Rattle.tiny_http_core.proofs.ConnectionAsk.{StepIsAnswered}
 use Rattle.tiny_http_message.specs.declared.upgrading.UpgradeError.{UpgradeError}
@@ -101,8 +101,8 @@ returns g c =
     let marks = ap (λ t. t.marks) done.turns in
     let requests = done.requests w.0 w.1 in
     let ends = w.0.holds_next_head || (w.0.by_standard && w.0.owes_continue) in
-    let end_is = c.ends_behind-self-inside.ensures ∙ ap (λ b. ends_behind b q.end) c.ends_with_stream.ensures in
-    let ended : is_some end ≡ (is_some q.end || ends) = ap is_some (end_is ∙ ap (λ o. ends_behind (ends_with_stream o) q.end) w.1) ∙ ends-some ends q.end in
+    let end_is = c.ends_behind-self-inside.ensures ∙ ap (λ b. ends_behind b q.end) c.is_last_with_stream.ensures in
+    let ended : is_some end ≡ (is_some q.end || ends) = ap is_some (end_is ∙ ap (λ o. ends_behind (is_last_with_stream_at o) q.end) w.1) ∙ ends-some ends q.end in
     let come : (n == first_unfinished k.marks) ≡ true = sym c.is_in_turn.ensures ∙ c.if-not-is_in_turn.false in
     record {
       step = λ named same.

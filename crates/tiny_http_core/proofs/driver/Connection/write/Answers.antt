@@ -33,7 +33,7 @@ returns-then-not-is_in_turn g c =
     record {
       step = λ date v same. rw (← c.self.view_is) (takes-write old old date n v c.args.bytes.now NotYet same
           (λ client before s low st.
-          writer-not_yet client before (kept old) s date n (Write n c.args.bytes.now) w.0 refl (a-write n c.args.bytes.now) (λ owed. refl) st w.1 w.2 (sym c.is_in_turn.ensures ∙ c.if-not-is_in_turn.true))
+          writer-not_yet client before (kept old) s date n (Write n c.args.bytes.now) w.0 refl (a-write n c.args.bytes.now) (λ r owed. refl) st w.1 w.2 (sym c.is_in_turn.ensures ∙ c.if-not-is_in_turn.true))
           (λ no. refl) refl (refl, refl, refl) refl (goes-on_same q.source.feed) (once-none (outlet_ended q.outlet) (output_of q.outlet)) (λ none. refl) (λ kind e. cc));
     }
 

@@ -1,6 +1,6 @@
 use Rattle.std.proofs.Common.{ap, ◌∙◌, arith}
 use Rattle.std.specs.Prelude.{slice_get}
-use Rattle.tiny_http_core.specs.Pending.{holds_next}
+use Rattle.tiny_http_core.specs.Pending.{holds_next_head_at}
 use Rattle.tiny_http_core.proofs.ConnectionReader.{holds-at}
 use Rattle.tiny_http_core.proofs.pending.Pending.last_holds_next_head.Goals as goal
 
@@ -9,4 +9,4 @@ returns-in-Some c =
     let at = c.in-Some.ensures in
     let len = c.len.ensures in
     let requests = c.args.self.now.requests in
-    c.holds_next_head.ensures ∙ ap (λ n. holds_next (slice_get requests n)) (omega (arith, at, len)) ∙ holds-at requests
+    c.holds_next_head.ensures ∙ ap (λ n. holds_next_head_at (slice_get requests n)) (omega (arith, at, len)) ∙ holds-at requests
