@@ -3,7 +3,7 @@ use crate::findings::{add, add_kind, add_shown, add_some};
 use crate::row::{Finding, Input};
 use std::alloc::{AllocError, Global};
 use tiny_http_answer::answer::{Answer, AnswerFault, read_answer};
-use tiny_http_wire::chunked::Decoder;
+use tiny_http_wire::chunked::{ChunkRules, Decoder};
 use tiny_http_wire::common::{Header, Method};
 use tiny_http_wire::device::{ByPieces, Canned, ReadDevice, Stop};
 
@@ -137,15 +137,16 @@ fn read_body(
     Ok(())
 }
 
-/// What a reader that gives so many bytes a call gives under a decoder, how it stops, and what is left in it.
+/// What a reader that gives so many bytes a call gives under a decoder of these rules, how it stops, and what is left in it.
 pub fn decode(
     alloc: Global,
+    rules: ChunkRules,
     input: &Input,
     piece: usize,
     to: &mut Vec<Finding>,
 ) -> Result<(), AllocError> {
     let whole = Canned::new(input.bytes.as_slice().to_vec(alloc)?, input.stop);
-    let mut decoder = Decoder::new(ByPieces::new(whole, piece));
+    let mut decoder = Decoder::new_with(ByPieces::new(whole, piece), rules);
     read_body(alloc, &mut decoder, to)?;
     let mut reader = decoder.into_inner();
     let (rest, _) = drain(alloc, &mut reader)?;

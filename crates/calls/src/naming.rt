@@ -3,6 +3,7 @@ use crate::row::{Call, Choice, TextCall};
 use crate::words::{coding, number, number_or_none, numbers, split, status, text, version};
 use case_files::fault::LineFault;
 use std::alloc::{AllocError, Global};
+use tiny_http_wire::chunked::ChunkRules;
 use tiny_http_wire::common::{Method, ParseError};
 
 // The calls that take a text and nothing else, by their names.
@@ -76,10 +77,18 @@ fn judged(alloc: Global, words: &str) -> Result<Call, LineFault> {
     Ok(Call::Judge(version(version_word)?, method(alloc, name)?))
 }
 
+// The rules of a decoder: the lenient ones, if no word names others.
+fn chunk_rules(words: &str) -> Result<ChunkRules, LineFault> {
+    match words {
+        "" => Ok(ChunkRules::Lenient),
+        "standard" => Ok(ChunkRules::Standard),
+        _ => Err(LineFault::Bad("a decoder's rules are standard, or not named")),
+    }
+}
+
 // The call of this name that takes parts alone.
 fn bare_call(name: &str) -> Option<Call> {
     match name {
-        "Decoder" => Some(Call::Decoder),
         "put_chunk" => Some(Call::PutChunk),
         "put_chunked" => Some(Call::PutChunked),
         "asked_coding" => Some(Call::AskedCoding),
@@ -94,6 +103,7 @@ fn bare_call(name: &str) -> Option<Call> {
 // The call of this name over these words.
 fn worded_call(alloc: Global, name: &str, words: &str) -> Result<Call, LineFault> {
     match name {
+        "Decoder" => Ok(Call::Decoder(chunk_rules(words)?)),
         "read_answer" => Ok(Call::Answers(methods(alloc, words)?)),
         "Encoder" => Ok(Call::Encoder(sizes(alloc, words)?)),
         "choose" => Ok(Call::Choose(choice(words)?)),

@@ -31,7 +31,7 @@ pub fn empty_input(alloc: Global) -> Input {
 fn parts_of(call: &Call) -> &'static [&'static str] {
     match call {
         Call::Answers(_) => &["data", "series"],
-        Call::Decoder => &["data", "series", "stop"],
+        Call::Decoder(_) => &["data", "series", "stop"],
         Call::PutChunk => &["data", "series"],
         Call::PutChunked => &["data", "series", "stop", "rooms"],
         Call::Encoder(_) => &["data", "series", "flushes", "open", "rooms"],

@@ -1,6 +1,7 @@
 //! A row: a call, what goes into it, and what has to come of it.
 use case_files::case::Room;
 use std::io::ErrorKind;
+use tiny_http_wire::chunked::ChunkRules;
 use tiny_http_wire::coding::Coding;
 use tiny_http_wire::common::{HTTPVersion, Header, Method, StatusCode};
 
@@ -44,8 +45,8 @@ pub enum Call {
     Text(TextCall, String),
     /// The answers to requests of these methods are read, one after another, by `read_answer`.
     Answers(Vec<Method>),
-    /// A chunked body is read by a `Decoder`.
-    Decoder,
+    /// A chunked body is read by a `Decoder` of these rules.
+    Decoder(ChunkRules),
     /// Bytes are written as one chunk, by `put_chunk`.
     PutChunk,
     /// Data are written in chunks, by `put_chunked`.

@@ -47,7 +47,7 @@ fn make_call(
         Call::Answers(methods) => {
             read_answers(alloc, methods.as_slice(), input.bytes.as_slice(), to)
         }
-        Call::Decoder => decode(alloc, input, piece, to),
+        Call::Decoder(rules) => decode(alloc, *rules, input, piece, to),
         Call::PutChunk => write_chunk(alloc, input, to),
         Call::PutChunked => write_chunked(alloc, input, room, to),
         Call::Encoder(_) => encode(alloc, input, piece, room, to),
@@ -151,7 +151,7 @@ fn try_once(
 // Tries a call by each number of bytes at a time that it is tried with.
 fn try_pieces(alloc: Global, row: &Row) -> Result<Option<Difference>, AllocError> {
     let pieces = match &row.call {
-        Call::Decoder => PIECES.as_slice(),
+        Call::Decoder(_) => PIECES.as_slice(),
         Call::Encoder(sizes) => sizes.as_slice(),
         _ => &[0],
     };

@@ -12,7 +12,8 @@ use Rattle.tiny_http_message.specs.declared.body.Body.{Body}
 use Rattle.tiny_http_message.specs.declared.body.Body.TheVariants.{Over, WithHead, Counted, Chunked, Rest}
 use Rattle.tiny_http_stream.specs.ToCome.{skipped, stopped}
 use Rattle.tiny_http_stream.specs.FeedParts.{feed_front}
-use Rattle.tiny_http_message.specs.Body.{Remaining, remaining, counted_remaining, taken_remaining, prepend_body, prepended_body, BodyStops, NoneRemains, is_streaming, body_standing, IsBodyOver, ReadsOn, GivesUp}
+use Rattle.tiny_http_wire.specs.declared.chunked.ChunkRules.{ChunkRules}
+use Rattle.tiny_http_message.specs.Body.{Remaining, remaining, counted_remaining, taken_remaining, prepend_body, prepended_body, BodyStops, NoneRemains, is_streaming, body_standing, IsBodyOver, IsChunkedBy, ReadsOn, GivesUp}
 use Rattle.tiny_http_stream.specs.declared.source.Standing.{Standing}
 use Rattle.tiny_http_stream.specs.Source.{SourceState, GoesOn, IsRestOf}
 use Rattle.tiny_http_stream.proofs.SourceGoesOn.{goes-on_same}
@@ -107,7 +108,7 @@ reads-on (WithHead bytes) (Counted left) c m n end_reported h k = absurd h
 reads-on (WithHead bytes) (Chunked d) c m n end_reported h k = absurd h
 reads-on (WithHead bytes) Rest c m n end_reported h k = absurd h
 reads-on Rest b c m n end_reported h k = let P : Body → Type 0 = λ x. ReadsOn x n end_reported c in subst P h k
-reads-on (Chunked d) (Chunked more) c m n end_reported h k = k
+reads-on (Chunked d) (Chunked more) c m n end_reported h k = let P : ChunkRules → Type 0 = λ r. MatchBool end_reported (IsBodyOver c) (IsChunkedBy r c) in subst P h k
 reads-on (Chunked d) (Over stop) c m n end_reported h k = absurd h
 reads-on (Chunked d) (Counted left) c m n end_reported h k = absurd h
 reads-on (Chunked d) (WithHead bytes) c m n end_reported h k = absurd h

@@ -10,7 +10,7 @@ use Rattle.tiny_http_wire.specs.Device.{Feed, whole_feed, prepend, fault_of}
 use Rattle.tiny_http_wire.specs.Bytes.{crlf}
 use Rattle.tiny_http_wire.specs.Chunks.{WholeChunks, CutChunks, CloseFault}
 use Rattle.tiny_http_wire.specs.ChunkReading.{Decoded, after_data, chunk_closed, data_at}
-use Rattle.tiny_http_wire.specs.Decoding.{body_at, decoded_from, rest_at, coming_of}
+use Rattle.tiny_http_wire.specs.Decoding.{body_at, decoded_from_by, decoded_from, rest_at, coming_of}
 use Rattle.tiny_http_wire.proofs.ChunksLemmas.{decoded-is, close-is}
 use Rattle.tiny_http_message.specs.declared.body.Body.{Body}
 use Rattle.tiny_http_message.specs.declared.body.Body.TheVariants as body
@@ -86,7 +86,7 @@ remains-data n size x = by (nat_lt (length x.bytes) size) refl
     by false e = by-close (ltb-false (length x.bytes) size e) (after_data x.stop (drop size x.bytes)) (close-is x.stop (drop size x.bytes))
 
 remains-next : (n : ℕ) (next : Next) (x : Feed) → RemainsFrom Chunked n x (coming_remaining (coming_of x.stop (decoded_from next x)))
-unfolding decoded_from
+unfolding decoded_from_by
 remains-next n Line x = let k = chunked-from n x in record { content = k.content; next = k.next; stands = inl k.stands; is = k.is }
 remains-next n (Data size) x = remains-data n size x
 remains-next n Over x = record { content = whole_feed []; next = Some x.bytes; stands = inr (inr (inl (refl, refl))); is = refl }
@@ -110,5 +110,6 @@ remains-of body.Rest form n given end_reported x left fits streams e =
 remains-of (body.Chunked d) form n given end_reported x left fits streams e =
     let k = remains-next (n - given) d.next x in
     let F : Form → Type 0 = λ f. RemainsFrom f (n - given) x left in
-    let same : coming_remaining (coming_of x.stop (decoded_from d.next x)) ≡ left = cc in
-    subst F (sym fits.0) (record { content = k.content; next = k.next; stands = k.stands; is = sym same ∙ k.is })
+    let same : coming_remaining (coming_of x.stop (decoded_from_by d.rules d.next x)) ≡ left = cc in
+    let lenient : coming_remaining (coming_of x.stop (decoded_from_by d.rules d.next x)) ≡ coming_remaining (coming_of x.stop (decoded_from d.next x)) = ap (λ r. coming_remaining (coming_of x.stop (decoded_from_by r d.next x))) fits.2 in
+    subst F (sym fits.0) (record { content = k.content; next = k.next; stands = k.stands; is = sym same ∙ (lenient ∙ k.is) })

@@ -17,7 +17,8 @@ use Rattle.tiny_http_wire.specs.declared.common.HTTPVersion.{HTTPVersion}
 use Rattle.tiny_http_wire.specs.Device.{Feed, whole_feed}
 use Rattle.tiny_http_wire.specs.Chunks.{WholeChunks, CutChunks}
 use Rattle.tiny_http_wire.specs.ChunkReading.{decoded}
-use Rattle.tiny_http_wire.specs.Decoding.{Coming, decoding_coming}
+use Rattle.tiny_http_wire.specs.Decoding.{Coming, decoding_coming, decoding_rules}
+use Rattle.tiny_http_wire.specs.declared.chunked.ChunkRules.TheVariants.{Lenient}
 use Rattle.tiny_http_wire.proofs.ChunksLemmas.{decoded-is}
 use Rattle.tiny_http_wire.specs.Heads.{Message as Texted, BeginsWithRequestHead, FaultyHead, Cut, version, is_too_new}
 use Rattle.tiny_http_message.specs.declared.heads.Message.{Message}
@@ -246,17 +247,17 @@ begins-counted f o b n e is left moves =
 pub begins-chunked : (f : Framing) (o : Option Feed) (d : Decoding) → f.form ≡ Chunked
     → ((bytes content rest : List ℕ) (stop : Stop) → WholeChunks bytes content rest → decoding_coming d (Some (record { bytes = bytes; stop = stop })) ≡ Some (record { bytes = content; behind = Ok (record { bytes = rest; stop = stop }) }))
     → ((bytes content : List ℕ) (stop : Stop) (kind : ErrorKind) → CutChunks bytes stop content kind → decoding_coming d (Some (record { bytes = bytes; stop = stop })) ≡ Some (record { bytes = content; behind = Err kind }))
-    → Begins f o o (Some (body.Chunked d))
-begins-chunked f o d e whole front =
+    → decoding_rules d ≡ Lenient → Begins f o o (Some (body.Chunked d))
+begins-chunked f o d e whole front rules =
     let R : Option Feed → Feed → Type 0 = λ y x. BeginsAt Chunked (body_length_or_0 f) x y (body.Chunked d) in
     begins-with f Chunked o o (body.Chunked d) e
     (λ x end_reported. subst (λ y. R y x) (sym end_reported) (at x (decoded (length x.bytes + 1) x.stop x.bytes).body (decoded (length x.bytes + 1) x.stop x.bytes).ends (decoded-is (length x.bytes + 1) x.bytes x.stop (omega arith))))
   where
     at : (x : Feed) (content : List ℕ) (r : Result (List ℕ) ErrorKind) → MatchResult r (λ rest. WholeChunks x.bytes content rest) (λ kind. CutChunks x.bytes x.stop content kind) → BeginsAt Chunked (body_length_or_0 f) x (Some x) (body.Chunked d)
     at x content (Ok rest) h =
-        (λ k. k, whole_feed content, Some rest, inl (rest, h, refl, refl), ap (λ (c : Option Coming). option_map coming_remaining c) (whole x.bytes content rest x.stop h), (refl, refl))
+        (λ k. k, whole_feed content, Some rest, inl (rest, h, refl, refl), ap (λ (c : Option Coming). option_map coming_remaining c) (whole x.bytes content rest x.stop h), (refl, refl, rules))
     at x content (Err kind) h =
-        (λ k. k, record { bytes = content; stop = Faults kind }, None, inr (kind, h, refl, refl), ap (λ (c : Option Coming). option_map coming_remaining c) (front x.bytes content x.stop kind h), (refl, refl))
+        (λ k. k, record { bytes = content; stop = Faults kind }, None, inr (kind, h, refl, refl), ap (λ (c : Option Coming). option_map coming_remaining c) (front x.bytes content x.stop kind h), (refl, refl, rules))
 
 -- a body that is read with its head
 pub begins-held : (f : Framing) (o new : Option Feed) (c : Cursor (Vec ℕ)) (v : Vec ℕ) (n : ℕ) → f.form ≡ WithHead → n ≡ body_length_or_0 f → cursor_bytes c ≡ v.items → TakesExactly (λ (w : Vec ℕ). w.items) n o new (Some v) → Begins f o new (Some (body.WithHead c))

@@ -8,7 +8,9 @@ use Rattle.tiny_http_wire.specs.declared.device.Stop.{Stop}
 use Rattle.tiny_http_wire.specs.declared.device.Stop.TheVariants.{End, Fault}
 use Rattle.tiny_http_wire.specs.Cursor.{cursor_bytes}
 use Rattle.tiny_http_wire.specs.Device.{AnswersStop, Feed, whole_feed, prepend}
-use Rattle.tiny_http_wire.specs.Decoding.{Coming, decoding_coming}
+use Rattle.tiny_http_wire.specs.Decoding.{Coming, decoding_coming, decoding_rules}
+use Rattle.tiny_http_wire.specs.declared.chunked.ChunkRules.{ChunkRules}
+use Rattle.tiny_http_wire.specs.declared.chunked.ChunkRules.TheVariants.{Lenient}
 use Rattle.tiny_http_message.specs.declared.body.Body.{Body}
 use Rattle.tiny_http_message.specs.declared.body.Body.TheVariants.{Over, WithHead, Counted, Chunked, Rest}
 use Rattle.tiny_http_message.specs.declared.framing.Form.{Form}
@@ -94,9 +96,9 @@ abbrev pub IsWithHead : Body → Type 0
 IsWithHead (WithHead bytes) = ⊤
 IsWithHead _ = ⊥
 
-abbrev pub IsChunked : Body → Type 0
-IsChunked (Chunked decoding) = ⊤
-IsChunked _ = ⊥
+abbrev pub IsChunkedBy : ChunkRules → Body → Type 0
+IsChunkedBy rules (Chunked decoding) = decoding_rules decoding ≡ rules
+IsChunkedBy rules _ = ⊥
 
 -- So many bytes were read, and the end or the fault was reported or not. A counted body is over with its last byte, another
 -- one that is read from the input once its end or fault was reported.
@@ -104,7 +106,7 @@ abbrev pub ReadsOn : Body → ℕ → Bool → Body → Type 0
 ReadsOn (Over stop) n end_reported new = (new ≡ Over stop) × (n ≡ 0)
 ReadsOn (WithHead bytes) n end_reported new = IsWithHead new
 ReadsOn (Counted left) n end_reported new = MatchBool (end_reported || n == left) (IsBodyOver new) ((new ≡ Counted (left - n)) × (n < left))
-ReadsOn (Chunked decoding) n end_reported new = MatchBool end_reported (IsBodyOver new) (IsChunked new)
+ReadsOn (Chunked decoding) n end_reported new = MatchBool end_reported (IsBodyOver new) (IsChunkedBy (decoding_rules decoding) new)
 ReadsOn Rest n end_reported new = MatchBool end_reported (IsBodyOver new) (new ≡ Rest)
 
 -- the body is finished: it is nothing or held, or all its bytes were given out, or its end or fault was reported
@@ -120,7 +122,7 @@ abbrev pub Fits : Body → Form → ℕ → ℕ → Bool → Type 0
 Fits (Over stop) shape n given end_reported = body_finished shape n given end_reported ≡ true
 Fits (WithHead bytes) shape n given end_reported = shape ≡ form.WithHead
 Fits (Counted left) shape n given end_reported = (shape ≡ form.Counted) × (given + left ≡ n) × (0 < left) × (end_reported ≡ false)
-Fits (Chunked decoding) shape n given end_reported = (shape ≡ form.Chunked) × (end_reported ≡ false)
+Fits (Chunked decoding) shape n given end_reported = (shape ≡ form.Chunked) × (end_reported ≡ false) × (decoding_rules decoding ≡ Lenient)
 Fits Rest shape n given end_reported = (shape ≡ form.Rest) × (end_reported ≡ false)
 
 -- A buffer was filled from the body: with all its bytes; or with fewer, and none is left; or a fault came before any byte.

@@ -11,12 +11,16 @@ use Rattle.std.specs.declared.io.ErrorKind.{ErrorKind}
 use Rattle.std.specs.declared.io.ErrorKind.TheVariants.{InvalidData}
 use Rattle.tiny_http_device.specs.declared.device.Stop.{Stop}
 use Rattle.tiny_http_device.specs.declared.device.Stop.TheVariants.{End}
-use Rattle.tiny_http_text.specs.Bytes.{HasNo, IsEmptyOrBegins, semicolon, crlf}
+use Rattle.httparse.specs.Grammar.{is_value_byte}
+use Rattle.tiny_http_text.specs.Bytes.{HasNo, IsEmptyOrBegins, has_bare_front, semicolon, crlf}
+use Rattle.tiny_http_wire.specs.declared.chunked.ChunkRules.{ChunkRules}
+use Rattle.tiny_http_wire.specs.declared.chunked.ChunkRules.TheVariants.{Lenient, Standard}
+use Rattle.tiny_http_wire.proofs.ChunkRulesLemmas.{clear-lone, line-lone, lone-clear, lone-line, lone-is, lone-one, field-is, field-one, field-not_empty}
 use Rattle.tiny_http_text.specs.Lines.{Line}
-use Rattle.tiny_http_wire.specs.Chunks.{longest_line, most_trailers, is_bws, is_hex, SizeText, IsShortLine, Chunk, chunk_text, IsChunk, IsLastLine, IsTrailerLine, lines_text, data_of, WholeChunks, HasNoShortLine, ChunkLineFault, CloseFault, Remainder, NoSizeLine, BadSize, CutData, NoClose, CutTrailer, LongTrailer, RemainderBreaks, CutChunks}
+use Rattle.tiny_http_wire.specs.Chunks.{longest_line, most_trailers, is_bws, is_hex, SizeText, SizeTextBy, IsShortLine, IsShortLineBy, Chunk, chunk_text, IsChunkBy, IsLastLineBy, FieldText, TrailerTextBy, IsTrailerLineBy, lines_text, data_of, WholeChunksBy, WholeChunks, HasNoShortLine, ChunkLineFault, ChunkLineFaultBy, NoField, TrailerFaultBy, CloseFault, Remainder, NoSizeLine, BadSize, CutData, NoClose, CutTrailer, LongTrailer, RemainderBreaksBy, CutChunksBy, CutChunks}
 use Rattle.tiny_http_device.specs.Device.{fault_of}
 use Rattle.tiny_http_head.specs.HeadReading.{line, front_while}
-use Rattle.tiny_http_wire.specs.ChunkReading.{digits_of, size_said, size_of, Decoded, broken, LineRead, short_in, short_line, trailer_at, trailer_in, trailer_section, after_data, prepend_decoded, chunk_closed, data_at, sized, chunk_in, decoded}
+use Rattle.tiny_http_wire.specs.ChunkReading.{digits_of, size_said, size_of, Decoded, broken, LineRead, short_in, short_line, size_by, is_trailer_by, has_lone_feed, line_by, trailer_at, trailer_in, trailer_section, after_data, prepend_decoded, chunk_closed, data_at, sized, chunk_in, decoded_by, decoded}
 use Rattle.tiny_http_head.proofs.LinesLemmas.{line-is, line-front, line-none}
 use Rattle.tiny_http_text.proofs.BytesLemmas.{trims-is, trims-one}
 use Rattle.std.proofs.Math.Seq.{take-append_seam}
@@ -128,42 +132,158 @@ short-fault stop bytes kind h =
     rw (line-none (take (longest_line + 2) bytes) h.0)
     (⊎_elim (λ k. rw (le-leb (longest_line + 2) (length bytes) k.0) (ap Err (sym k.1))) (λ k. rw (lt-leb (longest_line + 2) (length bytes) k.0) (ap Err (sym k.1))) h.1)
 
+-- the same by each of the rules
+abbrev pub IsLineReadBy : ChunkRules → Stop → List ℕ → LineRead → Type 0
+IsLineReadBy rules stop bytes r = MatchResult r (λ l. (bytes ≡ l.0 ++ crlf ++ l.1) × IsShortLineBy rules l.0) (λ kind. ChunkLineFaultBy rules bytes stop kind)
+
+pub line_by-one : (rules : ChunkRules) (stop : Stop) (text rest : List ℕ) → IsShortLineBy rules text → line_by rules stop (text ++ crlf ++ rest) ≡ Ok (text, rest)
+line_by-one Lenient stop text rest h = short-one stop text rest h
+line_by-one Standard stop text rest h =
+    let e : has_lone_feed (take (longest_line + 2) (text ++ crlf ++ rest)) ≡ false = ap has_lone_feed (take-seam longest_line text rest h.0.0) ∙ line-lone text (take (longest_line - length text) rest) h.1 in
+    ap (λ t. cond t (Err InvalidData) (short_line stop (text ++ crlf ++ rest))) e ∙ short-one stop text rest h.0
+
+without-lone : (stop : Stop) (bytes : List ℕ) (r : LineRead) → has_lone_feed (take (longest_line + 2) bytes) ≡ false → IsLineRead stop bytes r → IsLineReadBy Standard stop bytes r
+without-lone stop bytes (Ok l) e h =
+    let front : take (longest_line + 2) bytes ≡ l.0 ++ crlf ++ take (longest_line - length l.0) l.1 = ap (λ x. take (longest_line + 2) x) h.0 ∙ take-seam longest_line l.0 l.1 h.1.0 in
+    (h.0, (h.1, lone-line l.0 (take (longest_line - length l.0) l.1) h.1.1 (sym (ap has_lone_feed front) ∙ e)))
+without-lone stop bytes (Err kind) e h = inr (lone-clear (take (longest_line + 2) bytes) h.0 e, h)
+
+lone-step : (stop : Stop) (bytes : List ℕ) (t : Bool) → has_lone_feed (take (longest_line + 2) bytes) ≡ t → IsLineReadBy Standard stop bytes (cond t (Err InvalidData) (short_line stop bytes))
+lone-step stop bytes true e = inl (lone-is bytes e, refl)
+lone-step stop bytes false e = without-lone stop bytes (short_line stop bytes) e (short-is stop bytes)
+
+pub line_by-is : (rules : ChunkRules) (stop : Stop) (bytes : List ℕ) → IsLineReadBy rules stop bytes (line_by rules stop bytes)
+line_by-is Lenient stop bytes = short-is stop bytes
+line_by-is Standard stop bytes = lone-step stop bytes (has_lone_feed (take (longest_line + 2) bytes)) refl
+
+pub line_by-fault : (rules : ChunkRules) (stop : Stop) (bytes : List ℕ) (kind : ErrorKind) → ChunkLineFaultBy rules bytes stop kind → line_by rules stop bytes ≡ Err kind
+line_by-fault Lenient stop bytes kind h = short-fault stop bytes kind h
+line_by-fault Standard stop bytes kind h =
+    ⊎_elim
+    (λ k. ap (λ t. cond t (Err InvalidData) (short_line stop bytes)) (lone-one bytes k.0) ∙ ap Err (sym k.1))
+    (λ k. ap (λ t. cond t (Err InvalidData) (short_line stop bytes)) (clear-lone (take (longest_line + 2) bytes) k.0) ∙ short-fault stop bytes kind k.1)
+    h
+
+-- the size of a size line
+both-true : (a b : Bool) (o : Option ℕ) (n : ℕ) → cond (a && b) o None ≡ Some n → (a ≡ true) × (b ≡ true) × (o ≡ Some n)
+both-true true true o n h = (refl, refl, h)
+both-true true false o n h = cc
+both-true false b o n h = cc
+
+pub size_by-one : (rules : ChunkRules) (text : List ℕ) (n : ℕ) → SizeTextBy rules text n → size_by rules text ≡ Some n
+size_by-one Lenient text n h = size-one text n h
+size_by-one Standard text n h = rw (h.1, h.2) (size-one text n h.0)
+
+pub size_by-is : (rules : ChunkRules) (text : List ℕ) (n : ℕ) → size_by rules text ≡ Some n → SizeTextBy rules text n
+size_by-is Lenient text n e = size-is text n e
+size_by-is Standard text n e =
+    let k = both-true (has_bare_front is_bws text) (list_all is_value_byte text) (size_of text) n e in
+    (size-is text n k.2, k.0, k.1)
+
+-- a trailer line
+positive : (b : ℕ) (bs : List ℕ) → 0 < length (b ∷ bs)
+positive b bs = omega arith
+
+no-true : {G : Type 0} → true ≡ false → G
+no-true e = cc
+
+trailer-bytes : (rules : ChunkRules) (text : List ℕ) → TrailerTextBy rules text → 0 < length text
+trailer-bytes Lenient text h = h
+trailer-bytes Standard text h = field-not_empty text h
+
+trailer-passes : (rules : ChunkRules) (text : List ℕ) → TrailerTextBy rules text → is_trailer_by rules text ≡ true
+trailer-passes Lenient text h = refl
+trailer-passes Standard text h = field-one text h
+
+trailer-text : (rules : ChunkRules) (b : ℕ) (bs : List ℕ) → is_trailer_by rules (b ∷ bs) ≡ true → TrailerTextBy rules (b ∷ bs)
+trailer-text Lenient b bs e = positive b bs
+trailer-text Standard b bs e = field-is (b ∷ bs) e
+
+-- a line that stands in its place and is none
+trailer-fails : (rules : ChunkRules) (stop : Stop) (bytes : List ℕ) (b : ℕ) (bs rest : List ℕ) → bytes ≡ (b ∷ bs) ++ crlf ++ rest → IsShortLineBy rules (b ∷ bs) → is_trailer_by rules (b ∷ bs) ≡ false → TrailerFaultBy rules bytes stop InvalidData
+trailer-fails Lenient stop bytes b bs rest j s e = cc
+trailer-fails Standard stop bytes b bs rest j s e =
+    let no : FieldText (b ∷ bs) → ⊥ = λ f. no-true (sym (field-one (b ∷ bs) f) ∙ e) in
+    inr (record { text = b ∷ bs; rest = rest; joins = j; short = s; not_empty = positive b bs; no_field = no }, refl)
+
+line-fails : (rules : ChunkRules) (bytes : List ℕ) (stop : Stop) (kind : ErrorKind) → ChunkLineFaultBy rules bytes stop kind → TrailerFaultBy rules bytes stop kind
+line-fails Lenient bytes stop kind h = h
+line-fails Standard bytes stop kind h = inl h
+
 -- the trailer part
 abbrev whole_part : List ℕ → Decoded
 whole_part rest = record { body = []; ends = Ok rest }
 
-pub trailer-end : (m : ℕ) (stop : Stop) (rest : List ℕ) → trailer_section m stop (crlf ++ rest) ≡ whole_part rest
-trailer-end zero stop rest = refl
-trailer-end (suc m) stop rest = refl
+empty-short : (rules : ChunkRules) → IsShortLineBy rules []
+empty-short Lenient = (omega arith, refl)
+empty-short Standard = ((omega arith, refl), refl)
 
-pub at-cons : (go : List ℕ → Decoded) (text rest : List ℕ) → 0 < length text → trailer_at go text rest ≡ go rest
-at-cons go [] rest h = absurd (omega arith)
-at-cons go (b ∷ bs) rest h = refl
+pub trailer-end : (rules : ChunkRules) (m : ℕ) (stop : Stop) (rest : List ℕ) → trailer_section rules m stop (crlf ++ rest) ≡ whole_part rest
+trailer-end rules zero stop rest = ap (trailer_in rules (λ x. broken [] InvalidData)) (line_by-one rules stop [] rest (empty-short rules))
+trailer-end rules (suc m) stop rest = ap (trailer_in rules (trailer_section rules m stop)) (line_by-one rules stop [] rest (empty-short rules))
 
-pub trailer-more : (m : ℕ) (stop : Stop) (text rest : List ℕ) → IsTrailerLine text → trailer_section (suc m) stop (text ++ crlf ++ rest) ≡ trailer_section m stop rest
-trailer-more m stop text rest h = rw (short-one stop text rest h.0) (at-cons (trailer_section m stop) text rest h.1)
+at-cons : (rules : ChunkRules) (go : List ℕ → Decoded) (text rest : List ℕ) → 0 < length text → is_trailer_by rules text ≡ true → trailer_at rules go text rest ≡ go rest
+at-cons rules go [] rest h e = absurd (omega arith)
+at-cons rules go (b ∷ bs) rest h e = ap (λ t. cond t (go rest) (broken [] InvalidData)) e
+
+either-way : (t : Bool) (d : Decoded) → cond t d d ≡ d
+either-way true d = refl
+either-way false d = refl
+
+-- one line more than may stand there is a fault, whatever it says
+pub last-cons : (rules : ChunkRules) (text rest : List ℕ) → 0 < length text → trailer_at rules (λ x. broken [] InvalidData) text rest ≡ broken [] InvalidData
+last-cons rules [] rest h = absurd (omega arith)
+last-cons rules (b ∷ bs) rest h = either-way (is_trailer_by rules (b ∷ bs)) (broken [] InvalidData)
+
+not-trailer : (rules : ChunkRules) (go : List ℕ → Decoded) (text rest : List ℕ) → 0 < length text → is_trailer_by rules text ≡ false → trailer_at rules go text rest ≡ broken [] InvalidData
+not-trailer rules go [] rest h e = absurd (omega arith)
+not-trailer rules go (b ∷ bs) rest h e = ap (λ t. cond t (go rest) (broken [] InvalidData)) e
+
+pub trailer-next : (rules : ChunkRules) (m : ℕ) (stop : Stop) (text rest : List ℕ) → IsShortLineBy rules text → 0 < length text → is_trailer_by rules text ≡ true → trailer_section rules (suc m) stop (text ++ crlf ++ rest) ≡ trailer_section rules m stop rest
+trailer-next rules m stop text rest s p e = rw (line_by-one rules stop text rest s) (at-cons rules (trailer_section rules m stop) text rest p e)
+
+trailer-more : (rules : ChunkRules) (m : ℕ) (stop : Stop) (text rest : List ℕ) → IsTrailerLineBy rules text → trailer_section rules (suc m) stop (text ++ crlf ++ rest) ≡ trailer_section rules m stop rest
+trailer-more rules m stop text rest h = trailer-next rules m stop text rest h.0 (trailer-bytes rules text h.1) (trailer-passes rules text h.1)
 
 regroup : (text : List ℕ) (lines : List (List ℕ)) (rest : List ℕ) → lines_text (text ∷ lines) ++ rest ≡ text ++ crlf ++ (lines_text lines ++ rest)
 regroup text lines rest = append_assoc (text ++ crlf) (lines_text lines) rest
 
-trailer-whole : (m : ℕ) (stop : Stop) (lines : List (List ℕ)) (rest : List ℕ) → AllByRecursion IsTrailerLine lines → length lines ≤ m → trailer_section m stop (lines_text lines ++ (crlf ++ rest)) ≡ whole_part rest
-trailer-whole m stop [] rest h le = trailer-end m stop rest
-trailer-whole zero stop (x ∷ xs) rest h le = absurd (omega arith)
-trailer-whole (suc m) stop (x ∷ xs) rest h le = rw (regroup x xs (crlf ++ rest)) (trailer-more m stop x (lines_text xs ++ (crlf ++ rest)) h.0 ∙ trailer-whole m stop xs rest h.1 (omega arith))
+trailer-whole : (rules : ChunkRules) (m : ℕ) (stop : Stop) (lines : List (List ℕ)) (rest : List ℕ) → AllByRecursion (IsTrailerLineBy rules) lines → length lines ≤ m → trailer_section rules m stop (lines_text lines ++ (crlf ++ rest)) ≡ whole_part rest
+trailer-whole rules m stop [] rest h le = trailer-end rules m stop rest
+trailer-whole rules zero stop (x ∷ xs) rest h le = absurd (omega arith)
+trailer-whole rules (suc m) stop (x ∷ xs) rest h le = rw (regroup x xs (crlf ++ rest)) (trailer-more rules m stop x (lines_text xs ++ (crlf ++ rest)) h.0 ∙ trailer-whole rules m stop xs rest h.1 (omega arith))
 
-pub trailer-faulty : (m : ℕ) (stop : Stop) (bytes : List ℕ) (kind : ErrorKind) → ChunkLineFault bytes stop kind → trailer_section m stop bytes ≡ broken [] kind
-trailer-faulty zero stop bytes kind h = rw (short-fault stop bytes kind h) refl
-trailer-faulty (suc m) stop bytes kind h = rw (short-fault stop bytes kind h) refl
+pub trailer-line_fault : (rules : ChunkRules) (m : ℕ) (stop : Stop) (bytes : List ℕ) (kind : ErrorKind) → ChunkLineFaultBy rules bytes stop kind → trailer_section rules m stop bytes ≡ broken [] kind
+trailer-line_fault rules zero stop bytes kind h = ap (trailer_in rules (λ x. broken [] InvalidData)) (line_by-fault rules stop bytes kind h)
+trailer-line_fault rules (suc m) stop bytes kind h = ap (trailer_in rules (trailer_section rules m stop)) (line_by-fault rules stop bytes kind h)
 
-trailer-cut : (m : ℕ) (stop : Stop) (lines : List (List ℕ)) (next : List ℕ) (kind : ErrorKind) → AllByRecursion IsTrailerLine lines → length lines ≤ m → ChunkLineFault next stop kind → trailer_section m stop (lines_text lines ++ next) ≡ broken [] kind
-trailer-cut m stop [] next kind h le f = trailer-faulty m stop next kind f
-trailer-cut zero stop (x ∷ xs) next kind h le f = absurd (omega arith)
-trailer-cut (suc m) stop (x ∷ xs) next kind h le f = rw (regroup x xs next) (trailer-more m stop x (lines_text xs ++ next) h.0 ∙ trailer-cut m stop xs next kind h.1 (omega arith) f)
+-- a line that is no trailer line
+pub trailer-bad : (rules : ChunkRules) (m : ℕ) (stop : Stop) (text rest : List ℕ) → IsShortLineBy rules text → 0 < length text → is_trailer_by rules text ≡ false → trailer_section rules m stop (text ++ crlf ++ rest) ≡ broken [] InvalidData
+trailer-bad rules zero stop text rest s p e = ap (trailer_in rules (λ x. broken [] InvalidData)) (line_by-one rules stop text rest s) ∙ last-cons rules text rest p
+trailer-bad rules (suc m) stop text rest s p e = ap (trailer_in rules (trailer_section rules m stop)) (line_by-one rules stop text rest s) ∙ not-trailer rules (trailer_section rules m stop) text rest p e
 
-trailer-long : (m : ℕ) (stop : Stop) (lines : List (List ℕ)) (next : List ℕ) → AllByRecursion IsTrailerLine lines → length lines ≡ m + 1 → trailer_section m stop (lines_text lines ++ next) ≡ broken [] InvalidData
-trailer-long m stop [] next h le = absurd (omega arith)
-trailer-long zero stop (x ∷ xs) next h le = rw (regroup x xs next, short-one stop x (lines_text xs ++ next) h.0.0) (at-cons (λ rest. broken [] InvalidData) x (lines_text xs ++ next) h.0.1)
-trailer-long (suc m) stop (x ∷ xs) next h le = rw (regroup x xs next) (trailer-more m stop x (lines_text xs ++ next) h.0 ∙ trailer-long m stop xs next h.1 (omega arith))
+no-trailer : (text : List ℕ) (t : Bool) → is_trailer_by Standard text ≡ t → (FieldText text → ⊥) → t ≡ false
+no-trailer text true e h = absurd (h (field-is text e))
+no-trailer text false e h = refl
+
+trailer-no_field : (m : ℕ) (stop : Stop) (bytes : List ℕ) → NoField bytes → trailer_section Standard m stop bytes ≡ broken [] InvalidData
+trailer-no_field m stop bytes n =
+    ap (λ x. trailer_section Standard m stop x) n.joins ∙ trailer-bad Standard m stop n.text n.rest n.short n.not_empty (no-trailer n.text (is_trailer_by Standard n.text) refl n.no_field)
+
+trailer-faulty : (rules : ChunkRules) (m : ℕ) (stop : Stop) (bytes : List ℕ) (kind : ErrorKind) → TrailerFaultBy rules bytes stop kind → trailer_section rules m stop bytes ≡ broken [] kind
+trailer-faulty Lenient m stop bytes kind h = trailer-line_fault Lenient m stop bytes kind h
+trailer-faulty Standard m stop bytes kind h =
+    ⊎_elim (λ k. trailer-line_fault Standard m stop bytes kind k) (λ k. trailer-no_field m stop bytes k.0 ∙ ap (λ x. broken [] x) (sym k.1)) h
+
+trailer-cut : (rules : ChunkRules) (m : ℕ) (stop : Stop) (lines : List (List ℕ)) (next : List ℕ) (kind : ErrorKind) → AllByRecursion (IsTrailerLineBy rules) lines → length lines ≤ m → TrailerFaultBy rules next stop kind → trailer_section rules m stop (lines_text lines ++ next) ≡ broken [] kind
+trailer-cut rules m stop [] next kind h le f = trailer-faulty rules m stop next kind f
+trailer-cut rules zero stop (x ∷ xs) next kind h le f = absurd (omega arith)
+trailer-cut rules (suc m) stop (x ∷ xs) next kind h le f = rw (regroup x xs next) (trailer-more rules m stop x (lines_text xs ++ next) h.0 ∙ trailer-cut rules m stop xs next kind h.1 (omega arith) f)
+
+trailer-long : (rules : ChunkRules) (m : ℕ) (stop : Stop) (lines : List (List ℕ)) (next : List ℕ) → AllByRecursion (IsTrailerLineBy rules) lines → length lines ≡ m + 1 → trailer_section rules m stop (lines_text lines ++ next) ≡ broken [] InvalidData
+trailer-long rules m stop [] next h le = absurd (omega arith)
+trailer-long rules zero stop (x ∷ xs) next h le = rw (regroup x xs next, line_by-one rules stop x (lines_text xs ++ next) h.0.0) (last-cons rules x (lines_text xs ++ next) (trailer-bytes rules x h.0.1))
+trailer-long rules (suc m) stop (x ∷ xs) next h le = rw (regroup x xs next) (trailer-more rules m stop x (lines_text xs ++ next) h.0 ∙ trailer-long rules m stop xs next h.1 (omega arith))
 
 -- what follows a chunk's data
 close-one : (stop : Stop) (rest : List ℕ) → after_data stop (crlf ++ rest) ≡ Ok rest
@@ -218,21 +338,21 @@ close-is stop (a ∷ b ∷ bs) = close-step stop a b bs (a == 13) (b == 10) refl
 abbrev pub Go : Type 0
 Go = List ℕ → Decoded
 
-sized-at : (go : Go) (stop : Stop) (rest : List ℕ) (n : ℕ) → 0 < n → sized go stop rest (Some n) ≡ data_at go stop n rest (nat_lt (length rest) n)
-sized-at go stop rest zero h = absurd (omega arith)
-sized-at go stop rest (suc m) h = refl
+sized-at : (rules : ChunkRules) (go : Go) (stop : Stop) (rest : List ℕ) (n : ℕ) → 0 < n → sized rules go stop rest (Some n) ≡ data_at go stop n rest (nat_lt (length rest) n)
+sized-at rules go stop rest zero h = absurd (omega arith)
+sized-at rules go stop rest (suc m) h = refl
 
 not-shorter : (xs ys : List ℕ) → nat_lt (length (xs ++ ys)) (length xs) ≡ false
 not-shorter xs ys = le-ltb (length (xs ++ ys)) (length xs) (simp length-append (omega arith))
 
 -- a size line of a size above 0
-pub sized-line : (fuel : ℕ) (stop : Stop) (text rest : List ℕ) (n : ℕ) → IsShortLine text → SizeText text n → 0 < n
-    → decoded (suc fuel) stop (text ++ crlf ++ rest) ≡ data_at (decoded fuel stop) stop n rest (nat_lt (length rest) n)
-sized-line fuel stop text rest n s z p = rw (short-one stop text rest s, size-one text n z) (sized-at (decoded fuel stop) stop rest n p)
+pub sized-line : (rules : ChunkRules) (fuel : ℕ) (stop : Stop) (text rest : List ℕ) (n : ℕ) → IsShortLineBy rules text → SizeTextBy rules text n → 0 < n
+    → decoded_by rules (suc fuel) stop (text ++ crlf ++ rest) ≡ data_at (decoded_by rules fuel stop) stop n rest (nat_lt (length rest) n)
+sized-line rules fuel stop text rest n s z p = rw (line_by-one rules stop text rest s, size_by-one rules text n z) (sized-at rules (decoded_by rules fuel stop) stop rest n p)
 
 -- and of size 0
-last-line : (fuel : ℕ) (stop : Stop) (text rest : List ℕ) → IsLastLine text → decoded (suc fuel) stop (text ++ crlf ++ rest) ≡ trailer_section most_trailers stop rest
-last-line fuel stop text rest h = rw (short-one stop text rest h.0, size-one text 0 h.1) refl
+last-line : (rules : ChunkRules) (fuel : ℕ) (stop : Stop) (text rest : List ℕ) → IsLastLineBy rules text → decoded_by rules (suc fuel) stop (text ++ crlf ++ rest) ≡ trailer_section rules most_trailers stop rest
+last-line rules fuel stop text rest h = rw (line_by-one rules stop text rest h.0, size_by-one rules text 0 h.1) refl
 
 data-closed : (go : Go) (stop : Stop) (bytes close : List ℕ) → data_at go stop (length bytes) (bytes ++ close) (nat_lt (length (bytes ++ close)) (length bytes)) ≡ chunk_closed go bytes (after_data stop close)
 data-closed go stop bytes close = rw (not-shorter bytes close, take-append_seam bytes close, drop-append_seam bytes close) refl
@@ -240,11 +360,11 @@ data-closed go stop bytes close = rw (not-shorter bytes close, take-append_seam 
 chunk-group : (c : Chunk) (rest : List ℕ) → chunk_text c ++ rest ≡ c.size_line ++ crlf ++ (c.bytes ++ (crlf ++ rest))
 chunk-group c rest = append_assoc (c.size_line ++ crlf ++ c.bytes) crlf rest ∙ append_assoc (c.size_line ++ crlf) c.bytes (crlf ++ rest)
 
-chunk-one : (fuel : ℕ) (stop : Stop) (c : Chunk) (rest : List ℕ) → IsChunk c → decoded (suc fuel) stop (chunk_text c ++ rest) ≡ prepend_decoded c.bytes (decoded fuel stop rest)
-chunk-one fuel stop c rest h =
+chunk-one : (rules : ChunkRules) (fuel : ℕ) (stop : Stop) (c : Chunk) (rest : List ℕ) → (IsChunkBy rules) c → decoded_by rules (suc fuel) stop (chunk_text c ++ rest) ≡ prepend_decoded c.bytes (decoded_by rules fuel stop rest)
+chunk-one rules fuel stop c rest h =
     rw (chunk-group c rest)
-    (sized-line fuel stop c.size_line (c.bytes ++ (crlf ++ rest)) (length c.bytes) h.short h.sized h.not_last
-    ∙ (data-closed (decoded fuel stop) stop c.bytes (crlf ++ rest) ∙ ap (chunk_closed (decoded fuel stop) c.bytes) (close-one stop rest)))
+    (sized-line rules fuel stop c.size_line (c.bytes ++ (crlf ++ rest)) (length c.bytes) h.short h.sized h.not_last
+    ∙ (data-closed (decoded_by rules fuel stop) stop c.bytes (crlf ++ rest) ∙ ap (chunk_closed (decoded_by rules fuel stop) c.bytes) (close-one stop rest)))
 
 abbrev joined_chunks : List Chunk → List ℕ
 joined_chunks chunks = flat_map chunk_text chunks
@@ -252,14 +372,14 @@ joined_chunks chunks = flat_map chunk_text chunks
 abbrev pub made : List ℕ → Result (List ℕ) ErrorKind → Decoded
 made body ends = record { body = body; ends = ends }
 
-chunks-front : (fuel : ℕ) (stop : Stop) (chunks : List Chunk) (rest part : List ℕ) (ends : Result (List ℕ) ErrorKind) → AllByRecursion IsChunk chunks → length chunks < fuel
-    → ((n : ℕ) → decoded (suc n) stop rest ≡ made part ends) → decoded fuel stop (joined_chunks chunks ++ rest) ≡ made (data_of chunks ++ part) ends
-chunks-front zero stop chunks rest part ends h lt go = absurd (omega arith)
-chunks-front (suc fuel) stop [] rest part ends h lt go = go fuel
-chunks-front (suc fuel) stop (c ∷ cs) rest part ends h lt go =
+chunks-front : (rules : ChunkRules) (fuel : ℕ) (stop : Stop) (chunks : List Chunk) (rest part : List ℕ) (ends : Result (List ℕ) ErrorKind) → AllByRecursion (IsChunkBy rules) chunks → length chunks < fuel
+    → ((n : ℕ) → decoded_by rules (suc n) stop rest ≡ made part ends) → decoded_by rules fuel stop (joined_chunks chunks ++ rest) ≡ made (data_of chunks ++ part) ends
+chunks-front rules zero stop chunks rest part ends h lt go = absurd (omega arith)
+chunks-front rules (suc fuel) stop [] rest part ends h lt go = go fuel
+chunks-front rules (suc fuel) stop (c ∷ cs) rest part ends h lt go =
     rw (append_assoc (chunk_text c) (joined_chunks cs) rest)
-    (chunk-one fuel stop c (joined_chunks cs ++ rest) h.0
-    ∙ (ap (prepend_decoded c.bytes) (chunks-front fuel stop cs rest part ends h.1 (omega arith) go)
+    (chunk-one rules fuel stop c (joined_chunks cs ++ rest) h.0
+    ∙ (ap (prepend_decoded c.bytes) (chunks-front rules fuel stop cs rest part ends h.1 (omega arith) go)
     ∙ ap (λ x. made x ends) (sym (append_assoc c.bytes (data_of cs) part))))
 
 chunk-long : (c : Chunk) → 0 < length (chunk_text c)
@@ -274,42 +394,42 @@ chunks-fewer (c ∷ cs) rest =
     omega arith
 
 -- chunks, a last chunk and a trailer part are read as they stand
-pub decoded-one : (bytes body rest : List ℕ) (stop : Stop) → WholeChunks bytes body rest → decoded (length bytes + 1) stop bytes ≡ made body (Ok rest)
-decoded-one bytes body rest stop c =
+pub decoded_by-one : (rules : ChunkRules) (bytes body rest : List ℕ) (stop : Stop) → WholeChunksBy rules bytes body rest → decoded_by rules (length bytes + 1) stop bytes ≡ made body (Ok rest)
+decoded_by-one rules bytes body rest stop c =
     let tail = lines_text (c.last ∷ c.trailers) ++ (crlf ++ rest) in
     let few : length c.chunks < length bytes + 1 = rw c.joins (chunks-fewer c.chunks tail) in
-    let last : (n : ℕ) → decoded (suc n) stop tail ≡ made [] (Ok rest) =
-    λ n. rw (regroup c.last c.trailers (crlf ++ rest)) (last-line n stop c.last (lines_text c.trailers ++ (crlf ++ rest)) c.is_last_chunk ∙ trailer-whole most_trailers stop c.trailers rest c.are_trailers c.few_trailers) in
-    let go = chunks-front (length bytes + 1) stop c.chunks tail [] (Ok rest) c.are_chunks few last in
-    let P : List ℕ → Type 0 = λ x. decoded (length bytes + 1) stop x ≡ made body (Ok rest) in
+    let last : (n : ℕ) → decoded_by rules (suc n) stop tail ≡ made [] (Ok rest) =
+    λ n. rw (regroup c.last c.trailers (crlf ++ rest)) (last-line rules n stop c.last (lines_text c.trailers ++ (crlf ++ rest)) c.is_last_chunk ∙ trailer-whole rules most_trailers stop c.trailers rest c.are_trailers c.few_trailers) in
+    let go = chunks-front rules (length bytes + 1) stop c.chunks tail [] (Ok rest) c.are_chunks few last in
+    let P : List ℕ → Type 0 = λ x. decoded_by rules (length bytes + 1) stop x ≡ made body (Ok rest) in
     subst P (sym c.joins) (go ∙ ap (λ x. made x (Ok rest)) (append-nil (data_of c.chunks) ∙ sym c.body_is))
 
-no-size : (text : List ℕ) (o : Option ℕ) → size_of text ≡ o → ((n : ℕ) → SizeText text n → ⊥) → o ≡ None
-no-size text None e h = refl
-no-size text (Some n) e h = absurd (h n (size-is text n e))
+no-size : (rules : ChunkRules) (text : List ℕ) (o : Option ℕ) → size_by rules text ≡ o → ((n : ℕ) → SizeTextBy rules text n → ⊥) → o ≡ None
+no-size rules text None e h = refl
+no-size rules text (Some n) e h = absurd (h n (size_by-is rules text n e))
 
-breaks-one : (way : Remainder) (rest : List ℕ) (stop : Stop) (part : List ℕ) (kind : ErrorKind) → RemainderBreaks way rest stop part kind → (n : ℕ) → decoded (suc n) stop rest ≡ made part (Err kind)
-breaks-one NoSizeLine rest stop part kind h n = rw (short-fault stop rest kind h.1, h.0) refl
-breaks-one (BadSize text more) rest stop part kind h n = rw (h.0, short-one stop text more h.1, no-size text (size_of text) refl h.2, h.3, h.4) refl
-breaks-one (CutData text size) rest stop part kind h n =
-    rw (h.0) (sized-line n stop text part size h.1 h.2 (omega arith) ∙ rw (lt-ltb (length part) size h.3, h.4) refl)
-breaks-one (NoClose text close) rest stop part kind h n =
+breaks-one : (rules : ChunkRules) (way : Remainder) (rest : List ℕ) (stop : Stop) (part : List ℕ) (kind : ErrorKind) → RemainderBreaksBy rules way rest stop part kind → (n : ℕ) → decoded_by rules (suc n) stop rest ≡ made part (Err kind)
+breaks-one rules NoSizeLine rest stop part kind h n = rw (line_by-fault rules stop rest kind h.1, h.0) refl
+breaks-one rules (BadSize text more) rest stop part kind h n = rw (h.0, line_by-one rules stop text more h.1, no-size rules text (size_by rules text) refl h.2, h.3, h.4) refl
+breaks-one rules (CutData text size) rest stop part kind h n =
+    rw (h.0) (sized-line rules n stop text part size h.1 h.2 (omega arith) ∙ rw (lt-ltb (length part) size h.3, h.4) refl)
+breaks-one rules (NoClose text close) rest stop part kind h n =
     rw (h.0, append_assoc (text ++ crlf) part close)
-    (sized-line n stop text (part ++ close) (length part) h.1 h.2 h.3
-    ∙ (data-closed (decoded n stop) stop part close ∙ ap (chunk_closed (decoded n stop) part) (close-fault stop close kind h.4)))
-breaks-one (CutTrailer last trailers next) rest stop part kind h n =
+    (sized-line rules n stop text (part ++ close) (length part) h.1 h.2 h.3
+    ∙ (data-closed (decoded_by rules n stop) stop part close ∙ ap (chunk_closed (decoded_by rules n stop) part) (close-fault stop close kind h.4)))
+breaks-one rules (CutTrailer last trailers next) rest stop part kind h n =
     rw (h.0, regroup last trailers next, h.5)
-    (last-line n stop last (lines_text trailers ++ next) h.1 ∙ trailer-cut most_trailers stop trailers next kind h.2 h.3 h.4)
-breaks-one (LongTrailer last trailers next) rest stop part kind h n =
+    (last-line rules n stop last (lines_text trailers ++ next) h.1 ∙ trailer-cut rules most_trailers stop trailers next kind h.2 h.3 h.4)
+breaks-one rules (LongTrailer last trailers next) rest stop part kind h n =
     rw (h.0, regroup last trailers next, h.4, h.5)
-    (last-line n stop last (lines_text trailers ++ next) h.1 ∙ trailer-long most_trailers stop trailers next h.2 h.3)
+    (last-line rules n stop last (lines_text trailers ++ next) h.1 ∙ trailer-long rules most_trailers stop trailers next h.2 h.3)
 
 -- and so is a front of such a body
-pub decoded-front : (bytes body : List ℕ) (stop : Stop) (kind : ErrorKind) → CutChunks bytes stop body kind → decoded (length bytes + 1) stop bytes ≡ made body (Err kind)
-decoded-front bytes body stop kind c =
+pub decoded_by-front : (rules : ChunkRules) (bytes body : List ℕ) (stop : Stop) (kind : ErrorKind) → CutChunksBy rules bytes stop body kind → decoded_by rules (length bytes + 1) stop bytes ≡ made body (Err kind)
+decoded_by-front rules bytes body stop kind c =
     let few : length c.chunks < length bytes + 1 = rw c.joins (chunks-fewer c.chunks c.rest) in
-    let go = chunks-front (length bytes + 1) stop c.chunks c.rest c.part (Err kind) c.are_chunks few (breaks-one c.way c.rest stop c.part kind c.breaks) in
-    let P : List ℕ → Type 0 = λ x. decoded (length bytes + 1) stop x ≡ made body (Err kind) in
+    let go = chunks-front rules (length bytes + 1) stop c.chunks c.rest c.part (Err kind) c.are_chunks few (breaks-one rules c.way c.rest stop c.part kind c.breaks) in
+    let P : List ℕ → Type 0 = λ x. decoded_by rules (length bytes + 1) stop x ≡ made body (Err kind) in
     subst P (sym c.joins) (go ∙ ap (λ x. made x (Err kind)) (sym c.body_is))
 
 more_lines : (n m : ℕ) → n ≤ m → suc n ≤ suc m
@@ -317,9 +437,6 @@ more_lines n m h = omega arith
 
 more_equal : (n m : ℕ) → n ≡ m + 1 → suc n ≡ suc m + 1
 more_equal n m h = omega arith
-
-positive : (b : ℕ) (bs : List ℕ) → 0 < length (b ∷ bs)
-positive b bs = omega arith
 
 none-size : {G : Type 0} (n : ℕ) → Some n ≡ None → G
 none-size n e = cc
@@ -329,71 +446,81 @@ less_rest bytes front rest fuel j p lt =
     let e : length bytes ≡ length front + length rest = ap length j ∙ length-append front rest in omega arith
 
 -- what is read of a trailer part
-abbrev TrailerWhole : ℕ → List ℕ → List ℕ → Type 0
-TrailerWhole m bytes rest = (lines : List (List ℕ)) × (bytes ≡ lines_text lines ++ (crlf ++ rest)) × AllByRecursion IsTrailerLine lines × (length lines ≤ m)
+abbrev TrailerWhole : ChunkRules → ℕ → List ℕ → List ℕ → Type 0
+TrailerWhole rules m bytes rest = (lines : List (List ℕ)) × (bytes ≡ lines_text lines ++ (crlf ++ rest)) × AllByRecursion (IsTrailerLineBy rules) lines × (length lines ≤ m)
 
-abbrev TrailerBroken : ℕ → List ℕ → Stop → ErrorKind → Type 0
-TrailerBroken m bytes stop kind =
-    ((lines : List (List ℕ)) × (next : List ℕ) × (bytes ≡ lines_text lines ++ next) × AllByRecursion IsTrailerLine lines × (length lines ≤ m) × ChunkLineFault next stop kind)
-    ⊎ ((lines : List (List ℕ)) × (next : List ℕ) × (bytes ≡ lines_text lines ++ next) × AllByRecursion IsTrailerLine lines × (length lines ≡ m + 1) × (kind ≡ InvalidData))
+abbrev TrailerBroken : ChunkRules → ℕ → List ℕ → Stop → ErrorKind → Type 0
+TrailerBroken rules m bytes stop kind =
+    ((lines : List (List ℕ)) × (next : List ℕ) × (bytes ≡ lines_text lines ++ next) × AllByRecursion (IsTrailerLineBy rules) lines × (length lines ≤ m) × TrailerFaultBy rules next stop kind)
+    ⊎ ((lines : List (List ℕ)) × (next : List ℕ) × (bytes ≡ lines_text lines ++ next) × AllByRecursion (IsTrailerLineBy rules) lines × (length lines ≡ m + 1) × (kind ≡ InvalidData))
 
-abbrev TrailerIs : ℕ → Stop → List ℕ → Decoded → Type 0
-TrailerIs m stop bytes d = (d.body ≡ []) × MatchResult d.ends (TrailerWhole m bytes) (TrailerBroken m bytes stop)
+abbrev TrailerIs : ChunkRules → ℕ → Stop → List ℕ → Decoded → Type 0
+TrailerIs rules m stop bytes d = (d.body ≡ []) × MatchResult d.ends (TrailerWhole rules m bytes) (TrailerBroken rules m bytes stop)
 
 all-cons : (text : List ℕ) (lines : List (List ℕ)) (bytes rest next : List ℕ) → bytes ≡ text ++ crlf ++ rest → rest ≡ lines_text lines ++ next → bytes ≡ lines_text (text ∷ lines) ++ next
 all-cons text lines bytes rest next e f = e ∙ (ap (λ x. text ++ crlf ++ x) f ∙ sym (regroup text lines next))
 
-longer : (m : ℕ) (stop : Stop) (text bytes rest : List ℕ) → bytes ≡ text ++ crlf ++ rest → IsTrailerLine text → (e : Result (List ℕ) ErrorKind)
-    → MatchResult e (TrailerWhole m rest) (TrailerBroken m rest stop) → MatchResult e (TrailerWhole (suc m) bytes) (TrailerBroken (suc m) bytes stop)
-longer m stop text bytes rest j h (Ok r) k = (text ∷ k.0, all-cons text k.0 bytes rest (crlf ++ r) j k.1, (h, k.2), omega arith)
-longer m stop text bytes rest j h (Err kind) k =
+longer : (rules : ChunkRules) (m : ℕ) (stop : Stop) (text bytes rest : List ℕ) → bytes ≡ text ++ crlf ++ rest → IsTrailerLineBy rules text → (e : Result (List ℕ) ErrorKind)
+    → MatchResult e (TrailerWhole rules m rest) (TrailerBroken rules m rest stop) → MatchResult e (TrailerWhole rules (suc m) bytes) (TrailerBroken rules (suc m) bytes stop)
+longer rules m stop text bytes rest j h (Ok r) k = (text ∷ k.0, all-cons text k.0 bytes rest (crlf ++ r) j k.1, (h, k.2), omega arith)
+longer rules m stop text bytes rest j h (Err kind) k =
     ⊎_elim
     (λ b. inl (text ∷ b.0, b.1, all-cons text b.0 bytes rest b.1 j b.2, (h, b.3), more_lines (length b.0) m b.4, b.5))
     (λ b. inr (text ∷ b.0, b.1, all-cons text b.0 bytes rest b.1 j b.2, (h, b.3), more_equal (length b.0) m b.4, b.5))
     k
 
-trailer-at-is : (m : ℕ) (stop : Stop) (bytes text rest : List ℕ) → bytes ≡ text ++ crlf ++ rest → IsShortLine text → TrailerIs m stop rest (trailer_section m stop rest) → TrailerIs (suc m) stop bytes (trailer_at (trailer_section m stop) text rest)
-trailer-at-is m stop bytes [] rest j s k = (refl, ([], j, tt, omega arith))
-trailer-at-is m stop bytes (b ∷ bs) rest j s k = (k.0, longer m stop (b ∷ bs) bytes rest j (s, positive b bs) (trailer_section m stop rest).ends k.1)
+trailer-fits-is : (rules : ChunkRules) (m : ℕ) (stop : Stop) (bytes : List ℕ) (b : ℕ) (bs rest : List ℕ) (t : Bool) → bytes ≡ (b ∷ bs) ++ crlf ++ rest → IsShortLineBy rules (b ∷ bs) → is_trailer_by rules (b ∷ bs) ≡ t → TrailerIs rules m stop rest (trailer_section rules m stop rest)
+    → TrailerIs rules (suc m) stop bytes (cond t (trailer_section rules m stop rest) (broken [] InvalidData))
+trailer-fits-is rules m stop bytes b bs rest true j s e k = (k.0, longer rules m stop (b ∷ bs) bytes rest j (s, trailer-text rules b bs e) (trailer_section rules m stop rest).ends k.1)
+trailer-fits-is rules m stop bytes b bs rest false j s e k = (refl, inl ([], bytes, refl, tt, omega arith, trailer-fails rules stop bytes b bs rest j s e))
 
-last-at-is : (stop : Stop) (bytes text rest : List ℕ) → bytes ≡ text ++ crlf ++ rest → IsShortLine text → TrailerIs zero stop bytes (trailer_at (λ x. broken [] InvalidData) text rest)
-last-at-is stop bytes [] rest j s = (refl, ([], j, tt, omega arith))
-last-at-is stop bytes (b ∷ bs) rest j s = (refl, inr ((b ∷ bs) ∷ [], rest, all-cons (b ∷ bs) [] bytes rest rest j refl, ((s, positive b bs), tt), omega arith, refl))
+trailer-at-is : (rules : ChunkRules) (m : ℕ) (stop : Stop) (bytes text rest : List ℕ) → bytes ≡ text ++ crlf ++ rest → IsShortLineBy rules text → TrailerIs rules m stop rest (trailer_section rules m stop rest) → TrailerIs rules (suc m) stop bytes (trailer_at rules (trailer_section rules m stop) text rest)
+trailer-at-is rules m stop bytes [] rest j s k = (refl, ([], j, tt, omega arith))
+trailer-at-is rules m stop bytes (b ∷ bs) rest j s k = trailer-fits-is rules m stop bytes b bs rest (is_trailer_by rules (b ∷ bs)) j s refl k
 
-last-in-is : (stop : Stop) (bytes : List ℕ) (r : LineRead) → IsLineRead stop bytes r → TrailerIs zero stop bytes (trailer_in (λ x. broken [] InvalidData) r)
-last-in-is stop bytes (Ok l) h = last-at-is stop bytes l.0 l.1 h.0 h.1
-last-in-is stop bytes (Err kind) h = (refl, inl ([], bytes, refl, tt, omega arith, h))
+last-fits-is : (rules : ChunkRules) (stop : Stop) (bytes : List ℕ) (b : ℕ) (bs rest : List ℕ) (t : Bool) → bytes ≡ (b ∷ bs) ++ crlf ++ rest → IsShortLineBy rules (b ∷ bs) → is_trailer_by rules (b ∷ bs) ≡ t
+    → TrailerIs rules zero stop bytes (cond t (broken [] InvalidData) (broken [] InvalidData))
+last-fits-is rules stop bytes b bs rest true j s e = (refl, inr ((b ∷ bs) ∷ [], rest, all-cons (b ∷ bs) [] bytes rest rest j refl, ((s, trailer-text rules b bs e), tt), omega arith, refl))
+last-fits-is rules stop bytes b bs rest false j s e = (refl, inl ([], bytes, refl, tt, omega arith, trailer-fails rules stop bytes b bs rest j s e))
 
-trailer-in-is : (m : ℕ) (stop : Stop) (bytes : List ℕ) (r : LineRead) → IsLineRead stop bytes r → ((rest : List ℕ) → TrailerIs m stop rest (trailer_section m stop rest)) → TrailerIs (suc m) stop bytes (trailer_in (trailer_section m stop) r)
-trailer-in-is m stop bytes (Ok l) h go = trailer-at-is m stop bytes l.0 l.1 h.0 h.1 (go l.1)
-trailer-in-is m stop bytes (Err kind) h go = (refl, inl ([], bytes, refl, tt, omega arith, h))
+last-at-is : (rules : ChunkRules) (stop : Stop) (bytes text rest : List ℕ) → bytes ≡ text ++ crlf ++ rest → IsShortLineBy rules text → TrailerIs rules zero stop bytes (trailer_at rules (λ x. broken [] InvalidData) text rest)
+last-at-is rules stop bytes [] rest j s = (refl, ([], j, tt, omega arith))
+last-at-is rules stop bytes (b ∷ bs) rest j s = last-fits-is rules stop bytes b bs rest (is_trailer_by rules (b ∷ bs)) j s refl
 
-trailer-is : (m : ℕ) (stop : Stop) (bytes : List ℕ) → TrailerIs m stop bytes (trailer_section m stop bytes)
-trailer-is zero stop bytes = last-in-is stop bytes (short_line stop bytes) (short-is stop bytes)
-trailer-is (suc m) stop bytes = trailer-in-is m stop bytes (short_line stop bytes) (short-is stop bytes) (trailer-is m stop)
+last-in-is : (rules : ChunkRules) (stop : Stop) (bytes : List ℕ) (r : LineRead) → IsLineReadBy rules stop bytes r → TrailerIs rules zero stop bytes (trailer_in rules (λ x. broken [] InvalidData) r)
+last-in-is rules stop bytes (Ok l) h = last-at-is rules stop bytes l.0 l.1 h.0 h.1
+last-in-is rules stop bytes (Err kind) h = (refl, inl ([], bytes, refl, tt, omega arith, line-fails rules bytes stop kind h))
+
+trailer-in-is : (rules : ChunkRules) (m : ℕ) (stop : Stop) (bytes : List ℕ) (r : LineRead) → IsLineReadBy rules stop bytes r → ((rest : List ℕ) → TrailerIs rules m stop rest (trailer_section rules m stop rest)) → TrailerIs rules (suc m) stop bytes (trailer_in rules (trailer_section rules m stop) r)
+trailer-in-is rules m stop bytes (Ok l) h go = trailer-at-is rules m stop bytes l.0 l.1 h.0 h.1 (go l.1)
+trailer-in-is rules m stop bytes (Err kind) h go = (refl, inl ([], bytes, refl, tt, omega arith, line-fails rules bytes stop kind h))
+
+trailer-is : (rules : ChunkRules) (m : ℕ) (stop : Stop) (bytes : List ℕ) → TrailerIs rules m stop bytes (trailer_section rules m stop bytes)
+trailer-is rules zero stop bytes = last-in-is rules stop bytes (line_by rules stop bytes) (line_by-is rules stop bytes)
+trailer-is rules (suc m) stop bytes = trailer-in-is rules m stop bytes (line_by rules stop bytes) (line_by-is rules stop bytes) (trailer-is rules m stop)
 
 -- what a reading of a chunked body has to be
-abbrev pub IsDecoded : List ℕ → Stop → Decoded → Type 0
-IsDecoded bytes stop d = MatchResult d.ends (λ rest. WholeChunks bytes d.body rest) (λ kind. CutChunks bytes stop d.body kind)
+abbrev pub IsDecodedBy : ChunkRules → List ℕ → Stop → Decoded → Type 0
+IsDecodedBy rules bytes stop d = MatchResult d.ends (λ rest. WholeChunksBy rules bytes d.body rest) (λ kind. CutChunksBy rules bytes stop d.body kind)
 
-no-chunks : (bytes : List ℕ) (stop : Stop) (part : List ℕ) (kind : ErrorKind) (way : Remainder) → RemainderBreaks way bytes stop part kind → CutChunks bytes stop part kind
-no-chunks bytes stop part kind way h = record { chunks = []; rest = bytes; part = part; way = way; joins = refl; body_is = refl; are_chunks = tt; breaks = h }
+no-chunks : (rules : ChunkRules) (bytes : List ℕ) (stop : Stop) (part : List ℕ) (kind : ErrorKind) (way : Remainder) → RemainderBreaksBy rules way bytes stop part kind → CutChunksBy rules bytes stop part kind
+no-chunks rules bytes stop part kind way h = record { chunks = []; rest = bytes; part = part; way = way; joins = refl; body_is = refl; are_chunks = tt; breaks = h }
 
-after-last : (bytes text rest : List ℕ) (stop : Stop) (body : List ℕ) (e : Result (List ℕ) ErrorKind) → bytes ≡ text ++ crlf ++ rest → IsLastLine text → body ≡ [] → MatchResult e (TrailerWhole most_trailers rest) (TrailerBroken most_trailers rest stop) → IsDecoded bytes stop (made body e)
-after-last bytes text rest stop body (Ok r) j h b k =
+after-last : (rules : ChunkRules) (bytes text rest : List ℕ) (stop : Stop) (body : List ℕ) (e : Result (List ℕ) ErrorKind) → bytes ≡ text ++ crlf ++ rest → IsLastLineBy rules text → body ≡ [] → MatchResult e (TrailerWhole rules most_trailers rest) (TrailerBroken rules most_trailers rest stop) → IsDecodedBy rules bytes stop (made body e)
+after-last rules bytes text rest stop body (Ok r) j h b k =
     record { chunks = []; last = text; trailers = k.0; joins = all-cons text k.0 bytes rest (crlf ++ r) j k.1; body_is = b; are_chunks = tt; is_last_chunk = h; are_trailers = k.2; few_trailers = k.3 }
-after-last bytes text rest stop body (Err kind) j h b k =
+after-last rules bytes text rest stop body (Err kind) j h b k =
     ⊎_elim
-    (λ t. no-chunks bytes stop body kind (CutTrailer text t.0 t.1) (all-cons text t.0 bytes rest t.1 j t.2, h, t.3, t.4, t.5, b))
-    (λ t. no-chunks bytes stop body kind (LongTrailer text t.0 t.1) (all-cons text t.0 bytes rest t.1 j t.2, h, t.3, t.4, b, t.5))
+    (λ t. no-chunks rules bytes stop body kind (CutTrailer text t.0 t.1) (all-cons text t.0 bytes rest t.1 j t.2, h, t.3, t.4, t.5, b))
+    (λ t. no-chunks rules bytes stop body kind (LongTrailer text t.0 t.1) (all-cons text t.0 bytes rest t.1 j t.2, h, t.3, t.4, b, t.5))
     k
 
 -- one chunk more in front
-chunk-more : (bytes : List ℕ) (c : Chunk) (rest : List ℕ) (stop : Stop) (body : List ℕ) (e : Result (List ℕ) ErrorKind) → bytes ≡ chunk_text c ++ rest → IsChunk c → IsDecoded rest stop (made body e) → IsDecoded bytes stop (made (c.bytes ++ body) e)
-chunk-more bytes c rest stop body (Ok r) j h d =
+chunk-more : (rules : ChunkRules) (bytes : List ℕ) (c : Chunk) (rest : List ℕ) (stop : Stop) (body : List ℕ) (e : Result (List ℕ) ErrorKind) → bytes ≡ chunk_text c ++ rest → (IsChunkBy rules) c → IsDecodedBy rules rest stop (made body e) → IsDecodedBy rules bytes stop (made (c.bytes ++ body) e)
+chunk-more rules bytes c rest stop body (Ok r) j h d =
     let tail = lines_text (d.last ∷ d.trailers) ++ (crlf ++ r) in
     record { chunks = c ∷ d.chunks; last = d.last; trailers = d.trailers; joins = j ∙ (ap (λ x. chunk_text c ++ x) d.joins ∙ sym (append_assoc (chunk_text c) (joined_chunks d.chunks) tail)); body_is = ap (λ x. c.bytes ++ x) d.body_is; are_chunks = (h, d.are_chunks); is_last_chunk = d.is_last_chunk; are_trailers = d.are_trailers; few_trailers = d.few_trailers }
-chunk-more bytes c rest stop body (Err kind) j h d =
+chunk-more rules bytes c rest stop body (Err kind) j h d =
     record {
       chunks = c ∷ d.chunks;
       rest = d.rest;
@@ -405,58 +532,58 @@ chunk-more bytes c rest stop body (Err kind) j h d =
       breaks = d.breaks;
     }
 
-abbrev all_shorter : ℕ → Stop → Type 0
-all_shorter fuel stop = (rest : List ℕ) → length rest < fuel → IsDecoded rest stop (decoded fuel stop rest)
+abbrev all_shorter : ChunkRules → ℕ → Stop → Type 0
+all_shorter rules fuel stop = (rest : List ℕ) → length rest < fuel → IsDecodedBy rules rest stop (decoded_by rules fuel stop rest)
 
-closed-is : (fuel : ℕ) (stop : Stop) (bytes text front close : List ℕ) → bytes ≡ text ++ crlf ++ (front ++ close) → IsShortLine text → SizeText text (length front) → 0 < length front → length bytes < suc fuel → all_shorter fuel stop
-    → (r : Result (List ℕ) ErrorKind) → MatchResult r (λ rest. close ≡ crlf ++ rest) (λ kind. CloseFault close stop kind) → IsDecoded bytes stop (chunk_closed (decoded fuel stop) front r)
-closed-is fuel stop bytes text front close j s z p lt go (Err kind) h =
-    no-chunks bytes stop front kind (NoClose text close) (j ∙ sym (append_assoc (text ++ crlf) front close), s, z, p, h)
-closed-is fuel stop bytes text front close j s z p lt go (Ok rest) h =
+closed-is : (rules : ChunkRules) (fuel : ℕ) (stop : Stop) (bytes text front close : List ℕ) → bytes ≡ text ++ crlf ++ (front ++ close) → IsShortLineBy rules text → SizeTextBy rules text (length front) → 0 < length front → length bytes < suc fuel → all_shorter rules fuel stop
+    → (r : Result (List ℕ) ErrorKind) → MatchResult r (λ rest. close ≡ crlf ++ rest) (λ kind. CloseFault close stop kind) → IsDecodedBy rules bytes stop (chunk_closed (decoded_by rules fuel stop) front r)
+closed-is rules fuel stop bytes text front close j s z p lt go (Err kind) h =
+    no-chunks rules bytes stop front kind (NoClose text close) (j ∙ sym (append_assoc (text ++ crlf) front close), s, z, p, h)
+closed-is rules fuel stop bytes text front close j s z p lt go (Ok rest) h =
     let c : Chunk = record { size_line = text; bytes = front } in
     let joins : bytes ≡ chunk_text c ++ rest = j ∙ (ap (λ x. text ++ crlf ++ (front ++ x)) h ∙ sym (chunk-group c rest)) in
     let shorter : length rest < fuel = less_rest bytes (chunk_text c) rest fuel joins (chunk-long c) lt in
-    let d = decoded fuel stop rest in
-    chunk-more bytes c rest stop d.body d.ends joins (record { short = s; sized = z; not_last = p }) (go rest shorter)
+    let d = decoded_by rules fuel stop rest in
+    chunk-more rules bytes c rest stop d.body d.ends joins (record { short = s; sized = z; not_last = p }) (go rest shorter)
 
-data-is : (fuel : ℕ) (stop : Stop) (bytes text rest : List ℕ) (n : ℕ) → bytes ≡ text ++ crlf ++ rest → IsShortLine text → SizeText text n → 0 < n → length bytes < suc fuel → all_shorter fuel stop
-    → (t : Bool) → nat_lt (length rest) n ≡ t → IsDecoded bytes stop (data_at (decoded fuel stop) stop n rest t)
-data-is fuel stop bytes text rest n j s z p lt go true e = no-chunks bytes stop rest (fault_of stop) (CutData text n) (j, s, z, ltb-true (length rest) n e, refl)
-data-is fuel stop bytes text rest n j s z p lt go false e =
+data-is : (rules : ChunkRules) (fuel : ℕ) (stop : Stop) (bytes text rest : List ℕ) (n : ℕ) → bytes ≡ text ++ crlf ++ rest → IsShortLineBy rules text → SizeTextBy rules text n → 0 < n → length bytes < suc fuel → all_shorter rules fuel stop
+    → (t : Bool) → nat_lt (length rest) n ≡ t → IsDecodedBy rules bytes stop (data_at (decoded_by rules fuel stop) stop n rest t)
+data-is rules fuel stop bytes text rest n j s z p lt go true e = no-chunks rules bytes stop rest (fault_of stop) (CutData text n) (j, s, z, ltb-true (length rest) n e, refl)
+data-is rules fuel stop bytes text rest n j s z p lt go false e =
     let enough : n ≤ length rest = ltb-false (length rest) n e in
     let len : length (take n rest) ≡ n = simp length-take (omega arith) in
     let whole : bytes ≡ text ++ crlf ++ (take n rest ++ drop n rest) = j ∙ ap (λ x. text ++ crlf ++ x) (sym (take-append-drop n rest)) in
-    closed-is fuel stop bytes text (take n rest) (drop n rest) whole s (rw len z) (rw len p) lt go (after_data stop (drop n rest)) (close-is stop (drop n rest))
+    closed-is rules fuel stop bytes text (take n rest) (drop n rest) whole s (rw len z) (rw len p) lt go (after_data stop (drop n rest)) (close-is stop (drop n rest))
 
-sized-is : (fuel : ℕ) (stop : Stop) (bytes text rest : List ℕ) → bytes ≡ text ++ crlf ++ rest → IsShortLine text → length bytes < suc fuel → all_shorter fuel stop
-    → (o : Option ℕ) → size_of text ≡ o → IsDecoded bytes stop (sized (decoded fuel stop) stop rest o)
-sized-is fuel stop bytes text rest j s lt go None e =
-    no-chunks bytes stop [] InvalidData (BadSize text rest) (j, s, (λ n z. none-size n (sym (size-one text n z) ∙ e)), refl, refl)
-sized-is fuel stop bytes text rest j s lt go (Some zero) e =
-    let t = trailer-is most_trailers stop rest in
-    let d = trailer_section most_trailers stop rest in
-    after-last bytes text rest stop d.body d.ends j (s, size-is text 0 e) t.0 t.1
-sized-is fuel stop bytes text rest j s lt go (Some (suc m)) e =
-    data-is fuel stop bytes text rest (suc m) j s (size-is text (suc m) e) (omega arith) lt go (nat_lt (length rest) (suc m)) refl
+sized-is : (rules : ChunkRules) (fuel : ℕ) (stop : Stop) (bytes text rest : List ℕ) → bytes ≡ text ++ crlf ++ rest → IsShortLineBy rules text → length bytes < suc fuel → all_shorter rules fuel stop
+    → (o : Option ℕ) → size_by rules text ≡ o → IsDecodedBy rules bytes stop (sized rules (decoded_by rules fuel stop) stop rest o)
+sized-is rules fuel stop bytes text rest j s lt go None e =
+    no-chunks rules bytes stop [] InvalidData (BadSize text rest) (j, s, (λ n z. none-size n (sym (size_by-one rules text n z) ∙ e)), refl, refl)
+sized-is rules fuel stop bytes text rest j s lt go (Some zero) e =
+    let t = trailer-is rules most_trailers stop rest in
+    let d = trailer_section rules most_trailers stop rest in
+    after-last rules bytes text rest stop d.body d.ends j (s, size_by-is rules text 0 e) t.0 t.1
+sized-is rules fuel stop bytes text rest j s lt go (Some (suc m)) e =
+    data-is rules fuel stop bytes text rest (suc m) j s (size_by-is rules text (suc m) e) (omega arith) lt go (nat_lt (length rest) (suc m)) refl
 
-chunk-in-is : (fuel : ℕ) (stop : Stop) (bytes : List ℕ) → length bytes < suc fuel → all_shorter fuel stop → (r : LineRead) → IsLineRead stop bytes r → IsDecoded bytes stop (chunk_in (decoded fuel stop) stop r)
-chunk-in-is fuel stop bytes lt go (Err kind) h = no-chunks bytes stop [] kind NoSizeLine (refl, h)
-chunk-in-is fuel stop bytes lt go (Ok l) h = sized-is fuel stop bytes l.0 l.1 h.0 h.1 lt go (size_of l.0) refl
+chunk-in-is : (rules : ChunkRules) (fuel : ℕ) (stop : Stop) (bytes : List ℕ) → length bytes < suc fuel → all_shorter rules fuel stop → (r : LineRead) → IsLineReadBy rules stop bytes r → IsDecodedBy rules bytes stop (chunk_in rules (decoded_by rules fuel stop) stop r)
+chunk-in-is rules fuel stop bytes lt go (Err kind) h = no-chunks rules bytes stop [] kind NoSizeLine (refl, h)
+chunk-in-is rules fuel stop bytes lt go (Ok l) h = sized-is rules fuel stop bytes l.0 l.1 h.0 h.1 lt go (size_by rules l.0) refl
 
 -- each bytes are such a body or such a front
-pub decoded-is : (fuel : ℕ) (bytes : List ℕ) (stop : Stop) → length bytes < fuel → IsDecoded bytes stop (decoded fuel stop bytes)
-decoded-is zero bytes stop lt = absurd (omega arith)
-decoded-is (suc fuel) bytes stop lt = chunk-in-is fuel stop bytes lt (λ rest less. decoded-is fuel rest stop less) (short_line stop bytes) (short-is stop bytes)
+pub decoded_by-is : (rules : ChunkRules) (fuel : ℕ) (bytes : List ℕ) (stop : Stop) → length bytes < fuel → IsDecodedBy rules bytes stop (decoded_by rules fuel stop bytes)
+decoded_by-is rules zero bytes stop lt = absurd (omega arith)
+decoded_by-is rules (suc fuel) bytes stop lt = chunk-in-is rules fuel stop bytes lt (λ rest less. decoded_by-is rules fuel rest stop less) (line_by rules stop bytes) (line_by-is rules stop bytes)
 
-some-body : (bytes : List ℕ) (stop : Stop) (body : List ℕ) (e : Result (List ℕ) ErrorKind) → IsDecoded bytes stop (made body e)
-    → ((body : List ℕ) × (rest : List ℕ) × WholeChunks bytes body rest) ⊎ ((body : List ℕ) × (kind : ErrorKind) × CutChunks bytes stop body kind)
-some-body bytes stop body (Ok rest) h = inl (body, rest, h)
-some-body bytes stop body (Err kind) h = inr (body, kind, h)
+some-body : (rules : ChunkRules) (bytes : List ℕ) (stop : Stop) (body : List ℕ) (e : Result (List ℕ) ErrorKind) → IsDecodedBy rules bytes stop (made body e)
+    → ((body : List ℕ) × (rest : List ℕ) × WholeChunksBy rules bytes body rest) ⊎ ((body : List ℕ) × (kind : ErrorKind) × CutChunksBy rules bytes stop body kind)
+some-body rules bytes stop body (Ok rest) h = inl (body, rest, h)
+some-body rules bytes stop body (Err kind) h = inr (body, kind, h)
 
-pub chunked-some : (bytes : List ℕ) (stop : Stop) → ((body : List ℕ) × (rest : List ℕ) × WholeChunks bytes body rest) ⊎ ((body : List ℕ) × (kind : ErrorKind) × CutChunks bytes stop body kind)
-chunked-some bytes stop =
-    let d = decoded (length bytes + 1) stop bytes in
-    some-body bytes stop d.body d.ends (decoded-is (length bytes + 1) bytes stop (omega arith))
+pub chunked-some : (rules : ChunkRules) (bytes : List ℕ) (stop : Stop) → ((body : List ℕ) × (rest : List ℕ) × WholeChunksBy rules bytes body rest) ⊎ ((body : List ℕ) × (kind : ErrorKind) × CutChunksBy rules bytes stop body kind)
+chunked-some rules bytes stop =
+    let d = decoded_by rules (length bytes + 1) stop bytes in
+    some-body rules bytes stop d.body d.ends (decoded_by-is rules (length bytes + 1) bytes stop (omega arith))
 
 made-same : (a b : List ℕ) (x y : Result (List ℕ) ErrorKind) (d : Decoded) → d ≡ made a x → d ≡ made b y → (a ≡ b) × (x ≡ y)
 made-same a b x y d e f =
@@ -473,17 +600,30 @@ err-same x y e = cc
 ok-err : (x : List ℕ) (y : ErrorKind) → ◌≡◌ {A = Result (List ℕ) ErrorKind} (Ok x) (Err y) → ⊥
 ok-err x y e = cc
 
-pub chunked-one : (bytes body rest other remainder : List ℕ) → WholeChunks bytes body rest → WholeChunks bytes other remainder → (body ≡ other) × (rest ≡ remainder)
-chunked-one bytes body rest other remainder h k =
-    let s = made-same body other (Ok rest) (Ok remainder) (decoded (length bytes + 1) End bytes) (decoded-one bytes body rest End h) (decoded-one bytes other remainder End k) in
+pub chunked-one : (rules : ChunkRules) (bytes body rest other remainder : List ℕ) → WholeChunksBy rules bytes body rest → WholeChunksBy rules bytes other remainder → (body ≡ other) × (rest ≡ remainder)
+chunked-one rules bytes body rest other remainder h k =
+    let s = made-same body other (Ok rest) (Ok remainder) (decoded_by rules (length bytes + 1) End bytes) (decoded_by-one rules bytes body rest End h) (decoded_by-one rules bytes other remainder End k) in
     (s.0, ok-same rest remainder s.1)
 
-pub front-one : (bytes body other : List ℕ) (stop : Stop) (kind sort : ErrorKind) → CutChunks bytes stop body kind → CutChunks bytes stop other sort → (body ≡ other) × (kind ≡ sort)
-front-one bytes body other stop kind sort h k =
-    let s = made-same body other (Err kind) (Err sort) (decoded (length bytes + 1) stop bytes) (decoded-front bytes body stop kind h) (decoded-front bytes other stop sort k) in
+pub front-one : (rules : ChunkRules) (bytes body other : List ℕ) (stop : Stop) (kind sort : ErrorKind) → CutChunksBy rules bytes stop body kind → CutChunksBy rules bytes stop other sort → (body ≡ other) × (kind ≡ sort)
+front-one rules bytes body other stop kind sort h k =
+    let s = made-same body other (Err kind) (Err sort) (decoded_by rules (length bytes + 1) stop bytes) (decoded_by-front rules bytes body stop kind h) (decoded_by-front rules bytes other stop sort k) in
     (s.0, err-same kind sort s.1)
 
-pub chunked-not_both : (bytes body rest other : List ℕ) (stop : Stop) (kind : ErrorKind) → WholeChunks bytes body rest → CutChunks bytes stop other kind → ⊥
-chunked-not_both bytes body rest other stop kind h k =
-    let s = made-same body other (Ok rest) (Err kind) (decoded (length bytes + 1) stop bytes) (decoded-one bytes body rest stop h) (decoded-front bytes other stop kind k) in
+pub chunked-not_both : (rules : ChunkRules) (bytes body rest other : List ℕ) (stop : Stop) (kind : ErrorKind) → WholeChunksBy rules bytes body rest → CutChunksBy rules bytes stop other kind → ⊥
+chunked-not_both rules bytes body rest other stop kind h k =
+    let s = made-same body other (Ok rest) (Err kind) (decoded_by rules (length bytes + 1) stop bytes) (decoded_by-one rules bytes body rest stop h) (decoded_by-front rules bytes other stop kind k) in
     ok-err rest kind s.1
+
+-- the lenient rules' cases
+abbrev pub IsDecoded : List ℕ → Stop → Decoded → Type 0
+IsDecoded bytes stop d = IsDecodedBy Lenient bytes stop d
+
+pub decoded-one : (bytes body rest : List ℕ) (stop : Stop) → WholeChunks bytes body rest → decoded (length bytes + 1) stop bytes ≡ made body (Ok rest)
+decoded-one bytes body rest stop c = decoded_by-one Lenient bytes body rest stop c
+
+pub decoded-front : (bytes body : List ℕ) (stop : Stop) (kind : ErrorKind) → CutChunks bytes stop body kind → decoded (length bytes + 1) stop bytes ≡ made body (Err kind)
+decoded-front bytes body stop kind c = decoded_by-front Lenient bytes body stop kind c
+
+pub decoded-is : (fuel : ℕ) (bytes : List ℕ) (stop : Stop) → length bytes < fuel → IsDecoded bytes stop (decoded fuel stop bytes)
+decoded-is fuel bytes stop lt = decoded_by-is Lenient fuel bytes stop lt

@@ -1,6 +1,7 @@
 -- The size that a size line gives, read byte by byte (RFC 9112, section 7.1).
-use Rattle.std.specs.Prelude.{ℕ, ◌+◌, ◌*◌, ◌^◌, ◌<◌, ◌≤◌, ◌==◌, nat_lt, List, [], ◌∷◌, Option, Some, None, if◌then◌else◌, ⊤}
+use Rattle.std.specs.Prelude.{ℕ, ◌+◌, ◌*◌, ◌^◌, ◌<◌, ◌≤◌, Bool, not, ◌&&◌, ◌==◌, nat_lt, List, [], ◌∷◌, Option, Some, None, if◌then◌else◌, ⊤}
 use Rattle.std.specs.Char.{digit_value}
+use Rattle.httparse.specs.Grammar.{is_value_byte}
 use Rattle.tiny_http_text.specs.Bytes.{semicolon}
 use Rattle.tiny_http_wire.specs.Chunks.{is_bws, is_hex}
 use Rattle.tiny_http_wire.specs.declared.chunked.size.Size.{Size}
@@ -31,6 +32,18 @@ size_step (Digits value count) b = more_digits value count b (hex_of b)
 size_step (Behind value) b = digits_ended value b
 size_step (Extension value) b = Extension value
 size_step Wrong b = Wrong
+
+-- by the standard no white space stands in front of the digits, and no control byte but the tab anywhere
+abbrev pub may_follow : Size → ℕ → Bool
+may_follow Blank b = is_value_byte b && not (is_bws b)
+may_follow (Digits value count) b = is_value_byte b
+may_follow (Behind value) b = is_value_byte b
+may_follow (Extension value) b = is_value_byte b
+may_follow Wrong b = is_value_byte b
+
+-- one byte more, by the standard
+abbrev pub standard_step : Size → ℕ → Size
+standard_step size b = if (may_follow size b) then size_step size b else Wrong
 
 -- after these bytes
 abbrev pub size_after : Size → List ℕ → Size

@@ -10,8 +10,10 @@ use Rattle.tiny_http_wire.specs.declared.chunked.Next.{Next}
 use Rattle.tiny_http_wire.specs.declared.chunked.Next.TheVariants.{Line, Data, Over, Broken}
 use Rattle.tiny_http_wire.specs.declared.chunked.Decoding.{Decoding}
 use Rattle.tiny_http_wire.specs.declared.chunked.Decoder.{Decoder}
-use Rattle.tiny_http_device.specs.Device.{AnswersStop, Feed, TakesFront}
-use Rattle.tiny_http_wire.specs.ChunkReading.{Decoded, decoded, data_at, trailer_section, broken}
+use Rattle.tiny_http_device.specs.Device.{AnswersStop, Feed, prepended, TakesFront, fault_of}
+use Rattle.tiny_http_wire.specs.ChunkReading.{Decoded, decoded_by, data_at, trailer_section, broken}
+use Rattle.tiny_http_wire.specs.declared.chunked.ChunkRules.{ChunkRules}
+use Rattle.tiny_http_wire.specs.declared.chunked.ChunkRules.TheVariants.{Lenient}
 
 -- the data that are still to come, and what the reader gives after the body, or the fault
 pub record Coming : Type 0 where
@@ -19,19 +21,26 @@ pub record Coming : Type 0 where
   pub behind : Result Feed ErrorKind
 
 -- a chunked body that begins here
-abbrev pub body_at : Stop → List ℕ → Decoded
-body_at stop bytes = decoded (length bytes + 1) stop bytes
+abbrev pub body_by : ChunkRules → Stop → List ℕ → Decoded
+body_by rules stop bytes = decoded_by rules (length bytes + 1) stop bytes
 
 -- what is read of the body from here on
-unfoldable pub decoded_from : Next → Feed → Decoded
-decoded_from Line feed = body_at feed.stop feed.bytes
-decoded_from (Data left) feed = data_at (body_at feed.stop) feed.stop left feed.bytes (nat_lt (length feed.bytes) left)
-decoded_from Over feed = record { body = []; ends = Ok feed.bytes }
-decoded_from (Broken kind) feed = broken [] kind
+unfoldable pub decoded_from_by : ChunkRules → Next → Feed → Decoded
+decoded_from_by rules Line feed = body_by rules feed.stop feed.bytes
+decoded_from_by rules (Data left) feed = data_at (body_by rules feed.stop) feed.stop left feed.bytes (nat_lt (length feed.bytes) left)
+decoded_from_by rules Over feed = record { body = []; ends = Ok feed.bytes }
+decoded_from_by rules (Broken kind) feed = broken [] kind
+
+-- the same by the lenient rules
+abbrev pub body_at : Stop → List ℕ → Decoded
+body_at stop bytes = body_by Lenient stop bytes
+
+abbrev pub decoded_from : Next → Feed → Decoded
+decoded_from next feed = decoded_from_by Lenient next feed
 
 -- what is read after the last chunk's line, where so many trailer lines may stand
-unfoldable pub trailers_from : ℕ → Feed → Decoded
-trailers_from most feed = trailer_section most feed.stop feed.bytes
+unfoldable pub trailers_from : ChunkRules → ℕ → Feed → Decoded
+trailers_from rules most feed = trailer_section rules most feed.stop feed.bytes
 
 -- the rest of the bytes, with their stop, or the fault
 abbrev pub rest_at : Stop → Result (List ℕ) ErrorKind → Result Feed ErrorKind
@@ -43,16 +52,30 @@ abbrev pub coming_of : Stop → Decoded → Coming
 coming_of stop d = record { bytes = d.body; behind = rest_at stop d.ends }
 
 -- what comes of the body from here on, where the reader's feed is stated
-abbrev pub comes : Next → Option Feed → Option Coming
-comes next feed = option_map (λ f. coming_of f.stop (decoded_from next f)) feed
+abbrev pub comes : ChunkRules → Next → Option Feed → Option Coming
+comes rules next feed = option_map (λ f. coming_of f.stop (decoded_from_by rules next f)) feed
 
 -- what comes after the last chunk's line, where so many trailer lines may stand
-abbrev pub trails : ℕ → Option Feed → Option Coming
-trails most feed = option_map (λ f. coming_of f.stop (trailers_from most f)) feed
+abbrev pub trails : ChunkRules → ℕ → Option Feed → Option Coming
+trails rules most feed = option_map (λ f. coming_of f.stop (trailers_from rules most f)) feed
 
 -- the data that a decoding still gives with a reader of this feed, and what stands after the body, or the fault
 abbrev pub decoding_coming : Decoding → Option Feed → Option Coming
-decoding_coming d feed = comes d.next feed
+decoding_coming d feed = comes d.rules d.next feed
+
+-- the rules by which it reads
+abbrev pub decoding_rules : Decoding → ChunkRules
+decoding_rules d = d.rules
+
+-- what is read of the body from here on, by the bytes that follow and their stop
+abbrev pub decoding_reads : Decoding → Feed → Decoded
+decoding_reads d feed = decoded_from_by d.rules d.next feed
+
+-- THE BYTES THAT WERE TAKEN WERE NEEDED: had the reader stopped before the last of them, its stop would be the body's fault.
+pub record TakesNeeded (reads : Feed → Decoded) (old new : Option Feed) : Type 0 where
+  pub taken : List ℕ
+  pub gives : old ≡ prepended taken new
+  pub needed : (front more : List ℕ) (stop : Stop) → taken ≡ front ++ more → 0 < length more → (reads (record { bytes = front; stop = stop })).ends ≡ Err (fault_of stop)
 
 -- no line has to be read before the next byte of data, the end or the fault
 abbrev pub IsReady : Next → Type 0
@@ -97,6 +120,10 @@ decoder_inner d = d.inner
 abbrev pub decoder_coming : {R : Type 0} → (R → Option Feed) → Decoder R → Option Coming
 decoder_coming feed d = decoding_coming d.decoding (feed d.inner)
 
+-- what it reads of the body from here on
+abbrev pub decoder_reads : {R : Type 0} → Decoder R → Feed → Decoded
+decoder_reads d feed = decoding_reads d.decoding feed
+
 -- the end or the fault that it reports from now on
 abbrev pub decoder_stop : {R : Type 0} → Decoder R → Option Stop
 decoder_stop d = decoding_stop d.decoding
@@ -116,7 +143,8 @@ decoder_feed feed d = option_map feed_of (decoder_coming feed d)
 
 -- ONE READ. The bytes that came are the next of the body's data; none of some only at the body's end, after which the reader
 -- inside stands after it; an error only where the data break off, and it takes none. And whatever the reader states: into an
--- empty buffer nothing changes, what was reported once is reported from then on, and of the reader's bytes a front is taken.
+-- empty buffer nothing changes, what was reported once is reported from then on, of the reader's bytes a front is taken, and up
+-- to a fault no byte more than shows it.
 pub record ReadsData {R : Type 0} (feed : R → Option Feed) (old new : Decoder R) (r : Result ℕ Error) (buf : List ℕ) : Type 0 where
   pub bound : IfOk r (λ n. n ≤ length buf)
   pub bytes : IfOk r (λ n. decoder_coming feed old ≡ prepended_data (take n buf) (decoder_coming feed new))
@@ -129,3 +157,4 @@ pub record ReadsData {R : Type 0} (feed : R → Option Feed) (old new : Decoder 
   pub stays : IsSome (decoder_stop old) → new ≡ old
   pub reports_stop : IfSome (decoder_stop old) (λ stop. 0 < length buf → AnswersStop stop r)
   pub takes : TakesFront (feed (decoder_inner old)) (feed (decoder_inner new))
+  pub needed : OnErr r (TakesNeeded (decoder_reads old) (feed (decoder_inner old)) (feed (decoder_inner new)))

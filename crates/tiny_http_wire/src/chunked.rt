@@ -3,10 +3,12 @@ ghost use Rattle.std.specs.Prelude.{◌≡◌, ℕ, ◌<◌, ◌≤◌, List, le
 ghost use Rattle.std.specs.Option.{option_map};
 ghost use Rattle.std.specs.IoError.{error_kind};
 ghost use Rattle.tiny_http_device.specs.Device.{AnswersStop, prepended, Reads, TakesFront};
-ghost use Rattle.tiny_http_wire.specs.Chunks.{WholeChunks, CutChunks};
+ghost use Rattle.tiny_http_text.specs.Bytes.{crlf};
+ghost use Rattle.tiny_http_wire.specs.Chunks.{WholeChunks, CutChunks, WholeChunksBy, CutChunksBy};
 ghost use Rattle.tiny_http_wire.specs.ChunkLine.{CutBy};
-ghost use Rattle.tiny_http_wire.specs.Decoding.{comes, trails, IsReady, next_stop, decoding_coming, decoding_stop, prepended_data, over_at, BreaksBy};
+ghost use Rattle.tiny_http_wire.specs.Decoding.{comes, trails, decoded_from_by, trailers_from, decoding_reads, TakesNeeded, IsReady, next_stop, decoding_coming, decoding_rules, decoding_stop, prepended_data, over_at, BreaksBy};
 
+mod field;
 mod line;
 mod size;
 
@@ -20,6 +22,20 @@ pub const LONGEST_LINE: usize = 8192;
 
 /// How many lines the trailer section has at most, its empty line left out.
 pub const MOST_TRAILERS: usize = 128;
+
+/// How the lines of a chunked body are read: its size lines, and the lines of its trailer part. By both rules a CR LF stands
+/// after a chunk's data.
+#[derive(Clone, Copy, Debug, PartialEq, Eq)]
+pub enum ChunkRules {
+    /// A line ends at its first CR LF. The size is what stands before the first `;` of a size line, without bytes 9 and 32 round
+    /// it. Of an extension and of a trailer line the length alone is checked.
+    Lenient,
+    /// By the standard (RFC 9112, sections 2.2 and 7.1 to 7.1.2). A line ends at its first LF, which is InvalidData as soon as it
+    /// was read if the byte before it is no CR. A size line begins with its digits; bytes 9 and 32 may follow, and then an
+    /// extension, which begins with `;`. A trailer line is a field line: a token, a colon at once, and a value. An extension and
+    /// a value have no byte 0 to 8, 10 to 31 or 127.
+    Standard,
+}
 
 /// What has to come next of a chunked body.
 #[derive(Clone, Copy, Drop)]
@@ -36,9 +52,10 @@ enum Next {
 
 // Takes the CR LF after a chunk's data.
 fn close_chunk<R: ReadDevice>(reader: &mut R) -> Result<(), ErrorKind>
-    ensures closed { OnOk result (comes Next.Line (R.feed reader.new) ≡ comes (Next.Data 0) (R.feed reader.old)) }
-    ensures broken { IfErr result (λ kind. comes (Next.Broken kind) (R.feed reader.new) ≡ comes (Next.Data 0) (R.feed reader.old)) }
-    ensures takes { TakesFront (R.feed reader.old) (R.feed reader.new) }
+    ensures closed { (rules : ChunkRules) → OnOk result (comes rules Next.Line (R.feed reader.new) ≡ comes rules (Next.Data 0) (R.feed reader.old)) }
+    ensures broken { (rules : ChunkRules) → IfErr result (λ kind. comes rules (Next.Broken kind) (R.feed reader.new) ≡ comes rules (Next.Data 0) (R.feed reader.old)) }
+    ensures takes { OnOk result (R.feed reader.old ≡ prepended crlf (R.feed reader.new)) }
+    ensures needed { (rules : ChunkRules) → OnErr result (TakesNeeded (decoded_from_by rules (Next.Data 0)) (R.feed reader.old) (R.feed reader.new)) }
 {
     match next_byte(reader) {
         Err(kind) => return Err(kind),
@@ -61,22 +78,25 @@ fn close_chunk<R: ReadDevice>(reader: &mut R) -> Result<(), ErrorKind>
 }
 
 // Takes the trailer section: at most `MOST_TRAILERS` lines, and its empty line.
-fn skip_trailers<R: ReadDevice>(reader: &mut R) -> Next
-    ensures comes { comes result (R.feed reader.new) ≡ trails MOST_TRAILERS (R.feed reader.old) }
+fn skip_trailers<R: ReadDevice>(reader: &mut R, rules: ChunkRules) -> Next
+    ensures comes { comes rules result (R.feed reader.new) ≡ trails rules MOST_TRAILERS (R.feed reader.old) }
     ensures ready { IsReady result }
-    ensures takes { TakesFront (R.feed reader.old) (R.feed reader.new) }
+    ensures needed { TakesNeeded (trailers_from rules MOST_TRAILERS) (R.feed reader.old) (R.feed reader.new) }
 {
     for lines in 0..MOST_TRAILERS {
-        match next_line(reader) {
+        match next_line(reader, rules) {
             Err(kind) => return Next::Broken(kind),
             Ok(line) => {
                 if line.length == 0 {
                     return Next::Over;
                 }
+                if !line.said.is_trailer(rules) {
+                    return Next::Broken(ErrorKind::InvalidData);
+                }
             }
         }
     }
-    match next_line(reader) {
+    match next_line(reader, rules) {
         Err(kind) => Next::Broken(kind),
         Ok(line) => {
             if line.length == 0 {
@@ -89,18 +109,18 @@ fn skip_trailers<R: ReadDevice>(reader: &mut R) -> Next
 }
 
 // Takes a size line, and after that of the last chunk the trailer part.
-fn open_chunk<R: ReadDevice>(reader: &mut R) -> Next
-    ensures comes { comes result (R.feed reader.new) ≡ comes Next.Line (R.feed reader.old) }
+fn open_chunk<R: ReadDevice>(reader: &mut R, rules: ChunkRules) -> Next
+    ensures comes { comes rules result (R.feed reader.new) ≡ comes rules Next.Line (R.feed reader.old) }
     ensures ready { IsReady result }
-    ensures takes { TakesFront (R.feed reader.old) (R.feed reader.new) }
+    ensures needed { TakesNeeded (decoded_from_by rules Next.Line) (R.feed reader.old) (R.feed reader.new) }
 {
-    match next_line(reader) {
+    match next_line(reader, rules) {
         Err(kind) => Next::Broken(kind),
-        Ok(line) => match line.size.value() {
+        Ok(line) => match line.said.size.value() {
             None => Next::Broken(ErrorKind::InvalidData),
             Some(size) => {
                 if size == 0 {
-                    skip_trailers(reader)
+                    skip_trailers(reader, rules)
                 } else {
                     Next::Data(size)
                 }
@@ -110,20 +130,20 @@ fn open_chunk<R: ReadDevice>(reader: &mut R) -> Next
 }
 
 // Takes what stands before the next byte of data, the end or the fault.
-fn go_to_data<R: ReadDevice>(reader: &mut R, next: Next) -> Next
-    ensures comes { comes result (R.feed reader.new) ≡ comes next (R.feed reader.old) }
+fn go_to_data<R: ReadDevice>(reader: &mut R, rules: ChunkRules, next: Next) -> Next
+    ensures comes { comes rules result (R.feed reader.new) ≡ comes rules next (R.feed reader.old) }
     ensures ready { IsReady result }
-    ensures takes { TakesFront (R.feed reader.old) (R.feed reader.new) }
+    ensures needed { TakesNeeded (decoded_from_by rules next) (R.feed reader.old) (R.feed reader.new) }
     ensures stays { IsSome (next_stop next) → (result ≡ next) × (reader.new ≡ reader.old) }
 {
     match next {
-        Next::Line => open_chunk(reader),
+        Next::Line => open_chunk(reader, rules),
         Next::Data(left) => {
             if left > 0 {
                 Next::Data(left)
             } else {
                 match close_chunk(reader) {
-                    Ok(()) => open_chunk(reader),
+                    Ok(()) => open_chunk(reader, rules),
                     Err(kind) => Next::Broken(kind),
                 }
             }
@@ -154,11 +174,12 @@ fn read_data<R: ReadDevice>(reader: &mut R, left: u64, buf: &mut [u8]) -> Result
 /// How far a chunked body was decoded, apart from its reader. A copy stays where it was made.
 #[derive(Clone, Copy, Drop)]
 pub struct Decoding {
+    rules: ChunkRules,
     next: Next,
 }
 
 impl Decoding {
-    /// The decoding of a body whose first byte is the reader's next one.
+    /// The decoding of a body whose first byte is the reader's next one, by the lenient rules.
     pub fn new() -> Decoding
         // A body that is whole gives its data, and leaves the rest.
         ensures whole { (bytes body rest : List ℕ) (stop : Stop) → WholeChunks bytes body rest
@@ -167,8 +188,26 @@ impl Decoding {
         ensures front { (bytes body : List ℕ) (stop : Stop) (kind : ErrorKind) → CutChunks bytes stop body kind
             → decoding_coming result (Some (record { bytes = bytes; stop = stop })) ≡ Some (record { bytes = body; behind = Err kind }) }
         ensures stop { decoding_stop result ≡ None }
+        ensures rules { decoding_rules result ≡ ChunkRules.Lenient }
     {
-        Decoding { next: Next::Line }
+        Decoding::new_with(ChunkRules::Lenient)
+    }
+
+    /// The decoding of a body whose first byte is the reader's next one, by these rules.
+    pub fn new_with(rules: ChunkRules) -> Decoding
+        // A body that is whole by the rules gives its data, and leaves the rest.
+        ensures whole { (bytes body rest : List ℕ) (stop : Stop) → WholeChunksBy rules bytes body rest
+            → decoding_coming result (Some (record { bytes = bytes; stop = stop })) ≡ Some (record { bytes = body; behind = Ok (record { bytes = rest; stop = stop }) }) }
+        // Another one gives the data that stand, and then the fault.
+        ensures front { (bytes body : List ℕ) (stop : Stop) (kind : ErrorKind) → CutChunksBy rules bytes stop body kind
+            → decoding_coming result (Some (record { bytes = bytes; stop = stop })) ≡ Some (record { bytes = body; behind = Err kind }) }
+        ensures stop { decoding_stop result ≡ None }
+        ensures rules { decoding_rules result ≡ rules }
+    {
+        Decoding {
+            rules,
+            next: Next::Line,
+        }
     }
 
     /// Reads some data into the front of `buf`, and says how many bytes: 0 at the end, and where
@@ -176,14 +215,14 @@ impl Decoding {
     /// after the trailer part is taken (RFC 9112, section 7.1). It takes no memory.
     ///
     /// A line has at most 8192 bytes before its CR LF, and the trailer part at most 128 lines. A
-    /// size is 1 to 16 hexadecimal digits of either case: what stands before the first `;` of its
-    /// line, without bytes 9 and 32 round it. Of an extension and of a trailer line the length alone
-    /// is checked. What breaks these rules, and other bytes than CR LF after a chunk's data, is a
+    /// size is 1 to 16 hexadecimal digits of either case. What else a line may hold is said by the
+    /// `ChunkRules`. What breaks these rules, and other bytes than CR LF after a chunk's data, is a
     /// fault of kind InvalidData. Where the reader stops within the body, its end is a fault of kind
     /// UnexpectedEof, and its fault is one of the same kind. The data before a fault are given
     /// first, those of an unfinished chunk too.
     ///
-    /// The end is reported once the trailer part was read. From then on, and from a fault on, each call
+    /// A fault is reported as soon as the byte that shows it was read. The end is reported once the
+    /// trailer part was read. From then on, and from a fault on, each call
     /// answers the same, and does not call the reader.
     pub fn read<R: ReadDevice>(
         &mut self,
@@ -191,6 +230,7 @@ impl Decoding {
         buf: &mut [u8],
     ) -> Result<usize, io::Error>
         ensures bound { IfOk result (λ n. n ≤ length buf.new) }
+        ensures rules { decoding_rules self.new ≡ decoding_rules self.old }
         // The bytes that came are the next of the data.
         ensures data { IfOk result (λ n. decoding_coming self.old (R.feed reader.old) ≡ prepended_data (take n buf.new) (decoding_coming self.new (R.feed reader.new))) }
         // The end is reported where the reader stands after the body.
@@ -205,11 +245,13 @@ impl Decoding {
         ensures reports_stop { IfSome (decoding_stop self.old) (λ stop. 0 < length buf.new → AnswersStop stop result) }
         // Only bytes at the front of what the reader gives are taken.
         ensures takes { TakesFront (R.feed reader.old) (R.feed reader.new) }
+        // Up to a fault no byte more is taken than shows it.
+        ensures needed { OnErr result (TakesNeeded (decoding_reads self.old) (R.feed reader.old) (R.feed reader.new)) }
     {
         if buf.is_empty() {
             return Ok(0);
         }
-        self.next = go_to_data(reader, self.next);
+        self.next = go_to_data(reader, self.rules, self.next);
         match self.next {
             Next::Data(left) => match read_data(reader, left, buf) {
                 Ok(n) => {
@@ -250,7 +292,7 @@ impl<R: ReadDevice> Decoder<R> {
     ghost use Rattle.tiny_http_device.specs.Device.{Feed};
     ghost use Rattle.tiny_http_wire.specs.Decoding.{decoder_coming, decoder_inner, decoder_stop, ReadsData};
 
-    /// The data of a body whose first byte is the reader's next one.
+    /// The data of a body whose first byte is the reader's next one, by the lenient rules.
     pub fn new(inner: R) -> Decoder<R>
         ensures inner { decoder_inner result ≡ inner }
         // A body that is whole gives its data, and leaves the rest.
@@ -261,9 +303,23 @@ impl<R: ReadDevice> Decoder<R> {
             → decoder_coming R.feed result ≡ Some (record { bytes = body; behind = Err kind }) }
         ensures stop { decoder_stop result ≡ None }
     {
+        Decoder::new_with(inner, ChunkRules::Lenient)
+    }
+
+    /// The data of a body whose first byte is the reader's next one, by these rules.
+    pub fn new_with(inner: R, rules: ChunkRules) -> Decoder<R>
+        ensures inner { decoder_inner result ≡ inner }
+        // A body that is whole by the rules gives its data, and leaves the rest.
+        ensures whole { (feed : Feed) (body rest : List ℕ) → R.feed inner ≡ Some feed → WholeChunksBy rules feed.bytes body rest
+            → decoder_coming R.feed result ≡ Some (record { bytes = body; behind = Ok (record { bytes = rest; stop = feed.stop }) }) }
+        // Another one gives the data that stand, and then the fault.
+        ensures front { (feed : Feed) (body : List ℕ) (kind : ErrorKind) → R.feed inner ≡ Some feed → CutChunksBy rules feed.bytes feed.stop body kind
+            → decoder_coming R.feed result ≡ Some (record { bytes = body; behind = Err kind }) }
+        ensures stop { decoder_stop result ≡ None }
+    {
         Decoder {
             inner,
-            decoding: Decoding::new(),
+            decoding: Decoding::new_with(rules),
         }
     }
 

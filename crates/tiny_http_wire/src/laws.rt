@@ -5,7 +5,8 @@ ghost use Rattle.tiny_http_device.specs.declared.device.Stop.{Stop};
 ghost use Rattle.tiny_http_head.specs.declared.common.Header.{Header};
 ghost use Rattle.tiny_http_wire.specs.AddHeader.{add_header, with_headers};
 ghost use Rattle.tiny_http_wire.specs.Answer.{Answer as AnyAnswer};
-ghost use Rattle.tiny_http_wire.specs.Chunks.{WholeChunks, CutChunks};
+ghost use Rattle.tiny_http_wire.specs.Chunks.{WholeChunksBy, CutChunksBy};
+ghost use Rattle.tiny_http_wire.specs.declared.chunked.ChunkRules.{ChunkRules};
 ghost use Rattle.tiny_http_wire.specs.ResponseHeaders.{IsResponseHeaders};
 
 use crate::chunked::{LONGEST_LINE, MOST_TRAILERS};
@@ -26,12 +27,13 @@ pub fn sizes_of_bodies()
     ensures threshold { THRESHOLD ≡ 32768 }
 {}
 
-/// All bytes with their stop are a chunked body and a rest, or a cut one: one of the two, in one way (RFC 9112, section 7.1).
+/// By each of the two rules all bytes with their stop are a chunked body and a rest, or a cut one: one of the two, in one way
+/// (RFC 9112, section 7.1).
 pub fn one_chunked_body()
-    ensures some { (bytes : List ℕ) (stop : Stop) → ((body : List ℕ) × (rest : List ℕ) × WholeChunks bytes body rest) ⊎ ((body : List ℕ) × (kind : ErrorKind) × CutChunks bytes stop body kind) }
-    ensures one_whole { (bytes body rest other remainder : List ℕ) → WholeChunks bytes body rest → WholeChunks bytes other remainder → (body ≡ other) × (rest ≡ remainder) }
-    ensures one_front { (bytes body other : List ℕ) (stop : Stop) (kind sort : ErrorKind) → CutChunks bytes stop body kind → CutChunks bytes stop other sort → (body ≡ other) × (kind ≡ sort) }
-    ensures not_both { (bytes body rest other : List ℕ) (stop : Stop) (kind : ErrorKind) → WholeChunks bytes body rest → CutChunks bytes stop other kind → ⊥ }
+    ensures some { (rules : ChunkRules) (bytes : List ℕ) (stop : Stop) → ((body : List ℕ) × (rest : List ℕ) × WholeChunksBy rules bytes body rest) ⊎ ((body : List ℕ) × (kind : ErrorKind) × CutChunksBy rules bytes stop body kind) }
+    ensures one_whole { (rules : ChunkRules) (bytes body rest other remainder : List ℕ) → WholeChunksBy rules bytes body rest → WholeChunksBy rules bytes other remainder → (body ≡ other) × (rest ≡ remainder) }
+    ensures one_front { (rules : ChunkRules) (bytes body other : List ℕ) (stop : Stop) (kind sort : ErrorKind) → CutChunksBy rules bytes stop body kind → CutChunksBy rules bytes stop other sort → (body ≡ other) × (kind ≡ sort) }
+    ensures not_both { (rules : ChunkRules) (bytes body rest other : List ℕ) (stop : Stop) (kind : ErrorKind) → WholeChunksBy rules bytes body rest → CutChunksBy rules bytes stop other kind → ⊥ }
 {}
 
 /// The list of an answer's headers never holds `Connection`, `Trailer`, `Transfer-Encoding`,

@@ -1,7 +1,9 @@
 //! The size that a size line gives, read byte by byte (RFC 9112, section 7.1).
 ghost use Rattle.std.specs.Prelude.{◌≡◌, ◌<◌, IfSome};
 ghost use Rattle.tiny_http_wire.specs.Chunks.{is_bws};
-ghost use Rattle.tiny_http_wire.specs.ChunkSize.{hex_of, digits_ended, size_step, size_value, SizeFits};
+ghost use Rattle.tiny_http_wire.specs.ChunkSize.{hex_of, digits_ended, size_step, standard_step, may_follow, size_value, SizeFits};
+
+use httparse::is_header_value_token;
 
 /// What the bytes of a line so far say of a size.
 #[derive(Clone, Copy, Drop)]
@@ -80,6 +82,31 @@ impl Size {
             Size::Behind(value) => digits_ended(value, b),
             Size::Extension(value) => Size::Extension(value),
             Size::Wrong => Size::Wrong,
+        }
+    }
+
+    // Whether the byte may stand here by the standard: in front a digit alone, and no control byte but the tab.
+    fn may_be_followed_by(self, b: u8) -> bool
+        ensures { result ≡ may_follow self b }
+    {
+        match self {
+            Size::Blank => is_header_value_token(b) && !is_bws(b),
+            Size::Digits(_, _) | Size::Behind(_) | Size::Extension(_) | Size::Wrong => {
+                is_header_value_token(b)
+            }
+        }
+    }
+
+    /// One byte more of the line, by the standard.
+    pub(crate) fn then_by_standard(self, b: u8) -> Size
+        requires { SizeFits self }
+        ensures is { result ≡ standard_step self b }
+        ensures fits { SizeFits result }
+    {
+        if self.may_be_followed_by(b) {
+            self.then(b)
+        } else {
+            Size::Wrong
         }
     }
 

@@ -16,7 +16,7 @@ pub returns-in-Counted-clause-begins : goal.returns-in-Counted-clause-begins
 returns-in-Counted-clause-begins g c = begins-counted c.args.framing c.args.source.now.feed c.counted.result _ (search rules) (search rules) c.counted.ensures.remaining c.counted.ensures.moves
 
 pub returns-in-Chunked-clause-begins : goal.returns-in-Chunked-clause-begins
-returns-in-Chunked-clause-begins g c = begins-chunked c.args.framing c.args.source.now.feed c.new.result (search rules) c.new.ensures.whole c.new.ensures.front
+returns-in-Chunked-clause-begins g c = begins-chunked c.args.framing c.args.source.now.feed c.new.result (search rules) c.new.ensures.whole c.new.ensures.front c.new.ensures.rules
 
 pub returns-in-Ok-Some-clause-begins : goal.returns-in-Ok-Some-clause-begins
 returns-in-Ok-Some-clause-begins g c =

@@ -1,10 +1,10 @@
-use Rattle.std.proofs.Common.{◌≡◌, ◌-◌}
-use Rattle.tiny_http_device.specs.Device.{TakesFront}
-use Rattle.tiny_http_wire.specs.Decoding.{trails}
+use Rattle.std.proofs.Common.{◌≡◌, ◌-◌, Option}
+use Rattle.tiny_http_device.specs.Device.{Feed}
+use Rattle.tiny_http_wire.specs.Decoding.{trails, trailers_from, TakesNeeded}
 use Rattle.tiny_http_wire.proofs.chunked.skip_trailers.Given as goal
 
 abbrev pub invariant-loop-lines : goal.invariant-loop-lines
 invariant-loop-lines g l = record {
-  comes : trails (128 - l.lines) (g.R.ReadDevice.feed l.reader) ≡ trails 128 (g.R.ReadDevice.feed l.fn.reader);
-  takes : TakesFront (g.R.ReadDevice.feed l.fn.reader) (g.R.ReadDevice.feed l.reader);
+  comes : trails l.fn.rules (128 - l.lines) (g.R.ReadDevice.feed l.reader) ≡ trails l.fn.rules 128 (g.R.ReadDevice.feed l.fn.reader);
+  needed : (new : Option Feed) → TakesNeeded (trailers_from l.fn.rules (128 - l.lines)) (g.R.ReadDevice.feed l.reader) new → TakesNeeded (trailers_from l.fn.rules 128) (g.R.ReadDevice.feed l.fn.reader) new;
 }

@@ -1,9 +1,7 @@
-use Rattle.std.proofs.Common.{ap, ◌∙◌}
-use Rattle.tiny_http_wire.specs.Decoding.{decoding_coming}
 use Rattle.tiny_http_wire.proofs.chunked.Decoder.new.Goals as goal
 
 pub returns-clause-whole : goal.returns-clause-whole
-returns-clause-whole g c feed body rest e h = ap (decoding_coming c.new.result) e ∙ c.new.ensures.whole feed.bytes body rest feed.stop h
+returns-clause-whole g c feed body rest e h = c.new_with.ensures.whole feed body rest e h
 
 pub returns-clause-front : goal.returns-clause-front
-returns-clause-front g c feed body kind e h = ap (decoding_coming c.new.result) e ∙ c.new.ensures.front feed.bytes body feed.stop kind h
+returns-clause-front g c feed body kind e h = c.new_with.ensures.front feed body kind e h

@@ -1,9 +1,7 @@
-use Rattle.std.proofs.Common.{refl}
-use Rattle.tiny_http_wire.proofs.DecodingLemmas.{begins-whole, begins-front}
 use Rattle.tiny_http_wire.proofs.chunked.Decoding.new.Goals as goal
 
 pub returns-clause-whole : goal.returns-clause-whole
-returns-clause-whole c bytes body rest stop h = begins-whole _ (record { bytes = bytes; stop = stop }) body rest refl h
+returns-clause-whole c bytes body rest stop h = c.new_with.ensures.whole bytes body rest stop h
 
 pub returns-clause-front : goal.returns-clause-front
-returns-clause-front c bytes body stop kind h = begins-front _ (record { bytes = bytes; stop = stop }) body kind refl h
+returns-clause-front c bytes body stop kind h = c.new_with.ensures.front bytes body stop kind h
