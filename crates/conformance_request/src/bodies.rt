@@ -13,6 +13,7 @@ use std::test::Fail;
 use std::thread;
 use std::thread::Threads;
 use std::time::Clock;
+use tiny_http_wire::common::StatusCode;
 
 // The kind of a read's fault; None where it met none.
 fn kind_of<B: Read>(body: &mut B) -> Option<ErrorKind> {
@@ -119,12 +120,21 @@ const ASKED: &[u8] =
 const ASKED_BY_CHUNKS: &[u8] =
     b"POST / HTTP/1.1\r\nHost: h\r\nConnection: upgrade\r\nUpgrade: h2c\r\nTransfer-Encoding: chunked\r\n\r\n5\r\nhello\r\n0\r\n\r\nGET /b HTTP/1.1\r\nHost: h\r\n\r\n";
 
-// The first request's body is read to its end. The next one comes once the first is answered, and not before.
+// What becomes of a request that asks for an upgrade.
+#[derive(Clone, Copy, PartialEq, Eq)]
+enum Ending {
+    Answered,
+    Upgraded,
+}
+
+// The first request's body is read to its end. The next one comes once the first is answered, and not before; or none comes, as the
+// first is upgraded, and its stream dropped unread.
 fn waits_for_the_answer<R: Threads + Wait + Clock + Copy + Abort + Send + Sync + 'static>(
     rt: R,
     alloc: Global,
     client: &[u8],
     body: &str,
+    ending: Ending,
 ) -> Result<(), Fail> {
     let mut bench = connect_standard(rt, alloc, client)?;
     let mut request = next(&mut bench)?;
@@ -140,15 +150,24 @@ fn waits_for_the_answer<R: Threads + Wait + Clock + Copy + Abort + Send + Sync +
     let asks = asks.map_err(|_| "no thread")?;
     assert!(rt; is_about_to_call(&rt, &begun));
     assert_eq!(rt; handed.load(Ordering::SeqCst), 0);
-    request.respond(text(alloc, "a")?, now()?)?;
-    assert!(rt; is_reached(&rt, &handed, 1));
-    assert!(rt; asks.join(&rt));
+    let comes = ending == Ending::Answered;
+    if comes {
+        request.respond(text(alloc, "a")?, now()?)?;
+    } else {
+        let switching = text(alloc, "")?.with_status_code(StatusCode(101));
+        assert!(rt; request.upgrade("h2c", switching, now()?).is_ok());
+    }
+    assert_eq!(rt; asks.join(&rt), comes);
+    assert_eq!(rt; handed.load(Ordering::SeqCst), u64::from(comes));
     Ok(())
 }
 
 // While a request that asks for an upgrade waits for its answer, the next head is waited for.
 #[test]
 fn the_next_head_waits_for_an_asked_upgrade(rt: HostRuntime) -> Result<(), Fail> {
-    waits_for_the_answer(rt, rt.alloc(), ASKED, "")?;
-    waits_for_the_answer(rt, rt.alloc(), ASKED_BY_CHUNKS, "hello")
+    for ending in [Ending::Answered, Ending::Upgraded] {
+        waits_for_the_answer(rt, rt.alloc(), ASKED, "", ending)?;
+        waits_for_the_answer(rt, rt.alloc(), ASKED_BY_CHUNKS, "hello", ending)?;
+    }
+    Ok(())
 }

@@ -64,8 +64,8 @@ impl<R: ServerRuntime> Server<R> {
     ///
     /// Answers wait for each other in a buffer of the connection, of 16,384 bytes, so a fault of the socket may be reported by a later
     /// answer. What waits is sent before the connection is read, where more comes than there is room for, where a request is to wait
-    /// for another one, its body is read from the connection or it asks for an upgrade under `Standard`, and at the end. A flush of a raw writer or of an upgraded stream
-    /// sends it too, and so does a 100.
+    /// for another one, its body is read from the connection or it asks for an upgrade under `Standard`, and at the end. A flush of
+    /// a raw writer or of an upgraded stream sends it too, and so does a 100.
     ///
     /// Once the first workers are there the server serves, also where this call has returned: clients that come then wait for the
     /// next call of it. The clients that it has begun with are served on, until they or the server end.

@@ -15,7 +15,7 @@ use Rattle.tiny_http_message.specs.declared.framing.HeadRules.{HeadRules}
 use Rattle.tiny_http_message.specs.declared.framing.HeadRules.TheVariants as rule
 use Rattle.tiny_http_standard.specs.Judging.{is_1_0}
 use Rattle.tiny_http_standard.specs.Heads.{is_begun, Reading, ReadWhole, ReadBad, ReadOpen}
-use Rattle.tiny_http_message.specs.Pipeline.{Item, Asks, Refuses, Refusal, BadRequest, RequestTimeout, ExpectationFailed, HeaderFieldsTooLarge, VersionNotSupported, RequestLineTooLong, CodingNotImplemented, MajorVersionNotSupported, Place, is_timed_out, is_cut_with_head, body_length_or_0, served_version, served_message, standard_framing, standard_cut, standard_heading, long_refusal, RulesHeadAt, is_head_method, head_limit, BeginsWithin, IsTooLarge, IsRefused, Heading, Silence, Refused, Heads, HeadAt, FoundAt, ends_too_new, Pipeline}
+use Rattle.tiny_http_message.specs.Pipeline.{place_feed, Item, Asks, Refuses, Refusal, BadRequest, RequestTimeout, ExpectationFailed, HeaderFieldsTooLarge, VersionNotSupported, RequestLineTooLong, CodingNotImplemented, MajorVersionNotSupported, Place, is_timed_out, is_cut_with_head, body_length_or_0, served_version, served_message, standard_framing, standard_cut, standard_heading, long_refusal, RulesHeadAt, is_head_method, head_limit, BeginsWithin, IsTooLarge, IsRefused, Heading, Silence, Refused, Heads, HeadAt, FoundAt, ends_too_new, Pipeline}
 use Rattle.tiny_http_client_laws.proofs.StepsAdd.{VersionFits, ItemFits, AllFit}
 
 -- a version that a text names
@@ -67,10 +67,10 @@ refused-fits p bytes stop RequestLineTooLong v k = absurd k
 refused-fits p bytes stop CodingNotImplemented v k = absurd k
 refused-fits p bytes stop MajorVersionNotSupported v k = absurd k
 
-too-new-fits : (t : Bool) (m : Message) (f : Framing) (body : Feed) → VersionFits m.version
-    → ItemFits (if t then Refuses VersionNotSupported (version 1 1) (is_head_method m.method) (ends_too_new f.form) else Asks (record { message = m; framing = f; body = body }))
-too-new-fits true m f body h = first-fits
-too-new-fits false m f body h = h
+too-new-fits : (t : Bool) (m : Message) (f : Framing) (body behind : Feed) → VersionFits m.version
+    → ItemFits (if t then Refuses VersionNotSupported (version 1 1) (is_head_method m.method) (ends_too_new f.form) else Asks (record { message = m; framing = f; body = body; behind = behind }))
+too-new-fits true m f body behind h = first-fits
+too-new-fits false m f body behind h = h
 
 -- the version of a heading
 abbrev HeadingFits : Heading → Type 0
@@ -126,7 +126,7 @@ at-fits under.Standard bytes stop heading h = subst HeadingFits (sym h.2) (stand
 found-fits : (stop : Stop) (heading : Heading) (item : Option Item) (next : Place) → HeadingFits heading → FoundAt stop heading item next → AnswerFits item
 found-fits stop Silence item next h f = subst AnswerFits (sym f.0) tt
 found-fits stop (Refused refusal v) item next h f = subst AnswerFits (sym f.0) h
-found-fits stop (Heads m framing after) item next h f = subst AnswerFits (sym f.3) (too-new-fits (is_too_new m.version) m framing f.0 h)
+found-fits stop (Heads m framing after) item next h f = subst AnswerFits (sym f.3) (too-new-fits (is_too_new m.version) m framing f.0 (place_feed stop f.1) h)
 
 heading-fits : (p : Profile) (bytes : List ℕ) (stop : Stop) (heading : Heading) (item : Option Item) (next : Place) → HeadAt p bytes stop heading → FoundAt stop heading item next → AnswerFits item
 heading-fits p bytes stop heading item next h f = found-fits stop heading item next (at-fits p bytes stop heading h) f

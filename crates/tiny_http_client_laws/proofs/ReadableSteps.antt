@@ -1,13 +1,12 @@
 -- Steps that can be read leave numbers that can be read.
 use Rattle.std.proofs.Common.{◌≡◌, refl, sym, ◌∙◌, subst, ℕ, zero, suc, ◌+◌, Bool, true, false, not, ◌&&◌, ◌||◌, List, [], ◌∷◌, ◌++◌, map, take, length, Option, Some, None, ⊎_elim, arith}
 use Rattle.std.specs.Prelude.{if◌then◌else◌, slice_get, slice_set, ◌==◌, nat_lt}
-use Rattle.std.specs.List.{AllByRecursion, list_all}
+use Rattle.std.specs.List.{AllByRecursion}
 use Rattle.httpdate.specs.declared.date.HttpDate.{HttpDate}
-use Rattle.tiny_http_wire.specs.Bytes.{is_ascii}
 use Rattle.tiny_http_wire.specs.Device.{Feed, Sink}
 use Rattle.tiny_http_message.specs.Pipeline.{Item, Asks, Refuses, Request}
 use Rattle.tiny_http_message.specs.declared.framing.Profile.{Profile}
-use Rattle.tiny_http_core.specs.Slots.{is_last_without_continue, refuses_response, to_request, text_if, Slot, Stage, Unanswered, Answered, ByServer, Raw, Upgraded, new_slot, turn_has_come, rest_of, last_slot, last_holds_reader, last_was_abandoned}
+use Rattle.tiny_http_core.specs.Slots.{is_last_without_continue, refuses_response, to_request, text_if, Slot, Stage, Unanswered, Answered, ByServer, Raw, Upgraded, new_slot, turn_has_come, rest_of, last_slot, last_holds_reader, last_was_abandoned, upgraded_slot, refuses_upgrade}
 use Rattle.tiny_http_core.specs.Steps.{StepValue, Ask, AsReader, Read, Respond, IntoWriter, Write, Flush, Upgrade, Finish, Drop, ReplyValue, Ended, Given, Done, Refused, NoSuch, NotYet, WriterUse, Unused, Unreported, Reported, Outcome, Reached, unchanged, changes, ends_asking, is_last_with_stream, read_reply, finished_as, written_to, stage_closed, fault_in, fault_reply, accepts_step, needs_turn, use_in_turn, effect, at_item, at_slot, at_number, asks_from, ask, outcome}
 use Rattle.tiny_http_core.specs.Conversation.{Failure, State, HasOutcome, FindsNoMemory, StepsTo, TimedValue, Run, start_state, IsOutput, IsConversation}
 use Rattle.tiny_http_client_laws.specs.ClientReads.{IsReadableStage, CanBeReadAt, IsReadableStep, AreReadable}
@@ -73,9 +72,10 @@ effect-readable found date old r s turn (IntoWriter k) c h here = elim c [ ]
 effect-readable found date old r s turn (Write k bytes) c h here = all-set old.slots k (record s { stage = written_to bytes s.stage }) h (written-readable bytes s.stage here)
 effect-readable found date old r s turn (Flush k) c h here = all-set old.slots k s h here
 effect-readable found date old r s turn (Upgrade k protocol response) c h here =
-    let t : Slot = record s { stage = Upgraded protocol response date [] false; owed = false } in
+    let t : Slot = upgraded_slot r s (Upgraded protocol response date [] false) in
     let d = finished_as s ByServer in
-    readable-if (list_all is_ascii protocol) (ends_asking (is_last_with_stream r s.owed) (changes old k t Done Unreported)) (ends_asking (is_last_without_continue r s.owed) (changes old k d Refused (use_in_turn turn))) (λ e. never (sym c ∙ e)) (λ e. all-set old.slots k d h tt)
+    let refused : refuses_upgrade r s protocol response ≡ true = rw c refl in
+    readable-if (refuses_upgrade r s protocol response) (ends_asking (is_last_without_continue r s.owed) (changes old k d Refused (use_in_turn turn))) (ends_asking (is_last_with_stream r s.owed) (changes old k t Done Unreported)) (λ e. all-set old.slots k d h tt) (λ e. never (sym e ∙ refused))
 effect-readable found date old r s turn (Finish k) c h here = all-set old.slots k (finished_as s (stage_closed s.stage)) h (closed-readable s.stage here)
 effect-readable found date old r s turn (Drop k) c h here = all-set old.slots k (finished_as s ByServer) h tt
 
@@ -85,9 +85,9 @@ item-readable found date old k step s (Refuses refusal version no_body last) c h
 item-readable found date old k step s (Asks r) c h here =
     let turn = turn_has_come k old.slots in
     readable-if (not (accepts_step s.stage s.owed step)) (unchanged old NoSuch)
-    (if (needs_turn r s.owed step && not turn) then unchanged old NotYet else effect found date old r s turn step)
+    (if (needs_turn r s step && not turn) then unchanged old NotYet else effect found date old r s turn step)
     (λ e. h)
-    (λ e. readable-if (needs_turn r s.owed step && not turn) (unchanged old NotYet) (effect found date old r s turn step) (λ e. h) (λ e. effect-readable found date old r s turn step c h here))
+    (λ e. readable-if (needs_turn r s step && not turn) (unchanged old NotYet) (effect found date old r s turn step) (λ e. h) (λ e. effect-readable found date old r s turn step c h here))
 
 slot-readable : (found : Bool) (date : HttpDate) (old : Reached) (k : ℕ) (step : StepValue) (o : Option Slot) → IsReadableStep step → CanAllBeRead old.slots → slice_get old.slots k ≡ o
     → CanAllBeRead (at_slot found date old k step o).slots

@@ -32,11 +32,11 @@ item-keeps found date old step s (Asks r) h here is =
     let k = number_of step in
     let turn = turn_has_come k old.slots in
     keeps-if old (not (accepts_step s.stage s.owed step)) (unchanged old NoSuch)
-    (if (needs_turn r s.owed step && not turn) then unchanged old NotYet else effect found date old r s turn step)
+    (if (needs_turn r s step && not turn) then unchanged old NotYet else effect found date old r s turn step)
     (λ no. keeps-unchanged old NoSuch h)
-    (λ takes. keeps-if old (needs_turn r s.owed step && not turn) (unchanged old NotYet) (effect found date old r s turn step)
+    (λ takes. keeps-if old (needs_turn r s step && not turn) (unchanged old NotYet) (effect found date old r s turn step)
     (λ waits. keeps-unchanged old NotYet h)
-    (λ goes. effect-keeps found date old r s turn step h here is (not-true takes) (come (needs_turn r s.owed step) turn goes)))
+    (λ goes. effect-keeps found date old r s turn step h here is (not-true takes) (come (needs_turn r s step) turn goes)))
 
 slot-keeps : (found : Bool) (date : HttpDate) (old : Reached) (step : StepValue) (o : Option Slot) → Holds old → slice_get old.slots (number_of step) ≡ o → Keeps old (at_slot found date old (number_of step) step o)
 slot-keeps found date old step None h here = keeps-unchanged old NoSuch h

@@ -1,15 +1,14 @@
 -- What holds of the numbers of a conversation: an owed 100 wasn't sent, and each version fits its bytes. Each step keeps it,
 -- and only adds to the joined output.
-use Rattle.std.proofs.Common.{◌≡◌, refl, sym, ap, ◌∙◌, subst, ℕ, zero, suc, ◌+◌, ◌≤◌, Bool, true, false, not, ◌||◌, List, [], ◌∷◌, ◌++◌, take, length, Some, None, append_assoc, append-nil}
+use Rattle.std.proofs.Common.{Option, ◌≡◌, refl, sym, ap, ◌∙◌, subst, ℕ, zero, suc, ◌+◌, ◌≤◌, Bool, true, false, not, ◌||◌, List, [], ◌∷◌, ◌++◌, take, length, Some, None, append_assoc, append-nil}
 use Rattle.std.specs.Prelude.{if◌then◌else◌, slice_get, slice_set, ◌==◌, nat_lt}
-use Rattle.std.specs.List.{list_all, AllByRecursion}
+use Rattle.std.specs.List.{AllByRecursion}
 use Rattle.httpdate.specs.declared.date.HttpDate.{HttpDate}
 use Rattle.tiny_http_wire.specs.declared.common.HTTPVersion.{HTTPVersion}
-use Rattle.tiny_http_wire.specs.Bytes.{is_ascii}
 use Rattle.tiny_http_wire.specs.Device.{IsFront}
 use Rattle.tiny_http_message.specs.Pipeline.{Item, Asks, Refuses, Request}
 use Rattle.tiny_http_sending.specs.ResponseValue.{ResponseValue, response_text}
-use Rattle.tiny_http_core.specs.Slots.{is_last_without_continue, refuses_response, Slot, Stage, Unanswered, Answered, ByServer, Raw, Upgraded, printing_for, to_request, text_if, stage_text, opening, segment, is_stage_finished, turn_has_come, joined, is_output_broken, rest_of}
+use Rattle.tiny_http_core.specs.Slots.{is_last_without_continue, refuses_response, Slot, Stage, Unanswered, Answered, ByServer, Raw, Upgraded, printing_for, to_request, text_if, stage_text, opening, segment, is_stage_finished, turn_has_come, joined, is_output_broken, rest_of, as_stream, upgraded_slot, refuses_upgrade}
 use Rattle.tiny_http_core.specs.Steps.{StepValue, Ask, AsReader, Read, Respond, IntoWriter, Write, Flush, Upgrade, Finish, Drop, ReplyValue, Given, Done, Refused, NoSuch, WriterUse, Unused, Unreported, Reported, Outcome, Reached, unchanged, changes, ends_asking, is_last_with_stream, read_reply, finished_as, written_to, stage_closed, fault_in, fault_reply, Fault, accepts_step, needs_turn, use_in_turn, effect}
 use Rattle.tiny_http_client_laws.proofs.JoinedGrows.{SendsMore, set-grows, set-own, AddsOwn, Adds, in-turn-ownless, taken-unfinished}
 
@@ -159,6 +158,24 @@ closed-bytes item date ByServer = refl
 closed-bytes item date (Raw written ends) = refl
 closed-bytes item date (Upgraded protocol response at written ends) = refl
 
+-- a number that is upgraded sends the head of the upgrade, whether its stream reads on or what follows
+opening-same : (r : Request) (date : Option HttpDate) → opening (Asks (as_stream r)) date ≡ opening (Asks r) date
+opening-same r None = refl
+opening-same r (Some date) = refl
+
+upgrade-sends : (by_standard : Bool) (r : Request) (s : Slot) (protocol : List ℕ) (response : ResponseValue) (date : HttpDate) → IsSound s → s.item ≡ Asks r → s.stage ≡ Unanswered
+    → (let stage = Upgraded protocol response date [] false in
+    let t : Slot = (if by_standard then record s { item = Asks (as_stream r); given = 0; end_reported = false; stage = stage; owed = false } else record s { stage = stage; owed = false }) in
+    SendsMore s t (stage_text s.item s.date stage).bytes × IsSound t)
+upgrade-sends false r s protocol response date i is u =
+    let t : Slot = record s { stage = Upgraded protocol response date [] false; owed = false } in
+    (unanswered-sends s t (stage_text s.item s.date (Upgraded protocol response date [] false)).bytes u refl, settled s t i refl refl)
+upgrade-sends true r s protocol response date i is u =
+    let stage : Stage = Upgraded protocol response date [] false in
+    let t : Slot = record s { item = Asks (as_stream r); given = 0; end_reported = false; stage = stage; owed = false } in
+    let text : Item → List ℕ = λ x. (stage_text x s.date stage).bytes in
+    (unanswered-sends s t (text s.item) u (ap (λ x. x ++ text (Asks r)) (opening-same r s.continued) ∙ ap (λ x. opening x s.continued ++ text x) (sym is)), record { unsent = λ o. is-owed o; fits = subst ItemFits is i.fits })
+
 -- the number that a step is for
 abbrev pub number_of : StepValue → ℕ
 number_of Ask = 0
@@ -174,7 +191,7 @@ number_of (Drop k) = k
 
 -- a step that a number takes in its time
 pub effect-keeps : (found : Bool) (date : HttpDate) (old : Reached) (r : Request) (s : Slot) (turn : Bool) (step : StepValue) → Holds old → slice_get old.slots (number_of step) ≡ Some s → s.item ≡ Asks r
-    → accepts_step s.stage s.owed step ≡ true → (needs_turn r s.owed step ≡ true → turn_has_come (number_of step) old.slots ≡ true) → Keeps old (effect found date old r s turn step)
+    → accepts_step s.stage s.owed step ≡ true → (needs_turn r s step ≡ true → turn_has_come (number_of step) old.slots ≡ true) → Keeps old (effect found date old r s turn step)
 effect-keeps found date old r s turn Ask h here is takes comes = keeps-all old NoSuch h
 effect-keeps found date old r s turn (AsReader k) h here is takes comes =
     let i = all-get old.slots k s h.slots here in
@@ -228,13 +245,14 @@ effect-keeps found date old r s turn (Flush k) h here is takes comes =
 effect-keeps found date old r s turn (Upgrade k protocol response) h here is takes comes =
     let i = all-get old.slots k s h.slots here in
     let u = by-upgrade s.stage s.owed k protocol response takes in
-    let t : Slot = record s { stage = Upgraded protocol response date [] false; owed = false } in
+    let t : Slot = upgraded_slot r s (Upgraded protocol response date [] false) in
     let own = (stage_text s.item s.date (Upgraded protocol response date [] false)).bytes in
     let d = finished_as s ByServer in
     let text = (stage_text s.item s.date ByServer).bytes in
-    keeps-if old (list_all is_ascii protocol) (ends_asking (is_last_with_stream r s.owed) (changes old k t Done Unreported)) (ends_asking (is_last_without_continue r s.owed) (changes old k d Refused (use_in_turn turn)))
-    (λ o. keeps-ended old (is_last_with_stream r s.owed) (changes old k t Done Unreported) (quiet old h k s here t own Done Unreported (unanswered-sends s t own u refl) (settled s t i refl refl) tt))
+    let more = upgrade-sends r.framing.by_standard r s protocol response date i is u in
+    keeps-if old (refuses_upgrade r s protocol response) (ends_asking (is_last_without_continue r s.owed) (changes old k d Refused (use_in_turn turn))) (ends_asking (is_last_with_stream r s.owed) (changes old k t Done Unreported))
     (λ o. keeps-ended old (is_last_without_continue r s.owed) (changes old k d Refused (use_in_turn turn)) (quiet old h k s here d text Refused (use_in_turn turn) (unanswered-sends s d text u refl) (settled s d i refl refl) (in-turn-ownless turn old.slots (slice_set old.slots k d))))
+    (λ o. keeps-ended old (is_last_with_stream r s.owed) (changes old k t Done Unreported) (quiet old h k s here t own Done Unreported more.0 more.1 tt))
 effect-keeps found date old r s turn (Finish k) h here is takes comes =
     let i = all-get old.slots k s h.slots here in
     let t = finished_as s (stage_closed s.stage) in

@@ -20,6 +20,7 @@ use Rattle.tiny_http_message.specs.declared.body.Body.TheVariants as body
 use Rattle.tiny_http_message.specs.declared.exchange.HeadRead.TheVariants as read
 use Rattle.tiny_http_wire.specs.declared.answer_context.AnswerContext.{AnswerContext}
 use Rattle.tiny_http_wire.specs.declared.coding.Coding.{Coding}
+use Rattle.tiny_http_standard.specs.Judging.{names_protocol}
 use Rattle.tiny_http_wire.specs.Coding.{coding_asked}
 use Rattle.tiny_http_message.specs.declared.open_request.OpenRequest.{OpenRequest}
 use Rattle.tiny_http_core.specs.declared.pending.Unfinished.{Unfinished}
@@ -28,8 +29,8 @@ use Rattle.tiny_http_message.specs.declared.framing.Profile.{Profile}
 use Rattle.tiny_http_message.specs.declared.framing.Form.TheVariants.{Rest}
 use Rattle.tiny_http_wire.specs.Heads.{version, is_too_new}
 use Rattle.tiny_http_stream.specs.Source.{GoesOn}
-use Rattle.tiny_http_message.specs.Pipeline.{Item, Asks, Refuses, VersionNotSupported, Refusal, Request, Place, Heading, HeadAt, Silence, Refused, Heads, OneHead, FoundAt, ends_too_new, is_head_method, Pipeline, place_after}
-use Rattle.tiny_http_message.specs.HeadReads.{ReadsHead, IsBeforeHead, standing_of, place_feed, request_of, head_message, head_framing}
+use Rattle.tiny_http_message.specs.Pipeline.{Item, Asks, Refuses, VersionNotSupported, Refusal, Request, Place, Heading, HeadAt, Silence, Refused, Heads, OneHead, FoundAt, ends_too_new, is_head_method, Pipeline, place_after, place_feed}
+use Rattle.tiny_http_message.specs.HeadReads.{ReadsHead, IsBeforeHead, standing_of, request_of, head_message, head_framing}
 use Rattle.tiny_http_message.specs.declared.exchange.EndOfRequests.{EndOfRequests}
 use Rattle.tiny_http_stream.specs.declared.source.Standing.{Standing}
 use Rattle.tiny_http_stream.specs.declared.source.Standing.TheVariants as in_place
@@ -45,7 +46,7 @@ use Rattle.tiny_http_core.proofs.ConversationWriting.{unreported, flushed-is}
 use Rattle.tiny_http_sending.specs.Sending.{IsFlushed, SendsUnlessEnded}
 use Rattle.tiny_http_turns.specs.Turns.{Mark, Open, Left, Finished, AreInShape, first_unfinished}
 use Rattle.tiny_http_core.specs.Pending.{LeavesText, last_holds_next_head, last_body, is_streaming_body}
-use Rattle.tiny_http_core.specs.Connection.{Kept, dropped, IsWaiting, AreKept, OutputAt, behind_body, GivesRest, InputEnded, is_past_last, is_in_body, NextHead, InputStands, Stands, HandedOut}
+use Rattle.tiny_http_core.specs.Connection.{Kept, dropped, IsWaiting, AreKept, OutputAt, behind_body, GivesRest, InputEnded, is_past_last, is_in_body, NextHead, InputStands, Stands, HandedOut, FollowsLast}
 use Rattle.tiny_http_stream.proofs.SourceGoesOn.{goes-on_more}
 use Rattle.tiny_http_message.proofs.PipelineLemmas.{pipeline-first, pipeline-none, heads-rest_last, empty-pipeline}
 use Rattle.tiny_http_core.proofs.ConnectionReader.{LastKept, last-kept, last-awaits, last-awaits-none, last-snoc, body-snoc, settled-snoc, and-false, held-by, behind-settled, gives-settled}
@@ -94,8 +95,8 @@ found-framed profile bytes stop (Heads m f after) r next at h = by-version (is_t
     by-version : (t : Bool) → is_too_new m.version ≡ t → IsFramed profile r
     by-version true b = let no : Some (Asks r) ≡ Some (Refuses VersionNotSupported (version 1 1) (is_head_method m.method) (ends_too_new f.form)) = h.3 ∙ rw b refl in cc
     by-version false b =
-        let item : Some (Asks r) ≡ Some (Asks (record { message = m; framing = f; body = h.0 })) = h.3 ∙ rw b refl in
-        let same : r ≡ record { message = m; framing = f; body = h.0 } = cc in
+        let item : Some (Asks r) ≡ Some (Asks (record { message = m; framing = f; body = h.0; behind = place_feed stop h.1 })) = h.3 ∙ rw b refl in
+        let same : r ≡ record { message = m; framing = f; body = h.0; behind = place_feed stop h.1 } = cc in
         subst (IsFramed profile) (sym same) (record { framed = heads-rest_last profile bytes stop m f after at })
 
 one-head-framed : (profile : Profile) (bytes : List ℕ) (stop : Stop) (r : Request) (next : Place) → OneHead profile bytes stop (Some (Asks r)) next → IsFramed profile r
@@ -170,15 +171,15 @@ settled-any (body.Over stop) None content behind h e f = cc
 settled-any (body.Over stop) (Some g) content behind h e f = ap (λ (x : Option Remaining). option_map (λ (r : Remaining). taken_remaining r.body f) x) h
 settled-any (body.WithHead bytes) None content behind h e f = cc
 settled-any (body.WithHead bytes) (Some g) content behind h e f = ap (λ (x : Option Remaining). option_map (λ (r : Remaining). taken_remaining r.body f) x) h
-settled-any (body.Counted left) p content behind h e f = cc
+settled-any (body.Counted left by_standard) p content behind h e f = cc
 settled-any (body.Chunked d) p content behind h e f = cc
 settled-any body.Rest p content behind h e f = cc
 
 -- what is kept of it
-kept-handed : (profile : Profile) (date : HttpDate) (x : Exchange) (p : Option Feed) (content behind : Feed) → KeepsRequest x date → remaining x.open_request.body p ≡ Some (record { body = content; behind = behind }) → IsFramed profile (request_of x.head content)
-    → IsWaiting (handed_slot date (request_of x.head content)) x.open_request
+kept-handed : (profile : Profile) (date : HttpDate) (x : Exchange) (p : Option Feed) (content behind : Feed) → KeepsRequest x date → remaining x.open_request.body p ≡ Some (record { body = content; behind = behind }) → IsFramed profile (request_of x.head content behind)
+    → IsWaiting (handed_slot date (request_of x.head content behind)) x.open_request
 kept-handed profile date x p content behind k left framed = record {
-  request = request_of x.head content;
+  request = request_of x.head content behind;
   handed = record { date = date; continued = None; owed = x.head.owes_continue };
   given = 0;
   end_reported = false;
@@ -187,12 +188,13 @@ kept-handed profile date x p content behind k left framed = record {
   holds = k.answer.holds_next_head;
   standard = k.answer.by_standard;
   connect = k.answer.is_connect;
+  upgrades = λ protocol. k.answer.upgrades protocol ∙ ap (λ b. b && names_protocol x.head.headers.items protocol) k.answer.holds_next_head;
   unsent = λ owed. refl;
   rest_is_last = framed.framed;
   answer_context =
       let F : HTTPVersion → Option Coding → Bool → AnswerContext = λ v a b. record { version = v; asked_coding = a; no_body = b } in
       ap (λ v. F v x.open_request.answer_context.asked_coding x.open_request.answer_context.no_body) k.answer.version ∙ ap (λ a. F x.head.version a x.open_request.answer_context.no_body) k.answer.asked_coding ∙ ap (F x.head.version (coding_asked x.head.headers.items)) k.answer.no_body;
-  text = k.answer.text ∙ dropped-text date (request_of x.head content);
+  text = k.answer.text ∙ dropped-text date (request_of x.head content behind);
   fits = k.body;
   settled = settled-any x.open_request.body p content behind left;
 }
@@ -218,20 +220,20 @@ pub record StandsFor (r : Request) (w : OpenRequest Body) (at : Standing) : Type
   pub past : is_past_last at ≡ r.framing.is_last
   pub within : is_in_body at ≡ (not r.framing.is_last && is_streaming w.body)
 
-pub stands-for : (x : Exchange) (content : Feed) (at : Standing) → at ≡ standing_of x → StandsFor (request_of x.head content) x.open_request at
-stands-for x content at e =
-    let S : Standing → Type 0 = λ y. StandsFor (request_of x.head content) x.open_request y in
+pub stands-for : (x : Exchange) (content behind : Feed) (at : Standing) → at ≡ standing_of x → StandsFor (request_of x.head content behind) x.open_request at
+stands-for x content behind at e =
+    let S : Standing → Type 0 = λ y. StandsFor (request_of x.head content behind) x.open_request y in
     subst S (sym e) (by x.head.is_last (is_streaming x.open_request.body) refl refl)
   where
-    by : (last streaming : Bool) → x.head.is_last ≡ last → is_streaming x.open_request.body ≡ streaming → StandsFor (request_of x.head content) x.open_request (standing_of x)
+    by : (last streaming : Bool) → x.head.is_last ≡ last → is_streaming x.open_request.body ≡ streaming → StandsFor (request_of x.head content behind) x.open_request (standing_of x)
     by true streaming l t = record { past = rw l refl; within = rw l refl }
     by false true l t = record { past = rw (l, t) refl; within = rw (l, t) refl }
     by false false l t = record { past = rw (l, t) refl; within = rw (l, t) refl }
 
-handed-reader : (client : Feed) (k : Kept) (slots : List Slot) (rest more : List Item) (date : HttpDate) (r : Request) (w : OpenRequest Body) (p : Option Feed) (stop : Option Stop) (over : Bool) (at : Standing) (close : Stop) (next : Place) → InputStands client k slots rest → is_streaming_body (last_body k.requests) ≡ false
+handed-reader : (client : Feed) (k : Kept) (slots : List Slot) (rest more : List Item) (date : HttpDate) (r : Request) (w : OpenRequest Body) (p : Option Feed) (stop : Option Stop) (over : Bool) (at : Standing) (close : Stop) (next : Place) → InputStands client k slots rest → IsQuiet k.requests → r.behind ≡ place_feed close next
     → remaining w.body p ≡ Some (record { body = r.body; behind = place_feed close next }) → Pipeline k.profile (place_after r.framing.is_last next) close more → GoesOn (Some client) p → StandsFor r w at
     → InputStands client (after_handed k w p stop over at) (slots ++ (handed_slot date r ∷ [])) more
-handed-reader client k slots rest more date r w p stop over at close next old quiet left items source stands =
+handed-reader client k slots rest more date r w p stop over at close next old quiet after left items source stands =
     let x = handed_slot date r in
     let last : last_slot (slots ++ (x ∷ [])) ≡ Some x = last-snoc None slots x in
     let content : last_body (k.requests ++ (Some (still.Waiting w) ∷ [])) ≡ Some w.body = body-snoc k.requests (Some (still.Waiting w)) in
@@ -242,6 +244,7 @@ handed-reader client k slots rest more date r w p stop over at close next old qu
     let W : Option Slot → Option Body → Bool = λ o b. not (is_last_slot o) && is_streaming_body b in
     let F : Option Feed → Type 0 = λ o. PlaceAt k.profile r.framing.is_last o more in
     let behind : behind_body (Some w.body) p ≡ Some (place_feed close next) = ap (λ (o : Option Remaining). option_map (λ (y : Remaining). y.behind) o) left in
+    let L : Option Slot → Option Body → Type 0 = λ o b. FollowsLast b o p in
     let k2 : Kept = after_handed k w p stop over at in
     record {
       settled = settled-snoc k.requests (Some (still.Waiting w)) old.settled quiet;
@@ -252,6 +255,7 @@ handed-reader client k slots rest more date r w p stop over at close next old qu
         lost = λ lost. (let no : true ≡ false = sym lost ∙ (ap last_was_abandoned last ∙ and-false (is_chunked r.framing.form)) in cc);
         place = λ e. subst (λ y. Q y (last_body (k.requests ++ (Some (still.Waiting w) ∷ [])))) (sym stands.past) (subst (λ y. Q r.framing.is_last y) (sym content) (subst F (sym behind) (handed-place k.profile r.framing.is_last close next more items)));
       };
+      follows = λ holds. subst (λ o. L o (last_body (k.requests ++ (Some (still.Waiting w) ∷ [])))) (sym last) (subst (λ b. L (Some x) b) (sym content) (behind ∙ ap Some (sym after)));
       source = source;
     }
 
@@ -263,7 +267,7 @@ ask-handed client before k s date x from_here p stop over at n st e o quiet open
     let P : Option Feed → Type 0 = λ y. ReadsHead k.profile from_here date y p (Ok (read.Request x)) in
     let found = subst P g.stated reads in
     let h = x.head in
-    let r = request_of h found.0 in
+    let r = request_of h found.0 (place_feed g.feed.stop found.1) in
     let first = pipeline-first k.profile g.feed.bytes g.feed.stop (Asks r) (place_after h.is_last found.1) s.reached.rest found.2 g.pipeline in
     let y = handed_slot date r in
     let slots = s.reached.slots ++ (y ∷ []) in
@@ -280,7 +284,7 @@ ask-handed client before k s date x from_here p stop over at n st e o quiet open
         shape = shape;
         in_turn = turn-more s.reached.slots y st.in_turn (refl, λ z. refl);
         asking_ended = sym e;
-        reader = handed-reader client k s.reached.slots s.reached.rest first.0 date r x.open_request p stop over at g.feed.stop found.1 st.reader quiet.0 found.3 first.2 (goes-on_more (Some client) k.feed p st.reader.source goes) (stands-for x found.0 at stands);
+        reader = handed-reader client k s.reached.slots s.reached.rest first.0 date r x.open_request p stop over at g.feed.stop found.1 st.reader quiet refl found.3 first.2 (goes-on_more (Some client) k.feed p st.reader.source goes) (stands-for x found.0 (place_feed g.feed.stop found.1) at stands);
         output = output-waiting before k.sink k.output_ended s.reached.slots date r s.flushed s.failure st.output;
       },
       inl (true, tt, subst G (sym is) (refl, refl, (ap (λ z. Handed z (head_message h) (head_framing h)) end_reported, refl))),
@@ -345,7 +349,7 @@ end-reader client before k s p stop over at rest st quiet goes =
     let source = goes-on_more (Some client) k.feed p st.reader.source goes in
     let f = stated-feed client p source in
     let P : Option Feed → Type 0 = λ y. GivesRest (last_body k.requests) (last_slot s.reached.slots) y in
-    record { settled = st.reader.settled; gives = subst P (sym f.1) (gives-settled (last_slot s.reached.slots) (last_body k.requests) f.0 (last-of client before k s st) quiet.0); next = λ e. cc; source = source }
+    record { settled = st.reader.settled; gives = subst P (sym f.1) (gives-settled (last_slot s.reached.slots) (last_body k.requests) f.0 (last-of client before k s st) quiet.0); next = λ e. cc; follows = λ holds. (let no : false ≡ true = sym quiet.1 ∙ holds in cc); source = source }
 
 pub ask-over : (client : Feed) (before : Sink) (k : Kept) (s : State) (date : HttpDate) → Stands client before k s → k.asking_ended ≡ false → is_past_last k.standing ≡ true
     → StepIsAnswered client before (after_end k k.feed k.stop k.is_over k.standing) s date Ask Ended
@@ -363,7 +367,7 @@ ask-over client before k s date st e o = by (last_was_abandoned (last_slot s.rea
         held-by (last_slot slots) (last_body k.requests) (last-of client before k s st) ∙ rw last (last-awaits-none (last_slot slots) last)
 
     ended_reader : (rest : List Item) → InputStands client (after_end k k.feed k.stop k.is_over k.standing) slots rest
-    ended_reader rest = record { settled = st.reader.settled; gives = st.reader.gives; next = λ z. cc; source = st.reader.source }
+    ended_reader rest = record { settled = st.reader.settled; gives = st.reader.gives; next = λ z. cc; follows = st.reader.follows; source = st.reader.source }
 
     by : (t : Bool) → last_was_abandoned (last_slot slots) ≡ t → StepIsAnswered client before (after_end k k.feed k.stop k.is_over k.standing) s date Ask Ended
     by true l =
@@ -534,9 +538,10 @@ ask-refused client before k s date from_here status text p stop over at marks si
         in_turn = turn-more s.reached.slots n st.in_turn (refl, λ z. (let no : true ≡ false = z in cc));
         asking_ended = refl;
         reader = record {
-          settled = settled-snoc k.requests None st.reader.settled quiet.0;
+          settled = settled-snoc k.requests None st.reader.settled quiet;
           gives = subst B (sym (body-snoc k.requests None)) tt;
           next = λ z. cc;
+          follows = λ holds. subst (λ b. FollowsLast b (last_slot slots) p) (sym (body-snoc k.requests None)) tt;
           source = goes-on_more (Some client) k.feed p st.reader.source goes;
         };
         output = out.output;

@@ -14,15 +14,15 @@ use Rattle.tiny_http_stream.specs.declared.source.Standing.TheVariants as in_pla
 use Rattle.tiny_http_stream.proofs.SourceGoesOn.{goes-on_more}
 use Rattle.tiny_http_message.specs.declared.body.Body.{Body}
 use Rattle.tiny_http_message.specs.declared.exchange.HeadRead.TheVariants as read
-use Rattle.tiny_http_message.specs.HeadReads.{ReadsHead, place_feed}
-use Rattle.tiny_http_message.specs.Pipeline.{Item, Asks, Refuses, Place, Pipeline}
+use Rattle.tiny_http_message.specs.HeadReads.{ReadsHead}
+use Rattle.tiny_http_message.specs.Pipeline.{Item, Asks, Refuses, Place, Pipeline, place_feed}
 use Rattle.tiny_http_message.proofs.PipelineLemmas.{pipeline-first}
 use Rattle.tiny_http_turns.specs.Turns.{Mark, first_unfinished}
 use Rattle.tiny_http_core.specs.Slots.{Slot, is_finished, is_slot_broken, segment, joined, is_output_broken, new_slot, turn_has_come, last_slot, last_holds_reader, last_was_abandoned, is_last_slot}
 use Rattle.tiny_http_core.specs.Steps.{Ask, ReplyValue, Ended, Memory, WriterUse, Unused, Unreported, Outcome, Reached, use_in_turn, ask, asks_from}
 use Rattle.tiny_http_core.specs.Conversation.{Failure, State, IsPassedOver, PlaceAt, Fares, Well, FailsWithin, FailsAfter, MayFare, WriterPart, reply_in, failure_in, has_output_ended, flushed_after, answers_to, HasOutcome, StepsTo}
 use Rattle.tiny_http_core.specs.Pending.{LeavesText, last_body, is_streaming_body}
-use Rattle.tiny_http_core.specs.Connection.{Kept, OutputAt, behind_body, GivesRest, InputEnded, is_past_last, is_in_body, InputStands, Stands}
+use Rattle.tiny_http_core.specs.Connection.{Kept, OutputAt, behind_body, GivesRest, InputEnded, is_past_last, is_in_body, InputStands, Stands, FollowsLast}
 use Rattle.tiny_http_core.proofs.SlotsLemmas.{joined-waits}
 use Rattle.tiny_http_core.proofs.ConversationWriting.{unreported, flushed-is}
 use Rattle.tiny_http_core.proofs.ConnectionAsk.{StepIsAnswered, IsQuiet, going, ask-goes, handed-place, turn-next, refused-whole, refused-text, refuses}
@@ -292,7 +292,7 @@ after_passed k marks p stop over at sink ended = record k { marks = marks; reque
 
 -- the input stands in front of the next head
 passed-reader : (client : Feed) (k : Kept) (slots : List Slot) (rest more : List Item) (n : Slot) (p : Option Feed) (stop : Option Stop) (over : Bool) (at : Standing) (marks : List Mark) (sink : Sink) (ended : Bool) (close : Stop) (next : Place)
-    → InputStands client k slots rest → is_streaming_body (last_body k.requests) ≡ false → is_last_slot (Some n) ≡ false → last_was_abandoned (Some n) ≡ false
+    → InputStands client k slots rest → IsQuiet k.requests → is_last_slot (Some n) ≡ false → last_was_abandoned (Some n) ≡ false
     → p ≡ Some (place_feed close next) → Pipeline k.profile next close more → GoesOn (Some client) p → at ≡ in_place.Head
     → InputStands client (after_passed k marks p stop over at sink ended) (slots ++ (n ∷ [])) more
 passed-reader client k slots rest more n p stop over at marks sink ended close next old quiet unread unlost here items source stands =
@@ -310,6 +310,7 @@ passed-reader client k slots rest more n p stop over at marks sink ended close n
         lost = λ lost. (let no : true ≡ false = sym lost ∙ (ap last_was_abandoned last ∙ unlost) in cc);
         place = λ e. subst Q (sym content) (subst (λ y. F y p) (sym (ap is_past_last stands)) (subst (λ o. F false o) (sym here) (handed-place k.profile false close next more items)));
       };
+      follows = λ holds. subst (λ b. FollowsLast b (last_slot (slots ++ (n ∷ []))) p) (sym content) tt;
       source = source;
     }
 
@@ -424,7 +425,7 @@ ask-passes client before k s date from_here status text p stop over at marks sin
         shape = out.shape;
         in_turn = turn-more s.reached.slots n st.in_turn (refl, λ z. (let no : true ≡ false = z in cc));
         asking_ended = sym e;
-        reader = passed-reader client k s.reached.slots s.reached.rest first.0 n p stop over at marks sink ended g.feed.stop found.3 st.reader quiet.0 refl refl found.7 first.2 (goes-on_more (Some client) k.feed p st.reader.source goes) head;
+        reader = passed-reader client k s.reached.slots s.reached.rest first.0 n p stop over at marks sink ended g.feed.stop found.3 st.reader quiet refl refl found.7 first.2 (goes-on_more (Some client) k.feed p st.reader.source goes) head;
         output = out.output;
       };
       asks = λ later reply a. ask-from-behind client before later s mid date item first.0 t reply passes refl refl refl first.1 (st.asking_ended ∙ e) more g.unheld g.kept is a;

@@ -21,12 +21,12 @@ use Rattle.tiny_http_message.specs.Body.{body_finished}
 use Rattle.tiny_http_core.specs.Steps.{finished_as}
 use Rattle.tiny_http_core.specs.Conversation.{PlaceAt}
 use Rattle.tiny_http_message.specs.Body.{Remaining, remaining, is_streaming, body_standing, Fits, GivesUp}
-use Rattle.tiny_http_core.specs.Pending.{kept_body, last_body, is_streaming_body}
-use Rattle.tiny_http_core.specs.Connection.{Kept, open_slot, IsOpen, IsSettled, AreSettled, behind_body, slot_rest, GivesRest, is_past_last, is_in_body, NextHead, InputStands}
+use Rattle.tiny_http_core.specs.Pending.{last_holds_next_head, kept_body, last_body, is_streaming_body, holds_next_head_at}
+use Rattle.tiny_http_core.specs.Connection.{Kept, open_slot, IsOpen, IsSettled, AreSettled, behind_body, slot_rest, GivesRest, is_past_last, is_in_body, NextHead, InputStands, FollowsLast, behind_item}
 use Rattle.tiny_http_stream.proofs.SourceGoesOn.{goes-on_more}
 use Rattle.tiny_http_core.proofs.ConnectionAsk.{stated-feed}
 use Rattle.tiny_http_message.proofs.BodyReads.{gives-up}
-use Rattle.tiny_http_core.proofs.ConnectionReader.{last-snoc, body-snoc, last-within, body-within, settled-place, settled-set, waiting-kept, and-false}
+use Rattle.tiny_http_core.proofs.ConnectionReader.{holds-snoc, holds-within, bodiless-free, last-snoc, body-snoc, last-within, body-within, settled-place, settled-set, waiting-kept, and-false}
 
 -- the input and the bodies, after a step of a number
 abbrev pub with_reader : Kept → List (Option Unfinished) → {R : Type 0} → SourceState R → Kept
@@ -40,16 +40,16 @@ over-kept WithHead n given end_reported h lost = cc
 over-kept Counted n given end_reported h lost = cc
 
 -- after a chunked body that was given up before its end no head follows
-lost-chunked : {R : Type 0} (b : Body) (old new : SourceState R) (f : Feed) (r : Request) (given : ℕ) (end_reported : Bool) → Fits b r.framing.form (body_length_or_0 r.framing) given end_reported → GivesUp b old new → old.feed ≡ Some f
+lost-chunked : {R : Type 0} (b : Body) (old new : SourceState R) (f : Feed) (r : Request) (given : ℕ) (end_reported : Bool) → Fits r.framing.by_standard b r.framing.form (body_length_or_0 r.framing) given end_reported → GivesUp b old new → old.feed ≡ Some f
     → (is_chunked r.framing.form && not end_reported) ≡ true → ((new.is_over ≡ true) × (new.stop ≡ Some End)) × (new.feed ≡ Some (stopped End))
 lost-chunked {R = R} (body.Chunked d) old new f r given end_reported fits h e lost = (h.1, h.0 ∙ ap (λ (o : Option Feed). option_map (λ _. stopped End) o) e)
-lost-chunked {R = R} (body.Counted left) old new f r given end_reported fits h e lost = let no : true ≡ false = sym lost ∙ rw fits.0 refl in cc
+lost-chunked {R = R} (body.Counted left by_standard) old new f r given end_reported fits h e lost = let no : true ≡ false = sym lost ∙ rw fits.0 refl in cc
 lost-chunked {R = R} (body.WithHead bytes) old new f r given end_reported fits h e lost = let no : true ≡ false = sym lost ∙ rw fits refl in cc
 lost-chunked {R = R} body.Rest old new f r given end_reported fits h e lost = let no : true ≡ false = sym lost ∙ rw fits.0 refl in cc
 lost-chunked {R = R} (body.Over stop) old new f r given end_reported fits h e lost = absurd (over-kept r.framing.form (body_length_or_0 r.framing) given end_reported fits lost)
 
 -- where the next head is read after a body that was given up
-given-place : {R : Type 0} (profile : Profile) (b : Body) (old new : SourceState R) (f : Feed) (r : Request) (given : ℕ) (end_reported over : Bool) (rest : List Item) → Fits b r.framing.form (body_length_or_0 r.framing) given end_reported → GivesUp b old new → old.feed ≡ Some f
+given-place : {R : Type 0} (profile : Profile) (b : Body) (old new : SourceState R) (f : Feed) (r : Request) (given : ℕ) (end_reported over : Bool) (rest : List Item) → Fits r.framing.by_standard b r.framing.form (body_length_or_0 r.framing) given end_reported → GivesUp b old new → old.feed ≡ Some f
     → (is_streaming b ≡ false → (g : Feed) → behind_body (Some b) (Some g) ≡ Some g) → (is_chunked r.framing.form && not end_reported) ≡ false → (r.framing.form ≡ Rest → over ≡ true) → PlaceAt profile over (behind_body (Some b) old.feed) rest → PlaceAt profile over new.feed rest
 given-place profile b old new f r given end_reported true rest fits h e quiet kept ends place = place
 given-place {R = R} profile (body.Over stop) old new f r given end_reported false rest fits h e quiet kept ends place =
@@ -58,9 +58,9 @@ given-place {R = R} profile (body.Over stop) old new f r given end_reported fals
 given-place {R = R} profile (body.WithHead bytes) old new f r given end_reported false rest fits h e quiet kept ends place =
     let P : Option Feed → Type 0 = λ o. PlaceAt profile false o rest in
     subst P (ap (behind_body (Some (body.WithHead bytes))) e ∙ quiet refl f ∙ sym e ∙ ap (λ (x : SourceState R). x.feed) (sym h)) place
-given-place {R = R} profile (body.Counted left) old new f r given end_reported false rest fits h e quiet kept ends place =
+given-place {R = R} profile (body.Counted left by_standard) old new f r given end_reported false rest fits h e quiet kept ends place =
     let P : Option Feed → Type 0 = λ o. PlaceAt profile false o rest in
-    let skips : behind_body (Some (body.Counted left)) old.feed ≡ option_map (skipped left) old.feed = rw e refl in
+    let skips : behind_body (Some (body.Counted left by_standard)) old.feed ≡ option_map (skipped left) old.feed = rw e refl in
     subst P (skips ∙ sym h.0) place
 given-place {R = R} profile (body.Chunked d) old new f r given end_reported false rest fits h e quiet kept ends place =
     let no : true ≡ false = rw (fits.0, fits.1) refl ∙ kept in cc
@@ -113,20 +113,20 @@ given-past : {R : Type 0} (b : Body) (old new : SourceState R) → GivesUp b old
 given-past {R = R} (body.Over stop) old new h = ap (λ (x : SourceState R). is_past_last x.standing) h
 given-past {R = R} (body.WithHead bytes) old new h = ap (λ (x : SourceState R). is_past_last x.standing) h
 given-past {R = R} body.Rest old new h = ap (λ (x : SourceState R). is_past_last x.standing) h
-given-past (body.Counted left) old new h = ap is_past_last h.1 ∙ past-body old.standing
+given-past (body.Counted left by_standard) old new h = ap is_past_last h.1 ∙ past-body old.standing
 given-past (body.Chunked d) old new h = ap is_past_last h.2 ∙ past-loss old.standing
 
 given-within : {R : Type 0} (b : Body) (old new : SourceState R) (last : Bool) → GivesUp b old new → (b ≡ body.Rest → last ≡ true) → is_in_body old.standing ≡ (not last && is_streaming b) → is_in_body new.standing ≡ false
 given-within {R = R} (body.Over stop) old new last h ends e = ap (λ (x : SourceState R). is_in_body x.standing) h ∙ e ∙ and-false (not last)
 given-within {R = R} (body.WithHead bytes) old new last h ends e = ap (λ (x : SourceState R). is_in_body x.standing) h ∙ e ∙ and-false (not last)
-given-within (body.Counted left) old new last h ends e = ap is_in_body h.1 ∙ out-body old.standing
+given-within (body.Counted left by_standard) old new last h ends e = ap is_in_body h.1 ∙ out-body old.standing
 given-within (body.Chunked d) old new last h ends e = ap is_in_body h.2 ∙ out-loss old.standing
 given-within {R = R} body.Rest old new last h ends e = ap (λ (x : SourceState R). is_in_body x.standing) h ∙ e ∙ ap (λ x. not x && true) (ends refl)
 
 -- a body that is all the rest of the input is that of a request of that form
-rest-form : (b : Body) (r : Request) (given : ℕ) (end_reported : Bool) → Fits b r.framing.form (body_length_or_0 r.framing) given end_reported → b ≡ body.Rest → r.framing.form ≡ Rest
+rest-form : (b : Body) (r : Request) (given : ℕ) (end_reported : Bool) → Fits r.framing.by_standard b r.framing.form (body_length_or_0 r.framing) given end_reported → b ≡ body.Rest → r.framing.form ≡ Rest
 rest-form b r given end_reported fits e =
-    let F : Body → Type 0 = λ x. Fits x r.framing.form (body_length_or_0 r.framing) given end_reported in
+    let F : Body → Type 0 = λ x. Fits r.framing.by_standard x r.framing.form (body_length_or_0 r.framing) given end_reported in
     (subst F e fits).0
 
 -- the same after a read
@@ -138,7 +138,7 @@ stands-by : (c : Body) (p : Standing) (last : Bool) → is_in_body p ≡ (not la
 stands-by (body.Over End) p last e = record { past = past-body p; within = out-body p ∙ sym (and-false (not last)) }
 stands-by (body.Over (Faults kind)) p last e = record { past = past-fault kind p; within = out-fault kind p ∙ sym (and-false (not last)) }
 stands-by (body.WithHead bytes) p last e = record { past = past-body p; within = out-body p ∙ sym (and-false (not last)) }
-stands-by (body.Counted left) p last e = record { past = refl; within = e }
+stands-by (body.Counted left by_standard) p last e = record { past = refl; within = e }
 stands-by (body.Chunked d) p last e = record { past = refl; within = e }
 stands-by body.Rest p last e = record { past = refl; within = e }
 
@@ -156,7 +156,7 @@ stands-on b c p q last goes settled stays e = by (is_streaming b) refl
 given-same : {R : Type 0} (b : Body) (old new : SourceState R) → GivesUp b old new → is_streaming b ≡ false → new ≡ old
 given-same (body.Over stop) old new h e = h
 given-same (body.WithHead bytes) old new h e = h
-given-same (body.Counted left) old new h e = cc
+given-same (body.Counted left by_standard) old new h e = cc
 given-same (body.Chunked d) old new h e = cc
 given-same body.Rest old new h e = cc
 
@@ -189,10 +189,14 @@ reader-within client k source bs cs us vs rest s t c v x u from reader is quiet 
     let A : List (Option Unfinished) → Type 0 = λ l. AreSettled l in
     let G : Option Body → Option Slot → Option Feed → Type 0 = λ b o f. GivesRest b o f in
     let S : Option Feed → Type 0 = λ f. GoesOn (Some client) f in
+    let L : Option Body → Option Slot → Option Feed → Type 0 = λ b o f. FollowsLast b o f in
     record {
       settled = settled-set us u x (v ∷ vs) (subst A is reader.settled) (inl quiet);
       gives = subst (λ b. G b (last_slot (bs ++ (t ∷ (c ∷ cs)))) source.feed) (sym content) (subst (λ o. G (last_body k.requests) o source.feed) (sym last) (subst (λ f. G (last_body k.requests) (last_slot (bs ++ (s ∷ (c ∷ cs)))) f) from.feed reader.gives));
       next = λ e. next-same k (with_reader k (us ++ (x ∷ (v ∷ vs))) source) (last_slot (bs ++ (s ∷ (c ∷ cs)))) (last_slot (bs ++ (t ∷ (c ∷ cs)))) rest refl (sym from.standing) (ap is_last_slot last) (ap last_was_abandoned last) content (sym from.feed) (sym from.stop) (sym from.ends) (reader.next e);
+      follows = λ holds.
+          let held : last_holds_next_head k.requests ≡ true = ap last_holds_next_head is ∙ sym (holds-within us x u v vs) ∙ holds in
+          subst (λ b. L b (last_slot (bs ++ (t ∷ (c ∷ cs)))) source.feed) (sym content) (subst (λ o. L (last_body k.requests) o source.feed) (sym last) (subst (λ f. L (last_body k.requests) (last_slot (bs ++ (s ∷ (c ∷ cs)))) f) from.feed (reader.follows held)));
       source = subst S from.feed reader.source;
     }
 
@@ -205,6 +209,7 @@ pub record LastWaits {R : Type 0} (k : Kept) (source : SourceState R) (bs : List
   pub is_last : k.asking_ended ≡ false → is_past_last source.standing ≡ is_last_item s.item
   pub within : k.asking_ended ≡ false → is_in_body source.standing ≡ (not (is_last_item s.item) && is_streaming b)
   pub place : k.asking_ended ≡ false → PlaceAt k.profile (is_past_last source.standing) (behind_body (Some b) source.feed) rest
+  pub follows : last_holds_next_head k.requests ≡ true → behind_body (Some b) source.feed ≡ Some (behind_item s.item)
 
 pub last-waits : {R : Type 0} (client : Feed) (k : Kept) (source : SourceState R) (bs : List Slot) (us : List (Option Unfinished)) (rest : List Item) (s : Slot) (u : Option Unfinished) (b : Body) → IsOpen s b → kept_body u ≡ Some b → IsInput k source → InputStands client k (bs ++ (s ∷ [])) rest → k.requests ≡ us ++ (u ∷ [])
     → LastWaits k source bs s b rest
@@ -216,6 +221,7 @@ last-waits client k source bs us rest s u b h has from reader is =
     let P : Bool → Option Body → Option Feed → Type 0 = λ x y z. PlaceAt k.profile x (behind_body y z) rest in
     let over : is_past_last k.standing ≡ is_past_last source.standing = ap is_past_last from.standing in
     let W : Option Slot → Option Body → Bool = λ x y. not (is_last_slot x) && is_streaming_body y in
+    let L : Option Body → Option Slot → Option Feed → Type 0 = λ b o f. FollowsLast b o f in
     record {
       feed = f.0;
       stated = sym from.feed ∙ f.1;
@@ -224,6 +230,7 @@ last-waits client k source bs us rest s u b h has from reader is =
       is_last = λ e. sym over ∙ (reader.next e).is_last ∙ ap is_last_slot last;
       within = λ e. ap is_in_body (sym from.standing) ∙ (reader.next e).within ∙ ap (λ x. W x (last_body k.requests)) last ∙ ap (λ y. W (Some s) y) content;
       place = λ e. subst (λ x. P x (Some b) source.feed) over (subst (λ z. P (is_past_last k.standing) (Some b) z) from.feed (subst (λ y. P (is_past_last k.standing) y k.feed) content ((reader.next e).place (ap last_was_abandoned last ∙ waiting-kept s b h))));
+      follows = λ e. subst (λ b. L b (Some s) source.feed) content (subst (λ o. L (last_body k.requests) o source.feed) last (subst (λ z. L (last_body k.requests) (last_slot (bs ++ (s ∷ []))) z) from.feed (reader.follows e)));
     }
 
 -- the last number's body is given up
@@ -254,6 +261,7 @@ reader-last client k old new bs us rest s u x b stage h has none from reader is 
         place = λ kept. subst (λ y. P y (last_body (us ++ (x ∷ [])))) (sym past) (subst (λ y. P (is_past_last old.standing) y) (sym content)
             (given-place k.profile b old new l.feed r h.given h.end_reported (is_past_last old.standing) rest h.fits gives l.stated (λ quiet f. ap B (h.settled quiet f)) (sym (ap last_was_abandoned last) ∙ kept) (λ form. l.is_last e ∙ item_last ∙ h.rest_is_last form) (l.place e)));
       };
+      follows = λ holds. subst (λ b. FollowsLast b (last_slot (bs ++ (t ∷ []))) new.feed) (sym content) tt;
       source = goes-on_more (Some client) k.feed new.feed reader.source (subst S (sym from.feed) (gives-up b old new gives));
     }
 
@@ -267,41 +275,55 @@ reader-given_up client k old new bs [] us (v ∷ vs) rest s u x b stage h has no
 reader-given_up client k old new bs (c ∷ cs) us [] rest s u x b stage h has none from reader is same gives = absurd (omega (arith, same))
 reader-given_up {R = R} client k old new bs (c ∷ cs) us (v ∷ vs) rest s u x b stage h has none from reader is same gives =
     let A : List (Option Unfinished) → Type 0 = λ y. AreSettled y in
-    let quiet : is_streaming b ≡ false = ap is_streaming_body (sym has) ∙ settled-place us u v vs (subst A is reader.settled) in
+    let quiet : is_streaming b ≡ false = ap is_streaming_body (sym has) ∙ (settled-place us u v vs (subst A is reader.settled)).0 in
     let t = finished_as (open_slot h.handed h.request h.given h.end_reported) stage in
     let P : SourceState R → Type 0 = λ y. InputStands client (with_reader k (us ++ (x ∷ (v ∷ vs))) y) (bs ++ (t ∷ (c ∷ cs))) rest in
-    subst P (sym (given-same b old new gives quiet)) (reader-within client k old bs cs us vs rest s t c v x u from reader is (ap is_streaming_body none))
+    subst P (sym (given-same b old new gives quiet)) (reader-within client k old bs cs us vs rest s t c v x u from reader is (ap is_streaming_body none, bodiless-free x none))
 
 -- two slots which the input doesn't tell apart
 pub record Alike (s t : Slot) : Type 0 where
   pub last : is_last_slot (Some t) ≡ is_last_slot (Some s)
   pub abandoned : last_was_abandoned (Some t) ≡ last_was_abandoned (Some s)
   pub left : slot_rest t ≡ slot_rest s
+  pub behind : behind_item t.item ≡ behind_item s.item
 
 gives-alike : (b : Option Body) (s t : Slot) (f : Option Feed) → slot_rest t ≡ slot_rest s → GivesRest b (Some s) f → GivesRest b (Some t) f
 gives-alike None s t f e h = tt
 gives-alike (Some b) s t f e h = h ∙ ap Some (sym e)
 
+follows-alike : (s t : Slot) → behind_item t.item ≡ behind_item s.item → (b : Option Body) (f : Option Feed) → FollowsLast b (Some s) f → FollowsLast b (Some t) f
+follows-alike s t e None f h = tt
+follows-alike s t e (Some b) f h = h ∙ ap Some (sym e)
+
+still-true : (a b : Bool) → (a ≡ false → b ≡ false) → b ≡ true → a ≡ true
+still-true true b f e = refl
+still-true false b f e = let no : false ≡ true = sym (f refl) ∙ e in cc
+
 -- a step of a number that leaves its body and the input
 pub reader-alike : {R : Type 0} (client : Feed) (k : Kept) (source : SourceState R) (bs cs : List Slot) (us vs : List (Option Unfinished)) (rest : List Item) (s t : Slot) (u x : Option Unfinished) → IsInput k source → InputStands client k (bs ++ (s ∷ cs)) rest → k.requests ≡ us ++ (u ∷ vs) → length cs ≡ length vs
-    → kept_body x ≡ kept_body u → Alike s t → InputStands client (with_reader k (us ++ (x ∷ vs)) source) (bs ++ (t ∷ cs)) rest
-reader-alike client k source bs [] us (v ∷ vs) rest s t u x from reader is same body alike = absurd (omega (arith, same))
-reader-alike client k source bs (c ∷ cs) us [] rest s t u x from reader is same body alike = absurd (omega (arith, same))
-reader-alike client k source bs (c ∷ cs) us (v ∷ vs) rest s t u x from reader is same body alike =
+    → kept_body x ≡ kept_body u → (holds_next_head_at (Some u) ≡ false → holds_next_head_at (Some x) ≡ false) → Alike s t → InputStands client (with_reader k (us ++ (x ∷ vs)) source) (bs ++ (t ∷ cs)) rest
+reader-alike client k source bs [] us (v ∷ vs) rest s t u x from reader is same body keeps alike = absurd (omega (arith, same))
+reader-alike client k source bs (c ∷ cs) us [] rest s t u x from reader is same body keeps alike = absurd (omega (arith, same))
+reader-alike client k source bs (c ∷ cs) us (v ∷ vs) rest s t u x from reader is same body keeps alike =
     let A : List (Option Unfinished) → Type 0 = λ y. AreSettled y in
-    reader-within client k source bs cs us vs rest s t c v x u from reader is (ap is_streaming_body body ∙ settled-place us u v vs (subst A is reader.settled))
-reader-alike client k source bs [] us [] rest s t u x from reader is same body alike =
+    reader-within client k source bs cs us vs rest s t c v x u from reader is (let q = settled-place us u v vs (subst A is reader.settled) in (ap is_streaming_body body ∙ q.0, keeps q.1))
+reader-alike client k source bs [] us [] rest s t u x from reader is same body keeps alike =
     let was : last_slot (bs ++ (s ∷ [])) ≡ Some s = last-snoc None bs s in
     let last : last_slot (bs ++ (t ∷ [])) ≡ Some t = last-snoc None bs t in
     let content : last_body (us ++ (x ∷ [])) ≡ last_body k.requests = body-snoc us x ∙ body ∙ sym (body-snoc us u) ∙ ap last_body (sym is) in
     let A : List (Option Unfinished) → Type 0 = λ y. AreSettled y in
     let G : Option Body → Option Slot → Option Feed → Type 0 = λ b o f. GivesRest b o f in
     let S : Option Feed → Type 0 = λ f. GoesOn (Some client) f in
+    let L : Option Body → Option Slot → Option Feed → Type 0 = λ b o f. FollowsLast b o f in
     let gives = subst (λ o. G (last_body k.requests) o k.feed) was reader.gives in
     record {
       settled = settled-set us u x [] (subst A is reader.settled) (inr refl);
       gives = subst (λ b. G b (last_slot (bs ++ (t ∷ []))) source.feed) (sym content) (subst (λ o. G (last_body k.requests) o source.feed) (sym last) (subst (λ f. G (last_body k.requests) (Some t) f) from.feed (gives-alike (last_body k.requests) s t k.feed alike.left gives)));
       next = λ e. next-same k (with_reader k (us ++ (x ∷ [])) source) (last_slot (bs ++ (s ∷ []))) (last_slot (bs ++ (t ∷ []))) rest refl (sym from.standing) (ap is_last_slot last ∙ alike.last ∙ ap is_last_slot (sym was)) (ap last_was_abandoned last ∙ alike.abandoned ∙ ap last_was_abandoned (sym was)) content (sym from.feed) (sym from.stop)
           (sym from.ends) (reader.next e);
+      follows = λ holds.
+          let held : last_holds_next_head k.requests ≡ true = ap last_holds_next_head is ∙ holds-snoc us u ∙ still-true (holds_next_head_at (Some u)) (holds_next_head_at (Some x)) keeps (sym (holds-snoc us x) ∙ holds) in
+          let were : L (last_body k.requests) (Some s) k.feed = subst (λ o. L (last_body k.requests) o k.feed) was (reader.follows held) in
+          subst (λ b. L b (last_slot (bs ++ (t ∷ []))) source.feed) (sym content) (subst (λ o. L (last_body k.requests) o source.feed) (sym last) (subst (λ f. L (last_body k.requests) (Some t) f) from.feed (follows-alike s t alike.behind (last_body k.requests) k.feed were)));
       source = subst S from.feed reader.source;
     }

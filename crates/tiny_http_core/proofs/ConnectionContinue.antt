@@ -19,7 +19,7 @@ use Rattle.tiny_http_core.specs.Steps.{AsReader, Done, NotYet, Unreported, Outco
 use Rattle.tiny_http_core.specs.Conversation.{State, flushed_after, WriterPart, HasOutcome}
 use Rattle.tiny_http_core.specs.declared.pending.Unfinished.{Unfinished}
 use Rattle.tiny_http_core.specs.declared.pending.Unfinished.TheVariants as still
-use Rattle.tiny_http_core.specs.Connection.{Kept, HandedOut, open_slot, IsWaiting, AreSentInTurn, AreKept, OutputAt, slot_rest, InputStands, Stands}
+use Rattle.tiny_http_core.specs.Connection.{Kept, HandedOut, open_slot, IsWaiting, AreSentInTurn, AreKept, OutputAt, slot_rest, InputStands, Stands, behind_item}
 use Rattle.tiny_http_core.proofs.SlotsLemmas.{breaks-waits}
 use Rattle.tiny_http_core.proofs.ConversationWriting.{unreported, flushed-is}
 use Rattle.tiny_http_core.proofs.ConnectionAsk.{StepIsAnswered, step-unchanged}
@@ -77,6 +77,7 @@ still-waiting date s w h = record {
   owed = refl;
   holds = h.holds;
   standard = h.standard;
+  upgrades = h.upgrades;
   connect = h.connect;
   unsent = λ owed. (let no : false ≡ true = owed in cc);
   rest_is_last = h.rest_is_last;
@@ -122,6 +123,7 @@ continue-done {R = R} client before k s date n w context new ended final request
       last = ap (λ (x : Slot). is_last_slot (Some x)) (sym h.is);
       abandoned = sym (waiting-kept p.s w.body (open-waiting p.s w h) ∙ sym (and-false (is_chunked h.request.framing.form)));
       left = ap slot_rest (sym h.is);
+      behind = ap (λ (x : Slot). behind_item x.item) (sym h.is);
     }
 
     requests_now : requests ≡ p.us ++ (Some (still.Waiting (unowed w)) ∷ p.vs)
@@ -131,7 +133,7 @@ continue-done {R = R} client before k s date n w context new ended final request
     reader =
         let P : List Slot → Type 0 = λ l. InputStands client k l s.reached.rest in
         let Q : List (Option Unfinished) → Type 0 = λ q. InputStands client (with_reader k q source) slots s.reached.rest in
-        subst Q (sym requests_now) (reader-alike client k source p.bs p.cs p.us p.vs s.reached.rest p.s s1 (Some (still.Waiting w)) (Some (still.Waiting (unowed w))) from (subst P p.slots_are st.reader) p.requests_are (kept-many p.cs p.rs p.vs p.behind) refl alike)
+        subst Q (sym requests_now) (reader-alike client k source p.bs p.cs p.us p.vs s.reached.rest p.s s1 (Some (still.Waiting w)) (Some (still.Waiting (unowed w))) from (subst P p.slots_are st.reader) p.requests_are (kept-many p.cs p.rs p.vs p.behind) refl (λ e. e) alike)
 
     printed : printing_in context date ≡ to_request h.request date
     printed = ap (λ c. printing_in c date) (sym context_is ∙ h.answer_context)

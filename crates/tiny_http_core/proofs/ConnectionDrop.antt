@@ -1,22 +1,21 @@
 -- A Drop: from where the connection stands to where it stands after it.
+use Rattle.tiny_http_standard.specs.Judging.{names_protocol}
 use Rattle.std.proofs.Common.{◌≡◌, refl, sym, ap, ◌∙◌, subst, ℕ, ◌-◌, ◌<◌, ◌^◌, Bool, true, false, ◌&&◌, ◌||◌, List, ◌∷◌, ◌++◌, length, Option, Some, None, append-nil}
-use Rattle.std.specs.Prelude.{◌==◌, slice_get, slice_set}
-use Rattle.std.specs.List.{list_all}
-use Rattle.tiny_http_wire.specs.Bytes.{is_ascii}
+use Rattle.std.specs.Prelude.{◌==◌, slice_get, slice_set, is_err}
 use Rattle.tiny_http_sending.specs.ResponseValue.{ResponseValue}
 use Rattle.httpdate.specs.declared.date.HttpDate.{HttpDate}
 use Rattle.tiny_http_wire.specs.Device.{Feed, Sink}
 use Rattle.tiny_http_message.specs.declared.body.Body.{Body}
 use Rattle.tiny_http_message.specs.declared.open_request.OpenRequest.{OpenRequest}
-use Rattle.tiny_http_message.specs.Pipeline.{Asks, Request, is_connect_method}
-use Rattle.tiny_http_message.specs.OpenRequest.{refuses_code}
-use Rattle.tiny_http_message.specs.Body.{GivesUp}
+use Rattle.tiny_http_message.specs.Pipeline.{Asks, Request, is_connect_method, body_length_or_0}
+use Rattle.tiny_http_message.specs.OpenRequest.{refuses_code, upgrade_check, request_check}
+use Rattle.tiny_http_message.specs.Body.{GivesUp, is_whole, body_finished}
 use Rattle.tiny_http_sending.specs.Sending.{CanSend}
 use Rattle.tiny_http_stream.specs.Source.{SourceState}
 use Rattle.tiny_http_turns.specs.Turns.{Mark, Open, first_unfinished}
 use Rattle.tiny_http_core.specs.declared.pending.Unfinished.{Unfinished}
 use Rattle.tiny_http_core.specs.declared.pending.Unfinished.TheVariants as still
-use Rattle.tiny_http_core.specs.Slots.{Slot, Unanswered, Answered as AnsweredBy, ByServer, Raw, Upgraded, opening, segment, is_last_without_continue, refuses_response, turn_has_come}
+use Rattle.tiny_http_core.specs.Slots.{Slot, Unanswered, Answered as AnsweredBy, ByServer, Raw, Upgraded, opening, segment, is_last_without_continue, refuses_response, turn_has_come, asks_protocol, is_end, is_body_whole, refuses_upgrade}
 use Rattle.tiny_http_core.specs.Steps.{StepValue, ReplyValue, Respond, Upgrade, Drop, Done, Refused, Reached, changes, ends_asking, use_in_turn, at_slot, outcome}
 use Rattle.tiny_http_core.specs.Conversation.{State}
 use Rattle.tiny_http_core.specs.Pending.{LeavesText}
@@ -25,7 +24,7 @@ use Rattle.tiny_http_core.proofs.ConnectionAsk.{StepIsAnswered, dropped-whole}
 use Rattle.tiny_http_core.proofs.ConnectionBody.{IsInput, with_reader, reader-given_up}
 use Rattle.tiny_http_core.proofs.ConnectionKept.{kept-many, KeptAt, place-of}
 use Rattle.tiny_http_core.proofs.ConnectionLeaving.{EndsAs, leave-done}
-use Rattle.tiny_http_core.proofs.ConnectionReader.{open-waiting}
+use Rattle.tiny_http_core.proofs.ConnectionReader.{open-waiting, waiting-whole}
 use Rattle.tiny_http_core.proofs.ConnectionRespond.{NeedsWaiting, slot-at, after_number, with_asking_ended, neither, both-end, lacks-same}
 
 pub drop-not_taken : (n : ℕ) → NeedsWaiting (Drop n)
@@ -57,12 +56,14 @@ reader-dropped client k s n w p old source from reader gives =
     reader-given_up client k old source p.bs p.cs p.us p.vs s.reached.rest p.s (Some (still.Waiting w)) None w.body ByServer (open-waiting p.s w p.waiting) refl refl from (subst P p.slots_are reader) p.requests_are (kept-many p.cs p.rs p.vs p.behind) gives
 
 -- what tells whether an answer to a request is refused
-abbrev pub IsKeptOf : OpenRequest Body → Request → Type 0
-IsKeptOf w r = (w.by_standard ≡ r.framing.by_standard) × (w.is_connect ≡ is_connect_method r.message.method)
+abbrev pub IsKeptOf : OpenRequest Body → Request → ℕ → Bool → Type 0
+IsKeptOf w r given end_reported =
+    (w.by_standard ≡ r.framing.by_standard) × (w.is_connect ≡ is_connect_method r.message.method) × ((protocol : List ℕ) → (w.holds_next_head && names_protocol w.upgrades.items protocol) ≡ asks_protocol r protocol)
+    × ((body_finished r.framing.form (body_length_or_0 r.framing) given end_reported && is_end r.body.stop) ≡ is_whole w.body)
 
 -- The request of a number that waits is dropped, by whatever step.
 pub drop-done : {R : Type 0} (client : Feed) (before : Sink) (k : Kept) (s : State) (date : HttpDate) (n : ℕ) (step : StepValue) (reply : ReplyValue) (w : OpenRequest Body) (new : Sink) (ended : Bool) (final : List Mark) (requests : List (Option Unfinished)) (old source : SourceState R)
-    → ((old : Reached) (asked : HandedOut) (r : Request) (given : ℕ) (end_reported : Bool) → IsKeptOf w r → slice_get old.slots n ≡ Some (open_slot asked r given end_reported) → outcome true date old step ≡ ends_asking (is_last_without_continue r asked.owed) (changes old n (dropped asked r given end_reported) reply (use_in_turn (turn_has_come n old.slots))))
+    → ((old : Reached) (asked : HandedOut) (r : Request) (given : ℕ) (end_reported : Bool) → IsKeptOf w r given end_reported → slice_get old.slots n ≡ Some (open_slot asked r given end_reported) → outcome true date old step ≡ ends_asking (is_last_without_continue r asked.owed) (changes old n (dropped asked r given end_reported) reply (use_in_turn (turn_has_come n old.slots))))
     → Stands client before k s → IsInput k old → GivesUp w.body old source → before.failures < 2 ^ 64 - 1 → slice_get k.requests n ≡ Some (Some (still.Waiting w)) → requests ≡ slice_set k.requests n None
     → ((front rest : List Mark) → k.marks ≡ front ++ (Open ∷ rest) → length front ≡ n → (k.output_ended ≡ false → CanSend k.sink) → LeavesText (n == first_unfinished k.marks) front rest final w.dropped.items k.output_ended k.sink new ended)
     → StepIsAnswered client before (with_asking_ended (w.by_standard && w.owes_continue) (after_number k final requests source new ended)) s date step reply
@@ -86,21 +87,31 @@ drop-done {R = R} client before k s date n step reply w new ended final requests
     is =
         let at = slot-at s.reached.slots p.bs p.cs p.s n p.slots_are p.slots_before in
         let h = p.waiting in
-        drops s.reached h.handed h.request h.given h.end_reported (h.standard, h.connect) (at.get ∙ ap Some h.is)
+        drops s.reached h.handed h.request h.given h.end_reported (h.standard, h.connect, h.upgrades, waiting-whole p.s w h) (at.get ∙ ap Some h.is)
 
--- a Drop, and an Upgrade whose protocol isn't ASCII
+-- a Drop, and an Upgrade that is refused
 pub at-drop : (date : HttpDate) (n : ℕ) (old : Reached) (asked : HandedOut) (r : Request) (given : ℕ) (end_reported : Bool) → slice_get old.slots n ≡ Some (open_slot asked r given end_reported)
     → outcome true date old (Drop n) ≡ ends_asking (is_last_without_continue r asked.owed) (changes old n (dropped asked r given end_reported) Done (use_in_turn (turn_has_come n old.slots)))
 at-drop date n old asked r given end_reported e = ap (at_slot true date old n (Drop n)) e
 
 pub at-unanswerable : (date : HttpDate) (n : ℕ) (v : ResponseValue) (w : OpenRequest Body) → refuses_code w.by_standard w.is_connect v.answer.status ≡ true
-    → (old : Reached) (asked : HandedOut) (r : Request) (given : ℕ) (end_reported : Bool) → IsKeptOf w r → slice_get old.slots n ≡ Some (open_slot asked r given end_reported)
+    → (old : Reached) (asked : HandedOut) (r : Request) (given : ℕ) (end_reported : Bool) → IsKeptOf w r given end_reported → slice_get old.slots n ≡ Some (open_slot asked r given end_reported)
     → outcome true date old (Respond n v) ≡ ends_asking (is_last_without_continue r asked.owed) (changes old n (dropped asked r given end_reported) Refused (use_in_turn (turn_has_come n old.slots)))
 at-unanswerable date n v w refused old asked r given end_reported kept e =
     let code = v.answer.status in
     let is : refuses_response r v ≡ true = ap (λ b. refuses_code b (is_connect_method r.message.method) code) (sym kept.0) ∙ ap (λ b. refuses_code w.by_standard b code) (sym kept.1) ∙ refused in
     ap (at_slot true date old n (Respond n v)) e ∙ rw is refl
 
-pub at-refused : (date : HttpDate) (n : ℕ) (protocol : List ℕ) (v : ResponseValue) → list_all is_ascii protocol ≡ false → (old : Reached) (asked : HandedOut) (r : Request) (given : ℕ) (end_reported : Bool) → slice_get old.slots n ≡ Some (open_slot asked r given end_reported)
+-- whether an upgrade is refused is known by what is kept
+pub refusal-same : (w : OpenRequest Body) (r : Request) (given : ℕ) (end_reported : Bool) (s : Slot) (protocol : List ℕ) (v : ResponseValue) → IsKeptOf w r given end_reported → s.given ≡ given → s.end_reported ≡ end_reported
+    → refuses_upgrade r s protocol v ≡ is_err (request_check w protocol v.answer.status (is_whole w.body))
+refusal-same w r given end_reported s protocol v kept g e =
+    let U : Bool → Bool → Bool → Bool = λ a b c. is_err (upgrade_check a b protocol v.answer.status c) in
+    let whole : is_body_whole r s ≡ is_whole w.body = ap (λ n. body_finished r.framing.form (body_length_or_0 r.framing) n s.end_reported && is_end r.body.stop) g ∙ ap (λ t. body_finished r.framing.form (body_length_or_0 r.framing) given t && is_end r.body.stop) e ∙ kept.3 in
+    ap (λ a. U a (asks_protocol r protocol) (is_body_whole r s)) (sym kept.0) ∙ ap (λ b. U w.by_standard b (is_body_whole r s)) (sym (kept.2 protocol)) ∙ ap (U w.by_standard (w.holds_next_head && names_protocol w.upgrades.items protocol)) whole
+
+pub at-refused : (date : HttpDate) (n : ℕ) (protocol : List ℕ) (v : ResponseValue) (w : OpenRequest Body) → is_err (request_check w protocol v.answer.status (is_whole w.body)) ≡ true
+    → (old : Reached) (asked : HandedOut) (r : Request) (given : ℕ) (end_reported : Bool) → IsKeptOf w r given end_reported → slice_get old.slots n ≡ Some (open_slot asked r given end_reported)
     → outcome true date old (Upgrade n protocol v) ≡ ends_asking (is_last_without_continue r asked.owed) (changes old n (dropped asked r given end_reported) Refused (use_in_turn (turn_has_come n old.slots)))
-at-refused date n protocol v foreign old asked r given end_reported e = ap (at_slot true date old n (Upgrade n protocol v)) e ∙ rw foreign refl
+at-refused date n protocol v w refused old asked r given end_reported kept e =
+    ap (at_slot true date old n (Upgrade n protocol v)) e ∙ rw (refusal-same w r given end_reported (open_slot asked r given end_reported) protocol v kept refl refl ∙ refused) refl

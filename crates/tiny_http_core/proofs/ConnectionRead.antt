@@ -26,15 +26,15 @@ use Rattle.tiny_http_message.specs.Body.{Remaining, remaining, taken_remaining, 
 use Rattle.tiny_http_turns.specs.Turns.{Mark, Open}
 use Rattle.tiny_http_core.specs.declared.pending.Unfinished.{Unfinished}
 use Rattle.tiny_http_core.specs.declared.pending.Unfinished.TheVariants as still
-use Rattle.tiny_http_core.specs.Pending.{kept_body, with_body, is_readable, last_body, is_streaming_body}
-use Rattle.tiny_http_core.specs.Connection.{Kept, open_slot, IsWaiting, IsOpen, IsUpgraded, IsUnfinished, AreSentInTurn, AreKept, AreSettled, behind_body, slot_rest, GivesRest, is_past_last, InputStands, Stands}
+use Rattle.tiny_http_core.specs.Pending.{last_holds_next_head, kept_body, with_body, is_readable, last_body, is_streaming_body, holds_next_head_at}
+use Rattle.tiny_http_core.specs.Connection.{Kept, open_slot, IsWaiting, IsOpen, IsUpgraded, IsUnfinished, AreSentInTurn, AreKept, AreSettled, behind_body, slot_rest, GivesRest, is_past_last, InputStands, Stands, FollowsLast, behind_item}
 use Rattle.tiny_http_stream.proofs.SourceGoesOn.{goes-on_more}
 use Rattle.tiny_http_core.proofs.ConnectionAsk.{StepIsAnswered, step-unchanged, settled-any, stated-feed}
 use Rattle.tiny_http_message.proofs.BodyReads.{stays-settled}
 use Rattle.tiny_http_core.proofs.ConnectionBody.{IsInput, StandsOn, stands-on, last-waits, with_reader, reader-within}
 use Rattle.tiny_http_core.proofs.ConnectionKept.{KeptAt, place-of, kept-append, kept-many, unfinished-is, unfinished-whole}
 use Rattle.tiny_http_core.proofs.ConnectionOutput.{output-same}
-use Rattle.tiny_http_core.proofs.ConnectionReader.{open-waiting, last-snoc, body-snoc, settled-place, settled-set, and-false}
+use Rattle.tiny_http_core.proofs.ConnectionReader.{holds-snoc, open-waiting, last-snoc, body-snoc, settled-place, settled-set, and-false}
 use Rattle.tiny_http_core.proofs.ConnectionRespond.{TakesNone, not-taken, SlotAt, slot-at, set-place}
 use Rattle.tiny_http_core.proofs.SlotsLemmas.{joined-alike, breaks-waits}
 use Rattle.tiny_http_core.proofs.ConnectionTurns.{turn-set}
@@ -90,26 +90,26 @@ still-over Chunked n given false more h = cc
 still-over Rest n given true more h = refl
 still-over Rest n given false more h = cc
 
-fits-on : (b c : Body) (form : Form) (n given m : ℕ) (end_reported more : Bool) → Fits b form n given end_reported → ReadsOn b m more c → Fits c form n (given + m) (end_reported || more)
-fits-on (body.Over stop) c form n given m end_reported more fits h =
-    let P : Body → Type 0 = λ x. Fits x form n (given + m) (end_reported || more) in
+fits-on : (standard : Bool) (b c : Body) (form : Form) (n given m : ℕ) (end_reported more : Bool) → Fits standard b form n given end_reported → ReadsOn b m more c → Fits standard c form n (given + m) (end_reported || more)
+fits-on standard (body.Over stop) c form n given m end_reported more fits h =
+    let P : Body → Type 0 = λ x. Fits standard x form n (given + m) (end_reported || more) in
     let same : given + m ≡ given = omega (arith, h.1) in
     subst P (sym h.0) (ap (λ k. body_finished form n k (end_reported || more)) same ∙ still-over form n given end_reported more fits)
-fits-on (body.WithHead bytes) (body.WithHead left) form n given m end_reported more fits h = fits
-fits-on (body.WithHead bytes) (body.Over stop) form n given m end_reported more fits h = absurd h
-fits-on (body.WithHead bytes) (body.Counted left) form n given m end_reported more fits h = absurd h
-fits-on (body.WithHead bytes) (body.Chunked d) form n given m end_reported more fits h = absurd h
-fits-on (body.WithHead bytes) body.Rest form n given m end_reported more fits h = absurd h
-fits-on (body.Counted left) c form n given m end_reported more fits h = by (more || (m == left)) refl h
+fits-on standard (body.WithHead bytes) (body.WithHead left) form n given m end_reported more fits h = fits
+fits-on standard (body.WithHead bytes) (body.Over stop) form n given m end_reported more fits h = absurd h
+fits-on standard (body.WithHead bytes) (body.Counted left by_standard) form n given m end_reported more fits h = absurd h
+fits-on standard (body.WithHead bytes) (body.Chunked d) form n given m end_reported more fits h = absurd h
+fits-on standard (body.WithHead bytes) body.Rest form n given m end_reported more fits h = absurd h
+fits-on standard (body.Counted left by_standard) c form n given m end_reported more fits h = by (more || (m == left)) refl h
   where
-    over : (c : Body) → IsBodyOver c → (more || (m == left)) ≡ true → Fits c form n (given + m) (end_reported || more)
+    over : (c : Body) → IsBodyOver c → (more || (m == left)) ≡ true → Fits standard c form n (given + m) (end_reported || more)
     over (body.Over stop) i e = rw fits.0 (at more e)
       where
         at : (t : Bool) → (t || (m == left)) ≡ true → ((given + m) == n || (end_reported || t)) ≡ true
         at true e = ap (λ x. (given + m) == n || x) (or-true end_reported) ∙ or-true ((given + m) == n)
         at false e = rw (eq-eqb (given + m) n (omega (arith, fits.1, eqb-true m left e))) refl
     over (body.WithHead bytes) i e = absurd i
-    over (body.Counted l) i e = absurd i
+    over (body.Counted l by_standard) i e = absurd i
     over (body.Chunked d) i e = absurd i
     over body.Rest i e = absurd i
 
@@ -117,34 +117,34 @@ fits-on (body.Counted left) c form n given m end_reported more fits h = by (more
     neither true b e = cc
     neither false b e = refl
 
-    by : (t : Bool) → (more || (m == left)) ≡ t → MatchBool t (IsBodyOver c) ((c ≡ body.Counted (left - m)) × (m < left)) → Fits c form n (given + m) (end_reported || more)
+    by : (t : Bool) → (more || (m == left)) ≡ t → MatchBool t (IsBodyOver c) ((c ≡ body.Counted (left - m) by_standard) × (m < left)) → Fits standard c form n (given + m) (end_reported || more)
     by true e k = over c k e
     by false e k =
-        let P : Body → Type 0 = λ x. Fits x form n (given + m) (end_reported || more) in
+        let P : Body → Type 0 = λ x. Fits standard x form n (given + m) (end_reported || more) in
         let unreported : (end_reported || more) ≡ false = rw (fits.3, neither more (m == left) e) refl in
-        subst P (sym k.0) (fits.0, omega (arith, fits.1, k.1), omega (arith, k.1), unreported)
-fits-on (body.Chunked d) c form n given m end_reported true fits h = over c h
+        subst P (sym k.0) (fits.0, omega (arith, fits.1, k.1), omega (arith, k.1), unreported, fits.4)
+fits-on standard (body.Chunked d) c form n given m end_reported true fits h = over c h
   where
-    over : (c : Body) → IsBodyOver c → Fits c form n (given + m) (end_reported || true)
+    over : (c : Body) → IsBodyOver c → Fits standard c form n (given + m) (end_reported || true)
     over (body.Over stop) i = rw (fits.0, or-true end_reported) refl
     over (body.WithHead bytes) i = absurd i
-    over (body.Counted l) i = absurd i
+    over (body.Counted l by_standard) i = absurd i
     over (body.Chunked d) i = absurd i
     over body.Rest i = absurd i
-fits-on (body.Chunked d) (body.Chunked e) form n given m end_reported false fits h = (fits.0, or-false end_reported ∙ fits.1, h ∙ fits.2)
-fits-on (body.Chunked d) (body.Over stop) form n given m end_reported false fits h = absurd h
-fits-on (body.Chunked d) (body.WithHead bytes) form n given m end_reported false fits h = absurd h
-fits-on (body.Chunked d) (body.Counted l) form n given m end_reported false fits h = absurd h
-fits-on (body.Chunked d) body.Rest form n given m end_reported false fits h = absurd h
-fits-on body.Rest c form n given m end_reported true fits h = over c h
+fits-on standard (body.Chunked d) (body.Chunked e) form n given m end_reported false fits h = (fits.0, or-false end_reported ∙ fits.1, h ∙ fits.2)
+fits-on standard (body.Chunked d) (body.Over stop) form n given m end_reported false fits h = absurd h
+fits-on standard (body.Chunked d) (body.WithHead bytes) form n given m end_reported false fits h = absurd h
+fits-on standard (body.Chunked d) (body.Counted l by_standard) form n given m end_reported false fits h = absurd h
+fits-on standard (body.Chunked d) body.Rest form n given m end_reported false fits h = absurd h
+fits-on standard body.Rest c form n given m end_reported true fits h = over c h
   where
-    over : (c : Body) → IsBodyOver c → Fits c form n (given + m) (end_reported || true)
+    over : (c : Body) → IsBodyOver c → Fits standard c form n (given + m) (end_reported || true)
     over (body.Over stop) i = rw (fits.0, or-true end_reported) refl
     over (body.WithHead bytes) i = absurd i
-    over (body.Counted l) i = absurd i
+    over (body.Counted l by_standard) i = absurd i
     over (body.Chunked d) i = absurd i
     over body.Rest i = absurd i
-fits-on body.Rest c form n given m end_reported false fits h = let P : Body → Type 0 = λ x. Fits x form n (given + m) (end_reported || false) in subst P (sym h) (fits.0, or-false end_reported ∙ fits.1)
+fits-on standard body.Rest c form n given m end_reported false fits h = let P : Body → Type 0 = λ x. Fits standard x form n (given + m) (end_reported || false) in subst P (sym h) (fits.0, or-false end_reported ∙ fits.1)
 
 -- how many bytes are given then, and whether the end is reported
 abbrev now_given : Request → ℕ → ℕ → ℕ
@@ -169,7 +169,7 @@ record ReadOn (b c : Body) (old new : Option Feed) (r : Request) (given : ℕ) (
   is : remaining c new ≡ Some x
   rest : x.body ≡ rest_of r (now_given r given n)
   behind : behind_body (Some c) new ≡ behind_body (Some b) old
-  fits : Fits c r.framing.form (body_length_or_0 r.framing) (now_given r given n) (end_now_reported r given end_reported n)
+  fits : Fits r.framing.by_standard c r.framing.form (body_length_or_0 r.framing) (now_given r given n) (end_now_reported r given end_reported n)
   reply_is : reply ≡ read_reply n (drop given r.body.bytes) r.body.stop
   stays : is_streaming b ≡ false → is_streaming c ≡ false
 
@@ -187,7 +187,7 @@ given-reply n (a ∷ left) bs stop e end = ap Given (sym e)
 abbrev B : Option Remaining → Option Feed
 B o = option_map (λ (y : Remaining). y.behind) o
 
-read-given : (b c : Body) (old new : Option Feed) (r : Request) (given : ℕ) (end_reported : Bool) (n m : ℕ) (buf : List ℕ) (y : Remaining) → remaining b old ≡ Some y → y.body ≡ rest_of r given → Fits b r.framing.form (body_length_or_0 r.framing) given end_reported
+read-given : (b c : Body) (old new : Option Feed) (r : Request) (given : ℕ) (end_reported : Bool) (n m : ℕ) (buf : List ℕ) (y : Remaining) → remaining b old ≡ Some y → y.body ≡ rest_of r given → Fits r.framing.by_standard b r.framing.form (body_length_or_0 r.framing) given end_reported
     → m ≤ length buf → length buf ≡ n → 0 < n → FillsFromBody b old c new (Ok m) buf → ReadOn b c old new r given end_reported n (Given (take m buf))
 read-given b c old new r given end_reported n m buf y here rest fits le size some fills =
     let bs = take m buf in
@@ -203,8 +203,8 @@ read-given b c old new r given end_reported n m buf y here rest fits le size som
     let count : now_given r given n ≡ given + m = ap (λ l. given + length l) k.front ∙ ap (λ j. given + j) len in
     let F : List ℕ → Stop → Feed = λ l s. record { bytes = l; stop = s } in
     let E : Option Remaining → Type 0 = λ o. BodyStops End o in
-    let on = fits-on b c r.framing.form (body_length_or_0 r.framing) given m end_reported (nat_lt m (length buf)) fits (fills.1 (omega (arith, size, some))) in
-    let G : ℕ → Bool → Type 0 = λ j u. Fits c r.framing.form (body_length_or_0 r.framing) j (end_reported || u) in
+    let on = fits-on r.framing.by_standard b c r.framing.form (body_length_or_0 r.framing) given m end_reported (nat_lt m (length buf)) fits (fills.1 (omega (arith, size, some))) in
+    let G : ℕ → Bool → Type 0 = λ j u. Fits r.framing.by_standard c r.framing.form (body_length_or_0 r.framing) j (end_reported || u) in
     let short : nat_lt m (length buf) ≡ nat_lt (length left) n = ap (λ j. nat_lt m j) size ∙ sym k.short in
     record {
       x = x;
@@ -221,7 +221,7 @@ read-given b c old new r given end_reported n m buf y here rest fits le size som
     none-read left [] xs m e empty len = sym len
     none-read left (z ∷ bs) xs m e empty len = let no : z ∷ (bs ++ xs) ≡ [] = sym e ∙ empty in cc
 
-read-fault : (b c : Body) (old new : Option Feed) (r : Request) (given : ℕ) (end_reported : Bool) (n : ℕ) (kind : ErrorKind) (buf : List ℕ) (y : Remaining) → remaining b old ≡ Some y → y.body ≡ rest_of r given → Fits b r.framing.form (body_length_or_0 r.framing) given end_reported
+read-fault : (b c : Body) (old new : Option Feed) (r : Request) (given : ℕ) (end_reported : Bool) (n : ℕ) (kind : ErrorKind) (buf : List ℕ) (y : Remaining) → remaining b old ≡ Some y → y.body ≡ rest_of r given → Fits r.framing.by_standard b r.framing.form (body_length_or_0 r.framing) given end_reported
     → 0 < n → FillsFromBody b old c new (Err kind) buf → ReadOn b c old new r given end_reported n (Fault kind)
 read-fault b c old new r given end_reported n kind buf y here rest fits some fills =
     let left = drop given r.body.bytes in
@@ -234,9 +234,9 @@ read-fault b c old new r given end_reported n kind buf y here rest fits some fil
     let same : now_given r given n ≡ given = omega (arith, count) in
     let zero : length left ≡ 0 = ap length empty in
     let reported_now : nat_lt (length left) n ≡ true = lt-ltb (length left) n (omega (arith, zero, some)) in
-    let G : ℕ → Bool → Type 0 = λ j u. Fits c r.framing.form (body_length_or_0 r.framing) j (end_reported || u) in
+    let G : ℕ → Bool → Type 0 = λ j u. Fits r.framing.by_standard c r.framing.form (body_length_or_0 r.framing) j (end_reported || u) in
     let P : List ℕ → Stop → Type 0 = λ l s. Fault kind ≡ read_reply n l s in
-    let on = fits-on b c r.framing.form (body_length_or_0 r.framing) given 0 end_reported true fits fills.1 in
+    let on = fits-on r.framing.by_standard b c r.framing.form (body_length_or_0 r.framing) given 0 end_reported true fits fills.1 in
     record {
       x = y;
       is = fills.0 ∙ here;
@@ -247,7 +247,7 @@ read-fault b c old new r given end_reported n kind buf y here rest fits some fil
       stays = stays-settled b c 0 true fills.1;
     }
 
-read-on : (b c : Body) (old new : Option Feed) (r : Request) (given : ℕ) (end_reported : Bool) (n : ℕ) (result : Result ℕ ErrorKind) (buf : List ℕ) (y : Remaining) → remaining b old ≡ Some y → y.body ≡ rest_of r given → Fits b r.framing.form (body_length_or_0 r.framing) given end_reported
+read-on : (b c : Body) (old new : Option Feed) (r : Request) (given : ℕ) (end_reported : Bool) (n : ℕ) (result : Result ℕ ErrorKind) (buf : List ℕ) (y : Remaining) → remaining b old ≡ Some y → y.body ≡ rest_of r given → Fits r.framing.by_standard b r.framing.form (body_length_or_0 r.framing) given end_reported
     → IfBound result buf → length buf ≡ n → 0 < n → FillsFromBody b old c new result buf → ReadOn b c old new r given end_reported n (reply_for result buf)
 read-on b c old new r given end_reported n (Ok m) buf y here rest fits le size some fills = read-given b c old new r given end_reported n m buf y here rest fits le size some fills
 read-on b c old new r given end_reported n (Err kind) buf y here rest fits le size some fills = read-fault b c old new r given end_reported n kind buf y here rest fits some fills
@@ -290,6 +290,7 @@ still-waiting s w h c old new n reply k =
       owed = h.owed;
       holds = h.holds;
       standard = h.standard;
+      upgrades = h.upgrades;
       connect = h.connect;
       unsent = h.unsent;
       rest_is_last = h.rest_is_last;
@@ -336,6 +337,11 @@ readable-of s (still.Upgraded c) h e = (c, refl, readable-upgraded s c h)
 pub readable : (s : Slot) (u : Unfinished) (b : Body) → IsUnfinished s u → is_readable (Some (Some u)) ≡ true → kept_body (Some u) ≡ Some b → IsReadable s u b
 readable s u b h e has = let q = readable-of s u h e in subst (λ y. IsReadable s u y) (one-body q.0 b (sym q.1 ∙ has)) q.2
 
+with-body-holds : (c : Body) (u : Unfinished) → holds_next_head_at (Some (Some (with_body c u))) ≡ holds_next_head_at (Some (Some u))
+with-body-holds c (still.Waiting w) = refl
+with-body-holds c still.Raw = refl
+with-body-holds c (still.Upgraded b) = refl
+
 -- the last number's body is read
 read-last : {R : Type 0} (client : Feed) (k : Kept) (old new : SourceState R) (bs : List Slot) (us : List (Option Unfinished)) (rest : List Item) (s : Slot) (u : Unfinished) (b c : Body) (n : ℕ) (reply : ReplyValue) → (q : IsReadable s u b) → IsInput k old → InputStands client k (bs ++ (s ∷ [])) rest
     → k.requests ≡ us ++ (Some u ∷ []) → ReadOn b c old.feed new.feed q.opened.request q.opened.given q.opened.end_reported n reply → (is_streaming b ≡ false → new ≡ old) → (is_streaming b ≡ true → new.standing ≡ body_standing c old.standing) → GoesOn old.feed new.feed
@@ -356,6 +362,7 @@ read-last {R = R} client k old new bs us rest s u b c n reply q from reader is o
     let item : is_last_item s.item ≡ is_last_item t.item = ap (λ (x : Slot). is_last_item x.item) h.is in
     let S : Option Feed → Type 0 = λ f. GoesOn f new.feed in
     let C : Option Remaining → Option Feed = λ o. option_map (λ (x : Remaining). x.body) o in
+    let L : Option Body → Option Slot → Type 0 = λ b o. FollowsLast b o new.feed in
     record {
       settled = settled-set us (Some u) (Some (with_body c u)) [] (subst A is reader.settled) (inr refl);
       gives = subst (λ o. G (last_body (us ++ (Some (with_body c u) ∷ []))) o) (sym last) (subst (λ b. G b (Some t)) (sym content) (ap C on.is ∙ ap Some on.rest));
@@ -365,6 +372,9 @@ read-last {R = R} client k old new bs us rest s u b c n reply q from reader is o
         lost = λ lost. (let no : true ≡ false = sym lost ∙ (ap last_was_abandoned last ∙ and-false (is_chunked h.request.framing.form)) in cc);
         place = λ kept. subst (λ x. P x (last_body (us ++ (Some (with_body c u) ∷ [])))) (sym (same e).past) (subst (λ y. P (is_past_last old.standing) y) (sym content) (subst Q (sym on.behind) (l.place e)));
       };
+      follows = λ holds.
+          let held : last_holds_next_head k.requests ≡ true = ap last_holds_next_head is ∙ holds-snoc us (Some u) ∙ sym (with-body-holds c u) ∙ sym (holds-snoc us (Some (with_body c u))) ∙ holds in
+          subst (λ b. L b (last_slot (bs ++ (t ∷ [])))) (sym content) (subst (λ o. L (Some c) o) (sym last) (on.behind ∙ l.follows held ∙ ap (λ (x : Slot). Some (behind_item x.item)) h.is));
       source = goes-on_more (Some client) k.feed new.feed reader.source (subst S (sym from.feed) goes);
     }
 
@@ -376,10 +386,10 @@ reader-read client k old new bs [] us (v ∷ vs) rest s u b c n reply q from rea
 reader-read client k old new bs (d ∷ cs) us [] rest s u b c n reply q from reader is same on leaves stands goes = absurd (omega (arith, same))
 reader-read {R = R} client k old new bs (d ∷ cs) us (v ∷ vs) rest s u b c n reply q from reader is same on leaves stands goes =
     let A : List (Option Unfinished) → Type 0 = λ x. AreSettled x in
-    let quiet : is_streaming b ≡ false = ap is_streaming_body (sym q.has) ∙ settled-place us (Some u) v vs (subst A is reader.settled) in
+    let quiet : is_streaming b ≡ false = ap is_streaming_body (sym q.has) ∙ (settled-place us (Some u) v vs (subst A is reader.settled)).0 in
     let t = read_slot s b q.opened n in
     let P : SourceState R → Type 0 = λ x. InputStands client (with_reader k (us ++ (Some (with_body c u) ∷ (v ∷ vs))) x) (bs ++ (t ∷ (d ∷ cs))) rest in
-    subst P (sym (leaves quiet)) (reader-within client k old bs cs us vs rest s t d v (Some (with_body c u)) (Some u) from reader is (ap is_streaming_body (q.has_then c) ∙ on.stays quiet))
+    subst P (sym (leaves quiet)) (reader-within client k old bs cs us vs rest s t d v (Some (with_body c u)) (Some u) from reader is (ap is_streaming_body (q.has_then c) ∙ on.stays quiet, with-body-holds c u ∙ (settled-place us (Some u) v vs (subst A is reader.settled)).1))
 
 -- what is left of a number's body, as its reader sees it
 read-remains-of : {R : Type 0} (client : Feed) (k : Kept) (old : SourceState R) (bs cs : List Slot) (us vs : List (Option Unfinished)) (rest : List Item) (s : Slot) (u : Unfinished) (b : Body) → (h : IsOpen s b) → kept_body (Some u) ≡ Some b → IsInput k old → InputStands client k (bs ++ (s ∷ cs)) rest
@@ -395,7 +405,7 @@ read-remains-of client k old bs [] us (v ∷ vs) rest s u b h has from reader is
 read-remains-of client k old bs (d ∷ cs) us [] rest s u b h has from reader is same = absurd (omega (arith, same))
 read-remains-of client k old bs (d ∷ cs) us (v ∷ vs) rest s u b h has from reader is same =
     let A : List (Option Unfinished) → Type 0 = λ x. AreSettled x in
-    let quiet : is_streaming b ≡ false = ap is_streaming_body (sym has) ∙ settled-place us (Some u) v vs (subst A is reader.settled) in
+    let quiet : is_streaming b ≡ false = ap is_streaming_body (sym has) ∙ (settled-place us (Some u) v vs (subst A is reader.settled)).0 in
     let f = stated-feed client k.feed reader.source in
     let e : old.feed ≡ Some f.0 = sym from.feed ∙ f.1 in
     (taken_remaining (rest_of h.request h.given) f.0, ap (remaining b) e ∙ h.settled quiet f.0, refl)

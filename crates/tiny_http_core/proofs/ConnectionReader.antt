@@ -1,19 +1,21 @@
 -- The last body of a connection, and where its reader stands.
+use Rattle.tiny_http_wire.specs.declared.device.Stop.TheVariants.{End, Fault}
+use Rattle.tiny_http_wire.specs.declared.device.Stop.{Stop}
 use Rattle.std.proofs.Common.{◌≡◌, refl, sym, ap, ◌∙◌, subst, ℕ, suc, ◌-◌, ◌⊎◌, inl, inr, Bool, true, false, not, ◌&&◌, ◌||◌, List, [], ◌∷◌, ◌++◌, length, Option, Some, None, arith}
 use Rattle.std.specs.Prelude.{slice_get}
 use Rattle.std.specs.List.{last_or}
 use Rattle.std.specs.Option.{option_map}
 use Rattle.std.proofs.lemmas.Bool.{ne_eqb}
-use Rattle.tiny_http_wire.specs.Device.{Feed}
+use Rattle.tiny_http_wire.specs.Device.{Feed, whole_feed}
 use Rattle.tiny_http_message.specs.declared.open_request.OpenRequest.{OpenRequest}
 use Rattle.tiny_http_core.specs.declared.pending.Unfinished.{Unfinished}
 use Rattle.tiny_http_core.specs.declared.pending.Unfinished.TheVariants as still
 use Rattle.tiny_http_message.specs.declared.framing.Form.{Form}
 use Rattle.tiny_http_message.specs.declared.body.Body.{Body}
 use Rattle.tiny_http_message.specs.declared.body.Body.TheVariants as body
-use Rattle.tiny_http_message.specs.Pipeline.{Item, Asks, Refuses, body_length_or_0}
-use Rattle.tiny_http_core.specs.Slots.{Slot, Stage, Unanswered, Answered, ByServer, Raw, Upgraded, is_finished, is_stage_finished, is_unanswered, is_form_streamed, is_chunked, is_body_finished, body_is_open, is_last_item, holds_next_head, is_holding, last_slot, last_is_open, last_is_holding, last_holds_reader, last_was_abandoned, is_last_slot}
-use Rattle.tiny_http_message.specs.Body.{body_finished}
+use Rattle.tiny_http_message.specs.Pipeline.{Item, Asks, Refuses, body_length_or_0, Request}
+use Rattle.tiny_http_core.specs.Slots.{Slot, Stage, Unanswered, Answered, ByServer, Raw, Upgraded, is_finished, is_stage_finished, is_unanswered, is_form_streamed, is_chunked, is_body_finished, body_is_open, is_last_item, holds_next_head, is_holding, last_slot, last_is_open, last_is_holding, last_holds_reader, last_was_abandoned, is_last_slot, is_end, rest_of}
+use Rattle.tiny_http_message.specs.Body.{body_finished, is_whole, taken_remaining}
 use Rattle.tiny_http_turns.specs.Turns.{Mark, Open, Held, Left, Finished}
 use Rattle.tiny_http_message.specs.Body.{Remaining, remaining, is_streaming, Fits}
 use Rattle.tiny_http_core.specs.Pending.{holds_next_head_at, last_holds_next_head, kept_body, last_body, is_streaming_body}
@@ -155,7 +157,7 @@ body-within (x ∷ []) u v w vs = refl
 body-within (x ∷ (y ∷ us)) u v w vs = body-within (y ∷ us) u v w vs
 
 -- only the last body is read from the input
-pub settled-snoc : (us : List (Option Unfinished)) (u : Option Unfinished) → AreSettled us → is_streaming_body (last_body us) ≡ false → AreSettled (us ++ (u ∷ []))
+pub settled-snoc : (us : List (Option Unfinished)) (u : Option Unfinished) → AreSettled us → (is_streaming_body (last_body us) ≡ false) × (last_holds_next_head us ≡ false) → AreSettled (us ++ (u ∷ []))
 settled-snoc [] u h e = tt
 settled-snoc (v ∷ []) u h e = (e, tt)
 settled-snoc (v ∷ (w ∷ us)) u h e = (h.0, settled-snoc (w ∷ us) u h.1 e)
@@ -172,14 +174,46 @@ settled-set [] u x (v ∷ vs) h (inr e) = cc
 settled-set (y ∷ []) u x vs h k = (h.0, settled-set [] u x vs h.1 k)
 settled-set (y ∷ (z ∷ us)) u x vs h k = (h.0, settled-set (z ∷ us) u x vs h.1 k)
 
+pub holds-within : (us : List (Option Unfinished)) (u v w : Option Unfinished) (vs : List (Option Unfinished)) → last_holds_next_head (us ++ (u ∷ (w ∷ vs))) ≡ last_holds_next_head (us ++ (v ∷ (w ∷ vs)))
+holds-within [] u v w vs = refl
+holds-within (x ∷ []) u v w vs = refl
+holds-within (x ∷ (y ∷ us)) u v w vs = holds-within (y ∷ us) u v w vs
+
+-- what has no body holds no head
+pub bodiless-free : (u : Option Unfinished) → kept_body u ≡ None → holds_next_head_at (Some u) ≡ false
+bodiless-free None e = refl
+bodiless-free (Some (still.Waiting w)) e = cc
+bodiless-free (Some still.Raw) e = refl
+bodiless-free (Some (still.Upgraded b)) e = refl
+
 -- whether a body is read from the input, by its form
 
-pub fits-streams : (b : Body) (form : Form) (n given : ℕ) (end_reported : Bool) → Fits b form n given end_reported → (is_form_streamed form && not (body_finished form n given end_reported || false)) ≡ is_streaming b
-fits-streams (body.Over stop) form n given end_reported h = rw h (and-false (is_form_streamed form))
-fits-streams (body.WithHead bytes) form n given end_reported h = rw h refl
-fits-streams (body.Counted left) form n given end_reported h = rw (h.0, h.3, ne_eqb given n (λ e. absurd (omega (arith, e, h.1, h.2)))) refl
-fits-streams (body.Chunked d) form n given end_reported h = rw (h.0, h.1) refl
-fits-streams body.Rest form n given end_reported h = rw (h.0, h.1) refl
+pub fits-streams : (standard : Bool) (b : Body) (form : Form) (n given : ℕ) (end_reported : Bool) → Fits standard b form n given end_reported → (is_form_streamed form && not (body_finished form n given end_reported || false)) ≡ is_streaming b
+fits-streams standard (body.Over stop) form n given end_reported h = rw h (and-false (is_form_streamed form))
+fits-streams standard (body.WithHead bytes) form n given end_reported h = rw h refl
+fits-streams standard (body.Counted left by_standard) form n given end_reported h = rw (h.0, h.3, ne_eqb given n (λ e. absurd (omega (arith, e, h.1, h.2)))) refl
+fits-streams standard (body.Chunked d) form n given end_reported h = rw (h.0, h.1) refl
+fits-streams standard body.Rest form n given end_reported h = rw (h.0, h.1) refl
+
+-- whether a body has come whole, and none of it is read from the input any more
+abbrev stop-of : Option Remaining → Stop
+stop-of None = End
+stop-of (Some r) = r.body.stop
+
+pub fits-whole : (r : Request) (b : Body) (given : ℕ) (end_reported : Bool) → Fits r.framing.by_standard b r.framing.form (body_length_or_0 r.framing) given end_reported
+    → (is_streaming b ≡ false → (f : Feed) → remaining b (Some f) ≡ Some (taken_remaining (rest_of r given) f))
+    → (body_finished r.framing.form (body_length_or_0 r.framing) given end_reported && is_end r.body.stop) ≡ is_whole b
+fits-whole r (body.Over End) given end_reported h settled = ap (λ t. t && is_end r.body.stop) h ∙ ap is_end (sym (ap stop-of (settled refl (whole_feed []))))
+fits-whole r (body.Over (Fault kind)) given end_reported h settled = ap (λ t. t && is_end r.body.stop) h ∙ ap is_end (sym (ap stop-of (settled refl (whole_feed []))))
+fits-whole r (body.WithHead bytes) given end_reported h settled =
+    ap (λ (x : Form). body_finished x (body_length_or_0 r.framing) given end_reported && is_end r.body.stop) h ∙ ap is_end (sym (ap stop-of (settled refl (whole_feed []))))
+fits-whole r (body.Counted left by_standard) given end_reported h settled = rw (h.0, h.3, ne_eqb given (body_length_or_0 r.framing) (λ e. absurd (omega (arith, e, h.1, h.2)))) refl
+fits-whole r (body.Chunked d) given end_reported h settled = rw (h.0, h.1) refl
+fits-whole r body.Rest given end_reported h settled = rw (h.0, h.1) refl
+
+-- the slot says the same of it as what is kept
+pub waiting-whole : (s : Slot) (w : OpenRequest Body) (h : IsWaiting s w) → (body_finished h.request.framing.form (body_length_or_0 h.request.framing) h.given h.end_reported && is_end h.request.body.stop) ≡ is_whole w.body
+waiting-whole s w h = fits-whole h.request w.body h.given h.end_reported h.fits h.settled
 
 pub waiting-kept : (s : Slot) (b : Body) (h : IsOpen s b) → last_was_abandoned (Some s) ≡ false
 waiting-kept s b h = let P : Slot → Type 0 = λ x. last_was_abandoned (Some x) ≡ false in subst P (sym h.is) (and-false (is_chunked h.request.framing.form))
@@ -188,7 +222,7 @@ waiting-kept s b h = let P : Slot → Type 0 = λ x. last_was_abandoned (Some x)
 pub waiting-open : (s : Slot) (b : Body) (h : IsOpen s b) → last_is_open (Some s) ≡ is_streaming b
 waiting-open s b h =
     let P : Slot → Type 0 = λ x. last_is_open (Some x) ≡ is_streaming b in
-    subst P (sym h.is) (fits-streams b h.request.framing.form (body_length_or_0 h.request.framing) h.given h.end_reported h.fits)
+    subst P (sym h.is) (fits-streams h.request.framing.by_standard b h.request.framing.form (body_length_or_0 h.request.framing) h.given h.end_reported h.fits)
 
 pub done-open : (s : Slot) → s.given_up ≡ true → last_is_open (Some s) ≡ false
 done-open s d = at s.item

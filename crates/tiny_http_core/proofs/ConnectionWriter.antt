@@ -30,7 +30,7 @@ use Rattle.tiny_http_core.specs.declared.driver.Step.TheVariants as step
 use Rattle.std.specs.Global.{Vec}
 use Rattle.tiny_http_core.specs.Conversation.{Failure, State, flushed_after, WriterPart, HasOutcome}
 use Rattle.tiny_http_core.specs.Pending.{kept_body, is_writable, GivesUpBody, LeavesText}
-use Rattle.tiny_http_core.specs.Connection.{Kept, rest_in, open_slot, IsWaiting, IsRaw, IsUpgraded, IsUnfinished, AreSentInTurn, AreKept, OutputAt, InputStands, Stands}
+use Rattle.tiny_http_core.specs.Connection.{Kept, rest_in, open_slot, IsWaiting, IsRaw, IsUpgraded, IsUnfinished, AreSentInTurn, AreKept, OutputAt, InputStands, Stands, behind_item}
 use Rattle.tiny_http_core.proofs.ConversationWriting.{FailsReported, flushed_if, written, flushed-is}
 use Rattle.tiny_http_core.proofs.ConnectionAsk.{StepIsAnswered, step-unchanged}
 use Rattle.tiny_http_core.proofs.ConnectionBody.{IsInput, Alike, with_reader, reader-alike, reader-given_up}
@@ -191,13 +191,13 @@ writable-some (Some (Some (still.Upgraded b))) e = (still.Upgraded b, refl, refl
 
 -- the step of a number of which this is kept, where it is accepted
 at-accepted : (date : HttpDate) (old : Reached) (n : ℕ) (step : StepValue) (x : Slot) (r : Request) (t : Bool) → slice_get old.slots n ≡ Some x → x.item ≡ Asks r → accepts_step x.stage x.owed step ≡ true → turn_has_come n old.slots ≡ t
-    → at_number true date old n step ≡ (if (needs_turn r x.owed step && not t) then unchanged old NotYet else effect true date old r x t step)
+    → at_number true date old n step ≡ (if (needs_turn r x step && not t) then unchanged old NotYet else effect true date old r x t step)
 at-accepted date old n step x r t get item accepts turn =
     let I : Item → Outcome = λ i. at_item true date old n step x i in
     ap (at_slot true date old n step) get ∙ ap I item ∙ rw (accepts, turn) refl
 
 -- its turn hasn't come
-pub writer-not_yet : (client : Feed) (before : Sink) (k : Kept) (s : State) (date : HttpDate) (n : ℕ) (step : StepValue) (u : Unfinished) → outcome true date s.reached step ≡ at_number true date s.reached n step → OfWriter step → ((r : Request) (owed : Bool) → needs_turn r owed step ≡ true) → Stands client before k s
+pub writer-not_yet : (client : Feed) (before : Sink) (k : Kept) (s : State) (date : HttpDate) (n : ℕ) (step : StepValue) (u : Unfinished) → outcome true date s.reached step ≡ at_number true date s.reached n step → OfWriter step → ((r : Request) (x : Slot) → needs_turn r x step ≡ true) → Stands client before k s
     → slice_get k.requests n ≡ Some (Some u) → is_writable (Some (Some u)) ≡ true → (n == first_unfinished k.marks) ≡ false → StepIsAnswered client before k s date step NotYet
 writer-not_yet client before k s date n step u is o needs st e writable early =
     let p = place-of s.reached.slots k.marks k.requests n u st.numbers e in
@@ -207,7 +207,7 @@ writer-not_yet client before k s date n step u is o needs st e writable early =
     let late : list_all is_finished p.bs ≡ false = ⊎_elim (λ (t : InTurn p.bs p.fs p.rs). absurd (never t)) (λ (t : OutOfTurn p.bs p.fs p.rs). t.unfinished) (turn-at p.bs p.fs p.us p.rs p.before (subst S p.marks_are st.shape)) in
     let r = unfinished-asks p.s u p.waiting in
     step-unchanged client before k s date step NotYet st
-    (is ∙ at-accepted date s.reached n step p.s r.0 false at.get r.1 (fit step o p.s u p.waiting writable) (at.turn ∙ late) ∙ rw (needs r.0 p.s.owed) refl)
+    (is ∙ at-accepted date s.reached n step p.s r.0 false at.get r.1 (fit step o p.s u p.waiting writable) (at.turn ∙ late) ∙ rw (needs r.0 p.s) refl)
 
 -- slots of one request, alike in what was read of its body
 alike-by : (s t : Slot) (r : Request) → s.item ≡ Asks r → t.item ≡ s.item → t.given ≡ s.given → t.end_reported ≡ s.end_reported → t.given_up ≡ s.given_up → Alike s t
@@ -215,6 +215,7 @@ alike-by s t r asks item given reported up = record {
   last = ap is_last_item item;
   abandoned = ap (body_was_abandoned t) item ∙ at s.item asks;
   left = ap (rest_in t.given) item ∙ ap (λ g. rest_in g s.item) given;
+  behind = ap behind_item item;
 }
   where
     at : (i : Item) → i ≡ Asks r → body_was_abandoned t i ≡ body_was_abandoned s i
@@ -276,7 +277,7 @@ keeps-written bytes s still.Raw h e = keeps-raw bytes s h
 keeps-written bytes s (still.Upgraded b) h e = keeps-upgraded bytes s b h
 
 pub keeps-same : (s : Slot) (u : Unfinished) → IsUnfinished s u → KeepsOn s s u []
-keeps-same s u h = record { kept = h; sends = sym (append-nil (segment s)); alike = record { last = refl; abandoned = refl; left = refl } }
+keeps-same s u h = record { kept = h; sends = sym (append-nil (segment s)); alike = record { last = refl; abandoned = refl; left = refl; behind = refl } }
 
 -- what the call does: an output that has ended takes nothing; else the bytes were taken, or the writer failed in them
 abbrev pub WritesOwn : {T : Type 0} → Bool → Sink → Sink → Bool → Result T Error → List ℕ → Type 0
@@ -388,7 +389,7 @@ own-done {R = R} {T = T} client before k s date n u p s1 step flushes own new en
     reader =
         let P : List Slot → Type 0 = λ l. InputStands client k l s.reached.rest in
         let Q : List (Option Unfinished) → Type 0 = λ q. InputStands client (with_reader k q source) slots s.reached.rest in
-        subst Q (sym p.requests_are) (reader-alike client k source p.bs p.cs p.us p.vs s.reached.rest p.s s1 (Some u) (Some u) from (subst P p.slots_are st.reader) p.requests_are (kept-many p.cs p.rs p.vs p.behind) refl keeps.alike)
+        subst Q (sym p.requests_are) (reader-alike client k source p.bs p.cs p.us p.vs s.reached.rest p.s s1 (Some u) (Some u) from (subst P p.slots_are st.reader) p.requests_are (kept-many p.cs p.rs p.vs p.behind) refl (λ e. e) keeps.alike)
 
     in-turn : InTurn p.bs p.fs p.rs → StepIsAnswered client before (after_number k k.marks k.requests source new ended) s date step (write_reply r)
     in-turn t =
@@ -470,7 +471,7 @@ reader-closed : {R : Type 0} (client : Feed) (k : Kept) (bs cs : List Slot) (us 
 reader-closed client k bs cs us vs rest s (still.Waiting w) old source h e from reader is same closes = cc
 reader-closed {R = R} client k bs cs us vs rest s still.Raw old source h e from reader is same closes =
     let P : SourceState R → Type 0 = λ x. InputStands client (with_reader k (us ++ (None ∷ vs)) x) (bs ++ (closed_slot s ∷ cs)) rest in
-    subst P (sym closes) (reader-alike client k old bs cs us vs rest s (closed_slot s) (Some still.Raw) None from reader is same refl (alike-by s (closed_slot s) h.request h.item refl refl refl (sym h.given_up)))
+    subst P (sym closes) (reader-alike client k old bs cs us vs rest s (closed_slot s) (Some still.Raw) None from reader is same refl (λ e. refl) (alike-by s (closed_slot s) h.request h.item refl refl refl (sym h.given_up)))
 reader-closed client k bs cs us vs rest s (still.Upgraded b) old source h e from reader is same closes =
     let o = h.opened in
     let P : Slot → Type 0 = λ x. InputStands client (with_reader k (us ++ (None ∷ vs)) source) (bs ++ (x ∷ cs)) rest in

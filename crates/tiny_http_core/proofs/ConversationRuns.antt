@@ -11,9 +11,8 @@ use Rattle.tiny_http_device.proofs.DeviceLemmas.{IsFront-append}
 use Rattle.tiny_http_stream.specs.Outlet.{holding}
 use Rattle.tiny_http_stream.specs.Source.{GoesOn}
 use Rattle.tiny_http_message.specs.declared.framing.Profile.{Profile}
-use Rattle.tiny_http_message.specs.Pipeline.{Item, Place, Pipeline, body_length_or_0, place_after}
+use Rattle.tiny_http_message.specs.Pipeline.{Item, Place, Pipeline, body_length_or_0, place_after, place_feed}
 use Rattle.tiny_http_message.specs.BodyRemains.{RemainsAt}
-use Rattle.tiny_http_message.specs.HeadReads.{place_feed}
 use Rattle.tiny_http_message.proofs.BodyRemainsLemmas.{remains-of}
 use Rattle.tiny_http_message.proofs.PipelineLemmas.{pipeline-none}
 use Rattle.tiny_http_wire.specs.declared.device.Stop.{Stop}
@@ -91,6 +90,7 @@ stands-begun profile client feed is_over sink items e fresh h =
         settled = tt;
         gives = tt;
         next = λ z. record { is_last = refl; within = refl; lost = λ l. cc; place = λ l. subst P (sym e) h };
+        follows = λ holds. tt;
         source = subst G (sym e) (goes-on_same (Some client));
       };
       output = (grown-nil sink.has_ended sink.taken ∙ fresh.no_bytes, refl, fresh.unended, refl, ([], refl), λ z. (sink.sent, refl));
@@ -108,11 +108,11 @@ within : (profile : Profile) (s : Slot) (b : Body) (f : Feed) (rest : List Item)
 within profile s b f rest None h is_streaming_body e g p = let no : None ≡ Some (slot_rest s) = g in cc
 within profile s b f rest (Some x) h is_streaming_body e g p =
     let same : x.body ≡ slot_rest s = cc in
-    let k = remains-of b h.request.framing.form (body_length_or_0 h.request.framing) h.given h.end_reported f x h.fits is_streaming_body e in
+    let k = remains-of h.request.framing.by_standard b h.request.framing.form (body_length_or_0 h.request.framing) h.given h.end_reported f x h.fits is_streaming_body e in
     let content : x.body ≡ k.content = ap (λ (r : Remaining). r.body) k.is in
     let behind : x.behind ≡ place_feed f.stop k.next = ap (λ (r : Remaining). r.behind) k.is in
     let P : Slot → Type 0 = λ y. x.body ≡ slot_rest y → PlaceAt profile (is_last_item y.item) (Some x.behind) rest → WithinBody profile y y.item f rest in
-    let A : Feed → Type 0 = λ b. RemainsAt h.request.framing.form (body_length_or_0 h.request.framing - h.given) f.bytes f.stop b k.next in
+    let A : Feed → Type 0 = λ b. RemainsAt h.request.framing.by_standard h.request.framing.form (body_length_or_0 h.request.framing - h.given) f.bytes f.stop b k.next in
     let B : Feed → Type 0 = λ b. PlaceAt profile h.request.framing.is_last (Some b) rest in
     subst P (sym h.is) (λ is place. (k.next, subst A (sym content ∙ is) k.stands, place-pipeline profile h.request.framing.is_last f.stop k.next rest (subst B behind place))) same p
 

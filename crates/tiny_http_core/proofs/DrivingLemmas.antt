@@ -8,7 +8,7 @@ use Rattle.tiny_http_wire.specs.Answer.{Answer, Printing, ResponseState}
 use Rattle.tiny_http_wire.specs.declared.device.Stop.{Stop}
 use Rattle.tiny_http_core.specs.declared.pending.Unfinished.{Unfinished}
 use Rattle.tiny_http_core.specs.declared.pending.Unfinished.TheVariants as still
-use Rattle.tiny_http_core.specs.Pending.{is_last_without_continue_at as kept_lacks, refuses_at, is_last_with_stream_at, last_holds_next_head, kept_body, GivesUpBody}
+use Rattle.tiny_http_core.specs.Pending.{is_last_without_continue_at as kept_lacks, refuses_at, is_last_with_stream_at, last_holds_next_head, kept_body, GivesUpBody, refuses_upgrade_at}
 use Rattle.std.specs.List.{AllZip}
 use Rattle.tiny_http_core.specs.declared.driver.Timed.{Timed}
 use Rattle.tiny_http_core.specs.declared.driver.Reply.{Reply}
@@ -24,9 +24,9 @@ use Rattle.tiny_http_sending.specs.Sending.{FailsOnceUnlessEnded, IsHonest, Fail
 use Rattle.tiny_http_core.specs.Seen.{seen, IsResponse, IsStep, IsTimedStep, MayFail, ReportsHonestly, IsAnswered, IsOfWriter, is_done, all_sent_after}
 use Rattle.tiny_http_message.specs.declared.body.Body.{Body}
 use Rattle.tiny_http_message.specs.declared.open_request.OpenRequest.{OpenRequest}
-use Rattle.tiny_http_message.specs.OpenRequest.{refuses_code}
-use Rattle.tiny_http_message.specs.Body.{is_streaming, body_standing}
-use Rattle.std.specs.Prelude.{MatchBool}
+use Rattle.tiny_http_message.specs.OpenRequest.{refuses_code, request_check}
+use Rattle.tiny_http_message.specs.Body.{is_streaming, body_standing, is_whole}
+use Rattle.std.specs.Prelude.{MatchBool, is_err}
 use Rattle.tiny_http_core.specs.Connection.{Kept, ConnectionState, kept, Stands, HandedOut, open_slot, dropped}
 use Rattle.tiny_http_core.specs.Slots.{is_last_without_continue, turn_has_come}
 use Rattle.tiny_http_core.proofs.ConnectionDrop.{IsKeptOf, at-drop, at-unanswerable, at-refused}
@@ -45,9 +45,9 @@ use Rattle.std.specs.Global.{Global, Vec}
 use Rattle.tiny_http_wire.specs.declared.common.StatusCode.{StatusCode}
 use Rattle.tiny_http_message.specs.declared.exchange.HeadRead.TheVariants as read
 use Rattle.tiny_http_message.specs.declared.exchange.EndOfRequests.TheVariants as because
-use Rattle.tiny_http_message.specs.HeadReads.{ReadsHead, EndsAt, IsBeforeHead, HasByteOrTimedOut, place_feed}
+use Rattle.tiny_http_message.specs.HeadReads.{ReadsHead, EndsAt, IsBeforeHead, HasByteOrTimedOut}
 use Rattle.tiny_http_message.specs.declared.framing.Profile.{Profile}
-use Rattle.tiny_http_message.specs.Pipeline.{OneHead, Request, Item, Refuses, Place}
+use Rattle.tiny_http_message.specs.Pipeline.{OneHead, Request, Item, Refuses, Place, place_feed}
 use Rattle.tiny_http_core.specs.Driving.{IsRefusal, EndsRequestsAt, EndsThere, ArePassedOver, HasByteBehind, standing_behind}
 use Rattle.tiny_http_message.proofs.PipelineLemmas.{has-pipeline}
 use Rattle.tiny_http_core.proofs.ConversationRuns.{run-more, stands-begun, split}
@@ -387,7 +387,7 @@ takes-read old new now n m reply answers declined ends leaves moves =
 
 pub takes-respond : {R W D : Type 0} (feed : D → Option Feed) (all : Bool) (old new : ConnectionState R W) (now : HttpDate) (n : ℕ) (r : ResponseState D) (reply : ReplyValue)
     → ((client : Feed) (before : Sink) (s : State) (value : ResponseValue) → before.failures < 2 ^ 64 - 1 → IsResponse feed r value → Stands client before (kept old) s → StepIsAnswered client before (kept new) s now (Respond n value) reply)
-    → (IsDeclined (step.Respond n (stated_response feed r)) reply → new ≡ old) → EndsBehind (kept_lacks (slice_get old.requests n)) old new reply → AnswerLeaves n old new reply → is_done reply ≡ all → Moves all old new → ((kind : ErrorKind) → reply ≡ Fault kind → ReportsFault old new now (step.Respond n (stated_response feed r)) kind)
+    → (IsDeclined (step.Respond n (stated_response feed r)) reply → new ≡ old) → EndsBehind (kept_lacks (slice_get old.requests n)) old new reply → AnswerLeaves n r.answer.status old new reply → is_done reply ≡ all → Moves all old new → ((kind : ErrorKind) → reply ≡ Fault kind → ReportsFault old new now (step.Respond n (stated_response feed r)) kind)
     → TakesStep old new now (step.Respond n (stated_response feed r)) reply
 takes-respond feed all old new now n r reply answers declined ends leaves done moves honest =
     takes old new now (step.Respond n (stated_response feed r)) reply
@@ -446,7 +446,7 @@ takes-write {W = W} old new now n v bytes reply same answers declined ends leave
 
 pub takes-upgrade : {R W D : Type 0} (feed : D → Option Feed) (all : Bool) (old new : ConnectionState R W) (now : HttpDate) (n : ℕ) (p : String Global) (r : ResponseState D) (reply : ReplyValue)
     → ((client : Feed) (before : Sink) (s : State) (value : ResponseValue) → before.failures < 2 ^ 64 - 1 → value.answer ≡ r.answer → Stands client before (kept old) s → StepIsAnswered client before (kept new) s now (Upgrade n (string_bytes p) value) reply)
-    → (IsDeclined (step.Upgrade n p (stated_response feed r)) reply → new ≡ old) → UpgradeEnds n old new reply → UpgradeLeaves n old new reply → is_done reply ≡ all → Moves all old new → ReportsNoFault reply → TakesStep old new now (step.Upgrade n p (stated_response feed r)) reply
+    → (IsDeclined (step.Upgrade n p (stated_response feed r)) reply → new ≡ old) → UpgradeEnds n old new reply → UpgradeLeaves n (string_bytes p) r.answer.status old new reply → is_done reply ≡ all → Moves all old new → ReportsNoFault reply → TakesStep old new now (step.Upgrade n p (stated_response feed r)) reply
 takes-upgrade feed all old new now n p r reply answers declined ends leaves done moves none =
     takes old new now (step.Upgrade n p (stated_response feed r)) reply
     (λ client before s asked low is st. step-upgrade {D = Option Feed} (λ f. f) client before (kept new) s (now, asked) (step.Upgrade n p (stated_response feed r)) n p (stated_response feed r) reply refl is (λ v same. answers client before s v low same st))
@@ -455,7 +455,7 @@ takes-upgrade feed all old new now n p r reply answers declined ends leaves done
 -- a step that drops a request
 pub drops-by : {R W : Type 0} (n : ℕ) (w : OpenRequest Body) (old new : ConnectionState R W) (now : HttpDate) → slice_get old.requests n ≡ Some (Some (still.Waiting w))
     → ((client : Feed) (before : Sink) (s : State) (asked : StepValue) (reply : ReplyValue)
-    → ((was : Reached) (by : HandedOut) (r : Request) (given : ℕ) (end_reported : Bool) → IsKeptOf w r → slice_get was.slots n ≡ Some (open_slot by r given end_reported) → outcome true now was asked ≡ ends_asking (is_last_without_continue r by.owed) (changes was n (dropped by r given end_reported) reply (use_in_turn (turn_has_come n was.slots))))
+    → ((was : Reached) (by : HandedOut) (r : Request) (given : ℕ) (end_reported : Bool) → IsKeptOf w r given end_reported → slice_get was.slots n ≡ Some (open_slot by r given end_reported) → outcome true now was asked ≡ ends_asking (is_last_without_continue r by.owed) (changes was n (dropped by r given end_reported) reply (use_in_turn (turn_has_come n was.slots))))
     → before.failures < 2 ^ 64 - 1 → Stands client before (kept old) s → StepIsAnswered client before (kept new) s now asked reply)
     → new.end ≡ ends_behind (kept_lacks (slice_get old.requests n)) old.end → LetsGo n old new → Moves false old new → (x : Step (Option Feed)) (reply : ReplyValue) → IsDropping old.requests n x reply → TakesStep old new now x reply
 drops-by n w old new now kept answers ends leaves moves = by
@@ -476,7 +476,7 @@ drops-by n w old new now kept answers ends leaves moves = by
         subst T (sym is.0) (takes-respond {D = Option Feed} (λ f. f) false old new now n r Refused
         (λ client before s v low same st.
         let A : Answer → Type 0 = λ a. refuses_code w.by_standard w.is_connect a.status ≡ true in
-        answers client before s (Respond n v) Refused (at-unanswerable now n v w (subst A (sym same.0) refused)) low st) (λ no. elim no [ ]) ends leaves refl moves (λ kind e. cc))
+        answers client before s (Respond n v) Refused (at-unanswerable now n v w (subst A (sym same.0) refused)) low st) (λ no. elim no [ ]) ends (leaves, is.1) refl moves (λ kind e. cc))
     by (step.Respond k r) NoSuch is = elim is [ ]
     by (step.Respond k r) Memory is = elim is [ ]
     by (step.IntoWriter k) reply is = elim is [ ]
@@ -502,7 +502,10 @@ drops-by n w old new now kept answers ends leaves moves = by
     by (step.Upgrade k p r) Done is = elim is [ ]
     by (step.Upgrade k p r) Refused is =
         let T : ℕ → Type 0 = λ m. TakesStep old new now (step.Upgrade m p r) Refused in
-        subst T (sym is.0) (takes-upgrade {D = Option Feed} (λ f. f) false old new now n p r Refused (λ client before s v low same st. answers client before s (Upgrade n (string_bytes p) v) Refused (λ was by r given end_reported same. at-refused now n (string_bytes p) v is.1 was by r given end_reported) low st) (λ no. elim no [ ]) ends leaves refl moves (λ kind e. cc))
+        let refused = ap (refuses_upgrade_at (string_bytes p) r.answer.status) (sym kept) ∙ is.1 in
+        subst T (sym is.0) (takes-upgrade {D = Option Feed} (λ f. f) false old new now n p r Refused (λ client before s v low same st.
+        let A : Answer → Type 0 = λ a. is_err (request_check w (string_bytes p) a.status (is_whole w.body)) ≡ true in
+        answers client before s (Upgrade n (string_bytes p) v) Refused (at-refused now n (string_bytes p) v w (subst A (sym same) refused)) low st) (λ no. elim no [ ]) ends (leaves, is.1) refl moves (λ kind e. cc))
     by (step.Upgrade k p r) NoSuch is = elim is [ ]
     by (step.Upgrade k p r) Memory is = elim is [ ]
 

@@ -17,13 +17,14 @@ use Rattle.tiny_http_message.specs.declared.framing.Form.TheVariants.{Rest}
 use Rattle.tiny_http_stream.specs.Source.{SourceState, GoesOn}
 use Rattle.tiny_http_stream.specs.ToCome.{stopped}
 use Rattle.tiny_http_message.specs.Body.{Remaining, remaining, taken_remaining, is_streaming, Fits}
-use Rattle.tiny_http_core.specs.Pending.{kept_body, last_body, is_streaming_body}
+use Rattle.tiny_http_core.specs.Pending.{kept_body, last_body, is_streaming_body, holds_next_head_at, last_holds_next_head}
+use Rattle.tiny_http_standard.specs.Judging.{names_protocol}
 use Rattle.tiny_http_message.specs.declared.exchange.EndOfRequests.{EndOfRequests}
 use Rattle.tiny_http_stream.specs.declared.source.Standing.{Standing}
 use Rattle.tiny_http_stream.specs.declared.source.Standing.TheVariants as at
 use Rattle.tiny_http_stream.specs.Outlet.{OutletState, output_of}
 use Rattle.tiny_http_message.specs.Pipeline.{Item, Asks, Refuses, Request, is_head_method, is_connect_method, body_length_or_0}
-use Rattle.tiny_http_core.specs.Slots.{Slot, Stage, ByServer, Raw, Upgraded, is_finished, is_slot_broken, segment, stage_text, joined, is_output_broken, new_slot, holds_next_head, last_slot, is_last_slot, last_was_abandoned, rest_of}
+use Rattle.tiny_http_core.specs.Slots.{Slot, Stage, ByServer, Raw, Upgraded, is_finished, is_slot_broken, segment, stage_text, joined, is_output_broken, new_slot, holds_next_head, asks_protocol, last_slot, is_last_slot, last_was_abandoned, rest_of}
 use Rattle.tiny_http_core.specs.Steps.{finished_as}
 use Rattle.tiny_http_sending.specs.ResponseValue.{ResponseValue}
 use Rattle.tiny_http_turns.specs.Turns.{Mark, Open, Left, Finished, AreInShape}
@@ -87,11 +88,12 @@ pub record IsWaiting (s : Slot) (w : OpenRequest Body) : Type 0 where
   pub holds : w.holds_next_head ≡ holds_next_head request
   pub standard : w.by_standard ≡ request.framing.by_standard
   pub connect : w.is_connect ≡ is_connect_method request.message.method
+  pub upgrades : (protocol : List ℕ) → (w.holds_next_head && names_protocol w.upgrades.items protocol) ≡ asks_protocol request protocol
   pub unsent : handed.owed ≡ true → handed.continued ≡ None
   pub rest_is_last : request.framing.form ≡ Rest → request.framing.is_last ≡ true
   pub answer_context : w.answer_context ≡ answer_context_of request
   pub text : w.dropped.items ≡ (stage_text (Asks request) handed.date ByServer).bytes
-  pub fits : Fits w.body request.framing.form (body_length_or_0 request.framing) given end_reported
+  pub fits : Fits request.framing.by_standard w.body request.framing.form (body_length_or_0 request.framing) given end_reported
   -- where the body isn't read from the input, this is left of it
   pub settled : is_streaming w.body ≡ false → (f : Feed) → remaining w.body (Some f) ≡ Some (taken_remaining (rest_of request given) f)
 
@@ -104,7 +106,7 @@ pub record IsOpen (s : Slot) (body : Body) : Type 0 where
   pub end_reported : Bool
   pub is : s ≡ record (open_slot handed request given end_reported) { stage = stage }
   pub rest_is_last : request.framing.form ≡ Rest → request.framing.is_last ≡ true
-  pub fits : Fits body request.framing.form (body_length_or_0 request.framing) given end_reported
+  pub fits : Fits request.framing.by_standard body request.framing.form (body_length_or_0 request.framing) given end_reported
   pub settled : is_streaming body ≡ false → (f : Feed) → remaining body (Some f) ≡ Some (taken_remaining (rest_of request given) f)
 
 -- a number whose raw writer is in use
@@ -162,9 +164,9 @@ abbrev pub AreSentInTurn : List Slot → Type 0
 AreSentInTurn [] = Unit {0}
 AreSentInTurn (s ∷ slots) = MatchBool (is_finished s) (AreSentInTurn slots) (AllByRecursion HasSentNothing slots)
 
--- only the last body is read from the input
+-- only the last body is read from the input, and only the last request holds the next head
 abbrev pub IsSettled : Option Unfinished → Type 0
-IsSettled u = is_streaming_body (kept_body u) ≡ false
+IsSettled u = (is_streaming_body (kept_body u) ≡ false) × (holds_next_head_at (Some u) ≡ false)
 
 abbrev pub AreSettled : List (Option Unfinished) → Type 0
 AreSettled [] = ⊤
@@ -189,6 +191,17 @@ abbrev pub GivesRest : Option Body → Option Slot → Option Feed → Type 0
 GivesRest None s feed = ⊤
 GivesRest (Some b) None feed = ⊤
 GivesRest (Some b) (Some s) feed = option_map (λ (r : Remaining). r.body) (remaining b feed) ≡ Some (slot_rest s)
+
+-- what follows a number's body
+abbrev pub behind_item : Item → Feed
+behind_item (Asks r) = r.behind
+behind_item (Refuses refusal version no_body last) = whole_feed []
+
+-- behind the body that is kept of the last number the input gives what follows its request's
+abbrev pub FollowsLast : Option Body → Option Slot → Option Feed → Type 0
+FollowsLast None s feed = ⊤
+FollowsLast (Some b) None feed = ⊤
+FollowsLast (Some b) (Some s) feed = behind_body (Some b) feed ≡ Some (behind_item s.item)
 
 -- the input has ended
 abbrev pub InputEnded : Kept → Type 0
@@ -223,6 +236,7 @@ pub record InputStands (client : Feed) (k : Kept) (slots : List Slot) (rest : Li
   pub settled : AreSettled k.requests
   pub gives : GivesRest (last_body k.requests) (last_slot slots) k.feed
   pub next : k.asking_ended ≡ false → NextHead k (last_slot slots) rest
+  pub follows : last_holds_next_head k.requests ≡ true → FollowsLast (last_body k.requests) (last_slot slots) k.feed
   pub source : GoesOn (Some client) k.feed
 
 -- the output so far: the joined segments, of which no failure takes back what was flushed; or what the writer took when it failed

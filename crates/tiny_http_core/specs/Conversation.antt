@@ -177,7 +177,7 @@ PlaceAt p false (Some f) rest = Pipeline p (Some f.bytes) f.stop rest
 -- The input stands within this number's body: what is left of the body comes next, and after it what the pipeline still has.
 abbrev pub WithinBody : Profile → Slot → Item → Feed → List Item → Type 0
 WithinBody p s (Asks r) feed rest =
-    (next : Place) × RemainsAt r.framing.form (body_length_or_0 r.framing - s.given) feed.bytes feed.stop (rest_of r s.given) next
+    (next : Place) × RemainsAt r.framing.by_standard r.framing.form (body_length_or_0 r.framing - s.given) feed.bytes feed.stop (rest_of r s.given) next
     × Pipeline p (place_after r.framing.is_last next) feed.stop rest
 WithinBody p s (Refuses refusal version no_body last) feed rest = ⊥
 

@@ -1,7 +1,5 @@
 -- What the calls of a `Connection` come to.
 use Rattle.std.specs.Prelude.{◌≡◌, ◌⊎◌, ℕ, ◌+◌, Bool, true, false, List, [], ◌∷◌, ◌++◌, length, replicate, Option, Some, None, IsSome, MatchBool, slice_get, slice_set, if◌then◌else◌, string_bytes, ⊤}
-use Rattle.std.specs.List.{list_all}
-use Rattle.tiny_http_wire.specs.Bytes.{is_ascii}
 use Rattle.std.specs.declared.io.ErrorKind.{ErrorKind}
 use Rattle.httpdate.specs.declared.date.HttpDate.{HttpDate}
 use Rattle.tiny_http_wire.specs.Device.{Feed, Sink}
@@ -15,22 +13,22 @@ use Rattle.tiny_http_wire.specs.declared.common.HTTPVersion.{HTTPVersion}
 use Rattle.tiny_http_wire.specs.declared.common.StatusCode.{StatusCode}
 use Rattle.tiny_http_message.specs.declared.exchange.EndOfRequests.{EndOfRequests}
 use Rattle.tiny_http_message.specs.declared.exchange.EndOfRequests.TheVariants as because
-use Rattle.tiny_http_message.specs.HeadReads.{EndsAt, IsBeforeHead, HasByteOrTimedOut, place_feed}
+use Rattle.tiny_http_message.specs.HeadReads.{EndsAt, IsBeforeHead, HasByteOrTimedOut}
 use Rattle.tiny_http_message.specs.declared.framing.Profile.{Profile}
 use Rattle.tiny_http_message.specs.declared.framing.Framing.{Framing}
 use Rattle.tiny_http_stream.specs.Outlet.{output_of, SentOn}
-use Rattle.tiny_http_message.specs.Pipeline.{Item, Refuses, Refusal, refusal_status, OneHead, Pipeline, Place}
+use Rattle.tiny_http_message.specs.Pipeline.{Item, Refuses, Refusal, refusal_status, OneHead, Pipeline, Place, place_feed}
 use Rattle.tiny_http_core.specs.Steps.{StepValue, ReplyValue, Handed, Ended, NotYet, Done, Refused, NoSuch, Memory, Fault}
 use Rattle.tiny_http_core.specs.Conversation.{State, TimedValue, Run, start_state, IsFresh, IsPassedOver}
 use Rattle.tiny_http_wire.specs.declared.answer_context.AnswerContext.{AnswerContext}
 use Rattle.tiny_http_sending.specs.ResponseValue.{printing_in}
 use Rattle.tiny_http_sending.specs.Sending.{IsHonest, FailsOnce}
-use Rattle.tiny_http_core.specs.Pending.{waiting_answer_context, owes_continue, is_last_without_continue_at, refuses_at, is_last_with_stream_at, last_holds_next_head, kept_body, GivesUpBody, with_body}
+use Rattle.tiny_http_core.specs.Pending.{waiting_answer_context, owes_continue, is_last_without_continue_at, refuses_at, refuses_upgrade_at, is_last_with_stream_at, last_holds_next_head, kept_body, GivesUpBody, with_body}
 use Rattle.tiny_http_message.specs.declared.body.Body.{Body}
 use Rattle.tiny_http_message.specs.declared.open_request.OpenRequest.{OpenRequest}
 use Rattle.tiny_http_core.specs.declared.pending.Unfinished.{Unfinished}
 use Rattle.tiny_http_core.specs.declared.pending.Unfinished.TheVariants as still
-use Rattle.tiny_http_message.specs.Body.{is_streaming, body_standing}
+use Rattle.tiny_http_message.specs.Body.{is_streaming, stream_body, body_standing}
 use Rattle.tiny_http_core.specs.Seen.{IsStep, IsAnswered, IsOfWriter, all_sent_after}
 use Rattle.tiny_http_core.specs.Connection.{ConnectionState, kept, Stands}
 
@@ -182,20 +180,22 @@ SendsContinue k old new _ = ⊥
 abbrev pub LeavesAllButOutlet : {R W : Type 0} → ConnectionState R W → ConnectionState R W → Type 0
 LeavesAllButOutlet old new = (new.requests ≡ old.requests) × (new.marks ≡ old.marks) × (new.source ≡ old.source)
 
--- what an answer leaves, by the reply: the request was answered, or dropped
-abbrev pub AnswerLeaves : {R W : Type 0} → ℕ → ConnectionState R W → ConnectionState R W → ReplyValue → Type 0
-AnswerLeaves k old new Refused = LetsGo k old new
-AnswerLeaves k old new reply = IsAnswered reply → LetsGo k old new
+-- what an answer with this code leaves, by the reply: the request was answered; or the answer was refused, and the request dropped
+abbrev pub AnswerLeaves : {R W : Type 0} → ℕ → ℕ → ConnectionState R W → ConnectionState R W → ReplyValue → Type 0
+AnswerLeaves k code old new Refused = LetsGo k old new × (refuses_at code (slice_get old.requests k) ≡ true)
+AnswerLeaves k code old new reply = IsAnswered reply → LetsGo k old new × (refuses_at code (slice_get old.requests k) ≡ false)
 
--- What an Upgrade leaves, by the reply: the request was upgraded, and its body is kept; or the request was dropped.
-abbrev pub UpgradeLeaves : {R W : Type 0} → ℕ → ConnectionState R W → ConnectionState R W → ReplyValue → Type 0
-UpgradeLeaves k old new Done =
-    (w : OpenRequest Body) × (slice_get old.requests k ≡ Some (Some (still.Waiting w))) × (new.requests ≡ slice_set old.requests k (Some (still.Upgraded w.body)))
+-- What an Upgrade to this protocol with this code leaves, by the reply: the request was upgraded, and its body is kept, or by the
+-- standard all that comes is read; or the upgrade was refused, and the request dropped.
+abbrev pub UpgradeLeaves : {R W : Type 0} → ℕ → List ℕ → ℕ → ConnectionState R W → ConnectionState R W → ReplyValue → Type 0
+UpgradeLeaves k protocol code old new Done =
+    (refuses_upgrade_at protocol code (slice_get old.requests k) ≡ false) ×
+    (w : OpenRequest Body) × (slice_get old.requests k ≡ Some (Some (still.Waiting w))) × (new.requests ≡ slice_set old.requests k (Some (still.Upgraded (stream_body w.by_standard w.body))))
     × (new.marks ≡ old.marks) × (new.source ≡ old.source)
-UpgradeLeaves k old new Refused = LetsGo k old new
-UpgradeLeaves k old new NotYet = Unit {0}
-UpgradeLeaves k old new NoSuch = Unit {0}
-UpgradeLeaves k old new _ = ⊥
+UpgradeLeaves k protocol code old new Refused = LetsGo k old new × (refuses_upgrade_at protocol code (slice_get old.requests k) ≡ true)
+UpgradeLeaves k protocol code old new NotYet = Unit {0}
+UpgradeLeaves k protocol code old new NoSuch = Unit {0}
+UpgradeLeaves k protocol code old new _ = ⊥
 
 -- What a step leaves of requests, source and output. An AsReader only clears what its request owes. A read changes no more than
 -- the body of its request, and the source if it is read from that. An answer, a drop and a Finish let their request go. An
@@ -208,12 +208,12 @@ StepLeaves (step.Read k n) old new reply =
     × (((new.requests ≡ old.requests) × (new.source ≡ old.source))
     ⊎ ((u : Unfinished) × (was : Body) × (body : Body) × (slice_get old.requests k ≡ Some (Some u)) × (kept_body (Some u) ≡ Some was)
     × (new.requests ≡ slice_set old.requests k (Some (with_body body u))) × StandsAfter was body old.source new.source))
-StepLeaves (step.Respond k r) old new reply = AnswerLeaves k old new reply
+StepLeaves (step.Respond k r) old new reply = AnswerLeaves k r.answer.status old new reply
 StepLeaves (step.IntoWriter k) old new reply =
     (new.outlet ≡ old.outlet) × (new.marks ≡ old.marks) × (IsAnswered reply → (new.requests ≡ slice_set old.requests k (Some still.Raw)) × GivesUpKept k old new)
 StepLeaves (step.Write k bytes) old new reply = LeavesAllButOutlet old new
 StepLeaves (step.Flush k) old new reply = LeavesAllButOutlet old new
-StepLeaves (step.Upgrade k p r) old new reply = UpgradeLeaves k old new reply
+StepLeaves (step.Upgrade k p r) old new reply = UpgradeLeaves k (string_bytes p) r.answer.status old new reply
 StepLeaves (step.Finish k) old new reply = IsAnswered reply → LetsGo k old new
 StepLeaves (step.Drop k) old new reply = IsAnswered reply → LetsGo k old new
 
@@ -258,12 +258,11 @@ pub record TakesStep {R W : Type 0} (old new : ConnectionState R W) (now : HttpD
   pub sent_on : (sent : Bool) → (sent ≡ true → SentOn old.outlet) → all_sent_after step reply sent ≡ true → SentOn new.outlet
   pub honest : (kind : ErrorKind) → reply ≡ Fault kind → ReportsFault old new now step kind
 
--- a step that drops the request of this number, and its reply: a Drop, an answer that is refused, or an Upgrade whose protocol isn't
--- ASCII
+-- a step that drops the request of this number, and its reply: a Drop, an answer that is refused, or an Upgrade that is
 abbrev pub IsDropping : List (Option Unfinished) → ℕ → Step (Option Feed) → ReplyValue → Type 0
 IsDropping requests n (step.Drop k) Done = k ≡ n
 IsDropping requests n (step.Respond k r) Refused = (k ≡ n) × (refuses_at r.answer.status (slice_get requests n) ≡ true)
-IsDropping requests n (step.Upgrade k p r) Refused = (k ≡ n) × (list_all is_ascii (string_bytes p) ≡ false)
+IsDropping requests n (step.Upgrade k p r) Refused = (k ≡ n) × (refuses_upgrade_at (string_bytes p) r.answer.status (slice_get requests n) ≡ true)
 IsDropping _ _ _ _ = ⊥
 
 -- the request of this number was dropped

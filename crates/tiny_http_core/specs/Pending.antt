@@ -1,5 +1,5 @@
 -- Numbers whose turn comes, and what is sent as it does.
-use Rattle.std.specs.Prelude.{◌≡◌, ◌==◌, ◌<◌, ◌^◌, ◌+◌, ℕ, Bool, true, false, not, ◌||◌, List, [], ◌∷◌, ◌++◌, length, Option, Some, None, MatchBool, slice_get}
+use Rattle.std.specs.Prelude.{◌≡◌, ◌==◌, ◌<◌, ◌^◌, ◌+◌, ℕ, Bool, true, false, not, ◌||◌, List, [], ◌∷◌, ◌++◌, length, Option, Some, None, MatchBool, is_err, slice_get}
 use Rattle.tiny_http_wire.specs.Device.{Sink}
 use Rattle.tiny_http_wire.specs.declared.answer_context.AnswerContext.{AnswerContext}
 use Rattle.std.specs.Global.{Vec}
@@ -9,8 +9,8 @@ use Rattle.tiny_http_core.specs.declared.pending.Unfinished.{Unfinished}
 use Rattle.tiny_http_core.specs.declared.pending.Unfinished.TheVariants as still
 use Rattle.tiny_http_message.specs.declared.body.Body.{Body}
 use Rattle.tiny_http_message.specs.declared.open_request.OpenRequest.{OpenRequest}
-use Rattle.tiny_http_message.specs.Body.{is_streaming, GivesUp}
-use Rattle.tiny_http_message.specs.OpenRequest.{is_last_without_continue, refuses_code}
+use Rattle.tiny_http_message.specs.Body.{is_streaming, is_whole, GivesUp}
+use Rattle.tiny_http_message.specs.OpenRequest.{is_last_without_continue, refuses_code, request_check}
 use Rattle.tiny_http_stream.specs.Source.{SourceState}
 use Rattle.tiny_http_stream.specs.Outlet.{OutletState, output_of, outlet_ended, outlet_held, SentOn}
 use Rattle.tiny_http_sending.specs.Sending.{CanSend, SendsUnlessEnded, SendsQuietlyOn, IsFlushed, FailsOnce}
@@ -117,6 +117,14 @@ refuses_at code (Some (Some still.Raw)) = false
 refuses_at code (Some (Some (still.Upgraded b))) = false
 refuses_at code (Some None) = false
 refuses_at code None = false
+
+-- it waits for its answer, and an upgrade to this protocol with this code is refused
+abbrev pub refuses_upgrade_at : List ℕ → ℕ → Option (Option Unfinished) → Bool
+refuses_upgrade_at protocol code (Some (Some (still.Waiting w))) = is_err (request_check w protocol code (is_whole w.body))
+refuses_upgrade_at protocol code (Some (Some still.Raw)) = false
+refuses_upgrade_at protocol code (Some (Some (still.Upgraded b))) = false
+refuses_upgrade_at protocol code (Some None) = false
+refuses_upgrade_at protocol code None = false
 
 -- no head is read behind it once it gets the connection's stream
 abbrev pub is_last_with_stream_at : Option (Option Unfinished) → Bool

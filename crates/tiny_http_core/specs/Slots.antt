@@ -1,16 +1,19 @@
 -- The numbers of a connection: what stands under each, and what each sends.
-use Rattle.std.specs.Prelude.{ℕ, Bool, true, false, not, ◌&&◌, ◌||◌, List, [], ◌∷◌, ◌++◌, take, drop, Option, Some, None, if◌then◌else◌}
+use Rattle.std.specs.Prelude.{ℕ, Bool, true, false, not, ◌&&◌, ◌||◌, List, [], ◌∷◌, ◌++◌, take, drop, Option, Some, None, is_err, if◌then◌else◌}
 use Rattle.std.specs.List.{list_all, last_or}
 use Rattle.std.specs.declared.io.ErrorKind.TheVariants.{OutOfMemory}
 use Rattle.httpdate.specs.declared.date.HttpDate.{HttpDate}
 use Rattle.tiny_http_wire.specs.Coding.{coding_asked}
-use Rattle.tiny_http_wire.specs.Device.{Feed}
+use Rattle.tiny_http_wire.specs.Device.{Feed, whole_feed}
+use Rattle.tiny_http_wire.specs.declared.device.Stop.{Stop}
+use Rattle.tiny_http_wire.specs.declared.device.Stop.TheVariants.{End, Fault}
 use Rattle.tiny_http_wire.specs.Answer.{Printing}
 use Rattle.tiny_http_encoding.specs.Text.{Text, Ending, Whole, Broken, prepend_text, whole, nothing_sent}
 use Rattle.tiny_http_message.specs.declared.framing.Form.{Form}
 use Rattle.tiny_http_message.specs.declared.framing.Form.TheVariants.{Rest, Nothing, WithHead, Counted, Chunked}
 use Rattle.tiny_http_message.specs.Pipeline.{Item, Asks, Refuses, Request, is_head_method, is_connect_method, body_length_or_0}
-use Rattle.tiny_http_message.specs.OpenRequest.{refuses_code}
+use Rattle.tiny_http_message.specs.OpenRequest.{refuses_code, upgrade_check}
+use Rattle.tiny_http_standard.specs.Judging.{names_protocol}
 use Rattle.tiny_http_sending.specs.ResponseValue.{ResponseValue, response_of, response_text, printing_to}
 use Rattle.tiny_http_message.specs.OwnAnswer.{own_printing, refusal_response}
 use Rattle.tiny_http_message.specs.Body.{body_finished}
@@ -131,6 +134,11 @@ new_slot date (Refuses refusal version no_body last) =
 abbrev pub rest_of : Request → ℕ → Feed
 rest_of r given = record { bytes = drop given r.body.bytes; stop = r.body.stop }
 
+-- a body stops by its end
+abbrev pub is_end : Stop → Bool
+is_end End = true
+is_end (Fault kind) = false
+
 abbrev pub is_body_finished : Request → Slot → Bool
 is_body_finished r s = body_finished r.framing.form (body_length_or_0 r.framing) s.given s.end_reported
 
@@ -172,6 +180,27 @@ is_last_without_continue r owed = r.framing.by_standard && owed
 -- the request isn't answered by this response
 abbrev pub refuses_response : Request → ResponseValue → Bool
 refuses_response r response = refuses_code r.framing.by_standard (is_connect_method r.message.method) response.answer.status
+
+-- it asks for this protocol, and isn't the last
+abbrev pub asks_protocol : Request → List ℕ → Bool
+asks_protocol r protocol = holds_next_head r && names_protocol r.message.headers protocol
+
+-- its body has come whole, and was read to its end or with its head
+abbrev pub is_body_whole : Request → Slot → Bool
+is_body_whole r s = is_body_finished r s && is_end r.body.stop
+
+-- the request isn't upgraded to this protocol by this response
+abbrev pub refuses_upgrade : Request → Slot → List ℕ → ResponseValue → Bool
+refuses_upgrade r s protocol response = is_err (upgrade_check r.framing.by_standard (asks_protocol r protocol) protocol response.answer.status (is_body_whole r s))
+
+-- all that follows the request, as the body of its upgraded connection
+abbrev pub as_stream : Request → Request
+as_stream r = record r { framing = record r.framing { form = Rest; is_last = true }; body = r.behind; behind = whole_feed [] }
+
+-- The number is upgraded. By the standard its stream reads all that follows the request, else the request's own body.
+abbrev pub upgraded_slot : Request → Slot → Stage → Slot
+upgraded_slot r s stage =
+    if r.framing.by_standard then record s { item = Asks (as_stream r); given = 0; end_reported = false; stage = stage; owed = false } else record s { stage = stage; owed = false }
 
 -- the next head isn't read before this number is answered
 abbrev pub is_holding : Slot → Item → Bool

@@ -1,18 +1,16 @@
 -- The steps of a connection, and what each answers and changes.
 use Rattle.std.specs.Prelude.{ℕ, ◌+◌, Bool, true, false, not, ◌&&◌, ◌||◌, ◌==◌, nat_lt, List, [], ◌∷◌, ◌++◌, length, take, Option, Some, None, if◌then◌else◌, slice_get, slice_set}
-use Rattle.std.specs.List.{list_all}
 use Rattle.std.specs.declared.io.ErrorKind.{ErrorKind}
 use Rattle.httpdate.specs.declared.date.HttpDate.{HttpDate}
 use Rattle.tiny_http_wire.specs.declared.device.Stop.{Stop}
 use Rattle.tiny_http_wire.specs.declared.device.Stop.TheVariants.{End, Fault as Faults}
-use Rattle.tiny_http_wire.specs.Bytes.{is_ascii}
 use Rattle.tiny_http_wire.specs.Heads.{Message}
 use Rattle.tiny_http_encoding.specs.Text.{Ending, Whole, Broken}
 use Rattle.tiny_http_message.specs.declared.framing.Framing.{Framing}
 use Rattle.tiny_http_message.specs.Pipeline.{Item, Asks, Refuses, Request}
 use Rattle.tiny_http_sending.specs.ResponseValue.{ResponseValue}
 use Rattle.tiny_http_sending.specs.Sending.{is_closed_client}
-use Rattle.tiny_http_core.specs.Slots.{Slot, Stage, Unanswered, Answered, ByServer, Raw, Upgraded, turn_has_come, to_request, text_if, new_slot, rest_of, last_slot, holds_next_head, is_last_without_continue, refuses_response, last_holds_reader, last_was_abandoned}
+use Rattle.tiny_http_core.specs.Slots.{Slot, Stage, Unanswered, Answered, ByServer, Raw, Upgraded, turn_has_come, to_request, text_if, new_slot, rest_of, last_slot, holds_next_head, is_last_without_continue, refuses_response, refuses_upgrade, upgraded_slot, last_holds_reader, last_was_abandoned}
 
 -- a step, with its response as a value
 pub data StepValue : Type 0 where
@@ -139,13 +137,13 @@ accepts_step (Answered response date found) owed _ = false
 accepts_step ByServer owed _ = false
 
 -- whether a step waits for its number's turn
-abbrev pub needs_turn : Request → Bool → StepValue → Bool
-needs_turn r owed (AsReader k) = owed
-needs_turn r owed (Respond k response) = not (refuses_response r response)
-needs_turn r owed (Write k bytes) = true
-needs_turn r owed (Flush k) = true
-needs_turn r owed (Upgrade k protocol response) = list_all is_ascii protocol
-needs_turn r owed _ = false
+abbrev pub needs_turn : Request → Slot → StepValue → Bool
+needs_turn r s (AsReader k) = s.owed
+needs_turn r s (Respond k response) = not (refuses_response r response)
+needs_turn r s (Write k bytes) = true
+needs_turn r s (Flush k) = true
+needs_turn r s (Upgrade k protocol response) = not (refuses_upgrade r s protocol response)
+needs_turn r s _ = false
 
 -- a text of the server's own is written in its turn alone
 abbrev pub use_in_turn : Bool → WriterUse
@@ -176,9 +174,9 @@ effect found date old r s turn (IntoWriter k) = ends_asking (is_last_with_stream
 effect found date old r s turn (Write k bytes) = changes old k (record s { stage = written_to bytes s.stage }) Done (Reported bytes None false Fault)
 effect found date old r s turn (Flush k) = changes old k s Done (Reported [] None true Fault)
 effect found date old r s turn (Upgrade k protocol response) =
-    if list_all is_ascii protocol
-    then ends_asking (is_last_with_stream r s.owed) (changes old k (record s { stage = Upgraded protocol response date [] false; owed = false }) Done Unreported)
-    else ends_asking (is_last_without_continue r s.owed) (changes old k (finished_as s ByServer) Refused (use_in_turn turn))
+    if refuses_upgrade r s protocol response
+    then ends_asking (is_last_without_continue r s.owed) (changes old k (finished_as s ByServer) Refused (use_in_turn turn))
+    else ends_asking (is_last_with_stream r s.owed) (changes old k (upgraded_slot r s (Upgraded protocol response date [] false)) Done Unreported)
 effect found date old r s turn (Finish k) = changes old k (finished_as s (stage_closed s.stage)) Done (use_in_turn turn)
 effect found date old r s turn (Drop k) = ends_asking (is_last_without_continue r s.owed) (changes old k (finished_as s ByServer) Done (use_in_turn turn))
 effect found date old r s turn Ask = unchanged old NoSuch
@@ -187,7 +185,7 @@ abbrev pub at_item : Bool → HttpDate → Reached → ℕ → StepValue → Slo
 at_item found date old k step s (Refuses refusal version no_body last) = unchanged old NoSuch
 at_item found date old k step s (Asks r) =
     if not (accepts_step s.stage s.owed step) then unchanged old NoSuch else
-    if (needs_turn r s.owed step && not (turn_has_come k old.slots)) then unchanged old NotYet else
+    if (needs_turn r s step && not (turn_has_come k old.slots)) then unchanged old NotYet else
     effect found date old r s (turn_has_come k old.slots) step
 
 abbrev pub at_slot : Bool → HttpDate → Reached → ℕ → StepValue → Option Slot → Outcome

@@ -27,7 +27,6 @@ use tiny_http_message::exchange::{EndOfRequests, Head};
 use tiny_http_message::framing::Profile;
 use tiny_http_message::next_request::{NextRequest, next_request};
 use tiny_http_message::open_request::OpenRequest;
-use tiny_http_message::upgrading::check_protocol;
 use tiny_http_sending::sending::reported;
 use tiny_http_stream::outlet::Outlet;
 use tiny_http_stream::source::{Source, Standing};
@@ -38,9 +37,9 @@ use tiny_http_wire::response::Response;
 #[derive(Drop)]
 pub enum Step<D> {
     /// Reads the next head and hands it out. It is `NotYet` while the body of the last request that was handed out holds the
-    /// reader: one that is counted or chunked, neither read to its end nor given up, of a request that isn't the
-    /// connection's last. Under `Standard` it is `NotYet`, too, while a request that asks for an upgrade waits for its answer. After
-    /// a chunked body that was given up before its end was reported no head follows.
+    /// reader: one that is counted or chunked, neither read to its end nor given up, of a request that isn't the connection's
+    /// last. Under `Standard` it is `NotYet`, too, while a request that asks for an upgrade waits for its answer. After a
+    /// chunked body that was given up before its end was reported no head follows.
     Ask,
     /// Sends the 100 that is owed to the request of this number. Before its turn it is `NotYet`.
     AsReader(u64),
@@ -56,7 +55,8 @@ pub enum Step<D> {
     /// Sends what was written under this number, in its turn.
     Flush(u64),
     /// Answers the request of this number in its turn by a response that upgrades the connection to this protocol. Then its
-    /// stream is read by `Read`, and written by `Write`, until its `Finish`.
+    /// stream is read by `Read`, and written by `Write`, until its `Finish`. It reads what is left of the request's body, or under
+    /// `Standard` all that follows the body.
     Upgrade(u64, String, Response<D>),
     /// Ends the raw writer of this number, or the stream of an upgrade. In its turn what was written is sent.
     Finish(u64),
@@ -87,12 +87,12 @@ pub enum Reply {
     /// The body ends by this fault; or the writer or the response's data failed so.
     Fault(ErrorKind),
     /// The step has to wait: an `Ask` for the last body to be read or given up, or for the answer to a request that asks for an
-    /// upgrade; a `Respond`, a `Write`, a `Flush`, an `Upgrade`
-    /// to a protocol that is ASCII, or an `AsReader` that has a 100 to send, for its turn. Nothing has changed.
+    /// upgrade; a `Respond` or an `Upgrade` that isn't refused, a `Write`, a `Flush`, or an `AsReader` that has a 100 to send,
+    /// for its turn. Nothing has changed.
     NotYet,
     /// The step was done, and met no fault that is reported.
     Done,
-    /// An upgrade was refused, as its protocol isn't ASCII, or an answer under `Standard`, by its code; and the request was dropped.
+    /// An upgrade was refused; or under `Standard` an answer, by its code. The request was dropped.
     Refused,
     /// No request of this number takes the step; nothing has changed.
     NoSuch,
@@ -227,8 +227,8 @@ impl<R: ReadDevice, W: WriteDevice> Connection<R, W> {
         }
     }
 
-    /// Why no further request is handed out, once an `ask` was answered `Ended` or `Memory`, or a request was finished, upgraded or its
-    /// raw writer taken, behind which none is read.
+    /// Why no further request is handed out, once an `ask` was answered `Ended` or `Memory`, or a request was finished,
+    /// upgraded or its raw writer taken, behind which none is read.
     pub fn end_of_requests(&self) -> Option<EndOfRequests>
         ensures { result ≡ self.now.end }
     {
@@ -253,14 +253,14 @@ impl<R: ReadDevice, W: WriteDevice> Connection<R, W> {
     /// holds the reader: until that was read to its end or given up. It is so, too, while the last request waits for its answer
     /// and its head says `asks_upgrade`, unless it is the connection's last: what follows it may be bytes of the other protocol
     /// (RFC 9110, section 7.8). The reply is `Ended` once the connection has no further request, from then on, and
-    /// `end_of_requests` says why. A refused head is answered under a number of its own, in its turn, and
-    /// ends the asking; but a 505 does so only where its head names an upgrade or its body is chunked. After any other 505 the
-    /// same call reads the next head. `Memory` ends the asking too, and so does a chunked body that was given up before its
-    /// end. Under `Standard` each 505 ends it; so does a request that asked for an upgrade, once its raw writer is taken or it is
-    /// upgraded, and one that is answered, dropped, upgraded or gives its raw writer while its 100 is owed. The call waits for the
-    /// client only until the head and a body of up to 1024 bytes have come, or the head alone where
-    /// it expects a 100, and before them the rest of a counted body that was given up or passed over. After the last request
-    /// the reader isn't called. `now` dates the answers to refused heads, and the 500 of this request if it is dropped.
+    /// `end_of_requests` says why. A refused head is answered under a number of its own, in its turn, and ends the asking; but
+    /// a 505 does so only where its head names an upgrade or its body is chunked. After any other 505 the same call reads the
+    /// next head. `Memory` ends the asking too, and so does a chunked body that was given up before its end. Under `Standard`
+    /// each 505 ends it; so does a request that asked for an upgrade, once its raw writer is taken or it is upgraded, and one
+    /// that is answered, dropped or gives its raw writer while its 100 is owed. The call waits for the client only until the
+    /// head and a body of up to 1024 bytes have come, or the head alone where it expects a 100, and before them the rest of a
+    /// counted body that was given up or passed over. After the last request the reader isn't called. `now` dates the answers
+    /// to refused heads, and the 500 of this request if it is dropped.
     pub fn ask(&mut self, alloc: Global, now: HttpDate) -> Reply
         ensures step { TakesStep self.old self.new now Step.Ask (seen result) }
     {
@@ -349,7 +349,7 @@ impl<R: ReadDevice, W: WriteDevice> Connection<R, W> {
     /// Drops the request of this number, and gives its body up: an empty 500 is its answer, on the date of its `ask`. It is
     /// sent now, or by the call that finishes the last number before it; it is never `NotYet`. `Done`, or `NoSuch` for a number
     /// that doesn't wait for an answer. It takes no memory, and no reply reports a fault of the writer. Under `Standard` no request
-    /// follows one that is dropped, answered or upgraded while its 100 is owed.
+    /// follows one that is dropped or answered while its 100 is owed.
     pub fn drop_request(&mut self, number: u64) -> Reply
         ensures step { (date : Date) → TakesStep self.old self.new date (Step.Drop number) (seen result) }
     {
@@ -458,9 +458,13 @@ impl<R: ReadDevice, W: WriteDevice> Connection<R, W> {
 
     /// Answers the request of this number by a response that upgrades the connection to this protocol (RFC 9110, section
     /// 7.8): `Done`. The response's head is sent and flushed, with `Connection: upgrade` and `Upgrade: PROTOCOL`, and its data
-    /// are let go unread. From then on `read` gives what is left of the request's body. That is all that follows where its head
-    /// names an upgrade, but under `Standard`. Bytes are written by `write`, `flush` and `finish`, as by a raw writer. It is `Refused` where the
-    /// protocol isn't ASCII, in its turn or before it: then the request is dropped. `NotYet` and `NoSuch` are as for `respond`.
+    /// are let go unread. From then on `read` gives what is left of the request's body, which is all that follows where its head
+    /// names an upgrade. Under `Standard` it gives all that follows the body. Bytes are written by `write`, `flush` and `finish`,
+    /// as by a raw writer. It is `Refused` where the protocol isn't ASCII, in its turn or before it: then the request is dropped.
+    /// Under `Standard` it is so, too, where the request doesn't ask for this protocol or is its connection's last, where the code
+    /// isn't 101, and where the body wasn't read until its end was reported, or was cut or is broken. (A body without bytes or of
+    /// up to 1024 bytes that came with its head needn't be read, and a counted one only to its last byte.) `NotYet` and `NoSuch`
+    /// are as for `respond`.
     /// It takes no memory, and no reply reports a fault of the writer. `now` is the answer's `Date`.
     pub fn upgrade<D: ReadDevice + Drop>(
         &mut self,
@@ -476,7 +480,8 @@ impl<R: ReadDevice, W: WriteDevice> Connection<R, W> {
         if !self.pending.is_waiting(number) {
             return Reply::NoSuch;
         }
-        if check_protocol(protocol).is_err() {
+        let status = response.status_code();
+        if self.pending.refuses_upgrade(number, protocol, status) {
             self.let_go(number);
             return Reply::Refused;
         }
@@ -540,9 +545,9 @@ impl<R: ReadDevice, W: WriteDevice> Connection<R, W> {
     }
 }
 
-/// Runs the steps over a connection under `Lenient`, one reply a step. It hands out exactly the requests that the grammar finds in the
-/// client's bytes, each body gives its own bytes and reports its end only there, and the output is one segment a request or
-/// refused head, in order, whole up to the first fault.
+/// Runs the steps over a connection under `Lenient`, one reply a step. It hands out exactly the requests that the grammar finds
+/// in the client's bytes, each body gives its own bytes and reports its end only there, and the output is one segment a request
+/// or refused head, in order, whole up to the first fault.
 pub fn run<R: ReadDevice + Drop, W: WriteDevice + Drop, D: ReadDevice + Drop>(
     alloc: Global,
     reader: R,
@@ -558,9 +563,9 @@ pub fn run<R: ReadDevice + Drop, W: WriteDevice + Drop, D: ReadDevice + Drop>(
     run_with(alloc, Profile::Lenient, reader, writer, steps)
 }
 
-/// Runs the steps over a connection under this profile, one reply a step. It hands out exactly the requests that the grammar finds in the
-/// client's bytes, each body gives its own bytes and reports its end only there, and the output is one segment a request or
-/// refused head, in order, whole up to the first fault.
+/// Runs the steps over a connection under this profile, one reply a step. It hands out exactly the requests that the grammar
+/// finds in the client's bytes, each body gives its own bytes and reports its end only there, and the output is one segment a
+/// request or refused head, in order, whole up to the first fault.
 pub fn run_with<R: ReadDevice + Drop, W: WriteDevice + Drop, D: ReadDevice + Drop>(
     alloc: Global,
     profile: Profile,

@@ -12,8 +12,8 @@ ghost use Rattle.tiny_http_message.specs.OpenRequest.{HasSentAll};
 ghost use Rattle.tiny_http_message.specs.declared.body.Body.{Body};
 ghost use Rattle.tiny_http_message.specs.declared.open_request.OpenRequest.{OpenRequest};
 ghost use Rattle.tiny_http_stream.specs.Source.{GoesOn};
-ghost use Rattle.tiny_http_message.specs.Body.{is_streaming, body_standing, FillsFromBody};
-ghost use Rattle.tiny_http_core.specs.Pending.{WaitsAt, left_text, SendsLeft, FinishesFront, LeavesText, waiting_answer_context, is_readable, is_writable, owes_continue, holds_next_head_at, refuses_at, is_last_with_stream_at, last_holds_next_head, kept_body, GivesUpBody, with_body};
+ghost use Rattle.tiny_http_message.specs.Body.{is_streaming, stream_body, body_standing, FillsFromBody};
+ghost use Rattle.tiny_http_core.specs.Pending.{WaitsAt, left_text, SendsLeft, FinishesFront, LeavesText, waiting_answer_context, is_readable, is_writable, owes_continue, holds_next_head_at, refuses_at, refuses_upgrade_at, is_last_with_stream_at, last_holds_next_head, kept_body, GivesUpBody, with_body};
 
 use httpdate::HttpDate;
 use std::alloc::{AllocError, Global};
@@ -138,6 +138,18 @@ impl Pending {
         }
     }
 
+    /// Whether this number waits for its answer, and an upgrade to this protocol by an answer with this code is refused.
+    pub fn refuses_upgrade(&self, number: u64, protocol: &str, status: StatusCode) -> bool
+        ensures { result ≡ refuses_upgrade_at protocol.now status.0 (slice_get self.now.requests number) }
+    {
+        match self.requests.get(number) {
+            Some(Unfinished::Waiting(request)) => request
+                .check_upgrade(protocol, status, request.body.is_whole())
+                .is_err(),
+            _ => false,
+        }
+    }
+
     /// Whether this number waits for its answer, and no head is read behind it once it gets the connection's stream: it holds the
     /// next head, or lacks its 100.
     pub fn is_last_with_stream(&self, number: u64) -> bool
@@ -191,7 +203,8 @@ impl Pending {
         }
     }
 
-    /// Upgrades the connection to this protocol, if this number waits for its answer. Its body is kept.
+    /// Upgrades the connection to this protocol, if this number waits for its answer. Its body is kept, or by the standard all that
+    /// comes is read.
     pub fn upgrade<W: WriteDevice, D: Drop>(
         &mut self,
         alloc: Global,
@@ -203,7 +216,7 @@ impl Pending {
     )
         requires { list_all is_ascii protocol.now ≡ true }
         ensures requests { (w : OpenRequest Body) → WaitsAt self.old.requests number w
-            → self.new.requests ≡ slice_set self.old.requests number (Some (Unfinished.Upgraded w.body)) }
+            → self.new.requests ≡ slice_set self.old.requests number (Some (Unfinished.Upgraded (stream_body w.by_standard w.body))) }
         // Whatever the data are.
         ensures sends { (w : OpenRequest Body) → WaitsAt self.old.requests number w
             → ((content : Feed) → SendsQuietlyOn outlet.old outlet.new
@@ -214,6 +227,8 @@ impl Pending {
     {
         if let Some(mut request) = self.take(number, Some(Unfinished::Raw)) {
             request.upgrade(alloc, outlet, protocol, response, now);
+            let by_standard = request.by_standard;
+            request.body.become_stream(by_standard);
             drop(
                 self.requests
                     .replace(number, Some(Unfinished::Upgraded(request.body))),

@@ -6,14 +6,15 @@ use Rattle.std.proofs.Math.Seq.{take-nil}
 use Rattle.std.proofs.lemmas.Bool.{lt-ltb, le-ltb, ne_eqb, eqb-true, cases_lt}
 use Rattle.std.proofs.lemmas.List.{take-append-drop}
 use Rattle.tiny_http_wire.specs.declared.device.Stop.{Stop}
-use Rattle.tiny_http_wire.specs.declared.device.Stop.TheVariants.{End}
+use Rattle.std.specs.declared.io.ErrorKind.{ErrorKind}
+use Rattle.tiny_http_wire.specs.declared.device.Stop.TheVariants.{End, Fault}
 use Rattle.tiny_http_wire.specs.Device.{Feed, prepended, prepend, StopsBy}
 use Rattle.tiny_http_message.specs.declared.body.Body.{Body}
 use Rattle.tiny_http_message.specs.declared.body.Body.TheVariants.{Over, WithHead, Counted, Chunked, Rest}
 use Rattle.tiny_http_stream.specs.ToCome.{skipped, stopped}
 use Rattle.tiny_http_stream.specs.FeedParts.{feed_front}
 use Rattle.tiny_http_wire.specs.declared.chunked.ChunkRules.{ChunkRules}
-use Rattle.tiny_http_message.specs.Body.{Remaining, remaining, counted_remaining, taken_remaining, prepend_body, prepended_body, BodyStops, NoneRemains, is_streaming, body_standing, IsBodyOver, IsChunkedBy, ReadsOn, GivesUp}
+use Rattle.tiny_http_message.specs.Body.{Remaining, remaining, cut_stop, cut_feed, counted_remaining, taken_remaining, prepend_body, prepended_body, BodyStops, NoneRemains, is_streaming, body_standing, IsBodyOver, IsChunkedBy, ReadsOn, GivesUp}
 use Rattle.tiny_http_stream.specs.declared.source.Standing.{Standing}
 use Rattle.tiny_http_stream.specs.Source.{SourceState, GoesOn, IsRestOf}
 use Rattle.tiny_http_stream.proofs.SourceGoesOn.{goes-on_same}
@@ -33,46 +34,46 @@ skipped-front front f k =
         all [] = refl
         all (x ∷ xs) = all xs
 
-counted-at : (front : List ℕ) (f : Feed) (k : ℕ) → counted_remaining (length front + k) (prepend front f) ≡ prepend_body front (counted_remaining k f)
-counted-at front f k =
+counted-at : (standard : Bool) (front : List ℕ) (f : Feed) (k : ℕ) → counted_remaining standard (length front + k) (prepend front f) ≡ prepend_body front (counted_remaining standard k f)
+counted-at standard front f k =
     let R : Feed → Feed → Remaining = λ body behind. record { body = body; behind = behind } in
-    ap (λ b. R b (skipped (length front + k) (prepend front f))) (part-more f.stop front f.bytes k) ∙ ap (R (prepend front (feed_front k f))) (skipped-front front f k)
+    ap (λ b. R b (skipped (length front + k) (prepend front f))) (part-more (cut_stop standard f.stop) front f.bytes k) ∙ ap (R (prepend front (feed_front k (cut_feed standard f)))) (skipped-front front f k)
 
 -- some of the bytes of a counted body
-pub counted-bytes : (old new : Option Feed) (front : List ℕ) (left n : ℕ) → old ≡ prepended front new → length front ≡ n → n ≤ left
-    → option_map (counted_remaining left) old ≡ prepended_body front (option_map (counted_remaining (left - n)) new)
-counted-bytes old new front left n h e le =
+pub counted-bytes : (standard : Bool) (old new : Option Feed) (front : List ℕ) (left n : ℕ) → old ≡ prepended front new → length front ≡ n → n ≤ left
+    → option_map (counted_remaining standard left) old ≡ prepended_body front (option_map (counted_remaining standard (left - n)) new)
+counted-bytes standard old new front left n h e le =
     let split : left ≡ length front + (left - n) = omega arith in
-    ap (λ o. option_map (counted_remaining left) o) h ∙ (ap (λ m. option_map (counted_remaining m) (prepended front new)) split ∙ at new)
+    ap (λ o. option_map (counted_remaining standard left) o) h ∙ (ap (λ m. option_map (counted_remaining standard m) (prepended front new)) split ∙ at new)
   where
-    at : (f : Option Feed) → option_map (counted_remaining (length front + (left - n))) (prepended front f) ≡ prepended_body front (option_map (counted_remaining (left - n)) f)
+    at : (f : Option Feed) → option_map (counted_remaining standard (length front + (left - n))) (prepended front f) ≡ prepended_body front (option_map (counted_remaining standard (left - n)) f)
     at None = refl
-    at (Some f) = ap Some (counted-at front f (left - n))
+    at (Some f) = ap Some (counted-at standard front f (left - n))
 
 -- none is left
-pub counted-none : (o : Option Feed) → option_map (counted_remaining 0) o ≡ option_map (taken_remaining (stopped End)) o
+pub counted-none : (standard : Bool) (o : Option Feed) → option_map (counted_remaining standard 0) o ≡ option_map (taken_remaining (stopped End)) o
 unfolding feed_front
-counted-none None = refl
-counted-none (Some f) =
+counted-none standard None = refl
+counted-none standard (Some f) =
     let R : Feed → Feed → Remaining = λ body behind. record { body = body; behind = behind } in
     ap Some (rw (le-ltb (length f.bytes) 0 (omega arith)) (ap (R (stopped End)) (skipped-within 0 f (omega arith))))
 
 -- the input ended before the body did
-counted-short : (f : Feed) (left : ℕ) (stop : Stop) → 0 < left → f.bytes ≡ [] → f.stop ≡ stop → counted_remaining left f ≡ taken_remaining (stopped stop) (stopped End)
+counted-short : (standard : Bool) (f : Feed) (left : ℕ) (stop : Stop) → 0 < left → f.bytes ≡ [] → f.stop ≡ stop → counted_remaining standard left f ≡ taken_remaining (stopped (cut_stop standard stop)) (stopped End)
 unfolding feed_front
-counted-short f left stop some none e =
+counted-short standard f left stop some none e =
     let z : length f.bytes ≡ 0 = ap length none in
     let R : Feed → Feed → Remaining = λ body behind. record { body = body; behind = behind } in
-    ap (R (feed_front left f)) (skipped-beyond left f (omega arith)) ∙ ap (λ b. R b (stopped End)) body
+    ap (R (feed_front left (cut_feed standard f))) (skipped-beyond left f (omega arith)) ∙ ap (λ b. R b (stopped End)) body
   where
-    body : feed_front left f ≡ stopped stop
+    body : feed_front left (cut_feed standard f) ≡ stopped (cut_stop standard stop)
     body =
         let z : length f.bytes ≡ 0 = ap length none in
         rw (lt-ltb (length f.bytes) left (omega arith), none, e, take-nil {A = ℕ} left) refl
 
-pub counted-cut : (o : Option Feed) (left : ℕ) (stop : Stop) → 0 < left → StopsBy stop o → option_map (counted_remaining left) o ≡ option_map (taken_remaining (stopped stop)) (option_map (λ _. stopped End) o)
-counted-cut None left stop some h = refl
-counted-cut (Some f) left stop some h = ap Some (counted-short f left stop some h.0 h.1)
+pub counted-cut : (standard : Bool) (o : Option Feed) (left : ℕ) (stop : Stop) → 0 < left → StopsBy stop o → option_map (counted_remaining standard left) o ≡ option_map (taken_remaining (stopped (cut_stop standard stop))) (option_map (λ _. stopped End) o)
+counted-cut standard None left stop some h = refl
+counted-cut standard (Some f) left stop some h = ap Some (counted-short standard f left stop some h.0 h.1)
 
 pub taken-stops : (stop : Stop) (o : Option Feed) (r : Option Remaining) → r ≡ option_map (taken_remaining (stopped stop)) o → BodyStops stop r
 taken-stops stop None r e = rw e tt
@@ -83,15 +84,20 @@ nothing-read None bs e = refl
 nothing-read (Some r) bs e = rw e refl
 
 -- the input ended, or failed, in front of the last byte of a counted body: the body is over, and the input
-pub body-cut-is : (b : Body) (old mid new : Option Feed) (left : ℕ) (stop : Stop) → b ≡ Counted left → 0 < left → StopsBy stop old → mid ≡ old → new ≡ option_map (λ _. stopped End) mid
-    → remaining b old ≡ remaining (Over stop) new
-body-cut-is b old mid new left stop e some stops same ends =
-    let g : Option Feed → Option Remaining = λ o. option_map (taken_remaining (stopped stop)) (option_map (λ _. stopped End) o) in
-    ap (λ x. remaining x old) e ∙ counted-cut old left stop some stops ∙ ap g (sym same) ∙ ap (λ o. option_map (taken_remaining (stopped stop)) o) (sym ends)
+pub body-cut-is : (standard : Bool) (b : Body) (old mid new : Option Feed) (left : ℕ) (stop : Stop) → b ≡ Counted left standard → 0 < left → StopsBy stop old → mid ≡ old → new ≡ option_map (λ _. stopped End) mid
+    → remaining b old ≡ remaining (Over (cut_stop standard stop)) new
+body-cut-is standard b old mid new left stop e some stops same ends =
+    let g : Option Feed → Option Remaining = λ o. option_map (taken_remaining (stopped (cut_stop standard stop))) (option_map (λ _. stopped End) o) in
+    ap (λ x. remaining x old) e ∙ counted-cut standard old left stop some stops ∙ ap g (sym same) ∙ ap (λ o. option_map (taken_remaining (stopped (cut_stop standard stop))) o) (sym ends)
 
-pub cut-stops : (b : Body) (old : Option Feed) (left : ℕ) (stop : Stop) → b ≡ Counted left → 0 < left → StopsBy stop old → BodyStops stop (remaining b old)
-cut-stops b old left stop e some stops =
-    taken-stops stop (option_map (λ _. stopped End) old) (remaining b old) (ap (λ x. remaining x old) e ∙ counted-cut old left stop some stops)
+-- a fault of the reader is told as it is
+pub cut-fault : (standard : Bool) (kind : ErrorKind) → cut_stop standard (Fault kind) ≡ Fault kind
+cut-fault true kind = refl
+cut-fault false kind = refl
+
+pub cut-stops : (standard : Bool) (b : Body) (old : Option Feed) (left : ℕ) (stop : Stop) → b ≡ Counted left standard → 0 < left → StopsBy stop old → BodyStops (cut_stop standard stop) (remaining b old)
+cut-stops standard b old left stop e some stops =
+    taken-stops (cut_stop standard stop) (option_map (λ _. stopped End) old) (remaining b old) (ap (λ x. remaining x old) e ∙ counted-cut standard old left stop some stops)
 
 pub read-nothing : (r q : Option Remaining) → r ≡ q → r ≡ prepended_body [] q
 read-nothing r q e = e ∙ nothing-read q [] refl
@@ -104,28 +110,28 @@ reads-on (Over stop) b c m n end_reported h k =
     (l.0, omega (arith, h.1, l.1))
 reads-on (WithHead bytes) (WithHead more) c m n end_reported h k = k
 reads-on (WithHead bytes) (Over stop) c m n end_reported h k = absurd h
-reads-on (WithHead bytes) (Counted left) c m n end_reported h k = absurd h
+reads-on (WithHead bytes) (Counted left standard) c m n end_reported h k = absurd h
 reads-on (WithHead bytes) (Chunked d) c m n end_reported h k = absurd h
 reads-on (WithHead bytes) Rest c m n end_reported h k = absurd h
 reads-on Rest b c m n end_reported h k = let P : Body → Type 0 = λ x. ReadsOn x n end_reported c in subst P h k
 reads-on (Chunked d) (Chunked more) c m n end_reported h k = let P : ChunkRules → Type 0 = λ r. MatchBool end_reported (IsBodyOver c) (IsChunkedBy r c) in subst P h k
 reads-on (Chunked d) (Over stop) c m n end_reported h k = absurd h
-reads-on (Chunked d) (Counted left) c m n end_reported h k = absurd h
+reads-on (Chunked d) (Counted left standard) c m n end_reported h k = absurd h
 reads-on (Chunked d) (WithHead bytes) c m n end_reported h k = absurd h
 reads-on (Chunked d) Rest c m n end_reported h k = absurd h
-reads-on (Counted left) b c m n end_reported h k = by (m == left) refl h
+reads-on (Counted left standard) b c m n end_reported h k = by (m == left) refl h
   where
-    by : (t : Bool) → (m == left) ≡ t → MatchBool t (IsBodyOver b) ((b ≡ Counted (left - m)) × (m < left)) → ReadsOn (Counted left) (m + n) end_reported c
+    by : (t : Bool) → (m == left) ≡ t → MatchBool t (IsBodyOver b) ((b ≡ Counted (left - m) standard) × (m < left)) → ReadsOn (Counted left standard) (m + n) end_reported c
     by true e h = over b e h k
       where
-        over : (b : Body) → (m == left) ≡ true → IsBodyOver b → ReadsOn b n end_reported c → ReadsOn (Counted left) (m + n) end_reported c
+        over : (b : Body) → (m == left) ≡ true → IsBodyOver b → ReadsOn b n end_reported c → ReadsOn (Counted left standard) (m + n) end_reported c
         over (Over stop) e h k =
             let all : ((m + n) == left) ≡ true = eq-eqb (m + n) left (omega (arith, eqb-true m left e, k.1)) in
-            let P : Bool → Type 0 = λ t. MatchBool t (IsBodyOver c) ((c ≡ Counted (left - (m + n))) × (m + n < left)) in
+            let P : Bool → Type 0 = λ t. MatchBool t (IsBodyOver c) ((c ≡ Counted (left - (m + n)) standard) × (m + n < left)) in
             let over_now : IsBodyOver c = (let Q : Body → Type 0 = λ x. IsBodyOver x in subst Q (sym k.0) tt) in
             subst P (sym (ap (λ x. end_reported || x) all ∙ or-true end_reported)) over_now
         over (WithHead bytes) e h k = absurd h
-        over (Counted l) e h k = absurd h
+        over (Counted l standard) e h k = absurd h
         over (Chunked d) e h k = absurd h
         over Rest e h k = absurd h
     by false e h =
@@ -133,9 +139,9 @@ reads-on (Counted left) b c m n end_reported h k = by (m == left) refl h
         let l = subst P h.0 k in
         more (end_reported || (n == (left - m))) refl l
       where
-        to : (t : Bool) → MatchBool t (IsBodyOver c) ((c ≡ Counted ((left - m) - n)) × (n < left - m)) → MatchBool t (IsBodyOver c) ((c ≡ Counted (left - (m + n))) × (m + n < left))
+        to : (t : Bool) → MatchBool t (IsBodyOver c) ((c ≡ Counted ((left - m) - n) standard) × (n < left - m)) → MatchBool t (IsBodyOver c) ((c ≡ Counted (left - (m + n)) standard) × (m + n < left))
         to true l = l
-        to false l = (l.0 ∙ ap Counted (omega arith), omega (arith, l.1, h.1))
+        to false l = (l.0 ∙ ap (λ x. Counted x standard) (omega arith), omega (arith, l.1, h.1))
 
         same : (n == (left - m)) ≡ ((m + n) == left)
         same = at (n == (left - m)) refl
@@ -144,9 +150,9 @@ reads-on (Counted left) b c m n end_reported h k = by (m == left) refl h
             at true x = sym (eq-eqb (m + n) left (omega (arith, eqb-true n (left - m) x, h.1)))
             at false x = sym (ne_eqb (m + n) left (λ y. (let no : true ≡ false = sym (eq-eqb n (left - m) (omega (arith, y, h.1))) ∙ x in cc)))
 
-        more : (t : Bool) → (end_reported || (n == (left - m))) ≡ t → MatchBool t (IsBodyOver c) ((c ≡ Counted ((left - m) - n)) × (n < left - m)) → ReadsOn (Counted left) (m + n) end_reported c
+        more : (t : Bool) → (end_reported || (n == (left - m))) ≡ t → MatchBool t (IsBodyOver c) ((c ≡ Counted ((left - m) - n) standard) × (n < left - m)) → ReadsOn (Counted left standard) (m + n) end_reported c
         more t x l =
-            let P : Bool → Type 0 = λ t. MatchBool t (IsBodyOver c) ((c ≡ Counted (left - (m + n))) × (m + n < left)) in
+            let P : Bool → Type 0 = λ t. MatchBool t (IsBodyOver c) ((c ≡ Counted (left - (m + n)) standard) × (m + n < left)) in
             subst P (sym (ap (λ y. end_reported || y) (sym same) ∙ x)) (to t l)
 
 -- a body that isn't read from the input stays so
@@ -154,10 +160,10 @@ pub stays-settled : (a b : Body) (n : ℕ) (end_reported : Bool) → ReadsOn a n
 stays-settled (Over stop) b n end_reported h e = ap is_streaming h.0
 stays-settled (WithHead bytes) (WithHead more) n end_reported h e = refl
 stays-settled (WithHead bytes) (Over stop) n end_reported h e = refl
-stays-settled (WithHead bytes) (Counted left) n end_reported h e = absurd h
+stays-settled (WithHead bytes) (Counted left standard) n end_reported h e = absurd h
 stays-settled (WithHead bytes) (Chunked d) n end_reported h e = absurd h
 stays-settled (WithHead bytes) Rest n end_reported h e = absurd h
-stays-settled (Counted left) b n end_reported h e = cc
+stays-settled (Counted left standard) b n end_reported h e = cc
 stays-settled (Chunked d) b n end_reported h e = cc
 stays-settled Rest b n end_reported h e = cc
 
@@ -214,7 +220,7 @@ pub gives-up : {R : Type 0} (b : Body) (old new : SourceState R) → GivesUp b o
 gives-up (Over stop) old new h = goes-on_equal old new h
 gives-up (WithHead bytes) old new h = goes-on_equal old new h
 gives-up Rest old new h = goes-on_equal old new h
-gives-up (Counted left) old new h = goes-on_skips old.feed new.feed left h.0
+gives-up (Counted left standard) old new h = goes-on_skips old.feed new.feed left h.0
 gives-up (Chunked d) old new h = let P : Option Feed → Type 0 = λ x. GoesOn old.feed x in subst P (sym h.0) (goes-on_stopped old.feed)
 
 -- reads after each other, the first of which may be none
@@ -237,9 +243,9 @@ standing-more {R = R} (Over stop) c n end_reported first mid new on settled goes
     subst P (sym on.0) (ap (λ (s : SourceState R). s.standing) (settled refl) ∙ was)
 standing-more {R = R} (WithHead bytes) (WithHead more) n end_reported first mid new on settled goes was = ap (λ (s : SourceState R). s.standing) (settled refl) ∙ was
 standing-more (WithHead bytes) (Over stop) n end_reported first mid new on settled goes was = absurd on
-standing-more (WithHead bytes) (Counted left) n end_reported first mid new on settled goes was = absurd on
+standing-more (WithHead bytes) (Counted left standard) n end_reported first mid new on settled goes was = absurd on
 standing-more (WithHead bytes) (Chunked d) n end_reported first mid new on settled goes was = absurd on
 standing-more (WithHead bytes) Rest n end_reported first mid new on settled goes was = absurd on
-standing-more (Counted left) c n end_reported first mid new on settled goes was = goes refl ∙ ap (body_standing c) was
+standing-more (Counted left standard) c n end_reported first mid new on settled goes was = goes refl ∙ ap (body_standing c) was
 standing-more (Chunked d) c n end_reported first mid new on settled goes was = goes refl ∙ ap (body_standing c) was
 standing-more Rest c n end_reported first mid new on settled goes was = goes refl ∙ ap (body_standing c) was

@@ -15,11 +15,10 @@ use Rattle.tiny_http_wire.specs.declared.device.Stop.TheVariants.{End, Fault as 
 use Rattle.tiny_http_wire.specs.declared.chunked.Decoding.{Decoding}
 use Rattle.tiny_http_wire.specs.declared.common.HTTPVersion.{HTTPVersion}
 use Rattle.tiny_http_wire.specs.Device.{Feed, whole_feed}
-use Rattle.tiny_http_wire.specs.Chunks.{WholeChunks, CutChunks}
-use Rattle.tiny_http_wire.specs.ChunkReading.{decoded}
+use Rattle.tiny_http_wire.specs.Chunks.{WholeChunksBy, CutChunksBy}
+use Rattle.tiny_http_wire.specs.ChunkReading.{decoded_by}
 use Rattle.tiny_http_wire.specs.Decoding.{Coming, decoding_coming, decoding_rules}
-use Rattle.tiny_http_wire.specs.declared.chunked.ChunkRules.TheVariants.{Lenient}
-use Rattle.tiny_http_wire.proofs.ChunksLemmas.{decoded-is}
+use Rattle.tiny_http_wire.proofs.ChunksLemmas.{decoded_by-is}
 use Rattle.tiny_http_wire.specs.Heads.{Message as Texted, BeginsWithRequestHead, FaultyHead, Cut, version, is_too_new}
 use Rattle.tiny_http_message.specs.declared.heads.Message.{Message}
 use Rattle.tiny_http_message.specs.declared.framing.Profile.{Profile}
@@ -44,11 +43,11 @@ use Rattle.tiny_http_message.specs.FramingReading.{framing}
 use Rattle.tiny_http_message.proofs.FramingLemmas.{framing-is}
 use Rattle.tiny_http_stream.specs.FeedParts.{feed_front}
 use Rattle.tiny_http_stream.specs.ToCome.{skipped, stopped}
-use Rattle.tiny_http_message.specs.Body.{Remaining, remaining, taken_remaining, counted_remaining, coming_remaining, PassesOver, Fits, IsBodyOver, ReadsOn}
+use Rattle.tiny_http_message.specs.Body.{Remaining, remaining, chunk_rules, taken_remaining, counted_remaining, cut_feed, cut_stop, coming_remaining, PassesOver, Fits, IsBodyOver, ReadsOn}
 use Rattle.tiny_http_message.specs.OpenRequest.{KeepsHead}
 use Rattle.tiny_http_stream.specs.Source.{TakesExactly, feed_from, IsCutOff}
-use Rattle.tiny_http_message.specs.Pipeline.{Asks, Refusal, BadRequest, RequestTimeout, ExpectationFailed, HeaderFieldsTooLarge, VersionNotSupported, refusal_status, framing_refusal, is_head_method, ends_too_new, Place, head_limit, BeginsWithin, IsUnfinishedHead, IsCutHead, IsRequestHead, Heading, RulesHeadAt, HeadAt, profile_of, Silence, Refused, Heads, IsCutWithHead, is_timed_out, body_length_or_0, BodyAt, OneHead, item_of, next_place, place_after}
-use Rattle.tiny_http_message.specs.HeadReads.{ReadsMessage, ReadsHead, RefusesWith, AnswersCut, AnswersFault, RefusesTooNew, IsBadLine, IsRefusedUncut, IsOkEnd, HasByteOrTimedOut, Begins, ComesWith, IsBeforeHead, RulesEndBy, EndsBy, cut_end, end_at, place_feed, message_of, head_message, head_framing}
+use Rattle.tiny_http_message.specs.Pipeline.{Asks, Refusal, BadRequest, RequestTimeout, ExpectationFailed, HeaderFieldsTooLarge, VersionNotSupported, refusal_status, framing_refusal, is_head_method, ends_too_new, Place, head_limit, BeginsWithin, IsUnfinishedHead, IsCutHead, IsRequestHead, Heading, RulesHeadAt, HeadAt, profile_of, Silence, Refused, Heads, IsCutWithHead, is_timed_out, body_length_or_0, BodyAt, OneHead, item_of, next_place, place_after, place_feed}
+use Rattle.tiny_http_message.specs.HeadReads.{ReadsMessage, ReadsHead, RefusesWith, AnswersCut, AnswersFault, RefusesTooNew, IsBadLine, IsRefusedUncut, IsOkEnd, HasByteOrTimedOut, Begins, ComesWith, IsBeforeHead, RulesEndBy, EndsBy, cut_end, end_at, message_of, head_message, head_framing}
 use Rattle.tiny_http_message.specs.declared.exchange.EndOfRequests.{EndOfRequests}
 use Rattle.tiny_http_message.specs.declared.exchange.EndOfRequests.TheVariants as because
 use Rattle.tiny_http_stream.specs.declared.source.Standing.{Standing}
@@ -132,16 +131,16 @@ behind-of : (content : Feed) (o n : Option Feed) (r : Remaining) → option_map 
 behind-of content None n r left e = let no : ◌≡◌ {A = Option Remaining} None (Some r) = left in cc
 behind-of content (Some f) n r left e = e ∙ ap (λ (x : Remaining). Some x.behind) (same-remaining (taken_remaining content f) r left)
 
-skipped-of : (k : ℕ) (o : Option Feed) (r : Remaining) → option_map (counted_remaining k) o ≡ Some r → option_map (skipped k) o ≡ Some r.behind
-skipped-of k None r left = let no : ◌≡◌ {A = Option Remaining} None (Some r) = left in cc
-skipped-of k (Some f) r left = ap (λ (x : Remaining). Some x.behind) (same-remaining (counted_remaining k f) r left)
+skipped-of : (standard : Bool) (k : ℕ) (o : Option Feed) (r : Remaining) → option_map (counted_remaining standard k) o ≡ Some r → option_map (skipped k) o ≡ Some r.behind
+skipped-of standard k None r left = let no : ◌≡◌ {A = Option Remaining} None (Some r) = left in cc
+skipped-of standard k (Some f) r left = ap (λ (x : Remaining). Some x.behind) (same-remaining (counted_remaining standard k f) r left)
 
-passed-over : {R : Type 0} (old new : SourceState R) (b : Body) (form : Form) (n : ℕ) (r : Remaining) → Fits b form n 0 false → ends_too_new form ≡ false → remaining b old.feed ≡ Some r → PassesOver b old new → new.feed ≡ Some r.behind
-passed-over {R = R} old new (body.Over stop) form n r fits goes left h = behind-of (stopped stop) old.feed new.feed r left (ap (λ (s : SourceState R). s.feed) h)
-passed-over {R = R} old new (body.WithHead bytes) form n r fits goes left h = behind-of (whole_feed (cursor_bytes bytes)) old.feed new.feed r left (ap (λ (s : SourceState R). s.feed) h)
-passed-over old new (body.Counted k) form n r fits goes left h = h.0 ∙ skipped-of k old.feed r left
-passed-over old new (body.Chunked d) form n r fits goes left h = let no : true ≡ false = sym (ap ends_too_new fits.0) ∙ goes in cc
-passed-over old new body.Rest form n r fits goes left h = let no : true ≡ false = sym (ap ends_too_new fits.0) ∙ goes in cc
+passed-over : {R : Type 0} (old new : SourceState R) (b : Body) (standard : Bool) (form : Form) (n : ℕ) (r : Remaining) → Fits standard b form n 0 false → ends_too_new form ≡ false → remaining b old.feed ≡ Some r → PassesOver b old new → new.feed ≡ Some r.behind
+passed-over {R = R} old new (body.Over stop) standard form n r fits goes left h = behind-of (stopped stop) old.feed new.feed r left (ap (λ (s : SourceState R). s.feed) h)
+passed-over {R = R} old new (body.WithHead bytes) standard form n r fits goes left h = behind-of (whole_feed (cursor_bytes bytes)) old.feed new.feed r left (ap (λ (s : SourceState R). s.feed) h)
+passed-over old new (body.Counted k by_standard) standard form n r fits goes left h = h.0 ∙ skipped-of by_standard k old.feed r left
+passed-over old new (body.Chunked d) standard form n r fits goes left h = let no : true ≡ false = sym (ap ends_too_new fits.0) ∙ goes in cc
+passed-over old new body.Rest standard form n r fits goes left h = let no : true ≡ false = sym (ap ends_too_new fits.0) ∙ goes in cc
 
 ok-map : {T E : Type 0} (r : Result T E) (P Q : Type 0) → (P → Q) → OnOk r P → OnOk r Q
 ok-map (Ok x) P Q f h = f h
@@ -150,7 +149,7 @@ ok-map (Err e) P Q f h = tt
 -- a version that is too new
 abbrev TooNewAt : HeadRules → HttpDate → Feed → Option Feed → Texted → Framing → List ℕ → Feed → Place → Result HeadRead AllocError → Type 0
 TooNewAt rules date x q m f after content next r =
-    IsRequestHead rules x.bytes m f after → BodyAt f.form (body_length_or_0 f) after x.stop content next → is_too_new m.version ≡ true → RefusesTooNew (ends_too_new f.form) (is_head_method m.method) date r
+    IsRequestHead rules x.bytes m f after → BodyAt f.by_standard f.form (body_length_or_0 f) after x.stop content next → is_too_new m.version ≡ true → RefusesTooNew (ends_too_new f.form) (is_head_method m.method) date r
     → OnOk r (ends_too_new f.form ≡ false → q ≡ Some (place_feed x.stop next)) → ReadsHead (profile_of rules) at.Head date (Some x) q r
 
 too-new-at : (rules : HeadRules) (date : HttpDate) (x : Feed) (q : Option Feed) (m : Texted) (f : Framing) (after : List ℕ) (content : Feed) (next : Place) (r : Result HeadRead AllocError) → TooNewAt rules date x q m f after content next r
@@ -170,90 +169,91 @@ head-too_new rules date (Some x) p old new m f y r h e begins is k goes =
     let started = subst B h.2 begins in
     let left : Remaining = record { body = started.1; behind = place_feed x.stop started.2 } in
     too-new-at rules date x new.feed (message_of m) f h.0 started.1 started.2 r (record { whole = record { begins = h.1; frames = framed-as rules m.version m.headers.items (Ok f) e }; uncut = started.0 }) started.3 is k
-    (ok-map r (ends_too_new f.form ≡ false → PassesOver y old new) (ends_too_new f.form ≡ false → new.feed ≡ Some (place_feed x.stop started.2)) (λ g ends. passed-over old new y f.form (body_length_or_0 f) left started.5 ends started.4 (g ends)) goes)
+    (ok-map r (ends_too_new f.form ≡ false → PassesOver y old new) (ends_too_new f.form ≡ false → new.feed ≡ Some (place_feed x.stop started.2)) (λ g ends. passed-over old new y f.by_standard f.form (body_length_or_0 f) left started.5 ends started.4 (g ends)) goes)
 
 -- the body that begins in front of some bytes
-abbrev pub BeginsAt : Form → ℕ → Feed → Option Feed → Body → Type 0
-BeginsAt form n x new b =
-    (IsCutWithHead form n x.bytes → ⊥) × (content : Feed) × (next : Place) × BodyAt form n x.bytes x.stop content next × ComesWith (remaining b new) x.stop content next × Fits b form n 0 false
+abbrev pub BeginsAt : Bool → Form → ℕ → Feed → Option Feed → Body → Type 0
+BeginsAt standard form n x new b =
+    (IsCutWithHead form n x.bytes → ⊥) × (content : Feed) × (next : Place) × BodyAt standard form n x.bytes x.stop content next × ComesWith (remaining b new) x.stop content next × Fits standard b form n 0 false
 
-pub begins-with : (f : Framing) (form : Form) (o new : Option Feed) (b : Body) → f.form ≡ form → ((x : Feed) → o ≡ Some x → BeginsAt form (body_length_or_0 f) x new b) → Begins f o new (Some b)
+pub begins-with : (f : Framing) (form : Form) (o new : Option Feed) (b : Body) → f.form ≡ form → ((x : Feed) → o ≡ Some x → BeginsAt f.by_standard form (body_length_or_0 f) x new b) → Begins f o new (Some b)
 begins-with f form None new b e h = tt
-begins-with f form (Some x) new b e h = let P : Form → Type 0 = λ y. BeginsAt y (body_length_or_0 f) x new b in subst P (sym e) (h x refl)
+begins-with f form (Some x) new b e h = let P : Form → Type 0 = λ y. BeginsAt f.by_standard y (body_length_or_0 f) x new b in subst P (sym e) (h x refl)
 
 -- all that comes
 pub begins-rest : (f : Framing) (o : Option Feed) → f.form ≡ Rest → Begins f o o (Some body.Rest)
-begins-rest f o e = begins-with f Rest o o body.Rest e (λ x stated. (let P : Option Feed → Type 0 = λ y. BeginsAt Rest (body_length_or_0 f) x y body.Rest in subst P (sym stated) (λ k. k, x, None, (refl, refl), refl, (refl, refl))))
+begins-rest f o e = begins-with f Rest o o body.Rest e (λ x stated. (let P : Option Feed → Type 0 = λ y. BeginsAt f.by_standard Rest (body_length_or_0 f) x y body.Rest in subst P (sym stated) (λ k. k, x, None, (refl, refl), refl, (refl, refl))))
 
-nothing-at : (n : ℕ) (x : Feed) → BeginsAt Nothing n x (Some x) (body.Over End)
-nothing-at n x = (λ k. k, whole_feed [], Some x.bytes, (refl, refl), refl, refl)
+nothing-at : (standard : Bool) (n : ℕ) (x : Feed) → BeginsAt standard Nothing n x (Some x) (body.Over End)
+nothing-at standard n x = (λ k. k, whole_feed [], Some x.bytes, (refl, refl), refl, refl)
 
 pub begins-nothing : (f : Framing) (o : Option Feed) → f.form ≡ Nothing → Begins f o o (Some (body.Over End))
-begins-nothing f o e = begins-with f Nothing o o (body.Over End) e (λ x end_reported. (let P : Option Feed → Type 0 = λ y. BeginsAt Nothing (body_length_or_0 f) x y (body.Over End) in subst P (sym end_reported) (nothing-at (body_length_or_0 f) x)))
+begins-nothing f o e = begins-with f Nothing o o (body.Over End) e (λ x end_reported. (let P : Option Feed → Type 0 = λ y. BeginsAt f.by_standard Nothing (body_length_or_0 f) x y (body.Over End) in subst P (sym end_reported) (nothing-at f.by_standard (body_length_or_0 f) x)))
 
 -- a body of a known length
-counted-fits : (b : Body) (n : ℕ) → ReadsOn (body.Counted n) 0 false b → Fits b Counted n 0 false
-counted-fits b n h = by (0 == n) refl h
+counted-fits : (standard : Bool) (b : Body) (n : ℕ) → ReadsOn (body.Counted n standard) 0 false b → Fits standard b Counted n 0 false
+counted-fits standard b n h = by (0 == n) refl h
   where
-    over : (b : Body) → IsBodyOver b → (0 == n) ≡ true → Fits b Counted n 0 false
+    over : (b : Body) → IsBodyOver b → (0 == n) ≡ true → Fits standard b Counted n 0 false
     over (body.Over stop) k e = rw e refl
     over (body.WithHead bytes) k e = absurd k
-    over (body.Counted left) k e = absurd k
+    over (body.Counted left by_standard) k e = absurd k
     over (body.Chunked d) k e = absurd k
     over body.Rest k e = absurd k
 
-    by : (t : Bool) → (0 == n) ≡ t → MatchBool t (IsBodyOver b) ((b ≡ body.Counted (n - 0)) × (0 < n)) → Fits b Counted n 0 false
+    by : (t : Bool) → (0 == n) ≡ t → MatchBool t (IsBodyOver b) ((b ≡ body.Counted (n - 0) standard) × (0 < n)) → Fits standard b Counted n 0 false
     by true e k = over b k e
     by false e k =
-        let P : Body → Type 0 = λ x. Fits x Counted n 0 false in
-        subst P (sym k.0) (refl, omega arith, omega (arith, k.1), refl)
+        let P : Body → Type 0 = λ x. Fits standard x Counted n 0 false in
+        subst P (sym k.0) (refl, omega arith, omega (arith, k.1), refl, refl)
 
 abbrev pair : Feed → Feed → Remaining
 pair content behind = record { body = content; behind = behind }
 
-all-of : (n : ℕ) (x : Feed) → length x.bytes < n → counted_remaining n x ≡ pair x (whole_feed [])
+all-of : (standard : Bool) (n : ℕ) (x : Feed) → length x.bytes < n → counted_remaining standard n x ≡ pair (cut_feed standard x) (whole_feed [])
 unfolding feed_front
-all-of n x lt =
-    let P : List ℕ → Feed = λ bs. record { bytes = bs; stop = x.stop } in
-    ap (λ y. pair y (skipped n x)) (rw (lt-ltb (length x.bytes) n lt) (ap P (take_all n x.bytes (omega (arith, lt))))) ∙ ap (pair x) (skipped-beyond n x lt)
+all-of standard n x lt =
+    let P : List ℕ → Feed = λ bs. record { bytes = bs; stop = cut_stop standard x.stop } in
+    ap (λ y. pair y (skipped n x)) (rw (lt-ltb (length x.bytes) n lt) (ap P (take_all n x.bytes (omega (arith, lt))))) ∙ ap (pair (cut_feed standard x)) (skipped-beyond n x lt)
 
-front-of : (n : ℕ) (x : Feed) → n ≤ length x.bytes → counted_remaining n x ≡ pair (whole_feed (take n x.bytes)) (record { bytes = drop n x.bytes; stop = x.stop })
+front-of : (standard : Bool) (n : ℕ) (x : Feed) → n ≤ length x.bytes → counted_remaining standard n x ≡ pair (whole_feed (take n x.bytes)) (record { bytes = drop n x.bytes; stop = x.stop })
 unfolding feed_front
-front-of n x le = rw (le-ltb (length x.bytes) n le) (ap (pair (whole_feed (take n x.bytes))) (skipped-within n x le))
+front-of standard n x le = rw (le-ltb (length x.bytes) n le) (ap (pair (whole_feed (take n x.bytes))) (skipped-within n x le))
 
-serving-counted-at : (n : ℕ) (x : Feed) (b : Body) → remaining b (Some x) ≡ Some (counted_remaining n x) → Fits b Counted n 0 false → BeginsAt Counted n x (Some x) b
-serving-counted-at n x b left fits = by (nat_lt (length x.bytes) n) refl
+serving-counted-at : (standard : Bool) (n : ℕ) (x : Feed) (b : Body) → remaining b (Some x) ≡ Some (counted_remaining standard n x) → Fits standard b Counted n 0 false → BeginsAt standard Counted n x (Some x) b
+serving-counted-at standard n x b left fits = by (nat_lt (length x.bytes) n) refl
   where
-    by : (t : Bool) → nat_lt (length x.bytes) n ≡ t → BeginsAt Counted n x (Some x) b
-    by true e = (λ k. k, x, None, pipeline-sized-is n x.bytes x.stop true e, left ∙ ap Some (all-of n x (ltb-true (length x.bytes) n e)), fits)
-    by false e = (λ k. k, whole_feed (take n x.bytes), Some (drop n x.bytes), pipeline-sized-is n x.bytes x.stop false e, left ∙ ap Some (front-of n x (ltb-false (length x.bytes) n e)), fits)
+    by : (t : Bool) → nat_lt (length x.bytes) n ≡ t → BeginsAt standard Counted n x (Some x) b
+    by true e = (λ k. k, cut_feed standard x, None, pipeline-sized-is standard n x.bytes x.stop true e, left ∙ ap Some (all-of standard n x (ltb-true (length x.bytes) n e)), fits)
+    by false e = (λ k. k, whole_feed (take n x.bytes), Some (drop n x.bytes), pipeline-sized-is standard n x.bytes x.stop false e, left ∙ ap Some (front-of standard n x (ltb-false (length x.bytes) n e)), fits)
 
 -- what is left of a counted body
-pub remains-counted : (n : ℕ) (x : Feed) → (content : Feed) × (next : Place) × BodyAt Counted n x.bytes x.stop content next × (counted_remaining n x ≡ pair content (place_feed x.stop next))
-remains-counted n x = by (nat_lt (length x.bytes) n) refl
+pub remains-counted : (standard : Bool) (n : ℕ) (x : Feed) → (content : Feed) × (next : Place) × BodyAt standard Counted n x.bytes x.stop content next × (counted_remaining standard n x ≡ pair content (place_feed x.stop next))
+remains-counted standard n x = by (nat_lt (length x.bytes) n) refl
   where
-    by : (t : Bool) → nat_lt (length x.bytes) n ≡ t → (content : Feed) × (next : Place) × BodyAt Counted n x.bytes x.stop content next × (counted_remaining n x ≡ pair content (place_feed x.stop next))
-    by true e = (x, None, pipeline-sized-is n x.bytes x.stop true e, all-of n x (ltb-true (length x.bytes) n e))
-    by false e = (whole_feed (take n x.bytes), Some (drop n x.bytes), pipeline-sized-is n x.bytes x.stop false e, front-of n x (ltb-false (length x.bytes) n e))
+    by : (t : Bool) → nat_lt (length x.bytes) n ≡ t → (content : Feed) × (next : Place) × BodyAt standard Counted n x.bytes x.stop content next × (counted_remaining standard n x ≡ pair content (place_feed x.stop next))
+    by true e = (cut_feed standard x, None, pipeline-sized-is standard n x.bytes x.stop true e, all-of standard n x (ltb-true (length x.bytes) n e))
+    by false e = (whole_feed (take n x.bytes), Some (drop n x.bytes), pipeline-sized-is standard n x.bytes x.stop false e, front-of standard n x (ltb-false (length x.bytes) n e))
 
-pub begins-counted : (f : Framing) (o : Option Feed) (b : Body) (n : ℕ) → f.form ≡ Counted → n ≡ body_length_or_0 f → ((feed : Option Feed) → remaining b feed ≡ option_map (counted_remaining n) feed) → ReadsOn (body.Counted n) 0 false b → Begins f o o (Some b)
+pub begins-counted : (f : Framing) (o : Option Feed) (b : Body) (n : ℕ) → f.form ≡ Counted → n ≡ body_length_or_0 f → ((feed : Option Feed) → remaining b feed ≡ option_map (counted_remaining f.by_standard n) feed) → ReadsOn (body.Counted n f.by_standard) 0 false b → Begins f o o (Some b)
 begins-counted f o b n e is left moves =
-    let P : ℕ → Type 0 = λ k. Fits b Counted k 0 false in
-    let Q : ℕ → Feed → Type 0 = λ k x. remaining b (Some x) ≡ Some (counted_remaining k x) in
-    let R : Option Feed → Feed → Type 0 = λ y x. BeginsAt Counted (body_length_or_0 f) x y b in
-    begins-with f Counted o o b e (λ x end_reported. subst (λ y. R y x) (sym end_reported) (serving-counted-at (body_length_or_0 f) x b (subst (λ k. Q k x) is (left (Some x))) (subst P is (counted-fits b n moves))))
+    let P : ℕ → Type 0 = λ k. Fits f.by_standard b Counted k 0 false in
+    let Q : ℕ → Feed → Type 0 = λ k x. remaining b (Some x) ≡ Some (counted_remaining f.by_standard k x) in
+    let R : Option Feed → Feed → Type 0 = λ y x. BeginsAt f.by_standard Counted (body_length_or_0 f) x y b in
+    begins-with f Counted o o b e (λ x end_reported. subst (λ y. R y x) (sym end_reported) (serving-counted-at f.by_standard (body_length_or_0 f) x b (subst (λ k. Q k x) is (left (Some x))) (subst P is (counted-fits f.by_standard b n moves))))
 
 -- a chunked body
 pub begins-chunked : (f : Framing) (o : Option Feed) (d : Decoding) → f.form ≡ Chunked
-    → ((bytes content rest : List ℕ) (stop : Stop) → WholeChunks bytes content rest → decoding_coming d (Some (record { bytes = bytes; stop = stop })) ≡ Some (record { bytes = content; behind = Ok (record { bytes = rest; stop = stop }) }))
-    → ((bytes content : List ℕ) (stop : Stop) (kind : ErrorKind) → CutChunks bytes stop content kind → decoding_coming d (Some (record { bytes = bytes; stop = stop })) ≡ Some (record { bytes = content; behind = Err kind }))
-    → decoding_rules d ≡ Lenient → Begins f o o (Some (body.Chunked d))
+    → ((bytes content rest : List ℕ) (stop : Stop) → WholeChunksBy (chunk_rules f.by_standard) bytes content rest → decoding_coming d (Some (record { bytes = bytes; stop = stop })) ≡ Some (record { bytes = content; behind = Ok (record { bytes = rest; stop = stop }) }))
+    → ((bytes content : List ℕ) (stop : Stop) (kind : ErrorKind) → CutChunksBy (chunk_rules f.by_standard) bytes stop content kind → decoding_coming d (Some (record { bytes = bytes; stop = stop })) ≡ Some (record { bytes = content; behind = Err kind }))
+    → decoding_rules d ≡ chunk_rules f.by_standard → Begins f o o (Some (body.Chunked d))
 begins-chunked f o d e whole front rules =
-    let R : Option Feed → Feed → Type 0 = λ y x. BeginsAt Chunked (body_length_or_0 f) x y (body.Chunked d) in
+    let by = chunk_rules f.by_standard in
+    let R : Option Feed → Feed → Type 0 = λ y x. BeginsAt f.by_standard Chunked (body_length_or_0 f) x y (body.Chunked d) in
     begins-with f Chunked o o (body.Chunked d) e
-    (λ x end_reported. subst (λ y. R y x) (sym end_reported) (at x (decoded (length x.bytes + 1) x.stop x.bytes).body (decoded (length x.bytes + 1) x.stop x.bytes).ends (decoded-is (length x.bytes + 1) x.bytes x.stop (omega arith))))
+    (λ x end_reported. subst (λ y. R y x) (sym end_reported) (at x (decoded_by by (length x.bytes + 1) x.stop x.bytes).body (decoded_by by (length x.bytes + 1) x.stop x.bytes).ends (decoded_by-is by (length x.bytes + 1) x.bytes x.stop (omega arith))))
   where
-    at : (x : Feed) (content : List ℕ) (r : Result (List ℕ) ErrorKind) → MatchResult r (λ rest. WholeChunks x.bytes content rest) (λ kind. CutChunks x.bytes x.stop content kind) → BeginsAt Chunked (body_length_or_0 f) x (Some x) (body.Chunked d)
+    at : (x : Feed) (content : List ℕ) (r : Result (List ℕ) ErrorKind) → MatchResult r (λ rest. WholeChunksBy (chunk_rules f.by_standard) x.bytes content rest) (λ kind. CutChunksBy (chunk_rules f.by_standard) x.bytes x.stop content kind) → BeginsAt f.by_standard Chunked (body_length_or_0 f) x (Some x) (body.Chunked d)
     at x content (Ok rest) h =
         (λ k. k, whole_feed content, Some rest, inl (rest, h, refl, refl), ap (λ (c : Option Coming). option_map coming_remaining c) (whole x.bytes content rest x.stop h), (refl, refl, rules))
     at x content (Err kind) h =
@@ -263,7 +263,7 @@ begins-chunked f o d e whole front rules =
 pub begins-held : (f : Framing) (o new : Option Feed) (c : Cursor (Vec ℕ)) (v : Vec ℕ) (n : ℕ) → f.form ≡ WithHead → n ≡ body_length_or_0 f → cursor_bytes c ≡ v.items → TakesExactly (λ (w : Vec ℕ). w.items) n o new (Some v) → Begins f o new (Some (body.WithHead c))
 begins-held f o new c v n e is bytes h = begins-with f WithHead o new (body.WithHead c) e (λ x end_reported. at x (let P : Option Feed → Type 0 = λ y. TakesExactly (λ (w : Vec ℕ). w.items) n y new (Some v) in subst P end_reported h))
   where
-    at : (x : Feed) → TakesExactly (λ (w : Vec ℕ). w.items) n (Some x) new (Some v) → BeginsAt WithHead (body_length_or_0 f) x new (body.WithHead c)
+    at : (x : Feed) → TakesExactly (λ (w : Vec ℕ). w.items) n (Some x) new (Some v) → BeginsAt f.by_standard WithHead (body_length_or_0 f) x new (body.WithHead c)
     at x k =
         let long : length x.bytes ≡ length v.items + length k.0 = ap length k.1 ∙ length-append v.items k.0 in
         let R : Option Feed → Type 0 = λ y. remaining (body.WithHead c) y ≡ Some (pair (whole_feed v.items) (record { bytes = k.0; stop = x.stop })) in (
@@ -284,7 +284,7 @@ begins-cut f (Some x) new n e is h =
 -- the request under a message and a framing that are those of a head
 abbrev IsHanded : Profile → Feed → Option Feed → Body → Texted → Framing → Type 0
 IsHanded profile x q b m f =
-    (content : Feed) × (next : Place) × OneHead profile x.bytes x.stop (Some (Asks (record { message = m; framing = f; body = content }))) (place_after f.is_last next) × ComesWith (remaining b q) x.stop content next × Fits b f.form (body_length_or_0 f) 0 false
+    (content : Feed) × (next : Place) × OneHead profile x.bytes x.stop (Some (Asks (record { message = m; framing = f; body = content; behind = place_feed x.stop next }))) (place_after f.is_last next) × ComesWith (remaining b q) x.stop content next × Fits f.by_standard b f.form (body_length_or_0 f) 0 false
 
 -- a head with its body
 head-whole : (profile : Profile) (x : Feed) (q : Option Feed) (m : Texted) (f : Framing) (after : List ℕ) (b : Body) → ((IsCutWithHead f.form (body_length_or_0 f) after → ⊥) → HeadAt profile x.bytes x.stop (Heads m f after)) → is_too_new m.version ≡ false
@@ -293,7 +293,7 @@ head-whole profile x q m f after b at version_is begins =
     let k = begins in
     let content = k.1 in
     let next = k.2 in
-    let item : Some (Asks (record { message = m; framing = f; body = content })) ≡ Some (item_of m f content) = rw version_is refl in
+    let item : Some (Asks (record { message = m; framing = f; body = content; behind = place_feed x.stop next })) ≡ Some (item_of m f content (place_feed x.stop next)) = rw version_is refl in
     let place : place_after f.is_last next ≡ next_place m f next = rw version_is refl in
     (content, next, (Heads m f after, at k.0, (content, next, k.3, item, place)), k.4, k.5)
 

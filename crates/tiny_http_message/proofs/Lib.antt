@@ -12,3 +12,4 @@ pub mod WithinLemmas
 pub mod SeenLemmas
 pub mod StandardLemmas
 pub mod PipelineLemmas
+pub mod UpgradesLemmas

@@ -9,11 +9,12 @@ use Rattle.tiny_http_wire.specs.declared.device.Stop.TheVariants.{End, Fault as 
 use Rattle.tiny_http_wire.specs.Device.{Feed, whole_feed}
 use Rattle.tiny_http_wire.specs.declared.common.HTTPVersion.{HTTPVersion}
 use Rattle.tiny_http_wire.specs.Heads.{Message, BeginsWithRequestHead, FaultyHead, GrammarFault, Cut, NotAscii, Malformed, version, is_too_new}
-use Rattle.tiny_http_wire.specs.Chunks.{WholeChunks, CutChunks}
+use Rattle.tiny_http_wire.specs.declared.chunked.ChunkRules.{ChunkRules}
+use Rattle.tiny_http_wire.specs.Chunks.{WholeChunksBy, CutChunksBy}
 use Rattle.tiny_http_wire.specs.HeadReading.{request_head_read, RequestHeadRead, Whole, Faulty}
-use Rattle.tiny_http_wire.specs.ChunkReading.{decoded}
+use Rattle.tiny_http_wire.specs.ChunkReading.{decoded_by}
 use Rattle.tiny_http_head.proofs.HeadsLemmas.{head-is, HeadIs, head-one, head-fault, line-shorter, fields-fewer}
-use Rattle.tiny_http_wire.proofs.ChunksLemmas.{decoded-is, decoded-one, decoded-front}
+use Rattle.tiny_http_wire.proofs.ChunksLemmas.{decoded_by-is, decoded_by-one, decoded_by-front}
 use Rattle.tiny_http_stream.specs.Source.{seen_within}
 use Rattle.std.proofs.lemmas.List.{take-append-drop}
 use Rattle.tiny_http_standard.specs.Heads.{ReadOpen}
@@ -31,7 +32,8 @@ use Rattle.tiny_http_message.specs.declared.framing.Form.{Form}
 use Rattle.tiny_http_message.specs.declared.framing.Form.TheVariants.{Rest, Nothing, WithHead, Counted, Chunked}
 use Rattle.tiny_http_message.specs.declared.framing.Framing.{Framing}
 use Rattle.tiny_http_message.specs.FramingReading.{framing}
-use Rattle.tiny_http_message.specs.Pipeline.{is_cut_with_head, RulesHeadAt, standard_front, standard_form, standard_heading, Refusal, BadRequest, RequestTimeout, ExpectationFailed, HeaderFieldsTooLarge, VersionNotSupported, RequestLineTooLong, CodingNotImplemented, MajorVersionNotSupported, Item, Refuses, Place, is_timed_out, head_limit, BeginsWithin, IsUnfinishedHead, IsTooLarge, IsWholeHead, IsCutWithHead, IsCutHead, IsRefused, IsRequestHead, Heading, Silence, Refused, Heads, HeadAt, body_length_or_0, BodyAt, SizedBody, FoundAt, OneHead, item_of, next_place, ends_too_new, Pipeline, place_after}
+use Rattle.tiny_http_message.specs.Body.{cut_stop, chunk_rules}
+use Rattle.tiny_http_message.specs.Pipeline.{place_feed, is_cut_with_head, RulesHeadAt, standard_front, standard_form, standard_heading, Refusal, BadRequest, RequestTimeout, ExpectationFailed, HeaderFieldsTooLarge, VersionNotSupported, RequestLineTooLong, CodingNotImplemented, MajorVersionNotSupported, Item, Refuses, Place, is_timed_out, head_limit, BeginsWithin, IsUnfinishedHead, IsTooLarge, IsWholeHead, IsCutWithHead, IsCutHead, IsRefused, IsRequestHead, Heading, Silence, Refused, Heads, HeadAt, body_length_or_0, BodyAt, SizedBody, FoundAt, OneHead, item_of, next_place, ends_too_new, Pipeline, place_after}
 use Rattle.tiny_http_message.specs.PipelineReading.{BodyRead, Headings, chunked_read, sized_read, body_read, cut_heading, whole_heading, is_full, all_after, faulty, heading, heading_of, items_at, items_from, items_of}
 use Rattle.tiny_http_message.proofs.FramingLemmas.{framing-is, framing-one, rest-last}
 use Rattle.tiny_http_message.proofs.StandardLemmas.{IsStandardHeads, standard-parts}
@@ -179,29 +181,29 @@ heading-same under.Standard bytes stop h k a b = a.2 ∙ ap (λ r. standard_head
 abbrev pub heading_at : Profile → Headings
 heading_at p stop bytes = (heading-some p bytes stop).0
 
-chunked-is : (n : ℕ) (after : List ℕ) (stop : Stop) (body : List ℕ) (e : Result (List ℕ) ErrorKind) → MatchResult e (λ rest. WholeChunks after body rest) (λ kind. CutChunks after stop body kind)
-    → BodyAt Chunked n after stop (chunked_read (record { body = body; ends = e })).body (chunked_read (record { body = body; ends = e })).next
-chunked-is n after stop body (Ok rest) h = inl (rest, h, refl, refl)
-chunked-is n after stop body (Err kind) h = inr (kind, h, refl, refl)
+chunked-is : (standard : Bool) (n : ℕ) (after : List ℕ) (stop : Stop) (body : List ℕ) (e : Result (List ℕ) ErrorKind) → MatchResult e (λ rest. WholeChunksBy (chunk_rules standard) after body rest) (λ kind. CutChunksBy (chunk_rules standard) after stop body kind)
+    → BodyAt standard Chunked n after stop (chunked_read (record { body = body; ends = e })).body (chunked_read (record { body = body; ends = e })).next
+chunked-is standard n after stop body (Ok rest) h = inl (rest, h, refl, refl)
+chunked-is standard n after stop body (Err kind) h = inr (kind, h, refl, refl)
 
-pub pipeline-sized-is : (n : ℕ) (after : List ℕ) (stop : Stop) (t : Bool) → nat_lt (length after) n ≡ t
+pub pipeline-sized-is : (standard : Bool) (n : ℕ) (after : List ℕ) (stop : Stop) (t : Bool) → nat_lt (length after) n ≡ t
+    → (let r : BodyRead = (if t then record { body = record { bytes = after; stop = cut_stop standard stop }; next = None } else record { body = whole_feed (take n after); next = Some (drop n after) }) in
+    BodyAt standard Counted n after stop r.body r.next)
+pipeline-sized-is standard n after stop true e = inr (ltb-true (length after) n e, refl, refl)
+pipeline-sized-is standard n after stop false e = let k = ltb-false (length after) n e in inl (drop n after, grind (arith, common_steps), grind (arith, common_steps), refl, refl)
+
+held-is : (standard : Bool) (n : ℕ) (after : List ℕ) (stop : Stop) (t : Bool) → nat_lt (length after) n ≡ t → (length after < n → ⊥)
     → (let r : BodyRead = (if t then record { body = record { bytes = after; stop = stop }; next = None } else record { body = whole_feed (take n after); next = Some (drop n after) }) in
-    BodyAt Counted n after stop r.body r.next)
-pipeline-sized-is n after stop true e = inr (ltb-true (length after) n e, refl, refl)
-pipeline-sized-is n after stop false e = let k = ltb-false (length after) n e in inl (drop n after, grind (arith, common_steps), grind (arith, common_steps), refl, refl)
+    BodyAt standard WithHead n after stop r.body r.next)
+held-is standard n after stop true e h = absurd (h (ltb-true (length after) n e))
+held-is standard n after stop false e h = let k = ltb-false (length after) n e in (drop n after, grind (arith, common_steps), grind (arith, common_steps), refl, refl)
 
-held-is : (n : ℕ) (after : List ℕ) (stop : Stop) (t : Bool) → nat_lt (length after) n ≡ t → (length after < n → ⊥)
-    → (let r : BodyRead = (if t then record { body = record { bytes = after; stop = stop }; next = None } else record { body = whole_feed (take n after); next = Some (drop n after) }) in
-    BodyAt WithHead n after stop r.body r.next)
-held-is n after stop true e h = absurd (h (ltb-true (length after) n e))
-held-is n after stop false e h = let k = ltb-false (length after) n e in (drop n after, grind (arith, common_steps), grind (arith, common_steps), refl, refl)
-
-body-is : (form : Form) (n : ℕ) (after : List ℕ) (stop : Stop) → (IsCutWithHead form n after → ⊥) → BodyAt form n after stop (body_read form n after stop).body (body_read form n after stop).next
-body-is Nothing n after stop h = (refl, refl)
-body-is WithHead n after stop h = held-is n after stop (nat_lt (length after) n) refl h
-body-is Counted n after stop h = pipeline-sized-is n after stop (nat_lt (length after) n) refl
-body-is Rest n after stop h = (refl, refl)
-body-is Chunked n after stop h = chunked-is n after stop (decoded (length after + 1) stop after).body (decoded (length after + 1) stop after).ends (decoded-is (length after + 1) after stop (omega arith))
+body-is : (standard : Bool) (form : Form) (n : ℕ) (after : List ℕ) (stop : Stop) → (IsCutWithHead form n after → ⊥) → BodyAt standard form n after stop (body_read standard form n after stop).body (body_read standard form n after stop).next
+body-is standard Nothing n after stop h = (refl, refl)
+body-is standard WithHead n after stop h = held-is standard n after stop (nat_lt (length after) n) refl h
+body-is standard Counted n after stop h = pipeline-sized-is standard n after stop (nat_lt (length after) n) refl
+body-is standard Rest n after stop h = (refl, refl)
+body-is standard Chunked n after stop h = chunked-is standard n after stop (decoded_by (chunk_rules standard) (length after + 1) stop after).body (decoded_by (chunk_rules standard) (length after + 1) stop after).ends (decoded_by-is (chunk_rules standard) (length after + 1) after stop (omega arith))
 
 feed-eq : (b : Feed) (x : List ℕ) (s : Stop) → x ≡ b.bytes → s ≡ b.stop → ◌≡◌ {A = Feed} (record { bytes = x; stop = s }) b
 feed-eq b x s e f = let g : List ℕ → Stop → Feed = λ y t. record { bytes = y; stop = t } in ap (λ y. g y s) e ∙ ap (g b.bytes) f
@@ -221,16 +223,16 @@ sized-one n after stop body next h =
     rw (le-ltb (length after) n long)
     (read-eq body next _ _ (feed-eq body (take n after) End (rw h.1 (take_front body.bytes h.0 n h.2)) (sym h.3)) (rw h.1 (ap Some (drop_front body.bytes h.0 n h.2)) ∙ sym h.4))
 
-body-one : (form : Form) (n : ℕ) (after : List ℕ) (stop : Stop) (body : Feed) (next : Place) → BodyAt form n after stop body next → body_read form n after stop ≡ record { body = body; next = next }
-body-one Nothing n after stop body next h = read-eq body next _ _ (sym h.0) (sym h.1)
-body-one WithHead n after stop body next h = sized-one n after stop body next h
-body-one Counted n after stop body next h =
-    ⊎_elim (λ k. sized-one n after stop body next k) (λ k. rw (lt-ltb (length after) n k.0) (read-eq body next _ _ (sym k.1) (sym k.2))) h
-body-one Rest n after stop body next h = read-eq body next _ _ (sym h.0) (sym h.1)
-body-one Chunked n after stop body next h =
+body-one : (standard : Bool) (form : Form) (n : ℕ) (after : List ℕ) (stop : Stop) (body : Feed) (next : Place) → BodyAt standard form n after stop body next → body_read standard form n after stop ≡ record { body = body; next = next }
+body-one standard Nothing n after stop body next h = read-eq body next _ _ (sym h.0) (sym h.1)
+body-one standard WithHead n after stop body next h = sized-one n after stop body next h
+body-one standard Counted n after stop body next h =
+    ⊎_elim (λ k. sized-one n after (cut_stop standard stop) body next k) (λ k. rw (lt-ltb (length after) n k.0) (read-eq body next _ _ (sym k.1) (sym k.2))) h
+body-one standard Rest n after stop body next h = read-eq body next _ _ (sym h.0) (sym h.1)
+body-one standard Chunked n after stop body next h =
     ⊎_elim
-    (λ k. rw (decoded-one after body.bytes k.0 stop k.1) (read-eq body next _ _ (feed-eq body body.bytes End refl (sym k.2)) (sym k.3)))
-    (λ k. rw (decoded-front after body.bytes stop k.0 k.1) (read-eq body next _ _ (feed-eq body body.bytes (Faults k.0) refl (sym k.2)) (sym k.3)))
+    (λ k. rw (decoded_by-one (chunk_rules standard) after body.bytes k.0 stop k.1) (read-eq body next _ _ (feed-eq body body.bytes End refl (sym k.2)) (sym k.3)))
+    (λ k. rw (decoded_by-front (chunk_rules standard) after body.bytes stop k.0 k.1) (read-eq body next _ _ (feed-eq body body.bytes (Faults k.0) refl (sym k.2)) (sym k.3)))
     h
 
 -- the item at a place, and where the next one begins
@@ -241,7 +243,7 @@ abbrev found_in : Stop → Heading → Found
 found_in stop Silence = (None, None)
 found_in stop (Refused refusal v) = (Some (Refuses refusal v false true), None)
 found_in stop (Heads m f after) =
-    let b = body_read f.form (body_length_or_0 f) after stop in (Some (item_of m f b.body), next_place m f b.next)
+    let b = body_read f.by_standard f.form (body_length_or_0 f) after stop in (Some (item_of m f b.body (place_feed stop b.next)), next_place m f b.next)
 
 pair-eq : (a b : Option Item) (p q : Place) → a ≡ b → p ≡ q → ◌≡◌ {A = Found} (a, p) (b, q)
 pair-eq a b p q e f = let g : Option Item → Place → Found = λ x y. (x, y) in ap (λ x. g x p) e ∙ ap (g b) f
@@ -250,7 +252,7 @@ found-one : (stop : Stop) (h : Heading) (item : Option Item) (next : Place) → 
 found-one stop Silence item next k = pair-eq None item None next (sym k.0) (sym k.1)
 found-one stop (Refused refusal v) item next k = pair-eq (Some (Refuses refusal v false true)) item None next (sym k.0) (sym k.1)
 found-one stop (Heads m f after) item next k =
-    rw (body-one f.form (body_length_or_0 f) after stop k.0 k.1 k.2) (pair-eq _ _ _ _ (sym k.3) (sym k.4))
+    rw (body-one f.by_standard f.form (body_length_or_0 f) after stop k.0 k.1 k.2) (pair-eq _ _ _ _ (sym k.3) (sym k.4))
 
 one-found : (i j : Option Item) (p q : Place) (f : Found) → f ≡ (i, p) → f ≡ (j, q) → (i ≡ j) × (p ≡ q)
 one-found i j p q f e g =
@@ -304,18 +306,18 @@ abbrev place_len : Place → ℕ
 place_len None = 0
 place_len (Some bytes) = length bytes
 
-body-shorter : (form : Form) (n : ℕ) (after : List ℕ) (stop : Stop) (body : Feed) (next : Place) → BodyAt form n after stop body next → place_len next ≤ length after
-body-shorter Nothing n after stop body next h = rw h.1 (omega arith)
-body-shorter WithHead n after stop body next h = sized-shorter n after body next h
+body-shorter : (standard : Bool) (form : Form) (n : ℕ) (after : List ℕ) (stop : Stop) (body : Feed) (next : Place) → BodyAt standard form n after stop body next → place_len next ≤ length after
+body-shorter standard Nothing n after stop body next h = rw h.1 (omega arith)
+body-shorter standard WithHead n after stop body next h = sized-shorter n after body next h
   where
     sized-shorter : (n : ℕ) (after : List ℕ) (body : Feed) (next : Place) → SizedBody n after body next → place_len next ≤ length after
     sized-shorter n after body next h = rw (h.4, h.1) (simp length-append (omega arith))
-body-shorter Counted n after stop body next h = ⊎_elim (λ k. rw (k.4, k.1) (simp length-append (omega arith))) (λ k. rw k.2 (omega arith)) h
-body-shorter Rest n after stop body next h = rw h.1 (omega arith)
-body-shorter Chunked n after stop body next h = ⊎_elim (λ k. rw k.3 (chunks-shorter after body.bytes k.0 k.1)) (λ k. rw k.3 (omega arith)) h
+body-shorter standard Counted n after stop body next h = ⊎_elim (λ k. rw (k.4, k.1) (simp length-append (omega arith))) (λ k. rw k.2 (omega arith)) h
+body-shorter standard Rest n after stop body next h = rw h.1 (omega arith)
+body-shorter standard Chunked n after stop body next h = ⊎_elim (λ k. rw k.3 (chunks-shorter (chunk_rules standard) after body.bytes k.0 k.1)) (λ k. rw k.3 (omega arith)) h
   where
-    chunks-shorter : (bytes body rest : List ℕ) → WholeChunks bytes body rest → length rest ≤ length bytes
-    chunks-shorter bytes body rest c = rw c.joins (simp length-append (omega arith))
+    chunks-shorter : (rules : ChunkRules) (bytes body rest : List ℕ) → WholeChunksBy rules bytes body rest → length rest ≤ length bytes
+    chunks-shorter rules bytes body rest c = rw c.joins (simp length-append (omega arith))
 
 goes-shorter : (m : Message) (f : Framing) (next : Place) → place_len (next_place m f next) ≤ place_len next
 goes-shorter m f next = chosen (if is_too_new m.version then ends_too_new f.form else f.is_last) next
@@ -359,9 +361,9 @@ heads-is : (p : Profile) (at : Headings) (fuel : ℕ) (stop : Stop) (bytes : Lis
     → (m : Message) (f : Framing) (after : List ℕ) → HeadAt p bytes stop (Heads m f after) → Pipeline p (Some bytes) stop (items_at (items_from at fuel stop) stop (Heads m f after))
 heads-is p at fuel stop bytes go m f after h =
     let here = heads-at p bytes stop m f after h in
-    let r = body_read f.form (body_length_or_0 f) after stop in
-    let k = body-is f.form (body_length_or_0 f) after stop here.uncut in
-    let n = body-shorter f.form (body_length_or_0 f) after stop r.body r.next k in
+    let r = body_read f.by_standard f.form (body_length_or_0 f) after stop in
+    let k = body-is f.by_standard f.form (body_length_or_0 f) after stop here.uncut in
+    let n = body-shorter f.by_standard f.form (body_length_or_0 f) after stop r.body r.next k in
     let g = goes-shorter m f r.next in
     (next_place m f r.next, (Heads m f after, h, (r.body, r.next, k, refl, refl)), go (next_place m f r.next) (omega (arith, n, g, here.shorter)))
 

@@ -7,10 +7,12 @@ use Rattle.std.specs.declared.io.ErrorKind.{ErrorKind}
 use Rattle.tiny_http_wire.specs.declared.device.Stop.{Stop}
 use Rattle.tiny_http_wire.specs.declared.device.Stop.TheVariants.{End, Fault}
 use Rattle.tiny_http_wire.specs.Cursor.{cursor_bytes}
-use Rattle.tiny_http_wire.specs.Device.{AnswersStop, Feed, whole_feed, prepend}
+use Rattle.tiny_http_wire.specs.Device.{AnswersStop, Feed, whole_feed, prepend, fault_of}
 use Rattle.tiny_http_wire.specs.Decoding.{Coming, decoding_coming, decoding_rules}
+use Rattle.tiny_http_wire.specs.Chunks.{WholeChunksBy, CutChunksBy}
+use Rattle.tiny_http_wire.specs.declared.chunked.Decoding.{Decoding}
 use Rattle.tiny_http_wire.specs.declared.chunked.ChunkRules.{ChunkRules}
-use Rattle.tiny_http_wire.specs.declared.chunked.ChunkRules.TheVariants.{Lenient}
+use Rattle.tiny_http_wire.specs.declared.chunked.ChunkRules.TheVariants as chunks
 use Rattle.tiny_http_message.specs.declared.body.Body.{Body}
 use Rattle.tiny_http_message.specs.declared.body.Body.TheVariants.{Over, WithHead, Counted, Chunked, Rest}
 use Rattle.tiny_http_message.specs.declared.framing.Form.{Form}
@@ -35,9 +37,23 @@ chunks_remaining bytes (Err kind) = record { body = record { bytes = bytes; stop
 abbrev pub coming_remaining : Coming → Remaining
 coming_remaining c = chunks_remaining c.bytes c.behind
 
+-- by which rules the lines of a chunked body are read
+abbrev pub chunk_rules : Bool → ChunkRules
+chunk_rules true = chunks.Standard
+chunk_rules false = chunks.Lenient
+
+-- how a body stops that the input's stop cuts: as the input does; by the standard its end is a fault, too (RFC 9112, section 8)
+abbrev pub cut_stop : Bool → Stop → Stop
+cut_stop false stop = stop
+cut_stop true stop = Fault (fault_of stop)
+
+-- the input, as a body meets its stop
+abbrev pub cut_feed : Bool → Feed → Feed
+cut_feed by_standard feed = record { bytes = feed.bytes; stop = cut_stop by_standard feed.stop }
+
 -- so many bytes of the input; where there are fewer no head follows
-abbrev pub counted_remaining : ℕ → Feed → Remaining
-counted_remaining n feed = record { body = feed_front n feed; behind = skipped n feed }
+abbrev pub counted_remaining : Bool → ℕ → Feed → Remaining
+counted_remaining by_standard n feed = record { body = feed_front n (cut_feed by_standard feed); behind = skipped n feed }
 
 -- the input stands after the body already
 abbrev pub taken_remaining : Feed → Feed → Remaining
@@ -51,9 +67,21 @@ rest_remaining feed = record { body = feed; behind = stopped End }
 abbrev pub remaining : Body → Option Feed → Option Remaining
 remaining (Over stop) feed = option_map (taken_remaining (stopped stop)) feed
 remaining (WithHead bytes) feed = option_map (taken_remaining (whole_feed (cursor_bytes bytes))) feed
-remaining (Counted n) feed = option_map (counted_remaining n) feed
+remaining (Counted n by_standard) feed = option_map (counted_remaining by_standard n) feed
 remaining (Chunked decoding) feed = option_map coming_remaining (decoding_coming decoding feed)
 remaining Rest feed = option_map rest_remaining feed
+
+-- A body in chunks of which nothing was read: one that is whole gives its data, and leaves the rest; another one gives the data that
+-- stand, and then the fault.
+pub record IsNewDecoding (by_standard : Bool) (d : Decoding) : Type 0 where
+  pub rules : decoding_rules d ≡ chunk_rules by_standard
+  pub whole : (bytes body rest : List ℕ) (stop : Stop) → WholeChunksBy (chunk_rules by_standard) bytes body rest
+      → decoding_coming d (Some (record { bytes = bytes; stop = stop })) ≡ Some (record { bytes = body; behind = Ok (record { bytes = rest; stop = stop }) })
+  pub front : (bytes body : List ℕ) (stop : Stop) (kind : ErrorKind) → CutChunksBy (chunk_rules by_standard) bytes stop body kind
+      → decoding_coming d (Some (record { bytes = bytes; stop = stop })) ≡ Some (record { bytes = body; behind = Err kind })
+
+abbrev pub IsNewChunked : Bool → Body → Type 0
+IsNewChunked by_standard b = (d : Decoding) × (b ≡ Chunked d) × IsNewDecoding by_standard d
 
 -- these bytes of the body, and then what remains
 abbrev pub prepend_body : List ℕ → Remaining → Remaining
@@ -76,15 +104,29 @@ NoneRemains (Some r) = r.body.bytes ≡ []
 abbrev pub is_streaming : Body → Bool
 is_streaming (Over stop) = false
 is_streaming (WithHead bytes) = false
-is_streaming (Counted n) = true
+is_streaming (Counted n by_standard) = true
 is_streaming (Chunked decoding) = true
 is_streaming Rest = true
+
+-- the body has come whole, and none of it is read from the input any more
+abbrev pub is_whole : Body → Bool
+is_whole (Over End) = true
+is_whole (Over (Fault kind)) = false
+is_whole (WithHead bytes) = true
+is_whole (Counted n by_standard) = false
+is_whole (Chunked decoding) = false
+is_whole Rest = false
+
+-- what a connection reads that was upgraded: by the standard all that comes, else the body of its request
+abbrev pub stream_body : Bool → Body → Body
+stream_body true b = Rest
+stream_body false b = b
 
 -- what is reported from now on, where that is kept
 abbrev pub body_stop : Body → Option Stop
 body_stop (Over stop) = Some stop
 body_stop (WithHead bytes) = None
-body_stop (Counted n) = None
+body_stop (Counted n by_standard) = None
 body_stop (Chunked decoding) = None
 body_stop Rest = None
 
@@ -105,7 +147,7 @@ IsChunkedBy rules _ = ⊥
 abbrev pub ReadsOn : Body → ℕ → Bool → Body → Type 0
 ReadsOn (Over stop) n end_reported new = (new ≡ Over stop) × (n ≡ 0)
 ReadsOn (WithHead bytes) n end_reported new = IsWithHead new
-ReadsOn (Counted left) n end_reported new = MatchBool (end_reported || n == left) (IsBodyOver new) ((new ≡ Counted (left - n)) × (n < left))
+ReadsOn (Counted left by_standard) n end_reported new = MatchBool (end_reported || n == left) (IsBodyOver new) ((new ≡ Counted (left - n) by_standard) × (n < left))
 ReadsOn (Chunked decoding) n end_reported new = MatchBool end_reported (IsBodyOver new) (IsChunkedBy (decoding_rules decoding) new)
 ReadsOn Rest n end_reported new = MatchBool end_reported (IsBodyOver new) (new ≡ Rest)
 
@@ -117,13 +159,14 @@ body_finished form.Counted n given end_reported = given == n || end_reported
 body_finished form.Chunked n given end_reported = end_reported
 body_finished form.Rest n given end_reported = end_reported
 
--- what was read of the body fits its form and length
-abbrev pub Fits : Body → Form → ℕ → ℕ → Bool → Type 0
-Fits (Over stop) shape n given end_reported = body_finished shape n given end_reported ≡ true
-Fits (WithHead bytes) shape n given end_reported = shape ≡ form.WithHead
-Fits (Counted left) shape n given end_reported = (shape ≡ form.Counted) × (given + left ≡ n) × (0 < left) × (end_reported ≡ false)
-Fits (Chunked decoding) shape n given end_reported = (shape ≡ form.Chunked) × (end_reported ≡ false) × (decoding_rules decoding ≡ Lenient)
-Fits Rest shape n given end_reported = (shape ≡ form.Rest) × (end_reported ≡ false)
+-- what was read of the body fits its profile, form and length
+abbrev pub Fits : Bool → Body → Form → ℕ → ℕ → Bool → Type 0
+Fits standard (Over stop) shape n given end_reported = body_finished shape n given end_reported ≡ true
+Fits standard (WithHead bytes) shape n given end_reported = shape ≡ form.WithHead
+Fits standard (Counted left by_standard) shape n given end_reported =
+    (shape ≡ form.Counted) × (given + left ≡ n) × (0 < left) × (end_reported ≡ false) × (by_standard ≡ standard)
+Fits standard (Chunked decoding) shape n given end_reported = (shape ≡ form.Chunked) × (end_reported ≡ false) × (decoding_rules decoding ≡ chunk_rules standard)
+Fits standard Rest shape n given end_reported = (shape ≡ form.Rest) × (end_reported ≡ false)
 
 -- A buffer was filled from the body: with all its bytes; or with fewer, and none is left; or a fault came before any byte.
 abbrev pub FillsFromBody : Body → Option Feed → Body → Option Feed → Result ℕ ErrorKind → List ℕ → Type 0
@@ -138,7 +181,7 @@ abbrev pub body_standing : Body → Standing → Standing
 body_standing (Over End) standing = after_body standing
 body_standing (Over (Fault kind)) standing = after_fault kind standing
 body_standing (WithHead bytes) standing = after_body standing
-body_standing (Counted n) standing = standing
+body_standing (Counted n by_standard) standing = standing
 body_standing (Chunked decoding) standing = standing
 body_standing Rest standing = standing
 
@@ -182,7 +225,7 @@ pub record ReadsHeld (old new : Body) (r : Result ℕ Error) (buf : List ℕ) : 
 -- A body of which nothing was read is passed over: the bytes of a counted one are skipped before the next head. Else nothing
 -- changes: they were read with the head, or there are none.
 abbrev pub PassesOver : {R : Type 0} → Body → SourceState R → SourceState R → Type 0
-PassesOver (Counted left) old new = (new.feed ≡ option_map (skipped left) old.feed) × (new.standing ≡ old.standing) × (old.skip + left < 2 ^ 64 → (new.reader ≡ old.reader) × (new.stop ≡ old.stop))
+PassesOver (Counted left by_standard) old new = (new.feed ≡ option_map (skipped left) old.feed) × (new.standing ≡ old.standing) × (old.skip + left < 2 ^ 64 → (new.reader ≡ old.reader) × (new.stop ≡ old.stop))
 PassesOver (Over stop) old new = new ≡ old
 PassesOver (WithHead bytes) old new = new ≡ old
 PassesOver (Chunked decoding) old new = new ≡ old
@@ -194,7 +237,7 @@ abbrev pub GivesUp : {R : Type 0} → Body → SourceState R → SourceState R �
 GivesUp (Over stop) old new = new ≡ old
 GivesUp (WithHead bytes) old new = new ≡ old
 GivesUp Rest old new = new ≡ old
-GivesUp (Counted left) old new =
+GivesUp (Counted left by_standard) old new =
     (new.feed ≡ option_map (skipped left) old.feed) × (new.standing ≡ after_body old.standing)
     × (old.skip + left < 2 ^ 64 → (new.reader ≡ old.reader) × (new.stop ≡ old.stop))
 GivesUp (Chunked decoding) old new =

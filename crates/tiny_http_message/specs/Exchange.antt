@@ -1,16 +1,17 @@
 -- What a contract sees of an `Exchange`.
-use Rattle.std.specs.Prelude.{◌≡◌, ℕ, Bool, false, List, Option, unwrap_or}
+use Rattle.std.specs.Prelude.{◌≡◌, ℕ, Bool, false, List, Option, Result, ⊤, unwrap_or}
 use Rattle.httpdate.specs.declared.date.HttpDate.{HttpDate}
 use Rattle.tiny_http_wire.specs.Device.{Feed}
 use Rattle.tiny_http_message.specs.declared.exchange.Head.{Head}
 use Rattle.tiny_http_message.specs.declared.body.Body.{Body}
 use Rattle.tiny_http_message.specs.declared.open_request.OpenRequest.{OpenRequest}
 use Rattle.tiny_http_message.specs.declared.exchange.Exchange.{Exchange}
+use Rattle.tiny_http_message.specs.declared.upgrading.UpgradeError.{UpgradeError}
 use Rattle.tiny_http_stream.specs.Source.{SourceState}
 use Rattle.tiny_http_sending.specs.ResponseValue.{printing_in}
 use Rattle.tiny_http_wire.specs.Answer.{Printing}
-use Rattle.tiny_http_message.specs.OpenRequest.{KeepsHead}
-use Rattle.tiny_http_message.specs.Body.{Remaining, remaining, is_streaming, Fits, GivesUp}
+use Rattle.tiny_http_message.specs.OpenRequest.{KeepsHead, request_check}
+use Rattle.tiny_http_message.specs.Body.{Remaining, remaining, is_streaming, is_whole, Fits, GivesUp}
 
 -- a request of this head, of which this is kept
 abbrev pub exchange_of : Head → OpenRequest Body → Exchange
@@ -48,6 +49,10 @@ exchange_owes_continue x = x.open_request.owes_continue
 abbrev pub exchange_drop_text : Exchange → List ℕ
 exchange_drop_text x = x.open_request.dropped.items
 
+-- whether the connection can be upgraded, and why not
+abbrev pub exchange_check : Exchange → List ℕ → ℕ → Result ⊤ UpgradeError
+exchange_check x protocol code = request_check x.open_request protocol code (is_whole x.open_request.body)
+
 -- its head is the same, and of what is kept of it this has changed
 abbrev pub Changes : (OpenRequest Body → OpenRequest Body → Type 0) → Exchange → Exchange → Type 0
 Changes P old new = (new.head ≡ old.head) × P old.open_request new.open_request
@@ -63,4 +68,4 @@ GivesUpBody x old new = GivesUp x.open_request.body old new
 -- what is kept of a request that was read on this date, of whose body nothing was read yet
 pub record KeepsRequest (x : Exchange) (date : HttpDate) : Type 0 where
   pub answer : KeepsHead x.open_request x.head date
-  pub body : Fits x.open_request.body x.head.form (unwrap_or x.head.body_length 0) 0 false
+  pub body : Fits x.head.by_standard x.open_request.body x.head.form (unwrap_or x.head.body_length 0) 0 false

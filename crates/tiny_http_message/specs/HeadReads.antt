@@ -7,7 +7,7 @@ use Rattle.tiny_http_wire.specs.declared.common.HTTPVersion.{HTTPVersion}
 use Rattle.tiny_http_wire.specs.declared.common.Header.{Header}
 use Rattle.tiny_http_wire.specs.declared.device.Stop.{Stop}
 use Rattle.tiny_http_wire.specs.declared.device.Stop.TheVariants.{End, Fault}
-use Rattle.tiny_http_wire.specs.Device.{Feed, whole_feed}
+use Rattle.tiny_http_wire.specs.Device.{Feed}
 use Rattle.tiny_http_wire.specs.Bytes.{AreAscii}
 use Rattle.tiny_http_wire.specs.Lines.{Line, IsUnfinished}
 use Rattle.tiny_http_wire.specs.HeadReading as reading
@@ -38,7 +38,7 @@ use Rattle.tiny_http_message.specs.declared.body.Body.{Body}
 use Rattle.tiny_http_message.specs.FramingReading.{framing}
 use Rattle.tiny_http_stream.specs.declared.source.FirstLine.{FirstLine}
 use Rattle.tiny_http_stream.specs.Source.{SourceState, GoesOn, feed_from, FindsLine, IsShort, IsTooLong, IsAtEnd, seen_within}
-use Rattle.tiny_http_message.specs.Pipeline.{Request, Asks, Refuses, Refusal, VersionNotSupported, refusal_status, is_timed_out, Place, BeginsWithin, IsUnfinishedHead, IsTooLarge, IsCutWithHead, IsCutHead, IsNotAsciiHead, BodyAt, OneHead, body_length_or_0, place_after, served_version, standard_framing}
+use Rattle.tiny_http_message.specs.Pipeline.{place_feed, Request, Asks, Refuses, Refusal, VersionNotSupported, refusal_status, is_timed_out, Place, BeginsWithin, IsUnfinishedHead, IsTooLarge, IsCutWithHead, IsCutHead, IsNotAsciiHead, BodyAt, OneHead, body_length_or_0, place_after, served_version, standard_framing}
 use Rattle.tiny_http_message.specs.OwnAnswer.{own_text, refusal_response, refused_text}
 use Rattle.tiny_http_message.specs.Body.{Remaining, remaining, Fits}
 use Rattle.tiny_http_message.specs.Exchange.{exchange_head, exchange_open, exchange_left, exchange_streams, KeepsRequest}
@@ -149,9 +149,9 @@ head_message h = record { method = h.method; path = h.path; version = h.version;
 abbrev pub head_framing : Head → Framing
 head_framing h = record { form = h.form; owes_continue = h.owes_continue; body_length = h.body_length; asks_upgrade = h.asks_upgrade; by_standard = h.by_standard; is_last = h.is_last }
 
--- the request of a head, with its body
-abbrev pub request_of : Head → Feed → Request
-request_of h body = record { message = head_message h; framing = head_framing h; body = body }
+-- the request of a head, with its body and what follows that
+abbrev pub request_of : Head → Feed → Feed → Request
+request_of h body behind = record { message = head_message h; framing = head_framing h; body = body; behind = behind }
 
 -- a head that is faulty so within this limit, under the version if that was read
 abbrev pub IsFaultyHead : Option ℕ → List ℕ → Option HTTPVersion → HeadFault → Type 0
@@ -224,11 +224,6 @@ AnswersFault v fault.TooLarge stop date r = RefusesWith 431 (unwrap_or v (versio
 AnswersFault v fault.NotAscii stop date r = r ≡ Ok (read.Ended because.NotAscii)
 AnswersFault v fault.Memory stop date r = IsErr r
 
--- the feed at a place; nothing where no head follows
-abbrev pub place_feed : Stop → Place → Feed
-place_feed stop None = whole_feed []
-place_feed stop (Some bytes) = record { bytes = bytes; stop = stop }
-
 -- the body that stands here, and the place after it, are to come
 abbrev pub ComesWith : Option Remaining → Stop → Feed → Place → Type 0
 ComesWith left stop body next = left ≡ Some (record { body = body; behind = place_feed stop next })
@@ -238,8 +233,8 @@ abbrev pub Begins : Framing → Option Feed → Option Feed → Option Body → 
 Begins f None new b = ⊤
 Begins f (Some x) new None = IsCutWithHead f.form (body_length_or_0 f) x.bytes
 Begins f (Some x) new (Some b) =
-    (IsCutWithHead f.form (body_length_or_0 f) x.bytes → ⊥) × (body : Feed) × (next : Place) × BodyAt f.form (body_length_or_0 f) x.bytes x.stop body next
-    × ComesWith (remaining b new) x.stop body next × Fits b f.form (body_length_or_0 f) 0 false
+    (IsCutWithHead f.form (body_length_or_0 f) x.bytes → ⊥) × (body : Feed) × (next : Place) × BodyAt f.by_standard f.form (body_length_or_0 f) x.bytes x.stop body next
+    × ComesWith (remaining b new) x.stop body next × Fits f.by_standard b f.form (body_length_or_0 f) 0 false
 
 -- the reader times out
 abbrev pub TimesOut : Option Feed → Type 0
@@ -260,7 +255,7 @@ GoesOnAt false stop next new = new ≡ Some (place_feed stop next)
 abbrev pub ReadsHead : Profile → Standing → HttpDate → Option Feed → Option Feed → Result HeadRead AllocError → Type 0
 ReadsHead p from_here date None new r = ⊤
 ReadsHead p from_here date (Some f) new (Ok (read.Request x)) =
-    (body : Feed) × (next : Place) × OneHead p f.bytes f.stop (Some (Asks (request_of (exchange_head x) body))) (place_after (exchange_head x).is_last next)
+    (body : Feed) × (next : Place) × OneHead p f.bytes f.stop (Some (Asks (request_of (exchange_head x) body (place_feed f.stop next)))) (place_after (exchange_head x).is_last next)
     × ComesWith (exchange_left x new) f.stop body next × KeepsRequest x date
 ReadsHead p from_here date (Some f) new (Ok (read.Refused status text last)) =
     (refusal : Refusal) × (v : HTTPVersion) × (no_body : Bool) × (next : Place) × OneHead p f.bytes f.stop (Some (Refuses refusal v no_body last)) next

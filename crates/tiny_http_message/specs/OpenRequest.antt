@@ -1,15 +1,21 @@
 -- What a contract sees of an `OpenRequest`.
-use Rattle.std.specs.Prelude.{◌≡◌, ◌&&◌, ◌||◌, ℕ, Bool, false, not, nat_lt, []}
+use Rattle.std.specs.Prelude.{◌≡◌, ◌&&◌, ◌||◌, ◌==◌, ℕ, Bool, false, not, nat_lt, List, [], Result, Ok, Err, ⊤, if◌then◌else◌}
+use Rattle.std.specs.List.{list_all}
 use Rattle.httpdate.specs.declared.date.HttpDate.{HttpDate}
 use Rattle.tiny_http_wire.specs.declared.device.Stop.TheVariants.{End}
+use Rattle.tiny_http_wire.specs.Bytes.{is_ascii}
 use Rattle.tiny_http_wire.specs.Coding.{coding_asked}
+use Rattle.tiny_http_standard.specs.Judging.{names_protocol}
 use Rattle.tiny_http_stream.specs.Outlet.{OutletState, output_of, outlet_held, SentOn}
 use Rattle.tiny_http_sending.specs.ResponseValue.{printing_to}
 use Rattle.tiny_http_sending.specs.Sending.{IsFlushed}
 use Rattle.tiny_http_message.specs.declared.exchange.Head.{Head}
 use Rattle.tiny_http_message.specs.declared.body.Body.{Body}
 use Rattle.tiny_http_message.specs.declared.body.Body.TheVariants.{Over}
+use Rattle.tiny_http_message.specs.Body.{stream_body}
 use Rattle.tiny_http_message.specs.declared.open_request.OpenRequest.{OpenRequest}
+use Rattle.tiny_http_message.specs.declared.upgrading.UpgradeError.{UpgradeError}
+use Rattle.tiny_http_message.specs.declared.upgrading.UpgradeError.TheVariants.{Protocol, NotAsked, Status, UnfinishedBody}
 use Rattle.tiny_http_message.specs.OwnAnswer.{own_text_by}
 use Rattle.tiny_http_message.specs.Pipeline.{is_head_method, is_connect_method}
 
@@ -29,17 +35,35 @@ is_last_without_continue w = w.by_standard && w.owes_continue
 abbrev pub is_last_with_stream : {B : Type 0} → OpenRequest B → Bool
 is_last_with_stream w = w.holds_next_head || is_last_without_continue w
 
+-- A connection can be upgraded to this protocol by an answer with this code, or why not. By the standard the request has to ask for
+-- it, and its body has to be whole (RFC 9110, section 7.8).
+abbrev pub upgrade_check : Bool → Bool → List ℕ → ℕ → Bool → Result ⊤ UpgradeError
+upgrade_check by_standard is_asked protocol code is_whole =
+    if not (list_all is_ascii protocol) then Err Protocol else
+    if not by_standard then Ok tt else
+    if not is_asked then Err NotAsked else
+    if not (code == 101) then Err Status else
+    if not is_whole then Err UnfinishedBody else Ok tt
+
+-- the same of a request that waits, by how far its body was read
+abbrev pub request_check : {B : Type 0} → OpenRequest B → List ℕ → ℕ → Bool → Result ⊤ UpgradeError
+request_check w protocol code is_whole = upgrade_check w.by_standard (w.holds_next_head && names_protocol w.upgrades.items protocol) protocol code is_whole
+
 -- nothing has changed but that no 100 is owed any more
 abbrev pub OwesNoContinue : {B : Type 0} → OpenRequest B → OpenRequest B → Type 0
 OwesNoContinue old new = new ≡ record old { owes_continue = false }
+
+-- nothing has changed but that no 100 is owed any more, and that its body is what an upgraded connection reads
+abbrev pub IsUpgraded : OpenRequest Body → OpenRequest Body → Type 0
+IsUpgraded old new = new ≡ record old { owes_continue = false; body = stream_body old.by_standard old.body }
 
 -- nothing has changed but that the text of its drop was taken, and that no 100 is owed any more
 abbrev pub HasNoDropText : {B : Type 0} → OpenRequest B → OpenRequest B → Type 0
 HasNoDropText old new = new ≡ record old { owes_continue = false; dropped = record { items = [] } }
 
--- nothing has changed but that its body reports its end from now on, and that no 100 is owed any more
+-- nothing has changed but that its body reports its end from now on, that no 100 is owed any more, and that no upgrade of it is taken
 abbrev pub HasNoBodyLeft : OpenRequest Body → OpenRequest Body → Type 0
-HasNoBodyLeft old new = new ≡ record old { body = Over End; owes_continue = false }
+HasNoBodyLeft old new = new ≡ record old { body = Over End; owes_continue = false; holds_next_head = false }
 
 -- the outlet holds nothing back, and all that it took was sent on
 abbrev pub HasSentAll : {W : Type 0} → OutletState W → Type 0
@@ -54,4 +78,7 @@ pub record KeepsHead {B : Type 0} (w : OpenRequest B) (h : Head) (date : HttpDat
   pub holds_next_head : w.holds_next_head ≡ (h.asks_upgrade && not h.is_last)
   pub by_standard : w.by_standard ≡ h.by_standard
   pub is_connect : w.is_connect ≡ is_connect_method h.method
+  -- the protocols that it asks for, unless it is its connection's last
+  pub upgrades : (protocol : List ℕ) → (w.holds_next_head && names_protocol w.upgrades.items protocol) ≡ (w.holds_next_head && names_protocol h.headers.items protocol)
+  pub no_upgrades : w.holds_next_head ≡ false → w.upgrades.items ≡ []
   pub text : w.dropped.items ≡ own_text_by 500 (printing_to (coding_asked h.headers.items) h.version (is_head_method h.method) date)

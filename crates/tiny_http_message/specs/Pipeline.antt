@@ -7,8 +7,8 @@ use Rattle.tiny_http_wire.specs.declared.common.Method.TheVariants.{Head, Connec
 use Rattle.tiny_http_wire.specs.declared.common.HTTPVersion.{HTTPVersion}
 use Rattle.tiny_http_wire.specs.declared.device.Stop.{Stop}
 use Rattle.tiny_http_wire.specs.declared.device.Stop.TheVariants.{End, Fault as Faults}
-use Rattle.tiny_http_wire.specs.Device.{Feed}
-use Rattle.tiny_http_wire.specs.Chunks.{WholeChunks, CutChunks}
+use Rattle.tiny_http_wire.specs.Device.{Feed, whole_feed}
+use Rattle.tiny_http_wire.specs.Chunks.{WholeChunksBy, CutChunksBy}
 use Rattle.tiny_http_wire.specs.Heads.{Message, BeginsWithRequestHead, FaultyHead, Cut, NotAscii, Malformed, version, is_too_new}
 use Rattle.tiny_http_stream.specs.Source.{seen_within}
 use Rattle.tiny_http_standard.specs.declared.judging.HeadSummary.{HeadSummary}
@@ -26,14 +26,17 @@ use Rattle.tiny_http_message.specs.declared.framing.FramingFault.TheVariants.{In
 use Rattle.tiny_http_message.specs.declared.framing.Form.{Form}
 use Rattle.tiny_http_message.specs.declared.framing.Form.TheVariants.{Rest, Nothing, WithHead, Counted, Chunked}
 use Rattle.tiny_http_message.specs.declared.framing.Framing.{Framing}
+use Rattle.tiny_http_message.specs.Body.{cut_stop, chunk_rules}
 use Rattle.tiny_http_message.specs.Framing.{Frames}
 use Rattle.tiny_http_message.specs.FramingReading.{sized_form}
 
--- a request that is handed out: its head, its framing, and what its body reader gives and how that closes
+-- a request that is handed out: its head, its framing, what its body reader gives and how that closes, and all that follows its
+-- body
 pub record Request : Type 0 where
   pub message : Message
   pub framing : Framing
   pub body : Feed
+  pub behind : Feed
 
 -- why a head is refused
 pub data Refusal : Type 0 where
@@ -79,6 +82,11 @@ pub data Item : Type 0 where
 -- where the next head begins; or None: the connection has ended
 abbrev pub Place : Type 0
 Place = Option (List ℕ)
+
+-- the feed at a place; nothing where no head follows
+abbrev pub place_feed : Stop → Place → Feed
+place_feed stop None = whole_feed []
+place_feed stop (Some bytes) = record { bytes = bytes; stop = stop }
 
 abbrev pub is_timed_out : Stop → Bool
 is_timed_out (Faults TimedOut) = true
@@ -247,15 +255,15 @@ abbrev pub SizedBody : ℕ → List ℕ → Feed → Place → Type 0
 SizedBody n after body next = (rest : List ℕ) × (after ≡ body.bytes ++ rest) × (length body.bytes ≡ n) × (body.stop ≡ End) × (next ≡ Some rest)
 
 -- The body that stands after a head, how it closes, and where the next head begins.
-abbrev pub BodyAt : Form → ℕ → List ℕ → Stop → Feed → Place → Type 0
-BodyAt Nothing n after stop body next = (body ≡ record { bytes = []; stop = End }) × (next ≡ Some after)
-BodyAt WithHead n after stop body next = SizedBody n after body next
-BodyAt Counted n after stop body next =
-    SizedBody n after body next ⊎ ((length after < n) × (body ≡ record { bytes = after; stop = stop }) × (next ≡ None))
-BodyAt Rest n after stop body next = (body ≡ record { bytes = after; stop = stop }) × (next ≡ None)
-BodyAt Chunked n after stop body next =
-    ((rest : List ℕ) × WholeChunks after body.bytes rest × (body.stop ≡ End) × (next ≡ Some rest))
-    ⊎ ((kind : ErrorKind) × CutChunks after stop body.bytes kind × (body.stop ≡ Faults kind) × (next ≡ None))
+abbrev pub BodyAt : Bool → Form → ℕ → List ℕ → Stop → Feed → Place → Type 0
+BodyAt standard Nothing n after stop body next = (body ≡ record { bytes = []; stop = End }) × (next ≡ Some after)
+BodyAt standard WithHead n after stop body next = SizedBody n after body next
+BodyAt standard Counted n after stop body next =
+    SizedBody n after body next ⊎ ((length after < n) × (body ≡ record { bytes = after; stop = cut_stop standard stop }) × (next ≡ None))
+BodyAt standard Rest n after stop body next = (body ≡ record { bytes = after; stop = stop }) × (next ≡ None)
+BodyAt standard Chunked n after stop body next =
+    ((rest : List ℕ) × WholeChunksBy (chunk_rules standard) after body.bytes rest × (body.stop ≡ End) × (next ≡ Some rest))
+    ⊎ ((kind : ErrorKind) × CutChunksBy (chunk_rules standard) after stop body.bytes kind × (body.stop ≡ Faults kind) × (next ≡ None))
 
 -- where the next head begins after a request
 abbrev pub place_after : Bool → Place → Place
@@ -268,9 +276,9 @@ ends_too_new Rest = true
 ends_too_new Chunked = true
 ends_too_new _ = false
 
-abbrev pub item_of : Message → Framing → Feed → Item
-item_of m f body =
-    if is_too_new m.version then Refuses VersionNotSupported (version 1 1) (is_head_method m.method) (ends_too_new f.form) else Asks (record { message = m; framing = f; body = body })
+abbrev pub item_of : Message → Framing → Feed → Feed → Item
+item_of m f body behind =
+    if is_too_new m.version then Refuses VersionNotSupported (version 1 1) (is_head_method m.method) (ends_too_new f.form) else Asks (record { message = m; framing = f; body = body; behind = behind })
 
 -- where the next head begins after one of this message and framing
 abbrev pub next_place : Message → Framing → Place → Place
@@ -281,7 +289,7 @@ abbrev pub FoundAt : Stop → Heading → Option Item → Place → Type 0
 FoundAt stop Silence item next = (item ≡ None) × (next ≡ None)
 FoundAt stop (Refused refusal v) item next = (item ≡ Some (Refuses refusal v false true)) × (next ≡ None)
 FoundAt stop (Heads m f after) item next =
-    (body : Feed) × (behind : Place) × BodyAt f.form (body_length_or_0 f) after stop body behind × (item ≡ Some (item_of m f body)) × (next ≡ next_place m f behind)
+    (body : Feed) × (behind : Place) × BodyAt f.by_standard f.form (body_length_or_0 f) after stop body behind × (item ≡ Some (item_of m f body (place_feed stop behind))) × (next ≡ next_place m f behind)
 
 -- One head: the item that it is, if any, and where the next one begins.
 abbrev pub OneHead : Profile → List ℕ → Stop → Option Item → Place → Type 0

@@ -7,7 +7,7 @@ use Rattle.tiny_http_wire.specs.Device.{Feed}
 use Rattle.tiny_http_wire.specs.declared.common.HTTPVersion.{HTTPVersion}
 use Rattle.tiny_http_wire.specs.Heads.{Message, GrammarFault, Cut, NotAscii, Malformed, version}
 use Rattle.tiny_http_wire.specs.HeadReading.{request_head_read, RequestHeadRead, Whole, Faulty}
-use Rattle.tiny_http_wire.specs.ChunkReading.{decoded, Decoded}
+use Rattle.tiny_http_wire.specs.ChunkReading.{decoded_by, Decoded}
 use Rattle.tiny_http_stream.specs.Source.{seen_within}
 use Rattle.tiny_http_message.specs.declared.framing.HeadRules.{HeadRules}
 use Rattle.tiny_http_message.specs.declared.framing.FramingFault.{FramingFault}
@@ -15,7 +15,8 @@ use Rattle.tiny_http_message.specs.declared.framing.Form.{Form}
 use Rattle.tiny_http_message.specs.declared.framing.Form.TheVariants.{Rest, Nothing, WithHead, Counted, Chunked}
 use Rattle.tiny_http_message.specs.declared.framing.Framing.{Framing}
 use Rattle.tiny_http_message.specs.FramingReading.{framing}
-use Rattle.tiny_http_message.specs.Pipeline.{Item, Refuses, BadRequest, RequestTimeout, HeaderFieldsTooLarge, framing_refusal, Place, is_timed_out, is_cut_with_head, head_limit, Heading, Silence, Refused, Heads, body_length_or_0, item_of, next_place}
+use Rattle.tiny_http_message.specs.Body.{cut_stop, chunk_rules}
+use Rattle.tiny_http_message.specs.Pipeline.{place_feed, Item, Refuses, BadRequest, RequestTimeout, HeaderFieldsTooLarge, framing_refusal, Place, is_timed_out, is_cut_with_head, head_limit, Heading, Silence, Refused, Heads, body_length_or_0, item_of, next_place}
 
 -- a body and where the next head begins
 pub record BodyRead : Type 0 where
@@ -31,12 +32,16 @@ sized_read n after stop =
     then record { body = record { bytes = after; stop = stop }; next = None }
     else record { body = record { bytes = take n after; stop = End }; next = Some (drop n after) }
 
-abbrev pub body_read : Form → ℕ → List ℕ → Stop → BodyRead
-body_read Nothing n after stop = record { body = record { bytes = []; stop = End }; next = Some after }
-body_read WithHead n after stop = sized_read n after stop
-body_read Counted n after stop = sized_read n after stop
-body_read Rest n after stop = record { body = record { bytes = after; stop = stop }; next = None }
-body_read Chunked n after stop = chunked_read (decoded (length after + 1) stop after)
+-- a counted body that is cut stops as its profile says
+abbrev pub counted_read : Bool → ℕ → List ℕ → Stop → BodyRead
+counted_read standard n after stop = sized_read n after (cut_stop standard stop)
+
+abbrev pub body_read : Bool → Form → ℕ → List ℕ → Stop → BodyRead
+body_read standard Nothing n after stop = record { body = record { bytes = []; stop = End }; next = Some after }
+body_read standard WithHead n after stop = sized_read n after stop
+body_read standard Counted n after stop = counted_read standard n after stop
+body_read standard Rest n after stop = record { body = record { bytes = after; stop = stop }; next = None }
+body_read standard Chunked n after stop = chunked_read (decoded_by (chunk_rules standard) (length after + 1) stop after)
 
 -- the head, or a body that is read with it, is cut
 abbrev pub cut_heading : Stop → Heading
@@ -74,8 +79,8 @@ abbrev pub items_at : (Place → List Item) → Stop → Heading → List Item
 items_at go stop Silence = []
 items_at go stop (Refused refusal v) = Refuses refusal v false true ∷ []
 items_at go stop (Heads m f after) =
-    let b = body_read f.form (body_length_or_0 f) after stop in
-    item_of m f b.body ∷ go (next_place m f b.next)
+    let b = body_read f.by_standard f.form (body_length_or_0 f) after stop in
+    item_of m f b.body (place_feed stop b.next) ∷ go (next_place m f b.next)
 
 -- what stands at each place, for each stop of the feed
 abbrev pub Headings : Type 0

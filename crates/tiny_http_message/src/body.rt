@@ -4,12 +4,12 @@ ghost use Rattle.std.specs.Option.{option_map};
 ghost use Rattle.tiny_http_wire.specs.Device.{AnswersStop, Feed};
 ghost use Rattle.tiny_http_stream.specs.Source.{GoesOn};
 ghost use Rattle.tiny_http_stream.specs.ToCome.{skipped};
-ghost use Rattle.tiny_http_message.specs.Body.{remaining, counted_remaining, is_streaming, body_standing, ReadsOn, ReadsRemaining, ReadsBody, ReadsHeld, FillsFromBody, GivesUp};
+ghost use Rattle.tiny_http_message.specs.Body.{remaining, IsNewChunked, counted_remaining, is_whole, stream_body, is_streaming, body_standing, ReadsOn, ReadsRemaining, ReadsBody, ReadsHeld, FillsFromBody, GivesUp};
 
 use std::io;
 use std::io::{Cursor, ErrorKind};
 use tiny_http_stream::source::{Source, Standing};
-use tiny_http_wire::chunked::Decoding;
+use tiny_http_wire::chunked::{ChunkRules, Decoding};
 use tiny_http_wire::device::{ReadDevice, Stop, read_front};
 
 /// How far a request's body was read.
@@ -20,7 +20,12 @@ pub enum Body {
     /// The bytes were read with the head.
     WithHead(Cursor<Vec<u8>>),
     /// So many bytes of the input.
-    Counted(usize),
+    Counted {
+        /// How many are left.
+        left: usize,
+        /// Whether an end of the input among them is a fault, and not the body's end.
+        by_standard: bool,
+    },
     /// Chunks of the input.
     Chunked(Decoding),
     /// All that comes of the input.
@@ -37,15 +42,26 @@ fn report(stop: Stop) -> Result<usize, io::Error>
     }
 }
 
-/// The body of which so many bytes of the input are left.
-pub fn counted(left: usize) -> Body
-    ensures remaining { (feed : Option Feed) → remaining result feed ≡ option_map (counted_remaining left) feed }
-    ensures moves { ReadsOn (Body.Counted left) 0 false result }
+/// The body of which so many bytes of the input are left. By the standard an end of the input among them is a fault.
+pub fn counted(left: usize, by_standard: bool) -> Body
+    ensures remaining { (feed : Option Feed) → remaining result feed ≡ option_map (counted_remaining by_standard left) feed }
+    ensures moves { ReadsOn (Body.Counted left by_standard) 0 false result }
 {
     if left == 0 {
         Body::Over(Stop::End)
     } else {
-        Body::Counted(left)
+        Body::Counted { left, by_standard }
+    }
+}
+
+/// The body whose chunks are the next bytes of the input. Their lines are read by the rules of the profile.
+pub fn chunked(by_standard: bool) -> Body
+    ensures { IsNewChunked by_standard result }
+{
+    if by_standard {
+        Body::Chunked(Decoding::new_with(ChunkRules::Standard))
+    } else {
+        Body::Chunked(Decoding::new_with(ChunkRules::Lenient))
     }
 }
 
@@ -55,9 +71,10 @@ impl Body {
         &mut self,
         source: &mut Source<R>,
         left: usize,
+        by_standard: bool,
         buf: &mut [u8],
     ) -> Result<usize, io::Error>
-        requires counted { self.old ≡ Body.Counted left }
+        requires counted { self.old ≡ Body.Counted left by_standard }
         requires room { 0 < length buf.old }
         ensures { ReadsRemaining self.old self.new source.old source.new result buf.new }
     {
@@ -68,11 +85,15 @@ impl Body {
         match read_front(source, left, buf) {
             Ok(0) => {
                 source.end();
+                if by_standard {
+                    *self = Body::Over(Stop::Fault(ErrorKind::UnexpectedEof));
+                    return Err(ErrorKind::UnexpectedEof.into());
+                }
                 *self = Body::Over(Stop::End);
                 Ok(0)
             }
             Ok(n) => {
-                *self = counted(left - n);
+                *self = counted(left - n, by_standard);
                 Ok(n)
             }
             Err(e) => {
@@ -152,9 +173,9 @@ impl Body {
         let standing = source.standing();
         let read = match self {
             Body::Over(_) | Body::WithHead(_) => return self.read_held(buf),
-            Body::Counted(left) => {
-                let left = *left;
-                self.read_counted(source, left, buf)
+            Body::Counted { left, by_standard } => {
+                let (left, by_standard) = (*left, *by_standard);
+                self.read_counted(source, left, by_standard, buf)
             }
             Body::Chunked(decoding) => {
                 let decoding = *decoding;
@@ -175,7 +196,7 @@ impl Body {
         match self {
             Body::Over(stop) => report(*stop),
             Body::WithHead(bytes) => bytes.read_in(buf),
-            Body::Counted(_) | Body::Chunked(_) | Body::Rest => unreachable!(),
+            Body::Counted { .. } | Body::Chunked(_) | Body::Rest => unreachable!(),
         }
     }
 
@@ -186,7 +207,7 @@ impl Body {
         match self {
             Body::Over(Stop::End) | Body::WithHead(_) => standing.after_body(),
             Body::Over(Stop::Fault(kind)) => standing.after_fault(*kind),
-            Body::Counted(_) | Body::Chunked(_) | Body::Rest => standing,
+            Body::Counted { .. } | Body::Chunked(_) | Body::Rest => standing,
         }
     }
 
@@ -239,7 +260,23 @@ impl Body {
     pub fn holds_reader(&self) -> bool
         ensures { result ≡ is_streaming self.now }
     {
-        matches!(self, Body::Counted(_) | Body::Chunked(_) | Body::Rest)
+        matches!(self, Body::Counted { .. } | Body::Chunked(_) | Body::Rest)
+    }
+
+    /// Whether the body has come whole, and none of it is read from the input any more.
+    pub fn is_whole(&self) -> bool
+        ensures { result ≡ is_whole self.now }
+    {
+        matches!(self, Body::Over(Stop::End) | Body::WithHead(_))
+    }
+
+    /// The connection was upgraded: by the standard all that comes is read from now on, else still the body of the request.
+    pub fn become_stream(&mut self, by_standard: bool)
+        ensures { self.new ≡ stream_body by_standard self.old }
+    {
+        if by_standard {
+            *self = Body::Rest;
+        }
     }
 
     /// Gives the body up: what is left of a counted one is skipped by the next head; after a chunked one of which the end
@@ -250,7 +287,7 @@ impl Body {
     {
         let standing = source.standing();
         match self {
-            Body::Counted(left) => {
+            Body::Counted { left, .. } => {
                 source.skip(*left);
                 source.stand_at(standing.after_body());
             }

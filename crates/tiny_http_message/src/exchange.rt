@@ -1,7 +1,5 @@
 //! A request without locks: its head, its body on the connection's input, and what becomes of both.
-ghost use Rattle.std.specs.Prelude.{◌≡◌, ◌<◌, true, false, [], length, Some, None, Ok, IfOk, IfSome, IsSome, OnOk, OnErr, is_ok};
-ghost use Rattle.std.specs.List.{list_all};
-ghost use Rattle.tiny_http_wire.specs.Bytes.{is_ascii};
+ghost use Rattle.std.specs.Prelude.{◌≡◌, ◌<◌, true, false, [], length, Some, None, Ok, IfOk, IfSome, IsSome, OnOk, OnErr};
 ghost use Rattle.tiny_http_sending.specs.ResponseValue.{upgrade_text};
 ghost use Rattle.tiny_http_stream.specs.Source.{GoesOn, IsAtEnd, IsCutOff};
 ghost use Rattle.tiny_http_message.specs.Pipeline.{profile_of, is_timed_out, ends_too_new, refusal_status, framing_refusal};
@@ -13,14 +11,14 @@ ghost use Rattle.tiny_http_stream.specs.Outlet.{outlet_held, SentOn};
 ghost use Rattle.tiny_http_sending.specs.Sending.{FailsOnce, SendsQuietlyOn, SendsAnswer};
 ghost use Rattle.tiny_http_message.specs.OwnAnswer.{own_text_by};
 
-use crate::body::{Body, counted};
+use crate::body::{Body, chunked, counted};
 pub use crate::framing::Form;
 use crate::framing::{Framing, FramingFault, HeadRules, Profile, framing_of, is_too_new};
 use crate::heads::{HeadFault, Message, read_message};
 use crate::open_request::{OpenRequest, is_head};
 use crate::own_answer::{own_answer, too_new_answer};
 use crate::standard::read_standard;
-use crate::upgrading::{UpgradeError, check_protocol};
+use crate::upgrading::UpgradeError;
 use httpdate::HttpDate;
 use std::alloc::{AllocError, Global};
 use std::io;
@@ -70,12 +68,13 @@ pub struct Exchange {
 /// Why no further request comes.
 #[derive(Clone, Copy, Debug, PartialEq, Eq)]
 pub enum EndOfRequests {
-    /// The last request was read: its version or its `Connection` header ends the connection after it. Under `Standard` its method
-    /// `CONNECT` does, too, as does whatever finished it while its 100 was owed, and, if it asked for an upgrade, its raw writer or its
-    /// upgrade.
+    /// The last request was read: its version or its `Connection` header ends the connection after it. Under `Standard` its
+    /// method `CONNECT` does, too, as does whatever finished it while its 100 was owed, and, if it asked for an upgrade, its
+    /// raw writer or its upgrade.
     LastRequest,
     /// The client's bytes ended, and no byte of a further head had come. So it is too where they ended within a body of a known
-    /// length, or, by an end or a fault, within what was left of one that was given up or passed over.
+    /// length (under `Standard` that is `BrokenBody`, once it was read up to there), or, by an end or a fault, within what was left
+    /// of one that was given up or passed over.
     Closed,
     /// They ended within a head, or within a body that is read with its head.
     Cut,
@@ -113,8 +112,8 @@ pub enum HeadRead {
 }
 
 impl Exchange {
-    ghost use Rattle.tiny_http_message.specs.Exchange.{exchange_printing, exchange_of, exchange_head, exchange_drop_text, exchange_owes_continue, exchange_body, Changes, GivesUpBody, KeepsButBody};
-    ghost use Rattle.tiny_http_message.specs.OpenRequest.{OwesNoContinue, HasNoDropText, HasNoBodyLeft};
+    ghost use Rattle.tiny_http_message.specs.Exchange.{exchange_printing, exchange_check, exchange_of, exchange_head, exchange_drop_text, exchange_owes_continue, exchange_body, Changes, GivesUpBody, KeepsButBody};
+    ghost use Rattle.tiny_http_message.specs.OpenRequest.{OwesNoContinue, IsUpgraded, HasNoDropText, HasNoBodyLeft};
 
     /// What the request's head says.
     pub fn head(&self) -> &Head
@@ -126,8 +125,9 @@ impl Exchange {
     /// Reads some bytes of the body into the front of `buf`, and says how many: fewer than `buf` has room for also where more
     /// follow, and 0 where `buf` is empty. After the last byte each call answers 0, or the fault by which the body is cut or
     /// broken (RFC 9112, sections 6.2 and 7.1): the reader's own; or InvalidData or UnexpectedEof of a chunked body. A body of
-    /// a known length that is cut by the end of the input ends there. The source must be the one that the request was read
-    /// from; after a fault the source has ended. A body that was given up answers 0. No memory is taken.
+    /// a known length that is cut by the end of the input ends there; under `Standard` that is UnexpectedEof. The source must
+    /// be the one that the request was read from; after a fault the source has ended. A body that was given up answers 0. No
+    /// memory is taken.
     pub fn read_body<R: ReadDevice>(
         &mut self,
         source: &mut Source<R>,
@@ -140,9 +140,10 @@ impl Exchange {
     }
 
     /// Sends the answer to this request, printed for it and dated `now`, and flushes it. No 100 is owed any more. The caller
-    /// answers each request once, in the order of the requests, and gives the body up. Under `Standard` the caller reads no head
-    /// behind a request that is finished while its 100 is owed. On an outlet that has ended nothing is sent, the data aren't read, and the result is `Ok`. The first fault is the error: the data's, or the writer's. Where
-    /// both fail, either may be reported. Then the outlet has ended, and what was held before a fault of the data is sent.
+    /// answers each request once, in the order of the requests, and gives the body up. Under `Standard` the caller reads no
+    /// head behind a request that is finished while its 100 is owed. On an outlet that has ended nothing is sent, the data
+    /// aren't read, and the result is `Ok`. The first fault is the error: the data's, or the writer's. Where both fail, either
+    /// may be reported. Then the outlet has ended, and what was held before a fault of the data is sent.
     pub fn respond_on<W: WriteDevice, D: ReadDevice + Drop>(
         &mut self,
         alloc: Global,
@@ -159,9 +160,12 @@ impl Exchange {
     /// Sends the answer that upgrades the connection to this protocol (RFC 9110, section 7.8), printed for this request and
     /// dated `now`, and flushes it: its head alone, with `Connection: upgrade` and `Upgrade: PROTOCOL` in front of the other
     /// headers (as tiny_http). No 100 is owed any more. The caller does so in the turn of the request, in the place of an
-    /// answer; then the output is the protocol's, and what the body gives is its input. After it the caller sends neither an
-    /// answer nor the text of a drop. It is an error where the protocol isn't ASCII: then nothing has changed, and the caller
-    /// drops the request. The data are let go unread. A fault of the writer ends the outlet, and isn't reported. On an outlet
+    /// answer; then the output is the protocol's, and what the body gives is its input: the request's body, or by the standard
+    /// all that follows it. After it the caller sends neither an answer nor the text of a drop. It is an error where the
+    /// protocol isn't ASCII. By the standard it is one, too, where the request doesn't ask for this protocol or is its
+    /// connection's last, where the code isn't 101, and where the body isn't whole: cut, broken, or not read to its end; or the
+    /// body was given up. Then nothing has changed, and the caller drops the request. By the standard the caller reads no head
+    /// behind an upgrade. The data are let go unread. A fault of the writer ends the outlet, and isn't reported. On an outlet
     /// that has ended nothing is sent. The call takes no memory.
     pub fn upgrade_on<W: WriteDevice, D: Drop>(
         &mut self,
@@ -171,17 +175,21 @@ impl Exchange {
         response: Response<D>,
         now: HttpDate,
     ) -> Result<(), UpgradeError>
-        ensures ascii { is_ok result ≡ list_all is_ascii protocol.now }
+        ensures checked { result ≡ exchange_check self.old protocol.now response.answer.status }
         ensures refused { OnErr result ((self.new ≡ self.old) × (outlet.new ≡ outlet.old)) }
         // Whatever the data are.
         ensures sends { OnOk result ((content : Feed) → SendsQuietlyOn outlet.old outlet.new
             (upgrade_text (record { answer = response.answer; content = content }) protocol.now (exchange_printing self.old now))) }
-        ensures once { OnOk result (Changes OwesNoContinue self.old self.new) }
+        ensures once { OnOk result (Changes IsUpgraded self.old self.new) }
         ensures sent { OnOk result (FailsOnce outlet.old outlet.new × (outlet_held outlet.new ≡ []) × SentOn outlet.new) }
     {
-        check_protocol(protocol)?;
+        let status = response.status_code();
+        let is_whole = self.open_request.body.is_whole();
+        self.open_request.check_upgrade(protocol, status, is_whole)?;
         self.open_request
             .upgrade(alloc, outlet, protocol, response, now);
+        let by_standard = self.open_request.by_standard;
+        self.open_request.body.become_stream(by_standard);
         Ok(())
     }
 
@@ -291,7 +299,7 @@ fn pass_over<R: ReadDevice>(source: &mut Source<R>, body: &Body)
     ensures standing { source.new.standing ≡ source.old.standing }
 {
     match body {
-        Body::Counted(left) => source.skip(*left),
+        Body::Counted { left, .. } => source.skip(*left),
         Body::Over(_) => {}
         Body::WithHead(_) => {}
         Body::Chunked(_) => {}
@@ -413,8 +421,8 @@ pub fn begin_body<R: ReadDevice>(
     match framing.form {
         Form::Rest => Ok(Some(Body::Rest)),
         Form::Nothing => Ok(Some(Body::Over(Stop::End))),
-        Form::Counted => Ok(Some(counted(length))),
-        Form::Chunked => Ok(Some(Body::Chunked(Decoding::new()))),
+        Form::Counted => Ok(Some(counted(length, framing.by_standard))),
+        Form::Chunked => Ok(Some(chunked(framing.by_standard))),
         Form::WithHead => match source.take_exactly(alloc, length) {
             Ok(Some(bytes)) => Ok(Some(Body::WithHead(Cursor::new(bytes)))),
             Ok(None) => Ok(None),
@@ -525,17 +533,17 @@ fn end_at(standing: Standing, why: EndOfRequests) -> EndOfRequests
 /// that is read with its head and cut, then the version. `now` dates the answer to a refused head, and
 /// the 500 of a request that is dropped. It is an error where memory was refused.
 ///
-/// Under `Standard` a head is read by `tiny_http_standard`. It is refused by 400, 408, 414, 417, 431, 501 or 505, each with an empty
-/// answer in version 1.1 after which no head follows. A client that times out before a byte of a head isn't answered. The order is:
-/// the first bad line, the size, the version, the host and what frames the body, its coding, the expectation, and a body that is
-/// read with its head and cut.
+/// Under `Standard` a head is read by `tiny_http_standard`. It is refused by 400, 408, 414, 417, 431, 501 or 505, each with an
+/// empty answer in version 1.1 after which no head follows. A client that times out before a byte of a head isn't answered. The
+/// order is: the first bad line, the size, the version, the host and what frames the body, its coding, the expectation, and a
+/// body that is read with its head and cut.
 ///
-/// By the other profiles, after a 505 the next head stands behind the body, which is passed over, unless the head names an upgrade or the body is
-/// chunked. After anything else but a request the source has ended, but after the last request: then nothing is read, and its
-/// body can be read on.
+/// By the other profiles, after a 505 the next head stands behind the body, which is passed over, unless the head names an
+/// upgrade or the body is chunked. After anything else but a request the source has ended, but after the last request: then
+/// nothing is read, and its body can be read on.
 ///
-/// Under `Standard` the caller reads no head before a request that asks for an upgrade is answered or dropped, none behind its upgrade
-/// or raw writer, and none behind a request that was finished while its 100 was owed: `Connection` sees to that.
+/// Under `Standard` the caller reads no head before a request that asks for an upgrade is answered or dropped, none behind its
+/// upgrade or raw writer, and none behind a request that was finished while its 100 was owed: `Connection` sees to that.
 ///
 /// By `read_head`, `read_body` and `give_up` on one source bytes of a body are never read as a head. Where the body of the
 /// request before was neither read to its end nor given up the answer is `UnreadBody`, and the source ends there.

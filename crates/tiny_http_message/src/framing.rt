@@ -34,9 +34,8 @@ pub enum Profile {
     /// more than `STRICT_HEAD` bytes (RFC 6585, section 5).
     Strict,
     /// By the standard (RFC 9110 and RFC 9112): heads have its grammar, and are judged by `tiny_http_standard`. Lengths and sizes
-    /// are refused as under `Strict`, and of codings only `chunked` is served. Not whole yet: the lines of chunked bodies, bodies that
-    /// are cut, the stream of an upgrade and what an answer prints are still those of `Strict`, but that no body is the rest of the
-    /// stream.
+    /// are refused as under `Strict`, and of codings only `chunked` is served. The lines of a chunked body have its grammar, a body that
+    /// is cut is a fault, and a connection is upgraded only as its request asks. Not whole yet: an answer prints as under `Strict`.
     Standard,
 }
 

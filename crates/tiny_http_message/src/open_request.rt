@@ -1,30 +1,32 @@
 //! A request that was handed out and isn't answered yet: what it owes, how its answer is printed, and its body. A
 //! `Connection` keeps it under its number, a `Request` beside its turn. They see to the turn; what is sent, and what is owed
 //! after it, is decided here.
-ghost use Rattle.std.specs.Prelude.{◌≡◌, true, false, IfOk};
+ghost use Rattle.std.specs.Prelude.{◌≡◌, ℕ, List, true, false, IfOk};
+ghost use Rattle.tiny_http_standard.specs.Judging.{names_protocol};
 ghost use Rattle.std.specs.List.{list_all};
 ghost use Rattle.tiny_http_wire.specs.Bytes.{is_ascii};
 ghost use Rattle.tiny_http_wire.specs.Device.{Feed};
 ghost use Rattle.tiny_http_sending.specs.ResponseValue.{printing_in, upgrade_text};
 ghost use Rattle.tiny_http_sending.specs.Sending.{FailsOnce, SendsQuietlyOn, SendsAnswer};
 ghost use Rattle.tiny_http_message.specs.OwnAnswer.{own_text_by};
-ghost use Rattle.tiny_http_message.specs.OpenRequest.{KeepsHead, OwesNoContinue, HasNoDropText, HasNoBodyLeft, HasSentAll, is_last_without_continue, is_last_with_stream, refuses_code};
+ghost use Rattle.tiny_http_message.specs.OpenRequest.{KeepsHead, OwesNoContinue, HasNoDropText, HasNoBodyLeft, HasSentAll, is_last_without_continue, is_last_with_stream, refuses_code, request_check};
 ghost use Rattle.tiny_http_message.specs.Pipeline.{is_head_method};
 ghost use Rattle.tiny_http_message.specs.Body.{ReadsBody, GivesUp};
 
 use crate::body::Body;
 use crate::exchange::Head;
 use crate::own_answer::{DropText, send_own_quietly};
-use crate::upgrading::send_upgrade_quietly;
+use crate::upgrading::{UpgradeError, check_upgrade, send_upgrade_quietly};
 use httpdate::HttpDate;
 use std::alloc::{AllocError, Global};
 use std::io;
 use tiny_http_sending::sending::send_unless_ended;
+use tiny_http_standard::judging::names_protocol;
 use tiny_http_stream::outlet::Outlet;
 use tiny_http_stream::source::Source;
 use tiny_http_wire::answer_context::AnswerContext;
 use tiny_http_wire::coding::asked_coding;
-use tiny_http_wire::common::{Method, StatusCode};
+use tiny_http_wire::common::{Header, Method, StatusCode};
 use tiny_http_wire::device::{ReadDevice, WriteDevice};
 use tiny_http_wire::response::Response;
 
@@ -42,6 +44,8 @@ pub struct OpenRequest<B> {
     pub by_standard: bool,
     /// Whether its method is `CONNECT`.
     pub is_connect: bool,
+    /// The `Upgrade` headers of a request that holds the next head.
+    pub upgrades: Vec<Header>,
     /// What is sent if the request is dropped.
     pub dropped: DropText,
     /// Its body, and how far that was read.
@@ -64,20 +68,28 @@ impl<B: Drop> OpenRequest<B> {
             asked_coding: asked_coding(head.headers.as_slice()),
             no_body: is_head(&head.method),
         };
+        let holds_next_head = head.asks_upgrade && !head.is_last;
+        let upgrades = if holds_next_head {
+            upgrade_headers(alloc, head.headers.as_slice())?
+        } else {
+            Vec::new(alloc)
+        };
         let dropped = DropText::new(alloc, answer_context, now)?;
         Ok(OpenRequest {
             answer_context,
             owes_continue: head.owes_continue,
-            holds_next_head: head.asks_upgrade && !head.is_last,
+            holds_next_head,
             by_standard: head.by_standard,
             is_connect: matches!(head.method, Method::Connect),
+            upgrades,
             dropped,
             body,
         })
     }
 
-    /// Whether no head is read behind this request if it is answered now, dropped or upgraded, or its raw writer taken: by the
-    /// standard, while its 100 is owed. Then its body is read from the source. The client may leave the body out, or send it, and both are right (RFC 9110, section 10.1.1).
+    /// Whether no head is read behind this request if it is answered now or dropped, or its raw writer taken: by the standard,
+    /// while its 100 is owed. Then its body is read from the source. The client may leave the body out, or send it, and both
+    /// are right (RFC 9110, section 10.1.1).
     pub fn is_last_without_continue(&self) -> bool
         ensures { result ≡ is_last_without_continue self.now }
     {
@@ -92,14 +104,30 @@ impl<B: Drop> OpenRequest<B> {
         self.holds_next_head || self.is_last_without_continue()
     }
 
-    /// Whether an answer with this code is refused: by the standard, one that isn't final, since the client would take a later answer
-    /// for this request's (RFC 9110, section 15.2), or whose code hasn't three digits; and a 2xx to `CONNECT`, since it would open a
-    /// tunnel (section 9.3.6).
+    /// Whether an answer with this code is refused: by the standard, one that isn't final, since the client would take a later
+    /// answer for this request's (RFC 9110, section 15.2), or whose code hasn't three digits; and a 2xx to `CONNECT`, since it
+    /// would open a tunnel (section 9.3.6).
     pub fn refuses(&self, status: StatusCode) -> bool
         ensures { result ≡ refuses_code self.now.by_standard self.now.is_connect status.0 }
     {
         let is_final = status.0 >= 200 && status.0 < 1000;
         self.by_standard && (!is_final || (self.is_connect && status.0 < 300))
+    }
+
+    /// Whether the connection can be upgraded to this protocol by an answer with this code, where the body is whole or isn't: the
+    /// first error that holds. By the standard the request has to ask for the protocol, without being its connection's last, the
+    /// code has to be 101, and the body has to be whole (RFC 9110, section 7.8). An element of `Upgrade` with a percent sign isn't
+    /// taken for a protocol.
+    pub fn check_upgrade(
+        &self,
+        protocol: &str,
+        status: StatusCode,
+        is_whole: bool,
+    ) -> Result<(), UpgradeError>
+        ensures { result ≡ request_check self.now protocol.now status.0 is_whole }
+    {
+        let is_asked = self.holds_next_head && names_protocol(self.upgrades.as_slice(), protocol);
+        check_upgrade(self.by_standard, is_asked, protocol, status, is_whole)
     }
 
     /// Sends the answer to this request, printed for it and dated `now`, and flushes it. No 100 is owed any more. The caller
@@ -145,10 +173,10 @@ impl<B: Drop> OpenRequest<B> {
 
     /// Sends the answer that upgrades the connection to this protocol (RFC 9110, section 7.8), printed for this request and
     /// dated `now`, and flushes it: its head alone, with `Connection: upgrade` and `Upgrade: PROTOCOL` in front of the other
-    /// headers (as tiny_http). No 100 is owed any more. The caller checks the protocol by `check_protocol` first. It makes this
-    /// call in the turn of the request, in the place of an answer; then the output is the protocol's, and what the body gives is its
-    /// input, but under `Standard`, where the body gives the request's own bytes. The data are let go unread. A fault of the writer ends the outlet, and isn't reported. On an outlet that has
-    /// ended nothing is sent. The call takes no memory.
+    /// headers (as tiny_http). No 100 is owed any more. The caller asks `check_upgrade` first. It makes this
+    /// call in the turn of the request, in the place of an answer; then the output is the protocol's, and what the body
+    /// gives after `become_stream` is its input. The data are let go unread. A fault of the writer ends the outlet, and isn't
+    /// reported. On an outlet that has ended nothing is sent. The call takes no memory.
     pub fn upgrade<W: WriteDevice, D: Drop>(
         &mut self,
         alloc: Global,
@@ -205,15 +233,30 @@ impl OpenRequest<Body> {
         self.body.read(source, buf)
     }
 
-    /// Gives the body up: each later read answers 0, and no 100 is owed any more. The rest of a body of a known length is
-    /// skipped before the next head; after a chunked one whose end or fault wasn't reported the source has ended.
+    /// Gives the body up: each later read answers 0, no 100 is owed any more, and by the standard no upgrade is taken. The rest
+    /// of a body of a known length is skipped before the next head; after a chunked one whose end or fault wasn't reported the
+    /// source has ended.
     pub fn give_up<R: ReadDevice>(&mut self, source: &mut Source<R>)
         ensures gives_up { GivesUp self.old.body source.old source.new }
         ensures kept { HasNoBodyLeft self.old self.new }
     {
         self.owes_continue = false;
+        self.holds_next_head = false;
         self.body.give_up(source);
     }
+}
+
+// The `Upgrade` headers among these. An error where there is no memory for them.
+fn upgrade_headers(alloc: Global, headers: &[Header]) -> Result<Vec<Header>, AllocError>
+    ensures { IfOk result (λ upgrades. (protocol : List ℕ) → names_protocol upgrades.items protocol ≡ names_protocol headers.now protocol) }
+{
+    let mut upgrades = Vec::new(alloc);
+    for header in headers {
+        if header.field.equiv("Upgrade") {
+            upgrades.push(header.try_clone()?)?;
+        }
+    }
+    Ok(upgrades)
 }
 
 // Whether only the head is asked for (RFC 9110, section 9.3.2).

@@ -1,11 +1,11 @@
 //! Upgrades of a connection to another protocol (RFC 9110, section 7.8).
-ghost use Rattle.std.specs.Prelude.{◌≡◌, true, is_ok};
+ghost use Rattle.std.specs.Prelude.{◌≡◌, true};
 ghost use Rattle.std.specs.List.{list_all};
 ghost use Rattle.tiny_http_wire.specs.Bytes.{is_ascii};
 ghost use Rattle.tiny_http_wire.specs.Device.{Feed};
 ghost use Rattle.tiny_http_sending.specs.ResponseValue.{printing_in, upgrade_text};
 ghost use Rattle.tiny_http_sending.specs.Sending.{FailsOnce, SendsQuietlyOn};
-ghost use Rattle.tiny_http_message.specs.OpenRequest.{HasSentAll};
+ghost use Rattle.tiny_http_message.specs.OpenRequest.{HasSentAll, upgrade_check};
 
 use httpdate::HttpDate;
 use std::alloc::Global;
@@ -14,6 +14,7 @@ use tiny_http_sending::sending::send_upgrade;
 use tiny_http_stream::outlet::Outlet;
 use tiny_http_text::bytes::are_ascii;
 use tiny_http_wire::answer_context::AnswerContext;
+use tiny_http_wire::common::StatusCode;
 use tiny_http_wire::device::WriteDevice;
 use tiny_http_wire::response::Response;
 
@@ -23,14 +24,42 @@ pub enum UpgradeError {
     /// The name of the protocol isn't ASCII.
     #[error("the protocol's name is not ASCII")]
     Protocol,
+    /// By the standard: the request doesn't ask for this protocol, or no upgrade of it is taken, as it is its connection's last.
+    #[error("the request does not ask for this protocol, or is the last")]
+    NotAsked,
+    /// By the standard: the answer's code isn't 101.
+    #[error("the status code of an upgrade is 101")]
+    Status,
+    /// By the standard: the request's body wasn't read to its end, or it was cut or is broken.
+    #[error("the request's body is not whole")]
+    UnfinishedBody,
 }
 
-/// Whether a connection can be upgraded to a protocol of this name. An error where it isn't ASCII.
-pub fn check_protocol(protocol: &str) -> Result<(), UpgradeError>
-    ensures { is_ok result ≡ list_all is_ascii protocol.now }
+/// Whether a connection can be upgraded to a protocol of this name by an answer with this code: the first error that holds. By
+/// the standard the request has to ask for it, and its body has to be whole (RFC 9110, section 7.8).
+pub fn check_upgrade(
+    by_standard: bool,
+    is_asked: bool,
+    protocol: &str,
+    status: StatusCode,
+    is_whole: bool,
+) -> Result<(), UpgradeError>
+    ensures { result ≡ upgrade_check by_standard is_asked protocol.now status.0 is_whole }
 {
     if !are_ascii(protocol.as_bytes()) {
         return Err(UpgradeError::Protocol);
+    }
+    if !by_standard {
+        return Ok(());
+    }
+    if !is_asked {
+        return Err(UpgradeError::NotAsked);
+    }
+    if status != StatusCode(101) {
+        return Err(UpgradeError::Status);
+    }
+    if !is_whole {
+        return Err(UpgradeError::UnfinishedBody);
     }
     Ok(())
 }

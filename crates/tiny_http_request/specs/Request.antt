@@ -1,9 +1,9 @@
 -- What clauses read of a request, and of why none is made.
-use Rattle.std.specs.Prelude.{◌≡◌, ⊤, ℕ, Bool, true, false, List, Option, None, Some, Ok, Err}
+use Rattle.std.specs.Prelude.{◌≡◌, ⊤, ℕ, Bool, true, false, List, Option, None, Some, Result, Ok, Err}
 use Rattle.std.specs.IoError.{error_kind}
 use Rattle.std.specs.declared.io.Error.{Error}
 use Rattle.std.specs.declared.io.ErrorKind.{ErrorKind}
-use Rattle.std.specs.declared.io.ErrorKind.TheVariants.{ConnectionAborted}
+use Rattle.std.specs.declared.io.ErrorKind.TheVariants.{ConnectionAborted, InvalidInput}
 use Rattle.std.specs.declared.net.socket_addr.SocketAddr.{SocketAddr}
 use Rattle.tiny_http_device.specs.Device.{Feed}
 use Rattle.tiny_http_device.specs.declared.device.Stop.{Stop}
@@ -41,6 +41,11 @@ request_address r = r.remote_addr
 -- what is kept of it until it is answered
 abbrev pub request_open : {R : Type 0} → {W : Type 0} → {Rt : Type 0} → Request R W Rt → OpenRequest Body
 request_open r = r.open_request
+
+-- an answer is refused
+abbrev pub IsInvalidInput : {T : Type 0} → Result T Error → Type 0
+IsInvalidInput (Ok x) = ⊥
+IsInvalidInput (Err e) = error_kind e ≡ InvalidInput
 
 -- whether no request is made since its expectation can't be met
 abbrev pub is_expectation_failed : RequestCreationError → Bool

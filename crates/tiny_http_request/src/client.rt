@@ -144,10 +144,11 @@ impl<R: ReadDevice + Drop, W: WriteDevice + Drop, Rt: Wait + Copy> ClientConnect
         self.secure
     }
 
-    /// Has answers leave together: flushes leave their bytes where this lets them. It does for a request whose turn has come as it is
-    /// handed out, whose body isn't read from the connection, and which asks for no upgrade under `Standard`; else it doesn't, from the moment at which the request is handed
-    /// out. A raw writer, an upgrade and a 100 end it too. The caller has what was left sent by the `Cork` of this policy: by
-    /// `send_unless_leaving` after each `next`, and by `send` at the end.
+    /// Has answers leave together: flushes leave their bytes where this lets them. It does for a request whose turn has come as
+    /// it is handed out, whose body isn't read from the connection, and which asks for no upgrade under `Standard`; else it
+    /// doesn't, from the moment at which the request is handed out. A raw writer, an upgrade and a 100 end it too. The caller
+    /// has what was left sent by the `Cork` of this policy: by `send_unless_leaving` after each `next`, and by `send` at the
+    /// end.
     pub fn set_flush_policy(&mut self, flush_policy: Arc<FlushPolicy>)
         ensures over { IsOver self.new ↔ IsOver self.old }
         ensures same { (client_secure self.new ≡ client_secure self.old) × (client_address self.new ≡ client_address self.old) × (client_profile self.new ≡ client_profile self.old) }
@@ -156,13 +157,14 @@ impl<R: ReadDevice + Drop, W: WriteDevice + Drop, Rt: Wait + Copy> ClientConnect
     }
 
     /// Goes to the next request, and hands it out; `None` once the connection has no further one, from then on. It waits for
-    /// the client, and while the last request's body holds the input: until that was read to its end or given up. Under `Standard`
-    /// it waits, too, until a request that asks for an upgrade is answered or dropped: a program does that before it makes this call
-    /// on the same thread. It answers `None` behind such a request whose raw writer was taken or which was upgraded, and behind one
-    /// that was finished while its 100 was owed; if the stream of an upgrade still reads the body, once that has ended. Refused heads
-    /// are answered in their turn, without waiting for it, and end the requests; but behind one of a version above 1.1 the next
-    /// head is read, unless it names an upgrade or its body is chunked. An error where memory was refused; then each later call
-    /// answers `None`. `now` dates the answers to refused heads, and the 500 of this request if it is dropped.
+    /// the client, and while the last request's body holds the input: until that was read to its end or given up. Under
+    /// `Standard` it waits, too, until a request that asks for an upgrade is answered or dropped: a program does that before it
+    /// makes this call on the same thread. It answers `None` behind such a request whose raw writer was taken or which was
+    /// upgraded, and behind one that was finished while its 100 was owed; if the stream of an upgrade still reads, once that
+    /// has ended. Refused heads are answered in their turn, without waiting for it, and end the requests; but behind one of a
+    /// version above 1.1 the next head is read, unless it names an upgrade or its body is chunked. An error where memory was
+    /// refused; then each later call answers `None`. `now` dates the answers to refused heads, and the 500 of this request if
+    /// it is dropped.
     pub fn next(&mut self, now: HttpDate) -> Result<Option<Request<R, W, Rt>>, AllocError>
         ensures over { IsOver self.old → (result ≡ Ok None) × IsOver self.new }
         ensures none { IfOk result (λ r. IfNone r (IsOver self.new)) }

@@ -1,14 +1,13 @@
 //! A request that threads may hold: its head, its body on the connection's input, and its turn at the output.
-ghost use Rattle.std.specs.Prelude.{◌≡◌, ◌||◌, false, Ok, Err, Some, None, IfOk, IfErr, IfSome, is_ok, is_some};
+ghost use Rattle.std.specs.Prelude.{◌≡◌, ◌||◌, true, false, Ok, Err, Some, None, IfOk, IfErr, IfSome, OnOk, is_some};
 ghost use Rattle.std.specs.IoError.{error_kind};
-ghost use Rattle.std.specs.List.{list_all};
 ghost use Rattle.std.specs.Option.{option_copied};
-ghost use Rattle.tiny_http_wire.specs.Bytes.{is_ascii};
 ghost use Rattle.tiny_http_sending.specs.Sending.{is_closed_client};
 ghost use Rattle.tiny_http_message.specs.FramingReading.{framing};
-ghost use Rattle.tiny_http_message.specs.Body.{is_streaming};
+ghost use Rattle.tiny_http_message.specs.Body.{is_streaming, is_whole};
+ghost use Rattle.tiny_http_message.specs.OpenRequest.{request_check, refuses_code};
 ghost use Rattle.tiny_http_message.specs.HeadReads.{head_framing, Begins};
-ghost use Rattle.tiny_http_request.specs.Request.{request_head, request_secure, request_address, request_open, is_expectation_failed, IfCreationIo, cut_kind, IsCutShort, BeginsWith, Says, IsFramed, FailsBy};
+ghost use Rattle.tiny_http_request.specs.Request.{IsInvalidInput, request_head, request_secure, request_address, request_open, is_expectation_failed, IfCreationIo, cut_kind, IsCutShort, BeginsWith, Says, IsFramed, FailsBy};
 
 pub use crate::body::Body;
 use crate::body::GivesOn;
@@ -26,7 +25,6 @@ use tiny_http_message::exchange::{Head, begin_body};
 use tiny_http_message::framing::{Framing, FramingFault, HeadRules, Profile, framing_of};
 use tiny_http_message::open_request::OpenRequest;
 pub use tiny_http_message::upgrading::UpgradeError;
-use tiny_http_message::upgrading::check_protocol;
 use tiny_http_sending::sending::reported;
 use tiny_http_stream::custom_stream::CustomStream;
 use tiny_http_stream::outlet::Outlet;
@@ -116,6 +114,7 @@ impl<R: ReadDevice + Drop, W: WriteDevice + Drop, Rt: Wait + Drop> Request<R, W,
             holds_next_head,
             by_standard,
             is_connect,
+            upgrades,
             dropped,
             body,
         } = open_request;
@@ -130,6 +129,7 @@ impl<R: ReadDevice + Drop, W: WriteDevice + Drop, Rt: Wait + Drop> Request<R, W,
             holds_next_head,
             by_standard,
             is_connect,
+            upgrades,
             dropped,
             body: Body::new(body, reader, gives_on),
         };
@@ -238,15 +238,17 @@ impl<R: ReadDevice + Drop, W: WriteDevice + Drop, Rt: Wait + Drop> Request<R, W,
 
     /// Sends the answer, dated `now`, in the turn of the request, and then gives the body up. It waits until the requests
     /// before are finished. The first fault is the error: the data's, or the writer's; after it nothing more is sent on the
-    /// connection. One of kind `BrokenPipe`, `ConnectionAborted`, `ConnectionRefused` or `ConnectionReset` isn't reported, also one
-    /// of the data. Under `Standard` a code below 200 or above 999, or a 2xx to `CONNECT`, is an error of kind `InvalidInput`, and the
-    /// request is dropped; and no request follows one that is answered or dropped while its 100 is owed.
+    /// connection. One of kind `BrokenPipe`, `ConnectionAborted`, `ConnectionRefused` or `ConnectionReset` isn't reported, also
+    /// one of the data. Under `Standard` a code below 200 or above 999, or a 2xx to `CONNECT`, is an error of kind
+    /// `InvalidInput`, and the request is dropped; and no request follows one that is answered or dropped while its 100 is
+    /// owed.
     pub fn respond<D: ReadDevice + Drop>(
         self,
         response: Response<D>,
         now: HttpDate,
     ) -> Result<(), io::Error>
-        ensures { IfErr result (λ e. is_closed_client (error_kind e) ≡ false) }
+        ensures reported { IfErr result (λ e. is_closed_client (error_kind e) ≡ false) }
+        ensures refused { refuses_code (request_open self).by_standard (request_open self).is_connect response.answer.status ≡ true → IsInvalidInput result }
     {
         if self.open_request.refuses(response.status_code()) {
             return Err(ErrorKind::InvalidInput.into());
@@ -277,20 +279,30 @@ impl<R: ReadDevice + Drop, W: WriteDevice + Drop, Rt: Wait + Drop> Request<R, W,
 
     /// Answers by a response that upgrades the connection to this protocol (RFC 9110, section 7.8), in the turn of the request:
     /// its head alone is sent, dated `now`, and its data are let go unread. It waits until the requests before are finished.
-    /// The stream then reads the body, and writes in the turn of the request, which ends as the stream is dropped. It is an
-    /// error where the protocol isn't ASCII, and the request is dropped. A fault of the writer isn't reported.
+    /// The stream then reads the body, and writes in the turn of the request, which ends as the stream is dropped. Under `Standard`
+    /// it reads all that follows the body, and no request follows. A fault of the writer isn't reported.
+    ///
+    /// It is an error where the protocol isn't ASCII, and the request is dropped. Under `Standard` it is one, too, where the
+    /// request doesn't ask for this protocol or is its connection's last, where the code isn't 101, and where the body wasn't
+    /// read until a read answered 0, or was cut or is broken. A body without bytes or of up to 1024 bytes that came with its
+    /// head needn't be read, and a counted one only to its last byte.
     pub fn upgrade<D: Drop>(
         self,
         protocol: &str,
         response: Response<D>,
         now: HttpDate,
     ) -> Result<CustomStream<Body<R, Rt>, SequentialWriter<Outlet<W>, Rt>>, UpgradeError>
-        ensures { is_ok result ≡ list_all is_ascii protocol.now }
+        ensures granted { OnOk result (request_check (request_open self) protocol.now response.answer.status (is_whole (request_open self).body) ≡ Ok tt) }
+        ensures refused { IfErr result (λ e. request_check (request_open self) protocol.now response.answer.status (is_whole (request_open self).body) ≡ Err e) }
     {
-        check_protocol(protocol)?;
+        let status = response.status_code();
+        let is_whole = self.open_request.body.is_whole();
+        self.open_request.check_upgrade(protocol, status, is_whole)?;
         self.send_at_flush();
         let alloc = self.alloc;
         let (mut open_request, mut writer) = self.into_parts();
+        let by_standard = open_request.by_standard;
+        open_request.body.become_stream(by_standard);
         if open_request.is_last_with_stream() {
             open_request.body.end_requests();
         }

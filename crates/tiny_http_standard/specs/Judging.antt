@@ -90,6 +90,14 @@ is_protocol text = is_one_or_two_tokens (parts slash text) && list_all (λ b. no
 abbrev pub asks_upgrade : HTTPVersion → List Header → Bool
 asks_upgrade v headers = not (is_1_0 v) && (has_element (codes "Connection") (codes "upgrade") headers && has_element_that (codes "Upgrade") is_protocol headers)
 
+-- this is a protocol, and this one, without case
+abbrev pub is_protocol_named : List ℕ → List ℕ → Bool
+is_protocol_named protocol element = is_protocol element && same_name element protocol
+
+-- an element of Upgrade is this protocol
+abbrev pub names_protocol : List Header → List ℕ → Bool
+names_protocol headers protocol = has_element_that (codes "Upgrade") (is_protocol_named protocol) headers
+
 -- the method is CONNECT
 abbrev pub is_connect : Method → Bool
 is_connect method = bytes_eq (method_text method) (codes "CONNECT")

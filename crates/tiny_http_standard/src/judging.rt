@@ -5,7 +5,7 @@ ghost use Rattle.httparse.specs.Grammar.{is_ows};
 ghost use Rattle.tiny_http_text.specs.Bytes.{trimmed, parts};
 ghost use Rattle.tiny_http_standard.specs.Hosts.{percent, slash};
 ghost use Rattle.tiny_http_standard.specs.Lists.{values_of, between_commas, elements_of, has_element_that};
-ghost use Rattle.tiny_http_standard.specs.Judging.{HasValidHost, is_1_0, is_one_or_two_tokens, is_protocol, has_body, owes_continue, is_connect, is_last, asks_upgrade, Judges};
+ghost use Rattle.tiny_http_standard.specs.Judging.{HasValidHost, is_1_0, is_one_or_two_tokens, is_protocol, has_body, owes_continue, is_connect, is_last, asks_upgrade, is_protocol_named, names_protocol, Judges};
 ghost use Rattle.tiny_http_standard.specs.JudgingReading.{is_wanted, same_length, lengths_on, coding_after, codings_on, body_by};
 ghost use Rattle.tiny_http_standard.specs.declared.judging.Codings.TheVariants.{Absent};
 
@@ -295,6 +295,38 @@ fn asks_upgrade(version: HTTPVersion, headers: &[Header]) -> bool
     !is_1_0(version)
         && has(headers, "Connection", Wanted::Upgrade)
         && has(headers, "Upgrade", Wanted::Protocol)
+}
+
+// Whether an element is this protocol.
+fn is_protocol_named(protocol: &str, element: &[u8]) -> bool
+    ensures { result ≡ is_protocol_named protocol.now element.now }
+{
+    is_protocol(element) && element.eq_ignore_ascii_case(protocol.as_bytes())
+}
+
+// Whether an element of the value is this protocol.
+fn names_in(value: &str, protocol: &str) -> bool
+    ensures { result ≡ list_any (is_protocol_named protocol.now) (between_commas value.now) }
+{
+    for text in value.split(',') {
+        if is_protocol_named(protocol, trim(text)) {
+            return true;
+        }
+    }
+    false
+}
+
+/// Whether the `Upgrade` headers name this protocol, without case: an element of theirs is wholly it (RFC 9110, section 7.8). An
+/// element is passed over that isn't a token, or two with a slash between, or that has a percent sign.
+pub fn names_protocol(headers: &[Header], protocol: &str) -> bool
+    ensures { result ≡ names_protocol headers.now protocol.now }
+{
+    for header in headers {
+        if header.field.equiv("Upgrade") && names_in(header.value.as_str(), protocol) {
+            return true;
+        }
+    }
+    false
 }
 
 // Whether the connection ends after the request, by its head.

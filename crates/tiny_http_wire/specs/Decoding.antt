@@ -13,7 +13,6 @@ use Rattle.tiny_http_wire.specs.declared.chunked.Decoder.{Decoder}
 use Rattle.tiny_http_device.specs.Device.{AnswersStop, Feed, prepended, TakesFront, fault_of}
 use Rattle.tiny_http_wire.specs.ChunkReading.{Decoded, decoded_by, data_at, trailer_section, broken}
 use Rattle.tiny_http_wire.specs.declared.chunked.ChunkRules.{ChunkRules}
-use Rattle.tiny_http_wire.specs.declared.chunked.ChunkRules.TheVariants.{Lenient}
 
 -- the data that are still to come, and what the reader gives after the body, or the fault
 pub record Coming : Type 0 where
@@ -30,13 +29,6 @@ decoded_from_by rules Line feed = body_by rules feed.stop feed.bytes
 decoded_from_by rules (Data left) feed = data_at (body_by rules feed.stop) feed.stop left feed.bytes (nat_lt (length feed.bytes) left)
 decoded_from_by rules Over feed = record { body = []; ends = Ok feed.bytes }
 decoded_from_by rules (Broken kind) feed = broken [] kind
-
--- the same by the lenient rules
-abbrev pub body_at : Stop → List ℕ → Decoded
-body_at stop bytes = body_by Lenient stop bytes
-
-abbrev pub decoded_from : Next → Feed → Decoded
-decoded_from next feed = decoded_from_by Lenient next feed
 
 -- what is read after the last chunk's line, where so many trailer lines may stand
 unfoldable pub trailers_from : ChunkRules → ℕ → Feed → Decoded

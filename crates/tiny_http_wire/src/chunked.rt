@@ -221,9 +221,10 @@ impl Decoding {
     /// UnexpectedEof, and its fault is one of the same kind. The data before a fault are given
     /// first, those of an unfinished chunk too.
     ///
-    /// A fault is reported as soon as the byte that shows it was read. The end is reported once the
-    /// trailer part was read. From then on, and from a fault on, each call
-    /// answers the same, and does not call the reader.
+    /// By the standard's rules a lone LF is reported as soon as it was read; another wrong line is
+    /// reported once it has ended. No byte behind it is read. The end is reported once the trailer
+    /// part was read. From then on, and from a fault on, each call answers the same, and does not
+    /// call the reader.
     pub fn read<R: ReadDevice>(
         &mut self,
         reader: &mut R,

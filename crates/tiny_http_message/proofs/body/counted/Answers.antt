@@ -5,4 +5,4 @@ use Rattle.tiny_http_message.proofs.BodyReads.{counted-none}
 use Rattle.tiny_http_message.proofs.body.counted.Goals as goal
 
 pub returns-then-left-eq0-clause-remaining : goal.returns-then-left-eq0-clause-remaining
-returns-then-left-eq0-clause-remaining c feed = sym (ap (λ n. option_map (counted_remaining n) feed) c.if-left-eq0.true ∙ counted-none feed)
+returns-then-left-eq0-clause-remaining c feed = sym (ap (λ n. option_map (counted_remaining c.args.by_standard n) feed) c.if-left-eq0.true ∙ counted-none c.args.by_standard feed)

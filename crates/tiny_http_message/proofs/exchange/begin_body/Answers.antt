@@ -1,4 +1,6 @@
-use Rattle.std.proofs.Common.{rules, refl, subst, ap, ◌∙◌, ℕ, List, Option, None, drop}
+use Rattle.std.proofs.Common.{rules, refl, sym, subst, ap, ◌∙◌, ℕ, List, Option, None, Some, drop}
+use Rattle.tiny_http_message.specs.declared.body.Body.{Body}
+use Rattle.tiny_http_message.specs.HeadReads.{Begins}
 use Rattle.tiny_http_wire.specs.Device.{Feed}
 use Rattle.tiny_http_stream.specs.Source.{TakesExactly}
 use Rattle.std.specs.Global.{Vec}
@@ -16,13 +18,17 @@ pub returns-in-Counted-clause-begins : goal.returns-in-Counted-clause-begins
 returns-in-Counted-clause-begins g c = begins-counted c.args.framing c.args.source.now.feed c.counted.result _ (search rules) (search rules) c.counted.ensures.remaining c.counted.ensures.moves
 
 pub returns-in-Chunked-clause-begins : goal.returns-in-Chunked-clause-begins
-returns-in-Chunked-clause-begins g c = begins-chunked c.args.framing c.args.source.now.feed c.new.result (search rules) c.new.ensures.whole c.new.ensures.front c.new.ensures.rules
+returns-in-Chunked-clause-begins g c =
+    let o = c.args.source.now.feed in
+    let k = c.chunked.ensures in
+    let P : Body → Type 0 = λ b. Begins c.args.framing o o (Some b) in
+    subst P (sym k.1) (begins-chunked c.args.framing o k.0 (search rules) k.2.whole k.2.front k.2.rules)
 
 pub returns-in-Ok-Some-clause-begins : goal.returns-in-Ok-Some-clause-begins
 returns-in-Ok-Some-clause-begins g c =
     let taken = rw c.in-Ok-Some.field-0-is at c.in-Ok-Some.ensures in
-    begins-held c.args.framing c.args.source.now.feed c.take_exactly.new.self.feed c.new-in-Ok-Some.result c.in-Ok-Some.bytes c.unwrap_or-length.result (search rules) (search rules)
-    (ap (λ n. drop n (cursor_inner c.new-in-Ok-Some.result).items) c.new-in-Ok-Some.ensures.position ∙ ap (λ (v : Vec ℕ). v.items) c.new-in-Ok-Some.ensures.inner) taken.takes
+    begins-held c.args.framing c.args.source.now.feed c.take_exactly.new.self.feed c.new.result c.in-Ok-Some.bytes c.unwrap_or-length.result (search rules) (search rules)
+    (ap (λ n. drop n (cursor_inner c.new.result).items) c.new.ensures.position ∙ ap (λ (v : Vec ℕ). v.items) c.new.ensures.inner) taken.takes
 
 pub returns-in-Ok-None-clause-begins : goal.returns-in-Ok-None-clause-begins
 returns-in-Ok-None-clause-begins g c =

@@ -99,16 +99,16 @@ answered-ends lacks old new (Given bytes) a e = elim a [ ]
 answered-ends lacks old new (Handed k m f) a e = elim a [ ]
 
 -- what it leaves
-answered-leaves : {R W : Type 0} (n : ℕ) (old new : ConnectionState R W) (reply : ReplyValue) → IsAnswered reply → LetsGo n old new → AnswerLeaves n old new reply
-answered-leaves n old new Done a l = λ z. l
-answered-leaves n old new (Fault kind) a l = λ z. l
-answered-leaves n old new NotYet a l = λ z. l
-answered-leaves n old new NoSuch a l = λ z. l
-answered-leaves n old new Memory a l = λ z. l
-answered-leaves n old new Ended a l = λ z. l
-answered-leaves n old new Refused a l = l
-answered-leaves n old new (Given bytes) a l = λ z. l
-answered-leaves n old new (Handed k m f) a l = λ z. l
+answered-leaves : {R W : Type 0} (n code : ℕ) (old new : ConnectionState R W) (reply : ReplyValue) → IsAnswered reply → LetsGo n old new × (refuses_at code (slice_get old.requests n) ≡ false) → AnswerLeaves n code old new reply
+answered-leaves n code old new Done a l = λ z. l
+answered-leaves n code old new (Fault kind) a l = λ z. l
+answered-leaves n code old new NotYet a l = λ z. l
+answered-leaves n code old new NoSuch a l = λ z. l
+answered-leaves n code old new Memory a l = λ z. l
+answered-leaves n code old new Ended a l = λ z. l
+answered-leaves n code old new Refused a l = elim a [ ]
+answered-leaves n code old new (Given bytes) a l = λ z. l
+answered-leaves n code old new (Handed k m f) a l = λ z. l
 
 -- a request that waits was let go
 let-go : (r : Bool) → (r ≡ false → ⊥) → IsTrue r
@@ -164,6 +164,7 @@ returns g c =
     let requests : last.self.requests ≡ slice_set k.requests n None = c.pass.ensures.requests ∙ some.1 ∙ ap (λ l. slice_set l n None) c.hold.ensures.requests in
     let waits : waiting_answer_context (slice_get k.requests n) ≡ Some w0.answer_context = ap waiting_answer_context got in
     let given_up : GivesUp w0.body q.source source = subst (λ b. GivesUp b q.source source) c.answer-reply.ensures.body c.give_up.ensures.gives_up in
+    let accepted : refuses_at c.args.response.answer.status (slice_get k.requests n) ≡ false = answered-code c.args.response.answer.status c.status_code.result.0 (slice_get k.requests n) c.status_code.ensures ∙ sym c.refuses.ensures ∙ c.if-refuses.false in
     record {
       step = rw (← c.self.view_is) (takes-respond g.D.ReadDevice.feed true old new c.args.now n c.args.response reply
           (λ client before s value low is st.
@@ -177,7 +178,7 @@ returns g c =
           (λ e. subst A (sym is.0) (c.answer-reply.ensures.sends value.content is.1 is.2 e (can-send before k.sink k.output_ended s.reached.slots s.flushed s.failure st.output low e))))
           c.pass.ensures.passes c.pass.ensures.sends))
           (λ no. absurd (not-declined n (stated_response g.D.ReadDevice.feed c.args.response) reply c.answer-reply.ensures.done no)) (answered-ends lacks old new reply c.answer-reply.ensures.done end_is)
-          (answered-leaves n old new reply c.answer-reply.ensures.done (requests, gives-up-of q.source source (slice_get k.requests n) (still.Waiting w0) got given_up))
+          (answered-leaves n c.args.response.answer.status old new reply c.answer-reply.ensures.done ((requests, gives-up-of q.source source (slice_get k.requests n) (still.Waiting w0) got given_up), accepted))
           (answered-done reply c.answer-reply.ensures.done)
           (record {
             profile = refl;

@@ -1,5 +1,5 @@
-use Rattle.std.proofs.Common.{ℕ, ◌≡◌, refl, sym, ap, ◌∙◌, subst, Bool, true, false, ◌&&◌, ◌||◌, List, Option, Some, None, IsTrue, Result, Ok, Err}
-use Rattle.std.specs.Prelude.{◌==◌, slice_get, string_bytes, is_ok, is_err, is_some, ⊤}
+use Rattle.std.proofs.Common.{ℕ, ◌≡◌, refl, sym, ap, ◌∙◌, subst, Bool, true, false, ◌&&◌, ◌||◌, List, Option, Some, None, IsTrue}
+use Rattle.std.specs.Prelude.{◌==◌, slice_get, string_bytes, is_err, is_some}
 use Rattle.std.specs.List.{list_all}
 use Rattle.tiny_http_wire.specs.Answer.{Answer}
 use Rattle.tiny_http_wire.specs.Bytes.{is_ascii}
@@ -9,10 +9,11 @@ use Rattle.tiny_http_sending.specs.ResponseValue.{printing_in, upgrade_text}
 use Rattle.tiny_http_sending.specs.Sending.{SendsUnlessEnded}
 use Rattle.tiny_http_core.specs.declared.driver.Step.TheVariants as step
 use Rattle.tiny_http_core.specs.Steps.{Upgrade, NoSuch, NotYet, Done, Refused}
-use Rattle.tiny_http_core.specs.Pending.{waiting_answer_context, is_last_with_stream_at}
+use Rattle.tiny_http_core.specs.Pending.{waiting_answer_context, refuses_upgrade_at, is_last_with_stream_at}
 use Rattle.tiny_http_core.specs.Driving.{ends_behind, stated_response}
 use Rattle.tiny_http_core.proofs.ConnectionAsk.{StepIsAnswered}
-use Rattle.tiny_http_message.specs.declared.upgrading.UpgradeError.{UpgradeError}
+use Rattle.tiny_http_message.specs.OpenRequest.{request_check}
+use Rattle.tiny_http_message.specs.Body.{is_whole}
 use Rattle.tiny_http_core.specs.Connection.{Kept, ConnectionState, kept}
 use Rattle.tiny_http_message.specs.declared.body.Body.{Body}
 use Rattle.tiny_http_message.specs.declared.open_request.OpenRequest.{OpenRequest}
@@ -41,14 +42,13 @@ let-go : (r : Bool) → (r ≡ false → ⊥) → IsTrue r
 let-go true f = refl
 let-go false f = absurd (f refl)
 
--- a protocol was refused, or wasn't
-refused : (r : Result ⊤ UpgradeError) → is_err r ≡ true → is_ok r ≡ false
-refused (Ok x) e = cc
-refused (Err e) z = refl
-
-accepted : (r : Result ⊤ UpgradeError) → is_err r ≡ false → is_ok r ≡ true
-accepted (Ok x) z = refl
-accepted (Err e) z = cc
+-- a protocol that isn't refused is ASCII
+ascii-of : (w : OpenRequest Body) (protocol : List ℕ) (code : ℕ) (whole : Bool) → is_err (request_check w protocol code whole) ≡ false → list_all is_ascii protocol ≡ true
+ascii-of w protocol code whole = by (list_all is_ascii protocol) refl
+  where
+    by : (t : Bool) → list_all is_ascii protocol ≡ t → is_err (request_check w protocol code whole) ≡ false → list_all is_ascii protocol ≡ true
+    by true e granted = e
+    by false e granted = let no : true ≡ false = rw e at granted in cc
 
 view-none : {R W : Type 0} (n : ℕ) (c d : ConnectionState R W) → c ≡ d → waiting_answer_context (slice_get d.requests n) ≡ None → waiting_answer_context (slice_get c.requests n) ≡ None
 view-none {R = R} {W = W} n c d e h = let P : ConnectionState R W → Type 0 = λ y. waiting_answer_context (slice_get y.requests n) ≡ None in subst P (sym e) h
@@ -56,16 +56,17 @@ view-none {R = R} {W = W} n c d e h = let P : ConnectionState R W → Type 0 = �
 waits-still : (w : OpenRequest Body) (o : Option (Option Unfinished)) → o ≡ Some (Some (still.Waiting w)) → waiting_answer_context o ≡ None → ⊥
 waits-still w o e f = let none : Some w.answer_context ≡ None = sym (ap waiting_answer_context e) ∙ f in cc
 
-pub returns-then-is_err : goal.returns-then-is_err
-returns-then-is_err g c =
+pub returns-then-refuses_upgrade : goal.returns-then-refuses_upgrade
+returns-then-refuses_upgrade g c =
     let n = c.args.number in
     let q = c.self.inside in
     let w = waits-some (slice_get q.pending.requests n) (sym c.is_waiting.ensures ∙ c.if-not-is_waiting.false) in
     let gone : IsTrue c.let_go.result = let-go c.let_go.result (λ no. waits-still w.0 (slice_get q.pending.requests n) w.1 (view-none n (viewed q.profile q.source q.outlet q.pending q.end) c.args.self.now c.self.view_is (c.let_go.ensures.none no).0)) in
     record {
       step = λ named same.
-          let foreign : list_all is_ascii (string_bytes named) ≡ false = ap (list_all is_ascii) same ∙ sym c.check_protocol.ensures ∙ refused c.check_protocol.result (sym c.is_err.ensures.value ∙ c.if-is_err.true) in
-          (c.let_go.ensures.drops gone c.args.now (step.Upgrade n named (stated_response g.D.ReadDevice.feed c.args.response)) Refused (refl, foreign));
+          let D : List (Option Unfinished) → Type 0 = λ l. refuses_upgrade_at (string_bytes named) c.args.response.answer.status (slice_get l n) ≡ true in
+          let refused : refuses_upgrade_at (string_bytes named) c.args.response.answer.status (slice_get q.pending.requests n) ≡ true = ap (λ t. refuses_upgrade_at t c.args.response.answer.status (slice_get q.pending.requests n)) same ∙ ap (λ code. refuses_upgrade_at c.args.protocol.now code (slice_get q.pending.requests n)) (sym c.status_code-status.ensures) ∙ sym c.refuses_upgrade.ensures ∙ c.if-refuses_upgrade.true in
+          (c.let_go.ensures.drops gone c.args.now (step.Upgrade n named (stated_response g.D.ReadDevice.feed c.args.response)) Refused (refl, subst D (ap (λ y. y.requests) c.self.view_is) refused));
     }
 
 pub returns-then-not-is_in_turn : goal.returns-then-not-is_in_turn
@@ -76,14 +77,19 @@ returns-then-not-is_in_turn g c =
     let w = waits-some (slice_get q.pending.requests n) (sym c.is_waiting.ensures ∙ c.if-not-is_waiting.false) in
     record {
       step = λ named same.
-          let ascii : list_all is_ascii (string_bytes named) ≡ true = ap (list_all is_ascii) same ∙ sym c.check_protocol.ensures ∙ accepted c.check_protocol.result (sym c.is_err.ensures.value ∙ c.if-is_err.false) in
+          let granted : refuses_upgrade_at (string_bytes named) c.args.response.answer.status (slice_get q.pending.requests n) ≡ false = ap (λ t. refuses_upgrade_at t c.args.response.answer.status (slice_get q.pending.requests n)) same ∙ ap (λ code. refuses_upgrade_at c.args.protocol.now code (slice_get q.pending.requests n)) (sym c.status_code-status.ensures) ∙ sym c.refuses_upgrade.ensures ∙ c.if-refuses_upgrade.false in
+          let kept_grants = ap (refuses_upgrade_at (string_bytes named) c.args.response.answer.status) (sym w.1) ∙ granted in
+          let A : Answer → Type 0 = λ a. is_err (request_check w.0 (string_bytes named) a.status (is_whole w.0.body)) ≡ false in
           rw (← c.self.view_is) (takes-upgrade g.D.ReadDevice.feed false old old c.args.now n named c.args.response NotYet
-          (λ client before s value low answer st. upgrade-not_yet client before (kept old) s c.args.now n (string_bytes named) value w.0 st w.1 ascii (sym c.is_in_turn.ensures ∙ c.if-not-is_in_turn.true))
+          (λ client before s value low answer st. upgrade-not_yet client before (kept old) s c.args.now n (string_bytes named) value w.0 st w.1 (subst A (sym answer) kept_grants) (sym c.is_in_turn.ensures ∙ c.if-not-is_in_turn.true))
           (λ no. refl) refl tt refl (moves-none old) (λ kind e. cc));
     }
 
 pub upgrade-requires : goal.upgrade-requires
-upgrade-requires g c = sym c.check_protocol.ensures ∙ accepted c.check_protocol.result (sym c.is_err.ensures.value ∙ c.if-is_err.false)
+upgrade-requires g c =
+    let q = c.self.inside in
+    let w = waits-some (slice_get q.pending.requests c.args.number) (sym c.is_waiting.ensures ∙ c.if-not-is_waiting.false) in
+    ascii-of w.0 c.args.protocol.now _ (is_whole w.0.body) (ap (refuses_upgrade_at c.args.protocol.now c.status_code-status.result.0) (sym w.1) ∙ sym c.refuses_upgrade.ensures ∙ c.if-refuses_upgrade.false)
 
 pub returns : goal.returns
 returns g c =
@@ -106,14 +112,16 @@ returns g c =
     let come : (n == first_unfinished k.marks) ≡ true = sym c.is_in_turn.ensures ∙ c.if-not-is_in_turn.false in
     record {
       step = λ named same.
-          let ascii : list_all is_ascii (string_bytes named) ≡ true = ap (list_all is_ascii) same ∙ sym c.check_protocol.ensures ∙ accepted c.check_protocol.result (sym c.is_err.ensures.value ∙ c.if-is_err.false) in
+          let granted : refuses_upgrade_at (string_bytes named) c.args.response.answer.status (slice_get q.pending.requests n) ≡ false = ap (λ t. refuses_upgrade_at t c.args.response.answer.status (slice_get q.pending.requests n)) same ∙ ap (λ code. refuses_upgrade_at c.args.protocol.now code (slice_get q.pending.requests n)) (sym c.status_code-status.ensures) ∙ sym c.refuses_upgrade.ensures ∙ c.if-refuses_upgrade.false in
+          let kept_grants = ap (refuses_upgrade_at (string_bytes named) c.args.response.answer.status) (sym w.1) ∙ granted in
+          let A : Answer → Type 0 = λ a. is_err (request_check w.0 (string_bytes named) a.status (is_whole w.0.body)) ≡ false in
           rw (← c.self.view_is) (takes-upgrade g.D.ReadDevice.feed true old new c.args.now n named c.args.response Done
           (λ client before s value low answer st.
           let T : Answer → List ℕ → Type 0 = λ a t. SendsUnlessEnded k.output_ended k.sink (output_of outlet) (outlet_ended outlet) (upgrade_text (record { answer = a; content = value.content }) t (printing_in w.0.answer_context c.args.now)) in
           let E : Bool → Type 0 = λ e. StepIsAnswered client before (record (kept new) { asking_ended = e }) s c.args.now (Upgrade n (string_bytes named) value) Done in
-          subst E (sym ended) (upgrade-done client before k s c.args.now n (string_bytes named) value w.0 w.0.answer_context (output_of outlet) (outlet_ended outlet) left.turns.marks left.requests q.source st (record { feed = refl; stop = refl; ends = refl; standing = refl }) low w.1 refl ascii come marks requests
+          subst E (sym ended) (upgrade-done client before k s c.args.now n (string_bytes named) value w.0 w.0.answer_context (output_of outlet) (outlet_ended outlet) left.turns.marks left.requests q.source st (record { feed = refl; stop = refl; ends = refl; standing = refl }) low w.1 refl (subst A (sym answer) kept_grants) come marks requests
           (λ can. subst (λ t. T value.answer t) (sym same) (subst (λ a. T a c.args.protocol.now) (sym answer) (said.0 value.content can))) said.1.2))
-          (λ no. elim no [ ]) end_is (w.0, w.1, requests, marks, refl) refl
+          (λ no. elim no [ ]) end_is (granted, w.0, w.1, requests, marks, refl) refl
           (record { profile = refl; goes_on = goes-on_same q.source.feed; fails_once = done.fails_once; flushed = λ was. said.1.0; sent_on = λ was. said.1.1 })
           (λ kind e. cc));
     }

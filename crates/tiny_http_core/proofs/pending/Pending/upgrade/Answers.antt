@@ -1,5 +1,6 @@
 use Rattle.std.proofs.Common.{◌≡◌, ap, ◌∙◌, sym, subst, Some, false, slice_set}
 use Rattle.tiny_http_message.specs.declared.body.Body.{Body}
+use Rattle.tiny_http_message.specs.Body.{stream_body}
 use Rattle.tiny_http_message.specs.declared.open_request.OpenRequest.{OpenRequest}
 use Rattle.tiny_http_wire.specs.Device.{Feed}
 use Rattle.tiny_http_sending.specs.ResponseValue.{printing_in, upgrade_text}
@@ -12,9 +13,10 @@ pub returns-in-Some-clause-requests : goal.returns-in-Some-clause-requests
 returns-in-Some-clause-requests g c w here =
     let took = c.in-Some.ensures.some in
     let same : c.in-Some.request ≡ w = waiting-is c.in-Some.request w (sym c.in-Some.ensures.some.0 ∙ here) in
-    put-in-place c.args.self.now.requests c.take.new.self.requests c.replace.new.self c.args.number (still.Waiting c.in-Some.request) still.Raw (still.Upgraded c.upgrade.new.self.body) c.replace.result
+    put-in-place c.args.self.now.requests c.take.new.self.requests c.replace.new.self c.args.number (still.Waiting c.in-Some.request) still.Raw (still.Upgraded c.become_stream.new.self) c.replace.result
     took.0 took.1 c.replace.ensures.some c.replace.ensures.none
-    ∙ ap (λ (w : OpenRequest Body). slice_set c.args.self.now.requests c.args.number (Some (still.Upgraded w.body))) (c.upgrade.ensures.once ∙ ap (λ (w : OpenRequest Body). record w { owes_continue = false }) same)
+    ∙ ap (λ b. slice_set c.args.self.now.requests c.args.number (Some (still.Upgraded b))) c.become_stream.ensures
+    ∙ ap (λ (w : OpenRequest Body). slice_set c.args.self.now.requests c.args.number (Some (still.Upgraded (stream_body w.by_standard w.body)))) (c.upgrade.ensures.once ∙ ap (λ (w : OpenRequest Body). record w { owes_continue = false }) same)
 
 pub returns-in-Some-clause-sends : goal.returns-in-Some-clause-sends
 returns-in-Some-clause-sends g c w here =

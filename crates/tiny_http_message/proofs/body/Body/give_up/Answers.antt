@@ -14,7 +14,7 @@ returns-clause-gives_up g c =
     let P : Body → Type 0 = λ b. GivesUp b old c.match-self.source in
     elim c.match-self.branch [
       | in-Counted w ↦
-          let Q : S → Type 0 = λ x. GivesUp (Counted w.in-Counted.left) old x in
+          let Q : S → Type 0 = λ x. GivesUp (Counted w.in-Counted.left w.in-Counted.by_standard) old x in
           subst P (sym w.in-Counted.is) (subst Q (sym (w.source-is ∙ w.stand_at.ensures)) (w.skip.ensures.feed, w.after_body.ensures ∙ ap after_body c.standing-standing.ensures, w.skip.ensures.alone))
       | in-Chunked w ↦
           let Q : S → Type 0 = λ x. GivesUp (Chunked w.in-Chunked.field-0) old x in
