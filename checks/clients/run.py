@@ -104,7 +104,7 @@ CLIENTS = [
     ("curl --http2 -d", "curl", curl("--http2", "-d", "hello", "URL"), ("200",) * 3),
     ("curl, a header in UTF-8", "curl", curl("-H", "Cookie: a=\u00e9", "URL"), ("fails 52", "fails 52", "200")),
     ("ab", "ab", ab("-n", "20"), ("20 served",) * 3),
-    ("ab -k", "ab", ab("-n", "20", "-k"), ("hangs",) * 3),
+    ("ab -k", "ab", ab("-n", "20", "-k"), ("hangs", "hangs", "20 served")),
     ("Java's client, a POST", "java", java, ("200",) * 3),
     ("Python's client", "python3", python, ("200 200 200 200 200",) * 3),
     ("an upgrade and a request behind it", "python3",

@@ -1,6 +1,7 @@
 //! A case: what goes into a connection, and what has to come out of it.
 use std::io::ErrorKind;
 use tiny_http_core::framing::Profile;
+use tiny_http_wire::ascii::AsciiString;
 
 /// How many bytes a writer takes, and the kind by which it then fails.
 #[derive(Clone, Copy, Debug, PartialEq, Eq)]
@@ -21,6 +22,8 @@ pub struct Answer {
     pub length: Option<usize>,
     /// From how many bytes on the body is sent in chunks, if the case says so.
     pub threshold: Option<usize>,
+    /// The protocols that it offers to upgrade to, if it offers any.
+    pub offer: Option<AsciiString>,
     pub data: Vec<u8>,
     /// The fault of the data in place of their end.
     pub fault: Option<ErrorKind>,

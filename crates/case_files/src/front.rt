@@ -4,6 +4,7 @@ use crate::outcome::{Difference, Outcome, count_differs, differing, output_diffe
 use crate::plain::plain_lines;
 use std::alloc::{AllocError, Global};
 use std::io::ErrorKind;
+use tiny_http_core::framing::Profile;
 
 // The lines of the requests that were handed out in a trial.
 fn handed_in<'a>(alloc: Global, outcome: &'a Outcome) -> Result<Vec<&'a [u8]>, AllocError> {
@@ -152,9 +153,13 @@ fn answer_is_cut(
 // The bytes of a date.
 const DATE: usize = 29;
 
-// An output without the 408 at its end.
-fn before_408(output: &[u8]) -> Option<&[u8]> {
-    let front = output.strip_suffix(b"\r\nContent-Length: 0\r\n\r\n")?;
+// An output without the 408 at its end, which says by the standard that the connection ends.
+fn before_408(profile: Profile, output: &[u8]) -> Option<&[u8]> {
+    let dated = output.strip_suffix(b"\r\nContent-Length: 0\r\n\r\n")?;
+    let front = match profile {
+        Profile::Standard => dated.strip_suffix(b"\r\nConnection: close")?,
+        Profile::Lenient | Profile::Strict => dated,
+    };
     let dated = front.get(..front.len().checked_sub(DATE)?)?;
     dated.strip_suffix(b"HTTP/1.1 408 Request Timeout\r\nServer: tiny-http (Rust)\r\nDate: ")
 }
@@ -164,7 +169,7 @@ fn without_408<'a>(case: &Case, output: &'a [u8], stop: Option<ErrorKind>) -> &'
     if stop != Some(ErrorKind::TimedOut) || case.output.starts_with(output) {
         return output;
     }
-    before_408(output).unwrap_or(output)
+    before_408(case.profile, output).unwrap_or(output)
 }
 
 /// Where an outcome is no prefix of its case, whose client's bytes were cut, with this fault of the reader or an end behind

@@ -6,6 +6,7 @@ use crate::text::{add_text, number_in, text_of};
 use replay_script::line::{ScriptLine, text_in};
 use std::alloc::{AllocError, Global};
 use tiny_http_core::framing::Profile;
+use tiny_http_wire::ascii::AsciiString;
 use tiny_http_wire::common::{Header, ParseError};
 
 const NO_KIND: LineFault = LineFault::Bad("no such kind of fault");
@@ -106,6 +107,7 @@ fn answer_in(alloc: Global, words: &str) -> Result<Answer, LineFault> {
         headers: Vec::new(alloc),
         length: None,
         threshold: None,
+        offer: None,
         data: Vec::new(alloc),
         fault: None,
     })
@@ -152,6 +154,12 @@ fn add_part(alloc: Global, answer: &mut Answer, text: &str) -> Result<(), LineFa
             Some(threshold) => answer.threshold = Some(threshold),
             None => return Err(NO_NUMBER),
         },
+        "offer" if answer.offer.is_none() => {
+            match AsciiString::from_ascii(text_of(alloc, words)?) {
+                Ok(offer) => answer.offer = Some(offer),
+                Err(_) => return Err(LineFault::Bad("an offer is ASCII")),
+            }
+        }
         "fault" if answer.fault.is_none() => match kind_of(words) {
             Some(kind) => answer.fault = Some(kind),
             None => return Err(NO_KIND),

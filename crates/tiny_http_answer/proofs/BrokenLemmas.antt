@@ -1,6 +1,7 @@
 -- A text that breaks off is a proper front of a whole one; and a 100 in front is passed over.
 use Rattle.std.proofs.Common.{◌≡◌, refl, sym, ap, ◌∙◌, subst, ℕ, ◌+◌, ◌-◌, ◌<◌, ◌≤◌, ◌^◌, Bool, true, false, List, [], ◌∷◌, ◌++◌, length, take, Option, Some, None, append_assoc, append-nil, arith, length-append}
 use Rattle.std.specs.Prelude.{if◌then◌else◌, nat_le, codes, replicate}
+use Rattle.std.specs.List.{AllByRecursion}
 use Rattle.std.specs.declared.io.ErrorKind.{ErrorKind}
 use Rattle.std.proofs.Math.ListN.{length-replicate}
 use Rattle.std.proofs.lemmas.Bool.{leb-false, le-leb}
@@ -12,19 +13,21 @@ use Rattle.tiny_http_wire.specs.declared.common.Method.{Method}
 use Rattle.tiny_http_wire.specs.declared.coding.Coding.{Coding}
 use Rattle.tiny_http_wire.specs.declared.coding.Coding.TheVariants.{Identity, Chunked}
 use Rattle.tiny_http_wire.specs.declared.coding.FramingHeader.{FramingHeader}
-use Rattle.tiny_http_wire.specs.declared.coding.FramingHeader.TheVariants.{TransferEncoding, ContentLength}
+use Rattle.tiny_http_wire.specs.declared.coding.FramingHeader.TheVariants.{Neither, TransferEncoding, ContentLength}
 use Rattle.tiny_http_wire.specs.declared.device.Stop.{Stop}
 use Rattle.tiny_http_wire.specs.declared.device.Stop.TheVariants.{End, Fault}
 use Rattle.tiny_http_wire.specs.Device.{Feed, fault_of}
 use Rattle.tiny_http_wire.specs.ChunkedPrinting.{left_over, short_chunk}
 use Rattle.tiny_http_wire.specs.Text.{Text, Ending, Whole, Broken, prepend_text, identity_body, chunked_until, chunked_body}
-use Rattle.tiny_http_wire.specs.Answer.{Answer, Printing, answer_head_text, status_line, is_withheld, body_unless_withheld, gathered_body, coded_text, with_upgrade, answer_coding, text_of}
+use Rattle.tiny_http_wire.specs.Answer.{Answer, Printing, listed_with, answer_head_text, status_line, is_withheld, body_unless_withheld, gathered_body, coded_text, text_by_code, with_upgrade, answer_coding, text_of}
+use Rattle.tiny_http_wire.specs.ByStandard.{status_version, listed_headers}
+use Rattle.tiny_http_wire.specs.declared.answer_context.Persistence.{Persistence}
 use Rattle.tiny_http_answer.specs.ClientAnswer.{AnswerHead, BeginsWithAnswerHead, is_interim, ClientAnswer, ReadsAnswer}
-use Rattle.tiny_http_answer.specs.ClientText.{stated_length, printed_headers, IsReadableAnswer, received_answer}
+use Rattle.tiny_http_answer.specs.ClientText.{IsReadable, stated_length, printed_headers, listed_of, alone_by_code, IsReadableAnswer, received_answer}
 use Rattle.tiny_http_answer.specs.SentTexts.{BreaksOff}
-use Rattle.tiny_http_answer.proofs.TextLaw.{read_back}
+use Rattle.tiny_http_answer.proofs.TextLaw.{major-fits, minor-fits, read_back}
 use Rattle.tiny_http_answer.proofs.ClientAnswerLemmas.{answer-one}
-use Rattle.tiny_http_answer.proofs.PrintedLemmas.{head-stands}
+use Rattle.tiny_http_answer.proofs.PrintedLemmas.{FramingFits, head-stands}
 use Rattle.std.proofs.Math.Bool.{or-true}
 
 -- more data of the same answer, with which the text is whole
@@ -54,9 +57,9 @@ identity-completes n top feed false kind lt e =
       omega (arith, len, length-append feed.bytes pad),
     )
 
-long-head : (v : HTTPVersion) (status : ℕ) (headers : List Header) (date : HttpDate) (framing : FramingHeader) → 0 < length (answer_head_text v status None headers date framing)
+long-head : (v : HTTPVersion) (status : ℕ) (headers listed : List Header) (date : HttpDate) (framing : FramingHeader) → 0 < length (answer_head_text v status None headers listed date framing)
 unfolding answer_head_text status_line
-long-head v status headers date framing = simp append_assoc (omega arith)
+long-head v status headers listed date framing = simp append_assoc (omega arith)
 
 gathered-completes : (stop : Stop) (top : FramingHeader → List ℕ) (bytes : List ℕ) (t : Bool) (kind : ErrorKind) → 0 < length (top (ContentLength 0)) → (gathered_body stop (top (ContentLength (length bytes))) t bytes).ending ≡ Broken kind
     → Completes None (λ f. gathered_body f.stop (top (ContentLength (length f.bytes))) t f.bytes) (gathered_body stop (top (ContentLength (length bytes))) t bytes)
@@ -92,19 +95,25 @@ coding-completes Identity None top w feed kind p lt e = gathered-completes feed.
 coding-completes Identity (Some n) top w feed kind p lt e = identity-completes n (top (ContentLength n)) feed w kind lt e
 
 upgrade-completes : (a : Answer) (feed : Feed) (p : Printing) (u : Option (List ℕ)) (kind : ErrorKind) → u ≡ None → stated_length a.data_length feed < 2 ^ 64
-    → (coded_text (answer_coding a p) a.data_length (λ framing. answer_head_text p.version a.status u a.headers p.date framing) (is_withheld p.no_body a.status) feed).ending ≡ Broken kind
-    → Completes a.data_length (λ f. coded_text (answer_coding a p) a.data_length (λ framing. answer_head_text p.version a.status u a.headers p.date framing) (is_withheld p.no_body a.status) f)
-    (coded_text (answer_coding a p) a.data_length (λ framing. answer_head_text p.version a.status u a.headers p.date framing) (is_withheld p.no_body a.status) feed)
+    → (coded_text (answer_coding a p) a.data_length (λ framing. answer_head_text (status_version p.persistence p.version) a.status u a.headers (listed_with u p.persistence p.version a) p.date framing) (is_withheld p.no_body a.status) feed).ending ≡ Broken kind
+    → Completes a.data_length (λ f. coded_text (answer_coding a p) a.data_length (λ framing. answer_head_text (status_version p.persistence p.version) a.status u a.headers (listed_with u p.persistence p.version a) p.date framing) (is_withheld p.no_body a.status) f)
+    (coded_text (answer_coding a p) a.data_length (λ framing. answer_head_text (status_version p.persistence p.version) a.status u a.headers (listed_with u p.persistence p.version a) p.date framing) (is_withheld p.no_body a.status) feed)
 upgrade-completes a feed p (Some x) kind e lt h = cc
 upgrade-completes a feed p None kind e lt h =
-    coding-completes (answer_coding a p) a.data_length (λ framing. answer_head_text p.version a.status None a.headers p.date framing) (is_withheld p.no_body a.status) feed kind (long-head p.version a.status a.headers p.date (ContentLength 0)) lt h
+    coding-completes (answer_coding a p) a.data_length (λ framing. answer_head_text (status_version p.persistence p.version) a.status None a.headers (listed_of a p) p.date framing) (is_withheld p.no_body a.status) feed kind (long-head (status_version p.persistence p.version) a.status a.headers (listed_of a p) p.date (ContentLength 0)) lt h
+
+-- a head alone never breaks off
+content-completes : (a : Answer) (feed : Feed) (p : Printing) (o : Option FramingHeader) (kind : ErrorKind) → p.upgrade ≡ None → stated_length a.data_length feed < 2 ^ 64 → (text_by_code o a feed p).ending ≡ Broken kind
+    → Completes a.data_length (λ f. text_by_code o a f p) (text_by_code o a feed p)
+content-completes a feed p (Some framing) kind e lt h = cc
+content-completes a feed p None kind e lt h = upgrade-completes a feed p p.upgrade kind e lt h
 
 -- a broken text is a proper front of a whole one
 text-completes : (a : Answer) (feed : Feed) (p : Printing) (kind : ErrorKind) → p.upgrade ≡ None → stated_length a.data_length feed < 2 ^ 64 → (text_of a feed p).ending ≡ Broken kind → Completes a.data_length (λ f. text_of a f p) (text_of a feed p)
 unfolding text_of
 text-completes a feed p kind e lt h =
     let P : Option (List ℕ) → Type 0 = λ u. (with_upgrade u a feed p).ending ≡ Broken kind → Completes a.data_length (λ f. with_upgrade u a f p) (with_upgrade u a feed p) in
-    subst P (sym e) (upgrade-completes a feed p p.upgrade kind e lt) h
+    subst P (sym e) (content-completes a feed p (alone_by_code a p) kind e lt) h
 
 pub broken-off : (m : Method) (a : Answer) (feed : Feed) (p : Printing) (kind : ErrorKind) → IsReadableAnswer m a feed p → (text_of a feed p).ending ≡ Broken kind → BreaksOff m (text_of a feed p).bytes
 broken-off m a feed p kind r h =
@@ -149,17 +158,42 @@ nothing-off m a feed p r = nothing-step m a feed p (text_of a feed p).ending r r
 
 -- a 100 is its head alone
 abbrev pub interim_reply : Answer
-interim_reply = record { status = 100; headers = []; data_length = Some 0; threshold = 32768 }
+interim_reply = record { status = 100; headers = []; data_length = Some 0; threshold = 32768; offered = None }
 
-pub interim-bytes : (p : Printing) → p.upgrade ≡ None → (text_of interim_reply (record { bytes = []; stop = End }) p).bytes ≡ answer_head_text p.version 100 None [] p.date (ContentLength 0)
+abbrev interim_framing : Option Persistence → FramingHeader
+interim_framing None = ContentLength 0
+interim_framing (Some _) = Neither
+
+abbrev interim_listed : Printing → List Header
+interim_listed p = listed_of interim_reply p
+
+interim-by : (p : Printing) (q : Option Persistence) → p.upgrade ≡ None → p.persistence ≡ q
+    → (text_of interim_reply (record { bytes = []; stop = End }) p).bytes ≡ answer_head_text (status_version p.persistence p.version) 100 None [] (interim_listed p) p.date (interim_framing p.persistence)
 unfolding text_of answer_coding
-interim-bytes p e = rw e (simp (or-true, append-nil))
+interim-by p None e q = rw (e, q) (simp (or-true, append-nil))
+interim-by p (Some says) e q = rw (e, q) refl
+
+pub interim-bytes : (p : Printing) → p.upgrade ≡ None
+    → (text_of interim_reply (record { bytes = []; stop = End }) p).bytes ≡ answer_head_text (status_version p.persistence p.version) 100 None [] (interim_listed p) p.date (interim_framing p.persistence)
+interim-bytes p e = interim-by p p.persistence e refl
+
+none-listed : (q : Option Persistence) (v : HTTPVersion) → AllByRecursion IsReadable (listed_headers q v 100 None [])
+none-listed None v = tt
+none-listed (Some says) v = tt
+
+interim-fits : (q : Option Persistence) → FramingFits (interim_framing q)
+interim-fits None = omega arith
+interim-fits (Some says) = tt
+
+abbrev interim_read : Printing → AnswerHead
+interim_read p = record { version = status_version p.persistence p.version; status = 100; headers = printed_headers [] (interim_listed p) p.date (interim_framing p.persistence) }
 
 pub interim-head : (p : Printing) (x : List ℕ) → p.upgrade ≡ None → p.version.0 ≤ 255 → p.version.1 ≤ 255
     → (h : AnswerHead) × BeginsWithAnswerHead ((text_of interim_reply (record { bytes = []; stop = End }) p).bytes ++ x) h x × (is_interim h.status ≡ true)
 interim-head p x e a b =
-    let P : List ℕ → Type 0 = λ z. BeginsWithAnswerHead (z ++ x) (record { version = p.version; status = 100; headers = printed_headers [] p.date (ContentLength 0) }) x in (
-      record { version = p.version; status = 100; headers = printed_headers [] p.date (ContentLength 0) },
-      subst P (sym (interim-bytes p e)) (head-stands p.version 100 [] p.date (ContentLength 0) x a b (omega arith) tt (omega arith)),
+    let P : List ℕ → Type 0 = λ z. BeginsWithAnswerHead (z ++ x) (interim_read p) x in (
+      interim_read p,
+      subst P (sym (interim-bytes p e)) (head-stands (status_version p.persistence p.version) 100 [] (interim_listed p) p.date (interim_framing p.persistence) x
+          (major-fits p.persistence p.version a) (minor-fits p.persistence p.version b) (omega arith) (none-listed p.persistence p.version) (interim-fits p.persistence)),
       refl,
     )

@@ -100,12 +100,12 @@ framing-stands Neither h = tt
 framing-stands TransferEncoding h = (plain-stands (codes "Transfer-Encoding") (codes "chunked") refl refl refl refl refl, tt)
 framing-stands (ContentLength n) h = (plain-stands (codes "Content-Length") (decimal n) refl refl refl (plain-decimal n h) (digits-front (decimal n) (decimal-has_no space n (omega arith) h)), tt)
 
-pub printed-stand : (headers : List Header) (date : HttpDate) (framing : FramingHeader) → AllByRecursion IsReadable headers → FramingFits framing → AllStand (printed_headers headers date framing)
+pub printed-stand : (headers listed : List Header) (date : HttpDate) (framing : FramingHeader) → AllByRecursion IsReadable listed → FramingFits framing → AllStand (printed_headers headers listed date framing)
 unfolding printed_headers
-printed-stand headers date framing h f =
-    all-append (server_header headers) (date_header headers date ++ (headers ++ framing_header framing)) (server-stands headers)
-    (all-append (date_header headers date) (headers ++ framing_header framing) (date-stands headers date)
-    (all-append headers (framing_header framing) (all-readable headers h) (framing-stands framing f)))
+printed-stand headers listed date framing h f =
+    all-append (server_header headers) (date_header headers date ++ (listed ++ framing_header framing)) (server-stands headers)
+    (all-append (date_header headers date) (listed ++ framing_header framing) (date-stands headers date)
+    (all-append listed (framing_header framing) (all-readable listed h) (framing-stands framing f)))
 
 -- the text of a list of headers
 abbrev pub lines_of : List Header → List ℕ
@@ -152,15 +152,15 @@ framing-line-is Neither = refl
 framing-line-is TransferEncoding = sym (append-nil (field_line (codes "Transfer-Encoding") (codes "chunked")))
 framing-line-is (ContentLength n) = sym (append-nil (length_line n))
 
-head-is-lines : (v : HTTPVersion) (status : ℕ) (headers : List Header) (date : HttpDate) (framing : FramingHeader)
-    → answer_head_text v status None headers date framing ≡ status_line v status ++ (lines_of (printed_headers headers date framing) ++ crlf)
+head-is-lines : (v : HTTPVersion) (status : ℕ) (headers listed : List Header) (date : HttpDate) (framing : FramingHeader)
+    → answer_head_text v status None headers listed date framing ≡ status_line v status ++ (lines_of (printed_headers headers listed date framing) ++ crlf)
 unfolding answer_head_text upgrade_lines printed_headers
-head-is-lines v status headers date framing =
+head-is-lines v status headers listed date framing =
     let s = server_header headers in
     let d = date_header headers date in
     let f = framing_header framing in
-    let e : lines_of (s ++ (d ++ (headers ++ f))) ≡ lines_of s ++ (lines_of d ++ (lines_of headers ++ lines_of f)) =
-    lines-append s (d ++ (headers ++ f)) ∙ ap (λ y. lines_of s ++ y) (lines-append d (headers ++ f) ∙ ap (λ y. lines_of d ++ y) (lines-append headers f)) in
+    let e : lines_of (s ++ (d ++ (listed ++ f))) ≡ lines_of s ++ (lines_of d ++ (lines_of listed ++ lines_of f)) =
+    lines-append s (d ++ (listed ++ f)) ∙ ap (λ y. lines_of s ++ y) (lines-append d (listed ++ f) ∙ ap (λ y. lines_of d ++ y) (lines-append listed f)) in
     rw (e, server-line-is headers, date-line-is headers date, framing-line-is framing) (simp append_assoc)
 
 -- the status line
@@ -179,12 +179,12 @@ status-plain v status a b c =
     (plain-append (decimal status) (space ∷ reason_phrase status) (plain-decimal status (omega arith)) (plain-phrase status))))
 
 -- a printed head is read as it was printed
-pub head-stands : (v : HTTPVersion) (status : ℕ) (headers : List Header) (date : HttpDate) (framing : FramingHeader) (after : List ℕ)
-    → v.0 ≤ 255 → v.1 ≤ 255 → status ≤ 65535 → AllByRecursion IsReadable headers → FramingFits framing
-    → BeginsWithAnswerHead (answer_head_text v status None headers date framing ++ after) (record { version = v; status = status; headers = printed_headers headers date framing }) after
-head-stands v status headers date framing after a b c h f =
+pub head-stands : (v : HTTPVersion) (status : ℕ) (headers listed : List Header) (date : HttpDate) (framing : FramingHeader) (after : List ℕ)
+    → v.0 ≤ 255 → v.1 ≤ 255 → status ≤ 65535 → AllByRecursion IsReadable listed → FramingFits framing
+    → BeginsWithAnswerHead (answer_head_text v status None headers listed date framing ++ after) (record { version = v; status = status; headers = printed_headers headers listed date framing }) after
+head-stands v status headers listed date framing after a b c h f =
     let p = status-plain v status a b c in
-    let hs = printed_headers headers date framing in
+    let hs = printed_headers headers listed date framing in
     let fields = lines_of hs ++ (crlf ++ after) in
     record {
       fields = fields;
@@ -192,7 +192,7 @@ head-stands v status headers date framing after a b c h f =
       starts = (
         status_text v status,
         record {
-          joins = ap (λ y. y ++ after) (head-is-lines v status headers date framing)
+          joins = ap (λ y. y ++ after) (head-is-lines v status headers listed date framing)
               ∙ (append_assoc (status_line v status) (lines_of hs ++ crlf) after
               ∙ (ap (λ y. status_line v status ++ y) (append_assoc (lines_of hs) crlf after)
               ∙ ap (λ y. y ++ fields) (status-line-is v status)));
@@ -201,6 +201,6 @@ head-stands v status headers date framing after a b c h f =
         plain-ascii (status_text v status) p,
         record { phrase = reason_phrase status; joins = refl; major_fits = a; minor_fits = b; status_fits = c },
       );
-      names = fields-lines hs (crlf ++ after) (printed-stand headers date framing h f);
+      names = fields-lines hs (crlf ++ after) (printed-stand headers listed date framing h f);
       ends = record { joins = refl; first = refl };
     }

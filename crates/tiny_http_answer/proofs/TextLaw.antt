@@ -1,11 +1,11 @@
 -- A whole text without upgrade is read back.
-use Rattle.std.proofs.Common.{◌≡◌, refl, sym, ap, ◌∙◌, subst, ℕ, ◌<◌, ◌≤◌, ◌^◌, Bool, true, false, ◌&&◌, ◌||◌, List, [], ◌∷◌, ◌++◌, length, take, Option, Some, None, append_assoc, arith, length-take}
-use Rattle.std.specs.Prelude.{codes, decimal, if◌then◌else◌, nat_le, option_and_then}
-use Rattle.std.specs.List.{list_any, AllByRecursion}
+use Rattle.std.proofs.Common.{◌≡◌, refl, sym, ap, ◌∙◌, subst, ℕ, ◌<◌, ◌≤◌, ◌^◌, Bool, true, false, ◌&&◌, ◌||◌, List, [], ◌∷◌, ◌++◌, length, take, Option, Some, None, append_assoc, append-nil, arith, length-take}
+use Rattle.std.specs.Prelude.{◌==◌, codes, decimal, if◌then◌else◌, nat_lt, nat_le, option_and_then, option_map}
+use Rattle.std.specs.List.{list_any, cons_option, AllByRecursion}
 use Rattle.std.specs.Str.{all_ascii_digits}
 use Rattle.std.specs.declared.io.ErrorKind.{ErrorKind}
-use Rattle.std.proofs.Math.Bool.{and-false}
-use Rattle.std.proofs.lemmas.Bool.{le-ltb, lt-ltb, leb-true}
+use Rattle.std.proofs.Math.Bool.{and-false, or-true}
+use Rattle.std.proofs.lemmas.Bool.{le-ltb, lt-ltb, leb-true, or_parts}
 use Rattle.std.proofs.lemmas.List.Folds.{list_any-append}
 use Rattle.std.proofs.lemmas.Fmt.{decimal_is_IsNumeral, digits_decimal}
 use Rattle.std.proofs.lemmas.Str.Parse.{numerals_by_value, tells_all_ascii_digits}
@@ -17,17 +17,19 @@ use Rattle.tiny_http_wire.specs.declared.common.Method.{Method}
 use Rattle.tiny_http_wire.specs.declared.coding.Coding.{Coding}
 use Rattle.tiny_http_wire.specs.declared.coding.Coding.TheVariants.{Identity, Chunked}
 use Rattle.tiny_http_wire.specs.declared.coding.FramingHeader.{FramingHeader}
-use Rattle.tiny_http_wire.specs.declared.coding.FramingHeader.TheVariants.{TransferEncoding, ContentLength}
+use Rattle.tiny_http_wire.specs.declared.coding.FramingHeader.TheVariants.{Neither, TransferEncoding, ContentLength}
 use Rattle.tiny_http_wire.specs.declared.device.Stop.{Stop}
 use Rattle.tiny_http_wire.specs.declared.device.Stop.TheVariants.{End, Fault}
 use Rattle.tiny_http_wire.specs.Device.{Feed, fault_of}
 use Rattle.tiny_http_wire.specs.ChunkedPrinting.{chunked}
 use Rattle.tiny_http_wire.specs.Common.{same_name}
-use Rattle.tiny_http_wire.specs.Text.{Text, Whole, Broken, prepend_text, identity_body, chunked_until, chunked_body}
-use Rattle.tiny_http_wire.specs.Answer.{Answer, Printing, has_header, answer_head_text, is_withheld, body_unless_withheld, gathered_body, coded_text, with_upgrade, answer_coding, text_of}
+use Rattle.tiny_http_wire.specs.Text.{Text, Whole, Broken, whole, prepend_text, identity_body, chunked_until, chunked_body}
+use Rattle.tiny_http_wire.specs.Answer.{Answer, Printing, listed_with, has_header, answer_head_text, is_withheld, body_unless_withheld, gathered_body, coded_text, text_by_code, with_upgrade, answer_coding, text_of}
+use Rattle.tiny_http_wire.specs.ByStandard.{status_version, persistence_option, connection_headers, safe_value, safe_headers, listed_headers, framing_of_304, contentless_framing}
+use Rattle.tiny_http_wire.specs.declared.answer_context.Persistence.{Persistence}
 use Rattle.tiny_http_wire.specs.Heads.{length_of}
 use Rattle.tiny_http_answer.specs.ClientAnswer.{AnswerHead, BeginsWithAnswerHead, is_interim, is_head, NoBody, OfChunks, OfLength, says_chunked, first_value, content_length, has_no_body, extent, BeginsWithBody, ReadsAnswer}
-use Rattle.tiny_http_answer.specs.ClientText.{IsReadable, server_header, date_header, framing_header, printed_headers, stated_length, framing_of, sent_body, received_answer, IsReadableAnswer}
+use Rattle.tiny_http_answer.specs.ClientText.{IsReadable, server_header, date_header, framing_header, printed_headers, stated_length, framing_of, framing_said, sent_body, body_said, listed_of, alone_by_code, received_answer, IsReadableAnswer}
 use Rattle.tiny_http_answer.proofs.PrintedLemmas.{FramingFits, head-stands}
 use Rattle.tiny_http_answer.proofs.SentChunks.{sent-chunks}
 
@@ -55,12 +57,12 @@ chunked-append : (xs ys : List Header) → says_chunked xs ≡ false → says_ch
 unfolding says_chunked
 chunked-append xs ys h = list_any-append (λ (x : Header). same_name x.field (codes "Transfer-Encoding") && same_name x.value (codes "chunked")) xs ys ∙ rw h refl
 
-printed-chunked : (headers : List Header) (date : HttpDate) (framing : FramingHeader) → has_header headers (codes "Transfer-Encoding") ≡ false → says_chunked (printed_headers headers date framing) ≡ says_chunked (framing_header framing)
+printed-chunked : (headers listed : List Header) (date : HttpDate) (framing : FramingHeader) → has_header listed (codes "Transfer-Encoding") ≡ false → says_chunked (printed_headers headers listed date framing) ≡ says_chunked (framing_header framing)
 unfolding printed_headers
-printed-chunked headers date framing h =
-    chunked-append (server_header headers) (date_header headers date ++ (headers ++ framing_header framing)) (server-no_coding headers)
-    ∙ (chunked-append (date_header headers date) (headers ++ framing_header framing) (date-no_coding headers date)
-    ∙ chunked-append headers (framing_header framing) (any-fewer headers h))
+printed-chunked headers listed date framing h =
+    chunked-append (server_header headers) (date_header headers date ++ (listed ++ framing_header framing)) (server-no_coding headers)
+    ∙ (chunked-append (date_header headers date) (listed ++ framing_header framing) (date-no_coding headers date)
+    ∙ chunked-append listed (framing_header framing) (any-fewer listed h))
 
 chunks-say : says_chunked (framing_header TransferEncoding) ≡ true
 unfolding says_chunked
@@ -95,13 +97,13 @@ decimal-length n lt =
     let a : all_ascii_digits (decimal n) ≡ true = digits_decimal (numerals_by_value (λ ds. all_ascii_digits ds ≡ true) tells_all_ascii_digits) n lt in
     rw (lt-ltb 0 (length (decimal n)) d.0.0, a, d.1, lt-ltb n (2 ^ 64) lt) refl
 
-printed-length : (headers : List Header) (date : HttpDate) (n : ℕ) → n < 2 ^ 64 → has_header headers (codes "Content-Length") ≡ false → content_length (printed_headers headers date (ContentLength n)) ≡ Some n
+printed-length : (headers listed : List Header) (date : HttpDate) (n : ℕ) → n < 2 ^ 64 → has_header listed (codes "Content-Length") ≡ false → content_length (printed_headers headers listed date (ContentLength n)) ≡ Some n
 unfolding printed_headers content_length
-printed-length headers date n lt h =
+printed-length headers listed date n lt h =
     ap (option_and_then length_of)
-    (first-behind (server_header headers) (date_header headers date ++ (headers ++ framing_header (ContentLength n))) (server-no_length headers)
-    ∙ (first-behind (date_header headers date) (headers ++ framing_header (ContentLength n)) (date-no_length headers date)
-    ∙ first-behind headers (framing_header (ContentLength n)) h))
+    (first-behind (server_header headers) (date_header headers date ++ (listed ++ framing_header (ContentLength n))) (server-no_length headers)
+    ∙ (first-behind (date_header headers date) (listed ++ framing_header (ContentLength n)) (date-no_length headers date)
+    ∙ first-behind listed (framing_header (ContentLength n)) h))
     ∙ decimal-length n lt
 
 -- a text and its method withhold a body alike
@@ -114,23 +116,32 @@ not-interim status h = rw (le-ltb status 200 h, and-false (nat_le 100 status)) r
 extent-withheld : (m : Method) (h : AnswerHead) → has_no_body m h.status ≡ true → extent m h ≡ NoBody
 extent-withheld m h e = rw e refl
 
+-- a head alone states a length that fits, and its body is nothing
+abbrev IsAlone : Method → (FramingHeader → AnswerHead) → List ℕ → Option FramingHeader → Type 0
+IsAlone m head_with rest None = Unit {0}
+IsAlone m head_with rest (Some framing) = FramingFits framing × BeginsWithBody (extent m (head_with framing)) rest [] rest
+
+fits-304 : (len : Option ℕ) (feed : Feed) → stated_length len feed < 2 ^ 64 → FramingFits (framing_of_304 len)
+fits-304 None feed lt = tt
+fits-304 (Some n) feed lt = elim (n == 0) as (λ t. FramingFits (if t then Neither else ContentLength n)) [ true ↦ tt | false ↦ lt ]
+
 -- What the law knows of an answer but its coding and its data.
-record Known (m : Method) (v : HTTPVersion) (status : ℕ) (headers : List Header) (w : Bool) : Type 0 where
+record Known (m : Method) (v : HTTPVersion) (status : ℕ) (listed : List Header) (w : Bool) : Type 0 where
   final : 200 ≤ status
   status_fits : status ≤ 65535
   major_fits : v.0 ≤ 255
   minor_fits : v.1 ≤ 255
-  readable : AllByRecursion IsReadable headers
-  no_coding : has_header headers (codes "Transfer-Encoding") ≡ false
-  no_length : has_header headers (codes "Content-Length") ≡ false
+  readable : AllByRecursion IsReadable listed
+  no_coding : has_header listed (codes "Transfer-Encoding") ≡ false
+  no_length : has_header listed (codes "Content-Length") ≡ false
   same : w ≡ has_no_body m status
 
-module _ (m : Method) (v : HTTPVersion) (status : ℕ) (headers : List Header) (date : HttpDate) (w : Bool) (known : Known m v status headers w) (rest : List ℕ) where
+module _ (m : Method) (v : HTTPVersion) (status : ℕ) (headers listed : List Header) (date : HttpDate) (w : Bool) (known : Known m v status listed w) (rest : List ℕ) where
   abbrev head_with : FramingHeader → AnswerHead
-  head_with framing = record { version = v; status = status; headers = printed_headers headers date framing }
+  head_with framing = record { version = v; status = status; headers = printed_headers headers listed date framing }
 
   abbrev top : FramingHeader → List ℕ
-  top framing = answer_head_text v status None headers date framing
+  top framing = answer_head_text v status None headers listed date framing
 
   -- a head and the body whose length it states
   put-together : (framing : FramingHeader) (text body : List ℕ) → FramingFits framing → BeginsWithBody (extent m (head_with framing)) (text ++ rest) body rest
@@ -142,7 +153,7 @@ module _ (m : Method) (v : HTTPVersion) (status : ℕ) (headers : List Header) (
         start = (top framing ++ text) ++ rest;
         after = text ++ rest;
         passes = refl;
-        has_head = subst P (sym (append_assoc (top framing) text rest)) (head-stands v status headers date framing (text ++ rest) known.major_fits known.minor_fits known.status_fits known.readable f);
+        has_head = subst P (sym (append_assoc (top framing) text rest)) (head-stands v status headers listed date framing (text ++ rest) known.major_fits known.minor_fits known.status_fits known.readable f);
         is_final = not-interim status known.final;
         has_body = b;
       }
@@ -153,12 +164,12 @@ module _ (m : Method) (v : HTTPVersion) (status : ℕ) (headers : List Header) (
   sized-body : (n : ℕ) (body : List ℕ) → w ≡ false → n < 2 ^ 64 → length body ≡ n → BeginsWithBody (extent m (head_with (ContentLength n))) (body ++ rest) body rest
   sized-body n body e lt len =
       let k : extent m (head_with (ContentLength n)) ≡ OfLength n =
-      rw (sym known.same ∙ e, printed-chunked headers date (ContentLength n) known.no_coding, length-says_not n, printed-length headers date n lt known.no_length) refl in
+      rw (sym known.same ∙ e, printed-chunked headers listed date (ContentLength n) known.no_coding, length-says_not n, printed-length headers listed date n lt known.no_length) refl in
       rw k (refl, len)
 
   chunks-body : (bytes : List ℕ) → w ≡ false → BeginsWithBody (extent m (head_with TransferEncoding)) (chunked bytes ++ rest) bytes rest
   chunks-body bytes e =
-      let k : extent m (head_with TransferEncoding) ≡ OfChunks = rw (sym known.same ∙ e, printed-chunked headers date TransferEncoding known.no_coding, chunks-say) refl in
+      let k : extent m (head_with TransferEncoding) ≡ OfChunks = rw (sym known.same ∙ e, printed-chunked headers listed date TransferEncoding known.no_coding, chunks-say) refl in
       rw k (sent-chunks bytes rest)
 
   abbrev Back : Text → FramingHeader → List ℕ → Type 0
@@ -193,18 +204,119 @@ module _ (m : Method) (v : HTTPVersion) (status : ℕ) (headers : List Header) (
   coding-back Identity None feed lt = gathered-back feed.stop feed.bytes w refl lt
   coding-back Identity (Some n) feed lt = identity-back n feed w refl lt
 
+  -- a 204, a 205 and a 304 are heads alone by the standard
+  of-204 : (status == 204) ≡ true → w ≡ true
+  of-204 e = known.same ∙ rw (e, or-true (is_head m)) refl
+
+  of-304 : (status == 304) ≡ true → w ≡ true
+  of-304 e = known.same ∙ rw (e, or-true (status == 204), or-true (is_head m)) refl
+
+  empty-body : (t : Bool) → w ≡ t → BeginsWithBody (extent m (head_with (ContentLength 0))) rest [] rest
+  empty-body true e = withheld-body (ContentLength 0) e
+  empty-body false e = sized-body 0 [] e (omega arith) refl
+
+  by-code : (s t u : Bool) (len : Option ℕ) (feed : Feed) → (nat_lt status 200 || status == 204) ≡ s → (status == 304) ≡ u → stated_length len feed < 2 ^ 64
+      → IsAlone m head_with rest (if s then Some Neither else if t then Some (ContentLength 0) else if u then Some (framing_of_304 len) else None)
+  by-code true t u len feed e f lt =
+      let k : (status == 204) ≡ true = ap (λ x. x || status == 204) (sym (le-ltb status 200 known.final)) ∙ e in
+      (tt, withheld-body Neither (of-204 k))
+  by-code false true u len feed e f lt = (omega arith, empty-body w refl)
+  by-code false false true len feed e f lt = (fits-304 len feed lt, withheld-body (framing_of_304 len) (of-304 f))
+  by-code false false false len feed e f lt = tt
+
+  alone-by : (q : Option Persistence) (len : Option ℕ) (feed : Feed) → stated_length len feed < 2 ^ 64 → IsAlone m head_with rest (contentless_framing q status len)
+  alone-by None len feed lt = tt
+  alone-by (Some _) len feed lt = by-code (nat_lt status 200 || status == 204) (status == 205) (status == 304) len feed refl refl lt
+
+  alone-back : (framing : FramingHeader) → FramingFits framing → BeginsWithBody (extent m (head_with framing)) rest [] rest → Back (whole (top framing)) framing []
+  alone-back framing f b h =
+      let P : List ℕ → Type 0 = λ x. ReadsAnswer m (x ++ rest) (record { head = head_with framing; body = [] }) rest in
+      subst P (append-nil (top framing)) (put-together framing [] [] f b)
+
+-- the status line is in a version that fits
+pub major-fits : (q : Option Persistence) (v : HTTPVersion) → v.0 ≤ 255 → (status_version q v).0 ≤ 255
+major-fits None v h = h
+major-fits (Some _) v h = omega arith
+
+pub minor-fits : (q : Option Persistence) (v : HTTPVersion) → v.1 ≤ 255 → (status_version q v).1 ≤ 255
+minor-fits None v h = h
+minor-fits (Some _) v h = omega arith
+
+-- no header is listed of a name that neither the answer's own have nor those that say what becomes of the connection
+connection-no_name : (name : List ℕ) (offered says : Option (List ℕ)) → same_name (codes "Connection") name ≡ false → same_name (codes "Upgrade") name ≡ false → has_header (connection_headers offered says) name ≡ false
+connection-no_name name None None c u = refl
+connection-no_name name None (Some option) c u = rw c refl
+connection-no_name name (Some protocols) says c u = rw (c, u) refl
+
+-- a header that is listed or left out
+kept : (t : Bool) (name : List ℕ) (x : Header) (ys : List Header) → same_name x.field name ≡ false → has_header ys name ≡ false → has_header (cons_option (if t then Some (record x { value = safe_value x.value }) else None) ys) name ≡ false
+kept true name x ys h k = rw h k
+kept false name x ys h k = k
+
+safe-no_name : (name : List ℕ) (headers : List Header) → has_header headers name ≡ false → has_header (safe_headers headers) name ≡ false
+safe-no_name name [] h = refl
+safe-no_name name (x ∷ xs) h =
+    let k = or_parts (same_name x.field name) (has_header xs name) h in
+    kept _ name x (safe_headers xs) k.0 (safe-no_name name xs k.1)
+
+listed-no_name : (name : List ℕ) (q : Option Persistence) (v : HTTPVersion) (status : ℕ) (offered : Option (List ℕ)) (headers : List Header)
+    → same_name (codes "Connection") name ≡ false → same_name (codes "Upgrade") name ≡ false → has_header headers name ≡ false → has_header (listed_headers q v status offered headers) name ≡ false
+listed-no_name name None v status offered headers c u h = h
+listed-no_name name (Some says) v status offered headers c u h =
+    let front = connection_headers (option_map safe_value offered) (persistence_option v says) in
+    let k : has_header (if nat_lt status 200 then [] else front) name ≡ false =
+    elim (nat_lt status 200) as (λ t. has_header (if t then [] else front) name ≡ false) [ true ↦ refl | false ↦ connection-no_name name (option_map safe_value offered) (persistence_option v says) c u ] in
+    list_any-append (λ (x : Header). same_name x.field name) (if nat_lt status 200 then [] else front) (safe_headers headers)
+    ∙ rw k (safe-no_name name headers h)
+
+abbrev version_of : Printing → HTTPVersion
+version_of p = status_version p.persistence p.version
+
+known-of : (m : Method) (a : Answer) (feed : Feed) (p : Printing) → IsReadableAnswer m a feed p → Known m (version_of p) a.status (listed_of a p) (is_withheld p.no_body a.status)
+known-of m a feed p r = record {
+  final = r.final;
+  status_fits = r.status_fits;
+  major_fits = major-fits p.persistence p.version r.major_fits;
+  minor_fits = minor-fits p.persistence p.version r.minor_fits;
+  readable = r.readable;
+  no_coding = listed-no_name (codes "Transfer-Encoding") p.persistence p.version a.status a.offered a.headers refl refl r.no_coding;
+  no_length = listed-no_name (codes "Content-Length") p.persistence p.version a.status a.offered a.headers refl refl r.no_length;
+  same = withheld-same m a.status p.no_body r.same_method r.final;
+}
+
+-- the head that is read, by its framing
+abbrev head_read : Answer → Printing → FramingHeader → AnswerHead
+head_read a p framing = record { version = version_of p; status = a.status; headers = printed_headers a.headers (listed_of a p) p.date framing }
+
+-- the head's text, by its upgrade
+abbrev top_with : Answer → Printing → Option (List ℕ) → FramingHeader → List ℕ
+top_with a p u framing = answer_head_text (version_of p) a.status u a.headers (listed_with u p.persistence p.version a) p.date framing
+
 upgrade-back : (m : Method) (a : Answer) (feed : Feed) (p : Printing) (rest : List ℕ) (u : Option (List ℕ)) → u ≡ None → IsReadableAnswer m a feed p
-    → (coded_text (answer_coding a p) a.data_length (λ framing. answer_head_text p.version a.status u a.headers p.date framing) (is_withheld p.no_body a.status) feed).ending ≡ Whole
-    → ReadsAnswer m ((coded_text (answer_coding a p) a.data_length (λ framing. answer_head_text p.version a.status u a.headers p.date framing) (is_withheld p.no_body a.status) feed).bytes ++ rest) (received_answer a feed p) rest
+    → (coded_text (answer_coding a p) a.data_length (top_with a p u) (is_withheld p.no_body a.status) feed).ending ≡ Whole
+    → ReadsAnswer m ((coded_text (answer_coding a p) a.data_length (top_with a p u) (is_withheld p.no_body a.status) feed).bytes ++ rest)
+    (record { head = head_read a p (framing_of (answer_coding a p) a.data_length feed); body = sent_body (answer_coding a p) a.data_length feed (is_withheld p.no_body a.status) }) rest
 upgrade-back m a feed p rest (Some x) e r h = cc
 upgrade-back m a feed p rest None e r h =
-    coding-back m p.version a.status a.headers p.date (is_withheld p.no_body a.status)
-    (record { final = r.final; status_fits = r.status_fits; major_fits = r.major_fits; minor_fits = r.minor_fits; readable = r.readable; no_coding = r.no_coding; no_length = r.no_length; same = withheld-same m a.status p.no_body r.same_method r.final })
-    rest (answer_coding a p) a.data_length feed r.length_fits h
+    coding-back m (version_of p) a.status a.headers (listed_of a p) p.date (is_withheld p.no_body a.status) (known-of m a feed p r) rest (answer_coding a p) a.data_length feed r.length_fits h
+
+head-back : (m : Method) (a : Answer) (feed : Feed) (p : Printing) (rest : List ℕ) (framing : FramingHeader) (u : Option (List ℕ)) → u ≡ None → IsReadableAnswer m a feed p → IsAlone m (head_read a p) rest (Some framing)
+    → ReadsAnswer m (top_with a p u framing ++ rest) (record { head = head_read a p framing; body = [] }) rest
+head-back m a feed p rest framing (Some x) e r k = cc
+head-back m a feed p rest framing None e r k =
+    alone-back m (version_of p) a.status a.headers (listed_of a p) p.date (is_withheld p.no_body a.status) (known-of m a feed p r) rest framing k.0 k.1 refl
+
+-- with content, or a head alone by its code
+content-back : (m : Method) (a : Answer) (feed : Feed) (p : Printing) (rest : List ℕ) (o : Option FramingHeader) → IsReadableAnswer m a feed p → IsAlone m (head_read a p) rest o → (text_by_code o a feed p).ending ≡ Whole
+    → ReadsAnswer m ((text_by_code o a feed p).bytes ++ rest)
+    (record { head = head_read a p (framing_said o (answer_coding a p) a.data_length feed); body = body_said o (answer_coding a p) a.data_length feed (is_withheld p.no_body a.status) }) rest
+content-back m a feed p rest (Some framing) r k h = head-back m a feed p rest framing p.upgrade r.no_upgrade r k
+content-back m a feed p rest None r k h = upgrade-back m a feed p rest p.upgrade r.no_upgrade r h
 
 pub read_back : (m : Method) (a : Answer) (feed : Feed) (p : Printing) (rest : List ℕ) → IsReadableAnswer m a feed p → (text_of a feed p).ending ≡ Whole
     → ReadsAnswer m ((text_of a feed p).bytes ++ rest) (received_answer a feed p) rest
 unfolding text_of
 read_back m a feed p rest r h =
     let P : Option (List ℕ) → Type 0 = λ u. (with_upgrade u a feed p).ending ≡ Whole → ReadsAnswer m ((with_upgrade u a feed p).bytes ++ rest) (received_answer a feed p) rest in
-    subst P (sym r.no_upgrade) (upgrade-back m a feed p rest p.upgrade r.no_upgrade r) h
+    let alone = alone-by m (version_of p) a.status a.headers (listed_of a p) p.date (is_withheld p.no_body a.status) (known-of m a feed p r) rest p.persistence a.data_length feed r.length_fits in
+    subst P (sym r.no_upgrade) (content-back m a feed p rest (alone_by_code a p) r alone) h

@@ -12,8 +12,8 @@ use Rattle.tiny_http_core.specs.Conversation.{Failure, State, Fares, Well, Fails
 use Rattle.tiny_http_client_laws.proofs.JoinedGrows.{joined-grows, AddsOwn, in-turn-ownless}
 use Rattle.tiny_http_client_laws.proofs.StepsAdd.{ItemFits, IsSound, AllSound, AllFit, all-append, all-parts, Keeps, Holds, keeps-if, number_of, effect-keeps}
 
-keeps-unchanged : (old : Reached) (reply : ReplyValue) → Holds old → Keeps old (unchanged old reply)
-keeps-unchanged old reply h = record { adds = record { front = ([], sym (append-nil (joined old.slots))); own = tt }; slots = h.slots; rest = h.rest }
+keeps-unchanged : (bs : Bool) (old : Reached) (reply : ReplyValue) → Holds bs old → Keeps bs old (unchanged old reply)
+keeps-unchanged bs old reply h = record { adds = record { front = ([], sym (append-nil (joined old.slots))); own = tt }; slots = h.slots; rest = h.rest }
 
 not-true : {b : Bool} → not b ≡ false → b ≡ true
 not-true {b = true} e = refl
@@ -25,30 +25,30 @@ come true true e n = refl
 come true false e n = cc
 come false turn e n = cc
 
-item-keeps : (found : Bool) (date : HttpDate) (old : Reached) (step : StepValue) (s : Slot) (item : Item) → Holds old → slice_get old.slots (number_of step) ≡ Some s → s.item ≡ item
-    → Keeps old (at_item found date old (number_of step) step s item)
-item-keeps found date old step s (Refuses refusal version no_body last) h here is = keeps-unchanged old NoSuch h
-item-keeps found date old step s (Asks r) h here is =
+item-keeps : (bs : Bool) (found : Bool) (date : HttpDate) (old : Reached) (step : StepValue) (s : Slot) (item : Item) → Holds bs old → slice_get old.slots (number_of step) ≡ Some s → s.item ≡ item
+    → Keeps bs old (at_item found date old (number_of step) step s item)
+item-keeps bs found date old step s (Refuses refusal version no_body last) h here is = keeps-unchanged bs old NoSuch h
+item-keeps bs found date old step s (Asks r) h here is =
     let k = number_of step in
     let turn = turn_has_come k old.slots in
-    keeps-if old (not (accepts_step s.stage s.owed step)) (unchanged old NoSuch)
+    keeps-if bs old (not (accepts_step s.stage s.owed step)) (unchanged old NoSuch)
     (if (needs_turn r s step && not turn) then unchanged old NotYet else effect found date old r s turn step)
-    (λ no. keeps-unchanged old NoSuch h)
-    (λ takes. keeps-if old (needs_turn r s step && not turn) (unchanged old NotYet) (effect found date old r s turn step)
-    (λ waits. keeps-unchanged old NotYet h)
-    (λ goes. effect-keeps found date old r s turn step h here is (not-true takes) (come (needs_turn r s step) turn goes)))
+    (λ no. keeps-unchanged bs old NoSuch h)
+    (λ takes. keeps-if bs old (needs_turn r s step && not turn) (unchanged old NotYet) (effect found date old r s turn step)
+    (λ waits. keeps-unchanged bs old NotYet h)
+    (λ goes. effect-keeps bs found date old r s turn step h here is (not-true takes) (come (needs_turn r s step) turn goes)))
 
-slot-keeps : (found : Bool) (date : HttpDate) (old : Reached) (step : StepValue) (o : Option Slot) → Holds old → slice_get old.slots (number_of step) ≡ o → Keeps old (at_slot found date old (number_of step) step o)
-slot-keeps found date old step None h here = keeps-unchanged old NoSuch h
-slot-keeps found date old step (Some s) h here = item-keeps found date old step s s.item h here refl
+slot-keeps : (bs : Bool) (found : Bool) (date : HttpDate) (old : Reached) (step : StepValue) (o : Option Slot) → Holds bs old → slice_get old.slots (number_of step) ≡ o → Keeps bs old (at_slot found date old (number_of step) step o)
+slot-keeps bs found date old step None h here = keeps-unchanged bs old NoSuch h
+slot-keeps bs found date old step (Some s) h here = item-keeps bs found date old step s s.item h here refl
 
-number-keeps : (found : Bool) (date : HttpDate) (old : Reached) (step : StepValue) → Holds old → Keeps old (at_number found date old (number_of step) step)
-number-keeps found date old step h = slot-keeps found date old step (slice_get old.slots (number_of step)) h refl
+number-keeps : (bs : Bool) (found : Bool) (date : HttpDate) (old : Reached) (step : StepValue) → Holds bs old → Keeps bs old (at_number found date old (number_of step) step)
+number-keeps bs found date old step h = slot-keeps bs found date old step (slice_get old.slots (number_of step)) h refl
 
 -- heads that are asked for, and refused on the way
-new-sound : (date : HttpDate) (item : Item) → ItemFits item → IsSound (new_slot date item)
-new-sound date (Asks r) f = record { unsent = λ o. refl; fits = f }
-new-sound date (Refuses refusal version no_body last) f = record { unsent = λ o. refl; fits = f }
+new-sound : (bs : Bool) (date : HttpDate) (item : Item) → ItemFits bs item → IsSound bs (new_slot date item)
+new-sound bs date (Asks r) f = record { unsent = λ o. refl; fits = f }
+new-sound bs date (Refuses refusal version no_body last) f = record { unsent = λ o. refl; fits = f }
 
 abbrev IsOwnless : WriterUse → Type 0
 IsOwnless Unused = Unit {0}
@@ -64,43 +64,43 @@ ownless-if : (b : Bool) (w : WriterUse) → IsOwnless w → IsOwnless (if b then
 ownless-if true w h = tt
 ownless-if false w h = h
 
-asks-keep : (date : HttpDate) (w : WriterUse) (old : Reached) (slots : List Slot) (items : List Item) → IsOwnless w → IsFront (joined old.slots) (joined slots) → AllSound slots → AllFit items → Keeps old (asks_from date w slots items)
-asks-keep date w old slots [] o f h i = record { adds = record { front = f; own = ownless-adds w old.slots slots o }; slots = h; rest = tt }
-asks-keep date w old slots (Asks r ∷ items) o f h i =
+asks-keep : (bs : Bool) (date : HttpDate) (w : WriterUse) (old : Reached) (slots : List Slot) (items : List Item) → IsOwnless w → IsFront (joined old.slots) (joined slots) → AllSound bs slots → AllFit bs items → Keeps bs old (asks_from date w slots items)
+asks-keep bs date w old slots [] o f h i = record { adds = record { front = f; own = ownless-adds w old.slots slots o }; slots = h; rest = tt }
+asks-keep bs date w old slots (Asks r ∷ items) o f h i =
     let more = slots ++ new_slot date (Asks r) ∷ [] in
     let front = IsFront-append (joined old.slots) (joined slots) (joined more) f (joined-grows slots (new_slot date (Asks r) ∷ [])) in
-    record { adds = record { front = front; own = ownless-adds w old.slots more o }; slots = all-append IsSound slots (new_slot date (Asks r) ∷ []) h (new-sound date (Asks r) i.0, tt); rest = i.1 }
-asks-keep date w old slots (Refuses refusal version no_body last ∷ items) o f h i =
+    record { adds = record { front = front; own = ownless-adds w old.slots more o }; slots = all-append (IsSound bs) slots (new_slot date (Asks r) ∷ []) h (new-sound bs date (Asks r) i.0, tt); rest = i.1 }
+asks-keep bs date w old slots (Refuses refusal version no_body last ∷ items) o f h i =
     let item = Refuses refusal version no_body last in
     let more = slots ++ new_slot date item ∷ [] in
     let front = IsFront-append (joined old.slots) (joined slots) (joined more) f (joined-grows slots (new_slot date item ∷ [])) in
-    asks-keep date (if turn_has_come (length slots) slots then Unreported else w) old more items (ownless-if (turn_has_come (length slots) slots) w o) front
-    (all-append IsSound slots (new_slot date item ∷ []) h (new-sound date item i.0, tt)) i.1
+    asks-keep bs date (if turn_has_come (length slots) slots then Unreported else w) old more items (ownless-if (turn_has_come (length slots) slots) w o) front
+    (all-append (IsSound bs) slots (new_slot date item ∷ []) h (new-sound bs date item i.0, tt)) i.1
 
-ask-keeps : (date : HttpDate) (old : Reached) → Holds old → Keeps old (ask date old)
-ask-keeps date old h =
+ask-keeps : (bs : Bool) (date : HttpDate) (old : Reached) → Holds bs old → Keeps bs old (ask date old)
+ask-keeps bs date old h =
     let left : Outcome = record { reply = Ended; slots = old.slots; rest = old.rest; asking_ended = true; writer = Unused } in
     let goes = asks_from date Unused old.slots old.rest in
     let same : IsFront (joined old.slots) (joined old.slots) = ([], sym (append-nil (joined old.slots))) in
-    keeps-if old old.asking_ended (unchanged old Ended) (if last_holds_reader (last_slot old.slots) then unchanged old NotYet else if last_was_abandoned (last_slot old.slots) then left else goes)
-    (λ e. keeps-unchanged old Ended h)
-    (λ e. keeps-if old (last_holds_reader (last_slot old.slots)) (unchanged old NotYet) (if last_was_abandoned (last_slot old.slots) then left else goes)
-    (λ e. keeps-unchanged old NotYet h)
-    (λ e. keeps-if old (last_was_abandoned (last_slot old.slots)) left goes
+    keeps-if bs old old.asking_ended (unchanged old Ended) (if last_holds_reader (last_slot old.slots) then unchanged old NotYet else if last_was_abandoned (last_slot old.slots) then left else goes)
+    (λ e. keeps-unchanged bs old Ended h)
+    (λ e. keeps-if bs old (last_holds_reader (last_slot old.slots)) (unchanged old NotYet) (if last_was_abandoned (last_slot old.slots) then left else goes)
+    (λ e. keeps-unchanged bs old NotYet h)
+    (λ e. keeps-if bs old (last_was_abandoned (last_slot old.slots)) left goes
     (λ e. record { adds = record { front = same; own = tt }; slots = h.slots; rest = h.rest })
-    (λ e. asks-keep date Unused old old.slots old.rest tt same h.slots h.rest)))
+    (λ e. asks-keep bs date Unused old old.slots old.rest tt same h.slots h.rest)))
 
-pub outcome-keeps : (found : Bool) (date : HttpDate) (old : Reached) (step : StepValue) → Holds old → Keeps old (outcome found date old step)
-outcome-keeps found date old Ask h = ask-keeps date old h
-outcome-keeps found date old (AsReader k) h = number-keeps found date old (AsReader k) h
-outcome-keeps found date old (Read k n) h = number-keeps found date old (Read k n) h
-outcome-keeps found date old (Respond k response) h = number-keeps found date old (Respond k response) h
-outcome-keeps found date old (IntoWriter k) h = number-keeps found date old (IntoWriter k) h
-outcome-keeps found date old (Write k bytes) h = number-keeps found date old (Write k bytes) h
-outcome-keeps found date old (Flush k) h = number-keeps found date old (Flush k) h
-outcome-keeps found date old (Upgrade k protocol response) h = number-keeps found date old (Upgrade k protocol response) h
-outcome-keeps found date old (Finish k) h = number-keeps found date old (Finish k) h
-outcome-keeps found date old (Drop k) h = number-keeps found date old (Drop k) h
+pub outcome-keeps : (bs : Bool) (found : Bool) (date : HttpDate) (old : Reached) (step : StepValue) → Holds bs old → Keeps bs old (outcome found date old step)
+outcome-keeps bs found date old Ask h = ask-keeps bs date old h
+outcome-keeps bs found date old (AsReader k) h = number-keeps bs found date old (AsReader k) h
+outcome-keeps bs found date old (Read k n) h = number-keeps bs found date old (Read k n) h
+outcome-keeps bs found date old (Respond k response) h = number-keeps bs found date old (Respond k response) h
+outcome-keeps bs found date old (IntoWriter k) h = number-keeps bs found date old (IntoWriter k) h
+outcome-keeps bs found date old (Write k bytes) h = number-keeps bs found date old (Write k bytes) h
+outcome-keeps bs found date old (Flush k) h = number-keeps bs found date old (Flush k) h
+outcome-keeps bs found date old (Upgrade k protocol response) h = number-keeps bs found date old (Upgrade k protocol response) h
+outcome-keeps bs found date old (Finish k) h = number-keeps bs found date old (Finish k) h
+outcome-keeps bs found date old (Drop k) h = number-keeps bs found date old (Drop k) h
 
 -- what the writer took before it failed begins the joined output
 abbrev pub TookFront : Option Failure → List Slot → Type 0
@@ -137,14 +137,14 @@ part-front w old planned reply slots failure false e p t g own =
     subst P (sym p.3) (fares-front w old slots p.0 p.1 (not-silent w old e) own)
 
 -- what holds of a state
-pub record IsSoundState (s : State) : Type 0 where
-  pub holds : Holds s.reached
+pub record IsSoundState (bs : Bool) (s : State) : Type 0 where
+  pub holds : Holds bs s.reached
   pub took : TookFront s.failure s.reached.slots
 
-outcome-sound : (o : Outcome) (old new : State) (reply : ReplyValue) → IsSoundState old → Keeps old.reached o → HasOutcome o old reply new → IsSoundState new
-outcome-sound o old new reply h k has =
+outcome-sound : (bs : Bool) (o : Outcome) (old new : State) (reply : ReplyValue) → IsSoundState bs old → Keeps bs old.reached o → HasOutcome o old reply new → IsSoundState bs new
+outcome-sound bs o old new reply h k has =
     let took = part-front o.writer old o.reply reply o.slots new.failure (is_silent o.writer old) refl has.2 h.took k.adds.front k.adds.own in
-    let H : Reached → Type 0 = λ x. Holds x in
+    let H : Reached → Type 0 = λ x. Holds bs x in
     let T : Reached → Type 0 = λ x. TookFront new.failure x.slots in
     record {
       holds = subst H (sym has.0) (record { slots = k.slots; rest = k.rest });
@@ -152,53 +152,53 @@ outcome-sound o old new reply h k has =
     }
 
 -- heads that were refused before memory ran out
-news-sound : (date : HttpDate) (items : List Item) → AllFit items → AllSound (map (new_slot date) items)
-news-sound date [] h = tt
-news-sound date (x ∷ xs) h = (new-sound date x h.0, news-sound date xs h.1)
+news-sound : (bs : Bool) (date : HttpDate) (items : List Item) → AllFit bs items → AllSound bs (map (new_slot date) items)
+news-sound bs date [] h = tt
+news-sound bs date (x ∷ xs) h = (new-sound bs date x h.0, news-sound bs date xs h.1)
 
 answers-ownless : (slots : List Slot) (refused : List Item) (old new : List Slot) → AddsOwn (answers_to slots refused) old new
 answers-ownless slots [] old new = tt
 answers-ownless slots (item ∷ refused) old new = in-turn-ownless (turn_has_come (length slots) slots) old new
 
-no-memory-sound : (date : HttpDate) (old new : State) (step : StepValue) (reply : ReplyValue) → IsSoundState old → FindsNoMemory date old step reply new → IsSoundState new
-no-memory-sound date old new Ask reply h f =
+no-memory-sound : (bs : Bool) (date : HttpDate) (old new : State) (step : StepValue) (reply : ReplyValue) → IsSoundState bs old → FindsNoMemory date old step reply new → IsSoundState bs new
+no-memory-sound bs date old new Ask reply h f =
     let refused = f.4 in
     let rest = f.5 in
-    let P : List Item → Type 0 = λ x. AllFit x in
-    let fit = all-parts ItemFits refused rest (subst P f.6 h.holds.rest) in
+    let P : List Item → Type 0 = λ x. AllFit bs x in
+    let fit = all-parts (ItemFits bs) refused rest (subst P f.6 h.holds.rest) in
     let slots = old.reached.slots ++ map (new_slot date) refused in
     let o : Outcome = record { reply = Memory; slots = slots; rest = rest; asking_ended = true; writer = answers_to old.reached.slots refused } in
-    let keeps : Keeps old.reached o = record {
+    let keeps : Keeps bs old.reached o = record {
       adds = record { front = joined-grows old.reached.slots (map (new_slot date) refused); own = answers-ownless old.reached.slots refused old.reached.slots slots };
-      slots = all-append IsSound old.reached.slots (map (new_slot date) refused) h.holds.slots (news-sound date refused fit.0);
+      slots = all-append (IsSound bs) old.reached.slots (map (new_slot date) refused) h.holds.slots (news-sound bs date refused fit.0);
       rest = fit.1;
     } in
-    outcome-sound o old new reply h keeps f.8
-no-memory-sound date old new (Read k n) reply h f = let P : State → Type 0 = λ x. IsSoundState x in subst P (sym f.3) h
-no-memory-sound date old new (AsReader k) reply h f = elim f [ ]
-no-memory-sound date old new (Respond k a) reply h f = elim f [ ]
-no-memory-sound date old new (IntoWriter k) reply h f = elim f [ ]
-no-memory-sound date old new (Write k b) reply h f = elim f [ ]
-no-memory-sound date old new (Flush k) reply h f = elim f [ ]
-no-memory-sound date old new (Upgrade k p a) reply h f = elim f [ ]
-no-memory-sound date old new (Finish k) reply h f = elim f [ ]
-no-memory-sound date old new (Drop k) reply h f = elim f [ ]
+    outcome-sound bs o old new reply h keeps f.8
+no-memory-sound bs date old new (Read k n) reply h f = let P : State → Type 0 = λ x. IsSoundState bs x in subst P (sym f.3) h
+no-memory-sound bs date old new (AsReader k) reply h f = elim f [ ]
+no-memory-sound bs date old new (Respond k a) reply h f = elim f [ ]
+no-memory-sound bs date old new (IntoWriter k) reply h f = elim f [ ]
+no-memory-sound bs date old new (Write k b) reply h f = elim f [ ]
+no-memory-sound bs date old new (Flush k) reply h f = elim f [ ]
+no-memory-sound bs date old new (Upgrade k p a) reply h f = elim f [ ]
+no-memory-sound bs date old new (Finish k) reply h f = elim f [ ]
+no-memory-sound bs date old new (Drop k) reply h f = elim f [ ]
 
-step-sound : (old new : State) (date : HttpDate) (step : StepValue) (reply : ReplyValue) → IsSoundState old → StepsTo old date step reply new → IsSoundState new
-step-sound old new date step reply h s =
+step-sound : (bs : Bool) (old new : State) (date : HttpDate) (step : StepValue) (reply : ReplyValue) → IsSoundState bs old → StepsTo old date step reply new → IsSoundState bs new
+step-sound bs old new date step reply h s =
     ⊎_elim
-    (λ k. outcome-sound (outcome k.0 date old.reached step) old new reply h (outcome-keeps k.0 date old.reached step h.holds) k.2)
-    (λ f. no-memory-sound date old new step reply h f)
+    (λ k. outcome-sound bs (outcome k.0 date old.reached step) old new reply h (outcome-keeps bs k.0 date old.reached step h.holds) k.2)
+    (λ f. no-memory-sound bs date old new step reply h f)
     s
 
-pub run-sound : (old new : State) (steps : List TimedValue) (replies : List ReplyValue) → IsSoundState old → Run old steps replies new → IsSoundState new
-run-sound old new [] [] h r = let P : State → Type 0 = λ x. IsSoundState x in subst P (sym r) h
-run-sound old new [] (x ∷ replies) h r = elim r [ ]
-run-sound old new (s ∷ steps) [] h r = elim r [ ]
-run-sound old new (s ∷ steps) (x ∷ replies) h r = run-sound r.0 new steps replies (step-sound old r.0 s.0 s.1 x h r.1) r.2
+pub run-sound : (bs : Bool) (old new : State) (steps : List TimedValue) (replies : List ReplyValue) → IsSoundState bs old → Run old steps replies new → IsSoundState bs new
+run-sound bs old new [] [] h r = let P : State → Type 0 = λ x. IsSoundState bs x in subst P (sym r) h
+run-sound bs old new [] (x ∷ replies) h r = elim r [ ]
+run-sound bs old new (s ∷ steps) [] h r = elim r [ ]
+run-sound bs old new (s ∷ steps) (x ∷ replies) h r = run-sound bs r.0 new steps replies (step-sound bs old r.0 s.0 s.1 x h r.1) r.2
 
-pub start-sound : (items : List Item) → AllFit items → IsSoundState (start_state items)
-start-sound items h = record { holds = record { slots = tt; rest = h }; took = tt }
+pub start-sound : (bs : Bool) (items : List Item) → AllFit bs items → IsSoundState bs (start_state items)
+start-sound bs items h = record { holds = record { slots = tt; rest = h }; took = tt }
 
 -- the output is a front of the joined output
 pub output-front : (slots : List Slot) (flushed : List ℕ) (failure : Option Failure) (before after : Sink) (held taken out : List ℕ) (ended : Bool) → TookFront failure slots → IsOutput slots flushed failure before after held ended

@@ -1,11 +1,15 @@
 -- What a client reads of a connection's output.
-use Rattle.std.specs.Prelude.{◌≡◌, ℕ, ◌<◌, ◌≤◌, ◌^◌, false, List, ◌++◌, map, Option, Some, None, if◌then◌else◌, codes, ⊤}
+use Rattle.std.specs.Prelude.{◌≡◌, ℕ, ◌<◌, ◌≤◌, ◌^◌, Bool, true, false, List, [], ◌∷◌, ◌++◌, map, Option, Some, None, option_map, if◌then◌else◌, codes, ⊤}
 use Rattle.std.specs.List.{AllByRecursion, list_all}
 use Rattle.tiny_http_wire.specs.declared.common.Method.{Method}
 use Rattle.tiny_http_wire.specs.declared.common.Method.TheVariants.{Get, Head}
 use Rattle.tiny_http_wire.specs.Bytes.{is_ascii}
 use Rattle.tiny_http_wire.specs.Device.{Sink}
-use Rattle.tiny_http_wire.specs.Answer.{Printing, has_header}
+use Rattle.tiny_http_wire.specs.declared.common.Header.{Header}
+use Rattle.tiny_http_wire.specs.Answer.{Answer, Printing, has_header}
+use Rattle.tiny_http_wire.specs.ByStandard.{upgrade_header, safe_value, safe_headers}
+use Rattle.tiny_http_message.specs.declared.framing.Profile.{Profile}
+use Rattle.tiny_http_message.specs.declared.framing.Profile.TheVariants.{Standard}
 use Rattle.tiny_http_wire.specs.Text.{Ending, Whole, Broken}
 use Rattle.tiny_http_message.specs.Pipeline.{Item, Asks, Refuses}
 use Rattle.tiny_http_sending.specs.ResponseValue.{ResponseValue}
@@ -20,14 +24,28 @@ use Rattle.tiny_http_answer.specs.SentTexts.{SentText, methods, StandIn}
 -- a HEAD.
 abbrev pub counts_as : Item → Method
 counts_as (Asks r) = r.message.method
-counts_as (Refuses refusal version no_body last) = if no_body then Head else Get
+counts_as (Refuses refusal manner no_body last) = if no_body then Head else Get
 
--- A response that a client can read: its status is 200 or more, and its headers are readable. The other facts hold of each
--- response of the program whose data are fewer than 2^63 bytes: status and length fit their types, and its list holds no
--- Transfer-Encoding and no Content-Length.
-pub record CanBeRead (r : ResponseValue) : Type 0 where
+-- whether a connection reads and answers by the standard
+abbrev pub goes_by_standard : Profile → Bool
+goes_by_standard Standard = true
+goes_by_standard _ = false
+
+abbrev pub offer_headers : Option (List ℕ) → List Header
+offer_headers None = []
+offer_headers (Some protocols) = upgrade_header protocols ∷ []
+
+-- The headers of an answer that are printed: its own; or, by the standard, the protocols that it offers, and its own as safe ones.
+abbrev pub headers_printed : Bool → Answer → List Header
+headers_printed false a = a.headers
+headers_printed true a = offer_headers (option_map safe_value a.offered) ++ safe_headers a.headers
+
+-- A response that a client can read, by the standard or not: its status is 200 or more, and its headers are readable as they are
+-- printed. The other facts hold of each response of the program whose data are fewer than 2^63 bytes: status and length fit their
+-- types, and its list holds no Transfer-Encoding and no Content-Length.
+pub record CanBeRead (by_standard : Bool) (r : ResponseValue) : Type 0 where
   pub final : 200 ≤ r.answer.status
-  pub readable : AllByRecursion IsReadable r.answer.headers
+  pub readable : AllByRecursion IsReadable (headers_printed by_standard r.answer)
   pub status_fits : r.answer.status ≤ 65535
   pub length_fits : stated_length r.answer.data_length r.content < 2 ^ 64
   pub no_coding : has_header r.answer.headers (codes "Transfer-Encoding") ≡ false
@@ -35,26 +53,26 @@ pub record CanBeRead (r : ResponseValue) : Type 0 where
 
 -- A step that leaves an output that can be read: it takes no raw writer, and an upgrade is refused, since its protocol isn't
 -- ASCII. The response of a Respond can be read, also where it is answered NotYet or NoSuch.
-abbrev pub IsReadableStep : StepValue → Type 0
-IsReadableStep (Respond k response) = CanBeRead response
-IsReadableStep (IntoWriter k) = ⊥
-IsReadableStep (Upgrade k protocol response) = list_all is_ascii protocol ≡ false
-IsReadableStep _ = ⊤
+abbrev pub IsReadableStep : Bool → StepValue → Type 0
+IsReadableStep by_standard (Respond k response) = CanBeRead by_standard response
+IsReadableStep by_standard (IntoWriter k) = ⊥
+IsReadableStep by_standard (Upgrade k protocol response) = list_all is_ascii protocol ≡ false
+IsReadableStep by_standard _ = ⊤
 
-abbrev pub AreReadable : List TimedValue → Type 0
-AreReadable steps = AllByRecursion (λ t. IsReadableStep t.1) steps
+abbrev pub AreReadable : Profile → List TimedValue → Type 0
+AreReadable p steps = AllByRecursion (λ t. IsReadableStep (goes_by_standard p) t.1) steps
 
 -- The number was finished by a response that can be read, or by the server: a refused head, a drop, a refused upgrade. Or it
 -- isn't answered yet.
-abbrev pub IsReadableStage : Stage → Type 0
-IsReadableStage Unanswered = ⊤
-IsReadableStage (Answered response date found) = CanBeRead response
-IsReadableStage ByServer = ⊤
-IsReadableStage (Raw written closed) = ⊥
-IsReadableStage (Upgraded protocol response date written closed) = ⊥
+abbrev pub IsReadableStage : Bool → Stage → Type 0
+IsReadableStage by_standard Unanswered = ⊤
+IsReadableStage by_standard (Answered response date found) = CanBeRead by_standard response
+IsReadableStage by_standard ByServer = ⊤
+IsReadableStage by_standard (Raw written closed) = ⊥
+IsReadableStage by_standard (Upgraded protocol response date written closed) = ⊥
 
-abbrev pub CanBeReadAt : Slot → Type 0
-CanBeReadAt s = IsReadableStage s.stage
+abbrev pub CanBeReadAt : Profile → Slot → Type 0
+CanBeReadAt p s = IsReadableStage (goes_by_standard p) s.stage
 
 -- the answer that a response is read as, where its text is whole
 abbrev pub answer_if_whole : Ending → ResponseValue → Printing → Option ClientAnswer
@@ -64,8 +82,8 @@ answer_if_whole (Broken kind) r p = None
 -- the response that answers a number, and how it is printed
 abbrev pub stage_answer : Slot → Stage → Option ClientAnswer
 stage_answer s Unanswered = None
-stage_answer s (Answered response date found) = answer_if_whole (stage_text s.item s.date s.stage).ending response (printing_for s.item date)
-stage_answer s ByServer = answer_if_whole (stage_text s.item s.date s.stage).ending (server_response s.item) (printing_for s.item s.date)
+stage_answer s (Answered response date found) = answer_if_whole (stage_text s.closes s.item s.date s.stage).ending response (printing_for s.closes s.item date)
+stage_answer s ByServer = answer_if_whole (stage_text s.closes s.item s.date s.stage).ending (server_response s.item) (printing_for s.closes s.item s.date)
 stage_answer s (Raw written closed) = None
 stage_answer s (Upgraded protocol response date written closed) = None
 

@@ -29,7 +29,7 @@ use Rattle.tiny_http_message.specs.declared.framing.Profile.{Profile}
 use Rattle.tiny_http_message.specs.declared.framing.Form.TheVariants.{Rest}
 use Rattle.tiny_http_wire.specs.Heads.{version, is_too_new}
 use Rattle.tiny_http_stream.specs.Source.{GoesOn}
-use Rattle.tiny_http_message.specs.Pipeline.{Item, Asks, Refuses, VersionNotSupported, Refusal, Request, Place, Heading, HeadAt, Silence, Refused, Heads, OneHead, FoundAt, ends_too_new, is_head_method, Pipeline, place_after, place_feed}
+use Rattle.tiny_http_message.specs.Pipeline.{Manner, plainly, Item, Asks, Refuses, VersionNotSupported, Refusal, Request, Place, Heading, HeadAt, Silence, Refused, Heads, OneHead, FoundAt, ends_too_new, is_head_method, Pipeline, place_after, place_feed}
 use Rattle.tiny_http_message.specs.HeadReads.{ReadsHead, IsBeforeHead, standing_of, request_of, head_message, head_framing}
 use Rattle.tiny_http_message.specs.declared.exchange.EndOfRequests.{EndOfRequests}
 use Rattle.tiny_http_stream.specs.declared.source.Standing.{Standing}
@@ -37,9 +37,9 @@ use Rattle.tiny_http_stream.specs.declared.source.Standing.TheVariants as in_pla
 use Rattle.tiny_http_wire.specs.declared.common.StatusCode.{StatusCode}
 use Rattle.tiny_http_message.specs.Exchange.{KeepsRequest}
 use Rattle.tiny_http_message.specs.Body.{Remaining, remaining, taken_remaining, is_streaming}
-use Rattle.tiny_http_core.specs.Slots.{Slot, is_finished, is_broken, is_slot_broken, segment, new_slot, turn_has_come, is_chunked, last_slot, last_is_open, last_is_holding, last_holds_reader, last_was_abandoned, is_last_slot, stage_text, ByServer}
-use Rattle.tiny_http_sending.specs.ResponseValue.{printing_to}
-use Rattle.tiny_http_message.specs.OwnAnswer.{own_text_by, refusal_response, refused_text}
+use Rattle.tiny_http_core.specs.Slots.{closes_now, Slot, is_finished, is_broken, is_slot_broken, segment, new_slot, turn_has_come, is_chunked, last_slot, last_is_open, last_is_holding, last_holds_reader, last_was_abandoned, is_last_slot}
+use Rattle.tiny_http_message.specs.OwnAnswer.{persistence_of, refusal_response, refused_text}
+use Rattle.tiny_http_wire.specs.declared.answer_context.Persistence.{Persistence}
 use Rattle.tiny_http_core.specs.Steps.{StepValue, Ask, ReplyValue, Handed, Ended, NotYet, Memory, Unused, Unreported, Outcome, Reached, unchanged, ask, asks_from, outcome}
 use Rattle.tiny_http_core.specs.Conversation.{Failure, State, PlaceAt, WriterPart, flushed_after, HasOutcome, StepsTo}
 use Rattle.tiny_http_core.proofs.ConversationWriting.{unreported, flushed-is}
@@ -93,7 +93,7 @@ found-framed profile bytes stop (Refused refusal v) r next at h = let no : Some 
 found-framed profile bytes stop (Heads m f after) r next at h = by-version (is_too_new m.version) refl
   where
     by-version : (t : Bool) → is_too_new m.version ≡ t → IsFramed profile r
-    by-version true b = let no : Some (Asks r) ≡ Some (Refuses VersionNotSupported (version 1 1) (is_head_method m.method) (ends_too_new f.form)) = h.3 ∙ rw b refl in cc
+    by-version true b = let no : Some (Asks r) ≡ Some (Refuses VersionNotSupported (plainly (version 1 1)) (is_head_method m.method) (ends_too_new f.form)) = h.3 ∙ rw b refl in cc
     by-version false b =
         let item : Some (Asks r) ≡ Some (Asks (record { message = m; framing = f; body = h.0; behind = place_feed stop h.1 })) = h.3 ∙ rw b refl in
         let same : r ≡ record { message = m; framing = f; body = h.0; behind = place_feed stop h.1 } = cc in
@@ -140,20 +140,17 @@ going client before k s h e o quiet open_input =
     by next true z = absurd (open_input (next.lost z).0)
     by next false z = refl
 
--- the texts of the server's own
-pub dropped-text : (date : HttpDate) (r : Request) → own_text_by 500 (printing_to (coding_asked r.message.headers) r.message.version (is_head_method r.message.method) date) ≡ (stage_text (Asks r) date ByServer).bytes
-unfolding text_of
-dropped-text date r = refl
-
+-- the text of a dropped request
 pub dropped-whole : (asked : HandedOut) (r : Request) (given : ℕ) (end_reported : Bool) → is_slot_broken (dropped asked r given end_reported) ≡ false
 unfolding text_of
-dropped-whole asked r given end_reported = ap is_broken (own-whole 500 (coding_asked r.message.headers) r.message.version (is_head_method r.message.method) asked.date)
+dropped-whole asked r given end_reported =
+    ap is_broken (own-whole 500 (coding_asked r.message.headers) r.message.version (is_head_method r.message.method) (persistence_of r.framing.by_standard (closes_now r asked.owed given end_reported)) asked.date)
 
 -- the answer to a head that is refused
-pub refused-whole : (refusal : Refusal) (date : HttpDate) (v : HTTPVersion) (no_body last : Bool) → is_slot_broken (new_slot date (Refuses refusal v no_body last)) ≡ false
+pub refused-whole : (refusal : Refusal) (date : HttpDate) (v : Manner) (no_body last : Bool) → is_slot_broken (new_slot date (Refuses refusal v no_body last)) ≡ false
 refused-whole refusal date v no_body last = ap is_broken (refusal-whole refusal v no_body date)
 
-pub refused-text : (refusal : Refusal) (date : HttpDate) (v : HTTPVersion) (no_body last : Bool) → segment (new_slot date (Refuses refusal v no_body last)) ≡ refused_text (refusal_response refusal) v no_body date
+pub refused-text : (refusal : Refusal) (date : HttpDate) (v : Manner) (no_body last : Bool) → segment (new_slot date (Refuses refusal v no_body last)) ≡ refused_text (refusal_response refusal) v no_body date
 refused-text refusal date v no_body last = refl
 
 -- a request that is handed out has sent nothing
@@ -192,9 +189,11 @@ kept-handed profile date x p content behind k left framed = record {
   unsent = λ owed. refl;
   rest_is_last = framed.framed;
   answer_context =
-      let F : HTTPVersion → Option Coding → Bool → AnswerContext = λ v a b. record { version = v; asked_coding = a; no_body = b } in
-      ap (λ v. F v x.open_request.answer_context.asked_coding x.open_request.answer_context.no_body) k.answer.version ∙ ap (λ a. F x.head.version a x.open_request.answer_context.no_body) k.answer.asked_coding ∙ ap (F x.head.version (coding_asked x.head.headers.items)) k.answer.no_body;
-  text = k.answer.text ∙ dropped-text date (request_of x.head content behind);
+      let c = x.open_request.answer_context in
+      let F : HTTPVersion → Option Coding → Bool → Option Persistence → AnswerContext = λ v a b p. record { version = v; asked_coding = a; no_body = b; persistence = p } in
+      ap (λ v. F v c.asked_coding c.no_body c.persistence) k.answer.version ∙ ap (λ a. F x.head.version a c.no_body c.persistence) k.answer.asked_coding
+      ∙ ap (λ b. F x.head.version (coding_asked x.head.headers.items) b c.persistence) k.answer.no_body ∙ ap (F x.head.version (coding_asked x.head.headers.items) (is_head_method x.head.method)) k.answer.persistence;
+  dropped = k.answer.dropped;
   fits = k.body;
   settled = settled-any x.open_request.body p content behind left;
 }

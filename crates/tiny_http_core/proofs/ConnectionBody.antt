@@ -234,11 +234,11 @@ last-waits client k source bs us rest s u b h has from reader is =
     }
 
 -- the last number's body is given up
-reader-last : {R : Type 0} (client : Feed) (k : Kept) (old new : SourceState R) (bs : List Slot) (us : List (Option Unfinished)) (rest : List Item) (s : Slot) (u x : Option Unfinished) (b : Body) (stage : Stage) → (h : IsOpen s b) → kept_body u ≡ Some b → kept_body x ≡ None → IsInput k old → InputStands client k (bs ++ (s ∷ [])) rest
+reader-last : {R : Type 0} (closes : Bool) (client : Feed) (k : Kept) (old new : SourceState R) (bs : List Slot) (us : List (Option Unfinished)) (rest : List Item) (s : Slot) (u x : Option Unfinished) (b : Body) (stage : Stage) → (h : IsOpen s b) → kept_body u ≡ Some b → kept_body x ≡ None → IsInput k old → InputStands client k (bs ++ (s ∷ [])) rest
     → k.requests ≡ us ++ (u ∷ []) → GivesUp b old new
-    → InputStands client (with_reader k (us ++ (x ∷ [])) new) (bs ++ (finished_as (open_slot h.handed h.request h.given h.end_reported) stage ∷ [])) rest
-reader-last client k old new bs us rest s u x b stage h has none from reader is gives =
-    let t = finished_as (open_slot h.handed h.request h.given h.end_reported) stage in
+    → InputStands client (with_reader k (us ++ (x ∷ [])) new) (bs ++ (finished_as closes (open_slot h.handed h.request h.given h.end_reported) stage ∷ [])) rest
+reader-last closes client k old new bs us rest s u x b stage h has none from reader is gives =
+    let t = finished_as closes (open_slot h.handed h.request h.given h.end_reported) stage in
     let r = h.request in
     let last : last_slot (bs ++ (t ∷ [])) ≡ Some t = last-snoc None bs t in
     let content : last_body (us ++ (x ∷ [])) ≡ None = body-snoc us x ∙ none in
@@ -267,16 +267,16 @@ reader-last client k old new bs us rest s u x b stage h has none from reader is 
 
 -- A number's body is given up. `bs`, `cs`: the numbers before and behind; `us`, `vs`: what is kept of them; `u`, `x`: what is
 -- kept of the number before and after the step.
-pub reader-given_up : {R : Type 0} (client : Feed) (k : Kept) (old new : SourceState R) (bs cs : List Slot) (us vs : List (Option Unfinished)) (rest : List Item) (s : Slot) (u x : Option Unfinished) (b : Body) (stage : Stage) → (h : IsOpen s b) → kept_body u ≡ Some b → kept_body x ≡ None → IsInput k old
+pub reader-given_up : {R : Type 0} (closes : Bool) (client : Feed) (k : Kept) (old new : SourceState R) (bs cs : List Slot) (us vs : List (Option Unfinished)) (rest : List Item) (s : Slot) (u x : Option Unfinished) (b : Body) (stage : Stage) → (h : IsOpen s b) → kept_body u ≡ Some b → kept_body x ≡ None → IsInput k old
     → InputStands client k (bs ++ (s ∷ cs)) rest → k.requests ≡ us ++ (u ∷ vs) → length cs ≡ length vs → GivesUp b old new
-    → InputStands client (with_reader k (us ++ (x ∷ vs)) new) (bs ++ (finished_as (open_slot h.handed h.request h.given h.end_reported) stage ∷ cs)) rest
-reader-given_up client k old new bs [] us [] rest s u x b stage h has none from reader is same gives = reader-last client k old new bs us rest s u x b stage h has none from reader is gives
-reader-given_up client k old new bs [] us (v ∷ vs) rest s u x b stage h has none from reader is same gives = absurd (omega (arith, same))
-reader-given_up client k old new bs (c ∷ cs) us [] rest s u x b stage h has none from reader is same gives = absurd (omega (arith, same))
-reader-given_up {R = R} client k old new bs (c ∷ cs) us (v ∷ vs) rest s u x b stage h has none from reader is same gives =
+    → InputStands client (with_reader k (us ++ (x ∷ vs)) new) (bs ++ (finished_as closes (open_slot h.handed h.request h.given h.end_reported) stage ∷ cs)) rest
+reader-given_up closes client k old new bs [] us [] rest s u x b stage h has none from reader is same gives = reader-last closes client k old new bs us rest s u x b stage h has none from reader is gives
+reader-given_up closes client k old new bs [] us (v ∷ vs) rest s u x b stage h has none from reader is same gives = absurd (omega (arith, same))
+reader-given_up closes client k old new bs (c ∷ cs) us [] rest s u x b stage h has none from reader is same gives = absurd (omega (arith, same))
+reader-given_up {R = R} closes client k old new bs (c ∷ cs) us (v ∷ vs) rest s u x b stage h has none from reader is same gives =
     let A : List (Option Unfinished) → Type 0 = λ y. AreSettled y in
     let quiet : is_streaming b ≡ false = ap is_streaming_body (sym has) ∙ (settled-place us u v vs (subst A is reader.settled)).0 in
-    let t = finished_as (open_slot h.handed h.request h.given h.end_reported) stage in
+    let t = finished_as closes (open_slot h.handed h.request h.given h.end_reported) stage in
     let P : SourceState R → Type 0 = λ y. InputStands client (with_reader k (us ++ (x ∷ (v ∷ vs))) y) (bs ++ (t ∷ (c ∷ cs))) rest in
     subst P (sym (given-same b old new gives quiet)) (reader-within client k old bs cs us vs rest s t c v x u from reader is (ap is_streaming_body none, bodiless-free x none))
 

@@ -82,7 +82,7 @@ still-waiting date s w h = record {
   unsent = λ owed. (let no : false ≡ true = owed in cc);
   rest_is_last = h.rest_is_last;
   answer_context = h.answer_context;
-  text = h.text;
+  dropped = h.dropped;
   fits = h.fits;
   settled = h.settled;
 }
@@ -113,7 +113,7 @@ continue-done {R = R} client before k s date n w context new ended final request
     slots = p.bs ++ (s1 ∷ p.cs)
 
     text : List ℕ
-    text = own_text_by 100 (to_request h.request date)
+    text = own_text_by 100 (to_request h.request.framing.is_last h.request date)
 
     slots_are : s.reached.slots ≡ p.bs ++ (s0 ∷ p.cs)
     slots_are = p.slots_are ∙ ap (λ x. p.bs ++ (x ∷ p.cs)) h.is
@@ -135,7 +135,7 @@ continue-done {R = R} client before k s date n w context new ended final request
         let Q : List (Option Unfinished) → Type 0 = λ q. InputStands client (with_reader k q source) slots s.reached.rest in
         subst Q (sym requests_now) (reader-alike client k source p.bs p.cs p.us p.vs s.reached.rest p.s s1 (Some (still.Waiting w)) (Some (still.Waiting (unowed w))) from (subst P p.slots_are st.reader) p.requests_are (kept-many p.cs p.rs p.vs p.behind) refl (λ e. e) alike)
 
-    printed : printing_in context date ≡ to_request h.request date
+    printed : printing_in context date ≡ to_request h.request.framing.is_last h.request date
     printed = ap (λ c. printing_in c date) (sym context_is ∙ h.answer_context)
 
     own : segment s1 ≡ segment s0 ++ text

@@ -1,21 +1,23 @@
 -- A Drop: from where the connection stands to where it stands after it.
+use Rattle.tiny_http_message.specs.OwnAnswer.{own_text_by}
+use Rattle.tiny_http_message.specs.TextState.{drop_text}
 use Rattle.tiny_http_standard.specs.Judging.{names_protocol}
 use Rattle.std.proofs.Common.{◌≡◌, refl, sym, ap, ◌∙◌, subst, ℕ, ◌-◌, ◌<◌, ◌^◌, Bool, true, false, ◌&&◌, ◌||◌, List, ◌∷◌, ◌++◌, length, Option, Some, None, append-nil}
 use Rattle.std.specs.Prelude.{◌==◌, slice_get, slice_set, is_err}
-use Rattle.tiny_http_sending.specs.ResponseValue.{ResponseValue}
+use Rattle.tiny_http_sending.specs.ResponseValue.{printing_in, ResponseValue}
 use Rattle.httpdate.specs.declared.date.HttpDate.{HttpDate}
 use Rattle.tiny_http_wire.specs.Device.{Feed, Sink}
 use Rattle.tiny_http_message.specs.declared.body.Body.{Body}
 use Rattle.tiny_http_message.specs.declared.open_request.OpenRequest.{OpenRequest}
 use Rattle.tiny_http_message.specs.Pipeline.{Asks, Request, is_connect_method, body_length_or_0}
-use Rattle.tiny_http_message.specs.OpenRequest.{refuses_code, upgrade_check, request_check}
-use Rattle.tiny_http_message.specs.Body.{GivesUp, is_whole, body_finished}
+use Rattle.tiny_http_message.specs.OpenRequest.{final_context, refuses_code, upgrade_check, request_check}
+use Rattle.tiny_http_message.specs.Body.{remainder, is_long, GivesUp, is_whole, body_finished}
 use Rattle.tiny_http_sending.specs.Sending.{CanSend}
 use Rattle.tiny_http_stream.specs.Source.{SourceState}
 use Rattle.tiny_http_turns.specs.Turns.{Mark, Open, first_unfinished}
 use Rattle.tiny_http_core.specs.declared.pending.Unfinished.{Unfinished}
 use Rattle.tiny_http_core.specs.declared.pending.Unfinished.TheVariants as still
-use Rattle.tiny_http_core.specs.Slots.{Slot, Unanswered, Answered as AnsweredBy, ByServer, Raw, Upgraded, opening, segment, is_last_without_continue, refuses_response, turn_has_come, asks_protocol, is_end, is_body_whole, refuses_upgrade}
+use Rattle.tiny_http_core.specs.Slots.{closes_now, stage_text, Slot, Unanswered, Answered as AnsweredBy, ByServer, Raw, Upgraded, opening, segment, is_last_once_finished, refuses_response, turn_has_come, asks_protocol, is_end, is_body_whole, refuses_upgrade}
 use Rattle.tiny_http_core.specs.Steps.{StepValue, ReplyValue, Respond, Upgrade, Drop, Done, Refused, Reached, changes, ends_asking, use_in_turn, at_slot, outcome}
 use Rattle.tiny_http_core.specs.Conversation.{State}
 use Rattle.tiny_http_core.specs.Pending.{LeavesText}
@@ -24,7 +26,7 @@ use Rattle.tiny_http_core.proofs.ConnectionAsk.{StepIsAnswered, dropped-whole}
 use Rattle.tiny_http_core.proofs.ConnectionBody.{IsInput, with_reader, reader-given_up}
 use Rattle.tiny_http_core.proofs.ConnectionKept.{kept-many, KeptAt, place-of}
 use Rattle.tiny_http_core.proofs.ConnectionLeaving.{EndsAs, leave-done}
-use Rattle.tiny_http_core.proofs.ConnectionReader.{open-waiting, waiting-whole}
+use Rattle.tiny_http_core.proofs.ConnectionReader.{waiting-final, open-waiting, waiting-whole}
 use Rattle.tiny_http_core.proofs.ConnectionRespond.{NeedsWaiting, slot-at, after_number, with_asking_ended, neither, both-end, lacks-same}
 
 pub drop-not_taken : (n : ℕ) → NeedsWaiting (Drop n)
@@ -38,14 +40,18 @@ drop-not_taken n (Upgraded p r d w c) owed e = refl
 abbrev pub dropped_slot : (s : Slot) (w : OpenRequest Body) → IsWaiting s w → Slot
 dropped_slot s w h = dropped h.handed h.request h.given h.end_reported
 
+-- the text that is kept for a drop
+drop-text_is : (s : Slot) (w : OpenRequest Body) (h : IsWaiting s w) → drop_text w.dropped (final_context w (remainder w.body)) ≡ (stage_text (closes_now h.request h.handed.owed h.given h.end_reported) (Asks h.request) h.handed.date ByServer).bytes
+drop-text_is s w h = ap (λ d. drop_text d (final_context w (remainder w.body))) h.dropped ∙ ap (λ c. own_text_by 500 (printing_in c h.handed.date)) (waiting-final s w h)
+
 -- it ends with the text that is kept for a drop
-pub drop-ends : (s : Slot) (w : OpenRequest Body) (h : IsWaiting s w) → EndsAs s (dropped_slot s w h) w.dropped.items
+pub drop-ends : (s : Slot) (w : OpenRequest Body) (h : IsWaiting s w) → EndsAs s (dropped_slot s w h) (drop_text w.dropped (final_context w (remainder w.body)))
 drop-ends s w h = record {
   finished = refl;
   given_up = refl;
   whole = dropped-whole h.handed h.request h.given h.end_reported;
   continued = ap (λ (x : Slot). x.continued) (sym h.is);
-  own = ap (λ y. opening (Asks h.request) h.handed.continued ++ y) (sym h.text) ∙ ap (λ y. y ++ w.dropped.items) (sym (append-nil (opening (Asks h.request) h.handed.continued))) ∙ ap (λ (x : Slot). segment x ++ w.dropped.items) (sym h.is);
+  own = ap (λ y. opening (Asks h.request) h.handed.continued ++ y) (sym (drop-text_is s w h)) ∙ ap (λ y. y ++ (drop_text w.dropped (final_context w (remainder w.body)))) (sym (append-nil (opening (Asks h.request) h.handed.continued))) ∙ ap (λ (x : Slot). segment x ++ (drop_text w.dropped (final_context w (remainder w.body)))) (sym h.is);
 }
 
 -- the input after it
@@ -53,7 +59,7 @@ pub reader-dropped : {R : Type 0} (client : Feed) (k : Kept) (s : State) (n : �
     → InputStands client (with_reader k (p.us ++ (None ∷ p.vs)) source) (p.bs ++ (dropped_slot p.s w p.waiting ∷ p.cs)) s.reached.rest
 reader-dropped client k s n w p old source from reader gives =
     let P : List Slot → Type 0 = λ l. InputStands client k l s.reached.rest in
-    reader-given_up client k old source p.bs p.cs p.us p.vs s.reached.rest p.s (Some (still.Waiting w)) None w.body ByServer (open-waiting p.s w p.waiting) refl refl from (subst P p.slots_are reader) p.requests_are (kept-many p.cs p.rs p.vs p.behind) gives
+    reader-given_up (closes_now p.waiting.request p.waiting.handed.owed p.waiting.given p.waiting.end_reported) client k old source p.bs p.cs p.us p.vs s.reached.rest p.s (Some (still.Waiting w)) None w.body ByServer (open-waiting p.s w p.waiting) refl refl from (subst P p.slots_are reader) p.requests_are (kept-many p.cs p.rs p.vs p.behind) gives
 
 -- what tells whether an answer to a request is refused
 abbrev pub IsKeptOf : OpenRequest Body → Request → ℕ → Bool → Type 0
@@ -63,12 +69,12 @@ IsKeptOf w r given end_reported =
 
 -- The request of a number that waits is dropped, by whatever step.
 pub drop-done : {R : Type 0} (client : Feed) (before : Sink) (k : Kept) (s : State) (date : HttpDate) (n : ℕ) (step : StepValue) (reply : ReplyValue) (w : OpenRequest Body) (new : Sink) (ended : Bool) (final : List Mark) (requests : List (Option Unfinished)) (old source : SourceState R)
-    → ((old : Reached) (asked : HandedOut) (r : Request) (given : ℕ) (end_reported : Bool) → IsKeptOf w r given end_reported → slice_get old.slots n ≡ Some (open_slot asked r given end_reported) → outcome true date old step ≡ ends_asking (is_last_without_continue r asked.owed) (changes old n (dropped asked r given end_reported) reply (use_in_turn (turn_has_come n old.slots))))
+    → ((old : Reached) (asked : HandedOut) (r : Request) (given : ℕ) (end_reported : Bool) → IsKeptOf w r given end_reported → slice_get old.slots n ≡ Some (open_slot asked r given end_reported) → outcome true date old step ≡ ends_asking (is_last_once_finished r asked.owed given end_reported) (changes old n (dropped asked r given end_reported) reply (use_in_turn (turn_has_come n old.slots))))
     → Stands client before k s → IsInput k old → GivesUp w.body old source → before.failures < 2 ^ 64 - 1 → slice_get k.requests n ≡ Some (Some (still.Waiting w)) → requests ≡ slice_set k.requests n None
-    → ((front rest : List Mark) → k.marks ≡ front ++ (Open ∷ rest) → length front ≡ n → (k.output_ended ≡ false → CanSend k.sink) → LeavesText (n == first_unfinished k.marks) front rest final w.dropped.items k.output_ended k.sink new ended)
-    → StepIsAnswered client before (with_asking_ended (w.by_standard && w.owes_continue) (after_number k final requests source new ended)) s date step reply
+    → ((front rest : List Mark) → k.marks ≡ front ++ (Open ∷ rest) → length front ≡ n → (k.output_ended ≡ false → CanSend k.sink) → LeavesText (n == first_unfinished k.marks) front rest final (drop_text w.dropped (final_context w (remainder w.body))) k.output_ended k.sink new ended)
+    → StepIsAnswered client before (with_asking_ended (w.by_standard && (w.owes_continue || is_long (remainder w.body))) (after_number k final requests source new ended)) s date step reply
 drop-done {R = R} client before k s date n step reply w new ended final requests old source drops st from gives low e requests_are leaves =
-    leave-done client before k s date n (still.Waiting w) p s1 step reply w.dropped.items (s.reached.asking_ended || lacks) (k.asking_ended || kept_lacks) new ended final requests source st low (drop-ends p.s w p.waiting) is
+    leave-done client before k s date n (still.Waiting w) p s1 step reply (drop_text w.dropped (final_context w (remainder w.body))) (s.reached.asking_ended || lacks) (k.asking_ended || kept_lacks) new ended final requests source st low (drop-ends p.s w p.waiting) is
     (both-end s.reached.asking_ended k.asking_ended lacks kept_lacks st.asking_ended (lacks-same p.s w p.waiting)) (neither k.asking_ended kept_lacks) requests_are (reader-dropped client k s n w p old source from st.reader gives) leaves
   where
     p : KeptAt s.reached.slots k.marks k.requests n (still.Waiting w)
@@ -78,10 +84,10 @@ drop-done {R = R} client before k s date n step reply w new ended final requests
     s1 = dropped_slot p.s w p.waiting
 
     lacks : Bool
-    lacks = is_last_without_continue p.waiting.request p.waiting.handed.owed
+    lacks = is_last_once_finished p.waiting.request p.waiting.handed.owed p.waiting.given p.waiting.end_reported
 
     kept_lacks : Bool
-    kept_lacks = w.by_standard && w.owes_continue
+    kept_lacks = w.by_standard && (w.owes_continue || is_long (remainder w.body))
 
     is : outcome true date s.reached step ≡ ends_asking lacks (changes s.reached n s1 reply (use_in_turn (turn_has_come n s.reached.slots)))
     is =
@@ -91,12 +97,12 @@ drop-done {R = R} client before k s date n step reply w new ended final requests
 
 -- a Drop, and an Upgrade that is refused
 pub at-drop : (date : HttpDate) (n : ℕ) (old : Reached) (asked : HandedOut) (r : Request) (given : ℕ) (end_reported : Bool) → slice_get old.slots n ≡ Some (open_slot asked r given end_reported)
-    → outcome true date old (Drop n) ≡ ends_asking (is_last_without_continue r asked.owed) (changes old n (dropped asked r given end_reported) Done (use_in_turn (turn_has_come n old.slots)))
+    → outcome true date old (Drop n) ≡ ends_asking (is_last_once_finished r asked.owed given end_reported) (changes old n (dropped asked r given end_reported) Done (use_in_turn (turn_has_come n old.slots)))
 at-drop date n old asked r given end_reported e = ap (at_slot true date old n (Drop n)) e
 
 pub at-unanswerable : (date : HttpDate) (n : ℕ) (v : ResponseValue) (w : OpenRequest Body) → refuses_code w.by_standard w.is_connect v.answer.status ≡ true
     → (old : Reached) (asked : HandedOut) (r : Request) (given : ℕ) (end_reported : Bool) → IsKeptOf w r given end_reported → slice_get old.slots n ≡ Some (open_slot asked r given end_reported)
-    → outcome true date old (Respond n v) ≡ ends_asking (is_last_without_continue r asked.owed) (changes old n (dropped asked r given end_reported) Refused (use_in_turn (turn_has_come n old.slots)))
+    → outcome true date old (Respond n v) ≡ ends_asking (is_last_once_finished r asked.owed given end_reported) (changes old n (dropped asked r given end_reported) Refused (use_in_turn (turn_has_come n old.slots)))
 at-unanswerable date n v w refused old asked r given end_reported kept e =
     let code = v.answer.status in
     let is : refuses_response r v ≡ true = ap (λ b. refuses_code b (is_connect_method r.message.method) code) (sym kept.0) ∙ ap (λ b. refuses_code w.by_standard b code) (sym kept.1) ∙ refused in
@@ -112,6 +118,6 @@ refusal-same w r given end_reported s protocol v kept g e =
 
 pub at-refused : (date : HttpDate) (n : ℕ) (protocol : List ℕ) (v : ResponseValue) (w : OpenRequest Body) → is_err (request_check w protocol v.answer.status (is_whole w.body)) ≡ true
     → (old : Reached) (asked : HandedOut) (r : Request) (given : ℕ) (end_reported : Bool) → IsKeptOf w r given end_reported → slice_get old.slots n ≡ Some (open_slot asked r given end_reported)
-    → outcome true date old (Upgrade n protocol v) ≡ ends_asking (is_last_without_continue r asked.owed) (changes old n (dropped asked r given end_reported) Refused (use_in_turn (turn_has_come n old.slots)))
+    → outcome true date old (Upgrade n protocol v) ≡ ends_asking (is_last_once_finished r asked.owed given end_reported) (changes old n (dropped asked r given end_reported) Refused (use_in_turn (turn_has_come n old.slots)))
 at-refused date n protocol v w refused old asked r given end_reported kept e =
     ap (at_slot true date old n (Upgrade n protocol v)) e ∙ rw (refusal-same w r given end_reported (open_slot asked r given end_reported) protocol v kept refl refl ∙ refused) refl

@@ -181,8 +181,8 @@ unfinished-is s (still.Waiting w) h = ap is_finished h.is
 unfinished-is s still.Raw h = ap is_stage_finished h.stage
 unfinished-is s (still.Upgraded b) h = ap is_finished h.opened.is ∙ ap is_stage_finished h.stage
 
-whole-stage : (s : Slot) (stage : Stage) → s.stage ≡ stage → ((item : Item) → (stage_text item s.date stage).ending ≡ Whole) → is_slot_broken s ≡ false
-whole-stage s stage e whole = ap (λ x. is_broken (stage_text s.item s.date x).ending) e ∙ ap is_broken (whole s.item)
+whole-stage : (s : Slot) (stage : Stage) → s.stage ≡ stage → ((item : Item) → (stage_text s.closes item s.date stage).ending ≡ Whole) → is_slot_broken s ≡ false
+whole-stage s stage e whole = ap (λ x. is_broken (stage_text s.closes s.item s.date x).ending) e ∙ ap is_broken (whole s.item)
 
 pub unfinished-whole : (s : Slot) (u : Unfinished) → IsUnfinished s u → is_slot_broken s ≡ false
 unfinished-whole s (still.Waiting w) h = whole-stage s Unanswered (ap (λ (x : Slot). x.stage) h.is) (λ item. refl)

@@ -34,7 +34,7 @@ pub record EndsAs (s t : Slot) (text : List ℕ) : Type 0 where
 
 -- a number under which nothing was sent
 nothing-sent : (s : Slot) → HasSentNothing s → is_finished s ≡ false → segment s ≡ []
-nothing-sent s h f = ap (λ o. opening s.item o ++ (stage_text s.item s.date s.stage).bytes) h.0 ∙ h.1 f
+nothing-sent s h f = ap (λ o. opening s.item o ++ (stage_text s.closes s.item s.date s.stage).bytes) h.0 ∙ h.1 f
 
 -- what the end of a number leaves, in its turn or before it
 record EndSaid (before new : Sink) (ended : Bool) (slots : List Slot) (old : State) (t : Bool) (reply : ReplyValue) (final : List Mark) (requests : List (Option Unfinished)) : Type 0 where

@@ -28,7 +28,7 @@ joined_behind (c ∷ cs) (r ∷ rs) [] w u h = absurd h
 joined_behind (c ∷ cs) (Open ∷ rs) (None ∷ vs) w u h = absurd h.0
 joined_behind (c ∷ cs) (Open ∷ rs) (Some q ∷ vs) w u h =
     let waits = unfinished-is c q h.0 in
-    let nothing : segment c ≡ [] = ap (λ o. opening c.item o ++ (stage_text c.item c.date c.stage).bytes) u.0.0 ∙ u.0.1 waits in
+    let nothing : segment c ≡ [] = ap (λ o. opening c.item o ++ (stage_text c.closes c.item c.date c.stage).bytes) u.0.0 ∙ u.0.1 waits in
     (rw (nothing, waits) refl, rw (unfinished-whole c q h.0, waits) refl)
 joined_behind (c ∷ cs) (Held ∷ rs) (v ∷ vs) w u h = absurd w
 joined_behind (c ∷ cs) (Left text ∷ rs) (None ∷ vs) w u h =

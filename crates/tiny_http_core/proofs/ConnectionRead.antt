@@ -295,7 +295,7 @@ still-waiting s w h c old new n reply k =
       unsent = h.unsent;
       rest_is_last = h.rest_is_last;
       answer_context = h.answer_context;
-      text = h.text;
+      dropped = h.dropped;
       fits = o.fits;
       settled = o.settled;
     }

@@ -1,11 +1,19 @@
 -- The last body of a connection, and where its reader stands.
+use Rattle.tiny_http_wire.specs.declared.answer_context.AnswerContext.{AnswerContext}
+use Rattle.tiny_http_wire.specs.declared.answer_context.Persistence.TheVariants.{Close}
+use Rattle.tiny_http_wire.specs.declared.answer_context.Persistence.{Persistence}
+use Rattle.tiny_http_message.specs.declared.body.Remainder.TheVariants as left
+use Rattle.tiny_http_message.specs.declared.body.Remainder.{Remainder}
+use Rattle.tiny_http_message.specs.declared.body.TheConstants.{MOST_SKIPPED}
+use Rattle.tiny_http_message.specs.OwnAnswer.{persistence_of}
+use Rattle.tiny_http_message.specs.OpenRequest.{final_context}
 use Rattle.tiny_http_wire.specs.declared.device.Stop.TheVariants.{End, Fault}
 use Rattle.tiny_http_wire.specs.declared.device.Stop.{Stop}
 use Rattle.std.proofs.Common.{◌≡◌, refl, sym, ap, ◌∙◌, subst, ℕ, suc, ◌-◌, ◌⊎◌, inl, inr, Bool, true, false, not, ◌&&◌, ◌||◌, List, [], ◌∷◌, ◌++◌, length, Option, Some, None, arith}
 use Rattle.std.specs.Prelude.{slice_get}
 use Rattle.std.specs.List.{last_or}
 use Rattle.std.specs.Option.{option_map}
-use Rattle.std.proofs.lemmas.Bool.{ne_eqb}
+use Rattle.std.proofs.lemmas.Bool.{le-ltb, eqb-true, ne_eqb}
 use Rattle.tiny_http_wire.specs.Device.{Feed, whole_feed}
 use Rattle.tiny_http_message.specs.declared.open_request.OpenRequest.{OpenRequest}
 use Rattle.tiny_http_core.specs.declared.pending.Unfinished.{Unfinished}
@@ -13,13 +21,15 @@ use Rattle.tiny_http_core.specs.declared.pending.Unfinished.TheVariants as still
 use Rattle.tiny_http_message.specs.declared.framing.Form.{Form}
 use Rattle.tiny_http_message.specs.declared.body.Body.{Body}
 use Rattle.tiny_http_message.specs.declared.body.Body.TheVariants as body
+use Rattle.tiny_http_message.specs.declared.framing.Form.TheVariants as form
+use Rattle.std.specs.Prelude.{if◌then◌else◌, ◌==◌, nat_lt}
 use Rattle.tiny_http_message.specs.Pipeline.{Item, Asks, Refuses, body_length_or_0, Request}
-use Rattle.tiny_http_core.specs.Slots.{Slot, Stage, Unanswered, Answered, ByServer, Raw, Upgraded, is_finished, is_stage_finished, is_unanswered, is_form_streamed, is_chunked, is_body_finished, body_is_open, is_last_item, holds_next_head, is_holding, last_slot, last_is_open, last_is_holding, last_holds_reader, last_was_abandoned, is_last_slot, is_end, rest_of}
-use Rattle.tiny_http_message.specs.Body.{body_finished, is_whole, taken_remaining}
+use Rattle.tiny_http_core.specs.Slots.{remainder_of, closes_now, is_counted, Slot, Stage, Unanswered, Answered, ByServer, Raw, Upgraded, is_finished, is_stage_finished, is_unanswered, is_form_streamed, is_chunked, is_body_finished, body_is_open, is_last_item, holds_next_head, is_holding, last_slot, last_is_open, last_is_holding, last_holds_reader, last_was_abandoned, is_last_slot, is_end, rest_of}
+use Rattle.tiny_http_message.specs.Body.{remainder, is_skipped, body_finished, is_whole, taken_remaining}
 use Rattle.tiny_http_turns.specs.Turns.{Mark, Open, Held, Left, Finished}
 use Rattle.tiny_http_message.specs.Body.{Remaining, remaining, is_streaming, Fits}
 use Rattle.tiny_http_core.specs.Pending.{holds_next_head_at, last_holds_next_head, kept_body, last_body, is_streaming_body}
-use Rattle.tiny_http_core.specs.Connection.{IsWaiting, IsOpen, IsUnfinished, IsKept, AreKept, IsSettled, AreSettled, behind_body, slot_rest, GivesRest}
+use Rattle.tiny_http_core.specs.Connection.{answer_context_of, IsWaiting, IsOpen, IsUnfinished, IsKept, AreKept, IsSettled, AreSettled, behind_body, slot_rest, GivesRest}
 use Rattle.std.proofs.Math.Bool.{or-true}
 
 pub and-false : (f : Bool) → (f && false) ≡ false
@@ -214,6 +224,69 @@ fits-whole r body.Rest given end_reported h settled = rw (h.0, h.1) refl
 -- the slot says the same of it as what is kept
 pub waiting-whole : (s : Slot) (w : OpenRequest Body) (h : IsWaiting s w) → (body_finished h.request.framing.form (body_length_or_0 h.request.framing) h.given h.end_reported && is_end h.request.body.stop) ≡ is_whole w.body
 waiting-whole s w h = fits-whole h.request w.body h.given h.end_reported h.fits h.settled
+
+-- what is left of a body, by what was read of it
+abbrev left_by : Form → ℕ → ℕ → Bool → Bool → Remainder
+left_by form n given end_reported ends =
+    if (is_chunked form && not end_reported) || (body_finished form n given end_reported && not ends) then left.Endless else
+    if is_counted form && (not end_reported && nat_lt MOST_SKIPPED (n - given)) then left.Long else left.Skipped
+
+none-left : (n given : ℕ) (end_reported : Bool) → (given == n || end_reported) ≡ true → (not end_reported && nat_lt MOST_SKIPPED (n - given)) ≡ false
+none-left n given true h = refl
+none-left n given false h = let same = eqb-true given n (or-none (given == n) h) in le-ltb MOST_SKIPPED (n - given) (omega (arith, same))
+  where
+    or-none : (b : Bool) → (b || false) ≡ true → b ≡ true
+    or-none true e = refl
+    or-none false e = cc
+
+over-end : (form : Form) (n given : ℕ) (end_reported ends : Bool) → body_finished form n given end_reported ≡ true → ends ≡ true → left_by form n given end_reported ends ≡ left.Skipped
+over-end form.Nothing n given end_reported ends h z = rw z refl
+over-end form.WithHead n given end_reported ends h z = rw z refl
+over-end form.Counted n given end_reported ends h z = rw (z, and-false (given == n || end_reported), none-left n given end_reported h) refl
+over-end form.Chunked n given end_reported ends h z = rw (h, z) refl
+over-end form.Rest n given end_reported ends h z = rw (h, z) refl
+
+over-fault : (form : Form) (n given : ℕ) (end_reported ends : Bool) → body_finished form n given end_reported ≡ true → ends ≡ false → left_by form n given end_reported ends ≡ left.Endless
+over-fault form n given end_reported ends h z = rw (h, z, or-true (is_chunked form && not end_reported)) refl
+
+pub fits-remainder : (r : Request) (b : Body) (given : ℕ) (end_reported : Bool) → Fits r.framing.by_standard b r.framing.form (body_length_or_0 r.framing) given end_reported
+    → (is_streaming b ≡ false → (f : Feed) → remaining b (Some f) ≡ Some (taken_remaining (rest_of r given) f))
+    → remainder_of r given end_reported ≡ remainder b
+fits-remainder r (body.Over End) given end_reported h settled = over-end r.framing.form (body_length_or_0 r.framing) given end_reported (is_end r.body.stop) h (ap is_end (sym (ap stop-of (settled refl (whole_feed [])))))
+fits-remainder r (body.Over (Fault kind)) given end_reported h settled = over-fault r.framing.form (body_length_or_0 r.framing) given end_reported (is_end r.body.stop) h (ap is_end (sym (ap stop-of (settled refl (whole_feed [])))))
+fits-remainder r (body.WithHead bytes) given end_reported h settled =
+    let z : is_end r.body.stop ≡ true = ap is_end (sym (ap stop-of (settled refl (whole_feed [])))) in
+    ap (λ (x : Form). left_by x (body_length_or_0 r.framing) given end_reported (is_end r.body.stop)) h ∙ over-end form.WithHead (body_length_or_0 r.framing) given end_reported (is_end r.body.stop) refl z
+fits-remainder r (body.Counted n by_standard) given end_reported h settled =
+    let some = ne_eqb given (body_length_or_0 r.framing) (λ e. absurd (omega (arith, e, h.1, h.2))) in
+    let rest : body_length_or_0 r.framing - given ≡ n = omega (arith, h.1) in
+    rw (h.0, h.3, some, rest) refl
+fits-remainder r (body.Chunked d) given end_reported h settled = rw (h.0, h.1) refl
+fits-remainder r body.Rest given end_reported h settled = rw (h.0, h.1) refl
+
+pub waiting-remainder : (s : Slot) (w : OpenRequest Body) (h : IsWaiting s w) → remainder_of h.request h.given h.end_reported ≡ remainder w.body
+waiting-remainder s w h = fits-remainder h.request w.body h.given h.end_reported h.fits h.settled
+
+-- how it is answered now, by what is kept of it and by its slot
+says-cases : (standard left last : Bool) (F : Option Persistence → AnswerContext) → (if standard && left then F (Some Close) else F (persistence_of standard last)) ≡ F (persistence_of standard (last || left))
+says-cases false l last F = refl
+says-cases true true true F = refl
+says-cases true true false F = refl
+says-cases true false true F = refl
+says-cases true false false F = refl
+
+pub waiting-final : (s : Slot) (w : OpenRequest Body) (h : IsWaiting s w) → final_context w (remainder w.body) ≡ answer_context_of (closes_now h.request h.handed.owed h.given h.end_reported) h.request
+waiting-final s w h =
+    let r = h.request in
+    let F : Option Persistence → AnswerContext = λ p. record (answer_context_of false r) { persistence = p } in
+    let not_last : Remainder → Bool = λ l. not (is_skipped l) in
+    let A : AnswerContext → AnswerContext = λ c. if w.by_standard && (w.owes_continue || not_last (remainder w.body)) then record c { persistence = Some Close } else c in
+    let B : Bool → Bool → Remainder → AnswerContext = λ standard owes l. if standard && (owes || not_last l) then F (Some Close) else F (persistence_of r.framing.by_standard r.framing.is_last) in
+    ap A h.answer_context
+    ∙ (ap (λ x. B x w.owes_continue (remainder w.body)) h.standard
+    ∙ (ap (λ x. B r.framing.by_standard x (remainder w.body)) h.owed
+    ∙ (ap (B r.framing.by_standard h.handed.owed) (sym (waiting-remainder s w h))
+    ∙ says-cases r.framing.by_standard (h.handed.owed || not_last (remainder_of r h.given h.end_reported)) r.framing.is_last F)))
 
 pub waiting-kept : (s : Slot) (b : Body) (h : IsOpen s b) → last_was_abandoned (Some s) ≡ false
 waiting-kept s b h = let P : Slot → Type 0 = λ x. last_was_abandoned (Some x) ≡ false in subst P (sym h.is) (and-false (is_chunked h.request.framing.form))

@@ -14,12 +14,12 @@ use Rattle.tiny_http_message.specs.declared.body.Body.{Body}
 use Rattle.tiny_http_message.specs.declared.open_request.OpenRequest.{OpenRequest}
 use Rattle.tiny_http_core.specs.declared.pending.Unfinished.{Unfinished}
 use Rattle.tiny_http_core.specs.declared.pending.Unfinished.TheVariants as still
-use Rattle.tiny_http_core.proofs.ConnectionReader.{open-waiting}
+use Rattle.tiny_http_core.proofs.ConnectionReader.{waiting-final, waiting-remainder, open-waiting}
 use Rattle.tiny_http_message.specs.Pipeline.{Item, Asks, Refuses, Request, is_connect_method}
-use Rattle.tiny_http_message.specs.OpenRequest.{refuses_code}
+use Rattle.tiny_http_message.specs.OpenRequest.{final_context, refuses_code}
 use Rattle.tiny_http_sending.specs.ResponseValue.{ResponseValue}
 use Rattle.tiny_http_wire.specs.Answer.{IsGathered}
-use Rattle.tiny_http_core.specs.Slots.{Slot, Stage, Unanswered, Answered as AnsweredBy, ByServer, Raw, Upgraded, is_stage_finished, is_finished, is_broken, is_slot_broken, segment, stage_text, opening, joined, is_output_broken, is_last_without_continue, refuses_response, last_slot, turn_has_come, to_request, text_if}
+use Rattle.tiny_http_core.specs.Slots.{remainder_of, closes_now, Slot, Stage, Unanswered, Answered as AnsweredBy, ByServer, Raw, Upgraded, is_stage_finished, is_finished, is_broken, is_slot_broken, segment, stage_text, opening, joined, is_output_broken, is_last_once_finished, refuses_response, last_slot, turn_has_come, to_request, text_if}
 use Rattle.tiny_http_core.specs.Steps.{StepValue, outcome, Respond, ReplyValue, Done, NoSuch, NotYet, Outcome, Reached, unchanged, changes, ends_asking, is_last_with_stream, finished_as, accepts_step, fault_in, fault_reply, at_item, at_slot, at_number}
 use Rattle.tiny_http_core.specs.Conversation.{Failure, State, has_output_ended, finished_front, flushed_after, CanMeet, WriterPart, HasOutcome, GathersAt, MayLack}
 use Rattle.tiny_http_core.proofs.ConversationWriting.{FailsBetween, FailsReported, FailsBehind, broken_reply, used, WritesIf, flushed_if, reported, flushed-is}
@@ -27,10 +27,10 @@ use Rattle.tiny_http_sending.specs.ResponseValue.{printing_in}
 use Rattle.tiny_http_core.specs.Seen.{Answers, reply_to}
 use Rattle.tiny_http_sending.specs.Sending.{CanSend, OutletTook, OutletFailed, IsFlushed, SendsText, SendsUnlessEnded}
 use Rattle.tiny_http_turns.specs.Turns.{Mark, Open, Held, Finished, AreInShape, first_unfinished}
-use Rattle.tiny_http_core.specs.Pending.{is_last_without_continue_at as kept_lacks, refuses_at, left_text, with_left_finished, begins_left, SendsLeft, FinishesFront, waiting_answer_context}
+use Rattle.tiny_http_core.specs.Pending.{is_last_once_finished_at as kept_lacks, refuses_at, left_text, with_left_finished, begins_left, SendsLeft, FinishesFront, waiting_answer_context}
 use Rattle.tiny_http_core.specs.Connection.{Kept, answer_context_of, HandedOut, open_slot, IsWaiting, IsUnfinished, HasSentNothing, AreSentInTurn, AreKept, OutputAt, InputStands, Stands}
 use Rattle.tiny_http_stream.specs.Source.{SourceState}
-use Rattle.tiny_http_message.specs.Body.{GivesUp}
+use Rattle.tiny_http_message.specs.Body.{remainder, is_long, GivesUp}
 use Rattle.tiny_http_core.proofs.ConnectionBody.{IsInput, with_reader, next-same, reader-given_up}
 use Rattle.tiny_http_core.proofs.ConnectionAsk.{StepIsAnswered, step-unchanged}
 use Rattle.tiny_http_core.proofs.SlotsLemmas.{all-snoc, joined-front, joined-broken, breaks-front}
@@ -94,15 +94,15 @@ pub no-such : (client : Feed) (before : Sink) (k : Kept) (s : State) (date : Htt
 no-such client before k s date n step at needs st none = not-taken client before k s date n step at (finished-none step needs) st by
   where
     by : (x : Slot) (u : Unfinished) → slice_get k.requests n ≡ Some (Some u) → IsUnfinished x u → accepts_step x.stage x.owed step ≡ false
-    by x (still.Waiting w) e h = let no : Some w.answer_context ≡ None = ap waiting_answer_context (sym e) ∙ none in cc
+    by x (still.Waiting w) e h = let no : Some (final_context w (remainder w.body)) ≡ None = ap waiting_answer_context (sym e) ∙ none in cc
     by x still.Raw e h = needs x.stage x.owed (ap is_unanswered h.stage)
     by x (still.Upgraded b) e h = needs x.stage x.owed (ap (λ (y : Slot). is_unanswered y.stage) h.opened.is ∙ ap is_unanswered h.stage)
 
 -- a number that waits is kept
-pub answer-form-some : (o : Option (Option Unfinished)) (answer_context : AnswerContext) → waiting_answer_context o ≡ Some answer_context → (w : OpenRequest Body) × (o ≡ Some (Some (still.Waiting w))) × (w.answer_context ≡ answer_context)
+pub answer-form-some : (o : Option (Option Unfinished)) (answer_context : AnswerContext) → waiting_answer_context o ≡ Some answer_context → (w : OpenRequest Body) × (o ≡ Some (Some (still.Waiting w))) × (final_context w (remainder w.body) ≡ answer_context)
 answer-form-some None answer_context e = cc
 answer-form-some (Some None) answer_context e = cc
-answer-form-some (Some (Some (still.Waiting w))) answer_context e = (w, refl, (let same : w.answer_context ≡ answer_context = cc in same))
+answer-form-some (Some (Some (still.Waiting w))) answer_context e = (w, refl, (let same : final_context w (remainder w.body) ≡ answer_context = cc in same))
 answer-form-some (Some (Some still.Raw)) answer_context e = cc
 answer-form-some (Some (Some (still.Upgraded b))) answer_context e = cc
 
@@ -158,18 +158,18 @@ respond-not_yet client before k s date n v w st e good never =
 
 -- the slot after the response
 abbrev pub answered_slot : HandedOut → Request → ℕ → Bool → ResponseValue → HttpDate → Bool → Slot
-answered_slot asked r given end_reported v date found = finished_as (open_slot asked r given end_reported) (AnsweredBy v date found)
+answered_slot asked r given end_reported v date found = finished_as (closes_now r asked.owed given end_reported) (open_slot asked r given end_reported) (AnsweredBy v date found)
 
-abbrev pub response_sent : Bool → ResponseValue → Request → HttpDate → Text
-response_sent found v r date = text_if found v (to_request r date)
+abbrev pub response_sent : Bool → ResponseValue → Bool → Request → HttpDate → Text
+response_sent found v closes r date = text_if found v (to_request closes r date)
 
 at-turn : (date : HttpDate) (asked : HandedOut) (old : Reached) (n : ℕ) (v : ResponseValue) (r : Request) (given : ℕ) (end_reported found : Bool) → slice_get old.slots n ≡ Some (open_slot asked r given end_reported) → refuses_response r v ≡ false → turn_has_come n old.slots ≡ true
-    → at_number found date old n (Respond n v) ≡ ends_asking (is_last_without_continue r asked.owed) (changes old n (answered_slot asked r given end_reported v date found) Done (used (response_sent found v r date)))
+    → at_number found date old n (Respond n v) ≡ ends_asking (is_last_once_finished r asked.owed given end_reported) (changes old n (answered_slot asked r given end_reported v date found) Done (used (response_sent found v (closes_now r asked.owed given end_reported) r date)))
 at-turn date asked old n v r given end_reported found e takes t = ap (at_slot found date old n (Respond n v)) e ∙ rw (takes, t) refl
 
 -- how the response is printed
-printed-for : (r : Request) (answer_context : AnswerContext) (date : HttpDate) → answer_context ≡ answer_context_of r → printing_in answer_context date ≡ to_request r date
-printed-for r answer_context date e = ap (λ x. printing_in x date) e
+printed-for : (closes : Bool) (r : Request) (answer_context : AnswerContext) (date : HttpDate) → answer_context ≡ answer_context_of closes r → printing_in answer_context date ≡ to_request closes r date
+printed-for closes r answer_context date e = ap (λ x. printing_in x date) e
 
 -- what becomes of the response's own text, with the step's reply: it was sent, or broke off, or the writer failed in it
 abbrev pub OwnWrites : Bool → Option Failure → List ℕ → List ℕ → Text → ReplyValue → Option Failure → Type 0
@@ -461,7 +461,7 @@ pub record Answerable (k : Kept) (s : State) (n : ℕ) (answer_context : AnswerC
   pub requests_are : k.requests ≡ us ++ (Some (still.Waiting waiting) ∷ vs)
   pub at : SlotAt s.reached.slots bs cs (open_slot waits.handed waits.request waits.given waits.end_reported) n
   pub place : length fs ≡ n
-  pub answer_context_is : answer_context ≡ answer_context_of waits.request
+  pub answer_context_is : answer_context ≡ answer_context_of (closes_now waits.request waits.handed.owed waits.given waits.end_reported) waits.request
   pub kept : slice_get k.requests n ≡ Some (Some (still.Waiting waiting))
   pub as_many : length cs ≡ length vs
   pub requests_set : slice_set k.requests n None ≡ us ++ (None ∷ vs)
@@ -495,7 +495,7 @@ answerable client before k s n answer_context st e first =
       requests_are = p.requests_are;
       at = slot-at s.reached.slots p.bs p.cs (open_slot p.waiting.handed p.waiting.request p.waiting.given p.waiting.end_reported) n slots_are p.slots_before;
       place = p.marks_before;
-      answer_context_is = sym w.2 ∙ p.waiting.answer_context;
+      answer_context_is = sym w.2 ∙ waiting-final p.s w.0 p.waiting;
       kept = w.1;
       as_many = kept-many p.cs p.rs p.vs p.behind;
       requests_set = set-place k.requests p.us p.vs n (Some (still.Waiting w.0)) None p.requests_are p.requests_before;
@@ -506,11 +506,11 @@ answerable client before k s n answer_context st e first =
     }
 
 -- what a number that waits sends as it ends, behind the 100 that was sent
-pub longer-open : (old bs cs : List Slot) (asked : HandedOut) (r : Request) (given : ℕ) (end_reported : Bool) (stage : Stage) → old ≡ bs ++ (open_slot asked r given end_reported ∷ cs) → list_all is_finished bs ≡ true
-    → Longer old bs (finished_as (open_slot asked r given end_reported) stage) (stage_text (Asks r) asked.date stage).bytes
-longer-open old bs cs asked r given end_reported stage e fin =
-    longer-at old bs cs (open_slot asked r given end_reported) (finished_as (open_slot asked r given end_reported) stage) (stage_text (Asks r) asked.date stage).bytes e fin refl refl
-    (ap (λ y. y ++ (stage_text (Asks r) asked.date stage).bytes) (sym (append-nil (opening (Asks r) asked.continued))))
+pub longer-open : {closes : Bool} (old bs cs : List Slot) (asked : HandedOut) (r : Request) (given : ℕ) (end_reported : Bool) (stage : Stage) → old ≡ bs ++ (open_slot asked r given end_reported ∷ cs) → list_all is_finished bs ≡ true
+    → Longer old bs (finished_as closes (open_slot asked r given end_reported) stage) (stage_text closes (Asks r) asked.date stage).bytes
+longer-open {closes = closes} old bs cs asked r given end_reported stage e fin =
+    longer-at old bs cs (open_slot asked r given end_reported) (finished_as closes (open_slot asked r given end_reported) stage) (stage_text closes (Asks r) asked.date stage).bytes e fin refl refl
+    (ap (λ y. y ++ (stage_text closes (Asks r) asked.date stage).bytes) (sym (append-nil (opening (Asks r) asked.continued))))
 
 -- what the connection keeps after a step of a number
 abbrev pub after_number : Kept → List Mark → List (Option Unfinished) → {R : Type 0} → SourceState R → Sink → Bool → Kept
@@ -540,23 +540,26 @@ reader-ended client k ended slots rest stays r =
     record { settled = r.settled; gives = r.gives; next = λ e. next-same k (with_ended ended k) (last_slot slots) (last_slot slots) rest refl refl refl refl refl refl refl refl (r.next (stays e)); follows = r.follows; source = r.source }
 
 -- whether the asking ends behind a number that waits, by what is kept of it
-pub lacks-same : (s : Slot) (w : OpenRequest Body) (h : IsWaiting s w) → is_last_without_continue h.request h.handed.owed ≡ (w.by_standard && w.owes_continue)
-lacks-same s w h = ap (λ x. x && h.handed.owed) (sym h.standard) ∙ ap (λ x. w.by_standard && x) (sym h.owed)
+pub lacks-same : (s : Slot) (w : OpenRequest Body) (h : IsWaiting s w) → is_last_once_finished h.request h.handed.owed h.given h.end_reported ≡ (w.by_standard && (w.owes_continue || is_long (remainder w.body)))
+lacks-same s w h =
+    ap (λ x. x && (h.handed.owed || is_long (remainder_of h.request h.given h.end_reported))) (sym h.standard)
+    ∙ (ap (λ x. w.by_standard && (x || is_long (remainder_of h.request h.given h.end_reported))) (sym h.owed)
+    ∙ ap (λ l. w.by_standard && (w.owes_continue || is_long l)) (waiting-remainder s w h))
 
-pub stream-same : (s : Slot) (w : OpenRequest Body) (h : IsWaiting s w) → is_last_with_stream h.request h.handed.owed ≡ (w.holds_next_head || (w.by_standard && w.owes_continue))
-stream-same s w h = ap (λ x. x || is_last_without_continue h.request h.handed.owed) (sym h.holds) ∙ ap (λ x. w.holds_next_head || x) (lacks-same s w h)
+pub stream-same : (s : Slot) (w : OpenRequest Body) (h : IsWaiting s w) → is_last_with_stream h.request h.handed.owed h.given h.end_reported ≡ (w.holds_next_head || (w.by_standard && (w.owes_continue || is_long (remainder w.body))))
+stream-same s w h = ap (λ x. x || is_last_once_finished h.request h.handed.owed h.given h.end_reported) (sym h.holds) ∙ ap (λ x. w.holds_next_head || x) (lacks-same s w h)
 
 pub both-end : (a b x y : Bool) → a ≡ b → x ≡ y → (a || x) ≡ (b || y)
 both-end a b x y e f = ap (λ z. z || x) e ∙ ap (λ z. b || z) f
 
 respond-stands : {R : Type 0} (client : Feed) (before : Sink) (k : Kept) (s : State) (date : HttpDate) (n : ℕ) (v : ResponseValue) (answer_context : AnswerContext) (found : Bool) (mid new : Sink) (mid_ended ended : Bool) (final : List Mark) (requests : List (Option Unfinished)) (source : SourceState R) (reply : ReplyValue)
-    → Stands client before k s → before.failures < 2 ^ 64 - 1 → (a : Answerable k s n answer_context) → refuses_at v.answer.status (slice_get k.requests n) ≡ false → (found ≡ true) ⊎ IsGathered v.answer (to_request a.waits.request date) → requests ≡ slice_set k.requests n None → InputStands client (with_reader k (a.us ++ (None ∷ a.vs)) source) (a.bs ++ (answered_slot a.waits.handed a.waits.request a.waits.given a.waits.end_reported v date found ∷ a.cs)) s.reached.rest → FinishesFront a.fs a.rs final
-    → OwnSaid before mid k.output_ended mid_ended s.reached.slots a.bs (answered_slot a.waits.handed a.waits.request a.waits.given a.waits.end_reported v date found) (response_sent found v a.waits.request date) s.flushed s.failure reply → SendsLeft a.rs mid_ended mid new ended
+    → Stands client before k s → before.failures < 2 ^ 64 - 1 → (a : Answerable k s n answer_context) → refuses_at v.answer.status (slice_get k.requests n) ≡ false → (found ≡ true) ⊎ IsGathered v.answer (to_request (closes_now a.waits.request a.waits.handed.owed a.waits.given a.waits.end_reported) a.waits.request date) → requests ≡ slice_set k.requests n None → InputStands client (with_reader k (a.us ++ (None ∷ a.vs)) source) (a.bs ++ (answered_slot a.waits.handed a.waits.request a.waits.given a.waits.end_reported v date found ∷ a.cs)) s.reached.rest → FinishesFront a.fs a.rs final
+    → OwnSaid before mid k.output_ended mid_ended s.reached.slots a.bs (answered_slot a.waits.handed a.waits.request a.waits.given a.waits.end_reported v date found) (response_sent found v (closes_now a.waits.request a.waits.handed.owed a.waits.given a.waits.end_reported) a.waits.request date) s.flushed s.failure reply → SendsLeft a.rs mid_ended mid new ended
     → StepIsAnswered client before (with_asking_ended (kept_lacks (slice_get k.requests n)) (after_number k final requests source new ended)) s date (Respond n v) reply
 respond-stands client before k s date n v answer_context found mid new mid_ended ended final requests source reply st low a good lack requests_are reader passes own sends =
     let s0 = open_slot a.waits.handed a.waits.request a.waits.given a.waits.end_reported in
     let s1 = answered_slot a.waits.handed a.waits.request a.waits.given a.waits.end_reported v date found in
-    let text = response_sent found v a.waits.request date in
+    let text = response_sent found v (closes_now a.waits.request a.waits.handed.owed a.waits.given a.waits.end_reported) a.waits.request date in
     let l = longer-open s.reached.slots a.bs a.cs a.waits.handed a.waits.request a.waits.given a.waits.end_reported (AnsweredBy v date found) a.slots_are a.turn.finished in
     let T : List Slot → Type 0 = λ x. AreSentInTurn x in
     let turns = subst T a.slots_are st.in_turn in
@@ -564,7 +567,7 @@ respond-stands client before k s date n v answer_context found mid new mid_ended
     let takes = refuses-same a.slot a.waiting a.waits v ∙ ap (refuses_at v.answer.status) (sym a.kept) ∙ good in
     let is = at-turn date a.waits.handed s.reached n v a.waits.request a.waits.given a.waits.end_reported found a.at.get takes (a.at.turn ∙ a.turn.finished) in
     let slots = a.bs ++ (s1 ∷ a.cs) in
-    let last = is_last_without_continue a.waits.request a.waits.handed.owed in
+    let last = is_last_once_finished a.waits.request a.waits.handed.owed a.waits.given a.waits.end_reported in
     let new_state : State = record { reached = record { slots = slots; rest = s.reached.rest; asking_ended = s.reached.asking_ended || last }; flushed = flushed_after (used text) s slots; failure = said.failure } in
     let R : List Slot → Reached = λ l. record { slots = l; rest = s.reached.rest; asking_ended = s.reached.asking_ended || last } in
     let W : List Slot → Type 0 = λ l. WriterPart (used text) s Done l reply said.failure in
@@ -586,7 +589,7 @@ respond-stands client before k s date n v answer_context found mid new mid_ended
       inl (found, lacks found lack a.at.get, has),
     )
   where
-    lacks : (t : Bool) → (t ≡ true) ⊎ IsGathered v.answer (to_request a.waits.request date) → slice_get s.reached.slots n ≡ Some (open_slot a.waits.handed a.waits.request a.waits.given a.waits.end_reported) → MayLack t date s.reached (Respond n v)
+    lacks : (t : Bool) → (t ≡ true) ⊎ IsGathered v.answer (to_request (closes_now a.waits.request a.waits.handed.owed a.waits.given a.waits.end_reported) a.waits.request date) → slice_get s.reached.slots n ≡ Some (open_slot a.waits.handed a.waits.request a.waits.given a.waits.end_reported) → MayLack t date s.reached (Respond n v)
     lacks true l g = tt
     lacks false (inl e) g = cc
     lacks false (inr x) g = let P : Option Slot → Type 0 = λ o. GathersAt date v o in subst P (sym g) x
@@ -612,15 +615,15 @@ respond-done {R = R} client before k s date n v answer_context mid new mid_ended
     held : marks ≡ a.fs ++ (Held ∷ a.rs)
     held = marks_are ∙ a.marks_set
 
-    longer_by : (found : Bool) → Longer s.reached.slots a.bs (answered_slot a.waits.handed a.waits.request a.waits.given a.waits.end_reported v date found) (response_sent found v a.waits.request date).bytes
+    longer_by : (found : Bool) → Longer s.reached.slots a.bs (answered_slot a.waits.handed a.waits.request a.waits.given a.waits.end_reported v date found) (response_sent found v (closes_now a.waits.request a.waits.handed.owed a.waits.given a.waits.end_reported) a.waits.request date).bytes
     longer_by found = longer-open s.reached.slots a.bs a.cs a.waits.handed a.waits.request a.waits.given a.waits.end_reported (AnsweredBy v date found) a.slots_are a.turn.finished
 
     reader : (found : Bool) → InputStands client (with_reader k (a.us ++ (None ∷ a.vs)) source) (a.bs ++ (answered_slot a.waits.handed a.waits.request a.waits.given a.waits.end_reported v date found ∷ a.cs)) s.reached.rest
     reader found =
         let P : List Slot → Type 0 = λ l. InputStands client k l s.reached.rest in
-        reader-given_up client k old source a.bs a.cs a.us a.vs s.reached.rest a.slot (Some (still.Waiting a.waiting)) None a.waiting.body (AnsweredBy v date found) (open-waiting a.slot a.waiting a.waits) refl refl from (subst P a.slots_were st.reader) a.requests_are a.as_many (gives a.waiting a.kept)
+        reader-given_up (closes_now a.waits.request a.waits.handed.owed a.waits.given a.waits.end_reported) client k old source a.bs a.cs a.us a.vs s.reached.rest a.slot (Some (still.Waiting a.waiting)) None a.waiting.body (AnsweredBy v date found) (open-waiting a.slot a.waiting a.waits) refl refl from (subst P a.slots_were st.reader) a.requests_are a.as_many (gives a.waiting a.kept)
 
-    answered : (found : Bool) → (found ≡ true) ⊎ IsGathered v.answer (to_request a.waits.request date) → OwnSaid before mid k.output_ended mid_ended s.reached.slots a.bs (answered_slot a.waits.handed a.waits.request a.waits.given a.waits.end_reported v date found) (response_sent found v a.waits.request date) s.flushed s.failure reply
+    answered : (found : Bool) → (found ≡ true) ⊎ IsGathered v.answer (to_request (closes_now a.waits.request a.waits.handed.owed a.waits.given a.waits.end_reported) a.waits.request date) → OwnSaid before mid k.output_ended mid_ended s.reached.slots a.bs (answered_slot a.waits.handed a.waits.request a.waits.given a.waits.end_reported v date found) (response_sent found v (closes_now a.waits.request a.waits.handed.owed a.waits.given a.waits.end_reported) a.waits.request date) s.flushed s.failure reply
         → StepIsAnswered client before (with_asking_ended (kept_lacks (slice_get k.requests n)) (after_number k final requests source new ended)) s date (Respond n v) reply
     answered found lack o =
         respond-stands client before k s date n v answer_context found mid new mid_ended ended final requests source reply st low a good lack requests_are (reader found) (passes a.fs a.rs held a.place) o
@@ -629,18 +632,18 @@ respond-done {R = R} client before k s date n v answer_context mid new mid_ended
     by-own : RespondsBy k mid mid_ended reply v answer_context date → StepIsAnswered client before (with_asking_ended (kept_lacks (slice_get k.requests n)) (after_number k final requests source new ended)) s date (Respond n v) reply
     by-own (inl h) =
         let s1 = answered_slot a.waits.handed a.waits.request a.waits.given a.waits.end_reported v date true in
-        let o = own-past before k.sink k.output_ended s.reached.slots a.bs s1 (response_sent true v a.waits.request date) s.flushed s.failure st.output (longer_by true) a.turn.finished h.0 in
-        let P : Sink → Bool → ReplyValue → Type 0 = λ x y z. OwnSaid before x k.output_ended y s.reached.slots a.bs s1 (response_sent true v a.waits.request date) s.flushed s.failure z in
+        let o = own-past before k.sink k.output_ended s.reached.slots a.bs s1 (response_sent true v (closes_now a.waits.request a.waits.handed.owed a.waits.given a.waits.end_reported) a.waits.request date) s.flushed s.failure st.output (longer_by true) a.turn.finished h.0 in
+        let P : Sink → Bool → ReplyValue → Type 0 = λ x y z. OwnSaid before x k.output_ended y s.reached.slots a.bs s1 (response_sent true v (closes_now a.waits.request a.waits.handed.owed a.waits.given a.waits.end_reported) a.waits.request date) s.flushed s.failure z in
         answered true (inl refl) (subst (λ x. P x mid_ended reply) (sym h.1) (subst (λ y. P k.sink y reply) (sym h.2) (subst (λ z. P k.sink k.output_ended z) (sym h.3) o)))
     by-own (inr h) =
-        let own = subst (λ p. Answers k.sink mid mid_ended reply v.answer v.content p) (printed-for a.waits.request answer_context date a.answer_context_is) h.1 in
+        let own = subst (λ p. Answers k.sink mid mid_ended reply v.answer v.content p) (printed-for (closes_now a.waits.request a.waits.handed.owed a.waits.given a.waits.end_reported) a.waits.request answer_context date a.answer_context_is) h.1 in
         let r = own.0 in
         ⊎_elim
         (λ x. answered true (inl refl)
-        (own-sent {T = Unit {0}} before k.sink mid k.output_ended mid_ended s.reached.slots a.bs (answered_slot a.waits.handed a.waits.request a.waits.given a.waits.end_reported v date true) (response_sent true v a.waits.request date) s.flushed s.failure r reply st.output (longer_by true) a.turn.finished refl refl low h.0
+        (own-sent {T = Unit {0}} before k.sink mid k.output_ended mid_ended s.reached.slots a.bs (answered_slot a.waits.handed a.waits.request a.waits.given a.waits.end_reported v date true) (response_sent true v (closes_now a.waits.request a.waits.handed.owed a.waits.given a.waits.end_reported) a.waits.request date) s.flushed s.failure r reply st.output (longer_by true) a.turn.finished refl refl low h.0
         x own.3 own.1))
         (λ x. answered false (inr x.0)
-        (own-sent {T = Unit {0}} before k.sink mid k.output_ended mid_ended s.reached.slots a.bs (answered_slot a.waits.handed a.waits.request a.waits.given a.waits.end_reported v date false) (response_sent false v a.waits.request date) s.flushed s.failure r reply st.output (longer_by false) a.turn.finished refl refl low h.0 x.1 own.3 own.1))
+        (own-sent {T = Unit {0}} before k.sink mid k.output_ended mid_ended s.reached.slots a.bs (answered_slot a.waits.handed a.waits.request a.waits.given a.waits.end_reported v date false) (response_sent false v (closes_now a.waits.request a.waits.handed.owed a.waits.given a.waits.end_reported) a.waits.request date) s.flushed s.failure r reply st.output (longer_by false) a.turn.finished refl refl low h.0 x.1 own.3 own.1))
         own.2
 
 pub responds-by : (k : Kept) (mid : Sink) (mid_ended : Bool) (reply : ReplyValue) (v : ResponseValue) (answer_context : AnswerContext) (date : HttpDate) → (k.output_ended ≡ true → (mid ≡ k.sink) × (mid_ended ≡ k.output_ended) × (reply ≡ Done))

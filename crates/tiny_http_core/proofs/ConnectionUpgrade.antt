@@ -2,7 +2,7 @@
 use Rattle.tiny_http_core.proofs.ConnectionDrop.{IsKeptOf, refusal-same}
 use Rattle.tiny_http_core.specs.Pending.{last_body, last_holds_next_head}
 use Rattle.tiny_http_message.specs.OpenRequest.{upgrade_check, request_check}
-use Rattle.tiny_http_message.specs.Body.{Remaining, remaining, is_streaming, is_whole, stream_body}
+use Rattle.tiny_http_message.specs.Body.{remainder, is_long, Remaining, remaining, is_streaming, is_whole, stream_body}
 use Rattle.tiny_http_standard.specs.Judging.{names_protocol}
 use Rattle.std.proofs.Math.Bool.{or-true}
 use Rattle.std.specs.Option.{option_map}
@@ -22,11 +22,12 @@ use Rattle.tiny_http_message.specs.declared.body.Body.TheVariants as body
 use Rattle.tiny_http_message.specs.declared.upgrading.UpgradeError.{UpgradeError}
 use Rattle.tiny_http_message.specs.declared.upgrading.UpgradeError.TheVariants.{Protocol, NotAsked, Status, UnfinishedBody}
 use Rattle.tiny_http_message.specs.declared.open_request.OpenRequest.{OpenRequest}
-use Rattle.tiny_http_message.specs.Pipeline.{Asks, Item}
+use Rattle.tiny_http_message.specs.Pipeline.{Asks, Item, Request}
+use Rattle.tiny_http_wire.specs.Answer.{text_of}
 use Rattle.tiny_http_turns.specs.Turns.{Mark, Open, AreInShape, first_unfinished}
 use Rattle.tiny_http_core.specs.declared.pending.Unfinished.{Unfinished}
 use Rattle.tiny_http_core.specs.declared.pending.Unfinished.TheVariants as still
-use Rattle.tiny_http_core.specs.Slots.{Slot, Unanswered, Answered as AnsweredBy, ByServer, Raw, Upgraded, is_chunked, is_finished, segment, opening, joined, is_last_slot, to_request, Stage, is_slot_broken, holds_next_head, as_stream, upgraded_slot, refuses_upgrade, last_slot}
+use Rattle.tiny_http_core.specs.Slots.{Slot, Unanswered, Answered as AnsweredBy, ByServer, Raw, Upgraded, is_chunked, is_finished, segment, opening, joined, is_last_slot, to_request, Stage, is_slot_broken, as_stream, upgraded_slot, refuses_upgrade, last_slot}
 use Rattle.tiny_http_core.specs.Steps.{Upgrade, Done, NotYet, Unreported, Outcome, Reached, ends_asking, is_last_with_stream, changes, at_slot, at_number}
 use Rattle.tiny_http_core.specs.Conversation.{State, flushed_after, WriterPart, HasOutcome}
 use Rattle.tiny_http_core.specs.Connection.{Kept, open_slot, IsWaiting, IsUpgraded, AreSentInTurn, AreKept, OutputAt, slot_rest, InputStands, Stands, AreSettled, GivesRest, behind_body, behind_item}
@@ -74,7 +75,7 @@ record Becomes (protocol : List ℕ) (v : ResponseValue) (date : HttpDate) (s : 
   upgraded : IsUpgraded t b
   unfinished : is_finished t ≡ false
   whole : is_slot_broken t ≡ false
-  segment_is : segment t ≡ segment (open_slot h.handed h.request h.given h.end_reported) ++ upgrade_text v protocol (to_request h.request date)
+  segment_is : segment t ≡ segment (open_slot h.handed h.request h.given h.end_reported) ++ upgrade_text v protocol (to_request h.request.framing.is_last h.request date)
 
 -- the stage of such a slot
 abbrev begun_stage : List ℕ → ResponseValue → HttpDate → Stage
@@ -110,13 +111,23 @@ becomes-lenient protocol v date s w h = record {
   };
   unfinished = refl;
   whole = refl;
-  segment_is = segment-more (Asks h.request) h.handed.continued (upgrade_text v protocol (to_request h.request date));
+  segment_is = segment-more (Asks h.request) h.handed.continued (upgrade_text v protocol (to_request h.request.framing.is_last h.request date));
 }
 
+-- by the standard the request and the stream in its place are answered alike, but for what is said of the connection
+stream-opening : (r : Request) (continued : Option HttpDate) → r.framing.by_standard ≡ true → opening (Asks (as_stream r)) continued ≡ opening (Asks r) continued
+unfolding text_of
+stream-opening r None e = refl
+stream-opening r (Some d) e = rw e refl
+
+stream-text : (v : ResponseValue) (protocol : List ℕ) (r : Request) (date : HttpDate) → r.framing.by_standard ≡ true → upgrade_text v protocol (to_request true (as_stream r) date) ≡ upgrade_text v protocol (to_request r.framing.is_last r date)
+unfolding text_of
+stream-text v protocol r date e = rw e refl
+
 -- by the standard it reads all that follows
-becomes-stream : (protocol : List ℕ) (v : ResponseValue) (date : HttpDate) (s : Slot) (w : OpenRequest Body) (h : IsWaiting s w)
+becomes-stream : (protocol : List ℕ) (v : ResponseValue) (date : HttpDate) (s : Slot) (w : OpenRequest Body) (h : IsWaiting s w) → h.request.framing.by_standard ≡ true
     → Becomes protocol v date s w h (record (open_slot h.handed h.request h.given h.end_reported) { item = Asks (as_stream h.request); given = 0; end_reported = false; stage = begun_stage protocol v date; owed = false }) body.Rest
-becomes-stream protocol v date s w h = record {
+becomes-stream protocol v date s w h standard = record {
   upgraded = record {
     opened = record {
       request = as_stream h.request;
@@ -137,11 +148,17 @@ becomes-stream protocol v date s w h = record {
   };
   unfinished = refl;
   whole = refl;
-  segment_is = segment-more (Asks h.request) h.handed.continued (upgrade_text v protocol (to_request h.request date));
+  segment_is =
+      let r = h.request in
+      let c = h.handed.continued in
+      let text = upgrade_text v protocol (to_request true (as_stream r) date) in
+      segment-more (Asks (as_stream r)) c text
+      ∙ (ap (λ (o : List ℕ). (o ++ []) ++ text) (stream-opening r c standard)
+      ∙ ap (λ (t : List ℕ). (opening (Asks r) c ++ []) ++ t) (stream-text v protocol r date standard));
 }
 
 becomes : (protocol : List ℕ) (v : ResponseValue) (date : HttpDate) (s : Slot) (w : OpenRequest Body) (h : IsWaiting s w) → Becomes protocol v date s w h (slot_upgraded protocol v date s w h) (stream_body w.by_standard w.body)
-becomes protocol v date s w h = by h.request.framing.by_standard h.standard
+becomes protocol v date s w h = by h.request.framing.by_standard refl h.standard
   where
     s0 : Slot
     s0 = open_slot h.handed h.request h.given h.end_reported
@@ -149,9 +166,9 @@ becomes protocol v date s w h = by h.request.framing.by_standard h.standard
     at : Bool → Slot
     at t = if t then record s0 { item = Asks (as_stream h.request); given = 0; end_reported = false; stage = begun_stage protocol v date; owed = false } else record s0 { stage = begun_stage protocol v date; owed = false }
 
-    by : (t : Bool) → w.by_standard ≡ t → Becomes protocol v date s w h (at t) (stream_body w.by_standard w.body)
-    by true e = let B : Bool → Type 0 = λ t. Becomes protocol v date s w h (at true) (stream_body t w.body) in subst B (sym e) (becomes-stream protocol v date s w h)
-    by false e = let B : Bool → Type 0 = λ t. Becomes protocol v date s w h (at false) (stream_body t w.body) in subst B (sym e) (becomes-lenient protocol v date s w h)
+    by : (t : Bool) → h.request.framing.by_standard ≡ t → w.by_standard ≡ t → Becomes protocol v date s w h (at t) (stream_body w.by_standard w.body)
+    by true z e = let B : Bool → Type 0 = λ t. Becomes protocol v date s w h (at true) (stream_body t w.body) in subst B (sym e) (becomes-stream protocol v date s w h z)
+    by false z e = let B : Bool → Type 0 = λ t. Becomes protocol v date s w h (at false) (stream_body t w.body) in subst B (sym e) (becomes-lenient protocol v date s w h)
 
 -- What the input gives once the connection is upgraded: it stands as before; by the standard it stands behind the body of the last
 -- request, and all that follows is read.
@@ -240,14 +257,14 @@ first-true false b e = cc
 
 reader-upgraded : {R : Type 0} (client : Feed) (k : Kept) (n : ℕ) (source : SourceState R) (slots : List Slot) (rest : List Item) (protocol : List ℕ) (v : ResponseValue) (date : HttpDate) (w : OpenRequest Body) (p : KeptAt slots k.marks k.requests n (still.Waiting w)) → IsInput k source → InputStands client k slots rest
     → is_err (request_check w protocol v.answer.status (is_whole w.body)) ≡ false
-    → InputStands client (with_ended (k.asking_ended || (w.holds_next_head || (w.by_standard && w.owes_continue))) (with_reader k (p.us ++ (Some (still.Upgraded (stream_body w.by_standard w.body)) ∷ p.vs)) source)) (p.bs ++ (slot_upgraded protocol v date p.s w p.waiting ∷ p.cs)) rest
+    → InputStands client (with_ended (k.asking_ended || (w.holds_next_head || (w.by_standard && (w.owes_continue || is_long (remainder w.body))))) (with_reader k (p.us ++ (Some (still.Upgraded (stream_body w.by_standard w.body)) ∷ p.vs)) source)) (p.bs ++ (slot_upgraded protocol v date p.s w p.waiting ∷ p.cs)) rest
 reader-upgraded {R = R} client k n source slots rest protocol v date w p from reader granted = by p.waiting.request.framing.by_standard p.waiting.standard
   where
     h : IsWaiting p.s w
     h = p.waiting
 
     ends : Bool
-    ends = w.holds_next_head || (w.by_standard && w.owes_continue)
+    ends = w.holds_next_head || (w.by_standard && (w.owes_continue || is_long (remainder w.body)))
 
     s0 : Slot
     s0 = open_slot h.handed h.request h.given h.end_reported
@@ -269,14 +286,14 @@ reader-upgraded {R = R} client k n source slots rest protocol v date w p from re
         let A : List (Option Unfinished) → Type 0 = λ x. AreSettled x in
         let P : List Slot → Type 0 = λ l. InputStands client k l rest in
         let alone : p.vs ≡ [] = last-holding p.us p.vs w (subst A p.requests_are reader.settled) holds in
-        let over : (k.asking_ended || ends) ≡ true = ap (λ b. k.asking_ended || (b || (w.by_standard && w.owes_continue))) holds ∙ or-true k.asking_ended in
+        let over : (k.asking_ended || ends) ≡ true = ap (λ b. k.asking_ended || (b || (w.by_standard && (w.owes_continue || is_long (remainder w.body))))) holds ∙ or-true k.asking_ended in
         subst (λ u. Stood true u (k.asking_ended || ends)) (sym e) (subst (λ o. Stood true true o) (sym over)
         (stream-any client k source p.bs p.cs p.us p.vs rest protocol v date p.s w h from (subst P p.slots_are reader) p.requests_are alone (none-of p.vs p.cs (kept-many p.cs p.rs p.vs p.behind) alone) holds (whole-quiet w.body asked.1)))
 
 pub upgrade-done : {R : Type 0} (client : Feed) (before : Sink) (k : Kept) (s : State) (date : HttpDate) (n : ℕ) (protocol : List ℕ) (v : ResponseValue) (w : OpenRequest Body) (context : AnswerContext) (new : Sink) (ended : Bool) (final : List Mark) (requests : List (Option Unfinished)) (source : SourceState R) → Stands client before k s → IsInput k source → before.failures < 2 ^ 64 - 1
     → slice_get k.requests n ≡ Some (Some (still.Waiting w)) → w.answer_context ≡ context → is_err (request_check w protocol v.answer.status (is_whole w.body)) ≡ false → (n == first_unfinished k.marks) ≡ true → final ≡ k.marks → requests ≡ slice_set k.requests n (Some (still.Upgraded (stream_body w.by_standard w.body)))
     → ((k.output_ended ≡ false → CanSend k.sink) → SendsUnlessEnded k.output_ended k.sink new ended (upgrade_text v protocol (printing_in context date))) → IsFlushed new
-    → StepIsAnswered client before (with_asking_ended (w.holds_next_head || (w.by_standard && w.owes_continue)) (after_number k final requests source new ended)) s date (Upgrade n protocol v) Done
+    → StepIsAnswered client before (with_asking_ended (w.holds_next_head || (w.by_standard && (w.owes_continue || is_long (remainder w.body)))) (after_number k final requests source new ended)) s date (Upgrade n protocol v) Done
 upgrade-done {R = R} client before k s date n protocol v w context new ended final requests source st from low e context_is granted come final_is requests_are sends firm =
     ⊎_elim in-turn (λ (t : OutOfTurn p.bs p.fs p.rs). absurd (t.turn (p.marks_before ∙ eqb-true n (first_unfinished k.marks) come ∙ ap first_unfinished p.marks_are))) (turn-at p.bs p.fs p.us p.rs p.before (subst S p.marks_are st.shape))
   where
@@ -290,7 +307,7 @@ upgrade-done {R = R} client before k s date n protocol v w context new ended fin
     h = p.waiting
 
     ends : Bool
-    ends = w.holds_next_head || (w.by_standard && w.owes_continue)
+    ends = w.holds_next_head || (w.by_standard && (w.owes_continue || is_long (remainder w.body)))
 
     s0 : Slot
     s0 = open_slot h.handed h.request h.given h.end_reported
@@ -308,7 +325,7 @@ upgrade-done {R = R} client before k s date n protocol v w context new ended fin
     slots = p.bs ++ (s1 ∷ p.cs)
 
     text : List ℕ
-    text = upgrade_text v protocol (to_request h.request date)
+    text = upgrade_text v protocol (to_request h.request.framing.is_last h.request date)
 
     slots_are : s.reached.slots ≡ p.bs ++ (s0 ∷ p.cs)
     slots_are = p.slots_are ∙ ap (λ x. p.bs ++ (x ∷ p.cs)) h.is
@@ -322,10 +339,10 @@ upgrade-done {R = R} client before k s date n protocol v w context new ended fin
         let Q : List (Option Unfinished) → Type 0 = λ q. InputStands client (with_reader over q source) slots s.reached.rest in
         reader-after client over final requests source new ended slots s.reached.rest (subst Q (sym requests_now) (reader-upgraded client k n source s.reached.slots s.reached.rest protocol v date w p from st.reader granted))
 
-    printed : printing_in context date ≡ to_request h.request date
+    printed : printing_in context date ≡ to_request h.request.framing.is_last h.request date
     printed = ap (λ c. printing_in c date) (sym context_is ∙ h.answer_context)
 
-    in-turn : InTurn p.bs p.fs p.rs → StepIsAnswered client before (with_asking_ended (w.holds_next_head || (w.by_standard && w.owes_continue)) (after_number k final requests source new ended)) s date (Upgrade n protocol v) Done
+    in-turn : InTurn p.bs p.fs p.rs → StepIsAnswered client before (with_asking_ended (w.holds_next_head || (w.by_standard && (w.owes_continue || is_long (remainder w.body)))) (after_number k final requests source new ended)) s date (Upgrade n protocol v) Done
     in-turn t =
         let long = longer-at s.reached.slots p.bs p.cs s0 s1 text slots_are t.finished refl refl now.segment_is in
         let m : More s.reached.slots slots text = record {
@@ -338,11 +355,11 @@ upgrade-done {R = R} client before k s date n protocol v w context new ended fin
         let go = output-more before k.sink new k.output_ended ended s.reached.slots slots text s.flushed s.failure st.output m low sent firm in
         let over = ended-is before k.sink k.output_ended s.reached.slots s.flushed s.failure st.output in
         let at = slot-at s.reached.slots p.bs p.cs s0 n slots_are p.slots_before in
-        let is : at_number true date s.reached n (Upgrade n protocol v) ≡ ends_asking (is_last_with_stream h.request h.handed.owed) (changes s.reached n s1 Done Unreported) =
+        let is : at_number true date s.reached n (Upgrade n protocol v) ≡ ends_asking (is_last_with_stream h.request h.handed.owed h.given h.end_reported) (changes s.reached n s1 Done Unreported) =
         ap (at_slot true date s.reached n (Upgrade n protocol v)) at.get ∙ rw (refuses-same p.s w h protocol v ∙ granted, at.turn ∙ t.finished) refl in
         let C : List Slot → Type 0 = λ x. AreSentInTurn x in
-        let new_state : State = record { reached = record { slots = slots; rest = s.reached.rest; asking_ended = s.reached.asking_ended || is_last_with_stream h.request h.handed.owed }; flushed = flushed_after Unreported s slots; failure = go.failure } in
-        let L : List Slot → Reached = λ l. record { slots = l; rest = s.reached.rest; asking_ended = s.reached.asking_ended || is_last_with_stream h.request h.handed.owed } in
+        let new_state : State = record { reached = record { slots = slots; rest = s.reached.rest; asking_ended = s.reached.asking_ended || is_last_with_stream h.request h.handed.owed h.given h.end_reported }; flushed = flushed_after Unreported s slots; failure = go.failure } in
+        let L : List Slot → Reached = λ l. record { slots = l; rest = s.reached.rest; asking_ended = s.reached.asking_ended || is_last_with_stream h.request h.handed.owed h.given h.end_reported } in
         let W : List Slot → Type 0 = λ l. WriterPart Unreported s Done l Done go.failure in
         let G : Outcome → Type 0 = λ x. HasOutcome x s Done new_state in
         let M : List Mark → Type 0 = λ y. AreKept slots y requests in
@@ -354,7 +371,7 @@ upgrade-done {R = R} client before k s date n protocol v w context new ended fin
             numbers = subst M (sym (final_is ∙ p.marks_are)) (subst Q (sym requests_now) (kept-append p.bs p.fs p.us (s1 ∷ p.cs) (Open ∷ p.rs) (Some (still.Upgraded kept_now) ∷ p.vs) p.before (now.upgraded, p.behind)));
             shape = subst K (sym final_is) st.shape;
             in_turn = turn-continued p.bs p.cs s0 s1 t.finished refl now.unfinished (subst C slots_are st.in_turn);
-            asking_ended = both-end s.reached.asking_ended k.asking_ended (is_last_with_stream h.request h.handed.owed) ends st.asking_ended (stream-same p.s w h);
+            asking_ended = both-end s.reached.asking_ended k.asking_ended (is_last_with_stream h.request h.handed.owed h.given h.end_reported) ends st.asking_ended (stream-same p.s w h);
             reader = reader;
             output = subst F (sym (flushed-is s k.output_ended slots over)) go.output;
           },

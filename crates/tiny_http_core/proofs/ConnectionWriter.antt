@@ -16,7 +16,7 @@ use Rattle.tiny_http_stream.specs.Source.{SourceState}
 use Rattle.tiny_http_turns.specs.Turns.{Mark, Open, AreInShape, first_unfinished}
 use Rattle.tiny_http_message.specs.declared.open_request.OpenRequest.{OpenRequest}
 use Rattle.tiny_http_message.specs.declared.body.Body.{Body}
-use Rattle.tiny_http_message.specs.Body.{GivesUp}
+use Rattle.tiny_http_message.specs.Body.{remainder, is_long, GivesUp}
 use Rattle.tiny_http_message.specs.Pipeline.{Item, Asks, Refuses, Request}
 use Rattle.tiny_http_encoding.specs.Text.{Whole}
 use Rattle.tiny_http_sending.specs.ResponseValue.{ResponseValue}
@@ -51,21 +51,21 @@ into_writer-not_taken n (Upgraded p r d w c) owed e = refl
 
 -- the slot whose raw writer was taken
 abbrev raw_slot : (s : Slot) (w : OpenRequest Body) → IsWaiting s w → Slot
-raw_slot s w h = finished_as (open_slot h.handed h.request h.given h.end_reported) (Raw [] false)
+raw_slot s w h = finished_as false (open_slot h.handed h.request h.given h.end_reported) (Raw [] false)
 
 pub into_writer-done : {R : Type 0} (client : Feed) (before : Sink) (k : Kept) (s : State) (date : HttpDate) (n : ℕ) (w : OpenRequest Body) (requests : List (Option Unfinished)) (old source : SourceState R) → Stands client before k s → IsInput k old → GivesUp w.body old source → slice_get k.requests n ≡ Some (Some (still.Waiting w))
-    → requests ≡ slice_set k.requests n (Some still.Raw) → StepIsAnswered client before (with_asking_ended (w.holds_next_head || (w.by_standard && w.owes_continue)) (with_reader k requests source)) s date (IntoWriter n) Done
+    → requests ≡ slice_set k.requests n (Some still.Raw) → StepIsAnswered client before (with_asking_ended (w.holds_next_head || (w.by_standard && (w.owes_continue || is_long (remainder w.body)))) (with_reader k requests source)) s date (IntoWriter n) Done
 into_writer-done {R = R} client before k s date n w requests old source st from gives e requests_are =
-    let L : List (Option Unfinished) → Type 0 = λ l. StepIsAnswered client before (with_asking_ended (w.holds_next_head || (w.by_standard && w.owes_continue)) (with_reader k l source)) s date (IntoWriter n) Done in
+    let L : List (Option Unfinished) → Type 0 = λ l. StepIsAnswered client before (with_asking_ended (w.holds_next_head || (w.by_standard && (w.owes_continue || is_long (remainder w.body)))) (with_reader k l source)) s date (IntoWriter n) Done in
     subst L (sym set) (
       state,
       record {
         numbers = subst M (sym p.marks_are) (kept-append p.bs p.fs p.us (s1 ∷ p.cs) (Open ∷ p.rs) (Some still.Raw ∷ p.vs) p.before (record { request = h.request; item = refl; written = []; stage = refl; given_up = refl }, p.behind));
         shape = st.shape;
         in_turn = turn-set p.bs p.cs s0 s1 (λ q. (q.0, λ z. refl)) (λ done. done) (subst T open_is st.in_turn);
-        asking_ended = both-end s.reached.asking_ended k.asking_ended (is_last_with_stream h.request h.handed.owed) ends st.asking_ended (stream-same p.s w h);
+        asking_ended = both-end s.reached.asking_ended k.asking_ended (is_last_with_stream h.request h.handed.owed h.given h.end_reported) ends st.asking_ended (stream-same p.s w h);
         reader = reader-ended client (with_reader k (p.us ++ (Some still.Raw ∷ p.vs)) source) (k.asking_ended || ends) slots s.reached.rest (neither k.asking_ended ends)
-            (reader-given_up client k old source p.bs p.cs p.us p.vs s.reached.rest p.s (Some (still.Waiting w)) (Some still.Raw) w.body (Raw [] false) (open-waiting p.s w h) refl refl from (subst P p.slots_are st.reader) p.requests_are (kept-many p.cs p.rs p.vs p.behind) gives);
+            (reader-given_up false client k old source p.bs p.cs p.us p.vs s.reached.rest p.s (Some (still.Waiting w)) (Some still.Raw) w.body (Raw [] false) (open-waiting p.s w h) refl refl from (subst P p.slots_are st.reader) p.requests_are (kept-many p.cs p.rs p.vs p.behind) gives);
         output = output-same before k.sink k.output_ended s.reached.slots slots s.flushed s.failure joined_same breaks_same st.output;
       },
       inl (true, tt, subst G (sym is) (ap A (sym (at.set s1)), refl, (refl, refl))),
@@ -78,7 +78,7 @@ into_writer-done {R = R} client before k s date n w requests old source st from 
     h = p.waiting
 
     ends : Bool
-    ends = w.holds_next_head || (w.by_standard && w.owes_continue)
+    ends = w.holds_next_head || (w.by_standard && (w.owes_continue || is_long (remainder w.body)))
 
     s0 : Slot
     s0 = open_slot h.handed h.request h.given h.end_reported
@@ -114,15 +114,15 @@ into_writer-done {R = R} client before k s date n w requests old source st from 
     breaks_same = ap is_output_broken open_is ∙ breaks-waits p.bs s0 p.cs refl refl ∙ sym (breaks-waits p.bs s1 p.cs refl refl)
 
     state : State
-    state = record { reached = record { slots = slots; rest = s.reached.rest; asking_ended = s.reached.asking_ended || is_last_with_stream h.request h.handed.owed }; flushed = s.flushed; failure = s.failure }
+    state = record { reached = record { slots = slots; rest = s.reached.rest; asking_ended = s.reached.asking_ended || is_last_with_stream h.request h.handed.owed h.given h.end_reported }; flushed = s.flushed; failure = s.failure }
 
     A : List Slot → Reached
-    A l = record { slots = l; rest = s.reached.rest; asking_ended = s.reached.asking_ended || is_last_with_stream h.request h.handed.owed }
+    A l = record { slots = l; rest = s.reached.rest; asking_ended = s.reached.asking_ended || is_last_with_stream h.request h.handed.owed h.given h.end_reported }
 
     G : Outcome → Type 0
     G o = HasOutcome o s Done state
 
-    is : at_number true date s.reached n (IntoWriter n) ≡ ends_asking (is_last_with_stream h.request h.handed.owed) (changes s.reached n s1 Done Unused)
+    is : at_number true date s.reached n (IntoWriter n) ≡ ends_asking (is_last_with_stream h.request h.handed.owed h.given h.end_reported) (changes s.reached n s1 Done Unused)
     is =
         let B : Slot → Outcome = λ x. at_slot true date s.reached n (IntoWriter n) (Some x) in
         ap (at_slot true date s.reached n (IntoWriter n)) at.get ∙ ap B h.is
@@ -233,11 +233,11 @@ abbrev pub written_slot : List ℕ → Slot → Slot
 written_slot bytes s = record s { stage = written_to bytes s.stage }
 
 -- what it sends
-longer-by : (bytes : List ℕ) (s : Slot) (stage : Stage) → ((item : Item) → (stage_text item s.date (written_to bytes stage)).bytes ≡ (stage_text item s.date stage).bytes ++ bytes) → s.stage ≡ stage → segment (written_slot bytes s) ≡ segment s ++ bytes
+longer-by : (bytes : List ℕ) (s : Slot) (stage : Stage) → ((item : Item) → (stage_text s.closes item s.date (written_to bytes stage)).bytes ≡ (stage_text s.closes item s.date stage).bytes ++ bytes) → s.stage ≡ stage → segment (written_slot bytes s) ≡ segment s ++ bytes
 longer-by bytes s stage more e =
-    let A : Stage → List ℕ = λ x. opening s.item s.continued ++ (stage_text s.item s.date (written_to bytes x)).bytes in
-    let B : Stage → List ℕ = λ x. (opening s.item s.continued ++ (stage_text s.item s.date x).bytes) ++ bytes in
-    ap A e ∙ ap (λ x. opening s.item s.continued ++ x) (more s.item) ∙ sym (append_assoc (opening s.item s.continued) (stage_text s.item s.date stage).bytes bytes) ∙ ap B (sym e)
+    let A : Stage → List ℕ = λ x. opening s.item s.continued ++ (stage_text s.closes s.item s.date (written_to bytes x)).bytes in
+    let B : Stage → List ℕ = λ x. (opening s.item s.continued ++ (stage_text s.closes s.item s.date x).bytes) ++ bytes in
+    ap A e ∙ ap (λ x. opening s.item s.continued ++ x) (more s.item) ∙ sym (append_assoc (opening s.item s.continued) (stage_text s.closes s.item s.date stage).bytes bytes) ∙ ap B (sym e)
 
 keeps-raw : (bytes : List ℕ) (s : Slot) → IsRaw s → KeepsOn s (written_slot bytes s) still.Raw bytes
 keeps-raw bytes s h = record {
@@ -446,16 +446,16 @@ flush-done {R = R} {T = T} client before k s date n u new ended r source st from
 
 -- the slot after a Finish
 abbrev pub closed_slot : Slot → Slot
-closed_slot s = finished_as s (stage_closed s.stage)
+closed_slot s = finished_as s.closes s (stage_closed s.stage)
 
-ends-closed : (s : Slot) (stage : Stage) → s.stage ≡ stage → is_stage_finished (stage_closed stage) ≡ true → ((item : Item) → (stage_text item s.date (stage_closed stage)).ending ≡ Whole) → ((item : Item) → (stage_text item s.date (stage_closed stage)).bytes ≡ (stage_text item s.date stage).bytes) → EndsAs s (closed_slot s) []
+ends-closed : (s : Slot) (stage : Stage) → s.stage ≡ stage → is_stage_finished (stage_closed stage) ≡ true → ((item : Item) → (stage_text s.closes item s.date (stage_closed stage)).ending ≡ Whole) → ((item : Item) → (stage_text s.closes item s.date (stage_closed stage)).bytes ≡ (stage_text s.closes item s.date stage).bytes) → EndsAs s (closed_slot s) []
 ends-closed s stage e finished whole same =
-    let A : Stage → List ℕ = λ x. opening s.item s.continued ++ (stage_text s.item s.date (stage_closed x)).bytes in
-    let B : Stage → List ℕ = λ x. opening s.item s.continued ++ (stage_text s.item s.date x).bytes in
+    let A : Stage → List ℕ = λ x. opening s.item s.continued ++ (stage_text s.closes s.item s.date (stage_closed x)).bytes in
+    let B : Stage → List ℕ = λ x. opening s.item s.continued ++ (stage_text s.closes s.item s.date x).bytes in
     record {
       finished = ap (λ x. is_stage_finished (stage_closed x)) e ∙ finished;
       given_up = refl;
-      whole = ap (λ x. is_broken (stage_text s.item s.date (stage_closed x)).ending) e ∙ ap is_broken (whole s.item);
+      whole = ap (λ x. is_broken (stage_text s.closes s.item s.date (stage_closed x)).ending) e ∙ ap is_broken (whole s.item);
       continued = refl;
       own = ap A e ∙ ap (λ x. opening s.item s.continued ++ x) (same s.item) ∙ ap B (sym e) ∙ sym (append-nil (segment s));
     }
@@ -475,7 +475,7 @@ reader-closed {R = R} client k bs cs us vs rest s still.Raw old source h e from 
 reader-closed client k bs cs us vs rest s (still.Upgraded b) old source h e from reader is same closes =
     let o = h.opened in
     let P : Slot → Type 0 = λ x. InputStands client (with_reader k (us ++ (None ∷ vs)) source) (bs ++ (x ∷ cs)) rest in
-    subst P (sym (ap closed_slot o.is)) (reader-given_up client k old source bs cs us vs rest s (Some (still.Upgraded b)) None b (stage_closed o.stage) o refl refl from reader is same closes)
+    subst P (sym (ap closed_slot o.is)) (reader-given_up false client k old source bs cs us vs rest s (Some (still.Upgraded b)) None b (stage_closed o.stage) o refl refl from reader is same closes)
 
 pub finish-done : {R : Type 0} (client : Feed) (before : Sink) (k : Kept) (s : State) (date : HttpDate) (n : ℕ) (u : Unfinished) (new : Sink) (ended : Bool) (final : List Mark) (requests : List (Option Unfinished)) (old source : SourceState R) → Stands client before k s → IsInput k old → GivesUpBody (kept_body (Some u)) old source → before.failures < 2 ^ 64 - 1
     → slice_get k.requests n ≡ Some (Some u) → is_writable (Some (Some u)) ≡ true → requests ≡ slice_set k.requests n None

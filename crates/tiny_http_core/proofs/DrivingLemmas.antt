@@ -8,7 +8,7 @@ use Rattle.tiny_http_wire.specs.Answer.{Answer, Printing, ResponseState}
 use Rattle.tiny_http_wire.specs.declared.device.Stop.{Stop}
 use Rattle.tiny_http_core.specs.declared.pending.Unfinished.{Unfinished}
 use Rattle.tiny_http_core.specs.declared.pending.Unfinished.TheVariants as still
-use Rattle.tiny_http_core.specs.Pending.{is_last_without_continue_at as kept_lacks, refuses_at, is_last_with_stream_at, last_holds_next_head, kept_body, GivesUpBody, refuses_upgrade_at}
+use Rattle.tiny_http_core.specs.Pending.{is_last_once_finished_at as kept_lacks, refuses_at, is_last_with_stream_at, last_holds_next_head, kept_body, GivesUpBody, refuses_upgrade_at}
 use Rattle.std.specs.List.{AllZip}
 use Rattle.tiny_http_core.specs.declared.driver.Timed.{Timed}
 use Rattle.tiny_http_core.specs.declared.driver.Reply.{Reply}
@@ -28,7 +28,7 @@ use Rattle.tiny_http_message.specs.OpenRequest.{refuses_code, request_check}
 use Rattle.tiny_http_message.specs.Body.{is_streaming, body_standing, is_whole}
 use Rattle.std.specs.Prelude.{MatchBool, is_err}
 use Rattle.tiny_http_core.specs.Connection.{Kept, ConnectionState, kept, Stands, HandedOut, open_slot, dropped}
-use Rattle.tiny_http_core.specs.Slots.{is_last_without_continue, turn_has_come}
+use Rattle.tiny_http_core.specs.Slots.{is_last_once_finished, turn_has_come}
 use Rattle.tiny_http_core.proofs.ConnectionDrop.{IsKeptOf, at-drop, at-unanswerable, at-refused}
 use Rattle.std.specs.Prelude.{String, string_bytes, slice_get}
 use Rattle.tiny_http_core.specs.Driving.{HasDone, TakesStep, AskEnds, StepEnds, EndsBehind, UpgradeEnds, ends_behind, IsDeclined, stated_response, stated_step, StepLeaves, AskLeaves, LetsGo, StandsAfter, ReportsFault, AnswerLeaves, UpgradeLeaves, IsDropping, RefusesHeads}
@@ -455,7 +455,7 @@ takes-upgrade feed all old new now n p r reply answers declined ends leaves done
 -- a step that drops a request
 pub drops-by : {R W : Type 0} (n : ℕ) (w : OpenRequest Body) (old new : ConnectionState R W) (now : HttpDate) → slice_get old.requests n ≡ Some (Some (still.Waiting w))
     → ((client : Feed) (before : Sink) (s : State) (asked : StepValue) (reply : ReplyValue)
-    → ((was : Reached) (by : HandedOut) (r : Request) (given : ℕ) (end_reported : Bool) → IsKeptOf w r given end_reported → slice_get was.slots n ≡ Some (open_slot by r given end_reported) → outcome true now was asked ≡ ends_asking (is_last_without_continue r by.owed) (changes was n (dropped by r given end_reported) reply (use_in_turn (turn_has_come n was.slots))))
+    → ((was : Reached) (by : HandedOut) (r : Request) (given : ℕ) (end_reported : Bool) → IsKeptOf w r given end_reported → slice_get was.slots n ≡ Some (open_slot by r given end_reported) → outcome true now was asked ≡ ends_asking (is_last_once_finished r by.owed given end_reported) (changes was n (dropped by r given end_reported) reply (use_in_turn (turn_has_come n was.slots))))
     → before.failures < 2 ^ 64 - 1 → Stands client before (kept old) s → StepIsAnswered client before (kept new) s now asked reply)
     → new.end ≡ ends_behind (kept_lacks (slice_get old.requests n)) old.end → LetsGo n old new → Moves false old new → (x : Step (Option Feed)) (reply : ReplyValue) → IsDropping old.requests n x reply → TakesStep old new now x reply
 drops-by n w old new now kept answers ends leaves moves = by

@@ -7,6 +7,7 @@ use Rattle.tiny_http_wire.specs.declared.device.Stop.{Stop}
 use Rattle.tiny_http_wire.specs.declared.device.Stop.TheVariants.{End}
 use Rattle.tiny_http_wire.specs.Coding.{coding_asked}
 use Rattle.tiny_http_wire.specs.Device.{Feed, Sink, IsFront, StatesKind, whole_feed}
+use Rattle.tiny_http_message.specs.OwnAnswer.{persistence_of}
 use Rattle.tiny_http_message.specs.declared.body.Body.{Body}
 use Rattle.tiny_http_wire.specs.declared.answer_context.AnswerContext.{AnswerContext}
 use Rattle.tiny_http_message.specs.declared.open_request.OpenRequest.{OpenRequest}
@@ -24,7 +25,7 @@ use Rattle.tiny_http_stream.specs.declared.source.Standing.{Standing}
 use Rattle.tiny_http_stream.specs.declared.source.Standing.TheVariants as at
 use Rattle.tiny_http_stream.specs.Outlet.{OutletState, output_of}
 use Rattle.tiny_http_message.specs.Pipeline.{Item, Asks, Refuses, Request, is_head_method, is_connect_method, body_length_or_0}
-use Rattle.tiny_http_core.specs.Slots.{Slot, Stage, ByServer, Raw, Upgraded, is_finished, is_slot_broken, segment, stage_text, joined, is_output_broken, new_slot, holds_next_head, asks_protocol, last_slot, is_last_slot, last_was_abandoned, rest_of}
+use Rattle.tiny_http_core.specs.Slots.{closes_now, Slot, Stage, ByServer, Raw, Upgraded, is_finished, is_slot_broken, segment, stage_text, joined, is_output_broken, new_slot, holds_next_head, asks_protocol, last_slot, is_last_slot, last_was_abandoned, rest_of}
 use Rattle.tiny_http_core.specs.Steps.{finished_as}
 use Rattle.tiny_http_sending.specs.ResponseValue.{ResponseValue}
 use Rattle.tiny_http_turns.specs.Turns.{Mark, Open, Left, Finished, AreInShape}
@@ -60,8 +61,8 @@ kept c =
     record { profile = c.profile; marks = c.marks; requests = c.requests; standing = c.source.standing; asking_ended = is_some c.end; feed = c.source.feed; stop = c.source.stop; is_over = c.source.is_over; sink = output_of c.outlet; output_ended = c.outlet.ended }
 
 -- how a request is answered
-abbrev pub answer_context_of : Request → AnswerContext
-answer_context_of r = record { version = r.message.version; asked_coding = coding_asked r.message.headers; no_body = is_head_method r.message.method }
+abbrev pub answer_context_of : Bool → Request → AnswerContext
+answer_context_of closes r = record { version = r.message.version; asked_coding = coding_asked r.message.headers; no_body = is_head_method r.message.method; persistence = persistence_of r.framing.by_standard closes }
 
 -- when a request was handed out, when its 100 was sent, if it was, and whether a 100 is still owed
 pub record HandedOut : Type 0 where
@@ -75,7 +76,7 @@ open_slot h r given end_reported = record (new_slot h.date (Asks r)) { continued
 
 -- what becomes of it if it is dropped
 abbrev pub dropped : HandedOut → Request → ℕ → Bool → Slot
-dropped h r given end_reported = finished_as (open_slot h r given end_reported) ByServer
+dropped h r given end_reported = finished_as (closes_now r h.owed given end_reported) (open_slot h r given end_reported) ByServer
 
 -- a request that was handed out and waits
 pub record IsWaiting (s : Slot) (w : OpenRequest Body) : Type 0 where
@@ -91,8 +92,8 @@ pub record IsWaiting (s : Slot) (w : OpenRequest Body) : Type 0 where
   pub upgrades : (protocol : List ℕ) → (w.holds_next_head && names_protocol w.upgrades.items protocol) ≡ asks_protocol request protocol
   pub unsent : handed.owed ≡ true → handed.continued ≡ None
   pub rest_is_last : request.framing.form ≡ Rest → request.framing.is_last ≡ true
-  pub answer_context : w.answer_context ≡ answer_context_of request
-  pub text : w.dropped.items ≡ (stage_text (Asks request) handed.date ByServer).bytes
+  pub answer_context : w.answer_context ≡ answer_context_of request.framing.is_last request
+  pub dropped : w.dropped ≡ record { is_taken = false; date = handed.date }
   pub fits : Fits request.framing.by_standard w.body request.framing.form (body_length_or_0 request.framing) given end_reported
   -- where the body isn't read from the input, this is left of it
   pub settled : is_streaming w.body ≡ false → (f : Feed) → remaining w.body (Some f) ≡ Some (taken_remaining (rest_of request given) f)
@@ -157,7 +158,7 @@ AreKept _ _ _ = ⊥
 
 -- nothing was sent under this number, or all that was is left for its turn
 abbrev pub HasSentNothing : Slot → Type 0
-HasSentNothing s = (s.continued ≡ None) × (is_finished s ≡ false → (stage_text s.item s.date s.stage).bytes ≡ [])
+HasSentNothing s = (s.continued ≡ None) × (is_finished s ≡ false → (stage_text s.closes s.item s.date s.stage).bytes ≡ [])
 
 -- what is sent is sent in its turn: nothing was sent behind the first number that isn't finished
 abbrev pub AreSentInTurn : List Slot → Type 0
@@ -181,7 +182,7 @@ behind_body (Some b) feed = option_map (λ (r : Remaining). r.behind) (remaining
 -- what is left of a number's body
 abbrev pub rest_in : ℕ → Item → Feed
 rest_in given (Asks r) = rest_of r given
-rest_in given (Refuses refusal version no_body last) = whole_feed []
+rest_in given (Refuses refusal manner no_body last) = whole_feed []
 
 abbrev pub slot_rest : Slot → Feed
 slot_rest s = rest_in s.given s.item
@@ -195,7 +196,7 @@ GivesRest (Some b) (Some s) feed = option_map (λ (r : Remaining). r.body) (rema
 -- what follows a number's body
 abbrev pub behind_item : Item → Feed
 behind_item (Asks r) = r.behind
-behind_item (Refuses refusal version no_body last) = whole_feed []
+behind_item (Refuses refusal manner no_body last) = whole_feed []
 
 -- behind the body that is kept of the last number the input gives what follows its request's
 abbrev pub FollowsLast : Option Body → Option Slot → Option Feed → Type 0

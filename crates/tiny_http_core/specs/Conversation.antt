@@ -11,7 +11,7 @@ use Rattle.tiny_http_wire.specs.declared.device.Stop.TheVariants.{End}
 use Rattle.tiny_http_stream.specs.ToCome.{stopped}
 use Rattle.tiny_http_sending.specs.ResponseValue.{ResponseValue}
 use Rattle.tiny_http_wire.specs.Answer.{IsGathered}
-use Rattle.tiny_http_core.specs.Slots.{Slot, is_finished, joined, is_output_broken, new_slot, rest_of, last_slot, last_is_open, is_last_slot, last_holds_reader, last_was_abandoned, turn_has_come, to_request}
+use Rattle.tiny_http_core.specs.Slots.{closes_now, Slot, is_finished, joined, is_output_broken, new_slot, rest_of, last_slot, last_is_open, is_last_slot, last_holds_reader, last_was_abandoned, turn_has_come, to_request}
 use Rattle.tiny_http_core.specs.Steps.{StepValue, Ask, Read, Respond, ReplyValue, NoSuch, Memory, WriterUse, Unused, Unreported, Reported, use_in_turn, Outcome, Reached, outcome}
 
 -- the writer's first fault: its kind, and all that the writer took
@@ -103,13 +103,13 @@ abbrev pub HasOutcome : Outcome → State → ReplyValue → State → Type 0
 HasOutcome o old reply new = (new.reached ≡ reached_by o) × (new.flushed ≡ flushed_after o.writer old o.slots) × WriterPart o.writer old o.reply o.slots reply new.failure
 
 -- the response's data are read whole before its head
-abbrev pub GathersFor : HttpDate → ResponseValue → Item → Type 0
-GathersFor date response (Asks r) = IsGathered response.answer (to_request r date)
-GathersFor date response (Refuses refusal version no_body last) = ⊥
+abbrev pub GathersFor : HttpDate → ResponseValue → Slot → Item → Type 0
+GathersFor date response s (Asks r) = IsGathered response.answer (to_request (closes_now r s.owed s.given s.end_reported) r date)
+GathersFor date response s (Refuses refusal manner no_body last) = ⊥
 
 abbrev pub GathersAt : HttpDate → ResponseValue → Option Slot → Type 0
 GathersAt date response None = ⊥
-GathersAt date response (Some s) = GathersFor date response s.item
+GathersAt date response (Some s) = GathersFor date response s s.item
 
 -- where no memory was found, the step had to gather
 abbrev pub MayLack : Bool → HttpDate → Reached → StepValue → Type 0
@@ -120,7 +120,7 @@ MayLack false date old _ = ⊥
 -- the item is a head that is refused, and after which the asking goes on
 abbrev pub IsPassedOver : Item → Type 0
 IsPassedOver (Asks r) = ⊥
-IsPassedOver (Refuses refusal version no_body last) = last ≡ false
+IsPassedOver (Refuses refusal manner no_body last) = last ≡ false
 
 -- the heads that were refused on the way are answered, if the turn of the first has come
 abbrev pub answers_to : List Slot → List Item → WriterUse
@@ -179,7 +179,7 @@ abbrev pub WithinBody : Profile → Slot → Item → Feed → List Item → Typ
 WithinBody p s (Asks r) feed rest =
     (next : Place) × RemainsAt r.framing.by_standard r.framing.form (body_length_or_0 r.framing - s.given) feed.bytes feed.stop (rest_of r s.given) next
     × Pipeline p (place_after r.framing.is_last next) feed.stop rest
-WithinBody p s (Refuses refusal version no_body last) feed rest = ⊥
+WithinBody p s (Refuses refusal manner no_body last) feed rest = ⊥
 
 abbrev pub WithinLast : Profile → Option Slot → Option Feed → List Item → Type 0
 WithinLast p (Some s) (Some feed) rest = WithinBody p s s.item feed rest

@@ -9,7 +9,6 @@ use Rattle.tiny_http_core.specs.declared.driver.Step.TheVariants as step
 use Rattle.tiny_http_stream.specs.Source.{SourceState, GoesOn, IsAtEnd}
 use Rattle.tiny_http_stream.specs.declared.source.Standing.{Standing}
 use Rattle.tiny_http_stream.specs.declared.source.Standing.TheVariants as at
-use Rattle.tiny_http_wire.specs.declared.common.HTTPVersion.{HTTPVersion}
 use Rattle.tiny_http_wire.specs.declared.common.StatusCode.{StatusCode}
 use Rattle.tiny_http_message.specs.declared.exchange.EndOfRequests.{EndOfRequests}
 use Rattle.tiny_http_message.specs.declared.exchange.EndOfRequests.TheVariants as because
@@ -17,13 +16,13 @@ use Rattle.tiny_http_message.specs.HeadReads.{EndsAt, IsBeforeHead, HasByteOrTim
 use Rattle.tiny_http_message.specs.declared.framing.Profile.{Profile}
 use Rattle.tiny_http_message.specs.declared.framing.Framing.{Framing}
 use Rattle.tiny_http_stream.specs.Outlet.{output_of, SentOn}
-use Rattle.tiny_http_message.specs.Pipeline.{Item, Refuses, Refusal, refusal_status, OneHead, Pipeline, Place, place_feed}
+use Rattle.tiny_http_message.specs.Pipeline.{Item, Manner, Refuses, Refusal, refusal_status, OneHead, Pipeline, Place, place_feed}
 use Rattle.tiny_http_core.specs.Steps.{StepValue, ReplyValue, Handed, Ended, NotYet, Done, Refused, NoSuch, Memory, Fault}
 use Rattle.tiny_http_core.specs.Conversation.{State, TimedValue, Run, start_state, IsFresh, IsPassedOver}
 use Rattle.tiny_http_wire.specs.declared.answer_context.AnswerContext.{AnswerContext}
 use Rattle.tiny_http_sending.specs.ResponseValue.{printing_in}
 use Rattle.tiny_http_sending.specs.Sending.{IsHonest, FailsOnce}
-use Rattle.tiny_http_core.specs.Pending.{waiting_answer_context, owes_continue, is_last_without_continue_at, refuses_at, refuses_upgrade_at, is_last_with_stream_at, last_holds_next_head, kept_body, GivesUpBody, with_body}
+use Rattle.tiny_http_core.specs.Pending.{waiting_answer_context, owes_continue, is_last_once_finished_at, refuses_at, refuses_upgrade_at, is_last_with_stream_at, last_holds_next_head, kept_body, GivesUpBody, with_body}
 use Rattle.tiny_http_message.specs.declared.body.Body.{Body}
 use Rattle.tiny_http_message.specs.declared.open_request.OpenRequest.{OpenRequest}
 use Rattle.tiny_http_core.specs.declared.pending.Unfinished.{Unfinished}
@@ -62,7 +61,7 @@ stated_step feed (step.Drop k) = step.Drop k
 -- the head that stands there is refused, with this status
 abbrev pub IsRefusal : Profile → Feed → EndOfRequests → Type 0
 IsRefusal p f why =
-    (status : StatusCode) × (refusal : Refusal) × (version : HTTPVersion) × (no_body : Bool) × OneHead p f.bytes f.stop (Some (Refuses refusal version no_body true)) None
+    (status : StatusCode) × (refusal : Refusal) × (manner : Manner) × (no_body : Bool) × OneHead p f.bytes f.stop (Some (Refuses refusal manner no_body true)) None
     × (status.0 ≡ refusal_status refusal) × (why ≡ because.Refused status)
 
 -- no request stands in these bytes: a head is refused, and ends the requests; or none stands there, for this reason
@@ -116,7 +115,7 @@ EndsBehind ends old new _ = new.end ≡ ends_behind ends old.end
 
 -- the same of an Upgrade: it gives the number the connection's stream, or drops it
 abbrev pub UpgradeEnds : {R W : Type 0} → ℕ → ConnectionState R W → ConnectionState R W → ReplyValue → Type 0
-UpgradeEnds k old new Refused = new.end ≡ ends_behind (is_last_without_continue_at (slice_get old.requests k)) old.end
+UpgradeEnds k old new Refused = new.end ≡ ends_behind (is_last_once_finished_at (slice_get old.requests k)) old.end
 UpgradeEnds k old new reply = EndsBehind (is_last_with_stream_at (slice_get old.requests k)) old new reply
 
 -- what a step says of the end of the requests
@@ -124,13 +123,13 @@ abbrev pub StepEnds : {R W : Type 0} → Step (Option Feed) → ConnectionState 
 StepEnds step.Ask old new reply = AskEnds old new reply
 StepEnds (step.AsReader k) old new reply = new.end ≡ old.end
 StepEnds (step.Read k n) old new reply = new.end ≡ old.end
-StepEnds (step.Respond k r) old new reply = EndsBehind (is_last_without_continue_at (slice_get old.requests k)) old new reply
+StepEnds (step.Respond k r) old new reply = EndsBehind (is_last_once_finished_at (slice_get old.requests k)) old new reply
 StepEnds (step.IntoWriter k) old new reply = EndsBehind (is_last_with_stream_at (slice_get old.requests k)) old new reply
 StepEnds (step.Write k bytes) old new reply = new.end ≡ old.end
 StepEnds (step.Flush k) old new reply = new.end ≡ old.end
 StepEnds (step.Upgrade k p r) old new reply = UpgradeEnds k old new reply
 StepEnds (step.Finish k) old new reply = new.end ≡ old.end
-StepEnds (step.Drop k) old new reply = EndsBehind (is_last_without_continue_at (slice_get old.requests k)) old new reply
+StepEnds (step.Drop k) old new reply = EndsBehind (is_last_once_finished_at (slice_get old.requests k)) old new reply
 
 -- the body that is kept of this number was given up
 abbrev pub GivesUpKept : {R W : Type 0} → ℕ → ConnectionState R W → ConnectionState R W → Type 0

@@ -9,8 +9,8 @@ use Rattle.tiny_http_core.specs.declared.pending.Unfinished.{Unfinished}
 use Rattle.tiny_http_core.specs.declared.pending.Unfinished.TheVariants as still
 use Rattle.tiny_http_message.specs.declared.body.Body.{Body}
 use Rattle.tiny_http_message.specs.declared.open_request.OpenRequest.{OpenRequest}
-use Rattle.tiny_http_message.specs.Body.{is_streaming, is_whole, GivesUp}
-use Rattle.tiny_http_message.specs.OpenRequest.{is_last_without_continue, refuses_code, request_check}
+use Rattle.tiny_http_message.specs.Body.{is_streaming, is_whole, remainder, GivesUp}
+use Rattle.tiny_http_message.specs.OpenRequest.{is_last_once_finished, final_context, refuses_code, request_check}
 use Rattle.tiny_http_stream.specs.Source.{SourceState}
 use Rattle.tiny_http_stream.specs.Outlet.{OutletState, output_of, outlet_ended, outlet_held, SentOn}
 use Rattle.tiny_http_sending.specs.Sending.{CanSend, SendsUnlessEnded, SendsQuietlyOn, IsFlushed, FailsOnce}
@@ -58,9 +58,9 @@ LeavesText in_turn front rest marks text was old new ended =
     (FinishesFront front rest marks × SendsUnlessEnded was old new ended (text ++ left_text rest) × IsFlushed new)
     ((marks ≡ front ++ (Left text ∷ rest)) × AreInShape marks × (new ≡ old) × (ended ≡ was))
 
--- how the request of a number is answered, if it waits for its answer
+-- how the request of a number is answered now, if it waits for its answer
 abbrev pub waiting_answer_context : Option (Option Unfinished) → Option AnswerContext
-waiting_answer_context (Some (Some (still.Waiting w))) = Some w.answer_context
+waiting_answer_context (Some (Some (still.Waiting w))) = Some (final_context w (remainder w.body))
 waiting_answer_context (Some (Some still.Raw)) = None
 waiting_answer_context (Some (Some (still.Upgraded b))) = None
 waiting_answer_context (Some None) = None
@@ -102,13 +102,13 @@ holds_next_head_at (Some (Some (still.Upgraded b))) = false
 holds_next_head_at (Some None) = false
 holds_next_head_at None = false
 
--- its 100 wasn't sent, and no head is read behind it once it is finished
-abbrev pub is_last_without_continue_at : Option (Option Unfinished) → Bool
-is_last_without_continue_at (Some (Some (still.Waiting w))) = is_last_without_continue w
-is_last_without_continue_at (Some (Some still.Raw)) = false
-is_last_without_continue_at (Some (Some (still.Upgraded b))) = false
-is_last_without_continue_at (Some None) = false
-is_last_without_continue_at None = false
+-- it waits for its answer, and no head is read behind it if it is finished now
+abbrev pub is_last_once_finished_at : Option (Option Unfinished) → Bool
+is_last_once_finished_at (Some (Some (still.Waiting w))) = is_last_once_finished w (remainder w.body)
+is_last_once_finished_at (Some (Some still.Raw)) = false
+is_last_once_finished_at (Some (Some (still.Upgraded b))) = false
+is_last_once_finished_at (Some None) = false
+is_last_once_finished_at None = false
 
 -- it waits for its answer, and one with this code is refused
 abbrev pub refuses_at : ℕ → Option (Option Unfinished) → Bool
@@ -128,7 +128,7 @@ refuses_upgrade_at protocol code None = false
 
 -- no head is read behind it once it gets the connection's stream
 abbrev pub is_last_with_stream_at : Option (Option Unfinished) → Bool
-is_last_with_stream_at o = holds_next_head_at o || is_last_without_continue_at o
+is_last_with_stream_at o = holds_next_head_at o || is_last_once_finished_at o
 
 -- the next head isn't read before the last of these is answered
 abbrev pub last_holds_next_head : List (Option Unfinished) → Bool

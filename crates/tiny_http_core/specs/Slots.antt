@@ -1,5 +1,5 @@
 -- The numbers of a connection: what stands under each, and what each sends.
-use Rattle.std.specs.Prelude.{ℕ, Bool, true, false, not, ◌&&◌, ◌||◌, List, [], ◌∷◌, ◌++◌, take, drop, Option, Some, None, is_err, if◌then◌else◌}
+use Rattle.std.specs.Prelude.{ℕ, ◌-◌, nat_lt, Bool, true, false, not, ◌&&◌, ◌||◌, List, [], ◌∷◌, ◌++◌, take, drop, Option, Some, None, is_err, if◌then◌else◌}
 use Rattle.std.specs.List.{list_all, last_or}
 use Rattle.std.specs.declared.io.ErrorKind.TheVariants.{OutOfMemory}
 use Rattle.httpdate.specs.declared.date.HttpDate.{HttpDate}
@@ -14,9 +14,12 @@ use Rattle.tiny_http_message.specs.declared.framing.Form.TheVariants.{Rest, Noth
 use Rattle.tiny_http_message.specs.Pipeline.{Item, Asks, Refuses, Request, is_head_method, is_connect_method, body_length_or_0}
 use Rattle.tiny_http_message.specs.OpenRequest.{refuses_code, upgrade_check}
 use Rattle.tiny_http_standard.specs.Judging.{names_protocol}
-use Rattle.tiny_http_sending.specs.ResponseValue.{ResponseValue, response_of, response_text, printing_to}
-use Rattle.tiny_http_message.specs.OwnAnswer.{own_printing, refusal_response}
-use Rattle.tiny_http_message.specs.Body.{body_finished}
+use Rattle.tiny_http_sending.specs.ResponseValue.{ResponseValue, response_of, response_text, upgrade_text, printing_to}
+use Rattle.tiny_http_message.specs.OwnAnswer.{own_printing, persistence_of, refusal_response}
+use Rattle.tiny_http_message.specs.declared.body.TheConstants.{MOST_SKIPPED}
+use Rattle.tiny_http_message.specs.declared.body.Remainder.{Remainder}
+use Rattle.tiny_http_message.specs.declared.body.Remainder.TheVariants as left
+use Rattle.tiny_http_message.specs.Body.{body_finished, is_long, is_skipped}
 
 -- what became of a number
 pub data Stage : Type 0 where
@@ -33,7 +36,8 @@ pub data Stage : Type 0 where
 
 -- A number that was reached: its item, the date of its Ask, the date of its 100 if that was sent, whether a 100 is still
 -- owed, how many bytes of its body were given out, whether the body's end or fault was reported, whether the body was given
--- up, and what became of it.
+-- up, what was decided as it was finished (whether, by the standard, its answer says that the connection ends), and
+-- what became of it.
 pub record Slot : Type 0 where
   pub item : Item
   pub date : HttpDate
@@ -42,6 +46,7 @@ pub record Slot : Type 0 where
   pub given : ℕ
   pub end_reported : Bool
   pub given_up : Bool
+  pub closes : Bool
   pub stage : Stage
 
 -- what a dropped request is answered
@@ -52,41 +57,45 @@ drop_response = response_of 500 [] []
 abbrev pub continue_response : ResponseValue
 continue_response = response_of 100 [] []
 
--- an answer to a request: in its version, by its headers, without a body for HEAD
-abbrev pub to_request : Request → HttpDate → Printing
-to_request r date = printing_to (coding_asked r.message.headers) r.message.version (is_head_method r.message.method) date
+-- an answer to a request: in its version, by its headers, without a body for HEAD; by the standard it says whether the connection ends
+abbrev pub to_request : Bool → Request → HttpDate → Printing
+to_request closes r date = printing_to (coding_asked r.message.headers) r.message.version (is_head_method r.message.method) (persistence_of r.framing.by_standard closes) date
 
 -- how an answer under an item is printed
-abbrev pub printing_for : Item → HttpDate → Printing
-printing_for (Asks r) date = to_request r date
-printing_for (Refuses refusal version no_body last) date = own_printing version no_body date
+abbrev pub printing_for : Bool → Item → HttpDate → Printing
+printing_for closes (Asks r) date = to_request closes r date
+printing_for closes (Refuses refusal manner no_body last) date = own_printing manner no_body date
 
 abbrev pub server_response : Item → ResponseValue
 server_response (Asks r) = drop_response
-server_response (Refuses refusal version no_body last) = refusal_response refusal
+server_response (Refuses refusal manner no_body last) = refusal_response refusal
 
 -- the text of a response; no byte where its data had to be read whole first and no memory was found
 abbrev pub text_if : Bool → ResponseValue → Printing → Text
 text_if true r p = response_text r p
 text_if false r p = nothing_sent OutOfMemory
 
+-- the number has the last head
+abbrev pub is_last_item : Item → Bool
+is_last_item (Asks r) = r.framing.is_last
+is_last_item (Refuses refusal manner no_body last) = last
+
 -- what a stage sends
-abbrev pub stage_text : Item → HttpDate → Stage → Text
-stage_text item date Unanswered = whole []
-stage_text item date (Answered response at found) = text_if found response (printing_for item at)
-stage_text item date ByServer = response_text (server_response item) (printing_for item date)
-stage_text item date (Raw written closed) = whole written
-stage_text item date (Upgraded protocol response at written closed) =
-    whole ((response_text response (record (printing_for item at) { upgrade = Some protocol })).bytes ++ written)
+abbrev pub stage_text : Bool → Item → HttpDate → Stage → Text
+stage_text closes item date Unanswered = whole []
+stage_text closes item date (Answered response at found) = text_if found response (printing_for closes item at)
+stage_text closes item date ByServer = response_text (server_response item) (printing_for closes item date)
+stage_text closes item date (Raw written closed) = whole written
+stage_text closes item date (Upgraded protocol response at written closed) = whole (upgrade_text response protocol (printing_for (is_last_item item) item at) ++ written)
 
 -- the 100 in front, if it was sent
 abbrev pub opening : Item → Option HttpDate → List ℕ
 opening item None = []
-opening item (Some date) = (response_text continue_response (printing_for item date)).bytes
+opening item (Some date) = (response_text continue_response (printing_for (is_last_item item) item date)).bytes
 
 -- THE SEGMENT: the part of the output that belongs to a number, and how it ends
 abbrev pub slot_text : Slot → Text
-slot_text s = prepend_text (opening s.item s.continued) (stage_text s.item s.date s.stage)
+slot_text s = prepend_text (opening s.item s.continued) (stage_text s.closes s.item s.date s.stage)
 
 abbrev pub segment : Slot → List ℕ
 segment s = (slot_text s).bytes
@@ -126,9 +135,9 @@ is_output_broken (s ∷ slots) = is_slot_broken s || (is_finished s && is_output
 -- the slot of an item that is reached
 abbrev pub new_slot : HttpDate → Item → Slot
 new_slot date (Asks r) =
-    record { item = Asks r; date = date; continued = None; owed = r.framing.owes_continue; given = 0; end_reported = false; given_up = false; stage = Unanswered }
-new_slot date (Refuses refusal version no_body last) =
-    record { item = Refuses refusal version no_body last; date = date; continued = None; owed = false; given = 0; end_reported = false; given_up = true; stage = ByServer }
+    record { item = Asks r; date = date; continued = None; owed = r.framing.owes_continue; given = 0; end_reported = false; given_up = false; closes = false; stage = Unanswered }
+new_slot date (Refuses refusal manner no_body last) =
+    record { item = Refuses refusal manner no_body last; date = date; continued = None; owed = false; given = 0; end_reported = false; given_up = true; closes = false; stage = ByServer }
 
 -- what is left of a request's body
 abbrev pub rest_of : Request → ℕ → Feed
@@ -150,19 +159,18 @@ is_form_streamed Rest = true
 is_form_streamed Nothing = false
 is_form_streamed WithHead = false
 
--- the number has the last head
-abbrev pub is_last_item : Item → Bool
-is_last_item (Asks r) = r.framing.is_last
-is_last_item (Refuses refusal version no_body last) = last
-
 -- the body is read from the stream, isn't finished and wasn't given up
 abbrev pub body_is_open : Slot → Item → Bool
 body_is_open s (Asks r) = is_form_streamed r.framing.form && not (is_body_finished r s || s.given_up)
-body_is_open s (Refuses refusal version no_body last) = false
+body_is_open s (Refuses refusal manner no_body last) = false
 
 abbrev pub is_chunked : Form → Bool
 is_chunked Chunked = true
 is_chunked _ = false
+
+abbrev pub is_counted : Form → Bool
+is_counted Counted = true
+is_counted _ = false
 
 abbrev pub is_unanswered : Stage → Bool
 is_unanswered Unanswered = true
@@ -172,10 +180,22 @@ is_unanswered _ = false
 abbrev pub holds_next_head : Request → Bool
 holds_next_head r = r.framing.asks_upgrade && not r.framing.is_last
 
--- Its 100 wasn't sent, and it was read by the standard: the client may leave the body out, or send it, so that no head is read behind
--- it once it is finished.
-abbrev pub is_last_without_continue : Request → Bool → Bool
-is_last_without_continue r owed = r.framing.by_standard && owed
+-- What is left of the body of a request, if it is finished now. Its end isn't known where chunks were not read to their end, or a read met
+-- its cut or its break.
+abbrev pub remainder_of : Request → ℕ → Bool → Remainder
+remainder_of r given end_reported =
+    if (is_chunked r.framing.form && not end_reported) || (body_finished r.framing.form (body_length_or_0 r.framing) given end_reported && not (is_end r.body.stop)) then left.Endless else
+    if is_counted r.framing.form && (not end_reported && nat_lt MOST_SKIPPED (body_length_or_0 r.framing - given)) then left.Long else left.Skipped
+
+-- No head is read behind a request that is finished now: by the standard its 100 wasn't sent, so that the client may leave the body out, or
+-- send it; or more is left of its body than is skipped.
+abbrev pub is_last_once_finished : Request → Bool → ℕ → Bool → Bool
+is_last_once_finished r owed given end_reported = r.framing.by_standard && (owed || is_long (remainder_of r given end_reported))
+
+-- By the standard the answer of a request that is finished now says that the connection ends: its head ended it, its 100 is owed, or more
+-- is left of its body than is skipped.
+abbrev pub closes_now : Request → Bool → ℕ → Bool → Bool
+closes_now r owed given end_reported = r.framing.is_last || (owed || not (is_skipped (remainder_of r given end_reported)))
 
 -- the request isn't answered by this response
 abbrev pub refuses_response : Request → ResponseValue → Bool
@@ -205,12 +225,12 @@ upgraded_slot r s stage =
 -- the next head isn't read before this number is answered
 abbrev pub is_holding : Slot → Item → Bool
 is_holding s (Asks r) = holds_next_head r && is_unanswered s.stage
-is_holding s (Refuses refusal version no_body last) = false
+is_holding s (Refuses refusal manner no_body last) = false
 
 -- a chunked body was given up before its end was reported: where the next head begins isn't known
 abbrev pub body_was_abandoned : Slot → Item → Bool
 body_was_abandoned s (Asks r) = is_chunked r.framing.form && (s.given_up && not s.end_reported)
-body_was_abandoned s (Refuses refusal version no_body last) = false
+body_was_abandoned s (Refuses refusal manner no_body last) = false
 
 abbrev pub last_slot : List Slot → Option Slot
 last_slot slots = last_or None slots

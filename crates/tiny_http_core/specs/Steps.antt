@@ -10,7 +10,7 @@ use Rattle.tiny_http_message.specs.declared.framing.Framing.{Framing}
 use Rattle.tiny_http_message.specs.Pipeline.{Item, Asks, Refuses, Request}
 use Rattle.tiny_http_sending.specs.ResponseValue.{ResponseValue}
 use Rattle.tiny_http_sending.specs.Sending.{is_closed_client}
-use Rattle.tiny_http_core.specs.Slots.{Slot, Stage, Unanswered, Answered, ByServer, Raw, Upgraded, turn_has_come, to_request, text_if, new_slot, rest_of, last_slot, holds_next_head, is_last_without_continue, refuses_response, refuses_upgrade, upgraded_slot, last_holds_reader, last_was_abandoned}
+use Rattle.tiny_http_core.specs.Slots.{Slot, Stage, Unanswered, Answered, ByServer, Raw, Upgraded, turn_has_come, to_request, text_if, new_slot, rest_of, last_slot, holds_next_head, is_last_once_finished, closes_now, refuses_response, refuses_upgrade, upgraded_slot, last_holds_reader, last_was_abandoned}
 
 -- a step, with its response as a value
 pub data StepValue : Type 0 where
@@ -75,8 +75,8 @@ abbrev pub asks_from : HttpDate → WriterUse → List Slot → List Item → Ou
 asks_from date writer slots [] = record { reply = Ended; slots = slots; rest = []; asking_ended = true; writer = writer }
 asks_from date writer slots (Asks r ∷ items) =
     record { reply = Handed (length slots) r.message r.framing; slots = slots ++ new_slot date (Asks r) ∷ []; rest = items; asking_ended = false; writer = writer }
-asks_from date writer slots (Refuses refusal version no_body last ∷ items) =
-    asks_from date (if turn_has_come (length slots) slots then Unreported else writer) (slots ++ new_slot date (Refuses refusal version no_body last) ∷ []) items
+asks_from date writer slots (Refuses refusal manner no_body last ∷ items) =
+    asks_from date (if turn_has_come (length slots) slots then Unreported else writer) (slots ++ new_slot date (Refuses refusal manner no_body last) ∷ []) items
 
 -- The answer to an Ask: Ended once it was; NotYet while the last request handed out holds the reader; Ended after a chunked
 -- body that was given up before its end; else the next request of the pipeline, or its end.
@@ -97,8 +97,8 @@ read_reply n [] close = close_reply close
 read_reply n (b ∷ left) close = Given (take n (b ∷ left))
 
 -- the number ends so, and its body is given up
-abbrev pub finished_as : Slot → Stage → Slot
-finished_as s stage = record s { stage = stage; given_up = true; owed = false }
+abbrev pub finished_as : Bool → Slot → Stage → Slot
+finished_as closes s stage = record s { stage = stage; given_up = true; owed = false; closes = closes }
 
 -- more bytes were written, or the stream ends
 abbrev pub written_to : List ℕ → Stage → Stage
@@ -154,9 +154,9 @@ use_in_turn false = Unused
 abbrev pub ends_asking : Bool → Outcome → Outcome
 ends_asking ends o = record o { asking_ended = o.asking_ended || ends }
 
--- No head is read behind a request that gets the connection's stream, if it holds the next head or its 100 wasn't sent.
-abbrev pub is_last_with_stream : Request → Bool → Bool
-is_last_with_stream r owed = holds_next_head r || is_last_without_continue r owed
+-- No head is read behind a request that gets the connection's stream now, if it holds the next head or would be the last.
+abbrev pub is_last_with_stream : Request → Bool → ℕ → Bool → Bool
+is_last_with_stream r owed given end_reported = holds_next_head r || is_last_once_finished r owed given end_reported
 
 -- a step that the number of a request takes, in its time
 abbrev pub effect : Bool → HttpDate → Reached → Request → Slot → Bool → StepValue → Outcome
@@ -167,22 +167,23 @@ effect found date old r s turn (Read k n) =
     else changes old k (record s { given = s.given + length (take n (rest_of r s.given).bytes); end_reported = s.end_reported || nat_lt (length (rest_of r s.given).bytes) n })
     (read_reply n (rest_of r s.given).bytes r.body.stop) Unused
 effect found date old r s turn (Respond k response) =
-    let text = text_if found response (to_request r date) in
-    if refuses_response r response then ends_asking (is_last_without_continue r s.owed) (changes old k (finished_as s ByServer) Refused (use_in_turn turn)) else
-    ends_asking (is_last_without_continue r s.owed) (changes old k (finished_as s (Answered response date found)) Done (Reported text.bytes (fault_in text.ending) true fault_reply))
-effect found date old r s turn (IntoWriter k) = ends_asking (is_last_with_stream r s.owed) (changes old k (record s { stage = Raw [] false; given_up = true; owed = false }) Done Unused)
+    let closes = closes_now r s.owed s.given s.end_reported in
+    let text = text_if found response (to_request closes r date) in
+    if refuses_response r response then ends_asking (is_last_once_finished r s.owed s.given s.end_reported) (changes old k (finished_as closes s ByServer) Refused (use_in_turn turn)) else
+    ends_asking (is_last_once_finished r s.owed s.given s.end_reported) (changes old k (finished_as closes s (Answered response date found)) Done (Reported text.bytes (fault_in text.ending) true fault_reply))
+effect found date old r s turn (IntoWriter k) = ends_asking (is_last_with_stream r s.owed s.given s.end_reported) (changes old k (record s { stage = Raw [] false; given_up = true; owed = false }) Done Unused)
 effect found date old r s turn (Write k bytes) = changes old k (record s { stage = written_to bytes s.stage }) Done (Reported bytes None false Fault)
 effect found date old r s turn (Flush k) = changes old k s Done (Reported [] None true Fault)
 effect found date old r s turn (Upgrade k protocol response) =
     if refuses_upgrade r s protocol response
-    then ends_asking (is_last_without_continue r s.owed) (changes old k (finished_as s ByServer) Refused (use_in_turn turn))
-    else ends_asking (is_last_with_stream r s.owed) (changes old k (upgraded_slot r s (Upgraded protocol response date [] false)) Done Unreported)
-effect found date old r s turn (Finish k) = changes old k (finished_as s (stage_closed s.stage)) Done (use_in_turn turn)
-effect found date old r s turn (Drop k) = ends_asking (is_last_without_continue r s.owed) (changes old k (finished_as s ByServer) Done (use_in_turn turn))
+    then ends_asking (is_last_once_finished r s.owed s.given s.end_reported) (changes old k (finished_as (closes_now r s.owed s.given s.end_reported) s ByServer) Refused (use_in_turn turn))
+    else ends_asking (is_last_with_stream r s.owed s.given s.end_reported) (changes old k (upgraded_slot r s (Upgraded protocol response date [] false)) Done Unreported)
+effect found date old r s turn (Finish k) = changes old k (finished_as s.closes s (stage_closed s.stage)) Done (use_in_turn turn)
+effect found date old r s turn (Drop k) = ends_asking (is_last_once_finished r s.owed s.given s.end_reported) (changes old k (finished_as (closes_now r s.owed s.given s.end_reported) s ByServer) Done (use_in_turn turn))
 effect found date old r s turn Ask = unchanged old NoSuch
 
 abbrev pub at_item : Bool → HttpDate → Reached → ℕ → StepValue → Slot → Item → Outcome
-at_item found date old k step s (Refuses refusal version no_body last) = unchanged old NoSuch
+at_item found date old k step s (Refuses refusal manner no_body last) = unchanged old NoSuch
 at_item found date old k step s (Asks r) =
     if not (accepts_step s.stage s.owed step) then unchanged old NoSuch else
     if (needs_turn r s step && not (turn_has_come k old.slots)) then unchanged old NotYet else

@@ -3,6 +3,7 @@ ghost use Rattle.std.specs.Global.{Global as Heap, Vec};
 ghost use Rattle.std.specs.Prelude.{◌≡◌, ℕ, ◌+◌, ◌-◌, ◌<◌, ◌^◌, true, false, List, [], length, Some, None, Ok, IfOk, IfErr, IsTrue, is_some, slice_get, String, string_bytes};
 ghost use Rattle.tiny_http_wire.specs.Device.{Feed, Sink};
 ghost use Rattle.tiny_http_sending.specs.ResponseValue.{ResponseValue};
+ghost use Rattle.tiny_http_message.specs.OpenRequest.{final_context};
 ghost use Rattle.tiny_http_message.specs.Pipeline.{Item, Pipeline};
 ghost use Rattle.tiny_http_core.specs.Conversation.{IsConversation, IsFresh, TimedValue};
 ghost use Rattle.httpdate.specs.declared.date.HttpDate.{HttpDate as Date};
@@ -22,7 +23,7 @@ use std::alloc::{AllocError, Global};
 use std::io;
 use std::io::ErrorKind;
 use std::marker::Model;
-use tiny_http_message::body::Body;
+use tiny_http_message::body::{Body, Remainder};
 use tiny_http_message::exchange::{EndOfRequests, Head};
 use tiny_http_message::framing::Profile;
 use tiny_http_message::next_request::{NextRequest, next_request};
@@ -154,28 +155,29 @@ impl Reply {
     }
 }
 
-// Answers a request whose turn has come, and says how that is replied. An output that has ended sends nothing, and the data
-// are left unread.
+// Answers a request whose turn has come, of whose body this is left, and says how that is replied. An output that has ended
+// sends nothing, and the data are left unread.
 fn answer<W: WriteDevice, D: ReadDevice + Drop>(
     alloc: Global,
     request: &mut OpenRequest<Body>,
     outlet: &mut Outlet<W>,
     response: Response<D>,
+    left: Remainder,
     now: HttpDate,
 ) -> Reply
     ensures past { outlet_ended outlet.old ≡ true → (outlet.new ≡ outlet.old) × (seen result ≡ Done) }
     ensures sends { (content : Feed) → D.feed response.data_reader ≡ Some content → length content.bytes < 2 ^ 63
         → outlet_ended outlet.old ≡ false → CanSend (output_of outlet.old)
-        → Answers (output_of outlet.old) (output_of outlet.new) (outlet_ended outlet.new) (seen result) response.answer content (printing_in request.old.answer_context now) }
+        → Answers (output_of outlet.old) (output_of outlet.new) (outlet_ended outlet.new) (seen result) response.answer content (printing_in (final_context request.old left) now) }
     ensures fails_once { FailsOnce outlet.old outlet.new }
     ensures flushed { outlet_held outlet.new ≡ [] }
     ensures sent_on { SentOn outlet.new }
     ensures body { request.new.body ≡ request.old.body }
     ensures done { IsAnswered (seen result) }
     ensures honest { (kind : ErrorKind) → seen result ≡ Fault kind → (outlet_ended outlet.new ≡ true)
-        × IsHonest (output_of outlet.old) (output_of outlet.new) response.answer (D.feed response.data_reader) (printing_in request.old.answer_context now) kind }
+        × IsHonest (output_of outlet.old) (output_of outlet.new) response.answer (D.feed response.data_reader) (printing_in (final_context request.old left) now) kind }
 {
-    Reply::write_reply(reported(request.respond(alloc, outlet, response, now)))
+    Reply::write_reply(reported(request.respond(alloc, outlet, response, left, now)))
 }
 
 // Why the requests end, where no head is read behind a request, if this holds.
@@ -257,7 +259,8 @@ impl<R: ReadDevice, W: WriteDevice> Connection<R, W> {
     /// a 505 does so only where its head names an upgrade or its body is chunked. After any other 505 the same call reads the
     /// next head. `Memory` ends the asking too, and so does a chunked body that was given up before its end. Under `Standard`
     /// each 505 ends it; so does a request that asked for an upgrade, once its raw writer is taken or it is upgraded, and one
-    /// that is answered, dropped or gives its raw writer while its 100 is owed. The call waits for the client only until the
+    /// that is answered, dropped or gives its raw writer while its 100 is owed, or while more than 65,536 bytes of its body are
+    /// unread. The call waits for the client only until the
     /// head and a body of up to 1024 bytes have come, or the head alone where it expects a 100, and before them the rest of a
     /// counted body that was given up or passed over. After the last request the reader isn't called. `now` dates the answers
     /// to refused heads, and the 500 of this request if it is dropped.
@@ -349,7 +352,8 @@ impl<R: ReadDevice, W: WriteDevice> Connection<R, W> {
     /// Drops the request of this number, and gives its body up: an empty 500 is its answer, on the date of its `ask`. It is
     /// sent now, or by the call that finishes the last number before it; it is never `NotYet`. `Done`, or `NoSuch` for a number
     /// that doesn't wait for an answer. It takes no memory, and no reply reports a fault of the writer. Under `Standard` no request
-    /// follows one that is dropped or answered while its 100 is owed.
+    /// follows one that is dropped or answered while its 100 is owed, or while more than 65,536 bytes of its body are unread. The
+    /// 500 says `close` as an answer by `respond` does.
     pub fn drop_request(&mut self, number: u64) -> Reply
         ensures step { (date : Date) → TakesStep self.old self.new date (Step.Drop number) (seen result) }
     {
@@ -367,8 +371,9 @@ impl<R: ReadDevice, W: WriteDevice> Connection<R, W> {
         let Some(request) = self.pending.take(number, None) else {
             return false;
         };
-        self.end = ends_behind(request.is_last_without_continue(), self.end);
-        let (text, mut body) = request.into_drop_text();
+        let left = request.body.remainder();
+        self.end = ends_behind(request.is_last_once_finished(left), self.end);
+        let (text, mut body) = request.into_drop_text(left);
         self.pending.leave(&mut self.outlet, number, text);
         body.give_up(&mut self.source);
         true
@@ -380,7 +385,9 @@ impl<R: ReadDevice, W: WriteDevice> Connection<R, W> {
     /// a fault of kind `OutOfMemory`. `now` is the answer's `Date`.
     /// `NotYet` while a number before it isn't finished, and `NoSuch` for a number that doesn't wait for an answer: then the
     /// response is let go, and nothing has changed. Under `Standard` it is `Refused`, in its turn or before it, where the code is
-    /// below 200 or above 999, or a 2xx to `CONNECT`: then the request is dropped.
+    /// below 200 or above 999, or a 2xx to `CONNECT`: then the request is dropped. The answer says there
+    /// `Connection: close` where the request is the last by its head, its 100 is owed, more than 65,536 bytes of its counted body
+    /// weren't given out, or the end of its body isn't known. What a later `ask` meets doesn't change it.
     pub fn respond<D: ReadDevice + Drop>(
         &mut self,
         alloc: Global,
@@ -403,8 +410,9 @@ impl<R: ReadDevice, W: WriteDevice> Connection<R, W> {
         let Some(mut request) = self.pending.take(number, None) else {
             unreachable!()
         };
-        self.end = ends_behind(request.is_last_without_continue(), self.end);
-        let reply = answer(alloc, &mut request, &mut self.outlet, response, now);
+        let left = request.body.remainder();
+        self.end = ends_behind(request.is_last_once_finished(left), self.end);
+        let reply = answer(alloc, &mut request, &mut self.outlet, response, left, now);
         self.pending.pass(&mut self.outlet, number);
         request.give_up(&mut self.source);
         reply
@@ -413,14 +421,16 @@ impl<R: ReadDevice, W: WriteDevice> Connection<R, W> {
     /// Takes the raw writer of the request of this number in place of an answer, and gives its body up: `Done`, in its turn or
     /// before it, or `NoSuch` for a number that doesn't wait for an answer. Nothing is sent: after a 100 that was sent before,
     /// the bytes that `write` writes are all that the client gets for the request. A 100 that is owed isn't sent any more. Under
-    /// `Standard` no request follows one whose head says `asks_upgrade`, or whose 100 is owed.
+    /// `Standard` no request follows one whose head says `asks_upgrade`, whose 100 is owed, or of whose body more than 65,536
+    /// bytes are unread.
     pub fn into_writer(&mut self, number: u64) -> Reply
         ensures step { (date : Date) → TakesStep self.old self.new date (Step.IntoWriter number) (seen result) }
     {
         let Some(mut request) = self.pending.take(number, Some(Unfinished::Raw)) else {
             return Reply::NoSuch;
         };
-        self.end = ends_behind(request.is_last_with_stream(), self.end);
+        let left = request.body.remainder();
+        self.end = ends_behind(request.is_last_with_stream(left), self.end);
         request.give_up(&mut self.source);
         Reply::Done
     }

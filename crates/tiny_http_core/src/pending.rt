@@ -151,12 +151,14 @@ impl Pending {
     }
 
     /// Whether this number waits for its answer, and no head is read behind it once it gets the connection's stream: it holds the
-    /// next head, or lacks its 100.
+    /// next head, or would be the last if it were answered.
     pub fn is_last_with_stream(&self, number: u64) -> bool
         ensures { result ≡ is_last_with_stream_at (slice_get self.now.requests number) }
     {
         match self.requests.get(number) {
-            Some(Unfinished::Waiting(request)) => request.is_last_with_stream(),
+            Some(Unfinished::Waiting(request)) => {
+                request.is_last_with_stream(request.body.remainder())
+            }
             _ => false,
         }
     }

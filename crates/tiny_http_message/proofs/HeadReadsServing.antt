@@ -46,7 +46,7 @@ use Rattle.tiny_http_stream.specs.ToCome.{skipped, stopped}
 use Rattle.tiny_http_message.specs.Body.{Remaining, remaining, chunk_rules, taken_remaining, counted_remaining, cut_feed, cut_stop, coming_remaining, PassesOver, Fits, IsBodyOver, ReadsOn}
 use Rattle.tiny_http_message.specs.OpenRequest.{KeepsHead}
 use Rattle.tiny_http_stream.specs.Source.{TakesExactly, feed_from, IsCutOff}
-use Rattle.tiny_http_message.specs.Pipeline.{Asks, Refusal, BadRequest, RequestTimeout, ExpectationFailed, HeaderFieldsTooLarge, VersionNotSupported, refusal_status, framing_refusal, is_head_method, ends_too_new, Place, head_limit, BeginsWithin, IsUnfinishedHead, IsCutHead, IsRequestHead, Heading, RulesHeadAt, HeadAt, profile_of, Silence, Refused, Heads, IsCutWithHead, is_timed_out, body_length_or_0, BodyAt, OneHead, item_of, next_place, place_after, place_feed}
+use Rattle.tiny_http_message.specs.Pipeline.{Manner, plainly, Asks, Refusal, BadRequest, RequestTimeout, ExpectationFailed, HeaderFieldsTooLarge, VersionNotSupported, refusal_status, framing_refusal, is_head_method, ends_too_new, Place, head_limit, BeginsWithin, IsUnfinishedHead, IsCutHead, IsRequestHead, Heading, RulesHeadAt, HeadAt, profile_of, Silence, Refused, Heads, IsCutWithHead, is_timed_out, body_length_or_0, BodyAt, OneHead, item_of, next_place, place_after, place_feed}
 use Rattle.tiny_http_message.specs.HeadReads.{ReadsMessage, ReadsHead, RefusesWith, AnswersCut, AnswersFault, RefusesTooNew, IsBadLine, IsRefusedUncut, IsOkEnd, HasByteOrTimedOut, Begins, ComesWith, IsBeforeHead, RulesEndBy, EndsBy, cut_end, end_at, message_of, head_message, head_framing}
 use Rattle.tiny_http_message.specs.declared.exchange.EndOfRequests.{EndOfRequests}
 use Rattle.tiny_http_message.specs.declared.exchange.EndOfRequests.TheVariants as because
@@ -72,7 +72,7 @@ end-by rule.Lenient bytes stop why h = h
 end-by rule.Strict bytes stop why h = h
 
 -- a head that is refused with an empty answer
-pub refused-at : (profile : Profile) (date : HttpDate) (f : Feed) (p : Option Feed) (refusal : Refusal) (v : HTTPVersion) (r : Result HeadRead AllocError) → refusal_response refusal ≡ response_of (refusal_status refusal) [] []
+pub refused-at : (profile : Profile) (date : HttpDate) (f : Feed) (p : Option Feed) (refusal : Refusal) (v : Manner) (r : Result HeadRead AllocError) → refusal_response refusal ≡ response_of (refusal_status refusal) [] []
     → HeadAt profile f.bytes f.stop (Refused refusal v) → RefusesWith (refusal_status refusal) v date r → ReadsHead profile at.Head date (Some f) p r
 refused-at profile date f p refusal v (Err x) s h k = tt
 refused-at profile date f p refusal v (Ok (read.Refused status text true)) s h k =
@@ -83,11 +83,11 @@ refused-at profile date f p refusal v (Ok (read.Request x)) s h k = absurd k
 
 -- a head that is cut: a 408 where the reader timed out
 cut-head : (rules : HeadRules) (date : HttpDate) (f : Feed) (p : Option Feed) (begun : Bool) (r : Result HeadRead AllocError) → IsCutHead rules f.bytes → begun ≡ nat_lt 0 (length f.bytes)
-    → AnswersCut f.stop begun date r → ReadsHead (profile_of rules) at.Head date (Some f) p r
+    → AnswersCut f.stop false begun date r → ReadsHead (profile_of rules) at.Head date (Some f) p r
 cut-head rules date f p begun r c b k = by (is_timed_out f.stop) refl k
   where
-    by : (t : Bool) → is_timed_out f.stop ≡ t → MatchBool t (RefusesWith 408 (version 1 1) date r) (r ≡ Ok (read.Ended (cut_end f.stop begun))) → ReadsHead (profile_of rules) at.Head date (Some f) p r
-    by true e k = refused-at (profile_of rules) date f p RequestTimeout (version 1 1) r refl (head-by rules f.bytes f.stop (Refused RequestTimeout (version 1 1)) (c, e, refl)) k
+    by : (t : Bool) → is_timed_out f.stop ≡ t → MatchBool t (RefusesWith 408 (plainly (version 1 1)) date r) (r ≡ Ok (read.Ended (cut_end f.stop begun))) → ReadsHead (profile_of rules) at.Head date (Some f) p r
+    by true e k = refused-at (profile_of rules) date f p RequestTimeout (plainly (version 1 1)) r refl (head-by rules f.bytes f.stop (Refused RequestTimeout (plainly (version 1 1))) (c, e, refl)) k
     by false e k =
         let P : Result HeadRead AllocError → Type 0 = λ x. ReadsHead (profile_of rules) at.Head date (Some f) p x in
         subst P (sym k) ((Silence, head-by rules f.bytes f.stop Silence (inl (c, e)), (refl, refl)), end-by rules f.bytes f.stop (cut_end f.stop begun) (inl (c, e, ap (cut_end f.stop) b)))
@@ -103,13 +103,13 @@ pub head-refused : (rules : HeadRules) (date : HttpDate) (o p : Option Feed) (v 
 head-refused rules date None p v e stop r h k why = tt
 head-refused rules date (Some f) p v fault.Cut stop r h k why =
     let w = why f refl refl in
-    let P : Option Stop → Type 0 = λ o. IfSome o (λ s. AnswersCut s true date r) in
+    let P : Option Stop → Type 0 = λ o. IfSome o (λ s. AnswersCut s false true date r) in
     cut-head rules date f p true r (inl (v, h)) w.1 (subst P w.0 k)
-head-refused rules date (Some f) p v fault.TooLarge stop r h k why = refused-at (profile_of rules) date f p HeaderFieldsTooLarge (unwrap_or v (version 1 1)) r refl (head-by rules f.bytes f.stop (Refused HeaderFieldsTooLarge (unwrap_or v (version 1 1))) (v, h, refl)) k
+head-refused rules date (Some f) p v fault.TooLarge stop r h k why = refused-at (profile_of rules) date f p HeaderFieldsTooLarge (plainly (unwrap_or v (version 1 1))) r refl (head-by rules f.bytes f.stop (Refused HeaderFieldsTooLarge (plainly (unwrap_or v (version 1 1)))) (v, h, refl)) k
 head-refused rules date (Some f) p v fault.NotAscii stop r h k why =
     let P : Result HeadRead AllocError → Type 0 = λ x. ReadsHead (profile_of rules) at.Head date (Some f) p x in
     subst P (sym k) ((Silence, head-by rules f.bytes f.stop Silence (inr (v, h)), (refl, refl)), end-by rules f.bytes f.stop because.NotAscii (inr ((v, h), refl)))
-head-refused rules date (Some f) p v fault.Malformed stop r h k why = refused-at (profile_of rules) date f p BadRequest (unwrap_or v (version 1 1)) r refl (head-by rules f.bytes f.stop (Refused BadRequest (unwrap_or v (version 1 1))) (inl (v, h, refl))) k
+head-refused rules date (Some f) p v fault.Malformed stop r h k why = refused-at (profile_of rules) date f p BadRequest (plainly (unwrap_or v (version 1 1))) r refl (head-by rules f.bytes f.stop (Refused BadRequest (plainly (unwrap_or v (version 1 1)))) (inl (v, h, refl))) k
 head-refused rules date (Some f) p v fault.Memory stop r h k why = without-memory (profile_of rules) date f p r k
 
 -- the framing that is computed is the one by the cases
@@ -118,10 +118,10 @@ framed-as rules v headers r e = let F : Result Framing FramingFault → Type 0 =
 
 -- an invalid framing, or an expectation that can't be met
 pub head-unframed : (rules : HeadRules) (date : HttpDate) (o p : Option Feed) (m : Message) (e : FramingFault) (r : Result HeadRead AllocError) → ReadsMessage (head_limit rules) o p (Ok m) → framing rules m.version m.headers.items ≡ Err e
-    → RefusesWith (refusal_status (framing_refusal e)) m.version date r → ReadsHead (profile_of rules) at.Head date o p r
+    → RefusesWith (refusal_status (framing_refusal e)) (plainly m.version) date r → ReadsHead (profile_of rules) at.Head date o p r
 head-unframed rules date None p m e r h is k = tt
-head-unframed rules date (Some f) p m Invalid r h is k = refused-at (profile_of rules) date f p BadRequest m.version r refl (head-by rules f.bytes f.stop (Refused BadRequest m.version) (inr (message_of m, h.0, record { begins = h.1; frames = framed-as rules m.version m.headers.items (Err _) is }, refl))) k
-head-unframed rules date (Some f) p m Expectation r h is k = refused-at (profile_of rules) date f p ExpectationFailed m.version r refl (head-by rules f.bytes f.stop (Refused ExpectationFailed m.version) (message_of m, h.0, record { begins = h.1; frames = framed-as rules m.version m.headers.items (Err _) is }, refl)) k
+head-unframed rules date (Some f) p m Invalid r h is k = refused-at (profile_of rules) date f p BadRequest (plainly m.version) r refl (head-by rules f.bytes f.stop (Refused BadRequest (plainly m.version)) (inr (message_of m, h.0, record { begins = h.1; frames = framed-as rules m.version m.headers.items (Err _) is }, refl))) k
+head-unframed rules date (Some f) p m Expectation r h is k = refused-at (profile_of rules) date f p ExpectationFailed (plainly m.version) r refl (head-by rules f.bytes f.stop (Refused ExpectationFailed (plainly m.version)) (message_of m, h.0, record { begins = h.1; frames = framed-as rules m.version m.headers.items (Err _) is }, refl)) k
 
 -- a body that is passed over: the next head stands behind it
 same-remaining : (x y : Remaining) → Some x ≡ Some y → x ≡ y
@@ -157,9 +157,9 @@ too-new-at rules date x q m f after content next (Err e) h body new k goes = tt
 too-new-at rules date x q m f after content next (Ok (read.Ended why)) h body new k goes = absurd k
 too-new-at rules date x q m f after content next (Ok (read.Request y)) h body new k goes = absurd k
 too-new-at rules date x q m f after content next (Ok (read.Refused status text true)) h body new k goes =
-    (VersionNotSupported, version 1 1, is_head_method m.method, None, (Heads m f after, head-by rules x.bytes x.stop (Heads m f after) h, (content, next, body, rw (new, ← k.2) refl, rw (new, ← k.2) refl)), k.1, k.0, refl)
+    (VersionNotSupported, plainly (version 1 1), is_head_method m.method, None, (Heads m f after, head-by rules x.bytes x.stop (Heads m f after) h, (content, next, body, rw (new, ← k.2) refl, rw (new, ← k.2) refl)), k.1, k.0, refl)
 too-new-at rules date x q m f after content next (Ok (read.Refused status text false)) h body new k goes =
-    (VersionNotSupported, version 1 1, is_head_method m.method, next, (Heads m f after, head-by rules x.bytes x.stop (Heads m f after) h, (content, next, body, rw (new, ← k.2) refl, rw (new, ← k.2) refl)), k.1, k.0, goes (sym k.2))
+    (VersionNotSupported, plainly (version 1 1), is_head_method m.method, next, (Heads m f after, head-by rules x.bytes x.stop (Heads m f after) h, (content, next, body, rw (new, ← k.2) refl, rw (new, ← k.2) refl)), k.1, k.0, goes (sym k.2))
 
 pub head-too_new : {R : Type 0} (rules : HeadRules) (date : HttpDate) (o p : Option Feed) (old new : SourceState R) (m : Message) (f : Framing) (b : Body) (r : Result HeadRead AllocError) → ReadsMessage (head_limit rules) o p (Ok m) → framing rules m.version m.headers.items ≡ Ok f
     → Begins f p old.feed (Some b) → is_too_new m.version ≡ true → RefusesTooNew (ends_too_new f.form) (is_head_method m.method) date r → OnOk r (ends_too_new f.form ≡ false → PassesOver b old new) → ReadsHead (profile_of rules) at.Head date o new.feed r
@@ -332,11 +332,11 @@ line-some (b ∷ bs) rest = omega arith
 
 -- a body that is read with its head, and cut, where the input stopped so
 pub head-cut : (rules : HeadRules) (date : HttpDate) (o p q : Option Feed) (m : Message) (f : Framing) (stop : Option Stop) (r : Result HeadRead AllocError) → ReadsMessage (head_limit rules) o p (Ok m) → framing rules m.version m.headers.items ≡ Ok f → Begins f p q None
-    → ((x : Feed) → p ≡ Some x → stop ≡ Some x.stop) → IfSome stop (λ s. AnswersCut s true date r) → ReadsHead (profile_of rules) at.Head date o q r
+    → ((x : Feed) → p ≡ Some x → stop ≡ Some x.stop) → IfSome stop (λ s. AnswersCut s false true date r) → ReadsHead (profile_of rules) at.Head date o q r
 head-cut rules date None p q m f stop r h e t ends k = tt
 head-cut rules date (Some x) p q m f stop r h e t ends k =
     let P : Option Feed → Type 0 = λ y. Begins f y q None in
-    let S : Option Stop → Type 0 = λ y. IfSome y (λ s. AnswersCut s true date r) in
+    let S : Option Stop → Type 0 = λ y. IfSome y (λ s. AnswersCut s false true date r) in
     let cut = subst P h.2 t in
     let begun : true ≡ nat_lt 0 (length x.bytes) = sym (lt-ltb 0 (length x.bytes) (within-some (head_limit rules) x.bytes (message_of m) h.0 h.1)) in
     cut-head rules date x q true r (inr (message_of m, h.0, f, record { begins = h.1; frames = framed-as rules m.version m.headers.items (Ok f) e }, cut)) begun (subst S (ends (record { bytes = h.0; stop = x.stop }) h.2) k)
@@ -362,35 +362,35 @@ closed-short rule.Lenient bytes e = let Q : List ℕ → Type 0 = λ x. FaultyHe
 closed-short rule.Strict bytes e = let Q : List ℕ → Type 0 = λ x. FaultyHead x None Cut × (length x < 65536) in subst Q (sym e) (refl, omega arith)
 
 pub head-closed : {R : Type 0} (rules : HeadRules) (date : HttpDate) (o : Option Feed) (new : SourceState R) (stop : Option Stop) (r : Result HeadRead AllocError) → HasNoByte o → new.feed ≡ o → new.is_over ≡ true → (new.is_over ≡ true → IsSome stop × IfSome stop (λ s. StopsBy s new.feed))
-    → IfSome stop (λ s. AnswersCut s false date r) → ReadsHead (profile_of rules) at.Head date o new.feed r
+    → IfSome stop (λ s. AnswersCut s false false date r) → ReadsHead (profile_of rules) at.Head date o new.feed r
 head-closed rules date None new stop r none same is over h = tt
 head-closed rules date (Some f) new None r none same is over h = let no : false ≡ true = (over is).0 in cc
 head-closed rules date (Some f) new (Some stop) r none same is over h =
     let P : Option Feed → Type 0 = λ x. StopsBy stop x in
     let stops = subst P same (over is).1 in
-    let S : Stop → Type 0 = λ s. AnswersCut s false date r in
+    let S : Stop → Type 0 = λ s. AnswersCut s false false date r in
     let begun : false ≡ nat_lt 0 (length f.bytes) = sym (ap (λ (x : List ℕ). nat_lt 0 (length x)) none) in
     cut-head rules date f new.feed false r (inl (None, closed-short rules f.bytes none)) begun (subst S (sym stops.1) h)
 
 -- after the end of a source nothing is answered
-pub end-unanswered : (date : HttpDate) (stop : Option Stop) (begun : Bool) (r : Result HeadRead AllocError) → stop ≡ Some End → IfSome stop (λ s. AnswersCut s begun date r) → IsOkEnd r
+pub end-unanswered : (date : HttpDate) (stop : Option Stop) (begun : Bool) (r : Result HeadRead AllocError) → stop ≡ Some End → IfSome stop (λ s. AnswersCut s false begun date r) → IsOkEnd r
 end-unanswered date stop begun r e k =
-    let S : Option Stop → Type 0 = λ y. IfSome y (λ s. AnswersCut s begun date r) in
+    let S : Option Stop → Type 0 = λ y. IfSome y (λ s. AnswersCut s false begun date r) in
     let P : Result HeadRead AllocError → Type 0 = λ x. IsOkEnd x in
     subst P (sym (subst S e k)) tt
 
 -- where a head that didn't begin is answered, the reader timed out
 pub timed-out : {R : Type 0} (date : HttpDate) (o : Option Feed) (new : SourceState R) (stop : Option Stop) (r : Result HeadRead AllocError) → new.feed ≡ o → new.is_over ≡ true → (new.is_over ≡ true → IsSome stop × IfSome stop (λ s. StopsBy s new.feed))
-    → IfSome stop (λ s. AnswersCut s false date r) → (IsOkEnd r → ⊥) → HasByteOrTimedOut o
+    → IfSome stop (λ s. AnswersCut s false false date r) → (IsOkEnd r → ⊥) → HasByteOrTimedOut o
 timed-out date None new stop r same is over h some = inl tt
 timed-out date (Some f) new None r same is over h some = let no : false ≡ true = (over is).0 in cc
 timed-out date (Some f) new (Some stop) r same is over h some =
     let P : Option Feed → Type 0 = λ x. StopsBy stop x in
     let stops = subst P same (over is).1 in
-    let S : Stop → Type 0 = λ s. AnswersCut s false date r in
+    let S : Stop → Type 0 = λ s. AnswersCut s false false date r in
     inr (by (is_timed_out f.stop) refl (subst S (sym stops.1) h))
   where
-    by : (t : Bool) → is_timed_out f.stop ≡ t → MatchBool t (RefusesWith 408 (version 1 1) date r) (r ≡ Ok (read.Ended (cut_end f.stop false))) → is_timed_out f.stop ≡ true
+    by : (t : Bool) → is_timed_out f.stop ≡ t → MatchBool t (RefusesWith 408 (plainly (version 1 1)) date r) (r ≡ Ok (read.Ended (cut_end f.stop false))) → is_timed_out f.stop ≡ true
     by true e k = e
     by false e k = absurd (some (let E : Result HeadRead AllocError → Type 0 = λ x. IsOkEnd x in subst E (sym k) tt))
 
@@ -398,17 +398,17 @@ pub has-begun : (o : Option Feed) → HasByte o → HasByteOrTimedOut o
 has-begun o h = inl h
 
 -- a head that is refused by another status than 408 and 431 was faulty in a line that was read
-refused-by : (status : ℕ) (v : HTTPVersion) (date : HttpDate) (x : HeadRead) → RefusesWith status v date (Ok x) → IsRefusedUncut x → (status ≢ 408) × (status ≢ 431)
+refused-by : (status : ℕ) (v : Manner) (date : HttpDate) (x : HeadRead) → RefusesWith status v date (Ok x) → IsRefusedUncut x → (status ≢ 408) × (status ≢ 431)
 refused-by status v date (read.Refused code text last) k h = (λ e. h.0 (k.0 ∙ e), λ e. h.1 (k.0 ∙ e))
 refused-by status v date (read.Ended why) k h = absurd k
 refused-by status v date (read.Request x) k h = absurd k
 
-cut-unrefused : (stop : Option Stop) (begun : Bool) (date : HttpDate) (x : HeadRead) → IsSome stop → IfSome stop (λ s. AnswersCut s begun date (Ok x)) → IsRefusedUncut x → ⊥
+cut-unrefused : (stop : Option Stop) (begun : Bool) (date : HttpDate) (x : HeadRead) → IsSome stop → IfSome stop (λ s. AnswersCut s false begun date (Ok x)) → IsRefusedUncut x → ⊥
 cut-unrefused None begun date x some k h = let no : false ≡ true = some in cc
 cut-unrefused (Some s) begun date x some k h = by (is_timed_out s) k
   where
-    by : (t : Bool) → MatchBool t (RefusesWith 408 (version 1 1) date (Ok x)) (◌≡◌ {A = Result HeadRead AllocError} (Ok x) (Ok (read.Ended (cut_end s begun)))) → ⊥
-    by true k = (refused-by 408 (version 1 1) date x k h).0 refl
+    by : (t : Bool) → MatchBool t (RefusesWith 408 (plainly (version 1 1)) date (Ok x)) (◌≡◌ {A = Result HeadRead AllocError} (Ok x) (Ok (read.Ended (cut_end s begun)))) → ⊥
+    by true k = (refused-by 408 (plainly (version 1 1)) date x k h).0 refl
     by false k =
         let P : HeadRead → Type 0 = λ y. IsRefusedUncut y in
         let e : x ≡ read.Ended (cut_end s begun) = cc in
@@ -421,14 +421,14 @@ passed-on T ends no_body date (Ok (read.Ended why)) k t = absurd k
 passed-on T ends no_body date (Ok (read.Request x)) k t = absurd k
 passed-on T ends no_body date (Err e) k t = tt
 
-pub cut-passed : (T : Type 0) (stop : Option Stop) (begun : Bool) (date : HttpDate) (r : Result HeadRead AllocError) → IsSome stop → IfSome stop (λ s. AnswersCut s begun date r) → IfOk r (λ x. IsRefusedUncut x → T)
+pub cut-passed : (T : Type 0) (stop : Option Stop) (begun : Bool) (date : HttpDate) (r : Result HeadRead AllocError) → IsSome stop → IfSome stop (λ s. AnswersCut s false begun date r) → IfOk r (λ x. IsRefusedUncut x → T)
 cut-passed T stop begun date (Ok x) some k = λ h. absurd (cut-unrefused stop begun date x some k h)
 cut-passed T stop begun date (Err e) some k = tt
 
 pub fault-passed : (T : Type 0) (v : Option HTTPVersion) (e : HeadFault) (stop : Option Stop) (date : HttpDate) (r : Result HeadRead AllocError) → AnswersFault v e stop date r → (e ≡ fault.Cut → IsSome stop) → (IsBadLine e → T) → IfOk r (λ x. IsRefusedUncut x → T)
 fault-passed T v e stop date (Err x) k cut bad = tt
 fault-passed T v fault.Cut stop date (Ok x) k cut bad = λ h. absurd (cut-unrefused stop true date x (cut refl) k h)
-fault-passed T v fault.TooLarge stop date (Ok x) k cut bad = λ h. absurd ((refused-by 431 (unwrap_or v (version 1 1)) date x k h).1 refl)
+fault-passed T v fault.TooLarge stop date (Ok x) k cut bad = λ h. absurd ((refused-by 431 (plainly (unwrap_or v (version 1 1))) date x k h).1 refl)
 fault-passed T v fault.NotAscii stop date (Ok x) k cut bad = λ h. bad tt
 fault-passed T v fault.Malformed stop date (Ok x) k cut bad = λ h. bad tt
 fault-passed T v fault.Memory stop date (Ok x) k cut bad = let no : false ≡ true = k in cc

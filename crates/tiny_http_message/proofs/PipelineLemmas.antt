@@ -33,7 +33,7 @@ use Rattle.tiny_http_message.specs.declared.framing.Form.TheVariants.{Rest, Noth
 use Rattle.tiny_http_message.specs.declared.framing.Framing.{Framing}
 use Rattle.tiny_http_message.specs.FramingReading.{framing}
 use Rattle.tiny_http_message.specs.Body.{cut_stop, chunk_rules}
-use Rattle.tiny_http_message.specs.Pipeline.{place_feed, is_cut_with_head, RulesHeadAt, standard_front, standard_form, standard_heading, Refusal, BadRequest, RequestTimeout, ExpectationFailed, HeaderFieldsTooLarge, VersionNotSupported, RequestLineTooLong, CodingNotImplemented, MajorVersionNotSupported, Item, Refuses, Place, is_timed_out, head_limit, BeginsWithin, IsUnfinishedHead, IsTooLarge, IsWholeHead, IsCutWithHead, IsCutHead, IsRefused, IsRequestHead, Heading, Silence, Refused, Heads, HeadAt, body_length_or_0, BodyAt, SizedBody, FoundAt, OneHead, item_of, next_place, ends_too_new, Pipeline, place_after}
+use Rattle.tiny_http_message.specs.Pipeline.{Manner, plainly, place_feed, is_cut_with_head, RulesHeadAt, standard_front, standard_form, standard_heading, Refusal, BadRequest, RequestTimeout, ExpectationFailed, HeaderFieldsTooLarge, VersionNotSupported, RequestLineTooLong, CodingNotImplemented, MajorVersionNotSupported, Item, Refuses, Place, is_timed_out, head_limit, BeginsWithin, IsUnfinishedHead, IsTooLarge, IsWholeHead, IsCutWithHead, IsCutHead, IsRefused, IsRequestHead, Heading, Silence, Refused, Heads, HeadAt, body_length_or_0, BodyAt, SizedBody, FoundAt, OneHead, item_of, next_place, ends_too_new, Pipeline, place_after}
 use Rattle.tiny_http_message.specs.PipelineReading.{BodyRead, Headings, chunked_read, sized_read, body_read, cut_heading, whole_heading, is_full, all_after, faulty, heading, heading_of, items_at, items_from, items_of}
 use Rattle.tiny_http_message.proofs.FramingLemmas.{framing-is, framing-one, rest-last}
 use Rattle.tiny_http_message.proofs.StandardLemmas.{IsStandardHeads, standard-parts}
@@ -64,7 +64,7 @@ cut-not form n after false e h = refl
 cut-heading-is : (p : HeadRules) (bytes : List ℕ) (stop : Stop) → IsCutHead p bytes → RulesHeadAt p bytes stop (cut_heading stop)
 cut-heading-is p bytes stop h = by (is_timed_out stop) refl
   where
-    by : (t : Bool) → is_timed_out stop ≡ t → RulesHeadAt p bytes stop (if t then Refused RequestTimeout (version 1 1) else Silence)
+    by : (t : Bool) → is_timed_out stop ≡ t → RulesHeadAt p bytes stop (if t then Refused RequestTimeout (plainly (version 1 1)) else Silence)
     by true e = (h, e, refl)
     by false e = inl (h, e)
 
@@ -147,7 +147,7 @@ cut-read p bytes stop (inl k) =
 cut-read p bytes stop (inr k) = whole-read p bytes stop k.0 k.1 (Ok k.2) k.3 ∙ rw (with_head-cut k.2.form (body_length_or_0 k.2) k.1 k.4) refl
 
 -- and one
-refused-read : (p : HeadRules) (bytes : List ℕ) (stop : Stop) (refusal : Refusal) (v : HTTPVersion) → IsRefused p bytes stop refusal v → heading_of p stop bytes ≡ Refused refusal v
+refused-read : (p : HeadRules) (bytes : List ℕ) (stop : Stop) (refusal : Refusal) (v : Manner) → IsRefused p bytes stop refusal v → heading_of p stop bytes ≡ Refused refusal v
 refused-read p bytes stop BadRequest v (inl k) = rw (head-fault (seen_within (head_limit p) bytes) k.0 Malformed k.1) (ap (Refused BadRequest) (sym k.2))
 refused-read p bytes stop BadRequest v (inr k) = whole-read p bytes stop k.0 k.1 (Err Invalid) k.2 ∙ ap (Refused BadRequest) (sym k.3)
 refused-read p bytes stop RequestTimeout v k = cut-read p bytes stop k.0 ∙ rw k.1 (ap (Refused RequestTimeout) (sym k.2))

@@ -3,7 +3,7 @@ use Rattle.std.proofs.Common.{◌≡◌, refl, sym, ◌∙◌, subst, ℕ, Bool,
 use Rattle.std.proofs.lemmas.Bool.{lt-ltb}
 use Rattle.std.specs.Prelude.{nat_lt, ◌&&◌, if◌then◌else◌}
 use Rattle.tiny_http_wire.specs.declared.device.Stop.{Stop}
-use Rattle.tiny_http_wire.specs.Heads.{Message, version}
+use Rattle.tiny_http_wire.specs.Heads.{Message}
 use Rattle.tiny_http_standard.specs.declared.judging.HeadSummary.{HeadSummary}
 use Rattle.tiny_http_standard.specs.Judging.{Judges}
 use Rattle.tiny_http_standard.specs.Heads.{is_begun, BeginsWithHead, ReadWhole, ReadBad, ReadOpen}
@@ -11,7 +11,7 @@ use Rattle.tiny_http_message.specs.declared.framing.TheConstants.{STANDARD_HEAD}
 use Rattle.tiny_http_message.specs.declared.framing.Framing.{Framing}
 use Rattle.tiny_http_message.specs.declared.framing.Form.{Form}
 use Rattle.tiny_http_message.specs.declared.framing.Form.TheVariants.{Rest, Nothing, WithHead, Counted, Chunked}
-use Rattle.tiny_http_message.specs.Pipeline.{is_timed_out, is_cut_with_head, IsCutWithHead, body_length_or_0, standard_front, served_message, standard_framing, standard_cut, standard_open, standard_heads, StandardHeadAt, long_refusal, RequestTimeout, Silence, Refused, Heads}
+use Rattle.tiny_http_message.specs.Pipeline.{by_the_standard, is_timed_out, is_cut_with_head, IsCutWithHead, body_length_or_0, standard_front, served_message, standard_framing, standard_cut, standard_open, standard_heads, StandardHeadAt, long_refusal, RequestTimeout, Silence, Refused, Heads}
 
 -- a request's head by the standard
 pub record IsStandardHeads (bytes : List ℕ) (m : Message) (f : Framing) (after : List ℕ) : Type 0 where
@@ -28,14 +28,14 @@ pub record IsStandardHeads (bytes : List ℕ) (m : Message) (f : Framing) (after
 cut-no_heads : (b : Bool) (stop : Stop) (m : Message) (f : Framing) (after : List ℕ) → Heads m f after ≡ standard_cut b stop → ⊥
 cut-no_heads b stop m f after e = by (b && is_timed_out stop) e
   where
-    by : (t : Bool) → Heads m f after ≡ (if t then Refused RequestTimeout (version 1 1) else Silence) → ⊥
+    by : (t : Bool) → Heads m f after ≡ (if t then Refused RequestTimeout by_the_standard else Silence) → ⊥
     by true e = cc
     by false e = cc
 
 open-no_heads : (behind : Bool) (bytes : List ℕ) (stop : Stop) (m : Message) (f : Framing) (after : List ℕ) → Heads m f after ≡ standard_open behind bytes stop → ⊥
 open-no_heads behind bytes stop m f after e = by (nat_lt (length bytes) STANDARD_HEAD) e
   where
-    by : (t : Bool) → Heads m f after ≡ (if t then standard_cut (is_begun bytes) stop else Refused (long_refusal behind) (version 1 1)) → ⊥
+    by : (t : Bool) → Heads m f after ≡ (if t then standard_cut (is_begun bytes) stop else Refused (long_refusal behind) by_the_standard) → ⊥
     by true e = cut-no_heads (is_begun bytes) stop m f after e
     by false e = cc
 

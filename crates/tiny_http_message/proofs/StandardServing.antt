@@ -33,7 +33,7 @@ use Rattle.tiny_http_message.specs.declared.exchange.Exchange.{Exchange}
 use Rattle.tiny_http_message.specs.declared.exchange.HeadRead.{HeadRead}
 use Rattle.tiny_http_message.specs.declared.exchange.HeadRead.TheVariants as read
 use Rattle.tiny_http_message.specs.OpenRequest.{KeepsHead}
-use Rattle.tiny_http_message.specs.Pipeline.{Refusal, BadRequest, RequestTimeout, ExpectationFailed, HeaderFieldsTooLarge, RequestLineTooLong, CodingNotImplemented, MajorVersionNotSupported, is_timed_out, is_cut_with_head, IsCutWithHead, body_length_or_0, standard_front, served_version, served_message, standard_framing, standard_refusal, long_refusal, standard_cut, standard_open, Silence, Refused, Heads, HeadAt}
+use Rattle.tiny_http_message.specs.Pipeline.{by_the_standard, Refusal, BadRequest, RequestTimeout, ExpectationFailed, HeaderFieldsTooLarge, RequestLineTooLong, CodingNotImplemented, MajorVersionNotSupported, is_timed_out, is_cut_with_head, IsCutWithHead, body_length_or_0, standard_front, served_version, served_message, standard_framing, standard_refusal, long_refusal, standard_cut, standard_open, Silence, Refused, Heads, HeadAt}
 use Rattle.tiny_http_message.specs.HeadReads.{ReadsHead, RefusesWith, AnswersCut, Begins, IsFramedBy, cut_end, head_message, head_framing}
 use Rattle.tiny_http_message.specs.StandardReads.{AnswersStandardCut}
 use Rattle.tiny_http_message.proofs.PipelineLemmas.{cut-with_head, with_head-cut}
@@ -46,31 +46,31 @@ fault_refusal fault.RequestLineTooLong = RequestLineTooLong
 fault_refusal fault.HeaderFieldsTooLarge = HeaderFieldsTooLarge
 fault_refusal (fault.Judged refusal) = standard_refusal refusal
 
-long-at : (behind : Bool) (bytes : List ℕ) (stop : Stop) → STANDARD_HEAD ≤ length bytes → Refused (long_refusal behind) (version 1 1) ≡ standard_open behind bytes stop
+long-at : (behind : Bool) (bytes : List ℕ) (stop : Stop) → STANDARD_HEAD ≤ length bytes → Refused (long_refusal behind) by_the_standard ≡ standard_open behind bytes stop
 long-at behind bytes stop le = rw (le-ltb (length bytes) STANDARD_HEAD le) refl
 
-faulty-at : (f : Feed) (e : HeadFault) → Reads STANDARD_HEAD f.bytes (standard.Refused e) → HeadAt Standard f.bytes f.stop (Refused (fault_refusal e) (version 1 1))
+faulty-at : (f : Feed) (e : HeadFault) → Reads STANDARD_HEAD f.bytes (standard.Refused e) → HeadAt Standard f.bytes f.stop (Refused (fault_refusal e) by_the_standard)
 faulty-at f fault.BadLine h = (ReadBad, h, refl)
 faulty-at f fault.RequestLineTooLong h = (ReadOpen false, h.1, long-at false f.bytes f.stop h.0)
 faulty-at f fault.HeaderFieldsTooLarge h = (ReadOpen true, h.1, long-at true f.bytes f.stop h.0)
 faulty-at f (fault.Judged refusal) h = (ReadWhole h.0 h.1 (Err refusal), (h.2, h.3), refl)
 
-pub standard-faulty : (date : HttpDate) (o p : Option Feed) (e : HeadFault) (r : Result HeadRead AllocError) → ReadsFrom STANDARD_HEAD o p (standard.Refused e) → RefusesWith (status_of e) (version 1 1) date r → ReadsHead Standard at.Head date o p r
+pub standard-faulty : (date : HttpDate) (o p : Option Feed) (e : HeadFault) (r : Result HeadRead AllocError) → ReadsFrom STANDARD_HEAD o p (standard.Refused e) → RefusesWith (status_of e) by_the_standard date r → ReadsHead Standard at.Head date o p r
 standard-faulty date None p e r h k = tt
-standard-faulty date (Some f) p fault.BadLine r h k = refused-at Standard date f p BadRequest (version 1 1) r refl (faulty-at f fault.BadLine h.0) k
-standard-faulty date (Some f) p fault.RequestLineTooLong r h k = refused-at Standard date f p RequestLineTooLong (version 1 1) r refl (faulty-at f fault.RequestLineTooLong h.0) k
-standard-faulty date (Some f) p fault.HeaderFieldsTooLarge r h k = refused-at Standard date f p HeaderFieldsTooLarge (version 1 1) r refl (faulty-at f fault.HeaderFieldsTooLarge h.0) k
-standard-faulty date (Some f) p (fault.Judged judged.UnsupportedVersion) r h k = refused-at Standard date f p MajorVersionNotSupported (version 1 1) r refl (faulty-at f (fault.Judged judged.UnsupportedVersion) h.0) k
-standard-faulty date (Some f) p (fault.Judged judged.InvalidHead) r h k = refused-at Standard date f p BadRequest (version 1 1) r refl (faulty-at f (fault.Judged judged.InvalidHead) h.0) k
-standard-faulty date (Some f) p (fault.Judged judged.UnknownCoding) r h k = refused-at Standard date f p CodingNotImplemented (version 1 1) r refl (faulty-at f (fault.Judged judged.UnknownCoding) h.0) k
-standard-faulty date (Some f) p (fault.Judged judged.UnknownExpectation) r h k = refused-at Standard date f p ExpectationFailed (version 1 1) r refl (faulty-at f (fault.Judged judged.UnknownExpectation) h.0) k
+standard-faulty date (Some f) p fault.BadLine r h k = refused-at Standard date f p BadRequest by_the_standard r refl (faulty-at f fault.BadLine h.0) k
+standard-faulty date (Some f) p fault.RequestLineTooLong r h k = refused-at Standard date f p RequestLineTooLong by_the_standard r refl (faulty-at f fault.RequestLineTooLong h.0) k
+standard-faulty date (Some f) p fault.HeaderFieldsTooLarge r h k = refused-at Standard date f p HeaderFieldsTooLarge by_the_standard r refl (faulty-at f fault.HeaderFieldsTooLarge h.0) k
+standard-faulty date (Some f) p (fault.Judged judged.UnsupportedVersion) r h k = refused-at Standard date f p MajorVersionNotSupported by_the_standard r refl (faulty-at f (fault.Judged judged.UnsupportedVersion) h.0) k
+standard-faulty date (Some f) p (fault.Judged judged.InvalidHead) r h k = refused-at Standard date f p BadRequest by_the_standard r refl (faulty-at f (fault.Judged judged.InvalidHead) h.0) k
+standard-faulty date (Some f) p (fault.Judged judged.UnknownCoding) r h k = refused-at Standard date f p CodingNotImplemented by_the_standard r refl (faulty-at f (fault.Judged judged.UnknownCoding) h.0) k
+standard-faulty date (Some f) p (fault.Judged judged.UnknownExpectation) r h k = refused-at Standard date f p ExpectationFailed by_the_standard r refl (faulty-at f (fault.Judged judged.UnknownExpectation) h.0) k
 
 -- A HEAD THAT IS CUT
 cut-answered : (date : HttpDate) (f : Feed) (p : Option Feed) (b : Bool) (r : Result HeadRead AllocError) → HeadAt Standard f.bytes f.stop (standard_cut b f.stop) → b ≡ is_begun f.bytes → AnswersStandardCut f.stop b date r → ReadsHead Standard at.Head date (Some f) p r
 cut-answered date f p b r h is k = by (b && is_timed_out f.stop) h k
   where
-    by : (t : Bool) → HeadAt Standard f.bytes f.stop (if t then Refused RequestTimeout (version 1 1) else Silence) → MatchBool t (RefusesWith 408 (version 1 1) date r) (r ≡ Ok (read.Ended (cut_end f.stop b))) → ReadsHead Standard at.Head date (Some f) p r
-    by true h k = refused-at Standard date f p RequestTimeout (version 1 1) r refl h k
+    by : (t : Bool) → HeadAt Standard f.bytes f.stop (if t then Refused RequestTimeout by_the_standard else Silence) → MatchBool t (RefusesWith 408 by_the_standard date r) (r ≡ Ok (read.Ended (cut_end f.stop b))) → ReadsHead Standard at.Head date (Some f) p r
+    by true h k = refused-at Standard date f p RequestTimeout by_the_standard r refl h k
     by false h k = subst (λ (x : Result HeadRead AllocError). ReadsHead Standard at.Head date (Some f) p x) (sym k) ((Silence, h, (refl, refl)), ap (cut_end f.stop) is)
 
 unfinished-at : (f : Feed) (b : Bool) → Reads STANDARD_HEAD f.bytes (standard.Unfinished b) → HeadAt Standard f.bytes f.stop (standard_cut b f.stop)
@@ -212,7 +212,7 @@ cut-at f h k cut = (ReadWhole (message_of h) k.0 (Ok h.summary), (k.1, k.3), rw 
     is = behind-head h.length f.bytes (message_of h) k.0 k.1 k.2
 
 pub standard-body_cut : (date : HttpDate) (o p q : Option Feed) (h : StandardHead) (f : Framing) (stop : Option Stop) (r : Result HeadRead AllocError) → f ≡ standard_framing h.summary → ReadsFrom STANDARD_HEAD o p (standard.Whole h) → Begins f p q None
-    → ((x : Feed) → p ≡ Some x → stop ≡ Some x.stop) → IfSome stop (λ s. AnswersCut s true date r) → ReadsHead Standard at.Head date o q r
+    → ((x : Feed) → p ≡ Some x → stop ≡ Some x.stop) → IfSome stop (λ s. AnswersCut s true true date r) → ReadsHead Standard at.Head date o q r
 standard-body_cut date None p q h f stop r is k begins ends answers = tt
 standard-body_cut date (Some x) p q h f stop r is k begins ends answers =
     let cut = subst (λ (y : Option Feed). Begins f y q None) k.1 begins in
@@ -220,7 +220,7 @@ standard-body_cut date (Some x) p q h f stop r is k begins ends answers =
     let some = head-long (standard_front x.bytes) (message_of h) k.0.0 k.0.1 in
     let begun = long-begun x.bytes (omega (arith, long, some)) in
     cut-answered date x q true r (cut-at x h k.0 (subst (λ (y : Framing). IsCutWithHead y.form (body_length_or_0 y) (drop h.length x.bytes)) is cut)) (sym begun)
-    (subst (λ (y : Option Stop). IfSome y (λ s. AnswersCut s true date r)) (ends (record { bytes = drop h.length x.bytes; stop = x.stop }) k.1) answers)
+    (subst (λ (y : Option Stop). IfSome y (λ s. AnswersCut s true true date r)) (ends (record { bytes = drop h.length x.bytes; stop = x.stop }) k.1) answers)
 
 -- whatever the reader states, it is judged so
 pub standard-framed : (date : HttpDate) (h : StandardHead) (f : Framing) (head : Head) (y : Exchange) → Judges h.version h.method h.headers.items (Ok h.summary) → head_message head ≡ served_message (message_of h) → f ≡ standard_framing h.summary

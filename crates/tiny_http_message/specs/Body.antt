@@ -1,5 +1,5 @@
 -- What is still to come of a request's body, and where the input stands after it.
-use Rattle.std.specs.Prelude.{◌≡◌, ℕ, ◌+◌, ◌-◌, ◌^◌, ◌<◌, ◌≤◌, Bool, true, false, ◌||◌, ◌==◌, nat_lt, List, [], length, take, Option, Some, None, Result, Ok, Err, IfOk, IfErr, OnErr, IfSome, MatchBool, ⊤}
+use Rattle.std.specs.Prelude.{◌≡◌, ℕ, ◌+◌, ◌-◌, ◌^◌, ◌<◌, ◌≤◌, Bool, true, false, ◌||◌, ◌==◌, nat_lt, List, [], length, take, Option, Some, None, Result, Ok, Err, IfOk, IfErr, OnErr, IfSome, MatchBool, ⊤, if◌then◌else◌}
 use Rattle.std.specs.Option.{option_map}
 use Rattle.std.specs.IoError.{error_kind}
 use Rattle.std.specs.declared.io.Error.{Error}
@@ -13,6 +13,9 @@ use Rattle.tiny_http_wire.specs.Chunks.{WholeChunksBy, CutChunksBy}
 use Rattle.tiny_http_wire.specs.declared.chunked.Decoding.{Decoding}
 use Rattle.tiny_http_wire.specs.declared.chunked.ChunkRules.{ChunkRules}
 use Rattle.tiny_http_wire.specs.declared.chunked.ChunkRules.TheVariants as chunks
+use Rattle.tiny_http_message.specs.declared.body.TheConstants.{MOST_SKIPPED}
+use Rattle.tiny_http_message.specs.declared.body.Remainder.{Remainder}
+use Rattle.tiny_http_message.specs.declared.body.Remainder.TheVariants as left
 use Rattle.tiny_http_message.specs.declared.body.Body.{Body}
 use Rattle.tiny_http_message.specs.declared.body.Body.TheVariants.{Over, WithHead, Counted, Chunked, Rest}
 use Rattle.tiny_http_message.specs.declared.framing.Form.{Form}
@@ -116,6 +119,23 @@ is_whole (WithHead bytes) = true
 is_whole (Counted n by_standard) = false
 is_whole (Chunked decoding) = false
 is_whole Rest = false
+
+-- what is left of a body whose request is finished
+abbrev pub remainder : Body → Remainder
+remainder (Over End) = left.Skipped
+remainder (Over (Fault kind)) = left.Endless
+remainder (WithHead bytes) = left.Skipped
+remainder (Counted n by_standard) = if nat_lt MOST_SKIPPED n then left.Long else left.Skipped
+remainder (Chunked decoding) = left.Endless
+remainder Rest = left.Skipped
+
+abbrev pub is_long : Remainder → Bool
+is_long left.Long = true
+is_long _ = false
+
+abbrev pub is_skipped : Remainder → Bool
+is_skipped left.Skipped = true
+is_skipped _ = false
 
 -- what a connection reads that was upgraded: by the standard all that comes, else the body of its request
 abbrev pub stream_body : Bool → Body → Body

@@ -10,8 +10,10 @@ use Rattle.tiny_http_message.specs.declared.upgrading.UpgradeError.{UpgradeError
 use Rattle.tiny_http_stream.specs.Source.{SourceState}
 use Rattle.tiny_http_sending.specs.ResponseValue.{printing_in}
 use Rattle.tiny_http_wire.specs.Answer.{Printing}
-use Rattle.tiny_http_message.specs.OpenRequest.{KeepsHead, request_check}
-use Rattle.tiny_http_message.specs.Body.{Remaining, remaining, is_streaming, is_whole, Fits, GivesUp}
+use Rattle.tiny_http_message.specs.OpenRequest.{KeepsHead, final_context, request_check}
+use Rattle.tiny_http_wire.specs.declared.answer_context.AnswerContext.{AnswerContext}
+use Rattle.tiny_http_message.specs.TextState.{drop_text}
+use Rattle.tiny_http_message.specs.Body.{Remaining, remaining, remainder, is_streaming, is_whole, Fits, GivesUp}
 
 -- a request of this head, of which this is kept
 abbrev pub exchange_of : Head → OpenRequest Body → Exchange
@@ -33,9 +35,13 @@ exchange_body x = x.open_request.body
 abbrev pub exchange_left : Exchange → Option Feed → Option Remaining
 exchange_left x feed = remaining x.open_request.body feed
 
--- how its answer of this date is printed
+-- how a 100 of this date is printed, and the answer of an upgrade
 abbrev pub exchange_printing : Exchange → HttpDate → Printing
 exchange_printing x date = printing_in x.open_request.answer_context date
+
+-- how it is answered now, by what is left of its body
+abbrev pub exchange_context : Exchange → AnswerContext
+exchange_context x = final_context x.open_request (remainder x.open_request.body)
 
 -- its body is read from the input, which has to stand after it before the next head is read
 abbrev pub exchange_streams : Exchange → Bool
@@ -47,7 +53,7 @@ exchange_owes_continue x = x.open_request.owes_continue
 
 -- the text that answers it if it is dropped; no byte, once that was taken
 abbrev pub exchange_drop_text : Exchange → List ℕ
-exchange_drop_text x = x.open_request.dropped.items
+exchange_drop_text x = drop_text x.open_request.dropped (exchange_context x)
 
 -- whether the connection can be upgraded, and why not
 abbrev pub exchange_check : Exchange → List ℕ → ℕ → Result ⊤ UpgradeError

@@ -38,7 +38,7 @@ use Rattle.tiny_http_message.specs.declared.body.Body.{Body}
 use Rattle.tiny_http_message.specs.FramingReading.{framing}
 use Rattle.tiny_http_stream.specs.declared.source.FirstLine.{FirstLine}
 use Rattle.tiny_http_stream.specs.Source.{SourceState, GoesOn, feed_from, FindsLine, IsShort, IsTooLong, IsAtEnd, seen_within}
-use Rattle.tiny_http_message.specs.Pipeline.{place_feed, Request, Asks, Refuses, Refusal, VersionNotSupported, refusal_status, is_timed_out, Place, BeginsWithin, IsUnfinishedHead, IsTooLarge, IsCutWithHead, IsCutHead, IsNotAsciiHead, BodyAt, OneHead, body_length_or_0, place_after, served_version, standard_framing}
+use Rattle.tiny_http_message.specs.Pipeline.{place_feed, Manner, plainly, Request, Asks, Refuses, Refusal, VersionNotSupported, refusal_status, is_timed_out, Place, BeginsWithin, IsUnfinishedHead, IsTooLarge, IsCutWithHead, IsCutHead, IsNotAsciiHead, BodyAt, OneHead, body_length_or_0, place_after, served_version, standard_framing}
 use Rattle.tiny_http_message.specs.OwnAnswer.{own_text, refusal_response, refused_text}
 use Rattle.tiny_http_message.specs.Body.{Remaining, remaining, Fits}
 use Rattle.tiny_http_message.specs.Exchange.{exchange_head, exchange_open, exchange_left, exchange_streams, KeepsRequest}
@@ -199,7 +199,7 @@ end_at _ why = why
 
 -- A head is refused by this status in this version: the text of its answer, after which no head follows. Or memory for that
 -- was refused.
-abbrev pub RefusesWith : ℕ → HTTPVersion → HttpDate → Result HeadRead AllocError → Type 0
+abbrev pub RefusesWith : ℕ → Manner → HttpDate → Result HeadRead AllocError → Type 0
 RefusesWith status v date (Ok (read.Refused code text last)) = (code.0 ≡ status) × (text.items ≡ own_text status v false date) × (last ≡ true)
 RefusesWith status v date (Ok _) = ⊥
 RefusesWith status v date (Err e) = ⊤
@@ -207,20 +207,20 @@ RefusesWith status v date (Err e) = ⊤
 -- A head is refused for its version, under version 1.1: the text of its answer, after which no head follows, or one does. Or
 -- memory for that was refused.
 abbrev pub RefusesTooNew : Bool → Bool → HttpDate → Result HeadRead AllocError → Type 0
-RefusesTooNew ends no_body date (Ok (read.Refused code text last)) = (code.0 ≡ 505) × (text.items ≡ refused_text (refusal_response VersionNotSupported) (version 1 1) no_body date) × (last ≡ ends)
+RefusesTooNew ends no_body date (Ok (read.Refused code text last)) = (code.0 ≡ 505) × (text.items ≡ refused_text (refusal_response VersionNotSupported) (plainly (version 1 1)) no_body date) × (last ≡ ends)
 RefusesTooNew ends no_body date (Ok _) = ⊥
 RefusesTooNew ends no_body date (Err e) = ⊤
 
 -- What a head is answered that is cut by this stop: 408 at a time-out, else nothing, for this reason.
-abbrev pub AnswersCut : Stop → Bool → HttpDate → Result HeadRead AllocError → Type 0
-AnswersCut stop has_begun date r = MatchBool (is_timed_out stop) (RefusesWith 408 (version 1 1) date r) (r ≡ Ok (read.Ended (cut_end stop has_begun)))
+abbrev pub AnswersCut : Stop → Bool → Bool → HttpDate → Result HeadRead AllocError → Type 0
+AnswersCut stop standard has_begun date r = MatchBool (is_timed_out stop) (RefusesWith 408 (record { version = version 1 1; by_standard = standard }) date r) (r ≡ Ok (read.Ended (cut_end stop has_begun)))
 
 -- What a faulty head is answered, under the version if that was read, where the input stopped so if it is cut; or why it ends
 -- the requests; or memory for its line was refused.
 abbrev pub AnswersFault : Option HTTPVersion → HeadFault → Option Stop → HttpDate → Result HeadRead AllocError → Type 0
-AnswersFault v fault.Malformed stop date r = RefusesWith 400 (unwrap_or v (version 1 1)) date r
-AnswersFault v fault.Cut stop date r = IfSome stop (λ s. AnswersCut s true date r)
-AnswersFault v fault.TooLarge stop date r = RefusesWith 431 (unwrap_or v (version 1 1)) date r
+AnswersFault v fault.Malformed stop date r = RefusesWith 400 (plainly (unwrap_or v (version 1 1))) date r
+AnswersFault v fault.Cut stop date r = IfSome stop (λ s. AnswersCut s false true date r)
+AnswersFault v fault.TooLarge stop date r = RefusesWith 431 (plainly (unwrap_or v (version 1 1))) date r
 AnswersFault v fault.NotAscii stop date r = r ≡ Ok (read.Ended because.NotAscii)
 AnswersFault v fault.Memory stop date r = IsErr r
 
@@ -258,7 +258,7 @@ ReadsHead p from_here date (Some f) new (Ok (read.Request x)) =
     (body : Feed) × (next : Place) × OneHead p f.bytes f.stop (Some (Asks (request_of (exchange_head x) body (place_feed f.stop next)))) (place_after (exchange_head x).is_last next)
     × ComesWith (exchange_left x new) f.stop body next × KeepsRequest x date
 ReadsHead p from_here date (Some f) new (Ok (read.Refused status text last)) =
-    (refusal : Refusal) × (v : HTTPVersion) × (no_body : Bool) × (next : Place) × OneHead p f.bytes f.stop (Some (Refuses refusal v no_body last)) next
+    (refusal : Refusal) × (v : Manner) × (no_body : Bool) × (next : Place) × OneHead p f.bytes f.stop (Some (Refuses refusal v no_body last)) next
     × (text.items ≡ refused_text (refusal_response refusal) v no_body date) × (status.0 ≡ refusal_status refusal) × GoesOnAt last f.stop next new
 ReadsHead p from_here date (Some f) new (Ok (read.Ended why)) = OneHead p f.bytes f.stop None None × EndsAt p from_here f.bytes f.stop why
 ReadsHead p from_here date (Some f) new (Err e) = ⊤

@@ -1,5 +1,5 @@
 -- What a contract sees of an `OpenRequest`.
-use Rattle.std.specs.Prelude.{◌≡◌, ◌&&◌, ◌||◌, ◌==◌, ℕ, Bool, false, not, nat_lt, List, [], Result, Ok, Err, ⊤, if◌then◌else◌}
+use Rattle.std.specs.Prelude.{◌≡◌, ◌&&◌, ◌||◌, ◌==◌, ℕ, Bool, true, false, not, nat_lt, List, [], Some, Result, Ok, Err, ⊤, if◌then◌else◌}
 use Rattle.std.specs.List.{list_all}
 use Rattle.httpdate.specs.declared.date.HttpDate.{HttpDate}
 use Rattle.tiny_http_wire.specs.declared.device.Stop.TheVariants.{End}
@@ -7,16 +7,18 @@ use Rattle.tiny_http_wire.specs.Bytes.{is_ascii}
 use Rattle.tiny_http_wire.specs.Coding.{coding_asked}
 use Rattle.tiny_http_standard.specs.Judging.{names_protocol}
 use Rattle.tiny_http_stream.specs.Outlet.{OutletState, output_of, outlet_held, SentOn}
-use Rattle.tiny_http_sending.specs.ResponseValue.{printing_to}
 use Rattle.tiny_http_sending.specs.Sending.{IsFlushed}
 use Rattle.tiny_http_message.specs.declared.exchange.Head.{Head}
+use Rattle.tiny_http_wire.specs.declared.answer_context.AnswerContext.{AnswerContext}
+use Rattle.tiny_http_wire.specs.declared.answer_context.Persistence.TheVariants.{Close}
+use Rattle.tiny_http_message.specs.declared.body.Remainder.{Remainder}
 use Rattle.tiny_http_message.specs.declared.body.Body.{Body}
 use Rattle.tiny_http_message.specs.declared.body.Body.TheVariants.{Over}
-use Rattle.tiny_http_message.specs.Body.{stream_body}
+use Rattle.tiny_http_message.specs.Body.{stream_body, is_long, is_skipped}
 use Rattle.tiny_http_message.specs.declared.open_request.OpenRequest.{OpenRequest}
 use Rattle.tiny_http_message.specs.declared.upgrading.UpgradeError.{UpgradeError}
 use Rattle.tiny_http_message.specs.declared.upgrading.UpgradeError.TheVariants.{Protocol, NotAsked, Status, UnfinishedBody}
-use Rattle.tiny_http_message.specs.OwnAnswer.{own_text_by}
+use Rattle.tiny_http_message.specs.OwnAnswer.{persistence_of}
 use Rattle.tiny_http_message.specs.Pipeline.{is_head_method, is_connect_method}
 
 -- a final answer has a code of three digits, and no 1xx (RFC 9110, section 15)
@@ -27,13 +29,18 @@ is_final code = not (nat_lt code 200) && nat_lt code 1000
 abbrev pub refuses_code : Bool → Bool → ℕ → Bool
 refuses_code by_standard is_connect code = by_standard && (not (is_final code) || (is_connect && nat_lt code 300))
 
--- no head is read behind a request that is finished now: its 100 is owed by the standard
-abbrev pub is_last_without_continue : {B : Type 0} → OpenRequest B → Bool
-is_last_without_continue w = w.by_standard && w.owes_continue
+-- no head is read behind a request that is finished now: by the standard its 100 is owed, or more is left of its body than is skipped
+abbrev pub is_last_once_finished : {B : Type 0} → OpenRequest B → Remainder → Bool
+is_last_once_finished w left = w.by_standard && (w.owes_continue || is_long left)
 
 -- none is read behind a request that gets the connection's stream now
-abbrev pub is_last_with_stream : {B : Type 0} → OpenRequest B → Bool
-is_last_with_stream w = w.holds_next_head || is_last_without_continue w
+abbrev pub is_last_with_stream : {B : Type 0} → OpenRequest B → Remainder → Bool
+is_last_with_stream w left = w.holds_next_head || is_last_once_finished w left
+
+-- How it is answered now. By the standard the answer says that the connection ends where the request is the last by its head, its 100 is
+-- owed, or more is left of its body than is skipped.
+abbrev pub final_context : {B : Type 0} → OpenRequest B → Remainder → AnswerContext
+final_context w left = if w.by_standard && (w.owes_continue || not (is_skipped left)) then record w.answer_context { persistence = Some Close } else w.answer_context
 
 -- A connection can be upgraded to this protocol by an answer with this code, or why not. By the standard the request has to ask for
 -- it, and its body has to be whole (RFC 9110, section 7.8).
@@ -59,7 +66,7 @@ IsUpgraded old new = new ≡ record old { owes_continue = false; body = stream_b
 
 -- nothing has changed but that the text of its drop was taken, and that no 100 is owed any more
 abbrev pub HasNoDropText : {B : Type 0} → OpenRequest B → OpenRequest B → Type 0
-HasNoDropText old new = new ≡ record old { owes_continue = false; dropped = record { items = [] } }
+HasNoDropText old new = new ≡ record old { owes_continue = false; dropped = record old.dropped { is_taken = true } }
 
 -- nothing has changed but that its body reports its end from now on, that no 100 is owed any more, and that no upgrade of it is taken
 abbrev pub HasNoBodyLeft : OpenRequest Body → OpenRequest Body → Type 0
@@ -74,6 +81,7 @@ pub record KeepsHead {B : Type 0} (w : OpenRequest B) (h : Head) (date : HttpDat
   pub version : w.answer_context.version ≡ h.version
   pub asked_coding : w.answer_context.asked_coding ≡ coding_asked h.headers.items
   pub no_body : w.answer_context.no_body ≡ is_head_method h.method
+  pub persistence : w.answer_context.persistence ≡ persistence_of h.by_standard h.is_last
   pub owes_continue : w.owes_continue ≡ h.owes_continue
   pub holds_next_head : w.holds_next_head ≡ (h.asks_upgrade && not h.is_last)
   pub by_standard : w.by_standard ≡ h.by_standard
@@ -81,4 +89,4 @@ pub record KeepsHead {B : Type 0} (w : OpenRequest B) (h : Head) (date : HttpDat
   -- the protocols that it asks for, unless it is its connection's last
   pub upgrades : (protocol : List ℕ) → (w.holds_next_head && names_protocol w.upgrades.items protocol) ≡ (w.holds_next_head && names_protocol h.headers.items protocol)
   pub no_upgrades : w.holds_next_head ≡ false → w.upgrades.items ≡ []
-  pub text : w.dropped.items ≡ own_text_by 500 (printing_to (coding_asked h.headers.items) h.version (is_head_method h.method) date)
+  pub dropped : w.dropped ≡ record { is_taken = false; date = date }

@@ -68,16 +68,27 @@ refusal_status RequestLineTooLong = 414
 refusal_status CodingNotImplemented = 501
 refusal_status MajorVersionNotSupported = 505
 
+-- in which version a head is refused, and whether that is printed by the standard
+pub record Manner : Type 0 where
+  pub version : HTTPVersion
+  pub by_standard : Bool
+
+abbrev pub plainly : HTTPVersion → Manner
+plainly v = record { version = v; by_standard = false }
+
+abbrev pub by_the_standard : Manner
+by_the_standard = record { version = version 1 1; by_standard = true }
+
 -- how a head is refused whose framing is
 abbrev pub framing_refusal : FramingFault → Refusal
 framing_refusal Invalid = BadRequest
 framing_refusal Expectation = ExpectationFailed
 
--- a head of the connection: handed out, or refused, in this version; no_body says that it is a HEAD, which is told by a 505 alone;
+-- a head of the connection: handed out, or refused in this manner; no_body says that it is a HEAD, which is told by a 505 alone;
 -- last says that the refusal itself ends the connection
 pub data Item : Type 0 where
   Asks : (request : Request) → Item
-  Refuses : (refusal : Refusal) (version : HTTPVersion) (no_body last : Bool) → Item
+  Refuses : (refusal : Refusal) (manner : Manner) (no_body last : Bool) → Item
 
 -- where the next head begins; or None: the connection has ended
 abbrev pub Place : Type 0
@@ -154,15 +165,15 @@ IsNotAsciiHead p bytes = (line : Option HTTPVersion) × FaultyHead (seen_within 
 abbrev pub IsSilent : HeadRules → List ℕ → Stop → Type 0
 IsSilent p bytes stop = (IsCutHead p bytes × (is_timed_out stop ≡ false)) ⊎ IsNotAsciiHead p bytes
 
--- A REFUSAL in this version: that of the request line, or 1.1 where that hasn't ended; a 408 is always in 1.1. A version that is
+-- A REFUSAL in this manner, its version that of the request line, or 1.1 where that hasn't ended; a 408 is always in 1.1. A version that is
 -- too new is judged by `item_of`, since a body follows it.
-abbrev pub IsRefused : HeadRules → List ℕ → Stop → Refusal → HTTPVersion → Type 0
+abbrev pub IsRefused : HeadRules → List ℕ → Stop → Refusal → Manner → Type 0
 IsRefused p bytes stop BadRequest v =
-    ((line : Option HTTPVersion) × FaultyHead (seen_within (head_limit p) bytes) line Malformed × (v ≡ unwrap_or line (version 1 1)))
-    ⊎ ((m : Message) × (after : List ℕ) × IsWholeHead p bytes m after (Err Invalid) × (v ≡ m.version))
-IsRefused p bytes stop RequestTimeout v = IsCutHead p bytes × (is_timed_out stop ≡ true) × (v ≡ version 1 1)
-IsRefused p bytes stop ExpectationFailed v = (m : Message) × (after : List ℕ) × IsWholeHead p bytes m after (Err Expectation) × (v ≡ m.version)
-IsRefused p bytes stop HeaderFieldsTooLarge v = (line : Option HTTPVersion) × IsTooLarge (head_limit p) bytes line × (v ≡ unwrap_or line (version 1 1))
+    ((line : Option HTTPVersion) × FaultyHead (seen_within (head_limit p) bytes) line Malformed × (v ≡ plainly (unwrap_or line (version 1 1))))
+    ⊎ ((m : Message) × (after : List ℕ) × IsWholeHead p bytes m after (Err Invalid) × (v ≡ plainly m.version))
+IsRefused p bytes stop RequestTimeout v = IsCutHead p bytes × (is_timed_out stop ≡ true) × (v ≡ plainly (version 1 1))
+IsRefused p bytes stop ExpectationFailed v = (m : Message) × (after : List ℕ) × IsWholeHead p bytes m after (Err Expectation) × (v ≡ plainly m.version)
+IsRefused p bytes stop HeaderFieldsTooLarge v = (line : Option HTTPVersion) × IsTooLarge (head_limit p) bytes line × (v ≡ plainly (unwrap_or line (version 1 1)))
 IsRefused p bytes stop VersionNotSupported v = ⊥
 IsRefused p bytes stop RequestLineTooLong v = ⊥
 IsRefused p bytes stop CodingNotImplemented v = ⊥
@@ -207,7 +218,7 @@ long_refusal true = HeaderFieldsTooLarge
 -- what the bytes at a head's place are
 pub data Heading : Type 0 where
   Silence : Heading
-  Refused : (refusal : Refusal) (version : HTTPVersion) → Heading
+  Refused : (refusal : Refusal) (manner : Manner) → Heading
   Heads : (message : Message) (framing : Framing) (after : List ℕ) → Heading
 
 -- WHAT STANDS THERE by the rules of tiny_http
@@ -218,12 +229,12 @@ RulesHeadAt p bytes stop (Heads m f after) = IsRequestHead p bytes m f after
 
 -- a head, or a body that is read with it, is cut: it is answered where it has begun and the reader timed out
 abbrev pub standard_cut : Bool → Stop → Heading
-standard_cut has_begun stop = if (has_begun && is_timed_out stop) then Refused RequestTimeout (version 1 1) else Silence
+standard_cut has_begun stop = if (has_begun && is_timed_out stop) then Refused RequestTimeout by_the_standard else Silence
 
 -- a head that hasn't ended
 abbrev pub standard_open : Bool → List ℕ → Stop → Heading
 standard_open behind_request_line bytes stop =
-    if nat_lt (length bytes) STANDARD_HEAD then standard_cut (is_begun bytes) stop else Refused (long_refusal behind_request_line) (version 1 1)
+    if nat_lt (length bytes) STANDARD_HEAD then standard_cut (is_begun bytes) stop else Refused (long_refusal behind_request_line) by_the_standard
 
 -- a whole head that is framed so; a short body of a known length is read with it
 abbrev pub standard_heads : Message → Framing → List ℕ → Stop → Heading
@@ -231,9 +242,9 @@ standard_heads m f after stop = if is_cut_with_head f.form (body_length_or_0 f) 
 
 -- WHAT STANDS THERE by the standard, by what the first bytes are read as. All refusals are in version 1.1.
 abbrev pub standard_heading : Reading → List ℕ → Stop → Heading
-standard_heading ReadBad bytes stop = Refused BadRequest (version 1 1)
+standard_heading ReadBad bytes stop = Refused BadRequest by_the_standard
 standard_heading (ReadOpen behind_request_line) bytes stop = standard_open behind_request_line bytes stop
-standard_heading (ReadWhole m after (Err refusal)) bytes stop = Refused (standard_refusal refusal) (version 1 1)
+standard_heading (ReadWhole m after (Err refusal)) bytes stop = Refused (standard_refusal refusal) by_the_standard
 standard_heading (ReadWhole m after (Ok s)) bytes stop = standard_heads (served_message m) (standard_framing s) (after ++ drop STANDARD_HEAD bytes) stop
 
 abbrev pub StandardHeadAt : List ℕ → Stop → Heading → Type 0
@@ -278,7 +289,7 @@ ends_too_new _ = false
 
 abbrev pub item_of : Message → Framing → Feed → Feed → Item
 item_of m f body behind =
-    if is_too_new m.version then Refuses VersionNotSupported (version 1 1) (is_head_method m.method) (ends_too_new f.form) else Asks (record { message = m; framing = f; body = body; behind = behind })
+    if is_too_new m.version then Refuses VersionNotSupported (plainly (version 1 1)) (is_head_method m.method) (ends_too_new f.form) else Asks (record { message = m; framing = f; body = body; behind = behind })
 
 -- where the next head begins after one of this message and framing
 abbrev pub next_place : Message → Framing → Place → Place

@@ -16,7 +16,7 @@ use Rattle.tiny_http_message.specs.declared.framing.Form.TheVariants.{Rest, Noth
 use Rattle.tiny_http_message.specs.declared.framing.Framing.{Framing}
 use Rattle.tiny_http_message.specs.FramingReading.{framing}
 use Rattle.tiny_http_message.specs.Body.{cut_stop, chunk_rules}
-use Rattle.tiny_http_message.specs.Pipeline.{place_feed, Item, Refuses, BadRequest, RequestTimeout, HeaderFieldsTooLarge, framing_refusal, Place, is_timed_out, is_cut_with_head, head_limit, Heading, Silence, Refused, Heads, body_length_or_0, item_of, next_place}
+use Rattle.tiny_http_message.specs.Pipeline.{place_feed, plainly, Item, Refuses, BadRequest, RequestTimeout, HeaderFieldsTooLarge, framing_refusal, Place, is_timed_out, is_cut_with_head, head_limit, Heading, Silence, Refused, Heads, body_length_or_0, item_of, next_place}
 
 -- a body and where the next head begins
 pub record BodyRead : Type 0 where
@@ -45,10 +45,10 @@ body_read standard Chunked n after stop = chunked_read (decoded_by (chunk_rules 
 
 -- the head, or a body that is read with it, is cut
 abbrev pub cut_heading : Stop → Heading
-cut_heading stop = if is_timed_out stop then Refused RequestTimeout (version 1 1) else Silence
+cut_heading stop = if is_timed_out stop then Refused RequestTimeout (plainly (version 1 1)) else Silence
 
 abbrev pub whole_heading : Message → List ℕ → Stop → Result Framing FramingFault → Heading
-whole_heading m after stop (Err fault) = Refused (framing_refusal fault) m.version
+whole_heading m after stop (Err fault) = Refused (framing_refusal fault) (plainly m.version)
 whole_heading m after stop (Ok f) = if is_cut_with_head f.form (body_length_or_0 f) after then cut_heading stop else Heads m f after
 
 -- as many bytes as the limit came
@@ -63,9 +63,9 @@ all_after (Some limit) bytes after = after ++ drop limit bytes
 
 -- the head's first faulty line; if the head is only cut, the limit was reached or wasn't
 abbrev pub faulty : Bool → Option HTTPVersion → GrammarFault → Stop → Heading
-faulty full v Cut stop = if full then Refused HeaderFieldsTooLarge (unwrap_or v (version 1 1)) else cut_heading stop
+faulty full v Cut stop = if full then Refused HeaderFieldsTooLarge (plainly (unwrap_or v (version 1 1))) else cut_heading stop
 faulty full v NotAscii stop = Silence
-faulty full v Malformed stop = Refused BadRequest (unwrap_or v (version 1 1))
+faulty full v Malformed stop = Refused BadRequest (plainly (unwrap_or v (version 1 1)))
 
 abbrev pub heading : HeadRules → List ℕ → Stop → RequestHeadRead → Heading
 heading p bytes stop (Faulty v fault) = faulty (is_full (head_limit p) bytes) v fault stop

@@ -3,13 +3,12 @@ use Rattle.std.specs.Prelude.{◌≡◌, ◌&&◌, Bool, Result, Ok, MatchBool}
 use Rattle.std.specs.declared.alloc.AllocError.{AllocError}
 use Rattle.httpdate.specs.declared.date.HttpDate.{HttpDate}
 use Rattle.tiny_http_wire.specs.declared.device.Stop.{Stop}
-use Rattle.tiny_http_wire.specs.Heads.{version}
 use Rattle.tiny_http_standard.specs.declared.heads.Head.{Head as StandardHead}
 use Rattle.tiny_http_standard.specs.Heads.{message_of}
 use Rattle.tiny_http_message.specs.declared.exchange.Head.{Head}
 use Rattle.tiny_http_message.specs.declared.exchange.HeadRead.{HeadRead}
 use Rattle.tiny_http_message.specs.declared.exchange.HeadRead.TheVariants as read
-use Rattle.tiny_http_message.specs.Pipeline.{is_timed_out, served_message}
+use Rattle.tiny_http_message.specs.Pipeline.{is_timed_out, by_the_standard, served_message}
 use Rattle.tiny_http_message.specs.HeadReads.{RefusesWith, cut_end, head_message}
 
 -- the head that is handed out says what was read, in the version in which it is served
@@ -18,4 +17,4 @@ IsHeadOf read h = head_message h ≡ served_message (message_of read)
 
 -- What a head is answered that is cut by this stop: 408 where it has begun and the reader timed out, else nothing, for this reason.
 abbrev pub AnswersStandardCut : Stop → Bool → HttpDate → Result HeadRead AllocError → Type 0
-AnswersStandardCut stop has_begun date r = MatchBool (has_begun && is_timed_out stop) (RefusesWith 408 (version 1 1) date r) (r ≡ Ok (read.Ended (cut_end stop has_begun)))
+AnswersStandardCut stop has_begun date r = MatchBool (has_begun && is_timed_out stop) (RefusesWith 408 by_the_standard date r) (r ≡ Ok (read.Ended (cut_end stop has_begun)))

@@ -4,13 +4,27 @@ ghost use Rattle.std.specs.Option.{option_map};
 ghost use Rattle.tiny_http_wire.specs.Device.{AnswersStop, Feed};
 ghost use Rattle.tiny_http_stream.specs.Source.{GoesOn};
 ghost use Rattle.tiny_http_stream.specs.ToCome.{skipped};
-ghost use Rattle.tiny_http_message.specs.Body.{remaining, IsNewChunked, counted_remaining, is_whole, stream_body, is_streaming, body_standing, ReadsOn, ReadsRemaining, ReadsBody, ReadsHeld, FillsFromBody, GivesUp};
+ghost use Rattle.tiny_http_message.specs.Body.{remaining, IsNewChunked, counted_remaining, is_whole, remainder, stream_body, is_streaming, body_standing, ReadsOn, ReadsRemaining, ReadsBody, ReadsHeld, FillsFromBody, GivesUp};
 
 use std::io;
 use std::io::{Cursor, ErrorKind};
 use tiny_http_stream::source::{Source, Standing};
 use tiny_http_wire::chunked::{ChunkRules, Decoding};
 use tiny_http_wire::device::{ReadDevice, Stop, read_front};
+
+/// The most bytes of a body of known length that are skipped before the next head, by the standard.
+pub const MOST_SKIPPED: usize = 65_536;
+
+/// What is left of a body whose request is finished.
+#[derive(Clone, Copy, Debug, PartialEq, Eq)]
+pub enum Remainder {
+    /// So little that it is skipped, and the next head can follow.
+    Skipped,
+    /// More bytes of a known length than `MOST_SKIPPED`.
+    Long,
+    /// Its end isn't known: chunks are unread, or it is cut or broken.
+    Endless,
+}
 
 /// How far a request's body was read.
 #[derive(Drop)]
@@ -261,6 +275,17 @@ impl Body {
         ensures { result ≡ is_streaming self.now }
     {
         matches!(self, Body::Counted { .. } | Body::Chunked(_) | Body::Rest)
+    }
+
+    /// What is left of it, if its request is finished now.
+    pub fn remainder(&self) -> Remainder
+        ensures { result ≡ remainder self.now }
+    {
+        match self {
+            Body::Counted { left, .. } if *left > MOST_SKIPPED => Remainder::Long,
+            Body::Chunked(_) | Body::Over(Stop::Fault(_)) => Remainder::Endless,
+            _ => Remainder::Skipped,
+        }
     }
 
     /// Whether the body has come whole, and none of it is read from the input any more.

@@ -1,6 +1,6 @@
 //! A request without locks: its head, its body on the connection's input, and what becomes of both.
 ghost use Rattle.std.specs.Prelude.{◌≡◌, ◌<◌, true, false, [], length, Some, None, Ok, IfOk, IfSome, IsSome, OnOk, OnErr};
-ghost use Rattle.tiny_http_sending.specs.ResponseValue.{upgrade_text};
+ghost use Rattle.tiny_http_sending.specs.ResponseValue.{printing_in, upgrade_text};
 ghost use Rattle.tiny_http_stream.specs.Source.{GoesOn, IsAtEnd, IsCutOff};
 ghost use Rattle.tiny_http_message.specs.Pipeline.{profile_of, is_timed_out, ends_too_new, refusal_status, framing_refusal};
 ghost use Rattle.tiny_http_message.specs.Body.{ReadsBody, PassesOver};
@@ -52,7 +52,8 @@ pub struct Head {
     /// Whether the head asks for an upgrade (RFC 9110, section 7.8); it is told under `Standard` alone: in version 1.1, by a
     /// `Connection` with the element `upgrade` and an `Upgrade` that names a protocol.
     pub asks_upgrade: bool,
-    /// Whether it was read under `Standard`: no request follows one that is answered or dropped while its 100 is owed.
+    /// Whether it was read under `Standard`: no request follows one that is answered or dropped while its 100 is owed, or while
+    /// more than 65,536 bytes of its body are unread.
     pub by_standard: bool,
     /// Whether the connection ends after this request (RFC 9112, section 9.3).
     pub is_last: bool,
@@ -69,8 +70,8 @@ pub struct Exchange {
 #[derive(Clone, Copy, Debug, PartialEq, Eq)]
 pub enum EndOfRequests {
     /// The last request was read: its version or its `Connection` header ends the connection after it. Under `Standard` its
-    /// method `CONNECT` does, too, as does whatever finished it while its 100 was owed, and, if it asked for an upgrade, its
-    /// raw writer or its upgrade.
+    /// method `CONNECT` does, too, as does whatever finished it while its 100 was owed or more than 65,536 bytes of its counted
+    /// body weren't given out, and, if it asked for an upgrade, its raw writer or its upgrade.
     LastRequest,
     /// The client's bytes ended, and no byte of a further head had come. So it is too where they ended within a body of a known
     /// length (under `Standard` that is `BrokenBody`, once it was read up to there), or, by an end or a fault, within what was left
@@ -112,7 +113,7 @@ pub enum HeadRead {
 }
 
 impl Exchange {
-    ghost use Rattle.tiny_http_message.specs.Exchange.{exchange_printing, exchange_check, exchange_of, exchange_head, exchange_drop_text, exchange_owes_continue, exchange_body, Changes, GivesUpBody, KeepsButBody};
+    ghost use Rattle.tiny_http_message.specs.Exchange.{exchange_printing, exchange_context, exchange_check, exchange_of, exchange_head, exchange_drop_text, exchange_owes_continue, exchange_body, Changes, GivesUpBody, KeepsButBody};
     ghost use Rattle.tiny_http_message.specs.OpenRequest.{OwesNoContinue, IsUpgraded, HasNoDropText, HasNoBodyLeft};
 
     /// What the request's head says.
@@ -140,9 +141,10 @@ impl Exchange {
     }
 
     /// Sends the answer to this request, printed for it and dated `now`, and flushes it. No 100 is owed any more. The caller
-    /// answers each request once, in the order of the requests, and gives the body up. Under `Standard` the caller reads no
-    /// head behind a request that is finished while its 100 is owed. On an outlet that has ended nothing is sent, the data
-    /// aren't read, and the result is `Ok`. The first fault is the error: the data's, or the writer's. Where both fail, either
+    /// answers each request once, in the order of the requests, and gives the body up. Under `Standard` the answer
+    /// says that the connection ends where the request is the last by its head, its 100 is owed, more than 65,536 bytes of its body
+    /// are unread, or the end of its body isn't known. Then the caller reads no further head. A body that was given up before this
+    /// call counts as read. On an outlet that has ended nothing is sent, the data aren't read, and the result is `Ok`. The first fault is the error: the data's, or the writer's. Where both fail, either
     /// may be reported. Then the outlet has ended, and what was held before a fault of the data is sent.
     pub fn respond_on<W: WriteDevice, D: ReadDevice + Drop>(
         &mut self,
@@ -151,10 +153,12 @@ impl Exchange {
         response: Response<D>,
         now: HttpDate,
     ) -> Result<(), io::Error>
-        ensures answers { SendsAnswer D.feed outlet.old outlet.new result response (exchange_printing self.old now) }
+        ensures answers { SendsAnswer D.feed outlet.old outlet.new result response (printing_in (exchange_context self.old) now) }
         ensures once { Changes OwesNoContinue self.old self.new }
     {
-        self.open_request.respond(alloc, outlet, response, now)
+        let left = self.open_request.body.remainder();
+        self.open_request
+            .respond(alloc, outlet, response, left, now)
     }
 
     /// Sends the answer that upgrades the connection to this protocol (RFC 9110, section 7.8), printed for this request and
@@ -222,14 +226,15 @@ impl Exchange {
         self.open_request.give_up(source);
     }
 
-    /// Takes the text that answers this request if it is dropped: an empty 500 in its version, printed for its headers and its
+    /// Takes the text that answers this request if it is dropped: an empty 500, printed for its version, its headers and its
     /// method, on the date on which it was read (as tiny_http). No byte of it is left, and no 100 is owed any more. The caller
     /// sends it in the turn of the request, in the place of an answer, and gives the body up. The call takes no memory.
     pub fn text_of_drop(&mut self) -> Vec<u8>
         ensures text { result.items ≡ exchange_drop_text self.old }
         ensures once { Changes HasNoDropText self.old self.new }
     {
-        self.open_request.take_drop_text()
+        let left = self.open_request.body.remainder();
+        self.open_request.take_drop_text(left)
     }
 
     /// The head, and what is kept of the request until it is answered, each by itself; for the crates above.
@@ -263,11 +268,12 @@ pub(crate) fn refused_with(
     alloc: Global,
     status: StatusCode,
     version: HTTPVersion,
+    by_standard: bool,
     now: HttpDate,
 ) -> Result<HeadRead, AllocError>
-    ensures { RefusesWith status.0 version now result }
+    ensures { RefusesWith status.0 (record { version = version; by_standard = by_standard }) now result }
 {
-    let text = own_answer(alloc, status, version, false, now)?;
+    let text = own_answer(alloc, status, version, by_standard, now)?;
     Ok(HeadRead::Refused {
         status,
         text,
@@ -336,13 +342,14 @@ fn refuse_too_new<R: ReadDevice>(
 pub(crate) fn answer_cut(
     alloc: Global,
     stop: Option<Stop>,
+    by_standard: bool,
     has_begun: bool,
     now: HttpDate,
 ) -> Result<HeadRead, AllocError>
-    ensures { IfSome stop (λ stop. AnswersCut stop has_begun now result) }
+    ensures { IfSome stop (λ stop. AnswersCut stop by_standard has_begun now result) }
 {
     if is_timed_out(stop) {
-        return refused_with(alloc, StatusCode(408), HTTPVersion(1, 1), now);
+        return refused_with(alloc, StatusCode(408), HTTPVersion(1, 1), by_standard, now);
     }
     Ok(HeadRead::Ended(cut_end(stop, has_begun)))
 }
@@ -360,14 +367,14 @@ fn answer_fault(
     match fault {
         HeadFault::Malformed => {
             let version = version.unwrap_or(HTTPVersion(1, 1));
-            refused_with(alloc, StatusCode(400), version, now)
+            refused_with(alloc, StatusCode(400), version, false, now)
         }
         HeadFault::TooLarge => {
             let version = version.unwrap_or(HTTPVersion(1, 1));
-            refused_with(alloc, StatusCode(431), version, now)
+            refused_with(alloc, StatusCode(431), version, false, now)
         }
         HeadFault::Memory => Err(AllocError),
-        HeadFault::Cut => answer_cut(alloc, stop, true, now),
+        HeadFault::Cut => answer_cut(alloc, stop, false, true, now),
         HeadFault::NotAscii => Ok(HeadRead::Ended(EndOfRequests::NotAscii)),
     }
 }
@@ -449,7 +456,7 @@ fn read_by_rules<R: ReadDevice>(
     ensures standing { source.new.standing ≡ source.old.standing }
 {
     if !source.has_byte() {
-        return answer_cut(alloc, source.stop(), false, now);
+        return answer_cut(alloc, source.stop(), false, false, now);
     }
     let message = match read_message(alloc, source, rules.head_limit()) {
         Ok(message) => message,
@@ -459,7 +466,7 @@ fn read_by_rules<R: ReadDevice>(
     };
     let framing = match framing_of(rules, message.version, message.headers.as_slice()) {
         Ok(framing) => framing,
-        Err(fault) => return refused_with(alloc, refusal_of(fault), message.version, now),
+        Err(fault) => return refused_with(alloc, refusal_of(fault), message.version, false, now),
     };
     match begin_body(alloc, source, framing) {
         Ok(Some(body)) => {
@@ -472,7 +479,7 @@ fn read_by_rules<R: ReadDevice>(
                 Err(e) => Err(e),
             }
         }
-        Ok(None) => answer_cut(alloc, source.stop(), true, now),
+        Ok(None) => answer_cut(alloc, source.stop(), false, true, now),
         Err(e) => Err(e),
     }
 }
@@ -543,7 +550,8 @@ fn end_at(standing: Standing, why: EndOfRequests) -> EndOfRequests
 /// nothing is read, and its body can be read on.
 ///
 /// Under `Standard` the caller reads no head before a request that asks for an upgrade is answered or dropped, none behind its
-/// upgrade or raw writer, and none behind a request that was finished while its 100 was owed: `Connection` sees to that.
+/// upgrade or raw writer, and none behind a request that was finished while its 100 was owed, or while more than 65,536 bytes of
+/// its body were unread: `Connection` sees to that.
 ///
 /// By `read_head`, `read_body` and `give_up` on one source bytes of a body are never read as a head. Where the body of the
 /// request before was neither read to its end nor given up the answer is `UnreadBody`, and the source ends there.

@@ -8,14 +8,15 @@ ghost use Rattle.tiny_http_wire.specs.Bytes.{is_ascii};
 ghost use Rattle.tiny_http_wire.specs.Device.{Feed};
 ghost use Rattle.tiny_http_sending.specs.ResponseValue.{printing_in, upgrade_text};
 ghost use Rattle.tiny_http_sending.specs.Sending.{FailsOnce, SendsQuietlyOn, SendsAnswer};
+ghost use Rattle.tiny_http_message.specs.TextState.{drop_text};
 ghost use Rattle.tiny_http_message.specs.OwnAnswer.{own_text_by};
-ghost use Rattle.tiny_http_message.specs.OpenRequest.{KeepsHead, OwesNoContinue, HasNoDropText, HasNoBodyLeft, HasSentAll, is_last_without_continue, is_last_with_stream, refuses_code, request_check};
+ghost use Rattle.tiny_http_message.specs.OpenRequest.{KeepsHead, OwesNoContinue, HasNoDropText, HasNoBodyLeft, HasSentAll, final_context, is_last_once_finished, is_last_with_stream, refuses_code, request_check};
 ghost use Rattle.tiny_http_message.specs.Pipeline.{is_head_method};
 ghost use Rattle.tiny_http_message.specs.Body.{ReadsBody, GivesUp};
 
-use crate::body::Body;
+use crate::body::{Body, Remainder};
 use crate::exchange::Head;
-use crate::own_answer::{DropText, send_own_quietly};
+use crate::own_answer::{DropText, persistence_of, send_own_quietly};
 use crate::upgrading::{UpgradeError, check_upgrade, send_upgrade_quietly};
 use httpdate::HttpDate;
 use std::alloc::{AllocError, Global};
@@ -24,7 +25,7 @@ use tiny_http_sending::sending::send_unless_ended;
 use tiny_http_standard::judging::names_protocol;
 use tiny_http_stream::outlet::Outlet;
 use tiny_http_stream::source::Source;
-use tiny_http_wire::answer_context::AnswerContext;
+use tiny_http_wire::answer_context::{AnswerContext, Persistence};
 use tiny_http_wire::coding::asked_coding;
 use tiny_http_wire::common::{Header, Method, StatusCode};
 use tiny_http_wire::device::{ReadDevice, WriteDevice};
@@ -67,6 +68,7 @@ impl<B: Drop> OpenRequest<B> {
             version: head.version,
             asked_coding: asked_coding(head.headers.as_slice()),
             no_body: is_head(&head.method),
+            persistence: persistence_of(head.by_standard, head.is_last),
         };
         let holds_next_head = head.asks_upgrade && !head.is_last;
         let upgrades = if holds_next_head {
@@ -74,7 +76,7 @@ impl<B: Drop> OpenRequest<B> {
         } else {
             Vec::new(alloc)
         };
-        let dropped = DropText::new(alloc, answer_context, now)?;
+        let dropped = DropText::new(alloc, now)?;
         Ok(OpenRequest {
             answer_context,
             owes_continue: head.owes_continue,
@@ -87,21 +89,33 @@ impl<B: Drop> OpenRequest<B> {
         })
     }
 
-    /// Whether no head is read behind this request if it is answered now or dropped, or its raw writer taken: by the standard,
-    /// while its 100 is owed. Then its body is read from the source. The client may leave the body out, or send it, and both
-    /// are right (RFC 9110, section 10.1.1).
-    pub fn is_last_without_continue(&self) -> bool
-        ensures { result ≡ is_last_without_continue self.now }
+    /// Whether no head is read behind this request if it is answered now or dropped, or its raw writer taken, where this is left of
+    /// its body. By the standard that is so while its 100 is owed: the client may leave the body out, or send it, and both are
+    /// right (RFC 9110, section 10.1.1). It is so, too, where more is left than is skipped.
+    pub fn is_last_once_finished(&self, left: Remainder) -> bool
+        ensures { result ≡ is_last_once_finished self.now left }
     {
-        self.by_standard && self.owes_continue
+        self.by_standard && (self.owes_continue || left == Remainder::Long)
     }
 
     /// Whether no head is read behind this request once it gets the connection's stream, by its raw writer or an upgrade: it holds
-    /// the next head, or lacks its 100.
-    pub fn is_last_with_stream(&self) -> bool
-        ensures { result ≡ is_last_with_stream self.now }
+    /// the next head, or would be the last if it were answered.
+    pub fn is_last_with_stream(&self, left: Remainder) -> bool
+        ensures { result ≡ is_last_with_stream self.now left }
     {
-        self.holds_next_head || self.is_last_without_continue()
+        self.holds_next_head || self.is_last_once_finished(left)
+    }
+
+    // How it is answered now, where this is left of its body: by the standard the answer says that the connection ends where the
+    // request is the last by its head, its 100 is owed, or more is left than is skipped (RFC 9112, section 9.6).
+    fn final_context(&self, left: Remainder) -> AnswerContext
+        ensures { result ≡ final_context self.now left }
+    {
+        let mut context = self.answer_context;
+        if self.by_standard && (self.owes_continue || left != Remainder::Skipped) {
+            context.persistence = Some(Persistence::Close);
+        }
+        context
     }
 
     /// Whether an answer with this code is refused: by the standard, one that isn't final, since the client would take a later
@@ -130,7 +144,9 @@ impl<B: Drop> OpenRequest<B> {
         check_upgrade(self.by_standard, is_asked, protocol, status, is_whole)
     }
 
-    /// Sends the answer to this request, printed for it and dated `now`, and flushes it. No 100 is owed any more. The caller
+    /// Sends the answer to this request, of whose body this is left, printed for it and dated `now`, and flushes it. By the standard
+    /// it says that the connection ends where the request is the last by its head, its 100 is owed, or more is left than is skipped
+    /// (RFC 9112, section 9.6). No 100 is owed any more. The caller
     /// does so in the turn of the request, and then gives the body up. On an outlet that has ended nothing is sent, the data
     /// aren't read, and the result is `Ok`. The first fault is the error: the data's, or the writer's. Where both fail, either
     /// may be reported. Then the outlet has ended, and what was held before a fault of the data is sent.
@@ -139,13 +155,15 @@ impl<B: Drop> OpenRequest<B> {
         alloc: Global,
         outlet: &mut Outlet<W>,
         response: Response<D>,
+        left: Remainder,
         now: HttpDate,
     ) -> Result<(), io::Error>
-        ensures answers { SendsAnswer D.feed outlet.old outlet.new result response (printing_in self.old.answer_context now) }
+        ensures answers { SendsAnswer D.feed outlet.old outlet.new result response (printing_in (final_context self.old left) now) }
         ensures once { OwesNoContinue self.old self.new }
     {
+        let context = self.final_context(left);
         self.owes_continue = false;
-        send_unless_ended(alloc, outlet, response, self.answer_context, now)
+        send_unless_ended(alloc, outlet, response, context, now)
     }
 
     /// Sends the 100 that is owed to this request, and flushes (RFC 9110, section 10.1.1). Where none is owed it changes
@@ -197,25 +215,27 @@ impl<B: Drop> OpenRequest<B> {
         send_upgrade_quietly(alloc, outlet, response, self.answer_context, protocol, now);
     }
 
-    /// Takes the text that answers this request if it is dropped: an empty 500 in its version, printed for its headers and its
+    /// Takes the text that answers this request if it is dropped: an empty 500, printed for its version, its headers and its
     /// method, on the date on which it was read (as tiny_http). No byte of it is left, and no 100 is owed any more. The caller
     /// sends it in the turn of the request, in the place of an answer, and gives the body up. The call takes no memory.
-    pub fn take_drop_text(&mut self) -> Vec<u8>
-        ensures text { result.items ≡ self.old.dropped.items }
+    pub fn take_drop_text(&mut self, left: Remainder) -> Vec<u8>
+        ensures text { result.items ≡ drop_text self.old.dropped (final_context self.old left) }
         ensures once { HasNoDropText self.old self.new }
     {
+        let context = self.final_context(left);
         self.owes_continue = false;
-        self.dropped.take_text()
+        self.dropped.take_text(context)
     }
 
     /// The text that answers this request, as it is dropped, and the body, which the caller gives up once it has left the text
     /// in the turn of the request.
-    pub fn into_drop_text(self) -> (Vec<u8>, B)
-        ensures text { result.0.items ≡ self.dropped.items }
+    pub fn into_drop_text(self, left: Remainder) -> (Vec<u8>, B)
+        ensures text { result.0.items ≡ drop_text self.dropped (final_context self left) }
         ensures body { result.1 ≡ self.body }
     {
+        let context = self.final_context(left);
         let OpenRequest { dropped, body, .. } = self;
-        (dropped.into_text(), body)
+        (dropped.into_text(context), body)
     }
 }
 

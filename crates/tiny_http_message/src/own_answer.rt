@@ -1,13 +1,14 @@
 //! Answers of the server's own: the text of a refused head, and the text of a dropped request, which is printed as it is
 //! dropped.
-ghost use Rattle.std.specs.Prelude.{◌≡◌, ◌<◌, ◌≤◌, ◌^◌, false, [], Some, IfOk, length, vec_len, vec_capacity};
+ghost use Rattle.std.specs.Prelude.{◌≡◌, ◌<◌, ◌≤◌, ◌^◌, true, false, [], Some, IfOk, length, vec_len, vec_capacity};
 ghost use Rattle.httpdate.specs.Date.{date_text};
-ghost use Rattle.tiny_http_sending.specs.ResponseValue.{printing_to, printing_in};
+ghost use Rattle.tiny_http_sending.specs.ResponseValue.{printing_in};
 ghost use Rattle.tiny_http_sending.specs.Sending.{FailsOnce, SendsQuietlyOn};
 ghost use Rattle.tiny_http_message.specs.OpenRequest.{HasSentAll};
 ghost use Rattle.tiny_http_message.specs.declared.own_answer.TheConstants.{OWN_ANSWER};
-ghost use Rattle.tiny_http_message.specs.OwnAnswer.{own_text, own_text_by, refusal_response, refused_text};
-ghost use Rattle.tiny_http_message.specs.Pipeline.{VersionNotSupported};
+ghost use Rattle.tiny_http_message.specs.TextState.{drop_text};
+ghost use Rattle.tiny_http_message.specs.OwnAnswer.{own_text, own_text_by, persistence_of, refusal_response, refused_text};
+ghost use Rattle.tiny_http_message.specs.Pipeline.{VersionNotSupported, plainly};
 ghost use Rattle.tiny_http_wire.specs.Device.{Feed};
 ghost use Rattle.tiny_http_wire.specs.Heads.{version};
 
@@ -18,24 +19,25 @@ use std::marker::Model;
 use std::{io, mem};
 use tiny_http_sending::sending::send;
 use tiny_http_stream::outlet::Outlet;
-use tiny_http_wire::answer_context::AnswerContext;
+use tiny_http_wire::answer_context::{AnswerContext, Persistence};
 use tiny_http_wire::common::{HTTPVersion, StatusCode};
 use tiny_http_wire::device::{Budget, ReadDevice, WriteDevice};
 use tiny_http_wire::response::Response;
 
-/// How many bytes are kept for the text of an empty answer of the server's own, which has 138 at most.
-pub const OWN_ANSWER: usize = 144;
+/// How many bytes are kept for the text of an empty answer of the server's own, which has 162 at most.
+pub const OWN_ANSWER: usize = 168;
 
 // The text of an answer to a head that is refused. An error where there is no memory for it.
 fn refused_text<D: ReadDevice + Drop>(
     alloc: Global,
     answer: Response<D>,
     version: HTTPVersion,
+    by_standard: bool,
     no_body: bool,
     now: HttpDate,
 ) -> Result<Vec<u8>, AllocError>
     ensures { (content : Feed) → D.feed answer.data_reader ≡ Some content → length content.bytes < 2 ^ 63
-        → IfOk result (λ text. text.items ≡ refused_text (record { answer = answer.answer; content = content }) version no_body now) }
+        → IfOk result (λ text. text.items ≡ refused_text (record { answer = answer.answer; content = content }) (record { version = version; by_standard = by_standard }) no_body now) }
 {
     let bytes = Vec::with_capacity(alloc, OWN_ANSWER)?;
     let mut writer = Budget::from_vec(bytes, usize::MAX, ErrorKind::OutOfMemory);
@@ -43,6 +45,7 @@ fn refused_text<D: ReadDevice + Drop>(
         version,
         asked_coding: None,
         no_body,
+        persistence: persistence_of(by_standard, true),
     };
     match answer.print(alloc, &mut writer, context, None, now) {
         Ok(()) => Ok(writer.into_bytes()),
@@ -50,19 +53,31 @@ fn refused_text<D: ReadDevice + Drop>(
     }
 }
 
-/// The text of an answer of the server's own: this code, no headers of its own and no data. An error where there is no
-/// memory for it.
+/// The text of the answer to a head that is refused, in this version: this code, no headers of its own and no data. By the standard
+/// it says that the connection ends. An error where there is no memory for it.
 pub fn own_answer(
     alloc: Global,
     status: StatusCode,
     version: HTTPVersion,
-    no_body: bool,
+    by_standard: bool,
     now: HttpDate,
 ) -> Result<Vec<u8>, AllocError>
-    ensures { IfOk result (λ text. text.items ≡ own_text status.0 version no_body now) }
+    ensures { IfOk result (λ text. text.items ≡ own_text status.0 (record { version = version; by_standard = by_standard }) false now) }
 {
     let answer = Response::empty(alloc, status);
-    refused_text(alloc, answer, version, no_body, now)
+    refused_text(alloc, answer, version, by_standard, false, now)
+}
+
+/// What an answer says of its connection, by the standard: that it ends behind the last request, and that it persists behind
+/// another.
+pub(crate) fn persistence_of(by_standard: bool, is_last: bool) -> Option<Persistence>
+    ensures { result ≡ persistence_of by_standard is_last }
+{
+    match (by_standard, is_last) {
+        (false, _) => None,
+        (true, true) => Some(Persistence::Close),
+        (true, false) => Some(Persistence::Persistent),
+    }
 }
 
 // What a version above 1.1 is told.
@@ -71,11 +86,11 @@ const TOO_NEW: &str = "This server only supports HTTP versions 1.0 and 1.1";
 /// The text of the answer to a head whose version is above 1.1: 505 in version 1.1, and a text that says which versions are
 /// served, which is withheld for `no_body` (as tiny_http; RFC 9110, section 15.6.6). An error where there is no memory for it.
 pub fn too_new_answer(alloc: Global, no_body: bool, now: HttpDate) -> Result<Vec<u8>, AllocError>
-    ensures { IfOk result (λ text. text.items ≡ refused_text (refusal_response VersionNotSupported) (version 1 1) no_body now) }
+    ensures { IfOk result (λ text. text.items ≡ refused_text (refusal_response VersionNotSupported) (plainly (version 1 1)) no_body now) }
 {
     let text = String::from_str(alloc, TOO_NEW)?;
     let answer = Response::from_string(alloc, text)?.with_status_code(StatusCode(505));
-    refused_text(alloc, answer, HTTPVersion(1, 1), no_body, now)
+    refused_text(alloc, answer, HTTPVersion(1, 1), false, no_body, now)
 }
 
 // Sends an answer of the server's own to a request, and flushes it: this code, no headers of its own and no data. It takes no
@@ -173,41 +188,38 @@ fn print_drop(room: Vec<u8>, context: AnswerContext, now: HttpDate) -> Vec<u8>
 pub struct DropText {
     room: Vec<u8>,
     is_taken: bool,
-    context: AnswerContext,
     now: HttpDate,
 }
 
 impl Model for DropText {
-    ghost use Rattle.std.specs.Prelude.{◌≡◌, ◌<◌, ◌≤◌, false, [], vec_len, vec_capacity};
+    ghost use Rattle.std.specs.Prelude.{◌≡◌, ◌≤◌, false, [], vec_len, vec_capacity};
     ghost use Rattle.tiny_http_message.specs.declared.own_answer.TheConstants.{OWN_ANSWER};
-    ghost use Rattle.tiny_http_message.specs.TextState.{TextState, drop_text};
+    ghost use Rattle.tiny_http_message.specs.TextState.{TextState};
 
     ghost Value = { TextState };
 
-    ghost view = { λ t. record { items = drop_text t.is_taken t.context t.now } };
+    ghost view = { λ t. record { is_taken = t.is_taken; date = t.now } };
 
-    ghost invariant = { λ t. (t.room.items ≡ []) × (vec_len t.room ≡ 0) × (t.is_taken ≡ false → OWN_ANSWER ≤ vec_capacity t.room)
-        × (t.context.version.0 < 256) × (t.context.version.1 < 256) };
+    ghost invariant = { λ t. (t.room.items ≡ []) × (vec_len t.room ≡ 0) × (t.is_taken ≡ false → OWN_ANSWER ≤ vec_capacity t.room) };
 }
 
 impl DropText {
-    /// An error where there is no memory for it.
-    pub fn new(alloc: Global, context: AnswerContext, now: HttpDate) -> Result<DropText, AllocError>
-        ensures { IfOk result (λ text. text.items ≡ own_text_by 500 (printing_to context.asked_coding context.version context.no_body now)) }
+    /// `now` dates it. An error where there is no memory for it.
+    pub fn new(alloc: Global, now: HttpDate) -> Result<DropText, AllocError>
+        ensures { IfOk result (λ text. text ≡ record { is_taken = false; date = now }) }
     {
         let room = Vec::with_capacity(alloc, OWN_ANSWER)?;
         Ok(DropText {
             room,
             is_taken: false,
-            context,
             now,
         })
     }
 
-    /// Takes the text: no byte is left of it. It takes no memory.
-    pub fn take_text(&mut self) -> Vec<u8>
-        ensures text { result.items ≡ self.old.items }
-        ensures taken { self.new.items ≡ [] }
+    /// Takes the text, printed in this context: no byte is left of it. It takes no memory.
+    pub fn take_text(&mut self, context: AnswerContext) -> Vec<u8>
+        ensures text { result.items ≡ drop_text self.old context }
+        ensures taken { self.new ≡ record self.old { is_taken = true } }
     {
         let none = Vec::new(*self.room.allocator());
         if self.is_taken {
@@ -215,14 +227,14 @@ impl DropText {
         }
         self.is_taken = true;
         let room = mem::replace(&mut self.room, none);
-        print_drop(room, self.context, self.now)
+        print_drop(room, context, self.now)
     }
 
-    /// The text itself. It takes no memory.
-    pub fn into_text(self) -> Vec<u8>
-        ensures { result.items ≡ self.items }
+    /// The text itself, printed in this context. It takes no memory.
+    pub fn into_text(self, context: AnswerContext) -> Vec<u8>
+        ensures { result.items ≡ drop_text self context }
     {
         let mut text = self;
-        text.take_text()
+        text.take_text(context)
     }
 }

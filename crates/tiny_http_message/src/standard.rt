@@ -3,7 +3,7 @@ ghost use Rattle.std.specs.Prelude.{◌≡◌, IfOk, IfSome};
 ghost use Rattle.tiny_http_stream.specs.Source.{GoesOn, IsAtEnd};
 ghost use Rattle.tiny_http_wire.specs.Heads.{version};
 ghost use Rattle.tiny_http_standard.specs.Heads.{status_of};
-ghost use Rattle.tiny_http_message.specs.Pipeline.{served_version, standard_form, standard_framing, standard_heads};
+ghost use Rattle.tiny_http_message.specs.Pipeline.{by_the_standard, served_version, standard_form, standard_framing, standard_heads};
 ghost use Rattle.tiny_http_message.specs.HeadReads.{ReadsHead, RefusesWith, IsRequest, IsFramedRequest, IsRefusedUncut, IsOkEnd, HasByteOrTimedOut, head_framing};
 ghost use Rattle.tiny_http_message.specs.StandardReads.{AnswersStandardCut, IsHeadOf};
 
@@ -85,17 +85,17 @@ fn answer_standard_cut(
     ensures { IfSome stop (λ stop. AnswersStandardCut stop has_begun now result) }
 {
     if has_begun {
-        return answer_cut(alloc, stop, true, now);
+        return answer_cut(alloc, stop, true, true, now);
     }
     Ok(HeadRead::Ended(cut_end(stop, false)))
 }
 
 // Refuses a head by the status of its fault, in version 1.1: the answer is empty, and no head follows.
 fn refuse(alloc: Global, fault: HeadFault, now: HttpDate) -> Result<HeadRead, AllocError>
-    ensures { RefusesWith (status_of fault) (version 1 1) now result }
+    ensures { RefusesWith (status_of fault) by_the_standard now result }
 {
     let status = StatusCode(fault.status());
-    refused_with(alloc, status, HTTPVersion(1, 1), now)
+    refused_with(alloc, status, HTTPVersion(1, 1), true, now)
 }
 
 /// What stands at the source's standing, by the standard. After anything but a request the source may stand within a head or its
@@ -131,7 +131,7 @@ pub(crate) fn read_standard<R: ReadDevice>(
             Ok(exchange) => Ok(HeadRead::Request(exchange)),
             Err(e) => Err(e),
         },
-        Ok(None) => answer_cut(alloc, source.stop(), true, now),
+        Ok(None) => answer_cut(alloc, source.stop(), true, true, now),
         Err(e) => Err(e),
     }
 }

@@ -3,7 +3,7 @@ ghost use Rattle.std.specs.Prelude.{◌≡◌, ◌⊎◌, ◌≤◌, ◌<◌, �
 ghost use Rattle.std.specs.IoError.{error_kind};
 ghost use Rattle.tiny_http_device.specs.Device.{AnswersStop, Feed, Reads};
 ghost use Rattle.tiny_http_device.specs.declared.device.Stop.TheVariants.{Fault};
-ghost use Rattle.tiny_http_message.specs.Body.{is_streaming, is_whole, stream_body, body_stop, ReadsOn, remaining, prepended_body};
+ghost use Rattle.tiny_http_message.specs.Body.{is_streaming, is_whole, remainder, stream_body, body_stop, ReadsOn, remaining, prepended_body};
 ghost use Rattle.tiny_http_request.specs.Body.{ReadsUnread, outlasts_body};
 
 use std::io;
@@ -11,7 +11,7 @@ use std::io::{ErrorKind, Read};
 use std::marker::Model;
 use std::sync::Wait;
 use tiny_http_device::device::ReadDevice;
-use tiny_http_message::body::Body as Unread;
+use tiny_http_message::body::{Body as Unread, Remainder};
 use tiny_http_stream::source::{Source, Standing};
 use tiny_http_threads::sequential::SequentialReader;
 use tiny_http_threads::turn::{held_reader, hold_reader};
@@ -42,8 +42,8 @@ fn end_behind<R: ReadDevice + Drop, Rt: Wait + Drop>(
 /// head waits: a counted body gives the input on with its last byte, a chunked one once a read has answered 0. A dropped body
 /// gives it on too; but after a chunked one whose end wasn't reported, and after one that is cut or broken, no head follows. Under
 /// `Standard` the body of a request that asks for an upgrade holds the input until the request is answered or dropped, and no head
-/// follows if its raw writer is taken or it is upgraded, or where a request is finished while its 100 is owed. Once it is upgraded
-/// its body reads all that follows.
+/// follows if its raw writer is taken or it is upgraded. None follows, too, where a request is finished while its 100 is owed, or
+/// while more than 65,536 bytes of its body are unread. Once it is upgraded its body reads all that follows.
 ///
 /// After its end each read answers 0. A fault, the client's or the body's own, is answered by each read from then on, and so is
 /// one of kind `Interrupted`. The standard library's `read_to_end` and `read_to_string` try again after that kind, without an
@@ -110,6 +110,13 @@ impl<R: ReadDevice + Drop, Rt: Wait + Drop> Body<R, Rt> {
         self.unread.is_whole()
     }
 
+    /// What is left of it, if its request is finished now.
+    pub(crate) fn remainder(&self) -> Remainder
+        ensures { result ≡ remainder self.now }
+    {
+        self.unread.remainder()
+    }
+
     /// The connection was upgraded: by the standard all that comes is read from now on, if the body holds the input.
     pub(crate) fn become_stream(&mut self, by_standard: bool)
         ensures { (self.new ≡ self.old) ⊎ (self.new ≡ stream_body by_standard self.old) }
@@ -119,8 +126,8 @@ impl<R: ReadDevice + Drop, Rt: Wait + Drop> Body<R, Rt> {
         }
     }
 
-    /// Has no head follow this request, which asks for an upgrade or owes a 100, so that its body holds the input. Where the
-    /// body isn't read from there any more, the input is given on at once.
+    /// Has no head follow this request: it asks for an upgrade, owes a 100, or has more of its body unread than is skipped, so
+    /// that its body holds the input. Where the body isn't read from there any more, the input is given on at once.
     pub(crate) fn end_requests(&mut self)
         ensures { self.new ≡ self.old }
     {

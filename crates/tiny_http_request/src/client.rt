@@ -160,11 +160,11 @@ impl<R: ReadDevice + Drop, W: WriteDevice + Drop, Rt: Wait + Copy> ClientConnect
     /// the client, and while the last request's body holds the input: until that was read to its end or given up. Under
     /// `Standard` it waits, too, until a request that asks for an upgrade is answered or dropped: a program does that before it
     /// makes this call on the same thread. It answers `None` behind such a request whose raw writer was taken or which was
-    /// upgraded, and behind one that was finished while its 100 was owed; if the stream of an upgrade still reads, once that
-    /// has ended. Refused heads are answered in their turn, without waiting for it, and end the requests; but behind one of a
-    /// version above 1.1 the next head is read, unless it names an upgrade or its body is chunked. An error where memory was
-    /// refused; then each later call answers `None`. `now` dates the answers to refused heads, and the 500 of this request if
-    /// it is dropped.
+    /// upgraded; if the stream of an upgrade still reads, once that has ended. Under `Standard` it answers `None`, too, behind
+    /// a request that was finished while its 100 was owed, or while more than 65,536 bytes of its body were unread. Refused
+    /// heads are answered in their turn, without waiting for it, and end the requests; but behind one of a version above 1.1
+    /// the next head is read, unless it names an upgrade or its body is chunked. An error where memory was refused; then each
+    /// later call answers `None`. `now` dates the answers to refused heads, and the 500 of this request if it is dropped.
     pub fn next(&mut self, now: HttpDate) -> Result<Option<Request<R, W, Rt>>, AllocError>
         ensures over { IsOver self.old → (result ≡ Ok None) × IsOver self.new }
         ensures none { IfOk result (λ r. IfNone r (IsOver self.new)) }

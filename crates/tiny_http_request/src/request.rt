@@ -240,8 +240,11 @@ impl<R: ReadDevice + Drop, W: WriteDevice + Drop, Rt: Wait + Drop> Request<R, W,
     /// before are finished. The first fault is the error: the data's, or the writer's; after it nothing more is sent on the
     /// connection. One of kind `BrokenPipe`, `ConnectionAborted`, `ConnectionRefused` or `ConnectionReset` isn't reported, also
     /// one of the data. Under `Standard` a code below 200 or above 999, or a 2xx to `CONNECT`, is an error of kind
-    /// `InvalidInput`, and the request is dropped; and no request follows one that is answered or dropped while its 100 is
-    /// owed.
+    /// `InvalidInput`, and the request is dropped.
+    ///
+    /// Under `Standard` no request follows one that is answered or dropped while its 100 is owed, or while more than 65,536
+    /// bytes of its body are unread. Then the answer says `Connection: close`, as it does where the request is the last by its head or
+    /// the end of its body isn't known (RFC 9112, section 9.6).
     pub fn respond<D: ReadDevice + Drop>(
         self,
         response: Response<D>,
@@ -255,10 +258,11 @@ impl<R: ReadDevice + Drop, W: WriteDevice + Drop, Rt: Wait + Drop> Request<R, W,
         }
         let alloc = self.alloc;
         let (mut open_request, mut writer) = self.into_parts();
-        if open_request.is_last_without_continue() {
+        let left = open_request.body.remainder();
+        if open_request.is_last_once_finished(left) {
             open_request.body.end_requests();
         }
-        let sent = open_request.respond(alloc, hold_writer(&mut writer), response, now);
+        let sent = open_request.respond(alloc, hold_writer(&mut writer), response, left, now);
         pass_writer(writer);
         drop(open_request);
         reported(sent)
@@ -266,11 +270,12 @@ impl<R: ReadDevice + Drop, W: WriteDevice + Drop, Rt: Wait + Drop> Request<R, W,
 
     /// Takes the raw writer in place of an answer, and gives the body up. What is written is all that the client gets for the
     /// request, but for a 100 that was sent before. The turn ends as the writer is dropped. Under `Standard` no request follows one
-    /// that asks for an upgrade, or whose 100 is owed.
+    /// that asks for an upgrade, or whose 100 is owed, or of whose body more than 65,536 bytes are unread.
     pub fn into_writer(self) -> SequentialWriter<Outlet<W>, Rt> {
         self.send_at_flush();
         let (mut open_request, writer) = self.into_parts();
-        if open_request.is_last_with_stream() {
+        let left = open_request.body.remainder();
+        if open_request.is_last_with_stream(left) {
             open_request.body.end_requests();
         }
         drop(open_request);
@@ -302,8 +307,9 @@ impl<R: ReadDevice + Drop, W: WriteDevice + Drop, Rt: Wait + Drop> Request<R, W,
         let alloc = self.alloc;
         let (mut open_request, mut writer) = self.into_parts();
         let by_standard = open_request.by_standard;
+        let left = open_request.body.remainder();
         open_request.body.become_stream(by_standard);
-        if open_request.is_last_with_stream() {
+        if open_request.is_last_with_stream(left) {
             open_request.body.end_requests();
         }
         open_request.upgrade(alloc, hold_writer(&mut writer), protocol, response, now);
@@ -317,13 +323,15 @@ impl<R: ReadDevice + Drop, W: WriteDevice + Drop, Rt: Wait + Drop> Request<R, W,
 }
 
 impl<R: ReadDevice + Drop, W: WriteDevice + Drop, Rt: Wait + Drop> Drop for Request<R, W, Rt> {
-    /// Leaves the turn with an empty 500, and then gives the body up.
+    /// Leaves the turn with an empty 500, and then gives the body up. Under `Standard` the 500 says `Connection: close` as an
+    /// answer by `respond` does.
     fn drop(self) {
         let (mut open_request, writer) = self.into_parts();
-        if open_request.is_last_without_continue() {
+        let left = open_request.body.remainder();
+        if open_request.is_last_once_finished(left) {
             open_request.body.end_requests();
         }
-        let (text, body) = open_request.into_drop_text();
+        let (text, body) = open_request.into_drop_text(left);
         leave_writer(writer, text);
         drop(body);
     }

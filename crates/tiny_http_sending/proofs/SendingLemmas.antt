@@ -12,9 +12,10 @@ use Rattle.tiny_http_wire.specs.Bytes.{is_ascii}
 use Rattle.tiny_http_wire.specs.declared.coding.FramingHeader.TheVariants.{Neither}
 use Rattle.tiny_http_sending.specs.ResponseValue.{upgrading}
 use Rattle.tiny_http_wire.specs.Device.{Feed, whole_feed, Sink, IsFront, BeginsKnown, IsKnownFront, IsAllKnown, HoldsNothing, grown, StatesKind, Took, Failed, Puts, next_count, CountsFaults}
-use Rattle.tiny_http_wire.specs.Answer.{Answer, Printing, PrintsAnswer, text_of, with_upgrade, head_text_of}
+use Rattle.tiny_http_wire.specs.Answer.{Answer, Printing, PrintsAnswer, text_of, with_upgrade, head_text_of, listed_with}
 use Rattle.tiny_http_encoding.specs.Text.{Text, Whole, Broken, Prints, whole, nothing_sent}
 use Rattle.tiny_http_device.proofs.DeviceLemmas.{IsFront-same, IsFront-append, Took-nil}
+use Rattle.tiny_http_wire.specs.ByStandard.{status_version}
 use Rattle.tiny_http_wire.proofs.AnswerLemmas.{text-some, head-some}
 use Rattle.tiny_http_stream.specs.Outlet.{holding, EndsOutlet}
 use Rattle.tiny_http_sending.specs.Sending.{CanSend, OutletTook, OutletFailed, Idles, EndsQuietly, DropsHeld, SendsText, Sends, SendsQuietly, IsFlushed, SendsUnlessEnded, SinkFailsOnce, FailsOnceUnlessEnded, BreaksOff, IsHonest}
@@ -114,7 +115,7 @@ answer-some a f p e none = by p.upgrade refl
     by (Some protocol) up =
         let W : Option (List ℕ) → Type 0 = λ u. (with_upgrade u a f p).ending ≡ Whole in
         let N : Option (List ℕ) → Type 0 = λ u. (with_upgrade u a f p).bytes ≡ [] in
-        upgrade-some (list_all is_ascii protocol) (head_text_of a p Neither) (λ h. head-some p.version a.status p.upgrade a.headers p.date Neither [] (append-nil (head_text_of a p Neither) ∙ h)) (subst W up e) (subst N up none)
+        upgrade-some (list_all is_ascii protocol) (head_text_of a p Neither) (λ h. head-some (status_version p.persistence p.version) a.status p.upgrade a.headers (listed_with p.upgrade p.persistence p.version a) p.date Neither [] (append-nil (head_text_of a p Neither) ∙ h)) (subst W up e) (subst N up none)
 
 pub printed-flushed : {T U : Type 0} (o : Option Feed) (a b c : Sink) (was ended : Bool) (x : U) (r : Result T Error) (ans : Answer) (p : Printing) → (content : Feed) → o ≡ Some content → length content.bytes < 2 ^ 63
     → IfSome o (λ feed. length feed.bytes < 2 ^ 63 → PrintsAnswer a b (Ok x) ans feed p) → Puts b c r [] → a.has_ended ≡ false

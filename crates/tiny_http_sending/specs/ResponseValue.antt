@@ -4,6 +4,7 @@ use Rattle.httpdate.specs.declared.date.HttpDate.{HttpDate}
 use Rattle.tiny_http_wire.specs.declared.common.HTTPVersion.{HTTPVersion}
 use Rattle.tiny_http_wire.specs.declared.common.Header.{Header}
 use Rattle.tiny_http_wire.specs.declared.answer_context.AnswerContext.{AnswerContext}
+use Rattle.tiny_http_wire.specs.declared.answer_context.Persistence.{Persistence}
 use Rattle.tiny_http_wire.specs.declared.coding.Coding.{Coding}
 use Rattle.tiny_http_wire.specs.Device.{Feed, whole_feed}
 use Rattle.tiny_http_encoding.specs.Text.{Text}
@@ -21,13 +22,13 @@ response_of status headers text = record { answer = answer_with status headers (
 abbrev pub response_text : ResponseValue → Printing → Text
 response_text r p = text_of r.answer r.content p
 
--- how an answer to a request is printed that asks for this coding
-abbrev pub printing_to : Option Coding → HTTPVersion → Bool → HttpDate → Printing
-printing_to asked version no_body date = record { version = version; asked_coding = asked; no_body = no_body; upgrade = None; date = date }
+-- how an answer to a request is printed that asks for this coding, and what it says of its connection, by the standard
+abbrev pub printing_to : Option Coding → HTTPVersion → Bool → Option Persistence → HttpDate → Printing
+printing_to asked version no_body persistence date = record { version = version; asked_coding = asked; no_body = no_body; persistence = persistence; upgrade = None; date = date }
 
 -- how the answer to a request is printed, by what is kept of it
 abbrev pub printing_in : AnswerContext → HttpDate → Printing
-printing_in context date = printing_to context.asked_coding context.version context.no_body date
+printing_in context date = printing_to context.asked_coding context.version context.no_body context.persistence date
 
 -- the same, with an upgrade to this protocol, if there is one
 abbrev pub printing_with : AnswerContext → Option (List ℕ) → HttpDate → Printing

@@ -18,23 +18,45 @@ use Rattle.tiny_http_device.specs.declared.device.Stop.{Stop}
 use Rattle.tiny_http_device.specs.declared.device.Stop.TheVariants.{End, Fault}
 use Rattle.tiny_http_device.proofs.DeviceLemmas.{Took-nil}
 use Rattle.tiny_http_encoding.proofs.DeviceCopies.{Prints-from_puts, Prints-head_failed, Prints-behind}
-use Rattle.tiny_http_wire.specs.Answer.{Answer, PrintsText, LacksMemory, PrintsUncoded, PrintsAnswer, PrintsGathered, Printing, with_upgrade, head_text_of, status_line, gathered_body, answer_head_text, is_withheld, uncoded_text, coded_text, body_unless_withheld, text_of, answer_coding}
+use Rattle.tiny_http_wire.specs.Answer.{Answer, PrintsText, LacksMemory, PrintsUncoded, PrintsAnswer, PrintsGathered, Printing, with_upgrade, text_by_code, head_text_of, listed_with, status_line, gathered_body, answer_head_text, is_withheld, uncoded_text, coded_text, body_unless_withheld, text_of, answer_coding}
+use Rattle.tiny_http_wire.specs.declared.answer_head.Top.{Top}
+use Rattle.tiny_http_wire.specs.Top.{top_text, top_listed}
+use Rattle.tiny_http_wire.specs.ByStandard.{status_version, contentless_framing}
 use Rattle.tiny_http_encoding.specs.Text.{Text, Whole, Broken, Prints, whole, nothing_sent, prepend_text, identity_body, chunked_body}
 
 -- a head has bytes
-pub head-some : (version : HTTPVersion) (status : ℕ) (upgrade : Option (List ℕ)) (headers : List Header) (date : HttpDate) (framing : FramingHeader) (rest : List ℕ) → answer_head_text version status upgrade headers date framing ++ rest ≡ [] → ⊥
+pub head-some : (version : HTTPVersion) (status : ℕ) (upgrade : Option (List ℕ)) (headers listed : List Header) (date : HttpDate) (framing : FramingHeader) (rest : List ℕ) → answer_head_text version status upgrade headers listed date framing ++ rest ≡ [] → ⊥
 unfolding answer_head_text status_line
-head-some version status upgrade headers date framing rest e = cc
+head-some version status upgrade headers listed date framing rest e = cc
 
-pub head-alone : (version : HTTPVersion) (status : ℕ) (upgrade : Option (List ℕ)) (headers : List Header) (date : HttpDate) (framing : FramingHeader) → answer_head_text version status upgrade headers date framing ≡ [] → ⊥
+pub head-alone : (version : HTTPVersion) (status : ℕ) (upgrade : Option (List ℕ)) (headers listed : List Header) (date : HttpDate) (framing : FramingHeader) → answer_head_text version status upgrade headers listed date framing ≡ [] → ⊥
 unfolding answer_head_text status_line
-head-alone version status upgrade headers date framing e = cc
+head-alone version status upgrade headers listed date framing e = cc
+
+-- a head, by what the printing functions pass on
+pub top-some : (top : Top) (upgrade : Option (List ℕ)) (framing : FramingHeader) (rest : List ℕ) → top_text top upgrade framing ++ rest ≡ [] → ⊥
+top-some top upgrade framing rest e = head-some (status_version top.persistence top.version) top.status.0 upgrade top.headers.now (top_listed top upgrade) top.date framing rest e
+
+pub top-alone : (top : Top) (upgrade : Option (List ℕ)) (framing : FramingHeader) → top_text top upgrade framing ≡ [] → ⊥
+top-alone top upgrade framing e = head-alone (status_version top.persistence top.version) top.status.0 upgrade top.headers.now (top_listed top upgrade) top.date framing e
 
 -- an upgrade
-pub Answered-upgrade : {T : Type 0} (o : Option Feed) (a b : Sink) (r : Result T Error) (ans : Answer) (version : HTTPVersion) (asked : Option Coding) (no_body : Bool) (protocol : List ℕ) (date : HttpDate) → PrintsText a b r (if list_all is_ascii protocol then whole (answer_head_text version ans.status (Some protocol) ans.headers date Neither) else nothing_sent InvalidInput) → IfSome o (λ f. length f.bytes < 2 ^ 63 → PrintsAnswer a b r ans f (record { version = version; asked_coding = asked; no_body = no_body; upgrade = Some protocol; date = date }))
+pub Answered-upgrade : {T : Type 0} (o : Option Feed) (a b : Sink) (r : Result T Error) (ans : Answer) (p : Printing) (protocol : List ℕ) → p.upgrade ≡ Some protocol → PrintsText a b r (if list_all is_ascii protocol then whole (head_text_of ans (record p { upgrade = Some protocol }) Neither) else nothing_sent InvalidInput) → IfSome o (λ f. length f.bytes < 2 ^ 63 → PrintsAnswer a b r ans f p)
 unfolding text_of answer_coding
-Answered-upgrade None a b r ans version asked no_body protocol date h = tt
-Answered-upgrade (Some f) a b r ans version asked no_body protocol date h = λ few. inl h
+Answered-upgrade None a b r ans p protocol e h = tt
+Answered-upgrade {T = T} (Some f) a b r ans p protocol e h = λ few.
+    let P : Option (List ℕ) → Type 0 = λ u. PrintsAnswer a b r ans f (record p { upgrade = u }) in
+    subst P (sym e) (inl h)
+
+-- an answer that is a head alone by its code
+pub Answered-contentless : {T : Type 0} (o : Option Feed) (a b : Sink) (r : Result T Error) (ans : Answer) (p : Printing) (framing : FramingHeader) → p.upgrade ≡ None → Some framing ≡ contentless_framing p.persistence ans.status ans.data_length → Puts a b r (head_text_of ans p framing) → IfSome o (λ f. length f.bytes < 2 ^ 63 → PrintsAnswer a b r ans f p)
+unfolding text_of answer_coding
+Answered-contentless None a b r ans p framing u e h = tt
+Answered-contentless {T = T} (Some f) a b r ans p framing u e h = λ few.
+    let U : Option (List ℕ) → Type 0 = λ x. PrintsText a b r (with_upgrade x ans f p) in
+    let C : Option FramingHeader → Type 0 = λ x. PrintsText a b r (text_by_code x ans f p) in
+    let some : head_text_of ans p framing ≡ [] → ⊥ = head-alone (status_version p.persistence p.version) ans.status p.upgrade ans.headers (listed_with p.upgrade p.persistence p.version ans) p.date framing in
+    inl (subst U (sym u) (subst C e (Prints-from_puts a b r (head_text_of ans p framing) h, λ none. absurd (some none))))
 
 -- any other answer: in chunks, or not coded
 abbrev pub PrintsIn : {T : Type 0} → Option Feed → Sink → Sink → Result T Error → Coding → Option ℕ → (FramingHeader → List ℕ) → Bool → Type 0
@@ -46,16 +68,18 @@ coded : {T : Type 0} (f : Feed) (a b : Sink) (r : Result T Error) (coding : Codi
 coded f a b r Identity known top withheld few h some = ⊎_elim (λ x. inl x) (λ x. inr (refl, x.0, x.1)) (h few)
 coded f a b r Chunked known top withheld few h some = inl (h few, λ e. absurd (some TransferEncoding (body_unless_withheld withheld (chunked_body f)).bytes e))
 
-pub Answered-coded : {T : Type 0} (o : Option Feed) (a b : Sink) (r : Result T Error) (ans : Answer) (version : HTTPVersion) (asked : Option Coding) (no_body : Bool) (date : HttpDate) (coding : Coding) (withheld : Bool) → coding ≡ chosen_coding version asked ans.status ans.threshold ans.data_length → withheld ≡ is_withheld no_body ans.status
-    → PrintsIn o a b r coding ans.data_length (λ framing. answer_head_text version ans.status None ans.headers date framing) withheld
-    → IfSome o (λ f. length f.bytes < 2 ^ 63 → PrintsAnswer a b r ans f (record { version = version; asked_coding = asked; no_body = no_body; upgrade = None; date = date }))
+pub Answered-coded : {T : Type 0} (o : Option Feed) (a b : Sink) (r : Result T Error) (ans : Answer) (p : Printing) (coding : Coding) (withheld : Bool) → p.upgrade ≡ None → contentless_framing p.persistence ans.status ans.data_length ≡ None → coding ≡ chosen_coding p.version p.asked_coding ans.status ans.threshold ans.data_length → withheld ≡ is_withheld p.no_body ans.status
+    → PrintsIn o a b r coding ans.data_length (λ framing. head_text_of ans p framing) withheld
+    → IfSome o (λ f. length f.bytes < 2 ^ 63 → PrintsAnswer a b r ans f p)
 unfolding text_of answer_coding
-Answered-coded None a b r ans version asked no_body date coding withheld e w h = tt
-Answered-coded {T = T} (Some f) a b r ans version asked no_body date coding withheld e w h = λ few.
-    let top : FramingHeader → List ℕ = λ framing. answer_head_text version ans.status None ans.headers date framing in
+Answered-coded None a b r ans p coding withheld u k e w h = tt
+Answered-coded {T = T} (Some f) a b r ans p coding withheld u k e w h = λ few.
+    let top : FramingHeader → List ℕ = λ framing. head_text_of ans p framing in
     let W : Bool → Type 0 = λ x. PrintsIn (Some f) a b r coding ans.data_length top x in
-    let P : Coding → Type 0 = λ x. PrintsText a b r (coded_text x ans.data_length top (is_withheld no_body ans.status) f) ⊎ ((x ≡ Identity) × (ans.data_length ≡ None) × LacksMemory a b r) in
-    ⊎_elim (λ x. inl x) (λ x. inr ((refl, x.0, x.1), x.2)) (subst P e (coded f a b r coding ans.data_length top (is_withheld no_body ans.status) few (subst W w h) (λ framing. head-some version ans.status None ans.headers date framing)))
+    let U : Option (List ℕ) → Type 0 = λ x. PrintsText a b r (with_upgrade x ans f p) in
+    let K : Option FramingHeader → Type 0 = λ x. PrintsText a b r (text_by_code x ans f p) in
+    let P : Coding → Type 0 = λ x. PrintsText a b r (coded_text x ans.data_length top (is_withheld p.no_body ans.status) f) ⊎ ((x ≡ Identity) × (ans.data_length ≡ None) × LacksMemory a b r) in
+    ⊎_elim (λ x. inl (subst U (sym u) (subst K (sym k) x))) (λ x. inr ((u, k, x.0, x.1), x.2)) (subst P e (coded f a b r coding ans.data_length top (is_withheld p.no_body ans.status) few (subst W w h) (λ framing. head-some (status_version p.persistence p.version) ans.status p.upgrade ans.headers (listed_with p.upgrade p.persistence p.version ans) p.date framing)))
 
 pub few-failed : (o : Option Feed) (a b : Sink) (front : List ℕ) (e : Error) (body : Feed → Text) → Failed a b front (error_kind e) → IfSome o (λ f. length f.bytes < 2 ^ 63 → Prints {T = Unit {0}} a b (Err e) (prepend_text front (body f)))
 few-failed None a b front e body h = tt
@@ -109,9 +133,14 @@ coded-some Identity None top withheld f some e none = by f.stop e none
     by End e none = some (ContentLength (length f.bytes)) (if withheld then [] else f.bytes) none
     by (Fault kind) e none = let no : Broken kind ≡ Whole = e in cc
 
+content-some : (a : Answer) (f : Feed) (p : Printing) (k : Option FramingHeader) → (text_by_code k a f p).ending ≡ Whole → (text_by_code k a f p).bytes ≡ [] → ⊥
+content-some a f p (Some framing) whole none = head-alone (status_version p.persistence p.version) a.status p.upgrade a.headers (listed_with p.upgrade p.persistence p.version a) p.date framing none
+content-some a f p None whole none =
+    coded-some (answer_coding a p) a.data_length (head_text_of a p) (is_withheld p.no_body a.status) f (λ framing. head-some (status_version p.persistence p.version) a.status p.upgrade a.headers (listed_with p.upgrade p.persistence p.version a) p.date framing) whole none
+
 pub text-some : (a : Answer) (f : Feed) (p : Printing) → p.upgrade ≡ None → (text_of a f p).ending ≡ Whole → (text_of a f p).bytes ≡ [] → ⊥
 unfolding text_of
 text-some a f p e whole none =
     let W : Option (List ℕ) → Type 0 = λ u. (with_upgrade u a f p).ending ≡ Whole in
     let N : Option (List ℕ) → Type 0 = λ u. (with_upgrade u a f p).bytes ≡ [] in
-    coded-some (answer_coding a p) a.data_length (head_text_of a p) (is_withheld p.no_body a.status) f (λ framing. head-some p.version a.status p.upgrade a.headers p.date framing) (subst W e whole) (subst N e none)
+    content-some a f p (contentless_framing p.persistence a.status a.data_length) (subst W e whole) (subst N e none)

@@ -18,6 +18,8 @@ use Rattle.tiny_http_head.specs.Common.{version_text, same_name, reason_phrase}
 use Rattle.tiny_http_device.specs.Device.{Feed, Sink}
 use Rattle.tiny_http_device.specs.declared.device.Stop.{Stop}
 use Rattle.tiny_http_device.specs.declared.device.Stop.TheVariants.{End, Fault}
+use Rattle.tiny_http_wire.specs.declared.answer_context.Persistence.{Persistence}
+use Rattle.tiny_http_wire.specs.ByStandard.{status_version, own_headers, listed_headers, contentless_framing}
 use Rattle.tiny_http_wire.specs.declared.response.TheConstants.{THRESHOLD}
 use Rattle.tiny_http_encoding.specs.Text.{Text, prepend_text, whole, nothing_sent, identity_body, chunked_body, Prints}
 
@@ -27,10 +29,12 @@ pub record Answer : Type 0 where
   pub headers : List Header
   pub data_length : Option ℕ
   pub threshold : ℕ
+  -- the protocols that it offers to upgrade to, which the standard alone prints
+  pub offered : Option (List ℕ)
 
 -- an answer whose data has so many bytes, with the threshold that holds until another is set
 abbrev pub answer_with : ℕ → List Header → ℕ → Answer
-answer_with status headers length = record { status = status; headers = headers; data_length = Some length; threshold = THRESHOLD }
+answer_with status headers length = record { status = status; headers = headers; data_length = Some length; threshold = THRESHOLD; offered = None }
 
 -- the header of a plain text
 unfoldable pub text_plain : Header
@@ -75,21 +79,23 @@ framing_line Neither = []
 framing_line TransferEncoding = field_line (codes "Transfer-Encoding") (codes "chunked")
 framing_line (ContentLength n) = length_line n
 
--- the head: the status line, the headers in their order, an empty line
-unfoldable pub answer_head_text : HTTPVersion → ℕ → Option (List ℕ) → List Header → HttpDate → FramingHeader → List ℕ
-answer_head_text version status upgrade headers date framing =
-    status_line version status ++ upgrade_lines upgrade ++ server_line headers ++ date_line headers date ++ flat_map field_line_of headers ++ framing_line framing ++ codes "\r\n"
+-- The head of an answer with these headers of its own: the status line, an upgrade's lines, the server's name and the date, these
+-- headers that are listed, the framing, and an empty line.
+unfoldable pub answer_head_text : HTTPVersion → ℕ → Option (List ℕ) → List Header → List Header → HttpDate → FramingHeader → List ℕ
+answer_head_text version status upgrade headers listed date framing =
+    status_line version status ++ upgrade_lines upgrade ++ server_line headers ++ date_line headers date ++ flat_map field_line_of listed ++ framing_line framing ++ codes "\r\n"
 
 -- whether the body is not sent: where the caller says so, and for the codes 100 to 199, 204 and 304 (RFC 9112, section
 -- 6.3)
 abbrev pub is_withheld : Bool → ℕ → Bool
 is_withheld asked status = asked || ((nat_le 100 status && nat_lt status 200) || ((status == 204) || (status == 304)))
 
--- how an answer is asked for
+-- How an answer is asked for. By the standard: whether its connection persists.
 pub record Printing : Type 0 where
   pub version : HTTPVersion
   pub asked_coding : Option Coding
   pub no_body : Bool
+  pub persistence : Option Persistence
   pub upgrade : Option (List ℕ)
   pub date : HttpDate
 
@@ -112,18 +118,28 @@ abbrev pub coded_text : Coding → Option ℕ → (FramingHeader → List ℕ) �
 coded_text Identity length top withheld feed = uncoded_text length top withheld feed
 coded_text Chunked length top withheld feed = prepend_text (top TransferEncoding) (body_unless_withheld withheld (chunked_body feed))
 
+-- the headers behind the date: an upgrade says nothing more of its connection
+abbrev pub listed_with : Option (List ℕ) → Option Persistence → HTTPVersion → Answer → List Header
+listed_with None says version a = listed_headers says version a.status a.offered a.headers
+listed_with (Some protocol) says version a = own_headers says a.headers
+
 -- the head of an answer
 abbrev pub head_text_of : Answer → Printing → FramingHeader → List ℕ
-head_text_of a p framing = answer_head_text p.version a.status p.upgrade a.headers p.date framing
+head_text_of a p framing = answer_head_text (status_version p.persistence p.version) a.status p.upgrade a.headers (listed_with p.upgrade p.persistence p.version a) p.date framing
 
 -- THE CODING of an answer's body (RFC 9112, sections 6.1 and 7.4)
 unfoldable pub answer_coding : Answer → Printing → Coding
 answer_coding a p = chosen_coding p.version p.asked_coding a.status a.threshold a.data_length
 
+-- an answer that has content, or is a head alone that is framed so
+abbrev pub text_by_code : Option FramingHeader → Answer → Feed → Printing → Text
+text_by_code (Some framing) a feed p = whole (head_text_of a p framing)
+text_by_code None a feed p = coded_text (answer_coding a p) a.data_length (head_text_of a p) (is_withheld p.no_body a.status) feed
+
 -- an upgrade is a head alone, and its protocol is ASCII
 abbrev pub with_upgrade : Option (List ℕ) → Answer → Feed → Printing → Text
 with_upgrade (Some protocol) a feed p = if list_all is_ascii protocol then whole (head_text_of a p Neither) else nothing_sent InvalidInput
-with_upgrade None a feed p = coded_text (answer_coding a p) a.data_length (head_text_of a p) (is_withheld p.no_body a.status) feed
+with_upgrade None a feed p = text_by_code (contentless_framing p.persistence a.status a.data_length) a feed p
 
 -- the text of an answer with this data
 unfoldable pub text_of : Answer → Feed → Printing → Text
@@ -142,9 +158,9 @@ LacksMemory old new (Err e) = (error_kind e ≡ OutOfMemory) × (new ≡ old)
 abbrev pub PrintsUncoded : {T : Type 0} → Sink → Sink → Result T Error → Option ℕ → Text → Type 0
 PrintsUncoded old new r length text = PrintsText old new r text ⊎ ((length ≡ None) × LacksMemory old new r)
 
--- the data of an answer is read whole before its head: it is no upgrade and isn't coded, and its length isn't known
+-- the data of an answer is read whole before its head: it is no upgrade, has content that isn't coded, and its length isn't known
 abbrev pub IsGathered : Answer → Printing → Type 0
-IsGathered a p = (p.upgrade ≡ None) × (answer_coding a p ≡ Identity) × (a.data_length ≡ None)
+IsGathered a p = (p.upgrade ≡ None) × (contentless_framing p.persistence a.status a.data_length ≡ None) × (answer_coding a p ≡ Identity) × (a.data_length ≡ None)
 
 -- a call that prints an answer: its text, or it finds no memory to gather the data
 abbrev pub PrintsAnswer : {T : Type 0} → Sink → Sink → Result T Error → Answer → Feed → Printing → Type 0

@@ -3,23 +3,32 @@ ghost use Rattle.std.specs.Prelude.{◌≡◌};
 ghost use Rattle.std.specs.List.{flat_map};
 ghost use Rattle.std.specs.Option.{option_copied};
 ghost use Rattle.tiny_http_device.specs.Device.{Puts};
-ghost use Rattle.tiny_http_wire.specs.Top.{top_text};
+ghost use Rattle.tiny_http_wire.specs.Top.{top_text, top_listed};
+ghost use Rattle.tiny_http_wire.specs.ByStandard.{status_version};
 ghost use Rattle.tiny_http_wire.specs.Answer.{has_header, status_line, field_line, field_line_of, protocol_lines, upgrade_lines, server_line, date_line, length_line, framing_line};
 
+use crate::answer_context::Persistence;
+use crate::by_standard::{persistence_option, put_connection, put_safe_headers};
 use crate::coding::FramingHeader;
 use crate::page::Page;
 use httpdate::HttpDate;
 use std::io;
 use tiny_http_device::device::{WriteDevice, put, put_all};
 use tiny_http_head::common::{HTTPVersion, Header, StatusCode};
+use tiny_http_text::ascii::AsciiString;
 use tiny_http_text::number::Numeral;
 
 /// What the head of an answer is made of, beside how it says the length of the body.
 #[derive(Clone, Copy)]
 pub(crate) struct Top<'a> {
+    /// The version of the request.
     pub(crate) version: HTTPVersion,
+    /// What the answer says of its connection, by the standard.
+    pub(crate) persistence: Option<Persistence>,
     pub(crate) status: StatusCode,
     pub(crate) headers: &'a [Header],
+    /// The protocols that it offers to upgrade to.
+    pub(crate) offered: &'a Option<AsciiString>,
     pub(crate) date: HttpDate,
 }
 
@@ -74,7 +83,11 @@ fn put_status_line<W: WriteDevice>(
 
 // One header line.
 #[tactic(auto, unfolding(crate::specs::Answer::field_line))]
-fn put_field<W: WriteDevice>(writer: &mut W, field: &[u8], value: &[u8]) -> Result<(), io::Error>
+pub(crate) fn put_field<W: WriteDevice>(
+    writer: &mut W,
+    field: &[u8],
+    value: &[u8],
+) -> Result<(), io::Error>
     ensures { Puts (W.sink writer.old) (W.sink writer.new) result (field_line field.now value.now) }
 {
     put_all(writer, &[field, b": ", value, b"\r\n"])
@@ -171,6 +184,37 @@ fn put_framing<W: WriteDevice>(writer: &mut W, framing: FramingHeader) -> Result
     }
 }
 
+// The status line of a head.
+fn put_status<W: WriteDevice>(writer: &mut W, top: &Top<'_>) -> Result<(), io::Error>
+    ensures { Puts (W.sink writer.old) (W.sink writer.new) result (status_line (status_version top.now.persistence top.now.version) top.now.status.0) }
+{
+    match top.persistence {
+        None => put_status_line(writer, top.version, top.status),
+        Some(_) => put_status_line(writer, HTTPVersion(1, 1), top.status),
+    }
+}
+
+// The header lines behind the date, for an upgrade or not.
+fn put_listed<W: WriteDevice>(
+    writer: &mut W,
+    top: &Top<'_>,
+    upgrade: Option<&str>,
+) -> Result<(), io::Error>
+    ensures { Puts (W.sink writer.old) (W.sink writer.new) result (flat_map field_line_of (top_listed top.now (option_copied upgrade.entry))) }
+{
+    let Some(persistence) = top.persistence else {
+        return put_headers(writer, top.headers);
+    };
+    if upgrade.is_none() && top.status.0 >= 200 {
+        put_connection(
+            writer,
+            top.offered,
+            persistence_option(top.version, persistence),
+        )?;
+    }
+    put_safe_headers(writer, top.headers)
+}
+
 // The lines of a head, piece by piece, and the empty line.
 fn put_lines<W: WriteDevice>(
     writer: &mut W,
@@ -181,17 +225,20 @@ fn put_lines<W: WriteDevice>(
     ensures { Puts (W.sink writer.old) (W.sink writer.new) result
         (top_text top.now (option_copied upgrade.entry) framing) }
 {
-    put_status_line(writer, top.version, top.status)?;
+    put_status(writer, top)?;
     put_upgrade(writer, upgrade)?;
     put_server(writer, top.headers)?;
     put_date(writer, top.headers, top.date)?;
-    put_headers(writer, top.headers)?;
+    put_listed(writer, top, upgrade)?;
     put_framing(writer, framing)?;
     put(writer, b"\r\n")
 }
 
 /// Writes the head of an answer: the status line, the header lines in their order, and an empty
-/// line (RFC 9112, sections 4 and 5). A head of up to 512 bytes is written as one piece.
+/// line (RFC 9112, sections 4 and 5). By the standard the status line is in version 1.1;
+/// `Connection` says that the connection ends, or to a version up to 1.0 that it persists, and that
+/// protocols are offered, but for an upgrade and a code below 200; and a header whose name isn't a token is left out, and makes
+/// one line else. A head of up to 512 bytes is written as one piece.
 pub(crate) fn put_head<W: WriteDevice>(
     writer: &mut W,
     top: &Top<'_>,

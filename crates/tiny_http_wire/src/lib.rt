@@ -6,6 +6,7 @@
 mod add_header;
 pub mod answer_context;
 mod answer_head;
+mod by_standard;
 pub mod chunked;
 pub mod laws;
 mod page;

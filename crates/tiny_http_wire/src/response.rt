@@ -16,6 +16,7 @@ ghost use Rattle.tiny_http_device.specs.Device.{Puts, CountsFaults};
 use crate::add_header::{add, add_all, add_in_place};
 use crate::answer_context::AnswerContext;
 use crate::answer_head::{Top, put_head};
+use crate::by_standard::contentless_framing;
 use httpdate::HttpDate;
 use std::alloc::{AllocError, Global};
 use std::fs::OpenFile;
@@ -28,6 +29,7 @@ use tiny_http_encoding::chunks::put_chunked;
 use tiny_http_encoding::gather::gather;
 use tiny_http_encoding::identity::put_exactly;
 use tiny_http_head::common::{HTTPVersion, Header, HeaderField, StatusCode};
+use tiny_http_text::ascii::AsciiString;
 use tiny_http_text::bytes::are_ascii;
 use tiny_http_text::copies::owned;
 
@@ -40,6 +42,7 @@ pub struct Response<R> {
     headers: Vec<Header>,
     data_length: Option<usize>,
     threshold: usize,
+    offered: Option<AsciiString>,
 }
 
 /// An answer whose data any reader gives (as tiny_http).
@@ -51,7 +54,7 @@ impl<R> Model for Response<R> {
 
     ghost Value = { ResponseState R };
 
-    ghost view = { λ r. record { answer = record { status = r.status.0; headers = r.headers.items; data_length = r.data_length; threshold = r.threshold }; data_reader = r.reader } };
+    ghost view = { λ r. record { answer = record { status = r.status.0; headers = r.headers.items; data_length = r.data_length; threshold = r.threshold; offered = r.offered }; data_reader = r.reader } };
 
     ghost invariant = { λ r. IsResponseHeaders r.headers.items };
 }
@@ -132,7 +135,18 @@ impl Response<io::Empty> {
             headers,
             data_length: self.data_length,
             threshold: self.threshold,
+            offered: copy_of(&self.offered)?,
         })
+    }
+}
+
+// A copy of a text, if there is one.
+fn copy_of(text: &Option<AsciiString>) -> Result<Option<AsciiString>, AllocError>
+    ensures { IfOk result (λ copy. copy ≡ text.now) }
+{
+    match text {
+        None => Ok(None),
+        Some(text) => Ok(Some(text.try_clone()?)),
     }
 }
 
@@ -180,6 +194,7 @@ impl<R> Response<R> {
             headers: Vec::new(alloc),
             data_length,
             threshold: THRESHOLD,
+            offered: None,
         }
     }
 
@@ -206,6 +221,7 @@ impl<R> Response<R> {
                 headers,
                 data_length,
                 threshold: THRESHOLD,
+                offered: None,
             }),
             Err(_) => Err(Refused { reader }),
         }
@@ -232,6 +248,7 @@ impl<R> Response<R> {
             headers: self.headers,
             data_length,
             threshold: self.threshold,
+            offered: self.offered,
         }
     }
 
@@ -242,6 +259,18 @@ impl<R> Response<R> {
     {
         let mut response = self;
         response.threshold = length;
+        response
+    }
+
+    /// The same answer, which offers to upgrade to these protocols, in place of those that it offered: a list such as `websocket` or
+    /// `h2c, foo/2`, as a 426 has to (RFC 9110, sections 7.8 and 15.5.22). An answer by the standard has it as its `Upgrade` header,
+    /// with a space in place of each byte that may not stand there, and names it in `Connection`. Other answers, an upgrade's own
+    /// and one with a code below 200 leave it out.
+    pub fn with_upgrade_offer(self, protocols: AsciiString) -> Response<R>
+        ensures { result ≡ record self { answer = record self.answer { offered = Some protocols } } }
+    {
+        let mut response = self;
+        response.offered = Some(protocols);
         response
     }
 
@@ -299,6 +328,13 @@ impl<R> Response<R> {
         self.headers.as_slice()
     }
 
+    /// The protocols that the answer offers to upgrade to, if it offers any.
+    pub fn upgrade_offer(&self) -> Option<&str>
+        ensures { option_copied result ≡ self.now.answer.offered }
+    {
+        self.offered.as_ref().map(AsciiString::as_str)
+    }
+
     /// The length in bytes from which data is sent in chunks: `THRESHOLD`, until another is set.
     pub fn chunked_threshold(&self) -> usize
         ensures { result ≡ self.now.answer.threshold }
@@ -331,6 +367,7 @@ impl<R> Response<R> {
               version = version;
               asked_coding = coding_asked request_headers.now;
               no_body = no_body;
+              persistence = None;
               upgrade = option_copied upgrade.entry;
               date = now;
             })) }
@@ -341,11 +378,15 @@ impl<R> Response<R> {
             version,
             asked_coding: asked_coding(request_headers),
             no_body,
+            persistence: None,
         };
         self.print(alloc, writer, context, upgrade, now)
     }
 
-    /// The same for a request whose headers aren't there any more: `context` has what the answer needs of it.
+    /// Prints head and body as `raw_print` does, for a request of which `context` has what the answer needs. Where the context says
+    /// what becomes of the connection it is printed by the standard: the status line in version 1.1; `Connection` behind the
+    /// date where there is something to say, but for an upgrade and a code below 200; no header of more than one line. No data
+    /// are read for a code below 200, a 204, a 205 and a 304.
     pub fn print<W: WriteDevice>(
         self,
         alloc: Global,
@@ -362,6 +403,7 @@ impl<R> Response<R> {
               version = context.version;
               asked_coding = context.asked_coding;
               no_body = context.no_body;
+              persistence = context.persistence;
               upgrade = option_copied upgrade.entry;
               date = now;
             })) }
@@ -369,13 +411,22 @@ impl<R> Response<R> {
     {
         let mut data = self.reader;
         let headers = self.headers;
+        let offered = self.offered;
         let top = Top {
             version: context.version,
+            persistence: context.persistence,
             status: self.status,
             headers: &headers,
+            offered: &offered,
             date: now,
         };
+        if let Some(protocol) = upgrade {
+            return print_upgrade(writer, &top, protocol);
+        }
         let (data_length, threshold) = (self.data_length, self.threshold);
+        if let Some(framing) = contentless_framing(context.persistence, self.status, data_length) {
+            return put_head(writer, &top, None, framing);
+        }
         let coding = choose(
             context.version,
             context.asked_coding,
@@ -384,10 +435,9 @@ impl<R> Response<R> {
             threshold,
         );
         let withheld = is_withheld(context.no_body, self.status.0);
-        match (upgrade, coding) {
-            (Some(protocol), _) => print_upgrade(writer, &top, protocol),
-            (None, Coding::Chunked) => print_in_chunks(&mut data, writer, &top, withheld),
-            (None, Coding::Identity) => {
+        match coding {
+            Coding::Chunked => print_in_chunks(&mut data, writer, &top, withheld),
+            Coding::Identity => {
                 print_uncoded(alloc, &mut data, writer, &top, data_length, withheld)
             }
         }

@@ -1,3 +1,4 @@
+use Rattle.tiny_http_message.specs.OpenRequest.{final_context}
 use Rattle.std.proofs.Common.{◌≡◌, refl, sym, ap, ◌∙◌, subst, false, true, Bool, append-nil, Result, Ok, Err, Option, Some, None, List, [], ℕ}
 use Rattle.std.specs.Prelude.{if◌then◌else◌, OnErr, IfErr}
 use Rattle.std.specs.declared.io.Error.{Error}
@@ -61,5 +62,5 @@ returns g c =
       sent_on = a.sent_on;
       body = ap (λ x. x.body) c.respond.ensures.once;
       done = subst IsAnswered (sym replied) (is-answered (reported r));
-      honest = λ kind e. fault-is r kind (λ k. IsHonest (output_of c.args.outlet.now) (output_of c.respond.new.outlet) c.args.response.answer (g.D.ReadDevice.feed c.args.response.data_reader) (printing_in c.args.request.now.answer_context c.args.now) k) _ (sym replied ∙ e) a.ended a.honest;
+      honest = λ kind e. fault-is r kind (λ k. IsHonest (output_of c.args.outlet.now) (output_of c.respond.new.outlet) c.args.response.answer (g.D.ReadDevice.feed c.args.response.data_reader) (printing_in (final_context c.args.request.now c.args.left) c.args.now) k) _ (sym replied ∙ e) a.ended a.honest;
     }

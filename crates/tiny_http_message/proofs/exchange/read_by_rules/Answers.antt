@@ -4,7 +4,7 @@ use Rattle.tiny_http_stream.specs.Source.{GoesOn}
 use Rattle.tiny_http_stream.specs.declared.source.Standing.TheVariants as at
 use Rattle.tiny_http_message.specs.declared.exchange.HeadRead.TheVariants as read
 use Rattle.tiny_http_message.specs.HeadReads.{ReadsHead, ReadsMessage, RefusesWith, RefusesTooNew}
-use Rattle.tiny_http_message.specs.Pipeline.{ends_too_new, profile_of}
+use Rattle.tiny_http_message.specs.Pipeline.{ends_too_new, plainly, profile_of}
 use Rattle.tiny_http_message.proofs.HeadReadsServing.{head-closed, head-refused, head-unframed, head-too_new, passed-on, head-cut, head-handed, cut-stop, begun-is, end-unanswered, timed-out, cut-passed, fault-passed}
 use Rattle.tiny_http_stream.proofs.SourceGoesOn.{goes-on_more}
 use Rattle.tiny_http_message.proofs.exchange.read_by_rules.Goals as goal
@@ -47,7 +47,7 @@ pub returns-in-Err-framing_of-clause-reads : goal.returns-in-Err-framing_of-clau
 returns-in-Err-framing_of-clause-reads g c =
     let fault = c.in-Err-framing_of.fault in
     let P : Option Feed → Type 0 = λ o. ReadsHead (profile_of c.args.rules) at.Head c.args.now o c.read_message.new.source.feed c.refused_with.result in
-    let R : ℕ → Type 0 = λ n. RefusesWith n c.in-Ok.message.version c.args.now c.refused_with.result in
+    let R : ℕ → Type 0 = λ n. RefusesWith n (plainly c.in-Ok.message.version) c.args.now c.refused_with.result in
     subst P c.has_byte.ensures.feed
     (head-unframed c.args.rules _ _ _ c.in-Ok.message fault c.refused_with.result (subst (λ l. ReadsMessage l c.has_byte.new.self.feed c.read_message.new.source.feed (Ok c.in-Ok.message)) c.head_limit.ensures c.in-Ok.ensures.reads) (search (rules, c.as_slice.ensures.value, c.in-Err-framing_of.ensures)) (subst R c.refusal_of.ensures c.refused_with.ensures))
 

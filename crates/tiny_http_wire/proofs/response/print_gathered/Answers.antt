@@ -3,7 +3,7 @@ use Rattle.std.proofs.lemmas.Result.{err_from_is_err_and}
 use Rattle.tiny_http_wire.specs.Top.{top_text}
 use Rattle.tiny_http_coding.specs.declared.coding.FramingHeader.TheVariants.{ContentLength}
 use Rattle.tiny_http_encoding.proofs.DeviceFaults.{SameFaults-none, Puts-uses}
-use Rattle.tiny_http_wire.proofs.AnswerLemmas.{head-some, Gathered-fault, Gathered-printed}
+use Rattle.tiny_http_wire.proofs.AnswerLemmas.{top-some, Gathered-fault, Gathered-printed}
 use Rattle.tiny_http_wire.proofs.response.print_gathered.Goals as goal
 
 pub returns-in_err-bytes-clause-text : goal.returns-in_err-bytes-clause-text
@@ -12,7 +12,7 @@ returns-in_err-bytes-clause-text g c =
     rw (p.1, p.2) (Gathered-fault _ _ c.in_err-bytes.field-0.0 (λ f. top_text c.args.top.now None (ContentLength (length f.bytes))) c.args.withheld c.in_err-bytes.ensures)
 
 pub returns-clause-text : goal.returns-clause-text
-returns-clause-text g c = Gathered-printed _ _ _ _ _ _ (λ n. top_text c.args.top.now None (ContentLength n)) c.args.withheld (λ k. head-some c.args.top.now.version c.args.top.now.status.0 None c.args.top.now.headers.now c.args.top.now.date (ContentLength k)) c.as_slice.ensures.value c.in_ok-bytes.ensures c.print_bytes.ensures
+returns-clause-text g c = Gathered-printed _ _ _ _ _ _ (λ n. top_text c.args.top.now None (ContentLength n)) c.args.withheld (λ k. top-some c.args.top.now None (ContentLength k)) c.as_slice.ensures.value c.in_ok-bytes.ensures c.print_bytes.ensures
 
 pub returns-in_err-bytes-clause-uses : goal.returns-in_err-bytes-clause-uses
 returns-in_err-bytes-clause-uses g c =

@@ -1,3 +1,4 @@
+use Rattle.tiny_http_message.specs.Body.{remainder, is_long}
 use Rattle.std.proofs.Common.{◌≡◌, refl, sym, ap, ◌∙◌, subst, Bool, ◌&&◌, ◌||◌, List, Option}
 use Rattle.std.specs.Prelude.{is_some, slice_get}
 use Rattle.tiny_http_turns.specs.Turns.{Mark}
@@ -44,8 +45,8 @@ returns g c =
     let k : Kept = kept old in
     let w = c.in-Some.request in
     let some = c.in-Some.ensures.some in
-    let ends = w.holds_next_head || (w.by_standard && w.owes_continue) in
-    let end_is : end ≡ ends_behind ends q.end = c.ends_behind-self-inside.ensures ∙ ap (λ b. ends_behind b q.end) c.is_last_with_stream.ensures in
+    let ends = w.holds_next_head || (w.by_standard && (w.owes_continue || is_long (remainder w.body))) in
+    let end_is : end ≡ ends_behind ends q.end = c.ends_behind-self-inside.ensures ∙ ap (λ b. ends_behind b q.end) (c.is_last_with_stream.ensures ∙ ap (λ l. w.holds_next_head || (w.by_standard && (w.owes_continue || is_long l))) c.remainder-left.ensures) in
     let ended : is_some end ≡ (is_some q.end || ends) = ap is_some end_is ∙ ends-some ends q.end in
     record {
       step = λ date. rw (← c.self.view_is) (takes-into_writer old new date n Done

@@ -1,4 +1,7 @@
-use Rattle.std.proofs.Common.{rules, ℕ, ◌≡◌, refl, sym, ap, ◌∙◌, subst, Bool, true, false, ◌||◌, List, Option, Some, None}
+use Rattle.tiny_http_sending.specs.Sending.{IsHonest}
+use Rattle.tiny_http_message.specs.declared.body.Remainder.{Remainder}
+use Rattle.tiny_http_message.specs.OpenRequest.{final_context}
+use Rattle.std.proofs.Common.{◌&&◌, ◌||◌, rules, ℕ, ◌≡◌, refl, sym, ap, ◌∙◌, subst, Bool, true, false, List, Option, Some, None}
 use Rattle.std.specs.Prelude.{is_some, slice_get, slice_set, IsTrue}
 use Rattle.tiny_http_wire.specs.Answer.{Answer}
 use Rattle.tiny_http_core.specs.declared.pending.Unfinished.{Unfinished}
@@ -10,7 +13,7 @@ use Rattle.tiny_http_core.specs.declared.driver.Step.TheVariants as step
 use Rattle.tiny_http_wire.specs.Answer.{ResponseState}
 use Rattle.tiny_http_wire.specs.Device.{Feed}
 use Rattle.tiny_http_turns.specs.Turns.{Mark}
-use Rattle.tiny_http_core.specs.Pending.{waiting_answer_context, is_last_without_continue_at as kept_lacks, refuses_at}
+use Rattle.tiny_http_core.specs.Pending.{waiting_answer_context, is_last_once_finished_at as kept_lacks, refuses_at}
 use Rattle.tiny_http_stream.specs.Outlet.{output_of, outlet_ended}
 use Rattle.tiny_http_core.specs.Connection.{Kept, ConnectionState, kept}
 use Rattle.tiny_http_sending.specs.ResponseValue.{printing_in}
@@ -21,7 +24,7 @@ use Rattle.tiny_http_core.proofs.ConnectionOutput.{can-send}
 use Rattle.tiny_http_core.proofs.ConnectionRespond.{no-such, respond-not_taken, waits-some, waits-none, respond-not_yet, respond-done, responds-by}
 use Rattle.tiny_http_message.specs.declared.body.Body.{Body}
 use Rattle.tiny_http_message.specs.declared.open_request.OpenRequest.{OpenRequest}
-use Rattle.tiny_http_message.specs.Body.{GivesUp}
+use Rattle.tiny_http_message.specs.Body.{remainder, is_long, GivesUp}
 use Rattle.tiny_http_message.proofs.BodyReads.{gives-up}
 use Rattle.tiny_http_sending.proofs.SendingLemmas.{once-append}
 use Rattle.tiny_http_core.proofs.DrivingLemmas.{viewed, ends-some, same-view, takes-respond, driving-reads-on, moves-none, honest-more, gives-up-of}
@@ -118,7 +121,7 @@ let-go false f = absurd (f refl)
 waits-still : {R W : Type 0} (n : ℕ) (w : OpenRequest Body) (c d : ConnectionState R W) → c ≡ d → slice_get c.requests n ≡ Some (Some (still.Waiting w)) → waiting_answer_context (slice_get d.requests n) ≡ None → ⊥
 waits-still {R = R} {W = W} n w c d same e f =
     let P : ConnectionState R W → Type 0 = λ y. waiting_answer_context (slice_get y.requests n) ≡ None in
-    let none : Some w.answer_context ≡ None = sym (ap waiting_answer_context e) ∙ subst P (sym same) f in cc
+    let none : Some (final_context w (remainder w.body)) ≡ None = sym (ap waiting_answer_context e) ∙ subst P (sym same) f in cc
 
 pub returns-then-refuses : goal.returns-then-refuses
 returns-then-refuses g c =
@@ -140,7 +143,7 @@ unreachable-requires g c =
     let q = c.self.inside in
     let w = waits-some (slice_get q.pending.requests n) (sym c.is_waiting.ensures ∙ c.if-not-is_waiting.false) in
     let none : waiting_answer_context (slice_get q.pending.requests n) ≡ None = ap (λ l. waiting_answer_context (slice_get l n)) (sym c.hold.ensures.requests) ∙ c.in_default.ensures.none.0 in
-    let no : Some w.0.answer_context ≡ None = sym (ap waiting_answer_context w.1) ∙ none in cc
+    let no : Some (final_context w.0 (remainder w.0.body)) ≡ None = sym (ap waiting_answer_context w.1) ∙ none in cc
 
 pub returns : goal.returns
 returns g c =
@@ -159,23 +162,25 @@ returns g c =
     let some = c.in-Some.ensures.some in
     let got : slice_get k.requests n ≡ Some (Some (still.Waiting w0)) = ap (λ l. slice_get l n) (sym c.hold.ensures.requests) ∙ some.0 in
     let lacks = kept_lacks (slice_get k.requests n) in
-    let end_is : end ≡ ends_behind lacks q.end = c.ends_behind-self-inside.ensures ∙ ap (λ b. ends_behind b q.end) (c.is_last_without_continue.ensures ∙ sym (ap kept_lacks got)) in
+    let end_is : end ≡ ends_behind lacks q.end = c.ends_behind-self-inside.ensures ∙ ap (λ b. ends_behind b q.end) (c.is_last_once_finished.ensures ∙ ap (λ l. w0.by_standard && (w0.owes_continue || is_long l)) c.remainder-left.ensures ∙ sym (ap kept_lacks got)) in
     let ended : is_some end ≡ (is_some q.end || lacks) = ap is_some end_is ∙ ends-some lacks q.end in
     let requests : last.self.requests ≡ slice_set k.requests n None = c.pass.ensures.requests ∙ some.1 ∙ ap (λ l. slice_set l n None) c.hold.ensures.requests in
-    let waits : waiting_answer_context (slice_get k.requests n) ≡ Some w0.answer_context = ap waiting_answer_context got in
+    let context = final_context w0 (remainder w0.body) in
+    let waits : waiting_answer_context (slice_get k.requests n) ≡ Some context = ap waiting_answer_context got in
     let given_up : GivesUp w0.body q.source source = subst (λ b. GivesUp b q.source source) c.answer-reply.ensures.body c.give_up.ensures.gives_up in
     let accepted : refuses_at c.args.response.answer.status (slice_get k.requests n) ≡ false = answered-code c.args.response.answer.status c.status_code.result.0 (slice_get k.requests n) c.status_code.ensures ∙ sym c.refuses.ensures ∙ c.if-refuses.false in
     record {
       step = rw (← c.self.view_is) (takes-respond g.D.ReadDevice.feed true old new c.args.now n c.args.response reply
           (λ client before s value low is st.
           let held : IsTrue c.hold.result = search rules in
-          let A : Answer → Type 0 = λ a. Answers k.sink (output_of mid) (outlet_ended mid) reply a value.content (printing_in w0.answer_context c.args.now) in
+          let A : Answer → Type 0 = λ a. Answers k.sink (output_of mid) (outlet_ended mid) reply a value.content (printing_in context c.args.now) in
+          let L : Remainder → Type 0 = λ l. Answers k.sink (output_of mid) (outlet_ended mid) reply c.args.response.answer value.content (printing_in (final_context w0 l) c.args.now) in
           let E : Bool → Type 0 = λ e. StepIsAnswered client before (record (kept new) { asking_ended = e }) s c.args.now (Respond n value) reply in
-          subst E (sym ended) (respond-done client before k s c.args.now n value w0.answer_context (output_of mid) (output_of last.outlet) (outlet_ended mid) (outlet_ended last.outlet) c.take.new.self.turns.marks last.self.turns.marks last.self.requests q.source source reply
+          subst E (sym ended) (respond-done client before k s c.args.now n value context (output_of mid) (output_of last.outlet) (outlet_ended mid) (outlet_ended last.outlet) c.take.new.self.turns.marks last.self.turns.marks last.self.requests q.source source reply
           st (record { feed = refl; stop = refl; ends = refl; standing = refl }) (λ w e. gives-up-of q.source source (slice_get k.requests n) (still.Waiting w0) got given_up (still.Waiting w) e) low waits (ap (λ a. refuses_at a.status (slice_get k.requests n)) is.0 ∙ answered-code c.args.response.answer.status c.status_code.result.0 (slice_get k.requests n) c.status_code.ensures ∙ sym c.refuses.ensures ∙ c.if-refuses.false) (c.hold.ensures.held.0 held).1 (ap (λ t. t.marks) c.take.ensures.turns ∙ c.hold.ensures.marks held) requests
-          (responds-by k (output_of mid) (outlet_ended mid) reply value w0.answer_context c.args.now
+          (responds-by k (output_of mid) (outlet_ended mid) reply value context c.args.now
           (λ e. let h = c.answer-reply.ensures.past e in (ap (λ o. output_of o) h.0, ap (λ o. outlet_ended o) h.0, h.1))
-          (λ e. subst A (sym is.0) (c.answer-reply.ensures.sends value.content is.1 is.2 e (can-send before k.sink k.output_ended s.reached.slots s.flushed s.failure st.output low e))))
+          (λ e. subst A (sym is.0) (subst L c.remainder-left.ensures (c.answer-reply.ensures.sends value.content is.1 is.2 e (can-send before k.sink k.output_ended s.reached.slots s.flushed s.failure st.output low e)))))
           c.pass.ensures.passes c.pass.ensures.sends))
           (λ no. absurd (not-declined n (stated_response g.D.ReadDevice.feed c.args.response) reply c.answer-reply.ensures.done no)) (answered-ends lacks old new reply c.answer-reply.ensures.done end_is)
           (answered-leaves n c.args.response.answer.status old new reply c.answer-reply.ensures.done ((requests, gives-up-of q.source source (slice_get k.requests n) (still.Waiting w0) got given_up), accepted))
@@ -187,5 +192,5 @@ returns g c =
             flushed = λ was. c.pass.ensures.flushed c.answer-reply.ensures.flushed;
             sent_on = λ was. c.pass.ensures.sent_on c.answer-reply.ensures.sent_on;
           })
-          (λ kind e. let h = c.answer-reply.ensures.honest kind e in let p = printing_in w0.answer_context c.args.now in (w0.answer_context, waits, honest-more (outlet_ended mid) (outlet_ended last.outlet) k.sink (output_of mid) (output_of last.outlet) c.args.response.answer (g.D.ReadDevice.feed c.args.response.data_reader) p kind h.0 c.pass.ensures.fails_once h.1)));
+          (λ kind e. let h = c.answer-reply.ensures.honest kind e in let p = printing_in context c.args.now in let H : Remainder → Type 0 = λ l. IsHonest (output_of q.outlet) (output_of mid) c.args.response.answer (g.D.ReadDevice.feed c.args.response.data_reader) (printing_in (final_context w0 l) c.args.now) kind in (context, waits, honest-more (outlet_ended mid) (outlet_ended last.outlet) k.sink (output_of mid) (output_of last.outlet) c.args.response.answer (g.D.ReadDevice.feed c.args.response.data_reader) p kind h.0 c.pass.ensures.fails_once (subst H c.remainder-left.ensures h.1))));
     }

@@ -12,8 +12,8 @@ use Rattle.tiny_http_core.specs.Steps.{Upgrade, NoSuch, NotYet, Done, Refused}
 use Rattle.tiny_http_core.specs.Pending.{waiting_answer_context, refuses_upgrade_at, is_last_with_stream_at}
 use Rattle.tiny_http_core.specs.Driving.{ends_behind, stated_response}
 use Rattle.tiny_http_core.proofs.ConnectionAsk.{StepIsAnswered}
-use Rattle.tiny_http_message.specs.OpenRequest.{request_check}
-use Rattle.tiny_http_message.specs.Body.{is_whole}
+use Rattle.tiny_http_message.specs.OpenRequest.{final_context, request_check}
+use Rattle.tiny_http_message.specs.Body.{remainder, is_long, is_whole}
 use Rattle.tiny_http_core.specs.Connection.{Kept, ConnectionState, kept}
 use Rattle.tiny_http_message.specs.declared.body.Body.{Body}
 use Rattle.tiny_http_message.specs.declared.open_request.OpenRequest.{OpenRequest}
@@ -54,7 +54,7 @@ view-none : {R W : Type 0} (n : ℕ) (c d : ConnectionState R W) → c ≡ d →
 view-none {R = R} {W = W} n c d e h = let P : ConnectionState R W → Type 0 = λ y. waiting_answer_context (slice_get y.requests n) ≡ None in subst P (sym e) h
 
 waits-still : (w : OpenRequest Body) (o : Option (Option Unfinished)) → o ≡ Some (Some (still.Waiting w)) → waiting_answer_context o ≡ None → ⊥
-waits-still w o e f = let none : Some w.answer_context ≡ None = sym (ap waiting_answer_context e) ∙ f in cc
+waits-still w o e f = let none : Some (final_context w (remainder w.body)) ≡ None = sym (ap waiting_answer_context e) ∙ f in cc
 
 pub returns-then-refuses_upgrade : goal.returns-then-refuses_upgrade
 returns-then-refuses_upgrade g c =
@@ -106,7 +106,7 @@ returns g c =
     let said = done.sends w.0 w.1 in
     let marks = ap (λ t. t.marks) done.turns in
     let requests = done.requests w.0 w.1 in
-    let ends = w.0.holds_next_head || (w.0.by_standard && w.0.owes_continue) in
+    let ends = w.0.holds_next_head || (w.0.by_standard && (w.0.owes_continue || is_long (remainder w.0.body))) in
     let end_is = c.ends_behind-self-inside.ensures ∙ ap (λ b. ends_behind b q.end) c.is_last_with_stream.ensures in
     let ended : is_some end ≡ (is_some q.end || ends) = ap is_some (end_is ∙ ap (λ o. ends_behind (is_last_with_stream_at o) q.end) w.1) ∙ ends-some ends q.end in
     let come : (n == first_unfinished k.marks) ≡ true = sym c.is_in_turn.ensures ∙ c.if-not-is_in_turn.false in
