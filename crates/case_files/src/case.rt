@@ -22,6 +22,8 @@ pub struct Answer {
     pub length: Option<usize>,
     /// From how many bytes on the body is sent in chunks, if the case says so.
     pub threshold: Option<usize>,
+    /// Whether it asks that the connection ends.
+    pub closes: bool,
     /// The protocols that it offers to upgrade to, if it offers any.
     pub offer: Option<AsciiString>,
     pub data: Vec<u8>,

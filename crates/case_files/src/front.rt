@@ -172,10 +172,37 @@ fn without_408<'a>(case: &Case, output: &'a [u8], stop: Option<ErrorKind>) -> &'
     before_408(case.profile, output).unwrap_or(output)
 }
 
+const CLOSE: &[u8] = b"Connection: close\r\n";
+
+// Where an output says for the last time that the connection ends.
+fn last_close(output: &[u8]) -> Option<usize> {
+    (0..output.len()).rev().find(|place| output
+        .get(*place..)
+        .unwrap_or_default()
+        .starts_with(CLOSE))
+}
+
+// An output without what its last answer says by the standard of a body that was cut: that the connection ends, which the
+// case doesn't say there. None where it says nothing else than the case.
+fn without_close(alloc: Global, case: &Case, output: &[u8]) -> Result<Option<Vec<u8>>, AllocError> {
+    if case.profile != Profile::Standard || case.output.starts_with(output) {
+        return Ok(None);
+    }
+    let Some(place) = last_close(output) else {
+        return Ok(None);
+    };
+    let mut front = Vec::new(alloc);
+    front.extend_from_slice(output.get(..place).unwrap_or_default())?;
+    let behind = place.saturating_add(CLOSE.len());
+    front.extend_from_slice(output.get(behind..).unwrap_or_default())?;
+    Ok(Some(front))
+}
+
 /// Where an outcome is no prefix of its case, whose client's bytes were cut, with this fault of the reader or an end behind
 /// them. The requests that are handed out are the first of the case's. What their bodies give is a prefix of what they give
 /// there. The first reply that is another one is that of an `ask` or a `read`. The output is whole answers, a prefix of the
-/// case's, behind which a 408 may stand where a time-out cut the bytes. The writer doesn't fail.
+/// case's, behind which a 408 may stand where a time-out cut the bytes, and whose last answer may say by the standard that
+/// the connection ends. The writer doesn't fail.
 pub fn cut_difference(
     alloc: Global,
     case: &Case,
@@ -194,6 +221,8 @@ pub fn cut_difference(
         return Ok(Some(found));
     }
     let output = without_408(case, outcome.output.as_slice(), stop);
+    let front = without_close(alloc, case, output)?;
+    let output = front.as_ref().map_or(output, Vec::as_slice);
     if let Some(found) = output_differs(alloc, output, case.output.as_slice(), true)? {
         return Ok(Some(found));
     }

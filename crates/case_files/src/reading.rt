@@ -107,6 +107,7 @@ fn answer_in(alloc: Global, words: &str) -> Result<Answer, LineFault> {
         headers: Vec::new(alloc),
         length: None,
         threshold: None,
+        closes: false,
         offer: None,
         data: Vec::new(alloc),
         fault: None,
@@ -154,6 +155,7 @@ fn add_part(alloc: Global, answer: &mut Answer, text: &str) -> Result<(), LineFa
             Some(threshold) => answer.threshold = Some(threshold),
             None => return Err(NO_NUMBER),
         },
+        "close" if !answer.closes => answer.closes = true,
         "offer" if answer.offer.is_none() => {
             match AsciiString::from_ascii(text_of(alloc, words)?) {
                 Ok(offer) => answer.offer = Some(offer),

@@ -49,6 +49,9 @@ pub fn response_of(alloc: Global, answer: &Answer) -> Result<Response<ScriptData
     if let Some(threshold) = answer.threshold {
         response = response.with_chunked_threshold(threshold);
     }
+    if answer.closes {
+        response = response.with_close();
+    }
     if let Some(offer) = &answer.offer {
         response = response.with_upgrade_offer(offer.try_clone()?);
     }

@@ -8,6 +8,8 @@ mod beside;
 #[cfg(test)]
 mod bodies;
 #[cfg(test)]
+mod closing;
+#[cfg(test)]
 mod faults;
 #[cfg(test)]
 mod in_turn;

@@ -1,5 +1,5 @@
 -- The steps that a script names, and its first bad line.
-use Rattle.std.specs.Prelude.{◌≡◌, ◌==◌, ◌+◌, ℕ, Option, Some, None, List, [], ◌∷◌, ◌++◌, length, string_bytes}
+use Rattle.std.specs.Prelude.{◌≡◌, ◌==◌, ◌+◌, ℕ, Option, Some, None, List, [], ◌∷◌, ◌++◌, length, string_bytes, false}
 use Rattle.std.specs.List.{AllZip, AllByRecursion, slice_split}
 use Rattle.std.specs.declared.io.ErrorKind.TheVariants.{Other}
 use Rattle.httpdate.specs.declared.date.HttpDate.{HttpDate}
@@ -33,7 +33,7 @@ IsFirstBadLine lines n =
 
 -- an answer without headers, whose data are so many bytes `x` and this stop, of this length, if it is known
 abbrev pub xs_response : ℕ → ℕ → Stop → Option ℕ → ResponseValue
-xs_response status count stop length = record { answer = record { status = status; headers = []; data_length = length; threshold = 32768; offered = None }; content = xs count stop }
+xs_response status count stop length = record { answer = record { status = status; headers = []; data_length = length; threshold = 32768; closes = false; offered = None }; content = xs count stop }
 
 -- the answer by a code with this content
 abbrev pub response_with : ℕ → Content → ResponseValue

@@ -14,11 +14,21 @@ use Rattle.tiny_http_client_laws.proofs.ItemsFit.{items-fit}
 use Rattle.tiny_http_client_laws.proofs.RunFronts.{IsSoundState, run-sound, start-sound, output-front, output-all, output-unended}
 use Rattle.tiny_http_client_laws.proofs.ReadableSteps.{CanAllBeRead}
 use Rattle.tiny_http_client_laws.proofs.SlotsAreRead.{slots-are-read, slots-are-read-all, all-answered}
+use Rattle.std.specs.List.{AllByRecursion}
+use Rattle.tiny_http_message.specs.declared.framing.Profile.TheVariants.{Standard}
+use Rattle.tiny_http_client_laws.specs.Closes.{IsReadAsSaid}
+use Rattle.tiny_http_client_laws.proofs.CloseIsRead.{all-read}
 
 end-sound : (p : Profile) (feed : Feed) (before after : Sink) (steps : List TimedValue) (replies : List ReplyValue) (held : List ℕ) (ended : Bool) (unread : Option Feed)
     → (c : IsConversation p feed before steps replies after held ended unread) → IsSoundState (goes_by_standard p) c.end
 end-sound p feed before after steps replies held ended unread c =
     run-sound (goes_by_standard p) (start_state c.items) c.end steps replies (start-sound (goes_by_standard p) c.items (items-fit p (Some feed.bytes) feed.stop c.items c.pipeline)) c.run
+
+pub all-closes_read : (feed : Feed) (before after : Sink) (steps : List TimedValue) (replies : List ReplyValue) (held : List ℕ) (ended : Bool) (unread : Option Feed)
+    → (c : IsConversation Standard feed before steps replies after held ended unread) → AllByRecursion IsReadAsSaid c.end.reached.slots
+all-closes_read feed before after steps replies held ended unread c =
+    let s = end-sound Standard feed before after steps replies held ended unread c in
+    all-read c.end.reached.slots s.holds.slots
 
 pub all-sent : (p : Profile) (feed : Feed) (before after : Sink) (steps : List TimedValue) (replies : List ReplyValue) (held out : List ℕ) (ended : Bool) (unread : Option Feed)
     → (c : IsConversation p feed before steps replies after held ended unread) → CanAllBeRead p c.end.reached.slots → IsOutputOf after held out → ReadsNumbers c.end.reached.slots out

@@ -5,3 +5,7 @@ pub mod ReadableSteps
 pub mod ItemsFit
 pub mod SlotsAreRead
 pub mod ConversationReads
+pub mod PipelineEnds
+pub mod CloseIsLast
+pub mod CloseSteps
+pub mod CloseIsRead

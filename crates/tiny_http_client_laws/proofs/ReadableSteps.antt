@@ -6,11 +6,13 @@ use Rattle.httpdate.specs.declared.date.HttpDate.{HttpDate}
 use Rattle.tiny_http_wire.specs.Device.{Feed, Sink}
 use Rattle.tiny_http_message.specs.Pipeline.{Item, Asks, Refuses, Request}
 use Rattle.tiny_http_message.specs.declared.framing.Profile.{Profile}
-use Rattle.tiny_http_core.specs.Slots.{is_last_once_finished, closes_now, refuses_response, to_request, text_if, Slot, Stage, Unanswered, Answered, ByServer, Raw, Upgraded, new_slot, turn_has_come, rest_of, last_slot, last_holds_reader, last_was_abandoned, upgraded_slot, refuses_upgrade}
-use Rattle.tiny_http_core.specs.Steps.{StepValue, Ask, AsReader, Read, Respond, IntoWriter, Write, Flush, Upgrade, Finish, Drop, ReplyValue, Ended, Given, Done, Refused, NoSuch, NotYet, WriterUse, Unused, Unreported, Reported, Outcome, Reached, unchanged, changes, ends_asking, is_last_with_stream, read_reply, finished_as, written_to, stage_closed, fault_in, fault_reply, accepts_step, needs_turn, use_in_turn, effect, at_item, at_slot, at_number, asks_from, ask, outcome}
+use Rattle.tiny_http_core.specs.Slots.{is_last_once_finished, closes_now, refuses_response, Slot, Stage, Unanswered, Answered, ByServer, Raw, Upgraded, new_slot, turn_has_come, rest_of, last_slot, last_holds_reader, last_was_abandoned, upgraded_slot, refuses_upgrade, last_closing}
+use Rattle.tiny_http_core.specs.Steps.{StepValue, Ask, AsReader, Read, Respond, IntoWriter, Write, Flush, Upgrade, Finish, Drop, ReplyValue, Ended, Given, Done, Refused, NoSuch, NotYet, WriterUse, Unused, Unreported, Outcome, Reached, unchanged, changes, ends_asking, is_last_with_stream, read_reply, finished_as, written_to, stage_closed, accepts_step, needs_turn, use_in_turn, effect, at_item, at_slot, at_number, asks_from, ask, outcome, answers, answers_slot, asked_to_close}
 use Rattle.tiny_http_core.specs.Conversation.{Failure, State, HasOutcome, FindsNoMemory, StepsTo, TimedValue, Run, start_state, IsOutput, IsConversation}
-use Rattle.tiny_http_client_laws.specs.ClientReads.{goes_by_standard, IsReadableStage, CanBeReadAt, IsReadableStep, AreReadable}
+use Rattle.tiny_http_client_laws.specs.ClientReads.{CanBeRead, goes_by_standard, IsReadableStage, CanBeReadAt, IsReadableStep, AreReadable}
 use Rattle.tiny_http_client_laws.proofs.StepsAdd.{all-append, number_of}
+use Rattle.tiny_http_core.proofs.ConnectionClosing.{by-closing}
+use Rattle.tiny_http_sending.specs.ResponseValue.{ResponseValue}
 
 abbrev pub CanAllBeRead : Profile → List Slot → Type 0
 CanAllBeRead p slots = AllByRecursion (CanBeReadAt p) slots
@@ -50,6 +52,22 @@ readable-if p false x y h k = k refl
 never : {G : Type 0} → false ≡ true → G
 never e = cc
 
+-- a number is answered
+answered-readable : (p : Profile) (found : Bool) (date : HttpDate) (old : Reached) (r : Request) (k : ℕ) (response : ResponseValue) (o : Option Slot) → CanBeRead (goes_by_standard p) response → CanAllBeRead p old.slots → CanAllBeRead p (answers_slot found date old r k response o).slots
+answered-readable p found date old r k response None c h = h
+answered-readable p found date old r k response (Some s) c h =
+    all-set p old.slots k (finished_as (closes_now r s.closes s.owed s.given s.end_reported) s (Answered response date found)) h c
+
+-- the last number is told that the connection ends
+closing-readable : (p : Profile) (slots : List Slot) → CanAllBeRead p slots → CanAllBeRead p (last_closing slots)
+closing-readable p [] h = h
+closing-readable p (s ∷ []) h = (by-closing (λ t. CanBeReadAt p t) s (λ e. h.0) h.0, h.1)
+closing-readable p (s ∷ t ∷ slots) h = (h.0, closing-readable p (t ∷ slots) h.1)
+
+asked-readable : (p : Profile) (closes : Bool) (old : Reached) → CanAllBeRead p old.slots → CanAllBeRead p (asked_to_close closes old).slots
+asked-readable p true old h = closing-readable p old.slots h
+asked-readable p false old h = h
+
 -- a step that a number takes in its time
 effect-readable : (p : Profile) (found : Bool) (date : HttpDate) (old : Reached) (r : Request) (s : Slot) (turn : Bool) (step : StepValue) → IsReadableStep (goes_by_standard p) step → CanAllBeRead p old.slots → CanBeReadAt p s
     → CanAllBeRead p (effect found date old r s turn step).slots
@@ -62,23 +80,20 @@ effect-readable p found date old r s turn (Read k n) c h here =
     let t : Slot = record s { given = s.given + length (take n left); end_reported = s.end_reported || nat_lt (length left) n } in
     readable-if p (n == 0) (unchanged old (Given [])) (changes old k t (read_reply n left r.body.stop) Unused) (λ e. h) (λ e. all-set p old.slots k t h here)
 effect-readable p found date old r s turn (Respond k response) c h here =
-    let closes = closes_now r s.owed s.given s.end_reported in
-    let text = text_if found response (to_request closes r date) in
-    let t = finished_as closes s (Answered response date found) in
-    let d = finished_as closes s ByServer in
-    readable-if p (refuses_response r response) (ends_asking (is_last_once_finished r s.owed s.given s.end_reported) (changes old k d Refused (use_in_turn turn)))
-    (ends_asking (is_last_once_finished r s.owed s.given s.end_reported) (changes old k t Done (Reported text.bytes (fault_in text.ending) true fault_reply)))
-    (λ e. all-set p old.slots k d h tt) (λ e. all-set p old.slots k t h c)
+    let d = finished_as (closes_now r s.closes s.owed s.given s.end_reported) s ByServer in
+    readable-if p (refuses_response r response) (ends_asking (is_last_once_finished r s.owed s.given s.end_reported) (changes old k d Refused (use_in_turn turn))) (answers found date (asked_to_close response.answer.closes old) r k response)
+    (λ e. all-set p old.slots k d h tt)
+    (λ e. answered-readable p found date (asked_to_close response.answer.closes old) r k response (slice_get (asked_to_close response.answer.closes old).slots k) c (asked-readable p response.answer.closes old h))
 effect-readable p found date old r s turn (IntoWriter k) c h here = elim c [ ]
 effect-readable p found date old r s turn (Write k bytes) c h here = all-set p old.slots k (record s { stage = written_to bytes s.stage }) h (written-readable p bytes s.stage here)
 effect-readable p found date old r s turn (Flush k) c h here = all-set p old.slots k s h here
 effect-readable p found date old r s turn (Upgrade k protocol response) c h here =
     let t : Slot = upgraded_slot r s (Upgraded protocol response date [] false) in
-    let d = finished_as (closes_now r s.owed s.given s.end_reported) s ByServer in
+    let d = finished_as (closes_now r s.closes s.owed s.given s.end_reported) s ByServer in
     let refused : refuses_upgrade r s protocol response ≡ true = rw c refl in
     readable-if p (refuses_upgrade r s protocol response) (ends_asking (is_last_once_finished r s.owed s.given s.end_reported) (changes old k d Refused (use_in_turn turn))) (ends_asking (is_last_with_stream r s.owed s.given s.end_reported) (changes old k t Done Unreported)) (λ e. all-set p old.slots k d h tt) (λ e. never (sym e ∙ refused))
 effect-readable p found date old r s turn (Finish k) c h here = all-set p old.slots k (finished_as s.closes s (stage_closed s.stage)) h (closed-readable p s.stage here)
-effect-readable p found date old r s turn (Drop k) c h here = all-set p old.slots k (finished_as (closes_now r s.owed s.given s.end_reported) s ByServer) h tt
+effect-readable p found date old r s turn (Drop k) c h here = all-set p old.slots k (finished_as (closes_now r s.closes s.owed s.given s.end_reported) s ByServer) h tt
 
 item-readable : (p : Profile) (found : Bool) (date : HttpDate) (old : Reached) (k : ℕ) (step : StepValue) (s : Slot) (item : Item) → IsReadableStep (goes_by_standard p) step → CanAllBeRead p old.slots → CanBeReadAt p s
     → CanAllBeRead p (at_item found date old k step s item).slots

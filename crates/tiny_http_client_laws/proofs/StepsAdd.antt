@@ -1,6 +1,6 @@
 -- What holds of the numbers of a conversation: an owed 100 wasn't sent, each version fits its bytes, and each item is answered by
 -- the standard or none. Each step keeps it, and only adds to the joined output.
-use Rattle.std.proofs.Common.{Option, ◌≡◌, refl, sym, ap, ◌∙◌, subst, ℕ, zero, suc, ◌+◌, ◌≤◌, Bool, true, false, not, ◌||◌, List, [], ◌∷◌, ◌++◌, take, length, Some, None, append_assoc, append-nil}
+use Rattle.std.proofs.Common.{Option, ◌≡◌, refl, sym, ap, ◌∙◌, subst, ℕ, zero, suc, ◌+◌, ◌≤◌, Bool, true, false, not, ◌||◌, List, [], ◌∷◌, ◌++◌, take, length, Some, None, append_assoc, append-nil, ◌&&◌}
 use Rattle.std.specs.Prelude.{if◌then◌else◌, slice_get, slice_set, ◌==◌, nat_lt}
 use Rattle.std.specs.List.{AllByRecursion}
 use Rattle.httpdate.specs.declared.date.HttpDate.{HttpDate}
@@ -9,9 +9,10 @@ use Rattle.tiny_http_wire.specs.Answer.{text_of}
 use Rattle.tiny_http_wire.specs.Device.{IsFront}
 use Rattle.tiny_http_message.specs.Pipeline.{Item, Asks, Refuses, Request}
 use Rattle.tiny_http_sending.specs.ResponseValue.{ResponseValue, upgrade_text}
-use Rattle.tiny_http_core.specs.Slots.{is_last_once_finished, closes_now, is_last_item, refuses_response, Slot, Stage, Unanswered, Answered, ByServer, Raw, Upgraded, printing_for, to_request, text_if, stage_text, opening, segment, is_stage_finished, turn_has_come, joined, is_output_broken, rest_of, as_stream, upgraded_slot, refuses_upgrade}
-use Rattle.tiny_http_core.specs.Steps.{StepValue, Ask, AsReader, Read, Respond, IntoWriter, Write, Flush, Upgrade, Finish, Drop, ReplyValue, Given, Done, Refused, NoSuch, WriterUse, Unused, Unreported, Reported, Outcome, Reached, unchanged, changes, ends_asking, is_last_with_stream, read_reply, finished_as, written_to, stage_closed, fault_in, fault_reply, Fault, accepts_step, needs_turn, use_in_turn, effect}
+use Rattle.tiny_http_core.specs.Slots.{is_last_once_finished, closes_now, is_last_item, refuses_response, Slot, Stage, Unanswered, Answered, ByServer, Raw, Upgraded, printing_for, to_request, text_if, stage_text, opening, segment, is_stage_finished, turn_has_come, joined, is_output_broken, rest_of, as_stream, upgraded_slot, refuses_upgrade, last_closing, is_finished, closing}
+use Rattle.tiny_http_core.specs.Steps.{StepValue, Ask, AsReader, Read, Respond, IntoWriter, Write, Flush, Upgrade, Finish, Drop, ReplyValue, Given, Done, Refused, NoSuch, WriterUse, Unused, Unreported, Reported, Outcome, Reached, unchanged, changes, ends_asking, is_last_with_stream, read_reply, finished_as, written_to, stage_closed, fault_in, fault_reply, Fault, accepts_step, needs_turn, use_in_turn, effect, answers, answers_slot, asked_to_close}
 use Rattle.tiny_http_client_laws.proofs.JoinedGrows.{SendsMore, set-grows, set-own, AddsOwn, Adds, in-turn-ownless, taken-unfinished}
+use Rattle.tiny_http_core.proofs.ConnectionClosing.{by-closing, closing-item, closing-stage, joined-closing, broken-closing}
 
 -- a version fits its bytes
 abbrev pub VersionFits : HTTPVersion → Type 0
@@ -120,28 +121,28 @@ by-asreader ByServer owed k e = never e
 by-asreader (Raw written ends) owed k e = never e
 by-asreader (Upgraded protocol response date written ends) owed k e = never e
 
-by-respond : (stage : Stage) (owed : Bool) (k : ℕ) (r : ResponseValue) → accepts_step stage owed (Respond k r) ≡ true → stage ≡ Unanswered
+pub by-respond : (stage : Stage) (owed : Bool) (k : ℕ) (r : ResponseValue) → accepts_step stage owed (Respond k r) ≡ true → stage ≡ Unanswered
 by-respond Unanswered owed k r e = refl
 by-respond (Answered response date found) owed k r e = never e
 by-respond ByServer owed k r e = never e
 by-respond (Raw written ends) owed k r e = never e
 by-respond (Upgraded protocol response date written ends) owed k r e = never e
 
-by-writer : (stage : Stage) (owed : Bool) (k : ℕ) → accepts_step stage owed (IntoWriter k) ≡ true → stage ≡ Unanswered
+pub by-writer : (stage : Stage) (owed : Bool) (k : ℕ) → accepts_step stage owed (IntoWriter k) ≡ true → stage ≡ Unanswered
 by-writer Unanswered owed k e = refl
 by-writer (Answered response date found) owed k e = never e
 by-writer ByServer owed k e = never e
 by-writer (Raw written ends) owed k e = never e
 by-writer (Upgraded protocol response date written ends) owed k e = never e
 
-by-upgrade : (stage : Stage) (owed : Bool) (k : ℕ) (p : List ℕ) (r : ResponseValue) → accepts_step stage owed (Upgrade k p r) ≡ true → stage ≡ Unanswered
+pub by-upgrade : (stage : Stage) (owed : Bool) (k : ℕ) (p : List ℕ) (r : ResponseValue) → accepts_step stage owed (Upgrade k p r) ≡ true → stage ≡ Unanswered
 by-upgrade Unanswered owed k p r e = refl
 by-upgrade (Answered response date found) owed k p r e = never e
 by-upgrade ByServer owed k p r e = never e
 by-upgrade (Raw written ends) owed k p r e = never e
 by-upgrade (Upgraded protocol response date written ends) owed k p r e = never e
 
-by-drop : (stage : Stage) (owed : Bool) (k : ℕ) → accepts_step stage owed (Drop k) ≡ true → stage ≡ Unanswered
+pub by-drop : (stage : Stage) (owed : Bool) (k : ℕ) → accepts_step stage owed (Drop k) ≡ true → stage ≡ Unanswered
 by-drop Unanswered owed k e = refl
 by-drop (Answered response date found) owed k e = never e
 by-drop ByServer owed k e = never e
@@ -206,6 +207,75 @@ number_of (Upgrade k protocol response) = k
 number_of (Finish k) = k
 number_of (Drop k) = k
 
+-- a request that waits, in its turn, is answered
+answered-keeps : (bs : Bool) (found : Bool) (date : HttpDate) (old : Reached) (r : Request) (s : Slot) (k : ℕ) (response : ResponseValue) → Holds bs old → slice_get old.slots k ≡ Some s → s.item ≡ Asks r
+    → s.stage ≡ Unanswered → turn_has_come k old.slots ≡ true → Keeps bs old (answers found date old r k response)
+answered-keeps bs found date old r s k response h here is u turn =
+    let i = all-get bs old.slots k s h.slots here in
+    let closes = closes_now r s.closes s.owed s.given s.end_reported in
+    let text = text_if found response (to_request closes r date) in
+    let t = finished_as closes s (Answered response date found) in
+    let writer = Reported text.bytes (fault_in text.ending) true fault_reply in
+    let own-is : (stage_text closes s.item s.date (Answered response date found)).bytes ≡ text.bytes = ap (λ (x : Item). (text_if found response (printing_for closes x date)).bytes) is in
+    let more = unanswered-sends s t text.bytes u (ap (λ x. opening s.item s.continued ++ x) own-is) in
+    let P : Option Slot → Type 0 = λ o. Keeps bs old (answers_slot found date old r k response o) in
+    subst P (sym here) (keeps-ended bs old (is_last_once_finished r s.owed s.given s.end_reported) (changes old k t Done writer) (quiet bs old h k s here t text.bytes Done writer more (settled bs s t i refl refl) (λ none. own-text bs old h k s here t text.bytes more turn none)))
+
+-- the last number is told that the connection ends
+sound-closing : (bs : Bool) (slots : List Slot) → AllSound bs slots → AllSound bs (last_closing slots)
+sound-closing bs [] h = h
+sound-closing bs (s ∷ []) h = (by-closing (IsSound bs) s (λ e. record { unsent = h.0.unsent; fits = h.0.fits }) h.0, h.1)
+sound-closing bs (s ∷ t ∷ slots) h = (h.0, sound-closing bs (t ∷ slots) h.1)
+
+turn-closing : (k : ℕ) (slots : List Slot) → turn_has_come k (last_closing slots) ≡ turn_has_come k slots
+turn-closing k [] = refl
+turn-closing zero (s ∷ []) = refl
+turn-closing (suc k) (s ∷ []) = by-closing (λ t. turn_has_come (suc k) (t ∷ []) ≡ turn_has_come (suc k) (s ∷ [])) s (λ e. refl) refl
+turn-closing zero (s ∷ t ∷ slots) = refl
+turn-closing (suc k) (s ∷ t ∷ slots) = ap (λ b. is_finished s && b) (turn-closing k (t ∷ slots))
+
+-- what stands under its number then
+pub record Told (s : Slot) (slots : List Slot) (k : ℕ) : Type 0 where
+  pub slot : Slot
+  pub get : slice_get (last_closing slots) k ≡ Some slot
+  pub item : slot.item ≡ s.item
+  pub stage : slot.stage ≡ s.stage
+
+pub told : (s : Slot) (slots : List Slot) (k : ℕ) → slice_get slots k ≡ Some s → Told s slots k
+told s [] k e = cc
+told s (x ∷ []) zero e =
+    let same : x ≡ s = cc in
+    let T : Slot → Type 0 = λ y. Told y (x ∷ []) zero in
+    subst T same (record { slot = closing x; get = refl; item = closing-item x; stage = closing-stage x })
+told s (x ∷ []) (suc k) e = cc
+told s (x ∷ y ∷ slots) zero e = record { slot = s; get = e; item = refl; stage = refl }
+told s (x ∷ y ∷ slots) (suc k) e = let t = told s (y ∷ slots) k e in record { slot = t.slot; get = t.get; item = t.item; stage = t.stage }
+
+-- what is kept of the numbers doesn't see it
+keeps-told : (bs : Bool) (old : Reached) (o : Outcome) → Keeps bs (asked_to_close true old) o → Keeps bs old o
+keeps-told bs old o h =
+    let F : List ℕ → Type 0 = λ j. IsFront j (joined o.slots) in
+    record {
+      adds = record { front = subst F (joined-closing old.slots) h.adds.front; own = own-told o.writer old.slots o.slots h.adds.own };
+      slots = h.slots;
+      rest = h.rest;
+    }
+  where
+    own-told : (w : WriterUse) (was slots : List Slot) → AddsOwn w (last_closing was) slots → AddsOwn w was slots
+    own-told Unused was slots a = a
+    own-told Unreported was slots a = a
+    own-told (Reported own broken flushes report) was slots a =
+        λ none. subst (λ j. IsFront (j ++ own) (joined slots)) (joined-closing was) (a (broken-closing was ∙ none))
+
+-- a request that waits, in its turn, is answered by a response that may ask that the connection ends
+asked-keeps : (bs : Bool) (found : Bool) (date : HttpDate) (old : Reached) (r : Request) (s : Slot) (k : ℕ) (response : ResponseValue) (closes : Bool) → Holds bs old → slice_get old.slots k ≡ Some s → s.item ≡ Asks r
+    → s.stage ≡ Unanswered → turn_has_come k old.slots ≡ true → Keeps bs old (answers found date (asked_to_close closes old) r k response)
+asked-keeps bs found date old r s k response false h here is u turn = answered-keeps bs found date old r s k response h here is u turn
+asked-keeps bs found date old r s k response true h here is u turn =
+    let t = told s old.slots k here in
+    keeps-told bs old (answers found date (asked_to_close true old) r k response)
+    (answered-keeps bs found date (asked_to_close true old) r t.slot k response (record { slots = sound-closing bs old.slots h.slots; rest = h.rest }) t.get (t.item ∙ is) (t.stage ∙ u) (turn-closing k old.slots ∙ turn))
+
 -- a step that a number takes in its time
 pub effect-keeps : (bs : Bool) (found : Bool) (date : HttpDate) (old : Reached) (r : Request) (s : Slot) (turn : Bool) (step : StepValue) → Holds bs old → slice_get old.slots (number_of step) ≡ Some s → s.item ≡ Asks r
     → accepts_step s.stage s.owed step ≡ true → (needs_turn r s step ≡ true → turn_has_come (number_of step) old.slots ≡ true) → Keeps bs old (effect found date old r s turn step)
@@ -233,17 +303,12 @@ effect-keeps bs found date old r s turn (Read k n) h here is takes comes =
 effect-keeps bs found date old r s turn (Respond k response) h here is takes comes =
     let i = all-get bs old.slots k s h.slots here in
     let u = by-respond s.stage s.owed k response takes in
-    let closes = closes_now r s.owed s.given s.end_reported in
-    let text = text_if found response (to_request closes r date) in
-    let t = finished_as closes s (Answered response date found) in
+    let closes = closes_now r s.closes s.owed s.given s.end_reported in
     let d = finished_as closes s ByServer in
     let dropped = (stage_text closes s.item s.date ByServer).bytes in
-    let writer = Reported text.bytes (fault_in text.ending) true fault_reply in
-    let own-is : (stage_text closes s.item s.date (Answered response date found)).bytes ≡ text.bytes = ap (λ (x : Item). (text_if found response (printing_for closes x date)).bytes) is in
-    let more = unanswered-sends s t text.bytes u (ap (λ x. opening s.item s.continued ++ x) own-is) in
-    keeps-if bs old (refuses_response r response) (ends_asking (is_last_once_finished r s.owed s.given s.end_reported) (changes old k d Refused (use_in_turn turn))) (ends_asking (is_last_once_finished r s.owed s.given s.end_reported) (changes old k t Done writer))
+    keeps-if bs old (refuses_response r response) (ends_asking (is_last_once_finished r s.owed s.given s.end_reported) (changes old k d Refused (use_in_turn turn))) (answers found date (asked_to_close response.answer.closes old) r k response)
     (λ o. keeps-ended bs old (is_last_once_finished r s.owed s.given s.end_reported) (changes old k d Refused (use_in_turn turn)) (quiet bs old h k s here d dropped Refused (use_in_turn turn) (unanswered-sends s d dropped u refl) (settled bs s d i refl refl) (in-turn-ownless turn old.slots (slice_set old.slots k d))))
-    (λ o. keeps-ended bs old (is_last_once_finished r s.owed s.given s.end_reported) (changes old k t Done writer) (quiet bs old h k s here t text.bytes Done writer more (settled bs s t i refl refl) (λ none. own-text bs old h k s here t text.bytes more (comes (ap not o)) none)))
+    (λ o. asked-keeps bs found date old r s k response response.answer.closes h here is u (comes (ap not o)))
 effect-keeps bs found date old r s turn (IntoWriter k) h here is takes comes =
     let i = all-get bs old.slots k s h.slots here in
     let t : Slot = record s { stage = Raw [] false; given_up = true; owed = false } in
@@ -265,7 +330,7 @@ effect-keeps bs found date old r s turn (Upgrade k protocol response) h here is 
     let u = by-upgrade s.stage s.owed k protocol response takes in
     let t : Slot = upgraded_slot r s (Upgraded protocol response date [] false) in
     let own = (stage_text s.closes s.item s.date (Upgraded protocol response date [] false)).bytes in
-    let closes = closes_now r s.owed s.given s.end_reported in
+    let closes = closes_now r s.closes s.owed s.given s.end_reported in
     let d = finished_as closes s ByServer in
     let text = (stage_text closes s.item s.date ByServer).bytes in
     let more = upgrade-sends bs r.framing.by_standard r s protocol response date refl i is u in
@@ -279,7 +344,7 @@ effect-keeps bs found date old r s turn (Finish k) h here is takes comes =
     quiet bs old h k s here t [] Done (use_in_turn turn) same (settled bs s t i refl refl) (in-turn-ownless turn old.slots (slice_set old.slots k t))
 effect-keeps bs found date old r s turn (Drop k) h here is takes comes =
     let i = all-get bs old.slots k s h.slots here in
-    let closes = closes_now r s.owed s.given s.end_reported in
+    let closes = closes_now r s.closes s.owed s.given s.end_reported in
     let d = finished_as closes s ByServer in
     let text = (stage_text closes s.item s.date ByServer).bytes in
     keeps-ended bs old (is_last_once_finished r s.owed s.given s.end_reported) (changes old k d Done (use_in_turn turn))

@@ -1,1 +1,2 @@
 pub mod ClientReads
+pub mod Closes

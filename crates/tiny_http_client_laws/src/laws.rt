@@ -9,6 +9,7 @@ ghost use Rattle.tiny_http_core.specs.Conversation.{TimedValue, IsConversation};
 ghost use Rattle.tiny_http_answer.specs.ClientAnswer.{ClientAnswer, ReadsAnswers};
 ghost use Rattle.tiny_http_answer.specs.SentTexts.{methods, whole_answers, remains};
 ghost use Rattle.tiny_http_answer.specs.ClientText.{IsReadable};
+ghost use Rattle.tiny_http_client_laws.specs.Closes.{NoneFollowsClose, IsReadAsSaid};
 ghost use Rattle.tiny_http_client_laws.specs.ClientReads.{headers_printed, CanBeRead, AreReadable, CanBeReadAt, IsOutputOf, HaveAnswers, ReadsNumbers, sent_texts};
 
 use tiny_http_wire::response::Response;
@@ -43,6 +44,18 @@ pub fn conversation_is_read()
     ensures complete { (p : Profile) (feed : Feed) (before after : Sink) (steps : List TimedValue) (replies : List ReplyValue) (held out : List ℕ) (unread : Option Feed)
         → (c : IsConversation p feed before steps replies after held false unread) → AreReadable p steps → IsOutputOf after held out → IsTrue (list_all is_finished c.end.reached.slots)
         → (answers : List ClientAnswer) × HaveAnswers c.end.reached.slots answers × ReadsAnswers (methods (sent_texts c.end.reached.slots)) out answers [] }
+{}
+
+/// CLOSE IS THE LAST: by the standard, no number follows one whose answer says `Connection: close`, in each conversation, whatever its
+/// steps (RFC 9112, section 9.6). An answer says it if it is a refusal, or if it was decided as it was made: by the request's head,
+/// by an answer that asked for it, by a 100 that is owed, or by what is left of the body. Of an answer that can be read, a client
+/// reads it exactly if it is said: as an element of `Connection`, which no response has of its own. So the client knows from the
+/// answer that none follows, and sends nothing more.
+pub fn close_is_the_last()
+    ensures none { (feed : Feed) (before after : Sink) (steps : List TimedValue) (replies : List ReplyValue) (held : List ℕ) (ended : Bool) (unread : Option Feed)
+        → (c : IsConversation Profile.Standard feed before steps replies after held ended unread) → NoneFollowsClose c.end.reached.slots }
+    ensures read { (feed : Feed) (before after : Sink) (steps : List TimedValue) (replies : List ReplyValue) (held : List ℕ) (ended : Bool) (unread : Option Feed)
+        → (c : IsConversation Profile.Standard feed before steps replies after held ended unread) → AllByRecursion IsReadAsSaid c.end.reached.slots }
 {}
 
 /// The premise of `conversation_is_read` gives that of `slots_are_read`.

@@ -21,7 +21,7 @@ use Rattle.tiny_http_message.specs.declared.exchange.HeadRead.TheVariants as rea
 use Rattle.tiny_http_wire.specs.declared.answer_context.AnswerContext.{AnswerContext}
 use Rattle.tiny_http_wire.specs.declared.coding.Coding.{Coding}
 use Rattle.tiny_http_standard.specs.Judging.{names_protocol}
-use Rattle.tiny_http_wire.specs.Coding.{coding_asked}
+use Rattle.tiny_http_message.specs.OpenRequest.{coding_for}
 use Rattle.tiny_http_message.specs.declared.open_request.OpenRequest.{OpenRequest}
 use Rattle.tiny_http_core.specs.declared.pending.Unfinished.{Unfinished}
 use Rattle.tiny_http_core.specs.declared.pending.Unfinished.TheVariants as still
@@ -144,7 +144,7 @@ going client before k s h e o quiet open_input =
 pub dropped-whole : (asked : HandedOut) (r : Request) (given : ℕ) (end_reported : Bool) → is_slot_broken (dropped asked r given end_reported) ≡ false
 unfolding text_of
 dropped-whole asked r given end_reported =
-    ap is_broken (own-whole 500 (coding_asked r.message.headers) r.message.version (is_head_method r.message.method) (persistence_of r.framing.by_standard (closes_now r asked.owed given end_reported)) asked.date)
+    ap is_broken (own-whole 500 (coding_for r.framing.by_standard r.message.headers) r.message.version (is_head_method r.message.method) (persistence_of r.framing.by_standard (closes_now r asked.closes asked.owed given end_reported)) asked.date)
 
 -- the answer to a head that is refused
 pub refused-whole : (refusal : Refusal) (date : HttpDate) (v : Manner) (no_body last : Bool) → is_slot_broken (new_slot date (Refuses refusal v no_body last)) ≡ false
@@ -177,7 +177,7 @@ kept-handed : (profile : Profile) (date : HttpDate) (x : Exchange) (p : Option F
     → IsWaiting (handed_slot date (request_of x.head content behind)) x.open_request
 kept-handed profile date x p content behind k left framed = record {
   request = request_of x.head content behind;
-  handed = record { date = date; continued = None; owed = x.head.owes_continue };
+  handed = record { date = date; continued = None; owed = x.head.owes_continue; closes = false };
   given = 0;
   end_reported = false;
   is = refl;
@@ -185,6 +185,7 @@ kept-handed profile date x p content behind k left framed = record {
   holds = k.answer.holds_next_head;
   standard = k.answer.by_standard;
   connect = k.answer.is_connect;
+  closes = k.answer.closes;
   upgrades = λ protocol. k.answer.upgrades protocol ∙ ap (λ b. b && names_protocol x.head.headers.items protocol) k.answer.holds_next_head;
   unsent = λ owed. refl;
   rest_is_last = framed.framed;
@@ -192,7 +193,7 @@ kept-handed profile date x p content behind k left framed = record {
       let c = x.open_request.answer_context in
       let F : HTTPVersion → Option Coding → Bool → Option Persistence → AnswerContext = λ v a b p. record { version = v; asked_coding = a; no_body = b; persistence = p } in
       ap (λ v. F v c.asked_coding c.no_body c.persistence) k.answer.version ∙ ap (λ a. F x.head.version a c.no_body c.persistence) k.answer.asked_coding
-      ∙ ap (λ b. F x.head.version (coding_asked x.head.headers.items) b c.persistence) k.answer.no_body ∙ ap (F x.head.version (coding_asked x.head.headers.items) (is_head_method x.head.method)) k.answer.persistence;
+      ∙ ap (λ b. F x.head.version (coding_for x.head.by_standard x.head.headers.items) b c.persistence) k.answer.no_body ∙ ap (F x.head.version (coding_for x.head.by_standard x.head.headers.items) (is_head_method x.head.method)) k.answer.persistence;
   dropped = k.answer.dropped;
   fits = k.body;
   settled = settled-any x.open_request.body p content behind left;

@@ -59,7 +59,7 @@ continue-not_yet client before k s date n w st e owed early =
 
 -- the request to which the 100 was sent
 abbrev continued : HttpDate → HandedOut → HandedOut
-continued date h = record { date = h.date; continued = Some date; owed = false }
+continued date h = record { date = h.date; continued = Some date; owed = false; closes = h.closes }
 
 abbrev continued_slot : HttpDate → (s : Slot) (w : OpenRequest Body) → IsWaiting s w → Slot
 continued_slot date s w h = open_slot (continued date h.handed) h.request h.given h.end_reported
@@ -79,6 +79,7 @@ still-waiting date s w h = record {
   standard = h.standard;
   upgrades = h.upgrades;
   connect = h.connect;
+  closes = h.closes;
   unsent = λ owed. (let no : false ≡ true = owed in cc);
   rest_is_last = h.rest_is_last;
   answer_context = h.answer_context;

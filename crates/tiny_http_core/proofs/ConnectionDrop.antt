@@ -41,7 +41,7 @@ abbrev pub dropped_slot : (s : Slot) (w : OpenRequest Body) → IsWaiting s w �
 dropped_slot s w h = dropped h.handed h.request h.given h.end_reported
 
 -- the text that is kept for a drop
-drop-text_is : (s : Slot) (w : OpenRequest Body) (h : IsWaiting s w) → drop_text w.dropped (final_context w (remainder w.body)) ≡ (stage_text (closes_now h.request h.handed.owed h.given h.end_reported) (Asks h.request) h.handed.date ByServer).bytes
+drop-text_is : (s : Slot) (w : OpenRequest Body) (h : IsWaiting s w) → drop_text w.dropped (final_context w (remainder w.body)) ≡ (stage_text (closes_now h.request h.handed.closes h.handed.owed h.given h.end_reported) (Asks h.request) h.handed.date ByServer).bytes
 drop-text_is s w h = ap (λ d. drop_text d (final_context w (remainder w.body))) h.dropped ∙ ap (λ c. own_text_by 500 (printing_in c h.handed.date)) (waiting-final s w h)
 
 -- it ends with the text that is kept for a drop
@@ -59,7 +59,7 @@ pub reader-dropped : {R : Type 0} (client : Feed) (k : Kept) (s : State) (n : �
     → InputStands client (with_reader k (p.us ++ (None ∷ p.vs)) source) (p.bs ++ (dropped_slot p.s w p.waiting ∷ p.cs)) s.reached.rest
 reader-dropped client k s n w p old source from reader gives =
     let P : List Slot → Type 0 = λ l. InputStands client k l s.reached.rest in
-    reader-given_up (closes_now p.waiting.request p.waiting.handed.owed p.waiting.given p.waiting.end_reported) client k old source p.bs p.cs p.us p.vs s.reached.rest p.s (Some (still.Waiting w)) None w.body ByServer (open-waiting p.s w p.waiting) refl refl from (subst P p.slots_are reader) p.requests_are (kept-many p.cs p.rs p.vs p.behind) gives
+    reader-given_up (closes_now p.waiting.request p.waiting.handed.closes p.waiting.handed.owed p.waiting.given p.waiting.end_reported) client k old source p.bs p.cs p.us p.vs s.reached.rest p.s (Some (still.Waiting w)) None w.body ByServer (open-waiting p.s w p.waiting) refl refl from (subst P p.slots_are reader) p.requests_are (kept-many p.cs p.rs p.vs p.behind) gives
 
 -- what tells whether an answer to a request is refused
 abbrev pub IsKeptOf : OpenRequest Body → Request → ℕ → Bool → Type 0

@@ -292,6 +292,7 @@ still-waiting s w h c old new n reply k =
       standard = h.standard;
       upgrades = h.upgrades;
       connect = h.connect;
+      closes = h.closes;
       unsent = h.unsent;
       rest_is_last = h.rest_is_last;
       answer_context = h.answer_context;

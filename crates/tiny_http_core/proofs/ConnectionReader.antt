@@ -275,18 +275,19 @@ says-cases true true false F = refl
 says-cases true false true F = refl
 says-cases true false false F = refl
 
-pub waiting-final : (s : Slot) (w : OpenRequest Body) (h : IsWaiting s w) → final_context w (remainder w.body) ≡ answer_context_of (closes_now h.request h.handed.owed h.given h.end_reported) h.request
+pub waiting-final : (s : Slot) (w : OpenRequest Body) (h : IsWaiting s w) → final_context w (remainder w.body) ≡ answer_context_of (closes_now h.request h.handed.closes h.handed.owed h.given h.end_reported) h.request
 waiting-final s w h =
     let r = h.request in
     let F : Option Persistence → AnswerContext = λ p. record (answer_context_of false r) { persistence = p } in
     let not_last : Remainder → Bool = λ l. not (is_skipped l) in
-    let A : AnswerContext → AnswerContext = λ c. if w.by_standard && (w.owes_continue || not_last (remainder w.body)) then record c { persistence = Some Close } else c in
-    let B : Bool → Bool → Remainder → AnswerContext = λ standard owes l. if standard && (owes || not_last l) then F (Some Close) else F (persistence_of r.framing.by_standard r.framing.is_last) in
+    let A : AnswerContext → AnswerContext = λ c. if w.by_standard && (w.closes || (w.owes_continue || not_last (remainder w.body))) then record c { persistence = Some Close } else c in
+    let B : Bool → Bool → Bool → Remainder → AnswerContext = λ standard closes owes l. if standard && (closes || (owes || not_last l)) then F (Some Close) else F (persistence_of r.framing.by_standard r.framing.is_last) in
     ap A h.answer_context
-    ∙ (ap (λ x. B x w.owes_continue (remainder w.body)) h.standard
-    ∙ (ap (λ x. B r.framing.by_standard x (remainder w.body)) h.owed
-    ∙ (ap (B r.framing.by_standard h.handed.owed) (sym (waiting-remainder s w h))
-    ∙ says-cases r.framing.by_standard (h.handed.owed || not_last (remainder_of r h.given h.end_reported)) r.framing.is_last F)))
+    ∙ (ap (λ x. B x w.closes w.owes_continue (remainder w.body)) h.standard
+    ∙ (ap (λ x. B r.framing.by_standard x w.owes_continue (remainder w.body)) h.closes
+    ∙ (ap (λ x. B r.framing.by_standard h.handed.closes x (remainder w.body)) h.owed
+    ∙ (ap (B r.framing.by_standard h.handed.closes h.handed.owed) (sym (waiting-remainder s w h))
+    ∙ says-cases r.framing.by_standard (h.handed.closes || (h.handed.owed || not_last (remainder_of r h.given h.end_reported))) r.framing.is_last F))))
 
 pub waiting-kept : (s : Slot) (b : Body) (h : IsOpen s b) → last_was_abandoned (Some s) ≡ false
 waiting-kept s b h = let P : Slot → Type 0 = λ x. last_was_abandoned (Some x) ≡ false in subst P (sym h.is) (and-false (is_chunked h.request.framing.form))

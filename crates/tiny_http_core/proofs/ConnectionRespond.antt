@@ -15,13 +15,13 @@ use Rattle.tiny_http_message.specs.declared.open_request.OpenRequest.{OpenReques
 use Rattle.tiny_http_core.specs.declared.pending.Unfinished.{Unfinished}
 use Rattle.tiny_http_core.specs.declared.pending.Unfinished.TheVariants as still
 use Rattle.tiny_http_core.proofs.ConnectionReader.{waiting-final, waiting-remainder, open-waiting}
-use Rattle.tiny_http_message.specs.Pipeline.{Item, Asks, Refuses, Request, is_connect_method}
-use Rattle.tiny_http_message.specs.OpenRequest.{final_context, refuses_code}
-use Rattle.tiny_http_sending.specs.ResponseValue.{ResponseValue}
-use Rattle.tiny_http_wire.specs.Answer.{IsGathered}
+use Rattle.tiny_http_message.specs.Pipeline.{Item, Asks, Refuses, Request, is_connect_method, is_head_method}
+use Rattle.tiny_http_message.specs.OpenRequest.{coding_for, final_context, refuses_code}
+use Rattle.tiny_http_sending.specs.ResponseValue.{ResponseValue, printing_to}
+use Rattle.tiny_http_wire.specs.Answer.{IsGathered, answer_coding}
 use Rattle.tiny_http_core.specs.Slots.{remainder_of, closes_now, Slot, Stage, Unanswered, Answered as AnsweredBy, ByServer, Raw, Upgraded, is_stage_finished, is_finished, is_broken, is_slot_broken, segment, stage_text, opening, joined, is_output_broken, is_last_once_finished, refuses_response, last_slot, turn_has_come, to_request, text_if}
-use Rattle.tiny_http_core.specs.Steps.{StepValue, outcome, Respond, ReplyValue, Done, NoSuch, NotYet, Outcome, Reached, unchanged, changes, ends_asking, is_last_with_stream, finished_as, accepts_step, fault_in, fault_reply, at_item, at_slot, at_number}
-use Rattle.tiny_http_core.specs.Conversation.{Failure, State, has_output_ended, finished_front, flushed_after, CanMeet, WriterPart, HasOutcome, GathersAt, MayLack}
+use Rattle.tiny_http_core.specs.Steps.{StepValue, outcome, Respond, ReplyValue, Done, NoSuch, NotYet, Outcome, Reached, unchanged, changes, ends_asking, is_last_with_stream, finished_as, accepts_step, fault_in, fault_reply, at_item, at_slot, at_number, asked_to_close, answers, answers_slot}
+use Rattle.tiny_http_core.specs.Conversation.{Failure, State, has_output_ended, finished_front, flushed_after, CanMeet, WriterPart, HasOutcome, GathersAt, MayLack, GathersFor, StepsTo}
 use Rattle.tiny_http_core.proofs.ConversationWriting.{FailsBetween, FailsReported, FailsBehind, broken_reply, used, WritesIf, flushed_if, reported, flushed-is}
 use Rattle.tiny_http_sending.specs.ResponseValue.{printing_in}
 use Rattle.tiny_http_core.specs.Seen.{Answers, reply_to}
@@ -38,6 +38,10 @@ use Rattle.tiny_http_core.proofs.ConnectionKept.{get-at, set-at, take-at, kept-a
 use Rattle.tiny_http_core.proofs.ConnectionOutput.{joined_behind, front-all, left-finished, lost-output, all-firm, ended-is, output-same, plain-more, can-send, more-behind, output-more, Longer, longer-at, longer-alone}
 use Rattle.tiny_http_core.proofs.ConnectionTurns.{turn-set, behind-turn}
 use Rattle.tiny_http_core.proofs.PendingLemmas.{none-left}
+use Rattle.tiny_http_core.proofs.ConnectionClosing.{asked_state, outcome-asked, twice-asked, leads-asked}
+use Rattle.tiny_http_wire.specs.declared.coding.Coding.{Coding}
+use Rattle.tiny_http_head.specs.declared.common.HTTPVersion.{HTTPVersion}
+use Rattle.tiny_http_message.specs.OwnAnswer.{persistence_of}
 use Rattle.tiny_http_sending.proofs.SendingLemmas.{or-parts}
 
 -- a number that is finished takes no such step
@@ -158,14 +162,22 @@ respond-not_yet client before k s date n v w st e good never =
 
 -- the slot after the response
 abbrev pub answered_slot : HandedOut → Request → ℕ → Bool → ResponseValue → HttpDate → Bool → Slot
-answered_slot asked r given end_reported v date found = finished_as (closes_now r asked.owed given end_reported) (open_slot asked r given end_reported) (AnsweredBy v date found)
+answered_slot asked r given end_reported v date found = finished_as (closes_now r asked.closes asked.owed given end_reported) (open_slot asked r given end_reported) (AnsweredBy v date found)
 
 abbrev pub response_sent : Bool → ResponseValue → Bool → Request → HttpDate → Text
 response_sent found v closes r date = text_if found v (to_request closes r date)
 
-at-turn : (date : HttpDate) (asked : HandedOut) (old : Reached) (n : ℕ) (v : ResponseValue) (r : Request) (given : ℕ) (end_reported found : Bool) → slice_get old.slots n ≡ Some (open_slot asked r given end_reported) → refuses_response r v ≡ false → turn_has_come n old.slots ≡ true
-    → at_number found date old n (Respond n v) ≡ ends_asking (is_last_once_finished r asked.owed given end_reported) (changes old n (answered_slot asked r given end_reported v date found) Done (used (response_sent found v (closes_now r asked.owed given end_reported) r date)))
-at-turn date asked old n v r given end_reported found e takes t = ap (at_slot found date old n (Respond n v)) e ∙ rw (takes, t) refl
+-- a request that waits, in its turn: the response answers it, once the last number was told what it asks
+at-answers : (found : Bool) (date : HttpDate) (old : Reached) (n : ℕ) (v : ResponseValue) (r : Request) (x : Slot) → slice_get old.slots n ≡ Some x → x.item ≡ Asks r → x.stage ≡ Unanswered → refuses_response r v ≡ false → turn_has_come n old.slots ≡ true
+    → at_number found date old n (Respond n v) ≡ answers found date (asked_to_close v.answer.closes old) r n v
+at-answers found date old n v r x e item stage takes t =
+    ap (at_slot found date old n (Respond n v)) e ∙ ap (at_item found date old n (Respond n v) x) item ∙ rw (stage, takes, t) refl
+
+at-turn : (date : HttpDate) (asked : HandedOut) (old : Reached) (n : ℕ) (v : ResponseValue) (r : Request) (given : ℕ) (end_reported found : Bool) → slice_get old.slots n ≡ Some (open_slot asked r given end_reported) → refuses_response r v ≡ false → turn_has_come n old.slots ≡ true → asked_to_close v.answer.closes old ≡ old
+    → at_number found date old n (Respond n v) ≡ ends_asking (is_last_once_finished r asked.owed given end_reported) (changes old n (answered_slot asked r given end_reported v date found) Done (used (response_sent found v (closes_now r asked.closes asked.owed given end_reported) r date)))
+at-turn date asked old n v r given end_reported found e takes t fixed =
+    at-answers found date old n v r (open_slot asked r given end_reported) e refl refl takes t
+    ∙ ap (λ o. answers found date o r n v) fixed ∙ ap (answers_slot found date old r n v) e
 
 -- how the response is printed
 printed-for : (closes : Bool) (r : Request) (answer_context : AnswerContext) (date : HttpDate) → answer_context ≡ answer_context_of closes r → printing_in answer_context date ≡ to_request closes r date
@@ -461,8 +473,9 @@ pub record Answerable (k : Kept) (s : State) (n : ℕ) (answer_context : AnswerC
   pub requests_are : k.requests ≡ us ++ (Some (still.Waiting waiting) ∷ vs)
   pub at : SlotAt s.reached.slots bs cs (open_slot waits.handed waits.request waits.given waits.end_reported) n
   pub place : length fs ≡ n
-  pub answer_context_is : answer_context ≡ answer_context_of (closes_now waits.request waits.handed.owed waits.given waits.end_reported) waits.request
+  pub answer_context_is : answer_context ≡ answer_context_of (closes_now waits.request waits.handed.closes waits.handed.owed waits.given waits.end_reported) waits.request
   pub kept : slice_get k.requests n ≡ Some (Some (still.Waiting waiting))
+  pub slots_place : length bs ≡ n
   pub as_many : length cs ≡ length vs
   pub requests_set : slice_set k.requests n None ≡ us ++ (None ∷ vs)
   pub marks_set : slice_set k.marks n Held ≡ fs ++ (Held ∷ rs)
@@ -497,6 +510,7 @@ answerable client before k s n answer_context st e first =
       place = p.marks_before;
       answer_context_is = sym w.2 ∙ waiting-final p.s w.0 p.waiting;
       kept = w.1;
+      slots_place = p.slots_before;
       as_many = kept-many p.cs p.rs p.vs p.behind;
       requests_set = set-place k.requests p.us p.vs n (Some (still.Waiting w.0)) None p.requests_are p.requests_before;
       marks_set = set-place k.marks p.fs p.rs n Open Held p.marks_are p.marks_before;
@@ -552,20 +566,29 @@ stream-same s w h = ap (λ x. x || is_last_once_finished h.request h.handed.owed
 pub both-end : (a b x y : Bool) → a ≡ b → x ≡ y → (a || x) ≡ (b || y)
 both-end a b x y e f = ap (λ z. z || x) e ∙ ap (λ z. b || z) f
 
+-- that the data are read whole doesn't see what the answer says of the connection
+gathered-by : (by_standard a b : Bool) (v : ResponseValue) (coding : Option Coding) (version : HTTPVersion) (no_body : Bool) (date : HttpDate) → IsGathered v.answer (printing_to coding version no_body (persistence_of by_standard a) date) → IsGathered v.answer (printing_to coding version no_body (persistence_of by_standard b) date)
+unfolding answer_coding
+gathered-by true a b v coding version no_body date h = h
+gathered-by false a b v coding version no_body date h = h
+
+gathered-any : (v : ResponseValue) (r : Request) (date : HttpDate) (closes : Bool) → IsGathered v.answer (to_request closes r date) → IsGathered v.answer (to_request r.framing.is_last r date)
+gathered-any v r date closes h = gathered-by r.framing.by_standard closes r.framing.is_last v (coding_for r.framing.by_standard r.message.headers) r.message.version (is_head_method r.message.method) date h
+
 respond-stands : {R : Type 0} (client : Feed) (before : Sink) (k : Kept) (s : State) (date : HttpDate) (n : ℕ) (v : ResponseValue) (answer_context : AnswerContext) (found : Bool) (mid new : Sink) (mid_ended ended : Bool) (final : List Mark) (requests : List (Option Unfinished)) (source : SourceState R) (reply : ReplyValue)
-    → Stands client before k s → before.failures < 2 ^ 64 - 1 → (a : Answerable k s n answer_context) → refuses_at v.answer.status (slice_get k.requests n) ≡ false → (found ≡ true) ⊎ IsGathered v.answer (to_request (closes_now a.waits.request a.waits.handed.owed a.waits.given a.waits.end_reported) a.waits.request date) → requests ≡ slice_set k.requests n None → InputStands client (with_reader k (a.us ++ (None ∷ a.vs)) source) (a.bs ++ (answered_slot a.waits.handed a.waits.request a.waits.given a.waits.end_reported v date found ∷ a.cs)) s.reached.rest → FinishesFront a.fs a.rs final
-    → OwnSaid before mid k.output_ended mid_ended s.reached.slots a.bs (answered_slot a.waits.handed a.waits.request a.waits.given a.waits.end_reported v date found) (response_sent found v (closes_now a.waits.request a.waits.handed.owed a.waits.given a.waits.end_reported) a.waits.request date) s.flushed s.failure reply → SendsLeft a.rs mid_ended mid new ended
+    → Stands client before k s → before.failures < 2 ^ 64 - 1 → (a : Answerable k s n answer_context) → refuses_at v.answer.status (slice_get k.requests n) ≡ false → asked_to_close v.answer.closes s.reached ≡ s.reached → (found ≡ true) ⊎ IsGathered v.answer (to_request (closes_now a.waits.request a.waits.handed.closes a.waits.handed.owed a.waits.given a.waits.end_reported) a.waits.request date) → requests ≡ slice_set k.requests n None → InputStands client (with_reader k (a.us ++ (None ∷ a.vs)) source) (a.bs ++ (answered_slot a.waits.handed a.waits.request a.waits.given a.waits.end_reported v date found ∷ a.cs)) s.reached.rest → FinishesFront a.fs a.rs final
+    → OwnSaid before mid k.output_ended mid_ended s.reached.slots a.bs (answered_slot a.waits.handed a.waits.request a.waits.given a.waits.end_reported v date found) (response_sent found v (closes_now a.waits.request a.waits.handed.closes a.waits.handed.owed a.waits.given a.waits.end_reported) a.waits.request date) s.flushed s.failure reply → SendsLeft a.rs mid_ended mid new ended
     → StepIsAnswered client before (with_asking_ended (kept_lacks (slice_get k.requests n)) (after_number k final requests source new ended)) s date (Respond n v) reply
-respond-stands client before k s date n v answer_context found mid new mid_ended ended final requests source reply st low a good lack requests_are reader passes own sends =
+respond-stands client before k s date n v answer_context found mid new mid_ended ended final requests source reply st low a good fixed lack requests_are reader passes own sends =
     let s0 = open_slot a.waits.handed a.waits.request a.waits.given a.waits.end_reported in
     let s1 = answered_slot a.waits.handed a.waits.request a.waits.given a.waits.end_reported v date found in
-    let text = response_sent found v (closes_now a.waits.request a.waits.handed.owed a.waits.given a.waits.end_reported) a.waits.request date in
+    let text = response_sent found v (closes_now a.waits.request a.waits.handed.closes a.waits.handed.owed a.waits.given a.waits.end_reported) a.waits.request date in
     let l = longer-open s.reached.slots a.bs a.cs a.waits.handed a.waits.request a.waits.given a.waits.end_reported (AnsweredBy v date found) a.slots_are a.turn.finished in
     let T : List Slot → Type 0 = λ x. AreSentInTurn x in
     let turns = subst T a.slots_are st.in_turn in
     let said = respond-left before mid new k.output_ended mid_ended ended a.bs s0 s1 a.cs a.fs a.rs a.vs s text reply a.slots_are (ended-is before k.sink k.output_ended s.reached.slots s.flushed s.failure st.output) a.turn.finished refl refl refl l own a.turn (behind-turn a.bs a.cs s0 a.turn.finished refl turns) a.behind low sends in
     let takes = refuses-same a.slot a.waiting a.waits v ∙ ap (refuses_at v.answer.status) (sym a.kept) ∙ good in
-    let is = at-turn date a.waits.handed s.reached n v a.waits.request a.waits.given a.waits.end_reported found a.at.get takes (a.at.turn ∙ a.turn.finished) in
+    let is = at-turn date a.waits.handed s.reached n v a.waits.request a.waits.given a.waits.end_reported found a.at.get takes (a.at.turn ∙ a.turn.finished) fixed in
     let slots = a.bs ++ (s1 ∷ a.cs) in
     let last = is_last_once_finished a.waits.request a.waits.handed.owed a.waits.given a.waits.end_reported in
     let new_state : State = record { reached = record { slots = slots; rest = s.reached.rest; asking_ended = s.reached.asking_ended || last }; flushed = flushed_after (used text) s slots; failure = said.failure } in
@@ -589,10 +612,12 @@ respond-stands client before k s date n v answer_context found mid new mid_ended
       inl (found, lacks found lack a.at.get, has),
     )
   where
-    lacks : (t : Bool) → (t ≡ true) ⊎ IsGathered v.answer (to_request (closes_now a.waits.request a.waits.handed.owed a.waits.given a.waits.end_reported) a.waits.request date) → slice_get s.reached.slots n ≡ Some (open_slot a.waits.handed a.waits.request a.waits.given a.waits.end_reported) → MayLack t date s.reached (Respond n v)
+    lacks : (t : Bool) → (t ≡ true) ⊎ IsGathered v.answer (to_request (closes_now a.waits.request a.waits.handed.closes a.waits.handed.owed a.waits.given a.waits.end_reported) a.waits.request date) → slice_get s.reached.slots n ≡ Some (open_slot a.waits.handed a.waits.request a.waits.given a.waits.end_reported) → MayLack t date s.reached (Respond n v)
     lacks true l g = tt
     lacks false (inl e) g = cc
-    lacks false (inr x) g = let P : Option Slot → Type 0 = λ o. GathersAt date v o in subst P (sym g) x
+    lacks false (inr x) g =
+        let P : Option Slot → Type 0 = λ o. GathersAt date v o in
+        subst P (sym g) (gathered-any v a.waits.request date (closes_now a.waits.request a.waits.handed.closes a.waits.handed.owed a.waits.given a.waits.end_reported) x)
 
 -- what the call that answers did
 pub RespondsBy : Kept → Sink → Bool → ReplyValue → ResponseValue → AnswerContext → HttpDate → Type 0
@@ -601,13 +626,13 @@ RespondsBy k mid mid_ended reply v answer_context date =
     ⊎ ((k.output_ended ≡ false) × Answers k.sink mid mid_ended reply v.answer v.content (printing_in answer_context date))
 
 pub respond-done : {R : Type 0} (client : Feed) (before : Sink) (k : Kept) (s : State) (date : HttpDate) (n : ℕ) (v : ResponseValue) (answer_context : AnswerContext) (mid new : Sink) (mid_ended ended : Bool) (marks final : List Mark) (requests : List (Option Unfinished)) (old source : SourceState R) (reply : ReplyValue)
-    → Stands client before k s → IsInput k old → ((w : OpenRequest Body) → slice_get k.requests n ≡ Some (Some (still.Waiting w)) → GivesUp w.body old source) → before.failures < 2 ^ 64 - 1 → waiting_answer_context (slice_get k.requests n) ≡ Some answer_context → refuses_at v.answer.status (slice_get k.requests n) ≡ false → n ≡ first_unfinished k.marks → marks ≡ slice_set k.marks n Held → requests ≡ slice_set k.requests n None
+    → Stands client before k s → IsInput k old → ((w : OpenRequest Body) → slice_get k.requests n ≡ Some (Some (still.Waiting w)) → GivesUp w.body old source) → before.failures < 2 ^ 64 - 1 → waiting_answer_context (slice_get k.requests n) ≡ Some answer_context → refuses_at v.answer.status (slice_get k.requests n) ≡ false → asked_to_close v.answer.closes s.reached ≡ s.reached → n ≡ first_unfinished k.marks → marks ≡ slice_set k.marks n Held → requests ≡ slice_set k.requests n None
     → RespondsBy k mid mid_ended reply v answer_context date
     → ((front rest : List Mark) → marks ≡ front ++ (Held ∷ rest) → length front ≡ n → FinishesFront front rest final)
     → ((front rest : List Mark) → marks ≡ front ++ (Held ∷ rest) → length front ≡ n → (mid_ended ≡ false → CanSend mid) → SendsLeft rest mid_ended mid new ended)
     → StepIsAnswered client before (with_asking_ended (kept_lacks (slice_get k.requests n)) (after_number k final requests source new ended)) s date (Respond n v) reply
 unfolding RespondsBy
-respond-done {R = R} client before k s date n v answer_context mid new mid_ended ended marks final requests old source reply st from gives low e good first marks_are requests_are own passes sends = by-own own
+respond-done {R = R} client before k s date n v answer_context mid new mid_ended ended marks final requests old source reply st from gives low e good fixed first marks_are requests_are own passes sends = by-own own
   where
     a : Answerable k s n answer_context
     a = answerable client before k s n answer_context st e first
@@ -615,35 +640,35 @@ respond-done {R = R} client before k s date n v answer_context mid new mid_ended
     held : marks ≡ a.fs ++ (Held ∷ a.rs)
     held = marks_are ∙ a.marks_set
 
-    longer_by : (found : Bool) → Longer s.reached.slots a.bs (answered_slot a.waits.handed a.waits.request a.waits.given a.waits.end_reported v date found) (response_sent found v (closes_now a.waits.request a.waits.handed.owed a.waits.given a.waits.end_reported) a.waits.request date).bytes
+    longer_by : (found : Bool) → Longer s.reached.slots a.bs (answered_slot a.waits.handed a.waits.request a.waits.given a.waits.end_reported v date found) (response_sent found v (closes_now a.waits.request a.waits.handed.closes a.waits.handed.owed a.waits.given a.waits.end_reported) a.waits.request date).bytes
     longer_by found = longer-open s.reached.slots a.bs a.cs a.waits.handed a.waits.request a.waits.given a.waits.end_reported (AnsweredBy v date found) a.slots_are a.turn.finished
 
     reader : (found : Bool) → InputStands client (with_reader k (a.us ++ (None ∷ a.vs)) source) (a.bs ++ (answered_slot a.waits.handed a.waits.request a.waits.given a.waits.end_reported v date found ∷ a.cs)) s.reached.rest
     reader found =
         let P : List Slot → Type 0 = λ l. InputStands client k l s.reached.rest in
-        reader-given_up (closes_now a.waits.request a.waits.handed.owed a.waits.given a.waits.end_reported) client k old source a.bs a.cs a.us a.vs s.reached.rest a.slot (Some (still.Waiting a.waiting)) None a.waiting.body (AnsweredBy v date found) (open-waiting a.slot a.waiting a.waits) refl refl from (subst P a.slots_were st.reader) a.requests_are a.as_many (gives a.waiting a.kept)
+        reader-given_up (closes_now a.waits.request a.waits.handed.closes a.waits.handed.owed a.waits.given a.waits.end_reported) client k old source a.bs a.cs a.us a.vs s.reached.rest a.slot (Some (still.Waiting a.waiting)) None a.waiting.body (AnsweredBy v date found) (open-waiting a.slot a.waiting a.waits) refl refl from (subst P a.slots_were st.reader) a.requests_are a.as_many (gives a.waiting a.kept)
 
-    answered : (found : Bool) → (found ≡ true) ⊎ IsGathered v.answer (to_request (closes_now a.waits.request a.waits.handed.owed a.waits.given a.waits.end_reported) a.waits.request date) → OwnSaid before mid k.output_ended mid_ended s.reached.slots a.bs (answered_slot a.waits.handed a.waits.request a.waits.given a.waits.end_reported v date found) (response_sent found v (closes_now a.waits.request a.waits.handed.owed a.waits.given a.waits.end_reported) a.waits.request date) s.flushed s.failure reply
+    answered : (found : Bool) → (found ≡ true) ⊎ IsGathered v.answer (to_request (closes_now a.waits.request a.waits.handed.closes a.waits.handed.owed a.waits.given a.waits.end_reported) a.waits.request date) → OwnSaid before mid k.output_ended mid_ended s.reached.slots a.bs (answered_slot a.waits.handed a.waits.request a.waits.given a.waits.end_reported v date found) (response_sent found v (closes_now a.waits.request a.waits.handed.closes a.waits.handed.owed a.waits.given a.waits.end_reported) a.waits.request date) s.flushed s.failure reply
         → StepIsAnswered client before (with_asking_ended (kept_lacks (slice_get k.requests n)) (after_number k final requests source new ended)) s date (Respond n v) reply
     answered found lack o =
-        respond-stands client before k s date n v answer_context found mid new mid_ended ended final requests source reply st low a good lack requests_are (reader found) (passes a.fs a.rs held a.place) o
+        respond-stands client before k s date n v answer_context found mid new mid_ended ended final requests source reply st low a good fixed lack requests_are (reader found) (passes a.fs a.rs held a.place) o
         (sends a.fs a.rs held a.place (can-send before mid mid_ended (a.bs ++ (answered_slot a.waits.handed a.waits.request a.waits.given a.waits.end_reported v date found ∷ [])) (flushed_if k.output_ended s.flushed (a.bs ++ (answered_slot a.waits.handed a.waits.request a.waits.given a.waits.end_reported v date found ∷ []))) o.failure o.output low))
 
     by-own : RespondsBy k mid mid_ended reply v answer_context date → StepIsAnswered client before (with_asking_ended (kept_lacks (slice_get k.requests n)) (after_number k final requests source new ended)) s date (Respond n v) reply
     by-own (inl h) =
         let s1 = answered_slot a.waits.handed a.waits.request a.waits.given a.waits.end_reported v date true in
-        let o = own-past before k.sink k.output_ended s.reached.slots a.bs s1 (response_sent true v (closes_now a.waits.request a.waits.handed.owed a.waits.given a.waits.end_reported) a.waits.request date) s.flushed s.failure st.output (longer_by true) a.turn.finished h.0 in
-        let P : Sink → Bool → ReplyValue → Type 0 = λ x y z. OwnSaid before x k.output_ended y s.reached.slots a.bs s1 (response_sent true v (closes_now a.waits.request a.waits.handed.owed a.waits.given a.waits.end_reported) a.waits.request date) s.flushed s.failure z in
+        let o = own-past before k.sink k.output_ended s.reached.slots a.bs s1 (response_sent true v (closes_now a.waits.request a.waits.handed.closes a.waits.handed.owed a.waits.given a.waits.end_reported) a.waits.request date) s.flushed s.failure st.output (longer_by true) a.turn.finished h.0 in
+        let P : Sink → Bool → ReplyValue → Type 0 = λ x y z. OwnSaid before x k.output_ended y s.reached.slots a.bs s1 (response_sent true v (closes_now a.waits.request a.waits.handed.closes a.waits.handed.owed a.waits.given a.waits.end_reported) a.waits.request date) s.flushed s.failure z in
         answered true (inl refl) (subst (λ x. P x mid_ended reply) (sym h.1) (subst (λ y. P k.sink y reply) (sym h.2) (subst (λ z. P k.sink k.output_ended z) (sym h.3) o)))
     by-own (inr h) =
-        let own = subst (λ p. Answers k.sink mid mid_ended reply v.answer v.content p) (printed-for (closes_now a.waits.request a.waits.handed.owed a.waits.given a.waits.end_reported) a.waits.request answer_context date a.answer_context_is) h.1 in
+        let own = subst (λ p. Answers k.sink mid mid_ended reply v.answer v.content p) (printed-for (closes_now a.waits.request a.waits.handed.closes a.waits.handed.owed a.waits.given a.waits.end_reported) a.waits.request answer_context date a.answer_context_is) h.1 in
         let r = own.0 in
         ⊎_elim
         (λ x. answered true (inl refl)
-        (own-sent {T = Unit {0}} before k.sink mid k.output_ended mid_ended s.reached.slots a.bs (answered_slot a.waits.handed a.waits.request a.waits.given a.waits.end_reported v date true) (response_sent true v (closes_now a.waits.request a.waits.handed.owed a.waits.given a.waits.end_reported) a.waits.request date) s.flushed s.failure r reply st.output (longer_by true) a.turn.finished refl refl low h.0
+        (own-sent {T = Unit {0}} before k.sink mid k.output_ended mid_ended s.reached.slots a.bs (answered_slot a.waits.handed a.waits.request a.waits.given a.waits.end_reported v date true) (response_sent true v (closes_now a.waits.request a.waits.handed.closes a.waits.handed.owed a.waits.given a.waits.end_reported) a.waits.request date) s.flushed s.failure r reply st.output (longer_by true) a.turn.finished refl refl low h.0
         x own.3 own.1))
         (λ x. answered false (inr x.0)
-        (own-sent {T = Unit {0}} before k.sink mid k.output_ended mid_ended s.reached.slots a.bs (answered_slot a.waits.handed a.waits.request a.waits.given a.waits.end_reported v date false) (response_sent false v (closes_now a.waits.request a.waits.handed.owed a.waits.given a.waits.end_reported) a.waits.request date) s.flushed s.failure r reply st.output (longer_by false) a.turn.finished refl refl low h.0 x.1 own.3 own.1))
+        (own-sent {T = Unit {0}} before k.sink mid k.output_ended mid_ended s.reached.slots a.bs (answered_slot a.waits.handed a.waits.request a.waits.given a.waits.end_reported v date false) (response_sent false v (closes_now a.waits.request a.waits.handed.closes a.waits.handed.owed a.waits.given a.waits.end_reported) a.waits.request date) s.flushed s.failure r reply st.output (longer_by false) a.turn.finished refl refl low h.0 x.1 own.3 own.1))
         own.2
 
 pub responds-by : (k : Kept) (mid : Sink) (mid_ended : Bool) (reply : ReplyValue) (v : ResponseValue) (answer_context : AnswerContext) (date : HttpDate) → (k.output_ended ≡ true → (mid ≡ k.sink) × (mid_ended ≡ k.output_ended) × (reply ≡ Done))
@@ -654,3 +679,53 @@ responds-by k mid mid_ended reply v answer_context date past open_is = by k.outp
     by : (t : Bool) → k.output_ended ≡ t → RespondsBy k mid mid_ended reply v answer_context date
     by true e = let h = past e in inl (e, h.0, h.1, h.2)
     by false e = inr (e, open_is e)
+
+-- what the response gathers, by the slot that it answers
+gathers-same : (date : HttpDate) (v : ResponseValue) (r : Request) (x y : Slot) → x.item ≡ Asks r → y.item ≡ Asks r → GathersFor date v x x.item → GathersFor date v y y.item
+gathers-same date v r x y e f h =
+    let G : Slot → Item → Type 0 = λ z i. GathersFor date v z i in
+    subst (λ i. G y i) (sym f) (subst (λ i. G x i) e h)
+
+-- A number is answered, once the last number was told what the response asks: that is the step.
+pub respond-asked : (client : Feed) (before : Sink) (k final : Kept) (s : State) (date : HttpDate) (n : ℕ) (v : ResponseValue) (answer_context : AnswerContext) (reply : ReplyValue)
+    → Stands client before k s → waiting_answer_context (slice_get k.requests n) ≡ Some answer_context → refuses_at v.answer.status (slice_get k.requests n) ≡ false → n ≡ first_unfinished k.marks
+    → StepIsAnswered client before final (asked_state v.answer.closes s) date (Respond n v) reply → StepIsAnswered client before final s date (Respond n v) reply
+respond-asked client before k final s date n v answer_context reply st e good first h = (h.0, h.1, by h.2)
+  where
+    a : Answerable k s n answer_context
+    a = answerable client before k s n answer_context st e first
+
+    r : Request
+    r = a.waits.request
+
+    was : Slot
+    was = open_slot a.waits.handed r a.waits.given a.waits.end_reported
+
+    asked : State
+    asked = asked_state v.answer.closes s
+
+    l : (t : Slot) × (ds : List Slot) × (asked.reached.slots ≡ a.bs ++ (t ∷ ds)) × (t.item ≡ was.item) × (t.stage ≡ was.stage)
+    l = leads-asked v.answer.closes s a.bs was a.cs a.slots_are
+
+    at : SlotAt asked.reached.slots a.bs l.1 l.0 n
+    at = slot-at asked.reached.slots a.bs l.1 l.0 n l.2 a.slots_place
+
+    takes : refuses_response r v ≡ false
+    takes = refuses-same a.slot a.waiting a.waits v ∙ ap (refuses_at v.answer.status) (sym a.kept) ∙ good
+
+    same : (found : Bool) → at_number found date asked.reached n (Respond n v) ≡ at_number found date s.reached n (Respond n v)
+    same found =
+        at-answers found date asked.reached n v r l.0 at.get l.3 l.4 takes (at.turn ∙ a.turn.finished) ∙ ap (λ o. answers found date o r n v) (twice-asked v.answer.closes s)
+        ∙ sym (at-answers found date s.reached n v r was a.at.get refl refl takes (a.at.turn ∙ a.turn.finished))
+
+    lacks : (found : Bool) → MayLack found date asked.reached (Respond n v) → MayLack found date s.reached (Respond n v)
+    lacks true m = tt
+    lacks false m =
+        let P : Option Slot → Type 0 = λ o. GathersAt date v o in
+        subst P (sym a.at.get) (gathers-same date v r l.0 was l.3 refl (subst P at.get m))
+
+    by : StepsTo asked date (Respond n v) reply h.0 → StepsTo s date (Respond n v) reply h.0
+    by (inl x) =
+        let O : Outcome → Type 0 = λ o. HasOutcome o asked reply h.0 in
+        inl (x.0, lacks x.0 x.1, outcome-asked v.answer.closes (at_number x.0 date s.reached n (Respond n v)) s reply h.0 (subst O (same x.0) x.2))
+    by (inr x) = absurd x

@@ -94,7 +94,7 @@ becomes-lenient protocol v date s w h = record {
   upgraded = record {
     opened = record {
       request = h.request;
-      handed = record { date = h.handed.date; continued = h.handed.continued; owed = false };
+      handed = record { date = h.handed.date; continued = h.handed.continued; owed = false; closes = h.handed.closes };
       stage = begun_stage protocol v date;
       given = h.given;
       end_reported = h.end_reported;
@@ -131,7 +131,7 @@ becomes-stream protocol v date s w h standard = record {
   upgraded = record {
     opened = record {
       request = as_stream h.request;
-      handed = record { date = h.handed.date; continued = h.handed.continued; owed = false };
+      handed = record { date = h.handed.date; continued = h.handed.continued; owed = false; closes = h.handed.closes };
       stage = begun_stage protocol v date;
       given = 0;
       end_reported = false;

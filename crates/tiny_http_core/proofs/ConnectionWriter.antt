@@ -51,7 +51,7 @@ into_writer-not_taken n (Upgraded p r d w c) owed e = refl
 
 -- the slot whose raw writer was taken
 abbrev raw_slot : (s : Slot) (w : OpenRequest Body) → IsWaiting s w → Slot
-raw_slot s w h = finished_as false (open_slot h.handed h.request h.given h.end_reported) (Raw [] false)
+raw_slot s w h = finished_as h.handed.closes (open_slot h.handed h.request h.given h.end_reported) (Raw [] false)
 
 pub into_writer-done : {R : Type 0} (client : Feed) (before : Sink) (k : Kept) (s : State) (date : HttpDate) (n : ℕ) (w : OpenRequest Body) (requests : List (Option Unfinished)) (old source : SourceState R) → Stands client before k s → IsInput k old → GivesUp w.body old source → slice_get k.requests n ≡ Some (Some (still.Waiting w))
     → requests ≡ slice_set k.requests n (Some still.Raw) → StepIsAnswered client before (with_asking_ended (w.holds_next_head || (w.by_standard && (w.owes_continue || is_long (remainder w.body)))) (with_reader k requests source)) s date (IntoWriter n) Done
@@ -65,7 +65,7 @@ into_writer-done {R = R} client before k s date n w requests old source st from 
         in_turn = turn-set p.bs p.cs s0 s1 (λ q. (q.0, λ z. refl)) (λ done. done) (subst T open_is st.in_turn);
         asking_ended = both-end s.reached.asking_ended k.asking_ended (is_last_with_stream h.request h.handed.owed h.given h.end_reported) ends st.asking_ended (stream-same p.s w h);
         reader = reader-ended client (with_reader k (p.us ++ (Some still.Raw ∷ p.vs)) source) (k.asking_ended || ends) slots s.reached.rest (neither k.asking_ended ends)
-            (reader-given_up false client k old source p.bs p.cs p.us p.vs s.reached.rest p.s (Some (still.Waiting w)) (Some still.Raw) w.body (Raw [] false) (open-waiting p.s w h) refl refl from (subst P p.slots_are st.reader) p.requests_are (kept-many p.cs p.rs p.vs p.behind) gives);
+            (reader-given_up p.waiting.handed.closes client k old source p.bs p.cs p.us p.vs s.reached.rest p.s (Some (still.Waiting w)) (Some still.Raw) w.body (Raw [] false) (open-waiting p.s w h) refl refl from (subst P p.slots_are st.reader) p.requests_are (kept-many p.cs p.rs p.vs p.behind) gives);
         output = output-same before k.sink k.output_ended s.reached.slots slots s.flushed s.failure joined_same breaks_same st.output;
       },
       inl (true, tt, subst G (sym is) (ap A (sym (at.set s1)), refl, (refl, refl))),
@@ -475,7 +475,7 @@ reader-closed {R = R} client k bs cs us vs rest s still.Raw old source h e from 
 reader-closed client k bs cs us vs rest s (still.Upgraded b) old source h e from reader is same closes =
     let o = h.opened in
     let P : Slot → Type 0 = λ x. InputStands client (with_reader k (us ++ (None ∷ vs)) source) (bs ++ (x ∷ cs)) rest in
-    subst P (sym (ap closed_slot o.is)) (reader-given_up false client k old source bs cs us vs rest s (Some (still.Upgraded b)) None b (stage_closed o.stage) o refl refl from reader is same closes)
+    subst P (sym (ap closed_slot o.is)) (reader-given_up o.handed.closes client k old source bs cs us vs rest s (Some (still.Upgraded b)) None b (stage_closed o.stage) o refl refl from reader is same closes)
 
 pub finish-done : {R : Type 0} (client : Feed) (before : Sink) (k : Kept) (s : State) (date : HttpDate) (n : ℕ) (u : Unfinished) (new : Sink) (ended : Bool) (final : List Mark) (requests : List (Option Unfinished)) (old source : SourceState R) → Stands client before k s → IsInput k old → GivesUpBody (kept_body (Some u)) old source → before.failures < 2 ^ 64 - 1
     → slice_get k.requests n ≡ Some (Some u) → is_writable (Some (Some u)) ≡ true → requests ≡ slice_set k.requests n None

@@ -31,7 +31,7 @@ use Rattle.tiny_http_core.specs.Connection.{Kept, ConnectionState, kept, Stands,
 use Rattle.tiny_http_core.specs.Slots.{is_last_once_finished, turn_has_come}
 use Rattle.tiny_http_core.proofs.ConnectionDrop.{IsKeptOf, at-drop, at-unanswerable, at-refused}
 use Rattle.std.specs.Prelude.{String, string_bytes, slice_get}
-use Rattle.tiny_http_core.specs.Driving.{HasDone, TakesStep, AskEnds, StepEnds, EndsBehind, UpgradeEnds, ends_behind, IsDeclined, stated_response, stated_step, StepLeaves, AskLeaves, LetsGo, StandsAfter, ReportsFault, AnswerLeaves, UpgradeLeaves, IsDropping, RefusesHeads}
+use Rattle.tiny_http_core.specs.Driving.{HasDone, TakesStep, AskEnds, StepEnds, EndsBehind, UpgradeEnds, ends_behind, IsDeclined, stated_response, stated_step, StepLeaves, AskLeaves, LetsGo, StandsAfter, ReportsFault, AnswerLeaves, UpgradeLeaves, IsDropping, RefusesHeads, RespondEnds}
 use Rattle.tiny_http_core.proofs.ConnectionAsk.{StepIsAnswered}
 use Rattle.tiny_http_core.proofs.ConnectionReader.{holds-snoc}
 use Rattle.tiny_http_stream.proofs.SourceGoesOn.{goes-on_same, goes-on_more}
@@ -387,7 +387,7 @@ takes-read old new now n m reply answers declined ends leaves moves =
 
 pub takes-respond : {R W D : Type 0} (feed : D → Option Feed) (all : Bool) (old new : ConnectionState R W) (now : HttpDate) (n : ℕ) (r : ResponseState D) (reply : ReplyValue)
     → ((client : Feed) (before : Sink) (s : State) (value : ResponseValue) → before.failures < 2 ^ 64 - 1 → IsResponse feed r value → Stands client before (kept old) s → StepIsAnswered client before (kept new) s now (Respond n value) reply)
-    → (IsDeclined (step.Respond n (stated_response feed r)) reply → new ≡ old) → EndsBehind (kept_lacks (slice_get old.requests n)) old new reply → AnswerLeaves n r.answer.status old new reply → is_done reply ≡ all → Moves all old new → ((kind : ErrorKind) → reply ≡ Fault kind → ReportsFault old new now (step.Respond n (stated_response feed r)) kind)
+    → (IsDeclined (step.Respond n (stated_response feed r)) reply → new ≡ old) → RespondEnds n r.answer.closes old new reply → AnswerLeaves n r.answer old new reply → is_done reply ≡ all → Moves all old new → ((kind : ErrorKind) → reply ≡ Fault kind → ReportsFault old new now (step.Respond n (stated_response feed r)) kind)
     → TakesStep old new now (step.Respond n (stated_response feed r)) reply
 takes-respond feed all old new now n r reply answers declined ends leaves done moves honest =
     takes old new now (step.Respond n (stated_response feed r)) reply

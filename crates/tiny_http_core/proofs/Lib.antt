@@ -5,6 +5,7 @@ pub mod ConversationWriting
 pub mod ConnectionOutput
 pub mod ConnectionTurns
 pub mod ConnectionBody
+pub mod ConnectionClosing
 pub mod ConnectionAsk
 pub mod ConnectionAsking
 pub mod Asking

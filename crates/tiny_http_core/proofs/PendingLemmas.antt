@@ -20,7 +20,8 @@ use Rattle.tiny_http_message.specs.declared.body.Body.{Body}
 use Rattle.tiny_http_message.specs.declared.open_request.OpenRequest.{OpenRequest}
 use Rattle.tiny_http_core.specs.declared.pending.Unfinished.{Unfinished}
 use Rattle.tiny_http_core.specs.declared.pending.Unfinished.TheVariants as still
-use Rattle.tiny_http_core.specs.Pending.{left_text, with_left_finished, begins_left, SendsLeft, FinishesFront, LeavesText, WritesHeld, FinishesHeld}
+use Rattle.tiny_http_core.specs.Pending.{left_text, with_left_finished, begins_left, SendsLeft, FinishesFront, LeavesText, WritesHeld, FinishesHeld, waiting_answer_context, closing_number, last_closing}
+use Rattle.tiny_http_message.specs.OpenRequest.{closing}
 use Rattle.tiny_http_core.proofs.ConnectionKept.{get-at, set-at}
 use Rattle.tiny_http_sending.proofs.SendingLemmas.{once-append, sends-append, sends-can}
 
@@ -435,3 +436,29 @@ passes-on {W = W} here text there p = ⊎_elim ends (λ many. absurd (none many.
           ap length g.1 ∙ (length-finished p.last.turn.0 p.last.numbers.marks ∙ i.counts),
           i.once,
         )
+
+-- the last number, if it waits, is told that the connection ends
+number-alone : (u : Option Unfinished) → waiting_answer_context (Some u) ≡ None → closing_number u ≡ u
+number-alone None e = refl
+number-alone (Some (still.Waiting w)) e = cc
+number-alone (Some still.Raw) e = refl
+number-alone (Some (still.Upgraded b)) e = refl
+
+pub closing-set : (us : List (Option Unfinished)) (n : ℕ) (w : OpenRequest Body) → n + 1 ≡ length us → slice_get us n ≡ Some (Some (still.Waiting w)) → slice_set us n (Some (still.Waiting (closing w))) ≡ last_closing us
+closing-set [] n w e g = cc
+closing-set (u ∷ []) zero w e g = let is : u ≡ Some (still.Waiting w) = cc in ap (λ x. closing_number x ∷ []) (sym is)
+closing-set (u ∷ []) (suc n) w e g = cc
+closing-set (u ∷ v ∷ us) zero w e g = absurd (omega (arith, e))
+closing-set (u ∷ v ∷ us) (suc n) w e g = ap (λ l. u ∷ l) (closing-set (v ∷ us) n w (omega (arith, e)) g)
+
+pub closing-none : (us : List (Option Unfinished)) (n : ℕ) → n + 1 ≡ length us → waiting_answer_context (slice_get us n) ≡ None → last_closing us ≡ us
+closing-none [] n e g = refl
+closing-none (u ∷ []) zero e g = ap (λ x. x ∷ []) (number-alone u g)
+closing-none (u ∷ []) (suc n) e g = absurd (omega (arith, e))
+closing-none (u ∷ v ∷ us) zero e g = absurd (omega (arith, e))
+closing-none (u ∷ v ∷ us) (suc n) e g = ap (λ l. u ∷ l) (closing-none (v ∷ us) n (omega (arith, e)) g)
+
+-- none was given out
+pub closing-first : (us : List (Option Unfinished)) → length us ≡ 0 → last_closing us ≡ us
+closing-first [] e = refl
+closing-first (u ∷ us) e = absurd (omega (arith, e))

@@ -17,7 +17,7 @@ goes-on true false u v w h = ap (λ r. w ++ r) (h refl refl)
 goes-on true true u v w h = refl
 goes-on false b u v w h = refl
 
-joined-cons : (x : Slot) (ys zs : List Slot) → (is_finished x ≡ true → is_slot_broken x ≡ false → joined ys ≡ joined zs) → joined (x ∷ ys) ≡ joined (x ∷ zs)
+pub joined-cons : (x : Slot) (ys zs : List Slot) → (is_finished x ≡ true → is_slot_broken x ≡ false → joined ys ≡ joined zs) → joined (x ∷ ys) ≡ joined (x ∷ zs)
 joined-cons x ys zs h = goes-on (is_finished x) (is_slot_broken x) (joined ys) (joined zs) (segment x) h
 
 -- all before are finished, and none broke off: what is after follows

@@ -5,9 +5,9 @@ use Rattle.std.specs.List.{AllByRecursion}
 use Rattle.httpdate.specs.declared.date.HttpDate.{HttpDate}
 use Rattle.tiny_http_wire.specs.declared.device.Stop.{Stop}
 use Rattle.tiny_http_wire.specs.declared.device.Stop.TheVariants.{End}
-use Rattle.tiny_http_wire.specs.Coding.{coding_asked}
 use Rattle.tiny_http_wire.specs.Device.{Feed, Sink, IsFront, StatesKind, whole_feed}
 use Rattle.tiny_http_message.specs.OwnAnswer.{persistence_of}
+use Rattle.tiny_http_message.specs.OpenRequest.{coding_for}
 use Rattle.tiny_http_message.specs.declared.body.Body.{Body}
 use Rattle.tiny_http_wire.specs.declared.answer_context.AnswerContext.{AnswerContext}
 use Rattle.tiny_http_message.specs.declared.open_request.OpenRequest.{OpenRequest}
@@ -62,21 +62,23 @@ kept c =
 
 -- how a request is answered
 abbrev pub answer_context_of : Bool → Request → AnswerContext
-answer_context_of closes r = record { version = r.message.version; asked_coding = coding_asked r.message.headers; no_body = is_head_method r.message.method; persistence = persistence_of r.framing.by_standard closes }
+answer_context_of closes r = record { version = r.message.version; asked_coding = coding_for r.framing.by_standard r.message.headers; no_body = is_head_method r.message.method; persistence = persistence_of r.framing.by_standard closes }
 
--- when a request was handed out, when its 100 was sent, if it was, and whether a 100 is still owed
+-- when a request was handed out, when its 100 was sent, if it was, whether a 100 is still owed, and whether an answer asked that the
+-- connection ends behind it
 pub record HandedOut : Type 0 where
   pub date : HttpDate
   pub continued : Option HttpDate
   pub owed : Bool
+  pub closes : Bool
 
 -- a request that was handed out so and waits, while so many bytes of its body were given, and its end reported or not
 abbrev pub open_slot : HandedOut → Request → ℕ → Bool → Slot
-open_slot h r given end_reported = record (new_slot h.date (Asks r)) { continued = h.continued; owed = h.owed; given = given; end_reported = end_reported }
+open_slot h r given end_reported = record (new_slot h.date (Asks r)) { continued = h.continued; owed = h.owed; closes = h.closes; given = given; end_reported = end_reported }
 
 -- what becomes of it if it is dropped
 abbrev pub dropped : HandedOut → Request → ℕ → Bool → Slot
-dropped h r given end_reported = finished_as (closes_now r h.owed given end_reported) (open_slot h r given end_reported) ByServer
+dropped h r given end_reported = finished_as (closes_now r h.closes h.owed given end_reported) (open_slot h r given end_reported) ByServer
 
 -- a request that was handed out and waits
 pub record IsWaiting (s : Slot) (w : OpenRequest Body) : Type 0 where
@@ -90,6 +92,7 @@ pub record IsWaiting (s : Slot) (w : OpenRequest Body) : Type 0 where
   pub standard : w.by_standard ≡ request.framing.by_standard
   pub connect : w.is_connect ≡ is_connect_method request.message.method
   pub upgrades : (protocol : List ℕ) → (w.holds_next_head && names_protocol w.upgrades.items protocol) ≡ asks_protocol request protocol
+  pub closes : w.closes ≡ handed.closes
   pub unsent : handed.owed ≡ true → handed.continued ≡ None
   pub rest_is_last : request.framing.form ≡ Rest → request.framing.is_last ≡ true
   pub answer_context : w.answer_context ≡ answer_context_of request.framing.is_last request

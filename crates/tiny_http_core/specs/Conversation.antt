@@ -11,7 +11,7 @@ use Rattle.tiny_http_wire.specs.declared.device.Stop.TheVariants.{End}
 use Rattle.tiny_http_stream.specs.ToCome.{stopped}
 use Rattle.tiny_http_sending.specs.ResponseValue.{ResponseValue}
 use Rattle.tiny_http_wire.specs.Answer.{IsGathered}
-use Rattle.tiny_http_core.specs.Slots.{closes_now, Slot, is_finished, joined, is_output_broken, new_slot, rest_of, last_slot, last_is_open, is_last_slot, last_holds_reader, last_was_abandoned, turn_has_come, to_request}
+use Rattle.tiny_http_core.specs.Slots.{Slot, is_finished, joined, is_output_broken, new_slot, rest_of, last_slot, last_is_open, is_last_slot, last_holds_reader, last_was_abandoned, turn_has_come, to_request}
 use Rattle.tiny_http_core.specs.Steps.{StepValue, Ask, Read, Respond, ReplyValue, NoSuch, Memory, WriterUse, Unused, Unreported, Reported, use_in_turn, Outcome, Reached, outcome}
 
 -- the writer's first fault: its kind, and all that the writer took
@@ -104,7 +104,7 @@ HasOutcome o old reply new = (new.reached ≡ reached_by o) × (new.flushed ≡ 
 
 -- the response's data are read whole before its head
 abbrev pub GathersFor : HttpDate → ResponseValue → Slot → Item → Type 0
-GathersFor date response s (Asks r) = IsGathered response.answer (to_request (closes_now r s.owed s.given s.end_reported) r date)
+GathersFor date response s (Asks r) = IsGathered response.answer (to_request r.framing.is_last r date)
 GathersFor date response s (Refuses refusal manner no_body last) = ⊥
 
 abbrev pub GathersAt : HttpDate → ResponseValue → Option Slot → Type 0

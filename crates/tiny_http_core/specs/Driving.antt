@@ -1,9 +1,9 @@
 -- What the calls of a `Connection` come to.
-use Rattle.std.specs.Prelude.{◌≡◌, ◌⊎◌, ℕ, ◌+◌, Bool, true, false, List, [], ◌∷◌, ◌++◌, length, replicate, Option, Some, None, IsSome, MatchBool, slice_get, slice_set, if◌then◌else◌, string_bytes, ⊤}
+use Rattle.std.specs.Prelude.{◌≡◌, ◌⊎◌, ◌||◌, ℕ, ◌+◌, Bool, true, false, List, [], ◌∷◌, ◌++◌, length, replicate, Option, Some, None, IsSome, MatchBool, slice_get, slice_set, if◌then◌else◌, string_bytes, ⊤}
 use Rattle.std.specs.declared.io.ErrorKind.{ErrorKind}
 use Rattle.httpdate.specs.declared.date.HttpDate.{HttpDate}
 use Rattle.tiny_http_wire.specs.Device.{Feed, Sink}
-use Rattle.tiny_http_wire.specs.Answer.{ResponseState}
+use Rattle.tiny_http_wire.specs.Answer.{Answer, ResponseState}
 use Rattle.tiny_http_core.specs.declared.driver.Step.{Step}
 use Rattle.tiny_http_core.specs.declared.driver.Step.TheVariants as step
 use Rattle.tiny_http_stream.specs.Source.{SourceState, GoesOn, IsAtEnd}
@@ -22,7 +22,7 @@ use Rattle.tiny_http_core.specs.Conversation.{State, TimedValue, Run, start_stat
 use Rattle.tiny_http_wire.specs.declared.answer_context.AnswerContext.{AnswerContext}
 use Rattle.tiny_http_sending.specs.ResponseValue.{printing_in}
 use Rattle.tiny_http_sending.specs.Sending.{IsHonest, FailsOnce}
-use Rattle.tiny_http_core.specs.Pending.{waiting_answer_context, owes_continue, is_last_once_finished_at, refuses_at, refuses_upgrade_at, is_last_with_stream_at, last_holds_next_head, kept_body, GivesUpBody, with_body}
+use Rattle.tiny_http_core.specs.Pending.{waiting_answer_context, owes_continue, is_last_once_finished_at, refuses_at, refuses_upgrade_at, is_last_with_stream_at, asked_to_close, last_holds_next_head, kept_body, GivesUpBody, with_body}
 use Rattle.tiny_http_message.specs.declared.body.Body.{Body}
 use Rattle.tiny_http_message.specs.declared.open_request.OpenRequest.{OpenRequest}
 use Rattle.tiny_http_core.specs.declared.pending.Unfinished.{Unfinished}
@@ -118,12 +118,17 @@ abbrev pub UpgradeEnds : {R W : Type 0} → ℕ → ConnectionState R W → Conn
 UpgradeEnds k old new Refused = new.end ≡ ends_behind (is_last_once_finished_at (slice_get old.requests k)) old.end
 UpgradeEnds k old new reply = EndsBehind (is_last_with_stream_at (slice_get old.requests k)) old new reply
 
+-- the same of a Respond, whose answer may ask that the connection ends; one that is refused asks for nothing
+abbrev pub RespondEnds : {R W : Type 0} → ℕ → Bool → ConnectionState R W → ConnectionState R W → ReplyValue → Type 0
+RespondEnds k closes old new Refused = new.end ≡ ends_behind (is_last_once_finished_at (slice_get old.requests k)) old.end
+RespondEnds k closes old new reply = EndsBehind (closes || is_last_once_finished_at (slice_get old.requests k)) old new reply
+
 -- what a step says of the end of the requests
 abbrev pub StepEnds : {R W : Type 0} → Step (Option Feed) → ConnectionState R W → ConnectionState R W → ReplyValue → Type 0
 StepEnds step.Ask old new reply = AskEnds old new reply
 StepEnds (step.AsReader k) old new reply = new.end ≡ old.end
 StepEnds (step.Read k n) old new reply = new.end ≡ old.end
-StepEnds (step.Respond k r) old new reply = EndsBehind (is_last_once_finished_at (slice_get old.requests k)) old new reply
+StepEnds (step.Respond k r) old new reply = RespondEnds k r.answer.closes old new reply
 StepEnds (step.IntoWriter k) old new reply = EndsBehind (is_last_with_stream_at (slice_get old.requests k)) old new reply
 StepEnds (step.Write k bytes) old new reply = new.end ≡ old.end
 StepEnds (step.Flush k) old new reply = new.end ≡ old.end
@@ -139,6 +144,12 @@ GivesUpKept k old new = (u : Unfinished) → slice_get old.requests k ≡ Some (
 abbrev pub LetsGo : {R W : Type 0} → ℕ → ConnectionState R W → ConnectionState R W → Type 0
 LetsGo k old new =
     (new.requests ≡ slice_set old.requests k None) × GivesUpKept k old new
+
+-- nothing is kept of this number any more, and its body was given up; the last number was told that the connection ends, if it waits
+-- and the answer asked for that
+abbrev pub LetsGoAnswered : {R W : Type 0} → ℕ → Bool → ConnectionState R W → ConnectionState R W → Type 0
+LetsGoAnswered k closes old new =
+    (new.requests ≡ slice_set (asked_to_close closes old.requests) k None) × GivesUpKept k old new
 
 -- where a source stands after the head of a request that is framed so, and its body read so far
 abbrev pub after_head : Framing → Body → Standing
@@ -179,10 +190,10 @@ SendsContinue k old new _ = ⊥
 abbrev pub LeavesAllButOutlet : {R W : Type 0} → ConnectionState R W → ConnectionState R W → Type 0
 LeavesAllButOutlet old new = (new.requests ≡ old.requests) × (new.marks ≡ old.marks) × (new.source ≡ old.source)
 
--- what an answer with this code leaves, by the reply: the request was answered; or the answer was refused, and the request dropped
-abbrev pub AnswerLeaves : {R W : Type 0} → ℕ → ℕ → ConnectionState R W → ConnectionState R W → ReplyValue → Type 0
-AnswerLeaves k code old new Refused = LetsGo k old new × (refuses_at code (slice_get old.requests k) ≡ true)
-AnswerLeaves k code old new reply = IsAnswered reply → LetsGo k old new × (refuses_at code (slice_get old.requests k) ≡ false)
+-- what this answer leaves, by the reply: the request was answered; or the answer was refused, and the request dropped
+abbrev pub AnswerLeaves : {R W : Type 0} → ℕ → Answer → ConnectionState R W → ConnectionState R W → ReplyValue → Type 0
+AnswerLeaves k a old new Refused = LetsGo k old new × (refuses_at a.status (slice_get old.requests k) ≡ true)
+AnswerLeaves k a old new reply = IsAnswered reply → LetsGoAnswered k a.closes old new × (refuses_at a.status (slice_get old.requests k) ≡ false)
 
 -- What an Upgrade to this protocol with this code leaves, by the reply: the request was upgraded, and its body is kept, or by the
 -- standard all that comes is read; or the upgrade was refused, and the request dropped.
@@ -207,7 +218,7 @@ StepLeaves (step.Read k n) old new reply =
     × (((new.requests ≡ old.requests) × (new.source ≡ old.source))
     ⊎ ((u : Unfinished) × (was : Body) × (body : Body) × (slice_get old.requests k ≡ Some (Some u)) × (kept_body (Some u) ≡ Some was)
     × (new.requests ≡ slice_set old.requests k (Some (with_body body u))) × StandsAfter was body old.source new.source))
-StepLeaves (step.Respond k r) old new reply = AnswerLeaves k r.answer.status old new reply
+StepLeaves (step.Respond k r) old new reply = AnswerLeaves k r.answer old new reply
 StepLeaves (step.IntoWriter k) old new reply =
     (new.outlet ≡ old.outlet) × (new.marks ≡ old.marks) × (IsAnswered reply → (new.requests ≡ slice_set old.requests k (Some still.Raw)) × GivesUpKept k old new)
 StepLeaves (step.Write k bytes) old new reply = LeavesAllButOutlet old new
@@ -237,7 +248,7 @@ ReportsFault old new now (step.Flush k) kind = IsOfWriter (output_of old.outlet)
 ReportsFault old new now (step.Upgrade k p r) kind = ⊥
 ReportsFault old new now (step.Finish k) kind = ⊥
 ReportsFault old new now (step.Respond k r) kind =
-    (context : AnswerContext) × (waiting_answer_context (slice_get old.requests k) ≡ Some context)
+    (context : AnswerContext) × (waiting_answer_context (slice_get (asked_to_close r.answer.closes old.requests) k) ≡ Some context)
     × IsHonest (output_of old.outlet) (output_of new.outlet) r.answer r.data_reader (printing_in context now) kind
 
 -- One step on a date: what was done is done with this step and its reply after it, and the profile is kept. And whatever reader,

@@ -1,5 +1,5 @@
 -- Numbers whose turn comes, and what is sent as it does.
-use Rattle.std.specs.Prelude.{◌≡◌, ◌==◌, ◌<◌, ◌^◌, ◌+◌, ℕ, Bool, true, false, not, ◌||◌, List, [], ◌∷◌, ◌++◌, length, Option, Some, None, MatchBool, is_err, slice_get}
+use Rattle.std.specs.Prelude.{◌≡◌, ◌==◌, ◌<◌, ◌^◌, ◌+◌, ℕ, Bool, true, false, not, ◌||◌, List, [], ◌∷◌, ◌++◌, length, Option, Some, None, MatchBool, is_err, slice_get, if◌then◌else◌}
 use Rattle.tiny_http_wire.specs.Device.{Sink}
 use Rattle.tiny_http_wire.specs.declared.answer_context.AnswerContext.{AnswerContext}
 use Rattle.std.specs.Global.{Vec}
@@ -10,7 +10,7 @@ use Rattle.tiny_http_core.specs.declared.pending.Unfinished.TheVariants as still
 use Rattle.tiny_http_message.specs.declared.body.Body.{Body}
 use Rattle.tiny_http_message.specs.declared.open_request.OpenRequest.{OpenRequest}
 use Rattle.tiny_http_message.specs.Body.{is_streaming, is_whole, remainder, GivesUp}
-use Rattle.tiny_http_message.specs.OpenRequest.{is_last_once_finished, final_context, refuses_code, request_check}
+use Rattle.tiny_http_message.specs.OpenRequest.{closing, is_last_once_finished, final_context, refuses_code, request_check}
 use Rattle.tiny_http_stream.specs.Source.{SourceState}
 use Rattle.tiny_http_stream.specs.Outlet.{OutletState, output_of, outlet_ended, outlet_held, SentOn}
 use Rattle.tiny_http_sending.specs.Sending.{CanSend, SendsUnlessEnded, SendsQuietlyOn, IsFlushed, FailsOnce}
@@ -129,6 +129,23 @@ refuses_upgrade_at protocol code None = false
 -- no head is read behind it once it gets the connection's stream
 abbrev pub is_last_with_stream_at : Option (Option Unfinished) → Bool
 is_last_with_stream_at o = holds_next_head_at o || is_last_once_finished_at o
+
+-- the answer of this number says that the connection ends, if it waits for it
+abbrev pub closing_number : Option Unfinished → Option Unfinished
+closing_number (Some (still.Waiting w)) = Some (still.Waiting (closing w))
+closing_number (Some still.Raw) = Some still.Raw
+closing_number (Some (still.Upgraded b)) = Some (still.Upgraded b)
+closing_number None = None
+
+-- the same of the last of these
+abbrev pub last_closing : List (Option Unfinished) → List (Option Unfinished)
+last_closing [] = []
+last_closing (u ∷ []) = closing_number u ∷ []
+last_closing (u ∷ v ∷ us) = u ∷ last_closing (v ∷ us)
+
+-- the same if an answer asks for it
+abbrev pub asked_to_close : Bool → List (Option Unfinished) → List (Option Unfinished)
+asked_to_close closes requests = if closes then last_closing requests else requests
 
 -- the next head isn't read before the last of these is answered
 abbrev pub last_holds_next_head : List (Option Unfinished) → Bool

@@ -3,7 +3,6 @@ use Rattle.std.specs.Prelude.{ℕ, ◌-◌, nat_lt, Bool, true, false, not, ◌&
 use Rattle.std.specs.List.{list_all, last_or}
 use Rattle.std.specs.declared.io.ErrorKind.TheVariants.{OutOfMemory}
 use Rattle.httpdate.specs.declared.date.HttpDate.{HttpDate}
-use Rattle.tiny_http_wire.specs.Coding.{coding_asked}
 use Rattle.tiny_http_wire.specs.Device.{Feed, whole_feed}
 use Rattle.tiny_http_wire.specs.declared.device.Stop.{Stop}
 use Rattle.tiny_http_wire.specs.declared.device.Stop.TheVariants.{End, Fault}
@@ -12,7 +11,7 @@ use Rattle.tiny_http_encoding.specs.Text.{Text, Ending, Whole, Broken, prepend_t
 use Rattle.tiny_http_message.specs.declared.framing.Form.{Form}
 use Rattle.tiny_http_message.specs.declared.framing.Form.TheVariants.{Rest, Nothing, WithHead, Counted, Chunked}
 use Rattle.tiny_http_message.specs.Pipeline.{Item, Asks, Refuses, Request, is_head_method, is_connect_method, body_length_or_0}
-use Rattle.tiny_http_message.specs.OpenRequest.{refuses_code, upgrade_check}
+use Rattle.tiny_http_message.specs.OpenRequest.{coding_for, refuses_code, upgrade_check}
 use Rattle.tiny_http_standard.specs.Judging.{names_protocol}
 use Rattle.tiny_http_sending.specs.ResponseValue.{ResponseValue, response_of, response_text, upgrade_text, printing_to}
 use Rattle.tiny_http_message.specs.OwnAnswer.{own_printing, persistence_of, refusal_response}
@@ -36,8 +35,8 @@ pub data Stage : Type 0 where
 
 -- A number that was reached: its item, the date of its Ask, the date of its 100 if that was sent, whether a 100 is still
 -- owed, how many bytes of its body were given out, whether the body's end or fault was reported, whether the body was given
--- up, what was decided as it was finished (whether, by the standard, its answer says that the connection ends), and
--- what became of it.
+-- up, whether, by the standard, its answer says that the connection ends (where an answer asked for that; and then as was decided
+-- as it was finished), and what became of it.
 pub record Slot : Type 0 where
   pub item : Item
   pub date : HttpDate
@@ -59,7 +58,7 @@ continue_response = response_of 100 [] []
 
 -- an answer to a request: in its version, by its headers, without a body for HEAD; by the standard it says whether the connection ends
 abbrev pub to_request : Bool → Request → HttpDate → Printing
-to_request closes r date = printing_to (coding_asked r.message.headers) r.message.version (is_head_method r.message.method) (persistence_of r.framing.by_standard closes) date
+to_request closes r date = printing_to (coding_for r.framing.by_standard r.message.headers) r.message.version (is_head_method r.message.method) (persistence_of r.framing.by_standard closes) date
 
 -- how an answer under an item is printed
 abbrev pub printing_for : Bool → Item → HttpDate → Printing
@@ -192,10 +191,20 @@ remainder_of r given end_reported =
 abbrev pub is_last_once_finished : Request → Bool → ℕ → Bool → Bool
 is_last_once_finished r owed given end_reported = r.framing.by_standard && (owed || is_long (remainder_of r given end_reported))
 
--- By the standard the answer of a request that is finished now says that the connection ends: its head ended it, its 100 is owed, or more
--- is left of its body than is skipped.
-abbrev pub closes_now : Request → Bool → ℕ → Bool → Bool
-closes_now r owed given end_reported = r.framing.is_last || (owed || not (is_skipped (remainder_of r given end_reported)))
+-- By the standard the answer of a request that is finished now says that the connection ends: its head ended it, an answer asked for that,
+-- its 100 is owed, or what is left of its body isn't skipped: it is long, or its end isn't known.
+abbrev pub closes_now : Request → Bool → Bool → ℕ → Bool → Bool
+closes_now r closes owed given end_reported = r.framing.is_last || (closes || (owed || not (is_skipped (remainder_of r given end_reported))))
+
+-- the number's answer says that the connection ends, if it isn't made yet
+abbrev pub closing : Slot → Slot
+closing s = if is_unanswered s.stage then record s { closes = true } else s
+
+-- the same of the last of these
+abbrev pub last_closing : List Slot → List Slot
+last_closing [] = []
+last_closing (s ∷ []) = closing s ∷ []
+last_closing (s ∷ t ∷ slots) = s ∷ last_closing (t ∷ slots)
 
 -- the request isn't answered by this response
 abbrev pub refuses_response : Request → ResponseValue → Bool

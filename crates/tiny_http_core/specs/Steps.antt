@@ -10,7 +10,7 @@ use Rattle.tiny_http_message.specs.declared.framing.Framing.{Framing}
 use Rattle.tiny_http_message.specs.Pipeline.{Item, Asks, Refuses, Request}
 use Rattle.tiny_http_sending.specs.ResponseValue.{ResponseValue}
 use Rattle.tiny_http_sending.specs.Sending.{is_closed_client}
-use Rattle.tiny_http_core.specs.Slots.{Slot, Stage, Unanswered, Answered, ByServer, Raw, Upgraded, turn_has_come, to_request, text_if, new_slot, rest_of, last_slot, holds_next_head, is_last_once_finished, closes_now, refuses_response, refuses_upgrade, upgraded_slot, last_holds_reader, last_was_abandoned}
+use Rattle.tiny_http_core.specs.Slots.{Slot, Stage, Unanswered, Answered, ByServer, Raw, Upgraded, turn_has_come, to_request, text_if, new_slot, rest_of, last_slot, last_closing, holds_next_head, is_last_once_finished, closes_now, refuses_response, refuses_upgrade, upgraded_slot, last_holds_reader, last_was_abandoned}
 
 -- a step, with its response as a value
 pub data StepValue : Type 0 where
@@ -158,6 +158,23 @@ ends_asking ends o = record o { asking_ended = o.asking_ended || ends }
 abbrev pub is_last_with_stream : Request → Bool → ℕ → Bool → Bool
 is_last_with_stream r owed given end_reported = holds_next_head r || is_last_once_finished r owed given end_reported
 
+-- An answer asks that the connection ends: no further head is read, and the last number that was reached says so in its answer, if that
+-- isn't made yet.
+abbrev pub asked_to_close : Bool → Reached → Reached
+asked_to_close closes old = if closes then record old { slots = last_closing old.slots; asking_ended = true } else old
+
+-- this slot of a request is answered by the response
+abbrev pub answers_slot : Bool → HttpDate → Reached → Request → ℕ → ResponseValue → Option Slot → Outcome
+answers_slot found date old r k response None = unchanged old NoSuch
+answers_slot found date old r k response (Some s) =
+    let closes = closes_now r s.closes s.owed s.given s.end_reported in
+    let text = text_if found response (to_request closes r date) in
+    ends_asking (is_last_once_finished r s.owed s.given s.end_reported) (changes old k (finished_as closes s (Answered response date found)) Done (Reported text.bytes (fault_in text.ending) true fault_reply))
+
+-- the number of a request is answered by the response
+abbrev pub answers : Bool → HttpDate → Reached → Request → ℕ → ResponseValue → Outcome
+answers found date old r k response = answers_slot found date old r k response (slice_get old.slots k)
+
 -- a step that the number of a request takes, in its time
 abbrev pub effect : Bool → HttpDate → Reached → Request → Slot → Bool → StepValue → Outcome
 effect found date old r s turn (AsReader k) =
@@ -167,19 +184,18 @@ effect found date old r s turn (Read k n) =
     else changes old k (record s { given = s.given + length (take n (rest_of r s.given).bytes); end_reported = s.end_reported || nat_lt (length (rest_of r s.given).bytes) n })
     (read_reply n (rest_of r s.given).bytes r.body.stop) Unused
 effect found date old r s turn (Respond k response) =
-    let closes = closes_now r s.owed s.given s.end_reported in
-    let text = text_if found response (to_request closes r date) in
-    if refuses_response r response then ends_asking (is_last_once_finished r s.owed s.given s.end_reported) (changes old k (finished_as closes s ByServer) Refused (use_in_turn turn)) else
-    ends_asking (is_last_once_finished r s.owed s.given s.end_reported) (changes old k (finished_as closes s (Answered response date found)) Done (Reported text.bytes (fault_in text.ending) true fault_reply))
+    if refuses_response r response
+    then ends_asking (is_last_once_finished r s.owed s.given s.end_reported) (changes old k (finished_as (closes_now r s.closes s.owed s.given s.end_reported) s ByServer) Refused (use_in_turn turn))
+    else answers found date (asked_to_close response.answer.closes old) r k response
 effect found date old r s turn (IntoWriter k) = ends_asking (is_last_with_stream r s.owed s.given s.end_reported) (changes old k (record s { stage = Raw [] false; given_up = true; owed = false }) Done Unused)
 effect found date old r s turn (Write k bytes) = changes old k (record s { stage = written_to bytes s.stage }) Done (Reported bytes None false Fault)
 effect found date old r s turn (Flush k) = changes old k s Done (Reported [] None true Fault)
 effect found date old r s turn (Upgrade k protocol response) =
     if refuses_upgrade r s protocol response
-    then ends_asking (is_last_once_finished r s.owed s.given s.end_reported) (changes old k (finished_as (closes_now r s.owed s.given s.end_reported) s ByServer) Refused (use_in_turn turn))
+    then ends_asking (is_last_once_finished r s.owed s.given s.end_reported) (changes old k (finished_as (closes_now r s.closes s.owed s.given s.end_reported) s ByServer) Refused (use_in_turn turn))
     else ends_asking (is_last_with_stream r s.owed s.given s.end_reported) (changes old k (upgraded_slot r s (Upgraded protocol response date [] false)) Done Unreported)
 effect found date old r s turn (Finish k) = changes old k (finished_as s.closes s (stage_closed s.stage)) Done (use_in_turn turn)
-effect found date old r s turn (Drop k) = ends_asking (is_last_once_finished r s.owed s.given s.end_reported) (changes old k (finished_as (closes_now r s.owed s.given s.end_reported) s ByServer) Done (use_in_turn turn))
+effect found date old r s turn (Drop k) = ends_asking (is_last_once_finished r s.owed s.given s.end_reported) (changes old k (finished_as (closes_now r s.closes s.owed s.given s.end_reported) s ByServer) Done (use_in_turn turn))
 effect found date old r s turn Ask = unchanged old NoSuch
 
 abbrev pub at_item : Bool → HttpDate → Reached → ℕ → StepValue → Slot → Item → Outcome

@@ -388,6 +388,10 @@ impl<R: ReadDevice, W: WriteDevice> Connection<R, W> {
     /// below 200 or above 999, or a 2xx to `CONNECT`: then the request is dropped. The answer says there
     /// `Connection: close` where the request is the last by its head, its 100 is owed, more than 65,536 bytes of its counted body
     /// weren't given out, or the end of its body isn't known. What a later `ask` meets doesn't change it.
+    ///
+    /// Where the response was made by `with_close`, no further head is read: a later `ask` is `Ended`. Under `Standard` the answer to
+    /// the last number says `Connection: close`: this answer, or that of a later request or refused head. A later request says
+    /// nothing of it that was dropped before, is upgraded or gives its raw writer.
     pub fn respond<D: ReadDevice + Drop>(
         &mut self,
         alloc: Global,
@@ -407,11 +411,14 @@ impl<R: ReadDevice, W: WriteDevice> Connection<R, W> {
         if !self.pending.hold(number) {
             return Reply::NotYet;
         }
+        let closes = response.closes();
+        self.pending.close_last(closes);
         let Some(mut request) = self.pending.take(number, None) else {
             unreachable!()
         };
         let left = request.body.remainder();
-        self.end = ends_behind(request.is_last_once_finished(left), self.end);
+        let end = ends_behind(request.is_last_once_finished(left), self.end);
+        self.end = ends_behind(closes, end);
         let reply = answer(alloc, &mut request, &mut self.outlet, response, left, now);
         self.pending.pass(&mut self.outlet, number);
         request.give_up(&mut self.source);

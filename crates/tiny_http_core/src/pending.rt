@@ -13,7 +13,7 @@ ghost use Rattle.tiny_http_message.specs.declared.body.Body.{Body};
 ghost use Rattle.tiny_http_message.specs.declared.open_request.OpenRequest.{OpenRequest};
 ghost use Rattle.tiny_http_stream.specs.Source.{GoesOn};
 ghost use Rattle.tiny_http_message.specs.Body.{is_streaming, stream_body, body_standing, FillsFromBody};
-ghost use Rattle.tiny_http_core.specs.Pending.{WaitsAt, left_text, SendsLeft, FinishesFront, LeavesText, waiting_answer_context, is_readable, is_writable, owes_continue, holds_next_head_at, refuses_at, refuses_upgrade_at, is_last_with_stream_at, last_holds_next_head, kept_body, GivesUpBody, with_body};
+ghost use Rattle.tiny_http_core.specs.Pending.{WaitsAt, left_text, SendsLeft, FinishesFront, LeavesText, waiting_answer_context, is_readable, is_writable, owes_continue, holds_next_head_at, refuses_at, refuses_upgrade_at, is_last_with_stream_at, asked_to_close, last_holds_next_head, kept_body, GivesUpBody, with_body};
 
 use httpdate::HttpDate;
 use std::alloc::{AllocError, Global};
@@ -170,6 +170,27 @@ impl Pending {
         match self.requests.len().checked_sub(1) {
             Some(number) => self.holds_next_head(number),
             None => false,
+        }
+    }
+
+    /// Has the answer to the last number say, by the standard, that the connection ends behind it, if the number waits for it and
+    /// an answer asks for that.
+    pub fn close_last(&mut self, closes: bool)
+        ensures turns { self.new.turns ≡ self.old.turns }
+        ensures requests { self.new.requests ≡ asked_to_close closes self.old.requests }
+    {
+        if !closes {
+            return;
+        }
+        let Some(last) = self.requests.len().checked_sub(1) else {
+            return;
+        };
+        if let Some(mut request) = self.take(last, Some(Unfinished::Raw)) {
+            request.close();
+            drop(
+                self.requests
+                    .replace(last, Some(Unfinished::Waiting(request))),
+            );
         }
     }
 

@@ -1,10 +1,14 @@
 -- What a contract sees of an `OpenRequest`.
-use Rattle.std.specs.Prelude.{◌≡◌, ◌&&◌, ◌||◌, ◌==◌, ℕ, Bool, true, false, not, nat_lt, List, [], Some, Result, Ok, Err, ⊤, if◌then◌else◌}
+use Rattle.std.specs.Prelude.{◌≡◌, ◌&&◌, ◌||◌, ◌==◌, ℕ, Bool, true, false, not, nat_lt, List, [], Option, Some, None, Result, Ok, Err, ⊤, if◌then◌else◌}
 use Rattle.std.specs.List.{list_all}
 use Rattle.httpdate.specs.declared.date.HttpDate.{HttpDate}
 use Rattle.tiny_http_wire.specs.declared.device.Stop.TheVariants.{End}
 use Rattle.tiny_http_wire.specs.Bytes.{is_ascii}
 use Rattle.tiny_http_wire.specs.Coding.{coding_asked}
+use Rattle.tiny_http_wire.specs.declared.coding.Coding.{Coding}
+use Rattle.tiny_http_wire.specs.declared.coding.Coding.TheVariants.{Chunked}
+use Rattle.tiny_http_wire.specs.declared.common.Header.{Header}
+use Rattle.tiny_http_standard.specs.Te.{asks_chunked}
 use Rattle.tiny_http_standard.specs.Judging.{names_protocol}
 use Rattle.tiny_http_stream.specs.Outlet.{OutletState, output_of, outlet_held, SentOn}
 use Rattle.tiny_http_sending.specs.Sending.{IsFlushed}
@@ -20,6 +24,10 @@ use Rattle.tiny_http_message.specs.declared.upgrading.UpgradeError.{UpgradeError
 use Rattle.tiny_http_message.specs.declared.upgrading.UpgradeError.TheVariants.{Protocol, NotAsked, Status, UnfinishedBody}
 use Rattle.tiny_http_message.specs.OwnAnswer.{persistence_of}
 use Rattle.tiny_http_message.specs.Pipeline.{is_head_method, is_connect_method}
+
+-- the coding that the headers of a request ask for: by the standard, chunks or none
+abbrev pub coding_for : Bool → List Header → Option Coding
+coding_for by_standard headers = if by_standard then (if asks_chunked headers then Some Chunked else None) else coding_asked headers
 
 -- a final answer has a code of three digits, and no 1xx (RFC 9110, section 15)
 abbrev pub is_final : ℕ → Bool
@@ -37,10 +45,10 @@ is_last_once_finished w left = w.by_standard && (w.owes_continue || is_long left
 abbrev pub is_last_with_stream : {B : Type 0} → OpenRequest B → Remainder → Bool
 is_last_with_stream w left = w.holds_next_head || is_last_once_finished w left
 
--- How it is answered now. By the standard the answer says that the connection ends where the request is the last by its head, its 100 is
--- owed, or more is left of its body than is skipped.
+-- How it is answered now. By the standard the answer says that the connection ends where the request is the last by its head, an answer
+-- asked for that, its 100 is owed, or what is left of its body isn't skipped: it is long, or its end isn't known.
 abbrev pub final_context : {B : Type 0} → OpenRequest B → Remainder → AnswerContext
-final_context w left = if w.by_standard && (w.owes_continue || not (is_skipped left)) then record w.answer_context { persistence = Some Close } else w.answer_context
+final_context w left = if w.by_standard && (w.closes || (w.owes_continue || not (is_skipped left))) then record w.answer_context { persistence = Some Close } else w.answer_context
 
 -- A connection can be upgraded to this protocol by an answer with this code, or why not. By the standard the request has to ask for
 -- it, and its body has to be whole (RFC 9110, section 7.8).
@@ -55,6 +63,10 @@ upgrade_check by_standard is_asked protocol code is_whole =
 -- the same of a request that waits, by how far its body was read
 abbrev pub request_check : {B : Type 0} → OpenRequest B → List ℕ → ℕ → Bool → Result ⊤ UpgradeError
 request_check w protocol code is_whole = upgrade_check w.by_standard (w.holds_next_head && names_protocol w.upgrades.items protocol) protocol code is_whole
+
+-- the same request, behind which the connection ends
+abbrev pub closing : {B : Type 0} → OpenRequest B → OpenRequest B
+closing w = record w { closes = true }
 
 -- nothing has changed but that no 100 is owed any more
 abbrev pub OwesNoContinue : {B : Type 0} → OpenRequest B → OpenRequest B → Type 0
@@ -79,13 +91,14 @@ HasSentAll o = (outlet_held o ≡ []) × SentOn o × IsFlushed (output_of o)
 -- this is kept of a request with this head that was handed out on this date
 pub record KeepsHead {B : Type 0} (w : OpenRequest B) (h : Head) (date : HttpDate) : Type 0 where
   pub version : w.answer_context.version ≡ h.version
-  pub asked_coding : w.answer_context.asked_coding ≡ coding_asked h.headers.items
+  pub asked_coding : w.answer_context.asked_coding ≡ coding_for h.by_standard h.headers.items
   pub no_body : w.answer_context.no_body ≡ is_head_method h.method
   pub persistence : w.answer_context.persistence ≡ persistence_of h.by_standard h.is_last
   pub owes_continue : w.owes_continue ≡ h.owes_continue
   pub holds_next_head : w.holds_next_head ≡ (h.asks_upgrade && not h.is_last)
   pub by_standard : w.by_standard ≡ h.by_standard
   pub is_connect : w.is_connect ≡ is_connect_method h.method
+  pub closes : w.closes ≡ false
   -- the protocols that it asks for, unless it is its connection's last
   pub upgrades : (protocol : List ℕ) → (w.holds_next_head && names_protocol w.upgrades.items protocol) ≡ (w.holds_next_head && names_protocol h.headers.items protocol)
   pub no_upgrades : w.holds_next_head ≡ false → w.upgrades.items ≡ []

@@ -71,7 +71,8 @@ pub struct Exchange {
 pub enum EndOfRequests {
     /// The last request was read: its version or its `Connection` header ends the connection after it. Under `Standard` its
     /// method `CONNECT` does, too, as does whatever finished it while its 100 was owed or more than 65,536 bytes of its counted
-    /// body weren't given out, and, if it asked for an upgrade, its raw writer or its upgrade.
+    /// body weren't given out, and, if it asked for an upgrade, its raw writer or its upgrade. Under each profile an answer by
+    /// `Response::with_close` does.
     LastRequest,
     /// The client's bytes ended, and no byte of a further head had come. So it is too where they ended within a body of a known
     /// length (under `Standard` that is `BrokenBody`, once it was read up to there), or, by an end or a fault, within what was left
@@ -144,8 +145,9 @@ impl Exchange {
     /// answers each request once, in the order of the requests, and gives the body up. Under `Standard` the answer
     /// says that the connection ends where the request is the last by its head, its 100 is owed, more than 65,536 bytes of its body
     /// are unread, or the end of its body isn't known. Then the caller reads no further head. A body that was given up before this
-    /// call counts as read. On an outlet that has ended nothing is sent, the data aren't read, and the result is `Ok`. The first fault is the error: the data's, or the writer's. Where both fail, either
-    /// may be reported. Then the outlet has ended, and what was held before a fault of the data is sent.
+    /// call counts as read. What `Response::with_close` asks is passed over. On an outlet that has ended nothing is sent, the data
+    /// aren't read, and the result is `Ok`. The first fault is the error: the data's, or the writer's. Where both fail, either may
+    /// be reported. Then the outlet has ended, and what was held before a fault of the data is sent.
     pub fn respond_on<W: WriteDevice, D: ReadDevice + Drop>(
         &mut self,
         alloc: Global,

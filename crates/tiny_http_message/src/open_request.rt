@@ -10,7 +10,7 @@ ghost use Rattle.tiny_http_sending.specs.ResponseValue.{printing_in, upgrade_tex
 ghost use Rattle.tiny_http_sending.specs.Sending.{FailsOnce, SendsQuietlyOn, SendsAnswer};
 ghost use Rattle.tiny_http_message.specs.TextState.{drop_text};
 ghost use Rattle.tiny_http_message.specs.OwnAnswer.{own_text_by};
-ghost use Rattle.tiny_http_message.specs.OpenRequest.{KeepsHead, OwesNoContinue, HasNoDropText, HasNoBodyLeft, HasSentAll, final_context, is_last_once_finished, is_last_with_stream, refuses_code, request_check};
+ghost use Rattle.tiny_http_message.specs.OpenRequest.{coding_for, KeepsHead, closing, OwesNoContinue, HasNoDropText, HasNoBodyLeft, HasSentAll, final_context, is_last_once_finished, is_last_with_stream, refuses_code, request_check};
 ghost use Rattle.tiny_http_message.specs.Pipeline.{is_head_method};
 ghost use Rattle.tiny_http_message.specs.Body.{ReadsBody, GivesUp};
 
@@ -22,11 +22,11 @@ use httpdate::HttpDate;
 use std::alloc::{AllocError, Global};
 use std::io;
 use tiny_http_sending::sending::send_unless_ended;
-use tiny_http_standard::judging::names_protocol;
+use tiny_http_standard::judging::{asks_chunked, names_protocol};
 use tiny_http_stream::outlet::Outlet;
 use tiny_http_stream::source::Source;
 use tiny_http_wire::answer_context::{AnswerContext, Persistence};
-use tiny_http_wire::coding::asked_coding;
+use tiny_http_wire::coding::{Coding, asked_coding};
 use tiny_http_wire::common::{Header, Method, StatusCode};
 use tiny_http_wire::device::{ReadDevice, WriteDevice};
 use tiny_http_wire::response::Response;
@@ -45,6 +45,8 @@ pub struct OpenRequest<B> {
     pub by_standard: bool,
     /// Whether its method is `CONNECT`.
     pub is_connect: bool,
+    /// Whether an answer asked that the connection ends behind this request.
+    pub closes: bool,
     /// The `Upgrade` headers of a request that holds the next head.
     pub upgrades: Vec<Header>,
     /// What is sent if the request is dropped.
@@ -66,7 +68,7 @@ impl<B: Drop> OpenRequest<B> {
     {
         let answer_context = AnswerContext {
             version: head.version,
-            asked_coding: asked_coding(head.headers.as_slice()),
+            asked_coding: coding_for(head.by_standard, head.headers.as_slice()),
             no_body: is_head(&head.method),
             persistence: persistence_of(head.by_standard, head.is_last),
         };
@@ -83,10 +85,19 @@ impl<B: Drop> OpenRequest<B> {
             holds_next_head,
             by_standard: head.by_standard,
             is_connect: matches!(head.method, Method::Connect),
+            closes: false,
             upgrades,
             dropped,
             body,
         })
+    }
+
+    /// Has the answer to this request say, by the standard, that the connection ends behind it (RFC 9112, section 9.6). The
+    /// caller reads no further head.
+    pub fn close(&mut self)
+        ensures { self.new ≡ closing self.old }
+    {
+        self.closes = true;
     }
 
     /// Whether no head is read behind this request if it is answered now or dropped, or its raw writer taken, where this is left of
@@ -107,12 +118,14 @@ impl<B: Drop> OpenRequest<B> {
     }
 
     // How it is answered now, where this is left of its body: by the standard the answer says that the connection ends where the
-    // request is the last by its head, its 100 is owed, or more is left than is skipped (RFC 9112, section 9.6).
+    // request is the last by its head, `close` was called, its 100 is owed, or what is left isn't skipped: it is long, or its end
+    // isn't known (RFC 9112, section 9.6).
     fn final_context(&self, left: Remainder) -> AnswerContext
         ensures { result ≡ final_context self.now left }
     {
         let mut context = self.answer_context;
-        if self.by_standard && (self.owes_continue || left != Remainder::Skipped) {
+        let closes = self.closes || self.owes_continue || left != Remainder::Skipped;
+        if self.by_standard && closes {
             context.persistence = Some(Persistence::Close);
         }
         context
@@ -145,8 +158,8 @@ impl<B: Drop> OpenRequest<B> {
     }
 
     /// Sends the answer to this request, of whose body this is left, printed for it and dated `now`, and flushes it. By the standard
-    /// it says that the connection ends where the request is the last by its head, its 100 is owed, or more is left than is skipped
-    /// (RFC 9112, section 9.6). No 100 is owed any more. The caller
+    /// it says that the connection ends where the request is the last by its head, `close` was called, its 100 is owed, or what is
+    /// left isn't skipped (RFC 9112, section 9.6). What the response itself asks of the connection is the caller's. No 100 is owed any more. The caller
     /// does so in the turn of the request, and then gives the body up. On an outlet that has ended nothing is sent, the data
     /// aren't read, and the result is `Ok`. The first fault is the error: the data's, or the writer's. Where both fail, either
     /// may be reported. Then the outlet has ended, and what was held before a fault of the data is sent.
@@ -263,6 +276,20 @@ impl OpenRequest<Body> {
         self.owes_continue = false;
         self.holds_next_head = false;
         self.body.give_up(source);
+    }
+}
+
+// The coding that the headers of a request ask for: by the standard, chunks or none (RFC 9110, section 10.1.4).
+fn coding_for(by_standard: bool, headers: &[Header]) -> Option<Coding>
+    ensures { result ≡ coding_for by_standard headers.now }
+{
+    if !by_standard {
+        return asked_coding(headers);
+    }
+    if asks_chunked(headers) {
+        Some(Coding::Chunked)
+    } else {
+        None
     }
 }
 

@@ -18,9 +18,11 @@ use tiny_http_socket::refined_tcp_stream::RefinedTcpStream;
 use tiny_http_stream::outlet::Outlet;
 use tiny_http_stream::source::Source;
 use tiny_http_threads::sequential::{
-    SequentialReader, SequentialReaderBuilder, SequentialWriterBuilder,
+    SequentialReader, SequentialReaderBuilder, SequentialWriter, SequentialWriterBuilder,
 };
-use tiny_http_threads::turn::{hold_reader, hold_writer, is_next_writer, leave_writer};
+use tiny_http_threads::turn::{
+    hold_reader, hold_writer, is_closed, is_next_writer, leave_writer, next_writer,
+};
 
 /// A connection, whose requests are handed out one after another. Any thread may hold one, also while the next is read.
 #[derive(Drop)]
@@ -161,10 +163,12 @@ impl<R: ReadDevice + Drop, W: WriteDevice + Drop, Rt: Wait + Copy> ClientConnect
     /// `Standard` it waits, too, until a request that asks for an upgrade is answered or dropped: a program does that before it
     /// makes this call on the same thread. It answers `None` behind such a request whose raw writer was taken or which was
     /// upgraded; if the stream of an upgrade still reads, once that has ended. Under `Standard` it answers `None`, too, behind
-    /// a request that was finished while its 100 was owed, or while more than 65,536 bytes of its body were unread. Refused
-    /// heads are answered in their turn, without waiting for it, and end the requests; but behind one of a version above 1.1
-    /// the next head is read, unless it names an upgrade or its body is chunked. An error where memory was refused; then each
-    /// later call answers `None`. `now` dates the answers to refused heads, and the 500 of this request if it is dropped.
+    /// a request that was finished while its 100 was owed, or while more than 65,536 bytes of its body were unread. It does so,
+    /// too, once an answer was sent that was made by `with_close`; a call that waits for the client then answers `None` when the
+    /// client sends a head or ends. Refused heads are answered in their turn, without waiting for it, and end the requests; but
+    /// behind one of a version above 1.1 the next head is read, unless it names an upgrade or its body is chunked. An error where
+    /// memory was refused; then each later call answers `None`. `now` dates the answers to refused heads, and the 500 of this
+    /// request if it is dropped.
     pub fn next(&mut self, now: HttpDate) -> Result<Option<Request<R, W, Rt>>, AllocError>
         ensures over { IsOver self.old → (result ≡ Ok None) × IsOver self.new }
         ensures none { IfOk result (λ r. IfNone r (IsOver self.new)) }
@@ -175,14 +179,27 @@ impl<R: ReadDevice + Drop, W: WriteDevice + Drop, Rt: Wait + Copy> ClientConnect
         let Some(mut reader) = self.next_head.take() else {
             return Ok(None);
         };
+        if is_closed(&self.sink) {
+            return Ok(None);
+        }
         let (alloc, profile) = (self.alloc, self.profile);
-        let (source, sink) = (hold_reader(&mut reader), &mut self.sink);
+        let source = hold_reader(&mut reader);
+        if is_closed(&self.sink) {
+            return Ok(None);
+        }
+        let sink = &mut self.sink;
         match next_request(alloc, source, profile, &mut NextWriter, sink, now) {
-            Ok(NextRequest::Request(exchange)) => match self.hand_out(reader, exchange) {
-                Ok(request) => Ok(Some(request)),
-                Err(e) => Err(e),
-            },
+            Ok(NextRequest::Request(exchange)) => {
+                let Some(writer) = next_writer(&mut self.sink)? else {
+                    return Ok(None);
+                };
+                match self.hand_out(reader, writer, exchange) {
+                    Ok(request) => Ok(Some(request)),
+                    Err(e) => Err(e),
+                }
+            }
             Ok(NextRequest::Ended(_)) => Ok(None),
+            Err(_) if is_closed(&self.sink) => Ok(None),
             Err(e) => Err(e),
         }
     }
@@ -199,11 +216,12 @@ impl<R: ReadDevice + Drop, W: WriteDevice + Drop, Rt: Wait + Copy> ClientConnect
         Ok(())
     }
 
-    // Hands out a request that was read by this reader. The reader goes with a body that is read from it, and with a request
+    // Hands out a request that was read by this reader, and answers on this writer. The reader goes with a body that is read from it, and with a request
     // before whose answer the next head isn't read.
     fn hand_out(
         &mut self,
         reader: SequentialReader<Source<R>, Rt>,
+        writer: SequentialWriter<Outlet<W>, Rt>,
         exchange: Exchange,
     ) -> Result<Request<R, W, Rt>, AllocError>
         requires { IsOver self.old }
@@ -215,7 +233,6 @@ impl<R: ReadDevice + Drop, W: WriteDevice + Drop, Rt: Wait + Copy> ClientConnect
         ensures same { (client_secure self.new ≡ client_secure self.old) × (client_address self.new ≡ client_address self.old) × (client_profile self.new ≡ client_profile self.old) }
     {
         let (head, open_request) = exchange.into_parts();
-        let writer = self.sink.next()?;
         let holds_reader = open_request.body.holds_reader() || open_request.holds_next_head;
         let may_leave = !holds_reader && is_next_writer(&writer);
         let flush_policy = set_policy(&self.flush_policy, may_leave)?;
@@ -268,13 +285,17 @@ impl<W: WriteDevice + Drop, Rt: Wait + Copy> RefusalPlace<SequentialWriterBuilde
     // Nothing is stated of what goes behind a lock.
     ghost refuses = { λ _ _ _ _ _ _. ⊤ };
 
-    // Takes the next turn, and leaves the answer in it. An error where memory was refused, or 2^64 - 1 writers were given out.
+    // Takes the next turn, and leaves the answer in it. An error where memory was refused, or 2^64 - 1 writers were given out, or
+    // an answer asked that the connection ends.
     fn refuse(
         &mut self,
         sink: &mut SequentialWriterBuilder<Outlet<W>, Rt>,
         text: Vec<u8>,
     ) -> Result<(), AllocError> {
-        leave_writer(sink.next()?, text);
+        let Some(writer) = next_writer(sink)? else {
+            return Err(AllocError);
+        };
+        leave_writer(writer, text);
         Ok(())
     }
 }

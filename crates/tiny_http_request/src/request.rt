@@ -33,7 +33,9 @@ use tiny_http_text::ascii::AsciiString;
 use tiny_http_threads::sequential::{
     SequentialReader, SequentialReaderBuilder, SequentialWriter, SequentialWriterBuilder,
 };
-use tiny_http_threads::turn::{hold_reader, hold_writer, leave_writer, pass_writer};
+use tiny_http_threads::turn::{
+    end_behind_writer, hold_reader, hold_writer, is_last_writer, leave_writer, pass_writer,
+};
 use tiny_http_wire::common::{HTTPVersion, Header, Method};
 use tiny_http_wire::response::Response;
 
@@ -114,6 +116,7 @@ impl<R: ReadDevice + Drop, W: WriteDevice + Drop, Rt: Wait + Drop> Request<R, W,
             holds_next_head,
             by_standard,
             is_connect,
+            closes,
             upgrades,
             dropped,
             body,
@@ -129,6 +132,7 @@ impl<R: ReadDevice + Drop, W: WriteDevice + Drop, Rt: Wait + Drop> Request<R, W,
             holds_next_head,
             by_standard,
             is_connect,
+            closes,
             upgrades,
             dropped,
             body: Body::new(body, reader, gives_on),
@@ -245,6 +249,10 @@ impl<R: ReadDevice + Drop, W: WriteDevice + Drop, Rt: Wait + Drop> Request<R, W,
     /// Under `Standard` no request follows one that is answered or dropped while its 100 is owed, or while more than 65,536
     /// bytes of its body are unread. Then the answer says `Connection: close`, as it does where the request is the last by its head or
     /// the end of its body isn't known (RFC 9112, section 9.6).
+    ///
+    /// Where the response was made by `with_close`, no further request is handed out. Under `Standard` the answer to the last
+    /// number says `Connection: close`: this answer, or that of a later request or refused head. A later request says nothing of
+    /// it that was dropped before, is upgraded or gives its raw writer.
     pub fn respond<D: ReadDevice + Drop>(
         self,
         response: Response<D>,
@@ -261,6 +269,13 @@ impl<R: ReadDevice + Drop, W: WriteDevice + Drop, Rt: Wait + Drop> Request<R, W,
         let left = open_request.body.remainder();
         if open_request.is_last_once_finished(left) {
             open_request.body.end_requests();
+        }
+        let _ = hold_writer(&mut writer);
+        if response.closes() {
+            end_behind_writer(&writer);
+        }
+        if is_last_writer(&writer) {
+            open_request.close();
         }
         let sent = open_request.respond(alloc, hold_writer(&mut writer), response, left, now);
         pass_writer(writer);
@@ -330,6 +345,9 @@ impl<R: ReadDevice + Drop, W: WriteDevice + Drop, Rt: Wait + Drop> Drop for Requ
         let left = open_request.body.remainder();
         if open_request.is_last_once_finished(left) {
             open_request.body.end_requests();
+        }
+        if is_last_writer(&writer) {
+            open_request.close();
         }
         let (text, body) = open_request.into_drop_text(left);
         leave_writer(writer, text);

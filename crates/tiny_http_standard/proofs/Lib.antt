@@ -2,6 +2,8 @@ pub mod HostsLemmas
 pub mod LinesLemmas
 pub mod NumbersLemmas
 pub mod ListsLemmas
+pub mod TeLemmas
+pub mod TeRows
 pub mod JudgingLemmas
 pub mod FoldLemmas
 pub mod BodyLemmas

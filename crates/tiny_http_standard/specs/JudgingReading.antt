@@ -5,12 +5,13 @@ use Rattle.tiny_http_head.specs.declared.common.HTTPVersion.{HTTPVersion}
 use Rattle.tiny_http_head.specs.Common.{same_name}
 use Rattle.tiny_http_head.specs.Heads.{length_of}
 use Rattle.tiny_http_standard.specs.declared.judging.Wanted.{Wanted}
-use Rattle.tiny_http_standard.specs.declared.judging.Wanted.TheVariants.{Close, KeepAlive, Upgrade, Continue, Protocol, UnknownExpectation}
+use Rattle.tiny_http_standard.specs.declared.judging.Wanted.TheVariants.{Close, KeepAlive, Upgrade, Continue, Protocol, UnknownExpectation, Chunks}
 use Rattle.tiny_http_standard.specs.declared.judging.Codings.{Codings}
 use Rattle.tiny_http_standard.specs.declared.judging.Codings.TheVariants.{Absent, Others, Chunked, Behind, Bad}
 use Rattle.tiny_http_standard.specs.declared.judging.Refusal.{Refusal}
 use Rattle.tiny_http_standard.specs.declared.judging.Refusal.TheVariants.{InvalidHead, UnknownCoding}
 use Rattle.tiny_http_standard.specs.Judging.{is_chunked, is_unknown_expectation, is_protocol, is_1_0}
+use Rattle.tiny_http_standard.specs.Te.{element_asks_chunked}
 
 -- an element is what is wanted
 abbrev pub is_wanted : Wanted → List ℕ → Bool
@@ -20,6 +21,7 @@ is_wanted Upgrade element = same_name element (codes "upgrade")
 is_wanted Continue element = same_name element (codes "100-continue")
 is_wanted Protocol element = is_protocol element
 is_wanted UnknownExpectation element = is_unknown_expectation element
+is_wanted Chunks element = element_asks_chunked element
 
 -- the length that a text is, if none was found before, or the same
 abbrev pub same_length : Option ℕ → Option ℕ → Option ℕ

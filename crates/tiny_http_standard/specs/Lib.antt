@@ -2,6 +2,7 @@ pub mod Hosts
 pub mod Lines
 pub mod Lists
 pub mod Judging
+pub mod Te
 pub mod JudgingReading
 pub mod Heads
 pub mod HeadParts

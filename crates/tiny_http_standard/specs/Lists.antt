@@ -1,4 +1,4 @@
--- The lists that headers are (RFC 9110, sections 5.3 and 5.6.1). `TE` is read where the coding of an answer is chosen.
+-- The lists that headers are (RFC 9110, sections 5.3 and 5.6.1).
 use Rattle.std.specs.Prelude.{ℕ, Bool, List, [], ◌∷◌, ◌++◌, map, if◌then◌else◌}
 use Rattle.std.specs.List.{list_any}
 use Rattle.httparse.specs.Grammar.{is_ows}

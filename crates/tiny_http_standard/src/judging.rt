@@ -1,11 +1,13 @@
-//! What a whole head says, and why it is refused (RFC 9112, sections 3.2, 6 and 9.3; RFC 9110, sections 7.8, 10.1.1 and 15).
-ghost use Rattle.std.specs.Prelude.{◌≡◌, ◌↔◌, ◌==◌, not, IsTrue, codes, None};
+//! What a whole head says, and why it is refused (RFC 9112, sections 3.2, 6 and 9.3; RFC 9110, sections 7.8, 10.1.1 and 15),
+//! and whether it asks for chunks (RFC 9110, section 10.1.4).
+ghost use Rattle.std.specs.Prelude.{◌≡◌, ◌↔◌, ◌==◌, not, IsTrue, IsFalse, IfSome, IfNone, codes, None};
 ghost use Rattle.std.specs.List.{list_all, list_any};
 ghost use Rattle.httparse.specs.Grammar.{is_ows};
 ghost use Rattle.tiny_http_text.specs.Bytes.{trimmed, parts};
 ghost use Rattle.tiny_http_standard.specs.Hosts.{percent, slash};
 ghost use Rattle.tiny_http_standard.specs.Lists.{values_of, between_commas, elements_of, has_element_that};
-ghost use Rattle.tiny_http_standard.specs.Judging.{HasValidHost, is_1_0, is_one_or_two_tokens, is_protocol, has_body, owes_continue, is_connect, is_last, asks_upgrade, is_protocol_named, names_protocol, Judges};
+ghost use Rattle.tiny_http_standard.specs.Judging.{HasValidHost, is_1_0, is_chunked, is_one_or_two_tokens, is_protocol, has_body, owes_continue, is_connect, is_last, asks_upgrade, is_protocol_named, names_protocol, Judges};
+ghost use Rattle.tiny_http_standard.specs.Te.{between_semicolons, is_weight, weight_value, is_zero, has_zero_weight, element_asks_chunked, asks_chunked};
 ghost use Rattle.tiny_http_standard.specs.JudgingReading.{is_wanted, same_length, lengths_on, coding_after, codings_on, body_by};
 ghost use Rattle.tiny_http_standard.specs.declared.judging.Codings.TheVariants.{Absent};
 
@@ -14,7 +16,7 @@ use crate::lines::{trim_end, trim_front};
 use crate::numbers::number_in;
 use httparse::is_token;
 use tiny_http_head::common::{HTTPVersion, Header, Method};
-use tiny_http_text::bytes::cut;
+use tiny_http_text::bytes::{cut, is};
 
 /// What a head says of its body, and of the connection.
 #[derive(Clone, Copy, Debug, PartialEq, Eq)]
@@ -54,6 +56,7 @@ enum Wanted {
     Continue,
     Protocol,
     UnknownExpectation,
+    Chunks,
 }
 
 // What the elements of `Transfer-Encoding` are so far.
@@ -71,11 +74,18 @@ enum Codings {
     Bad,
 }
 
+// The bytes without spaces and tabs at their ends.
+fn trim_bytes(text: &[u8]) -> &[u8]
+    ensures { result.now ≡ trimmed is_ows text.now }
+{
+    trim_end(trim_front(text))
+}
+
 // The text without spaces and tabs at its ends.
 fn trim(text: &str) -> &[u8]
     ensures { result.now ≡ trimmed is_ows text.now }
 {
-    trim_end(trim_front(text.as_bytes()))
+    trim_bytes(text.as_bytes())
 }
 
 // Whether this is a token, or two with a slash between.
@@ -102,6 +112,53 @@ fn is_protocol(text: &[u8]) -> bool
     is_one_or_two_tokens(text) && has_no_percent(text)
 }
 
+// The value of a parameter that is a weight: what stands behind `q=` or `Q=` (RFC 9110, section 12.4.2).
+fn weight_value(parameter: &[u8]) -> Option<&[u8]>
+    ensures some { IfSome result (λ value. IsTrue (is_weight parameter.now) × (value.now ≡ weight_value parameter.now)) }
+    ensures none { IfNone result (IsFalse (is_weight parameter.now)) }
+{
+    if parameter.len() < 2 || !parameter[..2].eq_ignore_ascii_case(b"q=") {
+        return None;
+    }
+    Some(trim_bytes(&parameter[2..]))
+}
+
+// Whether the value of a weight is a zero with at most three digits behind the point (RFC 9110, section 12.4.2).
+fn is_zero(value: &[u8]) -> bool
+    ensures { result ≡ is_zero value.now }
+{
+    is(value, "0") || is(value, "0.") || is(value, "0.0") || is(value, "0.00") || is(value, "0.000")
+}
+
+// Whether the first weight among the parameters is zero.
+fn has_zero_weight(parameters: &[u8]) -> bool
+    ensures { result ≡ has_zero_weight (between_semicolons parameters.now) }
+{
+    for text in parameters.split(|b| *b == b';') {
+        if let Some(value) = weight_value(trim_bytes(text)) {
+            return is_zero(value);
+        }
+    }
+    false
+}
+
+// Whether the coding is `chunked`, without case.
+fn is_chunked(coding: &[u8]) -> bool
+    ensures { result ≡ is_chunked coding.now }
+{
+    coding.eq_ignore_ascii_case(b"chunked")
+}
+
+// Whether an element of `TE`, a coding and its parameters, asks for chunks (RFC 9110, section 10.1.4).
+fn element_asks_chunked(element: &[u8]) -> bool
+    ensures { result ≡ element_asks_chunked element.now }
+{
+    let Some((coding, parameters)) = cut(element, b';') else {
+        return is_chunked(trim_bytes(element));
+    };
+    is_chunked(trim_bytes(coding)) && !has_zero_weight(parameters)
+}
+
 // Whether an element is what is wanted.
 fn is_wanted(wanted: Wanted, element: &[u8]) -> bool
     ensures { result ≡ is_wanted wanted element.now }
@@ -114,6 +171,7 @@ fn is_wanted(wanted: Wanted, element: &[u8]) -> bool
         Wanted::Protocol => is_protocol(element),
         Wanted::UnknownExpectation => !element.is_empty()
             && !element.eq_ignore_ascii_case(b"100-continue"),
+        Wanted::Chunks => element_asks_chunked(element),
     }
 }
 
@@ -207,7 +265,7 @@ fn one_length(headers: &[Header]) -> Result<Option<usize>, Refusal>
 fn coding_after(was: Codings, coding: &[u8]) -> Codings
     ensures { result ≡ coding_after was coding.now }
 {
-    let is_chunked = coding.eq_ignore_ascii_case(b"chunked");
+    let is_chunked = is_chunked(coding);
     match was {
         Codings::Absent if is_chunked => Codings::Chunked,
         Codings::Others if is_chunked => Codings::Behind,
@@ -327,6 +385,17 @@ pub fn names_protocol(headers: &[Header], protocol: &str) -> bool
         }
     }
     false
+}
+
+/// Whether the `TE` headers of a request ask for chunks (RFC 9110, section 10.1.4). The headers of that name are one list, whose
+/// empty elements are passed over (RFC 9110, sections 5.3 and 5.6.1.2). An element asks for chunks if its coding is `chunked`,
+/// without case, and its weight isn't zero. The weight is the first parameter that begins with `q=` or `Q=` (RFC 9110, section
+/// 12.4.2). Its value is zero as `0`, `0.`, `0.0`, `0.00` or `0.000`. Any other value asks for chunks, also one that isn't a number.
+/// Other parameters are passed over, and so are those behind the weight. A comma or a semicolon in a quoted text divides as well.
+pub fn asks_chunked(headers: &[Header]) -> bool
+    ensures { result ≡ asks_chunked headers.now }
+{
+    has(headers, "TE", Wanted::Chunks)
 }
 
 // Whether the connection ends after the request, by its head.

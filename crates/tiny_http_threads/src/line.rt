@@ -4,6 +4,7 @@ ghost use Rattle.tiny_http_turns.specs.Turns.{Finish, marks_after_step, turn_ans
 ghost use Rattle.tiny_http_turns.specs.TurnsCalls.{Finishes};
 
 use std::alloc::{AllocError, Global};
+use std::sync::atomic::{AtomicBool, Ordering};
 use std::sync::{Arc, Condvar, Mutex, Wait};
 use std::thread;
 use tiny_http_turns::turns::{Finishing, Leaving, Turns};
@@ -19,6 +20,8 @@ struct Waiter {
 #[derive(Drop)]
 struct Queue<T> {
     turns: Turns<Box<T>>,
+    // The last number that was issued unless the line was closed.
+    last: Option<u64>,
     waiters: Vec<Waiter>,
 }
 
@@ -74,6 +77,8 @@ impl<T: Drop> Queue<T> {
 #[derive(Drop)]
 pub(crate) struct Line<T> {
     queue: Mutex<Queue<T>>,
+    // Set under the lock alone.
+    is_closed: AtomicBool,
 }
 
 impl<T: Drop> Line<T> {
@@ -81,10 +86,12 @@ impl<T: Drop> Line<T> {
     pub fn new(alloc: Global, item: T) -> Result<Arc<Line<T>>, AllocError> {
         let queue = Queue {
             turns: Turns::new(alloc, Box::new(alloc, item)?),
+            last: None,
             waiters: Vec::new(alloc),
         };
         let line = Line {
             queue: Mutex::new(queue),
+            is_closed: AtomicBool::new(false),
         };
         Ok(Arc::new(alloc, line)?)
     }
@@ -96,6 +103,39 @@ impl<T: Drop> Line<T> {
             Ok(number) => Ok((number, queue.turns.first_unfinished() == number)),
             Err(_) => Err(AllocError),
         }
+    }
+
+    /// The next number, and whether its turn has come; none once the line was closed. An error where memory was refused, or no
+    /// number is left.
+    pub fn issue_unless_closed<R: Wait>(&self, rt: &R) -> Result<Option<(u64, bool)>, AllocError> {
+        let mut queue = self.queue.lock(rt);
+        if self.is_closed() {
+            return Ok(None);
+        }
+        match queue.turns.issue() {
+            Ok(number) => {
+                queue.last = Some(number);
+                Ok(Some((number, queue.turns.first_unfinished() == number)))
+            }
+            Err(_) => Err(AllocError),
+        }
+    }
+
+    /// Whether the line was closed.
+    pub fn is_closed(&self) -> bool {
+        self.is_closed.load(Ordering::SeqCst)
+    }
+
+    /// Closes the line: `issue_unless_closed` issues no number any more.
+    pub fn close<R: Wait>(&self, rt: &R) {
+        let queue = self.queue.lock(rt);
+        self.is_closed.store(true, Ordering::SeqCst);
+        drop(queue);
+    }
+
+    /// Whether the line was closed, and this number is the last that `issue_unless_closed` issued.
+    pub fn is_last<R: Wait>(&self, rt: &R, number: u64) -> bool {
+        self.is_closed() && self.queue.lock(rt).last == Some(number)
     }
 
     /// Waits until the number's turn has come, and holds it. Where memory for the wait was refused it tries again and again.
@@ -166,6 +206,36 @@ impl<T: Drop, R: Wait + Drop> Turn<T, R> {
             is_next,
             item: None,
         })
+    }
+
+    /// The next number of this line; none once that was closed. An error where memory was refused, or no number is left.
+    pub fn new_unless_closed(
+        rt: R,
+        alloc: Global,
+        line: &Arc<Line<T>>,
+    ) -> Result<Option<Turn<T, R>>, AllocError> {
+        let line = Arc::try_clone(line)?;
+        let Some((number, is_next)) = line.issue_unless_closed(&rt)? else {
+            return Ok(None);
+        };
+        Ok(Some(Turn {
+            rt,
+            alloc,
+            line,
+            number,
+            is_next,
+            item: None,
+        }))
+    }
+
+    /// Closes the line: `new_unless_closed` issues no number any more.
+    pub fn close_line(&self) {
+        self.line.close(&self.rt);
+    }
+
+    /// Whether the line was closed, and this number is the last that `new_unless_closed` issued.
+    pub fn is_last(&self) -> bool {
+        self.line.is_last(&self.rt, self.number)
     }
 
     /// The allocator that it was made with.

@@ -95,6 +95,19 @@ impl<W: Write + Drop, R: Wait + Copy> SequentialWriterBuilder<W, R> {
         let turn = Turn::new(self.rt, self.alloc, &self.line)?;
         Ok(SequentialWriter { turn, failures: 0 })
     }
+
+    /// The next writer; none once the line was closed. An error as in `next`.
+    pub(crate) fn next_unless_closed(
+        &mut self,
+    ) -> Result<Option<SequentialWriter<W, R>>, AllocError> {
+        let turn = Turn::new_unless_closed(self.rt, self.alloc, &self.line)?;
+        Ok(turn.map(|turn| SequentialWriter { turn, failures: 0 }))
+    }
+
+    /// Whether the line was closed.
+    pub(crate) fn is_closed(&self) -> bool {
+        self.line.is_closed()
+    }
 }
 
 // Finishes a number that is held. If the next one was left, that one is held, and this is its text.
@@ -166,6 +179,16 @@ impl<W: Write + Drop, R: Wait + Drop> SequentialWriter<W, R> {
     /// Whether its turn had come as it was given out.
     pub(crate) fn is_next(&self) -> bool {
         self.turn.is_next()
+    }
+
+    /// Closes the line: `next_unless_closed` gives out no further writer.
+    pub(crate) fn close_line(&self) {
+        self.turn.close_line();
+    }
+
+    /// Whether the line was closed, and this writer is the last that `next_unless_closed` gave out.
+    pub(crate) fn is_last(&self) -> bool {
+        self.turn.is_last()
     }
 
     /// Waits for its turn, and lends the writer.

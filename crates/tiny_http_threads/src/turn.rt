@@ -1,5 +1,6 @@
 //! The turn of a sequential reader or writer, for a request that sees to its own: `tiny_http` doesn't name this module again.
-use crate::sequential::{SequentialReader, SequentialWriter};
+use crate::sequential::{SequentialReader, SequentialWriter, SequentialWriterBuilder};
+use std::alloc::AllocError;
 use std::io::{Read, Write};
 use std::sync::Wait;
 
@@ -13,6 +14,29 @@ pub fn held_reader<I: Read + Drop, R: Wait + Drop>(
     reader: &mut SequentialReader<I, R>,
 ) -> Option<&mut I> {
     reader.held()
+}
+
+/// The next writer; none once `end_behind_writer` was called for one of them. An error where memory was refused, or 2^64 - 1
+/// writers were given out.
+pub fn next_writer<W: Write + Drop, R: Wait + Copy>(
+    builder: &mut SequentialWriterBuilder<W, R>,
+) -> Result<Option<SequentialWriter<W, R>>, AllocError> {
+    builder.next_unless_closed()
+}
+
+/// Whether `end_behind_writer` was called for one of the writers.
+pub fn is_closed<W: Write + Drop, R: Wait + Copy>(builder: &SequentialWriterBuilder<W, R>) -> bool {
+    builder.is_closed()
+}
+
+/// Has `next_writer` give out no further writer.
+pub fn end_behind_writer<W: Write + Drop, R: Wait + Drop>(writer: &SequentialWriter<W, R>) {
+    writer.close_line();
+}
+
+/// Whether `end_behind_writer` was called, and this writer is the last that `next_writer` gave out.
+pub fn is_last_writer<W: Write + Drop, R: Wait + Drop>(writer: &SequentialWriter<W, R>) -> bool {
+    writer.is_last()
 }
 
 /// Whether the turn of this writer had come as it was given out: those before it were finished.

@@ -1,5 +1,5 @@
 -- Answers, and the text that is sent for one (RFC 9112, sections 4, 5 and 6).
-use Rattle.std.specs.Prelude.{◌≡◌, ℕ, Bool, ◌||◌, ◌&&◌, List, [], ◌++◌, length, Option, Some, None, Result, Ok, Err, codes, decimal, nat_lt, nat_le, ◌==◌, if◌then◌else◌, ◌⊎◌}
+use Rattle.std.specs.Prelude.{◌≡◌, ℕ, Bool, ◌||◌, ◌&&◌, List, [], ◌++◌, length, Option, Some, None, Result, Ok, Err, codes, decimal, nat_lt, nat_le, ◌==◌, if◌then◌else◌, ◌⊎◌, false}
 use Rattle.std.specs.List.{flat_map, list_any, list_all}
 use Rattle.std.specs.IoError.{error_kind}
 use Rattle.std.specs.declared.io.Error.{Error}
@@ -29,12 +29,14 @@ pub record Answer : Type 0 where
   pub headers : List Header
   pub data_length : Option ℕ
   pub threshold : ℕ
+  -- the connection is to end behind it
+  pub closes : Bool
   -- the protocols that it offers to upgrade to, which the standard alone prints
   pub offered : Option (List ℕ)
 
 -- an answer whose data has so many bytes, with the threshold that holds until another is set
 abbrev pub answer_with : ℕ → List Header → ℕ → Answer
-answer_with status headers length = record { status = status; headers = headers; data_length = Some length; threshold = THRESHOLD; offered = None }
+answer_with status headers length = record { status = status; headers = headers; data_length = Some length; threshold = THRESHOLD; closes = false; offered = None }
 
 -- the header of a plain text
 unfoldable pub text_plain : Header

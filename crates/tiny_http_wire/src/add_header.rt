@@ -1,5 +1,5 @@
 //! Headers that are added to an answer (RFC 9110, sections 7.6.1, 7.8 and 8.3; RFC 9112, section 6).
-ghost use Rattle.std.specs.Prelude.{◌≡◌, ℕ, List, Option, ◌≤◌, ◌<◌, ◌+◌, IfErr, OnOk, OnErr, IsTrue, [], length, take, drop, slice_index_or, codes};
+ghost use Rattle.std.specs.Prelude.{◌≡◌, ℕ, Bool, List, Option, ◌≤◌, ◌<◌, ◌+◌, IfErr, OnOk, OnErr, IsTrue, [], length, take, drop, slice_index_or, codes};
 ghost use Rattle.tiny_http_wire.specs.Answer.{has_header};
 ghost use Rattle.tiny_http_wire.specs.AddHeader.{is_reserved, is_put_last, is_some_put_last, with_value};
 ghost use Rattle.tiny_http_wire.specs.ResponseHeaders.{IsResponseHeaders};
@@ -98,7 +98,7 @@ pub(crate) fn add_all(
 ) -> Result<(), Header>
     ensures added { OnOk result (AddsAll more.items headers.old.items data_length.old headers.new.items data_length.new) }
     ensures law { OnOk result (IsResponseHeaders headers.old.items → IsResponseHeaders headers.new.items) }
-    ensures memory { OnErr result ((status threshold : ℕ) (offered : Option (List ℕ)) → IsTrue (is_some_put_last more.items (answer_of status threshold offered headers.old.items data_length.old))) }
+    ensures memory { OnErr result ((status threshold : ℕ) (closes : Bool) (offered : Option (List ℕ)) → IsTrue (is_some_put_last more.items (answer_of status threshold closes offered headers.old.items data_length.old))) }
 {
     for header in more {
         add(headers, data_length, header)?;

@@ -42,6 +42,7 @@ pub struct Response<R> {
     headers: Vec<Header>,
     data_length: Option<usize>,
     threshold: usize,
+    closes: bool,
     offered: Option<AsciiString>,
 }
 
@@ -54,7 +55,7 @@ impl<R> Model for Response<R> {
 
     ghost Value = { ResponseState R };
 
-    ghost view = { λ r. record { answer = record { status = r.status.0; headers = r.headers.items; data_length = r.data_length; threshold = r.threshold; offered = r.offered }; data_reader = r.reader } };
+    ghost view = { λ r. record { answer = record { status = r.status.0; headers = r.headers.items; data_length = r.data_length; threshold = r.threshold; closes = r.closes; offered = r.offered }; data_reader = r.reader } };
 
     ghost invariant = { λ r. IsResponseHeaders r.headers.items };
 }
@@ -135,6 +136,7 @@ impl Response<io::Empty> {
             headers,
             data_length: self.data_length,
             threshold: self.threshold,
+            closes: self.closes,
             offered: copy_of(&self.offered)?,
         })
     }
@@ -194,6 +196,7 @@ impl<R> Response<R> {
             headers: Vec::new(alloc),
             data_length,
             threshold: THRESHOLD,
+            closes: false,
             offered: None,
         }
     }
@@ -221,6 +224,7 @@ impl<R> Response<R> {
                 headers,
                 data_length,
                 threshold: THRESHOLD,
+                closes: false,
                 offered: None,
             }),
             Err(_) => Err(Refused { reader }),
@@ -248,6 +252,7 @@ impl<R> Response<R> {
             headers: self.headers,
             data_length,
             threshold: self.threshold,
+            closes: self.closes,
             offered: self.offered,
         }
     }
@@ -271,6 +276,18 @@ impl<R> Response<R> {
     {
         let mut response = self;
         response.offered = Some(protocols);
+        response
+    }
+
+    /// The same answer, behind which the connection is to end (RFC 9112, section 9.6). Where a `Connection` or a `Request` sends it
+    /// as its answer, no further request is handed out; those that were are answered. By the standard the last answer of the
+    /// connection says `Connection: close`: this one, if nothing was read behind its request. An upgrade and an `Exchange` pass it
+    /// over, and what `raw_print` and `print` print is the same.
+    pub fn with_close(self) -> Response<R>
+        ensures { result ≡ record self { answer = record self.answer { closes = true } } }
+    {
+        let mut response = self;
+        response.closes = true;
         response
     }
 
@@ -333,6 +350,13 @@ impl<R> Response<R> {
         ensures { option_copied result ≡ self.now.answer.offered }
     {
         self.offered.as_ref().map(AsciiString::as_str)
+    }
+
+    /// Whether the connection is to end behind the answer.
+    pub fn closes(&self) -> bool
+        ensures { result ≡ self.now.answer.closes }
+    {
+        self.closes
     }
 
     /// The length in bytes from which data is sent in chunks: `THRESHOLD`, until another is set.

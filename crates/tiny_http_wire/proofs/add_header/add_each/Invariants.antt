@@ -1,4 +1,4 @@
-use Rattle.std.proofs.Common.{◌≡◌, ◌≤◌, ℕ, List, Option, [], take, drop}
+use Rattle.std.proofs.Common.{◌≡◌, ◌≤◌, ℕ, List, Option, [], take, drop, Bool}
 use Rattle.tiny_http_wire.specs.AddHeader.{with_headers}
 use Rattle.tiny_http_wire.specs.HeaderPlace.{answer_of}
 use Rattle.tiny_http_wire.proofs.add_header.add_each.Given as goal
@@ -7,5 +7,5 @@ use Rattle.tiny_http_wire.proofs.add_header.add_each.Given as goal
 abbrev pub invariant-loop-at : goal.invariant-loop-at
 invariant-loop-at l = record {
   order : l.kept ≤ l.at;
-  added : (status threshold : ℕ) (offered : Option (List ℕ)) → with_headers (drop l.at l.headers) (answer_of status threshold offered (take l.kept l.headers) l.data_length) ≡ with_headers l.fn.headers (answer_of status threshold offered [] l.fn.data_length);
+  added : (status threshold : ℕ) (closes : Bool) (offered : Option (List ℕ)) → with_headers (drop l.at l.headers) (answer_of status threshold closes offered (take l.kept l.headers) l.data_length) ≡ with_headers l.fn.headers (answer_of status threshold closes offered [] l.fn.data_length);
 }

@@ -1,0 +1,44 @@
+-- What an answer tells of its connection, and that it is so.
+use Rattle.std.specs.Prelude.{◌≡◌, Bool, false, ◌&&◌, List, [], ◌∷◌, ⊤, Some, codes}
+use Rattle.tiny_http_message.specs.Pipeline.{Item, Asks, Refuses}
+use Rattle.tiny_http_wire.specs.Answer.{has_header}
+use Rattle.tiny_http_standard.specs.Lists.{has_element}
+use Rattle.tiny_http_answer.specs.ClientAnswer.{ClientAnswer}
+use Rattle.tiny_http_message.specs.declared.framing.Profile.TheVariants.{Standard}
+use Rattle.tiny_http_client_laws.specs.ClientReads.{CanBeReadAt, stage_answer}
+use Rattle.tiny_http_core.specs.Slots.{Slot, Stage, Unanswered, Answered, ByServer, Raw, Upgraded}
+
+-- `printing_for` prints a close: by the standard in a refusal, and in another answer where that was decided
+abbrev pub is_close_printed : Bool → Item → Bool
+is_close_printed closes (Asks r) = r.framing.by_standard && closes
+is_close_printed closes (Refuses refusal manner no_body last) = manner.by_standard
+
+abbrev pub says_close_by : Bool → Item → Stage → Bool
+says_close_by closes item Unanswered = false
+says_close_by closes item (Answered response date found) = is_close_printed closes item
+says_close_by closes item ByServer = is_close_printed closes item
+says_close_by closes item (Raw written ends) = false
+says_close_by closes item (Upgraded protocol response date written ends) = false
+
+-- the number's answer is made, and says that the connection ends
+abbrev pub says_close : Slot → Bool
+says_close s = says_close_by s.closes s.item s.stage
+
+-- NO NUMBER FOLLOWS one whose answer says that the connection ends.
+abbrev pub NoneFollowsClose : List Slot → Type 0
+NoneFollowsClose [] = ⊤
+NoneFollowsClose (s ∷ []) = ⊤
+NoneFollowsClose (s ∷ t ∷ slots) = (says_close s ≡ false) × NoneFollowsClose (t ∷ slots)
+
+-- what an answer says of its connection, as a client reads it: the element close in its Connection headers
+abbrev pub reads_close : ClientAnswer → Bool
+reads_close a = has_element (codes "Connection") (codes "close") a.head.headers
+
+-- the response that answers a number has no Connection header of its own, which holds of each response of the program
+abbrev pub OwnsNoConnection : Stage → Type 0
+OwnsNoConnection (Answered response date found) = has_header response.answer.headers (codes "Connection") ≡ false
+OwnsNoConnection _ = ⊤
+
+-- A CLIENT READS of the number's answer that the connection ends exactly if it says so, where the answer can be read.
+abbrev pub IsReadAsSaid : Slot → Type 0
+IsReadAsSaid s = CanBeReadAt Standard s → OwnsNoConnection s.stage → (a : ClientAnswer) → stage_answer s s.stage ≡ Some a → reads_close a ≡ says_close s
