@@ -264,6 +264,7 @@ impl<R: ReadDevice, W: WriteDevice> Connection<R, W> {
     /// head and a body of up to 1024 bytes have come, or the head alone where it expects a 100, and before them the rest of a
     /// counted body that was given up or passed over. After the last request the reader isn't called. `now` dates the answers
     /// to refused heads, and the 500 of this request if it is dropped.
+    #[inline(never)]
     pub fn ask(&mut self, alloc: Global, now: HttpDate) -> Reply
         ensures step { TakesStep self.old self.new now Step.Ask (seen result) }
     {
@@ -304,6 +305,7 @@ impl<R: ReadDevice, W: WriteDevice> Connection<R, W> {
     /// and none is owed any more. It is `NotYet` where a 100 is owed and a number before it isn't finished, and `NoSuch` for a
     /// number that doesn't wait for an answer; then nothing has changed. No reply reports a fault of the writer. The call takes
     /// no memory. `now` is the `Date` of the 100.
+    #[inline(never)]
     pub fn as_reader(&mut self, alloc: Global, now: HttpDate, number: u64) -> Reply
         ensures step { TakesStep self.old self.new now (Step.AsReader number) (seen result) }
     {
@@ -325,6 +327,7 @@ impl<R: ReadDevice, W: WriteDevice> Connection<R, W> {
     /// once the body has ended. It is `Fault` where the body is cut or broken, at each later read too. It is `NoSuch` for a
     /// number that neither waits for an answer nor was upgraded, and while a 100 is owed to its request. It is `Memory` where
     /// there is none for so many bytes, which changes nothing. It takes no date, as it sends nothing.
+    #[inline(never)]
     pub fn read(&mut self, alloc: Global, number: u64, count: u16) -> Reply
         ensures step { (date : Date) → TakesStep self.old self.new date (Step.Read number count) (seen result) }
     {
@@ -354,6 +357,7 @@ impl<R: ReadDevice, W: WriteDevice> Connection<R, W> {
     /// that doesn't wait for an answer. It takes no memory, and no reply reports a fault of the writer. Under `Standard` no request
     /// follows one that is dropped or answered while its 100 is owed, or while more than 65,536 bytes of its body are unread. The
     /// 500 says `close` as an answer by `respond` does.
+    #[inline(never)]
     pub fn drop_request(&mut self, number: u64) -> Reply
         ensures step { (date : Date) → TakesStep self.old self.new date (Step.Drop number) (seen result) }
     {
@@ -364,6 +368,7 @@ impl<R: ReadDevice, W: WriteDevice> Connection<R, W> {
     }
 
     // Drops the request of this number, and gives its body up. Whether it waited for its answer.
+    #[inline(never)]
     fn let_go(&mut self, number: u64) -> bool
         ensures drops { IsTrue result → Drops number self.old self.new }
         ensures none { result ≡ false → (waiting_answer_context (slice_get self.old.requests number) ≡ None) × (self.new ≡ self.old) }
@@ -392,6 +397,7 @@ impl<R: ReadDevice, W: WriteDevice> Connection<R, W> {
     /// Where the response was made by `with_close`, no further head is read: a later `ask` is `Ended`. Under `Standard` the answer to
     /// the last number says `Connection: close`: this answer, or that of a later request or refused head. A later request says
     /// nothing of it that was dropped before, is upgraded or gives its raw writer.
+    #[inline(never)]
     pub fn respond<D: ReadDevice + Drop>(
         &mut self,
         alloc: Global,
@@ -430,6 +436,7 @@ impl<R: ReadDevice, W: WriteDevice> Connection<R, W> {
     /// the bytes that `write` writes are all that the client gets for the request. A 100 that is owed isn't sent any more. Under
     /// `Standard` no request follows one whose head says `asks_upgrade`, whose 100 is owed, or of whose body more than 65,536
     /// bytes are unread.
+    #[inline(never)]
     pub fn into_writer(&mut self, number: u64) -> Reply
         ensures step { (date : Date) → TakesStep self.old self.new date (Step.IntoWriter number) (seen result) }
     {
@@ -447,6 +454,7 @@ impl<R: ReadDevice, W: WriteDevice> Connection<R, W> {
     /// connection, and later writes are `Done` and unsent. Up to 1024 bytes may be held until `flush` or `finish`. It is
     /// `NotYet` while a number before it isn't finished, and `NoSuch` for a number without a raw writer or stream; then nothing
     /// has changed.
+    #[inline(never)]
     pub fn write(&mut self, number: u64, bytes: &[u8]) -> Reply
         ensures step { (date : Date) (written : Vec ℕ) → written.items ≡ bytes.now → TakesStep self.old self.new date (Step.Write number written) (seen result) }
     {
@@ -461,6 +469,7 @@ impl<R: ReadDevice, W: WriteDevice> Connection<R, W> {
 
     /// Sends what was written under this number, and has the writer send it on: `Done`, or `Fault` where the writer failed.
     /// `NotYet` and `NoSuch` are as for `write`.
+    #[inline(never)]
     pub fn flush(&mut self, number: u64) -> Reply
         ensures step { (date : Date) → TakesStep self.old self.new date (Step.Flush number) (seen result) }
     {
@@ -483,6 +492,7 @@ impl<R: ReadDevice, W: WriteDevice> Connection<R, W> {
     /// up to 1024 bytes that came with its head needn't be read, and a counted one only to its last byte.) `NotYet` and `NoSuch`
     /// are as for `respond`.
     /// It takes no memory, and no reply reports a fault of the writer. `now` is the answer's `Date`.
+    #[inline(never)]
     pub fn upgrade<D: ReadDevice + Drop>(
         &mut self,
         alloc: Global,
@@ -515,6 +525,7 @@ impl<R: ReadDevice, W: WriteDevice> Connection<R, W> {
     /// Ends the raw writer of this number, or the stream of its upgrade, and gives the body up: `Done`, in its turn or before
     /// it, or `NoSuch` for a number without a raw writer or stream. In its turn what was written is sent, and so are the texts
     /// that wait directly after it. It takes no memory, and no reply reports a fault of the writer.
+    #[inline(never)]
     pub fn finish(&mut self, alloc: Global, number: u64) -> Reply
         ensures step { (date : Date) → TakesStep self.old self.new date (Step.Finish number) (seen result) }
     {
@@ -528,6 +539,7 @@ impl<R: ReadDevice, W: WriteDevice> Connection<R, W> {
     }
 
     /// Does a step on its date: the call that it names.
+    // The calls aren't inlined here: the rooms of what all of them may hold would be set to zero at each step.
     pub fn step<D: ReadDevice + Drop>(&mut self, alloc: Global, timed: Timed<D>) -> Reply
         ensures step { TakesStep self.old self.new timed.now (stated_step D.feed timed.step) (seen result) }
     {

@@ -62,6 +62,7 @@ impl Pending {
     }
 
     /// Gives out the next number, and keeps this under it. An error changes nothing.
+    #[inline(always)]
     pub fn issue(&mut self, request: Option<Unfinished>) -> Result<u64, TurnsError>
         ensures number { IfOk result (λ n. n ≡ length self.old.turns.marks) }
         ensures marks { OnOk result (self.new.turns.marks ≡ self.old.turns.marks ++ (Open ∷ [])) }
@@ -81,6 +82,7 @@ impl Pending {
     }
 
     /// Whether this number waits for its answer.
+    #[inline(always)]
     pub fn is_waiting(&self, number: u64) -> bool
         ensures { result ≡ is_some (waiting_answer_context (slice_get self.now.requests number)) }
     {
@@ -283,6 +285,7 @@ impl Pending {
     }
 
     /// Takes out the request of this number, if it waits for its answer, and keeps `then` in its place.
+    #[inline(always)]
     pub fn take(&mut self, number: u64, then: Option<Unfinished>) -> Option<OpenRequest<Body>>
         ensures some { IfSome result (λ w. (WaitsAt self.old.requests number w)
             × (self.new.requests ≡ slice_set self.old.requests number then)) }

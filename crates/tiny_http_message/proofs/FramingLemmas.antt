@@ -1,7 +1,8 @@
 -- How a head is framed: there is one way, and a head that names an upgrade is the last.
-use Rattle.std.proofs.Common.{◌≡◌, refl, sym, ap, ◌∙◌, subst, ℕ, zero, suc, T, Bool, true, false, not, ◌&&◌, ◌||◌, inl, inr, List, [], ◌∷◌, ◌++◌, Option, Some, None, Ok, Err, arith, eqb-true, ⊎_elim}
-use Rattle.std.specs.Prelude.{◌==◌, ◌<◌, ◌⊎◌, nat_le, Result, codes, if◌then◌else◌}
+use Rattle.std.proofs.Common.{◌≡◌, refl, sym, ap, ◌∙◌, subst, ℕ, zero, suc, T, Bool, true, false, not, ◌&&◌, ◌||◌, inl, inr, List, [], ◌∷◌, ◌++◌, Option, Some, None, Ok, Err, arith, eqb-true, ⊎_elim, ◌+◌, ◌≤◌, drop, get_or, length}
+use Rattle.std.specs.Prelude.{◌==◌, ◌<◌, ◌⊎◌, nat_le, Result, is_some, codes, if◌then◌else◌}
 use Rattle.std.specs.List.{list_all}
+use Rattle.std.proofs.lemmas.List.{at_drop_more, at_drop_all}
 use Rattle.std.proofs.Math.Dec.{eqb_refl, eqb-suc-zero}
 use Rattle.std.proofs.lemmas.Bool.{and_parts, leb-true, leb-false, le-leb, lt-leb}
 use Rattle.tiny_http_wire.specs.Common.{same_name}
@@ -15,8 +16,8 @@ use Rattle.tiny_http_message.specs.declared.framing.FramingFault.TheVariants.{In
 use Rattle.tiny_http_message.specs.declared.framing.Form.{Form}
 use Rattle.tiny_http_message.specs.declared.framing.Form.TheVariants.{Rest, Nothing, WithHead, Counted, Chunked}
 use Rattle.tiny_http_message.specs.declared.framing.Framing.{Framing}
-use Rattle.tiny_http_message.specs.Framing.{mentions, value_of, elements_of, lenient_length, expectation, names_upgrade, names_coding, EachIs, EndsWithChunked, IsStrictLength, IsBodyLength, IsForm, Frames}
-use Rattle.tiny_http_message.specs.FramingReading.{framing, framed_if, framed_by, form_by, sized_form, is_number, is_length, one_length, ends_with_chunked, strict_length, body_length}
+use Rattle.tiny_http_message.specs.Framing.{mentions, value_of, elements_of, lenient_length, expectation, names_upgrade, names_coding, EachIs, EndsWithChunked, IsStrictLength, IsBodyLength, IsForm, is_last, Frames}
+use Rattle.tiny_http_message.specs.FramingReading.{first_value, framing, framed_if, framed_by, form_by, sized_form, is_number, is_length, one_length, ends_with_chunked, strict_length, body_length}
 
 -- the length that the headers say
 
@@ -234,3 +235,38 @@ lenient-fault v headers fault e = by fault (let R : Result Framing FramingFault 
     by : (f : FramingFault) → Frames Lenient v headers (Err f) → f ≡ Expectation
     by Invalid h = absurd (h (lenient_length headers) refl)
     by Expectation h = refl
+
+-- a value that was found, or that of one header more, and then of those behind it
+first-more : (found : Option (List ℕ)) (name : List ℕ) (h : Header) (hs : List Header) → first_value (first_value found name (h ∷ [])) name hs ≡ first_value found name (h ∷ hs)
+first-more (Some value) name h hs = refl
+first-more None name h hs = by-name (same_name h.field name)
+  where
+    by-name : (b : Bool) → first_value (if b then Some h.value else None) name hs ≡ (if b then Some h.value else value_of name hs)
+    by-name true = refl
+    by-name false = refl
+
+-- behind the last header it is what was found
+first-none : (found : Option (List ℕ)) (name : List ℕ) → first_value found name [] ≡ found
+first-none (Some value) name = refl
+first-none None name = refl
+
+-- from one header to the next
+pub first-passed : (was now : Option (List ℕ)) (name : List ℕ) (headers : List Header) (i : ℕ) (h : Header) → i < length headers → h ≡ get_or headers i h → now ≡ first_value was name (h ∷ [])
+    → first_value was name (drop i headers) ≡ value_of name headers → first_value now name (drop (i + 1) headers) ≡ value_of name headers
+first-passed was now name headers i h within is e so_far =
+    ap (λ v. first_value v name (drop (i + 1) headers)) e ∙ first-more was name h (drop (i + 1) headers) ∙ ap (λ x. first_value was name (x ∷ drop (i + 1) headers)) is
+    ∙ sym (at_drop_more (λ x. first_value was name x) headers i h within) ∙ so_far
+
+pub first-all : (found : Option (List ℕ)) (name : List ℕ) (headers : List Header) (i : ℕ) → length headers ≤ i → first_value found name (drop i headers) ≡ value_of name headers → found ≡ value_of name headers
+first-all found name headers i end so_far = sym (first-none found name) ∙ sym (at_drop_all (λ x. first_value found name x) headers i end) ∙ so_far
+
+-- the framing by the values that were found
+pub framed-found : (p : HeadRules) (v : HTTPVersion) (headers : List Header) (n : Option ℕ) (owed : Bool) (form : Form) (last : Bool) (connection coding : Option (List ℕ)) → connection ≡ value_of (codes "Connection") headers
+    → coding ≡ value_of (codes "Transfer-Encoding") headers → body_length p headers ≡ Ok n → expectation (value_of (codes "Expect") headers) ≡ Some owed → form ≡ form_by (mentions (codes "upgrade") connection) (is_some coding) owed n
+    → last ≡ is_last v connection → Ok (record { form = form; owes_continue = owed; body_length = n; asks_upgrade = false; by_standard = false; is_last = last }) ≡ framing p v headers
+unfolding framing
+framed-found p v headers n owed form last connection coding con cod body exp formed ends =
+    let F : Form → Bool → Result Framing FramingFault = λ f l. Ok (record { form = f; owes_continue = owed; body_length = n; asks_upgrade = false; by_standard = false; is_last = l }) in
+    ap (λ f. F f last) (formed ∙ ap (λ c. form_by (mentions (codes "upgrade") c) (is_some coding) owed n) con ∙ ap (λ c. form_by (names_upgrade headers) (is_some c) owed n) cod)
+    ∙ ap (λ l. F (form_by (names_upgrade headers) (names_coding headers) owed n) l) (ends ∙ ap (λ c. is_last v c) con)
+    ∙ sym (ap (λ b. framed_if v headers b) body ∙ ap (λ e. framed_by v headers n e) exp)

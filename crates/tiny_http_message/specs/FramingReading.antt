@@ -15,6 +15,11 @@ use Rattle.tiny_http_message.specs.declared.framing.Form.TheVariants.{Rest, Noth
 use Rattle.tiny_http_message.specs.declared.framing.Framing.{Framing}
 use Rattle.tiny_http_message.specs.Framing.{value_of, elements_of, lenient_length, expectation, names_upgrade, names_coding, is_last}
 
+-- the value that was found before, or else that of the first header of that name
+abbrev pub first_value : Option (List ℕ) → List ℕ → List Header → Option (List ℕ)
+first_value None name headers = value_of name headers
+first_value (Some value) name headers = Some value
+
 abbrev pub sized_form : Bool → Option ℕ → Form
 sized_form owed None = Nothing
 sized_form owed (Some n) = if n == 0 then Nothing else if (nat_le n LONGEST_WITH_HEAD && not owed) then WithHead else Counted

@@ -114,6 +114,14 @@ pub enum HeadRead {
 }
 
 impl Exchange {
+    // The request of this head, not answered yet.
+    pub(crate) fn new(head: Head, open_request: OpenRequest<Body>) -> Exchange
+        ensures head { result.head ≡ head }
+        ensures open { result.open_request ≡ open_request }
+    {
+        Exchange { head, open_request }
+    }
+
     ghost use Rattle.tiny_http_message.specs.Exchange.{exchange_printing, exchange_context, exchange_check, exchange_of, exchange_head, exchange_drop_text, exchange_owes_continue, exchange_body, Changes, GivesUpBody, KeepsButBody};
     ghost use Rattle.tiny_http_message.specs.OpenRequest.{OwesNoContinue, IsUpgraded, HasNoDropText, HasNoBodyLeft};
 
@@ -382,6 +390,7 @@ fn answer_fault(
 }
 
 // The head that a message and its framing make.
+#[inline(always)]
 fn head_of(message: Message, framing: Framing) -> Head
     ensures message { head_message result ≡ message_of message }
     ensures framing { head_framing result ≡ framing }
@@ -400,21 +409,9 @@ fn head_of(message: Message, framing: Framing) -> Head
     }
 }
 
-// A request with this body; or no memory is found for the text that is sent if it is dropped.
-pub(crate) fn hand_out(
-    alloc: Global,
-    head: Head,
-    body: Body,
-    now: HttpDate,
-) -> Result<Exchange, AllocError>
-    ensures { IfOk result (λ x. (x.head ≡ head) × (x.open_request.body ≡ body) × KeepsHead x.open_request head now) }
-{
-    let open_request = OpenRequest::new(alloc, &head, body, now)?;
-    Ok(Exchange { head, open_request })
-}
-
 /// The body after a head that is so framed. One of up to 1024 bytes is read at once, unless a 100 is owed: `None` where it is
 /// cut, by the source's end or by a fault. It is an error where memory for it was refused.
+#[inline(always)]
 pub fn begin_body<R: ReadDevice>(
     alloc: Global,
     source: &mut Source<R>,
@@ -470,18 +467,18 @@ fn read_by_rules<R: ReadDevice>(
         Ok(framing) => framing,
         Err(fault) => return refused_with(alloc, refusal_of(fault), message.version, false, now),
     };
-    match begin_body(alloc, source, framing) {
-        Ok(Some(body)) => {
-            if is_too_new(message.version) {
-                let no_body = is_head(&message.method);
-                return refuse_too_new(alloc, source, framing.form, &body, no_body, now);
-            }
-            match hand_out(alloc, head_of(message, framing), body, now) {
-                Ok(exchange) => Ok(HeadRead::Request(exchange)),
-                Err(e) => Err(e),
-            }
-        }
-        Ok(None) => answer_cut(alloc, source.stop(), false, true, now),
+    let body = match begin_body(alloc, source, framing) {
+        Ok(Some(body)) => body,
+        Ok(None) => return answer_cut(alloc, source.stop(), false, true, now),
+        Err(e) => return Err(e),
+    };
+    if is_too_new(message.version) {
+        let no_body = is_head(&message.method);
+        return refuse_too_new(alloc, source, framing.form, &body, no_body, now);
+    }
+    let head = head_of(message, framing);
+    match OpenRequest::new(alloc, &head, body, now) {
+        Ok(open_request) => Ok(HeadRead::Request(Exchange::new(head, open_request))),
         Err(e) => Err(e),
     }
 }
@@ -502,11 +499,12 @@ fn read_item<R: ReadDevice>(
     ensures passed { IfOk result (λ read. IsRefusedUncut read → source.new.stop ≡ source.old.stop) }
     ensures standing { source.new.standing ≡ source.old.standing }
 {
-    match profile {
-        Profile::Lenient => read_by_rules(alloc, source, HeadRules::Lenient, now),
-        Profile::Strict => read_by_rules(alloc, source, HeadRules::Strict, now),
-        Profile::Standard => read_standard(alloc, source, now),
-    }
+    let rules = match profile {
+        Profile::Lenient => HeadRules::Lenient,
+        Profile::Strict => HeadRules::Strict,
+        Profile::Standard => return read_standard(alloc, source, now),
+    };
+    read_by_rules(alloc, source, rules, now)
 }
 
 // Where a source stands after the head of this request.
@@ -574,28 +572,23 @@ pub fn read_head_with<R: ReadDevice>(
         }
         Standing::Head | Standing::Abandoned | Standing::Broken(_) => {}
     }
-    match read_item(alloc, source, profile, now) {
-        Ok(HeadRead::Request(exchange)) => {
-            source.stand_at(standing_of(&exchange));
-            Ok(HeadRead::Request(exchange))
-        }
+    let read = read_item(alloc, source, profile, now);
+    match &read {
+        Ok(HeadRead::Request(exchange)) => source.stand_at(standing_of(exchange)),
         Ok(HeadRead::Ended(why)) => {
             source.end();
-            Ok(HeadRead::Ended(end_at(standing, why)))
+            return Ok(HeadRead::Ended(end_at(standing, *why)));
         }
-        Ok(HeadRead::Refused { status, text, last }) => {
-            if last {
+        Ok(HeadRead::Refused { last, .. }) => {
+            if *last {
                 source.end();
-                return Ok(HeadRead::Refused { status, text, last });
+            } else {
+                source.stand_at(Standing::Head);
             }
-            source.stand_at(Standing::Head);
-            Ok(HeadRead::Refused { status, text, last })
         }
-        Err(e) => {
-            source.end();
-            Err(e)
-        }
+        Err(_) => source.end(),
     }
+    read
 }
 
 /// `read_head_with` under `Lenient`.

@@ -1,12 +1,12 @@
 //! How a message is framed, and whether the connection goes on.
-ghost use Rattle.std.specs.Prelude.{◌≡◌, ◌==◌, false, map, codes, None, is_some};
+ghost use Rattle.std.specs.Prelude.{◌≡◌, ◌==◌, ◌∷◌, [], if◌then◌else◌, false, map, codes, None, is_some};
 ghost use Rattle.std.specs.Option.{option_copied};
 ghost use Rattle.std.specs.List.{starts_with};
 ghost use Rattle.tiny_http_wire.specs.Bytes.{contains_word, is_blank, trimmed, parts, comma};
 ghost use Rattle.tiny_http_wire.specs.Common.{lowercase};
 ghost use Rattle.tiny_http_wire.specs.Heads.{is_too_new, length_of};
-ghost use Rattle.tiny_http_message.specs.Framing.{value_of, elements_of, mentions, lenient_length, expectation, is_last};
-ghost use Rattle.tiny_http_message.specs.FramingReading.{same_length, lengths_on, chunked_on, strict_length, body_length, sized_form, form_by, framing};
+ghost use Rattle.tiny_http_message.specs.Framing.{value_of, elements_of, mentions, length_in_value, expectation, is_last};
+ghost use Rattle.tiny_http_message.specs.FramingReading.{first_value, same_length, lengths_on, chunked_on, strict_length, body_length, sized_form, form_by, framing};
 
 use tiny_http_text::text::trim;
 use tiny_http_wire::ascii::AsciiString;
@@ -35,7 +35,8 @@ pub enum Profile {
     Strict,
     /// By the standard (RFC 9110 and RFC 9112): heads have its grammar, and are judged by `tiny_http_standard`. Lengths and sizes
     /// are refused as under `Strict`, and of codings only `chunked` is served. The lines of a chunked body have its grammar, a body that
-    /// is cut is a fault, and a connection is upgraded only as its request asks. Not whole yet: an answer prints as under `Strict`.
+    /// is cut is a fault, and a connection is upgraded only as its request asks. An answer is printed in version 1.1, says what becomes
+    /// of the connection, and is refused where its code isn't final.
     Standard,
 }
 
@@ -118,6 +119,21 @@ pub fn value_of<'a>(headers: &'a [Header], name: &str) -> Option<&'a AsciiString
     None
 }
 
+// The value that was found before, or else this header's if it has the name.
+#[inline(always)]
+fn or_value_of<'a>(
+    found: Option<&'a AsciiString>,
+    header: &'a Header,
+    name: &str,
+) -> Option<&'a AsciiString>
+    ensures { option_copied result ≡ first_value (option_copied found.entry) name.now (header.now ∷ []) }
+{
+    if found.is_none() && header.field.equiv(name) {
+        return Some(&header.value);
+    }
+    found
+}
+
 // Whether the text, in lower case, begins with the word.
 fn begins(text: &[u8], word: &[u8]) -> bool
     ensures { result ≡ starts_with ◌==◌ (lowercase text.now) word.now }
@@ -155,16 +171,13 @@ fn mentions(value: Option<&AsciiString>, word: &str) -> bool
     }
 }
 
-// The length under `Lenient`: that of the first `Content-Length`; a `Transfer-Encoding` hides it.
-fn lenient_length(headers: &[Header]) -> Option<usize>
-    ensures { result ≡ lenient_length headers.now }
+// The length under `Lenient`, by the first values of `Transfer-Encoding` and `Content-Length`: the coding hides the length.
+fn lenient_length(coding: Option<&AsciiString>, length: Option<&AsciiString>) -> Option<usize>
+    ensures { result ≡ (if is_some (option_copied coding.entry) then None else length_in_value (option_copied length.entry)) }
 {
-    if value_of(headers, "Transfer-Encoding").is_some() {
-        return None;
-    }
-    match value_of(headers, "Content-Length") {
-        Some(value) => parse_content_length(value.as_str()),
-        None => None,
+    match (coding, length) {
+        (None, Some(value)) => parse_content_length(value.as_str()),
+        _ => None,
     }
 }
 
@@ -249,21 +262,19 @@ fn is_chunked(headers: &[Header]) -> bool
     is_chunked
 }
 
-// Whether a header of that name stands there.
-fn has(headers: &[Header], name: &str) -> bool
-    ensures { result ≡ is_some (value_of name.now headers.now) }
+// The length under `Strict`, where a `Transfer-Encoding` and a `Content-Length` stand there or don't.
+fn strict_length(
+    is_coded: bool,
+    is_sized: bool,
+    headers: &[Header],
+) -> Result<Option<usize>, FramingFault>
+    ensures { is_coded ≡ is_some (value_of (codes "Transfer-Encoding") headers.now) → is_sized ≡ is_some (value_of (codes "Content-Length") headers.now)
+        → result ≡ strict_length (elements_of (codes "Content-Length") headers.now) (elements_of (codes "Transfer-Encoding") headers.now) }
 {
-    value_of(headers, name).is_some()
-}
-
-// The length under `Strict`.
-fn strict_length(headers: &[Header]) -> Result<Option<usize>, FramingFault>
-    ensures { result ≡ strict_length (elements_of (codes "Content-Length") headers.now) (elements_of (codes "Transfer-Encoding") headers.now) }
-{
-    if !has(headers, "Transfer-Encoding") {
+    if !is_coded {
         return one_length(headers);
     }
-    if has(headers, "Content-Length") {
+    if is_sized {
         return Err(FramingFault::Invalid);
     }
     if is_chunked(headers) {
@@ -272,21 +283,27 @@ fn strict_length(headers: &[Header]) -> Result<Option<usize>, FramingFault>
     Err(FramingFault::Invalid)
 }
 
-// The length that the headers say, if any.
-fn body_length(rules: HeadRules, headers: &[Header]) -> Result<Option<usize>, FramingFault>
-    ensures { result ≡ body_length rules headers.now }
+// The length that the headers say, if any, where these are the first values of `Transfer-Encoding` and `Content-Length`.
+fn body_length(
+    rules: HeadRules,
+    coding: Option<&AsciiString>,
+    length: Option<&AsciiString>,
+    headers: &[Header],
+) -> Result<Option<usize>, FramingFault>
+    ensures { option_copied coding.entry ≡ value_of (codes "Transfer-Encoding") headers.now → option_copied length.entry ≡ value_of (codes "Content-Length") headers.now
+        → result ≡ body_length rules headers.now }
 {
     match rules {
-        HeadRules::Lenient => Ok(lenient_length(headers)),
-        HeadRules::Strict => strict_length(headers),
+        HeadRules::Lenient => Ok(lenient_length(coding, length)),
+        HeadRules::Strict => strict_length(coding.is_some(), length.is_some(), headers),
     }
 }
 
-// Whether a 100 is owed; or None for an expectation that can't be met.
-fn expectation(headers: &[Header]) -> Option<bool>
-    ensures { result ≡ expectation (value_of (codes "Expect") headers.now) }
+// Whether a 100 is owed by the value of `Expect`; or None for an expectation that can't be met.
+fn expectation(value: Option<&AsciiString>) -> Option<bool>
+    ensures { result ≡ expectation (option_copied value.entry) }
 {
-    match value_of(headers, "Expect") {
+    match value {
         None => Some(false),
         Some(value) if value.eq_ignore_ascii_case("100-continue") => Some(true),
         Some(_) => None,
@@ -334,12 +351,21 @@ pub fn framing_of(
 ) -> Result<Framing, FramingFault>
     ensures { result ≡ framing rules version headers.now }
 {
-    let body_length = body_length(rules, headers)?;
-    let Some(owed) = expectation(headers) else {
+    let mut connection = None;
+    let mut expect = None;
+    let mut length = None;
+    let mut coding = None;
+    for header in headers {
+        connection = or_value_of(connection, header, "Connection");
+        expect = or_value_of(expect, header, "Expect");
+        length = or_value_of(length, header, "Content-Length");
+        coding = or_value_of(coding, header, "Transfer-Encoding");
+    }
+    let body_length = body_length(rules, coding, length, headers)?;
+    let Some(owed) = expectation(expect) else {
         return Err(FramingFault::Expectation);
     };
-    let connection = value_of(headers, "Connection");
-    let is_coded = value_of(headers, "Transfer-Encoding").is_some();
+    let is_coded = coding.is_some();
     Ok(Framing {
         form: form_by(mentions(connection, "upgrade"), is_coded, owed, body_length),
         owes_continue: owed,

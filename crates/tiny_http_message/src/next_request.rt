@@ -29,29 +29,6 @@ pub trait RefusalPlace<O> {
         ensures { refuses self.old output.old text.items (is_ok result) self.new output.new };
 }
 
-// Reads one head. `None` where it was refused, and the next one stands behind it.
-fn next_head<R: ReadDevice, O, P: RefusalPlace<O>>(
-    alloc: Global,
-    source: &mut Source<R>,
-    profile: Profile,
-    place: &mut P,
-    output: &mut O,
-    now: HttpDate,
-) -> Option<Result<NextRequest, AllocError>>
-    ensures { FindsHead P.refuses profile now (at source.old place.old output.old) result (at source.new place.new output.new) }
-{
-    match read_head_with(alloc, source, profile, now) {
-        Ok(HeadRead::Request(exchange)) => Some(Ok(NextRequest::Request(exchange))),
-        Ok(HeadRead::Ended(why)) => Some(Ok(NextRequest::Ended(why))),
-        Ok(HeadRead::Refused { status, text, last }) => match place.refuse(output, text) {
-            Ok(()) if last => Some(Ok(NextRequest::Ended(EndOfRequests::Refused(status)))),
-            Ok(()) => None,
-            Err(e) => Some(Err(e)),
-        },
-        Err(e) => Some(Err(e)),
-    }
-}
-
 /// Reads heads up to that of the next request. Where one is refused its answer goes to this place. A refused head ends the
 /// requests; but behind a 505 the next head is read, unless its head names an upgrade or its body is chunked (as tiny_http), or the
 /// profile is `Standard`.
@@ -69,8 +46,15 @@ pub fn next_request<R: ReadDevice, O, P: RefusalPlace<O>>(
 {
     let mut room = u64::MAX;
     loop {
-        if let Some(found) = next_head(alloc, source, profile, place, output, now) {
-            return found;
+        match read_head_with(alloc, source, profile, now) {
+            Ok(HeadRead::Request(exchange)) => return Ok(NextRequest::Request(exchange)),
+            Ok(HeadRead::Ended(why)) => return Ok(NextRequest::Ended(why)),
+            Ok(HeadRead::Refused { status, text, last }) => match place.refuse(output, text) {
+                Ok(()) if last => return Ok(NextRequest::Ended(EndOfRequests::Refused(status))),
+                Ok(()) => {}
+                Err(e) => return Err(e),
+            },
+            Err(e) => return Err(e),
         }
         match room.checked_sub(1) {
             Some(left) => room = left,

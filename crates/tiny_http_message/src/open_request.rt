@@ -58,6 +58,7 @@ pub struct OpenRequest<B> {
 impl<B: Drop> OpenRequest<B> {
     /// A request with this head and this body. `now` dates the 500 that is sent if it is dropped. It is an error where memory
     /// for that was refused.
+    #[inline(always)]
     pub fn new(
         alloc: Global,
         head: &Head,
@@ -280,6 +281,7 @@ impl OpenRequest<Body> {
 }
 
 // The coding that the headers of a request ask for: by the standard, chunks or none (RFC 9110, section 10.1.4).
+#[inline(always)]
 fn coding_for(by_standard: bool, headers: &[Header]) -> Option<Coding>
     ensures { result ≡ coding_for by_standard headers.now }
 {

@@ -7,8 +7,9 @@ ghost use Rattle.tiny_http_message.specs.Pipeline.{by_the_standard, served_versi
 ghost use Rattle.tiny_http_message.specs.HeadReads.{ReadsHead, RefusesWith, IsRequest, IsFramedRequest, IsRefusedUncut, IsOkEnd, HasByteOrTimedOut, head_framing};
 ghost use Rattle.tiny_http_message.specs.StandardReads.{AnswersStandardCut, IsHeadOf};
 
-use crate::exchange::{Head, HeadRead, answer_cut, begin_body, cut_end, hand_out, refused_with};
+use crate::exchange::{Exchange, Head, HeadRead, answer_cut, begin_body, cut_end, refused_with};
 use crate::framing::{Form, Framing, Profile, STANDARD_HEAD, sized_form};
+use crate::open_request::OpenRequest;
 use httpdate::HttpDate;
 use std::alloc::{AllocError, Global};
 use tiny_http_standard::heads::{Head as StandardHead, HeadFault, HeadRead as StandardRead};
@@ -126,12 +127,14 @@ pub(crate) fn read_standard<R: ReadDevice>(
         Err(e) => return Err(e),
     };
     let framing = framing_of(head.summary);
-    match begin_body(alloc, source, framing) {
-        Ok(Some(body)) => match hand_out(alloc, head_of(head, framing), body, now) {
-            Ok(exchange) => Ok(HeadRead::Request(exchange)),
-            Err(e) => Err(e),
-        },
-        Ok(None) => answer_cut(alloc, source.stop(), true, true, now),
+    let body = match begin_body(alloc, source, framing) {
+        Ok(Some(body)) => body,
+        Ok(None) => return answer_cut(alloc, source.stop(), true, true, now),
+        Err(e) => return Err(e),
+    };
+    let head = head_of(head, framing);
+    match OpenRequest::new(alloc, &head, body, now) {
+        Ok(open_request) => Ok(HeadRead::Request(Exchange::new(head, open_request))),
         Err(e) => Err(e),
     }
 }

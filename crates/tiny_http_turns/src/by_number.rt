@@ -50,6 +50,7 @@ impl<T: Drop> ByNumber<T> {
     }
 
     /// The value under this number, if there is one.
+    #[inline(always)]
     pub fn get(&self, number: u64) -> Option<&T>
         ensures some { IfSome result (λ value. slice_get self.now number ≡ Some (Some value.now)) }
         ensures none { IfNone result (value_of (slice_get self.now number) ≡ None) }
@@ -63,6 +64,7 @@ impl<T: Drop> ByNumber<T> {
 
     /// Puts this under the next number. An error changes nothing: `Exhausted` where there are 2^64 - 1 numbers, and only
     /// there; `Memory` where room for it was refused.
+    #[inline(always)]
     pub fn push(&mut self, value: Option<T>) -> Result<(), TurnsError>
         ensures ok { OnOk result (self.new ≡ self.old ++ (value ∷ [])) }
         ensures err { OnErr result (self.new ≡ self.old) }
@@ -94,6 +96,7 @@ impl<T: Drop> ByNumber<T> {
 
     /// Puts this in the place of the value under a number, and gives that value. Where there is none nothing changes, and
     /// what was handed in is dropped.
+    #[inline(always)]
     pub fn replace(&mut self, number: u64, value: Option<T>) -> Option<T>
         ensures some { IfSome result (λ was. (slice_get self.old number ≡ Some (Some was)) × (self.new ≡ slice_set self.old number value)) }
         ensures none { IfNone result ((value_of (slice_get self.old number) ≡ None) × (self.new ≡ self.old)) }
@@ -106,6 +109,7 @@ impl<T: Drop> ByNumber<T> {
 }
 
 // Puts this in the place of the value that is kept here, and gives that value. Where there is none nothing changes.
+#[inline(always)]
 fn exchange<T: Drop>(kept: &mut VecDeque<Option<T>>, at: usize, value: Option<T>) -> Option<T>
     ensures some { IfSome result (λ was. (slice_get kept.old.items at ≡ Some (Some was)) × (kept.new.items ≡ slice_set kept.old.items at value)) }
     ensures none { IfNone result ((value_of (slice_get kept.old.items at) ≡ None) × (kept.new.items ≡ kept.old.items)) }
@@ -118,6 +122,7 @@ fn exchange<T: Drop>(kept: &mut VecDeque<Option<T>>, at: usize, value: Option<T>
 }
 
 // Passes the numbers at the front that have no value.
+#[inline(always)]
 fn pass_empty<T: Drop>(kept: &mut VecDeque<Option<T>>, passed: &mut u64)
     requires bound { passed.old + length kept.old.items < 2 ^ 64 }
     ensures same { with_passed passed.new kept.new.items ≡ with_passed passed.old kept.old.items }

@@ -72,14 +72,16 @@ returns-then-is_too_new-clause-goes_on g c =
     let P : Option Feed → Type 0 = λ o. GoesOn o c.refuse_too_new.new.source.feed in
     subst P c.has_byte.ensures.feed (goes-on_more _ _ _ c.in-Ok.ensures.goes_on (goes-on_more _ _ _ c.begin_body.ensures.goes_on c.refuse_too_new.ensures.goes_on))
 
-pub returns-in-Ok-hand_out-clause-reads : goal.returns-in-Ok-hand_out-clause-reads
-returns-in-Ok-hand_out-clause-reads g c =
+pub returns-in-Ok-new-clause-reads : goal.returns-in-Ok-new-clause-reads
+returns-in-Ok-new-clause-reads g c =
     let taken = rw c.in-Ok-Some.field-0-is at c.in-Ok-Some.ensures in
-    let y = c.in-Ok-hand_out.ensures in
-    let P : Option Feed → Type 0 = λ o. ReadsHead (profile_of c.args.rules) at.Head c.args.now o c.begin_body.new.source.feed (Ok (read.Request c.in-Ok-hand_out.exchange)) in
+    let kept = c.in-Ok-new.ensures in
+    let says = c.new-in-Ok-new.ensures in
+    let x = c.new-in-Ok-new.result in
+    let P : Option Feed → Type 0 = λ o. ReadsHead (profile_of c.args.rules) at.Head c.args.now o c.begin_body.new.source.feed (Ok (read.Request x)) in
     subst P c.has_byte.ensures.feed
-    (head-handed c.args.rules _ _ _ _ c.in-Ok.message c.in-Ok-framing_of.framing c.head_of.result c.in-Ok-Some.body c.in-Ok-hand_out.exchange c.head_of.ensures.message c.head_of.ensures.framing (subst (λ l. ReadsMessage l c.has_byte.new.self.feed c.read_message.new.source.feed (Ok c.in-Ok.message)) c.head_limit.ensures c.in-Ok.ensures.reads)
-    (search (rules, c.as_slice.ensures.value, c.in-Ok-framing_of.ensures)) (search (rules, c.if-is_too_new.ensures)) taken.begins y.0 y.1 y.2)
+    (head-handed c.args.rules _ _ _ _ c.in-Ok.message c.in-Ok-framing_of.framing c.head_of-head.result c.in-Ok-Some.body x c.head_of-head.ensures.message c.head_of-head.ensures.framing (subst (λ l. ReadsMessage l c.has_byte.new.self.feed c.read_message.new.source.feed (Ok c.in-Ok.message)) c.head_limit.ensures c.in-Ok.ensures.reads)
+    (search (rules, c.as_slice.ensures.value, c.in-Ok-framing_of.ensures)) (search (rules, c.if-is_too_new.ensures)) taken.begins says.head (search (rules, says.open, kept.0)) (search (rules, says.open, kept.1)))
 
 pub returns-in-Ok-None-clause-reads : goal.returns-in-Ok-None-clause-reads
 returns-in-Ok-None-clause-reads g c =
@@ -94,13 +96,13 @@ returns-in-Ok-None-clause-passed g c =
     let taken = rw c.in-Ok-None.field-0-is at c.in-Ok-None.ensures in
     cut-passed _ c.stop-in-Ok-None.result true c.args.now c.answer_cut-in-Ok-None.result (c.stop-in-Ok-None.ensures.over (taken.cut refl).over).0 c.answer_cut-in-Ok-None.ensures
 
-pub returns-in-Ok-hand_out-clause-goes_on : goal.returns-in-Ok-hand_out-clause-goes_on
-returns-in-Ok-hand_out-clause-goes_on g c =
+pub returns-in-Ok-new-clause-goes_on : goal.returns-in-Ok-new-clause-goes_on
+returns-in-Ok-new-clause-goes_on g c =
     let P : Option Feed → Type 0 = λ o. GoesOn o c.begin_body.new.source.feed in
     subst P c.has_byte.ensures.feed (goes-on_more _ _ _ c.in-Ok.ensures.goes_on c.begin_body.ensures.goes_on)
 
-pub returns-in-Err-hand_out-clause-goes_on : goal.returns-in-Err-hand_out-clause-goes_on
-returns-in-Err-hand_out-clause-goes_on g c =
+pub returns-in-Err-new-clause-goes_on : goal.returns-in-Err-new-clause-goes_on
+returns-in-Err-new-clause-goes_on g c =
     let P : Option Feed → Type 0 = λ o. GoesOn o c.begin_body.new.source.feed in
     subst P c.has_byte.ensures.feed (goes-on_more _ _ _ c.in-Ok.ensures.goes_on c.begin_body.ensures.goes_on)
 
@@ -114,7 +116,7 @@ returns-in-Err-begin_body-clause-goes_on g c =
     let P : Option Feed → Type 0 = λ o. GoesOn o c.begin_body.new.source.feed in
     subst P c.has_byte.ensures.feed (goes-on_more _ _ _ c.in-Ok.ensures.goes_on c.begin_body.ensures.goes_on)
 
-pub returns-in-Ok-hand_out-clause-lazy : goal.returns-in-Ok-hand_out-clause-lazy
-returns-in-Ok-hand_out-clause-lazy g c is =
+pub returns-in-Ok-new-clause-lazy : goal.returns-in-Ok-new-clause-lazy
+returns-in-Ok-new-clause-lazy g c is =
     let taken = rw c.in-Ok-Some.field-0-is at c.in-Ok-Some.ensures in
     taken.lazy refl ∙ c.in-Ok.ensures.lazy ∙ (c.if-not-has_byte.ensures.some refl).1

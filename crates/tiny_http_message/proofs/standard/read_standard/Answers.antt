@@ -1,4 +1,4 @@
-use Rattle.std.proofs.Common.{refl, subst, Option, Ok}
+use Rattle.std.proofs.Common.{rules, refl, subst, Option, Ok}
 use Rattle.tiny_http_wire.specs.Device.{Feed}
 use Rattle.tiny_http_stream.specs.Source.{GoesOn}
 use Rattle.tiny_http_stream.specs.declared.source.Standing.TheVariants as at
@@ -33,10 +33,12 @@ pub returns-in-Ok-clause-reads : goal.returns-in-Ok-clause-reads
 returns-in-Ok-clause-reads g c =
     let reads = rw c.in-Ok-Whole.field-0-is at c.in-Ok-Whole.ensures.reads in
     let taken = rw c.in-Ok-Some.field-0-is at c.in-Ok-Some.ensures in
-    let y = c.in-Ok.ensures in
-    subst (λ (o : Option Feed). ReadsHead Standard at.Head c.args.now o c.begin_body.new.source.feed (Ok (read.Request c.in-Ok.exchange))) c.has_byte.ensures.feed
-    (standard-handed c.args.now c.has_byte.new.self.feed c.read_head_from.new.source.feed c.begin_body.new.source.feed c.in-Ok-Whole.head c.framing_of-framing.result c.head_of.result c.in-Ok-Some.body c.in-Ok.exchange c.head_of.ensures.message c.framing_of-framing.ensures
-    c.head_of.ensures.framing reads taken.begins y.0 y.1 y.2)
+    let kept = c.in-Ok.ensures in
+    let says = c.new-in-Ok.ensures in
+    let x = c.new-in-Ok.result in
+    subst (λ (o : Option Feed). ReadsHead Standard at.Head c.args.now o c.begin_body.new.source.feed (Ok (read.Request x))) c.has_byte.ensures.feed
+    (standard-handed c.args.now c.has_byte.new.self.feed c.read_head_from.new.source.feed c.begin_body.new.source.feed c.in-Ok-Whole.head c.framing_of-framing.result c.head_of-head.result c.in-Ok-Some.body x c.head_of-head.ensures.message c.framing_of-framing.ensures
+    c.head_of-head.ensures.framing reads taken.begins says.head (search (rules, says.open, kept.0)) (search (rules, says.open, kept.1)))
 
 pub returns-in-Ok-None-clause-reads : goal.returns-in-Ok-None-clause-reads
 returns-in-Ok-None-clause-reads g c =
@@ -49,8 +51,8 @@ returns-in-Ok-None-clause-reads g c =
 pub returns-in-Ok-clause-goes_on : goal.returns-in-Ok-clause-goes_on
 returns-in-Ok-clause-goes_on g c = subst (λ (o : Option Feed). GoesOn o c.begin_body.new.source.feed) c.has_byte.ensures.feed (goes-on_more _ _ _ c.in-Ok-Whole.ensures.goes_on c.begin_body.ensures.goes_on)
 
-pub returns-in-Err-hand_out-clause-goes_on : goal.returns-in-Err-hand_out-clause-goes_on
-returns-in-Err-hand_out-clause-goes_on g c = subst (λ (o : Option Feed). GoesOn o c.begin_body.new.source.feed) c.has_byte.ensures.feed (goes-on_more _ _ _ c.in-Ok-Whole.ensures.goes_on c.begin_body.ensures.goes_on)
+pub returns-in-Err-new-clause-goes_on : goal.returns-in-Err-new-clause-goes_on
+returns-in-Err-new-clause-goes_on g c = subst (λ (o : Option Feed). GoesOn o c.begin_body.new.source.feed) c.has_byte.ensures.feed (goes-on_more _ _ _ c.in-Ok-Whole.ensures.goes_on c.begin_body.ensures.goes_on)
 
 pub returns-in-Ok-None-clause-goes_on : goal.returns-in-Ok-None-clause-goes_on
 returns-in-Ok-None-clause-goes_on g c = subst (λ (o : Option Feed). GoesOn o c.begin_body.new.source.feed) c.has_byte.ensures.feed (goes-on_more _ _ _ c.in-Ok-Whole.ensures.goes_on c.begin_body.ensures.goes_on)
@@ -61,5 +63,6 @@ returns-in-Err-begin_body-clause-goes_on g c = subst (λ (o : Option Feed). Goes
 pub returns-in-Ok-clause-framed : goal.returns-in-Ok-clause-framed
 returns-in-Ok-clause-framed g c =
     let judged = rw c.in-Ok-Whole.field-0-is at c.in-Ok-Whole.ensures.judged in
-    let y = c.in-Ok.ensures in
-    standard-framed c.args.now c.in-Ok-Whole.head c.framing_of-framing.result c.head_of.result c.in-Ok.exchange judged c.head_of.ensures.message c.framing_of-framing.ensures c.head_of.ensures.framing y.0 y.2
+    let kept = c.in-Ok.ensures in
+    let says = c.new-in-Ok.ensures in
+    standard-framed c.args.now c.in-Ok-Whole.head c.framing_of-framing.result c.head_of-head.result c.new-in-Ok.result judged c.head_of-head.ensures.message c.framing_of-framing.ensures c.head_of-head.ensures.framing says.head (search (rules, says.open, kept.1))
