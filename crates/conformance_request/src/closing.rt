@@ -1,5 +1,8 @@
 //! An answer that asks that the connection ends, while another thread waits for the next head.
-use crate::bench::{AMPLE, DATED, Recorder, assert_output, is_reached, now, record, text};
+use crate::bench::{
+    AMPLE, Asked, DATED, Recorder, assert_output, client, gated, is_about_to_call, is_reached,
+    next, now, record, text,
+};
 use httpdate::HttpDate;
 use std::alloc::Global;
 use std::io::{ErrorKind, Read};
@@ -95,4 +98,46 @@ fn no_request_is_handed_out_behind_a_close(rt: HostRuntime) -> Result<(), Fail> 
 #[test]
 fn no_refusal_is_sent_behind_a_close(rt: HostRuntime) -> Result<(), Fail> {
     ends_before(rt, rt.alloc(), b"bad\r\n\r\n")
+}
+
+// Answers by `b` and the close. It counts that it is about to, and that it has.
+fn respond_to_close<R: Wait + Clock + Copy>(
+    request: Asked<R>,
+    alloc: Global,
+    date: HttpDate,
+    begun: &AtomicU64,
+) -> bool {
+    let Ok(answer) = text(alloc, "b") else {
+        return false;
+    };
+    begun.fetch_add(1, Ordering::SeqCst);
+    let sent = request.respond(answer.with_close(), date);
+    begun.fetch_add(1, Ordering::SeqCst);
+    sent.is_ok()
+}
+
+// The second request's answer asks for the close, and waits for its turn: until then the requests go on.
+#[test]
+fn a_close_waits_for_its_turn(rt: HostRuntime) -> Result<(), Fail> {
+    let alloc = rt.alloc();
+    let client = client(
+        alloc,
+        b"GET / HTTP/1.1\r\n\r\nGET / HTTP/1.1\r\n\r\nGET / HTTP/1.1\r\n\r\n",
+        None,
+    )?;
+    let mut bench = gated(rt, alloc, client, AMPLE, ErrorKind::Other, 1)?;
+    let begun = Arc::new(alloc, AtomicU64::new(0))?;
+    let counted = Arc::try_clone(&begun)?;
+    let first = next(&mut bench)?;
+    let second = next(&mut bench)?;
+    let date = now()?;
+    let closes = thread::spawn(&rt, move || respond_to_close(second, alloc, date, &counted));
+    let closes = closes.map_err(|_| "no thread")?;
+    assert!(rt; is_about_to_call(&rt, &begun));
+    let third = next(&mut bench)?;
+    first.respond(text(alloc, "a")?, date)?;
+    assert!(rt; closes.join(&rt));
+    third.respond(text(alloc, "c")?, date)?;
+    assert!(rt; matches!(bench.client.next(date), Ok(None)));
+    Ok(())
 }

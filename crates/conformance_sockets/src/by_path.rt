@@ -58,9 +58,19 @@ fn answer_path<R: Wait + Clock + Drop>(
     request.respond(response, current_date(rt))
 }
 
+// Answers by the path itself, and asks that the connection ends.
+fn answer_to_close<R: Wait + Clock + Drop>(
+    rt: &R,
+    alloc: Global,
+    request: ServerRequest<R>,
+) -> io::Result<()> {
+    let response = text(alloc, request.url())?.with_close();
+    request.respond(response, current_date(rt))
+}
+
 impl<R: Wait + Clock + Drop> Handler<R, ServerRequest<R>> for ByPath<R> {
     /// Keeps a request for `/keep`, drops one for `/drop`, answers one for `/echo` by its body, upgrades one for `/greet`, and
-    /// answers each other one by its path.
+    /// answers each other one by its path. Behind the answer for `/close` the connection is to end.
     fn handle(&self, rt: &R, alloc: Global, request: ServerRequest<R>) -> io::Result<()> {
         let path = request.url();
         if self.keeps_all || path == "/keep" {
@@ -71,6 +81,7 @@ impl<R: Wait + Clock + Drop> Handler<R, ServerRequest<R>> for ByPath<R> {
             "/drop" => Ok(()),
             "/echo" => echo(rt, alloc, request),
             "/greet" => greet(rt, alloc, request),
+            "/close" => answer_to_close(rt, alloc, request),
             _ => answer_path(rt, alloc, request),
         }
     }

@@ -4,7 +4,7 @@ use crate::bench::{
     send, send_body, serve, turn, turns,
 };
 use crate::same::assert_holds;
-use crate::script::{Step, Way, play, play_each};
+use crate::script::{Step, Way, play, play_both, play_each};
 use std::alloc::Global;
 use std::io::{ErrorKind, Read, Write};
 use std::net::{SocketAddr, TcpListener, TcpStream};
@@ -160,6 +160,82 @@ const LAST_ANSWERS: [&[Step]; 3] = [
 #[test]
 fn connections_close_in_stages(rt: HostRuntime) {
     play_each(&rt, rt.alloc(), Way::Recv, &LAST_ANSWERS);
+}
+
+const REFUSED_TWICE: &[&str] = &[
+    "HTTP/1.1 400 Bad Request\r\n",
+    DATED,
+    "Content-Length: 0\r\n\r\n",
+    "HTTP/1.1 400 Bad Request\r\n",
+    DATED,
+    "Content-Length: 0\r\n\r\n",
+];
+
+const REFUSED_AND_DROPPED: &[&str] = &[
+    "HTTP/1.1 400 Bad Request\r\n",
+    DATED,
+    "Content-Length: 0\r\n\r\n",
+    "HTTP/1.1 500 Internal Server Error\r\n",
+    DATED,
+    "Content-Length: 0\r\n\r\n",
+];
+
+// A client that stays open, of whose requests the first one's answer asks that the connection ends, sees the end behind its last
+// answer, though a thread waits for its next head.
+const ASKED_TO_CLOSE: [&[Step]; 4] = [
+    &[
+        Step::Send(GET),
+        Step::Receive("/"),
+        Step::RespondToClose(400),
+        Step::Rest(REFUSED),
+    ],
+    // The last answer is that to a request which was received before.
+    &[
+        Step::SendOften(GET, 2),
+        Step::Receive("/"),
+        Step::Receive("/"),
+        Step::RespondToClose(400),
+        Step::RespondEmpty(400),
+        Step::Rest(REFUSED_TWICE),
+    ],
+    // It is the 500 of one that is dropped in its turn.
+    &[
+        Step::SendOften(GET, 2),
+        Step::Receive("/"),
+        Step::Receive("/"),
+        Step::RespondToClose(400),
+        Step::Drop,
+        Step::Rest(REFUSED_AND_DROPPED),
+    ],
+    // It is one that was left before.
+    &[
+        Step::SendOften(GET, 2),
+        Step::Receive("/"),
+        Step::Receive("/"),
+        Step::DropLast,
+        Step::RespondToClose(400),
+        Step::Rest(REFUSED_AND_DROPPED),
+    ],
+];
+
+#[test]
+fn the_end_follows_the_last_answer(rt: HostRuntime) {
+    play_both(&rt, rt.alloc(), &ASKED_TO_CLOSE);
+}
+
+// What waits is sent before the end.
+const SERVED_TO_CLOSE: [Step; 2] = [
+    Step::Send("GET /close HTTP/1.1\r\n\r\n"),
+    Step::Rest(&[
+        "HTTP/1.1 200 OK\r\n",
+        DATED,
+        "Content-Type: text/plain; charset=UTF-8\r\nContent-Length: 6\r\n\r\n/close",
+    ]),
+];
+
+#[test]
+fn an_answer_that_waits_comes_before_the_end(rt: HostRuntime) {
+    play(&rt, rt.alloc(), Way::Handle, &SERVED_TO_CLOSE);
 }
 
 // Whether a client can send so much: 256 MiB.

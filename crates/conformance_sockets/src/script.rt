@@ -10,7 +10,7 @@ use std::alloc::Global;
 use std::collections::VecDeque;
 use std::net::{Net, TcpStream};
 use std::sync::{Arc, Wait};
-use tiny_http::common::{Header, Method};
+use tiny_http::common::{Header, Method, StatusCode};
 use tiny_http::connection::SocketFiles;
 use tiny_http::response::Response;
 use tiny_http::server::{Server, ServerRequest, current_date};
@@ -58,8 +58,12 @@ pub enum Step {
     RespondEmpty(u16),
     /// The first request is answered by JSON.
     RespondJson,
+    /// The first request is answered by this status and no body, and the connection is to end.
+    RespondToClose(u16),
     /// The first request is dropped.
     Drop,
+    /// The request that was received last is dropped.
+    DropLast,
     /// No request is left.
     NoRequest,
     /// The server begins to serve by the path.
@@ -216,6 +220,13 @@ fn respond_json<R: Host>(rt: &R, alloc: Global, request: ServerRequest<R>) {
     sent.expect(rt, "it is sent");
 }
 
+// A request is answered by this status and no body, and the connection is to end.
+fn respond_to_close<R: Host>(rt: &R, alloc: Global, request: ServerRequest<R>, status: u16) {
+    let response = Response::empty(alloc, StatusCode(status)).with_close();
+    let sent = request.respond(response, current_date(rt));
+    sent.expect(rt, "it is sent");
+}
+
 // One step of the client that stands first, or of the server.
 fn act<R: Host>(rt: &R, alloc: Global, stage: &mut Stage<R>, step: Step) {
     match step {
@@ -243,7 +254,11 @@ fn act<R: Host>(rt: &R, alloc: Global, stage: &mut Stage<R>, step: Step) {
             assert_responds_empty(rt, alloc, take_request(rt, stage), status)
         }
         Step::RespondJson => respond_json(rt, alloc, take_request(rt, stage)),
+        Step::RespondToClose(status) => {
+            respond_to_close(rt, alloc, take_request(rt, stage), status)
+        }
         Step::Drop => drop(take_request(rt, stage)),
+        Step::DropLast => drop(stage.requests.pop_back()),
         Step::NoRequest => assert_no_request(rt, server_of(rt, stage)),
         Step::Serve => begin_to_serve(rt, alloc, stage),
         Step::EndServing => end_serving(rt, stage),

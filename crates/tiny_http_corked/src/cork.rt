@@ -152,6 +152,15 @@ impl<W: WriteBoth + Drop> Cork<W> {
         self.send_if_asked(rt);
         sent
     }
+
+    // Sends what waits, also where it may be left, and has the writer say that no byte follows.
+    fn end<Rt: Wait>(&self, rt: &Rt) {
+        let mut corked = self.corked.lock(rt);
+        corked.send_waiting();
+        corked.end_out();
+        drop(corked);
+        self.send_if_asked(rt);
+    }
 }
 
 /// The half of a connection that is written. Bytes wait where a flush may leave them, and are sent at once where it may not. As a
@@ -204,6 +213,11 @@ impl<W: WriteBoth + Drop, Rt: Wait> WriteDevice for CorkedWriter<W, Rt> {
         let sent = self.cork.flush(&self.rt);
         self.count(&sent);
         sent
+    }
+
+    /// Sends what waits, also where it may be left, and has the writer say that no byte follows. A fault isn't reported here.
+    fn end_out(&mut self) {
+        self.cork.end(&self.rt);
     }
 }
 

@@ -261,4 +261,15 @@ impl<W: WriteBoth> WriteDevice for Corked<W> {
             State::Ended => Ok(()),
         }
     }
+
+    /// Has the writer say that no byte follows, unless bytes wait: the caller sends them first.
+    fn end_out(&mut self)
+        ensures sink { corked_sink self.new ≡ corked_sink self.old }
+        // What waits stays, and so does whether it takes more.
+        ensures rest { self.new ≡ record self.old { writer = self.new.writer } }
+    {
+        if self.waiting.is_empty() {
+            self.writer.end_out();
+        }
+    }
 }

@@ -51,6 +51,12 @@ pub trait WriteDevice {
     fn flush_out(&mut self) -> Result<(), io::Error>
         ensures puts { Puts (sink self.old) (sink self.new) result [] }
         ensures sent { OnOk result ((sink self.new).has_ended ≡ false → HoldsNothing (sink self.new)) };
+
+    /// Says that no byte follows (RFC 9112, section 9.6): the caller writes nothing more. What the writer states stays the same. A
+    /// writer that can't say so does nothing, as this body. That the others say it is tested.
+    fn end_out(&mut self)
+        ensures { sink self.new ≡ sink self.old }
+    {}
 }
 
 /// Copies bytes from the front of `from` to that of `to`, as many as both have, and says how many. What stands behind them in
@@ -584,5 +590,10 @@ impl<W: WriteDevice> WriteDevice for &mut W {
     /// Flushes it.
     fn flush_out(&mut self) -> Result<(), io::Error> {
         WriteDevice::flush_out(&mut **self)
+    }
+
+    /// Ends it.
+    fn end_out(&mut self) {
+        WriteDevice::end_out(&mut **self)
     }
 }

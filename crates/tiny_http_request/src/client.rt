@@ -165,10 +165,10 @@ impl<R: ReadDevice + Drop, W: WriteDevice + Drop, Rt: Wait + Copy> ClientConnect
     /// upgraded; if the stream of an upgrade still reads, once that has ended. Under `Standard` it answers `None`, too, behind
     /// a request that was finished while its 100 was owed, or while more than 65,536 bytes of its body were unread. It does so,
     /// too, once an answer was sent that was made by `with_close`; a call that waits for the client then answers `None` when the
-    /// client sends a head or ends. Refused heads are answered in their turn, without waiting for it, and end the requests; but
-    /// behind one of a version above 1.1 the next head is read, unless it names an upgrade or its body is chunked. An error where
-    /// memory was refused; then each later call answers `None`. `now` dates the answers to refused heads, and the 500 of this
-    /// request if it is dropped.
+    /// client sends a head or ends. The client of a socket sees the end behind the last answer, as `Request::respond` tells.
+    /// Refused heads are answered in their turn, without waiting for it, and end the requests; but behind one of a version above
+    /// 1.1 the next head is read, unless it names an upgrade or its body is chunked. An error where memory was refused; then each
+    /// later call answers `None`. `now` dates the answers to refused heads, and the 500 of this request if it is dropped.
     pub fn next(&mut self, now: HttpDate) -> Result<Option<Request<R, W, Rt>>, AllocError>
         ensures over { IsOver self.old → (result ≡ Ok None) × IsOver self.new }
         ensures none { IfOk result (λ r. IfNone r (IsOver self.new)) }

@@ -190,7 +190,7 @@ impl<R: ReadDevice + Drop, W: WriteDevice + Drop, Rt: Wait + Drop> Request<R, W,
         self.head.headers.as_slice()
     }
 
-    /// The version of the request line.
+    /// The version of the request line; under `Standard` 1.1 for each later one with major version 1.
     pub fn http_version(&self) -> &HTTPVersion
         ensures { result.now ≡ (request_head self.now).version }
     {
@@ -253,6 +253,10 @@ impl<R: ReadDevice + Drop, W: WriteDevice + Drop, Rt: Wait + Drop> Request<R, W,
     /// Where the response was made by `with_close`, no further request is handed out. Under `Standard` the answer to the last
     /// number says `Connection: close`: this answer, or that of a later request or refused head. A later request says nothing of
     /// it that was dropped before, is upgraded or gives its raw writer.
+    ///
+    /// Behind that last answer the writer says that no byte follows, under each profile, once the answer is flushed: the client of
+    /// a socket sees the end then, also where a thread waits for its next head. Nothing is said behind a raw writer or an upgrade,
+    /// nor behind a text that was left and is written as their turn ends.
     pub fn respond<D: ReadDevice + Drop>(
         self,
         response: Response<D>,
@@ -339,7 +343,8 @@ impl<R: ReadDevice + Drop, W: WriteDevice + Drop, Rt: Wait + Drop> Request<R, W,
 
 impl<R: ReadDevice + Drop, W: WriteDevice + Drop, Rt: Wait + Drop> Drop for Request<R, W, Rt> {
     /// Leaves the turn with an empty 500, and then gives the body up. Under `Standard` the 500 says `Connection: close` as an
-    /// answer by `respond` does.
+    /// answer by `respond` does. Where this 500 is the last answer behind one that asked for the close, the writer says that no
+    /// byte follows, as `respond` tells.
     fn drop(self) {
         let (mut open_request, writer) = self.into_parts();
         let left = open_request.body.remainder();

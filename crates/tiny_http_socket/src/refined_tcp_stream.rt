@@ -251,4 +251,13 @@ impl WriteDevice for RefinedTcpStream {
     {
         Ok(())
     }
+
+    /// Shuts the direction to the client down, so that the client sees the end. What the system answers is passed over. A drop, and
+    /// a server that closes the connection, may do it again.
+    fn end_out(&mut self)
+        ensures sink { stream_sink self.new ≡ stream_sink self.old }
+        ensures unchanged { self.new ≡ self.old }
+    {
+        let _ = self.connection.shutdown(Shutdown::Write);
+    }
 }

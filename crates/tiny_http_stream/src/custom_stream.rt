@@ -68,6 +68,14 @@ impl<R, W: WriteDevice> WriteDevice for CustomStream<R, W> {
     {
         self.writer.flush_out()
     }
+
+    /// Has the writer say that no byte follows. The reader isn't touched.
+    fn end_out(&mut self)
+        ensures sink { W.sink (custom_writer self.new) ≡ W.sink (custom_writer self.old) }
+        ensures reader { custom_reader self.new ≡ custom_reader self.old }
+    {
+        self.writer.end_out();
+    }
 }
 
 impl<R: ReadDevice, W> Read for CustomStream<R, W> {

@@ -239,6 +239,17 @@ impl<W: WriteDevice> WriteDevice for Outlet<W> {
     fn flush_out(&mut self) -> Result<(), io::Error> {
         self.flush()
     }
+
+    /// Has the writer say that no byte follows, unless bytes are held back: the caller flushes first.
+    fn end_out(&mut self)
+        ensures sink { output_of self.new ≡ output_of self.old }
+        // What is held stays, and so does whether the outlet has ended.
+        ensures rest { self.new ≡ record self.old { writer = self.new.writer } }
+    {
+        if self.held.is_empty() {
+            self.inner.end_out();
+        }
+    }
 }
 
 // The inherent methods `write` and `flush` are found before these. `contents` is left unstated, as an outlet takes bytes and

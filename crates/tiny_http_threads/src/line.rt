@@ -307,6 +307,11 @@ impl<T: Drop, R: Wait + Drop> Held<T, R> {
         &mut self.item
     }
 
+    /// Whether the line was closed, and this number is the last that `issue_unless_closed` issued.
+    pub fn is_last(&self) -> bool {
+        self.line.is_last(&self.rt, self.number)
+    }
+
     /// Finishes the number. If the next one was left, that one is held, with the text that it was left with.
     pub fn finish(self) -> Option<(Held<T, R>, Vec<u8>)> {
         let Held {

@@ -160,6 +160,38 @@ impl<W: Write + Drop, R: Wait + Drop> HeldTurn<(), ()> for Writing<W, R> {
     }
 }
 
+// The same for a writer that can say that no byte follows: it says so behind the text of the last number of a closed line.
+#[derive(Drop)]
+struct Ending<W, R: Wait> {
+    held: Option<Held<W, R>>,
+}
+
+impl<W: Write + WriteDevice + Drop, R: Wait + Drop> HeldTurn<(), ()> for Ending<W, R> {
+    // Nothing is stated of what is written behind a lock.
+    ghost writes = { λ _ _ _ _ _. ⊤ };
+
+    ghost finishes = { λ _ _ _ _ _. ⊤ };
+
+    fn write_text(&mut self, _output: &mut (), text: &[u8]) {
+        if let Some(held) = &mut self.held {
+            let _ = held.item().write_all(text);
+            let _ = held.item().flush();
+            end_if_last(held);
+        }
+    }
+
+    fn finish(&mut self, _numbers: &mut ()) -> Option<Vec<u8>> {
+        finish_held(&mut self.held)
+    }
+}
+
+// Says that no byte follows, where the line was closed and this number is its last.
+fn end_if_last<W: WriteDevice + Drop, R: Wait + Drop>(held: &mut Held<W, R>) {
+    if held.is_last() {
+        held.item().end_out();
+    }
+}
+
 // Ends a turn with a text.
 fn leave_writer<W: Write + Drop, R: Wait + Drop>(turn: Turn<W, R>, text: Vec<u8>) {
     if let Some((held, text)) = turn.leave(text) {
@@ -195,21 +227,29 @@ impl<W: Write + Drop, R: Wait + Drop> SequentialWriter<W, R> {
     pub(crate) fn hold(&mut self) -> &mut W {
         self.turn.hold()
     }
+}
 
-    /// Ends its turn with a text, which is written once the turn has come. It waits for no turn.
+impl<W: Write + WriteDevice + Drop, R: Wait + Drop> SequentialWriter<W, R> {
+    /// Ends its turn with a text, which is written once the turn has come. It waits for no turn. Behind the last text of a closed
+    /// line the writer says that no byte follows.
     pub(crate) fn leave(self, text: Vec<u8>) {
         let Self { turn, failures: _ } = self;
-        leave_writer(turn, text);
+        if let Some((held, text)) = turn.leave(text) {
+            pass_on(&mut Ending { held: Some(held) }, &mut (), &mut (), text);
+        }
     }
 
-    /// Ends its turn. What was written must have been flushed. It waits for no turn.
+    /// Ends its turn. What was written must have been flushed. It waits for no turn. Where it is the last of a closed line, the
+    /// writer says that no byte follows.
     pub(crate) fn pass(self) {
         let Self { turn, failures: _ } = self;
         let none = Vec::new(turn.alloc());
         if let Some((held, _)) = turn.leave(none) {
-            let mut writing = Writing { held: Some(held) };
-            if let Some(text) = writing.finish(&mut ()) {
-                pass_on(&mut writing, &mut (), &mut (), text);
+            let mut held = held;
+            end_if_last(&mut held);
+            let mut ending = Ending { held: Some(held) };
+            if let Some(text) = ending.finish(&mut ()) {
+                pass_on(&mut ending, &mut (), &mut (), text);
             }
         }
     }

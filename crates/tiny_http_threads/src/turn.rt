@@ -3,6 +3,7 @@ use crate::sequential::{SequentialReader, SequentialWriter, SequentialWriterBuil
 use std::alloc::AllocError;
 use std::io::{Read, Write};
 use std::sync::Wait;
+use tiny_http_device::device::WriteDevice;
 
 /// Waits for the turn of this reader, and lends what it reads from.
 pub fn hold_reader<I: Read + Drop, R: Wait + Drop>(reader: &mut SequentialReader<I, R>) -> &mut I {
@@ -49,15 +50,18 @@ pub fn hold_writer<W: Write + Drop, R: Wait + Drop>(writer: &mut SequentialWrite
     writer.hold()
 }
 
-/// Ends the turn of this writer with a text, which is written and flushed once the turn has come. It waits for no turn.
-pub fn leave_writer<W: Write + Drop, R: Wait + Drop>(
+/// Ends the turn of this writer with a text, which is written and flushed once the turn has come. It waits for no turn. Behind the
+/// text of the last writer (`is_last_writer`) `end_out` says that no byte follows, also where the line was closed only after this
+/// call. It doesn't where the text is written as a `SequentialWriter` before it is dropped.
+pub fn leave_writer<W: Write + WriteDevice + Drop, R: Wait + Drop>(
     writer: SequentialWriter<W, R>,
     text: Vec<u8>,
 ) {
     writer.leave(text);
 }
 
-/// Ends the turn of this writer, and flushes nothing: the caller has flushed what it wrote. It waits for no turn.
-pub fn pass_writer<W: Write + Drop, R: Wait + Drop>(writer: SequentialWriter<W, R>) {
+/// Ends the turn of this writer, and flushes nothing: the caller has flushed what it wrote. It waits for no turn. Where it is the
+/// last writer (`is_last_writer`), `end_out` says before that no byte follows.
+pub fn pass_writer<W: Write + WriteDevice + Drop, R: Wait + Drop>(writer: SequentialWriter<W, R>) {
     writer.pass();
 }

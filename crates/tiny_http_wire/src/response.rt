@@ -281,7 +281,8 @@ impl<R> Response<R> {
 
     /// The same answer, behind which the connection is to end (RFC 9112, section 9.6). Where a `Connection` or a `Request` sends it
     /// as its answer, no further request is handed out; those that were are answered. By the standard the last answer of the
-    /// connection says `Connection: close`: this one, if nothing was read behind its request. An upgrade and an `Exchange` pass it
+    /// connection says `Connection: close`: this one, if nothing was read behind its request. Behind the last answer that `Request`s
+    /// send the client of a socket sees the end; a `Connection` closes nothing. An upgrade and an `Exchange` pass it
     /// over, and what `raw_print` and `print` print is the same.
     pub fn with_close(self) -> Response<R>
         ensures { result ≡ record self { answer = record self.answer { closes = true } } }
