@@ -7,6 +7,8 @@ mod answers_alone;
 #[cfg(test)]
 mod broken_answers;
 #[cfg(test)]
+mod contentless;
+#[cfg(test)]
 mod custom_stream;
 #[cfg(test)]
 mod ends;

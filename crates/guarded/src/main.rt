@@ -1,6 +1,6 @@
 //! Answers every request by `hello world`: `guarded [--lenient|--strict|--standard] ADDRESS`. It answers as `hello`, by a handler:
 //! each connection's worker answers that connection's requests itself. Heads are read under the profile that is named, or else
-//! under `Lenient`.
+//! under `Standard`.
 #![tactic(auto)]
 
 ghost use Rattle.std.specs.Prelude.{◌≡◌};
@@ -88,10 +88,10 @@ fn profile_of(word: &str) -> Option<Profile> {
     }
 }
 
-// The profile and the address that the words name: `Lenient` where no profile is named.
+// The profile and the address that the words name: `Standard` where no profile is named.
 fn asked(words: &[String]) -> Result<(Profile, &str), GuardedFault> {
     match words {
-        [address] => Ok((Profile::Lenient, address.as_str())),
+        [address] => Ok((Profile::Standard, address.as_str())),
         [word, address] => match profile_of(word.as_str()) {
             Some(profile) => Ok((profile, address.as_str())),
             None => Err(GuardedFault::Usage),
