@@ -2,6 +2,7 @@
 use crate::case::{Case, CaseStep, Deed};
 use crate::outcome::{Difference, Outcome, count_differs, differing, output_differs};
 use crate::plain::plain_lines;
+use crate::plain_standard::standard_lines;
 use std::alloc::{AllocError, Global};
 use std::io::ErrorKind;
 use tiny_http_core::framing::Profile;
@@ -232,7 +233,8 @@ pub fn cut_difference(
     count_differs(alloc, "failures", outcome.failures, 0)
 }
 
-/// Where the requests that are handed out of these bytes are not those that a plain reading of them finds.
+/// Where the requests that are handed out of these bytes are not those that a plain reading of them finds, by the case's profile.
+/// The strict profile has none: no case of it has its bytes replaced.
 pub fn plain_difference(
     alloc: Global,
     case: &Case,
@@ -240,7 +242,10 @@ pub fn plain_difference(
     client: &[u8],
 ) -> Result<Option<Difference>, AllocError> {
     let asks = case.steps.iter().filter(|step| step.is_ask()).count();
-    let lines = plain_lines(alloc, client, asks)?;
+    let lines = match case.profile {
+        Profile::Standard => standard_lines(alloc, client, asks)?,
+        Profile::Lenient | Profile::Strict => plain_lines(alloc, client, asks)?,
+    };
     let mut wanted = Vec::new(alloc);
     for line in &lines {
         wanted.push(line.as_slice()).map_err(AllocError::from)?;

@@ -10,6 +10,8 @@ pub mod front;
 pub mod kinds;
 pub mod outcome;
 pub mod plain;
+pub mod plain_parts;
+pub mod plain_standard;
 pub mod program;
 pub mod reading;
 pub mod replies;

@@ -1,19 +1,14 @@
-//! A plain reading of what a client sends: all of its bytes at once, line by line, without a buffer. What connections hand out
-//! is compared with it.
+//! A plain reading of what a client sends, by the lenient profile: all of its bytes at once, line by line, without a buffer. What
+//! connections hand out is compared with it.
+use crate::plain_parts::{RequestWords, SHORT, add_header, decimal};
 use std::alloc::{AllocError, Global};
-use std::fmt::Write;
 
 const VERSIONS: [&str; 5] = ["HTTP/0.9", "HTTP/1.0", "HTTP/1.1", "HTTP/2.0", "HTTP/3.0"];
-
-// The most bytes of a body that is read with its head.
-const SHORT: usize = 1024;
 
 // A head, and the bytes behind it.
 #[derive(Drop)]
 struct PlainHead<'a> {
-    method: &'a str,
-    target: &'a str,
-    version: &'a str,
+    request: RequestWords<'a>,
     headers: Vec<(&'a str, &'a str)>,
     behind: &'a [u8],
 }
@@ -70,8 +65,8 @@ fn headers_of(
     Ok(None)
 }
 
-// The method, the target and the version of a request line.
-fn request_line_of(line: &str) -> Option<(&str, &str, &str)> {
+// The parts of a request line.
+fn request_of(line: &str) -> Option<RequestWords<'_>> {
     let mut words = line.trim_matches(is_white).split(' ');
     let method = words.next()?;
     let target = words.next()?;
@@ -79,7 +74,11 @@ fn request_line_of(line: &str) -> Option<(&str, &str, &str)> {
     if !VERSIONS.contains(&version) {
         return None;
     }
-    Some((method, target, version.strip_prefix("HTTP/")?))
+    Some(RequestWords {
+        method,
+        target,
+        version: version.strip_prefix("HTTP/")?,
+    })
 }
 
 // The head that these bytes begin with; none where it is refused, cut, or not ASCII.
@@ -87,16 +86,14 @@ fn head_of(alloc: Global, bytes: &[u8]) -> Result<Option<PlainHead<'_>>, AllocEr
     let Some((line, rest)) = line_of(bytes) else {
         return Ok(None);
     };
-    let Some((method, target, version)) = request_line_of(line) else {
+    let Some(request) = request_of(line) else {
         return Ok(None);
     };
     let Some((headers, behind)) = headers_of(alloc, rest)? else {
         return Ok(None);
     };
     Ok(Some(PlainHead {
-        method,
-        target,
-        version,
+        request,
         headers,
         behind,
     }))
@@ -104,19 +101,7 @@ fn head_of(alloc: Global, bytes: &[u8]) -> Result<Option<PlainHead<'_>>, AllocEr
 
 // The number that a length says.
 fn number_of(value: &str) -> Option<usize> {
-    let digits = value.strip_prefix('+').unwrap_or(value);
-    if digits.is_empty() {
-        return None;
-    }
-    let mut number = 0usize;
-    for digit in digits.bytes() {
-        if !digit.is_ascii_digit() {
-            return None;
-        }
-        let digit = usize::from(digit - b'0');
-        number = number.checked_mul(10)?.checked_add(digit)?;
-    }
-    Some(number)
+    decimal(value.strip_prefix('+').unwrap_or(value))
 }
 
 impl<'a> PlainHead<'a> {
@@ -165,12 +150,12 @@ impl<'a> PlainHead<'a> {
 
     // Whether it is handed out, and not answered 505.
     fn is_known(&self) -> bool {
-        !matches!(self.version, "2.0" | "3.0")
+        !matches!(self.request.version, "2.0" | "3.0")
     }
 
     // Whether it is the connection's last, if it is handed out.
     fn is_last(&self) -> bool {
-        let ends = self.version == "1.0" && !self.tells("keep-alive");
+        let ends = self.request.version == "1.0" && !self.tells("keep-alive");
         ends || self.tells("close") || self.tells("upgrade")
     }
 
@@ -184,22 +169,18 @@ impl<'a> PlainHead<'a> {
 
     // Its line, as the request of this number.
     fn line(&self, alloc: Global, number: usize) -> Result<Vec<u8>, AllocError> {
-        let mut line = String::new(alloc);
-        let count = self.headers.len();
-        let (method, target, version) = (self.method, self.target, self.version);
-        write!(line, "handed {number} {method} {target} {version} {count} ")?;
-        match self.length() {
-            Some(length) => write!(line, "{length}")?,
-            None => line.push('-')?,
-        }
+        let mut line = self
+            .request
+            .line(alloc, number, self.headers.len(), self.length())?;
         for (name, value) in &self.headers {
-            write!(line, " [{name}: {value}]")?;
+            add_header(&mut line, *name, *value)?;
         }
         Ok(line.into_bytes())
     }
 }
 
-/// The lines of the requests that these bytes have, `most` at most, where each request is dropped before the next is asked for.
+/// The lines of the requests that these bytes have by the lenient profile, `most` at most, where each request is dropped before
+/// the next is asked for.
 pub fn plain_lines(alloc: Global, bytes: &[u8], most: usize) -> Result<Vec<Vec<u8>>, AllocError> {
     let mut lines = Vec::new(alloc);
     let mut rest = bytes;

@@ -54,8 +54,8 @@ fn lack_of(cases: &[Case]) -> Option<&'static str> {
     if case.varied.is_some_and(|count| count > case.client.len()) {
         return Some("the case in front varies more bytes than its client sends");
     }
-    if case.varied.is_some() && case.profile != Profile::Lenient {
-        return Some("the case in front varies bytes, whose plain reading is lenient");
+    if case.varied.is_some() && case.profile == Profile::Strict {
+        return Some("the case in front varies bytes, and the strict profile has no plain reading");
     }
     None
 }

@@ -112,7 +112,7 @@ const BAD: &[(&str, usize, &str)] = &[
     (
         "case a\nprofile strict\nclient G\nvary 1\nask\n  ended\n",
         7,
-        "the case in front varies bytes, whose plain reading is lenient",
+        "the case in front varies bytes, and the strict profile has no plain reading",
     ),
     (
         "case a\nclient G\nvary 2\nask\n  ended\n",
@@ -421,7 +421,7 @@ fn cuts_that_differ(rt: HostRuntime) -> Result<(), Fail> {
     Ok(())
 }
 
-// What a client sends, the reply to an `ask`, and what differs from a plain reading of it.
+// What a client sends, the reply to an `ask`, and what differs from a plain reading of it by the lenient profile.
 const PLAIN: &[[&str; 3]] = &[
     ["GET / HTTP/1.1\r\n\r\n", "handed 0 GET / 1.1 0 -", ""],
     [
@@ -453,9 +453,44 @@ const PLAIN: &[[&str; 3]] = &[
     ],
 ];
 
-// What differs from a plain reading.
-fn difference_of_plain(alloc: Global, client: &str, reply: &str) -> Result<String, Fail> {
-    let Ok(cases) = read_cases(alloc, "a.cases", CASE.as_bytes()) else {
+// The same by the standard profile.
+const PLAIN_STANDARD: &[[&str; 3]] = &[
+    [
+        "GET / HTTP/1.2\r\nHost: a\r\n\r\n",
+        "handed 0 GET / 1.1 1 - [Host: a]",
+        "",
+    ],
+    [
+        "\r\nP /a HTTP/1.0\r\nA:\u{e9}\r\nContent-Length: 2\r\n\r\nhi",
+        "handed 0 P /a 1.0 2 2 [A: %C3%A9] [Content-Length: 2]",
+        "",
+    ],
+    [
+        "GET /b HTTP/1.0\r\n\r\n",
+        "handed 0 GET / 1.0 0 -",
+        "request 0 that is handed out: handed 0 GET / 1.0 0 -, handed 0 GET /b 1.0 0 -",
+    ],
+    [
+        "GET / HTTP/1.0\r\n\r\n",
+        "ended",
+        "requests that are handed out: 0, 1",
+    ],
+    ["GET / HTTP/1.1\r\n\r\n", "ended", ""],
+    ["GET / HTTP/1.0\r\nA : b\r\n\r\n", "ended", ""],
+    ["GET / HTTP/1.0\r\nExpect: x\r\n\r\n", "ended", ""],
+    ["GET / HTTP/2.0\r\n\r\nGET / HTTP/1.0\r\n\r\n", "ended", ""],
+];
+
+const STANDARD_CASE: &str = "case a\nprofile standard\nclient G\nask\n  ended\n";
+
+// What differs from a plain reading by the profile of the case in this file.
+fn difference_of_plain(
+    alloc: Global,
+    file: &str,
+    client: &str,
+    reply: &str,
+) -> Result<String, Fail> {
+    let Ok(cases) = read_cases(alloc, "a.cases", file.as_bytes()) else {
         return Err("no case".into());
     };
     let Some(case) = cases.first() else {
@@ -469,7 +504,11 @@ fn difference_of_plain(alloc: Global, client: &str, reply: &str) -> Result<Strin
 #[test]
 fn a_plain_reading_differs(rt: HostRuntime) -> Result<(), Fail> {
     for [client, reply, wanted] in PLAIN {
-        let difference = difference_of_plain(rt.alloc(), client, reply)?;
+        let difference = difference_of_plain(rt.alloc(), CASE, client, reply)?;
+        assert_same(&rt, difference.as_str(), *wanted);
+    }
+    for [client, reply, wanted] in PLAIN_STANDARD {
+        let difference = difference_of_plain(rt.alloc(), STANDARD_CASE, client, reply)?;
         assert_same(&rt, difference.as_str(), *wanted);
     }
     Ok(())
